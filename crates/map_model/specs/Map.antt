@@ -1,0 +1,52 @@
+-- The plain map that a table must look like: what it answers to a call, and what a call makes of it.
+use Rattle.std.specs.Prelude.{ℕ, Bool, true, false, Option, None, Some, if◌then◌else◌}
+use Rattle.std.specs.Ordering.{nat_cmp}
+use Rattle.std.specs.FinMap.{FinMap, get, contains_key, insert, remove}
+use Rattle.map_model.specs.declared.call.Call.{Call}
+use Rattle.map_model.specs.declared.call.Call.TheVariants.{Get, Insert, Update, Remove}
+use Rattle.map_model.specs.declared.entry.Reply.{Reply}
+use Rattle.map_model.specs.declared.entry.Reply.TheVariants.{Found, Absent, Done, Exists, Full, Deep, Spent}
+
+-- a finite map from numbers to numbers
+abbrev pub Map : Type 0
+Map = FinMap nat_cmp ℕ
+
+-- the key that a call speaks of
+abbrev pub key_of : Call → ℕ
+key_of (Get k) = k
+key_of (Insert k v) = k
+key_of (Update k v) = k
+key_of (Remove k) = k
+
+-- the answer to a look at what is there
+abbrev pub shown : Option ℕ → Reply
+shown None = Absent
+shown (Some v) = Found v
+
+-- the map's own reply to a call
+abbrev pub reply_of : Map → Call → Reply
+reply_of m (Get k) = shown (get m k)
+reply_of m (Insert k v) = if contains_key m k then Exists else Done
+reply_of m (Update k v) = if contains_key m k then Done else Absent
+reply_of m (Remove k) = if contains_key m k then Done else Absent
+
+-- whether a reply says that the map was changed: only Done does
+abbrev pub is_change : Reply → Bool
+is_change (Found v) = false
+is_change Absent = false
+is_change Done = true
+is_change Exists = false
+is_change Full = false
+is_change Deep = false
+is_change Spent = false
+
+-- what a call makes of the map where it is done
+abbrev pub changed : Map → Call → Map
+changed m (Get k) = m
+changed m (Insert k v) = insert m k v
+changed m (Update k v) = insert m k v
+changed m (Remove k) = remove m k
+
+-- the map after a call and its reply: a reply that is no change keeps it
+abbrev pub after : Map → Call → Reply → Map
+after m call reply = if is_change reply then changed m call else m

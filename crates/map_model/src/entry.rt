@@ -1,0 +1,42 @@
+// What became of a call.
+
+use crate::call::Call;
+
+/// The answer to a call.
+#[derive(Clone, Copy, Debug, PartialEq, Eq)]
+pub enum Reply {
+    /// A `get` of a present key: its value.
+    Found(u64),
+    /// A `get`, `update` or `remove` of an absent key.
+    Absent,
+    /// A change was made.
+    Done,
+    /// An `insert` of a present key, which keeps its value.
+    Exists,
+    /// An `insert` found no room, and no free segment.
+    Full,
+    /// An `insert` found no room, and its segment is as deep as the image allows.
+    Deep,
+    /// A change needed a version or a place beyond the last one.
+    Spent,
+}
+
+/// A call that was answered.
+#[derive(Clone, Copy, Debug, PartialEq, Eq)]
+pub struct Entry {
+    /// The number of the call among its caller's calls, from 1.
+    pub serial: u64,
+    pub call: Call,
+    pub reply: Reply,
+    /// The place in the order of changes: drawn by a change, else the number of changes that were seen.
+    pub place: u64,
+    /// Whether the place was drawn.
+    pub drew: bool,
+}
+
+/// Where a caller stopped: whether its last call had begun, and its entry where that call drew a place.
+#[derive(Clone, Copy, Debug, PartialEq, Eq)]
+pub struct Stop {
+    pub begun: bool,
+    pub drew: Option<Entry>,
+}

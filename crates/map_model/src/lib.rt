@@ -1,0 +1,11 @@
+//! The plain map that the table must look like, and when the calls of many callers are one history of it.
+//!
+//! A call and its reply make an entry, which names a place in the one order of all changes. `specs/` says
+//! what the map answers, how the entries of all callers are woven by their places, and when that is legal.
+#![tactic(auto)]
+
+pub mod call;
+pub mod entry;
+
+pub use call::Call;
+pub use entry::{Entry, Reply, Stop};
