@@ -1,0 +1,41 @@
+-- The hash of a key, and what the bits of a hash say: a fingerprint, a home bucket, and a place in the directory.
+use Rattle.std.specs.Prelude.{◌≡◌, ℕ, ◌+◌, ◌-◌, ◌*◌, ◌/◌, ◌%◌, ◌^◌, bit_xor}
+use Rattle.hash_word.specs.declared.Kind.{Kind}
+use Rattle.hash_word.specs.declared.Kind.TheVariants.{Identity, Mix}
+
+-- a number with its own upper bits mixed into its lower ones
+abbrev pub folded : ℕ → ℕ → ℕ
+folded shift z = bit_xor z (z / 2 ^ shift)
+
+-- the finalizer of SplitMix64, products modulo 2^64
+abbrev pub mixed : ℕ → ℕ
+mixed z = folded 31 (folded 27 (folded 30 z * 0xBF58476D1CE4E5B9 % 2 ^ 64) * 0x94D049BB133111EB % 2 ^ 64)
+
+-- the hash of a key
+abbrev pub hash_of : Kind → ℕ → ℕ
+hash_of Identity key = key
+hash_of Mix key = mixed key
+
+-- bits 0 to 7 are the fingerprint
+abbrev pub finger_of : ℕ → ℕ
+finger_of h = h % 2 ^ 8
+
+-- bits 8 to 13 are the number of the home bucket
+abbrev pub home_of : ℕ → ℕ
+home_of h = h / 2 ^ 8 % 2 ^ 6
+
+-- the probing bucket of a home bucket is the next one, and the first after the last
+abbrev pub probing_of : ℕ → ℕ
+probing_of home = (home + 1) % 64
+
+-- the top d of the 64 bits
+abbrev pub top : ℕ → ℕ → ℕ
+top d h = h / 2 ^ (64 - d)
+
+-- the place of a hash in a directory of depth g
+abbrev pub index_of : ℕ → ℕ → ℕ
+index_of g h = top g h
+
+-- a segment of this depth and pattern covers a hash whose top bits are the pattern
+abbrev pub Covers : ℕ → ℕ → ℕ → Type 0
+Covers depth pattern h = top depth h ≡ pattern

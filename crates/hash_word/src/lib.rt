@@ -1,0 +1,65 @@
+//! Hashes of keys, and what their bits say.
+//!
+//! A hash is 64 bits. Its lowest byte is the fingerprint of a record, the next six bits name the home bucket,
+//! and its top bits choose the segment.
+#![tactic(auto)]
+
+ghost use Rattle.std.specs.Prelude.{◌≡◌, ◌<◌, ◌≤◌, ◌^◌, ◌↔◌, IsTrue};
+ghost use Rattle.hash_word.specs.Hash.{hash_of, home_of, finger_of, index_of, Covers};
+
+/// How a key is hashed.
+#[derive(Clone, Copy, Debug, PartialEq, Eq)]
+pub enum Kind {
+    /// The hash is the key. An image says 0.
+    Identity,
+    /// The finalizer of SplitMix64, which spreads keys that lie close. An image says 1.
+    Mix,
+}
+
+/// The hash of a key.
+pub fn hash(kind: Kind, key: u64) -> u64
+    ensures { result ≡ hash_of kind key }
+{
+    match kind {
+        Kind::Identity => key,
+        Kind::Mix => {
+            let z = (key ^ (key >> 30)).wrapping_mul(0xBF58476D1CE4E5B9);
+            let z = (z ^ (z >> 27)).wrapping_mul(0x94D049BB133111EB);
+            z ^ (z >> 31)
+        }
+    }
+}
+
+/// The number of the home bucket, below 64.
+pub fn home(h: u64) -> u8
+    ensures of { result ≡ home_of h }
+    ensures range { result < 64 }
+{
+    (h >> 8 & 63) as u8
+}
+
+/// The fingerprint, one byte.
+pub fn finger(h: u64) -> u8
+    ensures { result ≡ finger_of h }
+{
+    (h & 255) as u8
+}
+
+/// The place of the hash in a directory of depth `g`: its top `g` bits.
+pub fn dir_index(h: u64, g: u8) -> u64
+    requires { g ≤ 64 }
+    ensures { result ≡ index_of g h }
+{
+    if g == 0 { 0 } else { h >> (64 - g) }
+}
+
+/// Whether a segment of this depth and pattern covers the hash.
+pub fn covers(depth: u8, pattern: u32, h: u64) -> bool
+    requires { depth ≤ 64 }
+    ensures { IsTrue result ↔ Covers depth pattern h }
+{
+    dir_index(h, depth) == u64::from(pattern)
+}
+
+#[cfg(test)]
+mod tests;

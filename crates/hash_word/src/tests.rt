@@ -1,0 +1,15 @@
+// Outside vectors: the first number of the SplitMix64 stream from state 0, and what its bits say.
+use super::*;
+
+#[test]
+fn splitmix_vectors(rt: HostRuntime) {
+    assert_eq!(rt; hash(Kind::Mix, 0), 0);
+    assert_eq!(rt; hash(Kind::Mix, 0x9E3779B97F4A7C15), 0xE220A8397B1DCDAF);
+    assert_eq!(rt; hash(Kind::Identity, 77), 77);
+    assert_eq!(rt; finger(0xE220A8397B1DCDAF), 0xAF);
+    assert_eq!(rt; home(0xE220A8397B1DCDAF), 13);
+    assert_eq!(rt; dir_index(0xE220A8397B1DCDAF, 4), 14);
+    assert_eq!(rt; dir_index(0xE220A8397B1DCDAF, 0), 0);
+    assert!(rt; covers(4, 14, 0xE220A8397B1DCDAF));
+    assert!(rt; !covers(4, 15, 0xE220A8397B1DCDAF));
+}

@@ -1,0 +1,2 @@
+pub mod HeadWord
+pub mod Head

@@ -1,0 +1,33 @@
+-- The file of an image, and when its words are a sound image.
+use Rattle.std.specs.Prelude.{◌≡◌, ℕ, ◌+◌, ◌*◌, ◌^◌, ◌<◌, List, length, slice_index}
+use Rattle.std.specs.List.{flat_map}
+use Rattle.byteorder.specs.Endian.{little_bytes}
+use Rattle.image_layout.specs.Places.{Shape, IsShape, words_of}
+use Rattle.sound_image.specs.Rules.{FollowsRules}
+
+-- the file of an image has 8 bytes for each word, the lowest first
+abbrev pub image_bytes : List ℕ → List ℕ
+image_bytes words = flat_map (little_bytes 8) words
+
+-- the first word: its bytes are the text DASHEH01
+abbrev pub magic : ℕ
+magic = 0x3130484548534144
+
+-- the second word: the number of the format, and the kind of hash above it
+abbrev pub format_word : Shape → ℕ
+format_word shape = 1 + shape.kind * 2 ^ 32
+
+-- the first four words say what the image is and how it is laid out
+pub record SaysShape (shape : Shape) (words : List ℕ) : Type 0 where
+  pub magic_word : slice_index words 0 ≡ magic
+  pub format : slice_index words 1 ≡ format_word shape
+  pub segments : slice_index words 2 ≡ shape.segments
+  pub depth : slice_index words 3 ≡ shape.depth
+
+-- a sound image: all words of a shape in range, each of 64 bits, which say that shape and follow the rules
+pub record IsSoundImage (shape : Shape) (words : List ℕ) : Type 0 where
+  pub in_range : IsShape shape
+  pub whole : length words ≡ words_of shape
+  pub each_fits : (i : ℕ) → slice_index words i < 2 ^ 64
+  pub says_shape : SaysShape shape words
+  pub follows : FollowsRules shape (slice_index words)

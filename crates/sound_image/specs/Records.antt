@@ -1,0 +1,95 @@
+-- The records of an image, its pairs, and its overflow notes.
+use Rattle.std.specs.Prelude.{◌≡◌, ℕ, zero, suc, ◌+◌, ◌%◌, ◌<◌, ◌≤◌, ◌==◌, ◌&&◌, Option, None, Some, List, [], ◌∷◌, ◌++◌, length, filter, if◌then◌else◌}
+use Rattle.std.specs.List.{flat_map}
+use Rattle.hash_word.specs.declared.Kind.TheVariants.{Identity, Mix}
+use Rattle.hash_word.specs.Hash.{hash_of, home_of, finger_of, probing_of}
+use Rattle.bucket_meta.specs.Bucket.{allocated, note_used, note_member, note_index, note_finger, overflow_count}
+use Rattle.image_layout.specs.Places.{Shape, bucket_at, key_at, value_at}
+use Rattle.sound_image.specs.Segments.{ImageWords, frame_of, Owns}
+
+-- the hash of a key in an image of this kind
+abbrev pub key_hash : Shape → ℕ → ℕ
+key_hash shape key = if shape.kind == 0 then hash_of Identity key else hash_of Mix key
+
+-- the numbers below n
+abbrev pub numbers_below : ℕ → List ℕ
+numbers_below zero = []
+numbers_below (suc n) = numbers_below n ++ n ∷ []
+
+-- an overflow note, or a record in the stash, as its fingerprint and its stash bucket
+abbrev pub Note : Type 0
+Note = ℕ × ℕ
+
+abbrev pub how_often : Note → List Note → ℕ
+how_often note notes = length (filter (λ other. (other.0 == note.0) && (other.1 == note.1)) notes)
+
+module _ (shape : Shape) (word : ImageWords) where
+  -- RECORDS: slot r of bucket b of segment s
+  -- word i of the bucket
+  abbrev pub word_in : ℕ → ℕ → ℕ → ℕ
+  word_in s b i = word (bucket_at shape s b + i)
+
+  abbrev pub slot_key : ℕ → ℕ → ℕ → ℕ
+  slot_key s b r = word (key_at shape s b r)
+
+  abbrev pub slot_value : ℕ → ℕ → ℕ → ℕ
+  slot_value s b r = word (value_at shape s b r)
+
+  abbrev pub slot_hash : ℕ → ℕ → ℕ → ℕ
+  slot_hash s b r = key_hash shape (slot_key s b r)
+
+  -- a record stands where the slot is allocated
+  pub record HasRecord (s b r : ℕ) : Type 0 where
+    pub segment : s < shape.segments
+    pub bucket : b < 66
+    pub slot : r < 14
+    pub is_allocated : allocated r (word_in s b 1) ≡ 1
+
+  -- a record in the segment that owns its key's hash
+  pub record HasOwnRecord (s b r : ℕ) : Type 0 where
+    pub record_there : HasRecord s b r
+    pub owned : Owns (frame_of shape word) s (slot_hash s b r)
+
+  -- PAIRS: the keys and values of all records in their owners
+  pub record HasPair (k v : ℕ) : Type 0 where
+    pub s : ℕ
+    pub b : ℕ
+    pub r : ℕ
+    pub own : HasOwnRecord s b r
+    pub key_is : slot_key s b r ≡ k
+    pub value_is : slot_value s b r ≡ v
+
+  -- what the image has at a key
+  abbrev pub HasAt : ℕ → Option ℕ → Type 0
+  HasAt k None = (v : ℕ) → HasPair k v → ⊥
+  HasAt k (Some v) = HasPair k v
+
+  -- OVERFLOW NOTES of a home bucket
+  -- the notes in bucket b of records that have it as their home (side 0) or as their probing bucket (side 1)
+  abbrev pub notes_in : ℕ → ℕ → ℕ → List Note
+  notes_in s b side =
+      flat_map
+      (λ i. if (note_used i (word_in s b 1) == 1) && (note_member i (word_in s b 1) == side)
+      then (note_finger i (word_in s b 1) (word_in s b 3), note_index i (word_in s b 1)) ∷ []
+      else [])
+      (numbers_below 4)
+
+  abbrev pub notes_of : ℕ → ℕ → List Note
+  notes_of s b = notes_in s b 0 ++ notes_in s (probing_of b) 1
+
+  -- the records of home b in stash bucket k
+  abbrev pub stashed_in : ℕ → ℕ → ℕ → List Note
+  stashed_in s b k =
+      flat_map
+      (λ r. if (allocated r (word_in s (64 + k) 1) == 1) && (home_of (slot_hash s (64 + k) r) == b)
+      then (finger_of (slot_hash s (64 + k) r), k) ∷ []
+      else [])
+      (numbers_below 14)
+
+  abbrev pub stashed_of : ℕ → ℕ → List Note
+  stashed_of s b = stashed_in s b 0 ++ stashed_in s b 1
+
+  -- the notes of home b name different records of it in the stash, and its count is the number of the others
+  pub record HasExactNotes (s b : ℕ) : Type 0 where
+    pub names_different : (note : Note) → how_often note (notes_of s b) ≤ how_often note (stashed_of s b)
+    pub counts_others : overflow_count (word_in s b 1) + length (notes_of s b) ≡ length (stashed_of s b)

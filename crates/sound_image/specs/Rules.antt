@@ -1,0 +1,94 @@
+-- The seven rules of a sound image, each said of single words: a rule says something of the words that it names,
+-- and nothing of others. So the word at which a rule is broken first is one word.
+use Rattle.std.specs.Prelude.{◌≡◌, ◌≢◌, ℕ, ◌+◌, ◌^◌, ◌<◌, ◌≤◌, ◌⊎◌}
+use Rattle.hash_word.specs.Hash.{home_of, finger_of, probing_of}
+use Rattle.bucket_meta.specs.Bucket.{lock_of, member, finger}
+use Rattle.segment_head.specs.HeadWord.{version_in, normal}
+use Rattle.image_layout.specs.Places.{Shape, root_word, state_word, entry_at, head_at, bucket_at, key_at}
+use Rattle.sound_image.specs.Segments.{ImageWords, Frame, frame_of, image_version, IsClean, state_at, IsLive, Owns}
+use Rattle.sound_image.specs.Directory.{RootInRange, VersionInRange, HeadInRange, LinkInRange, HasOwners, SharesWell, EntryLeads, VersionIsPast}
+use Rattle.sound_image.specs.Records.{word_in, slot_key, slot_value, slot_hash, HasRecord, HasOwnRecord, HasExactNotes}
+
+module _ (shape : Shape) (word : ImageWords) where
+  abbrev frame : Frame
+  frame = frame_of shape word
+
+  -- a record stands in its home bucket without the membership bit, in its probing bucket with it, or in the stash
+  abbrev pub InItsBucket : ℕ → ℕ → ℕ → Type 0
+  InItsBucket s b r =
+      ((b ≡ home_of (slot_hash shape word s b r)) × (member r (word_in shape word s b 1) ≡ 0))
+      ⊎ ((b ≡ probing_of (home_of (slot_hash shape word s b r))) × (member r (word_in shape word s b 1) ≡ 1))
+      ⊎ (64 ≤ b)
+
+  pub record StandsRight (s b r : ℕ) : Type 0 where
+    pub bucket : InItsBucket s b r
+    pub fingerprint : finger r (word_in shape word s b 2) (word_in shape word s b 3) ≡ finger_of (slot_hash shape word s b r)
+
+  -- a record of the same key that stands before it in the segment has the same value
+  abbrev pub SameValueAsBefore : ℕ → ℕ → ℕ → Type 0
+  SameValueAsBefore s b r =
+      (b' r' : ℕ) → HasRecord shape word s b' r' → key_at shape s b' r' < key_at shape s b r → slot_key shape word s b' r' ≡ slot_key shape word s b r
+      → slot_value shape word s b' r' ≡ slot_value shape word s b r
+
+  -- no record of the same key stands before it in the segment
+  abbrev pub NotBefore : ℕ → ℕ → ℕ → Type 0
+  NotBefore s b r =
+      (b' r' : ℕ) → HasRecord shape word s b' r' → key_at shape s b' r' < key_at shape s b r → slot_key shape word s b' r' ≢ slot_key shape word s b r
+
+  -- in a clean image, a live segment of the image's version
+  pub record IsCleanAndCurrent (s : ℕ) : Type 0 where
+    pub clean : IsClean frame
+    pub slot : s < shape.segments
+    pub live : IsLive frame s
+    pub same_version : version_in (frame.header s) ≡ image_version frame
+
+  -- the numbers of the image and of its headers are in their ranges
+  pub record NumbersFit (w : ℕ) : Type 0 where
+    pub root : w ≡ root_word → RootInRange frame shape.depth
+    pub version_fits : w ≡ state_word → VersionInRange frame
+    pub head : (s : ℕ) → s < shape.segments → w ≡ head_at shape s + 1 → HeadInRange frame shape.depth s
+    pub side : (s : ℕ) → s < shape.segments → w ≡ head_at shape s + 2 → LinkInRange frame s
+
+  -- each hash has one owner, beside segments that are splitting it off
+  pub record HashesAreOwned (w : ℕ) : Type 0 where
+    pub entry : (i : ℕ) → i < 2 ^ frame.root → w ≡ entry_at frame.root i → HasOwners frame i
+    pub head : (s : ℕ) → s < shape.segments → w ≡ head_at shape s + 1 → IsLive frame s → SharesWell frame s
+
+  -- the entries of the directory lead to the owners
+  abbrev pub EntriesLead : ℕ → Type 0
+  EntriesLead w = (i : ℕ) → i < 2 ^ frame.root → w ≡ entry_at frame.root i → EntryLeads frame i
+
+  -- a record in its owner stands where it is looked for, with its fingerprint
+  abbrev pub RecordsStandRight : ℕ → Type 0
+  RecordsStandRight w = (s b r : ℕ) → HasOwnRecord shape word s b r → w ≡ key_at shape s b r → StandsRight s b r
+
+  -- a key that stands twice in its owner has one value
+  abbrev pub KeysHaveOneValue : ℕ → Type 0
+  KeysHaveOneValue w = (s b r : ℕ) → HasOwnRecord shape word s b r → w ≡ key_at shape s b r → SameValueAsBefore s b r
+
+  -- no version byte is above the image's version
+  abbrev pub VersionsArePast : ℕ → Type 0
+  VersionsArePast w = (s : ℕ) → s < shape.segments → w ≡ head_at shape s + 1 → VersionIsPast frame s
+
+  -- in a clean image each live segment of the image's version is normal and unlocked, holds its own records alone
+  -- and each key once, and has exact overflow notes
+  pub record CleanMeansRepaired (w : ℕ) : Type 0 where
+    pub head : (s : ℕ) → IsCleanAndCurrent s → w ≡ head_at shape s + 1 → state_at frame s ≡ normal
+    pub lock : (s b : ℕ) → IsCleanAndCurrent s → b < 66 → w ≡ bucket_at shape s b → lock_of (word w) ≡ 0
+    pub own : (s b r : ℕ) → IsCleanAndCurrent s → HasRecord shape word s b r → w ≡ key_at shape s b r → Owns frame s (slot_hash shape word s b r)
+    pub once : (s b r : ℕ) → IsCleanAndCurrent s → HasRecord shape word s b r → w ≡ key_at shape s b r → NotBefore s b r
+    pub notes : (s b : ℕ) → IsCleanAndCurrent s → b < 64 → w ≡ bucket_at shape s b + 1 → HasExactNotes shape word s b
+
+  -- the rules by their numbers, in the order in which they are looked at
+  pub record Rule (n w : ℕ) : Type 0 where
+    pub one : n ≡ 1 → NumbersFit w
+    pub two : n ≡ 2 → HashesAreOwned w
+    pub three : n ≡ 3 → EntriesLead w
+    pub four : n ≡ 4 → RecordsStandRight w
+    pub five : n ≡ 5 → KeysHaveOneValue w
+    pub six : n ≡ 6 → VersionsArePast w
+    pub seven : n ≡ 7 → CleanMeansRepaired w
+
+  -- each rule holds of each word
+  abbrev pub FollowsRules : Type 0
+  FollowsRules = (n w : ℕ) → Rule n w
