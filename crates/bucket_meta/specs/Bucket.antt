@@ -1,0 +1,50 @@
+-- The fields of a bucket's words. Word 0 is the lock word and words 1 to 3 are the metadata, here w0 to w3; record slot s has its key in word 4 + 2s and its value in word 5 + 2s. Bits are counted from 0, the lowest.
+use Rattle.std.specs.Prelude.{ℕ, ◌+◌, ◌-◌, ◌*◌, ◌/◌, ◌%◌, ◌^◌, nat_lt, if◌then◌else◌}
+
+-- the number that so many bits of a word make, from bit low upwards
+abbrev pub bits : ℕ → ℕ → ℕ → ℕ
+bits low count w = w / 2 ^ low % 2 ^ count
+
+-- bit i of a word, 0 or 1
+abbrev pub bit : ℕ → ℕ → ℕ
+bit i w = bits i 1 w
+
+-- 1 where the bucket is locked
+abbrev pub lock_of : ℕ → ℕ
+lock_of w0 = bit 0 w0
+
+-- the version of a lock word, in all the bits above the lock
+abbrev pub version_of : ℕ → ℕ
+version_of w0 = w0 / 2
+
+-- 1 where record slot s, of 14, has a record
+abbrev pub allocated : ℕ → ℕ → ℕ
+allocated s w1 = bit s w1
+
+-- 1 where the record of slot s stands in its probing bucket
+abbrev pub member : ℕ → ℕ → ℕ
+member s w1 = bit (14 + s) w1
+
+-- the fingerprint of slot s: 0 to 7 stand in w2, 8 to 13 in w3
+abbrev pub finger : ℕ → ℕ → ℕ → ℕ
+finger s w2 w3 = if nat_lt s 8 then bits (8 * s) 8 w2 else bits (8 * (s - 8)) 8 w3
+
+-- 1 where overflow place i, of 4, holds the note of a record that stands in the stash
+abbrev pub note_used : ℕ → ℕ → ℕ
+note_used i w1 = bit (28 + i) w1
+
+-- 1 where this bucket is the probing bucket of the record that the note tells of
+abbrev pub note_member : ℕ → ℕ → ℕ
+note_member i w1 = bit (32 + i) w1
+
+-- which of the two stash buckets the note names
+abbrev pub note_index : ℕ → ℕ → ℕ
+note_index i w1 = bit (36 + i) w1
+
+-- the fingerprint of a note: 0 and 1 stand in w3, 2 and 3 in w1
+abbrev pub note_finger : ℕ → ℕ → ℕ → ℕ
+note_finger i w1 w3 = if nat_lt i 2 then bits (48 + 8 * i) 8 w3 else bits (45 + 8 * (i - 2)) 8 w1
+
+-- how many records of this bucket stand in the stash without a note
+abbrev pub overflow_count : ℕ → ℕ
+overflow_count w1 = bits 40 5 w1
