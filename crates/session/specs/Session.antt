@@ -1,10 +1,9 @@
 -- What a session is: a script run from one image to another, with what it prints.
-use Rattle.std.specs.Prelude.{◌≡◌, ◌≢◌, ℕ, ◌+◌, ◌-◌, ◌*◌, ◌^◌, ◌<◌, ◌≤◌, Bool, true, false, List, length, map, slice_index, IsSome, Contains}
+use Rattle.std.specs.Prelude.{◌≡◌, ◌≢◌, ℕ, ◌-◌, ◌^◌, ◌<◌, ⊤, Bool, true, false, List, length, map, slice_index, IsSome, Contains}
 use Rattle.std.specs.List.{AllByRecursion, AllZip}
 use Rattle.std.specs.List.Sorted.{IsStrictlyIncreasing}
 use Rattle.std.specs.FinMap.{get}
 use Rattle.map_model.specs.declared.call.Call.{Call}
-use Rattle.map_model.specs.declared.entry.Reply.{Reply}
 use Rattle.map_model.specs.declared.entry.Reply.TheVariants.{Full, Deep, Spent}
 use Rattle.map_model.specs.declared.entry.Entry.{Entry}
 use Rattle.map_model.specs.Map.{Map, key_of}
@@ -42,7 +41,7 @@ least_full = 14
 -- Full stands where the map has at least so many pairs; Deep where it has so many whose hashes have the same top
 -- bits as the call's, so many bits as the image's greatest depth
 pub record HadNoRoom (shape : Shape) (m : Map) (e : Entry) : Type 0 where
-  pub full : e.reply ≡ Full → HasAtLeast least_full (λ k. k ≡ k) m
+  pub full : e.reply ≡ Full → HasAtLeast least_full (λ k. ⊤) m
   pub deep : e.reply ≡ Deep
       → HasAtLeast least_full (λ k. top shape.depth (key_hash shape k) ≡ top shape.depth (key_hash shape (key_of e.call))) m
 

@@ -1,5 +1,5 @@
 -- What a sound image says of its numbers, its segments and its directory, place by place.
-use Rattle.std.specs.Prelude.{◌≡◌, ◌≢◌, ℕ, ◌+◌, ◌-◌, ◌*◌, ◌^◌, ◌<◌, ◌≤◌, ◌⊎◌}
+use Rattle.std.specs.Prelude.{◌≡◌, ◌≢◌, ℕ, ◌-◌, ◌*◌, ◌^◌, ◌<◌, ◌≤◌, ◌⊎◌}
 use Rattle.hash_word.specs.Hash.{index_of}
 use Rattle.segment_head.specs.HeadWord.{version_in, free}
 use Rattle.sound_image.specs.Segments.{Frame, image_version, state_at, depth_at, pattern_at, IsLive, CoversHash, IsLiveFor, Owns, InOneSide, HasReadySide, LeadsToOwner}
