@@ -1,2 +1,5 @@
 pub mod Plain
 pub mod Run
+pub mod Finding
+pub mod Script
+pub mod Texts
