@@ -133,6 +133,7 @@ impl Meta {
         ensures free { IfSome result (λ slot. bit slot self.now.alloc ≡ 0) }
         ensures lowest { IfSome result (λ slot. (s : ℕ) → s < slot → bit s self.now.alloc ≡ 1) }
         ensures full { IsNone result ↔ IsFull self.now.alloc }
+        ensures filled { IsNone result ↔ (count_ones self.now.alloc ≡ 14) }
     {
         let slot = self.alloc.trailing_ones();
         if slot < 14 { Some(slot as u8) } else { None }
@@ -147,7 +148,8 @@ impl Meta {
         self.alloc.count_ones() as u8
     }
 
-    /// Puts a record into a slot, from 0 to 13: `is_member` says that it stands in its probing bucket.
+    /// Says of a slot, from 0 to 13, that it has a record with this fingerprint. `is_member` is true where
+    /// this is the record's probing bucket.
     pub fn place(&mut self, slot: u8, finger: u8, is_member: bool)
         requires { slot < 14 }
         ensures allocated { bit slot self.new.alloc ≡ 1 }
@@ -158,11 +160,15 @@ impl Meta {
         ensures overflow { SameOverflow self.old self.new }
     {
         self.alloc = with_slot(self.alloc, slot);
-        self.member = if is_member { with_slot(self.member, slot) } else { without_slot(self.member, slot) };
+        self.member = if is_member {
+            with_slot(self.member, slot)
+        } else {
+            without_slot(self.member, slot)
+        };
         self.fps[slot as usize] = finger;
     }
 
-    /// Takes the record out of a slot, from 0 to 13. Its fingerprint stays.
+    /// Says of a slot, from 0 to 13, that it has no record. The fingerprint there stays.
     pub fn clear(&mut self, slot: u8)
         requires { slot < 14 }
         ensures allocated { bit slot self.new.alloc ≡ 0 }
