@@ -4,3 +4,4 @@ pub mod Places
 pub mod OneMore
 pub mod Histories
 pub mod OneCaller
+pub mod KeptViews
