@@ -6,6 +6,14 @@
 
 pub mod call;
 pub mod entry;
+pub mod laws;
+pub mod lists;
+pub mod no_memory;
 
 pub use call::Call;
 pub use entry::{Entry, Reply, Stop};
+pub use laws::{
+    drawn_keeps_legal, later_entries_keep, legal_by_places, loaded_keeps_legal, weave_leaves_draws,
+};
+pub use lists::Lists;
+pub use no_memory::NoMemory;
