@@ -1,5 +1,9 @@
 // A sink in memory.
-ghost use Rattle.std.specs.Prelude.{◌≡◌, [], IfOk, Some};
+ghost use Rattle.std.specs.Prelude.{◌≡◌, ◌≤◌, ◌-◌, ◌↔◌, [], length, vec_len, vec_capacity, IfOk, IsErr, Some};
+ghost use Rattle.std.specs.Io.{WritesAtMost};
+ghost use Rattle.std.specs.Io.KnownBytes.{WriteAppends};
+ghost use Rattle.outside.specs.Causes.{HasCause, TakesSome, count_after};
+ghost use Rattle.outside.specs.Memory.{IsRefused};
 
 use crate::memory::is_failing;
 use crate::parts::count_one;
@@ -19,6 +23,7 @@ pub struct MemSink {
     pub calls: u64,
     /// How many of them failed.
     pub faults: u64,
+    ghost reserved: { room ≤ vec_capacity bytes },
 }
 
 impl MemSink {
@@ -45,7 +50,20 @@ impl Sink for MemSink {
 
     ghost faults = { λ s. s.faults };
 
-    fn push(&mut self, buf: &[u8]) -> Result<usize, Failed> {
+    fn push(&mut self, buf: &[u8]) -> Result<usize, Failed>
+        ensures bound { WritesAtMost result buf.now }
+        ensures bytes { WriteAppends (Some self.old.bytes.items) (Some self.new.bytes.items) result buf.now }
+        ensures cause { HasCause self.old.faults self.new.faults result }
+        ensures some { TakesSome self.old.faults self.new.faults result buf.now }
+
+        // A piece is taken whole, or refused at a call of the list or past the room.
+        ensures ok { IfOk result (λ n. n ≡ length buf.now) }
+        ensures err { IsErr result ↔
+            IsRefused self.old.fails.items self.old.calls (length buf.now) (self.old.room - vec_len self.old.bytes) }
+        ensures calls { self.new.calls ≡ count_after self.old.calls }
+        ensures fails { self.new.fails.items ≡ self.old.fails.items }
+        ensures room { self.new.room ≡ self.old.room }
+    {
         let free = self.room.saturating_sub(self.bytes.len());
         if is_failing(&mut self.calls, &self.fails) || buf.len() > free {
             count_one(&mut self.faults);

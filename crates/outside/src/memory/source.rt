@@ -1,5 +1,9 @@
 // Sources in memory.
-ghost use Rattle.std.specs.Prelude.{◌≡◌, ◌≤◌, length, drop, Some};
+ghost use Rattle.std.specs.Prelude.{◌≡◌, ◌≤◌, ◌↔◌, length, drop, Some, IsErr};
+ghost use Rattle.std.specs.Io.{ReadsAtMost};
+ghost use Rattle.std.specs.Io.KnownBytes.{ReadConsumes};
+ghost use Rattle.outside.specs.Causes.{HasCause, count_after};
+ghost use Rattle.outside.specs.Memory.{IsToFail};
 
 use crate::memory::is_failing;
 use crate::parts::count_one;
@@ -74,7 +78,17 @@ impl Source for MemSource {
 
     ghost faults = { λ s. s.faults };
 
-    fn pull(&mut self, buf: &mut [u8]) -> Result<usize, Failed> {
+    fn pull(&mut self, buf: &mut [u8]) -> Result<usize, Failed>
+        ensures bound { ReadsAtMost result buf.new }
+        ensures bytes { ReadConsumes (Some (drop self.old.inner.at self.old.inner.bytes.items))
+            (Some (drop self.new.inner.at self.new.inner.bytes.items)) result buf.new }
+        ensures cause { HasCause self.old.faults self.new.faults result }
+
+        // It fails at the calls of its list and at no other.
+        ensures err { IsErr result ↔ IsToFail self.old.fails.items self.old.calls }
+        ensures calls { self.new.calls ≡ count_after self.old.calls }
+        ensures fails { self.new.fails.items ≡ self.old.fails.items }
+    {
         if is_failing(&mut self.calls, &self.fails) {
             count_one(&mut self.faults);
             return Err(Failed);

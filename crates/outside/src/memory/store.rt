@@ -1,5 +1,8 @@
 // A store in memory.
-ghost use Rattle.std.specs.Prelude.{◌≡◌, IfOk, Some};
+ghost use Rattle.std.specs.Prelude.{◌≡◌, ◌≤◌, ◌+◌, ◌↔◌, length, take, vec_capacity, IfOk, OnOk, OnErr, IsErr, IsErrOf, Some};
+ghost use Rattle.outside.specs.Causes.{HasCause, count_after};
+ghost use Rattle.outside.specs.Memory.{IsToFail, IsRefused};
+ghost use Rattle.outside.specs.Storing.{HasReadCause};
 
 use crate::memory::is_failing;
 use crate::parts::count_one;
@@ -19,6 +22,7 @@ pub struct MemStore {
     pub calls: u64,
     /// How many of them failed.
     pub faults: u64,
+    ghost reserved: { room ≤ vec_capacity bytes },
 }
 
 impl MemStore {
@@ -47,7 +51,18 @@ impl Store for MemStore {
 
     ghost faults = { λ s. s.faults };
 
-    fn read_all(&mut self, alloc: Global, limit: u64) -> Result<Vec<u8>, StoreFault> {
+    fn read_all(&mut self, alloc: Global, limit: u64) -> Result<Vec<u8>, StoreFault>
+        ensures bound { IfOk result (λ bytes. length bytes.items ≤ limit + 1) }
+        ensures bytes { IfOk result (λ bytes. bytes.items ≡ take (limit + 1) self.old.bytes.items) }
+        ensures same { self.new.bytes.items ≡ self.old.bytes.items }
+        ensures cause { HasReadCause self.old.faults self.new.faults result }
+
+        // It fails at the calls of its list and at no other.
+        ensures failed { IsErrOf result StoreFault.Failed ↔ IsToFail self.old.fails.items self.old.calls }
+        ensures calls { self.new.calls ≡ count_after self.old.calls }
+        ensures fails { self.new.fails.items ≡ self.old.fails.items }
+        ensures room { self.new.room ≡ self.old.room }
+    {
         if is_failing(&mut self.calls, &self.fails) {
             count_one(&mut self.faults);
             return Err(StoreFault::Failed);
@@ -59,7 +74,18 @@ impl Store for MemStore {
         }
     }
 
-    fn write_all(&mut self, bytes: &[u8]) -> Result<(), Failed> {
+    fn write_all(&mut self, bytes: &[u8]) -> Result<(), Failed>
+        ensures written { OnOk result (self.new.bytes.items ≡ bytes.now) }
+        ensures cause { HasCause self.old.faults self.new.faults result }
+
+        // It fails at the calls of its list and past the room, and then holds what it held.
+        ensures err { IsErr result ↔
+            IsRefused self.old.fails.items self.old.calls (length bytes.now) self.old.room }
+        ensures same { OnErr result (self.new.bytes.items ≡ self.old.bytes.items) }
+        ensures calls { self.new.calls ≡ count_after self.old.calls }
+        ensures fails { self.new.fails.items ≡ self.old.fails.items }
+        ensures room { self.new.room ≡ self.old.room }
+    {
         if is_failing(&mut self.calls, &self.fails) || bytes.len() > self.room {
             count_one(&mut self.faults);
             return Err(Failed);
