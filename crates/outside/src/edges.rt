@@ -1,6 +1,6 @@
 // The real outside: a file, and std's readers and writers. It counts its faults, and tells no content. What is
 // trusted here is named at each edge; no clause can say what a file or a terminal gives and takes.
-ghost use Rattle.std.specs.Prelude.{None, IfOk, length, ◌≤◌, ◌+◌};
+ghost use Rattle.std.specs.Prelude.{◌≡◌, ◌≤◌, ◌+◌, None, IfOk, length};
 ghost use Rattle.std.specs.Io.{WritesAtMost};
 
 use crate::parts::count_one;
@@ -22,12 +22,15 @@ pub struct FileStore<'a, R: Files> {
     rt: &'a R,
     path: &'a str,
     second: &'a str,
-    faults: u64,
+    /// How many calls failed.
+    pub faults: u64,
 }
 
 impl<'a, R: Files> FileStore<'a, R> {
     /// The file at this path, and the path of the second file, which lies in the same folder.
-    pub fn new(rt: &'a R, path: &'a str, second: &'a str) -> Self {
+    pub fn new(rt: &'a R, path: &'a str, second: &'a str) -> Self
+        ensures faults { result.faults ≡ 0 }
+    {
         FileStore {
             rt,
             path,
@@ -82,12 +85,15 @@ impl<'a, R: Files> Store for FileStore<'a, R> {
 #[derive(Drop)]
 pub struct StdSource<R: Read> {
     inner: R,
-    faults: u64,
+    /// How many calls failed.
+    pub faults: u64,
 }
 
 impl<R: Read> StdSource<R> {
     /// What this reader gives from here on.
-    pub fn new(inner: R) -> Self {
+    pub fn new(inner: R) -> Self
+        ensures faults { result.faults ≡ 0 }
+    {
         StdSource { inner, faults: 0 }
     }
 }
@@ -113,12 +119,15 @@ impl<R: Read> Source for StdSource<R> {
 #[derive(Drop)]
 pub struct StdSink<W: Write> {
     inner: W,
-    faults: u64,
+    /// How many calls failed, or took nothing of a piece that is not empty.
+    pub faults: u64,
 }
 
 impl<W: Write> StdSink<W> {
     /// What is pushed goes to this writer.
-    pub fn new(inner: W) -> Self {
+    pub fn new(inner: W) -> Self
+        ensures faults { result.faults ≡ 0 }
+    {
         StdSink { inner, faults: 0 }
     }
 }

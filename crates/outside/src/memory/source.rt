@@ -1,5 +1,5 @@
 // Sources in memory.
-ghost use Rattle.std.specs.Prelude.{◌≡◌, ◌≤◌, ◌↔◌, length, drop, Some, IsErr};
+ghost use Rattle.std.specs.Prelude.{◌≡◌, ◌≤◌, ◌-◌, ◌↔◌, min, length, drop, Some, IsErr};
 ghost use Rattle.std.specs.Io.{ReadsAtMost};
 ghost use Rattle.std.specs.Io.KnownBytes.{ReadConsumes};
 ghost use Rattle.outside.specs.Causes.{HasCause, count_after};
@@ -34,7 +34,16 @@ impl Source for SureSource {
 
     ghost faults = { λ s. 0 };
 
-    fn pull(&mut self, buf: &mut [u8]) -> Result<usize, Failed> {
+    fn pull(&mut self, buf: &mut [u8]) -> Result<usize, Failed>
+        ensures bound { ReadsAtMost result buf.new }
+        ensures bytes { ReadConsumes (Some (drop self.old.at self.old.bytes.items))
+            (Some (drop self.new.at self.new.bytes.items)) result buf.new }
+        ensures cause { HasCause 0 0 result }
+
+        // It gives as many bytes as there is room for, or all that are left.
+        ensures ok { result ≡ Ok (min (length buf.old) (length self.old.bytes.items - self.old.at)) }
+        ensures all { self.new.bytes.items ≡ self.old.bytes.items }
+    {
         let count = buf.len().min(self.bytes.len() - self.at);
         buf[..count].copy_from_slice(&self.bytes[self.at..self.at + count]);
         self.at += count;

@@ -11,5 +11,5 @@ OnErr-of (Err error) p = p
 pub returns-in_err-extend_from_slice-clause-err : goal.returns-in_err-extend_from_slice-clause-err
 returns-in_err-extend_from_slice-clause-err g c =
     let lost : LosesFront (g.S.Source.left c.args.source.now) (g.S.Source.left c.pull.new.self) =
-        (_, Consumes-trans _ _ _ _ _ c.pulls.invariant.taken c.in_ok-count.ensures.bytes.0) in
+    (_, Consumes-trans _ _ _ _ _ c.pulls.invariant.taken c.in_ok-count.ensures.bytes.0) in
     OnErr-of c.from_residual-in_err-extend_from_slice.result lost
