@@ -1,0 +1,3 @@
+pub mod PlainFrame
+pub mod PlainRecords
+pub mod PlainSound
