@@ -1,3 +1,4 @@
 pub mod PlainFrame
 pub mod PlainRecords
 pub mod PlainSound
+pub mod NewImage
