@@ -1,2 +1,6 @@
 pub mod Finding
 pub mod Lines
+pub mod PlainFrame
+pub mod PlainRecords
+pub mod PlainSound
+pub mod NewImage
