@@ -2,3 +2,5 @@ pub mod PlainFrame
 pub mod PlainRecords
 pub mod PlainSound
 pub mod NewImage
+pub mod FileBytes
+pub mod NewFile
