@@ -107,3 +107,21 @@ pub fn is_new_file(bytes: &[u8]) -> bool
     }
     true
 }
+
+#[cfg(test)]
+mod tests {
+    use super::*;
+    use std::test::Fail;
+
+    #[test]
+    fn a_new_image_has_a_new_file(rt: HostRuntime) -> Result<(), Fail> {
+        let words = new_words(rt.alloc())?;
+        let bytes = to_bytes(rt.alloc(), &words)?;
+        assert_eq!(rt; bytes.len(), 17664);
+        assert_eq!(rt; &bytes[..8], b"DASHEH01".as_slice());
+        assert_eq!(rt; &bytes[128..130], [1, 1].as_slice());
+        assert!(rt; is_new_file(&bytes));
+        assert!(rt; !is_new_file(&bytes[1..]));
+        Ok(())
+    }
+}

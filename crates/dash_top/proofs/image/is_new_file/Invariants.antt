@@ -1,3 +1,4 @@
+-- The bytes so far are those of the first words of each new image.
 use Rattle.std.proofs.Common.{◌≡◌, List, ℕ, ◌*◌, take}
 use Rattle.sound_image.specs.Image.{image_bytes}
 use Rattle.dash_top.specs.Plain.{IsNew}

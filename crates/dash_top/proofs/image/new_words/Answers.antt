@@ -1,3 +1,4 @@
+-- The words so far are the first of each new image, and so all of them are one.
 use Rattle.std.proofs.Common.{◌∙◌}
 use Rattle.dash_top.proofs.NewFile.{one_more, all_are_new}
 use Rattle.dash_top.proofs.image.new_words.Goals as goal

@@ -1,3 +1,4 @@
+-- The words so far are the first of each new image.
 use Rattle.std.proofs.Common.{◌≡◌, List, ℕ, take}
 use Rattle.dash_top.specs.Plain.{IsNew}
 use Rattle.dash_top.proofs.image.new_words.Given as goal
