@@ -4,3 +4,5 @@ pub mod PlainFrame
 pub mod PlainRecords
 pub mod PlainSound
 pub mod NewImage
+pub mod FileBytes
+pub mod NewFile

@@ -1,11 +1,11 @@
 -- The frame of a plain image is that of one segment of depth 0, which owns every hash.
-use Rattle.std.proofs.Common.{◌≡◌, ◌≢◌, ℕ, ◌+◌, ◌*◌, ◌-◌, ◌/◌, ◌%◌, ◌^◌, ◌<◌, ◌≤◌, ◌⊎◌, refl, sym, ap, subst, ◌∙◌, arith, inl, inr, List}
+use Rattle.std.proofs.Common.{◌≡◌, ℕ, ◌*◌, ◌-◌, ◌/◌, ◌%◌, ◌^◌, ◌<◌, ◌≤◌, refl, sym, ap, subst, ◌∙◌, arith, inl, List}
 use Rattle.std.specs.Prelude.{slice_index}
 use Rattle.std.proofs.Math.Nat.{div-eq_of_lt}
-use Rattle.hash_word.specs.Hash.{top, index_of}
+use Rattle.hash_word.specs.Hash.{top}
 use Rattle.segment_head.specs.HeadWord.{version_in, state_in, depth_in, pattern_in, normal}
-use Rattle.image_layout.specs.Places.{Shape, entry_at}
-use Rattle.sound_image.specs.Segments.{Frame, frame_of, image_version, IsClean, state_at, depth_at, pattern_at, IsLive, IsLiveFor, Owns, InOneSide, HasReadySide, LeadsToOwner, arrived}
+use Rattle.image_layout.specs.Places.{entry_at}
+use Rattle.sound_image.specs.Segments.{Frame, frame_of, image_version, IsClean, state_at, depth_at, pattern_at, IsLiveFor, Owns, HasReadySide, LeadsToOwner, arrived}
 use Rattle.sound_image.specs.Directory.{RootInRange, VersionInRange, HeadInRange, LinkInRange, HasOwners, SharesWell, EntryLeads, VersionIsPast}
 use Rattle.dash_top.specs.Plain.{one_segment, IsPlain}
 

@@ -1,15 +1,15 @@
 -- The records of a plain image stand in their home buckets, each key once, and nothing is noted of the stash.
-use Rattle.std.proofs.Common.{◌≡◌, ◌≢◌, ℕ, zero, suc, ◌+◌, ◌*◌, ◌-◌, ◌/◌, ◌%◌, ◌^◌, ◌<◌, ◌≤◌, Bool, true, false, ◌⊎◌, refl, sym, ap, subst, ◌∙◌, arith, inl, inr, List, [], ◌∷◌, ◌++◌, length}
+use Rattle.std.proofs.Common.{◌≡◌, ℕ, zero, suc, ◌+◌, ◌*◌, ◌<◌, refl, sym, ap, subst, ◌∙◌, arith, inl, List, [], ◌∷◌}
 use Rattle.std.specs.Prelude.{slice_index, ◌==◌, ◌&&◌, if◌then◌else◌}
 use Rattle.std.specs.List.{flat_map}
 use Rattle.std.proofs.lemmas.List.Concat.{flat_map-append}
 use Rattle.std.proofs.lemmas.Bool.Decides.{nat_tests}
 use Rattle.hash_word.specs.Hash.{home_of, finger_of, probing_of}
 use Rattle.bucket_meta.specs.Bucket.{lock_of, allocated, note_used, note_member, note_finger, note_index, overflow_count}
-use Rattle.image_layout.specs.Places.{bucket_at, key_at}
-use Rattle.sound_image.specs.Records.{Note, numbers_below, how_often, word_in, slot_key, slot_hash, HasRecord, notes_in, notes_of, stashed_in, stashed_of, HasExactNotes}
+use Rattle.image_layout.specs.Places.{bucket_at}
+use Rattle.sound_image.specs.Records.{numbers_below, word_in, slot_key, slot_hash, HasRecord, notes_in, notes_of, stashed_in, stashed_of, HasExactNotes}
 use Rattle.sound_image.specs.Rules.{StandsRight, SameValueAsBefore, NotBefore}
-use Rattle.dash_top.specs.Plain.{one_segment, IsPlain, IsPlainBucket}
+use Rattle.dash_top.specs.Plain.{one_segment, IsPlain}
 
 -- a list of pieces of which all are empty
 all_empty : {X : Type 0} (f : ℕ → List X) (n : ℕ) → ((i : ℕ) → i < n → f i ≡ []) → flat_map f (numbers_below n) ≡ []

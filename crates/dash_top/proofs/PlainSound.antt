@@ -1,10 +1,9 @@
 -- A plain image is a clean and sound image, and two plain images say the same of themselves.
-use Rattle.std.proofs.Common.{◌≡◌, ℕ, ◌+◌, ◌^◌, ◌<◌, ◌≤◌, refl, sym, ap, subst, ◌∙◌, arith, inl, inr, ⊎_elim, List}
-use borrow.Author.Count.{below_none, below_more}
+use Rattle.std.proofs.Common.{◌≡◌, ℕ, ◌^◌, ◌<◌, sym, subst, ◌∙◌, arith, List, below_none, below_more}
 use Rattle.std.specs.Prelude.{slice_index}
 use Rattle.segment_head.specs.HeadWord.{normal}
 use Rattle.sound_image.specs.Segments.{frame_of, IsClean, state_at, Owns}
-use Rattle.sound_image.specs.Records.{slot_hash, HasRecord}
+use Rattle.sound_image.specs.Records.{slot_hash, HasRecord, HasOwnRecord}
 use Rattle.sound_image.specs.Rules.{FollowsRules}
 use Rattle.sound_image.specs.Image.{IsSoundImage}
 use Rattle.dash_top.specs.Plain.{one_segment, IsPlain}
@@ -14,14 +13,20 @@ use Rattle.dash_top.proofs.PlainRecords.{stands_right, not_before, same_value, u
 pub plain-IsClean : (words : List ℕ) → IsPlain words → IsClean (frame_of one_segment (slice_index words))
 plain-IsClean words p = is_clean (frame_of one_segment (slice_index words)) (plain_frame words p)
 
+pub plain-Owns : (words : List ℕ) → IsPlain words → (h : ℕ) → h < 2 ^ 64 → Owns (frame_of one_segment (slice_index words)) 0 h
+plain-Owns words p = owns_each (frame_of one_segment (slice_index words)) (plain_frame words p)
+
 -- the one segment owns the hash of each record
 owns_its_records : (words : List ℕ) → IsPlain words → (s b r : ℕ) → s < 1
     → Owns (frame_of one_segment (slice_index words)) s (slot_hash one_segment (slice_index words) s b r)
 owns_its_records words p s b r h =
-    let frame = frame_of one_segment (slice_index words) in
-    let f = plain_frame words p in
-    subst (λ s. Owns frame s (slot_hash one_segment (slice_index words) s b r)) (sym (is_first frame f s h))
-    (owns_each frame f (slot_hash one_segment (slice_index words) 0 b r) (p.each_fits _))
+    let first : s ≡ 0 = omega arith in
+    subst (λ s. Owns (frame_of one_segment (slice_index words)) s (slot_hash one_segment (slice_index words) s b r)) (sym first)
+    (plain-Owns words p (slot_hash one_segment (slice_index words) 0 b r) (p.each_fits _))
+
+pub plain-HasOwnRecord : (words : List ℕ) → IsPlain words → (s b r : ℕ) → HasRecord one_segment (slice_index words) s b r
+    → HasOwnRecord one_segment (slice_index words) s b r
+plain-HasOwnRecord words p s b r there = record { record_there = there; owned = owns_its_records words p s b r there.segment }
 
 follows_rules : (words : List ℕ) → IsPlain words → FollowsRules one_segment (slice_index words)
 follows_rules words p n w =
