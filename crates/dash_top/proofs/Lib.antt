@@ -6,3 +6,6 @@ pub mod PlainSound
 pub mod NewImage
 pub mod FileBytes
 pub mod NewFile
+pub mod Words
+pub mod Served
+pub mod Sessions

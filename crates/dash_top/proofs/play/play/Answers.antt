@@ -1,0 +1,55 @@
+use Rattle.std.proofs.Common.{◌≡◌, ◌≤◌, List, ℕ, subst, ap, sym, ◌∙◌, arith, length, Bool, true, false, not}
+use Rattle.outside.specs.Storing.{Holds}
+use Rattle.map_model.specs.declared.call.Call.{Call}
+use Rattle.map_model.specs.declared.entry.Entry.{Entry}
+use Rattle.sound_image.specs.Image.{image_bytes}
+use Rattle.session.specs.Transcript.{entry_lines}
+use Rattle.dash_top.specs.Script.{IsGoodScript}
+use Rattle.dash_top.specs.Run.{IsRun}
+use Rattle.dash_top.specs.Top.{IsNewFile}
+use Rattle.dash_top.proofs.NewFile.{length_new_file}
+use Rattle.dash_top.proofs.Served.{few_calls}
+use Rattle.dash_top.proofs.Sessions.{played}
+use Rattle.dash_top.proofs.play.play.Goals as goal
+
+negated : (b : Bool) → not b ≡ true → b ≡ true → ⊥
+negated true h k = cc
+negated false h k = cc
+
+affirmed : (b : Bool) → not b ≡ false → b ≡ true
+affirmed true h = cc
+affirmed false h = cc
+
+pub returns-then-not-is_new_file-clause-err : goal.returns-then-not-is_new_file-clause-err
+returns-then-not-is_new_file-clause-err g c = (
+  record {
+    start = c.in-Ok-read_all.start.items;
+    reads_image = c.in-Ok-read_all.ensures.bytes;
+    not_new = λ made. negated _ c.if-not-is_new_file.true (c.is_new_file.ensures.1 (subst IsNewFile (sym c.deref-2.ensures.value) made));
+  },
+  c.in-Ok-read_all.ensures.same,
+)
+
+pub run-requires : goal.run-requires
+run-requires g c = subst (λ (x : List Call). length x ≤ 1000000) (sym c.deref-3.ensures.value) (few_calls _ _ c.in-Ok-parse.ensures.good)
+
+pub returns-in-Ok-write_all-clause-ok : goal.returns-in-Ok-write_all-clause-ok
+returns-in-Ok-write_all-clause-ok g c =
+    let made : IsNewFile c.in-Ok-read_all.start.items = subst IsNewFile c.deref-2.ensures.value (c.is_new_file.ensures.0 (affirmed _ c.if-not-is_new_file.false)) in
+    let long : length c.in-Ok-read_all.start.items ≡ 17664 = length_new_file made.0 c.in-Ok-read_all.start.items made.1 made.2 in
+    record {
+      script = c.in-Ok.script.items;
+      reads_script = record { taken = c.in-Ok.ensures.bytes; to_its_end = c.in-Ok.ensures.end };
+      start = c.in-Ok-read_all.start.items;
+      reads_image = c.in-Ok-read_all.ensures.bytes;
+      all_read = omega arith;
+      ending = c.in_ok-ending.ending.items;
+      stores = subst (λ o. Holds o (g.I.Store.contents c.write_all.new.self) c.in_ok-ending.ending.items) c.in-Ok-read_all.ensures.same
+          (subst (λ (x : List ℕ). Holds (g.I.Store.contents c.read_all.new.self) (g.I.Store.contents c.write_all.new.self) x) c.deref-6.ensures.value c.in-Ok-write_all.ensures.written);
+      played = played made.0 c.in_ok-ran.ran.words.items c.in-Ok-parse.calls.items c.in_ok-ran.ran.entries.items _ _ _ _ made.1
+          (subst (λ (x : List ℕ). IsGoodScript x c.in-Ok-parse.calls.items) c.deref.ensures.value c.in-Ok-parse.ensures.good)
+          (subst (λ (x : List Call). IsRun x c.in_ok-ran.ran.words.items c.in_ok-ran.ran.entries.items) c.deref-3.ensures.value c.in_ok-ran.ensures)
+          made.2
+          (c.in_ok-text.ensures ∙ ap (entry_lines 1) c.deref-4.ensures.value)
+          (c.in_ok-ending.ensures.bytes ∙ ap image_bytes c.deref-5.ensures.value);
+    }
