@@ -34,22 +34,22 @@ const CLEAN: u64 = 0x100;
 /// The state of a segment that is in use and not splitting, in its header word.
 const NORMAL: u64 = 0x100;
 
-/// The place of the state word.
-const STATE_PLACE: usize = 16;
+/// The number of the state word.
+const STATE_WORD: usize = 16;
 
-/// The place of the header word of the segment.
-const HEADER_PLACE: usize = 65;
+/// The number of the header word of the segment.
+const HEADER_WORD: usize = 65;
 
-/// The word at a place of a new image; 0 behind its end.
-pub fn new_word(place: usize) -> u64
-    ensures { (words : List ℕ) → IsNew words → result ≡ slice_index words place }
+/// A word of a new image by its number; 0 behind its end.
+pub fn new_word(index: usize) -> u64
+    ensures { (words : List ℕ) → IsNew words → result ≡ slice_index words index }
 {
-    match place {
+    match index {
         0 => MAGIC,
         1 => FORMAT,
         2 => SEGMENTS,
-        STATE_PLACE => FIRST_VERSION | CLEAN,
-        HEADER_PLACE => FIRST_VERSION | NORMAL,
+        STATE_WORD => FIRST_VERSION | CLEAN,
+        HEADER_WORD => FIRST_VERSION | NORMAL,
         _ => 0,
     }
 }
@@ -63,8 +63,8 @@ pub fn new_words(alloc: Global) -> Result<Vec<u64>, AllocError>
     ensures { IfOk result (λ words. IsNew words.items) }
 {
     let mut words = Vec::with_capacity(alloc, NEW_WORDS)?;
-    for place in 0..NEW_WORDS {
-        words.push(new_word(place))?;
+    for index in 0..NEW_WORDS {
+        words.push(new_word(index))?;
     }
     Ok(words)
 }
@@ -84,12 +84,12 @@ pub fn to_bytes(alloc: Global, words: &[u64]) -> Result<Vec<u8>, AllocError>
     Ok(bytes)
 }
 
-// Whether this word stands at a place of a file.
-fn stands_at(bytes: &[u8], place: usize, word: u64) -> bool
-    requires { 8 * place + 8 ≤ length bytes.now }
-    ensures { IsTrue result ↔ (take 8 (drop (8 * place) bytes.now) ≡ little_bytes 8 word) }
+// Whether this is the word of that number in a file.
+fn stands_at(bytes: &[u8], index: usize, word: u64) -> bool
+    requires { 8 * index + 8 ≤ length bytes.now }
+    ensures { IsTrue result ↔ (take 8 (drop (8 * index) bytes.now) ≡ little_bytes 8 word) }
 {
-    let at = WORD_BYTES * place;
+    let at = WORD_BYTES * index;
     &bytes[at..at + WORD_BYTES] == word.to_le_bytes().as_slice()
 }
 
@@ -100,8 +100,8 @@ pub fn is_new_file(bytes: &[u8]) -> bool
     if bytes.len() != WORD_BYTES * NEW_WORDS {
         return false;
     }
-    for place in 0..NEW_WORDS {
-        if !stands_at(bytes, place, new_word(place)) {
+    for index in 0..NEW_WORDS {
+        if !stands_at(bytes, index, new_word(index)) {
             return false;
         }
     }

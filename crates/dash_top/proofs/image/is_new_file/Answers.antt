@@ -14,14 +14,14 @@ pub returns-then-not-stands_at : goal.returns-then-not-stands_at
 returns-then-not-stands_at c = (
   (λ yes. absurd (impossible yes)),
   (λ f. c.if-not-stands_at.ensures.1
-      (stands_in_new_file f.0 c.args.bytes.now c.loop-place.place c.new_word.result f.1 f.2 c.loop-place-test.true (c.new_word.ensures f.0 f.1))),
+      (stands_in_new_file f.0 c.args.bytes.now c.loop-index.index c.new_word.result f.1 f.2 c.loop-index-test.true (c.new_word.ensures f.0 f.1))),
 )
 
-pub loop-place-preserved : goal.loop-place-preserved
-loop-place-preserved c words n =
-    begins_as_new_file words c.args.bytes.now c.loop-place.place c.new_word.result n c.loop-place-test.true (c.new_word.ensures words n)
-    (c.loop-place.invariant words n) (c.if-not-stands_at.ensures.0 refl)
+pub loop-index-preserved : goal.loop-index-preserved
+loop-index-preserved c words n =
+    begins_as_new_file words c.args.bytes.now c.loop-index.index c.new_word.result n c.loop-index-test.true (c.new_word.ensures words n)
+    (c.loop-index.invariant words n) (c.if-not-stands_at.ensures.0 refl)
 
 pub returns : goal.returns
 returns c =
-    ((λ _. (new_image, new_image-IsNew, is_whole_file c.args.bytes.now c.loop-place.place c.if-bytes.false c.loop-place-test.false c.loop-place.invariant)), (λ _. refl))
+    ((λ _. (new_image, new_image-IsNew, is_whole_file c.args.bytes.now c.loop-index.index c.if-bytes.false c.loop-index-test.false c.loop-index.invariant)), (λ _. refl))

@@ -3,5 +3,5 @@ use Rattle.sound_image.specs.Image.{image_bytes}
 use Rattle.dash_top.specs.Plain.{IsNew}
 use Rattle.dash_top.proofs.image.is_new_file.Given as goal
 
-abbrev pub invariant-loop-place : goal.invariant-loop-place
-invariant-loop-place l = (words : List ℕ) → IsNew words → take (8 * l.place) l.bytes ≡ image_bytes (take l.place words)
+abbrev pub invariant-loop-index : goal.invariant-loop-index
+invariant-loop-index l = (words : List ℕ) → IsNew words → take (8 * l.index) l.bytes ≡ image_bytes (take l.index words)
