@@ -5,3 +5,5 @@ pub mod OneMore
 pub mod Histories
 pub mod OneCaller
 pub mod KeptViews
+pub mod PlainMaps
+pub mod PutApart
