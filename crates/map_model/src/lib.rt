@@ -6,6 +6,10 @@
 
 pub mod call;
 pub mod entry;
+pub mod laws;
 
 pub use call::Call;
 pub use entry::{Entry, Reply, Stop};
+pub use laws::{
+    drawn_keeps_legal, later_entries_keep, legal_by_places, loaded_keeps_legal, weave_leaves_draws,
+};
