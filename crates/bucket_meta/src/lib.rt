@@ -1,2 +1,6 @@
 //! The metadata of a bucket.
 #![tactic(auto)]
+
+mod metadata;
+
+pub use metadata::Meta;

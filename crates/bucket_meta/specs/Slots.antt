@@ -1,0 +1,20 @@
+-- Sets of record slots, as numbers whose bit s is of slot s, and what a change of a slot leaves.
+use Rattle.std.specs.Prelude.{◌≡◌, ◌≢◌, ℕ, ◌<◌, slice_index}
+use Rattle.bucket_meta.specs.declared.metadata.Meta.{Meta}
+use Rattle.bucket_meta.specs.Bucket.{bit}
+
+-- each of the 14 slots is in the set
+abbrev pub IsFull : ℕ → Type 0
+IsFull slots = (s : ℕ) → s < 14 → bit s slots ≡ 1
+
+-- each slot but this one is in the new set if it is in the old one
+abbrev pub SameElsewhere : ℕ → ℕ → ℕ → Type 0
+SameElsewhere old new slot = (s : ℕ) → s ≢ slot → bit s new ≡ bit s old
+
+-- all that is said of the stash is as it was
+pub record SameOverflow (old new : Meta) : Type 0 where
+  pub used : new.used ≡ old.used
+  pub omember : new.omember ≡ old.omember
+  pub oindex : new.oindex ≡ old.oindex
+  pub ocount : new.ocount ≡ old.ocount
+  pub ofps : new.ofps ≡ old.ofps

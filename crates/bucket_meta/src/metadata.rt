@@ -1,0 +1,178 @@
+//! A bucket's metadata, field by field.
+
+ghost use Rattle.std.specs.Prelude.{◌≡◌, ◌≢◌, ℕ, ◌+◌, ◌*◌, ◌^◌, ◌<◌, ◌≤◌, ◌↔◌, IfSome, IsNone, length, slice_index, slice_set, count_ones, if◌then◌else◌};
+ghost use Rattle.bucket_meta.specs.Bucket.{bits, bit};
+
+/// What the three words of metadata of a bucket say.
+///
+/// Bit `s` of `alloc` and of `member` is of record slot `s`, of 14; bit `i` of `used`, `omember` and
+/// `oindex` is of overflow place `i`, of 4.
+#[derive(Clone, Copy, Debug, PartialEq, Eq)]
+pub struct Meta {
+    /// The record slots that have a record.
+    pub alloc: u16,
+    /// The record slots whose record stands in its probing bucket.
+    pub member: u16,
+    /// The overflow places that hold the note of a record in the stash.
+    pub used: u8,
+    /// The overflow places whose note is of a record whose probing bucket this is.
+    pub omember: u8,
+    /// For each overflow place, the stash bucket that its note names.
+    pub oindex: u8,
+    /// How many records of this bucket stand in the stash without a note.
+    pub ocount: u8,
+    /// The fingerprints of the record slots.
+    pub fps: [u8; 14],
+    /// The fingerprints of the overflow places.
+    pub ofps: [u8; 4],
+    pub ghost alloc_fits: { alloc < 2 ^ 14 },
+    pub ghost member_fits: { member < 2 ^ 14 },
+    pub ghost used_fits: { used < 2 ^ 4 },
+    pub ghost omember_fits: { omember < 2 ^ 4 },
+    pub ghost oindex_fits: { oindex < 2 ^ 4 },
+    pub ghost ocount_fits: { ocount < 2 ^ 5 },
+    pub ghost fourteen: { length fps ≡ 14 },
+    pub ghost four: { length ofps ≡ 4 },
+}
+
+/// The number that `count` bits of a word make, from bit `low` upwards.
+fn bits_of(word: u64, low: u32, count: u32) -> u64
+    requires place { low < 64 }
+    requires some { count < 64 }
+    ensures value { result ≡ bits low count word }
+    ensures below { result < 2 ^ count }
+{
+    (word >> low) & ((1 << count) - 1)
+}
+
+/// A word with the bits of `value` put above the `low` bits that it has.
+fn with_bits(word: u64, low: u32, value: u64) -> u64
+    requires place { low < 64 }
+    requires free { word < 2 ^ low }
+    requires fits { value * 2 ^ low < 2 ^ 64 }
+    ensures { result ≡ word + 2 ^ low * value }
+{
+    word | (value << low)
+}
+
+/// The word that eight bytes make, the first one lowest.
+fn word_of(bytes: [u8; 8]) -> u64
+    ensures { (i : ℕ) → i < 8 → bits (8 * i) 8 result ≡ slice_index bytes i }
+{
+    u64::from_le_bytes(bytes)
+}
+
+/// The set of slots with this slot in it.
+fn with_slot(slots: u16, slot: u8) -> u16
+    requires whole { slots < 2 ^ 14 }
+    requires within { slot < 14 }
+    ensures whole { result < 2 ^ 14 }
+    ensures set { bit slot result ≡ 1 }
+    ensures others { (s : ℕ) → s ≢ slot → bit s result ≡ bit s slots }
+{
+    slots | (1 << slot)
+}
+
+/// The set of slots without this slot.
+fn without_slot(slots: u16, slot: u8) -> u16
+    requires whole { slots < 2 ^ 14 }
+    requires within { slot < 14 }
+    ensures whole { result < 2 ^ 14 }
+    ensures cleared { bit slot result ≡ 0 }
+    ensures others { (s : ℕ) → s ≢ slot → bit s result ≡ bit s slots }
+{
+    slots & !(1 << slot)
+}
+
+impl Meta {
+    ghost use Rattle.bucket_meta.specs.Slots.{IsFull, SameElsewhere, SameOverflow};
+    ghost use Rattle.bucket_meta.specs.MetaWords.{IsMetaOf};
+
+    /// The fields of words 1, 2 and 3 of a bucket.
+    pub fn read(words: [u64; 3]) -> Meta
+        ensures { IsMetaOf result (slice_index words 0) (slice_index words 1) (slice_index words 2) }
+    {
+        let [w1, w2, w3] = words;
+        let [f0, f1, f2, f3, f4, f5, f6, f7] = w2.to_le_bytes();
+        let [f8, f9, f10, f11, f12, f13, o0, o1] = w3.to_le_bytes();
+        Meta {
+            alloc: bits_of(w1, 0, 14) as u16,
+            member: bits_of(w1, 14, 14) as u16,
+            used: bits_of(w1, 28, 4) as u8,
+            omember: bits_of(w1, 32, 4) as u8,
+            oindex: bits_of(w1, 36, 4) as u8,
+            ocount: bits_of(w1, 40, 5) as u8,
+            fps: [f0, f1, f2, f3, f4, f5, f6, f7, f8, f9, f10, f11, f12, f13],
+            ofps: [o0, o1, bits_of(w1, 45, 8) as u8, bits_of(w1, 53, 8) as u8],
+        }
+    }
+
+    /// Words 1, 2 and 3 of a bucket with these fields. Bits 61 to 63 of word 1 are 0.
+    pub fn write(&self) -> [u64; 3]
+        ensures fields { IsMetaOf self.now (slice_index result 0) (slice_index result 1) (slice_index result 2) }
+        ensures zero { bits 61 3 (slice_index result 0) ≡ 0 }
+    {
+        let [f0, f1, f2, f3, f4, f5, f6, f7, f8, f9, f10, f11, f12, f13] = self.fps;
+        let [o0, o1, o2, o3] = self.ofps;
+        let w1 = u64::from(self.alloc);
+        let w1 = with_bits(w1, 14, u64::from(self.member));
+        let w1 = with_bits(w1, 28, u64::from(self.used));
+        let w1 = with_bits(w1, 32, u64::from(self.omember));
+        let w1 = with_bits(w1, 36, u64::from(self.oindex));
+        let w1 = with_bits(w1, 40, u64::from(self.ocount));
+        let w1 = with_bits(w1, 45, u64::from(o2));
+        let w1 = with_bits(w1, 53, u64::from(o3));
+        let w2 = word_of([f0, f1, f2, f3, f4, f5, f6, f7]);
+        let w3 = word_of([f8, f9, f10, f11, f12, f13, o0, o1]);
+        [w1, w2, w3]
+    }
+
+    /// The lowest slot that has no record.
+    pub fn free_slot(&self) -> Option<u8>
+        ensures within { IfSome result (λ slot. slot < 14) }
+        ensures free { IfSome result (λ slot. bit slot self.now.alloc ≡ 0) }
+        ensures lowest { IfSome result (λ slot. (s : ℕ) → s < slot → bit s self.now.alloc ≡ 1) }
+        ensures full { IsNone result ↔ IsFull self.now.alloc }
+    {
+        let slot = self.alloc.trailing_ones();
+        if slot < 14 { Some(slot as u8) } else { None }
+    }
+
+    /// How many slots have a record, at most 14.
+    pub fn filled(&self) -> u8
+        ensures count { result ≡ count_ones self.now.alloc }
+        ensures at_most { result ≤ 14 }
+        ensures full { (result ≡ 14) ↔ IsFull self.now.alloc }
+    {
+        self.alloc.count_ones() as u8
+    }
+
+    /// Puts a record into a slot, from 0 to 13: `is_member` says that it stands in its probing bucket.
+    pub fn place(&mut self, slot: u8, finger: u8, is_member: bool)
+        requires { slot < 14 }
+        ensures allocated { bit slot self.new.alloc ≡ 1 }
+        ensures other_alloc { SameElsewhere self.old.alloc self.new.alloc slot }
+        ensures member { bit slot self.new.member ≡ (if is_member then 1 else 0) }
+        ensures other_member { SameElsewhere self.old.member self.new.member slot }
+        ensures finger { self.new.fps ≡ slice_set self.old.fps slot finger }
+        ensures overflow { SameOverflow self.old self.new }
+    {
+        self.alloc = with_slot(self.alloc, slot);
+        self.member = if is_member { with_slot(self.member, slot) } else { without_slot(self.member, slot) };
+        self.fps[slot as usize] = finger;
+    }
+
+    /// Takes the record out of a slot, from 0 to 13. Its fingerprint stays.
+    pub fn clear(&mut self, slot: u8)
+        requires { slot < 14 }
+        ensures allocated { bit slot self.new.alloc ≡ 0 }
+        ensures other_alloc { SameElsewhere self.old.alloc self.new.alloc slot }
+        ensures member { bit slot self.new.member ≡ 0 }
+        ensures other_member { SameElsewhere self.old.member self.new.member slot }
+        ensures fingers { self.new.fps ≡ self.old.fps }
+        ensures overflow { SameOverflow self.old self.new }
+    {
+        self.alloc = without_slot(self.alloc, slot);
+        self.member = without_slot(self.member, slot);
+    }
+}
