@@ -1,2 +1,4 @@
 pub mod Each
+pub mod FullSets
+pub mod OneToOne
 pub mod Words

@@ -1,12 +1,17 @@
--- What the words say of a slot or an overflow place, the bits of the fields say; the words and the fields determine each other; and a slot is set or cleared alone.
-use Rattle.std.proofs.Common.{◌≡◌, ℕ, ◌+◌, ◌*◌, ◌/◌, ◌%◌, ◌^◌, ◌<◌, ap, sym, ◌∙◌, zero-add, rules, arith, get_or, length}
-use Rattle.std.proofs.lemmas.Nat.{shr_split, shr-shr}
-use Rattle.std.proofs.lemmas.Nat.Bits.{bit_at_cat_low}
+-- What the words say of a slot or an overflow place, the bits of the fields say, and a bit of a field is set or cleared alone.
+use Rattle.std.proofs.Common.{◌≡◌, ◌≢◌, ℕ, zero, suc, ◌+◌, ◌-◌, ◌*◌, ◌/◌, ◌%◌, ◌^◌, ◌<◌, List, ap, sym, ◌∙◌, subst, inl, inr, zero-add, arith, length, lit<, bit_and, bit_or, count_ones}
+use Rattle.std.proofs.Props.{props}
+use Rattle.std.proofs.Math.Nat.{pow-suc}
+use Rattle.std.proofs.lemmas.Bool.{cases_lt}
+use Rattle.std.proofs.lemmas.Nat.{shr_split, shr-shr, one_shl, or_lt, and_le_l, pow_below, ones-le}
+use Rattle.std.proofs.lemmas.Nat.Bits.{bit_at_cat_low, bit_at_set_same, bit_at_set_other, bit_at_clear_same, bit_at_clear_other, bit_at_above, bit_at_lowest, bit_at-suc, bit_at_ones, bit_at-trailing_ones, same_from_bits_below}
+use Rattle.std.specs.Int.Count.{ones_step, ones-ones}
 use Rattle.std.proofs.lemmas.Grind.{same_number_lists}
-use Rattle.std.specs.Int.{bit_at}
+use Rattle.std.specs.Int.{bit_at, w16, trailing_ones}
 use Rattle.bucket_meta.specs.declared.metadata.Meta.{Meta}
 use Rattle.bucket_meta.specs.Bucket.{bits, bit, allocated, member, note_used, note_member, note_index, finger, note_finger}
-use Rattle.bucket_meta.specs.MetaWords.{IsMetaOf}
+use Rattle.bucket_meta.specs.MetaWords.{IsMetaOf, WordsGiveMeta, MetaGivesWords}
+use Rattle.bucket_meta.specs.Slots.{IsFull}
 
 -- a bit of a field is a bit of the word
 pub bit_of_bits : (low count i w : ℕ) → i < count → bit i (bits low count w) ≡ bit (low + i) w
@@ -31,8 +36,26 @@ note_member_is m w1 w2 w3 i is within = sym (ap (λ n. bit i n) is.omember ∙ b
 pub note_index_is : (m : Meta) (w1 w2 w3 i : ℕ) → IsMetaOf m w1 w2 w3 → i < 4 → note_index i w1 ≡ bit i m.oindex
 note_index_is m w1 w2 w3 i is within = sym (ap (λ n. bit i n) is.oindex ∙ bit_of_bits 36 4 i w1 within)
 
-pub same_meta : (a b : Meta) → a.alloc ≡ b.alloc → a.member ≡ b.member → a.used ≡ b.used → a.omember ≡ b.omember → a.oindex ≡ b.oindex → a.ocount ≡ b.ocount → a.fps ≡ b.fps → a.ofps ≡ b.ofps → a ≡ b
-same_meta a b e1 e2 e3 e4 e5 e6 e7 e8 = cc
+-- `slots | 1 << k` at 16 bits has k, and is otherwise as it was
+pub set_same : (slots k : ℕ) → k < 16 → bit k (bit_or slots (1 * 2 ^ k % 65536)) ≡ 1
+set_same slots k within = bit_at_set_same w16 slots k within
 
-pub same_meta2 : (a b : Meta) → a.alloc ≡ b.alloc → a.member ≡ b.member → a.used ≡ b.used → a.omember ≡ b.omember → a.oindex ≡ b.oindex → a.ocount ≡ b.ocount → a.fps ≡ b.fps → a.ofps ≡ b.ofps → a ≡ b
-same_meta2 a b e1 e2 e3 e4 e5 e6 e7 e8 = search rules
+pub set_other : (slots k s : ℕ) → k < 16 → s ≢ k → bit s (bit_or slots (1 * 2 ^ k % 65536)) ≡ bit s slots
+set_other slots k s within other = bit_at_set_other w16 slots k within s other
+
+pub set_below : (slots k : ℕ) → slots < 2 ^ 14 → k < 14 → bit_or slots (1 * 2 ^ k % 65536) < 2 ^ 14
+set_below slots k whole within =
+    let power : 1 * 2 ^ k % 65536 ≡ 2 ^ k = one_shl k 16 (omega arith) in
+    or_lt 14 slots _ whole (rw power (pow_below k 14 within))
+
+-- `slots & !(1 << k)` at 16 bits has no k, and is otherwise as it was
+pub clear_same : (slots k : ℕ) → k < 16 → bit k (bit_and slots (65535 - 1 * 2 ^ k % 65536)) ≡ 0
+clear_same slots k within = bit_at_clear_same w16 slots k within
+
+pub clear_other : (slots k s : ℕ) → slots < 2 ^ 16 → k < 16 → s ≢ k → bit s (bit_and slots (65535 - 1 * 2 ^ k % 65536)) ≡ bit s slots
+clear_other slots k s whole within other =
+    let rest = bit_and slots (65535 - 1 * 2 ^ k % 65536) in
+    let less : rest < 2 ^ 16 = omega (arith, and_le_l slots (65535 - 1 * 2 ^ k % 65536)) in
+    elim (cases_lt s 16) [
+      inl low ↦ bit_at_clear_other w16 slots k within s low other
+    | inr high ↦ bit_at_above rest 16 s less high ∙ sym (bit_at_above slots 16 s whole high) ]

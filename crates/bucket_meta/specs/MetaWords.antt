@@ -1,5 +1,5 @@
 -- What the fields of a `Meta` say of the words that it was read from or written to.
-use Rattle.std.specs.Prelude.{◌≡◌, ℕ, ◌<◌, slice_index}
+use Rattle.std.specs.Prelude.{◌≡◌, ℕ, ◌<◌, ◌^◌, slice_index}
 use Rattle.bucket_meta.specs.declared.metadata.Meta.{Meta}
 use Rattle.bucket_meta.specs.Bucket.{bits, finger, note_finger}
 
@@ -13,3 +13,19 @@ pub record IsMetaOf (m : Meta) (w1 w2 w3 : ℕ) : Type 0 where
   pub ocount : m.ocount ≡ bits 40 5 w1
   pub fps : (s : ℕ) → s < 14 → slice_index m.fps s ≡ finger s w2 w3
   pub ofps : (i : ℕ) → i < 4 → slice_index m.ofps i ≡ note_finger i w1 w3
+
+-- words of 64 bits, where bits 61 to 63 of the first are 0
+pub record AreMetaWords (w1 w2 w3 : ℕ) : Type 0 where
+  pub first : w1 < 2 ^ 64
+  pub second : w2 < 2 ^ 64
+  pub third : w3 < 2 ^ 64
+  pub zero : bits 61 3 w1 ≡ 0
+
+-- fields that are those of the same words are the same fields
+abbrev pub WordsGiveMeta : Type 0
+WordsGiveMeta = (a b : Meta) (w1 w2 w3 : ℕ) → IsMetaOf a w1 w2 w3 → IsMetaOf b w1 w2 w3 → a ≡ b
+
+-- words that have the same fields are the same words
+abbrev pub MetaGivesWords : Type 0
+MetaGivesWords = (m : Meta) (v1 v2 v3 w1 w2 w3 : ℕ) → AreMetaWords v1 v2 v3 → AreMetaWords w1 w2 w3
+    → IsMetaOf m v1 v2 v3 → IsMetaOf m w1 w2 w3 → (v1 ≡ w1) × (v2 ≡ w2) × (v3 ≡ w3)

@@ -1,6 +1,10 @@
-//! The metadata of a bucket.
+//! The metadata of a bucket: which record slots and overflow places are used, with their fingerprints.
+//! [`Meta`] is read from words 1 to 3 of a bucket, is changed field by field, and is written back.
+//! `specs/Bucket.antt` says what each bit of a bucket's words means.
 #![tactic(auto)]
 
+mod laws;
 mod metadata;
 
+pub use laws::{meta_gives_words, read_of_written, words_give_meta, written_of_read};
 pub use metadata::Meta;

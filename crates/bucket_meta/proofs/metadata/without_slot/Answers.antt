@@ -1,10 +1,10 @@
-use Rattle.std.proofs.Common.{rules, ◌≡◌, ◌≢◌, ℕ, ◌*◌, ◌^◌, ◌<◌, arith, ◌∙◌, sym}
-use Rattle.std.specs.Int.{w16}
-use Rattle.std.proofs.lemmas.Nat.Bits.{bit_at_clear_same}
+-- The mask lacks bit slot alone.
+use Rattle.std.proofs.Common.{arith}
+use Rattle.bucket_meta.proofs.Words.{clear_same, clear_other}
 use Rattle.bucket_meta.proofs.metadata.without_slot.Goals as goal
 
 pub returns-clause-cleared : goal.returns-clause-cleared
-returns-clause-cleared c = bit_at_clear_same w16 c.args.slots c.args.slot (omega arith)
+returns-clause-cleared c = clear_same c.args.slots c.args.slot (omega arith)
 
 pub returns-clause-others : goal.returns-clause-others
-returns-clause-others c s other = ?
+returns-clause-others c s other = clear_other c.args.slots c.args.slot s (omega arith) (omega arith) other
