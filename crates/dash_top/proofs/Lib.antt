@@ -1,2 +1,7 @@
+pub mod Buckets
+pub mod Different
+pub mod OneRecord
 pub mod Pairs
+pub mod Raised
+pub mod Steps
 pub mod Storing

@@ -1,3 +1,4 @@
 pub mod Plain
-pub mod Run
 pub mod Stored
+pub mod Versions
+pub mod Run
