@@ -1,5 +1,5 @@
 -- Sets of record slots, as numbers whose bit s is of slot s, and what a change of a slot leaves.
-use Rattle.std.specs.Prelude.{◌≡◌, ◌≢◌, ℕ, ◌<◌, slice_index}
+use Rattle.std.specs.Prelude.{◌≡◌, ◌≢◌, ℕ, ◌<◌}
 use Rattle.bucket_meta.specs.declared.metadata.Meta.{Meta}
 use Rattle.bucket_meta.specs.Bucket.{bit}
 

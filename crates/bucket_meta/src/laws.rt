@@ -1,22 +1,20 @@
 //! Words and fields determine each other.
 
-use crate::Meta;
-
 ghost use Rattle.std.specs.Prelude.{◌≡◌, slice_index};
 ghost use Rattle.bucket_meta.specs.Bucket.{bits};
 ghost use Rattle.bucket_meta.specs.MetaWords.{WordsGiveMeta, MetaGivesWords};
 
+use crate::Meta;
+
 /// Fields that are those of the same words are the same fields.
 pub fn words_give_meta()
     ensures { WordsGiveMeta }
-{
-}
+{}
 
 /// Words that have the same fields are the same words.
 pub fn meta_gives_words()
     ensures { MetaGivesWords }
-{
-}
+{}
 
 /// The fields that are read of the words that a `Meta` writes are its own.
 pub fn read_of_written(meta: &Meta) -> Meta

@@ -8,3 +8,6 @@ mod metadata;
 
 pub use laws::{meta_gives_words, read_of_written, words_give_meta, written_of_read};
 pub use metadata::Meta;
+
+#[cfg(test)]
+mod tests;

@@ -3,6 +3,9 @@
 ghost use Rattle.std.specs.Prelude.{◌≡◌, ◌≢◌, ℕ, ◌+◌, ◌*◌, ◌^◌, ◌<◌, ◌≤◌, ◌↔◌, IfSome, IsNone, length, slice_index, slice_set, count_ones, if◌then◌else◌};
 ghost use Rattle.bucket_meta.specs.Bucket.{bits, bit};
 
+/// How many record slots a bucket has.
+const SLOTS: u32 = 14;
+
 /// What the three words of metadata of a bucket say.
 ///
 /// Bit `s` of `alloc` and of `member` is of record slot `s`, of 14; bit `i` of `used`, `omember` and
@@ -133,9 +136,10 @@ impl Meta {
         ensures free { IfSome result (λ slot. bit slot self.now.alloc ≡ 0) }
         ensures lowest { IfSome result (λ slot. (s : ℕ) → s < slot → bit s self.now.alloc ≡ 1) }
         ensures full { IsNone result ↔ IsFull self.now.alloc }
+        ensures filled { IsNone result ↔ (count_ones self.now.alloc ≡ 14) }
     {
         let slot = self.alloc.trailing_ones();
-        if slot < 14 { Some(slot as u8) } else { None }
+        if slot < SLOTS { Some(slot as u8) } else { None }
     }
 
     /// How many slots have a record, at most 14.
@@ -147,7 +151,8 @@ impl Meta {
         self.alloc.count_ones() as u8
     }
 
-    /// Puts a record into a slot, from 0 to 13: `is_member` says that it stands in its probing bucket.
+    /// Says of a slot, from 0 to 13, that it has a record with this fingerprint. `is_member` is true where
+    /// this is the record's probing bucket.
     pub fn place(&mut self, slot: u8, finger: u8, is_member: bool)
         requires { slot < 14 }
         ensures allocated { bit slot self.new.alloc ≡ 1 }
@@ -158,11 +163,15 @@ impl Meta {
         ensures overflow { SameOverflow self.old self.new }
     {
         self.alloc = with_slot(self.alloc, slot);
-        self.member = if is_member { with_slot(self.member, slot) } else { without_slot(self.member, slot) };
+        self.member = if is_member {
+            with_slot(self.member, slot)
+        } else {
+            without_slot(self.member, slot)
+        };
         self.fps[slot as usize] = finger;
     }
 
-    /// Takes the record out of a slot, from 0 to 13. Its fingerprint stays.
+    /// Says of a slot, from 0 to 13, that it has no record. The fingerprint there stays.
     pub fn clear(&mut self, slot: u8)
         requires { slot < 14 }
         ensures allocated { bit slot self.new.alloc ≡ 0 }

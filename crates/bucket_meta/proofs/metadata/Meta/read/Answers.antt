@@ -1,5 +1,5 @@
 -- Each field was taken from its bits, and the bytes of a word are its bits by eights.
-use Rattle.std.proofs.Common.{arith, rules}
+use Rattle.std.proofs.Common.{rules}
 use Rattle.bucket_meta.proofs.Each.{each_place, each_slot}
 use Rattle.bucket_meta.proofs.metadata.Meta.read.Goals as goal
 
@@ -12,6 +12,6 @@ returns c = record {
   oindex = c.bits_of-5.ensures.value;
   ocount = c.bits_of-6.ensures.value;
   fps = each_slot _ (search rules) (search rules) (search rules) (search rules) (search rules) (search rules) (search rules)
-    (search rules) (search rules) (search rules) (search rules) (search rules) (search rules) (search rules);
+      (search rules) (search rules) (search rules) (search rules) (search rules) (search rules) (search rules);
   ofps = each_place _ (search rules) (search rules) (search rules) (search rules);
 }

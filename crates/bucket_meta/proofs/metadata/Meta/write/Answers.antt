@@ -15,8 +15,8 @@ returns-clause-fields c =
       oindex = omega arith;
       ocount = omega arith;
       fps = each_slot _ (sym (low 0 (lit< tt))) (sym (low 1 (lit< tt))) (sym (low 2 (lit< tt))) (sym (low 3 (lit< tt)))
-        (sym (low 4 (lit< tt))) (sym (low 5 (lit< tt))) (sym (low 6 (lit< tt))) (sym (low 7 (lit< tt)))
-        (sym (high 0 (lit< tt))) (sym (high 1 (lit< tt))) (sym (high 2 (lit< tt))) (sym (high 3 (lit< tt)))
-        (sym (high 4 (lit< tt))) (sym (high 5 (lit< tt)));
+          (sym (low 4 (lit< tt))) (sym (low 5 (lit< tt))) (sym (low 6 (lit< tt))) (sym (low 7 (lit< tt)))
+          (sym (high 0 (lit< tt))) (sym (high 1 (lit< tt))) (sym (high 2 (lit< tt))) (sym (high 3 (lit< tt)))
+          (sym (high 4 (lit< tt))) (sym (high 5 (lit< tt)));
       ofps = each_place _ (sym (high 6 (lit< tt))) (sym (high 7 (lit< tt))) (omega arith) (omega arith);
     }

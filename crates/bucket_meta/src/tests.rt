@@ -1,0 +1,83 @@
+//! Words from outside, as the file format's own examples have them, and one change of a slot.
+
+use super::*;
+
+#[test]
+fn reads_a_full_bucket(rt: HostRuntime) {
+    let words = [
+        0x03E3_D400_F000_3FFF,
+        0x0E0C_0A08_0604_0200,
+        0x1D1C_1A18_1614_1210,
+    ];
+    let meta = Meta::read(words);
+    assert_eq!(rt; meta.alloc, 0x3FFF);
+    assert_eq!(rt; meta.member, 0);
+    assert_eq!(rt; meta.used, 0xF);
+    assert_eq!(rt; meta.omember, 0);
+    assert_eq!(rt; meta.oindex, 0);
+    assert_eq!(rt; meta.ocount, 20);
+    assert_eq!(rt;
+        meta.fps,
+        [0, 2, 4, 6, 8, 10, 12, 14, 16, 18, 20, 22, 24, 26]
+    );
+    assert_eq!(rt; meta.ofps, [0x1C, 0x1D, 0x1E, 0x1F]);
+    assert_eq!(rt; meta.write(), words);
+    assert_eq!(rt; meta.filled(), 14);
+    assert_eq!(rt; meta.free_slot(), None);
+}
+
+#[test]
+fn reads_a_full_bucket_of_members(rt: HostRuntime) {
+    let words = [0x0464_400F_FFFF_FFFF, 0, 0];
+    let meta = Meta::read(words);
+    assert_eq!(rt; meta.alloc, 0x3FFF);
+    assert_eq!(rt; meta.member, 0x3FFF);
+    assert_eq!(rt; meta.used, 0xF);
+    assert_eq!(rt; meta.omember, 0xF);
+    assert_eq!(rt; meta.oindex, 0);
+    assert_eq!(rt; meta.ocount, 0);
+    assert_eq!(rt; meta.ofps, [0, 0, 0x22, 0x23]);
+    assert_eq!(rt; written_of_read(words), words);
+}
+
+#[test]
+fn writes_a_bucket_of_unlike_fields(rt: HostRuntime) {
+    let words = [
+        0x1A98_6914_5284_AA5B,
+        0x8877_6655_4433_2211,
+        0xB2A1_EEDD_CCBB_AA99,
+    ];
+    let meta = Meta {
+        alloc: 0x2A5B,
+        member: 0x0A12,
+        used: 0x5,
+        omember: 0x4,
+        oindex: 0x1,
+        ocount: 9,
+        fps: [
+            0x11, 0x22, 0x33, 0x44, 0x55, 0x66, 0x77, 0x88, 0x99, 0xAA, 0xBB, 0xCC, 0xDD, 0xEE,
+        ],
+        ofps: [0xA1, 0xB2, 0xC3, 0xD4],
+    };
+    assert_eq!(rt; meta.write(), words);
+    assert_eq!(rt; Meta::read(words), meta);
+    assert_eq!(rt; read_of_written(&meta), meta);
+    assert_eq!(rt; meta.free_slot(), Some(2));
+    assert_eq!(rt; meta.filled(), 8);
+}
+
+#[test]
+fn places_and_clears_a_member(rt: HostRuntime) {
+    let empty = Meta::read([0, 0, 0]);
+    let mut meta = empty;
+    meta.place(0, 0xAB, true);
+    let [first, second, third] = meta.write();
+    assert_eq!(rt; first.to_le_bytes(), [0x01, 0x40, 0, 0, 0, 0, 0, 0]);
+    assert_eq!(rt; second, 0xAB);
+    assert_eq!(rt; third, 0);
+    meta.place(0, 0xAB, false);
+    assert_eq!(rt; meta.write(), [1, 0xAB, 0]);
+    meta.clear(0);
+    assert_eq!(rt; meta.write(), [0, 0xAB, 0]);
+    assert_eq!(rt; meta.free_slot(), Some(0));
+}
