@@ -4,3 +4,6 @@ pub mod Places
 pub mod OneMore
 pub mod Histories
 pub mod OneCaller
+pub mod KeptViews
+pub mod PlainMaps
+pub mod PutApart

@@ -4,12 +4,18 @@
 //! what the map answers, how the entries of all callers are woven by their places, and when that is legal.
 #![tactic(auto)]
 
+mod by_place;
 pub mod call;
 pub mod entry;
 pub mod laws;
+pub mod lists;
+pub mod no_memory;
+mod plain_map;
 
 pub use call::Call;
 pub use entry::{Entry, Reply, Stop};
 pub use laws::{
     drawn_keeps_legal, later_entries_keep, legal_by_places, loaded_keeps_legal, weave_leaves_draws,
 };
+pub use lists::Lists;
+pub use no_memory::NoMemory;

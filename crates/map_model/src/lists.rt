@@ -1,0 +1,97 @@
+// The entries of each caller.
+ghost use Rattle.std.specs.Prelude.{◌≡◌, ◌-◌, ◌<◌, ◌≤◌, length, map, slice_get, IfOk, IfSome, Some};
+ghost use Rattle.map_model.specs.Kept.{with_room, with_entry, lists_of};
+
+use crate::entry::Entry;
+use crate::no_memory::NoMemory;
+use std::alloc::Global;
+use std::marker::Model;
+
+/// The entries of each caller in its own order, with room for a number of more that is set at the
+/// start. Callers are numbered from 1.
+#[derive(Drop)]
+pub struct Lists {
+    lists: Vec<Vec<Entry>>,
+}
+
+impl Model for Lists {
+    ghost use Rattle.std.specs.Prelude.{List, map, vec_len, vec_capacity, ◌-◌};
+    ghost use Rattle.map_model.specs.Kept.{Kept};
+
+    ghost Value = { List Kept };
+
+    ghost view = { λ kept. map (λ list. record { entries = list.items; spare = vec_capacity list - vec_len list }) kept.lists.items };
+}
+
+impl Lists {
+    /// No entries yet, and room for `room[caller - 1]` entries of each caller. More room than memory
+    /// can hold is `NoMemory`.
+    pub fn new(alloc: Global, room: &[u64]) -> Result<Lists, NoMemory>
+        ensures { IfOk result (λ lists. lists ≡ map with_room room.now) }
+    {
+        let mut lists = Vec::with_capacity(alloc, room.len())?;
+        for entries in room {
+            lists.push(Vec::with_capacity(alloc, *entries as usize)?)?;
+        }
+        Ok(Lists { lists })
+    }
+
+    /// The number of callers.
+    pub fn callers(&self) -> usize
+        ensures { result ≡ length self.now }
+    {
+        self.lists.len()
+    }
+
+    /// The entries of a caller, oldest first.
+    pub fn of(&self, caller: u8) -> &[Entry]
+        requires from_one { 1 ≤ caller }
+        requires is_caller { caller ≤ length self.now }
+        ensures { slice_get (lists_of self.now) (caller - 1) ≡ Some result.now }
+    {
+        &self.lists[caller as usize - 1]
+    }
+
+    /// One more entry of a caller, into the room that it has left.
+    pub fn push(&mut self, caller: u8, entry: Entry)
+        requires from_one { 1 ≤ caller }
+        requires is_caller { caller ≤ length self.old }
+        requires has_spare { IfSome (slice_get self.old (caller - 1)) (λ kept. 0 < kept.spare) }
+        ensures { self.new ≡ with_entry self.old (caller - 1) entry }
+    {
+        let list = &mut self.lists[caller as usize - 1];
+        list.push_reserved(entry);
+    }
+}
+
+#[cfg(test)]
+mod tests {
+    use super::*;
+    use crate::call::Call;
+    use crate::entry::Reply;
+    use std::test::Fail;
+
+    #[test]
+    fn callers_keep_their_own_entries(rt: HostRuntime) -> Result<(), Fail> {
+        let insert = Entry {
+            serial: 1,
+            call: Call::Insert(5, 7),
+            reply: Reply::Done,
+            place: 0,
+            drew: true,
+        };
+        let mut lists = Lists::new(rt.alloc(), &[0, 2])?;
+        assert_eq!(rt; lists.callers(), 2);
+        lists.push(2, insert);
+        assert_eq!(rt; lists.of(1).len(), 0);
+        assert_eq!(rt; lists.of(2), [insert].as_slice());
+        Ok(())
+    }
+
+    #[test]
+    fn room_beyond_memory_is_refused(rt: HostRuntime) {
+        for room in [u64::MAX, 1 << 62] {
+            assert!(rt; Lists::new(rt.alloc(), &[room]).is_err());
+        }
+    }
+}
