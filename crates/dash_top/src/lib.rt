@@ -2,4 +2,5 @@
 #![tactic(auto)]
 
 mod bucket;
+mod run;
 mod step;

@@ -1,7 +1,8 @@
 // One call on a plain image.
 
-ghost use Rattle.std.specs.Prelude.{◌≡◌, ℕ, ◌+◌, ◌*◌, ◌<◌, length, slice_index};
+ghost use Rattle.std.specs.Prelude.{◌≡◌, ℕ, ◌+◌, ◌*◌, ◌^◌, ◌<◌, length, slice_index};
 ghost use Rattle.hash_word.specs.Hash.{home_of};
+ghost use Rattle.map_model.specs.Map.{key_of};
 ghost use Rattle.dash_top.specs.Plain.{IsPlain, VersionsUpTo, bucket_word};
 ghost use Rattle.dash_top.specs.Versions.{RaisesVersions};
 ghost use Rattle.dash_top.specs.Run.{IsServed, IsStep};
@@ -72,6 +73,7 @@ pub fn step(words: &mut [u64], call: Call) -> Reply
     requires versions { VersionsUpTo MOST_CALLS words.old }
     requires served { IsServed call }
     ensures step { IsStep words.old words.new call result }
+    ensures key { key_of call < 2 ^ 64 }
     ensures versions { (n : ℕ) → VersionsUpTo n words.old → VersionsUpTo (n + 1) words.new }
 {
     match call {
