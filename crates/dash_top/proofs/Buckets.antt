@@ -1,5 +1,5 @@
 -- A bucket whose words behind its lock word stay the same holds the same records, and stays plain while it is unlocked.
-use Rattle.std.proofs.Common.{◌≡◌, ◌≢◌, ℕ, ◌+◌, ◌*◌, ◌<◌, ap, sym, ◌∙◌, arith}
+use Rattle.std.proofs.Common.{◌≡◌, ℕ, ◌+◌, ◌*◌, ◌<◌, ap, sym, ◌∙◌, arith}
 use Rattle.bucket_meta.specs.Bucket.{lock_of, allocated, member, finger, note_used, overflow_count}
 use Rattle.hash_word.specs.Hash.{home_of, finger_of}
 use Rattle.sound_image.specs.Segments.{ImageWords}
@@ -56,7 +56,7 @@ module _ (old new : ImageWords) (b : ℕ) (same : SameBehindLock old new b) wher
     at_home = λ r within taken. ap home_of (same_key r within) ∙ plain.at_home r within (taken_before r taken);
     by_finger = λ r within taken. same_finger r ∙ plain.by_finger r within (taken_before r taken) ∙ ap finger_of (sym (same_key r within));
     once = λ r t r_within t_within r_taken t_taken e.
-      plain.once r t r_within t_within (taken_before r r_taken) (taken_before t t_taken) (sym (same_key r r_within) ∙ e ∙ same_key t t_within);
+        plain.once r t r_within t_within (taken_before r r_taken) (taken_before t t_taken) (sym (same_key r r_within) ∙ e ∙ same_key t t_within);
   }
 
 -- the words before the first bucket are the same

@@ -1,5 +1,5 @@
 -- Numbers that a function gives at different places, if they are all different, stand in one list that rises.
-use Rattle.std.proofs.Common.{◌≡◌, ◌≢◌, ℕ, zero, suc, ◌+◌, ◌<◌, ◌≤◌, Bool, true, false, cond, ltb, List, [], ◌∷◌, length, get_or, refl, sym, ap, subst, ◌∙◌, arith, add-one, inl, inr, ◌⊎◌}
+use Rattle.std.proofs.Common.{◌≡◌, ◌≢◌, ℕ, zero, suc, ◌<◌, List, [], ◌∷◌, length, get_or, refl, ap, subst, ◌∙◌, arith, add-one, inl, inr}
 use Rattle.std.specs.List.{AllByRecursion}
 use Rattle.std.specs.List.Sorted.{IsStrictlyIncreasing}
 use Rattle.std.proofs.lemmas.Bool.{cases_lt}
@@ -30,19 +30,24 @@ placed : (x : ℕ) (xs : List ℕ) → Rises xs → AllByRecursion (λ y. y ≢ 
 placed x [] rises new = (x ∷ [], record { count = refl; rises = (tt, tt); all = λ P here all. (here, tt) })
 placed x (y ∷ ys) rises new =
     elim (cases_lt x y) [
-      inl below ↦ (x ∷ y ∷ ys, record {
-        count = refl;
-        rises = ((below, each _ _ (λ z above. omega (arith, above, below)) ys rises.0), rises);
-        all = λ P here all. (here, all);
-      })
-    | inr above ↦
-        let rest = placed x ys rises.1 new.1 in
-        let lower : y < x = omega (arith, above, new.0) in
-        (y ∷ rest.0, record {
-          count = ap suc rest.1.count;
-          rises = (rest.1.all (λ z. y < z) lower rises.0, rest.1.rises);
-          all = λ P here all. (all.0, rest.1.all P here all.1);
-        })
+      | inl below ↦ (
+        x ∷ y ∷ ys,
+        record {
+          count = refl;
+          rises = ((below, each _ _ (λ z above. omega (arith, above, below)) ys rises.0), rises);
+          all = λ P here all. (here, all);
+        },
+      )
+      | inr above ↦
+          let rest = placed x ys rises.1 new.1 in
+          let lower : y < x = omega (arith, above, new.0) in (
+            y ∷ rest.0,
+            record {
+              count = ap suc rest.1.count;
+              rises = (rest.1.all (λ z. y < z) lower rises.0, rest.1.rises);
+              all = λ P here all. (all.0, rest.1.all P here all.1);
+            },
+          )
     ]
 
 -- so many different numbers, each of which passes
@@ -53,14 +58,27 @@ pub record Different (n : ℕ) (Passes : ℕ → Type 0) : Type 0 where
   pub pass : AllByRecursion Passes numbers
 
 module _ (f : ℕ → ℕ) where
-  given : (n : ℕ) → ((i j : ℕ) → i < n → j < n → f i ≡ f j → i ≡ j) → (xs : List ℕ) × (length xs ≡ n) × Rises xs × AllByRecursion (λ x. (i : ℕ) × (i < n) × (f i ≡ x)) xs
+  -- what is one of the numbers that f gives below n
+  abbrev IsGiven : ℕ → ℕ → Type 0
+  IsGiven n x = (i : ℕ) × (i < n) × (f i ≡ x)
+
+  below_last : (n x : ℕ) → IsGiven n x → IsGiven (suc n) x
+  below_last n x (i, below, e) = (i, omega arith, e)
+
+  -- the number that is next is none of those before
+  not_before : (n : ℕ) → ((i j : ℕ) → i < suc n → j < suc n → f i ≡ f j → i ≡ j) → (x : ℕ) → IsGiven n x → x ≢ f n
+  not_before n once x (i, below, e) same = let there : i ≡ n = once i n (omega arith) (omega arith) (e ∙ same) in omega arith
+
+  given : (n : ℕ) → ((i j : ℕ) → i < n → j < n → f i ≡ f j → i ≡ j) → (xs : List ℕ) × (length xs ≡ n) × Rises xs × AllByRecursion (IsGiven n) xs
   given zero once = ([], refl, tt, tt)
   given (suc n) once =
       let fewer = given n (λ i j i_below j_below e. once i j (omega arith) (omega arith) e) in
-      let new = each _ _ (λ x (i, below, e) same. (let there : i ≡ n = once i n (omega arith) (omega arith) (e ∙ same) in omega arith)) fewer.0 fewer.3 in
-      let more = placed (f n) fewer.0 fewer.2 new in
-      let kept = each _ (λ x. (i : ℕ) × (i < suc n) × (f i ≡ x)) (λ x (i, below, e). (i, omega arith, e)) fewer.0 fewer.3 in
-      (more.0, more.1.count ∙ ap suc fewer.1, more.1.rises, more.1.all _ (n, omega arith, refl) kept)
+      let more = placed (f n) fewer.0 fewer.2 (each (IsGiven n) (λ x. x ≢ f n) (not_before n once) fewer.0 fewer.3) in (
+        more.0,
+        more.1.count ∙ ap suc fewer.1,
+        more.1.rises,
+        more.1.all (IsGiven (suc n)) (n, omega arith, refl) (each (IsGiven n) (IsGiven (suc n)) (below_last n) fewer.0 fewer.3),
+      )
 
   pub different_values : (n : ℕ) (P : ℕ → Type 0) → ((i j : ℕ) → i < n → j < n → f i ≡ f j → i ≡ j) → ((i : ℕ) → i < n → P (f i)) → Different n P
   different_values n P once passes =
@@ -69,5 +87,5 @@ module _ (f : ℕ → ℕ) where
         numbers = there.0;
         count = there.1;
         different = rising_by_index there.0 there.2;
-        pass = each _ P (λ x (i, below, e). subst P e (passes i below)) there.0 there.3;
+        pass = each (IsGiven n) P (λ x (i, below, e). subst P e (passes i below)) there.0 there.3;
       }

@@ -1,16 +1,15 @@
 -- A record of an absent key that is stored in a free slot of its home bucket leaves a plain image plain, with one pair more.
-use Rattle.std.proofs.Common.{◌≡◌, ◌≢◌, ℕ, ◌+◌, ◌*◌, ◌^◌, ◌<◌, List, length, get_or, Option, None, Some, cond, true, false, eqb, refl, ap, sym, subst, ◌∙◌, arith, inl, inr, ◌⊎◌, eq-eqb}
+use Rattle.std.proofs.Common.{◌≡◌, ◌≢◌, ℕ, ◌+◌, ◌*◌, ◌^◌, ◌<◌, List, get_or, Option, None, Some, cond, refl, ap, sym, subst, ◌∙◌, arith, inl, inr, eq-eqb}
 use Rattle.std.specs.FinMap.{get, insert, get-insert}
-use Rattle.std.specs.Ordering.{nat_cmp}
 use Rattle.std.specs.Cmp.{unsigned_tied}
 use Rattle.std.proofs.lemmas.Cmp.{nat_cmp_total}
 use Rattle.std.proofs.lemmas.Bool.{cases_eq, ne_eqb}
-use Rattle.bucket_meta.specs.Bucket.{lock_of, allocated}
+use Rattle.bucket_meta.specs.Bucket.{lock_of}
 use Rattle.hash_word.specs.Hash.{home_of, finger_of}
 use Rattle.map_model.specs.Map.{Map}
 use Rattle.sound_image.specs.Segments.{ImageWords}
 use Rattle.sound_image.specs.Left.{HasPairsOf}
-use Rattle.dash_top.specs.Plain.{one_segment, bucket_word, IsTaken, key_in, value_in, finger_in, IsRecord, IsPlainBucket, IsPlain}
+use Rattle.dash_top.specs.Plain.{one_segment, bucket_word, IsTaken, key_in, value_in, IsRecord, IsPlainBucket, IsPlain}
 use Rattle.dash_top.specs.Stored.{StoresRecord}
 use Rattle.dash_top.proofs.Pairs.{HasValue, HasHome, home-lt, home_from_pairs, pairs_from_home}
 use Rattle.dash_top.proofs.Buckets.{SameBehindLock, record_before, record_after, same_bucket, same_head}
@@ -78,14 +77,14 @@ module _ (old new : List ℕ) (plain : IsPlain old) (r k v : ℕ) (stores : Stor
       → key_in now (bucket_word home) t ≡ key_in now (bucket_word home) u → t ≡ u
   same_once t u t_within u_within t_taken u_taken e =
       elim (cases_eq t r) [
-        inl t_is ↦ elim (cases_eq u r) [
-          inl u_is ↦ t_is ∙ sym u_is
-        | inr other ↦ absurd (other_key u u_within other u_taken (sym e ∙ ap (key_in now (bucket_word home)) t_is ∙ stores.stored.key))
+        | inl t_is ↦ elim (cases_eq u r) [
+          | inl u_is ↦ t_is ∙ sym u_is
+          | inr other ↦ absurd (other_key u u_within other u_taken (sym e ∙ ap (key_in now (bucket_word home)) t_is ∙ stores.stored.key))
         ]
-      | inr other ↦ elim (cases_eq u r) [
-          inl u_is ↦ absurd (other_key t t_within other t_taken (e ∙ ap (key_in now (bucket_word home)) u_is ∙ stores.stored.key))
-        | inr other_u ↦ plain_home.once t u t_within u_within (taken_before t t_within other t_taken) (taken_before u u_within other_u u_taken)
-            (sym (key_before t t_within other) ∙ e ∙ key_before u u_within other_u)
+        | inr other ↦ elim (cases_eq u r) [
+          | inl u_is ↦ absurd (other_key t t_within other t_taken (e ∙ ap (key_in now (bucket_word home)) u_is ∙ stores.stored.key))
+          | inr other_u ↦ plain_home.once t u t_within u_within (taken_before t t_within other t_taken) (taken_before u u_within other_u u_taken)
+              (sym (key_before t t_within other) ∙ e ∙ key_before u u_within other_u)
         ]
       ]
 
@@ -108,8 +107,8 @@ module _ (old new : List ℕ) (plain : IsPlain old) (r k v : ℕ) (stores : Stor
     each_fits = fits;
     head = same_head before now (λ i low. stores.other_words i (omega arith) (omega arith) (omega arith) (omega arith) (omega arith)) plain.head;
     buckets = λ a within. elim (cases_eq a home) [
-      inl e ↦ subst (IsPlainBucket now) (sym e) home_bucket
-    | inr other ↦ same_bucket before now a (other_bucket a other) (plain.buckets a within) (unlocked a within)
+      | inl e ↦ subst (IsPlainBucket now) (sym e) home_bucket
+      | inr other ↦ same_bucket before now a (other_bucket a other) (plain.buckets a within) (unlocked a within)
     ];
   }
 
@@ -118,30 +117,34 @@ module _ (old new : List ℕ) (plain : IsPlain old) (r k v : ℕ) (stores : Stor
   before_at_home t q w other is =
       let not_here : t ≢ r = λ e. other (sym is.key ∙ ap (key_in now (bucket_word home)) e ∙ stores.stored.key) in
       record {
-        slot = is.slot; taken = taken_before t is.slot not_here is.taken;
-        key = sym (key_before t is.slot not_here) ∙ is.key; value = sym (value_before t is.slot not_here) ∙ is.value;
+        slot = is.slot;
+        taken = taken_before t is.slot not_here is.taken;
+        key = sym (key_before t is.slot not_here) ∙ is.key;
+        value = sym (value_before t is.slot not_here) ∙ is.value;
       }
 
   after_at_home : (t q w : ℕ) → q ≢ k → IsRecord before (bucket_word home) t q w → IsRecord now (bucket_word home) t q w
   after_at_home t q w other is =
       let not_here : t ≢ r = λ e. free (subst (IsTaken before (bucket_word home)) e is.taken) in
       record {
-        slot = is.slot; taken = (stores.other_slots t is.slot not_here).taken ∙ is.taken;
-        key = key_before t is.slot not_here ∙ is.key; value = value_before t is.slot not_here ∙ is.value;
+        slot = is.slot;
+        taken = (stores.other_slots t is.slot not_here).taken ∙ is.taken;
+        key = key_before t is.slot not_here ∙ is.key;
+        value = value_before t is.slot not_here ∙ is.value;
       }
 
   value_before_store : (q w : ℕ) → q ≢ k → HasValue now q w → HasValue before q w
   value_before_store q w other (t, is) =
       elim (cases_eq (home_of q) home) [
-        inl e ↦ (t, subst (λ (b : ℕ). IsRecord before (bucket_word b) t q w) (sym e) (before_at_home t q w other (subst (λ (b : ℕ). IsRecord now (bucket_word b) t q w) e is)))
-      | inr apart ↦ (t, record_before before now (home_of q) (other_bucket (home_of q) apart) t q w is)
+        | inl e ↦ (t, subst (λ (b : ℕ). IsRecord before (bucket_word b) t q w) (sym e) (before_at_home t q w other (subst (λ (b : ℕ). IsRecord now (bucket_word b) t q w) e is)))
+        | inr apart ↦ (t, record_before before now (home_of q) (other_bucket (home_of q) apart) t q w is)
       ]
 
   value_after_store : (q w : ℕ) → q ≢ k → HasValue before q w → HasValue now q w
   value_after_store q w other (t, is) =
       elim (cases_eq (home_of q) home) [
-        inl e ↦ (t, subst (λ (b : ℕ). IsRecord now (bucket_word b) t q w) (sym e) (after_at_home t q w other (subst (λ (b : ℕ). IsRecord before (bucket_word b) t q w) e is)))
-      | inr apart ↦ (t, record_after before now (home_of q) (other_bucket (home_of q) apart) t q w is)
+        | inl e ↦ (t, subst (λ (b : ℕ). IsRecord now (bucket_word b) t q w) (sym e) (after_at_home t q w other (subst (λ (b : ℕ). IsRecord before (bucket_word b) t q w) e is)))
+        | inr apart ↦ (t, record_after before now (home_of q) (other_bucket (home_of q) apart) t q w is)
       ]
 
   home_after_store : (q : ℕ) (o : Option ℕ) → q ≢ k → HasHome before q o → HasHome now q o
@@ -152,6 +155,6 @@ module _ (old new : List ℕ) (plain : IsPlain old) (r k v : ℕ) (stores : Stor
   stored_pairs new_plain m pairs =
       pairs_from_home new new_plain (insert m k v)
       (λ q. elim (cases_eq q k) [
-        inl e ↦ subst (λ (n : ℕ). HasHome now n (get (insert m k v) n)) (sym e) (subst (HasHome now k) (sym (get-insert_same m k v)) (r, stores.stored))
-      | inr other ↦ subst (HasHome now q) (sym (get-insert_other m k v q other)) (home_after_store q (get m q) other (home_from_pairs old plain m pairs q))
+        | inl e ↦ subst (λ (n : ℕ). HasHome now n (get (insert m k v) n)) (sym e) (subst (HasHome now k) (sym (get-insert_same m k v)) (r, stores.stored))
+        | inr other ↦ subst (HasHome now q) (sym (get-insert_other m k v q other)) (home_after_store q (get m q) other (home_from_pairs old plain m pairs q))
       ])

@@ -1,13 +1,13 @@
 -- In a plain image the pairs are the records in the home buckets of their keys.
-use Rattle.std.proofs.Common.{◌≡◌, ◌≢◌, ℕ, zero, suc, ◌+◌, ◌*◌, ◌/◌, ◌%◌, ◌^◌, ◌<◌, ◌≤◌, List, get_or, Option, None, Some, refl, sym, ap, subst, ◌∙◌, arith, inl}
+use Rattle.std.proofs.Common.{◌≡◌, ℕ, ◌+◌, ◌*◌, ◌^◌, ◌<◌, ◌≤◌, List, get_or, Option, None, Some, sym, ap, subst, ◌∙◌, arith, inl}
 use Rattle.std.specs.FinMap.{get}
 use Rattle.hash_word.specs.Hash.{home_of}
-use Rattle.segment_head.specs.HeadWord.{state_in, depth_in, pattern_in}
+use Rattle.segment_head.specs.HeadWord.{state_in}
 use Rattle.map_model.specs.Map.{Map}
 use Rattle.sound_image.specs.Segments.{ImageWords, frame_of, IsLiveFor, Owns, depth_at}
-use Rattle.sound_image.specs.Records.{HasRecord, HasOwnRecord, HasPair, HasAt}
+use Rattle.sound_image.specs.Records.{HasOwnRecord, HasPair, HasAt}
 use Rattle.sound_image.specs.Left.{HasPairsOf}
-use Rattle.dash_top.specs.Plain.{one_segment, bucket_word, IsTaken, key_in, value_in, IsRecord, IsPlainBucket, HasPlainHead, IsPlain}
+use Rattle.dash_top.specs.Plain.{one_segment, bucket_word, value_in, IsRecord, HasPlainHead, IsPlain}
 
 -- the key has this value in its home bucket
 abbrev pub HasValue : ImageWords → ℕ → ℕ → Type 0

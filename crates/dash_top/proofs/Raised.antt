@@ -1,15 +1,14 @@
 -- A lock version that is raised leaves a plain image plain, with the same pairs.
-use Rattle.std.proofs.Common.{◌≡◌, ◌≢◌, ℕ, ◌+◌, ◌*◌, ◌^◌, ◌<◌, List, length, get_or, Option, None, Some, ap, sym, subst, ◌∙◌, arith, inl, inr, get_or-set_other, get_or-set_same}
+use Rattle.std.proofs.Common.{◌≡◌, ◌≢◌, ℕ, ◌+◌, ◌^◌, ◌<◌, List, length, get_or, Option, None, Some, ap, sym, ◌∙◌, arith, inl, inr, get_or-set_other, get_or-set_same}
 use Rattle.std.specs.FinMap.{get}
 use Rattle.std.proofs.Math.ListN.{set, length-set}
 use Rattle.std.proofs.lemmas.Bool.{cases_eq}
 use Rattle.bucket_meta.specs.Bucket.{lock_of}
 use Rattle.hash_word.specs.Hash.{home_of}
 use Rattle.map_model.specs.Map.{Map}
-use Rattle.sound_image.specs.Segments.{ImageWords}
 use Rattle.sound_image.specs.Left.{HasPairsOf}
 use Rattle.dash_top.specs.Plain.{one_segment, bucket_word, IsPlain}
-use Rattle.dash_top.proofs.Pairs.{HasValue, HasHome, home-lt, home_from_pairs, pairs_from_home}
+use Rattle.dash_top.proofs.Pairs.{HasHome, home_from_pairs, pairs_from_home}
 use Rattle.dash_top.proofs.Buckets.{SameBehindLock, record_before, record_after, same_bucket, same_head}
 
 same_lock : (w : ℕ) → lock_of (w + 2) ≡ lock_of w
@@ -20,10 +19,10 @@ pub fits_before : (old new : List ℕ) (p : ℕ) → p < length old → new ≡ 
 fits_before old new p within raised fits i =
     let now : get_or new i 0 ≡ get_or (set old p (get_or old p 0 + 2)) i 0 = ap (λ ws. get_or ws i 0) raised in
     elim (cases_eq i p) [
-      inl e ↦ (let here : get_or (set old p (get_or old p 0 + 2)) i 0 ≡ get_or old i 0 + 2 =
+      | inl e ↦ (let here : get_or (set old p (get_or old p 0 + 2)) i 0 ≡ get_or old i 0 + 2 =
           ap (λ j. get_or (set old p (get_or old p 0 + 2)) j 0) e ∙ get_or-set_same old p _ 0 within ∙ ap (λ j. get_or old j 0 + 2) (sym e) in
           omega (arith, fits i, now, here))
-    | inr other ↦ omega (arith, fits i, now, get_or-set_other old p i (get_or old p 0 + 2) 0 other)
+      | inr other ↦ omega (arith, fits i, now, get_or-set_other old p i (get_or old p 0 + 2) 0 other)
     ]
 
 module _ (old new : List ℕ) (b : ℕ) (within : b < 66) (raised : new ≡ set old (bucket_word b) (get_or old (bucket_word b) 0 + 2)) (plain : IsPlain old) where
@@ -39,8 +38,8 @@ module _ (old new : List ℕ) (b : ℕ) (within : b < 66) (raised : new ≡ set 
   unlocked : (a : ℕ) → a < 66 → lock_of (get_or new (bucket_word a) 0) ≡ 0
   unlocked a a_within =
       elim (cases_eq a b) [
-        inl e ↦ (ap (λ n. lock_of (get_or new (bucket_word n) 0)) e ∙ ap lock_of lock_word ∙ same_lock _ ∙ (plain.buckets b within).unlocked)
-      | inr other ↦ (ap lock_of (other_word (bucket_word a) (λ e. other (omega arith))) ∙ (plain.buckets a a_within).unlocked)
+        | inl e ↦ (ap (λ n. lock_of (get_or new (bucket_word n) 0)) e ∙ ap lock_of lock_word ∙ same_lock _ ∙ (plain.buckets b within).unlocked)
+        | inr other ↦ (ap lock_of (other_word (bucket_word a) (λ e. other (omega arith))) ∙ (plain.buckets a a_within).unlocked)
       ]
 
   pub raised_IsPlain : ((i : ℕ) → get_or new i 0 < 2 ^ 64) → IsPlain new

@@ -1,23 +1,21 @@
 -- One call more of a run leaves it a run: its entry is legal, and the words hold the pairs of the map after it.
-use Rattle.std.proofs.Common.{◌≡◌, ◌≢◌, ℕ, zero, suc, ◌+◌, ◌-◌, ◌*◌, ◌/◌, ◌^◌, ◌<◌, ◌≤◌, Bool, true, false, cond, List, [], ◌∷◌, ◌++◌, map, length, take, get_or, refl, sym, ap, subst, ◌∙◌, arith, add-one, append-nil, slice_index_or}
+use Rattle.std.proofs.Common.{◌≡◌, ℕ, suc, ◌+◌, ◌-◌, ◌/◌, ◌^◌, ◌<◌, ◌≤◌, Bool, true, false, cond, List, [], ◌∷◌, ◌++◌, map, length, take, get_or, refl, sym, ap, subst, ◌∙◌, arith, append-nil, slice_index_or}
 use Rattle.std.specs.List.{AllByRecursion}
 use Rattle.std.specs.FinMap.{empty}
 use Rattle.std.proofs.lemmas.List.{map-append, take_more, take_all, length_push}
 use Rattle.map_model.specs.declared.call.Call.{Call}
-use Rattle.map_model.specs.declared.entry.Reply.{Reply}
-use Rattle.map_model.specs.declared.entry.Reply.TheVariants.{Full, Deep}
 use Rattle.map_model.specs.declared.entry.Entry.{Entry}
-use Rattle.map_model.specs.Map.{Map, key_of, is_change, after}
-use Rattle.map_model.specs.Weave.{all_of, draws, weave}
-use Rattle.map_model.specs.Legal.{IsLegal, IsNext, IsPlace, replay, seen_after}
+use Rattle.map_model.specs.Map.{Map, key_of, is_change}
+use Rattle.map_model.specs.Weave.{draws, weave}
+use Rattle.map_model.specs.Legal.{IsNext, IsPlace, replay}
 use Rattle.map_model.specs.ByPlaces.{map_at}
 use Rattle.map_model.specs.Kept.{Kept, with_room, with_entry, lists_of}
 use Rattle.map_model.proofs.Histories.{replay-weave}
-use Rattle.map_model.proofs.OneCaller.{IsLegal-none, replay-none, IsNext-at_draws, draws-push, IsLegal-push, replay-push, map_at-push}
-use Rattle.session.specs.Session.{HadNoRoom, HasAtLeast, least_full}
+use Rattle.map_model.proofs.OneCaller.{IsLegal-none, IsNext-at_draws, draws-push, IsLegal-push, replay-push, map_at-push}
+use Rattle.session.specs.Session.{HadNoRoom}
 use Rattle.sound_image.specs.Left.{HasPairsOf}
 use Rattle.dash_top.specs.Plain.{one_segment, IsPlain, VersionsUpTo}
-use Rattle.dash_top.specs.Run.{IsGivenSoFar, IsStep, IsRun}
+use Rattle.dash_top.specs.Run.{IsStep, IsRun}
 use Rattle.dash_top.specs.Ran.{IsKeptRun}
 use Rattle.dash_top.proofs.Different.{each}
 
@@ -90,7 +88,10 @@ module _ (old new : List ℕ) (es : List Entry) (e : Entry) (calls : List Call) 
   no_room_now = record {
     full = λ is. absurd (step.given.not_full is);
     deep = λ is. (let found = step.full_bucket now run.pairs is in record {
-      keys = found.keys; count = found.count; different = found.different; in_map = found.in_map;
+      keys = found.keys;
+      count = found.count;
+      different = found.different;
+      in_map = found.in_map;
       pass = each _ _ (λ k low. top_of_all k low ∙ sym (top_of_all (key_of e.call) fits)) found.keys found.pass;
     });
   }

@@ -1,14 +1,13 @@
 -- Each way through a call on a plain image is a step of a plain map.
-use Rattle.std.proofs.Common.{◌≡◌, ◌≢◌, ℕ, ◌+◌, ◌*◌, ◌^◌, ◌<◌, List, length, get_or, Option, None, Some, Bool, true, false, cond, is_some, IsSome, IfSome, IfNone, refl, sym, ap, subst, ◌∙◌, arith}
-use Rattle.std.specs.List.{AllByRecursion}
-use Rattle.std.specs.FinMap.{get, contains_key, insert}
+use Rattle.std.proofs.Common.{◌≡◌, ℕ, ◌+◌, ◌^◌, ◌<◌, List, length, get_or, Option, None, Some, true, false, cond, is_some, IsSome, IfSome, IfNone, refl, sym, ap, subst, ◌∙◌, arith}
+use Rattle.std.specs.FinMap.{get}
 use Rattle.std.proofs.Math.ListN.{set, length-set}
 use Rattle.hash_word.specs.Hash.{home_of}
 use Rattle.map_model.specs.declared.call.Call.{Call}
 use Rattle.map_model.specs.declared.call.Call.TheVariants.{Get, Insert}
 use Rattle.map_model.specs.declared.entry.Reply.{Reply}
 use Rattle.map_model.specs.declared.entry.Reply.TheVariants.{Found, Absent, Done, Exists, Deep}
-use Rattle.map_model.specs.Map.{Map, shown, reply_of, after}
+use Rattle.map_model.specs.Map.{Map, shown, after}
 use Rattle.session.specs.Session.{HasAtLeast, least_full}
 use Rattle.sound_image.specs.Segments.{ImageWords}
 use Rattle.sound_image.specs.Left.{HasPairsOf}
@@ -81,8 +80,8 @@ module _ (words : List ℕ) (plain : IsPlain words) where
     pub full_bucket : (m : Map) → HasPairsOf one_segment word m → HasAtLeast least_full (λ k. k < 2 ^ 64) m
     full_bucket m pairs =
         let found = different_values (λ r. key_in word (bucket_word b) r) 14 (Counts m)
-            (λ r t r_low t_low e. (plain.buckets b within).once r t r_low t_low (full r r_low) (full t t_low) e)
-            (λ r low. (ap is_some (map_has m pairs _ _ (its_value r low)), plain.each_fits _)) in
+        (λ r t r_low t_low e. (plain.buckets b within).once r t r_low t_low (full r r_low) (full t t_low) e)
+        (λ r low. (ap is_some (map_has m pairs _ _ (its_value r low)), plain.each_fits _)) in
         record {
           keys = found.numbers;
           count = found.count;

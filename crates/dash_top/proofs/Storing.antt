@@ -1,9 +1,9 @@
 -- Metadata that are read, changed at one slot and written leave the other slots and the notes of the bucket as they were.
-use Rattle.std.proofs.Common.{◌≡◌, ◌≢◌, ℕ, ◌+◌, ◌*◌, ◌-◌, ◌<◌, ◌≤◌, List, length, get_or, refl, sym, ap, ◌∙◌, arith, if◌then◌else◌, false, get_or-set_other, get_or-set_same}
+use Rattle.std.proofs.Common.{◌≡◌, ◌≢◌, ℕ, ◌+◌, ◌*◌, ◌<◌, ◌≤◌, List, length, get_or, refl, sym, ap, ◌∙◌, arith, get_or-set_other, get_or-set_same}
 use Rattle.std.proofs.Math.ListN.{set, length-set}
 use Rattle.hash_word.specs.Hash.{finger_of}
 use Rattle.bucket_meta.specs.declared.metadata.Meta.{Meta}
-use Rattle.bucket_meta.specs.Bucket.{allocated, member, finger, note_used, note_member, note_index, note_finger, overflow_count, bit}
+use Rattle.bucket_meta.specs.Bucket.{finger, bit}
 use Rattle.bucket_meta.specs.MetaWords.{IsMetaOf}
 use Rattle.bucket_meta.specs.Slots.{SameElsewhere, SameOverflow}
 use Rattle.bucket_meta.proofs.Words.{allocated_is, member_is, note_used_is, note_member_is, note_index_is}

@@ -8,7 +8,7 @@ ghost use Rattle.dash_top.specs.Plain.{one_segment, IsPlain, VersionsUpTo};
 ghost use Rattle.dash_top.specs.Run.{IsServed};
 ghost use Rattle.dash_top.specs.Ran.{IsKeptRun};
 
-use crate::step::{step, MOST_CALLS};
+use crate::step::{MOST_CALLS, step};
 use map_model::{Call, Entry, Lists, NoMemory, Reply};
 use std::alloc::Global;
 

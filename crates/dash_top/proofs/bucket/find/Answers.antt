@@ -8,8 +8,8 @@ pub loop-slot-preserved : goal.loop-slot-preserved
 loop-slot-preserved c =
     below_more _ _ c.loop-slot.invariant
     (λ v is. elim c.else-words-at.branch [
-      else-words-at-via-then-words-at+else-taken-slot-eq1 w ↦ w.if-taken-slot-eq1.false (shr_and_one _ _ ∙ is.taken)
-    | else-words-at-via-else-words-at w ↦ w.if-words-at.false is.key
+      | else-words-at-via-then-words-at+else-taken-slot-eq1 w ↦ w.if-taken-slot-eq1.false (shr_and_one _ _ ∙ is.taken)
+      | else-words-at-via-else-words-at w ↦ w.if-words-at.false is.key
     ])
 
 pub returns-clause-none : goal.returns-clause-none

@@ -1,5 +1,5 @@
 -- The bits of the metadata's set of slots are those of the word.
-use Rattle.std.proofs.Common.{◌≡◌, ◌≢◌, ℕ, ◌<◌, ◌∙◌, sym, refl, arith, get_or, Option, Some, None, IfSome, IfNone, ◌↔◌, IsNone}
+use Rattle.std.proofs.Common.{◌≡◌, ℕ, ◌<◌, ◌∙◌, sym, refl, arith, Option, Some, None, IfSome, IfNone, ◌↔◌, IsNone}
 use Rattle.bucket_meta.specs.declared.metadata.Meta.{Meta}
 use Rattle.bucket_meta.specs.Bucket.{allocated, bit}
 use Rattle.bucket_meta.specs.MetaWords.{IsMetaOf}

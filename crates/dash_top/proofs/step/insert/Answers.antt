@@ -1,5 +1,5 @@
 -- The raises after the record is put keep what it is a step of.
-use Rattle.std.proofs.Common.{◌≡◌, ℕ, ◌+◌, ◌%◌, List, ap, subst, ◌∙◌, get_or, arith}
+use Rattle.std.proofs.Common.{◌≡◌, ℕ, ◌+◌, ◌%◌, List, subst, get_or, arith}
 use Rattle.std.proofs.Math.ListN.{set}
 use Rattle.dash_top.specs.Plain.{bucket_word}
 use Rattle.dash_top.proofs.Steps.{raised_twice}
@@ -9,7 +9,7 @@ pub returns-clause-step : goal.returns-clause-step
 returns-clause-step c =
     let home = c.home-home.result in
     let raise = λ (old new : List ℕ) (b at : ℕ) (place : at ≡ bucket_word b) (is : new ≡ set old at (get_or old at 0 + 2)).
-      subst (λ (at : ℕ). new ≡ set old at (get_or old at 0 + 2)) place is in
+    subst (λ (at : ℕ). new ≡ set old at (get_or old at 0 + 2)) place is in
     raised_twice c.args.words.now c.put-reply.new.words c.raise.new.words c.raise-2.new.words _ c.put-reply.result home ((home + 1) % 64) c.put-reply.ensures.step
     (omega (arith, c.home-home.ensures.range)) (omega arith)
     (raise c.put-reply.new.words c.raise.new.words home c.bucket_start.result c.bucket_start.ensures c.raise.ensures)
