@@ -1,7 +1,5 @@
 pub mod Plain
+pub mod Stored
+pub mod Versions
 pub mod Run
-pub mod Finding
-pub mod Script
-pub mod Texts
-pub mod Played
-pub mod Top
+pub mod Ran
