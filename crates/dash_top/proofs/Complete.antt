@@ -76,7 +76,7 @@ taken_is_shorter (Some rest) taken all h = rw h (grind (arith, common_steps))
 pub good_script_is_taken : (t : Told) (words : List (List ℕ)) (kind : Kind) (line : ℕ) → RefusesScript t kind line → IsGoodPlay t words → ⊥
 good_script_is_taken t words kind line refused good =
     let taken : Consumes (Some good.script) t.source_new refused.script =
-        subst (λ (o : Option (List ℕ)). Consumes o t.source_new refused.script) good.source_tells refused.reads_script.taken in
+    subst (λ (o : Option (List ℕ)). Consumes o t.source_new refused.script) good.source_tells refused.reads_script.taken in
     let shorter : length refused.script ≤ length good.script = taken_is_shorter t.source_new refused.script good.script taken in
     let short : length good.script ≤ 16777216 = good.good_script.short.few_bytes in
     let whole : good.script ≡ refused.script = consumed_all t.source_new refused.script good.script taken (refused.reads_script.to_its_end (omega arith)) in

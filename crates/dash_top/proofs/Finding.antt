@@ -71,6 +71,6 @@ pub parted_at : (byte : ℕ) (bytes : List ℕ) (place : ℕ) → IsFirstAt byte
 parted_at byte bytes place first =
     let lt : place < length bytes = first.within in
     let next : drop (suc place) bytes ≡ take (length bytes - (place + 1)) (drop (place + 1) bytes) =
-        ap (λ (n : ℕ). drop n bytes) (sym (add-one place)) ∙ sym (whole_rest bytes (place + 1)) in
+    ap (λ (n : ℕ). drop n bytes) (sym (add-one place)) ∙ sym (whole_rest bytes (place + 1)) in
     sym (take-append-drop place bytes)
     ∙ ap (λ (t : List ℕ). take place bytes ++ t) (drop-cons bytes place 0 lt ∙ ap (λ (b : ℕ). b ∷ drop (suc place) bytes) first.here ∙ ap (λ (t : List ℕ). byte ∷ t) next)

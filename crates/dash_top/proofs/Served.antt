@@ -23,7 +23,7 @@ length-calls bytes [] h = omega arith
 length-calls bytes (call ∷ calls) (rest, begins, good) =
     let fewer : length calls ≤ line_count rest = length-calls rest calls good in
     let counted : line_count bytes ≡ 1 + line_count rest =
-        ap line_count begins.split ∙ one_line false begins.line rest (Lacks-line begins.line call begins.says) in
+    ap line_count begins.split ∙ one_line false begins.line rest (Lacks-line begins.line call begins.says) in
     omega arith
 
 pub few_calls : (bytes : List ℕ) (calls : List Call) → IsGoodScript bytes calls → length calls ≤ 1000000

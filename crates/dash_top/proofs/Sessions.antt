@@ -51,6 +51,7 @@ follows calls entries its =
   where
     map-length : (es : List Entry) → length (map (λ (e : Entry). e.call) es) ≡ length es
     map-length es = grind (arith, common_steps)
+
     whole_take : (xs : List Call) (n : ℕ) → length xs ≤ n → take n xs ≡ xs
     whole_take xs n h = grind (arith, common_steps)
 
@@ -61,7 +62,7 @@ pub run_session : (first words : List ℕ) (calls : List Call) (entries : List E
     → IsSession one_segment first words (calls ∷ []) closed_play (entry_lines 1 entries)
 run_session first words calls entries new run =
     let given : AllByRecursion (λ (e : Entry). IsGivenSoFar e.reply) (all_of (entries ∷ [])) =
-        subst (λ (es : List Entry). AllByRecursion (λ (e : Entry). IsGivenSoFar e.reply) es) (sym (all_of-one entries)) run.given in
+    subst (λ (es : List Entry). AllByRecursion (λ (e : Entry). IsGivenSoFar e.reply) es) (sym (all_of-one entries)) run.given in
     record {
       tolds = told_all entries ∷ [];
       printed = sym (append-nil (entry_lines 1 entries ++ []) ∙ append-nil (entry_lines 1 entries));
@@ -123,7 +124,7 @@ pub headline : (t : top.Told) (sink_old sink_new : Option (List ℕ)) (transcrip
 headline t sink_old sink_new transcript plays appends start script before store_is source_is sink_is =
     let short : length plays.script ≤ 16777216 = plays.played.script_is.short.few_bytes in
     let script_is : script ≡ plays.script =
-        consumed_all t.source_new plays.script script (subst (λ (o : Option (List ℕ)). Consumes o t.source_new plays.script) source_is plays.reads_script.taken) (plays.reads_script.to_its_end short) in
+    consumed_all t.source_new plays.script script (subst (λ (o : Option (List ℕ)). Consumes o t.source_new plays.script) source_is plays.reads_script.taken) (plays.reads_script.to_its_end short) in
     let start_is : plays.start ≡ start = read_all 282067200 plays.start start (subst (λ (o : Option (List ℕ)). IsFront o 282067200 plays.start) store_is plays.reads_image) plays.all_read in (
       transcript,
       plays.ending,

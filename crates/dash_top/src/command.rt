@@ -13,7 +13,6 @@ pub enum Command {
     Unknown,
 }
 
-
 /// The command that the words say.
 pub fn command_of(words: &[String]) -> Command
     ensures { IsCommand (map string_bytes words.now) result }
@@ -24,10 +23,7 @@ pub fn command_of(words: &[String]) -> Command
             if name.as_str() == "format"
                 && segments.as_str() == "1"
                 && depth.as_str() == "0"
-                && kind.as_str() == "0" =>
-        {
-            Command::Format
-        }
+                && kind.as_str() == "0" => { Command::Format }
         _ => Command::Unknown,
     }
 }

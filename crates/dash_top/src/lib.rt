@@ -13,8 +13,12 @@ mod run;
 mod script;
 mod status;
 mod step;
+#[cfg(test)]
+mod tests;
 mod text;
 mod top;
 
-pub use status::{BAD_IMAGE, BAD_SCRIPT, BAD_WORDS, DONE, NO_MEMORY, SINK_FAILED, SOURCE_FAILED, STORE_FAILED};
+pub use status::{
+    BAD_IMAGE, BAD_SCRIPT, BAD_WORDS, DONE, NO_MEMORY, SINK_FAILED, SOURCE_FAILED, STORE_FAILED,
+};
 pub use top::dash_run;

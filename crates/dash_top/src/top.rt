@@ -9,7 +9,9 @@ ghost use Rattle.dash_top.specs.Top.{told, counts, NoneRose, StoresNewFile, Play
 
 use crate::command::{Command, command_of};
 use crate::play::{PlayStop, format_image, play};
-use crate::status::{BAD_IMAGE, BAD_SCRIPT, BAD_WORDS, DONE, NO_MEMORY, SINK_FAILED, SOURCE_FAILED, STORE_FAILED};
+use crate::status::{
+    BAD_IMAGE, BAD_SCRIPT, BAD_WORDS, DONE, NO_MEMORY, SINK_FAILED, SOURCE_FAILED, STORE_FAILED,
+};
 use crate::text::{IMAGE_FORMAT, USAGE, script_fault};
 use outside::{Failed, Gates, Sink, Source, Store, StoreFault, put_all};
 use std::alloc::Global;
@@ -51,15 +53,15 @@ pub fn dash_run<R: Threads + Wait + Sync, I: Store, S: Source, K: Sink, M: Gates
     // Done: a new image stands in the store, or a session was played, and its transcript written.
     ensures done { result ≡ DONE → (text : List ℕ) × Appends (K.taken out.old) (K.taken out.new) text
         × (((map string_bytes words.now ≡ format_words) × (text ≡ [])
-                × StoresNewFile (told (I.contents image.old) (I.contents image.new) (S.left input.old) (S.left input.new)))
-            ⊎ ((map string_bytes words.now ≡ play_words)
-                × Plays (told (I.contents image.old) (I.contents image.new) (S.left input.old) (S.left input.new)) text)) }
+        × StoresNewFile (told (I.contents image.old) (I.contents image.new) (S.left input.old) (S.left input.new)))
+        ⊎ ((map string_bytes words.now ≡ play_words)
+        × Plays (told (I.contents image.old) (I.contents image.new) (S.left input.old) (S.left input.new)) text)) }
 
     // The headline: wherever all three tell their bytes, these are a session, whose calls, woven by their places,
     // are one legal history of a plain map that starts with the image's pairs.
     ensures headline { result ≡ DONE → map string_bytes words.now ≡ play_words
         → Headline (told (I.contents image.old) (I.contents image.new) (S.left input.old) (S.left input.new))
-            (K.taken out.old) (K.taken out.new) }
+        (K.taken out.old) (K.taken out.new) }
 
     // The refusals, each with its cause and its line.
     ensures bad_words { result ≡ BAD_WORDS → (map string_bytes words.now ≢ format_words) × (map string_bytes words.now ≢ play_words)

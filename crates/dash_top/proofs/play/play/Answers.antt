@@ -32,7 +32,7 @@ pub run-requires : goal.run-requires
 run-requires g c =
     let new : IsNew c.deref_mut.result.now = subst IsNew (sym c.deref_mut.ensures.value) c.in_ok-words.ensures in
     let good : IsGoodScript c.deref.result.now c.deref-3.result.now =
-        subst (λ (x : List Call). IsGoodScript c.deref.result.now x) (sym c.deref-3.ensures.value) c.in-Ok-parse.ensures.good in
+    subst (λ (x : List Call). IsGoodScript c.deref.result.now x) (sym c.deref-3.ensures.value) c.in-Ok-parse.ensures.good in
     record {
       plain = new-IsPlain _ new;
       no_pair = new-HasPairsOf _ new;
@@ -58,9 +58,9 @@ returns-in-Ok-write_all-clause-ok g c =
           let run = c.in_ok-lists.ensures.ran in
           let words : c.deref-4.result.now ≡ c.run.new.words = c.deref-4.ensures.value ∙ written_whole _ c.run.new.words c.in_ok-words.words.items (omega arith) in
           played made.0 c.run.new.words c.in-Ok-parse.calls.items run.entries _ _ _ _ made.1
-              (subst (λ (x : List ℕ). IsGoodScript x c.in-Ok-parse.calls.items) c.deref.ensures.value c.in-Ok-parse.ensures.good)
-              (subst (λ (x : List Call). IsRun x c.run.new.words run.entries) c.deref-3.ensures.value run.run)
-              made.2
-              (c.in_ok-text.ensures ∙ ap (entry_lines 1) (entries_of_one _ run.entries _ run.only c.of.ensures))
-              (c.in_ok-ending.ensures.bytes ∙ ap image_bytes words);
+          (subst (λ (x : List ℕ). IsGoodScript x c.in-Ok-parse.calls.items) c.deref.ensures.value c.in-Ok-parse.ensures.good)
+          (subst (λ (x : List Call). IsRun x c.run.new.words run.entries) c.deref-3.ensures.value run.run)
+          made.2
+          (c.in_ok-text.ensures ∙ ap (entry_lines 1) (entries_of_one _ run.entries _ run.only c.of.ensures))
+          (c.in_ok-ending.ensures.bytes ∙ ap image_bytes words);
     }
