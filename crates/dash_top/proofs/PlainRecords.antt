@@ -7,7 +7,8 @@ use Rattle.std.proofs.lemmas.Bool.Decides.{nat_tests}
 use Rattle.hash_word.specs.Hash.{home_of, finger_of, probing_of}
 use Rattle.bucket_meta.specs.Bucket.{lock_of, allocated, note_used, note_member, note_finger, note_index, overflow_count}
 use Rattle.image_layout.specs.Places.{bucket_at}
-use Rattle.sound_image.specs.Records.{numbers_below, word_in, slot_key, slot_hash, HasRecord, notes_in, notes_of, stashed_in, stashed_of, HasExactNotes}
+use Rattle.bucket_meta.specs.Notes.{numbers_below}
+use Rattle.sound_image.specs.Records.{word_in, slot_key, slot_hash, HasRecord, notes_in, notes_of, stashed_in, stashed_of, HasExactNotes}
 use Rattle.sound_image.specs.Rules.{StandsRight, SameValueAsBefore, NotBefore}
 use Rattle.dash_top.specs.Plain.{one_segment, IsPlain}
 

@@ -1,8 +1,9 @@
 -- The records of an image, its pairs, and its overflow notes.
-use Rattle.std.specs.Prelude.{◌≡◌, ℕ, zero, suc, ◌+◌, ◌<◌, ◌≤◌, ◌==◌, ◌&&◌, Option, None, Some, List, [], ◌∷◌, ◌++◌, length, filter, if◌then◌else◌}
+use Rattle.std.specs.Prelude.{◌≡◌, ℕ, ◌+◌, ◌<◌, ◌==◌, ◌&&◌, Option, None, Some, List, [], ◌∷◌, ◌++◌, if◌then◌else◌}
 use Rattle.std.specs.List.{flat_map}
 use Rattle.hash_word.specs.declared.Kind.TheVariants.{Identity, Mix}
 use Rattle.hash_word.specs.Hash.{hash_of, home_of, finger_of, probing_of}
+use Rattle.bucket_meta.specs.Notes.{Note, numbers_below, notes_on, AreExact}
 use Rattle.bucket_meta.specs.Bucket.{allocated, note_used, note_member, note_index, note_finger, overflow_count}
 use Rattle.image_layout.specs.Places.{Shape, bucket_at, key_at, value_at}
 use Rattle.sound_image.specs.Segments.{ImageWords, frame_of, Owns}
@@ -10,18 +11,6 @@ use Rattle.sound_image.specs.Segments.{ImageWords, frame_of, Owns}
 -- the hash of a key in an image of this kind
 abbrev pub key_hash : Shape → ℕ → ℕ
 key_hash shape key = if shape.kind == 0 then hash_of Identity key else hash_of Mix key
-
--- the numbers below n
-abbrev pub numbers_below : ℕ → List ℕ
-numbers_below zero = []
-numbers_below (suc n) = numbers_below n ++ n ∷ []
-
--- an overflow note, or a record in the stash, as its fingerprint and its stash bucket
-abbrev pub Note : Type 0
-Note = ℕ × ℕ
-
-abbrev pub how_often : Note → List Note → ℕ
-how_often note notes = length (filter (λ other. (other.0 == note.0) && (other.1 == note.1)) notes)
 
 module _ (shape : Shape) (word : ImageWords) where
   -- RECORDS: slot r of bucket b of segment s
@@ -68,11 +57,8 @@ module _ (shape : Shape) (word : ImageWords) where
   -- the notes in bucket b of records that have it as their home (side 0) or as their probing bucket (side 1)
   abbrev pub notes_in : ℕ → ℕ → ℕ → List Note
   notes_in s b side =
-      flat_map
-      (λ i. if (note_used i (word_in s b 1) == 1) && (note_member i (word_in s b 1) == side)
-      then (note_finger i (word_in s b 1) (word_in s b 3), note_index i (word_in s b 1)) ∷ []
-      else [])
-      (numbers_below 4)
+      notes_on (λ i. note_used i (word_in s b 1)) (λ i. note_member i (word_in s b 1)) (λ i. note_finger i (word_in s b 1) (word_in s b 3))
+          (λ i. note_index i (word_in s b 1)) side
 
   abbrev pub notes_of : ℕ → ℕ → List Note
   notes_of s b = notes_in s b 0 ++ notes_in s (probing_of b) 1
@@ -89,7 +75,6 @@ module _ (shape : Shape) (word : ImageWords) where
   abbrev pub stashed_of : ℕ → ℕ → List Note
   stashed_of s b = stashed_in s b 0 ++ stashed_in s b 1
 
-  -- the notes of home b name different records of it in the stash, and its count is the number of the others
-  pub record HasExactNotes (s b : ℕ) : Type 0 where
-    pub names_different : (note : Note) → how_often note (notes_of s b) ≤ how_often note (stashed_of s b)
-    pub counts_others : overflow_count (word_in s b 1) + length (notes_of s b) ≡ length (stashed_of s b)
+  -- the notes and the count of home b are exact for its records in the stash
+  abbrev pub HasExactNotes : ℕ → ℕ → Type 0
+  HasExactNotes s b = AreExact (notes_of s b) (overflow_count (word_in s b 1)) (stashed_of s b)
