@@ -76,7 +76,8 @@ fn is_right_woven(alloc: Global, start: &[(u64, u64)], all: &[Entry]) -> Result<
 /// Whether the lists are one legal history of a map that starts with these pairs (where a key stands
 /// twice, its first pair counts). Takes time in proportion to n log n, for n entries and pairs.
 pub fn weave_check(alloc: Global, start: &[(u64, u64)], lists: &Lists) -> Result<bool, NoMemory>
-    ensures { IfOk result (λ yes. IsTrue yes ↔ IsLegal (from_entries start.now) (lists_of lists.now)) }
+    ensures { IfOk result (λ yes. IsTrue yes
+        ↔ IsLegal (from_entries start.now) (lists_of lists.now)) }
 {
     let rows = lists.rows();
     let all = joined(alloc, rows)?;

@@ -20,7 +20,9 @@ impl Model for Lists {
 
     ghost Value = { List Kept };
 
-    ghost view = { λ kept. map (λ list. record { entries = list.items; spare = vec_capacity list - vec_len list }) kept.lists.items };
+    ghost view = { λ inside. map
+        (λ list. record { entries = list.items; spare = vec_capacity list - vec_len list })
+        inside.lists.items };
 }
 
 impl Lists {
