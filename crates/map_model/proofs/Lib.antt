@@ -7,3 +7,4 @@ pub mod OneCaller
 pub mod KeptViews
 pub mod PlainMaps
 pub mod PutApart
+pub mod Checks

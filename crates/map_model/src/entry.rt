@@ -1,6 +1,7 @@
 // What became of a call.
 
 use crate::call::Call;
+use std::fmt;
 
 /// The answer to a call.
 #[derive(Clone, Copy, Debug, PartialEq, Eq)]
@@ -19,6 +20,25 @@ pub enum Reply {
     Deep,
     /// A change needed a version or a place beyond the last one.
     Spent,
+}
+
+impl fmt::Display for Reply {
+    ghost use Rattle.std.specs.Prelude.{Some};
+    ghost use Rattle.map_model.specs.ReplyText.{reply_text};
+
+    ghost output = { λ r. Some (reply_text r) };
+
+    fn fmt<W: fmt::Write>(&self, f: &mut fmt::Formatter<W>) -> fmt::Result {
+        match self {
+            Reply::Found(v) => write!(f, "FOUND {v}"),
+            Reply::Absent => write!(f, "ABSENT"),
+            Reply::Done => write!(f, "DONE"),
+            Reply::Exists => write!(f, "EXISTS"),
+            Reply::Full => write!(f, "FULL"),
+            Reply::Deep => write!(f, "DEEP"),
+            Reply::Spent => write!(f, "SPENT"),
+        }
+    }
 }
 
 /// A call that was answered.

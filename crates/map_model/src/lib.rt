@@ -8,6 +8,7 @@ mod by_place;
 pub mod call;
 pub mod entry;
 pub mod laws;
+pub mod legality;
 pub mod lists;
 pub mod no_memory;
 mod plain_map;
@@ -17,5 +18,6 @@ pub use entry::{Entry, Reply, Stop};
 pub use laws::{
     drawn_keeps_legal, later_entries_keep, legal_by_places, loaded_keeps_legal, weave_leaves_draws,
 };
+pub use legality::weave_check;
 pub use lists::Lists;
 pub use no_memory::NoMemory;

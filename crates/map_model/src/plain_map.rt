@@ -31,7 +31,7 @@ impl Model for PlainMap {
 }
 
 /// Whether a reply says that the map was changed.
-fn changes(reply: Reply) -> bool
+pub fn changes(reply: Reply) -> bool
     ensures { result ≡ is_change reply }
 {
     matches!(reply, Reply::Done)

@@ -2,17 +2,8 @@
 use Rattle.std.specs.Prelude.{ℕ, suc, Option, None, Some, List, [], ◌∷◌, ◌++◌, length, codes}
 use Rattle.std.specs.Fmt.{decimal}
 use Rattle.map_model.specs.declared.entry.Reply.{Reply}
-use Rattle.map_model.specs.declared.entry.Reply.TheVariants.{Found, Absent, Done, Exists, Full, Deep, Spent}
 use Rattle.map_model.specs.declared.entry.Entry.{Entry}
-
-abbrev pub reply_text : Reply → List ℕ
-reply_text (Found v) = codes "FOUND " ++ decimal v
-reply_text Absent = codes "ABSENT"
-reply_text Done = codes "DONE"
-reply_text Exists = codes "EXISTS"
-reply_text Full = codes "FULL"
-reply_text Deep = codes "DEEP"
-reply_text Spent = codes "SPENT"
+use Rattle.map_model.specs.ReplyText.{reply_text}
 
 -- a line: the caller's number, the call's serial, what became of the call, and a line feed
 abbrev pub line : ℕ → ℕ → List ℕ → List ℕ

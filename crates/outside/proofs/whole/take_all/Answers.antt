@@ -1,0 +1,15 @@
+-- Where memory is wanting, the bytes so far and those of the last pull are lost from the source.
+use Rattle.std.proofs.Common.{Result, Ok, Err, OnErr}
+use Rattle.std.proofs.KnownBytes.{Consumes-trans}
+use Rattle.outside.specs.Causes.{LosesFront}
+use Rattle.outside.proofs.whole.take_all.Goals as goal
+
+OnErr-of : {T E P : Type 0} (result : Result T E) → P → OnErr result P
+OnErr-of (Ok value) p = tt
+OnErr-of (Err error) p = p
+
+pub returns-in_err-extend_from_slice-clause-err : goal.returns-in_err-extend_from_slice-clause-err
+returns-in_err-extend_from_slice-clause-err g c =
+    let lost : LosesFront (g.S.Source.left c.args.source.now) (g.S.Source.left c.pull.new.self) =
+    (_, Consumes-trans _ _ _ _ _ c.pulls.invariant.taken c.in_ok-count.ensures.bytes.0) in
+    OnErr-of c.from_residual-in_err-extend_from_slice.result lost

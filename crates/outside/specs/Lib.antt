@@ -1,0 +1,4 @@
+pub mod Causes
+pub mod Gating
+pub mod Memory
+pub mod Storing

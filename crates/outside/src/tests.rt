@@ -1,0 +1,167 @@
+// Each fake on its happy path and at a failing call, pieces of any length, and each edge on a real file or reader.
+use crate::{
+    Failed, FileStore, Fuse, Fuses, Gate, Gates, MemSink, MemSource, MemStore, Place, Power, Sink,
+    Source, StdSink, StdSource, Store, StoreFault, put_all, take_all,
+};
+use std::io::{BufWriter, Read};
+use std::test::Fail;
+use std::{fs, io};
+
+#[test]
+fn store_in_memory(rt: HostRuntime) -> Result<(), Fail> {
+    let alloc = rt.alloc();
+    let mut store = MemStore::new(alloc, b"abc", 4, &[2, 5])?;
+    assert_eq!(rt; store.read_all(alloc, 9)?.as_slice(), b"abc".as_slice());
+    assert_eq!(rt; store.write_all(b"xy"), Err(Failed));
+    assert_eq!(rt; store.write_all(b"defg"), Ok(()));
+    assert_eq!(rt; store.read_all(alloc, 1)?.as_slice(), b"de".as_slice());
+    assert!(rt; matches!(store.read_all(alloc, 9), Err(StoreFault::Failed)));
+    assert_eq!(rt; store.write_all(b"hijkl"), Err(Failed));
+    assert_eq!(rt; store.bytes.as_slice(), b"defg".as_slice());
+    assert_eq!(rt; store.faults, 3);
+    Ok(())
+}
+
+#[test]
+fn source_in_memory(rt: HostRuntime) -> Result<(), Fail> {
+    let alloc = rt.alloc();
+    let fails = [1].to_vec(alloc)?;
+    let mut source = MemSource::new(b"abcdef".to_vec(alloc)?, fails);
+    let mut piece = [0; 2];
+    assert_eq!(rt; source.pull(&mut piece), Err(Failed));
+    assert_eq!(rt; source.faults, 1);
+    assert_eq!(rt; source.pull(&mut piece), Ok(2));
+    assert_eq!(rt; piece, *b"ab");
+    assert_eq!(rt;
+        take_all(alloc, &mut source, 2)?.as_slice(),
+        b"cde".as_slice()
+    );
+    assert_eq!(rt;
+        take_all(alloc, &mut source, 2)?.as_slice(),
+        b"f".as_slice()
+    );
+    Ok(())
+}
+
+#[test]
+fn sink_in_memory(rt: HostRuntime) -> Result<(), Fail> {
+    let alloc = rt.alloc();
+    let mut sink = MemSink::new(alloc, 5, [2].to_vec(alloc)?)?;
+    assert_eq!(rt; put_all(&mut sink, b"abc"), Ok(()));
+    assert_eq!(rt; put_all(&mut sink, b"d"), Err(Failed));
+    assert_eq!(rt; put_all(&mut sink, b"def"), Err(Failed));
+    assert_eq!(rt; sink.push(b"de"), Ok(2));
+    assert_eq!(rt; sink.bytes.as_slice(), b"abcde".as_slice());
+    assert_eq!(rt; sink.faults, 2);
+    Ok(())
+}
+
+#[test]
+fn fuse_blows_for_good(rt: HostRuntime) -> Result<(), Fail> {
+    let mut fuse = Fuse {
+        left: Some(2),
+        cut: false,
+    };
+    for power in [Power::On, Power::On, Power::Off, Power::Off] {
+        assert_eq!(rt; fuse.pass(), power);
+        fuse.told();
+    }
+    Ok(())
+}
+
+#[test]
+fn fuses_are_made_and_come_back(rt: HostRuntime) -> Result<(), Fail> {
+    let mut fuses = Fuses::new();
+    let mut first = fuses.make(1, Some(0));
+    let mut last = fuses.make(255, None);
+    assert_eq!(rt; first.pass(), Power::Off);
+    assert_eq!(rt; last.pass(), Power::On);
+    assert_eq!(rt; fuses.places[1], Place::Made(Some(0)));
+    fuses.back(1, first);
+    fuses.back(255, last);
+    assert_eq!(rt; fuses.places[1], Place::Back(Some(0), true));
+    assert_eq!(rt; fuses.places[255], Place::Back(None, false));
+    assert_eq!(rt; fuses.places[2], Place::Unmade);
+    Ok(())
+}
+
+#[test]
+fn file_is_replaced(rt: HostRuntime) -> Result<(), Fail> {
+    let alloc = rt.alloc();
+    let mut bytes = Vec::new(alloc);
+    for number in 0..200_000u32 {
+        bytes.push((number % 251) as u8)?;
+    }
+    let mut store = FileStore::new(&rt, "edge.img", "edge.img.new");
+    assert_eq!(rt; store.write_all(b"the old bytes"), Ok(()));
+    assert_eq!(rt; store.write_all(&bytes), Ok(()));
+    assert!(rt; !fs::exists(&rt, "edge.img.new")?);
+    assert!(rt; store.read_all(alloc, 200_000)?.as_slice() == bytes.as_slice());
+    assert_eq!(rt; store.read_all(alloc, 99_999)?.len(), 100_000);
+    assert_eq!(rt; store.faults, 0);
+    fs::remove_file(&rt, "edge.img")?;
+    Ok(())
+}
+
+#[test]
+fn missing_file_is_a_fault(rt: HostRuntime) -> Result<(), Fail> {
+    let alloc = rt.alloc();
+    let mut store = FileStore::new(&rt, "nowhere/edge.img", "nowhere/edge.img.new");
+    assert!(rt; matches!(store.read_all(alloc, 9), Err(StoreFault::Failed)));
+    assert_eq!(rt; store.faults, 1);
+    assert_eq!(rt; store.write_all(b"new"), Err(Failed));
+    assert_eq!(rt; store.faults, 2);
+    Ok(())
+}
+
+// A reader that gives three bytes at a time, and fails where it meets an exclamation mark.
+#[derive(Drop)]
+struct Drip<'a> {
+    rest: &'a [u8],
+}
+
+impl<'a> Read for Drip<'a> {
+    fn read(&mut self, buf: &mut [u8]) -> io::Result<usize> {
+        let rest: &[u8] = self.rest;
+        if rest.first() == Some(&b'!') {
+            return Err(io::Error::other("an exclamation mark"));
+        }
+        let count = rest.len().min(buf.len()).min(3);
+        buf[..count].copy_from_slice(&rest[..count]);
+        self.rest = &rest[count..];
+        Ok(count)
+    }
+}
+
+#[test]
+fn source_over_a_reader(rt: HostRuntime) -> Result<(), Fail> {
+    let alloc = rt.alloc();
+    let mut source = StdSource::new(Drip { rest: b"1 get 5\n" });
+    assert_eq!(rt;
+        take_all(alloc, &mut source, 99)?.as_slice(),
+        b"1 get 5\n".as_slice()
+    );
+    assert_eq!(rt; source.faults, 0);
+    let mut source = StdSource::new(Drip { rest: b"1 get !" });
+    assert!(rt; matches!(take_all(alloc, &mut source, 99), Err(StoreFault::Failed)));
+    assert_eq!(rt; source.faults, 1);
+    Ok(())
+}
+
+#[test]
+fn sink_over_a_writer(rt: HostRuntime) -> Result<(), Fail> {
+    let alloc = rt.alloc();
+    let file = fs::create(&rt, "sink.img")?;
+    let mut sink = StdSink::new(BufWriter::new(alloc, file)?);
+    assert_eq!(rt; put_all(&mut sink, b"1 1 ABSENT @0\n"), Ok(()));
+    assert_eq!(rt;
+        fs::read(&rt, "sink.img")?.as_slice(),
+        b"1 1 ABSENT @0\n".as_slice()
+    );
+    fs::remove_file(&rt, "sink.img")?;
+    let mut full = [0u8; 4];
+    let mut sink = StdSink::new(full.as_mut_slice());
+    assert_eq!(rt; put_all(&mut sink, b"12345"), Err(Failed));
+    assert_eq!(rt; sink.faults, 1);
+    Ok(())
+}
