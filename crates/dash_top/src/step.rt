@@ -37,7 +37,8 @@ fn get(words: &[u64], key: u64) -> Reply
 fn put(words: &mut [u64], key: u64, value: u64) -> Reply
     requires { IsPlain words.old }
     ensures step { IsStep words.old words.new (Call.Insert key value) result }
-    ensures locks { (b : ℕ) → b < 66 → slice_index words.new (bucket_word b) ≡ slice_index words.old (bucket_word b) }
+    ensures locks { (b : ℕ) → b < 66
+        → slice_index words.new (bucket_word b) ≡ slice_index words.old (bucket_word b) }
 {
     let at = bucket_start(hash_word::home(key));
     if find(words, at, key).is_some() {
@@ -73,7 +74,7 @@ pub fn step(words: &mut [u64], call: Call) -> Reply
     requires versions { VersionsUpTo MOST_CALLS words.old }
     requires served { IsServed call }
     ensures step { IsStep words.old words.new call result }
-    ensures key { key_of call < 2 ^ 64 }
+    ensures key_fits { key_of call < 2 ^ 64 }
     ensures versions { (n : ℕ) → VersionsUpTo n words.old → VersionsUpTo (n + 1) words.new }
 {
     match call {

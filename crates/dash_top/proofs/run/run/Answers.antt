@@ -15,5 +15,5 @@ loop-index-preserved c =
     ] in
     subst (HasRun c.args.calls.now (n + 1) c.step-reply.new.words c.if-drew.place) (sym c.push.ensures)
     (run_more c.args.calls.now n c.loop-index.words c.step-reply.new.words c.loop-index.place c.if-drew.place c.loop-index.lists _ c.loop-index.invariant within
-    refl (get_or_default c.args.calls.now n _ _ within) refl c.changes-drew.ensures place c.step-reply.ensures.step c.step-reply.ensures.key
+    refl (get_or_default c.args.calls.now n _ _ within) refl c.changes-drew.ensures place c.step-reply.ensures.step c.step-reply.ensures.key_fits
     (c.step-reply.ensures.versions n c.loop-index.invariant.versions))
