@@ -1,5 +1,5 @@
 -- The words say of each slot and overflow place what the bits of the fields say, before and after a change of one slot, and a bit of a field is set or cleared alone.
-use Rattle.std.proofs.Common.{◌≡◌, ◌≢◌, ℕ, ◌+◌, ◌-◌, ◌*◌, ◌/◌, ◌%◌, ◌^◌, ◌<◌, ap, sym, ◌∙◌, inl, inr, zero-add, arith, length, bit_and, bit_or}
+use Rattle.std.proofs.Common.{◌≡◌, ◌≢◌, ℕ, ◌+◌, ◌-◌, ◌*◌, ◌/◌, ◌%◌, ◌^◌, ◌<◌, List, ap, sym, ◌∙◌, inl, inr, zero-add, arith, length, length-set, bit_and, bit_or}
 use Rattle.std.specs.Prelude.{slice_index, slice_set}
 use Rattle.std.proofs.lemmas.List.{get_or-set_same, get_or-set_other}
 use Rattle.std.proofs.lemmas.Bool.{cases_lt}
@@ -48,11 +48,11 @@ member_stays old new v1 v2 v3 w1 w2 w3 slot s was is same within other =
     member_is new w1 w2 w3 s is within ∙ same s other ∙ sym (member_is old v1 v2 v3 s was within)
 
 -- the fingerprint that was put at a slot, and those of the other slots
-pub finger_placed : (old new : Meta) (w1 w2 w3 slot number : ℕ) → IsMetaOf new w1 w2 w3
-    → new.fps ≡ slice_set old.fps slot number → slot < 14 → finger slot w2 w3 ≡ number
-finger_placed old new w1 w2 w3 slot number is put within =
-    let inside : slot < length old.fps = omega (arith, old.fourteen) in
-    sym (is.fps slot within) ∙ ap (λ xs. slice_index xs slot) put ∙ get_or-set_same old.fps slot number 0 inside
+pub finger_placed : (fps : List ℕ) (new : Meta) (w1 w2 w3 slot number : ℕ) → length fps ≡ 14 → IsMetaOf new w1 w2 w3
+    → new.fps ≡ slice_set fps slot number → slot < 14 → finger slot w2 w3 ≡ number
+finger_placed fps new w1 w2 w3 slot number fourteen is put within =
+    let inside : slot < length fps = omega arith in
+    sym (is.fps slot within) ∙ ap (λ xs. slice_index xs slot) put ∙ get_or-set_same fps slot number 0 inside
 
 pub finger_stays : (old new : Meta) (v1 v2 v3 w1 w2 w3 slot number s : ℕ) → IsMetaOf old v1 v2 v3 → IsMetaOf new w1 w2 w3
     → new.fps ≡ slice_set old.fps slot number → s < 14 → s ≢ slot → finger s w2 w3 ≡ finger s v2 v3
@@ -98,6 +98,10 @@ set_below slots k whole within =
     let power : 1 * 2 ^ k % 65536 ≡ 2 ^ k = one_shl k 16 (omega arith) in
     or_lt 14 slots _ whole (rw power (pow_below k 14 within))
 
+-- a fingerprint that is put at a slot leaves 14 of them
+pub fourteen_stay : (fps : List ℕ) (slot number : ℕ) → length fps ≡ 14 → length (slice_set fps slot number) ≡ 14
+fourteen_stay fps slot number fourteen = length-set fps slot number ∙ fourteen
+
 -- `slots & !(1 << k)` at 16 bits has no k, and is otherwise as it was
 pub clear_same : (slots k : ℕ) → k < 16 → bit k (bit_and slots (65535 - 1 * 2 ^ k % 65536)) ≡ 0
 clear_same slots k within = bit_at_clear_same w16 slots k within
@@ -110,3 +114,6 @@ clear_other slots k s whole within other =
       | inl low ↦ bit_at_clear_other w16 slots k within s low other
       | inr high ↦ bit_at_above rest 16 s less high ∙ sym (bit_at_above slots 16 s whole high)
     ]
+
+pub clear_below : (slots k : ℕ) → slots < 2 ^ 14 → bit_and slots (65535 - 1 * 2 ^ k % 65536) < 2 ^ 14
+clear_below slots k whole = omega (arith, and_le_l slots (65535 - 1 * 2 ^ k % 65536))

@@ -3,6 +3,9 @@
 ghost use Rattle.std.specs.Prelude.{◌≡◌, ◌≢◌, ℕ, ◌+◌, ◌*◌, ◌^◌, ◌<◌, ◌≤◌, ◌↔◌, IfSome, IsNone, length, slice_index, slice_set, count_ones, if◌then◌else◌};
 ghost use Rattle.bucket_meta.specs.Bucket.{bits, bit};
 
+/// How many record slots a bucket has.
+const SLOTS: u32 = 14;
+
 /// What the three words of metadata of a bucket say.
 ///
 /// Bit `s` of `alloc` and of `member` is of record slot `s`, of 14; bit `i` of `used`, `omember` and
@@ -136,7 +139,7 @@ impl Meta {
         ensures filled { IsNone result ↔ (count_ones self.now.alloc ≡ 14) }
     {
         let slot = self.alloc.trailing_ones();
-        if slot < 14 { Some(slot as u8) } else { None }
+        if slot < SLOTS { Some(slot as u8) } else { None }
     }
 
     /// How many slots have a record, at most 14.

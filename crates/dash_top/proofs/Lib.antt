@@ -9,3 +9,5 @@ pub mod NewFile
 pub mod Words
 pub mod Served
 pub mod Sessions
+pub mod Complete
+pub mod Statuses

@@ -1,4 +1,4 @@
-use Rattle.std.proofs.Common.{◌≡◌, ◌≤◌, List, ℕ, subst, ap, sym, ◌∙◌, arith, length, Bool, true, false, not}
+use Rattle.std.proofs.Common.{◌≡◌, ◌≤◌, List, ℕ, subst, ap, sym, ◌∙◌, arith, length, Bool, true, false}
 use Rattle.outside.specs.Storing.{Holds}
 use Rattle.map_model.specs.declared.call.Call.{Call}
 use Rattle.map_model.specs.declared.entry.Entry.{Entry}
@@ -12,20 +12,15 @@ use Rattle.dash_top.proofs.Served.{few_calls}
 use Rattle.dash_top.proofs.Sessions.{played}
 use Rattle.dash_top.proofs.play.play.Goals as goal
 
-negated : (b : Bool) → not b ≡ true → b ≡ true → ⊥
-negated true h k = cc
-negated false h k = cc
-
-affirmed : (b : Bool) → not b ≡ false → b ≡ true
-affirmed true h = cc
-affirmed false h = cc
+not_both : (b : Bool) → b ≡ false → b ≡ true → ⊥
+not_both b h k = cc
 
 pub returns-then-not-is_new_file-clause-err : goal.returns-then-not-is_new_file-clause-err
 returns-then-not-is_new_file-clause-err g c = (
   record {
     start = c.in-Ok-read_all.start.items;
     reads_image = c.in-Ok-read_all.ensures.bytes;
-    not_new = λ made. negated _ c.if-not-is_new_file.true (c.is_new_file.ensures.1 (subst IsNewFile (sym c.deref-2.ensures.value) made));
+    not_new = λ made. not_both _ c.if-not-is_new_file.true (c.is_new_file.ensures.1 (subst IsNewFile (sym c.deref-2.ensures.value) made));
   },
   c.in-Ok-read_all.ensures.same,
 )
@@ -35,7 +30,7 @@ run-requires g c = subst (λ (x : List Call). length x ≤ 1000000) (sym c.deref
 
 pub returns-in-Ok-write_all-clause-ok : goal.returns-in-Ok-write_all-clause-ok
 returns-in-Ok-write_all-clause-ok g c =
-    let made : IsNewFile c.in-Ok-read_all.start.items = subst IsNewFile c.deref-2.ensures.value (c.is_new_file.ensures.0 (affirmed _ c.if-not-is_new_file.false)) in
+    let made : IsNewFile c.in-Ok-read_all.start.items = subst IsNewFile c.deref-2.ensures.value (c.is_new_file.ensures.0 c.if-not-is_new_file.false) in
     let long : length c.in-Ok-read_all.start.items ≡ 17664 = length_new_file made.0 c.in-Ok-read_all.start.items made.1 made.2 in
     record {
       script = c.in-Ok.script.items;
