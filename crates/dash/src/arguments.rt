@@ -1,5 +1,5 @@
 // What the program is called with: its name, the image's path, and the words.
-ghost use Rattle.std.specs.Prelude.{◌≡◌, ◌<◌, ◌≤◌, [], drop, length, slice_index, string_bytes};
+ghost use Rattle.std.specs.Prelude.{◌≡◌, MatchOption, [], drop, slice_get, string_bytes};
 
 use std::alloc::{AllocError, Global};
 use std::env;
@@ -23,8 +23,7 @@ pub fn received<R: Env + AllocGlobal>(rt: &R) -> Result<Vec<String>, AllocError>
 /// The image's path, and the words behind it. The path is empty where there is none.
 pub fn parted<'a>(arguments: &'a [String]) -> (&'a str, &'a [String])
     ensures words { result.1.now ≡ drop 2 arguments.now }
-    ensures path { 2 ≤ length arguments.now → result.0.now ≡ string_bytes (slice_index arguments.now 1) }
-    ensures no_path { length arguments.now < 2 → result.0.now ≡ [] }
+    ensures path { MatchOption (slice_get arguments.now 1) (result.0.now ≡ []) (λ path. result.0.now ≡ string_bytes path) }
 {
     match arguments {
         [_, path, words @ ..] => (path.as_str(), words),
