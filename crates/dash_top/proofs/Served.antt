@@ -1,7 +1,7 @@
 -- The calls of a good script are few, and are all served.
-use Rattle.std.proofs.Common.{◌≡◌, ◌≢◌, ℕ, ◌+◌, ◌≤◌, List, [], ◌∷◌, ◌++◌, length, Bool, true, false, cond, eqb, refl, sym, ap, ◌∙◌, arith}
+use Rattle.std.proofs.Common.{◌≡◌, ◌≢◌, ℕ, ◌+◌, ◌≤◌, List, [], ◌∷◌, ◌++◌, length, zero, suc, Bool, true, false, cond, eqb, refl, sym, ap, ◌∙◌, arith}
 use Rattle.std.proofs.lemmas.Bool.Decides.{nat_tests}
-use Rattle.std.specs.List.{AllByRecursion}
+use Rattle.std.specs.List.{AllByRecursion, All}
 use Rattle.map_model.specs.declared.call.Call.{Call}
 use Rattle.map_model.specs.declared.call.Call.TheVariants.{Get, Insert, Update, Remove}
 use Rattle.dash_top.specs.Run.{IsServed}
@@ -40,3 +40,9 @@ served line (Remove k) says = says
 pub all_served : (bytes : List ℕ) (calls : List Call) → AreLines bytes calls → AllByRecursion IsServed calls
 all_served bytes [] h = tt
 all_served bytes (call ∷ calls) (rest, begins, good) = (served begins.line call begins.says, all_served rest calls good)
+
+-- what holds down a list holds of each element
+pub each_element : {X : Type 0} (P : X → Type 0) (xs : List X) → AllByRecursion P xs → All P xs
+each_element P [] all k d lt = absurd (omega arith)
+each_element P (x ∷ xs) all zero d lt = all.0
+each_element P (x ∷ xs) all (suc k) d lt = each_element P xs all.1 k d (omega arith)

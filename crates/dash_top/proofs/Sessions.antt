@@ -1,6 +1,6 @@
 -- A run on a new image is a session, and where the bytes are told, what was played is the headline.
-use Rattle.std.proofs.Common.{◌≡◌, ◌≢◌, ℕ, ◌+◌, ◌<◌, ◌≤◌, List, [], ◌∷◌, ◌++◌, length, map, take, get_or, refl, sym, ap, ◌∙◌, subst, arith, Option, None, Some, Bool, true, false, zero, suc}
-use Rattle.std.specs.Prelude.{Contains}
+use Rattle.std.proofs.Common.{◌≡◌, ◌≢◌, ℕ, ◌+◌, ◌<◌, ◌≤◌, List, [], ◌∷◌, ◌++◌, length, map, take, drop, get_or, refl, sym, ap, ◌∙◌, subst, arith, Option, None, Some, Bool, true, false, zero, suc}
+use Rattle.std.specs.Prelude.{Contains, slice_get}
 use Rattle.std.specs.List.{AllByRecursion}
 use Rattle.std.specs.FinMap.{empty}
 use Rattle.std.specs.Io.KnownBytes.{Appends, Consumes, IsAtEnd}
@@ -132,3 +132,16 @@ headline t sink_old sink_new transcript plays appends start script before store_
       subst (λ (x : List ℕ). IsPlayed start x transcript plays.ending) (sym script_is)
           (subst (λ (x : List ℕ). IsPlayed x plays.script transcript plays.ending) start_is plays.played),
     )
+
+-- the entries of the only caller
+pub entries_of_one : (lists : List (List Entry)) (entries read : List Entry) → lists ≡ entries ∷ [] → slice_get lists 0 ≡ Some read → read ≡ entries
+entries_of_one lists entries read only is =
+    let first : slice_get (entries ∷ []) 0 ≡ Some read = subst (λ (ls : List (List Entry)). slice_get ls 0 ≡ Some read) only is in
+    same read entries (sym first)
+  where
+    same : (a b : List Entry) → Some a ≡ Some b → a ≡ b
+    same a b h = cc
+
+-- a slice that was written whole is what was written
+pub written_whole : (len : ℕ) (new old : List ℕ) → length new ≡ len → take len (new ++ drop (length new) old) ≡ new
+written_whole len new old e = grind (arith, common_steps)

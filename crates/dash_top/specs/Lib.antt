@@ -1,5 +1,8 @@
 pub mod Plain
+pub mod Stored
+pub mod Versions
 pub mod Run
+pub mod Ran
 pub mod Finding
 pub mod Script
 pub mod Texts

@@ -1,13 +1,20 @@
 //! The top call: all that the program does, over a store, a source, a sink and the gates of its callers.
+//!
+//! `dash_run` reads the words, the script and the image, runs the one on the other, and writes the image and the
+//! transcript. Its contract is the promise of the whole program; the modules below it are private, and each is
+//! written so that it can become a crate of its own.
 #![tactic(auto)]
 
+mod bucket;
 mod command;
-pub mod image;
+mod image;
 mod play;
 mod run;
-pub mod script;
-pub mod status;
-pub mod text;
+mod script;
+mod status;
+mod step;
+mod text;
 mod top;
 
+pub use status::{BAD_IMAGE, BAD_SCRIPT, BAD_WORDS, DONE, NO_MEMORY, SINK_FAILED, SOURCE_FAILED, STORE_FAILED};
 pub use top::dash_run;

@@ -6,6 +6,7 @@ use crate::image::{is_new_file, new_words, to_bytes};
 use crate::run::run;
 use crate::script::{Kind, MOST_BYTES, ScriptFault, parse};
 use crate::text::transcript;
+use map_model::NoMemory;
 use outside::{Failed, Source, Store, StoreFault, take_all};
 use std::alloc::{AllocError, Global};
 
@@ -34,6 +35,17 @@ impl From<AllocError> for PlayStop {
     ghost from_gives = { λ _ e. e ≡ NoMemory };
 
     fn from(_error: AllocError) -> PlayStop {
+        PlayStop::NoMemory
+    }
+}
+
+impl From<NoMemory> for PlayStop {
+    ghost use Rattle.std.specs.Prelude.{◌≡◌};
+    ghost use Rattle.dash_top.specs.declared.play.PlayStop.TheVariants.{NoMemory};
+
+    ghost from_gives = { λ _ e. e ≡ NoMemory };
+
+    fn from(_error: NoMemory) -> PlayStop {
         PlayStop::NoMemory
     }
 }
@@ -80,9 +92,10 @@ pub fn play<I: Store, S: Source>(
     if !is_new_file(&start) {
         return Err(PlayStop::Image);
     }
-    let ran = run(alloc, &calls)?;
-    let text = transcript(alloc, 1, &ran.entries)?;
-    let ending = to_bytes(alloc, &ran.words)?;
+    let mut words = new_words(alloc)?;
+    let lists = run(alloc, &mut words, &calls)?;
+    let text = transcript(alloc, 1, lists.of(1))?;
+    let ending = to_bytes(alloc, &words)?;
     match image.write_all(&ending) {
         Ok(()) => Ok(text),
         Err(Failed) => Err(PlayStop::Store),

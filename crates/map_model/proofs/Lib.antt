@@ -5,3 +5,6 @@ pub mod OneMore
 pub mod Histories
 pub mod OneCaller
 pub mod KeptViews
+pub mod PlainMaps
+pub mod PutApart
+pub mod Checks

@@ -4,16 +4,20 @@
 //! what the map answers, how the entries of all callers are woven by their places, and when that is legal.
 #![tactic(auto)]
 
+mod by_place;
 pub mod call;
 pub mod entry;
 pub mod laws;
+pub mod legality;
 pub mod lists;
 pub mod no_memory;
+mod plain_map;
 
 pub use call::Call;
 pub use entry::{Entry, Reply, Stop};
 pub use laws::{
     drawn_keeps_legal, later_entries_keep, legal_by_places, loaded_keeps_legal, weave_leaves_draws,
 };
+pub use legality::weave_check;
 pub use lists::Lists;
 pub use no_memory::NoMemory;

@@ -52,6 +52,13 @@ impl Lists {
         &self.lists[caller as usize - 1]
     }
 
+    /// The entries of all callers, by caller number.
+    pub(crate) fn rows(&self) -> &[Vec<Entry>]
+        ensures { map (λ row. row.items) result.now ≡ lists_of self.now }
+    {
+        &self.lists
+    }
+
     /// One more entry of a caller, into the room that it has left.
     pub fn push(&mut self, caller: u8, entry: Entry)
         requires from_one { 1 ≤ caller }

@@ -1,8 +1,8 @@
 -- What a store that tells its bytes reads and holds, and when a read may fail.
-use Rattle.std.specs.Prelude.{◌≡◌, ℕ, ◌+◌, ◌≤◌, List, take, ⊤, None, Some, Option, Result, IsErrOf}
+use Rattle.std.specs.Prelude.{◌≡◌, ℕ, ◌+◌, ◌≤◌, List, take, codes, ⊤, None, Some, Option, Result, IsErrOf}
 use Rattle.outside.specs.Causes.{Rose}
 use Rattle.outside.specs.declared.parts.StoreFault.{StoreFault}
-use Rattle.outside.specs.declared.parts.StoreFault.TheVariants.{Failed}
+use Rattle.outside.specs.declared.parts.StoreFault.TheVariants.{Failed, NoMemory}
 
 -- these are all of the bytes held, or the first limit + 1 where there are more
 abbrev pub IsFront : Option (List ℕ) → ℕ → List ℕ → Type 0
@@ -18,3 +18,8 @@ Holds (Some held) new bytes = new ≡ Some bytes
 pub record HasReadCause {T : Type 0} (before now : ℕ) (result : Result T StoreFault) : Type 0 where
   pub later : before ≤ now
   pub failed : IsErrOf result Failed → Rose before now
+
+-- the sentence that is printed for a fault
+abbrev pub fault_text : StoreFault → List ℕ
+fault_text Failed = codes "the outside failed"
+fault_text NoMemory = codes "memory was wanting"

@@ -1,7 +1,9 @@
 // The real outside: a file, and std's readers and writers. It counts its faults, and tells no content. What is
 // trusted here is named at each edge; no clause can say what a file or a terminal gives and takes.
-ghost use Rattle.std.specs.Prelude.{◌≡◌, ◌≤◌, ◌+◌, None, IfOk, length};
-ghost use Rattle.std.specs.Io.{WritesAtMost};
+ghost use Rattle.std.specs.Prelude.{◌≡◌, ◌≤◌, ◌+◌, None, IfOk, length, take};
+ghost use Rattle.std.specs.Io.{ReadsAtMost, WritesAtMost};
+ghost use Rattle.std.specs.Io.KnownBytes.{Appends, ReadConsumes};
+ghost use Rattle.outside.specs.Causes.{HasCause, TakesSome};
 
 use crate::parts::count_one;
 use crate::whole::take_all;
@@ -20,15 +22,19 @@ use std::{fs, io};
 #[derive(Drop)]
 pub struct FileStore<'a, R: Files> {
     rt: &'a R,
-    path: &'a str,
-    second: &'a str,
+    /// The file's path.
+    pub path: &'a str,
+    /// The path that a write takes first, in the same folder.
+    pub second: &'a str,
     /// How many calls failed.
     pub faults: u64,
 }
 
 impl<'a, R: Files> FileStore<'a, R> {
-    /// The file at this path, and the path of the second file, which lies in the same folder.
+    /// The file at this path, with the path of the second file.
     pub fn new(rt: &'a R, path: &'a str, second: &'a str) -> Self
+        ensures path { result.path.now ≡ path.now }
+        ensures second { result.second.now ≡ second.now }
         ensures faults { result.faults ≡ 0 }
     {
         FileStore {
@@ -84,7 +90,8 @@ impl<'a, R: Files> Store for FileStore<'a, R> {
 /// Any reader of std, as standard input. Trusted: that a reader which gives no byte is at its end.
 #[derive(Drop)]
 pub struct StdSource<R: Read> {
-    inner: R,
+    /// The reader.
+    pub inner: R,
     /// How many calls failed.
     pub faults: u64,
 }
@@ -92,6 +99,7 @@ pub struct StdSource<R: Read> {
 impl<R: Read> StdSource<R> {
     /// What this reader gives from here on.
     pub fn new(inner: R) -> Self
+        ensures inner { result.inner ≡ inner }
         ensures faults { result.faults ≡ 0 }
     {
         StdSource { inner, faults: 0 }
@@ -103,7 +111,13 @@ impl<R: Read> Source for StdSource<R> {
 
     ghost faults = { λ s. s.faults };
 
-    fn pull(&mut self, buf: &mut [u8]) -> Result<usize, Failed> {
+    fn pull(&mut self, buf: &mut [u8]) -> Result<usize, Failed>
+        ensures bound { ReadsAtMost result buf.new }
+        ensures cause { HasCause self.old.faults self.new.faults result }
+
+        // What is pulled is what the reader gave, where std knows its bytes.
+        ensures bytes { ReadConsumes (R.remaining self.old.inner) (R.remaining self.new.inner) result buf.new }
+    {
         match self.inner.read(buf) {
             Ok(count) => Ok(count),
             Err(_) => {
@@ -118,7 +132,8 @@ impl<R: Read> Source for StdSource<R> {
 /// that it took.
 #[derive(Drop)]
 pub struct StdSink<W: Write> {
-    inner: W,
+    /// The writer.
+    pub inner: W,
     /// How many calls failed, or took nothing of a piece that is not empty.
     pub faults: u64,
 }
@@ -126,6 +141,7 @@ pub struct StdSink<W: Write> {
 impl<W: Write> StdSink<W> {
     /// What is pushed goes to this writer.
     pub fn new(inner: W) -> Self
+        ensures inner { result.inner ≡ inner }
         ensures faults { result.faults ≡ 0 }
     {
         StdSink { inner, faults: 0 }
@@ -133,7 +149,9 @@ impl<W: Write> StdSink<W> {
 }
 
 fn write_through<W: Write>(writer: &mut W, buf: &[u8]) -> io::Result<usize>
-    ensures { WritesAtMost result buf.now }
+    ensures bound { WritesAtMost result buf.now }
+    ensures bytes { IfOk result (λ count.
+        Appends (W.contents writer.old) (W.contents writer.new) (take count buf.now)) }
 {
     let count = writer.write(buf)?;
     writer.flush()?;
@@ -145,7 +163,15 @@ impl<W: Write> Sink for StdSink<W> {
 
     ghost faults = { λ s. s.faults };
 
-    fn push(&mut self, buf: &[u8]) -> Result<usize, Failed> {
+    fn push(&mut self, buf: &[u8]) -> Result<usize, Failed>
+        ensures bound { WritesAtMost result buf.now }
+        ensures cause { HasCause self.old.faults self.new.faults result }
+        ensures some { TakesSome self.old.faults self.new.faults result buf.now }
+
+        // What is pushed went to the writer, where std knows its bytes. After a flush that failed they may have.
+        ensures bytes { IfOk result (λ count.
+            Appends (W.contents self.old.inner) (W.contents self.new.inner) (take count buf.now)) }
+    {
         match write_through(&mut self.inner, buf) {
             Ok(0) if !buf.is_empty() => {
                 count_one(&mut self.faults);

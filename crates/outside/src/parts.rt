@@ -14,6 +14,10 @@ use std::fmt;
 pub struct Failed;
 
 impl fmt::Display for Failed {
+    ghost use Rattle.std.specs.Prelude.{Some, codes};
+
+    ghost output = { λ _. Some (codes "the outside failed") };
+
     fn fmt<W: fmt::Write>(&self, f: &mut fmt::Formatter<W>) -> fmt::Result {
         f.write_str("the outside failed")
     }
@@ -31,6 +35,11 @@ pub enum StoreFault {
 }
 
 impl fmt::Display for StoreFault {
+    ghost use Rattle.std.specs.Prelude.{Some};
+    ghost use Rattle.outside.specs.Storing.{fault_text};
+
+    ghost output = { λ fault. Some (fault_text fault) };
+
     fn fmt<W: fmt::Write>(&self, f: &mut fmt::Formatter<W>) -> fmt::Result {
         f.write_str(match self {
             StoreFault::Failed => "the outside failed",

@@ -40,11 +40,11 @@ pub fn put_all<K: Sink>(sink: &mut K, bytes: &[u8]) -> Result<(), Failed>
 {
     let mut at = 0;
     'pushes: while at < bytes.len() {
-        let count = sink.push(&bytes[at..])?;
-        if count == 0 {
+        let taken = sink.push(&bytes[at..])?;
+        if taken == 0 {
             return Err(Failed);
         }
-        at += count;
+        at += taken;
     }
     Ok(())
 }

@@ -5,11 +5,14 @@ use Rattle.map_model.specs.declared.entry.Entry.{Entry}
 use Rattle.sound_image.specs.Image.{image_bytes}
 use Rattle.session.specs.Transcript.{entry_lines}
 use Rattle.dash_top.specs.Script.{IsGoodScript}
-use Rattle.dash_top.specs.Run.{IsRun}
+use Rattle.dash_top.specs.Plain.{IsNew}
+use Rattle.dash_top.specs.Run.{IsRun, IsServed}
+use Rattle.dash_top.specs.Ran.{IsKeptRun}
 use Rattle.dash_top.specs.Top.{IsNewFile}
 use Rattle.dash_top.proofs.NewFile.{length_new_file}
-use Rattle.dash_top.proofs.Served.{few_calls}
-use Rattle.dash_top.proofs.Sessions.{played}
+use Rattle.dash_top.proofs.NewImage.{new-IsPlain, new-HasPairsOf, new-VersionsUpTo}
+use Rattle.dash_top.proofs.Served.{few_calls, all_served, each_element}
+use Rattle.dash_top.proofs.Sessions.{played, entries_of_one, written_whole}
 use Rattle.dash_top.proofs.play.play.Goals as goal
 
 not_both : (b : Bool) → b ≡ false → b ≡ true → ⊥
@@ -26,7 +29,17 @@ returns-then-not-is_new_file-clause-err g c = (
 )
 
 pub run-requires : goal.run-requires
-run-requires g c = subst (λ (x : List Call). length x ≤ 1000000) (sym c.deref-3.ensures.value) (few_calls _ _ c.in-Ok-parse.ensures.good)
+run-requires g c =
+    let new : IsNew c.deref_mut.result.now = subst IsNew (sym c.deref_mut.ensures.value) c.in_ok-words.ensures in
+    let good : IsGoodScript c.deref.result.now c.deref-3.result.now =
+        subst (λ (x : List Call). IsGoodScript c.deref.result.now x) (sym c.deref-3.ensures.value) c.in-Ok-parse.ensures.good in
+    record {
+      plain = new-IsPlain _ new;
+      no_pair = new-HasPairsOf _ new;
+      versions = new-VersionsUpTo _ new;
+      few = few_calls _ _ good;
+      served = each_element IsServed _ (all_served _ _ good.lines);
+    }
 
 pub returns-in-Ok-write_all-clause-ok : goal.returns-in-Ok-write_all-clause-ok
 returns-in-Ok-write_all-clause-ok g c =
@@ -40,11 +53,14 @@ returns-in-Ok-write_all-clause-ok g c =
       all_read = omega arith;
       ending = c.in_ok-ending.ending.items;
       stores = subst (λ o. Holds o (g.I.Store.contents c.write_all.new.self) c.in_ok-ending.ending.items) c.in-Ok-read_all.ensures.same
-          (subst (λ (x : List ℕ). Holds (g.I.Store.contents c.read_all.new.self) (g.I.Store.contents c.write_all.new.self) x) c.deref-6.ensures.value c.in-Ok-write_all.ensures.written);
-      played = played made.0 c.in_ok-ran.ran.words.items c.in-Ok-parse.calls.items c.in_ok-ran.ran.entries.items _ _ _ _ made.1
-          (subst (λ (x : List ℕ). IsGoodScript x c.in-Ok-parse.calls.items) c.deref.ensures.value c.in-Ok-parse.ensures.good)
-          (subst (λ (x : List Call). IsRun x c.in_ok-ran.ran.words.items c.in_ok-ran.ran.entries.items) c.deref-3.ensures.value c.in_ok-ran.ensures)
-          made.2
-          (c.in_ok-text.ensures ∙ ap (entry_lines 1) c.deref-4.ensures.value)
-          (c.in_ok-ending.ensures.bytes ∙ ap image_bytes c.deref-5.ensures.value);
+          (subst (λ (x : List ℕ). Holds (g.I.Store.contents c.read_all.new.self) (g.I.Store.contents c.write_all.new.self) x) c.deref-5.ensures.value c.in-Ok-write_all.ensures.written);
+      played =
+          let run = c.in_ok-lists.ensures.ran in
+          let words : c.deref-4.result.now ≡ c.run.new.words = c.deref-4.ensures.value ∙ written_whole _ c.run.new.words c.in_ok-words.words.items (omega arith) in
+          played made.0 c.run.new.words c.in-Ok-parse.calls.items run.entries _ _ _ _ made.1
+              (subst (λ (x : List ℕ). IsGoodScript x c.in-Ok-parse.calls.items) c.deref.ensures.value c.in-Ok-parse.ensures.good)
+              (subst (λ (x : List Call). IsRun x c.run.new.words run.entries) c.deref-3.ensures.value run.run)
+              made.2
+              (c.in_ok-text.ensures ∙ ap (entry_lines 1) (entries_of_one _ run.entries _ run.only c.of.ensures))
+              (c.in_ok-ending.ensures.bytes ∙ ap image_bytes words);
     }

@@ -15,6 +15,6 @@ take-next bytes at n =
 pub pushes-preserved : goal.pushes-preserved
 pushes-preserved g c = record {
   within = grind (arith, common_steps);
-  given = rw (← take-next c.args.bytes.now c.pushes.at c.in_ok-count.count) (Appends-trans _ _ _ _ _ c.pushes.invariant.given c.in_ok-count.ensures.bytes);
-  later = omega (arith, c.in_ok-count.ensures.cause.later);
+  given = rw (← take-next c.args.bytes.now c.pushes.at c.in_ok-taken.taken) (Appends-trans _ _ _ _ _ c.pushes.invariant.given c.in_ok-taken.ensures.bytes);
+  later = omega (arith, c.in_ok-taken.ensures.cause.later);
 }
