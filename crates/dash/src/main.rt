@@ -5,8 +5,7 @@
 mod arguments;
 
 use arguments::{parted, received};
-use dash_top::dash_run;
-use dash_top::status::NO_MEMORY;
+use dash_top::{NO_MEMORY, dash_run};
 use outside::{FileStore, Fuses, StdSink, StdSource};
 use std::process::ExitCode;
 
