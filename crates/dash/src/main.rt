@@ -21,6 +21,14 @@ fn main(rt: HostRuntime) -> ExitCode {
     let mut input = StdSource::new(rt.stdin());
     let mut out = StdSink::new(rt.stdout());
     let mut gates = Fuses::new();
-    let status = dash_run(&rt, rt.alloc(), words, &mut image, &mut input, &mut out, &mut gates);
+    let status = dash_run(
+        &rt,
+        rt.alloc(),
+        words,
+        &mut image,
+        &mut input,
+        &mut out,
+        &mut gates,
+    );
     ExitCode::from(status)
 }
