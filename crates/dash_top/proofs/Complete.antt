@@ -1,13 +1,13 @@
 -- What is good is not refused: a good script has no fault, and the file of a new image is taken.
-use Rattle.std.proofs.Common.{◌≡◌, ◌≢◌, ℕ, ◌+◌, ◌<◌, ◌≤◌, ◌⊎◌, ⊎_elim, List, [], ◌∷◌, ◌++◌, length, take, refl, sym, ap, ◌∙◌, subst, arith, Option, None, Some}
+use Rattle.std.proofs.Common.{◌≡◌, ℕ, ◌+◌, ◌<◌, ◌≤◌, ⊎_elim, List, [], ◌∷◌, ◌++◌, length, take, sym, ap, ◌∙◌, subst, arith, Option, None, Some}
 use Rattle.std.proofs.lemmas.Grind.{common_steps}
-use Rattle.std.specs.Io.KnownBytes.{Consumes, IsAtEnd}
+use Rattle.std.specs.Io.KnownBytes.{Consumes}
 use Rattle.map_model.specs.declared.call.Call.{Call}
 use Rattle.outside.specs.Storing.{IsFront}
 use Rattle.dash_top.specs.declared.script.Kind.{Kind}
 use Rattle.dash_top.specs.declared.script.Kind.TheVariants.{Word, TooLong}
-use Rattle.dash_top.specs.Script.{SaysCall, AreLines, BeginsBadly, HasFault, IsGoodScript, line_count}
-use Rattle.dash_top.specs.Top.{Told, ReadsImage, RefusesImage, RefusesScript, IsGoodPlay, IsGoodCommand, IsNewFile, play_words, format_words}
+use Rattle.dash_top.specs.Script.{AreLines, BeginsBadly, HasFault, IsGoodScript, line_count}
+use Rattle.dash_top.specs.Top.{Told, RefusesImage, RefusesScript, IsGoodPlay, IsGoodCommand, IsNewFile, play_words, format_words}
 use Rattle.dash_top.proofs.Finding.{Lacks}
 use Rattle.dash_top.proofs.Lines.{Lacks-line}
 use Rattle.dash_top.proofs.NewFile.{length_new_file}

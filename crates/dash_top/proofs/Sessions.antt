@@ -1,5 +1,5 @@
 -- A run on a new image is a session, and where the bytes are told, what was played is the headline.
-use Rattle.std.proofs.Common.{◌≡◌, ◌≢◌, ℕ, ◌+◌, ◌<◌, ◌≤◌, List, [], ◌∷◌, ◌++◌, length, map, take, drop, get_or, refl, sym, ap, ◌∙◌, subst, arith, Option, None, Some, Bool, true, false, zero, suc}
+use Rattle.std.proofs.Common.{◌≡◌, ℕ, ◌+◌, ◌≤◌, List, [], ◌∷◌, ◌++◌, length, map, take, drop, refl, sym, ap, ◌∙◌, subst, arith, Option, None, Some, true, false, zero, suc}
 use Rattle.std.specs.Prelude.{Contains, slice_get}
 use Rattle.std.specs.List.{AllByRecursion}
 use Rattle.std.specs.FinMap.{empty}
@@ -10,7 +10,7 @@ use Rattle.map_model.specs.declared.call.Call.{Call}
 use Rattle.map_model.specs.declared.entry.Entry.{Entry}
 use Rattle.map_model.specs.Weave.{all_of}
 use Rattle.map_model.specs.ByPlaces.{map_at}
-use Rattle.session.specs.Transcript.{Told, entry_lines, transcript_of}
+use Rattle.session.specs.Transcript.{Told, entry_lines}
 use Rattle.session.specs.Callers.{FollowsScript, IsAnswered}
 use Rattle.session.specs.Session.{IsSession, HadNoRoom}
 use Rattle.sound_image.specs.Image.{image_bytes}

@@ -1,7 +1,7 @@
 -- What the top call does with each command, and why it refuses one.
-use Rattle.std.specs.Prelude.{◌≡◌, ℕ, ◌≤◌, ◌⊎◌, List, [], ◌∷◌, ◌++◌, length, codes, Option, None, Some}
-use Rattle.std.specs.Io.KnownBytes.{Appends, Consumes, IsAtEnd}
-use Rattle.outside.specs.Causes.{Rose, AppendsFront}
+use Rattle.std.specs.Prelude.{◌≡◌, ℕ, ◌≤◌, ◌⊎◌, List, [], ◌∷◌, ◌++◌, length, codes, Option, Some}
+use Rattle.std.specs.Io.KnownBytes.{Consumes, IsAtEnd}
+use Rattle.outside.specs.Causes.{Rose}
 use Rattle.outside.specs.Storing.{Holds, IsFront}
 use Rattle.outside.specs.declared.parts.StoreFault.{StoreFault}
 use Rattle.outside.specs.declared.parts.StoreFault.TheVariants.{Failed, NoMemory as NoRoom}

@@ -1,13 +1,11 @@
-use Rattle.std.proofs.Common.{◌≡◌, ◌≤◌, List, ℕ, subst, ap, sym, ◌∙◌, arith, length, Bool, true, false}
+use Rattle.std.proofs.Common.{◌≡◌, List, ℕ, subst, ap, sym, ◌∙◌, arith, length, Bool, true, false}
 use Rattle.outside.specs.Storing.{Holds}
 use Rattle.map_model.specs.declared.call.Call.{Call}
-use Rattle.map_model.specs.declared.entry.Entry.{Entry}
 use Rattle.sound_image.specs.Image.{image_bytes}
 use Rattle.session.specs.Transcript.{entry_lines}
 use Rattle.dash_top.specs.Script.{IsGoodScript}
 use Rattle.dash_top.specs.Plain.{IsNew}
 use Rattle.dash_top.specs.Run.{IsRun, IsServed}
-use Rattle.dash_top.specs.Ran.{IsKeptRun}
 use Rattle.dash_top.specs.Top.{IsNewFile}
 use Rattle.dash_top.proofs.NewFile.{length_new_file}
 use Rattle.dash_top.proofs.NewImage.{new-IsPlain, new-HasPairsOf, new-VersionsUpTo}

@@ -1,10 +1,10 @@
-use Rattle.std.proofs.Common.{◌≡◌, List, ℕ, subst, arith, inl, inr, refl, ◌∙◌, []}
+use Rattle.std.proofs.Common.{List, ℕ, subst, arith, inl, refl, ◌∙◌, []}
 use Rattle.std.specs.Prelude.{string_bytes}
 use Rattle.std.specs.Io.KnownBytes.{Appends}
 use Rattle.std.proofs.KnownBytes.{Appends-nil}
 use Rattle.outside.specs.Causes.{AppendsFront}
 use Rattle.dash_top.specs.Texts.{usage_text, image_format_text, script_fault_text}
-use Rattle.dash_top.specs.Top.{of_format, of_play, of_bad_words, of_bad_script, of_bad_image}
+use Rattle.dash_top.specs.Top.{of_play, of_bad_words, of_bad_script, of_bad_image}
 use Rattle.dash_top.proofs.Sessions.{headline}
 use Rattle.dash_top.proofs.Complete.{new_file_is_taken, good_script_is_taken, good_play}
 use Rattle.dash_top.proofs.Statuses.{no_third}
