@@ -1,7 +1,7 @@
 -- What is wrong with three numbers that should be a shape: the first of them that is out of range.
 use Rattle.std.specs.Prelude.{ℕ, ◌<◌, ◌≤◌, ◌⊎◌}
-use Rattle.image_layout.specs.declared.GeoFault.{GeoFault}
-use Rattle.image_layout.specs.declared.GeoFault.TheVariants.{Segments, Depth, Kind}
+use Rattle.image_layout.specs.declared.shape.GeoFault.{GeoFault}
+use Rattle.image_layout.specs.declared.shape.GeoFault.TheVariants.{Segments, Depth, Kind}
 
 -- a number of slots for segments that an image may have
 abbrev pub IsSegments : ℕ → Type 0

@@ -1,21 +1,21 @@
 -- The words of an image by what they are for, and that no two parts share a word.
-use Rattle.std.specs.Prelude.{◌≡◌, ℕ, ◌+◌, ◌-◌, ◌*◌, ◌/◌, ◌^◌, ◌<◌, ◌≤◌}
-use Rattle.image_layout.specs.Places.{Shape, IsShape, entry_at, head_at, bucket_at, key_at, value_at, words_of}
+use Rattle.std.specs.Prelude.{◌≡◌, ℕ, ◌+◌, ◌^◌, ◌<◌, ◌≤◌}
+use Rattle.image_layout.specs.Places.{Shape, entry_at, head_at, bucket_at, key_at, value_at, words_of}
 
 -- what a word of an image is for
 pub data Part : Type 0 where
   -- word w of the 32 in front, about the whole
-  pub front : (w : ℕ) → Part
+  front : (w : ℕ) → Part
   -- entry i of the directory area of depth e
-  pub entry : (e i : ℕ) → Part
+  entry : (e i : ℕ) → Part
   -- word w of the 32 of the header of segment s
-  pub head : (s w : ℕ) → Part
+  head : (s w : ℕ) → Part
   -- word w of the four before the records of bucket b of segment s
-  pub meta : (s b w : ℕ) → Part
+  meta : (s b w : ℕ) → Part
   -- the key of record slot r
-  pub key : (s b r : ℕ) → Part
+  key : (s b r : ℕ) → Part
   -- the value of record slot r
-  pub value : (s b r : ℕ) → Part
+  value : (s b r : ℕ) → Part
 
 -- an image of this shape has the part
 abbrev pub HasPart : Shape → Part → Type 0
