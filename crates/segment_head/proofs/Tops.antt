@@ -1,5 +1,5 @@
 -- One more top bit of a hash is a 1 exactly where the top bits are twice those before, plus 1.
-use Rattle.std.proofs.Common.{◌≡◌, ℕ, ◌+◌, ◌-◌, ◌*◌, ◌/◌, ◌%◌, ◌^◌, ◌<◌, ap, ◌∙◌, ◌↔◌, arith}
+use Rattle.std.proofs.Common.{◌≡◌, ℕ, ◌+◌, ◌-◌, ◌*◌, ◌/◌, ◌^◌, ◌<◌, ap, ◌∙◌, ◌↔◌, arith}
 use Rattle.std.proofs.lemmas.Nat.{shr-shr}
 use Rattle.segment_head.specs.Sides.{top_bits, next_bit}
 

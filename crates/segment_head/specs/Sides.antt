@@ -1,6 +1,5 @@
 -- Which hashes a header covers, and its 1-side.
 use Rattle.std.specs.Prelude.{◌≡◌, ℕ, ◌+◌, ◌-◌, ◌*◌, ◌/◌, ◌%◌, ◌^◌, ◌<◌, ◌↔◌}
-use Rattle.segment_head.specs.declared.State.{State}
 use Rattle.segment_head.specs.declared.Head.{Head}
 
 -- the top d of the 64 bits of a hash
