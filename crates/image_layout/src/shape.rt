@@ -28,12 +28,17 @@ pub enum GeoFault {
 }
 
 impl fmt::Display for GeoFault {
+    ghost use Rattle.std.specs.Prelude.{Some};
+    ghost use Rattle.image_layout.specs.Faults.{fault_text};
+
+    ghost output = { λ fault. Some (fault_text fault) };
+
     fn fmt<W: fmt::Write>(&self, f: &mut fmt::Formatter<W>) -> fmt::Result {
-        match self {
-            GeoFault::Segments => write!(f, "the number of segments is not 1 to 16384"),
-            GeoFault::Depth => write!(f, "the greatest depth is not 0 to 16"),
-            GeoFault::Kind => write!(f, "the kind of hash is not 0 or 1"),
-        }
+        f.write_str(match self {
+            GeoFault::Segments => "the number of segments is not 1 to 16384",
+            GeoFault::Depth => "the greatest depth is not 0 to 16",
+            GeoFault::Kind => "the kind of hash is not 0 or 1",
+        })
     }
 }
 
@@ -124,6 +129,7 @@ impl Geometry {
     /// How many words the image has.
     pub fn words(&self) -> u64
         ensures is { result ≡ words_of self.now }
+        ensures shape { IsShape self.now }
         ensures most { result ≤ 35258400 }
     {
         self.first_segment() + SEGMENT * self.segments

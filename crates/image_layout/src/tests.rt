@@ -35,20 +35,3 @@ fn numbers_out_of_range(rt: HostRuntime) {
     assert_eq!(rt; Geometry::new(1, 17, 2).err(), Some(GeoFault::Depth));
     assert_eq!(rt; Geometry::new(1, 16, 2).err(), Some(GeoFault::Kind));
 }
-
-#[test]
-fn faults_in_words(rt: HostRuntime) -> Result<(), Fail> {
-    let table = [
-        (
-            GeoFault::Segments,
-            "the number of segments is not 1 to 16384",
-        ),
-        (GeoFault::Depth, "the greatest depth is not 0 to 16"),
-        (GeoFault::Kind, "the kind of hash is not 0 or 1"),
-    ];
-    for (fault, text) in table {
-        let said = format!(in rt.alloc(); "{fault}")?;
-        assert_eq!(rt; said.as_str(), text);
-    }
-    Ok(())
-}
