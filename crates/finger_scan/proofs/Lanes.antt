@@ -1,5 +1,5 @@
 -- The mask of 16 lanes that are compared with a byte, cut to its 14 lowest bits, is the scan of the first 14 lanes.
-use Rattle.std.proofs.Common.{◌≡◌, ℕ, ◌-◌, ◌%◌, ◌^◌, ◌<◌, min, cond, eqb, false, List, [], ◌∷◌, map, length, replicate, refl, ap, sym, ◌∙◌, arith, get_or, bit_and, below_more}
+use Rattle.std.proofs.Common.{◌≡◌, ℕ, ◌%◌, ◌^◌, ◌<◌, cond, eqb, false, List, [], ◌∷◌, map, length, replicate, refl, ap, ◌∙◌, arith, get_or, bit_and, below_more}
 use borrow.Author.Count.{below_none}
 use lib.Lanes.{zip2, mask_l, top}
 use Rattle.std.proofs.lemmas.List.{get_or-map}
@@ -8,7 +8,7 @@ use Rattle.std.proofs.lemmas.Nat.Bits.{bit_at_and, bit_at_ones, bit_at-lt}
 use Rattle.std.proofs.lemmas.Simd.{bitmask_splat, bit_mask_l}
 use Rattle.std.specs.Int.{bit_at, w8}
 use Rattle.finger_scan.specs.Scan.{IsScanOf}
-use Rattle.finger_scan.proofs.ScanBits.{IsScanBelow, scan_of_bits}
+use Rattle.finger_scan.proofs.ScanBits.{scan_of_bits}
 
 -- the vector that the fingerprints are put in
 abbrev pub lanes_of : List ℕ → List ℕ
@@ -39,7 +39,7 @@ scan_of_lanes fps byte =
     scan_of_bits fps byte (bit_and m 16383) (record {
       within = omega (arith, and_le_r m 16383);
       compared = λ s low.
-        let one : bit_at 16383 s ≡ 1 = bit_at_ones 14 s low in
-        let kept : bit_at (bit_and m 16383) s ≡ bit_at m s = omega (arith, bit_at_and m 16383 s, bit_at-lt m s) in
-        kept ∙ mask_bit (lanes_of fps) byte s refl low ∙ ap (λ x. cond (eqb x byte) 1 0) (lanes_are fps s low);
+          let one : bit_at 16383 s ≡ 1 = bit_at_ones 14 s low in
+          let kept : bit_at (bit_and m 16383) s ≡ bit_at m s = omega (arith, bit_at_and m 16383 s, bit_at-lt m s) in
+          kept ∙ mask_bit (lanes_of fps) byte s refl low ∙ ap (λ x. cond (eqb x byte) 1 0) (lanes_are fps s low);
     })

@@ -27,7 +27,7 @@ scan_of_bits fps byte found all = record {
   set = λ s low same. all.compared s low ∙ ap (λ b. cond b 1 0) (eq-eqb (get_or fps s 0) byte same);
   only_slots = λ s set. below 14 found s all.within set;
   only_byte = λ s set.
-    eqb-true (get_or fps s 0) byte (is_true _ (sym (all.compared s (below 14 found s all.within set)) ∙ set));
+      eqb-true (get_or fps s 0) byte (is_true _ (sym (all.compared s (below 14 found s all.within set)) ∙ set));
 }
 
 -- ---- the plain loop, slot by slot
@@ -66,10 +66,10 @@ one_bit fps byte a b s of_a of_b set = of_b.set s (of_a.only_slots s set) (of_a.
 pub scan_is_determined : ScanIsDetermined
 scan_is_determined fps byte a b of_a of_b =
     same_from_bits a b (λ s.
-      elim (cases_lt (bit_at a s) 1) [
-        | inl clear ↦ elim (cases_lt (bit_at b s) 1) [
-            | inl both ↦ omega arith
-            | inr set ↦ omega (arith, bit_at-lt b s, one_bit fps byte b a s of_b of_a (omega (arith, bit_at-lt b s)))
-          ]
-        | inr set ↦ omega (arith, bit_at-lt a s, one_bit fps byte a b s of_a of_b (omega (arith, bit_at-lt a s)))
-      ])
+    elim (cases_lt (bit_at a s) 1) [
+      | inl clear ↦ elim (cases_lt (bit_at b s) 1) [
+        | inl both ↦ omega arith
+        | inr set ↦ omega (arith, bit_at-lt b s, one_bit fps byte b a s of_b of_a (omega (arith, bit_at-lt b s)))
+      ]
+      | inr set ↦ omega (arith, bit_at-lt a s, one_bit fps byte a b s of_a of_b (omega (arith, bit_at-lt a s)))
+    ])

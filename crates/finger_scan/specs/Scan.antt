@@ -1,5 +1,5 @@
 -- What a scan of a bucket's fingerprints for a byte finds, as a number whose bit s is of record slot s.
-use Rattle.std.specs.Prelude.{◌≡◌, ℕ, ◌<◌, List, length, slice_index}
+use Rattle.std.specs.Prelude.{◌≡◌, ℕ, ◌<◌, List, slice_index}
 use Rattle.std.specs.Int.{bit_at}
 
 -- bit s is set exactly where s is a slot, of 14, whose fingerprint is the byte
