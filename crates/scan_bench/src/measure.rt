@@ -3,6 +3,7 @@
 use finger_scan::{scan, scan_plain};
 use std::alloc::{AllocError, Allocator};
 use std::io::{self, Print};
+use std::num::nearest_usize_to_f64;
 use std::time::{Clock, Duration, Instant};
 
 /// The fingerprints of a bucket.
@@ -100,7 +101,7 @@ pub(crate) fn print_times(
 ) -> io::Result<()> {
     let (lanes, lanes_sum) = time_lanes(rt, buckets, rounds)?;
     let (plain, plain_sum) = time_plain(rt, buckets, rounds)?;
-    let scans = f64::from(rounds) * buckets.len() as f64;
+    let scans = f64::from(rounds) * nearest_usize_to_f64(buckets.len());
     let lanes = lanes.as_secs_f64() * 1e9 / scans;
     let plain = plain.as_secs_f64() * 1e9 / scans;
     println!(rt; "{rounds} rounds of {} buckets", buckets.len())?;
