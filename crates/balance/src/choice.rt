@@ -21,9 +21,12 @@ pub enum Choice {
 
 /// The bucket with fewer records: `home` where both have as many, and neither where both are full.
 pub fn choose(home: &Meta, probe: &Meta) -> Choice
-    ensures home { (result ≡ Choice.Home) ↔ ((count_ones home.now.alloc < 14) × (count_ones home.now.alloc ≤ count_ones probe.now.alloc)) }
-    ensures probe { (result ≡ Choice.Probe) ↔ (count_ones probe.now.alloc < count_ones home.now.alloc) }
-    ensures neither { (result ≡ Choice.Neither) ↔ (IsFull home.now.alloc × IsFull probe.now.alloc) }
+    ensures home { (result ≡ Choice.Home)
+        ↔ ((count_ones home.now.alloc < 14) × (count_ones home.now.alloc ≤ count_ones probe.now.alloc)) }
+    ensures probe { (result ≡ Choice.Probe)
+        ↔ (count_ones probe.now.alloc < count_ones home.now.alloc) }
+    ensures neither { (result ≡ Choice.Neither)
+        ↔ (IsFull home.now.alloc × IsFull probe.now.alloc) }
 {
     let in_home = home.filled();
     let in_probe = probe.filled();
