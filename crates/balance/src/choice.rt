@@ -1,0 +1,40 @@
+//! The bucket that takes a new record.
+
+ghost use Rattle.std.specs.Prelude.{◌≡◌, ◌<◌, ◌≤◌, ◌↔◌, count_ones};
+ghost use Rattle.bucket_meta.specs.Slots.{IsFull};
+
+use bucket_meta::Meta;
+
+/// How many record slots a bucket has.
+const SLOTS: u8 = 14;
+
+/// The bucket that an insert goes to.
+#[derive(Clone, Copy, Debug, PartialEq, Eq)]
+pub enum Choice {
+    /// The home bucket, which has a free record slot.
+    Home,
+    /// The probing bucket, which has a free record slot.
+    Probe,
+    /// Both buckets are full.
+    Neither,
+}
+
+/// The bucket with fewer records: `home` where both have as many, and neither where both are full.
+pub fn choose(home: &Meta, probe: &Meta) -> Choice
+    ensures home { (result ≡ Choice.Home)
+        ↔ ((count_ones home.now.alloc < 14) × (count_ones home.now.alloc ≤ count_ones probe.now.alloc)) }
+    ensures probe { (result ≡ Choice.Probe)
+        ↔ (count_ones probe.now.alloc < count_ones home.now.alloc) }
+    ensures neither { (result ≡ Choice.Neither)
+        ↔ (IsFull home.now.alloc × IsFull probe.now.alloc) }
+{
+    let in_home = home.filled();
+    let in_probe = probe.filled();
+    if in_probe < in_home {
+        Choice::Probe
+    } else if in_home < SLOTS {
+        Choice::Home
+    } else {
+        Choice::Neither
+    }
+}

@@ -1,0 +1,31 @@
+-- The set has the slots with a record that are no member's.
+use Rattle.std.proofs.Common.{inl, inr}
+use Rattle.std.proofs.lemmas.Option.{IfSome_then}
+use Rattle.displace.proofs.Sets.{in_first, not_in_first, outside_first}
+use Rattle.displace.proofs.victim.forward.Goals as goal
+
+pub returns-clause-allocated : goal.returns-clause-allocated
+returns-clause-allocated c =
+    let probe = c.args.probe.now in
+    IfSome_then c.lowest.result c.lowest.ensures.inside (λ slot inside. (in_first probe.alloc probe.member slot probe.alloc_fits probe.member_fits inside).0)
+
+pub returns-clause-own : goal.returns-clause-own
+returns-clause-own c =
+    let probe = c.args.probe.now in
+    IfSome_then c.lowest.result c.lowest.ensures.inside (λ slot inside. (in_first probe.alloc probe.member slot probe.alloc_fits probe.member_fits inside).1)
+
+pub returns-clause-lowest : goal.returns-clause-lowest
+returns-clause-lowest c =
+    let probe = c.args.probe.now in
+    IfSome_then c.lowest.result c.lowest.ensures.lowest
+    (λ slot none s below. not_in_first probe.alloc probe.member s probe.alloc_fits probe.member_fits (none s below))
+
+pub returns-clause-none : goal.returns-clause-none
+returns-clause-none c =
+    let probe = c.args.probe.now in (
+      λ e. inr (λ s low. not_in_first probe.alloc probe.member s probe.alloc_fits probe.member_fits (c.lowest.ensures.none.0 e s low)),
+      λ why. elim why [
+        | inl full ↦ absurd (c.if-filled-eq-SLOTS.false (c.filled.ensures.full.1 full))
+        | inr only ↦ c.lowest.ensures.none.1 (λ s low. outside_first probe.alloc probe.member s probe.alloc_fits probe.member_fits (only s low))
+      ],
+    )

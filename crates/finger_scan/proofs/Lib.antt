@@ -1,0 +1,2 @@
+pub mod ScanBits
+pub mod Lanes
