@@ -1,10 +1,12 @@
 -- A place that is filled or freed adds a note to those of a home, or takes one away.
-use Rattle.std.proofs.Common.{◌≡◌, ◌≢◌, ℕ, ◌+◌, ◌<◌, ◌≤◌, ◌==◌, ◌&&◌, eqb, true, List, [], ◌∷◌, ◌++◌, length, ap, sym, ◌∙◌, refl, inl, inr, arith, eq-eqb}
+use Rattle.std.proofs.Common.{◌≡◌, ◌≢◌, ℕ, ◌+◌, ◌<◌, ◌≤◌, ◌==◌, ◌&&◌, eqb, true, List, [], ◌∷◌, ◌++◌, length, ap, sym, ◌∙◌, refl, inl, inr, arith, eq-eqb, Option, Some, None, MatchOption}
+use Rattle.std.proofs.Math.Nat.{eq-zero-or-pos}
+use Rattle.std.proofs.lemmas.Bool.{cases_lt}
 use Rattle.std.proofs.lemmas.Bool.Decides.{eqb_tells}
 use Rattle.bucket_meta.specs.declared.metadata.Meta.{Meta}
 use Rattle.bucket_meta.specs.Notes.{Note, how_often}
 use Rattle.stash.specs.Exact.{notes_at, notes_of, IsExactFor, IsNotedOrCounted, IsNamed}
-use Rattle.stash.specs.Places.{Place, place_at, note_place, freed_place, IsUnused, IsNoteAt, PlaceBecomes, HoldsNowhere}
+use Rattle.stash.specs.Places.{Place, place_at, note_place, freed_place, IsUnused, IsNoteAt, PlaceBecomes, IsLowest, HoldsNowhere}
 use Rattle.stash.proofs.Counts.{IsSum, how_often-is_sum, how_often-append, no_piece, piece_at_most}
 use Rattle.stash.proofs.ExactNotes.{IsOneMore, one_more_by_sums, same_or_other, each_is_named}
 use Rattle.stash.proofs.Pieces.{piece, piece_of_unused, this_side_changes}
@@ -84,4 +86,31 @@ held meta side k note here within =
 -- ---- exact data has a note or a count for each record
 
 pub of_exact : (home probe : Meta) (note : Note) (stashed : List Note) → IsExactFor home probe stashed → 0 < how_often note stashed → IsNotedOrCounted home probe note
-of_exact home probe note stashed exact some = ?
+of_exact home probe note stashed exact some =
+    elim (eq-zero-or-pos home.ocount) [
+      | inr counted ↦ omega (arith, counted)
+      | inl none ↦ omega (arith, each_is_named (notes_of home probe) stashed home.ocount note exact none some)
+    ]
+
+-- where neither side has the note, the home has none
+pub not_of_home : (home probe : Meta) (note : Note) → HoldsNowhere (IsNoteAt home 0 note) → HoldsNowhere (IsNoteAt probe 1 note) → how_often note (notes_of home probe) ≡ 0
+not_of_home home probe note in_home in_probe =
+    omega (arith, how_often-append note (notes_at home 0) (notes_at probe 1), not_held home 0 note in_home, not_held probe 1 note in_probe)
+
+-- ---- the lowest place is one
+
+pub one_lowest : (P : ℕ → Type 0) (a b : ℕ) → IsLowest P a → IsLowest P b → a ≡ b
+one_lowest P a b first second =
+    elim (cases_lt a b) [
+      | inl less ↦ absurd (second.below a less first.here)
+      | inr most ↦
+        elim (cases_lt b a) [
+          | inl less ↦ absurd (first.below b less second.here)
+          | inr least ↦ omega arith
+        ]
+    ]
+
+-- what is said of a result that is no `Some`
+pub none_holds : (found : Option ℕ) (P : Type 0) (Q : ℕ → Type 0) → ((x : ℕ) → found ≡ Some x → ⊥) → MatchOption found P Q → P
+none_holds None P Q never holds = holds
+none_holds (Some x) P Q never holds = absurd (never x refl)

@@ -3,3 +3,4 @@ pub mod Counts
 pub mod Pieces
 pub mod ExactNotes
 pub mod Homes
+pub mod Visits

@@ -103,6 +103,14 @@ fn is_named(home: &Meta, probe: &Meta, finger: u8, index: u8) -> bool
     has_note(home, OF_HOME, finger, index) || has_note(probe, OF_PROBE, finger, index)
 }
 
+/// 1 where a note of the home names this fingerprint and stash bucket `index`, else 0.
+fn named_bit(home: &Meta, probe: &Meta, finger: u8, index: u8) -> u8
+    ensures is_bit { result < 2 }
+    ensures named { (result ≡ 1) ↔ IsNamed home.now probe.now (finger, index) }
+{
+    u8::from(is_named(home, probe, finger, index))
+}
+
 /// The stash buckets in which a record with this fingerprint may stand, as a set: bit `k` is of stash bucket `k`.
 ///
 /// These are both where the home's count of records without a note is not 0, and else those that a note of the
@@ -118,7 +126,7 @@ pub fn must_visit(home: &Meta, probe: &Meta, finger: u8) -> u8
     if home.ocount > 0 {
         return BOTH;
     }
-    let first = u8::from(is_named(home, probe, finger, 0));
-    let second = u8::from(is_named(home, probe, finger, 1));
+    let first = named_bit(home, probe, finger, 0);
+    let second = named_bit(home, probe, finger, 1);
     first + 2 * second
 }
