@@ -1,5 +1,5 @@
 -- The overflow places of a bucket, and what a change of one of them leaves as it was.
-use Rattle.std.specs.Prelude.{◌≡◌, ◌≢◌, ℕ, ◌<◌, slice_index}
+use Rattle.std.specs.Prelude.{◌≡◌, ◌≢◌, ℕ, ◌<◌, [], ◌∷◌, slice_index}
 use Rattle.bucket_meta.specs.declared.metadata.Meta.{Meta}
 use Rattle.bucket_meta.specs.Bucket.{bit}
 use Rattle.bucket_meta.specs.Notes.{Note}
@@ -60,3 +60,11 @@ pub record CountBecomes (old new : Meta) (count : ℕ) : Type 0 where
   pub ocount : new.ocount ≡ count
   pub places : (i : ℕ) → place_at new i ≡ place_at old i
   pub slots : SameSlots old new
+
+-- a bucket that says nothing of the stash
+pub record IsBare (meta : Meta) : Type 0 where
+  pub used : meta.used ≡ 0
+  pub omember : meta.omember ≡ 0
+  pub oindex : meta.oindex ≡ 0
+  pub ocount : meta.ocount ≡ 0
+  pub ofps : meta.ofps ≡ 0 ∷ 0 ∷ 0 ∷ 0 ∷ []

@@ -15,11 +15,11 @@ probing_of home = (home + 1) % 64
 
 -- the records of one home
 abbrev pub of_home : List Stashed → ℕ → List Note
-of_home records home = map (λ record_. (record_.1, record_.2)) (filter (λ record_. record_.0 == home) records)
+of_home records home = map (λ entry. (entry.1, entry.2)) (filter (λ entry. entry.0 == home) records)
 
 -- a record of one of the 64 homes that stands in one of the stash buckets
 abbrev pub IsStashed : Stashed → Type 0
-IsStashed record_ = (record_.0 < 64) × (record_.2 < stash_buckets)
+IsStashed entry = (entry.0 < 64) × (entry.2 < stash_buckets)
 
 -- bucket b of the 64, where d stands for what no list of 64 lacks
 abbrev pub bucket : List Meta → ℕ → Meta → Meta

@@ -6,10 +6,10 @@
 
 mod notes;
 mod places;
-// mod segment;
+mod segment;
 
 pub use notes::{must_visit, note, unnote};
-// pub use segment::rebuild;
+pub use segment::rebuild;
 
 
 
