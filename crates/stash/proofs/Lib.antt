@@ -4,3 +4,4 @@ pub mod Pieces
 pub mod ExactNotes
 pub mod Homes
 pub mod Visits
+pub mod Buckets
