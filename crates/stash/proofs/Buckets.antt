@@ -51,7 +51,7 @@ pub of_home_at_most : (records : List Stashed) (b : ℕ) → length (of_home rec
 of_home_at_most [] b = omega arith
 of_home_at_most (entry ∷ records) b =
     let parts : length (of_home (entry ∷ records) b) ≡ length (of_home (entry ∷ []) b) + length (of_home records b) =
-      ap length (of_home-append (entry ∷ []) records b) ∙ length-append (of_home (entry ∷ []) b) (of_home records b) in
+    ap length (of_home-append (entry ∷ []) records b) ∙ length-append (of_home (entry ∷ []) b) (of_home records b) in
     omega (arith, parts, one_at_most entry b, of_home_at_most records b)
 
 -- ---- two buckets are changed
@@ -66,19 +66,19 @@ changed_two R metas home next own probe b d long home_in next_in apart at_home a
     let P : ℕ → Type 0 = λ i. get_or (set (set metas home own) next probe) i d ≡ get_or (set (set metas home own) next probe) b d in
     elim (cases_eq b next) [
       | inl is_next ↦
-        let inside : next < length (set metas home own) = omega (arith, length-set metas home own) in
-        let e : get_or (set (set metas home own) next probe) next d ≡ probe = get_or-set_same (set metas home own) next probe d inside in
-        subst Q (sym (ap (λ i. get_or (set (set metas home own) next probe) i d) is_next ∙ e)) (at_next is_next)
+          let inside : next < length (set metas home own) = omega (arith, length-set metas home own) in
+          let e : get_or (set (set metas home own) next probe) next d ≡ probe = get_or-set_same (set metas home own) next probe d inside in
+          subst Q (sym (ap (λ i. get_or (set (set metas home own) next probe) i d) is_next ∙ e)) (at_next is_next)
       | inr not_next ↦
-        let after : get_or (set (set metas home own) next probe) b d ≡ get_or (set metas home own) b d = get_or-set_other (set metas home own) next b probe d not_next in
-        elim (cases_eq b home) [
-          | inl is_home ↦
-            let inside : home < length metas = omega arith in
-            let e : get_or (set metas home own) home d ≡ own = get_or-set_same metas home own d inside in
-            subst Q (sym (after ∙ ap (λ i. get_or (set metas home own) i d) is_home ∙ e)) (at_home is_home)
-          | inr not_home ↦
-            subst Q (sym (after ∙ get_or-set_other metas home b own d not_home)) (elsewhere not_home not_next)
-        ]
+          let after : get_or (set (set metas home own) next probe) b d ≡ get_or (set metas home own) b d = get_or-set_other (set metas home own) next b probe d not_next in
+          elim (cases_eq b home) [
+            | inl is_home ↦
+                let inside : home < length metas = omega arith in
+                let e : get_or (set metas home own) home d ≡ own = get_or-set_same metas home own d inside in
+                subst Q (sym (after ∙ ap (λ i. get_or (set metas home own) i d) is_home ∙ e)) (at_home is_home)
+            | inr not_home ↦
+                subst Q (sym (after ∙ get_or-set_other metas home b own d not_home)) (elsewhere not_home not_next)
+          ]
     ]
 
 -- the data of a home whose notes, count and records are as they were is exact as it was
@@ -118,12 +118,12 @@ noted_own metas home next own probe own2 probe2 finger index long home_in next_i
     let IsOwn : Meta → Meta → Type 0 = λ old new. new ≡ own2 in
     let IsProbe : Meta → Meta → Type 0 = λ old new. new ≡ probe2 in
     let own_now : bucket later home d ≡ own2 =
-      changed_two IsOwn metas home next own2 probe2 home d long home_in next_in apart (λ e. refl) (λ e. absurd (apart e)) (λ e f. absurd (e refl)) in
+    changed_two IsOwn metas home next own2 probe2 home d long home_in next_in apart (λ e. refl) (λ e. absurd (apart e)) (λ e f. absurd (e refl)) in
     let probe_now : bucket later next d ≡ probe2 =
-      changed_two IsProbe metas home next own2 probe2 next d long home_in next_in apart (λ e. absurd (apart (sym e))) (λ e. refl) (λ e f. absurd (f refl)) in
+    changed_two IsProbe metas home next own2 probe2 next d long home_in next_in apart (λ e. absurd (apart (sym e))) (λ e. refl) (λ e f. absurd (f refl)) in
     let before : IsExactFor own probe held =
-      exact_along (bucket metas home d) own (bucket metas next d) probe held held (ap (λ m. notes_at m 0) (sym (is_own d))) (ap (λ m. notes_at m 1) (sym (is_probe d)))
-      (ap (λ m. m.ocount) (sym (is_own d))) refl exact in
+    exact_along (bucket metas home d) own (bucket metas next d) probe held held (ap (λ m. notes_at m 0) (sym (is_own d))) (ap (λ m. notes_at m 1) (sym (is_probe d)))
+    (ap (λ m. m.ocount) (sym (is_own d))) refl exact in
     let after : IsExactFor own2 probe2 (held ++ note ∷ []) = exact_moves (notes_of own2 probe2) own2.ocount note held (noted.exact held before) in
     exact_along own2 (bucket later home d) probe2 (bucket later next d) (held ++ note ∷ []) (of_home (records ++ (home, finger, index) ∷ []) home)
     (ap (λ m. notes_at m 0) own_now) (ap (λ m. notes_at m 1) probe_now) (ap (λ m. m.ocount) own_now) (of_home_own records home finger index) after
@@ -136,17 +136,17 @@ noted_other : (metas : List Meta) (home next : ℕ) (own probe own2 probe2 : Met
 noted_other metas home next own probe own2 probe2 finger index long home_in next_in apart is_own is_probe noted records b q d not_home not_next exact =
     let later = set (set metas home own2) next probe2 in
     let first : SameOwn (bucket metas b d) (bucket later b d) =
-      changed_two SameOwn metas home next own2 probe2 b d long home_in next_in apart (λ e. absurd (not_home e))
-      (λ e.
-        let was : bucket metas b d ≡ probe = ap (λ i. bucket metas i d) e ∙ is_probe d in
-        record { own = noted.home_after ∙ sym (ap (λ m. notes_at m 0) was); count = noted.count_after ∙ sym (ap (λ m. m.ocount) was) })
-      (λ e f. record { own = refl; count = refl }) in
+    changed_two SameOwn metas home next own2 probe2 b d long home_in next_in apart (λ e. absurd (not_home e))
+    (λ e.
+    let was : bucket metas b d ≡ probe = ap (λ i. bucket metas i d) e ∙ is_probe d in
+    record { own = noted.home_after ∙ sym (ap (λ m. notes_at m 0) was); count = noted.count_after ∙ sym (ap (λ m. m.ocount) was) })
+    (λ e f. record { own = refl; count = refl }) in
     let second : SameOther (bucket metas q d) (bucket later q d) =
-      changed_two SameOther metas home next own2 probe2 q d long home_in next_in apart
-      (λ e.
-        let was : bucket metas q d ≡ own = ap (λ i. bucket metas i d) e ∙ is_own d in
-        noted.home_before ∙ sym (ap (λ m. notes_at m 1) was))
-      (λ e. absurd (not_next e)) (λ e f. refl) in
+    changed_two SameOther metas home next own2 probe2 q d long home_in next_in apart
+    (λ e.
+    let was : bucket metas q d ≡ own = ap (λ i. bucket metas i d) e ∙ is_own d in
+    noted.home_before ∙ sym (ap (λ m. notes_at m 1) was))
+    (λ e. absurd (not_next e)) (λ e f. refl) in
     exact_along (bucket metas b d) (bucket later b d) (bucket metas q d) (bucket later q d) (of_home records b) (of_home (records ++ (home, finger, index) ∷ []) b)
     first.own second first.count (of_home_other records home finger index b (λ e. not_home (sym e))) exact
 
@@ -168,11 +168,11 @@ noted_in metas home own probe own2 probe2 finger index long home_in is_own is_pr
     let IsExactAt : ℕ → Type 0 = λ i. IsExactFor (bucket later i d) (bucket later (probing_of i) d) (of_home (records ++ (home, finger, index) ∷ []) i) in
     elim (cases_eq b home) [
       | inl is_home ↦
-        subst IsExactAt (sym is_home) (noted_own metas home (probing_of home) own probe own2 probe2 finger index long home_in (next_within home) (next_apart home home_in)
-        is_own is_probe noted records d (exact home d home_in))
+          subst IsExactAt (sym is_home) (noted_own metas home (probing_of home) own probe own2 probe2 finger index long home_in (next_within home) (next_apart home home_in)
+          is_own is_probe noted records d (exact home d home_in))
       | inr not_home ↦
-        noted_other metas home (probing_of home) own probe own2 probe2 finger index long home_in (next_within home) (next_apart home home_in)
-        is_own is_probe noted records b (probing_of b) d not_home (next_one_to_one b home within home_in not_home) (exact b d within)
+          noted_other metas home (probing_of home) own probe own2 probe2 finger index long home_in (next_within home) (next_apart home home_in)
+          is_own is_probe noted records b (probing_of b) d not_home (next_one_to_one b home within home_in not_home) (exact b d within)
     ]
 
 -- a home has no more records without a note than the segment has records in the stash
@@ -192,6 +192,6 @@ exact_bare metas bare b d within =
     let home = bucket metas b d in
     let probe = bucket metas (probing_of b) d in
     let none : notes_of home probe ≡ [] =
-      ap (λ front. front ++ notes_at probe 1) (bare_notes home 0 (bare b d within)) ∙ bare_notes probe 1 (bare (probing_of b) d (next_within b)) in
+    ap (λ front. front ++ notes_at probe 1) (bare_notes home 0 (bare b d within)) ∙ bare_notes probe 1 (bare (probing_of b) d (next_within b)) in
     let P : List Note → Type 0 = λ notes. AreExact notes home.ocount [] in
     subst P (sym none) (record { names_different = λ note. omega arith; counts_others = omega (arith, (bare b d within).ocount) })

@@ -41,15 +41,15 @@ changed_piece f is p q k (suc n) within same =
     let of_p : f (flat_map p (numbers_below (suc n))) ≡ f (flat_map p (numbers_below n)) + f (p n) = ap f (pieces_more p n) ∙ is.both _ _ in
     elim (cases_lt k n) [
       | inl low ↦
-        let before : f (flat_map q (numbers_below n)) + f (p k) ≡ f (flat_map p (numbers_below n)) + f (q k) = changed_piece f is p q k n low same in
-        let last : f (q n) ≡ f (p n) = ap f (same n (omega arith)) in
-        omega (arith, of_q, of_p, before, last)
+          let before : f (flat_map q (numbers_below n)) + f (p k) ≡ f (flat_map p (numbers_below n)) + f (q k) = changed_piece f is p q k n low same in
+          let last : f (q n) ≡ f (p n) = ap f (same n (omega arith)) in
+          omega (arith, of_q, of_p, before, last)
       | inr high ↦
-        let is_last : k ≡ n = omega arith in
-        let before : f (flat_map q (numbers_below n)) ≡ f (flat_map p (numbers_below n)) = ap f (same_pieces p q n (λ i below. same i (omega arith))) in
-        let here_p : f (p k) ≡ f (p n) = ap (λ i. f (p i)) is_last in
-        let here_q : f (q k) ≡ f (q n) = ap (λ i. f (q i)) is_last in
-        omega (arith, of_q, of_p, before, here_p, here_q)
+          let is_last : k ≡ n = omega arith in
+          let before : f (flat_map q (numbers_below n)) ≡ f (flat_map p (numbers_below n)) = ap f (same_pieces p q n (λ i below. same i (omega arith))) in
+          let here_p : f (p k) ≡ f (p n) = ap (λ i. f (p i)) is_last in
+          let here_q : f (q k) ≡ f (q n) = ap (λ i. f (q i)) is_last in
+          omega (arith, of_q, of_p, before, here_p, here_q)
     ]
 
 -- what no piece gives, the list does not
@@ -67,7 +67,7 @@ piece_at_most f is p k (suc n) within =
     elim (cases_lt k n) [
       | inl low ↦ omega (arith, all, piece_at_most f is p k n low)
       | inr high ↦
-        let is_last : k ≡ n = omega arith in
-        let here : f (p k) ≡ f (p n) = ap (λ i. f (p i)) is_last in
-        omega (arith, all, here)
+          let is_last : k ≡ n = omega arith in
+          let here : f (p k) ≡ f (p n) = ap (λ i. f (p i)) is_last in
+          omega (arith, all, here)
     ]

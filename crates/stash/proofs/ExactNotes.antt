@@ -26,10 +26,10 @@ same_or_other a b =
     elim (eqb_tells b.0 a.0) [
       | inr fingers ↦ inr (λ e. fingers.1 (ap (λ n. n.0) (sym e)), rw (fingers.0) refl)
       | inl fingers ↦
-        elim (eqb_tells b.1 a.1) [
-          | inr indexes ↦ inr (λ e. indexes.1 (ap (λ n. n.1) (sym e)), rw (fingers.0, indexes.0) refl)
-          | inl indexes ↦ inl (same_parts a.0 a.1 b.0 b.1 fingers.1 indexes.1, rw (fingers.0, indexes.0) refl)
-        ]
+          elim (eqb_tells b.1 a.1) [
+            | inr indexes ↦ inr (λ e. indexes.1 (ap (λ n. n.1) (sym e)), rw (fingers.0, indexes.0) refl)
+            | inl indexes ↦ inl (same_parts a.0 a.1 b.0 b.1 fingers.1 indexes.1, rw (fingers.0, indexes.0) refl)
+          ]
     ]
 
 pub often_head : (other note : Note) (notes : List Note) → how_often other (note ∷ notes) ≡ how_often other (note ∷ []) + how_often other notes
@@ -40,20 +40,24 @@ pub taken : (note : Note) (notes : List Note) → 0 < how_often note notes → (
 taken note [] some = absurd (omega arith)
 taken note (first ∷ notes) some =
     elim (same_or_other note first) [
-      | inl same ↦
-        (notes, record {
+      | inl same ↦ (
+        notes,
+        record {
           often = λ other.
-            let by_first : how_often other (first ∷ []) ≡ how_often other (note ∷ []) = ap (λ n. how_often other (n ∷ [])) (sym same.0) in
-            omega (arith, often_head other first notes, by_first);
+              let by_first : how_often other (first ∷ []) ≡ how_often other (note ∷ []) = ap (λ n. how_often other (n ∷ [])) (sym same.0) in
+              omega (arith, often_head other first notes, by_first);
           longer = omega arith;
-        })
+        },
+      )
       | inr differs ↦
-        let within : 0 < how_often note notes = omega (arith, often_head note first notes, differs.1) in
-        let inner = taken note notes within in
-        (first ∷ inner.0, record {
-          often = λ other. omega (arith, often_head other first notes, often_head other first inner.0, inner.1.often other);
-          longer = omega (arith, inner.1.longer);
-        })
+          let within : 0 < how_often note notes = omega (arith, often_head note first notes, differs.1) in
+          let inner = taken note notes within in (
+            first ∷ inner.0,
+            record {
+              often = λ other. omega (arith, often_head other first notes, often_head other first inner.0, inner.1.often other);
+              longer = omega (arith, inner.1.longer);
+            },
+          )
     ]
 
 -- a list that has no note more often than another is not longer
@@ -71,15 +75,15 @@ each_is_named notes stashed count note exact none some =
     elim (eq-zero-or-pos (how_often note notes)) [
       | inr named ↦ named
       | inl unnamed ↦
-        let rest = taken note stashed some in
-        let less : (other : Note) → how_often other notes ≤ how_often other rest.0 =
+          let rest = taken note stashed some in
+          let less : (other : Note) → how_often other notes ≤ how_often other rest.0 =
           (λ other. elim (same_or_other other note) [
             | inl same ↦
-              let no_other : how_often other notes ≡ 0 = ap (λ n. how_often n notes) same.0 ∙ unnamed in
-              omega (arith, no_other)
+                let no_other : how_often other notes ≡ 0 = ap (λ n. how_often n notes) same.0 ∙ unnamed in
+                omega (arith, no_other)
             | inr differs ↦ omega (arith, exact.names_different other, rest.1.often other, differs.1)
           ]) in
-        absurd (omega (arith, not_longer notes rest.0 less, rest.1.longer, exact.counts_others))
+          absurd (omega (arith, not_longer notes rest.0 less, rest.1.longer, exact.counts_others))
     ]
 
 -- ---- a record comes to the stash
@@ -115,8 +119,8 @@ exact_without_count notes count note rest unnamed some exact =
     record {
       names_different = λ other. elim (same_or_other other note) [
         | inl same ↦
-          let no_other : how_often other notes ≡ 0 = ap (λ n. how_often n notes) same.0 ∙ unnamed in
-          omega (arith, no_other)
+            let no_other : how_often other notes ≡ 0 = ap (λ n. how_often n notes) same.0 ∙ unnamed in
+            omega (arith, no_other)
         | inr differs ↦ omega (arith, exact.names_different other, often_head other note rest, differs.1)
       ];
       counts_others = omega (arith, exact.counts_others);

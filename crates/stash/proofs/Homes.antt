@@ -57,15 +57,15 @@ piece_lacks side place note differs =
     elim (eqb_tells place.used 1) [
       | inr unused ↦ rw (unused.0) refl
       | inl used ↦
-        elim (eqb_tells place.side side) [
-          | inr aside ↦ rw (used.0, aside.0) refl
-          | inl here ↦
-            elim (same_or_other note (place.finger, place.index)) [
-              | inl same ↦ absurd (differs (same_place place.used place.side place.index place.finger 1 side note.1 note.0 used.1 here.1
-                (sym (ap (λ n. n.1) same.0)) (sym (ap (λ n. n.0) same.0))))
-              | inr other ↦ rw (used.0, here.0) other.1
-            ]
-        ]
+          elim (eqb_tells place.side side) [
+            | inr aside ↦ rw (used.0, aside.0) refl
+            | inl here ↦
+                elim (same_or_other note (place.finger, place.index)) [
+                  | inl same ↦ absurd (differs (same_place place.used place.side place.index place.finger 1 side note.1 note.0 used.1 here.1
+                      (sym (ap (λ n. n.1) same.0)) (sym (ap (λ n. n.0) same.0))))
+                  | inr other ↦ rw (used.0, here.0) other.1
+                ]
+          ]
     ]
 
 pub not_held : (meta : Meta) (side : ℕ) (note : Note) → HoldsNowhere (IsNoteAt meta side note) → how_often note (notes_at meta side) ≡ 0
@@ -104,10 +104,10 @@ one_lowest P a b first second =
     elim (cases_lt a b) [
       | inl less ↦ absurd (second.below a less first.here)
       | inr most ↦
-        elim (cases_lt b a) [
-          | inl less ↦ absurd (first.below b less second.here)
-          | inr least ↦ omega arith
-        ]
+          elim (cases_lt b a) [
+            | inl less ↦ absurd (first.below b less second.here)
+            | inr least ↦ omega arith
+          ]
     ]
 
 -- what is said of a result that is no `Some`

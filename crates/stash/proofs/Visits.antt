@@ -27,7 +27,7 @@ pub named_by_second : (note : Note) (first second : List Note) (x y : Bool) → 
 named_by_second note first second x y lacks by_first by_second =
     let both = how_often-append note first second in
     let not_first : how_often note first ≡ 0 =
-      elim (eq-zero-or-pos (how_often note first)) [ inl none ↦ none | inr some ↦ absurd (cc (lacks, by_first.1 some)) ] in
+    elim (eq-zero-or-pos (how_often note first)) [ inl none ↦ none | inr some ↦ absurd (cc (lacks, by_first.1 some)) ] in
     (λ yes. omega (arith, both, by_second.0 yes), λ some. by_second.1 (omega (arith, both, not_first, some)))
 
 low_of_two : (m n : ℕ) → m < 2 → n < 2 → bit 0 (m + 2 * n) ≡ m

@@ -11,5 +11,5 @@ mod segment;
 pub use notes::{must_visit, note, unnote};
 pub use segment::rebuild;
 
-
-
+#[cfg(test)]
+mod tests;
