@@ -19,14 +19,15 @@ fn full_stash() -> [(u8, u8, u8); 28]
     stashed
 }
 
-/// Buckets of which 0 has the even keys below 28 and 1, as members, the odd ones.
-fn two_full_buckets() -> [Meta; 64] {
-    let mut metas = [Meta::read([0, 0, 0]); 64];
+/// A bucket that has the even keys below 28, and the next one, which has the odd ones as members.
+fn two_full_buckets() -> (Meta, Meta) {
+    let mut home = Meta::read([0, 0, 0]);
+    let mut probe = Meta::read([0, 0, 0]);
     for slot in 0..14u8 {
-        metas[0].place(slot, 2 * slot, false);
-        metas[1].place(slot, 2 * slot + 1, true);
+        home.place(slot, 2 * slot, false);
+        probe.place(slot, 2 * slot + 1, true);
     }
-    metas
+    (home, probe)
 }
 
 /// Notes a record where the home's count has room.
@@ -43,7 +44,10 @@ fn take(rt: &impl Abort, home: &mut Meta, probe: &mut Meta, finger: u8, index: u
 
 #[test]
 fn rebuilds_a_full_stash(rt: HostRuntime) {
-    let mut metas = two_full_buckets();
+    let (home, probe) = two_full_buckets();
+    let mut metas = [Meta::read([0, 0, 0]); 64];
+    metas[0] = home;
+    metas[1] = probe;
     rebuild(&mut metas, &full_stash());
     let first = [
         0x03E3_D400_F000_3FFF,
@@ -77,8 +81,7 @@ fn rebuilds_a_full_stash(rt: HostRuntime) {
 
 #[test]
 fn notes_and_takes_away_one_by_one(rt: HostRuntime) {
-    let metas = two_full_buckets();
-    let (mut home, mut probe) = (metas[0], metas[1]);
+    let (mut home, mut probe) = two_full_buckets();
     for (_, finger, index) in full_stash() {
         add(&rt, &mut home, &mut probe, finger, index);
     }
