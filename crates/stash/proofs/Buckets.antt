@@ -1,18 +1,17 @@
 -- A record that is noted in its home's two buckets leaves the data of the 63 other homes as it was.
-use Rattle.std.proofs.Common.{◌≡◌, ◌≢◌, ℕ, zero, suc, ◌+◌, ◌*◌, ◌%◌, ◌<◌, ◌≤◌, ◌==◌, eqb, Bool, true, false, cond, List, [], ◌∷◌, ◌++◌, length, filter, map, set, get_or, take, ap, sym, subst, ◌∙◌, refl, inl, inr, arith, length-append, length-set, append-nil}
-use Rattle.std.specs.List.{flat_map}
+use Rattle.std.proofs.Common.{◌≡◌, ◌≢◌, ℕ, ◌+◌, ◌<◌, ◌≤◌, ◌==◌, Bool, List, [], ◌∷◌, ◌++◌, length, filter, map, set, get_or, ap, sym, subst, ◌∙◌, refl, inl, inr, arith, length-append, length-set, append-nil}
 use Rattle.std.proofs.lemmas.Bool.{cases_eq}
 use Rattle.std.proofs.lemmas.Bool.Decides.{eqb_tells}
-use Rattle.std.proofs.lemmas.List.{get_or-set_same, get_or-set_other, map-append, length-map}
+use Rattle.std.proofs.lemmas.List.{get_or-set_same, get_or-set_other, map-append}
 use Rattle.std.proofs.lemmas.List.Elements.{filter-append}
 use Rattle.std.proofs.lemmas.Nat.Bits.{bit_at-zero}
 use Rattle.bucket_meta.specs.declared.metadata.Meta.{Meta}
 use Rattle.bucket_meta.specs.Bucket.{bit}
-use Rattle.bucket_meta.specs.Notes.{Note, how_often, numbers_below, AreExact}
+use Rattle.bucket_meta.specs.Notes.{Note, AreExact}
 use Rattle.stash.specs.Exact.{notes_at, notes_of, IsExactFor}
-use Rattle.stash.specs.Places.{place_at, SameSlots, IsBare}
-use Rattle.stash.specs.Segment.{Stashed, of_home, probing_of, bucket, IsExactSegment, SameSlotsInAll}
-use Rattle.stash.proofs.Counts.{same_pieces, how_often-is_sum}
+use Rattle.stash.specs.Places.{place_at, IsBare}
+use Rattle.stash.specs.Segment.{Stashed, of_home, probing_of, bucket, IsExactSegment}
+use Rattle.stash.proofs.Counts.{same_pieces}
 use Rattle.stash.proofs.ExactNotes.{exact_moves}
 use Rattle.stash.proofs.Pieces.{piece, piece_of_unused}
 

@@ -1,13 +1,13 @@
 -- A place that is filled or freed adds a note to those of a home, or takes one away.
-use Rattle.std.proofs.Common.{◌≡◌, ◌≢◌, ℕ, ◌+◌, ◌<◌, ◌≤◌, ◌==◌, ◌&&◌, eqb, true, List, [], ◌∷◌, ◌++◌, length, ap, sym, ◌∙◌, refl, inl, inr, arith, eq-eqb, Option, Some, None, MatchOption}
+use Rattle.std.proofs.Common.{◌≡◌, ◌≢◌, ℕ, ◌+◌, ◌<◌, eqb, true, List, [], ◌∷◌, ap, sym, ◌∙◌, refl, inl, inr, arith, eq-eqb, Option, Some, None, MatchOption}
 use Rattle.std.proofs.Math.Nat.{eq-zero-or-pos}
 use Rattle.std.proofs.lemmas.Bool.{cases_lt}
 use Rattle.std.proofs.lemmas.Bool.Decides.{eqb_tells}
 use Rattle.bucket_meta.specs.declared.metadata.Meta.{Meta}
 use Rattle.bucket_meta.specs.Notes.{Note, how_often}
-use Rattle.stash.specs.Exact.{notes_at, notes_of, IsExactFor, IsNotedOrCounted, IsNamed}
+use Rattle.stash.specs.Exact.{notes_at, notes_of, IsExactFor, IsNotedOrCounted}
 use Rattle.stash.specs.Places.{Place, place_at, note_place, freed_place, IsUnused, IsNoteAt, PlaceBecomes, IsLowest, HoldsNowhere}
-use Rattle.stash.proofs.Counts.{IsSum, how_often-is_sum, how_often-append, no_piece, piece_at_most}
+use Rattle.stash.proofs.Counts.{how_often-is_sum, how_often-append, no_piece, piece_at_most}
 use Rattle.stash.proofs.ExactNotes.{IsOneMore, one_more_by_sums, same_or_other, each_is_named}
 use Rattle.stash.proofs.Pieces.{piece, piece_of_unused, this_side_changes}
 

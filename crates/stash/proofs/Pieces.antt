@@ -1,12 +1,11 @@
 -- The notes of a side are pieces of one place each, and a change of one place changes them by that place's note.
-use Rattle.std.proofs.Common.{◌≡◌, ◌≢◌, ℕ, zero, suc, ◌+◌, ◌≤◌, ◌<◌, ◌==◌, ◌&&◌, List, [], ◌∷◌, ◌++◌, length, ap, sym, subst, ◌∙◌, refl, inl, inr, arith}
+use Rattle.std.proofs.Common.{◌≡◌, ◌≢◌, ℕ, ◌+◌, ◌<◌, ◌==◌, ◌&&◌, List, [], ◌∷◌, ap, sym, subst, ◌∙◌, refl, inl, inr}
 use Rattle.std.specs.Prelude.{if◌then◌else◌}
-use Rattle.std.specs.List.{flat_map}
 use Rattle.std.proofs.lemmas.Bool.{cases_eq}
 use Rattle.bucket_meta.specs.declared.metadata.Meta.{Meta}
-use Rattle.bucket_meta.specs.Notes.{Note, how_often, numbers_below}
-use Rattle.stash.specs.Exact.{notes_at, notes_of}
-use Rattle.stash.specs.Places.{Place, place_at, note_place, freed_place, IsUnused, IsNoteAt, PlaceBecomes, HoldsNowhere}
+use Rattle.bucket_meta.specs.Notes.{Note}
+use Rattle.stash.specs.Exact.{notes_at}
+use Rattle.stash.specs.Places.{Place, place_at, PlaceBecomes}
 use Rattle.stash.proofs.Counts.{IsSum, same_pieces, changed_piece}
 
 -- the note of a place, if it is of this side

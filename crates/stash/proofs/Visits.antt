@@ -1,12 +1,12 @@
 -- The set of stash buckets to visit has those that notes name, and over exact data each that a record stands in.
-use Rattle.std.proofs.Common.{◌≡◌, ℕ, zero, suc, ◌+◌, ◌*◌, ◌<◌, Bool, true, false, cond, IsTrue, ◌↔◌, List, [], ◌∷◌, ◌++◌, length, ap, sym, ◌∙◌, refl, inl, inr, arith, below_more, Option, Some, None, is_some, MatchOption, Contains, rules}
+use Rattle.std.proofs.Common.{◌≡◌, ℕ, zero, suc, ◌+◌, ◌*◌, ◌<◌, Bool, false, IsTrue, ◌↔◌, List, [], ◌∷◌, ◌++◌, length, sym, ◌∙◌, inl, inr, arith, below_more, Option, Some, None, is_some, MatchOption, Contains}
 use borrow.Author.Count.{below_none}
 use Rattle.std.proofs.Math.Nat.{eq-zero-or-pos}
-use Rattle.std.specs.Prelude.{slice_index_or, if◌then◌else◌}
+use Rattle.std.specs.Prelude.{slice_index_or}
 use Rattle.bucket_meta.specs.declared.metadata.Meta.{Meta}
 use Rattle.bucket_meta.specs.Bucket.{bit}
 use Rattle.bucket_meta.specs.Notes.{Note, how_often}
-use Rattle.stash.specs.Exact.{notes_at, notes_of}
+use Rattle.stash.specs.Exact.{notes_at}
 use Rattle.stash.specs.Places.{IsNoteAt, IsLowest, HoldsNowhere}
 use Rattle.stash.proofs.Counts.{how_often-append}
 use Rattle.stash.proofs.ExactNotes.{same_or_other, often_head}

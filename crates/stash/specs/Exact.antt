@@ -1,5 +1,5 @@
 -- Exact overflow data: what a home bucket and its probing bucket say of the records of that home in the stash.
-use Rattle.std.specs.Prelude.{◌≡◌, ℕ, ◌+◌, ◌<◌, List, ◌++◌, slice_index}
+use Rattle.std.specs.Prelude.{ℕ, ◌+◌, ◌<◌, List, ◌++◌, slice_index}
 use Rattle.bucket_meta.specs.declared.metadata.Meta.{Meta}
 use Rattle.bucket_meta.specs.Bucket.{bit}
 use Rattle.bucket_meta.specs.Notes.{Note, how_often, notes_on, AreExact}

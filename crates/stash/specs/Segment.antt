@@ -1,5 +1,5 @@
 -- Exact overflow data of a whole segment, of 64 buckets.
-use Rattle.std.specs.Prelude.{◌≡◌, ℕ, ◌+◌, ◌%◌, ◌<◌, ◌==◌, List, slice_index_or, filter, map}
+use Rattle.std.specs.Prelude.{ℕ, ◌+◌, ◌%◌, ◌<◌, ◌==◌, List, slice_index_or, filter, map}
 use Rattle.bucket_meta.specs.declared.metadata.Meta.{Meta}
 use Rattle.bucket_meta.specs.Notes.{Note}
 use Rattle.stash.specs.Exact.{stash_buckets, IsExactFor}

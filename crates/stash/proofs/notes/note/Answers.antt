@@ -1,5 +1,5 @@
 -- The place that was unused gives no note before and the record's note after; else the count is one more.
-use Rattle.std.proofs.Common.{◌≡◌, ◌∙◌, ap, subst, sym, refl, arith, ℕ, ◌∷◌}
+use Rattle.std.proofs.Common.{subst, sym, refl, ℕ, ◌∷◌}
 use Rattle.bucket_meta.specs.Notes.{AreExact}
 use Rattle.stash.specs.Exact.{notes_of}
 use Rattle.stash.proofs.ExactNotes.{exact_with_note}

@@ -1,5 +1,5 @@
 -- The place that held the note gives it before and none after; else the count is one less.
-use Rattle.std.proofs.Common.{◌≡◌, ◌∙◌, ap, subst, sym, refl, arith, ℕ}
+use Rattle.std.proofs.Common.{ap, subst, sym, refl, arith, ℕ}
 use Rattle.bucket_meta.specs.Notes.{AreExact}
 use Rattle.stash.specs.Exact.{notes_of}
 use Rattle.stash.specs.Places.{PlaceBecomes, IsNoteAt, freed_place}

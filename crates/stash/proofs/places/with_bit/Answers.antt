@@ -1,5 +1,5 @@
 -- The shifted 1 is bit place alone.
-use Rattle.std.proofs.Common.{arith, sym, ◌∙◌}
+use Rattle.std.proofs.Common.{arith}
 use Rattle.stash.proofs.Bits.{set_same, set_other, set_below, clear_same, clear_other}
 use Rattle.stash.proofs.places.with_bit.Goals as goal
 

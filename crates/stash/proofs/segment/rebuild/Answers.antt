@@ -1,9 +1,7 @@
 -- Of the records so far each home has as many at most, so its count stays below 28, and each record is noted in turn.
-use Rattle.std.proofs.Common.{◌≡◌, ℕ, ◌+◌, ◌<◌, List, length, take, get_or, sym, subst, arith, rules}
+use Rattle.std.proofs.Common.{List, take, get_or, sym, subst, arith, rules}
 use Rattle.std.proofs.lemmas.List.{take_more, take_all, length-take-le}
 use Rattle.std.proofs.lemmas.List.Elements.{All-get_or}
-use Rattle.bucket_meta.specs.declared.metadata.Meta.{Meta}
-use Rattle.stash.specs.Places.{SameSlots}
 use Rattle.stash.specs.Segment.{Stashed, IsStashed, IsExactSegment}
 use Rattle.stash.proofs.Buckets.{count_at_most}
 use Rattle.stash.proofs.segment.rebuild.Goals as goal
