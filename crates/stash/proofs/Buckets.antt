@@ -9,6 +9,7 @@ use Rattle.bucket_meta.specs.declared.metadata.Meta.{Meta}
 use Rattle.bucket_meta.specs.Bucket.{bit}
 use Rattle.bucket_meta.specs.Notes.{Note, AreExact}
 use Rattle.stash.specs.Exact.{notes_at, notes_of, IsExactFor}
+use Rattle.stash.specs.Noted.{IsNotedIn, IsNotedInSegment, AreNotedInOrder}
 use Rattle.stash.specs.Places.{place_at, IsBare}
 use Rattle.stash.specs.Segment.{Stashed, of_home, probing_of, bucket, IsExactSegment}
 use Rattle.stash.proofs.Counts.{same_pieces}
@@ -105,6 +106,24 @@ record SameOwn (old new : Meta) : Type 0 where
 abbrev SameOther : Meta → Meta → Type 0
 SameOther old new = notes_at new 1 ≡ notes_at old 1
 
+-- the two changed buckets, and each other one
+home_now : (metas : List Meta) (home next : ℕ) (own probe : Meta) (d : Meta) → length metas ≡ 64 → home < 64 → next < 64 → home ≢ next
+    → bucket (set (set metas home own) next probe) home d ≡ own
+home_now metas home next own probe d long home_in next_in apart =
+    let IsOwn : Meta → Meta → Type 0 = λ old new. new ≡ own in
+    changed_two IsOwn metas home next own probe home d long home_in next_in apart (λ e. refl) (λ e. absurd (apart e)) (λ e f. absurd (e refl))
+
+next_now : (metas : List Meta) (home next : ℕ) (own probe : Meta) (d : Meta) → length metas ≡ 64 → home < 64 → next < 64 → home ≢ next
+    → bucket (set (set metas home own) next probe) next d ≡ probe
+next_now metas home next own probe d long home_in next_in apart =
+    let IsProbe : Meta → Meta → Type 0 = λ old new. new ≡ probe in
+    changed_two IsProbe metas home next own probe next d long home_in next_in apart (λ e. absurd (apart (sym e))) (λ e. refl) (λ e f. absurd (f refl))
+
+other_now : (metas : List Meta) (home next : ℕ) (own probe : Meta) (b : ℕ) (d : Meta) → b ≢ home → b ≢ next
+    → bucket (set (set metas home own) next probe) b d ≡ bucket metas b d
+other_now metas home next own probe b d not_home not_next =
+    get_or-set_other (set metas home own) next b probe d not_next ∙ get_or-set_other metas home b own d not_home
+
 -- the home whose record it is
 noted_own : (metas : List Meta) (home next : ℕ) (own probe own2 probe2 : Meta) (finger index : ℕ) → length metas ≡ 64 → home < 64 → next < 64 → home ≢ next
     → ((d : Meta) → bucket metas home d ≡ own) → ((d : Meta) → bucket metas next d ≡ probe) → IsNoted own probe own2 probe2 (finger, index)
@@ -114,12 +133,8 @@ noted_own metas home next own probe own2 probe2 finger index long home_in next_i
     let note : Note = (finger, index) in
     let held = of_home records home in
     let later = set (set metas home own2) next probe2 in
-    let IsOwn : Meta → Meta → Type 0 = λ old new. new ≡ own2 in
-    let IsProbe : Meta → Meta → Type 0 = λ old new. new ≡ probe2 in
-    let own_now : bucket later home d ≡ own2 =
-    changed_two IsOwn metas home next own2 probe2 home d long home_in next_in apart (λ e. refl) (λ e. absurd (apart e)) (λ e f. absurd (e refl)) in
-    let probe_now : bucket later next d ≡ probe2 =
-    changed_two IsProbe metas home next own2 probe2 next d long home_in next_in apart (λ e. absurd (apart (sym e))) (λ e. refl) (λ e f. absurd (f refl)) in
+    let own_now = home_now metas home next own2 probe2 d long home_in next_in apart in
+    let probe_now = next_now metas home next own2 probe2 d long home_in next_in apart in
     let before : IsExactFor own probe held =
     exact_along (bucket metas home d) own (bucket metas next d) probe held held (ap (λ m. notes_at m 0) (sym (is_own d))) (ap (λ m. notes_at m 1) (sym (is_probe d)))
     (ap (λ m. m.ocount) (sym (is_own d))) refl exact in
@@ -194,3 +209,33 @@ exact_bare metas bare b d within =
     ap (λ front. front ++ notes_at probe 1) (bare_notes home 0 (bare b d within)) ∙ bare_notes probe 1 (bare (probing_of b) d (next_within b)) in
     let P : List Note → Type 0 = λ notes. AreExact notes home.ocount [] in
     subst P (sym none) (record { names_different = λ note. omega arith; counts_others = omega (arith, (bare b d within).ocount) })
+
+-- ---- records noted in turn
+
+noted_along : (own own' probe probe' own2 own2' probe2 probe2' : Meta) (note : Note) → own' ≡ own → probe' ≡ probe → own2' ≡ own2 → probe2' ≡ probe2
+    → IsNotedIn own probe own2 probe2 note → IsNotedIn own' probe' own2' probe2' note
+noted_along own own' probe probe' own2 own2' probe2 probe2' note a b c d noted =
+    let P : Meta → Type 0 = λ m. IsNotedIn m probe own2 probe2 note in
+    let Q : Meta → Type 0 = λ m. IsNotedIn own' m own2 probe2 note in
+    let R : Meta → Type 0 = λ m. IsNotedIn own' probe' m probe2 note in
+    let S : Meta → Type 0 = λ m. IsNotedIn own' probe' own2' m note in
+    subst S (sym d) (subst R (sym c) (subst Q (sym b) (subst P (sym a) noted)))
+
+pub noted_in_segment : (metas : List Meta) (home : ℕ) (own probe own2 probe2 : Meta) (finger index : ℕ) → length metas ≡ 64 → home < 64
+    → ((d : Meta) → bucket metas home d ≡ own) → ((d : Meta) → bucket metas (probing_of home) d ≡ probe) → IsNotedIn own probe own2 probe2 (finger, index)
+    → IsNotedInSegment metas (set (set metas home own2) (probing_of home) probe2) (home, finger, index)
+noted_in_segment metas home own probe own2 probe2 finger index long home_in is_own is_probe noted =
+    record {
+      in_two = λ d. noted_along own _ probe _ own2 _ probe2 _ (finger, index) (is_own d) (is_probe d)
+          (home_now metas home (probing_of home) own2 probe2 d long home_in (next_within home) (next_apart home home_in))
+          (next_now metas home (probing_of home) own2 probe2 d long home_in (next_within home) (next_apart home home_in)) noted;
+      others = λ b d within not_home not_next. other_now metas home (probing_of home) own2 probe2 b d not_home not_next;
+    }
+
+pub one_more_in_order : (records : List Stashed) (entry : Stashed) (old between new : List Meta) → AreNotedInOrder records old between → IsNotedInSegment between new entry
+    → AreNotedInOrder (records ++ entry ∷ []) old new
+one_more_in_order [] entry old between new noted last =
+    let P : List Meta → Type 0 = λ metas. IsNotedInSegment metas new entry in
+    (new, subst P noted last, refl)
+one_more_in_order (first ∷ records) entry old between new noted last =
+    (noted.0, noted.1, one_more_in_order records entry noted.0 between new noted.2 last)

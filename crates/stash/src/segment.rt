@@ -3,6 +3,7 @@
 ghost use Rattle.std.specs.Prelude.{◌≡◌, ℕ, ◌+◌, ◌<◌, ◌≤◌, List, [], ◌∷◌, ◌++◌, length, All};
 ghost use Rattle.bucket_meta.specs.declared.metadata.Meta.{Meta as MetaValue};
 ghost use Rattle.stash.specs.Exact.{stash_buckets, greatest_count};
+ghost use Rattle.stash.specs.Noted.{IsNotedInSegment, IsCleared, IsRebuilt};
 ghost use Rattle.stash.specs.Places.{SameSlots, IsBare};
 ghost use Rattle.stash.specs.Segment.{Stashed, IsStashed, IsExactSegment, SameSlotsInAll, bucket};
 
@@ -26,8 +27,7 @@ fn clear_notes(meta: &mut Meta)
 
 /// Makes all that the buckets say of the stash 0.
 fn clear_all(metas: &mut [Meta; 64])
-    ensures bare { (b : ℕ) (d : MetaValue) → b < 64 → IsBare (bucket metas.new b d) }
-    ensures slots { SameSlotsInAll metas.old metas.new }
+    ensures { IsCleared metas.old metas.new }
 {
     for meta in metas.iter_mut() {
         clear_notes(meta);
@@ -39,6 +39,7 @@ fn note_in(metas: &mut [Meta; 64], home: u8, finger: u8, index: u8)
     requires home { home < 64 }
     requires stash { index < stash_buckets }
     requires room { (d : MetaValue) → (bucket metas.old home d).ocount < greatest_count }
+    ensures noted { IsNotedInSegment metas.old metas.new (home, finger, index) }
     ensures exact { (records : List Stashed) → IsExactSegment metas.old records
         → IsExactSegment metas.new (records ++ (home, finger, index) ∷ []) }
     ensures slots { SameSlotsInAll metas.old metas.new }
@@ -60,6 +61,7 @@ fn note_in(metas: &mut [Meta; 64], home: u8, finger: u8, index: u8)
 pub fn rebuild(metas: &mut [Meta; 64], stashed: &[(u8, u8, u8)])
     requires within { All IsStashed stashed.now }
     requires room { length stashed.now ≤ 28 }
+    ensures rebuilt { IsRebuilt metas.old metas.new stashed.now }
     ensures exact { IsExactSegment metas.new stashed.now }
     ensures slots { SameSlotsInAll metas.old metas.new }
 {

@@ -2,8 +2,9 @@
 use Rattle.std.proofs.Common.{List, take, get_or, sym, subst, arith, rules}
 use Rattle.std.proofs.lemmas.List.{take_more, take_all, length-take-le}
 use Rattle.std.proofs.lemmas.List.Elements.{All-get_or}
+use Rattle.stash.specs.Noted.{AreNotedInOrder}
 use Rattle.stash.specs.Segment.{Stashed, IsStashed, IsExactSegment}
-use Rattle.stash.proofs.Buckets.{count_at_most}
+use Rattle.stash.proofs.Buckets.{count_at_most, one_more_in_order}
 use Rattle.stash.proofs.segment.rebuild.Goals as goal
 
 pub note_in-requires-clause-room : goal.note_in-requires-clause-room
@@ -21,8 +22,12 @@ loop-home-preserved c =
     let so_far = c.loop-home.home-index in
     let none : Stashed = (0, 0, 0) in
     let P : List Stashed → Type 0 = λ records. IsExactSegment c.note_in.new.metas records in
+    let Q : List Stashed → Type 0 = λ records. AreNotedInOrder records c.clear_all.new.metas c.note_in.new.metas in
+    let longer = sym (take_more stashed so_far none c.loop-home-test.true) in
     record {
-      exact = subst P (sym (take_more stashed so_far none c.loop-home-test.true)) (c.note_in.ensures.exact (take so_far stashed) c.loop-home.invariant.exact);
+      order = subst Q longer (one_more_in_order (take so_far stashed) (get_or stashed so_far none) c.clear_all.new.metas c.loop-home.metas c.note_in.new.metas
+          c.loop-home.invariant.order c.note_in.ensures.noted);
+      exact = subst P longer (c.note_in.ensures.exact (take so_far stashed) c.loop-home.invariant.exact);
       slots = search rules;
     }
 
@@ -31,3 +36,9 @@ returns-clause-exact c =
     let stashed = c.args.stashed.now in
     let P : List Stashed → Type 0 = λ records. IsExactSegment c.loop-home.metas records in
     subst P (take_all c.loop-home.home-index stashed c.loop-home-test.false) c.loop-home.invariant.exact
+
+pub returns-clause-rebuilt : goal.returns-clause-rebuilt
+returns-clause-rebuilt c =
+    let stashed = c.args.stashed.now in
+    let Q : List Stashed → Type 0 = λ records. AreNotedInOrder records c.clear_all.new.metas c.loop-home.metas in
+    (c.clear_all.new.metas, c.clear_all.ensures, subst Q (take_all c.loop-home.home-index stashed c.loop-home-test.false) c.loop-home.invariant.order)
