@@ -1,0 +1,22 @@
+-- The trailing ones end at the lowest place whose bit is 0.
+use Rattle.std.proofs.Common.{◌≡◌, ℕ, ◌^◌, ◌<◌, sym, subst, arith}
+use Rattle.std.proofs.lemmas.Nat.Bits.{bit_at-trailing_ones}
+use Rattle.std.specs.Int.{w8, trailing_ones}
+use Rattle.bucket_meta.specs.Bucket.{bit}
+use Rattle.stash.proofs.places.unused_place.Goals as goal
+
+lowest_clear : (used t : ℕ) → used < 2 ^ 4 → t ≡ trailing_ones w8 used → (bit t used ≡ 0) × ((i : ℕ) → i < t → bit i used ≡ 1)
+lowest_clear used t four e =
+    let P : ℕ → Type 0 = λ n. (bit n used ≡ 0) × ((i : ℕ) → i < n → bit i used ≡ 1) in
+    let found = bit_at-trailing_ones w8 used (omega arith) in
+    subst P (sym e) (found.1, found.2)
+
+pub returns-then-place-lt-PLACES : goal.returns-then-place-lt-PLACES
+returns-then-place-lt-PLACES c =
+    let found = lowest_clear c.args.meta.now.used _ c.args.meta.now.used_fits c.trailing_ones-place.ensures in
+    record { within = omega arith; here = found.0; below = λ j less unused. absurd (omega (arith, found.1 j less)) }
+
+pub returns-else-place-lt-PLACES : goal.returns-else-place-lt-PLACES
+returns-else-place-lt-PLACES c i within unused =
+    let found = lowest_clear c.args.meta.now.used _ c.args.meta.now.used_fits c.trailing_ones-place.ensures in
+    absurd (omega (arith, found.1 i (omega arith)))

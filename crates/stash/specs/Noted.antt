@@ -1,0 +1,33 @@
+-- Records that are noted one after the other, each in the two buckets of its home.
+use Rattle.std.specs.Prelude.{◌≡◌, ◌≢◌, ℕ, ◌+◌, ◌<◌, List, [], ◌∷◌}
+use Rattle.bucket_meta.specs.declared.metadata.Meta.{Meta}
+use Rattle.bucket_meta.specs.Notes.{Note}
+use Rattle.stash.specs.Places.{IsUnused, IsLowest, HoldsNowhere, PlaceBecomes, CountBecomes, note_place, IsBare}
+use Rattle.stash.specs.Segment.{Stashed, probing_of, bucket, SameSlotsInAll}
+
+-- a home bucket and its probing bucket before and after a record is noted: the note takes the lowest unused place of
+-- the home bucket, else that of the probing bucket, else the home's count is one more
+pub record IsNotedIn (home probe home_after probe_after : Meta) (note : Note) : Type 0 where
+  pub in_home : (place : ℕ) → IsLowest (IsUnused home) place → PlaceBecomes home home_after place (note_place 0 note) × (probe_after ≡ probe)
+  pub in_probe : HoldsNowhere (IsUnused home) → (place : ℕ) → IsLowest (IsUnused probe) place → PlaceBecomes probe probe_after place (note_place 1 note) × (home_after ≡ home)
+  pub counted : HoldsNowhere (IsUnused home) → HoldsNowhere (IsUnused probe) → CountBecomes home home_after (home.ocount + 1) × (probe_after ≡ probe)
+
+-- the 64 buckets before and after a record is noted in the two buckets of its home
+pub record IsNotedInSegment (old new : List Meta) (entry : Stashed) : Type 0 where
+  pub in_two : (d : Meta)
+      → IsNotedIn (bucket old entry.0 d) (bucket old (probing_of entry.0) d) (bucket new entry.0 d) (bucket new (probing_of entry.0) d) (entry.1, entry.2)
+  pub others : (b : ℕ) (d : Meta) → b < 64 → b ≢ entry.0 → b ≢ probing_of entry.0 → bucket new b d ≡ bucket old b d
+
+-- the 64 buckets before and after each of the records is noted, in the order of the list
+abbrev pub AreNotedInOrder : List Stashed → (old new : List Meta) → Type 0
+AreNotedInOrder [] old new = new ≡ old
+AreNotedInOrder (entry ∷ records) old new = (between : List Meta) × IsNotedInSegment old between entry × AreNotedInOrder records between new
+
+-- all that the 64 buckets say of the stash was made 0
+pub record IsCleared (old new : List Meta) : Type 0 where
+  pub bare : (b : ℕ) (d : Meta) → b < 64 → IsBare (bucket new b d)
+  pub slots : SameSlotsInAll old new
+
+-- all that the 64 buckets say of the stash was made 0, and then each of the records was noted in turn
+abbrev pub IsRebuilt : (old new : List Meta) → List Stashed → Type 0
+IsRebuilt old new records = (cleared : List Meta) × IsCleared old cleared × AreNotedInOrder records cleared new

@@ -1,0 +1,132 @@
+//! The notes and the count of one home.
+
+ghost use Rattle.std.specs.Prelude.{◌≡◌, ◌≢◌, ℕ, ◌+◌, ◌-◌, ◌^◌, ◌<◌, ◌↔◌, IsTrue, List, ◌∷◌, Contains};
+ghost use Rattle.bucket_meta.specs.Bucket.{bit};
+ghost use Rattle.bucket_meta.specs.Notes.{Note, how_often};
+ghost use Rattle.stash.specs.Exact.{stash_buckets, greatest_count, notes_at, notes_of, IsExactFor, IsNamed, IsNotedOrCounted};
+ghost use Rattle.stash.specs.Places.{IsUnused, IsNoteAt, IsLowest, HoldsNowhere, SameSlots, PlaceBecomes, CountBecomes, note_place, freed_place};
+
+use crate::places::{fill, free, place_of, unused_place};
+use bucket_meta::Meta;
+
+/// The membership bit of a note in its home bucket.
+const OF_HOME: u8 = 0;
+/// The membership bit of a note in its probing bucket.
+const OF_PROBE: u8 = 1;
+
+/// The set of both stash buckets.
+const BOTH: u8 = 3;
+
+/// Notes a record that went into stash bucket `index`, 0 or 1, in its home bucket and its probing bucket.
+///
+/// The note takes the lowest unused overflow place of the home bucket, else the lowest unused one of the
+/// probing bucket, and every field of that place is overwritten. Where all eight are used, the home's count of
+/// records without a note is raised.
+pub fn note(home: &mut Meta, probe: &mut Meta, finger: u8, index: u8)
+    requires stash { index < stash_buckets }
+    requires room { home.old.ocount < greatest_count }
+
+    ensures in_home { (place : ℕ) → IsLowest (IsUnused home.old) place
+        → PlaceBecomes home.old home.new place (note_place 0 (finger, index)) × (probe.new ≡ probe.old) }
+    ensures in_probe { HoldsNowhere (IsUnused home.old) → (place : ℕ) → IsLowest (IsUnused probe.old) place
+        → PlaceBecomes probe.old probe.new place (note_place 1 (finger, index)) × (home.new ≡ home.old) }
+    ensures counted { HoldsNowhere (IsUnused home.old) → HoldsNowhere (IsUnused probe.old)
+        → CountBecomes home.old home.new (home.old.ocount + 1) × (probe.new ≡ probe.old) }
+    ensures exact { (stashed : List Note) → IsExactFor home.old probe.old stashed
+        → IsExactFor home.new probe.new ((finger, index) ∷ stashed) }
+
+    // What is said of other homes, and of the record slots, stays.
+    ensures home_before { notes_at home.new 1 ≡ notes_at home.old 1 }
+    ensures home_after { notes_at probe.new 0 ≡ notes_at probe.old 0 }
+    ensures count_after { probe.new.ocount ≡ probe.old.ocount }
+    ensures home_slots { SameSlots home.old home.new }
+    ensures probe_slots { SameSlots probe.old probe.new }
+{
+    if let Some(place) = unused_place(home) {
+        fill(home, place, OF_HOME, finger, index);
+        return;
+    }
+    if let Some(place) = unused_place(probe) {
+        fill(probe, place, OF_PROBE, finger, index);
+        return;
+    }
+    home.ocount += 1;
+}
+
+/// Takes away the note of a record that left stash bucket `index`, from its home bucket or its probing bucket.
+///
+/// The lowest overflow place of the home bucket with this note is freed, else the lowest one of the probing
+/// bucket, and every field of a freed place is 0. Where neither has the note, the home's count of records
+/// without a note is lowered.
+pub fn unnote(home: &mut Meta, probe: &mut Meta, finger: u8, index: u8)
+    requires { IsNotedOrCounted home.old probe.old (finger, index) }
+
+    ensures in_home { (place : ℕ) → IsLowest (IsNoteAt home.old 0 (finger, index)) place
+        → PlaceBecomes home.old home.new place freed_place × (probe.new ≡ probe.old) }
+    ensures in_probe { HoldsNowhere (IsNoteAt home.old 0 (finger, index))
+        → (place : ℕ) → IsLowest (IsNoteAt probe.old 1 (finger, index)) place
+        → PlaceBecomes probe.old probe.new place freed_place × (home.new ≡ home.old) }
+    ensures counted { HoldsNowhere (IsNoteAt home.old 0 (finger, index)) → HoldsNowhere (IsNoteAt probe.old 1 (finger, index))
+        → CountBecomes home.old home.new (home.old.ocount - 1) × (probe.new ≡ probe.old) }
+    ensures exact { (rest : List Note) → IsExactFor home.old probe.old ((finger, index) ∷ rest)
+        → IsExactFor home.new probe.new rest }
+
+    // What is said of other homes, and of the record slots, stays.
+    ensures home_before { notes_at home.new 1 ≡ notes_at home.old 1 }
+    ensures home_after { notes_at probe.new 0 ≡ notes_at probe.old 0 }
+    ensures count_after { probe.new.ocount ≡ probe.old.ocount }
+    ensures home_slots { SameSlots home.old home.new }
+    ensures probe_slots { SameSlots probe.old probe.new }
+{
+    if let Some(place) = place_of(home, OF_HOME, finger, index) {
+        free(home, place);
+        return;
+    }
+    if let Some(place) = place_of(probe, OF_PROBE, finger, index) {
+        free(probe, place);
+        return;
+    }
+    home.ocount -= 1;
+}
+
+/// Whether a bucket has this note, where `member` is its membership bit.
+fn has_note(meta: &Meta, member: u8, finger: u8, index: u8) -> bool
+    ensures { IsTrue result ↔ (0 < how_often (finger, index) (notes_at meta.now member)) }
+{
+    place_of(meta, member, finger, index).is_some()
+}
+
+/// Whether a note of the home names this fingerprint and stash bucket `index`.
+fn is_named(home: &Meta, probe: &Meta, finger: u8, index: u8) -> bool
+    ensures { IsTrue result ↔ IsNamed home.now probe.now (finger, index) }
+{
+    has_note(home, OF_HOME, finger, index) || has_note(probe, OF_PROBE, finger, index)
+}
+
+/// 1 where a note of the home names this fingerprint and stash bucket `index`, else 0.
+fn named_bit(home: &Meta, probe: &Meta, finger: u8, index: u8) -> u8
+    ensures is_bit { result < 2 }
+    ensures named { (result ≡ 1) ↔ IsNamed home.now probe.now (finger, index) }
+{
+    u8::from(is_named(home, probe, finger, index))
+}
+
+/// The stash buckets in which a record with this fingerprint may stand, as a set: bit `k` is of stash bucket `k`.
+///
+/// These are both where the home's count of records without a note is not 0, and else those that a note of the
+/// home with this fingerprint names.
+pub fn must_visit(home: &Meta, probe: &Meta, finger: u8) -> u8
+    ensures set { result < 2 ^ stash_buckets }
+    ensures counted { 0 < home.now.ocount → result ≡ 3 }
+    ensures named { home.now.ocount ≡ 0 → (k : ℕ) → k < stash_buckets
+        → (bit k result ≡ 1) ↔ IsNamed home.now probe.now (finger, k) }
+    ensures exact { (stashed : List Note) (k : ℕ) → k < stash_buckets → IsExactFor home.now probe.now stashed
+        → Contains stashed (finger, k) → bit k result ≡ 1 }
+{
+    if home.ocount > 0 {
+        return BOTH;
+    }
+    let first = named_bit(home, probe, finger, 0);
+    let second = named_bit(home, probe, finger, 1);
+    first + 2 * second
+}

@@ -1,0 +1,72 @@
+//! The notes and the counts of all homes of a segment.
+
+ghost use Rattle.std.specs.Prelude.{◌≡◌, ℕ, ◌+◌, ◌<◌, ◌≤◌, List, [], ◌∷◌, ◌++◌, length, All};
+ghost use Rattle.bucket_meta.specs.declared.metadata.Meta.{Meta as MetaValue};
+ghost use Rattle.stash.specs.Exact.{stash_buckets, greatest_count};
+ghost use Rattle.stash.specs.Noted.{IsNotedInSegment, IsCleared, IsRebuilt};
+ghost use Rattle.stash.specs.Places.{SameSlots, IsBare};
+ghost use Rattle.stash.specs.Segment.{Stashed, IsStashed, IsExactSegment, SameSlotsInAll, bucket};
+
+use crate::notes::note;
+use bucket_meta::Meta;
+
+/// How many buckets a segment has, without the stash.
+const BUCKETS: usize = 64;
+
+/// Makes all that a bucket says of the stash 0.
+fn clear_notes(meta: &mut Meta)
+    ensures bare { IsBare meta.new }
+    ensures slots { SameSlots meta.old meta.new }
+{
+    meta.used = 0;
+    meta.omember = 0;
+    meta.oindex = 0;
+    meta.ocount = 0;
+    meta.ofps = [0; 4];
+}
+
+/// Makes all that the buckets say of the stash 0.
+fn clear_all(metas: &mut [Meta; 64])
+    ensures { IsCleared metas.old metas.new }
+{
+    for meta in metas.iter_mut() {
+        clear_notes(meta);
+    }
+}
+
+/// Notes a record of one home that stands in stash bucket `index`.
+fn note_in(metas: &mut [Meta; 64], home: u8, finger: u8, index: u8)
+    requires home { home < 64 }
+    requires stash { index < stash_buckets }
+    requires room { (d : MetaValue) → (bucket metas.old home d).ocount < greatest_count }
+    ensures noted { IsNotedInSegment metas.old metas.new (home, finger, index) }
+    ensures exact { (records : List Stashed) → IsExactSegment metas.old records
+        → IsExactSegment metas.new (records ++ (home, finger, index) ∷ []) }
+    ensures slots { SameSlotsInAll metas.old metas.new }
+{
+    let home = usize::from(home);
+    let next = (home + 1) % BUCKETS;
+    let mut own = metas[home];
+    let mut probe = metas[next];
+    note(&mut own, &mut probe, finger, index);
+    metas[home] = own;
+    metas[next] = probe;
+}
+
+/// Makes the notes and the counts of all 64 homes of a segment anew, from the records in its stash.
+///
+/// All that the buckets say of the stash becomes 0, and then each record is noted, in the order given: a record
+/// is its home bucket (0 to 63), its fingerprint and its stash bucket (0 or 1). The two stash buckets have room
+/// for 28 records.
+pub fn rebuild(metas: &mut [Meta; 64], stashed: &[(u8, u8, u8)])
+    requires within { All IsStashed stashed.now }
+    requires room { length stashed.now ≤ 28 }
+    ensures rebuilt { IsRebuilt metas.old metas.new stashed.now }
+    ensures exact { IsExactSegment metas.new stashed.now }
+    ensures slots { SameSlotsInAll metas.old metas.new }
+{
+    clear_all(metas);
+    for &(home, finger, index) in stashed {
+        note_in(metas, home, finger, index);
+    }
+}
