@@ -27,7 +27,7 @@ pub(crate) fn next_word<'a>(bytes: &'a [u8]) -> Option<(&'a [u8], &'a [u8])>
     };
     let rest = &bytes[start..];
     match first_place(rest, b' ') {
-        Some(end) => Some((&rest[..end], &rest[end..])),
+        Some(end) => Some((&rest[..end], &rest[end + 1..])),
         None => Some((rest, &[])),
     }
 }

@@ -1,0 +1,5 @@
+pub mod Finding
+pub mod Words
+pub mod Lines
+pub mod Progress
+pub mod Complete
