@@ -3,3 +3,4 @@ pub mod Words
 pub mod Lines
 pub mod Progress
 pub mod Complete
+pub mod SoFar
