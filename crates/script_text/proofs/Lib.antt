@@ -1,0 +1,6 @@
+pub mod Finding
+pub mod Words
+pub mod Lines
+pub mod Progress
+pub mod Complete
+pub mod SoFar

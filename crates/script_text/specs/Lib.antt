@@ -1,0 +1,6 @@
+pub mod Splits
+pub mod Readings
+pub mod Script
+pub mod Calls
+pub mod Finding
+pub mod Counting

@@ -1,0 +1,169 @@
+// Edges of the grammar; what is expected was worked out by hand.
+
+use super::*;
+use map_model::Call;
+use std::test::Fail;
+
+const GET_FIVE: Line = Line::Call(1, Call::Get(5));
+
+#[test]
+fn reads_one_line_however_it_is_written(rt: HostRuntime) -> Result<(), Fail> {
+    let texts = [
+        b"1 get 5\n".as_slice(),
+        b"1 get 5",
+        b"1 get 5\r\n",
+        b" 1  get   5 \n",
+        b"1 get 5   ",
+        b"\n1 get 5\n\n",
+        b"\r\n  \r\n1 get 5\r\n",
+        b"# 1 get 6\n1 get 5",
+        b"#\n   \n1 get 5\n#",
+        b"01 get 05\n",
+        b"1 get 00000000000000000005\n",
+    ];
+    for text in texts {
+        for mode in [Mode::Play, Mode::Serve] {
+            let script = parse(rt.alloc(), mode, text)?;
+            assert_eq!(rt; script.as_slice(), [GET_FIVE].as_slice(), "{text:?}");
+        }
+    }
+    Ok(())
+}
+
+#[test]
+fn keeps_the_lines_in_their_order(rt: HostRuntime) -> Result<(), Fail> {
+    let text = b"1 insert 0 18446744073709551615\n\n1 get 5\n# end\n1 insert 7 8";
+    let script = parse(rt.alloc(), Mode::Play, text)?;
+    let want = [
+        Line::Call(1, Call::Insert(0, u64::MAX)),
+        GET_FIVE,
+        Line::Call(1, Call::Insert(7, 8)),
+    ];
+    assert_eq!(rt; script.as_slice(), want.as_slice());
+    assert_eq!(rt; script.len(), 3);
+    assert!(rt; !script.is_empty());
+    assert_eq!(rt; script.line(1), GET_FIVE);
+    assert!(rt; parse(rt.alloc(), Mode::Serve, b"")?.is_empty());
+    Ok(())
+}
+
+fn refusal(alloc: std::alloc::Global, mode: Mode, text: &[u8]) -> Option<ScriptFault> {
+    match parse(alloc, mode, text) {
+        Ok(_) => None,
+        Err(fault) => Some(fault),
+    }
+}
+
+#[test]
+fn refuses_what_is_none_of_the_forms(rt: HostRuntime) {
+    let texts = [
+        b"1 get".as_slice(),
+        b"1 get 5 6",
+        b"1 GET 5",
+        b"1 insert 5",
+        b"1 insert 5 6 7",
+        b"1 get 5 #",
+        b"1 get\t5",
+        b"\t",
+        b"\r",
+        b" #",
+        b" # 1 get 5",
+        b"x",
+        b"x get",
+        b"1 update 5 6",
+        b"1 remove 5",
+        b"1 fuse 5",
+        b"1 step 5",
+        b"1 until flush 3",
+        b"close",
+        b"cut 5",
+    ];
+    for text in texts {
+        for mode in [Mode::Play, Mode::Serve] {
+            let want = Some(ScriptFault::Word { line: 1 });
+            assert_eq!(rt; refusal(rt.alloc(), mode, text), want, "{text:?}");
+        }
+    }
+}
+
+#[test]
+fn refuses_numbers_and_callers(rt: HostRuntime) {
+    let numbers = [
+        b"1 get x".as_slice(),
+        b"x get 5",
+        b"2 get x",
+        b"0 insert 5 x",
+        b"1 insert x 5",
+        b"\t1 get 5",
+        b"1 get 5\r",
+        b"1 get 5\r\r\n",
+        b"1 get \r5\n",
+        b"1 get -5",
+        b"1 get 000000000000000000005",
+        b"1 get 18446744073709551616",
+        b"1 get 99999999999999999999",
+    ];
+    for text in numbers {
+        let want = Some(ScriptFault::Number { line: 1 });
+        assert_eq!(rt; refusal(rt.alloc(), Mode::Play, text), want, "{text:?}");
+    }
+    let callers = [
+        b"0 get 5".as_slice(),
+        b"2 get 5",
+        b"64 get 5",
+        b"65 insert 5 6",
+        b"18446744073709551615 get 5",
+    ];
+    for text in callers {
+        let want = Some(ScriptFault::Caller { line: 1 });
+        assert_eq!(rt; refusal(rt.alloc(), Mode::Play, text), want, "{text:?}");
+    }
+}
+
+#[test]
+fn answers_the_first_fault(rt: HostRuntime) {
+    let text = b"1 get 5\n\n# note\r\n2 get 5\n1 get\n";
+    let want = Some(ScriptFault::Caller { line: 4 });
+    assert_eq!(rt; refusal(rt.alloc(), Mode::Play, text), want);
+    let text = b"1 get 5\n1 get\n2 get 5";
+    let want = Some(ScriptFault::Word { line: 2 });
+    assert_eq!(rt; refusal(rt.alloc(), Mode::Serve, text), want);
+}
+
+#[test]
+fn refuses_more_bytes_or_lines_than_may_be(rt: HostRuntime) -> Result<(), Fail> {
+    let too_long = Some(ScriptFault::TooLong { line: 0 });
+    let mut lines = vec![in rt.alloc(); b'\n'; 999_999]?;
+    lines.push(b'x')?;
+    let last = Some(ScriptFault::Word { line: 1_000_000 });
+    assert_eq!(rt; refusal(rt.alloc(), Mode::Play, &lines), last);
+    lines.push(b'\n')?;
+    assert_eq!(rt; refusal(rt.alloc(), Mode::Play, &lines), last);
+    lines.push(b'x')?;
+    assert_eq!(rt; refusal(rt.alloc(), Mode::Play, &lines), too_long);
+    let mut bytes = vec![in rt.alloc(); b' '; 16_777_216]?;
+    assert_eq!(rt; refusal(rt.alloc(), Mode::Play, &bytes), None);
+    bytes.push(b'x')?;
+    assert_eq!(rt; refusal(rt.alloc(), Mode::Play, &bytes), too_long);
+    Ok(())
+}
+
+#[test]
+fn says_what_is_wrong(rt: HostRuntime) -> Result<(), Fail> {
+    let faults = [
+        (ScriptFault::Word { line: 3 }, "line 3: not one of the forms"),
+        (ScriptFault::Number { line: 3 }, "line 3: not a number"),
+        (ScriptFault::Caller { line: 3 }, "line 3: no such caller"),
+        (ScriptFault::Order { line: 3 }, "line 3: out of order"),
+        (
+            ScriptFault::TooLong { line: 0 },
+            "line 0: too many bytes or lines",
+        ),
+        (ScriptFault::NoMemory, "out of memory"),
+    ];
+    for (fault, want) in faults {
+        let text = format!(in rt.alloc(); "{fault}")?;
+        assert_eq!(rt; text.as_str(), want);
+    }
+    Ok(())
+}
