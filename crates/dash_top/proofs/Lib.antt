@@ -6,8 +6,6 @@ pub mod Raised
 pub mod Running
 pub mod Steps
 pub mod Storing
-pub mod Finding
-pub mod Lines
 pub mod PlainFrame
 pub mod PlainRecords
 pub mod PlainSound
@@ -15,7 +13,7 @@ pub mod NewImage
 pub mod FileBytes
 pub mod NewFile
 pub mod Words
-pub mod Served
+pub mod Calling
 pub mod Sessions
 pub mod Complete
 pub mod Statuses

@@ -10,13 +10,16 @@ use Rattle.map_model.specs.declared.call.Call.{Call}
 use Rattle.map_model.specs.declared.entry.Entry.{Entry}
 use Rattle.map_model.specs.Weave.{all_of}
 use Rattle.map_model.specs.ByPlaces.{map_at}
+use Rattle.script_text.specs.declared.line.Line.{Line}
+use Rattle.script_text.specs.declared.line.Mode.TheVariants.{Play}
+use Rattle.script_text.specs.Script.{IsScript}
+use Rattle.script_text.specs.Calls.{calls_of}
 use Rattle.session.specs.Transcript.{Told, entry_lines}
 use Rattle.session.specs.Callers.{FollowsScript, IsAnswered}
 use Rattle.session.specs.Session.{IsSession, HadNoRoom}
 use Rattle.sound_image.specs.Image.{image_bytes}
 use Rattle.dash_top.specs.Plain.{one_segment, IsNew}
 use Rattle.dash_top.specs.Run.{IsRun, IsGivenSoFar}
-use Rattle.dash_top.specs.Script.{IsGoodScript}
 use Rattle.dash_top.specs.Played.{IsPlayed, closed_play}
 use Rattle.dash_top.specs.Top.{Plays, Headline}
 use Rattle.dash_top.specs.Top as top
@@ -87,11 +90,11 @@ run_session first words calls entries new run =
     no_cut h = cc
 
 -- the file of a run that began on the file of a new image
-pub played : (first words : List ℕ) (calls : List Call) (entries : List Entry) (script start transcript ending : List ℕ)
-    → IsNew first → IsGoodScript script calls → IsRun calls words entries
+pub played : (first words : List ℕ) (lines : List Line) (entries : List Entry) (script start transcript ending : List ℕ)
+    → IsNew first → IsScript Play script lines → IsRun (calls_of 1 lines) words entries
     → start ≡ image_bytes first → transcript ≡ entry_lines 1 entries → ending ≡ image_bytes words
     → IsPlayed start script transcript ending
-played first words calls entries script start transcript ending new good run start_is transcript_is ending_is =
+played first words lines entries script start transcript ending new good run start_is transcript_is ending_is =
     record {
       shape = one_segment;
       first = first;
@@ -99,9 +102,10 @@ played first words calls entries script start transcript ending new good run sta
       start_is = start_is;
       ending_is = ending_is;
       start_sound = plain-IsSoundImage first (new-IsPlain first new);
-      calls = calls;
+      lines = lines;
       script_is = good;
-      session = subst (λ (t : List ℕ). IsSession one_segment first words (calls ∷ []) closed_play t) (sym transcript_is) (run_session first words calls entries new run);
+      session = subst (λ (t : List ℕ). IsSession one_segment first words (calls_of 1 lines ∷ []) closed_play t) (sym transcript_is)
+          (run_session first words (calls_of 1 lines) entries new run);
     }
 
 -- what was read to the end is all that was left

@@ -3,8 +3,6 @@ pub mod Stored
 pub mod Versions
 pub mod Run
 pub mod Ran
-pub mod Finding
-pub mod Script
 pub mod Texts
 pub mod Played
 pub mod Top

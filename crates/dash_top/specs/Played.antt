@@ -1,17 +1,19 @@
 -- A `play` as a relation of bytes: the image that was in the store, the script, what was written, and the image that
 -- is in the store now.
 use Rattle.std.specs.Prelude.{◌≡◌, List, ℕ, [], ◌∷◌, true}
-use Rattle.map_model.specs.declared.call.Call.{Call}
 use Rattle.image_layout.specs.Places.{Shape}
 use Rattle.sound_image.specs.Image.{image_bytes, IsSoundImage}
 use Rattle.session.specs.Session.{Ending, IsSession}
-use Rattle.dash_top.specs.Script.{IsGoodScript}
+use Rattle.script_text.specs.declared.line.Line.{Line}
+use Rattle.script_text.specs.declared.line.Mode.TheVariants.{Play}
+use Rattle.script_text.specs.Script.{IsScript}
+use Rattle.script_text.specs.Calls.{calls_of}
 
 -- a play whose script has no cut ends by a close
 abbrev pub closed_play : Ending
 closed_play = record { closed = true; scheduled = true }
 
--- the bytes are those of a session, in which all calls are caller 1's
+-- the bytes are those of a session of the script's lines, whose calls are all caller 1's
 pub record IsPlayed (start script transcript ending : List ℕ) : Type 0 where
   pub shape : Shape
   pub first : List ℕ
@@ -19,6 +21,6 @@ pub record IsPlayed (start script transcript ending : List ℕ) : Type 0 where
   pub start_is : start ≡ image_bytes first
   pub ending_is : ending ≡ image_bytes last
   pub start_sound : IsSoundImage shape first
-  pub calls : List Call
-  pub script_is : IsGoodScript script calls
-  pub session : IsSession shape first last (calls ∷ []) closed_play transcript
+  pub lines : List Line
+  pub script_is : IsScript Play script lines
+  pub session : IsSession shape first last (calls_of 1 lines ∷ []) closed_play transcript

@@ -1,19 +1,21 @@
 -- What the top call does with each command, and why it refuses one.
-use Rattle.std.specs.Prelude.{◌≡◌, ℕ, ◌≤◌, ◌⊎◌, List, [], ◌∷◌, ◌++◌, length, codes, Option, Some}
+use Rattle.std.specs.Prelude.{◌≡◌, ◌≢◌, ℕ, ◌≤◌, ◌⊎◌, List, [], ◌∷◌, ◌++◌, length, codes, Option, Some}
 use Rattle.std.specs.Io.KnownBytes.{Consumes, IsAtEnd}
 use Rattle.outside.specs.Causes.{Rose}
 use Rattle.outside.specs.Storing.{Holds, IsFront}
 use Rattle.outside.specs.declared.parts.StoreFault.{StoreFault}
 use Rattle.outside.specs.declared.parts.StoreFault.TheVariants.{Failed, NoMemory as NoRoom}
-use Rattle.map_model.specs.declared.call.Call.{Call}
+use Rattle.script_text.specs.declared.line.Line.{Line}
+use Rattle.script_text.specs.declared.line.Mode.TheVariants.{Play as Playing}
+use Rattle.script_text.specs.declared.fault.ScriptFault.{ScriptFault}
+use Rattle.script_text.specs.declared.fault.ScriptFault.TheVariants.{NoMemory as Wanting}
+use Rattle.script_text.specs.Script.{HasFault, IsScript}
 use Rattle.sound_image.specs.Image.{image_bytes}
 use Rattle.dash_top.specs.declared.command.Command.{Command}
 use Rattle.dash_top.specs.declared.command.Command.TheVariants.{Format, Play, Unknown}
 use Rattle.dash_top.specs.declared.play.PlayStop.{PlayStop}
 use Rattle.dash_top.specs.declared.play.PlayStop.TheVariants.{Script, Image, Source, Store, NoMemory}
-use Rattle.dash_top.specs.declared.script.Kind.{Kind}
 use Rattle.dash_top.specs.Plain.{IsNew}
-use Rattle.dash_top.specs.Script.{HasFault, IsGoodScript}
 use Rattle.dash_top.specs.Texts.{usage_text, script_fault_text, image_format_text}
 use Rattle.dash_top.specs.Played.{IsPlayed}
 
@@ -88,11 +90,12 @@ Headline t sink_old sink_new =
     → (transcript ending : List ℕ) × (sink_new ≡ Some (before ++ transcript)) × (t.store_new ≡ Some ending) × IsPlayed start script transcript ending
 
 -- WHY A COMMAND IS REFUSED
--- the script that was read has this fault
-pub record RefusesScript (t : Told) (kind : Kind) (line : ℕ) : Type 0 where
+-- the script that was read has this fault, which is not want of memory
+pub record RefusesScript (t : Told) (fault : ScriptFault) : Type 0 where
   pub script : List ℕ
   pub reads_script : ReadsScript t script
-  pub fault : HasFault script kind line
+  pub has_fault : HasFault Playing script fault
+  pub not_memory : fault ≢ Wanting
 
 -- the image that was read is not the file of a new one
 pub record RefusesImage (t : Told) : Type 0 where
@@ -121,7 +124,7 @@ pub record NoneRose (n : Counts) : Type 0 where
 
 -- why a play stopped before its transcript was there
 abbrev pub HasPlayCause : Told → ℕ → ℕ → ℕ → ℕ → PlayStop → Type 0
-HasPlayCause t source_old source_new store_old store_new (Script kind line) = RefusesScript t kind line × KeepsStore t
+HasPlayCause t source_old source_new store_old store_new (Script fault) = RefusesScript t fault × KeepsStore t
 HasPlayCause t source_old source_new store_old store_new Image = RefusesImage t × KeepsStore t
 HasPlayCause t source_old source_new store_old store_new Source = Rose source_old source_new × KeepsStore t
 HasPlayCause t source_old source_new store_old store_new Store = Rose store_old store_new
@@ -137,7 +140,7 @@ pub data IsText (t : Told) (words : List (List ℕ)) : List ℕ → Type 0 where
   of_format : words ≡ format_words → StoresNewFile t → IsText t words []
   of_play : {transcript : List ℕ} → words ≡ play_words → Plays t transcript → IsText t words transcript
   of_bad_words : (words ≡ format_words → ⊥) → (words ≡ play_words → ⊥) → IsText t words usage_text
-  of_bad_script : {kind : Kind} {line : ℕ} → words ≡ play_words → RefusesScript t kind line → IsText t words (script_fault_text kind line)
+  of_bad_script : {fault : ScriptFault} → words ≡ play_words → RefusesScript t fault → IsText t words (script_fault_text fault)
   of_bad_image : words ≡ play_words → RefusesImage t → IsText t words image_format_text
 
 -- COMPLETE: a good command meets no refusal; so it is done, or memory was wanting
@@ -148,8 +151,8 @@ pub record IsGoodPlay (t : Told) (words : List (List ℕ)) : Type 0 where
   pub new_file : IsNewFile start
   pub script : List ℕ
   pub source_tells : t.source_old ≡ Some script
-  pub calls : List Call
-  pub good_script : IsGoodScript script calls
+  pub lines : List Line
+  pub good_script : IsScript Playing script lines
 
 abbrev pub IsGoodCommand : Told → List (List ℕ) → Type 0
 IsGoodCommand t words = (words ≡ format_words) ⊎ IsGoodPlay t words

@@ -6,11 +6,11 @@
 #![tactic(auto)]
 
 mod bucket;
+mod calls;
 mod command;
 mod image;
 mod play;
 mod run;
-mod script;
 mod status;
 mod step;
 #[cfg(test)]

@@ -2,12 +2,13 @@
 ghost use Rattle.std.specs.Prelude.{◌≡◌, ℕ, List, OnOk, IfOk, IfErr, None, Some, string_bytes};
 ghost use Rattle.dash_top.specs.Top.{told, StoresNewFile, Plays, HasPlayCause, HasFormatCause};
 
+use crate::calls::calls_of_caller;
 use crate::image::{is_new_file, new_words, to_bytes};
 use crate::run::run;
-use crate::script::{Kind, MOST_BYTES, ScriptFault, parse};
 use crate::text::transcript;
 use map_model::NoMemory;
 use outside::{Failed, Source, Store, StoreFault, take_all};
+use script_text::{MOST_BYTES, Mode, ScriptFault, parse};
 use std::alloc::{AllocError, Global};
 
 /// The most bytes that an image has.
@@ -16,8 +17,8 @@ pub const MOST_IMAGE_BYTES: u64 = 282_067_200;
 /// Why a play stopped before its transcript was there.
 #[derive(Clone, Copy, Debug, PartialEq, Eq)]
 pub enum PlayStop {
-    /// The script has this fault, in this line.
-    Script(Kind, u64),
+    /// The script has this fault, which is not want of memory.
+    Script(ScriptFault),
     /// The image is not accepted.
     Image,
     /// The source failed.
@@ -79,10 +80,10 @@ pub fn play<I: Store, S: Source>(
         Err(StoreFault::Failed) => return Err(PlayStop::Source),
         Err(StoreFault::NoMemory) => return Err(PlayStop::NoMemory),
     };
-    let calls = match parse(alloc, &script) {
-        Ok(calls) => calls,
-        Err(ScriptFault::Bad(kind, line)) => return Err(PlayStop::Script(kind, line)),
+    let lines = match parse(alloc, Mode::Play, &script) {
+        Ok(lines) => lines,
         Err(ScriptFault::NoMemory) => return Err(PlayStop::NoMemory),
+        Err(fault) => return Err(PlayStop::Script(fault)),
     };
     let start = match image.read_all(alloc, MOST_IMAGE_BYTES) {
         Ok(start) => start,
@@ -92,6 +93,8 @@ pub fn play<I: Store, S: Source>(
     if !is_new_file(&start) {
         return Err(PlayStop::Image);
     }
+    let calls = calls_of_caller(alloc, lines.as_slice(), 1)?;
+    drop(lines);
     let mut words = new_words(alloc)?;
     let lists = run(alloc, &mut words, &calls)?;
     let text = transcript(alloc, 1, lists.of(1))?;

@@ -225,27 +225,25 @@ fn bad_words(rt: HostRuntime) -> Result<(), Fail> {
 fn bad_scripts(rt: HostRuntime) -> Result<(), Fail> {
     let alloc = rt.alloc();
     let new = file_of(alloc, &[&NEW])?;
-    let rows: [(&[u8], &str); 14] = [
+    let rows: [(&[u8], &str); 12] = [
         (b"1 insert 5\n", "fault script word line 1\n"),
-        (b"1 get 5\n1 get 5", "fault script word line 2\n"),
-        (b"1 get 5\n\n", "fault script word line 2\n"),
-        (b"1 get 5\n# five\n", "fault script word line 2\n"),
-        (b"1 get x\n", "fault script word line 1\n"),
-        (b"1 get \n", "fault script word line 1\n"),
-        (b"2 get 5\n", "fault script word line 1\n"),
-        (b"1 update 5 6\n", "fault script word line 1\n"),
-        (b"1  get 5\n", "fault script word line 1\n"),
-        (b"1 get 5 \n", "fault script word line 1\n"),
-        (b"1 get 5\r\n", "fault script word line 1\n"),
+        (b"1 get 5\n1 get 5 6", "fault script word line 2\n"),
+        (b"\n\n1 update 5 6\n", "fault script word line 3\n"),
+        (b"1 get 5\n # five\n", "fault script word line 2\n"),
+        (b"1\tget 5\n", "fault script word line 1\n"),
+        (b"1 get x\n", "fault script number line 1\n"),
+        (b"x get 5\n", "fault script number line 1\n"),
         (
             b"1 get 18446744073709551616\n",
-            "fault script word line 1\n",
+            "fault script number line 1\n",
         ),
         (
             b"1 get 000000000000000000005\n",
-            "fault script word line 1\n",
+            "fault script number line 1\n",
         ),
-        (b"1 insert 1 2 3\n", "fault script word line 1\n"),
+        (b"1 get 5\r", "fault script number line 1\n"),
+        (b"0 get 5\n", "fault script caller line 1\n"),
+        (b"# two\n2 get 5\n1 get x\n", "fault script caller line 2\n"),
     ];
     for (script, written) in rows {
         let left = run(&rt, alloc, &["play"], &new, script, NONE)?;
@@ -258,10 +256,13 @@ fn bad_scripts(rt: HostRuntime) -> Result<(), Fail> {
         alloc,
         &["play"],
         &new,
-        b"1 get 00000000000000000005\n",
+        b"# two\n\n  1   get 5 \r\n1 get 00000000000000000005",
         NONE,
     )?;
-    assert_eq!(rt; good.written.as_slice(), b"1 1 ABSENT @0\n".as_slice());
+    assert_eq!(rt;
+        good.written.as_slice(),
+        b"1 1 ABSENT @0\n1 2 ABSENT @0\n".as_slice()
+    );
     Ok(())
 }
 
@@ -279,6 +280,11 @@ fn long_scripts(rt: HostRuntime) -> Result<(), Fail> {
             b"fault script toolong line 0\n".as_slice()
         );
         assert_eq!(rt; left.stored.as_slice(), new.as_slice());
+    }
+    for script in [&bytes[1..], &lines[1..]] {
+        let left = run(&rt, alloc, &["play"], &new, script, NONE)?;
+        assert_eq!(rt; left.status, DONE);
+        assert_eq!(rt; left.written.len(), 0);
     }
     Ok(())
 }

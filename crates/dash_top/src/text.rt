@@ -3,8 +3,8 @@ ghost use Rattle.std.specs.Prelude.{◌≡◌, ◌++◌, [], OnOk, IfOk, string_
 ghost use Rattle.session.specs.Transcript.{entry_lines};
 ghost use Rattle.dash_top.specs.Texts.{entry_line, script_fault_text};
 
-use crate::script::Kind;
 use map_model::Entry;
+use script_text::ScriptFault;
 use std::alloc::{AllocError, Global};
 
 /// The line of a refusal of the words.
@@ -34,11 +34,15 @@ pub fn transcript(alloc: Global, caller: u8, entries: &[Entry]) -> Result<String
 }
 
 /// The line of a refused script.
-pub fn script_fault(alloc: Global, kind: Kind, line: u64) -> Result<String, AllocError>
-    ensures { IfOk result (λ text. string_bytes text ≡ script_fault_text kind line) }
+pub fn script_fault(alloc: Global, fault: ScriptFault) -> Result<String, AllocError>
+    ensures { IfOk result (λ text. string_bytes text ≡ script_fault_text fault) }
 {
-    match kind {
-        Kind::Word => format!(in alloc; "fault script word line {line}\n"),
-        Kind::TooLong => format!(in alloc; "fault script toolong line {line}\n"),
+    match fault {
+        ScriptFault::Word { line } => format!(in alloc; "fault script word line {line}\n"),
+        ScriptFault::Number { line } => format!(in alloc; "fault script number line {line}\n"),
+        ScriptFault::Caller { line } => format!(in alloc; "fault script caller line {line}\n"),
+        ScriptFault::Order { line } => format!(in alloc; "fault script order line {line}\n"),
+        ScriptFault::TooLong { line } => format!(in alloc; "fault script toolong line {line}\n"),
+        ScriptFault::NoMemory => Ok(String::new(alloc)),
     }
 }

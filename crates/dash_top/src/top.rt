@@ -3,7 +3,7 @@ ghost use Rattle.std.specs.Prelude.{◌≡◌, ◌≢◌, ℕ, ◌<◌, ◌≤�
 ghost use Rattle.std.specs.Io.KnownBytes.{Appends};
 ghost use Rattle.outside.specs.Causes.{Rose, AppendsFront};
 ghost use Rattle.outside.specs.declared.gates.Place.TheVariants.{Unmade};
-ghost use Rattle.dash_top.specs.declared.script.Kind.{Kind};
+ghost use Rattle.script_text.specs.declared.fault.ScriptFault.{ScriptFault};
 ghost use Rattle.dash_top.specs.Texts.{usage_text, script_fault_text, image_format_text};
 ghost use Rattle.dash_top.specs.Top.{told, counts, NoneRose, StoresNewFile, Plays, RefusesScript, RefusesImage, IsText, Headline, IsGoodCommand, play_words, format_words};
 
@@ -66,9 +66,9 @@ pub fn dash_run<R: Threads + Wait + Sync, I: Store, S: Source, K: Sink, M: Gates
     // The refusals, each with its cause and its line.
     ensures bad_words { result ≡ BAD_WORDS → (map string_bytes words.now ≢ format_words) × (map string_bytes words.now ≢ play_words)
         × Appends (K.taken out.old) (K.taken out.new) usage_text }
-    ensures bad_script { result ≡ BAD_SCRIPT → (map string_bytes words.now ≡ play_words) × ((kind : Kind) × (line : ℕ)
-        × RefusesScript (told (I.contents image.old) (I.contents image.new) (S.left input.old) (S.left input.new)) kind line
-        × Appends (K.taken out.old) (K.taken out.new) (script_fault_text kind line)) }
+    ensures bad_script { result ≡ BAD_SCRIPT → (map string_bytes words.now ≡ play_words) × ((fault : ScriptFault)
+        × RefusesScript (told (I.contents image.old) (I.contents image.new) (S.left input.old) (S.left input.new)) fault
+        × Appends (K.taken out.old) (K.taken out.new) (script_fault_text fault)) }
     ensures bad_image { result ≡ BAD_IMAGE → (map string_bytes words.now ≡ play_words)
         × RefusesImage (told (I.contents image.old) (I.contents image.new) (S.left input.old) (S.left input.new))
         × Appends (K.taken out.old) (K.taken out.new) image_format_text }
@@ -102,7 +102,7 @@ pub fn dash_run<R: Threads + Wait + Sync, I: Store, S: Source, K: Sink, M: Gates
             Err(PlayStop::Source) => SOURCE_FAILED,
             Err(PlayStop::Store) => STORE_FAILED,
             Err(PlayStop::NoMemory) => NO_MEMORY,
-            Err(PlayStop::Script(kind, line)) => match script_fault(alloc, kind, line) {
+            Err(PlayStop::Script(fault)) => match script_fault(alloc, fault) {
                 Ok(text) => finish(out, BAD_SCRIPT, text.as_bytes()),
                 Err(_) => NO_MEMORY,
             },

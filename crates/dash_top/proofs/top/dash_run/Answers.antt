@@ -61,8 +61,7 @@ pub returns-in-Ok-script_fault-clause-bad_script : goal.returns-in-Ok-script_fau
 returns-in-Ok-script_fault-clause-bad_script g c = λ e. (
   c.in-Play.ensures,
   (
-    c.in-Err-Script.kind,
-    c.in-Err-Script.line,
+    c.in-Err-Script.fault,
     (rw c.in-Err-Script.field-0-is at c.in-Err-Script.ensures.err).0,
     subst (λ (x : List ℕ). Appends (g.K.Sink.taken c.args.out.now) (g.K.Sink.taken c.finish-in-Ok-script_fault.new.out) x)
         (c.as_bytes-in-Ok-script_fault.ensures.value ∙ c.in-Ok-script_fault.ensures) (c.finish-in-Ok-script_fault.ensures.all e),
@@ -74,7 +73,7 @@ returns-in-Ok-script_fault-clause-bad_image g c = λ e. absurd (no_third _ 2 3 c
 
 pub returns-in-Ok-script_fault-clause-sink_front : goal.returns-in-Ok-script_fault-clause-sink_front
 returns-in-Ok-script_fault-clause-sink_front g c = λ e. (
-  script_fault_text c.in-Err-Script.kind c.in-Err-Script.line,
+  script_fault_text c.in-Err-Script.fault,
   subst (λ (x : List ℕ). AppendsFront (g.K.Sink.taken c.args.out.now) (g.K.Sink.taken c.finish-in-Ok-script_fault.new.out) x)
       (c.as_bytes-in-Ok-script_fault.ensures.value ∙ c.in-Ok-script_fault.ensures) (c.finish-in-Ok-script_fault.ensures.front e),
   of_bad_script c.in-Play.ensures (rw c.in-Err-Script.field-0-is at c.in-Err-Script.ensures.err).0,
@@ -82,4 +81,4 @@ returns-in-Ok-script_fault-clause-sink_front g c = λ e. (
 
 pub returns-in-Ok-script_fault-clause-complete : goal.returns-in-Ok-script_fault-clause-complete
 returns-in-Ok-script_fault-clause-complete g c = λ good none.
-    absurd (good_script_is_taken _ _ c.in-Err-Script.kind c.in-Err-Script.line (rw c.in-Err-Script.field-0-is at c.in-Err-Script.ensures.err).0 (good_play _ _ c.in-Play.ensures good))
+    absurd (good_script_is_taken _ _ c.in-Err-Script.fault (rw c.in-Err-Script.field-0-is at c.in-Err-Script.ensures.err).0 (good_play _ _ c.in-Play.ensures good))
