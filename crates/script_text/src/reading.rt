@@ -12,6 +12,7 @@ use map_model::Call;
 pub const MOST_CALLERS: u64 = 1;
 
 const GET: &[u8] = b"get";
+
 const INSERT: &[u8] = b"insert";
 
 // What a line says: nothing, a line of the grammar, or what is wrong with it.
@@ -82,7 +83,10 @@ fn words_reading(line: &[u8]) -> Reading
     };
     match next_word(rest) {
         None if verb == INSERT => {
-            call_reading(number_of(caller), insert_of(number_of(key), number_of(value)))
+            call_reading(
+                number_of(caller),
+                insert_of(number_of(key), number_of(value)),
+            )
         }
         _ => Reading::BadWord,
     }
