@@ -1,5 +1,5 @@
 -- A script that is accepted has no fault, and the lines of an accepted script are determined by its bytes.
-use Rattle.std.proofs.Common.{◌≡◌, ℕ, ◌<◌, ◌≤◌, ⊎_elim, List, [], ◌∷◌, ◌++◌, length, refl, sym, ◌∙◌, subst, arith}
+use Rattle.std.proofs.Common.{◌≡◌, ℕ, ◌≤◌, ⊎_elim, List, [], ◌∷◌, ◌++◌, length, refl, sym, ◌∙◌, subst, arith}
 use Rattle.std.specs.List.{AllByRecursion}
 use Rattle.script_text.specs.declared.line.Line.{Line}
 use Rattle.script_text.specs.declared.line.Mode.{Mode}
@@ -8,7 +8,7 @@ use Rattle.script_text.specs.declared.reading.Reading.TheVariants.{BadWord, BadN
 use Rattle.script_text.specs.declared.fault.ScriptFault.{ScriptFault}
 use Rattle.script_text.specs.declared.fault.ScriptFault.TheVariants.{Word, Number, Caller, Order, TooLong, NoMemory}
 use Rattle.script_text.specs.Splits.{lines}
-use Rattle.script_text.specs.Script.{readings, IsGood, IsScript, IsFirstBad, HasFault}
+use Rattle.script_text.specs.Script.{IsGood, IsScript, IsFirstBad, HasFault}
 
 good_behind : (front rest : List Reading) (next : Reading) → AllByRecursion IsGood (front ++ next ∷ rest) → IsGood next
 good_behind [] rest next h = h.0

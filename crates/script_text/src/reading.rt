@@ -12,6 +12,7 @@ use map_model::Call;
 pub const MOST_CALLERS: u64 = 1;
 
 const GET: &[u8] = b"get";
+
 const INSERT: &[u8] = b"insert";
 
 // What a line says: nothing, a line of the grammar, or what is wrong with it.
@@ -63,26 +64,28 @@ fn call_reading(caller: Option<u64>, call: Option<Call>) -> Reading
 fn words_reading(line: &[u8]) -> Reading
     ensures { result ≡ says_words (words line.now) }
 {
-    let (caller, rest) = match next_word(line) {
-        Some(found) => found,
-        None => return Reading::Skipped,
+    let Some((caller, rest)) = next_word(line) else {
+        return Reading::Skipped;
     };
-    let (verb, rest) = match next_word(rest) {
-        Some(found) => found,
-        None => return Reading::BadWord,
+    let Some((verb, rest)) = next_word(rest) else {
+        return Reading::BadWord;
     };
-    let (key, rest) = match next_word(rest) {
-        Some(found) => found,
-        None => return Reading::BadWord,
+    let Some((key, rest)) = next_word(rest) else {
+        return Reading::BadWord;
     };
-    let (value, rest) = match next_word(rest) {
-        Some(found) => found,
-        None if verb == GET => return call_reading(number_of(caller), get_of(number_of(key))),
-        None => return Reading::BadWord,
+    let Some((value, rest)) = next_word(rest) else {
+        return if verb == GET {
+            call_reading(number_of(caller), get_of(number_of(key)))
+        } else {
+            Reading::BadWord
+        };
     };
     match next_word(rest) {
         None if verb == INSERT => {
-            call_reading(number_of(caller), insert_of(number_of(key), number_of(value)))
+            call_reading(
+                number_of(caller),
+                insert_of(number_of(key), number_of(value)),
+            )
         }
         _ => Reading::BadWord,
     }

@@ -151,7 +151,10 @@ fn refuses_more_bytes_or_lines_than_may_be(rt: HostRuntime) -> Result<(), Fail> 
 #[test]
 fn says_what_is_wrong(rt: HostRuntime) -> Result<(), Fail> {
     let faults = [
-        (ScriptFault::Word { line: 3 }, "line 3: not one of the forms"),
+        (
+            ScriptFault::Word { line: 3 },
+            "line 3: not one of the forms",
+        ),
         (ScriptFault::Number { line: 3 }, "line 3: not a number"),
         (ScriptFault::Caller { line: 3 }, "line 3: no such caller"),
         (ScriptFault::Order { line: 3 }, "line 3: out of order"),

@@ -21,9 +21,8 @@ fn first_other(bytes: &[u8], byte: u8) -> Option<usize>
 pub(crate) fn next_word<'a>(bytes: &'a [u8]) -> Option<(&'a [u8], &'a [u8])>
     ensures { MatchOption result (words bytes.now ≡ []) (λ found. words bytes.now ≡ found.0.now ∷ words found.1.now) }
 {
-    let start = match first_other(bytes, b' ') {
-        Some(start) => start,
-        None => return None,
+    let Some(start) = first_other(bytes, b' ') else {
+        return None;
     };
     let rest = &bytes[start..];
     match first_place(rest, b' ') {
