@@ -18,9 +18,6 @@ use Rattle.stash.proofs.Pieces.{piece, piece_of_unused}
 
 -- ---- the records of one home
 
-note_of : Stashed → Note
-note_of entry = (entry.1, entry.2)
-
 pub of_home-append : (a b : List Stashed) (home : ℕ) → of_home (a ++ b) home ≡ of_home a home ++ of_home b home
 of_home-append a b home =
     let passes : Stashed → Bool = λ entry. entry.0 == home in
