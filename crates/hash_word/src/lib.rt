@@ -30,7 +30,7 @@ pub fn hash(kind: Kind, key: u64) -> u64
     }
 }
 
-/// The number of the home bucket, below 64.
+/// The number of the home bucket, from 0 to 63.
 pub fn home(h: u64) -> u8
     ensures of { result ≡ home_of h }
     ensures range { result < 64 }
@@ -38,14 +38,14 @@ pub fn home(h: u64) -> u8
     (h >> 8 & 63) as u8
 }
 
-/// The fingerprint, one byte.
+/// The fingerprint of a record with this hash: its lowest byte.
 pub fn finger(h: u64) -> u8
     ensures { result ≡ finger_of h }
 {
     (h & 255) as u8
 }
 
-/// The place of the hash in a directory of depth `g`: its top `g` bits.
+/// The place of the hash in a directory of depth `g`, from 0 to 64: its top `g` bits.
 pub fn dir_index(h: u64, g: u8) -> u64
     requires { g ≤ 64 }
     ensures { result ≡ index_of g h }
@@ -53,7 +53,7 @@ pub fn dir_index(h: u64, g: u8) -> u64
     if g == 0 { 0 } else { h >> (64 - g) }
 }
 
-/// Whether a segment of this depth and pattern covers the hash.
+/// Whether a segment of this depth, from 0 to 64, and pattern covers the hash.
 pub fn covers(depth: u8, pattern: u32, h: u64) -> bool
     requires { depth ≤ 64 }
     ensures { IsTrue result ↔ Covers depth pattern h }

@@ -1,5 +1,14 @@
 //! Where the parts of an image stand.
-//!
-//! An image is a list of 64-bit words: a few words about the whole, an area of the directory for each depth,
-//! and then the segments. `specs/Places.antt` has the word number of each part.
+//! An image is a list of 64-bit words: 32 words about the whole, an area of the directory for each depth, and
+//! then the segments, of a header and 66 buckets. [`Geometry`] gives the word number of each part;
+//! `specs/Places.antt` says what that number is.
 #![tactic(auto)]
+
+mod laws;
+mod shape;
+
+pub use laws::{parts_apart, parts_within};
+pub use shape::{GeoFault, Geometry};
+
+#[cfg(test)]
+mod tests;

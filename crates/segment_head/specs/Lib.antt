@@ -1,2 +1,4 @@
 pub mod HeadWord
 pub mod Head
+pub mod Sides
+pub mod Written

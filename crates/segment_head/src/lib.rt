@@ -1,12 +1,17 @@
 //! The header of a segment: its version, its state, and which hashes it covers.
-//!
-//! A header is one word of the image. Bits 0 to 7 are a version byte, 8 to 15 the state, 16 to 23 the local
-//! depth and 32 to 63 the pattern; bits 24 to 31 are zero in words that this crate writes.
+//! A [`Head`] is read from one word of the image, and written back; [`Head::sibling`] is the header of the
+//! segment that a split fills. `specs/HeadWord.antt` says what each bit of the word means.
 #![tactic(auto)]
 
-ghost use Rattle.std.specs.Prelude.{◌≡◌, ◌<◌, ◌≤◌, ◌/◌, ◌%◌, IfSome, IfNone, ◌^◌};
+ghost use Rattle.std.specs.Prelude.{◌≡◌, ◌<◌, ◌+◌, ◌*◌, IfSome, IfNone, IsNone, ◌^◌};
 ghost use Rattle.segment_head.specs.HeadWord.{state_in};
-ghost use Rattle.segment_head.specs.Head.{IsHeadOf};
+ghost use Rattle.segment_head.specs.Head.{IsHeadOf, number_of};
+ghost use Rattle.segment_head.specs.Sides.{IsOneSideOf, CoversOnes};
+ghost use Rattle.segment_head.specs.Written.{spare_in};
+
+mod laws;
+
+pub use laws::{head_gives_word, read_of_written, word_gives_head, written_of_read};
 
 /// What a segment is in the middle of.
 #[derive(Clone, Copy, Debug, PartialEq, Eq)]
@@ -24,11 +29,37 @@ pub enum State {
 /// A header.
 #[derive(Clone, Copy, Debug, PartialEq, Eq)]
 pub struct Head {
+    /// The version of the image when the segment was last current.
     pub version: u8,
+    /// What the segment is in the middle of.
     pub state: State,
     /// How many top bits of a hash the pattern is compared with.
     pub depth: u8,
+    /// What these bits are in the hashes that the segment covers.
     pub pattern: u32,
+}
+
+/// The number of a state in a header word, from 0 to 3.
+fn state_number(state: State) -> u64
+    ensures value { result ≡ number_of state }
+    ensures range { result < 4 }
+{
+    match state {
+        State::Free => 0,
+        State::Normal => 1,
+        State::Splitting => 2,
+        State::Fresh => 3,
+    }
+}
+
+/// A word with the bits of `value` put above the `low` bits that it has.
+fn with_bits(word: u64, low: u32, value: u64) -> u64
+    requires place { low < 64 }
+    requires free { word < 2 ^ low }
+    requires fits { value * 2 ^ low < 2 ^ 64 }
+    ensures { result ≡ word + 2 ^ low * value }
+{
+    word | (value << low)
 }
 
 impl Head {
@@ -36,6 +67,7 @@ impl Head {
     pub fn read(h1: u64) -> Option<Head>
         ensures some { IfSome result (λ head. IsHeadOf head h1) }
         ensures none { IfNone result (3 < state_in h1) }
+        ensures refused { 3 < state_in h1 → IsNone result }
     {
         let state = match (h1 >> 8) & 0xFF {
             0 => State::Free,
@@ -51,4 +83,33 @@ impl Head {
             pattern: (h1 >> 32) as u32,
         })
     }
+
+    /// The word of this header. Its bits 24 to 31 are 0.
+    pub fn write(&self) -> u64
+        ensures word { IsHeadOf self.now result }
+        ensures spare { spare_in result ≡ 0 }
+    {
+        let word = u64::from(self.version);
+        let word = with_bits(word, 8, state_number(self.state));
+        let word = with_bits(word, 16, u64::from(self.depth));
+        with_bits(word, 32, u64::from(self.pattern))
+    }
+
+    /// The header of the 1-side: one bit deeper, with a 1 behind the pattern, and else the same.
+    pub fn sibling(&self) -> Head
+        requires depth { self.now.depth < 20 }
+        requires pattern { self.now.pattern < 2 ^ self.now.depth }
+        ensures fields { IsOneSideOf self.now result }
+        ensures covers { CoversOnes self.now result }
+        ensures pattern { result.pattern < 2 ^ result.depth }
+    {
+        Head {
+            depth: self.depth + 1,
+            pattern: 2 * self.pattern + 1,
+            ..*self
+        }
+    }
 }
+
+#[cfg(test)]
+mod tests;

@@ -1,0 +1,201 @@
+//! How an image is laid out.
+
+ghost use Rattle.std.specs.Prelude.{◌≡◌, ◌<◌, ◌≤◌, ◌+◌, ◌*◌, ◌%◌, ◌^◌, IfOk, IfErr};
+ghost use Rattle.image_layout.specs.Places.{IsShape, first_segment, words_of, entry_at, head_at, bucket_at};
+
+use std::error::Error;
+use std::fmt;
+use std::marker::Model;
+
+/// The most slots for segments that an image may have.
+const MOST_SEGMENTS: u64 = 16384;
+/// The greatest depth that a directory may have.
+const MOST_DEPTH: u64 = 16;
+/// How many words a header and a bucket have.
+const BLOCK: u64 = 32;
+/// How many words a segment has: a header, 64 buckets and two stash buckets.
+const SEGMENT: u64 = 2144;
+
+/// The first of the three numbers that is out of range.
+#[derive(Clone, Copy, Debug, PartialEq, Eq)]
+pub enum GeoFault {
+    /// The number of slots for segments is not 1 to 16384.
+    Segments,
+    /// The greatest depth of the directory is not 0 to 16.
+    Depth,
+    /// The way to hash keys is not 0 or 1.
+    Kind,
+}
+
+impl fmt::Display for GeoFault {
+    fn fmt<W: fmt::Write>(&self, f: &mut fmt::Formatter<W>) -> fmt::Result {
+        match self {
+            GeoFault::Segments => write!(f, "the number of segments is not 1 to 16384"),
+            GeoFault::Depth => write!(f, "the greatest depth is not 0 to 16"),
+            GeoFault::Kind => write!(f, "the kind of hash is not 0 or 1"),
+        }
+    }
+}
+
+impl Error for GeoFault {}
+
+/// Two to the power `e`, at most 17.
+fn power(e: u64) -> u64
+    requires { e ≤ 17 }
+    ensures is { result ≡ 2 ^ e }
+    ensures some { 1 ≤ result }
+    ensures most { result ≤ 131072 }
+{
+    1 << e
+}
+
+/// How an image is laid out: three numbers, all in range.
+#[derive(Clone, Copy, Debug, PartialEq, Eq)]
+pub struct Geometry {
+    segments: u64,
+    depth: u64,
+    kind: u64,
+}
+
+impl Model for Geometry {
+    ghost use Rattle.image_layout.specs.Places.{Shape, IsShape};
+
+    ghost Value = { Shape };
+
+    ghost view = { λ a. record { segments = a.segments; depth = a.depth; kind = a.kind } };
+
+    ghost invariant = { λ a. IsShape (record { segments = a.segments; depth = a.depth; kind = a.kind }) };
+
+    ghost inverse = { λ s. record { segments = s.segments; depth = s.depth; kind = s.kind } };
+}
+
+impl Geometry {
+    ghost use Rattle.image_layout.specs.Faults.{HasGeoFault};
+
+    /// An image of up to `segments` segments, 1 to 16384, with a directory of depth at most `depth`, 0 to 16,
+    /// and keys hashed by `kind`: 0 identity, 1 mixed. The error names the first number out of range.
+    pub fn new(segments: u64, depth: u64, kind: u64) -> Result<Geometry, GeoFault>
+        ensures is { IfOk result (λ g. g ≡ record { segments = segments; depth = depth; kind = kind }) }
+        ensures shape { IfOk result IsShape }
+        ensures fault { IfErr result (HasGeoFault segments depth kind) }
+        ensures refused { (f : GeoFault) → HasGeoFault segments depth kind f → result ≡ Err f }
+    {
+        if segments < 1 || segments > MOST_SEGMENTS {
+            return Err(GeoFault::Segments);
+        }
+        if depth > MOST_DEPTH {
+            return Err(GeoFault::Depth);
+        }
+        if kind > 1 {
+            return Err(GeoFault::Kind);
+        }
+        Ok(Geometry {
+            segments,
+            depth,
+            kind,
+        })
+    }
+
+    /// How many slots for segments there are.
+    pub fn segments(&self) -> u64
+        ensures is { result ≡ self.now.segments }
+        ensures some { 1 ≤ result }
+        ensures most { result ≤ 16384 }
+    {
+        self.segments
+    }
+
+    /// The greatest depth of the directory.
+    pub fn depth(&self) -> u64
+        ensures is { result ≡ self.now.depth }
+        ensures most { result ≤ 16 }
+    {
+        self.depth
+    }
+
+    /// How keys are hashed: 0 identity, 1 mixed.
+    pub fn kind(&self) -> u64
+        ensures is { result ≡ self.now.kind }
+        ensures most { result ≤ 1 }
+    {
+        self.kind
+    }
+
+    /// How many words the image has.
+    pub fn words(&self) -> u64
+        ensures is { result ≡ words_of self.now }
+        ensures most { result ≤ 35258400 }
+    {
+        self.first_segment() + SEGMENT * self.segments
+    }
+
+    /// The word where the segments begin: the next multiple of 32 behind the directory's areas.
+    fn first_segment(&self) -> u64
+        ensures is { result ≡ first_segment self.now }
+        ensures most { result ≤ 131104 }
+    {
+        (BLOCK + power(self.depth + 1) - 1).next_multiple_of(BLOCK)
+    }
+
+    /// The word of entry `i`, below 2^e, of the directory area of depth `e`.
+    pub fn entry_at(&self, e: u64, i: u64) -> u64
+        requires depth { e ≤ self.now.depth }
+        requires index { i < 2 ^ e }
+        ensures is { result ≡ entry_at e i }
+        ensures from { 32 ≤ result }
+        ensures within { result < first_segment self.now }
+        ensures below { result < words_of self.now }
+        ensures most { result < 131104 }
+    {
+        let _ = &self.depth;
+        BLOCK + power(e) - 1 + i
+    }
+
+    /// The first of the 32 words of the header of the segment in this slot.
+    pub fn head_at(&self, slot: u64) -> u64
+        requires { slot < self.now.segments }
+        ensures is { result ≡ head_at self.now slot }
+        ensures aligned { result % 32 ≡ 0 }
+        ensures within { result + 2144 ≤ words_of self.now }
+        ensures most { result + 2144 ≤ 35258400 }
+    {
+        let _ = &self.segments;
+        self.first_segment() + SEGMENT * slot
+    }
+
+    /// The first of the 32 words of bucket `b`, 0 to 63, of the segment in this slot.
+    pub fn bucket_at(&self, slot: u64, b: u8) -> u64
+        requires slot { slot < self.now.segments }
+        requires bucket { b < 64 }
+        ensures is { result ≡ bucket_at self.now slot b }
+        ensures aligned { result % 32 ≡ 0 }
+        ensures within { result + 32 ≤ words_of self.now }
+        ensures most { result + 32 ≤ 35258400 }
+    {
+        self.block_at(slot, b)
+    }
+
+    /// The first of the 32 words of stash bucket `k`, 0 or 1, of the segment in this slot.
+    pub fn stash_at(&self, slot: u64, k: u8) -> u64
+        requires slot { slot < self.now.segments }
+        requires stash { k < 2 }
+        ensures is { result ≡ bucket_at self.now slot (64 + k) }
+        ensures aligned { result % 32 ≡ 0 }
+        ensures within { result + 32 ≤ words_of self.now }
+        ensures most { result + 32 ≤ 35258400 }
+    {
+        self.block_at(slot, 64 + k)
+    }
+
+    /// The first word of bucket `b`, 0 to 65 with the stash buckets, of the segment in this slot.
+    fn block_at(&self, slot: u64, b: u8) -> u64
+        requires slot { slot < self.now.segments }
+        requires bucket { b < 66 }
+        ensures is { result ≡ bucket_at self.now slot b }
+        ensures aligned { result % 32 ≡ 0 }
+        ensures within { result + 32 ≤ words_of self.now }
+        ensures most { result + 32 ≤ 35258400 }
+    {
+        self.head_at(slot) + BLOCK + BLOCK * u64::from(b)
+    }
+}

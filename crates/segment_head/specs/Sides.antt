@@ -1,0 +1,27 @@
+-- Which hashes a header covers, and its 1-side.
+use Rattle.std.specs.Prelude.{◌≡◌, ℕ, ◌+◌, ◌-◌, ◌*◌, ◌/◌, ◌%◌, ◌^◌, ◌<◌, ◌↔◌}
+use Rattle.segment_head.specs.declared.State.{State}
+use Rattle.segment_head.specs.declared.Head.{Head}
+
+-- the top d of the 64 bits of a hash
+abbrev pub top_bits : ℕ → ℕ → ℕ
+top_bits d h = h / 2 ^ (64 - d)
+
+-- the bit of a hash that follows its top d bits
+abbrev pub next_bit : ℕ → ℕ → ℕ
+next_bit d h = top_bits (d + 1) h % 2
+
+-- a header covers a hash whose top bits, as many as its depth, are its pattern
+abbrev pub CoversHash : Head → ℕ → Type 0
+CoversHash head h = top_bits head.depth h ≡ head.pattern
+
+-- the side is one bit deeper, its pattern has a 1 behind the head's, and all else is the head's
+pub record IsOneSideOf (head side : Head) : Type 0 where
+  pub version : side.version ≡ head.version
+  pub state : side.state ≡ head.state
+  pub depth : side.depth ≡ head.depth + 1
+  pub pattern : side.pattern ≡ 2 * head.pattern + 1
+
+-- the side covers exactly the hashes that the head covers and whose next bit is 1
+abbrev pub CoversOnes : Head → Head → Type 0
+CoversOnes head side = (h : ℕ) → h < 2 ^ 64 → CoversHash side h ↔ (CoversHash head h × (next_bit head.depth h ≡ 1))

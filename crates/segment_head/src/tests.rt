@@ -1,0 +1,37 @@
+// Header words from outside, read and written.
+use super::*;
+
+#[test]
+fn words_from_outside(rt: HostRuntime) {
+    let table = [
+        (257, 1, State::Normal, 0, 0),
+        (513, 1, State::Splitting, 0, 0),
+        (258, 2, State::Normal, 0, 0),
+        (4295033601, 1, State::Fresh, 1, 1),
+        (0, 0, State::Free, 0, 0),
+    ];
+    for (word, version, state, depth, pattern) in table {
+        let head = Head {
+            version,
+            state,
+            depth,
+            pattern,
+        };
+        assert_eq!(rt; Head::read(word), Some(head), "at {word}");
+        assert_eq!(rt; head.write(), word);
+        assert_eq!(rt; read_of_written(&head), Some(head));
+    }
+    assert_eq!(rt; Head::read(0x0401), None);
+    assert_eq!(rt; written_of_read(257), Some(257));
+}
+
+#[test]
+fn the_sibling_of_the_first_segment(rt: HostRuntime) {
+    let first = Head {
+        version: 1,
+        state: State::Fresh,
+        depth: 0,
+        pattern: 0,
+    };
+    assert_eq!(rt; first.sibling().write(), 4295033601);
+}
