@@ -1,0 +1,3 @@
+pub mod OneLive
+pub mod Notes
+pub mod EmptySound

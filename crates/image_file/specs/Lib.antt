@@ -1,0 +1,7 @@
+pub mod Lending
+pub mod Formatted
+pub mod Stage
+pub mod Unnoted
+pub mod Breach
+pub mod Slots
+pub mod Given

@@ -1,0 +1,15 @@
+//! Bytes to a sound image and back.
+//! An image's file is its words, eight bytes each; [`from_bytes`] reads one and says what is wrong with bytes that are
+//! none, [`to_bytes`] writes one. [`format`] makes the image of an empty table, [`check`] and [`list`] say what an image
+//! holds.
+#![tactic(auto)]
+
+mod formatted;
+mod medium;
+mod records;
+mod rules;
+mod words;
+
+pub use formatted::format;
+pub use medium::{Medium, to_bytes};
+pub use words::Words;
