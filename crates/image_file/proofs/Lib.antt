@@ -1,3 +1,9 @@
 pub mod OneLive
 pub mod Notes
 pub mod EmptySound
+pub mod Hashes
+pub mod OneSegment
+pub mod KeyRules
+pub mod Repaired
+pub mod ServedWords
+pub mod Answered

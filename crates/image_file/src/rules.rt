@@ -91,7 +91,7 @@ pub(crate) fn rule_eight(geometry: &Geometry, words: &[u64]) -> Option<u64>
     if words[ROOT_WORD] != 0 {
         return Some(ROOT_WORD as u64);
     }
-    if words[STATE_WORD] >> 8 & 1 == 0 {
+    if (words[STATE_WORD] >> 8) % 2 == 0 {
         return Some(STATE_WORD as u64);
     }
     let header = geometry.head_at(0) + 1;
@@ -108,7 +108,7 @@ pub(crate) fn rule_three(geometry: &Geometry, words: &[u64]) -> Option<u64>
     ensures none { IfNone result ((w : ℕ) → EntriesLead geometry.now (slice_index words.now) w) }
     ensures some { IfSome result (λ w. IsLeast (EntriesLead geometry.now (slice_index words.now)) w) }
 {
-    let _ = geometry.words();
+    let _ = geometry.segments();
     if words[ENTRY_WORD] == 0 {
         None
     } else {
@@ -169,7 +169,7 @@ fn bucket_breach(geometry: &Geometry, words: &[u64], b: u8) -> Option<u64>
     ensures some { IfSome result (λ w. IsBrokenIn geometry.now (slice_index words.now) b w) }
 {
     let at = bucket_word(geometry, b);
-    if words[at] & 1 == 1 {
+    if words[at] % 2 == 1 {
         return Some(at as u64);
     }
     if b < HOMES && !is_unnoted(geometry, words, b) {
