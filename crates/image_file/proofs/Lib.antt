@@ -7,3 +7,6 @@ pub mod KeyRules
 pub mod Repaired
 pub mod ServedWords
 pub mod Answered
+pub mod Breaches
+pub mod FileWords
+pub mod Accepted

@@ -4,12 +4,17 @@
 //! holds.
 #![tactic(auto)]
 
+mod breach;
+mod fault;
 mod formatted;
 mod medium;
+mod read;
 mod records;
 mod rules;
 mod words;
 
+pub use fault::ImageFault;
 pub use formatted::format;
 pub use medium::{Medium, to_bytes};
+pub use read::from_bytes;
 pub use words::Words;

@@ -7,7 +7,7 @@ ghost use Rattle.image_file.specs.Lending.{LendsWords};
 use std::marker::Model;
 
 // Each of these words is of 64 bits.
-fn each_fits(words: &[u64])
+pub(crate) fn each_fits(words: &[u64])
     ensures { (i : ℕ) → slice_index words.now i < 2 ^ 64 }
 {
     let _ = words;
