@@ -1,6 +1,6 @@
 //! Bytes that are looked at as the file of an image.
 
-ghost use Rattle.std.specs.Prelude.{◌≡◌, ℕ, ◌+◌, ◌*◌, ◌%◌, ◌≤◌, List, length, slice_index, IfOk, IfErr, Err};
+ghost use Rattle.std.specs.Prelude.{◌≡◌, ℕ, ◌+◌, ◌*◌, ◌%◌, ◌<◌, ◌≤◌, List, length, slice_index, IfOk, IfErr, Err};
 ghost use Rattle.image_layout.specs.Places.{Shape, words_of};
 ghost use Rattle.sound_image.specs.Image.{image_bytes, IsSoundImage};
 ghost use Rattle.image_file.specs.Stage.{PassesRule8};
@@ -27,6 +27,13 @@ fn word_at(bytes: &[u8], index: usize) -> u64
     LittleEndian::read_u64(&bytes[WORD_BYTES * index..])
 }
 
+// Each of these bytes is of 8 bits.
+fn each_byte_fits(bytes: &[u8])
+    ensures { (i : ℕ) → slice_index bytes.now i < 256 }
+{
+    let _ = bytes;
+}
+
 /// The words of a file.
 fn words_in(alloc: Global, bytes: &[u8]) -> Result<Words, NoMemory>
     requires { length bytes.now % 8 ≡ 0 }
@@ -34,6 +41,7 @@ fn words_in(alloc: Global, bytes: &[u8]) -> Result<Words, NoMemory>
 {
     let mut words = vec![in alloc; 0u64; bytes.len() / WORD_BYTES]?;
     LittleEndian::read_u64_into(bytes, &mut words);
+    each_byte_fits(bytes);
     Ok(Words::new(words))
 }
 
