@@ -10,3 +10,4 @@ pub mod Answered
 pub mod Breaches
 pub mod FileWords
 pub mod Accepted
+pub mod Listed

@@ -6,3 +6,4 @@ pub mod Breach
 pub mod Fault
 pub mod Slots
 pub mod Given
+pub mod Pairs

@@ -11,10 +11,12 @@ mod medium;
 mod read;
 mod records;
 mod rules;
+mod summary;
 mod words;
 
 pub use fault::ImageFault;
 pub use formatted::format;
 pub use medium::{Medium, to_bytes};
 pub use read::from_bytes;
+pub use summary::{Summary, check, list};
 pub use words::Words;

@@ -21,7 +21,7 @@ use image_layout::Geometry;
 const SEGMENTS_WORD: u64 = 2;
 
 /// The word of the directory's depth.
-const ROOT_WORD: usize = 8;
+pub(crate) const ROOT_WORD: usize = 8;
 
 /// The first word of the directory, the entry of depth 0.
 const ENTRY_WORD: usize = 32;
