@@ -64,9 +64,11 @@ module _ (bytes words : List ℕ) (file : bytes ≡ image_bytes words) (fits : (
 
     -- a breach of the words is one of the bytes
     pub breach-HasFault : (n w : ℕ) → IsFirstBreach shape (slice_index words) n w → HasFault bytes (Unsound n w)
-    breach-HasFault n w breach =
-        (framed, subst (λ (s : Shape). IsFirstBreach s (word_in_file bytes) n w) is
-            (subst (λ (word : ImageWords). IsFirstBreach shape word n w) (sym spelled) breach))
+    breach-HasFault n w breach = (
+      framed,
+      subst (λ (s : Shape). IsFirstBreach s (word_in_file bytes) n w) is
+          (subst (λ (word : ImageWords). IsFirstBreach shape word n w) (sym spelled) breach),
+    )
 
 -- A SERVED FILE has no fault
 module _ (bytes : List ℕ) (f : IsServedFile bytes) where

@@ -51,8 +51,8 @@ bytes_spell (w ∷ words) bytes long fits each =
     let front : take 8 bytes ≡ little_bytes 8 w = first_word bytes w (omega arith) fits (each 0 (omega arith)) in
     let later : (i : ℕ) → i < length words → slice_index words i ≡ word_in_file rest i =
     λ i h.
-        let further : 8 + 8 * i ≡ 8 * suc i = omega arith in
-        each (suc i) (omega arith) ∙ ap (little_number 8) (ap (λ n. drop n bytes) (sym further) ∙ sym (drop-drop (8 * i) 8 bytes)) in
+    let further : 8 + 8 * i ≡ 8 * suc i = omega arith in
+    each (suc i) (omega arith) ∙ ap (little_number 8) (ap (λ n. drop n bytes) (sym further) ∙ sym (drop-drop (8 * i) 8 bytes)) in
     let shorter : length rest ≡ 8 * length words = length-drop 8 bytes ∙ omega arith in
     let back : rest ≡ image_bytes words = bytes_spell words rest shorter (λ k. subst (λ n. n < 256) (sym (get_or-drop 8 bytes k 0)) (fits (8 + k))) later in
     sym (take-append-drop 8 bytes) ∙ ap (λ bs. bs ++ rest) front ∙ ap (λ bs. little_bytes 8 w ++ bs) back

@@ -27,9 +27,9 @@ module _ (shape : Shape) (word : ImageWords) where
   keys_before rule b r c t buckets before slot fits taken less =
       ⊎_elim (λ lower. buckets c lower t fits taken)
       (λ (higher : b ≤ c).
-          let same : c ≡ b = omega (arith, less) in
-          let earlier : t < r = omega (arith, less) in
-          in_bucket rule b r c t before same earlier taken)
+      let same : c ≡ b = omega (arith, less) in
+      let earlier : t < r = omega (arith, less) in
+      in_bucket rule b r c t before same earlier taken)
       (cases_lt c b)
 
 module _ (shape : Shape) (word : ImageWords) (i : IsServedImage shape word) where
@@ -72,8 +72,8 @@ module _ (shape : Shape) (word : ImageWords) (i : IsServedImage shape word) wher
         broken = λ stand. k.first.broken (right_marked k.b k.r there (stand 0 k.b k.r (own_record shape word i k.b k.r there) k.at_key));
         words_before = λ v less. stand_at v
             (λ c t one at.
-                let earlier : key_at shape 0 c t < key_at shape 0 k.b k.r = omega (arith, less, at, k.at_key) in
-                keys_before shape word Marks k.b k.r c t k.buckets_before k.first.before k.first.slot one.slot one.is_allocated earlier);
+            let earlier : key_at shape 0 c t < key_at shape 0 k.b k.r = omega (arith, less, at, k.at_key) in
+            keys_before shape word Marks k.b k.r c t k.buckets_before k.first.before k.first.slot one.slot one.is_allocated earlier);
       }
 
   -- TWO RECORDS of one key stand in one bucket
@@ -84,8 +84,7 @@ module _ (shape : Shape) (word : ImageWords) (i : IsServedImage shape word) wher
   pub twin_before : (b r c t : ℕ) → HasRecord shape word 0 b r → HasRecord shape word 0 c t → key_at shape 0 c t < key_at shape 0 b r
       → slot_key shape word 0 c t ≡ slot_key shape word 0 b r → (c ≡ b) × IsTwin shape word b r t
   twin_before b r c t there other less same =
-      let bucket = same_bucket b r c t there other same in
-      (
+      let bucket = same_bucket b r c t there other same in (
         bucket,
         record {
           earlier = omega (arith, less, bucket);
@@ -126,6 +125,6 @@ module _ (shape : Shape) (word : ImageWords) (i : IsServedImage shape word) wher
         broken = λ one. k.first.broken (right_one_value k.b k.r there (one 0 k.b k.r (own_record shape word i k.b k.r there) k.at_key));
         words_before = λ v less. values_at v
             (λ c t one at.
-                let earlier : key_at shape 0 c t < key_at shape 0 k.b k.r = omega (arith, less, at, k.at_key) in
-                keys_before shape word Value k.b k.r c t k.buckets_before k.first.before k.first.slot one.slot one.is_allocated earlier);
+            let earlier : key_at shape 0 c t < key_at shape 0 k.b k.r = omega (arith, less, at, k.at_key) in
+            keys_before shape word Value k.b k.r c t k.buckets_before k.first.before k.first.slot one.slot one.is_allocated earlier);
       }

@@ -11,3 +11,4 @@ pub mod Breaches
 pub mod FileWords
 pub mod Accepted
 pub mod Listed
+pub mod RoundTrip

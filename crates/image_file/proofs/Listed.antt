@@ -88,10 +88,10 @@ module _ (shape : Shape) (word : ImageWords) where
   among (suc n) pair h =
       ⊎_elim
       (λ (holds : has_record shape word n ≡ true).
-          ⊎_elim (λ (old : Contains (pairs_below shape word n) pair). raised n pair (among n pair old))
-          (λ (new : pair_in shape word n ≡ pair). record { slot = n; below = omega arith; there = holds; is = new })
-          (Contains-push_cases (pairs_below shape word n) (pair_in shape word n) pair
-          (subst (λ (xs : List (ℕ × ℕ)). Contains xs pair) (with_record n holds) h)))
+      ⊎_elim (λ (old : Contains (pairs_below shape word n) pair). raised n pair (among n pair old))
+      (λ (new : pair_in shape word n ≡ pair). record { slot = n; below = omega arith; there = holds; is = new })
+      (Contains-push_cases (pairs_below shape word n) (pair_in shape word n) pair
+      (subst (λ (xs : List (ℕ × ℕ)). Contains xs pair) (with_record n holds) h)))
       (λ (fails : has_record shape word n ≡ false). raised n pair (among n pair (subst (λ (xs : List (ℕ × ℕ)). Contains xs pair) (without_record n fails) h)))
       (bool_cases (has_record shape word n))
 
@@ -115,12 +115,12 @@ module _ (shape : Shape) (word : ImageWords) where
   contained (suc n) t h there =
       ⊎_elim
       (λ (lower : t < n). subst (λ (xs : List (ℕ × ℕ)). Contains xs (pair_in shape word t)) (sym (more n))
-          (Contains-append_left (pairs_below shape word n) (pair_if_there shape word n) (pair_in shape word t) (contained n t lower there)))
+      (Contains-append_left (pairs_below shape word n) (pair_if_there shape word n) (pair_in shape word t) (contained n t lower there)))
       (λ (last : n ≤ t).
-          let same : n ≡ t = omega arith in
-          subst (λ m. Contains (pairs_below shape word (suc n)) (pair_in shape word m)) same
-          (subst (λ (xs : List (ℕ × ℕ)). Contains xs (pair_in shape word n)) (sym (with_record n (ap (has_record shape word) same ∙ there)))
-          (Contains-push (pairs_below shape word n) (pair_in shape word n))))
+      let same : n ≡ t = omega arith in
+      subst (λ m. Contains (pairs_below shape word (suc n)) (pair_in shape word m)) same
+      (subst (λ (xs : List (ℕ × ℕ)). Contains xs (pair_in shape word n)) (sym (with_record n (ap (has_record shape word) same ∙ there)))
+      (Contains-push (pairs_below shape word n) (pair_in shape word n))))
       (cases_lt t n)
 
 module _ (shape : Shape) (words : List ℕ) (sound : IsSoundImage shape words) (served : PassesRule8 shape (slice_index words)) where
@@ -203,12 +203,12 @@ module _ (shape : Shape) (words : List ℕ) (sound : IsSoundImage shape words) (
       let front = distinct n (omega arith) in
       ⊎_elim
       (λ (holds : has_record shape word n ≡ true).
-          subst (λ (xs : List (ℕ × ℕ)). IsDistinct eqb (keys_of xs)) (sym (with_record shape word n holds))
-          (subst (IsDistinct eqb) (sym (map-append _ (pairs_below shape word n) (pair_in shape word n ∷ [])))
-          (IsDistinct-push nat_eq_equiv (keys_of (pairs_below shape word n)) (slot_key shape word 0 (n / 14) (n % 14)) front
-          (none_equal n _ (λ t less there. apart t n less (omega arith) there holds)))))
+      subst (λ (xs : List (ℕ × ℕ)). IsDistinct eqb (keys_of xs)) (sym (with_record shape word n holds))
+      (subst (IsDistinct eqb) (sym (map-append _ (pairs_below shape word n) (pair_in shape word n ∷ [])))
+      (IsDistinct-push nat_eq_equiv (keys_of (pairs_below shape word n)) (slot_key shape word 0 (n / 14) (n % 14)) front
+      (none_equal n _ (λ t less there. apart t n less (omega arith) there holds)))))
       (λ (fails : has_record shape word n ≡ false).
-          subst (λ (xs : List (ℕ × ℕ)). IsDistinct eqb (keys_of xs)) (sym (without_record shape word n fails)) front)
+      subst (λ (xs : List (ℕ × ℕ)). IsDistinct eqb (keys_of xs)) (sym (without_record shape word n fails)) front)
       (bool_cases (has_record shape word n))
 
   pub listed-ArePairs : ArePairs shape word (pairs_below shape word 924)

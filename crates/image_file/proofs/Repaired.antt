@@ -89,13 +89,13 @@ module _ (shape : Shape) (word : ImageWords) (i : IsServedImage shape word) wher
         broken = λ rule. here.broken (from_rule b w below rule);
         words_before = λ v less. repaired_at v
             (λ c bucket.
-                ⊎_elim (λ (lower : c < b). before c lower v)
-                (λ (higher : b ≤ c).
-                    ⊎_elim (λ (later : b < c). behind b c w v later here.within less)
-                    (λ (level : c ≤ b). let same : c ≡ b = omega arith in
-                    subst (λ d. IsRepairedAt shape word d v) (sym same) (here.before v less))
-                    (cases_lt b c))
-                (cases_lt c b));
+            ⊎_elim (λ (lower : c < b). before c lower v)
+            (λ (higher : b ≤ c).
+            ⊎_elim (λ (later : b < c). behind b c w v later here.within less)
+            (λ (level : c ≤ b). let same : c ≡ b = omega arith in
+            subst (λ d. IsRepairedAt shape word d v) (sym same) (here.before v less))
+            (cases_lt b c))
+            (cases_lt c b));
       }
 
 -- ONE BUCKET: its least broken word, where it is unlocked and has no notes, is the first key that stands twice

@@ -7,6 +7,7 @@
 mod breach;
 mod fault;
 mod formatted;
+mod laws;
 mod medium;
 mod read;
 mod records;
@@ -16,7 +17,11 @@ mod words;
 
 pub use fault::ImageFault;
 pub use formatted::format;
+pub use laws::read_of_written;
 pub use medium::{Medium, to_bytes};
 pub use read::from_bytes;
 pub use summary::{Summary, check, list};
 pub use words::Words;
+
+#[cfg(test)]
+mod tests;

@@ -92,11 +92,7 @@ fn count_pairs(geometry: &Geometry, words: &[u64]) -> u64
 }
 
 /// The pairs of the first segment, in the order of their record slots.
-fn all_pairs(
-    alloc: Global,
-    geometry: &Geometry,
-    words: &[u64],
-) -> Result<Vec<(u64, u64)>, NoMemory>
+fn all_pairs(alloc: Global, geometry: &Geometry, words: &[u64]) -> Result<Vec<(u64, u64)>, NoMemory>
     requires whole { length words.now ≡ words_of geometry.now }
     ensures { IfOk result (λ pairs. pairs.items ≡ pairs_below geometry.now (slice_index words.now) 924) }
 {

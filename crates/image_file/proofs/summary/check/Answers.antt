@@ -19,12 +19,11 @@ returns-clause-live c =
     ∙ ap (λ (words : List ℕ). length (live_slots (frame_of c.args.medium.now.geometry (slice_index words)) c.args.medium.now.geometry.segments)) c.as_slice-words.ensures.value
 
 pub returns-clause-pairs : goal.returns-clause-pairs
-returns-clause-pairs c =
-    (
-      pairs_below c.args.medium.now.geometry (slice_index c.args.medium.now.words) 924,
-      listed-ArePairs c.args.medium.now.geometry c.args.medium.now.words c.requires.sound c.requires.served,
-      c.count_pairs.ensures ∙ ap (λ (words : List ℕ). length (pairs_below c.args.medium.now.geometry (slice_index words) 924)) c.as_slice-words.ensures.value,
-    )
+returns-clause-pairs c = (
+  pairs_below c.args.medium.now.geometry (slice_index c.args.medium.now.words) 924,
+  listed-ArePairs c.args.medium.now.geometry c.args.medium.now.words c.requires.sound c.requires.served,
+  c.count_pairs.ensures ∙ ap (λ (words : List ℕ). length (pairs_below c.args.medium.now.geometry (slice_index words) 924)) c.as_slice-words.ensures.value,
+)
 
 pub returns-clause-clean : goal.returns-clause-clean
 returns-clause-clean c =
