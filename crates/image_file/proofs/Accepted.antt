@@ -1,17 +1,17 @@
 -- Bytes that pass every look are the file of a sound image that the program serves, and such a file has no fault.
-use Rattle.std.proofs.Common.{◌≡◌, ◌≢◌, ℕ, ◌+◌, ◌*◌, ◌/◌, ◌%◌, ◌^◌, ◌<◌, ◌≤◌, ◌⊎◌, refl, sym, ap, subst, ◌∙◌, arith, inl, inr, List, length}
+use Rattle.std.proofs.Common.{◌≡◌, ℕ, ◌*◌, ◌/◌, ◌^◌, ◌<◌, refl, sym, ap, subst, ◌∙◌, arith, inl, inr, List, length}
 use Rattle.std.specs.Prelude.{slice_index}
 use Rattle.image_layout.specs.Places.{Shape, IsShape, words_of}
 use Rattle.image_layout.specs.Faults.{HasGeoFault}
 use Rattle.image_layout.specs.declared.shape.GeoFault.{GeoFault}
 use Rattle.image_layout.specs.declared.shape.GeoFault.TheVariants.{Segments, Depth, Kind}
 use Rattle.sound_image.specs.Segments.{ImageWords}
-use Rattle.sound_image.specs.Image.{image_bytes, magic, format_word, SaysShape, IsSoundImage}
+use Rattle.sound_image.specs.Image.{image_bytes, SaysShape, IsSoundImage}
 use Rattle.image_file.specs.declared.fault.ImageFault.{ImageFault}
 use Rattle.image_file.specs.declared.fault.ImageFault.TheVariants.{Length, Magic, Format, Geometry, Unsound, NoMemory}
 use Rattle.image_file.specs.Stage.{PassesRule8}
 use Rattle.image_file.specs.Breach.{HoldsAt, IsFirstBreach}
-use Rattle.image_file.specs.Fault.{word_in_file, shape_in, HasMagic, HasFormat, IsFramed, HasFront, HasFault, IsServedFile}
+use Rattle.image_file.specs.Fault.{word_in_file, shape_in, HasMagic, HasFormat, IsFramed, HasFault, IsServedFile}
 use Rattle.image_file.proofs.FileWords.{length-image_bytes, words_there}
 
 -- A SHAPE that Geometry refuses is none

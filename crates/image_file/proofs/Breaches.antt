@@ -1,10 +1,10 @@
 -- The first breach, from what each rule says of the words.
-use Rattle.std.proofs.Common.{◌≡◌, ℕ, ◌<◌, ◌≤◌, refl, subst, arith}
+use Rattle.std.proofs.Common.{◌≡◌, ℕ, ◌<◌, refl, subst, arith}
 use Rattle.image_layout.specs.Places.{Shape}
 use Rattle.sound_image.specs.Segments.{ImageWords}
 use Rattle.sound_image.specs.Rules.{NumbersFit, HashesAreOwned, EntriesLead, RecordsStandRight, KeysHaveOneValue, VersionsArePast, CleanMeansRepaired}
 use Rattle.image_file.specs.Breach.{IsLeast, turn_of, HoldsAt, IsFirstBreach}
-use Rattle.image_file.specs.Stage.{IsServed, PassesRule8}
+use Rattle.image_file.specs.Stage.{IsServed}
 use Rattle.image_file.specs.Given.{IsServedImage}
 use Rattle.image_file.proofs.OneSegment.{hashes_owned, versions_past}
 

@@ -1,19 +1,19 @@
 -- The image of an empty table is a sound image, holds no pair, and passes rule 8 where it has one slot for a segment.
-use Rattle.std.proofs.Common.{◌≡◌, ℕ, ◌+◌, ◌*◌, ◌/◌, ◌%◌, ◌^◌, ◌<◌, ◌≤◌, ◌⊎◌, refl, sym, ap, subst, ◌∙◌, arith, inl, inr, ⊎_elim, List}
+use Rattle.std.proofs.Common.{◌≡◌, ℕ, ◌+◌, ◌/◌, ◌%◌, ◌^◌, ◌<◌, ◌≤◌, sym, ap, subst, ◌∙◌, arith, inl, inr, ⊎_elim, List}
 use Rattle.std.specs.Prelude.{slice_index}
 use Rattle.std.proofs.lemmas.Bool.{cases_lt}
 use Rattle.std.proofs.Math.Nat.{zero-div, zero-mod}
 use Rattle.bucket_meta.specs.Bucket.{bits, lock_of, allocated, note_used, overflow_count}
-use Rattle.segment_head.specs.HeadWord.{version_in, state_in, depth_in, pattern_in, free, normal}
+use Rattle.segment_head.specs.HeadWord.{version_in, state_in, depth_in, pattern_in, normal}
 use Rattle.image_layout.specs.Places.{Shape, IsShape, entry_at, head_at, bucket_at}
-use Rattle.sound_image.specs.Segments.{ImageWords, Frame, frame_of, image_version, IsClean, state_at, depth_at, IsLive}
-use Rattle.sound_image.specs.Directory.{HeadInRange, LinkInRange, VersionIsPast}
+use Rattle.sound_image.specs.Segments.{ImageWords, Frame, frame_of, image_version, IsClean, state_at, IsLive}
+use Rattle.sound_image.specs.Directory.{HeadInRange, VersionIsPast}
 use Rattle.sound_image.specs.Records.{word_in, HasRecord, HasPair, HasExactNotes}
 use Rattle.sound_image.specs.Rules.{FollowsRules}
 use Rattle.sound_image.specs.Image.{IsSoundImage}
 use Rattle.image_file.specs.Formatted.{IsFormatted}
 use Rattle.image_file.specs.Stage.{PassesRule8}
-use Rattle.image_file.specs.Unnoted.{HasNote, IsUnnoted}
+use Rattle.image_file.specs.Unnoted.{HasNote}
 use Rattle.image_file.proofs.OneLive.{IsOneLive, has_owners, shares_well, entry_leads}
 use Rattle.image_file.proofs.Notes.{unnoted-exact}
 

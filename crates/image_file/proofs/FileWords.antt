@@ -3,11 +3,10 @@ use Rattle.std.proofs.Common.{◌≡◌, ℕ, zero, suc, ◌+◌, ◌*◌, ◌<�
 use Rattle.std.proofs.lemmas.Bool.{cases_lt}
 use Rattle.std.specs.Prelude.{slice_index}
 use Rattle.std.specs.Int.{w64, from_le_bytes}
-use Rattle.std.proofs.lemmas.List.{take-append-drop, take_at, drop_at, drop-drop, drop_all, get_or-drop, get_or-take, get_or_past, length-take-le}
+use Rattle.std.proofs.lemmas.List.{take-append-drop, drop_at, drop-drop, drop_all, get_or-drop, get_or-take, get_or_past, length-take-le}
 use Rattle.std.proofs.lemmas.Nat.{le_bytes_8}
 use Rattle.byteorder.specs.Endian.{little_bytes, little_number}
 use Rattle.byteorder.specs.Numbers.{little_number-reads_back, little_from-take}
-use Rattle.sound_image.specs.Segments.{ImageWords}
 use Rattle.sound_image.specs.Image.{image_bytes}
 use Rattle.image_file.specs.Fault.{word_in_file}
 

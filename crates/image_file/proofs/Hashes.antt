@@ -1,6 +1,6 @@
 -- The hash of a key of 64 bits has 64 bits.
-use Rattle.std.proofs.Common.{◌≡◌, ℕ, ◌*◌, ◌/◌, ◌%◌, ◌^◌, ◌<◌, ◌≤◌, arith, Bool, true, false}
-use Rattle.std.specs.Prelude.{◌==◌, if◌then◌else◌, bit_xor}
+use Rattle.std.proofs.Common.{ℕ, ◌*◌, ◌/◌, ◌%◌, ◌^◌, ◌<◌, arith, Bool, true, false}
+use Rattle.std.specs.Prelude.{◌==◌, if◌then◌else◌}
 use Rattle.std.proofs.lemmas.Nat.{xor_lt, shr_le}
 use Rattle.hash_word.specs.Hash.{folded, mixed, home_of}
 use Rattle.image_layout.specs.Places.{Shape}

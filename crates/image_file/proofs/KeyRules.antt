@@ -1,18 +1,18 @@
 -- Of an image that passes rules 1 and 8, rules 4 and 5 speak of the records of one bucket: of their marks, and of two
 -- records of one key.
-use Rattle.std.proofs.Common.{◌≡◌, ◌≢◌, ℕ, ◌+◌, ◌*◌, ◌%◌, ◌<◌, ◌≤◌, ◌⊎◌, refl, sym, ap, subst, ◌∙◌, arith, inl, inr, ⊎_elim}
+use Rattle.std.proofs.Common.{◌≡◌, ℕ, ◌<◌, ◌≤◌, sym, ap, subst, ◌∙◌, arith, inl, inr, ⊎_elim}
 use Rattle.std.proofs.lemmas.Bool.{cases_lt}
-use Rattle.hash_word.specs.Hash.{home_of, probing_of}
+use Rattle.hash_word.specs.Hash.{home_of}
 use Rattle.bucket_meta.specs.Bucket.{member}
 use Rattle.image_layout.specs.Places.{Shape, key_at}
 use Rattle.sound_image.specs.Segments.{ImageWords}
-use Rattle.sound_image.specs.Records.{key_hash, word_in, slot_key, slot_value, slot_hash, HasRecord, HasOwnRecord}
-use Rattle.sound_image.specs.Rules.{InItsBucket, StandsRight, SameValueAsBefore, NotBefore, RecordsStandRight, KeysHaveOneValue}
+use Rattle.sound_image.specs.Records.{key_hash, word_in, slot_key, slot_value, slot_hash, HasRecord}
+use Rattle.sound_image.specs.Rules.{InItsBucket, StandsRight, SameValueAsBefore, RecordsStandRight, KeysHaveOneValue}
 use Rattle.image_file.specs.declared.records.RecordRule.{RecordRule}
-use Rattle.image_file.specs.declared.records.RecordRule.TheVariants.{Home, Marks, Value, Once}
+use Rattle.image_file.specs.declared.records.RecordRule.TheVariants.{Marks, Value}
 use Rattle.image_file.specs.Breach.{IsLeast}
 use Rattle.image_file.specs.Given.{IsServedImage}
-use Rattle.image_file.specs.Slots.{IsTaken, IsTwin, IsMarked, Follows, FollowBelow, IsFirstBroken, BucketsFollow, IsFirstKey}
+use Rattle.image_file.specs.Slots.{IsTaken, IsTwin, IsMarked, Follows, FollowBelow, BucketsFollow, IsFirstKey}
 use Rattle.image_file.proofs.Hashes.{home_of-below}
 use Rattle.image_file.proofs.OneSegment.{is_first, own_record, at_home, is_current}
 

@@ -1,5 +1,5 @@
 -- Where the segment in slot 0 alone is live, and is normal and of depth 0, it owns every hash.
-use Rattle.std.proofs.Common.{◌≡◌, ℕ, ◌+◌, ◌*◌, ◌-◌, ◌/◌, ◌^◌, ◌<◌, ◌≤◌, refl, sym, ap, subst, ◌∙◌, arith, inl}
+use Rattle.std.proofs.Common.{◌≡◌, ℕ, ◌*◌, ◌-◌, ◌^◌, ◌<◌, ◌≤◌, sym, ap, subst, ◌∙◌, arith, inl}
 use Rattle.std.proofs.Math.Nat.{div-eq_of_lt}
 use Rattle.hash_word.specs.Hash.{top}
 use Rattle.segment_head.specs.HeadWord.{normal}

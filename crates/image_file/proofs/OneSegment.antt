@@ -1,14 +1,14 @@
 -- An image that passes rules 1 and 8 has one segment, which owns every hash: rules 2 and 6 hold, and rule 3 says that
 -- the directory's entry is 0.
-use Rattle.std.proofs.Common.{◌≡◌, ◌≢◌, ℕ, ◌+◌, ◌-◌, ◌*◌, ◌^◌, ◌<◌, ◌≤◌, refl, sym, ap, subst, ◌∙◌, arith, inl, inr}
+use Rattle.std.proofs.Common.{◌≡◌, ◌≢◌, ℕ, ◌+◌, ◌^◌, ◌<◌, refl, sym, ap, subst, ◌∙◌, arith, inl}
 use Rattle.std.proofs.lemmas.Nat.{pow_pos}
 use Rattle.hash_word.specs.Hash.{home_of}
 use Rattle.segment_head.specs.HeadWord.{version_in, normal}
 use Rattle.image_layout.specs.Places.{Shape, entry_at, head_at}
-use Rattle.sound_image.specs.Segments.{ImageWords, Frame, frame_of, image_version, IsClean, state_at, depth_at, pattern_at, IsLive, Owns}
+use Rattle.sound_image.specs.Segments.{ImageWords, Frame, frame_of, image_version, IsClean, state_at, depth_at, pattern_at, Owns}
 use Rattle.sound_image.specs.Directory.{HeadInRange, VersionIsPast}
 use Rattle.sound_image.specs.Records.{slot_hash, HasRecord, HasOwnRecord}
-use Rattle.sound_image.specs.Rules.{NumbersFit, HashesAreOwned, EntriesLead, VersionsArePast, IsCleanAndCurrent}
+use Rattle.sound_image.specs.Rules.{HashesAreOwned, EntriesLead, VersionsArePast, IsCleanAndCurrent}
 use Rattle.image_file.specs.Breach.{IsLeast}
 use Rattle.image_file.specs.Given.{IsServedImage}
 use Rattle.image_file.proofs.OneLive.{IsOneLive, owns_each, has_owners, shares_well, entry_leads, leads_to_first}

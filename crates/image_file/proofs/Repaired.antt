@@ -1,12 +1,11 @@
 -- Of an image that passes rules 1 and 8, rule 7 speaks of its buckets one by one.
 use Rattle.std.proofs.Common.{◌≡◌, ◌≢◌, ℕ, ◌+◌, ◌*◌, ◌%◌, ◌<◌, ◌≤◌, sym, ap, subst, ◌∙◌, arith, ⊎_elim}
 use Rattle.std.proofs.lemmas.Bool.{cases_lt}
-use Rattle.hash_word.specs.Hash.{home_of}
 use Rattle.bucket_meta.specs.Bucket.{lock_of}
 use Rattle.segment_head.specs.HeadWord.{normal}
 use Rattle.image_layout.specs.Places.{Shape, bucket_at, key_at}
 use Rattle.sound_image.specs.Segments.{ImageWords, frame_of, state_at, Owns}
-use Rattle.sound_image.specs.Records.{word_in, slot_key, slot_hash, HasRecord, HasExactNotes}
+use Rattle.sound_image.specs.Records.{word_in, slot_hash, HasRecord, HasExactNotes}
 use Rattle.sound_image.specs.Rules.{NotBefore, CleanMeansRepaired}
 use Rattle.image_file.specs.declared.records.RecordRule.TheVariants.{Once}
 use Rattle.image_file.specs.Breach.{IsLeast}
@@ -14,7 +13,6 @@ use Rattle.image_file.specs.Given.{IsServedImage}
 use Rattle.image_file.specs.Unnoted.{IsUnnoted, IsUnstashed}
 use Rattle.image_file.specs.Slots.{Follows, IsFirstBroken, IsRepairedAt, IsBrokenIn, AreRepaired}
 use Rattle.image_file.proofs.Notes.{unnoted-exact, exact-unnoted}
-use Rattle.image_file.proofs.Hashes.{home_of-below}
 use Rattle.image_file.proofs.OneSegment.{is_first, normal_there, is_current, owns_hash, at_home}
 use Rattle.image_file.proofs.KeyRules.{record_at, twin_before, twin_there, twin_less}
 

@@ -1,9 +1,9 @@
 -- Rule 8 word by word: its least broken word, from what was looked at before.
-use Rattle.std.proofs.Common.{◌≡◌, ◌≢◌, ℕ, ◌+◌, ◌*◌, ◌/◌, ◌%◌, ◌^◌, ◌<◌, refl, sym, subst, arith, inl}
+use Rattle.std.proofs.Common.{◌≡◌, ◌≢◌, ℕ, ◌+◌, ◌/◌, ◌%◌, ◌^◌, ◌<◌, refl, sym, subst, arith, inl}
 use Rattle.hash_word.specs.Hash.{home_of}
 use Rattle.segment_head.specs.HeadWord.{version_in, state_in, depth_in, normal}
 use Rattle.image_layout.specs.Places.{Shape, head_at, key_at}
-use Rattle.sound_image.specs.Segments.{ImageWords, Frame, frame_of, image_version, IsClean, IsLive}
+use Rattle.sound_image.specs.Segments.{ImageWords, Frame, frame_of, image_version, IsClean}
 use Rattle.sound_image.specs.Records.{slot_hash, HasRecord}
 use Rattle.image_file.specs.declared.records.RecordRule.TheVariants.{Home}
 use Rattle.image_file.specs.Breach.{IsLeast}

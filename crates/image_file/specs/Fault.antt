@@ -1,5 +1,5 @@
 -- When bytes are the file of an image, and which fault they have else.
-use Rattle.std.specs.Prelude.{◌≡◌, ◌≢◌, ℕ, ◌+◌, ◌*◌, ◌/◌, ◌%◌, ◌^◌, ◌<◌, ◌≤◌, ◌⊎◌, List, length, slice_index, drop, ⊤}
+use Rattle.std.specs.Prelude.{◌≡◌, ◌≢◌, ℕ, ◌*◌, ◌/◌, ◌%◌, ◌^◌, ◌<◌, ◌≤◌, ◌⊎◌, List, length, slice_index, drop, ⊤}
 use Rattle.byteorder.specs.Endian.{little_number}
 use Rattle.image_layout.specs.Places.{Shape, IsShape, words_of}
 use Rattle.sound_image.specs.Segments.{ImageWords}

@@ -1,5 +1,5 @@
 -- What a sound image that the program serves holds: its live segments and its pairs, as lists.
-use Rattle.std.specs.Prelude.{◌≡◌, ℕ, ◌/◌, ◌%◌, ◌==◌, ◌||◌, ◌↔◌, Bool, List, [], ◌∷◌, map, filter, Contains, if◌then◌else◌}
+use Rattle.std.specs.Prelude.{ℕ, ◌/◌, ◌%◌, ◌==◌, ◌||◌, ◌↔◌, Bool, List, [], ◌∷◌, map, filter, Contains, if◌then◌else◌}
 use Rattle.std.specs.List.{flat_map, IsDistinct}
 use Rattle.segment_head.specs.HeadWord.{normal, splitting}
 use Rattle.bucket_meta.specs.Bucket.{allocated}

@@ -1,5 +1,5 @@
 -- What the rules say of the record slots of the first segment, slot by slot and bucket by bucket.
-use Rattle.std.specs.Prelude.{◌≡◌, ◌≢◌, ℕ, ◌+◌, ◌*◌, ◌<◌, ◌≤◌}
+use Rattle.std.specs.Prelude.{◌≡◌, ℕ, ◌+◌, ◌<◌, ◌≤◌}
 use Rattle.hash_word.specs.Hash.{home_of, finger_of}
 use Rattle.bucket_meta.specs.Bucket.{lock_of, allocated, member, finger}
 use Rattle.image_layout.specs.Places.{Shape, bucket_at, key_at}

@@ -1,6 +1,5 @@
 -- The file says the words, and they say the geometry.
-use Rattle.std.proofs.Common.{◌≡◌, ℕ, List, ◌<◌, ◌^◌, ◌∙◌, sym, Result, Ok, Err, IfOk}
-use Rattle.std.specs.Prelude.{slice_index}
+use Rattle.std.proofs.Common.{◌≡◌, ℕ, List, ◌∙◌, sym, Result, Ok, Err, IfOk}
 use Rattle.image_layout.specs.Places.{Shape}
 use Rattle.sound_image.specs.Image.{image_bytes, IsSoundImage}
 use Rattle.image_file.specs.declared.medium.Medium.{Medium}

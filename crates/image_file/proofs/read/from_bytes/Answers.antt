@@ -1,5 +1,5 @@
 -- What was looked at before is known of the words.
-use Rattle.std.proofs.Common.{◌≡◌, ℕ, List, ap, subst, ◌∙◌, sym, length, slice_index}
+use Rattle.std.proofs.Common.{ℕ, List, ap, subst, ◌∙◌, length, slice_index}
 use Rattle.image_file.specs.Breach.{HoldsAt, IsFirstBreach}
 use Rattle.image_file.proofs.Accepted.{all_words, accepted-IsSoundImage, accepted-PassesRule8, breach-HasFault, no_fault}
 use Rattle.image_file.proofs.read.from_bytes.Goals as goal

@@ -1,5 +1,5 @@
 -- Words that were read one by one are those of the file.
-use Rattle.std.proofs.Common.{◌≡◌, ℕ, List, ◌+◌, ◌*◌, ◌<◌, sym, ap, subst, ◌∙◌, arith, length, drop, slice_index}
+use Rattle.std.proofs.Common.{◌≡◌, ℕ, List, ◌*◌, ◌<◌, sym, ap, subst, ◌∙◌, arith, length, slice_index}
 use Rattle.std.proofs.lemmas.List.{take_at}
 use Rattle.image_file.specs.Fault.{word_in_file}
 use Rattle.image_file.proofs.FileWords.{bytes_spell}

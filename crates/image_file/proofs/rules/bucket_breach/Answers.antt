@@ -1,5 +1,5 @@
 -- The bucket's lock and notes were looked at before its keys.
-use Rattle.std.proofs.Common.{◌≡◌, ◌+◌, ◌*◌, ℕ, ◌<◌, subst, sym, arith, slice_index, refl}
+use Rattle.std.proofs.Common.{◌+◌, ◌*◌, ℕ, ◌<◌, subst, sym, arith, slice_index, refl}
 use Rattle.image_file.specs.Slots.{IsBrokenIn}
 use Rattle.image_file.specs.Unnoted.{IsUnnoted}
 use Rattle.image_file.proofs.Repaired.{once_breaks}

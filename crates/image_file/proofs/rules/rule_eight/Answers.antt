@@ -1,5 +1,5 @@
 -- Rule 8 is broken first at the word that is looked at first.
-use Rattle.std.proofs.Common.{◌≡◌, ℕ, ◌/◌, ◌%◌, ◌^◌, sym, ◌∙◌, arith, slice_index, refl, true, false}
+use Rattle.std.proofs.Common.{◌≡◌, ◌/◌, ◌%◌, ◌^◌, sym, ◌∙◌, arith, slice_index, refl, true, false}
 use Rattle.image_file.proofs.Answered.{if_none, if_some}
 use Rattle.image_file.proofs.ServedWords.{header_breaks-at, says-current, key_breaks, passes}
 use Rattle.image_file.proofs.rules.rule_eight.Goals as goal

@@ -1,5 +1,5 @@
 -- A record slot more adds its pair.
-use Rattle.std.proofs.Common.{◌≡◌, ℕ, ◌+◌, ◌∙◌, sym, ap, arith, slice_index, option_to_list, Some, None, Vec, Global}
+use Rattle.std.proofs.Common.{◌≡◌, ℕ, ◌∙◌, sym, ap, arith, slice_index, option_to_list, Some, None, Vec, Global}
 use Rattle.std.proofs.lemmas.List.{append-nil}
 use Rattle.image_file.specs.Pairs.{pairs_below}
 use Rattle.image_file.proofs.Listed.{items_more, nothing_below}

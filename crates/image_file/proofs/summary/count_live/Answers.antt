@@ -1,7 +1,5 @@
 -- A slot more counts one where its segment is live.
-use Rattle.std.proofs.Common.{◌≡◌, ℕ, ◌+◌, ◌/◌, ◌%◌, ◌∙◌, ap, arith, inl, inr, length, slice_index}
-use Rattle.std.proofs.lemmas.Bool.Decides.{nat_tests}
-use Rattle.image_layout.specs.Places.{head_at}
+use Rattle.std.proofs.Common.{◌≡◌, ℕ, ◌+◌, ap, arith, inl, inr, slice_index}
 use Rattle.sound_image.specs.Segments.{frame_of}
 use Rattle.image_file.proofs.Listed.{live_more, live_same, live_test, dead_test}
 use Rattle.image_file.proofs.summary.count_live.Goals as goal

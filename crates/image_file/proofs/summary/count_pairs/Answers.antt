@@ -1,5 +1,5 @@
 -- A record slot more counts one where it has a pair.
-use Rattle.std.proofs.Common.{◌≡◌, ℕ, ◌+◌, ◌∙◌, sym, ap, refl, arith, length, slice_index, option_to_list}
+use Rattle.std.proofs.Common.{◌≡◌, ℕ, ◌∙◌, sym, ap, arith, length, slice_index}
 use Rattle.image_file.specs.Pairs.{pairs_below}
 use Rattle.image_file.proofs.Listed.{length_more, nothing_below, counts_one, counts_none}
 use Rattle.image_file.proofs.summary.count_pairs.Goals as goal
