@@ -1,0 +1,14 @@
+pub mod OneLive
+pub mod Notes
+pub mod EmptySound
+pub mod Hashes
+pub mod OneSegment
+pub mod KeyRules
+pub mod Repaired
+pub mod ServedWords
+pub mod Answered
+pub mod Breaches
+pub mod FileWords
+pub mod Accepted
+pub mod Listed
+pub mod RoundTrip

@@ -1,0 +1,59 @@
+-- When bytes are the file of an image, and which fault they have else.
+use Rattle.std.specs.Prelude.{◌≡◌, ◌≢◌, ℕ, ◌*◌, ◌/◌, ◌%◌, ◌^◌, ◌<◌, ◌≤◌, ◌⊎◌, List, length, slice_index, drop, ⊤}
+use Rattle.byteorder.specs.Endian.{little_number}
+use Rattle.image_layout.specs.Places.{Shape, IsShape, words_of}
+use Rattle.sound_image.specs.Segments.{ImageWords}
+use Rattle.sound_image.specs.Image.{image_bytes, magic, IsSoundImage}
+use Rattle.image_file.specs.declared.fault.ImageFault.{ImageFault}
+use Rattle.image_file.specs.declared.fault.ImageFault.TheVariants.{Length, Magic, Format, Geometry, Unsound, NoMemory}
+use Rattle.image_file.specs.Stage.{PassesRule8}
+use Rattle.image_file.specs.Breach.{IsFirstBreach}
+
+-- the words that bytes spell, eight bytes each, the lowest first
+abbrev pub word_in_file : List ℕ → ImageWords
+word_in_file bytes i = little_number 8 (drop (8 * i) bytes)
+
+-- the shape that words 1 to 3 say
+abbrev pub shape_in : ImageWords → Shape
+shape_in word = record { segments = word 2; depth = word 3; kind = word 1 / 2 ^ 32 }
+
+module _ (word : ImageWords) where
+  abbrev pub HasMagic : Type 0
+  HasMagic = word 0 ≡ magic
+
+  -- the number of the format, and a kind of hash above it
+  pub record HasFormat : Type 0 where
+    pub number : word 1 % 2 ^ 32 ≡ 1
+    pub kind : word 1 / 2 ^ 32 ≤ 1
+
+-- all that is looked at before the rules is right
+pub record IsFramed (bytes : List ℕ) : Type 0 where
+  pub long : 256 ≤ length bytes
+  pub magic_there : HasMagic (word_in_file bytes)
+  pub format_there : HasFormat (word_in_file bytes)
+  pub shape_there : IsShape (shape_in (word_in_file bytes))
+  pub whole : length bytes ≡ 8 * words_of (shape_in (word_in_file bytes))
+
+-- the bytes have magic and format, and say this of their shape
+pub record HasFront (bytes : List ℕ) (Says : Shape → Type 0) : Type 0 where
+  pub long : 256 ≤ length bytes
+  pub magic_there : HasMagic (word_in_file bytes)
+  pub format_there : HasFormat (word_in_file bytes)
+  pub says : Says (shape_in (word_in_file bytes))
+
+-- the bytes have this fault, and none that is looked at before it
+abbrev pub HasFault : List ℕ → ImageFault → Type 0
+HasFault bytes Length = (length bytes < 256) ⊎ HasFront bytes (λ shape. IsShape shape × (length bytes ≢ 8 * words_of shape))
+HasFault bytes Magic = (256 ≤ length bytes) × (HasMagic (word_in_file bytes) → ⊥)
+HasFault bytes Format = (256 ≤ length bytes) × HasMagic (word_in_file bytes) × (HasFormat (word_in_file bytes) → ⊥)
+HasFault bytes Geometry = HasFront bytes (λ shape. IsShape shape → ⊥)
+HasFault bytes (Unsound rule word) = IsFramed bytes × IsFirstBreach (shape_in (word_in_file bytes)) (word_in_file bytes) rule word
+HasFault bytes NoMemory = ⊤
+
+-- the bytes are the file of a sound image that the program serves
+pub record IsServedFile (bytes : List ℕ) : Type 0 where
+  pub shape : Shape
+  pub words : List ℕ
+  pub sound : IsSoundImage shape words
+  pub served : PassesRule8 shape (slice_index words)
+  pub file : bytes ≡ image_bytes words

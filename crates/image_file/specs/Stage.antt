@@ -1,0 +1,35 @@
+-- Rule 8: a limit of the present program, which serves clean images of one segment whose records stand in their home
+-- buckets. It is no rule of a sound image, and goes as the program learns to serve more.
+use Rattle.std.specs.Prelude.{◌≡◌, ℕ, ◌+◌, ◌<◌}
+use Rattle.hash_word.specs.Hash.{home_of}
+use Rattle.segment_head.specs.HeadWord.{version_in, normal}
+use Rattle.image_layout.specs.Places.{Shape, root_word, state_word, head_at, key_at}
+use Rattle.sound_image.specs.Segments.{ImageWords, Frame, frame_of, image_version, IsClean, state_at, depth_at, IsLive}
+use Rattle.sound_image.specs.Records.{slot_hash, HasRecord}
+
+-- the word of the number of slots for segments
+abbrev pub segments_word : ℕ
+segments_word = 2
+
+module _ (shape : Shape) (word : ImageWords) where
+  abbrev frame : Frame
+  frame = frame_of shape word
+
+  -- the segment covers every hash, and takes calls
+  pub record IsWholeTable (s : ℕ) : Type 0 where
+    pub is_normal : state_at frame s ≡ normal
+    pub no_depth : depth_at frame s ≡ 0
+
+  -- what rule 8 says of each word: there is one slot for a segment; the directory has depth 0; the marker is set; slot 0
+  -- is normal at depth 0; a live segment has the image's version; and a record stands in its home bucket
+  pub record IsServed (w : ℕ) : Type 0 where
+    pub one_segment : w ≡ segments_word → shape.segments ≡ 1
+    pub root : w ≡ root_word → frame.root ≡ 0
+    pub clean : w ≡ state_word → IsClean frame
+    pub first : w ≡ head_at shape 0 + 1 → IsWholeTable 0
+    pub current : (s : ℕ) → s < shape.segments → w ≡ head_at shape s + 1 → IsLive frame s → version_in (frame.header s) ≡ image_version frame
+    pub home : (s b r : ℕ) → HasRecord shape word s b r → w ≡ key_at shape s b r → b ≡ home_of (slot_hash shape word s b r)
+
+  -- rule 8 holds of each word
+  abbrev pub PassesRule8 : Type 0
+  PassesRule8 = (w : ℕ) → IsServed w

@@ -1,0 +1,42 @@
+//! Why bytes are no image.
+
+use std::error::Error;
+use std::fmt;
+
+/// Why bytes are no image that the program serves. Each says also that none that is looked at before it is there: first a
+/// length below 256 bytes, then magic, format and geometry, then the length, and then the rules.
+#[derive(Clone, Copy, Debug, PartialEq, Eq)]
+pub enum ImageFault {
+    /// There are fewer than 256 bytes, or not 8 for each word of the geometry.
+    Length,
+    /// The first word is not the text `DASHEH01`.
+    Magic,
+    /// The lower half of the second word is not 1, or its upper half is above 1.
+    Format,
+    /// The third word is not 1 to 16384, or the fourth is above 16.
+    Geometry,
+    /// A rule is broken: the first one in the order 1, 8, 2, 3, 4, 5, 6, 7, and the least word at which it is.
+    Unsound {
+        /// The number of the rule.
+        rule: u8,
+        /// The number of the word.
+        word: u64,
+    },
+    /// Memory ran out.
+    NoMemory,
+}
+
+impl fmt::Display for ImageFault {
+    fn fmt<W: fmt::Write>(&self, f: &mut fmt::Formatter<W>) -> fmt::Result {
+        match self {
+            ImageFault::Length => write!(f, "length"),
+            ImageFault::Magic => write!(f, "magic"),
+            ImageFault::Format => write!(f, "format"),
+            ImageFault::Geometry => write!(f, "geometry"),
+            ImageFault::Unsound { rule, word } => write!(f, "rule {rule} word {word}"),
+            ImageFault::NoMemory => write!(f, "out of memory"),
+        }
+    }
+}
+
+impl Error for ImageFault {}

@@ -1,0 +1,63 @@
+//! The image of an empty table.
+
+ghost use Rattle.std.specs.Prelude.{◌≡◌, ℕ, IfOk, slice_index};
+ghost use Rattle.sound_image.specs.Records.{HasPair};
+ghost use Rattle.sound_image.specs.Image.{IsSoundImage};
+ghost use Rattle.image_file.specs.Formatted.{IsFormatted};
+ghost use Rattle.image_file.specs.Stage.{PassesRule8};
+
+use crate::medium::{Medium, shape_in_range};
+use crate::words::Words;
+use image_layout::Geometry;
+use map_model::NoMemory;
+use std::alloc::Global;
+
+/// The first word of an image: its bytes are the text `DASHEH01`.
+pub(crate) const MAGIC: u64 = 0x3130_4845_4853_4144;
+
+/// The number of the format, in the lower half of the second word. The kind of hash is in the upper half.
+pub(crate) const FORMAT: u64 = 1;
+
+/// The version of a new image and of its first segment.
+const FIRST_VERSION: u64 = 1;
+
+/// The clean marker, in the word of the image's version.
+const CLEAN: u64 = 0x100;
+
+/// The state of a segment that is in use and not splitting, in its header word.
+const NORMAL: u64 = 0x100;
+
+/// The word of the image's version and of the clean marker.
+pub(crate) const STATE_WORD: usize = 16;
+
+/// The words of the image of an empty table.
+fn empty_words(alloc: Global, geometry: &Geometry) -> Result<Words, NoMemory>
+    ensures { IfOk result (IsFormatted geometry.now) }
+{
+    let mut words = vec![in alloc; 0u64; geometry.words() as usize]?;
+    words[0] = MAGIC;
+    words[1] = FORMAT + (geometry.kind() << 32);
+    words[2] = geometry.segments();
+    words[3] = geometry.depth();
+    words[STATE_WORD] = FIRST_VERSION | CLEAN;
+    words[geometry.head_at(0) as usize + 1] = FIRST_VERSION | NORMAL;
+    Ok(Words::new(words))
+}
+
+/// The image of an empty table: clean, of version 1, with slot 0 in use at depth 0, and every other slot free.
+///
+/// # Errors
+///
+/// `NoMemory` if memory runs out.
+pub fn format(alloc: Global, geometry: Geometry) -> Result<Medium, NoMemory>
+    ensures geometry { IfOk result (λ medium. medium.geometry ≡ geometry) }
+    ensures words { IfOk result (λ medium. IsFormatted geometry medium.words) }
+    ensures sound { IfOk result (λ medium. IsSoundImage geometry medium.words) }
+    ensures empty { IfOk result (λ medium. (k v : ℕ) → HasPair geometry (slice_index medium.words) k v → ⊥) }
+    ensures stage { geometry.segments ≡ 1 → IfOk result (λ medium. PassesRule8 geometry (slice_index medium.words)) }
+{
+    shape_in_range(&geometry);
+    let words = empty_words(alloc, &geometry)?;
+    let slice = words.as_slice();
+    Ok(Medium { geometry, words })
+}

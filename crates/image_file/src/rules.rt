@@ -1,0 +1,197 @@
+//! The rules of a sound image one by one, and rule 8: each says at which word it is broken first.
+
+ghost use Rattle.std.specs.Prelude.{◌≡◌, ◌≢◌, ℕ, ◌+◌, ◌%◌, ◌^◌, ◌<◌, ◌≤◌, ◌↔◌, IfSome, IfNone, IsTrue, length, slice_index};
+ghost use Rattle.image_layout.specs.Places.{IsShape, words_of};
+ghost use Rattle.bucket_meta.specs.Bucket.{overflow_count};
+ghost use Rattle.segment_head.specs.HeadWord.{version_in, state_in, depth_in, normal};
+ghost use Rattle.sound_image.specs.Segments.{frame_of};
+ghost use Rattle.sound_image.specs.Directory.{HeadInRange, LinkInRange};
+ghost use Rattle.sound_image.specs.Rules.{NumbersFit, EntriesLead, RecordsStandRight, KeysHaveOneValue, CleanMeansRepaired};
+ghost use Rattle.image_file.specs.Breach.{IsLeast};
+ghost use Rattle.image_file.specs.Stage.{IsServed, PassesRule8};
+ghost use Rattle.image_file.specs.Unnoted.{HasNote, IsUnnoted};
+ghost use Rattle.image_file.specs.Slots.{IsBrokenIn, IsRepairedAt};
+ghost use Rattle.image_file.specs.Given.{IsServedImage};
+
+use crate::formatted::STATE_WORD;
+use crate::records::{BUCKETS, HOMES, RecordRule, bucket_word};
+use image_layout::Geometry;
+
+/// The word of the number of slots for segments.
+const SEGMENTS_WORD: u64 = 2;
+
+/// The word of the directory's depth.
+pub(crate) const ROOT_WORD: usize = 8;
+
+/// The first word of the directory, the entry of depth 0.
+const ENTRY_WORD: usize = 32;
+
+/// Whether a header word is in its range.
+fn head_in_range(geometry: &Geometry, words: &[u64], s: u64) -> bool
+    requires whole { length words.now ≡ words_of geometry.now }
+    requires slot { s < geometry.now.segments }
+    ensures { IsTrue result ↔ HeadInRange (frame_of geometry.now (slice_index words.now)) geometry.now.depth s }
+{
+    let header = words[geometry.head_at(s) as usize + 1];
+    let state = (header >> 8) % 256;
+    let depth = (header >> 16) % 256;
+    let pattern = header >> 32;
+    state <= 3 && (state == 0 || (depth <= geometry.depth() && pattern < 1 << depth))
+}
+
+/// Whether a side link is in its range.
+fn link_in_range(geometry: &Geometry, words: &[u64], s: u64) -> bool
+    requires whole { length words.now ≡ words_of geometry.now }
+    requires slot { s < geometry.now.segments }
+    ensures { IsTrue result ↔ LinkInRange (frame_of geometry.now (slice_index words.now)) s }
+{
+    let at = geometry.head_at(s) as usize;
+    (words[at + 1] >> 8) % 256 == 0 || words[at + 2] <= geometry.segments()
+}
+
+/// The least word at which rule 1 is broken: a number of the image or of a header is out of its range.
+pub(crate) fn rule_one(geometry: &Geometry, words: &[u64]) -> Option<u64>
+    requires whole { length words.now ≡ words_of geometry.now }
+    ensures none { IfNone result ((w : ℕ) → NumbersFit geometry.now (slice_index words.now) w) }
+    ensures some { IfSome result (λ w. IsLeast (NumbersFit geometry.now (slice_index words.now)) w) }
+{
+    if words[ROOT_WORD] > geometry.depth() {
+        return Some(ROOT_WORD as u64);
+    }
+    if words[STATE_WORD] % 256 == 0 {
+        return Some(STATE_WORD as u64);
+    }
+    for s in 0..geometry.segments() {
+        if !head_in_range(geometry, words, s) {
+            return Some(geometry.head_at(s) + 1);
+        }
+        if !link_in_range(geometry, words, s) {
+            return Some(geometry.head_at(s) + 2);
+        }
+    }
+    None
+}
+
+/// Whether a segment is normal, covers every hash, and has the image's version.
+fn is_whole_table(header: u64, status: u64) -> bool
+    ensures { IsTrue result ↔ ((state_in header ≡ normal) × (depth_in header ≡ 0) × (version_in header ≡ status % 2 ^ 8)) }
+{
+    (header >> 8) % 256 == 1 && (header >> 16) % 256 == 0 && header % 256 == status % 256
+}
+
+/// The least word at which rule 8 is broken: the present program does not serve the image.
+pub(crate) fn rule_eight(geometry: &Geometry, words: &[u64]) -> Option<u64>
+    requires whole { length words.now ≡ words_of geometry.now }
+    ensures none { IfNone result (PassesRule8 geometry.now (slice_index words.now)) }
+    ensures some { IfSome result (λ w. IsLeast (IsServed geometry.now (slice_index words.now)) w) }
+{
+    if geometry.segments() != 1 {
+        return Some(SEGMENTS_WORD);
+    }
+    if words[ROOT_WORD] != 0 {
+        return Some(ROOT_WORD as u64);
+    }
+    if (words[STATE_WORD] >> 8) % 2 == 0 {
+        return Some(STATE_WORD as u64);
+    }
+    let header = geometry.head_at(0) + 1;
+    if !is_whole_table(words[header as usize], words[STATE_WORD]) {
+        return Some(header);
+    }
+    RecordRule::Home.first_key(geometry, words)
+}
+
+/// The least word at which rule 3 is broken: the directory's entry does not lead to the segment.
+pub(crate) fn rule_three(geometry: &Geometry, words: &[u64]) -> Option<u64>
+    requires whole { length words.now ≡ words_of geometry.now }
+    requires served { IsServedImage geometry.now (slice_index words.now) }
+    ensures none { IfNone result ((w : ℕ) → EntriesLead geometry.now (slice_index words.now) w) }
+    ensures some { IfSome result (λ w. IsLeast (EntriesLead geometry.now (slice_index words.now)) w) }
+{
+    let _ = geometry.segments();
+    if words[ENTRY_WORD] == 0 {
+        None
+    } else {
+        Some(ENTRY_WORD as u64)
+    }
+}
+
+/// The least word at which rule 4 is broken: a record has a membership bit or another fingerprint.
+pub(crate) fn rule_four(geometry: &Geometry, words: &[u64]) -> Option<u64>
+    requires whole { length words.now ≡ words_of geometry.now }
+    requires served { IsServedImage geometry.now (slice_index words.now) }
+    ensures none { IfNone result ((w : ℕ) → RecordsStandRight geometry.now (slice_index words.now) w) }
+    ensures some { IfSome result (λ w. IsLeast (RecordsStandRight geometry.now (slice_index words.now)) w) }
+{
+    RecordRule::Marks.first_key(geometry, words)
+}
+
+/// The least word at which rule 5 is broken: a key stands twice with two values.
+pub(crate) fn rule_five(geometry: &Geometry, words: &[u64]) -> Option<u64>
+    requires whole { length words.now ≡ words_of geometry.now }
+    requires served { IsServedImage geometry.now (slice_index words.now) }
+    ensures none { IfNone result ((w : ℕ) → KeysHaveOneValue geometry.now (slice_index words.now) w) }
+    ensures some { IfSome result (λ w. IsLeast (KeysHaveOneValue geometry.now (slice_index words.now)) w) }
+{
+    RecordRule::Value.first_key(geometry, words)
+}
+
+/// Whether the first metadata word of a bucket has a note on this side: 0 for the bucket's own records, 1 for those
+/// of the bucket before it.
+fn has_note(meta: u64, side: u64) -> bool
+    ensures { IsTrue result ↔ HasNote meta side }
+{
+    for place in 0..4u32 {
+        if meta >> (28 + place) & 1 == 1 && meta >> (32 + place) & 1 == side {
+            return true;
+        }
+    }
+    false
+}
+
+/// Whether nothing is noted or counted of the records of home bucket `b`.
+fn is_unnoted(geometry: &Geometry, words: &[u64], b: u8) -> bool
+    requires whole { length words.now ≡ words_of geometry.now }
+    requires bucket { b < 64 }
+    ensures { IsTrue result ↔ IsUnnoted geometry.now (slice_index words.now) 0 b }
+{
+    let meta = words[bucket_word(geometry, b) + 1];
+    let beside = words[bucket_word(geometry, (b + 1) % HOMES) + 1];
+    (meta >> 40) % 32 == 0 && !has_note(meta, 0) && !has_note(beside, 1)
+}
+
+/// The least word of bucket `b` at which a clean image is not repaired: the bucket is locked, it has notes, or a key
+/// stands in it twice.
+fn bucket_breach(geometry: &Geometry, words: &[u64], b: u8) -> Option<u64>
+    requires whole { length words.now ≡ words_of geometry.now }
+    requires bucket { b < 66 }
+    ensures none { IfNone result ((w : ℕ) → IsRepairedAt geometry.now (slice_index words.now) b w) }
+    ensures some { IfSome result (λ w. IsBrokenIn geometry.now (slice_index words.now) b w) }
+{
+    let at = bucket_word(geometry, b);
+    if words[at] % 2 == 1 {
+        return Some(at as u64);
+    }
+    if b < HOMES && !is_unnoted(geometry, words, b) {
+        return Some(at as u64 + 1);
+    }
+    match RecordRule::Once.first_broken(geometry, words, b) {
+        Some(slot) => Some(at as u64 + 4 + 2 * u64::from(slot)),
+        None => None,
+    }
+}
+
+/// The least word at which rule 7 is broken: the image is marked clean, and is not as a clean one is.
+pub(crate) fn rule_seven(geometry: &Geometry, words: &[u64]) -> Option<u64>
+    requires whole { length words.now ≡ words_of geometry.now }
+    requires served { IsServedImage geometry.now (slice_index words.now) }
+    ensures none { IfNone result ((w : ℕ) → CleanMeansRepaired geometry.now (slice_index words.now) w) }
+    ensures some { IfSome result (λ w. IsLeast (CleanMeansRepaired geometry.now (slice_index words.now)) w) }
+{
+    for b in 0..BUCKETS {
+        if let Some(word) = bucket_breach(geometry, words, b) {
+            return Some(word);
+        }
+    }
+    None
+}
