@@ -58,7 +58,7 @@ module _ (shape : Shape) (word : ImageWords) where
   abbrev pub notes_in : ℕ → ℕ → ℕ → List Note
   notes_in s b side =
       notes_on (λ i. note_used i (word_in s b 1)) (λ i. note_member i (word_in s b 1)) (λ i. note_finger i (word_in s b 1) (word_in s b 3))
-          (λ i. note_index i (word_in s b 1)) side
+      (λ i. note_index i (word_in s b 1)) side
 
   abbrev pub notes_of : ℕ → ℕ → List Note
   notes_of s b = notes_in s b 0 ++ notes_in s (probing_of b) 1
