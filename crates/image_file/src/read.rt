@@ -1,7 +1,6 @@
 //! Bytes that are looked at as the file of an image.
 
-ghost use Rattle.std.specs.Prelude.{◌≡◌, ℕ, ◌+◌, ◌*◌, ◌%◌, ◌<◌, ◌≤◌, List, length, slice_index, IfOk, IfErr, Err};
-ghost use Rattle.image_layout.specs.Places.{Shape, words_of};
+ghost use Rattle.std.specs.Prelude.{◌≡◌, ℕ, ◌+◌, ◌*◌, ◌%◌, ◌<◌, ◌≤◌, length, slice_index, IfOk, IfErr, Err};
 ghost use Rattle.sound_image.specs.Image.{image_bytes, IsSoundImage};
 ghost use Rattle.image_file.specs.Stage.{PassesRule8};
 ghost use Rattle.image_file.specs.Fault.{word_in_file, shape_in, IsFramed, HasFault, IsServedFile};

@@ -1,8 +1,7 @@
 //! The rules of a sound image one by one, and rule 8: each says at which word it is broken first.
 
-ghost use Rattle.std.specs.Prelude.{◌≡◌, ◌≢◌, ℕ, ◌+◌, ◌%◌, ◌^◌, ◌<◌, ◌≤◌, ◌↔◌, IfSome, IfNone, IsTrue, length, slice_index};
-ghost use Rattle.image_layout.specs.Places.{IsShape, words_of};
-ghost use Rattle.bucket_meta.specs.Bucket.{overflow_count};
+ghost use Rattle.std.specs.Prelude.{◌≡◌, ℕ, ◌+◌, ◌%◌, ◌^◌, ◌<◌, ◌↔◌, IfSome, IfNone, IsTrue, length, slice_index};
+ghost use Rattle.image_layout.specs.Places.{words_of};
 ghost use Rattle.segment_head.specs.HeadWord.{version_in, state_in, depth_in, normal};
 ghost use Rattle.sound_image.specs.Segments.{frame_of};
 ghost use Rattle.sound_image.specs.Directory.{HeadInRange, LinkInRange};
