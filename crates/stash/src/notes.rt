@@ -117,7 +117,7 @@ fn named_bit(home: &Meta, probe: &Meta, finger: u8, index: u8) -> u8
 /// home with this fingerprint names.
 pub fn must_visit(home: &Meta, probe: &Meta, finger: u8) -> u8
     ensures set { result < 2 ^ stash_buckets }
-    ensures counted { 0 < home.now.ocount → result ≡ 3 }
+    ensures counted { 0 < home.now.ocount → result ≡ 2 ^ stash_buckets - 1 }
     ensures named { home.now.ocount ≡ 0 → (k : ℕ) → k < stash_buckets
         → (bit k result ≡ 1) ↔ IsNamed home.now probe.now (finger, k) }
     ensures exact { (stashed : List Note) (k : ℕ) → k < stash_buckets → IsExactFor home.now probe.now stashed

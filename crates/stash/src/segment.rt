@@ -1,6 +1,6 @@
 //! The notes and the counts of all homes of a segment.
 
-ghost use Rattle.std.specs.Prelude.{◌≡◌, ℕ, ◌+◌, ◌<◌, ◌≤◌, List, [], ◌∷◌, ◌++◌, length, All};
+ghost use Rattle.std.specs.Prelude.{◌≡◌, ℕ, ◌+◌, ◌*◌, ◌<◌, ◌≤◌, List, [], ◌∷◌, ◌++◌, length, All};
 ghost use Rattle.bucket_meta.specs.declared.metadata.Meta.{Meta as MetaValue};
 ghost use Rattle.stash.specs.Exact.{stash_buckets, greatest_count};
 ghost use Rattle.stash.specs.Noted.{IsNotedInSegment, IsCleared, IsRebuilt};
@@ -60,7 +60,7 @@ fn note_in(metas: &mut [Meta; 64], home: u8, finger: u8, index: u8)
 /// for 28 records.
 pub fn rebuild(metas: &mut [Meta; 64], stashed: &[(u8, u8, u8)])
     requires within { All IsStashed stashed.now }
-    requires room { length stashed.now ≤ 28 }
+    requires room { length stashed.now ≤ 14 * stash_buckets }
     ensures rebuilt { IsRebuilt metas.old metas.new stashed.now }
     ensures exact { IsExactSegment metas.new stashed.now }
     ensures slots { SameSlotsInAll metas.old metas.new }
