@@ -1,0 +1,6 @@
+//! Runs a script on an image.
+#![tactic(auto)]
+
+mod playing;
+
+pub use playing::play;

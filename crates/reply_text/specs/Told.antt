@@ -1,0 +1,19 @@
+-- What the callers of a session were told, from their entries and from where they stopped.
+use Rattle.std.specs.Prelude.{Option, None, Some, List, [], ◌∷◌, if◌then◌else◌}
+use Rattle.map_model.specs.declared.entry.Entry.{Entry}
+use Rattle.map_model.specs.declared.entry.Stop.{Stop}
+use Rattle.session.specs.Transcript.{Told}
+
+-- a caller that stopped has a call open if that had begun
+abbrev pub left_by : Option Stop → Option (Option Entry)
+left_by None = None
+left_by (Some stop) = if stop.begun then Some stop.drew else None
+
+abbrev pub told_by : List Entry → Option Stop → Told
+told_by es stop = record { entries = es; left_open = left_by stop }
+
+-- what each caller that has a list was told
+abbrev pub tolds_of : List (List Entry) → List (Option Stop) → List Told
+tolds_of [] stops = []
+tolds_of (es ∷ lists) [] = told_by es None ∷ tolds_of lists []
+tolds_of (es ∷ lists) (stop ∷ stops) = told_by es stop ∷ tolds_of lists stops
