@@ -1,1 +1,7 @@
+pub mod Served
+pub mod Stored
+pub mod Versions
+pub mod Opening
+pub mod Run
+pub mod Ran
 pub mod Played

@@ -6,8 +6,10 @@ ghost use Rattle.sound_image.specs.Image.{IsSoundImage};
 ghost use Rattle.image_file.specs.Stage.{PassesRule8};
 ghost use Rattle.play.specs.Played.{IsPlay};
 
+use crate::calls::calls_of_caller;
+use crate::run::run;
 use image_file::Medium;
-use map_model::{Lists, NoMemory};
+use map_model::NoMemory;
 use reply_text::Session;
 use script_text::Script;
 use std::alloc::Global;
@@ -25,12 +27,16 @@ pub fn play(alloc: Global, medium: Medium, script: &Script) -> Result<Session, N
     ensures played { IfOk result (IsPlay medium.geometry medium.words script.now) }
     ensures one_list { IfOk result (λ left. length left.lists ≡ 1) }
 {
-    let _ = script;
-    let lists = Lists::new(alloc, &[])?;
+    let calls = calls_of_caller(alloc, script.as_slice(), 1)?;
+    let Medium {
+        geometry,
+        mut words,
+    } = medium;
+    let lists = run(alloc, &geometry, words.as_mut_slice(), &calls)?;
     Ok(Session {
         lists,
         stops: [None; 64],
-        medium,
+        medium: Medium { geometry, words },
         cut: false,
     })
 }

@@ -1,0 +1,10 @@
+pub mod Hashes
+pub mod Different
+pub mod Buckets
+pub mod OneSegment
+pub mod Pairs
+pub mod Raised
+pub mod Storing
+pub mod OneRecord
+pub mod Steps
+pub mod Locks
