@@ -8,3 +8,8 @@ pub mod Storing
 pub mod OneRecord
 pub mod Steps
 pub mod Locks
+pub mod TableRecords
+pub mod TableSound
+pub mod FromSound
+pub mod Opening
+pub mod Running

@@ -15,12 +15,13 @@ use Rattle.play.proofs.Buckets.{SameBehindLock, record_before, record_after, sam
 same_lock : (w : ℕ) → lock_of (w + 2) ≡ lock_of w
 same_lock w = omega arith
 
--- an unlocked bucket whose version is not the last has room for the next
-pub below_last : (w : ℕ) → w < 2 ^ 64 → lock_of w ≡ 0 → (w / 2 ≡ 2 ^ 63 - 1 → ⊥) → w + 2 < 2 ^ 64
-below_last w fits unlocked more = omega arith
+-- a bucket whose version is not the last has room for the next
+below_last : (w : ℕ) → w < 2 ^ 64 → (w / 2 ≡ 2 ^ 63 - 1 → ⊥) → w + 2 < 2 ^ 64
+below_last w fits more = let other : w / 2 ≢ 2 ^ 63 - 1 = more in omega arith
 
 module _ (shape : Shape) (old new : List ℕ) (b : ℕ) (within : b < 66)
-    (raised : new ≡ set old (bucket_at shape 0 b) (get_or old (bucket_at shape 0 b) 0 + 2)) (table : IsServedTable shape old) where
+    (raised : new ≡ set old (bucket_at shape 0 b) (get_or old (bucket_at shape 0 b) 0 + 2)) (table : IsServedTable shape old)
+    (more : IsSpent (λ i. get_or old i 0) (bucket_at shape 0 b) → ⊥) where
   abbrev before : ImageWords
   before = λ i. get_or old i 0
 
@@ -49,8 +50,15 @@ module _ (shape : Shape) (old new : List ℕ) (b : ℕ) (within : b < 66)
         | inr other ↦ (ap lock_of (other_lock a other) ∙ (table.buckets a a_within).unlocked)
       ]
 
-  pub raised_table : ((i : ℕ) → now i < 2 ^ 64) → IsServedTable shape new
-  raised_table fits =
+  fits : (i : ℕ) → now i < 2 ^ 64
+  fits i =
+      elim (cases_eq i (bucket_at shape 0 b)) [
+        | inl e ↦ subst (λ j. now j < 2 ^ 64) (sym e) (subst (λ w. w < 2 ^ 64) (sym lock_word) (below_last _ (table.each_fits _) more))
+        | inr other ↦ subst (λ w. w < 2 ^ 64) (sym (other_word i other)) (table.each_fits i)
+      ]
+
+  pub raised_table : IsServedTable shape new
+  raised_table =
       let front : (i : ℕ) → i < bucket_at shape 0 0 → now i ≡ before i = λ (i : ℕ) (low : i < bucket_at shape 0 0). other_word i (omega (arith, low)) in
       record {
         in_range = table.in_range;
@@ -70,12 +78,12 @@ module _ (shape : Shape) (old new : List ℕ) (b : ℕ) (within : b < 66)
   same_home k None none = λ v has. none v (has.0, record_before before now (home_at shape k) (λ j. same _ j) has.0 k v has.1)
   same_home k (Some v) has = (has.0, record_after before now (home_at shape k) (λ j. same _ j) has.0 k v has.1)
 
-  pub raised_pairs : IsServedTable shape new → (m : Map) → HasPairsOf shape before m → HasPairsOf shape now m
-  raised_pairs new_table m pairs = pairs_from_home shape new new_table m (λ k. same_home k (get m k) (home_from_pairs shape old table m pairs k))
+  pub raised_pairs : (m : Map) → HasPairsOf shape before m → HasPairsOf shape now m
+  raised_pairs m pairs = pairs_from_home shape new raised_table m (λ k. same_home k (get m k) (home_from_pairs shape old table m pairs k))
 
   -- a last version stays, where it was not this one that was raised
-  pub raised_spent : (IsSpent before (bucket_at shape 0 b) → ⊥) → HasSpent shape before → HasSpent shape now
-  raised_spent more h =
+  pub raised_spent : HasSpent shape before → HasSpent shape now
+  raised_spent h =
       record {
         b = h.b;
         bucket = h.bucket;

@@ -18,7 +18,7 @@ use Rattle.play.specs.Served.{IsTaken, key_in, value_in, IsRecord, IsServedTable
 use Rattle.play.specs.Stored.{StoresRecord}
 use Rattle.play.specs.Run.{HasCause, IsStep}
 use Rattle.play.proofs.Pairs.{home_at, HasValue, HasHome, home-lt, record_at, one_value, home_from_pairs}
-use Rattle.play.proofs.Raised.{raised_table, raised_pairs, raised_spent}
+use Rattle.play.proofs.Raised.{raised_pairs, raised_spent}
 use Rattle.play.proofs.OneRecord.{stored_table, stored_pairs, stored_spent}
 use Rattle.play.proofs.Different.{each, different_values}
 
@@ -149,17 +149,16 @@ module _ (shape : Shape) (words : List ℕ) (table : IsServedTable shape words) 
       }
 
 -- A RAISE before a step
-pub raised_step : (shape : Shape) (old mid new : List ℕ) (call : Call) (reply : Reply) (b : ℕ) → IsServedTable shape old → b < 66
-    → mid ≡ set old (bucket_at shape 0 b) (get_or old (bucket_at shape 0 b) 0 + 2) → ((i : ℕ) → get_or mid i 0 < 2 ^ 64)
-    → (IsSpent (λ i. get_or old i 0) (bucket_at shape 0 b) → ⊥) → IsStep shape mid new call reply → IsStep shape old new call reply
-raised_step shape old mid new call reply b table within raised fits more step =
-    let mid_table = raised_table shape old mid b within raised table fits in
+pub raised_step : (shape : Shape) (old mid new : List ℕ) (call : Call) (reply : Reply) (b : ℕ) (within : b < 66)
+    (raised : mid ≡ set old (bucket_at shape 0 b) (get_or old (bucket_at shape 0 b) 0 + 2)) (table : IsServedTable shape old)
+    (more : IsSpent (λ i. get_or old i 0) (bucket_at shape 0 b) → ⊥) → IsStep shape mid new call reply → IsStep shape old new call reply
+raised_step shape old mid new call reply b within raised table more step =
     record {
       table = step.table;
       cause = step.cause;
-      right = λ m pairs. step.right m (raised_pairs shape old mid b within raised table mid_table m pairs);
-      leaves = λ m pairs. step.leaves m (raised_pairs shape old mid b within raised table mid_table m pairs);
-      full_bucket = λ m pairs. step.full_bucket m (raised_pairs shape old mid b within raised table mid_table m pairs);
+      right = λ m pairs. step.right m (raised_pairs shape old mid b within raised table more m pairs);
+      leaves = λ m pairs. step.leaves m (raised_pairs shape old mid b within raised table more m pairs);
+      full_bucket = λ m pairs. step.full_bucket m (raised_pairs shape old mid b within raised table more m pairs);
       stays_spent = λ h. step.stays_spent (raised_spent shape old mid b within raised table more h);
     }
 
