@@ -86,7 +86,7 @@ module _ (shape : Shape) (words : List ℕ) (sound : IsSoundImage shape words) (
       let leads = (sound.follows 3 32).three refl 0 within place in
       let slot : frame.entry 0 < shape.segments = leads_to_first _ _ leads in
       let same : frame.entry 0 ≡ word 32 = ap (λ g. word (entry_at g 0)) root_is in
-      none _ _ slot same one_segment
+      none _ _ _ slot same one_segment
     where
       none : (e w n : ℕ) → e < n → e ≡ w → n ≡ 1 → w ≡ 0
       none e w n low same one = omega arith

@@ -13,3 +13,5 @@ pub mod TableSound
 pub mod FromSound
 pub mod Opening
 pub mod Running
+pub mod Calling
+pub mod Sessions

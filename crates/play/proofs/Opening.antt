@@ -22,24 +22,24 @@ bool_cases false = inr refl
 
 module _ (shape : Shape) (word : ImageWords) where
   -- slot t, of 924, has a record
-  abbrev has_record : ℕ → Bool
+  abbrev pub has_record : ℕ → Bool
   has_record t = allocated (t % 14) (word_in shape word 0 (t / 14) 1) == 1
 
-  abbrev key_of_slot : ℕ → ℕ
+  abbrev pub key_of_slot : ℕ → ℕ
   key_of_slot t = slot_key shape word 0 (t / 14) (t % 14)
 
-  abbrev value_of_slot : ℕ → ℕ
+  abbrev pub value_of_slot : ℕ → ℕ
   value_of_slot t = slot_value shape word 0 (t / 14) (t % 14)
 
   -- a record below a limit has this key and value
-  record IsAmong (limit k v : ℕ) : Type 0 where
-    slot : ℕ
-    below : slot < limit
-    there : has_record slot ≡ true
-    key : key_of_slot slot ≡ k
-    value : value_of_slot slot ≡ v
+  pub record IsAmong (limit k v : ℕ) : Type 0 where
+    pub slot : ℕ
+    pub below : slot < limit
+    pub there : has_record slot ≡ true
+    pub key : key_of_slot slot ≡ k
+    pub value : value_of_slot slot ≡ v
 
-  abbrev HasBelow : ℕ → ℕ → Option ℕ → Type 0
+  abbrev pub HasBelow : ℕ → ℕ → Option ℕ → Type 0
   HasBelow limit k None = (v : ℕ) → IsAmong limit k v → ⊥
   HasBelow limit k (Some v) = IsAmong limit k v
 

@@ -1,30 +1,32 @@
--- A run on a new image is a session, and where the bytes are told, what was played is the headline.
-use Rattle.std.proofs.Common.{◌≡◌, ℕ, ◌+◌, ◌≤◌, List, [], ◌∷◌, ◌++◌, length, map, take, drop, refl, sym, ap, ◌∙◌, subst, arith, Option, None, Some, true, false, zero, suc}
-use Rattle.std.specs.Prelude.{Contains, slice_get}
+-- A run on a table that was a sound image is a session that closed.
+use Rattle.std.proofs.Common.{◌≡◌, ℕ, ◌+◌, ◌<◌, ◌≤◌, List, [], ◌∷◌, ◌++◌, length, map, take, drop, refl, sym, ap, ◌∙◌, subst, arith, Option, None, Some, Bool, true, false, zero, suc, get_or, inl}
+use Rattle.std.specs.Prelude.{Contains}
 use Rattle.std.specs.List.{AllByRecursion}
-use Rattle.std.specs.FinMap.{empty}
-use Rattle.std.specs.Io.KnownBytes.{Appends, Consumes, IsAtEnd}
 use Rattle.std.proofs.lemmas.Grind.{common_steps}
-use Rattle.outside.specs.Storing.{Holds, IsFront}
+use Rattle.image_layout.specs.Places.{Shape}
 use Rattle.map_model.specs.declared.call.Call.{Call}
 use Rattle.map_model.specs.declared.entry.Entry.{Entry}
+use Rattle.map_model.specs.declared.entry.Reply.TheVariants.{Spent}
 use Rattle.map_model.specs.Weave.{all_of}
 use Rattle.map_model.specs.ByPlaces.{map_at}
-use Rattle.script_text.specs.declared.line.Line.{Line}
-use Rattle.script_text.specs.declared.line.Mode.TheVariants.{Play}
-use Rattle.script_text.specs.Script.{IsScript}
-use Rattle.script_text.specs.Calls.{calls_of}
-use Rattle.session.specs.Transcript.{Told, entry_lines}
+use Rattle.session.specs.Transcript.{Told, transcript_of}
 use Rattle.session.specs.Callers.{FollowsScript, IsAnswered}
-use Rattle.session.specs.Session.{IsSession, HadNoRoom}
-use Rattle.sound_image.specs.Image.{image_bytes}
-use Rattle.play.specs.Plain.{one_segment, IsNew}
-use Rattle.play.specs.Run.{IsRun, IsGivenSoFar}
-use Rattle.play.specs.Played.{IsPlayed, closed_play}
-use Rattle.play.specs.Top.{Plays, Headline}
-use Rattle.play.specs.Top as top
-use Rattle.play.proofs.NewImage.{new-IsPlain, new-HasPairsOf}
-use Rattle.play.proofs.PlainSound.{plain-IsSoundImage, plain-IsClean, plain-same_kind}
+use Rattle.session.specs.Session.{IsSession, HadNoRoom, HasSpentBucket}
+use Rattle.segment_head.specs.HeadWord.{free}
+use Rattle.sound_image.specs.Segments.{frame_of, state_at}
+use Rattle.play.proofs.OneSegment.{is_first}
+use Rattle.play.specs.Served.{HasSpent, IsServedTable}
+use Rattle.play.specs.Opening.{opening_of}
+use Rattle.map_model.specs.Kept.{Kept, lists_of}
+use Rattle.script_text.specs.declared.line.Line.{Line}
+use Rattle.script_text.specs.Calls.{calls_of}
+use Rattle.reply_text.specs.declared.session.Session.{Session}
+use Rattle.reply_text.specs.Told.{tolds_of}
+use Rattle.play.specs.Run.{IsRun}
+use Rattle.play.specs.Ran.{IsKeptRun}
+use Rattle.play.specs.Played.{closed_play, IsPlay}
+use Rattle.play.proofs.Opening.{opening-HasPairsOf}
+use Rattle.play.proofs.TableSound.{table-IsSoundImage, table-IsClean, says-same_kind}
 
 -- what holds of each element holds of one that is contained
 holds_of : {X : Type 0} (P : X → Type 0) (xs : List X) (x : X) → AllByRecursion P xs → Contains xs x → P x
@@ -41,7 +43,7 @@ all_of-one : (es : List Entry) → all_of (es ∷ []) ≡ es
 all_of-one es = append-nil es
 
 -- what the only caller was told, all of whose calls were answered
-abbrev told_all : List Entry → Told
+abbrev pub told_all : List Entry → Told
 told_all entries = record { entries = entries; left_open = None }
 
 follows : (calls : List Call) (entries : List Entry) → map (λ e. e.call) entries ≡ calls → FollowsScript calls (told_all entries)
@@ -61,92 +63,68 @@ follows calls entries its =
 answered : (calls : List Call) (entries : List Entry) → map (λ e. e.call) entries ≡ calls → IsAnswered calls (told_all entries)
 answered calls entries its = record { each = (let h : length (map (λ (e : Entry). e.call) entries) ≡ length calls = ap (λ (x : List Call). length x) its in grind (arith, common_steps)); none_open = refl }
 
-pub run_session : (first words : List ℕ) (calls : List Call) (entries : List Entry) → IsNew first → IsRun calls words entries
-    → IsSession one_segment first words (calls ∷ []) closed_play (entry_lines 1 entries)
-run_session first words calls entries new run =
-    let given : AllByRecursion (λ (e : Entry). IsGivenSoFar e.reply) (all_of (entries ∷ [])) =
-    subst (λ (es : List Entry). AllByRecursion (λ (e : Entry). IsGivenSoFar e.reply) es) (sym (all_of-one entries)) run.given in
+-- a last version is one of a live segment
+spent_bucket : (shape : Shape) (words : List ℕ) → IsServedTable shape words → HasSpent shape (λ i. get_or words i 0) → HasSpentBucket shape words
+spent_bucket shape words table h =
+    let segments = table.head.one_segment in
+    record { s = 0; b = h.b; slot = omega arith; bucket = h.bucket; live = inl table.head.is_normal; spent = h.spent }
+
+pub run_session : (shape : Shape) (first words : List ℕ) (calls : List Call) (entries : List Entry) → IsServedTable shape first
+    → IsRun shape (opening_of shape (λ i. get_or first i 0)) calls words entries
+    → IsSession shape first words (calls ∷ []) closed_play (transcript_of (told_all entries ∷ []))
+run_session shape first words calls entries table run =
+    let opening = opening_of shape (λ i. get_or first i 0) in
+    let spent : AllByRecursion (λ (e : Entry). e.reply ≡ Spent → HasSpent shape (λ i. get_or words i 0)) (all_of (entries ∷ [])) =
+    subst (λ (es : List Entry). AllByRecursion (λ (e : Entry). e.reply ≡ Spent → HasSpent shape (λ i. get_or words i 0)) es) (sym (all_of-one entries)) run.spent in
     record {
       tolds = told_all entries ∷ [];
-      printed = sym (append-nil (entry_lines 1 entries ++ []) ∙ append-nil (entry_lines 1 entries));
+      printed = refl;
       scripted = (follows calls entries run.its_calls, tt);
-      opening = empty;
-      opening_pairs = new-HasPairsOf first new;
+      opening = opening;
+      opening_pairs = opening-HasPairsOf shape first table;
       legal = run.legal;
-      sound = plain-IsSoundImage words run.plain;
-      same_kind = plain-same_kind first words (new-IsPlain first new) run.plain;
+      sound = table-IsSoundImage shape words run.table;
+      same_kind = says-same_kind shape first words table.says_shape run.table.says_shape;
       after_close = λ closed. record {
         answered = (answered calls entries run.its_calls, tt);
-        clean = plain-IsClean words run.plain;
+        clean = table-IsClean shape words run.table;
         pairs = run.pairs;
       };
       after_cut = λ open_now. absurd (no_cut open_now);
-      had_no_room = subst (λ (es : List Entry). AllByRecursion (λ (e : Entry). HadNoRoom one_segment (map_at empty es e.place) e) es) (sym (all_of-one entries)) run.had_no_room;
-      none_free = λ e among full. absurd ((holds_of (λ (x : Entry). IsGivenSoFar x.reply) (all_of (entries ∷ [])) e given among).not_full full);
-      spent = λ e among is_spent few closes. absurd ((holds_of (λ (x : Entry). IsGivenSoFar x.reply) (all_of (entries ∷ [])) e given among).not_spent is_spent);
+      had_no_room = subst (λ (es : List Entry). AllByRecursion (λ (e : Entry). HadNoRoom shape (map_at opening es e.place) e) es) (sym (all_of-one entries)) run.had_no_room;
+      none_free = λ e among full s slot is_free. absurd (never_free s slot is_free);
+      spent = λ e among is_spent few closes.
+          spent_bucket shape words run.table (holds_of (λ (x : Entry). x.reply ≡ Spent → HasSpent shape (λ i. get_or words i 0)) (all_of (entries ∷ [])) e spent among is_spent);
     }
   where
     no_cut : true ≡ false → ⊥
     no_cut h = cc
 
--- the file of a run that began on the file of a new image
-pub played : (first words : List ℕ) (lines : List Line) (entries : List Entry) (script start transcript ending : List ℕ)
-    → IsNew first → IsScript Play script lines → IsRun (calls_of 1 lines) words entries
-    → start ≡ image_bytes first → transcript ≡ entry_lines 1 entries → ending ≡ image_bytes words
-    → IsPlayed start script transcript ending
-played first words lines entries script start transcript ending new good run start_is transcript_is ending_is =
-    record {
-      shape = one_segment;
-      first = first;
-      last = words;
-      start_is = start_is;
-      ending_is = ending_is;
-      start_sound = plain-IsSoundImage first (new-IsPlain first new);
-      lines = lines;
-      script_is = good;
-      session = subst (λ (t : List ℕ). IsSession one_segment first words (calls_of 1 lines ∷ []) closed_play t) (sym transcript_is)
-          (run_session first words (calls_of 1 lines) entries new run);
-    }
+    -- the only slot holds a segment from the start
+    never_free : (s : ℕ) → s < shape.segments → state_at (frame_of shape (λ i. get_or first i 0)) s ≡ free → ⊥
+    never_free s slot is_free =
+        let none : s ≡ 0 = is_first shape first table s slot in
+        let there : state_at (frame_of shape (λ i. get_or first i 0)) 0 ≡ free = subst (λ t. state_at (frame_of shape (λ i. get_or first i 0)) t ≡ free) none is_free in
+        let held = table.head.is_normal in
+        absurd (omega (arith, there, held))
 
--- what was read to the end is all that was left
-pub consumed_all : (now : Option (List ℕ)) (taken all : List ℕ) → Consumes (Some all) now taken → IsAtEnd now → all ≡ taken
-consumed_all None taken all h e = absurd h
-consumed_all (Some rest) taken all h e = rw (h, e) (grind (arith, common_steps))
+-- what is left of a play of the script's lines
+pub is_play : (shape : Shape) (first : List ℕ) (lines : List Line) (left : Session) → left.medium.geometry ≡ shape → left.cut ≡ false
+    → IsServedTable shape first → IsKeptRun shape first (calls_of 1 lines) left.medium.words left.lists
+    → ((es : List Entry) → tolds_of (es ∷ []) left.stops ≡ told_all es ∷ []) → IsPlay shape first lines left
+is_play shape first lines left same_shape not_cut table kept none_stopped = record {
+  same_shape = same_shape;
+  not_cut = not_cut;
+  session =
+      subst (λ (ls : List (List Entry)). IsSession shape first left.medium.words (calls_of 1 lines ∷ []) closed_play (transcript_of (tolds_of ls left.stops))) (sym kept.only)
+      (subst (λ (ts : List Told). IsSession shape first left.medium.words (calls_of 1 lines ∷ []) closed_play (transcript_of ts)) (sym (none_stopped kept.entries))
+      (run_session shape first left.medium.words (calls_of 1 lines) kept.entries table kept.run));
+}
 
-shorter_take : (n : ℕ) (all : List ℕ) → length (take (n + 1) all) ≤ n → take (n + 1) all ≡ all
-shorter_take n all h = grind (arith, common_steps)
+-- the only list
+pub one_of_lists : (kept : List Kept) (entries : List Entry) → lists_of kept ≡ entries ∷ [] → length kept ≡ 1
+one_of_lists kept entries only = let many : length (lists_of kept) ≡ 1 = ap (λ (ls : List (List Entry)). length ls) only in grind (arith, common_steps)
 
--- what was read of the store is all of it, where it is not more than may be
-pub read_all : (limit : ℕ) (read held : List ℕ) → IsFront (Some held) limit read → length read ≤ limit → read ≡ held
-read_all limit read held h le = h ∙ shorter_take limit held (subst (λ (x : List ℕ). length x ≤ limit) h le)
-
-appended : (now : Option (List ℕ)) (text before : List ℕ) → Appends (Some before) now text → now ≡ Some (before ++ text)
-appended None text before h = absurd h
-appended (Some all) text before h = ap Some h
-
-pub headline : (t : top.Told) (sink_old sink_new : Option (List ℕ)) (transcript : List ℕ) → Plays t transcript → Appends sink_old sink_new transcript → Headline t sink_old sink_new
-headline t sink_old sink_new transcript plays appends start script before store_is source_is sink_is =
-    let short : length plays.script ≤ 16777216 = plays.played.script_is.short.few_bytes in
-    let script_is : script ≡ plays.script =
-    consumed_all t.source_new plays.script script (subst (λ (o : Option (List ℕ)). Consumes o t.source_new plays.script) source_is plays.reads_script.taken) (plays.reads_script.to_its_end short) in
-    let start_is : plays.start ≡ start = read_all 282067200 plays.start start (subst (λ (o : Option (List ℕ)). IsFront o 282067200 plays.start) store_is plays.reads_image) plays.all_read in (
-      transcript,
-      plays.ending,
-      appended sink_new transcript before (subst (λ (o : Option (List ℕ)). Appends o sink_new transcript) sink_is appends),
-      subst (λ (o : Option (List ℕ)). Holds o t.store_new plays.ending) store_is plays.stores,
-      subst (λ (x : List ℕ). IsPlayed start x transcript plays.ending) (sym script_is)
-          (subst (λ (x : List ℕ). IsPlayed x plays.script transcript plays.ending) start_is plays.played),
-    )
-
--- the entries of the only caller
-pub entries_of_one : (lists : List (List Entry)) (entries read : List Entry) → lists ≡ entries ∷ [] → slice_get lists 0 ≡ Some read → read ≡ entries
-entries_of_one lists entries read only is =
-    let first : slice_get (entries ∷ []) 0 ≡ Some read = subst (λ (ls : List (List Entry)). slice_get ls 0 ≡ Some read) only is in
-    same read entries (sym first)
-  where
-    same : (a b : List Entry) → Some a ≡ Some b → a ≡ b
-    same a b h = cc
-
--- a slice that was written whole is what was written
-pub written_whole : (len : ℕ) (new old : List ℕ) → length new ≡ len → take len (new ++ drop (length new) old) ≡ new
-written_whole len new old e = grind (arith, common_steps)
+-- words that were lent whole are those that were left
+pub lent_whole : (len : ℕ) (new old : List ℕ) → length new ≡ len → take len (new ++ drop (length new) old) ≡ new
+lent_whole len new old e = grind (arith, common_steps)

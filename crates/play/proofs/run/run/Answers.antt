@@ -1,5 +1,5 @@
 -- The call at the index is one more of the run.
-use Rattle.std.proofs.Common.{◌≡◌, ◌+◌, ◌<◌, cond, length, refl, sym, subst, arith, get_or, ap}
+use Rattle.std.proofs.Common.{◌≡◌, ◌+◌, ◌<◌, cond, length, refl, sym, subst, arith, get_or}
 use Rattle.std.proofs.lemmas.List.{get_or_default}
 use Rattle.play.specs.Opening.{opening_of}
 use Rattle.play.proofs.Opening.{opening-HasPairsOf}
@@ -8,7 +8,11 @@ use Rattle.play.proofs.run.run.Goals as goal
 use Rattle.play.proofs.run.run.Goals.{then-drew, else-drew}
 
 pub loop-index-init : goal.loop-index-init
-loop-index-init c = ?
+loop-index-init c =
+    let shape = c.args.geometry.now in
+    let opening = opening_of shape (λ i. get_or c.args.words.now i 0) in
+    subst (HasRun shape opening c.args.calls.now 0 c.args.words.now 0) (sym c.in_ok-lists.ensures)
+    (run_none shape opening c.args.calls.now c.args.words.now c.requires.table (opening-HasPairsOf shape c.args.words.now c.requires.table))
 
 pub loop-index-preserved : goal.loop-index-preserved
 loop-index-preserved c =
@@ -25,4 +29,8 @@ loop-index-preserved c =
     refl (get_or_default c.args.calls.now n _ _ within) refl c.changes-drew.ensures place c.step-reply.ensures.step c.step-reply.ensures.key_fits)
 
 pub returns : goal.returns
-returns c = ?
+returns c =
+    record {
+      ran = run_all c.args.geometry.now c.args.words.now c.args.calls.now c.loop-index.index c.loop-index.words c.loop-index.place c.loop-index.lists
+          c.loop-index.invariant (omega (arith, c.loop-index-test.false));
+    }
