@@ -2,7 +2,7 @@
 use Rattle.std.proofs.Common.{◌≡◌, ℕ, ◌+◌, ◌*◌, ◌<◌, ap, sym, ◌∙◌, arith}
 use Rattle.bucket_meta.specs.Bucket.{lock_of, allocated, member, finger, note_used, overflow_count}
 use Rattle.hash_word.specs.Hash.{home_of, finger_of}
-use Rattle.segment_head.specs.HeadWord.{version_in, state_in, depth_in, pattern_in}
+use Rattle.segment_head.specs.HeadWord.{state_in, depth_in, pattern_in}
 use Rattle.image_layout.specs.Places.{Shape, head_at, bucket_at}
 use Rattle.sound_image.specs.Segments.{ImageWords}
 use Rattle.sound_image.specs.Records.{key_hash}

@@ -1,5 +1,5 @@
 -- A sound image that the present program serves is a served table.
-use Rattle.std.proofs.Common.{◌≡◌, ◌≢◌, ℕ, zero, suc, ◌+◌, ◌*◌, ◌%◌, ◌^◌, ◌<◌, ◌≤◌, ◌⊎◌, refl, sym, ap, subst, ◌∙◌, arith, inl, inr, List, [], ◌∷◌, length, length-append, ⊎_elim}
+use Rattle.std.proofs.Common.{◌≡◌, ℕ, zero, suc, ◌+◌, ◌%◌, ◌^◌, ◌<◌, ◌≤◌, ◌⊎◌, refl, sym, ap, subst, ◌∙◌, arith, inl, inr, List, [], ◌∷◌, length, length-append, ⊎_elim}
 use Rattle.std.specs.Prelude.{slice_index, ◌==◌, ◌&&◌, if◌then◌else◌}
 use Rattle.std.specs.List.{flat_map}
 use Rattle.std.proofs.lemmas.Bool.{cases_lt}
@@ -7,17 +7,17 @@ use Rattle.std.proofs.lemmas.List.Concat.{flat_map-append}
 use Rattle.std.proofs.lemmas.Bool.Decides.{nat_tests}
 use Rattle.std.proofs.Math.Nat.{div-eq_of_lt}
 use Rattle.hash_word.specs.Hash.{home_of, finger_of, probing_of, top}
-use Rattle.bucket_meta.specs.Bucket.{lock_of, allocated, member, note_used, note_member, note_finger, note_index, overflow_count}
+use Rattle.bucket_meta.specs.Bucket.{lock_of, allocated, note_used, note_member, note_finger, note_index, overflow_count}
 use Rattle.bucket_meta.specs.Notes.{numbers_below}
 use Rattle.segment_head.specs.HeadWord.{version_in, normal}
 use Rattle.image_layout.specs.Places.{Shape, head_at, bucket_at, key_at, entry_at}
-use Rattle.sound_image.specs.Segments.{ImageWords, Frame, frame_of, image_version, IsClean, state_at, depth_at, pattern_at, IsLiveFor, Owns, LeadsToOwner, arrived, on}
+use Rattle.sound_image.specs.Segments.{ImageWords, Frame, frame_of, image_version, state_at, depth_at, pattern_at, IsLiveFor, LeadsToOwner, arrived, on}
 use Rattle.sound_image.specs.Directory.{HeadInRange}
-use Rattle.sound_image.specs.Records.{key_hash, word_in, slot_key, slot_hash, HasRecord, HasOwnRecord, notes_in, notes_of, stashed_in, stashed_of, HasExactNotes}
-use Rattle.sound_image.specs.Rules.{InItsBucket, StandsRight, IsCleanAndCurrent, CleanMeansRepaired}
+use Rattle.sound_image.specs.Records.{word_in, slot_key, slot_hash, HasRecord, HasOwnRecord, notes_in, notes_of, stashed_in, stashed_of, HasExactNotes}
+use Rattle.sound_image.specs.Rules.{StandsRight, IsCleanAndCurrent, CleanMeansRepaired}
 use Rattle.sound_image.specs.Image.{IsSoundImage}
 use Rattle.image_file.specs.Stage.{PassesRule8}
-use Rattle.play.specs.Served.{IsTaken, key_in, IsServedBucket, HasServedHead, IsServedTable}
+use Rattle.play.specs.Served.{IsTaken, IsServedBucket, HasServedHead, IsServedTable}
 use Rattle.play.proofs.Hashes.{key_hash-fits, home_of-below}
 use Rattle.play.proofs.TableRecords.{all_empty, nothing_there}
 

@@ -1,6 +1,5 @@
 -- An insert locks its home bucket first and then the probing bucket, as far as their versions allow.
-use Rattle.std.proofs.Common.{◌≡◌, ◌≢◌, ℕ, ◌+◌, ◌-◌, ◌%◌, ◌/◌, ◌^◌, ◌<◌, List, get_or, Bool, true, false, refl, sym, ap, subst, ◌∙◌, arith, inl, inr, eq-eqb, IsTrue}
-use Rattle.std.specs.Prelude.{◌==◌, if◌then◌else◌}
+use Rattle.std.proofs.Common.{◌≡◌, ◌≢◌, ℕ, ◌+◌, ◌-◌, ◌/◌, ◌^◌, ◌<◌, List, get_or, Bool, true, false, refl, sym, ap, subst, ◌∙◌, arith, inl, inr, eq-eqb, IsTrue}
 use Rattle.std.proofs.Math.ListN.{set}
 use Rattle.std.proofs.lemmas.Bool.{cases_eq, ne_eqb}
 use Rattle.hash_word.specs.Hash.{probing_of}

@@ -1,11 +1,10 @@
 -- The one segment of a served table owns every hash.
-use Rattle.std.proofs.Common.{◌≡◌, ℕ, ◌*◌, ◌-◌, ◌^◌, ◌<◌, ◌≤◌, List, refl, sym, ap, subst, ◌∙◌, arith, inl}
+use Rattle.std.proofs.Common.{◌≡◌, ℕ, ◌*◌, ◌-◌, ◌^◌, ◌<◌, ◌≤◌, List, sym, ap, subst, ◌∙◌, arith, inl}
 use Rattle.std.specs.Prelude.{slice_index}
 use Rattle.std.proofs.Math.Nat.{div-eq_of_lt}
-use Rattle.std.proofs.lemmas.Nat.{pow_pos}
 use Rattle.hash_word.specs.Hash.{top}
 use Rattle.image_layout.specs.Places.{Shape, entry_at}
-use Rattle.sound_image.specs.Segments.{ImageWords, Frame, frame_of, state_at, depth_at, pattern_at, IsLiveFor, Owns, HasReadySide, LeadsToOwner, arrived}
+use Rattle.sound_image.specs.Segments.{ImageWords, Frame, frame_of, depth_at, IsLiveFor, Owns, HasReadySide, LeadsToOwner, arrived}
 use Rattle.sound_image.specs.Directory.{RootInRange, VersionInRange, HeadInRange, LinkInRange, HasOwners, SharesWell, EntryLeads, VersionIsPast}
 use Rattle.sound_image.specs.Records.{slot_hash, HasRecord, HasOwnRecord}
 use Rattle.play.specs.Served.{HasServedHead, IsServedTable}

@@ -6,8 +6,7 @@ use Rattle.std.specs.Ordering.{nat_cmp}
 use Rattle.std.proofs.lemmas.Bool.{cases_eq, cases_lt}
 use Rattle.std.proofs.lemmas.Bool.Decides.{nat_tests}
 use Rattle.bucket_meta.specs.Bucket.{allocated}
-use Rattle.image_layout.specs.Places.{Shape, bucket_at}
-use Rattle.map_model.specs.Map.{Map}
+use Rattle.image_layout.specs.Places.{Shape}
 use Rattle.sound_image.specs.Segments.{ImageWords}
 use Rattle.sound_image.specs.Records.{word_in, slot_key, slot_value, HasRecord, HasPair, HasAt}
 use Rattle.sound_image.specs.Left.{HasPairsOf}

@@ -1,5 +1,5 @@
 -- In a served table the pairs are the records in the home buckets of their keys.
-use Rattle.std.proofs.Common.{◌≡◌, ℕ, ◌+◌, ◌*◌, ◌<◌, List, get_or, Option, None, Some, sym, ap, subst, ◌∙◌, arith}
+use Rattle.std.proofs.Common.{◌≡◌, ℕ, ◌<◌, List, get_or, Option, None, Some, sym, ap, subst, ◌∙◌, arith}
 use Rattle.std.specs.FinMap.{get}
 use Rattle.hash_word.specs.Hash.{home_of}
 use Rattle.image_layout.specs.Places.{Shape, bucket_at}

@@ -4,7 +4,7 @@ use Rattle.std.specs.FinMap.{get}
 use Rattle.std.proofs.Math.ListN.{set, length-set}
 use Rattle.std.proofs.lemmas.Bool.{cases_eq}
 use Rattle.bucket_meta.specs.Bucket.{lock_of}
-use Rattle.image_layout.specs.Places.{Shape, bucket_at, words_of}
+use Rattle.image_layout.specs.Places.{Shape, bucket_at}
 use Rattle.map_model.specs.Map.{Map}
 use Rattle.sound_image.specs.Segments.{ImageWords}
 use Rattle.sound_image.specs.Left.{HasPairsOf}

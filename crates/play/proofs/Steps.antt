@@ -1,5 +1,5 @@
 -- Each way through a call on a served table is a step of a plain map.
-use Rattle.std.proofs.Common.{◌≡◌, ◌⊎◌, ℕ, ◌+◌, ◌^◌, ◌<◌, List, length, get_or, Option, None, Some, true, false, cond, is_some, IsSome, IfSome, IfNone, refl, sym, ap, subst, ◌∙◌, arith, inl, inr}
+use Rattle.std.proofs.Common.{◌≡◌, ℕ, ◌+◌, ◌^◌, ◌<◌, List, get_or, Option, None, Some, true, false, cond, is_some, IsSome, IfSome, IfNone, refl, sym, ap, subst, arith, inl, inr}
 use Rattle.std.specs.FinMap.{get}
 use Rattle.std.proofs.Math.ListN.{set}
 use Rattle.std.proofs.lemmas.Bool.{cases_lt}
@@ -9,14 +9,14 @@ use Rattle.map_model.specs.declared.call.Call.{Call}
 use Rattle.map_model.specs.declared.call.Call.TheVariants.{Get, Insert}
 use Rattle.map_model.specs.declared.entry.Reply.{Reply}
 use Rattle.map_model.specs.declared.entry.Reply.TheVariants.{Found, Absent, Done, Exists, Full, Deep, Spent}
-use Rattle.map_model.specs.Map.{Map, shown, after}
+use Rattle.map_model.specs.Map.{Map, shown}
 use Rattle.session.specs.Session.{HasAtLeast, least_full}
 use Rattle.sound_image.specs.Segments.{ImageWords}
 use Rattle.sound_image.specs.Records.{key_hash}
 use Rattle.sound_image.specs.Left.{HasPairsOf}
-use Rattle.play.specs.Served.{IsTaken, key_in, value_in, IsRecord, IsServedTable, IsSpent, HasSpent}
+use Rattle.play.specs.Served.{IsTaken, key_in, value_in, IsServedTable, IsSpent, HasSpent}
 use Rattle.play.specs.Stored.{StoresRecord}
-use Rattle.play.specs.Run.{HasCause, IsStep}
+use Rattle.play.specs.Run.{IsStep}
 use Rattle.play.proofs.Pairs.{home_at, HasValue, HasHome, home-lt, record_at, one_value, home_from_pairs}
 use Rattle.play.proofs.Raised.{raised_pairs, raised_spent}
 use Rattle.play.proofs.OneRecord.{stored_table, stored_pairs, stored_spent}

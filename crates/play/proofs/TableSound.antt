@@ -1,5 +1,5 @@
 -- A served table is a clean and sound image, and two of one shape say the same of themselves.
-use Rattle.std.proofs.Common.{◌≡◌, ℕ, ◌<◌, sym, subst, ◌∙◌, arith, List, below_none, below_more}
+use Rattle.std.proofs.Common.{◌≡◌, ℕ, ◌<◌, sym, subst, ◌∙◌, List, below_none, below_more}
 use Rattle.std.specs.Prelude.{slice_index}
 use Rattle.segment_head.specs.HeadWord.{normal}
 use Rattle.image_layout.specs.Places.{Shape}

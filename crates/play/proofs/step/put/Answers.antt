@@ -1,5 +1,5 @@
 -- The key is there, or a slot is free, or the bucket is full.
-use Rattle.std.proofs.Common.{◌≡◌, ℕ, ◌+◌, ◌<◌, ap, sym, subst, ◌∙◌, get_or, arith}
+use Rattle.std.proofs.Common.{◌≡◌, ℕ, ◌<◌, ap, sym, subst, ◌∙◌, get_or, arith}
 use Rattle.hash_word.specs.Hash.{home_of, finger_of}
 use Rattle.image_layout.specs.Places.{bucket_at}
 use Rattle.play.specs.Served.{IsTaken, IsRecord}
