@@ -1,8 +1,8 @@
 //! What a session left, and its text.
 #![tactic(auto)]
 
-mod session;
+mod left;
 mod text;
 
-pub use session::Session;
+pub use left::Session;
 pub use text::transcript;
