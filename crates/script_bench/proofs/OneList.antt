@@ -10,7 +10,7 @@ HasRoom n [] = ⊥
 HasRoom n (kept ∷ []) = kept.spare ≡ n
 HasRoom n (kept ∷ more ∷ others) = ⊥
 
-pub count : (n : ℕ) (lists : List Kept) → HasRoom n lists → 1 ≤ length lists
+pub count : (n : ℕ) (lists : List Kept) → HasRoom n lists → length lists ≡ 1
 count n [] h = elim h [ ]
 count n (kept ∷ []) h = omega arith
 count n (kept ∷ (_ ∷ _)) h = elim h [ ]

@@ -1,5 +1,7 @@
 //! Scripts and sessions of a size, and the time that their text takes.
 
+ghost use Rattle.std.specs.Prelude.{◌≡◌, length, IfOk};
+
 use image_file::format;
 use image_layout::Geometry;
 use map_model::{Call, Entry, Lists, NoMemory, Reply};
@@ -33,7 +35,9 @@ fn reply_of(i: u64) -> Reply {
 
 /// The entries.
 #[tactic(auto, using(crate::proofs::OneList::count, crate::proofs::OneList::spare, crate::proofs::OneList::pushed))]
-fn lists_of(alloc: Global, lines: u64) -> Result<Lists, NoMemory> {
+fn lists_of(alloc: Global, lines: u64) -> Result<Lists, NoMemory>
+    ensures one_list { IfOk result (λ lists. length lists ≡ 1) }
+{
     let mut lists = Lists::new(alloc, &[lines])?;
     for i in 0..lines {
         lists.push(1, Entry { serial: i + 1, call: Call::Get(i), reply: reply_of(i), place: i / 2, drew: false });
@@ -42,7 +46,9 @@ fn lists_of(alloc: Global, lines: u64) -> Result<Lists, NoMemory> {
 }
 
 /// A session.
-fn session_of(alloc: Global, lines: u64) -> Result<Session, NoMemory> {
+fn session_of(alloc: Global, lines: u64) -> Result<Session, NoMemory>
+    ensures one_list { IfOk result (λ session. length session.lists ≡ 1) }
+{
     let Ok(geometry) = Geometry::new(1, 0, 0) else {
         return Err(NoMemory);
     };
@@ -77,14 +83,12 @@ pub(crate) fn print_script(alloc: Global, rt: &(impl Print + Clock), lines: u64)
 /// Parses it.
 pub(crate) fn print_parse(alloc: Global, rt: &(impl Print + Clock), lines: u64) -> io::Result<()> {
     let script = script_of(alloc, lines)?;
-    for _ in 0..5 {
-        let start = Instant::now(rt)?;
-        let Ok(read) = parse(alloc, Mode::Play, script.as_bytes()) else {
-            return Err(io::Error::from(io::ErrorKind::InvalidData));
-        };
-        print_rate(rt, read.len(), start.elapsed(rt)?)?;
-    }
-    Ok(())
+    let start = Instant::now(rt)?;
+    let Ok(read) = parse(alloc, Mode::Play, script.as_bytes()) else {
+        return Err(io::Error::from(io::ErrorKind::InvalidData));
+    };
+    let time = start.elapsed(rt)?;
+    print_rate(rt, read.len(), time)
 }
 
 /// Makes a session alone.
@@ -101,15 +105,12 @@ pub(crate) fn print_transcript(alloc: Global, rt: &(impl Print + Clock), lines: 
     let Ok(session) = session_of(alloc, lines) else {
         return Err(no_memory());
     };
-    for _ in 0..5 {
-        let start = Instant::now(rt)?;
-        let Ok(text) = transcript(alloc, &session) else {
-            return Err(no_memory());
-        };
-        let time = start.elapsed(rt)?;
-        print_rate(rt, text.len() as u64, time)?;
-    }
-    Ok(())
+    let start = Instant::now(rt)?;
+    let Ok(text) = transcript(alloc, &session) else {
+        return Err(no_memory());
+    };
+    let time = start.elapsed(rt)?;
+    print_rate(rt, text.len() as u64, time)
 }
 
 /// Prints sums.
