@@ -21,7 +21,7 @@ list_of-caller lists i es found =
 lines_from-next : (i : ℕ) (lists : List (List Entry)) (stops : List (Option Stop)) (es : List Entry) (stop : Option Stop)
     → slice_get lists (i + 1 - 1) ≡ Some es → i < length stops → stop ≡ get_or stops i stop
     → lines_from (suc i) (tolds_of (drop i lists) (drop i stops))
-        ≡ caller_lines (suc i) (told_by es stop) ++ lines_from (suc (suc i)) (tolds_of (drop (suc i) lists) (drop (suc i) stops))
+    ≡ caller_lines (suc i) (told_by es stop) ++ lines_from (suc (suc i)) (tolds_of (drop (suc i) lists) (drop (suc i) stops))
 lines_from-next i lists stops es stop list within e =
     let a : drop i lists ≡ es ∷ drop (suc i) lists = drop-found lists i es (list_of-caller lists i es list) in
     let b : drop i stops ≡ stop ∷ drop (suc i) stops = grind (arith, drop-cons stops i stop within) in

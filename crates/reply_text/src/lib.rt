@@ -2,6 +2,8 @@
 #![tactic(auto)]
 
 mod left;
+#[cfg(test)]
+mod tests;
 mod text;
 
 pub use left::Session;

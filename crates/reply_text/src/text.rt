@@ -39,7 +39,12 @@ fn push_drawn(text: &mut String, caller: u8, serial: u64, entry: Entry) -> Resul
 }
 
 // Appends the line of a call that is open.
-fn push_open(text: &mut String, caller: u8, serial: u64, drew: Option<Entry>) -> Result<(), AllocError>
+fn push_open(
+    text: &mut String,
+    caller: u8,
+    serial: u64,
+    drew: Option<Entry>,
+) -> Result<(), AllocError>
     ensures { OnOk result (string_bytes text.new ≡ string_bytes text.old ++ line caller serial (open_text drew)) }
 {
     match drew {
@@ -50,7 +55,12 @@ fn push_open(text: &mut String, caller: u8, serial: u64, drew: Option<Entry>) ->
 
 // Appends the lines of a caller: those of its answered calls, then that of the call that it stopped in, if that had
 // begun.
-fn push_caller(text: &mut String, caller: u8, entries: &[Entry], stop: Option<Stop>) -> Result<(), AllocError>
+fn push_caller(
+    text: &mut String,
+    caller: u8,
+    entries: &[Entry],
+    stop: Option<Stop>,
+) -> Result<(), AllocError>
     ensures { OnOk result (string_bytes text.new ≡ string_bytes text.old ++ caller_lines caller (told_by entries.now stop)) }
 {
     push_entries(text, caller, entries)?;
@@ -72,7 +82,12 @@ pub fn transcript(alloc: Global, session: &Session) -> Result<Vec<u8>, NoMemory>
     let mut text = String::new(alloc);
     for i in 0..session.lists.callers() {
         let caller = i as u8 + 1;
-        push_caller(&mut text, caller, session.lists.of(caller), session.stops[i])?;
+        push_caller(
+            &mut text,
+            caller,
+            session.lists.of(caller),
+            session.stops[i],
+        )?;
     }
     Ok(text.into_bytes())
 }
