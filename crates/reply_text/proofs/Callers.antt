@@ -1,5 +1,5 @@
 -- The lines of the callers from one on are its own, and then those of the callers behind it.
-use Rattle.std.proofs.Common.{◌≡◌, ◌∙◌, sym, ℕ, suc, ◌-◌, ◌+◌, ◌<◌, Option, Some, List, ◌∷◌, ◌++◌, drop, length, get_or, append_assoc, arith}
+use Rattle.std.proofs.Common.{◌≡◌, ℕ, suc, ◌-◌, ◌+◌, ◌<◌, Option, Some, List, ◌∷◌, ◌++◌, drop, length, get_or, append_assoc, arith}
 use Rattle.std.specs.Prelude.{slice_get}
 use Rattle.std.proofs.Math.Seq.{drop-cons}
 use Rattle.std.proofs.lemmas.Option.{get_or_from_slice_get, slice_get_within}

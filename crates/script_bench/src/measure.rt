@@ -26,11 +26,7 @@ fn print_figures(rt: &impl Print, bytes: usize, time: Duration) -> io::Result<()
 }
 
 /// Makes a script, and does no more.
-pub(crate) fn print_script(
-    alloc: Global,
-    rt: &(impl Print + Clock),
-    lines: u32,
-) -> io::Result<()> {
+pub(crate) fn print_script(alloc: Global, rt: &(impl Print + Clock), lines: u32) -> io::Result<()> {
     let start = Instant::now(rt)?;
     let script = script_of(alloc, lines)?;
     print_figures(rt, script.len(), start.elapsed(rt)?)

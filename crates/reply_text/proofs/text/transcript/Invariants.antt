@@ -1,4 +1,4 @@
-use Rattle.std.proofs.Common.{◌≡◌, ◌≤◌, ◌++◌, suc, drop, length, string_bytes}
+use Rattle.std.proofs.Common.{◌≡◌, ◌++◌, suc, drop, string_bytes}
 use Rattle.map_model.specs.Kept.{lists_of}
 use Rattle.session.specs.Transcript.{lines_from, transcript_of}
 use Rattle.reply_text.specs.Told.{tolds_of}
