@@ -1,8 +1,10 @@
 //! What a session left, and its text.
 #![tactic(auto)]
 
-mod session;
+mod left;
+#[cfg(test)]
+mod tests;
 mod text;
 
-pub use session::Session;
+pub use left::Session;
 pub use text::transcript;
