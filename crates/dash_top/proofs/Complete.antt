@@ -1,15 +1,27 @@
--- What is good is not refused: a good script has no fault, and the file of a new image is taken.
-use Rattle.std.proofs.Common.{◌≡◌, ℕ, ◌+◌, ◌≤◌, ⊎_elim, List, length, take, sym, ◌∙◌, subst, arith, Option, None, Some}
+-- What is good is not refused: a good script has no fault, and a good image is taken.
+use Rattle.std.proofs.Common.{◌≡◌, ℕ, ◌+◌, ◌≤◌, List, [], ◌∷◌, length, take, refl, sym, ◌∙◌, subst, arith, Option, None, Some, Bool, true, false}
 use Rattle.std.proofs.lemmas.Grind.{common_steps}
+use Rattle.std.specs.Prelude.{codes}
+use Rattle.std.specs.Str.{bytes_eq}
+use Rattle.std.proofs.lemmas.Slice.Eq.{bytes_eq-Decides}
 use Rattle.std.specs.Io.KnownBytes.{Consumes}
 use Rattle.outside.specs.Storing.{IsFront}
+use Rattle.image_file.specs.declared.fault.ImageFault.{ImageFault}
+use Rattle.image_file.specs.Fault.{HasFault, IsServedFile}
 use Rattle.script_text.specs.declared.line.Mode.TheVariants.{Play}
 use Rattle.script_text.specs.declared.fault.ScriptFault.{ScriptFault}
 use Rattle.script_text.specs.Script.{IsScript}
-use Rattle.script_text.proofs.Complete.{no_fault}
-use Rattle.dash_top.specs.Top.{Told, RefusesImage, RefusesScript, IsGoodPlay, IsGoodCommand, IsNewFile, play_words, format_words}
-use Rattle.dash_top.proofs.NewFile.{length_new_file}
-use Rattle.dash_top.proofs.Sessions.{consumed_all}
+use Rattle.script_text.proofs.Complete.{no_fault as no_script_fault}
+use Rattle.image_file.proofs.Accepted.{no_fault}
+use Rattle.dash_top.specs.Commands.{check_words, list_words, play_words, SaysFormat, IsNoCommand, ReadsImage}
+use Rattle.dash_top.specs.Commands.ReadsImage.{for_check, for_list, for_play}
+use Rattle.dash_top.specs.Told.{Told, RefusesImage, RefusesScript}
+use Rattle.dash_top.specs.Top.{HasGoodImage, HasGoodScript, IsGoodCommand}
+use Rattle.dash_top.specs.Top.IsGoodCommand.{good_format, good_check, good_list, good_play}
+use Rattle.dash_top.specs.Work.{Plays, IsDone}
+use Rattle.dash_top.specs.Work.IsDone.{by_format, by_check, by_list, by_play}
+use Rattle.dash_top.proofs.Sizes.{file-le}
+use Rattle.dash_top.proofs.Headlines.{consumed_all}
 
 -- THE IMAGE
 take_short : (n : ℕ) (xs : List ℕ) → length xs ≤ n → take (n + 1) xs ≡ xs
@@ -20,30 +32,76 @@ whole_front told limit read held e front le =
     let taken : read ≡ take (limit + 1) held = subst (λ (o : Option (List ℕ)). IsFront o limit read) e front in
     taken ∙ take_short limit held le
 
-pub new_file_is_taken : (t : Told) (words : List (List ℕ)) → RefusesImage t → IsGoodPlay t words → ⊥
-new_file_is_taken t words refused good =
-    let long : length good.start ≡ 17664 = length_new_file good.new_file.0 good.start good.new_file.1 good.new_file.2 in
-    let whole : refused.start ≡ good.start = whole_front t.store_old 282067200 refused.start good.start good.store_tells refused.reads_image (omega arith) in
-    refused.not_new (subst IsNewFile (sym whole) good.new_file)
-
 -- THE SCRIPT
 taken_is_shorter : (now : Option (List ℕ)) (taken all : List ℕ) → Consumes (Some all) now taken → length taken ≤ length all
 taken_is_shorter None taken all h = absurd h
 taken_is_shorter (Some rest) taken all h = rw h (grind (arith, common_steps))
 
-pub good_script_is_taken : (t : Told) (words : List (List ℕ)) (fault : ScriptFault) → RefusesScript t fault → IsGoodPlay t words → ⊥
-good_script_is_taken t words fault refused good =
+pub good_script_is_taken : (t : Told) (fault : ScriptFault) → RefusesScript t.source_old t.source_new fault → HasGoodScript t → ⊥
+good_script_is_taken t fault refused good =
     let taken : Consumes (Some good.script) t.source_new refused.script =
-    subst (λ (o : Option (List ℕ)). Consumes o t.source_new refused.script) good.source_tells refused.reads_script.taken in
+    subst (λ (o : Option (List ℕ)). Consumes o t.source_new refused.script) good.source_tells refused.reads.taken in
     let shorter : length refused.script ≤ length good.script = taken_is_shorter t.source_new refused.script good.script taken in
-    let short : length good.script ≤ 16777216 = good.good_script.short.few_bytes in
-    let whole : good.script ≡ refused.script = consumed_all t.source_new refused.script good.script taken (refused.reads_script.to_its_end (omega arith)) in
-    refused.not_memory (no_fault Play refused.script good.lines fault (subst (λ (x : List ℕ). IsScript Play x good.lines) whole good.good_script) refused.has_fault)
+    let short : length good.script ≤ 16777216 = good.good.short.few_bytes in
+    let whole : good.script ≡ refused.script = consumed_all t.source_new refused.script good.script taken (refused.reads.to_its_end (omega arith)) in
+    refused.not_memory (no_script_fault Play refused.script good.lines fault (subst (λ (x : List ℕ). IsScript Play x good.lines) whole good.good) refused.has_fault)
 
--- COMMANDS
-two_commands : (words : List (List ℕ)) → words ≡ play_words → words ≡ format_words → ⊥
-two_commands words p f = cc
+pub good_image_is_taken : (t : Told) (fault : ImageFault) → RefusesImage t.store_old fault → HasGoodImage t → ⊥
+good_image_is_taken t fault refused good =
+    let short : length good.start ≤ 282067200 = subst (λ (x : List ℕ). length x ≤ 282067200) (sym good.good.file) (file-le good.good.shape good.good.words good.good.sound) in
+    let whole : refused.start ≡ good.start = whole_front t.store_old 282067200 refused.start good.start good.store_tells refused.reads short in
+    refused.not_memory (no_fault good.start good.good fault (subst (λ (x : List ℕ). HasFault x fault) whole refused.has_fault))
 
--- at the words of play only a good play is a good command
-pub good_play : (t : Told) (words : List (List ℕ)) → words ≡ play_words → IsGoodCommand t words → IsGoodPlay t words
-good_play t words p good = ⊎_elim (λ f. absurd (two_commands words p f)) (λ g. g) good
+-- THE WORDS: of two forms only one can be said
+check_is_no_list : (words : List (List ℕ)) → words ≡ check_words → words ≡ list_words → ⊥
+check_is_no_list words h k = cc
+
+check_is_no_play : (words : List (List ℕ)) → words ≡ check_words → words ≡ play_words → ⊥
+check_is_no_play words h k = cc
+
+not_both : (b : Bool) → b ≡ false → b ≡ true → ⊥
+not_both b h k = cc
+
+only_word : (a b : List ℕ) → a ∷ [] ≡ b ∷ [] → a ≡ b
+only_word a b h = cc
+
+list_is_no_play : (words : List (List ℕ)) → words ≡ list_words → words ≡ play_words → ⊥
+list_is_no_play words h k =
+    not_both (bytes_eq (codes "list") (codes "play")) refl ((bytes_eq-Decides (codes "list") (codes "play")).1 (only_word (codes "list") (codes "play") (sym h ∙ k)))
+
+one_is_not_four : (words : List (List ℕ)) (a b c d e : List ℕ) → words ≡ a ∷ [] → words ≡ b ∷ c ∷ d ∷ e ∷ [] → ⊥
+one_is_not_four words a b c d e h k = cc
+
+pub image_of_good : (t : Told) (words : List (List ℕ)) → ReadsImage words → IsGoodCommand t words → HasGoodImage t
+image_of_good t words (for_check h) (good_format f) = absurd (one_is_not_four words _ _ f.segments f.depth f.kind h f.says)
+image_of_good t words (for_list h) (good_format f) = absurd (one_is_not_four words _ _ f.segments f.depth f.kind h f.says)
+image_of_good t words (for_play h) (good_format f) = absurd (one_is_not_four words _ _ f.segments f.depth f.kind h f.says)
+image_of_good t words reads (good_check k image) = image
+image_of_good t words reads (good_list k image) = image
+image_of_good t words reads (good_play k image script) = image
+
+pub script_of_good : (t : Told) (words : List (List ℕ)) → words ≡ play_words → IsGoodCommand t words → HasGoodScript t
+script_of_good t words h (good_format f) = absurd (one_is_not_four words _ _ f.segments f.depth f.kind h f.says)
+script_of_good t words h (good_check k image) = absurd (check_is_no_play words k h)
+script_of_good t words h (good_list k image) = absurd (list_is_no_play words k h)
+script_of_good t words h (good_play k image script) = script
+
+pub good_words : (t : Told) (words : List (List ℕ)) → IsNoCommand words → IsGoodCommand t words → ⊥
+good_words t words none (good_format f) = none.no_format _ f
+good_words t words none (good_check k image) = none.no_check k
+good_words t words none (good_list k image) = none.no_list k
+good_words t words none (good_play k image script) = none.no_play k
+
+-- SO a good command meets no refusal
+pub good_image : (t : Told) (words : List (List ℕ)) (fault : ImageFault) → ReadsImage words → RefusesImage t.store_old fault → IsGoodCommand t words → ⊥
+good_image t words fault reads refused good = good_image_is_taken t fault refused (image_of_good t words reads good)
+
+pub good_script : (t : Told) (words : List (List ℕ)) (fault : ScriptFault) → words ≡ play_words → RefusesScript t.source_old t.source_new fault → IsGoodCommand t words → ⊥
+good_script t words fault reads refused good = good_script_is_taken t fault refused (script_of_good t words reads good)
+
+-- what is done at the words of `play` is a play
+pub play_of_done : (t : Told) (words : List (List ℕ)) (text : List ℕ) → words ≡ play_words → IsDone t words text → Plays t text
+play_of_done t words text h (by_format f stores) = absurd (one_is_not_four words _ _ f.segments f.depth f.kind h f.says)
+play_of_done t words text h (by_check k checks keeps) = absurd (check_is_no_play words k h)
+play_of_done t words text h (by_list k lists keeps) = absurd (list_is_no_play words k h)
+play_of_done t words text h (by_play k plays) = plays

@@ -1,8 +1,7 @@
-pub mod Plain
-pub mod Stored
-pub mod Versions
-pub mod Run
-pub mod Ran
+pub mod Commands
 pub mod Texts
 pub mod Played
+pub mod Told
+pub mod Reading
+pub mod Work
 pub mod Top

@@ -1,17 +1,14 @@
 -- A `play` as a relation of bytes: the image that was in the store, the script, what was written, and the image that
 -- is in the store now.
-use Rattle.std.specs.Prelude.{◌≡◌, List, ℕ, [], ◌∷◌, true}
+use Rattle.std.specs.Prelude.{◌≡◌, List, ℕ, [], ◌∷◌}
 use Rattle.image_layout.specs.Places.{Shape}
 use Rattle.sound_image.specs.Image.{image_bytes, IsSoundImage}
-use Rattle.session.specs.Session.{Ending, IsSession}
+use Rattle.session.specs.Session.{IsSession}
 use Rattle.script_text.specs.declared.line.Line.{Line}
 use Rattle.script_text.specs.declared.line.Mode.TheVariants.{Play}
 use Rattle.script_text.specs.Script.{IsScript}
 use Rattle.script_text.specs.Calls.{calls_of}
-
--- a play whose script has no cut ends by a close
-abbrev pub closed_play : Ending
-closed_play = record { closed = true; scheduled = true }
+use Rattle.play.specs.Played.{closed_play}
 
 -- the bytes are those of a session of the script's lines, whose calls are all caller 1's
 pub record IsPlayed (start script transcript ending : List ℕ) : Type 0 where

@@ -5,18 +5,14 @@
 //! written so that it can become a crate of its own.
 #![tactic(auto)]
 
-mod bucket;
-mod calls;
 mod command;
-mod image;
-mod play;
-mod run;
+mod reading;
 mod status;
-mod step;
 #[cfg(test)]
 mod tests;
 mod text;
 mod top;
+mod work;
 
 pub use status::{
     BAD_IMAGE, BAD_SCRIPT, BAD_WORDS, DONE, NO_MEMORY, SINK_FAILED, SOURCE_FAILED, STORE_FAILED,

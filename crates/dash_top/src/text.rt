@@ -1,34 +1,48 @@
-// What is written: the transcript, and the lines of refusals.
-ghost use Rattle.std.specs.Prelude.{◌≡◌, ◌++◌, [], OnOk, IfOk, string_bytes};
-ghost use Rattle.session.specs.Transcript.{entry_lines};
-ghost use Rattle.dash_top.specs.Texts.{entry_line, script_fault_text};
+// What is written: the lines of `check` and `list`, and the lines of refusals.
+ghost use Rattle.std.specs.Prelude.{◌≡◌, ◌++◌, OnOk, IfOk, string_bytes};
+ghost use Rattle.dash_top.specs.Texts.{marker_text, check_text, pair_line, list_text, script_fault_text, image_fault_text};
 
-use map_model::Entry;
+use image_file::{ImageFault, Summary};
 use script_text::ScriptFault;
 use std::alloc::{AllocError, Global};
 
 /// The line of a refusal of the words.
 pub const USAGE: &str = "fault usage\n";
-/// The line of a refusal of the image.
-pub const IMAGE_FORMAT: &str = "fault image format\n";
 
-// Appends the line of a caller's entry.
-fn push_entry(text: &mut String, caller: u8, entry: &Entry) -> Result<(), AllocError>
-    ensures { OnOk result (string_bytes text.new ≡ string_bytes text.old ++ entry_line caller entry.now) }
+// How the marker of an image is told.
+fn marker(clean: bool) -> &'static str
+    ensures { result.now ≡ marker_text clean }
 {
-    let serial = entry.serial;
-    let reply = entry.reply;
-    let place = entry.place;
-    write!(text, "{caller} {serial} {reply} @{place}\n")
+    if clean { "clean" } else { "unclean" }
 }
 
-/// The lines of a caller's entries.
-pub fn transcript(alloc: Global, caller: u8, entries: &[Entry]) -> Result<String, AllocError>
-    ensures { IfOk result (λ text. string_bytes text ≡ entry_lines caller entries.now) }
+/// The line of an image in numbers.
+pub fn check_line(alloc: Global, summary: &Summary) -> Result<String, AllocError>
+    ensures { IfOk result (λ text. string_bytes text ≡ check_text summary.now) }
+{
+    let version = summary.version;
+    let depth = summary.depth;
+    let live = summary.live;
+    let pairs = summary.pairs;
+    let marker = marker(summary.clean);
+    format!(in alloc; "sound {version} {depth} {live} {pairs} {marker}\n")
+}
+
+// Appends the line of a pair.
+fn push_pair(text: &mut String, pair: (u64, u64)) -> Result<(), AllocError>
+    ensures { OnOk result (string_bytes text.new ≡ string_bytes text.old ++ pair_line pair) }
+{
+    let (key, value) = pair;
+    write!(text, "{key} {value}\n")
+}
+
+/// The lines of pairs.
+pub fn list_lines(alloc: Global, pairs: &[(u64, u64)]) -> Result<String, AllocError>
+    ensures { IfOk result (λ text. string_bytes text ≡ list_text pairs.now) }
 {
     let mut text = String::new(alloc);
-    for entry in entries {
-        push_entry(&mut text, caller, entry)?;
+    for pair in pairs {
+        push_pair(&mut text, *pair)?;
     }
     Ok(text)
 }
@@ -44,5 +58,21 @@ pub fn script_fault(alloc: Global, fault: ScriptFault) -> Result<String, AllocEr
         ScriptFault::Order { line } => format!(in alloc; "fault script order line {line}\n"),
         ScriptFault::TooLong { line } => format!(in alloc; "fault script toolong line {line}\n"),
         ScriptFault::NoMemory => Ok(String::new(alloc)),
+    }
+}
+
+/// The line of a refused image.
+pub fn image_fault(alloc: Global, fault: ImageFault) -> Result<String, AllocError>
+    ensures { IfOk result (λ text. string_bytes text ≡ image_fault_text fault) }
+{
+    match fault {
+        ImageFault::Length => String::from_str(alloc, "fault image length\n"),
+        ImageFault::Magic => String::from_str(alloc, "fault image magic\n"),
+        ImageFault::Format => String::from_str(alloc, "fault image format\n"),
+        ImageFault::Geometry => String::from_str(alloc, "fault image geometry\n"),
+        ImageFault::Unsound { rule, word } => {
+            format!(in alloc; "fault image rule {rule} word {word}\n")
+        }
+        ImageFault::NoMemory => Ok(String::new(alloc)),
     }
 }

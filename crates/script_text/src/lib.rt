@@ -18,6 +18,7 @@ mod word;
 
 pub use fault::ScriptFault;
 pub use line::{Event, Line, Mode};
+pub use number::number_of;
 pub use parsing::{MOST_BYTES, MOST_LINES, parse};
 pub use reading::MOST_CALLERS;
 pub use script::Script;

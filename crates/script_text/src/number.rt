@@ -5,8 +5,8 @@ ghost use Rattle.script_text.specs.Readings.{number};
 // The most digits that a number may have.
 const MOST_DIGITS: usize = 20;
 
-// The number that a word is.
-pub(crate) fn number_of(word: &[u8]) -> Option<u64>
+/// The number that a word is: 1 to 20 decimal digits, of a value of 64 bits. `None` for any other word.
+pub fn number_of(word: &[u8]) -> Option<u64>
     ensures { result ≡ number word.now }
 {
     if word.is_empty() || word.len() > MOST_DIGITS {

@@ -1,0 +1,14 @@
+use Rattle.dash_top.specs.Work.{by_format, by_check, by_list, by_play}
+use Rattle.dash_top.proofs.work.perform.Goals as goal
+
+pub returns-in_ok-format_image-in-Format-clause-ok : goal.returns-in_ok-format_image-in-Format-clause-ok
+returns-in_ok-format_image-in-Format-clause-ok g c = by_format c.in-Format.ensures c.in_ok-format_image-in-Format.ensures.ok
+
+pub returns-in_ok-text-in-Check-clause-ok : goal.returns-in_ok-text-in-Check-clause-ok
+returns-in_ok-text-in-Check-clause-ok g c = by_check c.in-Check.ensures c.in_ok-text-in-Check.ensures.ok c.in_ok-text-in-Check.ensures.keeps
+
+pub returns-in_ok-text-in-List-clause-ok : goal.returns-in_ok-text-in-List-clause-ok
+returns-in_ok-text-in-List-clause-ok g c = by_list c.in-List.ensures c.in_ok-text-in-List.ensures.ok c.in_ok-text-in-List.ensures.keeps
+
+pub returns-in_ok-lines-in-Play-clause-ok : goal.returns-in_ok-lines-in-Play-clause-ok
+returns-in_ok-lines-in-Play-clause-ok g c = by_play c.in-Play.ensures c.in_ok-lines-in-Play.ensures.ok

@@ -1,0 +1,38 @@
+use Rattle.std.proofs.Common.{◌≡◌, List, ℕ, [], ◌∷◌, subst, refl, sym}
+use Rattle.outside.specs.Storing.{Holds}
+use Rattle.script_text.specs.Calls.{calls_of}
+use Rattle.session.specs.Session.{IsSession}
+use Rattle.play.specs.Played.{IsPlay, closed_play}
+use Rattle.dash_top.proofs.Counting.{rose_before}
+use Rattle.dash_top.proofs.work.play_script.Goals as goal
+
+pub returns-in-Ok-clause-ok : goal.returns-in-Ok-clause-ok
+returns-in-Ok-clause-ok g c =
+    let read = c.in_ok-script.ensures.ok in
+    let image = c.in_ok-medium.ensures.ok in
+    let left : IsPlay c.in_ok-medium.medium.geometry c.in_ok-medium.medium.words c.in_ok-script.script c.in_ok-session.session = c.in_ok-session.ensures.played in
+    record {
+      script = read.0;
+      reads_script = read.1;
+      shape = c.in_ok-medium.medium.geometry;
+      words = c.in_ok-medium.medium.words;
+      reads = image;
+      ending = c.in_ok-ending.ending.items;
+      stores = subst (λ o. Holds o (g.I.Store.contents c.write_all.new.self) c.in_ok-ending.ending.items) c.in_ok-medium.ensures.keeps
+          (subst (λ (x : List ℕ). Holds (g.I.Store.contents c.read_image.new.image) (g.I.Store.contents c.write_all.new.self) x) c.deref.ensures.value c.in-Ok.ensures.written);
+      played = record {
+        shape = c.in_ok-medium.medium.geometry;
+        first = c.in_ok-medium.medium.words;
+        last = c.in_ok-session.session.medium.words;
+        start_is = refl;
+        ending_is = c.in_ok-ending.ensures.file;
+        start_sound = image.sound;
+        lines = c.in_ok-script.script;
+        script_is = read.2;
+        session = subst (λ (t : List ℕ). IsSession c.in_ok-medium.medium.geometry c.in_ok-medium.medium.words c.in_ok-session.session.medium.words
+            (calls_of 1 c.in_ok-script.script ∷ []) closed_play t) (sym c.in_ok-lines.ensures) left.session;
+      };
+    }
+
+pub returns-clause-err : goal.returns-clause-err
+returns-clause-err g c = rose_before _ _ _ c.in_ok-medium.ensures.later c.in-Err.ensures.cause.failed

@@ -1,0 +1,104 @@
+-- What each command does, and why one stops before it is done.
+use Rattle.std.specs.Prelude.{◌≡◌, ℕ, ◌≤◌, ◌↔◌, Option, List, [], length, slice_index, string_bytes, IsTrue}
+use Rattle.std.specs.List.Sorted.{IsStrictlyIncreasing}
+use Rattle.outside.specs.Causes.{Rose}
+use Rattle.outside.specs.Storing.{Holds}
+use Rattle.image_layout.specs.Places.{Shape}
+use Rattle.sound_image.specs.Segments.{frame_of, image_version, IsClean}
+use Rattle.sound_image.specs.Image.{image_bytes}
+use Rattle.image_file.specs.Formatted.{IsFormatted}
+use Rattle.image_file.specs.Pairs.{live_slots, keys_of, ArePairs}
+use Rattle.image_file.specs.declared.summary.Summary.{Summary}
+use Rattle.dash_top.specs.declared.work.Output.{Output}
+use Rattle.dash_top.specs.declared.work.Output.TheVariants.{Nothing, Text, Lines}
+use Rattle.dash_top.specs.declared.work.Stop.{Stop}
+use Rattle.dash_top.specs.declared.work.Stop.TheVariants.{Words, Script, Image, Source, Store, NoMemory}
+use Rattle.dash_top.specs.Commands.{check_words, list_words, play_words, SaysFormat, IsNoCommand, ReadsImage}
+use Rattle.dash_top.specs.Texts.{check_text, list_text}
+use Rattle.dash_top.specs.Played.{IsPlayed}
+use Rattle.dash_top.specs.Told.{Told, KeepsStore, image_limit, ReadsScript, RefusesScript, ReadsSound, RefusesImage}
+
+-- WHAT IS DONE
+-- the file of the image of an empty table of this shape stands in the store
+pub record StoresNew (store_old store_new : Option (List ℕ)) (shape : Shape) : Type 0 where
+  pub words : List ℕ
+  pub formatted : IsFormatted shape words
+  pub stores : Holds store_old store_new (image_bytes words)
+
+-- the numbers are those of the image
+pub record IsSummary (shape : Shape) (words : List ℕ) (s : Summary) : Type 0 where
+  pub version : s.version ≡ image_version (frame_of shape (slice_index words))
+  pub depth : s.depth ≡ (frame_of shape (slice_index words)).root
+  pub live : s.live ≡ length (live_slots (frame_of shape (slice_index words)) shape.segments)
+  pub pairs : (pairs : List (ℕ × ℕ)) × ArePairs shape (slice_index words) pairs × (s.pairs ≡ length pairs)
+  pub clean : IsTrue s.clean ↔ IsClean (frame_of shape (slice_index words))
+
+-- the text has the numbers of the sound image in the store
+pub record Checks (store : Option (List ℕ)) (text : List ℕ) : Type 0 where
+  pub shape : Shape
+  pub words : List ℕ
+  pub reads : ReadsSound store shape words
+  pub summary : Summary
+  pub is_summary : IsSummary shape words summary
+  pub text_is : text ≡ check_text summary
+
+-- the text has the pairs of the sound image in the store, by rising key, each key once
+pub record ListsPairs (store : Option (List ℕ)) (text : List ℕ) : Type 0 where
+  pub shape : Shape
+  pub words : List ℕ
+  pub reads : ReadsSound store shape words
+  pub pairs : List (ℕ × ℕ)
+  pub are_pairs : ArePairs shape (slice_index words) pairs
+  pub rising : IsStrictlyIncreasing (keys_of pairs)
+  pub text_is : text ≡ list_text pairs
+
+-- the script and the image that were read, the text and what stands in the store now are a session
+pub record Plays (t : Told) (transcript : List ℕ) : Type 0 where
+  pub script : List ℕ
+  pub reads_script : ReadsScript t.source_old t.source_new script
+  pub shape : Shape
+  pub words : List ℕ
+  pub reads : ReadsSound t.store_old shape words
+  pub ending : List ℕ
+  pub stores : Holds t.store_old t.store_new ending
+  pub played : IsPlayed (image_bytes words) script transcript ending
+
+-- what the words ask for was done, and this is to be written
+pub data IsDone (t : Told) (words : List (List ℕ)) : List ℕ → Type 0 where
+  by_format : {shape : Shape} → SaysFormat words shape → StoresNew t.store_old t.store_new shape → IsDone t words []
+  by_check : {text : List ℕ} → words ≡ check_words → Checks t.store_old text → KeepsStore t → IsDone t words text
+  by_list : {text : List ℕ} → words ≡ list_words → ListsPairs t.store_old text → KeepsStore t → IsDone t words text
+  by_play : {transcript : List ℕ} → words ≡ play_words → Plays t transcript → IsDone t words transcript
+
+-- WHY A COMMAND STOPS, by the counts of faults of the source and of the store
+abbrev pub HasCause : Told → List (List ℕ) → ℕ → ℕ → ℕ → ℕ → Stop → Type 0
+HasCause t words source_old source_new store_old store_new Words = IsNoCommand words × KeepsStore t
+HasCause t words source_old source_new store_old store_new (Script fault) = (words ≡ play_words) × RefusesScript t.source_old t.source_new fault × KeepsStore t
+HasCause t words source_old source_new store_old store_new (Image fault) = ReadsImage words × RefusesImage t.store_old fault × KeepsStore t
+HasCause t words source_old source_new store_old store_new Source = (words ≡ play_words) × Rose source_old source_new × KeepsStore t
+HasCause t words source_old source_new store_old store_new Store = Rose store_old store_new
+HasCause t words source_old source_new store_old store_new NoMemory = KeepsStore t
+
+-- of a new image: the store failed, or memory was wanting
+abbrev pub HasFormatCause : Option (List ℕ) → Option (List ℕ) → ℕ → ℕ → Stop → Type 0
+HasFormatCause store_old store_new faults_old faults_new Words = ⊥
+HasFormatCause store_old store_new faults_old faults_new (Script fault) = ⊥
+HasFormatCause store_old store_new faults_old faults_new (Image fault) = ⊥
+HasFormatCause store_old store_new faults_old faults_new Source = ⊥
+HasFormatCause store_old store_new faults_old faults_new Store = Rose faults_old faults_new
+HasFormatCause store_old store_new faults_old faults_new NoMemory = store_new ≡ store_old
+
+-- of a play
+abbrev pub HasPlayCause : Told → ℕ → ℕ → ℕ → ℕ → Stop → Type 0
+HasPlayCause t source_old source_new store_old store_new Words = ⊥
+HasPlayCause t source_old source_new store_old store_new (Script fault) = RefusesScript t.source_old t.source_new fault × KeepsStore t
+HasPlayCause t source_old source_new store_old store_new (Image fault) = RefusesImage t.store_old fault × KeepsStore t
+HasPlayCause t source_old source_new store_old store_new Source = Rose source_old source_new × KeepsStore t
+HasPlayCause t source_old source_new store_old store_new Store = Rose store_old store_new
+HasPlayCause t source_old source_new store_old store_new NoMemory = KeepsStore t
+
+-- WHAT A COMMAND WRITES
+abbrev pub output_bytes : Output → List ℕ
+output_bytes Nothing = []
+output_bytes (Text text) = string_bytes text
+output_bytes (Lines bytes) = bytes.items

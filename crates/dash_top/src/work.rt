@@ -1,0 +1,172 @@
+// What each command does between the outside's bytes.
+ghost use Rattle.std.specs.Prelude.{◌≡◌, ◌⊎◌, ℕ, List, OnOk, IfOk, IfErr, map, string_bytes};
+ghost use Rattle.dash_top.specs.Commands.{check_words, list_words};
+ghost use Rattle.dash_top.specs.Told.{told};
+ghost use Rattle.dash_top.specs.Reading.{HasImageCause};
+ghost use Rattle.dash_top.specs.Work.{StoresNew, Checks, ListsPairs, Plays, IsDone, HasCause, HasFormatCause, HasPlayCause, output_bytes};
+
+use crate::command::{Command, command_of};
+use crate::reading::{read_image, read_script};
+use crate::text::{check_line, list_lines};
+use image_file::{ImageFault, check, format, list, to_bytes};
+use image_layout::Geometry;
+use map_model::NoMemory;
+use outside::{Failed, Source, Store};
+use play::play;
+use reply_text::transcript;
+use script_text::ScriptFault;
+use std::alloc::{AllocError, Global};
+
+/// Why a command stopped before all was done.
+#[derive(Clone, Copy, Debug, PartialEq, Eq)]
+pub enum Stop {
+    /// The words are none of the commands.
+    Words,
+    /// The script has this fault, which is not want of memory.
+    Script(ScriptFault),
+    /// The image has this fault, which is not want of memory.
+    Image(ImageFault),
+    /// The source failed.
+    Source,
+    /// The store failed.
+    Store,
+    /// Memory was wanting.
+    NoMemory,
+}
+
+impl From<AllocError> for Stop {
+    ghost use Rattle.std.specs.Prelude.{◌≡◌};
+    ghost use Rattle.dash_top.specs.declared.work.Stop.TheVariants.{NoMemory};
+
+    ghost from_gives = { λ _ e. e ≡ NoMemory };
+
+    fn from(_error: AllocError) -> Stop {
+        Stop::NoMemory
+    }
+}
+
+impl From<NoMemory> for Stop {
+    ghost use Rattle.std.specs.Prelude.{◌≡◌};
+    ghost use Rattle.dash_top.specs.declared.work.Stop.TheVariants.{NoMemory};
+
+    ghost from_gives = { λ _ e. e ≡ NoMemory };
+
+    fn from(_error: NoMemory) -> Stop {
+        Stop::NoMemory
+    }
+}
+
+/// What a command writes.
+#[derive(Drop)]
+pub enum Output {
+    /// Nothing.
+    Nothing,
+    /// A text.
+    Text(String),
+    /// The lines of a transcript.
+    Lines(Vec<u8>),
+}
+
+impl Output {
+    /// Its bytes.
+    pub fn as_bytes(&self) -> &[u8]
+        ensures { result.now ≡ output_bytes self.now }
+    {
+        match self {
+            Output::Nothing => &[],
+            Output::Text(text) => text.as_bytes(),
+            Output::Lines(bytes) => bytes.as_slice(),
+        }
+    }
+}
+
+// Stores the image of an empty table.
+fn format_image<I: Store>(alloc: Global, image: &mut I, geometry: Geometry) -> Result<(), Stop>
+    ensures ok { OnOk result (StoresNew (I.contents image.old) (I.contents image.new) geometry) }
+    ensures err { IfErr result (HasFormatCause (I.contents image.old) (I.contents image.new) (I.faults image.old) (I.faults image.new)) }
+{
+    let medium = format(alloc, geometry)?;
+    let bytes = to_bytes(alloc, &medium)?;
+    match image.write_all(&bytes) {
+        Ok(()) => Ok(()),
+        Err(Failed) => Err(Stop::Store),
+    }
+}
+
+// The line of the image in numbers.
+fn check_image<I: Store>(alloc: Global, image: &mut I) -> Result<String, Stop>
+    ensures ok { IfOk result (λ text. Checks (I.contents image.old) (string_bytes text)) }
+    ensures err { IfErr result (HasImageCause (I.contents image.old) (I.faults image.old) (I.faults image.new)) }
+    ensures keeps { I.contents image.new ≡ I.contents image.old }
+{
+    let medium = read_image(alloc, image)?;
+    let text = check_line(alloc, &check(&medium))?;
+    Ok(text)
+}
+
+// The lines of the image's pairs.
+fn list_image<I: Store>(alloc: Global, image: &mut I) -> Result<String, Stop>
+    ensures ok { IfOk result (λ text. ListsPairs (I.contents image.old) (string_bytes text)) }
+    ensures err { IfErr result (HasImageCause (I.contents image.old) (I.faults image.old) (I.faults image.new)) }
+    ensures keeps { I.contents image.new ≡ I.contents image.old }
+{
+    let medium = read_image(alloc, image)?;
+    let pairs = list(alloc, &medium)?;
+    let text = list_lines(alloc, &pairs)?;
+    Ok(text)
+}
+
+// Reads the script and the image, runs the one on the other, writes the image, and answers the transcript.
+fn play_script<I: Store, S: Source>(
+    alloc: Global,
+    image: &mut I,
+    input: &mut S,
+) -> Result<Vec<u8>, Stop>
+    ensures ok { IfOk result (λ lines. Plays (told (I.contents image.old) (I.contents image.new) (S.left input.old) (S.left input.new)) lines.items) }
+    ensures err { IfErr result (HasPlayCause (told (I.contents image.old) (I.contents image.new) (S.left input.old) (S.left input.new))
+        (S.faults input.old) (S.faults input.new) (I.faults image.old) (I.faults image.new)) }
+{
+    let script = read_script(alloc, input)?;
+    let medium = read_image(alloc, image)?;
+    let session = play(alloc, medium, &script)?;
+    let lines = transcript(alloc, &session)?;
+    let ending = to_bytes(alloc, &session.medium)?;
+    match image.write_all(&ending) {
+        Ok(()) => Ok(lines),
+        Err(Failed) => Err(Stop::Store),
+    }
+}
+
+/// Does what the words ask for, and answers what is to be written. `check` and `list` leave the store as it is.
+pub fn perform<I: Store, S: Source>(
+    alloc: Global,
+    words: &[String],
+    image: &mut I,
+    input: &mut S,
+) -> Result<Output, Stop>
+    ensures ok { IfOk result (λ output. IsDone (told (I.contents image.old) (I.contents image.new) (S.left input.old) (S.left input.new))
+        (map string_bytes words.now) (output_bytes output)) }
+    ensures err { IfErr result (HasCause (told (I.contents image.old) (I.contents image.new) (S.left input.old) (S.left input.new))
+        (map string_bytes words.now) (S.faults input.old) (S.faults input.new) (I.faults image.old) (I.faults image.new)) }
+    ensures readers_keep { (map string_bytes words.now ≡ check_words) ⊎ (map string_bytes words.now ≡ list_words) → I.contents image.new ≡ I.contents image.old }
+{
+    match command_of(words) {
+        Command::Format(geometry) => {
+            format_image(alloc, image, geometry)?;
+            Ok(Output::Nothing)
+        }
+        Command::Check => {
+            let text = check_image(alloc, image)?;
+            Ok(Output::Text(text))
+        }
+        Command::List => {
+            let text = list_image(alloc, image)?;
+            Ok(Output::Text(text))
+        }
+        Command::Play => {
+            let lines = play_script(alloc, image, input)?;
+            Ok(Output::Lines(lines))
+        }
+        Command::Unknown => Err(Stop::Words),
+    }
+}
