@@ -20,7 +20,7 @@ use Rattle.play.specs.Opening.{opening_of}
 use Rattle.map_model.specs.Kept.{Kept, lists_of}
 use Rattle.script_text.specs.declared.line.Line.{Line}
 use Rattle.script_text.specs.Calls.{calls_of}
-use Rattle.reply_text.specs.declared.session.Session.{Session}
+use Rattle.reply_text.specs.declared.left.Session.{Session}
 use Rattle.reply_text.specs.Told.{tolds_of}
 use Rattle.play.specs.Run.{IsRun}
 use Rattle.play.specs.Ran.{IsKeptRun}

@@ -6,7 +6,7 @@ use Rattle.script_text.specs.declared.line.Line.{Line}
 use Rattle.script_text.specs.Calls.{calls_of}
 use Rattle.session.specs.Transcript.{transcript_of}
 use Rattle.session.specs.Session.{Ending, IsSession}
-use Rattle.reply_text.specs.declared.session.Session.{Session}
+use Rattle.reply_text.specs.declared.left.Session.{Session}
 use Rattle.reply_text.specs.Told.{tolds_of}
 
 -- a play whose script has no cut ends by a close
