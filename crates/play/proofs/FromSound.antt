@@ -1,39 +1,22 @@
 -- A sound image that the present program serves is a served table.
-use Rattle.std.proofs.Common.{◌≡◌, ℕ, zero, suc, ◌+◌, ◌%◌, ◌^◌, ◌<◌, ◌≤◌, ◌⊎◌, refl, sym, ap, subst, ◌∙◌, arith, inl, inr, List, [], ◌∷◌, length, length-append, ⊎_elim}
+use Rattle.std.proofs.Common.{◌≡◌, ℕ, ◌+◌, ◌%◌, ◌^◌, ◌<◌, ◌≤◌, ◌⊎◌, refl, sym, ap, subst, ◌∙◌, arith, inl, inr, List, [], ◌∷◌, length, length-append, ⊎_elim}
 use Rattle.std.specs.Prelude.{slice_index, ◌==◌, ◌&&◌, if◌then◌else◌}
-use Rattle.std.specs.List.{flat_map}
 use Rattle.std.proofs.lemmas.Bool.{cases_lt}
-use Rattle.std.proofs.lemmas.List.Concat.{flat_map-append}
-use Rattle.std.proofs.lemmas.Bool.Decides.{nat_tests}
 use Rattle.std.proofs.Math.Nat.{div-eq_of_lt}
-use Rattle.hash_word.specs.Hash.{home_of, finger_of, probing_of, top}
-use Rattle.bucket_meta.specs.Bucket.{lock_of, allocated, note_used, note_member, note_finger, note_index, overflow_count}
-use Rattle.bucket_meta.specs.Notes.{numbers_below}
+use Rattle.hash_word.specs.Hash.{home_of, probing_of, top}
+use Rattle.bucket_meta.specs.Bucket.{lock_of, note_used, note_member, note_finger, note_index, overflow_count}
 use Rattle.segment_head.specs.HeadWord.{version_in, normal}
 use Rattle.image_layout.specs.Places.{Shape, head_at, bucket_at, key_at, entry_at}
 use Rattle.sound_image.specs.Segments.{ImageWords, Frame, frame_of, image_version, state_at, depth_at, pattern_at, IsLiveFor, LeadsToOwner, arrived, on}
 use Rattle.sound_image.specs.Directory.{HeadInRange}
-use Rattle.sound_image.specs.Records.{word_in, slot_key, slot_hash, HasRecord, HasOwnRecord, notes_in, notes_of, stashed_in, stashed_of, HasExactNotes}
+use Rattle.sound_image.specs.Records.{word_in, slot_key, slot_hash, HasRecord, HasOwnRecord, notes_in, notes_of, HasExactNotes}
 use Rattle.sound_image.specs.Rules.{StandsRight, IsCleanAndCurrent, CleanMeansRepaired}
 use Rattle.sound_image.specs.Image.{IsSoundImage}
 use Rattle.image_file.specs.Stage.{PassesRule8}
+use Rattle.image_file.specs.Unnoted.{IsUnstashed}
 use Rattle.play.specs.Served.{IsTaken, IsServedBucket, HasServedHead, IsServedTable}
 use Rattle.play.proofs.Hashes.{key_hash-fits, home_of-below}
-use Rattle.play.proofs.TableRecords.{all_empty, nothing_there}
-
--- of pieces whose list is empty each is
-each_empty : {X : Type 0} (f : ℕ → List X) (n : ℕ) → length (flat_map f (numbers_below n)) ≡ 0 → (i : ℕ) → i < n → length (f i) ≡ 0
-each_empty f zero none i h = absurd (omega arith)
-each_empty f (suc n) none i h =
-    let parts : length (flat_map f (numbers_below n)) + length (flat_map f (n ∷ [])) ≡ 0 =
-    sym (length-append (flat_map f (numbers_below n)) (flat_map f (n ∷ []))) ∙ ap length (sym (flat_map-append f (numbers_below n) (n ∷ []))) ∙ none in
-    let last : length (f n) + 0 ≡ length (flat_map f (n ∷ [])) = sym (length-append (f n) []) in
-    ⊎_elim (λ below. each_empty f n (omega arith) i below)
-    (λ above. let same : i ≡ n = omega arith in ap (λ j. length (f j)) same ∙ omega arith)
-    (cases_lt i n)
-
-something_there : {X : Type 0} (a b c d : ℕ) (x : X) → length (if (a == b) && (c == d) then x ∷ [] else []) ≡ 0 → a ≡ b → c ≡ d → ⊥
-something_there a b c d x none e f = grind (arith, nat_tests)
+use Rattle.play.proofs.Notes.{each_empty, something_there, none_in_stash}
 
 -- a bit is 0 or 1
 bit_cases : (n : ℕ) → (n % 2 ≡ 0) ⊎ (n % 2 ≡ 1)
@@ -146,30 +129,18 @@ module _ (shape : Shape) (words : List ℕ) (sound : IsSoundImage shape words) (
       (cases_lt r t)
 
   -- THE NOTES: no record of a home stands in the stash, so none is noted
-  never_stashed : (b k r : ℕ) → k < 2 → r < 14 → allocated r (word_in shape word 0 (64 + k) 1) ≡ 1 → home_of (slot_hash shape word 0 (64 + k) r) ≡ b → ⊥
-  never_stashed b k r two slot taken home =
+  unstashed : (b : ℕ) → IsUnstashed shape word 0 b
+  unstashed b k r two slot taken home =
       let there : HasRecord shape word 0 (64 + k) r = record { segment = some; bucket = omega arith; slot = slot; is_allocated = taken } in
       never _ (at_home (64 + k) r there) (home_of-below (slot_hash shape word 0 (64 + k) r))
     where
       never : (n : ℕ) → 64 + k ≡ n → n < 64 → ⊥
       never n e low = omega arith
 
-  none_stashed : (b k : ℕ) → k < 2 → stashed_in shape word 0 b k ≡ []
-  none_stashed b k two =
-      all_empty
-      (λ r. if (allocated r (word_in shape word 0 (64 + k) 1) == 1) && (home_of (slot_hash shape word 0 (64 + k) r) == b)
-      then (finger_of (slot_hash shape word 0 (64 + k) r), k) ∷ []
-      else [])
-      14
-      (λ r slot. nothing_there _ _ _ _ _ (never_stashed b k r two slot))
-
-  none_in_stash : (b : ℕ) → stashed_of shape word 0 b ≡ []
-  none_in_stash b = rw (none_stashed b 0 (omega arith), none_stashed b 1 (omega arith)) refl
-
   nothing_noted : (b : ℕ) → b < 64 → overflow_count (word_in shape word 0 b 1) + length (notes_of shape word 0 b) ≡ 0
   nothing_noted b low =
       let exact : HasExactNotes shape word 0 b = (repaired (bucket_at shape 0 b + 1)).notes 0 b is_current low refl in
-      exact.counts_others ∙ ap length (none_in_stash b)
+      exact.counts_others ∙ ap length (none_in_stash shape word b (unstashed b))
 
   both_noted : (b : ℕ) → length (notes_of shape word 0 b) ≡ length (notes_in shape word 0 b 0) + length (notes_in shape word 0 (probing_of b) 1)
   both_noted b = length-append (notes_in shape word 0 b 0) (notes_in shape word 0 (probing_of b) 1)

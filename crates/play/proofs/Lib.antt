@@ -1,4 +1,5 @@
 pub mod Hashes
+pub mod Notes
 pub mod Different
 pub mod Buckets
 pub mod OneSegment

@@ -13,7 +13,8 @@ use Rattle.sound_image.specs.Records.{key_hash}
 use Rattle.sound_image.specs.Left.{HasPairsOf}
 use Rattle.play.specs.Served.{IsTaken, key_in, value_in, IsRecord, IsServedBucket, IsServedTable, HasSpent}
 use Rattle.play.specs.Stored.{StoresRecord}
-use Rattle.play.proofs.Pairs.{home_at, HasValue, HasHome, home-lt, home_from_pairs, pairs_from_home}
+use Rattle.play.proofs.Hashes.{home_of-below}
+use Rattle.play.proofs.Pairs.{home_at, HasValue, HasHome, home_from_pairs, pairs_from_home}
 use Rattle.play.proofs.Buckets.{SameBehindLock, record_before, record_after, same_bucket, same_head}
 
 -- what a map has at a key after an insert
@@ -35,7 +36,7 @@ module _ (shape : Shape) (old new : List ℕ) (table : IsServedTable shape old) 
   home = home_of (key_hash shape k)
 
   home_within : home < 66
-  home_within = omega (arith, home-lt (key_hash shape k))
+  home_within = omega (arith, home_of-below (key_hash shape k))
 
   served_home : IsServedBucket shape before home
   served_home = table.buckets home home_within

@@ -8,6 +8,7 @@ use Rattle.sound_image.specs.Segments.{ImageWords}
 use Rattle.sound_image.specs.Records.{key_hash, slot_key, slot_value, HasRecord, HasPair, HasAt}
 use Rattle.sound_image.specs.Left.{HasPairsOf}
 use Rattle.play.specs.Served.{value_in, IsRecord, IsServedTable}
+use Rattle.play.proofs.Hashes.{home_of-below}
 use Rattle.play.proofs.OneSegment.{is_first, own_record}
 
 module _ (shape : Shape) where
@@ -24,9 +25,6 @@ module _ (shape : Shape) where
   HasHome word k None = (v : ℕ) → HasValue word k v → ⊥
   HasHome word k (Some v) = HasValue word k v
 
-pub home-lt : (h : ℕ) → home_of h < 64
-home-lt h = omega arith
-
 module _ (shape : Shape) (words : List ℕ) (table : IsServedTable shape words) where
   abbrev word : ImageWords
   word = λ i. get_or words i 0
@@ -35,7 +33,7 @@ module _ (shape : Shape) (words : List ℕ) (table : IsServedTable shape words) 
   pair_from_record k v (r, is) =
       let segments = table.head.one_segment in
       let there : HasRecord shape word 0 (home_of (key_hash shape k)) r =
-      record { segment = omega arith; bucket = omega (arith, home-lt (key_hash shape k)); slot = is.slot; is_allocated = is.taken } in
+      record { segment = omega arith; bucket = omega (arith, home_of-below (key_hash shape k)); slot = is.slot; is_allocated = is.taken } in
       record {
         s = 0;
         b = home_of (key_hash shape k);
@@ -61,7 +59,7 @@ module _ (shape : Shape) (words : List ℕ) (table : IsServedTable shape words) 
   -- a key has one value
   pub one_value : (k v w : ℕ) → HasValue shape word k v → HasValue shape word k w → v ≡ w
   one_value k v w (r, a) (t, b) =
-      let bucket = table.buckets (home_of (key_hash shape k)) (omega (arith, home-lt (key_hash shape k))) in
+      let bucket = table.buckets (home_of (key_hash shape k)) (omega (arith, home_of-below (key_hash shape k))) in
       let same : r ≡ t = bucket.once r t a.slot b.slot a.taken b.taken (a.key ∙ sym b.key) in
       sym a.value ∙ ap (value_in word (home_at shape k)) same ∙ b.value
 

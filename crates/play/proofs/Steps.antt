@@ -17,7 +17,8 @@ use Rattle.sound_image.specs.Left.{HasPairsOf}
 use Rattle.play.specs.Served.{IsTaken, key_in, value_in, IsServedTable, IsSpent, HasSpent}
 use Rattle.play.specs.Stored.{StoresRecord}
 use Rattle.play.specs.Run.{IsStep}
-use Rattle.play.proofs.Pairs.{home_at, HasValue, HasHome, home-lt, record_at, one_value, home_from_pairs}
+use Rattle.play.proofs.Hashes.{home_of-below}
+use Rattle.play.proofs.Pairs.{home_at, HasValue, HasHome, record_at, one_value, home_from_pairs}
 use Rattle.play.proofs.Raised.{raised_pairs, raised_spent}
 use Rattle.play.proofs.OneRecord.{stored_table, stored_pairs, stored_spent}
 use Rattle.play.proofs.Different.{each, different_values}
@@ -111,7 +112,7 @@ module _ (shape : Shape) (words : List ℕ) (table : IsServedTable shape words) 
     cause = record { deep = λ e. deep; full = λ e. absurd (cc); spent = λ e. absurd (cc) };
     right = λ m pairs. tt;
     leaves = λ m pairs. pairs;
-    full_bucket = λ m pairs no_room. full_bucket (home_of (key_hash shape k)) (omega (arith, home-lt (key_hash shape k))) all m pairs;
+    full_bucket = λ m pairs no_room. full_bucket (home_of (key_hash shape k)) (omega (arith, home_of-below (key_hash shape k))) all m pairs;
     stays_spent = λ h. h;
   }
 
@@ -121,7 +122,7 @@ module _ (shape : Shape) (words : List ℕ) (table : IsServedTable shape words) 
     cause = record { deep = λ e. absurd (cc); full = λ e. grows; spent = λ e. absurd (cc) };
     right = λ m pairs. tt;
     leaves = λ m pairs. pairs;
-    full_bucket = λ m pairs no_room. full_bucket (home_of (key_hash shape k)) (omega (arith, home-lt (key_hash shape k))) all m pairs;
+    full_bucket = λ m pairs no_room. full_bucket (home_of (key_hash shape k)) (omega (arith, home_of-below (key_hash shape k))) all m pairs;
     stays_spent = λ h. h;
   }
 

@@ -1,30 +1,16 @@
 -- The records of a served table stand in their home buckets, each key once, and nothing is noted of the stash.
-use Rattle.std.proofs.Common.{◌≡◌, ℕ, zero, suc, ◌+◌, ◌<◌, refl, sym, ap, subst, ◌∙◌, arith, inl, List, [], ◌∷◌}
+use Rattle.std.proofs.Common.{◌≡◌, ℕ, ◌+◌, ◌<◌, refl, sym, ap, subst, ◌∙◌, arith, inl, List, [], ◌∷◌}
 use Rattle.std.specs.Prelude.{slice_index, ◌==◌, ◌&&◌, if◌then◌else◌}
-use Rattle.std.specs.List.{flat_map}
-use Rattle.std.proofs.lemmas.List.Concat.{flat_map-append}
-use Rattle.std.proofs.lemmas.Bool.Decides.{nat_tests}
-use Rattle.hash_word.specs.Hash.{home_of, finger_of, probing_of}
-use Rattle.bucket_meta.specs.Bucket.{lock_of, allocated, note_used, note_member, note_finger, note_index, overflow_count}
+use Rattle.hash_word.specs.Hash.{home_of, probing_of}
+use Rattle.bucket_meta.specs.Bucket.{lock_of, note_used, note_member, note_finger, note_index, overflow_count}
 use Rattle.image_layout.specs.Places.{Shape, bucket_at}
-use Rattle.bucket_meta.specs.Notes.{numbers_below}
-use Rattle.sound_image.specs.Records.{key_hash, word_in, slot_key, slot_hash, HasRecord, notes_in, notes_of, stashed_in, stashed_of, HasExactNotes}
+use Rattle.sound_image.specs.Records.{key_hash, word_in, slot_key, slot_hash, HasRecord, notes_in, notes_of, HasExactNotes}
 use Rattle.sound_image.specs.Rules.{StandsRight, SameValueAsBefore, NotBefore}
 use Rattle.play.specs.Served.{IsServedTable}
+use Rattle.image_file.specs.Unnoted.{IsUnstashed}
+use Rattle.play.proofs.Hashes.{home_of-below}
+use Rattle.play.proofs.Notes.{all_empty, nothing_there, none_in_stash}
 use Rattle.play.proofs.OneSegment.{is_first}
-
--- a list of pieces of which all are empty
-pub all_empty : {X : Type 0} (f : ℕ → List X) (n : ℕ) → ((i : ℕ) → i < n → f i ≡ []) → flat_map f (numbers_below n) ≡ []
-all_empty f zero none = refl
-all_empty f (suc n) none =
-    flat_map-append f (numbers_below n) (n ∷ []) ∙ rw (all_empty f n (λ i h. none i (omega arith)), none n (omega arith)) refl
-
--- a piece that is there only where two tests pass
-pub nothing_there : {X : Type 0} (a b c d : ℕ) (xs : List X) → (a ≡ b → c ≡ d → ⊥) → (if (a == b) && (c == d) then xs else []) ≡ []
-nothing_there a b c d xs never = grind (arith, nat_tests)
-
-home-below : (h : ℕ) → home_of h < 64
-home-below h = omega arith
 
 module _ (shape : Shape) (words : List ℕ) (table : IsServedTable shape words) where
   abbrev word : ℕ → ℕ
@@ -103,27 +89,14 @@ module _ (shape : Shape) (words : List ℕ) (table : IsServedTable shape words) 
   no_notes b h = rw (none_noted b 0 h, none_noted (probing_of b) 1 (omega arith)) refl
 
   -- no record stands in the stash
-  not_of_home : (b k r : ℕ) → k < 2 → r < 14
-      → allocated r (word_in shape word 0 (64 + k) 1) ≡ 1 → home_of (slot_hash shape word 0 (64 + k) r) ≡ b → ⊥
-  not_of_home b k r two slot taken home =
+  unstashed : (b : ℕ) → IsUnstashed shape word 0 b
+  unstashed b k r two slot taken home =
       let segments = table.head.one_segment in
       let record_there : HasRecord shape word 0 (64 + k) r = record { segment = omega arith; bucket = omega arith; slot = slot; is_allocated = taken } in
-      never _ (home-below (slot_hash shape word 0 (64 + k) r)) (at_home (64 + k) r record_there)
+      never _ (home_of-below (slot_hash shape word 0 (64 + k) r)) (at_home (64 + k) r record_there)
     where
       never : (n : ℕ) → n < 64 → n ≡ 64 + k → ⊥
       never n low e = omega arith
-
-  none_stashed : (b k : ℕ) → k < 2 → stashed_in shape word 0 b k ≡ []
-  none_stashed b k two =
-      all_empty
-      (λ r. if (allocated r (word_in shape word 0 (64 + k) 1) == 1) && (home_of (slot_hash shape word 0 (64 + k) r) == b)
-      then (finger_of (slot_hash shape word 0 (64 + k) r), k) ∷ []
-      else [])
-      14
-      (λ r slot. nothing_there _ _ _ _ _ (not_of_home b k r two slot))
-
-  none_in_stash : (b : ℕ) → stashed_of shape word 0 b ≡ []
-  none_in_stash b = rw (none_stashed b 0 (omega arith), none_stashed b 1 (omega arith)) refl
 
   exact_in_first : (b : ℕ) → b < 64 → HasExactNotes shape word 0 b
   exact_in_first b h =
@@ -132,7 +105,7 @@ module _ (shape : Shape) (words : List ℕ) (table : IsServedTable shape words) 
       let count : overflow_count (word_in shape word 0 b 1) ≡ 0 = (table.buckets b within).no_count h in
       record {
         names_different = λ note. rw none (omega arith);
-        counts_others = rw (none, none_in_stash b, count) refl;
+        counts_others = rw (none, none_in_stash shape word b (unstashed b), count) refl;
       }
 
   pub exact_notes : (s b : ℕ) → s < shape.segments → b < 64 → HasExactNotes shape word s b

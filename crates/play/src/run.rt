@@ -1,6 +1,6 @@
 //! A run of one caller's calls on a table.
 
-ghost use Rattle.std.specs.Prelude.{◌≡◌, ◌≤◌, All, length, IfOk};
+ghost use Rattle.std.specs.Prelude.{◌≡◌, All, IfOk};
 ghost use Rattle.map_model.specs.Map.{is_change};
 ghost use Rattle.play.specs.Served.{IsServedTable};
 ghost use Rattle.play.specs.Run.{IsServedCall};
@@ -10,9 +10,6 @@ use crate::step::step;
 use image_layout::Geometry;
 use map_model::{Call, Entry, Lists, NoMemory, Reply};
 use std::alloc::Global;
-
-/// How many calls a run may make at most.
-pub const MOST_CALLS: usize = 1_000_000;
 
 /// Whether a reply says that the map was changed.
 fn changes(reply: Reply) -> bool
@@ -32,7 +29,6 @@ pub fn run(
     calls: &[Call],
 ) -> Result<Lists, NoMemory>
     requires table { IsServedTable geometry.now words.old }
-    requires few { length calls.now ≤ MOST_CALLS }
     requires served { All IsServedCall calls.now }
     ensures ran { IfOk result (IsKeptRun geometry.now words.old calls.now words.new) }
 {

@@ -7,7 +7,7 @@ use Rattle.play.specs.Served.{IsServedTable}
 use Rattle.play.specs.Run.{IsServedCall}
 use Rattle.play.specs.Ran.{IsKeptRun}
 use Rattle.play.proofs.FromSound.{sound-IsServedTable}
-use Rattle.play.proofs.Calling.{few_calls, all_served}
+use Rattle.play.proofs.Calling.{all_served}
 use Rattle.play.proofs.Sessions.{is_play, one_of_lists, lent_whole}
 use Rattle.play.proofs.playing.play.Goals as goal
 
@@ -16,7 +16,6 @@ run-requires c =
     let calls : c.deref.result.now ≡ calls_of 1 c.args.script.now = c.deref.ensures.value ∙ c.in_ok-calls.ensures ∙ ap (calls_of 1) c.as_slice.ensures in
     record {
       table = subst (IsServedTable c.args.medium.geometry) (sym c.as_mut_slice.ensures.value) (sound-IsServedTable c.args.medium.geometry c.args.medium.words c.requires.sound c.requires.served);
-      few = rw calls (few_calls c.args.script.now c.requires.so_far c.requires.few);
       served = subst (All IsServedCall) (sym calls) (all_served c.args.script.now c.requires.so_far);
     }
 
