@@ -1,0 +1,4 @@
+pub mod Events
+pub mod Settling
+pub mod Media
+pub mod Progress
