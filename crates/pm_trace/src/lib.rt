@@ -1,0 +1,2 @@
+//! A modelled persistent memory.
+#![tactic(auto)]
