@@ -2,3 +2,4 @@ pub mod Events
 pub mod Settling
 pub mod Media
 pub mod Progress
+pub mod Steps

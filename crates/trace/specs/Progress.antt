@@ -1,7 +1,7 @@
 -- The same event by event: which lines a caller has flushed and not fenced, from when a line is settled, and which
 -- values a word had since.
 use Rattle.std.specs.Prelude.{◌≡◌, ℕ, ◌≤◌, ◌==◌, ◌⊎◌, max, List, [], ◌∷◌, length, if◌then◌else◌}
-use Rattle.trace.specs.Events.{Words, line_of, Event, Trace, value}
+use Rattle.trace.specs.Events.{Words, Trace, value}
 use Rattle.trace.specs.Events.Event.{loaded, stored, exchanged, drawn, flushed, fenced}
 
 -- the flushes of a caller since it fenced last, newest first: each line with the moment of its flush

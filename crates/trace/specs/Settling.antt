@@ -1,6 +1,6 @@
 -- When what a word holds is safe: its line was flushed, and the caller that flushed it has fenced since.
-use Rattle.std.specs.Prelude.{◌≡◌, ℕ, ◌≤◌, ◌⊎◌, List, ◌∷◌, ◌++◌, length, Contains}
-use Rattle.trace.specs.Events.{Words, line_of, Event, Trace, value_at}
+use Rattle.std.specs.Prelude.{◌≡◌, ℕ, ◌≤◌, ◌⊎◌, ◌∷◌, ◌++◌, length, Contains}
+use Rattle.trace.specs.Events.{Words, line_of, Trace, value_at}
 use Rattle.trace.specs.Events.Event.{flushed, fenced}
 
 -- at moment t a caller flushed the line, and later that same caller fenced

@@ -6,4 +6,7 @@
 
 mod laws;
 
-pub use laws::{media_by_progress, settled_by_progress};
+pub use laws::{
+    events_add, fences_settle, media_by_events, media_by_progress, settled_by_progress,
+    settled_values,
+};
