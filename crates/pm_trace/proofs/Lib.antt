@@ -6,3 +6,5 @@ pub mod Calm
 pub mod AfterFlush
 pub mod AfterFence
 pub mod Chosen
+pub mod Within
+pub mod Begins

@@ -1,6 +1,8 @@
 -- What flushes hold after a caller has fenced: each its own words, or those of a later flush of its line by the caller.
-use Rattle.std.proofs.Common.{◌≡◌, ℕ, suc, ◌<◌, ◌≤◌, ◌⊎◌, inl, inr, Bool, true, false, not, cond, ◌&&◌, eqb, List, [], ◌∷◌, ◌++◌, length, map, refl, sym, ◌∙◌, ap, subst, arith, filter}
+use Rattle.std.proofs.Common.{◌≡◌, ℕ, suc, ◌<◌, ◌≤◌, ◌⊎◌, inl, inr, Bool, true, false, not, cond, ◌&&◌, eqb, List, [], ◌∷◌, ◌++◌, ◌+◌, length, take, drop, get_or, append_assoc, map, refl, sym, ◌∙◌, ap, subst, arith, filter}
 use Rattle.std.specs.Prelude.{AllPairs}
+use Rattle.std.proofs.Math.Seq.{drop-cons, take-append_seam, drop-append_seam}
+use Rattle.std.proofs.lemmas.List.{get_or-drop, take_more, length-append, length-map, length-take-le}
 use Rattle.std.proofs.lemmas.Bool.{cases_Bool, cases_eq, eq-eqb, ne_eqb}
 use Rattle.std.proofs.lemmas.List.Kept.{AllPairs-cons}
 use Rattle.trace.proofs.Listed.{Has}
@@ -140,3 +142,67 @@ renewed_push caller flushes f = elim (cases_Bool (eqb f.caller caller)) [
 pub length-renewed_by : (caller : ℕ) (flushes : List Flush) → length (renewed_by caller flushes) ≡ length flushes
 length-renewed_by caller [] = refl
 length-renewed_by caller (f ∷ flushes) = ap suc (length-renewed_by caller flushes)
+
+-- ---- the flushes so far, and those behind
+
+module _ (caller at : ℕ) (init now : List Flush) (within : at < length init) (long : length now ≡ length init)
+    (before : take at now ≡ renewed_by caller (take at init)) (behind : drop at now ≡ drop at init) (d : Flush) where
+  abbrev this : Flush
+  this = get_or now at d
+
+  is_this : get_or init at d ≡ this
+  is_this =
+      let here : at + 0 ≡ at = omega arith in
+      sym (ap (λ k. get_or init k d) here) ∙ sym (get_or-drop at init 0 d) ∙ ap (λ fs. get_or fs 0 d) (sym behind) ∙ get_or-drop at now 0 d ∙ ap (λ k. get_or now k d) here
+
+  here_now : drop at now ≡ this ∷ drop (suc at) now
+  here_now = drop-cons now at d (omega arith)
+
+  here_init : drop at init ≡ get_or init at d ∷ drop (suc at) init
+  here_init = drop-cons init at d within
+
+  rest_same : drop (suc at) now ≡ drop (suc at) init
+  rest_same = let e : this ∷ drop (suc at) now ≡ get_or init at d ∷ drop (suc at) init = sym here_now ∙ behind ∙ here_init in cc
+
+  before_push : renewed_by caller (take (at + 1) init) ≡ cond (eqb this.caller caller) (map (renewed this.line this.words) (take at now)) (take at now) ++ this ∷ []
+  before_push =
+      ap (λ fs. renewed_by caller fs) (take_more init at d within ∙ ap (λ f. take at init ++ f ∷ []) is_this)
+      ∙ renewed_push caller (take at init) this
+      ∙ ap (λ fs. cond (eqb this.caller caller) (map (renewed this.line this.words) fs) fs ++ this ∷ []) (sym before)
+
+  -- what stands before is some list, and behind it is the rest
+  module _ (fs : List Flush) (as_long : length fs ≡ at) where
+    parts : fs ++ drop at now ≡ (fs ++ this ∷ []) ++ drop (suc at) now
+    parts = ap (λ xs. fs ++ xs) here_now ∙ sym (append_assoc fs (this ∷ []) (drop (suc at) now))
+
+    front : length (fs ++ this ∷ []) ≡ at + 1
+    front = length-append fs (this ∷ []) ∙ ap (λ n. n + 1) as_long
+
+    pub take_front : take (at + 1) (fs ++ drop at now) ≡ fs ++ this ∷ []
+    take_front = ap (λ n. take n (fs ++ drop at now)) (sym front) ∙ ap (λ xs. take (length (fs ++ this ∷ [])) xs) parts ∙ take-append_seam (fs ++ this ∷ []) (drop (suc at) now)
+
+    pub drop_front : drop (at + 1) (fs ++ drop at now) ≡ drop (at + 1) init
+    drop_front =
+        let next : suc at ≡ at + 1 = omega arith in
+        ap (λ n. drop n (fs ++ drop at now)) (sym front) ∙ ap (λ xs. drop (length (fs ++ this ∷ [])) xs) parts
+        ∙ drop-append_seam (fs ++ this ∷ []) (drop (suc at) now) ∙ rest_same ∙ ap (λ n. drop n init) next
+
+  pub own_before : (fs : List Flush) → this.caller ≡ caller → fs ≡ map (renewed this.line this.words) (take at now)
+      → take (at + 1) (fs ++ drop at now) ≡ renewed_by caller (take (at + 1) init)
+  own_before fs own is =
+      take_front fs (long_enough fs is) ∙ ap (λ xs. xs ++ this ∷ []) is
+      ∙ sym (before_push ∙ ap (λ b. cond b (map (renewed this.line this.words) (take at now)) (take at now) ++ this ∷ []) (eq-eqb this.caller caller own))
+    where
+      long_enough : (xs : List Flush) → xs ≡ map (renewed this.line this.words) (take at now) → length xs ≡ at
+      long_enough xs q = ap length q ∙ length-map (take at now) (renewed this.line this.words) ∙ length-take-le at now (omega arith)
+
+  pub own_behind : (fs : List Flush) → fs ≡ map (renewed this.line this.words) (take at now) → drop (at + 1) (fs ++ drop at now) ≡ drop (at + 1) init
+  own_behind fs is = drop_front fs (ap length is ∙ length-map (take at now) (renewed this.line this.words) ∙ length-take-le at now (omega arith))
+
+  pub other_before : (this.caller ≡ caller → ⊥) → take (at + 1) now ≡ renewed_by caller (take (at + 1) init)
+  other_before other =
+      take_more now at d (omega arith)
+      ∙ sym (before_push ∙ ap (λ b. cond b (map (renewed this.line this.words) (take at now)) (take at now) ++ this ∷ []) (ne_eqb this.caller caller other))
+
+  pub other_behind : drop (at + 1) now ≡ drop (at + 1) init
+  other_behind = let next : suc at ≡ at + 1 = omega arith in ap (λ n. drop n now) (sym next) ∙ rest_same ∙ ap (λ n. drop n init) next
