@@ -1,10 +1,10 @@
 -- Events that neither flush nor fence leave what is settled and what is flushed; the device keeps its lists then.
-use Rattle.std.proofs.Common.{◌≡◌, ℕ, ◌+◌, ◌-◌, ◌*◌, ◌/◌, ◌%◌, ◌^◌, ◌<◌, ◌≤◌, inl, inr, Bool, cond, eqb, max, List, [], ◌∷◌, length, get_or, refl, sym, ◌∙◌, ap, subst, arith}
+use Rattle.std.proofs.Common.{◌≡◌, ℕ, ◌+◌, ◌*◌, ◌%◌, ◌^◌, ◌<◌, ◌≤◌, inl, inr, cond, eqb, max, List, ◌∷◌, length, get_or, refl, sym, ◌∙◌, ap, subst, arith}
 use Rattle.std.specs.Prelude.{slice_index, slice_set, Contains}
 use Rattle.std.proofs.lemmas.Bool.{cases_eq}
 use Rattle.std.proofs.lemmas.List.{get_or-set_same, get_or-set_other}
 use Rattle.trace.specs.Events.{Words, line_of, with_word, Event, Trace, value, value_at}
-use Rattle.trace.specs.Events.Event.{loaded, stored, exchanged, drawn, flushed, fenced}
+use Rattle.trace.specs.Events.Event.{loaded, stored, exchanged, drawn, fenced}
 use Rattle.trace.specs.Progress.{pending, latest_of, settled_moment}
 use Rattle.trace.specs.Steps.{settled_value}
 use Rattle.trace.specs.Settling.{IsSettledValue}
@@ -12,7 +12,6 @@ use Rattle.trace.proofs.Replaced.{replaced_same, replaced_other}
 use Rattle.trace.proofs.Moments.{value_at_more}
 use Rattle.trace.proofs.Flushes.{settled_kept, settled_before, latest_before}
 use Rattle.trace.proofs.SettledValues.{is_settled, settled_here, settled_value_more, settled_value_fence}
-use Rattle.image_layout.specs.Places.{Shape}
 use Rattle.pm_trace.specs.declared.flushes.Flush.{Flush}
 use Rattle.pm_trace.specs.Memory.{Memory, unfenced}
 use Rattle.pm_trace.specs.TraceOf.{moment_of, HoldsSettled, IsTraceOf, Follows}
@@ -28,7 +27,7 @@ fence_more start e es c i n same =
     settled_value_fence start (e ∷ es) c i
     ∙ ap (λ u. value_at start (e ∷ es) u i) t
     ∙ value_at_more start e es (max (settled_moment (line_of i) es) (latest_of (line_of i) (pending c es))) i
-      (omega (arith, settled_before es (line_of i), latest_before c es (line_of i)))
+    (omega (arith, settled_before es (line_of i), latest_before c es (line_of i)))
     ∙ sym (settled_value_fence start es c i)
 
 pub holds_more : (start : Words) (e : Event) (es : Trace) (f : Flush) → ((d : ℕ) → e ≡ fenced d → ⊥)
@@ -36,10 +35,10 @@ pub holds_more : (start : Words) (e : Event) (es : Trace) (f : Flush) → ((d : 
 holds_more start e es f n same held k small =
     let on : f.line ≡ line_of (8 * f.line + k) = omega arith in
     let here : latest_of (line_of (8 * f.line + k)) (pending f.caller (e ∷ es)) ≡ latest_of (line_of (8 * f.line + k)) (pending f.caller es) =
-        subst (λ l. latest_of l (pending f.caller (e ∷ es)) ≡ latest_of l (pending f.caller es)) on same in
+    subst (λ l. latest_of l (pending f.caller (e ∷ es)) ≡ latest_of l (pending f.caller es)) on same in
     settled_here start (fenced f.caller ∷ e ∷ es) (8 * f.line + k) (slice_index f.words k)
-      (is_settled start (fenced f.caller ∷ es) (8 * f.line + k) (slice_index f.words k) (held k small)
-      ∙ sym (fence_more start e es f.caller (8 * f.line + k) n here))
+    (is_settled start (fenced f.caller ∷ es) (8 * f.line + k) (slice_index f.words k) (held k small)
+    ∙ sym (fence_more start e es f.caller (8 * f.line + k) n here))
 
 pub settled_more : (start : Words) (e : Event) (es : Trace) (i x : ℕ) → ((d : ℕ) → e ≡ fenced d → ⊥) → IsSettledValue start es i x → IsSettledValue start (e ∷ es) i x
 settled_more start e es i x n s =
@@ -66,9 +65,10 @@ calm start e es memory newest n same words traced =
 -- a list with one element replaced is the words with one replaced
 pub set_word : (xs : List ℕ) (i x w : ℕ) → i < length xs → slice_index (slice_set xs i x) w ≡ with_word (slice_index xs) i x w
 set_word xs i x w within = elim (cases_eq w i) [
-    inl e ↦ subst (λ j. slice_index (slice_set xs i x) j ≡ with_word (slice_index xs) i x j) (sym e)
-      (get_or-set_same xs i x 0 within ∙ sym (replaced_same (slice_index xs) i x)) |
-    inr n ↦ get_or-set_other xs i w x 0 n ∙ sym (replaced_other (slice_index xs) i x w n) ]
+  | inl e ↦ subst (λ j. slice_index (slice_set xs i x) j ≡ with_word (slice_index xs) i x j) (sym e)
+      (get_or-set_same xs i x 0 within ∙ sym (replaced_same (slice_index xs) i x))
+  | inr n ↦ get_or-set_other xs i w x 0 n ∙ sym (replaced_other (slice_index xs) i x w n)
+]
 
 same_word : (vs ws : Words) (i x w : ℕ) → ((j : ℕ) → vs j ≡ ws j) → with_word vs i x w ≡ with_word ws i x w
 same_word vs ws i x w same = ap (λ y. cond (eqb w i) x y) (same w)
@@ -93,5 +93,5 @@ pub draw_follows : (memory : Memory) (c w : ℕ) → w < length memory.newest
 draw_follows memory c w within start es traced =
     calm start (drawn c w) es memory (slice_set memory.newest w ((slice_index memory.newest w + 1) % 2 ^ 64)) (λ d q. cc) (λ d. refl)
     (λ i. set_word memory.newest w ((slice_index memory.newest w + 1) % 2 ^ 64) i within
-      ∙ same_word (slice_index memory.newest) (value start es) w ((slice_index memory.newest w + 1) % 2 ^ 64) i traced.newest
-      ∙ ap (λ y. with_word (value start es) w ((y + 1) % 2 ^ 64) i) (traced.newest w)) traced
+    ∙ same_word (slice_index memory.newest) (value start es) w ((slice_index memory.newest w + 1) % 2 ^ 64) i traced.newest
+    ∙ ap (λ y. with_word (value start es) w ((y + 1) % 2 ^ 64) i) (traced.newest w)) traced

@@ -1,7 +1,7 @@
 -- What holds of the elements of a list, and of a filtered one, said by membership.
-use Rattle.std.proofs.Common.{◌≡◌, ◌≢◌, ℕ, zero, suc, ◌+◌, ◌<◌, ◌≤◌, ◌⊎◌, inl, inr, Bool, true, false, not, cond, ◌&&◌, eqb, List, [], ◌∷◌, ◌++◌, length, get_or, refl, sym, ◌∙◌, ap, subst, arith, filter}
+use Rattle.std.proofs.Common.{◌≡◌, ℕ, zero, suc, ◌<◌, ◌≤◌, ◌⊎◌, inl, inr, Bool, true, false, not, cond, ◌&&◌, eqb, List, [], ◌∷◌, ◌++◌, length, get_or, refl, sym, ◌∙◌, ap, subst, arith, filter}
 use Rattle.std.specs.Prelude.{All, Any, AllPairs, Contains}
-use Rattle.std.proofs.lemmas.Bool.{cases_Bool, cases_eq, eqb-true, eqb-false, eq-eqb, ne_eqb}
+use Rattle.std.proofs.lemmas.Bool.{cases_Bool, eqb-true, eq-eqb, ne_eqb}
 use Rattle.trace.proofs.Listed.{Has, has_of_contains, contains_of_has}
 
 -- ---- all elements
@@ -38,8 +38,9 @@ has_append_right x (z ∷ xs) ys h = inr (has_append_right x xs ys h)
 pub has_append_cases : {X : Type 0} (x : X) (xs ys : List X) → Has x (xs ++ ys) → Has x xs ⊎ Has x ys
 has_append_cases x [] ys h = inr h
 has_append_cases x (z ∷ xs) ys h = elim h [
-    inl e ↦ inl (inl e) |
-    inr q ↦ elim (has_append_cases x xs ys q) [ inl r ↦ inl (inr r) | inr r ↦ inr r ] ]
+  | inl e ↦ inl (inl e)
+  | inr q ↦ elim (has_append_cases x xs ys q) [ inl r ↦ inl (inr r) | inr r ↦ inr r ]
+]
 
 -- ---- pairs of elements
 
@@ -61,23 +62,27 @@ pairs_same R S xs same pairs i j d h k =
 -- the first element of a filtered list, or the rest
 has_kept : {X : Type 0} (p : X → Bool) (x : X) (xs : List X) (y : X) → Has x (filter p xs) → Has x (filter p (y ∷ xs))
 has_kept p x xs y h = elim (cases_Bool (p y)) [
-    inl t ↦ subst (λ b. Has x (cond b (y ∷ filter p xs) (filter p xs))) (sym t) (inr h) |
-    inr f ↦ subst (λ b. Has x (cond b (y ∷ filter p xs) (filter p xs))) (sym f) h ]
+  | inl t ↦ subst (λ b. Has x (cond b (y ∷ filter p xs) (filter p xs))) (sym t) (inr h)
+  | inr f ↦ subst (λ b. Has x (cond b (y ∷ filter p xs) (filter p xs))) (sym f) h
+]
 
 pub has_filter : {X : Type 0} (p : X → Bool) (x : X) (xs : List X) → Has x xs → p x ≡ true → Has x (filter p xs)
 has_filter p x [] h t = absurd h
 has_filter p x (y ∷ xs) h t = elim h [
-    inl e ↦ let passes : p y ≡ true = subst (λ z. p z ≡ true) e t in
-      subst (λ b. Has x (cond b (y ∷ filter p xs) (filter p xs))) (sym passes) (inl e) |
-    inr q ↦ has_kept p x xs y (has_filter p x xs q t) ]
+  | inl e ↦ let passes : p y ≡ true = subst (λ z. p z ≡ true) e t in
+      subst (λ b. Has x (cond b (y ∷ filter p xs) (filter p xs))) (sym passes) (inl e)
+  | inr q ↦ has_kept p x xs y (has_filter p x xs q t)
+]
 
 pub filter_has : {X : Type 0} (p : X → Bool) (x : X) (xs : List X) → Has x (filter p xs) → Has x xs × (p x ≡ true)
 filter_has p x [] h = absurd h
 filter_has p x (y ∷ xs) h = elim (cases_Bool (p y)) [
-    inl t ↦ elim (subst (λ b. Has x (cond b (y ∷ filter p xs) (filter p xs))) t h) [
-      inl e ↦ (inl e, subst (λ z. p z ≡ true) (sym e) t) |
-      inr q ↦ let r : Has x xs × (p x ≡ true) = filter_has p x xs q in (inr r.0, r.1) ] |
-    inr f ↦ let r : Has x xs × (p x ≡ true) = filter_has p x xs (subst (λ b. Has x (cond b (y ∷ filter p xs) (filter p xs))) f h) in (inr r.0, r.1) ]
+  | inl t ↦ elim (subst (λ b. Has x (cond b (y ∷ filter p xs) (filter p xs))) t h) [
+    | inl e ↦ (inl e, subst (λ z. p z ≡ true) (sym e) t)
+    | inr q ↦ let r : Has x xs × (p x ≡ true) = filter_has p x xs q in (inr r.0, r.1)
+  ]
+  | inr f ↦ let r : Has x xs × (p x ≡ true) = filter_has p x xs (subst (λ b. Has x (cond b (y ∷ filter p xs) (filter p xs))) f h) in (inr r.0, r.1)
+]
 
 -- filtered once more a list is no longer
 pub filter_fewer : {X : Type 0} (p q : X → Bool) (xs : List X) → length (filter p (filter q xs)) ≤ length (filter p xs)
@@ -88,8 +93,9 @@ filter_fewer p q (x ∷ xs) =
     let Q : Bool → Type 0 = λ b. length (cond b (x ∷ filter p (filter q xs)) (filter p (filter q xs))) ≤ length (cond b (x ∷ filter p xs) (filter p xs)) in
     let R : Bool → Type 0 = λ b. length (filter p (filter q xs)) ≤ length (cond b (x ∷ filter p xs) (filter p xs)) in
     elim (cases_Bool (q x)) [
-      inl t ↦ subst P (sym t) (elim (cases_Bool (p x)) [ inl s ↦ subst Q (sym s) (omega arith) | inr s ↦ subst Q (sym s) fewer ]) |
-      inr f ↦ subst P (sym f) (elim (cases_Bool (p x)) [ inl s ↦ subst R (sym s) (omega arith) | inr s ↦ subst R (sym s) fewer ]) ]
+      | inl t ↦ subst P (sym t) (elim (cases_Bool (p x)) [ inl s ↦ subst Q (sym s) (omega arith) | inr s ↦ subst Q (sym s) fewer ])
+      | inr f ↦ subst P (sym f) (elim (cases_Bool (p x)) [ inl s ↦ subst R (sym s) (omega arith) | inr s ↦ subst R (sym s) fewer ])
+    ]
 
 -- a list filtered by what none passes is empty
 pub filter_none : {X : Type 0} (p : X → Bool) (xs : List X) → ((x : X) → Has x xs → p x ≡ false) → filter p xs ≡ []
@@ -107,13 +113,15 @@ not_is i j n = ap not (ne_eqb i j n)
 
 pub both_true : (i j k l : ℕ) → (eqb i j && eqb k l) ≡ true → (i ≡ j) × (k ≡ l)
 both_true i j k l t = elim (cases_Bool (eqb i j)) [
-    inl s ↦ (eqb-true i j s, eqb-true k l (sym (ap (λ b. b && eqb k l) s) ∙ t)) |
-    inr s ↦ let f : (eqb i j && eqb k l) ≡ false = ap (λ b. b && eqb k l) s in cc ]
+  | inl s ↦ (eqb-true i j s, eqb-true k l (sym (ap (λ b. b && eqb k l) s) ∙ t))
+  | inr s ↦ let f : (eqb i j && eqb k l) ≡ false = ap (λ b. b && eqb k l) s in cc
+]
 
 pub both_is : (i j k l : ℕ) → i ≡ j → k ≡ l → (eqb i j && eqb k l) ≡ true
 both_is i j k l e q = ap (λ b. b && eqb k l) (eq-eqb i j e) ∙ eq-eqb k l q
 
 pub one_other : (i j k l : ℕ) → ((i ≡ j) × (k ≡ l) → ⊥) → not (eqb i j && eqb k l) ≡ true
 one_other i j k l n = elim (cases_Bool (eqb i j && eqb k l)) [
-    inl t ↦ absurd (n (both_true i j k l t)) |
-    inr f ↦ ap not f ]
+  | inl t ↦ absurd (n (both_true i j k l t))
+  | inr f ↦ ap not f
+]

@@ -1,5 +1,7 @@
 -- What a device is to the list of what callers did to it.
-use Rattle.std.specs.Prelude.{◌≡◌, ℕ, ◌+◌, ◌*◌, ◌<◌, ◌≤◌, ◌∷◌, length, slice_index, All, Any, AllPairs, Contains}
+use Rattle.std.specs.Prelude.{◌≡◌, ℕ, ◌+◌, ◌*◌, ◌<◌, ◌≤◌, ◌∷◌, List, length, slice_index, All, Any, AllPairs, Contains}
+use Rattle.image_layout.specs.Places.{words_of}
+use Rattle.trace.specs.Media.{IsPossible}
 use Rattle.trace.specs.Events.{Words, Event, Trace, value}
 use Rattle.trace.specs.Events.Event.{fenced}
 use Rattle.trace.specs.Settling.{IsSettledValue}
@@ -30,3 +32,7 @@ pub record IsTraceOf (start : Words) (es : Trace) (memory : Memory) : Type 0 whe
 -- whatever led to the old memory, with this event behind it leads to the new one
 abbrev pub Follows : Memory → Event → Memory → Type 0
 Follows old e new = (start : Words) (es : Trace) → IsTraceOf start es old → IsTraceOf start (e ∷ es) new
+
+-- whatever led to the memory, a power cut may leave these words of the image
+abbrev pub MayLeave : Memory → List ℕ → Type 0
+MayLeave memory words = (start : Words) (es : Trace) → IsTraceOf start es memory → IsPossible (words_of memory.shape) start es (slice_index words)

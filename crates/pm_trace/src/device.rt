@@ -5,7 +5,7 @@ ghost use Rattle.image_layout.specs.Places.{words_of};
 ghost use Rattle.trace.specs.Events.Event.{loaded, stored, exchanged, drawn, flushed, fenced};
 ghost use Rattle.pm_trace.specs.Volatile.{all_words_of, counter_word};
 ghost use Rattle.pm_trace.specs.Memory.{IsLine, unfenced};
-ghost use Rattle.pm_trace.specs.TraceOf.{IsTraceOf, Follows};
+ghost use Rattle.pm_trace.specs.TraceOf.{IsTraceOf, Follows, MayLeave};
 ghost use Rattle.pm_trace.specs.Choice.{kept};
 
 use crate::flushes::{self, Flush, LINE};
@@ -92,6 +92,27 @@ impl Device {
             settled,
             flushes,
         })
+    }
+
+    /// How the image is laid out.
+    pub fn geometry(&self) -> Geometry
+        ensures { result ≡ self.now.shape }
+    {
+        self.geometry
+    }
+
+    /// The greatest number of a caller.
+    pub fn callers(&self) -> u8
+        ensures { result ≡ self.now.callers }
+    {
+        self.callers
+    }
+
+    /// How many lines a caller has flushed and not fenced.
+    pub fn unfenced(&self, caller: u8) -> usize
+        ensures { result ≡ unfenced caller self.now }
+    {
+        flushes::count(&self.flushes, caller)
     }
 
     /// The newest value of a word.
@@ -199,6 +220,7 @@ impl Device {
         ensures geometry { result.geometry ≡ self.shape }
         ensures words { result.words ≡ kept choice self }
         ensures whole { length result.words ≡ words_of self.shape }
+        ensures possible { MayLeave self result.words }
     {
         let words = self.geometry.words() as usize;
         let mut settled = self.settled;

@@ -1,6 +1,7 @@
 //! The flushes that their callers have not fenced.
 
 ghost use Rattle.std.specs.Prelude.{◌≡◌, ◌<◌, ◌≤◌, ◌+◌, ◌*◌, ◌==◌, not, All, filter, map, length, vec_len, vec_capacity};
+ghost use Rattle.pm_trace.specs.Memory.{flushes_of};
 ghost use Rattle.pm_trace.specs.Turns.{is_of, added, with_line, settled_by, renewed, renewed_by, left_by};
 
 /// How many words a line has.
@@ -12,6 +13,16 @@ pub struct Flush {
     pub(crate) caller: u8,
     pub(crate) line: u64,
     pub(crate) words: [u64; LINE],
+}
+
+/// How many flushes a caller has.
+pub(crate) fn count(flushes: &[Flush], caller: u8) -> usize
+    ensures { result ≡ length (flushes_of caller flushes.now) }
+{
+    flushes
+        .iter()
+        .filter(|flush| flush.caller == caller)
+        .count()
 }
 
 /// Forgets a caller's flush of a line.

@@ -13,6 +13,6 @@ returns-clause-items c =
     let renewed : c.renew_older.new.flushes ≡ renewed_by c.args.caller flushes.items = c.renew_older.ensures ∙ ap (λ fs. renewed_by c.args.caller fs) c.deref_mut.ensures.value in
     let long : flushes.len ≡ length c.renew_older.new.flushes = flushes.ok.0 ∙ sym (ap length renewed ∙ length-renewed_by c.args.caller flushes.items) in
     let whole : take flushes.len (c.renew_older.new.flushes ++ drop (length c.renew_older.new.flushes) flushes.items) ≡ renewed_by c.args.caller flushes.items =
-        whole_again flushes.len c.renew_older.new.flushes (drop (length c.renew_older.new.flushes) flushes.items) long ∙ renewed in
+    whole_again flushes.len c.renew_older.new.flushes (drop (length c.renew_older.new.flushes) flushes.items) long ∙ renewed in
     filter_same _ (λ (f : Flush). not (eqb f.caller c.args.caller)) _ (λ x b f' k. search rules) _ _ c.retain.ensures.filtered
     ∙ ap (λ fs. filter (λ (f : Flush). not (eqb f.caller c.args.caller)) fs) whole

@@ -17,7 +17,7 @@ returns-clause-follows c caller start es traced =
     let within : counter < length items = omega (arith, c.self.invariant.0, c.words-counter.ensures.is) in
     let place : c.index-place.result.now ≡ slice_index items counter = c.index-place.ensures ∙ get_or_default_zero items counter c.index-place.result.now within in
     let drew : IsTraceOf start (drawn caller counter ∷ es) (record (the_view c.self.inside) { newest = slice_set items counter ((slice_index items counter + 1) % 2 ^ 64) }) =
-        draw_follows (the_view c.self.inside) caller counter within start es (subst (λ m. IsTraceOf start es m) (sym c.self.view_is) traced) in
+    draw_follows (the_view c.self.inside) caller counter within start es (subst (λ m. IsTraceOf start es m) (sym c.self.view_is) traced) in
     let is_counter : counter ≡ words_of c.args.self.now.shape = c.words-counter.ensures.is ∙ ap (λ (m : Memory). words_of m.shape) c.self.view_is in
     subst (λ w. IsTraceOf start (drawn caller w ∷ es) (record (the_view c.self.inside) { newest = slice_set items counter ((c.index-place.result.now + 1) % 2 ^ 64) })) is_counter
     (subst (λ x. IsTraceOf start (drawn caller counter ∷ es) (record (the_view c.self.inside) { newest = slice_set items counter ((x + 1) % 2 ^ 64) })) (sym place) drew)

@@ -1,5 +1,5 @@
 -- What the caller flushed settles, and the flushes that are left are as many as before or fewer.
-use Rattle.std.proofs.Common.{◌≡◌, ℕ, List, ◌∷◌, ◌++◌, ◌<◌, ◌≤◌, ◌+◌, ◌*◌, ap, subst, sym, ◌∙◌, arith, length, take, drop}
+use Rattle.std.proofs.Common.{◌≡◌, ℕ, List, ◌∷◌, ◌++◌, ◌≤◌, ◌+◌, ◌*◌, ap, subst, sym, ◌∙◌, arith, length, take, drop}
 use Rattle.std.specs.Prelude.{All}
 use Rattle.image_layout.specs.Places.{Shape}
 use Rattle.trace.specs.Events.Event.{fenced}
@@ -7,7 +7,7 @@ use Rattle.trace.proofs.Listed.{Has}
 use Rattle.pm_trace.specs.contracts.device.Device.{the_view}
 use Rattle.pm_trace.specs.declared.flushes.Flush.{Flush}
 use Rattle.pm_trace.specs.Volatile.{all_words_of}
-use Rattle.pm_trace.specs.Memory.{Memory, IsLine, flushes_of}
+use Rattle.pm_trace.specs.Memory.{flushes_of}
 use Rattle.pm_trace.specs.TraceOf.{IsTraceOf}
 use Rattle.pm_trace.specs.Turns.{IsFlush, settled_by, left_by}
 use Rattle.pm_trace.proofs.Settles.{Fits, length-settled_by}
@@ -49,4 +49,4 @@ returns-clause-follows c start es traced =
     let settled = written d.settled.len c.settle.new.words d.settled.items c.args.caller d.flushes.items c.deref.result.now c.deref_mut.result.now d.settled.ok.0 fit c.settle.ensures c.deref.ensures.value c.deref_mut.ensures.value in
     subst (λ fs. IsTraceOf start (fenced c.args.caller ∷ es) (record (the_view d) { settled = take d.settled.len (c.settle.new.words ++ drop (length c.settle.new.words) d.settled.items); flushes = fs })) (sym c.fence.ensures.items)
     (subst (λ ws. IsTraceOf start (fenced c.args.caller ∷ es) (record (the_view d) { settled = ws; flushes = left_by c.args.caller d.flushes.items })) (sym settled)
-      (fence_follows (the_view d) c.args.caller fit start es (subst (λ m. IsTraceOf start es m) (sym c.self.view_is) traced)))
+    (fence_follows (the_view d) c.args.caller fit start es (subst (λ m. IsTraceOf start es m) (sym c.self.view_is) traced)))

@@ -1,5 +1,5 @@
 -- A flush is kept with the words of its line, in room that was made for it.
-use Rattle.std.proofs.Common.{◌≡◌, ℕ, List, ◌∷◌, ◌<◌, ◌≤◌, ◌+◌, ◌*◌, ap, subst, sym, ◌∙◌, arith, length}
+use Rattle.std.proofs.Common.{◌≡◌, ℕ, ◌∷◌, ◌<◌, ◌≤◌, ◌+◌, ◌*◌, ap, subst, sym, ◌∙◌, arith, length}
 use Rattle.std.specs.Prelude.{All, slice_range}
 use Rattle.trace.specs.Events.Event.{flushed}
 use Rattle.pm_trace.specs.contracts.device.Device.{the_view}
@@ -26,11 +26,12 @@ add-requires c =
     let d = c.self.inside in
     let new : Flush = record { caller = c.args.caller; line = c.args.line; words = c.copy_from_slice.new.self } in
     let is_flush : IsFlush d.geometry d.callers new = (
-        asked_line (the_view d) c.args.self.now c.args.line c.self.view_is c.requires.line,
-        asked_caller (the_view d) c.args.self.now c.args.caller c.self.view_is c.requires.caller,
-        c.copy_from_slice.ensures.len) in
+      asked_line (the_view d) c.args.self.now c.args.line c.self.view_is c.requires.line,
+      asked_caller (the_view d) c.args.self.now c.args.caller c.self.view_is c.requires.caller,
+      c.copy_from_slice.ensures.len,
+    ) in
     let room : length d.flushes.items < 8 * (d.callers + 1) =
-        room_for_one d.geometry d.callers d.flushes.items c.self.invariant.2 c.self.invariant.3 new is_flush (asked_room (the_view d) c.args.self.now c.args.caller c.self.view_is c.requires.room) in
+    room_for_one d.geometry d.callers d.flushes.items c.self.invariant.2 c.self.invariant.3 new is_flush (asked_room (the_view d) c.args.self.now c.args.caller c.self.view_is c.requires.room) in
     let long = d.flushes.ok.0 in
     let most = c.self.invariant.4 in
     omega arith
@@ -40,9 +41,10 @@ invariant_of-self c =
     let d = c.self.inside in
     let new : Flush = record { caller = c.args.caller; line = c.args.line; words = c.copy_from_slice.new.self } in
     let is_flush : IsFlush d.geometry d.callers new = (
-        asked_line (the_view d) c.args.self.now c.args.line c.self.view_is c.requires.line,
-        asked_caller (the_view d) c.args.self.now c.args.caller c.self.view_is c.requires.caller,
-        c.copy_from_slice.ensures.len) in
+      asked_line (the_view d) c.args.self.now c.args.line c.self.view_is c.requires.line,
+      asked_caller (the_view d) c.args.self.now c.args.caller c.self.view_is c.requires.caller,
+      c.copy_from_slice.ensures.len,
+    ) in
     let room = asked_room (the_view d) c.args.self.now c.args.caller c.self.view_is c.requires.room in
     let most = c.self.invariant.4 in (
       c.self.invariant.0,
@@ -57,6 +59,6 @@ returns-clause-follows c start es traced =
     let d = c.self.inside in
     let new : Flush = record { caller = c.args.caller; line = c.args.line; words = c.copy_from_slice.new.self } in
     let words : new.words ≡ slice_range d.newest.items (8 * c.args.line) (8 * c.args.line + 8) =
-        c.copy_from_slice.ensures.after ∙ ap (λ xs. slice_range xs (8 * c.args.line) (8 * c.args.line + 8)) c.as_slice-newest.ensures.value in
+    c.copy_from_slice.ensures.after ∙ ap (λ xs. slice_range xs (8 * c.args.line) (8 * c.args.line + 8)) c.as_slice-newest.ensures.value in
     subst (λ fs. IsTraceOf start (flushed c.args.caller c.args.line ∷ es) (record (the_view d) { flushes = fs })) (sym c.add.ensures.items)
     (flush_follows (the_view d) new words start es (subst (λ m. IsTraceOf start es m) (sym c.self.view_is) traced))

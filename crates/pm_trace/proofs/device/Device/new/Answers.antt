@@ -12,5 +12,5 @@ returns-clause-begins c =
     let newest : c.in_ok-newest.newest.items ≡ all words = c.in_ok-newest.ensures ∙ ap all c.as_slice.ensures.value in
     let settled : c.in_ok-settled.settled.items ≡ all words = c.in_ok-settled.ensures ∙ ap all c.as_slice-2.ensures.value in
     subst (λ fs. IsTraceOf (slice_index words) []
-        (record { shape = c.args.medium.geometry; callers = c.args.callers; newest = c.in_ok-newest.newest.items; settled = c.in_ok-settled.settled.items; flushes = fs })) (sym c.in_ok-flushes.ensures.items)
+    (record { shape = c.args.medium.geometry; callers = c.args.callers; newest = c.in_ok-newest.newest.items; settled = c.in_ok-settled.settled.items; flushes = fs })) (sym c.in_ok-flushes.ensures.items)
     (begins words c.in_ok-newest.newest.items c.in_ok-settled.settled.items _ _ c.args.medium.geometry c.args.callers newest settled)

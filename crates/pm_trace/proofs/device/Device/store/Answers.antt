@@ -1,5 +1,5 @@
 -- A store replaces one of the newest words.
-use Rattle.std.proofs.Common.{ap, subst, sym, arith, ◌≡◌, ◌<◌, length}
+use Rattle.std.proofs.Common.{subst, sym, ◌<◌}
 use Rattle.pm_trace.specs.contracts.device.Device.{the_view}
 use Rattle.pm_trace.specs.Volatile.{all_words_of}
 use Rattle.pm_trace.specs.Memory.{Memory}
