@@ -15,7 +15,7 @@ use Rattle.trace.proofs.SettledValues.{is_settled, settled_here, settled_value_f
 use Rattle.pm_trace.specs.declared.flushes.Flush.{Flush}
 use Rattle.pm_trace.specs.Memory.{Memory, flushes_of}
 use Rattle.pm_trace.specs.TraceOf.{moment_of, HoldsSettled, IsTraceOf, Follows}
-use Rattle.pm_trace.specs.Turns.{settled_by, last_words, renewed_by, left_by}
+use Rattle.pm_trace.specs.FlushLists.{settled_by, last_words, renewed_by, left_by}
 use Rattle.pm_trace.proofs.Elements.{all_of_has, has_of_all, any_of_has, has_of_any, filter_has, has_filter, filter_fewer, filter_none, pairs_head, pairs_tail, pairs_same, not_true, not_is}
 use Rattle.pm_trace.proofs.Settles.{Fits, settled_at}
 use Rattle.pm_trace.proofs.Renews.{last_is, Same, renewed_from, renewed_to, renewed_count, renewed_pairs}

@@ -16,7 +16,7 @@ use Rattle.trace.proofs.SettledValues.{settled_here, settled_value_fence}
 use Rattle.pm_trace.specs.declared.flushes.Flush.{Flush}
 use Rattle.pm_trace.specs.Memory.{Memory, flushes_of}
 use Rattle.pm_trace.specs.TraceOf.{moment_of, HoldsSettled, IsTraceOf, Follows}
-use Rattle.pm_trace.specs.Turns.{is_of, added}
+use Rattle.pm_trace.specs.FlushLists.{is_of, added}
 use Rattle.pm_trace.proofs.Elements.{has_at, all_of_has, has_of_all, any_of_has, has_of_any, has_append_left, has_append_right, filter_has, has_filter, filter_fewer, pairs_same, one_other, both_is}
 use Rattle.pm_trace.proofs.Calm.{holds_more, settled_more}
 

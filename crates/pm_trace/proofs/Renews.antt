@@ -7,7 +7,7 @@ use Rattle.std.proofs.lemmas.Bool.{cases_Bool, cases_eq, eq-eqb, ne_eqb}
 use Rattle.std.proofs.lemmas.List.Kept.{AllPairs-cons}
 use Rattle.trace.proofs.Listed.{Has}
 use Rattle.pm_trace.specs.declared.flushes.Flush.{Flush}
-use Rattle.pm_trace.specs.Turns.{is_of, last_words, renewed_by, renewed}
+use Rattle.pm_trace.specs.FlushLists.{is_of, last_words, renewed_by, renewed}
 use Rattle.pm_trace.specs.Memory.{flushes_of}
 use Rattle.pm_trace.proofs.Elements.{both_true, both_is, all_of_has, pairs_head, pairs_tail}
 

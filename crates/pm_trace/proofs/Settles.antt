@@ -6,7 +6,7 @@ use Rattle.std.proofs.lemmas.List.{get_or_append_left, get_or-append_right, get_
 use Rattle.trace.specs.Events.{line_of}
 use Rattle.trace.proofs.Listed.{Has}
 use Rattle.pm_trace.specs.declared.flushes.Flush.{Flush}
-use Rattle.pm_trace.specs.Turns.{with_line, settled_by}
+use Rattle.pm_trace.specs.FlushLists.{with_line, settled_by}
 
 -- ---- one line
 

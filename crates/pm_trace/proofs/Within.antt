@@ -9,7 +9,7 @@ use Rattle.image_layout.specs.Places.{Shape}
 use Rattle.trace.proofs.Listed.{Has}
 use Rattle.pm_trace.specs.declared.flushes.Flush.{Flush}
 use Rattle.pm_trace.specs.Memory.{IsLine, flushes_of}
-use Rattle.pm_trace.specs.Turns.{is_of, added, renewed_by, left_by, IsFlush}
+use Rattle.pm_trace.specs.FlushLists.{is_of, added, renewed_by, left_by, IsFlush}
 use Rattle.pm_trace.proofs.Elements.{all_of_has, has_of_all, filter_has, filter_fewer}
 use Rattle.pm_trace.proofs.Renews.{renewed_from, renewed_eight, renewed_count}
 use Rattle.pm_trace.proofs.Settles.{Fits}

@@ -2,4 +2,4 @@ pub mod Volatile
 pub mod Memory
 pub mod TraceOf
 pub mod Choice
-pub mod Turns
+pub mod FlushLists

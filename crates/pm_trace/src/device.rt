@@ -55,7 +55,7 @@ impl Model for Device {
     ghost use Rattle.std.specs.Prelude.{◌≡◌, ℕ, ◌+◌, ◌*◌, ◌≤◌, All, length, vec_capacity};
     ghost use Rattle.pm_trace.specs.Volatile.{all_words_of};
     ghost use Rattle.pm_trace.specs.Memory.{Memory, flushes_of};
-    ghost use Rattle.pm_trace.specs.Turns.{IsFlush};
+    ghost use Rattle.pm_trace.specs.FlushLists.{IsFlush};
 
     ghost Value = { Memory };
 

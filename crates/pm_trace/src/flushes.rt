@@ -2,7 +2,7 @@
 
 ghost use Rattle.std.specs.Prelude.{◌≡◌, ◌<◌, ◌≤◌, ◌+◌, ◌*◌, ◌==◌, not, All, filter, map, length, vec_len, vec_capacity};
 ghost use Rattle.pm_trace.specs.Memory.{flushes_of};
-ghost use Rattle.pm_trace.specs.Turns.{is_of, added, with_line, settled_by, renewed, renewed_by, left_by};
+ghost use Rattle.pm_trace.specs.FlushLists.{is_of, added, with_line, settled_by, renewed, renewed_by, left_by};
 
 /// How many words a line has.
 pub(crate) const LINE: usize = 8;

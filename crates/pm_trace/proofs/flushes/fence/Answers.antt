@@ -2,7 +2,7 @@
 use Rattle.std.proofs.Common.{rules, ◌≡◌, ◌++◌, ◌∙◌, ap, sym, eqb, not, filter, take, drop, length}
 use Rattle.std.proofs.lemmas.Fn.{filter_same}
 use Rattle.pm_trace.specs.declared.flushes.Flush.{Flush}
-use Rattle.pm_trace.specs.Turns.{renewed_by}
+use Rattle.pm_trace.specs.FlushLists.{renewed_by}
 use Rattle.pm_trace.proofs.Renews.{length-renewed_by}
 use Rattle.pm_trace.proofs.Within.{whole_again}
 use Rattle.pm_trace.proofs.flushes.fence.Goals as goal

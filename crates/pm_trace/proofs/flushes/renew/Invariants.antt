@@ -1,6 +1,6 @@
 -- The flushes before hold the words, and those behind are as they were.
 use Rattle.std.proofs.Common.{◌≡◌, ◌++◌, take, drop, map, length}
-use Rattle.pm_trace.specs.Turns.{renewed}
+use Rattle.pm_trace.specs.FlushLists.{renewed}
 use Rattle.pm_trace.proofs.flushes.renew.Given as goal
 
 abbrev pub invariant-loop-at : goal.invariant-loop-at

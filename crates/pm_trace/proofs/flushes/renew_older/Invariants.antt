@@ -1,6 +1,6 @@
 -- The flushes before hold what they are to hold for these alone, and those behind are as they were.
 use Rattle.std.proofs.Common.{◌≡◌, take, drop, length}
-use Rattle.pm_trace.specs.Turns.{renewed_by}
+use Rattle.pm_trace.specs.FlushLists.{renewed_by}
 use Rattle.pm_trace.proofs.flushes.renew_older.Given as goal
 
 abbrev pub invariant-loop-at : goal.invariant-loop-at

@@ -1,6 +1,6 @@
 -- What is left to settle is settled from here on.
 use Rattle.std.proofs.Common.{◌≡◌, drop, length}
-use Rattle.pm_trace.specs.Turns.{settled_by}
+use Rattle.pm_trace.specs.FlushLists.{settled_by}
 use Rattle.pm_trace.proofs.flushes.settle.Given as goal
 
 abbrev pub invariant-loop-flush : goal.invariant-loop-flush

@@ -9,7 +9,7 @@ use Rattle.pm_trace.specs.declared.flushes.Flush.{Flush}
 use Rattle.pm_trace.specs.Volatile.{all_words_of}
 use Rattle.pm_trace.specs.Memory.{flushes_of}
 use Rattle.pm_trace.specs.TraceOf.{IsTraceOf}
-use Rattle.pm_trace.specs.Turns.{IsFlush, settled_by, left_by}
+use Rattle.pm_trace.specs.FlushLists.{IsFlush, settled_by, left_by}
 use Rattle.pm_trace.proofs.Settles.{Fits, length-settled_by}
 use Rattle.pm_trace.proofs.AfterFence.{fence_follows}
 use Rattle.pm_trace.proofs.Within.{whole_again, left_fit, left_few, lines_fit}

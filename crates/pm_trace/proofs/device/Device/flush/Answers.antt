@@ -6,7 +6,7 @@ use Rattle.pm_trace.specs.contracts.device.Device.{the_view}
 use Rattle.pm_trace.specs.declared.flushes.Flush.{Flush}
 use Rattle.pm_trace.specs.Memory.{Memory, IsLine, unfenced, flushes_of}
 use Rattle.pm_trace.specs.TraceOf.{IsTraceOf}
-use Rattle.pm_trace.specs.Turns.{IsFlush}
+use Rattle.pm_trace.specs.FlushLists.{IsFlush}
 use Rattle.pm_trace.proofs.AfterFlush.{flush_follows}
 use Rattle.pm_trace.proofs.Within.{added_fit, added_few, room_for_one}
 use Rattle.pm_trace.proofs.device.Device.flush.Goals as goal

@@ -1,4 +1,4 @@
--- What the steps of a flush and of a fence make of the device's lists. No public clause says these.
+-- What the parts of a flush and of a fence make of the device's lists. No public clause says these.
 use Rattle.std.specs.Prelude.{Bool, ℕ, ◌+◌, ◌*◌, ◌≤◌, ◌≡◌, ◌==◌, ◌&&◌, not, if◌then◌else◌, List, [], ◌∷◌, ◌++◌, length, take, drop, filter}
 use Rattle.image_layout.specs.Places.{Shape}
 use Rattle.pm_trace.specs.declared.flushes.Flush.{Flush}
