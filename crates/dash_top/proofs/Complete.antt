@@ -7,13 +7,13 @@ use Rattle.std.proofs.lemmas.Slice.Eq.{bytes_eq-Decides}
 use Rattle.std.specs.Io.KnownBytes.{Consumes}
 use Rattle.outside.specs.Storing.{IsFront}
 use Rattle.image_file.specs.declared.fault.ImageFault.{ImageFault}
-use Rattle.image_file.specs.Fault.{HasFault, IsServedFile}
+use Rattle.image_file.specs.Fault.{HasFault}
 use Rattle.script_text.specs.declared.line.Mode.TheVariants.{Play}
 use Rattle.script_text.specs.declared.fault.ScriptFault.{ScriptFault}
 use Rattle.script_text.specs.Script.{IsScript}
 use Rattle.script_text.proofs.Complete.{no_fault as no_script_fault}
 use Rattle.image_file.proofs.Accepted.{no_fault}
-use Rattle.dash_top.specs.Commands.{check_words, list_words, play_words, SaysFormat, IsNoCommand, ReadsImage}
+use Rattle.dash_top.specs.Commands.{check_words, list_words, play_words, IsNoCommand, ReadsImage}
 use Rattle.dash_top.specs.Commands.ReadsImage.{for_check, for_list, for_play}
 use Rattle.dash_top.specs.Told.{Told, RefusesImage, RefusesScript}
 use Rattle.dash_top.specs.Top.{HasGoodImage, HasGoodScript, IsGoodCommand}

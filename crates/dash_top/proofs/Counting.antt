@@ -1,6 +1,5 @@
 -- A count that rose since it stood higher rose since it stood lower.
-use Rattle.std.proofs.Common.{ℕ, ◌+◌, ◌-◌, ◌≤◌, ◌^◌, min, arith}
-use Rattle.std.proofs.lemmas.Grind.{common_steps}
+use Rattle.std.proofs.Common.{ℕ, ◌≤◌, arith}
 use Rattle.outside.specs.Causes.{Rose}
 
 pub rose_before : (before between now : ℕ) → before ≤ between → Rose between now → Rose before now

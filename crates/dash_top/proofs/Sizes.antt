@@ -1,5 +1,5 @@
 -- The file of an image is never longer than what is read of a store.
-use Rattle.std.proofs.Common.{◌≡◌, ℕ, ◌+◌, ◌-◌, ◌*◌, ◌/◌, ◌^◌, ◌≤◌, List, [], ◌∷◌, length, refl, ◌∙◌, sym, ap, arith, length-append}
+use Rattle.std.proofs.Common.{◌≡◌, ℕ, ◌+◌, ◌-◌, ◌*◌, ◌/◌, ◌^◌, ◌≤◌, List, [], ◌∷◌, length, refl, ◌∙◌, arith, length-append}
 use Rattle.byteorder.specs.Endian.{little_bytes}
 use Rattle.image_layout.specs.Places.{Shape, IsShape, words_of}
 use Rattle.image_layout.proofs.Areas.{power_le}

@@ -1,5 +1,5 @@
 -- What each command does, and why one stops before it is done.
-use Rattle.std.specs.Prelude.{◌≡◌, ℕ, ◌≤◌, ◌↔◌, Option, List, [], length, slice_index, string_bytes, IsTrue}
+use Rattle.std.specs.Prelude.{◌≡◌, ℕ, ◌↔◌, Option, List, [], length, slice_index, string_bytes, IsTrue}
 use Rattle.std.specs.List.Sorted.{IsStrictlyIncreasing}
 use Rattle.outside.specs.Causes.{Rose}
 use Rattle.outside.specs.Storing.{Holds}
@@ -16,7 +16,7 @@ use Rattle.dash_top.specs.declared.work.Stop.TheVariants.{Words, Script, Image, 
 use Rattle.dash_top.specs.Commands.{check_words, list_words, play_words, SaysFormat, IsNoCommand, ReadsImage}
 use Rattle.dash_top.specs.Texts.{check_text, list_text}
 use Rattle.dash_top.specs.Played.{IsPlayed}
-use Rattle.dash_top.specs.Told.{Told, KeepsStore, image_limit, ReadsScript, RefusesScript, ReadsSound, RefusesImage}
+use Rattle.dash_top.specs.Told.{Told, KeepsStore, ReadsScript, RefusesScript, ReadsSound, RefusesImage}
 
 -- WHAT IS DONE
 -- the file of the image of an empty table of this shape stands in the store

@@ -29,9 +29,11 @@ fn geometry_of(segments: &[u8], depth: &[u8], kind: &[u8]) -> Option<Geometry>
     ensures none { IfNone result ((shape : Shape) → number segments.now ≡ Some shape.segments → number depth.now ≡ Some shape.depth
         → number kind.now ≡ Some shape.kind → IsShape shape → ⊥) }
 {
-    let (Some(segments), Some(depth), Some(kind)) =
-        (number_of(segments), number_of(depth), number_of(kind))
-    else {
+    let (Some(segments), Some(depth), Some(kind)) = (
+        number_of(segments),
+        number_of(depth),
+        number_of(kind),
+    ) else {
         return None;
     };
     match Geometry::new(segments, depth, kind) {

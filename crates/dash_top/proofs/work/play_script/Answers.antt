@@ -1,4 +1,4 @@
-use Rattle.std.proofs.Common.{◌≡◌, List, ℕ, [], ◌∷◌, subst, refl, sym}
+use Rattle.std.proofs.Common.{List, ℕ, [], ◌∷◌, subst, refl, sym}
 use Rattle.outside.specs.Storing.{Holds}
 use Rattle.script_text.specs.Calls.{calls_of}
 use Rattle.session.specs.Session.{IsSession}
