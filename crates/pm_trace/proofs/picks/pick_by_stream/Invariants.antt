@@ -1,0 +1,11 @@
+-- What is left is chosen from here on.
+use Rattle.std.proofs.Common.{◌≡◌, ◌++◌, take, drop, length}
+use Rattle.pm_trace.specs.Choice.{chosen_by_stream}
+use Rattle.pm_trace.proofs.picks.pick_by_stream.Given as goal
+
+abbrev pub invariant-loop-word : goal.invariant-loop-word
+invariant-loop-word l = record {
+  so_far : take l.word l.settled ++ chosen_by_stream l.state (drop l.word l.settled) (drop l.word l.newest)
+      ≡ chosen_by_stream l.choice l.initial.settled l.newest;
+  long : length l.settled ≡ length l.newest;
+}

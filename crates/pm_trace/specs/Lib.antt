@@ -1,0 +1,5 @@
+pub mod Volatile
+pub mod Memory
+pub mod TraceOf
+pub mod Choice
+pub mod Turns

@@ -1,0 +1,5 @@
+pub mod Events
+pub mod Settling
+pub mod Media
+pub mod Progress
+pub mod Steps
