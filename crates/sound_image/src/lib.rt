@@ -3,3 +3,7 @@
 //! Definitions alone, for every crate that speaks of images. `specs/` reads from `Segments` (who owns a hash)
 //! over `Directory` and `Records` to `Rules` (when an image is sound), `Image` (its file) and `Left`.
 #![tactic(auto)]
+
+mod laws;
+
+pub use laws::locks_and_overflow_apart;
