@@ -8,3 +8,4 @@ pub mod Pairs
 pub mod OneWord
 pub mod OneSlot
 pub mod OneChange
+pub mod WorkedTable
