@@ -1,0 +1,27 @@
+-- The core of a word: what of it a rule or a pair depends on between a restart and a close. Of a lock word that is
+-- nothing, and of a bucket's metadata all but the overflow parts.
+use Rattle.std.specs.Prelude.{ℕ, zero, suc, ◌-◌, ◌/◌, ◌%◌, ◌^◌, nat_lt, ◌==◌, ◌||◌, if◌then◌else◌}
+use Rattle.trace.specs.Events.{Words}
+use Rattle.image_layout.specs.Places.{Shape, first_segment, words_of}
+
+-- of word n of a bucket
+abbrev pub core_in_bucket : ℕ → ℕ → ℕ
+core_in_bucket zero x = 0
+core_in_bucket (suc zero) x = x % 2 ^ 28
+core_in_bucket (suc (suc zero)) x = x
+core_in_bucket (suc (suc (suc zero))) x = x % 2 ^ 48
+core_in_bucket (suc (suc (suc (suc n)))) x = x
+
+module _ (shape : Shape) where
+  -- the words of a segment go in 67 groups of 32: its header, and its 66 buckets
+  abbrev pub group_of : ℕ → ℕ
+  group_of i = (i - first_segment shape) / 32 % 67
+
+  -- the core of word i with the value x: the words in front, those of a header, and those behind the image are whole
+  abbrev pub core_of : ℕ → ℕ → ℕ
+  core_of i x =
+      if nat_lt i (first_segment shape) || (group_of i == 0) || nat_lt (words_of shape - 1) i then x
+      else core_in_bucket ((i - first_segment shape) % 32) x
+
+  abbrev pub core : Words → Words
+  core word i = core_of i (word i)

@@ -1,0 +1,4 @@
+pub mod Buckets
+pub mod Tables
+pub mod Core
+pub mod Changes

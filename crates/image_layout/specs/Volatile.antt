@@ -1,0 +1,27 @@
+-- The words behind those of the image: no medium has them, and all are 0 when the power comes on.
+use Rattle.std.specs.Prelude.{ℕ, ◌+◌}
+use Rattle.image_layout.specs.Places.{Shape, words_of}
+
+-- the commit counter, to which a draw adds one
+abbrev pub counter_word : Shape → ℕ
+counter_word shape = words_of shape
+
+-- the power word, which says whether the power is off
+abbrev pub power_word : Shape → ℕ
+power_word shape = words_of shape + 1
+
+-- the guard of free slots for segments
+abbrev pub allocation_guard : Shape → ℕ
+allocation_guard shape = words_of shape + 2
+
+-- the guard of the directory
+abbrev pub directory_guard : Shape → ℕ
+directory_guard shape = words_of shape + 3
+
+-- the guard of the segment in a slot
+abbrev pub segment_guard : Shape → ℕ → ℕ
+segment_guard shape slot = words_of shape + 4 + slot
+
+-- how many words there are with those of the image
+abbrev pub all_words_of : Shape → ℕ
+all_words_of shape = words_of shape + 4 + shape.segments
