@@ -1,4 +1,3 @@
-pub mod Volatile
 pub mod Memory
 pub mod TraceOf
 pub mod Choice

@@ -3,7 +3,7 @@
 ghost use Rattle.std.specs.Prelude.{◌≡◌, ℕ, ◌<◌, ◌≤◌, ◌+◌, ◌↔◌, IfOk, IfErr, OnOk, OnErr, IsOk, [], ◌++◌, ◌-◌, ◌^◌, replicate, length, slice_index};
 ghost use Rattle.image_layout.specs.Places.{words_of};
 ghost use Rattle.trace.specs.Events.Event.{loaded, stored, exchanged, drawn, flushed, fenced};
-ghost use Rattle.pm_trace.specs.Volatile.{all_words_of, counter_word};
+ghost use Rattle.image_layout.specs.Volatile.{all_words_of, counter_word};
 ghost use Rattle.pm_trace.specs.Memory.{IsLine, unfenced};
 ghost use Rattle.pm_trace.specs.TraceOf.{IsTraceOf, Follows, MayLeave};
 ghost use Rattle.pm_trace.specs.Choice.{kept};
@@ -53,7 +53,7 @@ pub struct Device {
 
 impl Model for Device {
     ghost use Rattle.std.specs.Prelude.{◌≡◌, ℕ, ◌+◌, ◌*◌, ◌≤◌, All, length, vec_capacity};
-    ghost use Rattle.pm_trace.specs.Volatile.{all_words_of};
+    ghost use Rattle.image_layout.specs.Volatile.{all_words_of};
     ghost use Rattle.pm_trace.specs.Memory.{Memory, flushes_of};
     ghost use Rattle.pm_trace.specs.FlushLists.{IsFlush};
 

@@ -1,7 +1,7 @@
 -- An exchange that finds what it expected replaces one of the newest words, and another one is a load.
 use Rattle.std.proofs.Common.{subst, sym, ◌<◌}
 use Rattle.pm_trace.specs.contracts.device.Device.{the_view}
-use Rattle.pm_trace.specs.Volatile.{all_words_of}
+use Rattle.image_layout.specs.Volatile.{all_words_of}
 use Rattle.pm_trace.specs.Memory.{Memory}
 use Rattle.pm_trace.specs.TraceOf.{IsTraceOf}
 use Rattle.pm_trace.proofs.Calm.{load_follows, exchange_follows}

@@ -6,7 +6,7 @@ use Rattle.trace.specs.Events.Event.{fenced}
 use Rattle.trace.proofs.Listed.{Has}
 use Rattle.pm_trace.specs.contracts.device.Device.{the_view}
 use Rattle.pm_trace.specs.declared.flushes.Flush.{Flush}
-use Rattle.pm_trace.specs.Volatile.{all_words_of}
+use Rattle.image_layout.specs.Volatile.{all_words_of}
 use Rattle.pm_trace.specs.Memory.{flushes_of}
 use Rattle.pm_trace.specs.TraceOf.{IsTraceOf}
 use Rattle.pm_trace.specs.FlushLists.{IsFlush, settled_by, left_by}
