@@ -1,5 +1,5 @@
 -- What follows from what an optional answer says.
-use Rattle.std.proofs.Common.{Option, Some, None, IfSome, IfNone}
+use Rattle.std.proofs.Common.{◌≡◌, ◌↔◌, refl, Bool, true, false, not, IsTrue, Option, Some, None, IfSome, IfNone}
 
 pub if_none : {X : Type 0} {P Q : Type 0} (o : Option X) → (P → Q) → IfNone o P → IfNone o Q
 if_none None f h = f h
@@ -8,3 +8,12 @@ if_none (Some x) f h = tt
 pub if_some : {X : Type 0} {P Q : X → Type 0} (o : Option X) → ((x : X) → P x → Q x) → IfSome o P → IfSome o Q
 if_some None f h = tt
 if_some (Some x) f h = f x h
+
+-- and from what a test says
+pub refused : {P : Type 0} (b : Bool) → (IsTrue b ↔ P) → IsTrue (not b) → P → ⊥
+refused true test is p = absurd (cc)
+refused false test is p = let there : false ≡ true = test.1 p in absurd (cc)
+
+pub denied : {P : Type 0} (b : Bool) → (IsTrue b ↔ P) → (P → ⊥) → IsTrue (not b)
+denied true test never = absurd (never (test.0 refl))
+denied false test never = refl

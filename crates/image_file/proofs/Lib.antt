@@ -2,6 +2,7 @@ pub mod OneLive
 pub mod Notes
 pub mod EmptySound
 pub mod Hashes
+pub mod Owners
 pub mod OneSegment
 pub mod KeyRules
 pub mod Repaired

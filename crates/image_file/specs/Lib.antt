@@ -7,3 +7,4 @@ pub mod Fault
 pub mod Slots
 pub mod Given
 pub mod Pairs
+pub mod Divided

@@ -7,6 +7,7 @@
 mod breach;
 mod fault;
 mod formatted;
+mod heads;
 mod laws;
 mod medium;
 mod read;
