@@ -3,6 +3,8 @@ pub mod Notes
 pub mod EmptySound
 pub mod Hashes
 pub mod Owners
+pub mod Tops
+pub mod LeafOwners
 pub mod OneSegment
 pub mod KeyRules
 pub mod Repaired

@@ -8,3 +8,4 @@ pub mod Slots
 pub mod Given
 pub mod Pairs
 pub mod Divided
+pub mod Leaves

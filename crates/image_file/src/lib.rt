@@ -9,6 +9,7 @@ mod fault;
 mod formatted;
 mod heads;
 mod laws;
+mod leaves;
 mod medium;
 mod read;
 mod records;
