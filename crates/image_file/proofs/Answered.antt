@@ -17,3 +17,6 @@ refused false test is p = let there : false ≡ true = test.1 p in absurd (cc)
 pub denied : {P : Type 0} (b : Bool) → (IsTrue b ↔ P) → (P → ⊥) → IsTrue (not b)
 denied true test never = absurd (never (test.0 refl))
 denied false test never = refl
+
+pub never : {P : Type 0} (b : Bool) → (IsTrue b ↔ P) → b ≡ false → P → ⊥
+never b test is p = let there : b ≡ true = test.1 p in absurd (cc)

@@ -6,7 +6,7 @@ use Rattle.hash_word.specs.Hash.{top, Covers, index_of}
 use Rattle.sound_image.specs.Segments.{Frame, depth_at, pattern_at, IsLive, CoversHash, IsLiveFor}
 use Rattle.image_file.specs.declared.heads.Prefix.{Prefix}
 use Rattle.image_file.specs.Divided.{IsPrefixOf}
-use Rattle.image_file.specs.Leaves.{IsUnder, AreRaised, IsDeepest, AreDeepest, HasPrefix, AreSeen}
+use Rattle.image_file.specs.Leaves.{IsUnder, AreRaised, IsDeepest, AreDeepest, HasPrefix, HasTwin, AreSeen}
 use Rattle.image_file.proofs.Tops.{covered_under, under_covered, node-depth, node-pattern}
 
 module _ (frame : Frame) (greatest : ℕ) where
@@ -44,7 +44,28 @@ module _ (frame : Frame) (greatest : ℕ) where
             alone = λ d p most fits one. raised d p (are.alone d p most fits one);
           }
 
-    -- with one
+    -- with one that has the prefix of one before it
+    module _ (slot : s < frame.segments) (has : HasTwin frame s) where
+      twin_covers : (h : ℕ) → CoversHash frame s h → CoversHash frame has.t h
+      twin_covers h covers =
+          subst (λ (d : ℕ). Covers d (pattern_at frame has.t) h) (sym has.same_depth) (covers ∙ sym has.same_pattern)
+
+      pub twin_deepest : (leaves : List ℕ) → AreDeepest frame greatest s leaves → AreDeepest frame greatest (s + 1) leaves
+      twin_deepest leaves are h below =
+          record {
+            each = λ t less there.
+                ⊎_elim (λ (earlier : t < s). (are h below).each t earlier there)
+                (λ (last : s ≤ t).
+                let same : t ≡ s = omega arith in
+                let over : IsLiveFor frame h s = subst (IsLiveFor frame h) same there in
+                let twin : IsLiveFor frame h has.t = record { slot = omega (arith, has.below, slot); live = has.live; covers = twin_covers h over.covers } in
+                let above = (are h below).each has.t has.below twin in
+                subst (λ (t : ℕ). depth_at frame t < slice_index leaves (index_of greatest h)) (sym same) (omega (arith, above, has.same_depth)))
+                (cases_lt t s);
+            some = (are h below).some;
+          }
+
+    -- with another one
     module _ (prefix : Prefix) (slot : s < frame.segments) (live : IsLive frame s) (is : IsPrefixOf frame s prefix) (most : greatest ≤ 16)
       (deep : prefix.depth ≤ greatest) (fits : prefix.pattern < 2 ^ prefix.depth) where
       node_is : 2 ^ prefix.depth + prefix.pattern ≡ 2 ^ depth_at frame s + pattern_at frame s
@@ -98,30 +119,22 @@ module _ (frame : Frame) (greatest : ℕ) where
         pub live_seen : AreSeen frame greatest (s + 1) after
         live_seen = record { each = seen_each; alone = seen_alone }
 
-        pub twin_before : slice_index nodes (2 ^ prefix.depth + prefix.pattern) ≡ 1 → HasPrefix frame s prefix.depth prefix.pattern
-        twin_before one = are.alone prefix.depth prefix.pattern deep fits one
+        pub seen_twin : slice_index nodes (2 ^ prefix.depth + prefix.pattern) ≡ 1 → HasTwin frame s
+        seen_twin one =
+            let has = are.alone prefix.depth prefix.pattern deep fits one in
+            record {
+              t = has.t;
+              below = has.below;
+              live = has.live;
+              same_depth = has.same_depth ∙ is.depth;
+              same_pattern = has.same_pattern ∙ is.pattern;
+            }
 
-      -- which has the prefix of one before it
-      twin_covers : (h : ℕ) (has : HasPrefix frame s prefix.depth prefix.pattern) → CoversHash frame s h → CoversHash frame has.t h
-      twin_covers h has covers =
-          subst (λ (d : ℕ). Covers d (pattern_at frame has.t) h) (sym has.same_depth) (covers_prefix h covers ∙ sym has.same_pattern)
-
-      pub twin_deepest : (leaves : List ℕ) → HasPrefix frame s prefix.depth prefix.pattern → AreDeepest frame greatest s leaves
-          → AreDeepest frame greatest (s + 1) leaves
-      twin_deepest leaves has are h below =
-          record {
-            each = λ t less there.
-                ⊎_elim (λ (earlier : t < s). (are h below).each t earlier there)
-                (λ (last : s ≤ t).
-                let same : t ≡ s = omega arith in
-                let over : IsLiveFor frame h s = subst (IsLiveFor frame h) same there in
-                let twin : IsLiveFor frame h has.t = record { slot = omega (arith, has.below, slot); live = has.live; covers = twin_covers h has over.covers } in
-                let less = (are h below).each has.t has.below twin in
-                subst (λ (t : ℕ). depth_at frame t < slice_index leaves (index_of greatest h)) (sym same)
-                (omega (arith, less, has.same_depth, is.depth)))
-                (cases_lt t s);
-            some = (are h below).some;
-          }
+        pub twin_seen : HasTwin frame s → slice_index nodes (2 ^ prefix.depth + prefix.pattern) ≡ 1
+        twin_seen has =
+            ap (slice_index nodes) node_is
+            ∙ ap (λ (n : ℕ). slice_index nodes (2 ^ n + pattern_at frame s)) (sym has.same_depth)
+            ∙ ap (λ (n : ℕ). slice_index nodes (2 ^ depth_at frame has.t + n)) (sym has.same_pattern) ∙ are.each has.t has.below has.live
 
       -- which is the first of its prefix
       module _ (old new : List ℕ) (up : AreRaised greatest prefix (prefix.depth + 1) old new) (are : AreDeepest frame greatest s old) where

@@ -5,6 +5,7 @@ pub mod Hashes
 pub mod Owners
 pub mod Tops
 pub mod LeafOwners
+pub mod Parts
 pub mod OneSegment
 pub mod KeyRules
 pub mod Repaired

@@ -2,7 +2,7 @@
 use Rattle.std.proofs.Common.{◌≡◌, ℕ, ◌+◌, ◌^◌, ◌<◌, ◌≤◌, ◌⊎◌, refl, arith, inl, inr}
 use Rattle.segment_head.specs.HeadWord.{free, normal, splitting}
 use Rattle.image_layout.specs.Places.{Shape, head_at}
-use Rattle.sound_image.specs.Segments.{ImageWords, Frame, frame_of, state_at, depth_at, pattern_at, IsLive, IsLiveFor, CoversHash, InOneSide, HasReadySide, Owns}
+use Rattle.sound_image.specs.Segments.{ImageWords, Frame, frame_of, state_at, depth_at, pattern_at, IsLive, IsLiveFor, CoversHash, InOneSide, IsReadySide, HasReadySide, Owns}
 use Rattle.sound_image.specs.Directory.{HeadInRange, SharesWell}
 use Rattle.image_file.specs.Divided.{IsNumbered, IsDivided, IsGivenAway}
 
@@ -37,3 +37,8 @@ module _ (shape : Shape) (word : ImageWords) (i : IsDivided shape word) where
 
   pub Owns-kept : (s h : ℕ) → s < shape.segments → h < 2 ^ 64 → IsLive frame s → Owns frame s h → IsGivenAway frame s h → ⊥
   Owns-kept s h slot fits live owns gives = (shares s slot live).gave_away gives.ready h fits gives.in_side owns
+
+-- A READY SIDE is deeper than the segment, and no deeper than the image allows
+pub side_depth : (shape : Shape) (word : ImageWords) (i : IsNumbered shape word) (s n : ℕ) → IsReadySide (frame_of shape word) s n
+    → depth_at (frame_of shape word) s + 1 ≤ shape.depth
+side_depth shape word i s n ready = omega (arith, ready.deeper, live_depth shape word i n ready.slot ready.live)

@@ -3,6 +3,7 @@
 use Rattle.std.specs.Prelude.{◌≡◌, ◌≢◌, ℕ, ◌+◌, ◌-◌, ◌*◌, ◌^◌, ◌<◌, ◌≤◌, ◌⊎◌, List, slice_index}
 use Rattle.hash_word.specs.Hash.{index_of}
 use Rattle.sound_image.specs.Segments.{Frame, depth_at, pattern_at, IsLive, CoversHash, IsLiveFor, Owns, InOneSide, HasReadySide}
+use Rattle.sound_image.specs.Directory.{SharesWell}
 use Rattle.image_file.specs.declared.heads.Prefix.{Prefix}
 
 -- the leaf is under a prefix: its hashes begin with it
@@ -35,13 +36,27 @@ module _ (frame : Frame) where
     pub same_depth : depth_at frame t ≡ d
     pub same_pattern : pattern_at frame t ≡ p
 
+  -- a live segment before this one has its depth and its pattern
+  abbrev pub HasTwin : ℕ → Type 0
+  HasTwin s = HasPrefix s (depth_at frame s) (pattern_at frame s)
+
   -- 1 at node 2^d + p says that a live segment in a slot below a limit has depth d and pattern p
   pub record AreSeen (greatest limit : ℕ) (nodes : List ℕ) : Type 0 where
     pub each : (t : ℕ) → t < limit → IsLive frame t → slice_index nodes (2 ^ depth_at frame t + pattern_at frame t) ≡ 1
     pub alone : (d p : ℕ) → d ≤ greatest → p < 2 ^ d → slice_index nodes (2 ^ d + p) ≡ 1 → HasPrefix limit d p
 
-  -- a live segment is among the others as it must be, if no other has its depth and pattern
-  pub record Divides (s : ℕ) : Type 0 where
-    pub not_deep : depth_at frame s ≤ frame.root
+  -- a segment owns what it covers, but for its 1-side where that has a ready side
+  pub record OwnsItsPart (s : ℕ) : Type 0 where
     pub owns_or_splits_off : (h : ℕ) → h < 2 ^ 64 → CoversHash frame s h → Owns frame s h ⊎ (HasReadySide frame s × InOneSide frame s h)
     pub gave_away : HasReadySide frame s → (h : ℕ) → h < 2 ^ 64 → InOneSide frame s h → Owns frame s h → ⊥
+
+  -- live segments in slots below a limit are among the others as rule 2 wants them
+  abbrev pub ShareWellBelow : ℕ → Type 0
+  ShareWellBelow limit = (t : ℕ) → t < limit → IsLive frame t → SharesWell frame t
+
+  -- and this is the first live one that is not
+  pub record IsFirstAtFault (s : ℕ) : Type 0 where
+    pub slot : s < frame.segments
+    pub live : IsLive frame s
+    pub broken : SharesWell frame s → ⊥
+    pub before : ShareWellBelow s
