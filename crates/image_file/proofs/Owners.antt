@@ -1,10 +1,12 @@
 -- A live segment has a depth and a pattern that fit, and owns what it covers and does not give away.
-use Rattle.std.proofs.Common.{◌≡◌, ℕ, ◌+◌, ◌^◌, ◌<◌, ◌≤◌, ◌⊎◌, refl, arith, inl, inr}
+use Rattle.std.proofs.Common.{◌≡◌, ℕ, ◌+◌, ◌*◌, ◌^◌, ◌<◌, ◌≤◌, ◌⊎◌, ◌∙◌, refl, sym, ap, subst, arith, inl, inr}
 use Rattle.segment_head.specs.HeadWord.{free, normal, splitting}
 use Rattle.image_layout.specs.Places.{Shape, head_at}
 use Rattle.sound_image.specs.Segments.{ImageWords, Frame, frame_of, state_at, depth_at, pattern_at, IsLive, IsLiveFor, CoversHash, InOneSide, IsReadySide, HasReadySide, Owns}
 use Rattle.sound_image.specs.Directory.{HeadInRange, SharesWell}
-use Rattle.image_file.specs.Divided.{IsNumbered, IsDivided, IsGivenAway}
+use Rattle.hash_word.specs.Hash.{Covers}
+use Rattle.image_file.specs.declared.heads.Prefix.{Prefix}
+use Rattle.image_file.specs.Divided.{IsNumbered, IsDivided, IsPrefixOf, IsGivenAway}
 
 not_free : (frame : Frame) (s : ℕ) → IsLive frame s → state_at frame s ≡ free → ⊥
 not_free frame s (inl is) none = absurd (omega (arith, is, none))
@@ -42,3 +44,19 @@ module _ (shape : Shape) (word : ImageWords) (i : IsDivided shape word) where
 pub side_depth : (shape : Shape) (word : ImageWords) (i : IsNumbered shape word) (s n : ℕ) → IsReadySide (frame_of shape word) s n
     → depth_at (frame_of shape word) s + 1 ≤ shape.depth
 side_depth shape word i s n ready = omega (arith, ready.deeper, live_depth shape word i n ready.slot ready.live)
+
+-- A PREFIX covers what its segment covers
+module _ (frame : Frame) (s : ℕ) (prefix : Prefix) (is : IsPrefixOf frame s prefix) (h : ℕ) where
+  pub prefix-covers : Covers prefix.depth prefix.pattern h → CoversHash frame s h
+  prefix-covers covers = subst (λ (d : ℕ). Covers d (pattern_at frame s) h) is.depth (covers ∙ is.pattern)
+
+  pub covers-prefix : CoversHash frame s h → Covers prefix.depth prefix.pattern h
+  covers-prefix covers = subst (λ (d : ℕ). Covers d prefix.pattern h) (sym is.depth) (covers ∙ sym is.pattern)
+
+  pub prefix-side : Covers (prefix.depth + 1) (2 * prefix.pattern + 1) h → InOneSide frame s h
+  prefix-side covers =
+      subst (λ (d : ℕ). Covers (d + 1) (2 * pattern_at frame s + 1) h) is.depth (covers ∙ ap (λ (p : ℕ). 2 * p + 1) is.pattern)
+
+  pub side-prefix : InOneSide frame s h → Covers (prefix.depth + 1) (2 * prefix.pattern + 1) h
+  side-prefix side =
+      subst (λ (d : ℕ). Covers (d + 1) (2 * prefix.pattern + 1) h) (sym is.depth) (side ∙ ap (λ (p : ℕ). 2 * p + 1) (sym is.pattern))

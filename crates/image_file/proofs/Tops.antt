@@ -53,7 +53,7 @@ module _ (greatest : ℕ) (prefix : Prefix) (most : greatest ≤ 16) (deep : pre
       omega (arith, under.to, more, whole)
 
 -- A HASH of each leaf
-pub leaf_hash : ℕ → ℕ → ℕ
+unfoldable pub leaf_hash : ℕ → ℕ → ℕ
 leaf_hash greatest l = l * 2 ^ (64 - greatest)
 
 pub leaf_hash-index : (greatest l : ℕ) → index_of greatest (leaf_hash greatest l) ≡ l

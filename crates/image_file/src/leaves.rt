@@ -17,8 +17,8 @@ use image_layout::Geometry;
 use map_model::NoMemory;
 use std::alloc::Global;
 
-/// How many leaves there are, or how many of them are under a prefix: two to the power `bits`.
-fn power(bits: u8) -> usize
+/// Two to the power `bits`, at most 17: how many patterns have so many bits.
+pub(crate) fn power(bits: u8) -> usize
     requires { bits ≤ 17 }
     ensures is { result ≡ 2 ^ bits }
     ensures some { 1 ≤ result }
