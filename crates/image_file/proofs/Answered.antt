@@ -20,3 +20,6 @@ denied false test never = refl
 
 pub never : {P : Type 0} (b : Bool) → (IsTrue b ↔ P) → b ≡ false → P → ⊥
 never b test is p = let there : b ≡ true = test.1 p in absurd (cc)
+
+pub untrue : {P : Type 0} → IsTrue false → P
+untrue h = let there : false ≡ true = h in absurd (cc)

@@ -9,7 +9,7 @@ use Rattle.sound_image.specs.Records.{word_in, HasRecord, HasExactNotes}
 use Rattle.sound_image.specs.Rules.{IsCleanAndCurrent, CleanMeansRepaired}
 use Rattle.image_file.specs.declared.records.RecordRule.TheVariants.{Once}
 use Rattle.image_file.specs.Breach.{IsLeast}
-use Rattle.image_file.specs.Slots.{Follows, IsFirstBroken, IsRepairedAt, IsBrokenIn, AreRepaired}
+use Rattle.image_file.specs.Slots.{FollowBelow, IsFirstBroken, IsRepairedAt, IsBrokenIn, AreRepaired}
 use Rattle.image_file.specs.Repairs.{IsRepairedSegmentAt, IsBrokenSegment, SegmentsRepaired}
 
 module _ (shape : Shape) (word : ImageWords) where
@@ -129,3 +129,30 @@ once_breaks shape word s b r at is unlocked exact first =
         once = λ t slot taken place. first.before t (omega (arith, less, place, is)) taken;
       };
     }
+
+-- where it is unlocked alone, it is the word of its notes
+pub notes_break : (shape : Shape) (word : ImageWords) (s b at : ℕ) → at ≡ bucket_at shape s b → word at % 2 ≢ 1
+    → ((b < 64 → HasExactNotes shape word s b) → ⊥) → IsBrokenIn shape word s b (at + 1)
+notes_break shape word s b at is unlocked wrong =
+    let lock : lock_of (word_in shape word s b 0) ≡ 0 =
+    let same : word (bucket_at shape s b + 0) ≡ word at = ap word (omega (arith, is)) in
+    omega (arith, same, unlocked) in
+    record {
+      from = omega (arith, is);
+      within = omega (arith, is);
+      broken = λ repaired. wrong (λ home. repaired.notes home (omega (arith, is)));
+      before = λ v less. record {
+        lock = λ _. lock;
+        notes = λ home there. absurd (omega (arith, less, there, is));
+        once = λ r slot taken place. absurd (omega (arith, less, place, is));
+      };
+    }
+
+-- and where nothing is wrong it is repaired
+pub none_breaks : (shape : Shape) (word : ImageWords) (s b at : ℕ) → at ≡ bucket_at shape s b → word at % 2 ≢ 1
+    → (b < 64 → HasExactNotes shape word s b) → FollowBelow shape word Once s b 14 → (w : ℕ) → IsRepairedAt shape word s b w
+none_breaks shape word s b at is unlocked exact each w =
+    let lock : lock_of (word_in shape word s b 0) ≡ 0 =
+    let same : word (bucket_at shape s b + 0) ≡ word at = ap word (omega (arith, is)) in
+    omega (arith, same, unlocked) in
+    record { lock = λ _. lock; notes = λ home _. exact home; once = λ r slot taken _. each r slot taken }

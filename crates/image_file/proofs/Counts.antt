@@ -133,3 +133,10 @@ module _ (shape : Shape) (word : ImageWords) (s b : ℕ) where
 
   pub exact-named : HasExactNotes shape word s b → (c side : ℕ) → AreNamed shape word s b c side 4
   exact-named exact c side i below on = exact.names_different _
+
+-- THE NOTE that is sought
+pub sought_often : (sought : Sought) (f k : ℕ) → sought.finger ≡ f → sought.index ≡ k → (notes : List Note)
+    → how_many (Some sought) notes ≡ how_often (f, k) notes
+sought_often sought f k finger index notes =
+    let same : (sought.finger, sought.index) ≡ (f, k) = λ j. (finger j, index j) in
+    ap (λ (n : Note). how_often n notes) same

@@ -17,3 +17,5 @@ pub mod Chains
 pub mod CleanSegments
 pub mod Listed
 pub mod Counts
+pub mod Breaches
+pub mod Accepted

@@ -196,7 +196,11 @@ fn is_named(geometry: &Geometry, words: &[u64], s: u64, b: u8, c: u8, side: u64,
     }
     let note = note_on(w1, meta_in(geometry, words, s, c, 3), place);
     let noted = count_notes(geometry, words, s, b, Some(note));
-    noted <= count_stashed(geometry, words, s, b, Some(note))
+    let stashed = count_stashed(geometry, words, s, b, Some(note));
+    if noted > stashed {
+        return false;
+    }
+    true
 }
 
 /// Whether each note of home bucket `b` in bucket `c`, on this side, stands at most as often among all its notes as its

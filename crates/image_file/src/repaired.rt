@@ -3,6 +3,7 @@
 ghost use Rattle.std.specs.Prelude.{◌≡◌, ℕ, ◌<◌, ◌↔◌, IfSome, IfNone, IsTrue, length, slice_index};
 ghost use Rattle.image_layout.specs.Places.{words_of};
 ghost use Rattle.sound_image.specs.Segments.{frame_of, IsClean};
+ghost use Rattle.sound_image.specs.Records.{HasExactNotes};
 ghost use Rattle.sound_image.specs.Rules.{CleanMeansRepaired, IsCleanAndCurrent};
 ghost use Rattle.image_file.specs.Breach.{IsLeast};
 ghost use Rattle.image_file.specs.Slots.{IsStanding, IsRepairedAt, IsBrokenIn};
@@ -15,6 +16,19 @@ use crate::place::{BUCKETS, HOMES, bucket_word};
 use crate::records::RecordRule;
 use crate::rules::version_of;
 use image_layout::Geometry;
+
+/// Whether the notes of a bucket are exact, if it is a home.
+fn has_its_notes(geometry: &Geometry, words: &[u64], s: u64, b: u8) -> bool
+    requires whole { length words.now ≡ words_of geometry.now }
+    requires segment { s < geometry.now.segments }
+    requires bucket { b < 66 }
+    ensures { IsTrue result ↔ (b < 64 → HasExactNotes geometry.now (slice_index words.now) s b) }
+{
+    if b >= HOMES {
+        return true;
+    }
+    has_exact_notes(geometry, words, s, b)
+}
 
 /// The least word of bucket `b` of a segment at which a clean image is not repaired: the bucket is locked, its notes are
 /// not exact, or a record is not the segment's own or not the first of its key.
@@ -30,7 +44,7 @@ fn bucket_breach(geometry: &Geometry, words: &[u64], s: u64, b: u8) -> Option<u6
     if words[at] % 2 == 1 {
         return Some(at as u64);
     }
-    if b < HOMES && !has_exact_notes(geometry, words, s, b) {
+    if !has_its_notes(geometry, words, s, b) {
         return Some(at as u64 + 1);
     }
     match RecordRule::Once.first_broken(geometry, words, s, b) {

@@ -10,3 +10,8 @@ returns-in-Some-clause-some c =
 
 pub loop-s-preserved : goal.loop-s-preserved
 loop-s-preserved c = below_more _ _ c.loop-s.invariant c.in_default.ensures.none
+
+pub returns-clause-none : goal.returns-clause-none
+returns-clause-none c =
+    all_repaired c.args.geometry.now (slice_index c.args.words.now)
+    (λ s below. c.loop-s.invariant s (omega (arith, below, c.loop-s-test.false, c.segments-s-end.ensures.is)))

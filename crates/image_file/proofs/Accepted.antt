@@ -1,0 +1,128 @@
+-- Bytes that pass every look are the file of a sound image, of which rule 8 holds too if it is looked at, and such a file
+-- has no fault.
+use Rattle.std.proofs.Common.{◌≡◌, ℕ, ◌*◌, ◌/◌, ◌^◌, ◌<◌, refl, sym, ap, subst, ◌∙◌, arith, inl, inr, List, length}
+use Rattle.std.specs.Prelude.{slice_index}
+use Rattle.image_layout.specs.Places.{Shape, IsShape, words_of}
+use Rattle.image_layout.specs.Faults.{HasGeoFault}
+use Rattle.image_layout.specs.declared.shape.GeoFault.{GeoFault}
+use Rattle.image_layout.specs.declared.shape.GeoFault.TheVariants.{Segments, Depth, Kind}
+use Rattle.sound_image.specs.Segments.{ImageWords}
+use Rattle.sound_image.specs.Image.{image_bytes, SaysShape, IsSoundImage}
+use Rattle.image_file.specs.declared.fault.ImageFault.{ImageFault}
+use Rattle.image_file.specs.declared.fault.ImageFault.TheVariants.{Length, Magic, Format, Geometry, Unsound, NoMemory}
+use Rattle.image_file.specs.declared.breach.Scope.{Scope}
+use Rattle.image_file.specs.Breach.{StageHoldsAt, HoldsAt, IsFirstBreach}
+use Rattle.image_file.specs.Fault.{word_in_file, shape_in, HasMagic, HasFormat, IsFramed, HasFaultIn, IsFileIn}
+use Rattle.image_file.proofs.FileWords.{length-image_bytes, words_there}
+
+-- A SHAPE that Geometry refuses is none
+pub refused-no_shape : (segments depth kind : ℕ) (fault : GeoFault) → HasGeoFault segments depth kind fault
+    → IsShape (record { segments = segments; depth = depth; kind = kind }) → ⊥
+refused-no_shape segments depth kind Segments (inl few) is = absurd (omega (arith, few, is.some))
+refused-no_shape segments depth kind Segments (inr many) is = absurd (omega (arith, many, is.segments))
+refused-no_shape segments depth kind Depth h is = absurd (omega (arith, h.1, is.depth))
+refused-no_shape segments depth kind Kind h is = absurd (omega (arith, h.2, is.kind))
+
+-- ALL LOOKS PASSED
+module _ (bytes words : List ℕ) (file : bytes ≡ image_bytes words) (fits : (k : ℕ) → slice_index words k < 2 ^ 64) where
+  pub spelled : word_in_file bytes ≡ slice_index words
+  spelled = ap word_in_file file ∙ words_there words fits
+
+  at_word : (i : ℕ) → word_in_file bytes i ≡ slice_index words i
+  at_word i = ap (λ (w : ImageWords). w i) spelled
+
+  module _ (shape : Shape) (framed : IsFramed bytes) (is : shape ≡ shape_in (word_in_file bytes)) where
+    pub all_words : length words ≡ words_of shape
+    all_words =
+        let long : length bytes ≡ 8 * length words = ap length file ∙ length-image_bytes words in
+        let said : length bytes ≡ 8 * words_of shape = framed.whole ∙ ap (λ (s : Shape). 8 * words_of s) (sym is) in
+        omega (arith, long, said)
+
+    kind_is : shape.kind ≡ word_in_file bytes 1 / 2 ^ 32
+    kind_is = ap (λ (s : Shape). s.kind) is
+
+    says_shape : SaysShape shape words
+    says_shape =
+        record {
+          magic_word = sym (at_word 0) ∙ framed.magic_there;
+          format = sym (at_word 1) ∙ omega (arith, framed.format_there.number, kind_is);
+          segments = sym (at_word 2) ∙ ap (λ (s : Shape). s.segments) (sym is);
+          depth = sym (at_word 3) ∙ ap (λ (s : Shape). s.depth) (sym is);
+        }
+
+    pub accepted-IsSoundImage : (scope : Scope) → ((n w : ℕ) → HoldsAt shape (slice_index words) scope n w) → IsSoundImage shape words
+    accepted-IsSoundImage scope holds =
+        record {
+          in_range = subst IsShape (sym is) framed.shape_there;
+          whole = all_words;
+          each_fits = fits;
+          says_shape = says_shape;
+          follows = λ n w. (holds n w).sound;
+        }
+
+    pub accepted-stage : (scope : Scope) → ((n w : ℕ) → HoldsAt shape (slice_index words) scope n w) → (w : ℕ) → StageHoldsAt shape (slice_index words) scope w
+    accepted-stage scope holds w = (holds 8 w).stage refl
+
+    -- a breach of the words is one of the bytes
+    pub breach-HasFault : (scope : Scope) (n w : ℕ) → IsFirstBreach shape (slice_index words) scope n w → HasFaultIn scope bytes (Unsound n w)
+    breach-HasFault scope n w breach = (
+      framed,
+      subst (λ (s : Shape). IsFirstBreach s (word_in_file bytes) scope n w) is
+          (subst (λ (word : ImageWords). IsFirstBreach shape word scope n w) (sym spelled) breach),
+    )
+
+-- SUCH A FILE has no fault
+module _ (scope : Scope) (bytes : List ℕ) (f : IsFileIn scope bytes) where
+  served_spelled : word_in_file bytes ≡ slice_index f.words
+  served_spelled = spelled bytes f.words f.file f.sound.each_fits
+
+  served_word : (i : ℕ) → word_in_file bytes i ≡ slice_index f.words i
+  served_word i = ap (λ (w : ImageWords). w i) served_spelled
+
+  upper_half : word_in_file bytes 1 / 2 ^ 32 ≡ f.shape.kind
+  upper_half = omega (arith, served_word 1, f.sound.says_shape.format)
+
+  served_shape : shape_in (word_in_file bytes) ≡ f.shape
+  served_shape =
+      λ j. record {
+        segments = (served_word 2 ∙ f.sound.says_shape.segments) j;
+        depth = (served_word 3 ∙ f.sound.says_shape.depth) j;
+        kind = upper_half j;
+      }
+
+  served_format : HasFormat (word_in_file bytes)
+  served_format =
+      record {
+        number = omega (arith, served_word 1, f.sound.says_shape.format);
+        kind = omega (arith, upper_half, f.sound.in_range.kind);
+      }
+
+  served_magic : HasMagic (word_in_file bytes)
+  served_magic = served_word 0 ∙ f.sound.says_shape.magic_word
+
+  served_in_range : IsShape (shape_in (word_in_file bytes))
+  served_in_range = subst IsShape (sym served_shape) f.sound.in_range
+
+  served_long : length bytes ≡ 8 * words_of (shape_in (word_in_file bytes))
+  served_long =
+      ap length f.file ∙ length-image_bytes f.words ∙ ap (λ n. 8 * n) (f.sound.whole ∙ ap words_of (sym served_shape))
+
+  long_enough : length bytes < 256 → ⊥
+  long_enough short =
+      let long : length bytes ≡ 8 * words_of f.shape = ap length f.file ∙ length-image_bytes f.words ∙ ap (λ n. 8 * n) f.sound.whole in
+      absurd (omega (arith, short, long, f.sound.in_range.some))
+
+  served_holds : (n w : ℕ) → HoldsAt (shape_in (word_in_file bytes)) (word_in_file bytes) scope n w
+  served_holds n w =
+      subst (λ (s : Shape). HoldsAt s (word_in_file bytes) scope n w) (sym served_shape)
+      (subst (λ (word : ImageWords). HoldsAt f.shape word scope n w) (sym served_spelled)
+      (record { sound = f.sound.follows n w; stage = λ _. f.stage w }))
+
+  pub no_fault : (fault : ImageFault) → HasFaultIn scope bytes fault → fault ≡ NoMemory
+  no_fault Length (inl short) = absurd (long_enough short)
+  no_fault Length (inr front) = absurd (front.says.1 served_long)
+  no_fault Magic h = absurd (h.1 served_magic)
+  no_fault Format h = absurd (h.2 served_format)
+  no_fault Geometry front = absurd (front.says served_in_range)
+  no_fault (Unsound rule word) h = absurd (h.1.least.broken (served_holds rule word))
+  no_fault NoMemory h = refl
