@@ -1,5 +1,5 @@
 -- What follows from what an optional answer says.
-use Rattle.std.proofs.Common.{◌≡◌, ◌↔◌, refl, Bool, true, false, not, IsTrue, Option, Some, None, IfSome, IfNone}
+use Rattle.std.proofs.Common.{◌≡◌, ◌↔◌, refl, subst, Bool, true, false, not, IsTrue, Option, Some, None, IfSome, IfNone}
 
 pub if_none : {X : Type 0} {P Q : Type 0} (o : Option X) → (P → Q) → IfNone o P → IfNone o Q
 if_none None f h = f h
@@ -23,3 +23,10 @@ never b test is p = let there : b ≡ true = test.1 p in absurd (cc)
 
 pub untrue : {P : Type 0} → IsTrue false → P
 untrue h = let there : false ≡ true = h in absurd (cc)
+
+-- and from what an optional answer is
+pub told_some : {X : Type 0} (P : X → Type 0) (o : Option X) (x : X) → o ≡ Some x → IfSome o P → P x
+told_some {X} P o x is says = subst (λ (o : Option X). IfSome o P) is says
+
+pub told_none : {X : Type 0} (P : Type 0) (o : Option X) → o ≡ None → IfNone o P → P
+told_none {X} P o is says = subst (λ (o : Option X). IfNone o P) is says
