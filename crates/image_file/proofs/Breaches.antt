@@ -1,6 +1,5 @@
 -- The first breach, from what each rule says of the words.
-use Rattle.std.proofs.Common.{◌≡◌, ℕ, ◌+◌, ◌<◌, refl, sym, subst, arith, ⊎_elim}
-use Rattle.std.proofs.lemmas.Bool.{cases_eq}
+use Rattle.std.proofs.Common.{◌≡◌, ℕ, ◌<◌, refl, subst, arith}
 use Rattle.image_layout.specs.Places.{Shape}
 use Rattle.sound_image.specs.Segments.{ImageWords}
 use Rattle.sound_image.specs.Rules.{NumbersFit, HashesAreOwned, EntriesLead, RecordsStandRight, KeysHaveOneValue, VersionsArePast, CleanMeansRepaired}

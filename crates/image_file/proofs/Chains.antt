@@ -1,7 +1,7 @@
 -- A hash that a segment gives away is led to its owner from that segment exactly where it is from the next one.
-use Rattle.std.proofs.Common.{◌≡◌, ℕ, suc, ◌+◌, ◌^◌, ◌<◌, sym, subst, ◌∙◌, arith}
+use Rattle.std.proofs.Common.{◌≡◌, ℕ, ◌^◌, ◌<◌, subst, arith}
 use Rattle.image_layout.specs.Places.{Shape, entry_at}
-use Rattle.sound_image.specs.Segments.{ImageWords, Frame, frame_of, depth_at, IsLiveFor, LeadsToOwner, arrived, on}
+use Rattle.sound_image.specs.Segments.{ImageWords, Frame, frame_of, IsLiveFor, LeadsToOwner, arrived, on}
 use Rattle.sound_image.specs.Directory.{EntryLeads}
 use Rattle.sound_image.specs.Rules.{EntriesLead}
 use Rattle.image_file.specs.Breach.{IsLeast}

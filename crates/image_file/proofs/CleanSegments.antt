@@ -1,9 +1,9 @@
 -- Rule 7 speaks of the segments of the image's version one by one, and of each bucket by bucket.
-use Rattle.std.proofs.Common.{◌≡◌, ◌≢◌, ℕ, ◌+◌, ◌*◌, ◌/◌, ◌%◌, ◌^◌, ◌<◌, ◌≤◌, refl, sym, ap, subst, ◌∙◌, arith, ⊎_elim}
+use Rattle.std.proofs.Common.{◌≡◌, ◌≢◌, ℕ, ◌+◌, ◌*◌, ◌%◌, ◌<◌, ◌≤◌, refl, sym, ap, subst, ◌∙◌, arith, ⊎_elim}
 use Rattle.std.proofs.lemmas.Bool.{cases_lt}
 use Rattle.bucket_meta.specs.Bucket.{lock_of}
 use Rattle.segment_head.specs.HeadWord.{normal}
-use Rattle.image_layout.specs.Places.{Shape, head_at, bucket_at, key_at}
+use Rattle.image_layout.specs.Places.{Shape, head_at, bucket_at}
 use Rattle.sound_image.specs.Segments.{ImageWords, frame_of, state_at, IsClean}
 use Rattle.sound_image.specs.Records.{word_in, HasRecord, HasExactNotes}
 use Rattle.sound_image.specs.Rules.{IsCleanAndCurrent, CleanMeansRepaired}

@@ -1,21 +1,21 @@
 -- Notes and stash records by their numbers: one place more counts one note more at most, and what stands among notes
 -- stands on one of their places.
-use Rattle.std.proofs.Common.{◌≡◌, ◌≢◌, ℕ, zero, suc, ◌+◌, ◌*◌, ◌<◌, ◌≤◌, ◌⊎◌, refl, sym, ap, subst, ◌∙◌, arith, inl, inr, ⊎_elim, Bool, true, false, List, [], ◌∷◌, ◌++◌, length, length-append, add-one}
-use Rattle.std.specs.Prelude.{◌==◌, ◌&&◌, filter, Option, None, Some, if◌then◌else◌}
+use Rattle.std.proofs.Common.{◌≡◌, ◌≢◌, ℕ, zero, suc, ◌+◌, ◌<◌, ◌≤◌, refl, sym, ap, subst, ◌∙◌, arith, ⊎_elim, Bool, true, false, List, [], ◌∷◌, ◌++◌, length, length-append, add-one}
+use Rattle.std.specs.Prelude.{◌==◌, ◌&&◌, filter, None, Some, if◌then◌else◌}
 use Rattle.std.specs.List.{flat_map}
 use Rattle.std.proofs.lemmas.Bool.{cases_lt, cases_eq}
 use Rattle.std.proofs.lemmas.Bool.Decides.{nat_tests}
 use Rattle.std.proofs.lemmas.List.{append-nil}
 use Rattle.std.proofs.lemmas.List.Concat.{flat_map-append}
 use Rattle.std.proofs.lemmas.List.Elements.{filter-append}
-use Rattle.hash_word.specs.Hash.{home_of, finger_of, probing_of}
-use Rattle.bucket_meta.specs.Bucket.{allocated, note_used, note_member, note_index, note_finger, overflow_count}
+use Rattle.hash_word.specs.Hash.{probing_of}
+use Rattle.bucket_meta.specs.Bucket.{note_used, note_member, note_index, note_finger, overflow_count}
 use Rattle.bucket_meta.specs.Notes.{Note, numbers_below, how_often}
 use Rattle.image_layout.specs.Places.{Shape}
 use Rattle.sound_image.specs.Segments.{ImageWords}
-use Rattle.sound_image.specs.Records.{word_in, slot_hash, notes_in, notes_of, stashed_of, HasExactNotes}
+use Rattle.sound_image.specs.Records.{word_in, notes_in, notes_of, stashed_of, HasExactNotes}
 use Rattle.image_file.specs.declared.notes.Note.{Note as Sought}
-use Rattle.image_file.specs.Noted.{IsNoteOn, matches, how_many, piece_on, noted, piece_in, stashed_below, AreNamed}
+use Rattle.image_file.specs.Noted.{how_many, piece_on, noted, AreNamed}
 
 -- ONE PLACE MORE
 pub count_more : (f : ℕ → List Note) (p : Note → Bool) (n : ℕ)

@@ -3,7 +3,7 @@ use Rattle.std.proofs.Common.{◌≡◌, ℕ, ◌<◌, ◌≤◌, sym, subst, ar
 use Rattle.std.proofs.lemmas.Bool.{cases_lt}
 use Rattle.image_layout.specs.Places.{Shape, key_at}
 use Rattle.sound_image.specs.Segments.{ImageWords}
-use Rattle.sound_image.specs.Records.{HasRecord, HasOwnRecord}
+use Rattle.sound_image.specs.Records.{HasRecord}
 use Rattle.sound_image.specs.Rules.{RecordsStandRight, KeysHaveOneValue}
 use Rattle.image_file.specs.declared.records.RecordRule.{RecordRule}
 use Rattle.image_file.specs.declared.records.RecordRule.TheVariants.{Stand, Value}

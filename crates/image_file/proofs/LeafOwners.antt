@@ -1,12 +1,12 @@
 -- The leaves say of each hash how deep the deepest live segment is that covers it: by one live segment more each time.
-use Rattle.std.proofs.Common.{◌≡◌, ◌≢◌, ℕ, ◌+◌, ◌^◌, ◌<◌, ◌≤◌, refl, sym, ap, subst, ◌∙◌, arith, ⊎_elim, List, length, get_or-set_same, get_or-set_other}
+use Rattle.std.proofs.Common.{◌≡◌, ◌≢◌, ℕ, ◌+◌, ◌^◌, ◌<◌, ◌≤◌, sym, ap, subst, ◌∙◌, arith, ⊎_elim, List, length, get_or-set_same, get_or-set_other}
 use Rattle.std.specs.Prelude.{slice_index, slice_set}
 use Rattle.std.proofs.lemmas.Bool.{cases_lt, cases_eq}
 use Rattle.hash_word.specs.Hash.{top, Covers, index_of}
 use Rattle.sound_image.specs.Segments.{Frame, depth_at, pattern_at, IsLive, CoversHash, IsLiveFor}
 use Rattle.image_file.specs.declared.heads.Prefix.{Prefix}
 use Rattle.image_file.specs.Divided.{IsPrefixOf}
-use Rattle.image_file.specs.Leaves.{IsUnder, AreRaised, IsDeepest, AreDeepest, HasPrefix, HasTwin, AreSeen}
+use Rattle.image_file.specs.Leaves.{AreRaised, IsDeepest, AreDeepest, HasPrefix, HasTwin, AreSeen}
 use Rattle.image_file.proofs.Tops.{covered_under, under_covered, node-depth, node-pattern}
 
 module _ (frame : Frame) (greatest : ℕ) where
@@ -67,7 +67,7 @@ module _ (frame : Frame) (greatest : ℕ) where
 
     -- with another one
     module _ (prefix : Prefix) (slot : s < frame.segments) (live : IsLive frame s) (is : IsPrefixOf frame s prefix) (most : greatest ≤ 16)
-      (deep : prefix.depth ≤ greatest) (fits : prefix.pattern < 2 ^ prefix.depth) where
+        (deep : prefix.depth ≤ greatest) (fits : prefix.pattern < 2 ^ prefix.depth) where
       node_is : 2 ^ prefix.depth + prefix.pattern ≡ 2 ^ depth_at frame s + pattern_at frame s
       node_is = ap (λ (n : ℕ). 2 ^ n + prefix.pattern) is.depth ∙ ap (λ (n : ℕ). 2 ^ depth_at frame s + n) is.pattern
 

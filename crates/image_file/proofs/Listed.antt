@@ -1,6 +1,6 @@
 -- The pairs of all record slots that are their segment's own, without those of a key that stands before, are the
 -- image's pairs.
-use Rattle.std.proofs.Common.{◌≡◌, ◌≢◌, ℕ, zero, suc, ◌+◌, ◌*◌, ◌/◌, ◌%◌, ◌^◌, ◌<◌, ◌≤◌, ◌⊎◌, refl, sym, ap, subst, ◌∙◌, arith, inl, inr, ⊎_elim, Bool, true, false, List, [], ◌∷◌, ◌++◌, length, eq-eqb, add-one, length-append, get_or}
+use Rattle.std.proofs.Common.{◌≡◌, ◌≢◌, ℕ, zero, suc, ◌+◌, ◌*◌, ◌/◌, ◌%◌, ◌<◌, ◌≤◌, ◌⊎◌, refl, sym, ap, subst, ◌∙◌, arith, inl, inr, ⊎_elim, true, false, List, [], ◌∷◌, ◌++◌, length, add-one, length-append, get_or}
 use Rattle.std.specs.Prelude.{◌==◌, ◌||◌, Contains, if◌then◌else◌, slice_index}
 use Rattle.std.specs.List.{IsDistinct, list_any}
 use Rattle.std.specs.List.Sorted.{IsPermutation, IsNonDecreasing, IsNonDecreasingBy, IsStrictlyIncreasing}
@@ -21,10 +21,9 @@ use Rattle.sound_image.specs.Segments.{ImageWords, Frame, frame_of, depth_at, pa
 use Rattle.sound_image.specs.Records.{key_hash, slot_key, slot_value, slot_hash, HasRecord, HasPair}
 use Rattle.sound_image.specs.Rules.{KeysHaveOneValue}
 use Rattle.image_file.specs.declared.place.Place.{Place}
-use Rattle.image_file.specs.declared.records.RecordRule.TheVariants.{Once}
 use Rattle.sound_image.specs.Image.{IsSoundImage}
 use Rattle.image_file.specs.Divided.{IsDivided}
-use Rattle.image_file.specs.Slots.{IsPlace, IsTaken, IsStanding, AgreeBefore}
+use Rattle.image_file.specs.Slots.{IsPlace, IsTaken, IsStanding}
 use Rattle.image_file.specs.Pairs.{is_live, live_slots, keys_of, ArePairs, place_at, pair_at, IsOwnAt, IsFirstAt, HasPairBelow, ArePairsBelow}
 use Rattle.image_file.proofs.Owners.{shares}
 
@@ -144,12 +143,12 @@ module _ (shape : Shape) (word : ImageWords) where
       ap (λ (p : Place). (slot_key shape word p.segment p.bucket p.slot, slot_value shape word p.segment p.bucket p.slot)) (place_number s b r bucket slot)
 
   module _ (i : IsStanding shape word) (values : (w : ℕ) → KeysHaveOneValue shape word w) (n : ℕ) (below : n < 924 * shape.segments)
-    (pairs : List (ℕ × ℕ)) (are : ArePairsBelow shape word n pairs) where
+      (pairs : List (ℕ × ℕ)) (are : ArePairsBelow shape word n pairs) where
     -- a record that has one of its key before it: its pair is there
     module _ (own : IsOwnAt shape word n) (none : Contains pairs (pair_at shape word n) → ⊥) (c t : ℕ)
-      (there : HasRecord shape word (place_at n).segment c t)
-      (less : key_at shape (place_at n).segment c t < key_at shape (place_at n).segment (place_at n).bucket (place_at n).slot)
-      (same : slot_key shape word (place_at n).segment c t ≡ slot_key shape word (place_at n).segment (place_at n).bucket (place_at n).slot) where
+        (there : HasRecord shape word (place_at n).segment c t)
+        (less : key_at shape (place_at n).segment c t < key_at shape (place_at n).segment (place_at n).bucket (place_at n).slot)
+        (same : slot_key shape word (place_at n).segment c t ≡ slot_key shape word (place_at n).segment (place_at n).bucket (place_at n).slot) where
       same_hash : slot_hash shape word (place_at n).segment c t ≡ slot_hash shape word (place_at n).segment (place_at n).bucket (place_at n).slot
       same_hash = ap (key_hash shape) same
 
@@ -196,8 +195,8 @@ module _ (shape : Shape) (word : ImageWords) where
     -- a record that has none before it: no pair has its key
     module _ (first : IsFirstAt shape word n) where
       module _ (m : ℕ) (lower : m < n) (own : IsOwnAt shape word m)
-        (same : slot_key shape word (place_at m).segment (place_at m).bucket (place_at m).slot
-            ≡ slot_key shape word (place_at n).segment (place_at n).bucket (place_at n).slot) where
+          (same : slot_key shape word (place_at m).segment (place_at m).bucket (place_at m).slot
+          ≡ slot_key shape word (place_at n).segment (place_at n).bucket (place_at n).slot) where
         hash_same : slot_hash shape word (place_at m).segment (place_at m).bucket (place_at m).slot
             ≡ slot_hash shape word (place_at n).segment (place_at n).bucket (place_at n).slot
         hash_same = ap (key_hash shape) same
@@ -249,22 +248,22 @@ module _ (shape : Shape) (word : ImageWords) where
       record {
         each = λ k v. (
           (λ (p : HasPair shape word k v).
-          let there = p.own.record_there in
-          let own = own_at p.s p.b p.r there.bucket there.slot there.is_allocated p.own.owned in
-          let is : pair_at shape word (924 * p.s + 14 * p.b + p.r) ≡ (k, v) =
-          pair_of p.s p.b p.r there.bucket there.slot ∙ (λ j. (p.key_is j, p.value_is j)) in
-          subst (λ (pair : ℕ × ℕ). Contains pairs pair) is
-          (are.each (924 * p.s + 14 * p.b + p.r) (omega (arith, there.segment, there.bucket, there.slot)) own)),
+              let there = p.own.record_there in
+              let own = own_at p.s p.b p.r there.bucket there.slot there.is_allocated p.own.owned in
+              let is : pair_at shape word (924 * p.s + 14 * p.b + p.r) ≡ (k, v) =
+              pair_of p.s p.b p.r there.bucket there.slot ∙ (λ j. (p.key_is j, p.value_is j)) in
+              subst (λ (pair : ℕ × ℕ). Contains pairs pair) is
+              (are.each (924 * p.s + 14 * p.b + p.r) (omega (arith, there.segment, there.bucket, there.slot)) own)),
           (λ (there : Contains pairs (k, v)).
-          let has = are.others (k, v) there in
-          record {
-            s = (place_at has.n).segment;
-            b = (place_at has.n).bucket;
-            r = (place_at has.n).slot;
-            own = record { record_there = there_at has.n has.below has.own; owned = has.own.owned };
-            key_is = ap (λ (pair : ℕ × ℕ). pair.0) has.is;
-            value_is = ap (λ (pair : ℕ × ℕ). pair.1) has.is;
-          }),
+              let has = are.others (k, v) there in
+              record {
+                s = (place_at has.n).segment;
+                b = (place_at has.n).bucket;
+                r = (place_at has.n).slot;
+                own = record { record_there = there_at has.n has.below has.own; owned = has.own.owned };
+                key_is = ap (λ (pair : ℕ × ℕ). pair.0) has.is;
+                value_is = ap (λ (pair : ℕ × ℕ). pair.1) has.is;
+              }),
         );
         once = are.once;
       }

@@ -1,8 +1,8 @@
 -- A live segment has a depth and a pattern that fit, and owns what it covers and does not give away.
 use Rattle.std.proofs.Common.{◌≡◌, ℕ, ◌+◌, ◌*◌, ◌^◌, ◌<◌, ◌≤◌, ◌⊎◌, ◌∙◌, refl, sym, ap, subst, arith, inl, inr}
-use Rattle.segment_head.specs.HeadWord.{free, normal, splitting}
+use Rattle.segment_head.specs.HeadWord.{free}
 use Rattle.image_layout.specs.Places.{Shape, head_at}
-use Rattle.sound_image.specs.Segments.{ImageWords, Frame, frame_of, state_at, depth_at, pattern_at, IsLive, IsLiveFor, CoversHash, InOneSide, IsReadySide, HasReadySide, Owns}
+use Rattle.sound_image.specs.Segments.{ImageWords, Frame, frame_of, state_at, depth_at, pattern_at, IsLive, CoversHash, InOneSide, IsReadySide, HasReadySide, Owns}
 use Rattle.sound_image.specs.Directory.{HeadInRange, SharesWell}
 use Rattle.hash_word.specs.Hash.{Covers}
 use Rattle.image_file.specs.declared.heads.Prefix.{Prefix}

@@ -1,11 +1,11 @@
 -- Rule 2 by the leaves: a segment owns its part exactly where the leaves of that part have its depth, and entries have
 -- owners exactly where no leaf is bare.
-use Rattle.std.proofs.Common.{◌≡◌, ◌≢◌, ℕ, ◌+◌, ◌-◌, ◌*◌, ◌/◌, ◌%◌, ◌^◌, ◌<◌, ◌≤◌, ◌⊎◌, refl, sym, ap, subst, ◌∙◌, arith, inl, inr, ⊎_elim, List, length}
+use Rattle.std.proofs.Common.{◌≡◌, ◌≢◌, ℕ, ◌+◌, ◌-◌, ◌*◌, ◌/◌, ◌^◌, ◌<◌, ◌≤◌, ◌⊎◌, refl, sym, ap, subst, ◌∙◌, arith, inl, inr, ⊎_elim, List}
 use Rattle.std.specs.Prelude.{slice_index}
 use Rattle.std.proofs.lemmas.Bool.{cases_lt, cases_eq}
 use Rattle.std.proofs.lemmas.Nat.{pow_pos, pow-add, le-div}
 use Rattle.std.proofs.Math.Nat.{div-mul-le_self, div-lt_iff_lt-mul}
-use Rattle.image_layout.specs.Places.{Shape, entry_at, head_at, first_segment}
+use Rattle.image_layout.specs.Places.{Shape, entry_at, head_at}
 use Rattle.image_layout.proofs.Areas.{entry_before}
 use Rattle.hash_word.specs.Hash.{top, Covers, index_of}
 use Rattle.sound_image.specs.Segments.{ImageWords, Frame, frame_of, depth_at, pattern_at, IsLive, CoversHash, IsLiveFor, Owns, InOneSide, HasReadySide}
@@ -14,7 +14,7 @@ use Rattle.sound_image.specs.Rules.{HashesAreOwned}
 use Rattle.image_file.specs.declared.heads.Prefix.{Prefix}
 use Rattle.image_file.specs.Breach.{IsLeast}
 use Rattle.image_file.specs.Divided.{IsNumbered, IsPrefixOf}
-use Rattle.image_file.specs.Leaves.{IsUnder, IsDeepest, AreDeepest, HasTwin, OwnsItsPart, ShareWellBelow, IsFirstAtFault}
+use Rattle.image_file.specs.Leaves.{IsUnder, AreDeepest, HasTwin, OwnsItsPart, ShareWellBelow, IsFirstAtFault}
 use Rattle.image_file.proofs.Tops.{top_of_top, one_fewer, covered_under, under_covered, under_below, leaf_hash, leaf_hash-index, leaf_hash-fits, index-below}
 
 module _ (frame : Frame) (greatest : ℕ) (most : greatest ≤ 16) (leaves : List ℕ) (are : AreDeepest frame greatest frame.segments leaves) where
@@ -35,7 +35,7 @@ module _ (frame : Frame) (greatest : ℕ) (most : greatest ≤ 16) (leaves : Lis
   at_leaf l P p = subst P (sym (leaf_hash-index greatest l)) p
 
   module _ (s : ℕ) (prefix : Prefix) (slot : s < frame.segments) (live : IsLive frame s) (is : IsPrefixOf frame s prefix) (deep : prefix.depth ≤ greatest)
-    (small : prefix.pattern < 2 ^ prefix.depth) where
+      (small : prefix.pattern < 2 ^ prefix.depth) where
     covers_prefix : (h : ℕ) → CoversHash frame s h → Covers prefix.depth prefix.pattern h
     covers_prefix h covers = subst (λ (d : ℕ). Covers d prefix.pattern h) (sym is.depth) (covers ∙ sym is.pattern)
 
@@ -93,8 +93,8 @@ module _ (frame : Frame) (greatest : ℕ) (most : greatest ≤ 16) (leaves : Lis
 
     -- WITH ONE
     module _ (ready : HasReadySide frame s) (zeros ones : Prefix) (zeros_depth : zeros.depth ≡ prefix.depth + 1) (zeros_pattern : zeros.pattern ≡ 2 * prefix.pattern)
-      (ones_depth : ones.depth ≡ prefix.depth + 1) (ones_pattern : ones.pattern ≡ 2 * prefix.pattern + 1) (further : prefix.depth + 1 ≤ greatest)
-      (zeros_fit : zeros.pattern < 2 ^ zeros.depth) (ones_fit : ones.pattern < 2 ^ ones.depth) where
+        (ones_depth : ones.depth ≡ prefix.depth + 1) (ones_pattern : ones.pattern ≡ 2 * prefix.pattern + 1) (further : prefix.depth + 1 ≤ greatest)
+        (zeros_fit : zeros.pattern < 2 ^ zeros.depth) (ones_fit : ones.pattern < 2 ^ ones.depth) where
       -- the bit that follows
       shorter : (h : ℕ) → top (prefix.depth + 1) h / 2 ≡ prefix.pattern → CoversHash frame s h
       shorter h is_half = prefix_covers h (one_fewer prefix.depth h (omega arith) ∙ is_half)

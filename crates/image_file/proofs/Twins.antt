@@ -17,11 +17,11 @@ module _ (shape : Shape) (word : ImageWords) (rule : RecordRule) (place : Place)
       all c t (record { segment = is.segment; bucket = below; slot = fits; is_allocated = twin.taken }) less twin.same_key
 
   module _ (i : IsStanding shape word) (own : Owns (frame_of shape word) place.segment (slot_hash shape word place.segment place.bucket place.slot))
-    (home : ℕ) (home_is : home ≡ home_of (slot_hash shape word place.segment place.bucket place.slot)) (at_home : AgreeIn shape word rule place home)
-    (at_probing : AgreeIn shape word rule place ((home + 1) % 64)) (in_stash : AgreeIn shape word rule place 64) (in_last : AgreeIn shape word rule place 65) where
+      (home : ℕ) (home_is : home ≡ home_of (slot_hash shape word place.segment place.bucket place.slot)) (at_home : AgreeIn shape word rule place home)
+      (at_probing : AgreeIn shape word rule place ((home + 1) % 64)) (in_stash : AgreeIn shape word rule place 64) (in_last : AgreeIn shape word rule place 65) where
     module _ (c t : ℕ) (there : HasRecord shape word place.segment c t)
-      (less : key_at shape place.segment c t < key_at shape place.segment place.bucket place.slot)
-      (same : slot_key shape word place.segment c t ≡ slot_key shape word place.segment place.bucket place.slot) where
+        (less : key_at shape place.segment c t < key_at shape place.segment place.bucket place.slot)
+        (same : slot_key shape word place.segment c t ≡ slot_key shape word place.segment place.bucket place.slot) where
       same_hash : slot_hash shape word place.segment c t ≡ slot_hash shape word place.segment place.bucket place.slot
       same_hash = ap (key_hash shape) same
 

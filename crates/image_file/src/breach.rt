@@ -77,7 +77,12 @@ fn later_breach(geometry: &Geometry, words: &[u64], scope: Scope) -> Option<Brea
 /// # Errors
 ///
 /// `NoMemory` if memory runs out.
-pub(crate) fn first_breach(alloc: Global, geometry: &Geometry, words: &[u64], scope: Scope) -> Result<Option<Breach>, NoMemory>
+pub(crate) fn first_breach(
+    alloc: Global,
+    geometry: &Geometry,
+    words: &[u64],
+    scope: Scope,
+) -> Result<Option<Breach>, NoMemory>
     requires whole { length words.now ≡ words_of geometry.now }
     ensures none { IfOk result (λ found. IfNone found ((n w : ℕ) → HoldsAt geometry.now (slice_index words.now) scope n w)) }
     ensures some { IfOk result (λ found. IfSome found (λ breach. IsFirstBreach geometry.now (slice_index words.now) scope breach.rule breach.word)) }

@@ -105,7 +105,10 @@ pub(crate) fn ready_side(geometry: &Geometry, words: &[u64], s: u64) -> Option<u
         return None;
     };
     if is_live(geometry, words, side)
-        && is_side(prefix_of(geometry, words, s), prefix_of(geometry, words, side))
+        && is_side(
+            prefix_of(geometry, words, s),
+            prefix_of(geometry, words, side),
+        )
     {
         Some(side)
     } else {

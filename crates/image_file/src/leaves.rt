@@ -230,7 +230,12 @@ fn shares_well(nodes: &mut [u8], leaves: &[u8], geometry: &Geometry, words: &[u6
 /// The first slot with a live segment that is not among the others as rule 2 wants it. No scan of leaves comes after the
 /// first fault, and before it no two segments have the same depth and pattern: so all scans together see each leaf once
 /// for each depth at most.
-fn first_at_fault(nodes: &mut [u8], leaves: &[u8], geometry: &Geometry, words: &[u64]) -> Option<u64>
+fn first_at_fault(
+    nodes: &mut [u8],
+    leaves: &[u8],
+    geometry: &Geometry,
+    words: &[u64],
+) -> Option<u64>
     requires whole { length words.now ≡ words_of geometry.now }
     requires numbered { IsNumbered geometry.now (slice_index words.now) }
     requires leaves { length leaves.now ≡ 2 ^ geometry.now.depth }
@@ -285,7 +290,11 @@ fn first_unowned(nodes: &mut [u8], leaves: &[u8], geometry: &Geometry, words: &[
 /// # Errors
 ///
 /// `NoMemory` if memory runs out.
-pub(crate) fn rule_two(alloc: Global, geometry: &Geometry, words: &[u64]) -> Result<Option<u64>, NoMemory>
+pub(crate) fn rule_two(
+    alloc: Global,
+    geometry: &Geometry,
+    words: &[u64],
+) -> Result<Option<u64>, NoMemory>
     requires whole { length words.now ≡ words_of geometry.now }
     requires numbered { IsNumbered geometry.now (slice_index words.now) }
     ensures none { IfOk result (λ found. IfNone found ((w : ℕ) → HashesAreOwned geometry.now (slice_index words.now) w)) }

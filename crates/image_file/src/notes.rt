@@ -107,7 +107,15 @@ fn is_stashed(geometry: &Geometry, words: &[u64], b: u8, place: Place) -> bool
 }
 
 /// One if a slot of stash bucket `k` has a record of home bucket `b` that is the one that is sought.
-fn count_slot(geometry: &Geometry, words: &[u64], s: u64, b: u8, k: u8, slot: u8, sought: Option<Note>) -> u8
+fn count_slot(
+    geometry: &Geometry,
+    words: &[u64],
+    s: u64,
+    b: u8,
+    k: u8,
+    slot: u8,
+    sought: Option<Note>,
+) -> u8
     requires whole { length words.now ≡ words_of geometry.now }
     requires segment { s < geometry.now.segments }
     requires stash { k < 2 }

@@ -11,7 +11,9 @@ ghost use Rattle.image_file.specs.Divided.{IsDivided};
 ghost use Rattle.image_file.specs.Slots.{IsPlace, IsTwin, Needs, IsStanding, Agrees, AgreeBelow, AgreeIn, AgreeBefore, beside, Follows, FollowBelow, IsFirstBroken, BucketsFollow, IsFirstKey, SegmentsFollow, IsFirstOfAll};
 
 use crate::heads::owns;
-use crate::place::{BUCKETS, HOMES, Place, SLOTS, bucket_word, is_taken, key_in, record_hash, value_in};
+use crate::place::{
+    BUCKETS, HOMES, Place, SLOTS, bucket_word, is_taken, key_in, record_hash, value_in,
+};
 use image_layout::Geometry;
 
 /// One thing that a rule says of each record.
@@ -84,7 +86,12 @@ pub(crate) fn is_own(geometry: &Geometry, words: &[u64], place: Place) -> bool
     requires place { IsPlace geometry.now place }
     ensures { IsTrue result ↔ Owns (frame_of geometry.now (slice_index words.now)) place.segment (slot_hash geometry.now (slice_index words.now) place.segment place.bucket place.slot) }
 {
-    owns(geometry, words, place.segment, hash_in(geometry, words, place))
+    owns(
+        geometry,
+        words,
+        place.segment,
+        hash_in(geometry, words, place),
+    )
 }
 
 /// Whether two places of a segment have records of one key.
@@ -200,7 +207,13 @@ impl RecordRule {
     }
 
     /// The first slot of a bucket with a record of which the rule does not hold.
-    pub(crate) fn first_broken(self, geometry: &Geometry, words: &[u64], s: u64, b: u8) -> Option<u8>
+    pub(crate) fn first_broken(
+        self,
+        geometry: &Geometry,
+        words: &[u64],
+        s: u64,
+        b: u8,
+    ) -> Option<u8>
         requires whole { length words.now ≡ words_of geometry.now }
         requires needs { Needs geometry.now (slice_index words.now) self }
         requires segment { s < geometry.now.segments }

@@ -1,6 +1,6 @@
 -- Rule 1 is looked at first, and rule 8 second.
 use Rattle.std.proofs.Common.{slice_index}
-use Rattle.image_file.proofs.Breaches.{no_rules, one_known, eight_known, one_breaks, eight_breaks, two_breaks}
+use Rattle.image_file.proofs.Breaches.{no_rules, one_known, one_breaks, eight_breaks}
 use Rattle.image_file.proofs.breach.first_breach.Goals as goal
 
 pub returns-in-Some-clause-some : goal.returns-in-Some-clause-some

@@ -1,5 +1,5 @@
 -- A step on leads as far as before.
-use Rattle.std.proofs.Common.{ℕ, ◌^◌, ◌<◌, refl, arith, slice_index}
+use Rattle.std.proofs.Common.{◌^◌, ◌<◌, refl, arith, slice_index}
 use Rattle.sound_image.specs.Segments.{frame_of, arrived}
 use Rattle.image_file.proofs.Chains.{on_leads, leads_on}
 use Rattle.image_file.proofs.directory.leads.Goals as goal

@@ -1,4 +1,4 @@
-use Rattle.std.proofs.Common.{ℕ, ◌-◌, slice_index}
+use Rattle.std.proofs.Common.{◌-◌, slice_index}
 use Rattle.sound_image.specs.Segments.{frame_of, depth_at, LeadsToOwner}
 use Rattle.image_file.proofs.directory.leads.Given as goal
 

@@ -1,5 +1,5 @@
 -- What a segment covers and does not give away is its own.
-use Rattle.std.proofs.Common.{◌≡◌, ℕ, ◌^◌, ◌<◌, refl, arith, slice_index}
+use Rattle.std.proofs.Common.{◌^◌, ◌<◌, refl, arith, slice_index}
 use Rattle.sound_image.specs.Segments.{frame_of}
 use Rattle.image_file.proofs.Answered.{never}
 use Rattle.image_file.proofs.Owners.{kept-Owns, prefix-covers, side-prefix}

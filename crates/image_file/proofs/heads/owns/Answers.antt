@@ -1,5 +1,5 @@
 -- What a segment covers and does not give away is its own.
-use Rattle.std.proofs.Common.{◌≡◌, ℕ, ◌^◌, ◌<◌, ◌∙◌, subst, refl, arith, slice_index}
+use Rattle.std.proofs.Common.{ℕ, ◌^◌, ◌<◌, ◌∙◌, subst, refl, arith, slice_index}
 use Rattle.hash_word.specs.Hash.{Covers}
 use Rattle.sound_image.specs.Segments.{frame_of, pattern_at, CoversHash}
 use Rattle.image_file.proofs.Answered.{refused, denied}

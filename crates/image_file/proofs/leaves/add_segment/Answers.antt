@@ -1,5 +1,5 @@
 -- A live segment that is the first of its depth and pattern raises the leaves that it covers; another one changes nothing.
-use Rattle.std.proofs.Common.{◌≡◌, ℕ, ◌+◌, ◌<◌, ◌≤◌, subst, refl, slice_index}
+use Rattle.std.proofs.Common.{ℕ, ◌+◌, subst, refl, slice_index}
 use Rattle.sound_image.specs.Segments.{frame_of}
 use Rattle.image_file.specs.Leaves.{AreRaised}
 use Rattle.image_file.proofs.LeafOwners.{live_deepest, twin_deepest}

@@ -1,5 +1,5 @@
 -- The leaves over an entry are as many as the greatest depth has more bits for.
-use Rattle.std.proofs.Common.{◌≡◌, ℕ, ◌+◌, ◌-◌, ◌*◌, ◌/◌, ◌^◌, ◌<◌, ◌≤◌, ◌∙◌, ap, arith, slice_index}
+use Rattle.std.proofs.Common.{arith, slice_index}
 use Rattle.image_file.proofs.Parts.{root_fits, entry_below}
 use Rattle.image_file.proofs.leaves.entry_over.Goals as goal
 

@@ -1,5 +1,5 @@
 -- The first bare leaf breaks rule 2 at its entry, and else the first segment at fault at its header.
-use Rattle.std.proofs.Common.{◌≡◌, ◌≢◌, ℕ, ◌+◌, ◌-◌, ◌/◌, ◌^◌, ◌<◌, sym, subst, arith, slice_index}
+use Rattle.std.proofs.Common.{◌≢◌, ℕ, ◌+◌, ◌-◌, ◌/◌, ◌^◌, ◌<◌, sym, subst, arith, slice_index}
 use Rattle.sound_image.specs.Segments.{frame_of}
 use Rattle.sound_image.specs.Rules.{HashesAreOwned}
 use Rattle.image_file.specs.Breach.{IsLeast}

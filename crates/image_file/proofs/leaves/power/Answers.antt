@@ -1,5 +1,5 @@
 -- A power of two is at most the greatest one.
-use Rattle.std.proofs.Common.{◌^◌, arith}
+use Rattle.std.proofs.Common.{arith}
 use Rattle.std.proofs.lemmas.Nat.{one_shl}
 use Rattle.image_layout.proofs.Areas.{power_le}
 use Rattle.image_file.proofs.leaves.power.Goals as goal

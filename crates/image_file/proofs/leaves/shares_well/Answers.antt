@@ -1,5 +1,5 @@
 -- A live segment that is the first of its depth and pattern shares well where it is not too deep and owns its part.
-use Rattle.std.proofs.Common.{◌≡◌, ℕ, ◌≤◌, refl, true, false, arith, slice_index}
+use Rattle.std.proofs.Common.{◌≤◌, refl, arith, slice_index}
 use Rattle.sound_image.specs.Segments.{frame_of, depth_at}
 use Rattle.image_file.specs.Leaves.{HasTwin}
 use Rattle.image_file.proofs.Answered.{never}

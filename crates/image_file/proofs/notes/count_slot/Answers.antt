@@ -1,5 +1,5 @@
 -- A slot counts where it has a record of that home that is the one that is sought.
-use Rattle.std.proofs.Common.{◌≡◌, ◌+◌, ℕ, Bool, true, false, sym, ap, ◌∙◌, refl, slice_index}
+use Rattle.std.proofs.Common.{◌+◌, ℕ, sym, ap, ◌∙◌, refl, slice_index}
 use Rattle.hash_word.specs.Hash.{home_of, finger_of}
 use Rattle.bucket_meta.specs.Bucket.{allocated}
 use Rattle.sound_image.specs.Records.{word_in, slot_hash}

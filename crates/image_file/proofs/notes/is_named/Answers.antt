@@ -1,5 +1,5 @@
 -- The note is sought among all notes and in the stash.
-use Rattle.std.proofs.Common.{◌≡◌, ◌+◌, ◌≤◌, ℕ, ◌∙◌, ap, subst, refl, arith, slice_index}
+use Rattle.std.proofs.Common.{◌≡◌, ℕ, ◌∙◌, ap, subst, refl, arith, slice_index}
 use Rattle.bucket_meta.specs.Bucket.{note_finger, note_index}
 use Rattle.sound_image.specs.Records.{word_in, notes_of, stashed_of}
 use Rattle.image_file.specs.Noted.{IsNoteOn}
@@ -21,7 +21,7 @@ returns-then-noted-stashed c =
     let stash = sought_often c.note_on-note.result _ _ finger index (stashed_of c.args.geometry.now word c.args.s c.args.b) in (
       (λ false. untrue false),
       (λ named. absurd
-      (omega (arith, named (subst (λ (w : ℕ). IsNoteOn w c.args.side c.args.place) c.meta_in-w1.ensures (c.if-not-is_note.ensures.0 refl)), notes, stash, c.count_notes-noted.ensures.is, c.count_stashed-stashed.ensures.is, c.if-noted-stashed.true))),
+          (omega (arith, named (subst (λ (w : ℕ). IsNoteOn w c.args.side c.args.place) c.meta_in-w1.ensures (c.if-not-is_note.ensures.0 refl)), notes, stash, c.count_notes-noted.ensures.is, c.count_stashed-stashed.ensures.is, c.if-noted-stashed.true))),
     )
 
 pub returns : goal.returns

@@ -1,6 +1,6 @@
 -- Rule 7 is broken first in the first segment that is not repaired.
-use Rattle.std.proofs.Common.{◌≡◌, ◌/◌, ◌%◌, ◌^◌, below_more, arith, slice_index}
-use Rattle.image_file.proofs.CleanSegments.{segment_breaks, all_repaired, unclean_repaired}
+use Rattle.std.proofs.Common.{below_more, arith, slice_index}
+use Rattle.image_file.proofs.CleanSegments.{segment_breaks, all_repaired}
 use Rattle.image_file.proofs.repaired.rule_seven.Goals as goal
 
 pub returns-in-Some-clause-some : goal.returns-in-Some-clause-some

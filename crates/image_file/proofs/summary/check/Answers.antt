@@ -1,5 +1,5 @@
 -- The words that are lent are the image's.
-use Rattle.std.proofs.Common.{◌≡◌, ℕ, ◌*◌, ◌/◌, ◌%◌, ◌^◌, ◌≤◌, ◌↔◌, IsTrue, List, ap, refl, subst, ◌∙◌, arith, length, rules, slice_index}
+use Rattle.std.proofs.Common.{◌≡◌, ℕ, ◌/◌, ◌%◌, ◌^◌, ◌≤◌, ◌↔◌, IsTrue, List, ap, refl, subst, ◌∙◌, arith, length, rules, slice_index}
 use Rattle.sound_image.specs.Segments.{frame_of}
 use Rattle.image_file.specs.Pairs.{live_slots, ArePairs}
 use Rattle.image_file.proofs.Listed.{all-ArePairs, sound-IsStanding, sound-values}

@@ -1,5 +1,5 @@
 -- A sort by key moves pairs alone, and their keys differ.
-use Rattle.std.proofs.Common.{◌≡◌, ℕ, List, subst, rules, slice_index}
+use Rattle.std.proofs.Common.{ℕ, List, subst, rules, slice_index}
 use Rattle.std.proofs.lemmas.List.Sorted.{IsNonDecreasingBy-from_sort_by_key}
 use Rattle.image_file.specs.Pairs.{ArePairs}
 use Rattle.image_file.proofs.Listed.{all-ArePairs, sorted-ArePairs, rising, sound-IsStanding, sound-values}
