@@ -1,5 +1,8 @@
 // Files word by word, and what is said of them, literally.
-use crate::{ImageFault, Summary, check, format, from_bytes, list, read_of_written, to_bytes};
+use crate::{
+    ImageFault, Summary, check, format, from_bytes, list, read_of_written, sound_from_bytes,
+    sound_read_of_written, to_bytes,
+};
 use image_layout::Geometry;
 use std::alloc::Global;
 use std::test::Fail;
@@ -19,10 +22,54 @@ const ROW: [(usize, u64); 11] = [
     (128, 2),
 ];
 
-// The file of an image of 2208 words: those of the row, but for these.
-fn file_with(alloc: Global, changes: &[(usize, u64)]) -> Result<Vec<u8>, Fail> {
-    let mut words = vec![in alloc; 0u64; 2208]?;
-    for (at, word) in ROW.iter().chain(changes) {
+/// The words, not 0, of an image of two segments of which the first is splitting: the second is its ready side. The
+/// record of key 2^63 + 5 was moved, and its old copy is still there.
+const SPLIT: [(usize, u64); 18] = [
+    (0, 0x3130_4845_4853_4144),
+    (1, 1),
+    (2, 2),
+    (3, 1),
+    (8, 1),
+    (16, 1),
+    (65, 513),
+    (66, 2),
+    (97, 3),
+    (98, 1285),
+    (100, 5),
+    (101, 7),
+    (102, (1 << 63) + 5),
+    (103, 8),
+    (2209, 4_295_033_089),
+    (2241, 1),
+    (2242, 5),
+    (2244, (1 << 63) + 5),
+];
+
+/// The words, not 0, of an image of three segments: the first gives a half to the second, and that a quarter to the
+/// third, to which the entries lead through both.
+const TWICE: [(usize, u64); 11] = [
+    (0, 0x3130_4845_4853_4144),
+    (1, 1),
+    (2, 3),
+    (3, 2),
+    (8, 2),
+    (16, 1),
+    (65, 513),
+    (66, 2),
+    (2209, 4295033345),
+    (2210, 3),
+    (4353, 12885033217),
+];
+
+// The file of an image of so many words: those of the row, but for these.
+fn file_of(
+    alloc: Global,
+    count: usize,
+    row: &[(usize, u64)],
+    changes: &[(usize, u64)],
+) -> Result<Vec<u8>, Fail> {
+    let mut words = vec![in alloc; 0u64; count]?;
+    for (at, word) in row.iter().chain(changes) {
         if let Some(place) = words.get_mut(*at) {
             *place = *word;
         }
@@ -32,6 +79,19 @@ fn file_with(alloc: Global, changes: &[(usize, u64)]) -> Result<Vec<u8>, Fail> {
         bytes.extend_from_slice(&word.to_le_bytes())?;
     }
     Ok(bytes)
+}
+
+// The file of an image of 2208 words: those of the row, but for these.
+fn file_with(alloc: Global, changes: &[(usize, u64)]) -> Result<Vec<u8>, Fail> {
+    file_of(alloc, 2208, &ROW, changes)
+}
+
+// What is wrong with a file that need not be served.
+fn said_of_sound(alloc: Global, bytes: &[u8]) -> Result<String, Fail> {
+    match sound_from_bytes(alloc, bytes) {
+        Ok(_) => Ok(format!(in alloc; "accepted")?),
+        Err(fault) => Ok(format!(in alloc; "{fault}")?),
+    }
 }
 
 // What is wrong with a file.
@@ -136,5 +196,160 @@ fn faults(rt: HostRuntime) -> Result<(), Fail> {
         format!(in alloc; "{}", ImageFault::NoMemory)?.as_str(),
         "out of memory"
     );
+    Ok(())
+}
+
+#[test]
+fn hostile_edits(rt: HostRuntime) -> Result<(), Fail> {
+    let alloc = rt.alloc();
+    let cases: [(&[(usize, u64)], &str); 25] = [
+        (&[(2, 2)], "length"),
+        (&[(0, 0)], "magic"),
+        (&[(1, 3)], "format"),
+        (&[(2, 0)], "geometry"),
+        (&[(3, 17)], "geometry"),
+        (&[(8, 1)], "rule 1 word 8"),
+        (&[(16, 256)], "rule 1 word 16"),
+        (&[(65, 1281)], "rule 1 word 65"),
+        (&[(66, 2)], "rule 1 word 66"),
+        (&[(65, 1)], "rule 2 word 32"),
+        (&[(32, 1)], "rule 3 word 32"),
+        (&[(97, 16385)], "rule 4 word 100"),
+        (
+            &[(97, 3), (98, 1285), (102, 5), (103, 8)],
+            "rule 5 word 102",
+        ),
+        (&[(65, 258)], "rule 6 word 65"),
+        (
+            &[(97, 3), (98, 1285), (102, 5), (103, 7)],
+            "rule 7 word 102",
+        ),
+        (&[(96, 3)], "rule 7 word 96"),
+        (&[(97, 1_099_511_627_777)], "rule 7 word 97"),
+        (&[(65, 513)], "rule 7 word 65"),
+        (
+            &[(97, 3), (98, 1285), (102, 5), (103, 7), (16, 1)],
+            "accepted",
+        ),
+        (&[(96, 3), (16, 1)], "accepted"),
+        (&[(97, 1_099_511_627_777), (16, 1)], "accepted"),
+        (&[(65, 513), (16, 1)], "accepted"),
+        // The record in the stash, with its note, without, and noted twice.
+        (
+            &[
+                (97, 1 << 28),
+                (99, 5 << 48),
+                (98, 0),
+                (2145, 1),
+                (2146, 5),
+                (2148, 5),
+                (2149, 7),
+            ],
+            "accepted",
+        ),
+        (
+            &[(97, 0), (98, 0), (2145, 1), (2146, 5), (2148, 5), (2149, 7)],
+            "rule 7 word 97",
+        ),
+        (
+            &[
+                (97, 3 << 28),
+                (99, (5 << 48) + (5 << 56)),
+                (98, 0),
+                (2145, 1),
+                (2146, 5),
+                (2148, 5),
+                (2149, 7),
+            ],
+            "rule 7 word 97",
+        ),
+    ];
+    for (changes, said) in &cases {
+        let bytes = file_with(alloc, changes)?;
+        assert_eq!(rt; said_of_sound(alloc, &bytes)?.as_str(), *said);
+    }
+    let mut short = file_with(alloc, &[])?;
+    short.truncate(255);
+    assert_eq!(rt; said_of_sound(alloc, &short)?.as_str(), "length");
+    Ok(())
+}
+
+// An image in numbers, of what is left of a repaired one that is not marked clean.
+#[test]
+fn unclean_images(rt: HostRuntime) -> Result<(), Fail> {
+    let alloc = rt.alloc();
+    let cases: [&[(usize, u64)]; 4] = [
+        &[(97, 3), (98, 1285), (102, 5), (103, 7), (16, 1)],
+        &[(96, 3), (16, 1)],
+        &[(97, 1_099_511_627_777), (16, 1)],
+        &[(65, 513), (16, 1)],
+    ];
+    let summary = Summary {
+        version: 1,
+        depth: 0,
+        live: 1,
+        pairs: 1,
+        clean: false,
+    };
+    for changes in &cases {
+        let medium = sound_from_bytes(alloc, &file_with(alloc, changes)?)?;
+        assert_eq!(rt; check(&medium), summary);
+        assert_eq!(rt; list(alloc, &medium)?.as_slice(), [(5, 7)].as_slice());
+    }
+    Ok(())
+}
+
+#[test]
+fn a_split_half_done(rt: HostRuntime) -> Result<(), Fail> {
+    let alloc = rt.alloc();
+    let cases: [(&[(usize, u64)], &str); 13] = [
+        (&[(2245, 9)], "accepted"),
+        (&[(34, 1)], "accepted"),
+        (&[(33, 1)], "rule 3 word 33"),
+        (&[(66, 0)], "rule 2 word 65"),
+        (&[(8, 0)], "rule 2 word 2209"),
+        (&[(2209, 65_793)], "rule 2 word 65"),
+        (&[(65, 65_793), (2209, 65_793)], "rule 2 word 34"),
+        (&[(8, 0), (65, 257), (2209, 257)], "rule 2 word 2209"),
+        (&[(2209, 4_295_033_090)], "rule 6 word 2209"),
+        (&[(16, 257)], "rule 7 word 65"),
+        (&[(16, 257), (65, 65_793), (34, 1)], "rule 7 word 102"),
+        (&[(16, 257), (65, 65_793), (34, 1), (97, 1)], "accepted"),
+        (&[(2209, 4_295_033_601), (8, 0)], "accepted"),
+    ];
+    for (changes, said) in &cases {
+        let bytes = file_of(alloc, 4352, &SPLIT, changes)?;
+        assert_eq!(rt; said_of_sound(alloc, &bytes)?.as_str(), *said);
+        assert_eq!(rt; said_of(alloc, &bytes)?.as_str(), "rule 8 word 2");
+    }
+    let medium = sound_from_bytes(alloc, &file_of(alloc, 4352, &SPLIT, &[(2245, 9)])?)?;
+    let summary = Summary {
+        version: 1,
+        depth: 1,
+        live: 2,
+        pairs: 2,
+        clean: false,
+    };
+    assert_eq!(rt; check(&medium), summary);
+    let pairs = [(5, 7), ((1 << 63) + 5, 9)];
+    assert_eq!(rt; list(alloc, &medium)?.as_slice(), pairs.as_slice());
+    assert!(rt; sound_read_of_written(alloc, &medium).is_ok());
+    Ok(())
+}
+
+#[test]
+fn a_side_that_was_split_again(rt: HostRuntime) -> Result<(), Fail> {
+    let alloc = rt.alloc();
+    let cases: [(&[(usize, u64)], &str); 5] = [
+        (&[], "accepted"),
+        (&[(37, 1), (38, 2)], "accepted"),
+        (&[(38, 3)], "rule 3 word 38"),
+        (&[(37, 2)], "rule 3 word 37"),
+        (&[(2210, 0)], "rule 2 word 2209"),
+    ];
+    for (changes, said) in &cases {
+        let bytes = file_of(alloc, 6496, &TWICE, changes)?;
+        assert_eq!(rt; said_of_sound(alloc, &bytes)?.as_str(), *said);
+    }
     Ok(())
 }
