@@ -1,4 +1,5 @@
--- Bytes that pass every look are the file of a sound image that the program serves, and such a file has no fault.
+-- Bytes that pass every look are the file of a sound image, of which rule 8 holds too if it is looked at, and such a file
+-- has no fault.
 use Rattle.std.proofs.Common.{◌≡◌, ℕ, ◌*◌, ◌/◌, ◌^◌, ◌<◌, refl, sym, ap, subst, ◌∙◌, arith, inl, inr, List, length}
 use Rattle.std.specs.Prelude.{slice_index}
 use Rattle.image_layout.specs.Places.{Shape, IsShape, words_of}
@@ -9,9 +10,9 @@ use Rattle.sound_image.specs.Segments.{ImageWords}
 use Rattle.sound_image.specs.Image.{image_bytes, SaysShape, IsSoundImage}
 use Rattle.image_file.specs.declared.fault.ImageFault.{ImageFault}
 use Rattle.image_file.specs.declared.fault.ImageFault.TheVariants.{Length, Magic, Format, Geometry, Unsound, NoMemory}
-use Rattle.image_file.specs.Stage.{PassesRule8}
-use Rattle.image_file.specs.Breach.{HoldsAt, IsFirstBreach}
-use Rattle.image_file.specs.Fault.{word_in_file, shape_in, HasMagic, HasFormat, IsFramed, HasFault, IsServedFile}
+use Rattle.image_file.specs.declared.breach.Scope.{Scope}
+use Rattle.image_file.specs.Breach.{StageHoldsAt, HoldsAt, IsFirstBreach}
+use Rattle.image_file.specs.Fault.{word_in_file, shape_in, HasMagic, HasFormat, IsFramed, HasFaultIn, IsFileIn}
 use Rattle.image_file.proofs.FileWords.{length-image_bytes, words_there}
 
 -- A SHAPE that Geometry refuses is none
@@ -49,8 +50,8 @@ module _ (bytes words : List ℕ) (file : bytes ≡ image_bytes words) (fits : (
           depth = sym (at_word 3) ∙ ap (λ (s : Shape). s.depth) (sym is);
         }
 
-    pub accepted-IsSoundImage : ((n w : ℕ) → HoldsAt shape (slice_index words) n w) → IsSoundImage shape words
-    accepted-IsSoundImage holds =
+    pub accepted-IsSoundImage : (scope : Scope) → ((n w : ℕ) → HoldsAt shape (slice_index words) scope n w) → IsSoundImage shape words
+    accepted-IsSoundImage scope holds =
         record {
           in_range = subst IsShape (sym is) framed.shape_there;
           whole = all_words;
@@ -59,19 +60,19 @@ module _ (bytes words : List ℕ) (file : bytes ≡ image_bytes words) (fits : (
           follows = λ n w. (holds n w).sound;
         }
 
-    pub accepted-PassesRule8 : ((n w : ℕ) → HoldsAt shape (slice_index words) n w) → PassesRule8 shape (slice_index words)
-    accepted-PassesRule8 holds w = (holds 8 w).served refl
+    pub accepted-stage : (scope : Scope) → ((n w : ℕ) → HoldsAt shape (slice_index words) scope n w) → (w : ℕ) → StageHoldsAt shape (slice_index words) scope w
+    accepted-stage scope holds w = (holds 8 w).stage refl
 
     -- a breach of the words is one of the bytes
-    pub breach-HasFault : (n w : ℕ) → IsFirstBreach shape (slice_index words) n w → HasFault bytes (Unsound n w)
-    breach-HasFault n w breach = (
+    pub breach-HasFault : (scope : Scope) (n w : ℕ) → IsFirstBreach shape (slice_index words) scope n w → HasFaultIn scope bytes (Unsound n w)
+    breach-HasFault scope n w breach = (
       framed,
-      subst (λ (s : Shape). IsFirstBreach s (word_in_file bytes) n w) is
-          (subst (λ (word : ImageWords). IsFirstBreach shape word n w) (sym spelled) breach),
+      subst (λ (s : Shape). IsFirstBreach s (word_in_file bytes) scope n w) is
+          (subst (λ (word : ImageWords). IsFirstBreach shape word scope n w) (sym spelled) breach),
     )
 
--- A SERVED FILE has no fault
-module _ (bytes : List ℕ) (f : IsServedFile bytes) where
+-- SUCH A FILE has no fault
+module _ (scope : Scope) (bytes : List ℕ) (f : IsFileIn scope bytes) where
   served_spelled : word_in_file bytes ≡ slice_index f.words
   served_spelled = spelled bytes f.words f.file f.sound.each_fits
 
@@ -111,13 +112,13 @@ module _ (bytes : List ℕ) (f : IsServedFile bytes) where
       let long : length bytes ≡ 8 * words_of f.shape = ap length f.file ∙ length-image_bytes f.words ∙ ap (λ n. 8 * n) f.sound.whole in
       absurd (omega (arith, short, long, f.sound.in_range.some))
 
-  served_holds : (n w : ℕ) → HoldsAt (shape_in (word_in_file bytes)) (word_in_file bytes) n w
+  served_holds : (n w : ℕ) → HoldsAt (shape_in (word_in_file bytes)) (word_in_file bytes) scope n w
   served_holds n w =
-      subst (λ (s : Shape). HoldsAt s (word_in_file bytes) n w) (sym served_shape)
-      (subst (λ (word : ImageWords). HoldsAt f.shape word n w) (sym served_spelled)
-      (record { sound = f.sound.follows n w; served = λ _. f.served w }))
+      subst (λ (s : Shape). HoldsAt s (word_in_file bytes) scope n w) (sym served_shape)
+      (subst (λ (word : ImageWords). HoldsAt f.shape word scope n w) (sym served_spelled)
+      (record { sound = f.sound.follows n w; stage = λ _. f.stage w }))
 
-  pub no_fault : (fault : ImageFault) → HasFault bytes fault → fault ≡ NoMemory
+  pub no_fault : (fault : ImageFault) → HasFaultIn scope bytes fault → fault ≡ NoMemory
   no_fault Length (inl short) = absurd (long_enough short)
   no_fault Length (inr front) = absurd (front.says.1 served_long)
   no_fault Magic h = absurd (h.1 served_magic)

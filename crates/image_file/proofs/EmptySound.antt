@@ -13,9 +13,9 @@ use Rattle.sound_image.specs.Rules.{FollowsRules}
 use Rattle.sound_image.specs.Image.{IsSoundImage}
 use Rattle.image_file.specs.Formatted.{IsFormatted}
 use Rattle.image_file.specs.Stage.{PassesRule8}
-use Rattle.image_file.specs.Unnoted.{HasNote}
+use Rattle.image_file.proofs.Unnoted.{HasNote}
 use Rattle.image_file.proofs.OneLive.{IsOneLive, has_owners, shares_well, entry_leads}
-use Rattle.image_file.proofs.Notes.{unnoted-exact}
+use Rattle.image_file.proofs.NoNotes.{unnoted-exact}
 
 bits_of_zero : (low count : ℕ) → bits low count 0 ≡ 0
 bits_of_zero low count = ap (λ x. x % 2 ^ count) (zero-div (2 ^ low)) ∙ zero-mod (2 ^ count)

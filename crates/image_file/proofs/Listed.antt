@@ -1,39 +1,32 @@
--- The pairs of all record slots are the image's pairs, and no key stands among them twice.
-use Rattle.std.proofs.Common.{◌≡◌, ◌≢◌, ℕ, zero, suc, ◌+◌, ◌*◌, ◌/◌, ◌%◌, ◌<◌, ◌≤◌, ◌⊎◌, refl, sym, ap, subst, ◌∙◌, arith, inl, inr, ⊎_elim, Bool, true, false, List, [], ◌∷◌, ◌++◌, length, eq-eqb, add-one, length-append, Option, Some, None, get_or}
-use Rattle.std.specs.Prelude.{◌==◌, ◌||◌, Contains, option_to_list, if◌then◌else◌, slice_index}
+-- The pairs of all record slots that are their segment's own, without those of a key that stands before, are the
+-- image's pairs.
+use Rattle.std.proofs.Common.{◌≡◌, ◌≢◌, ℕ, zero, suc, ◌+◌, ◌*◌, ◌/◌, ◌%◌, ◌^◌, ◌<◌, ◌≤◌, ◌⊎◌, refl, sym, ap, subst, ◌∙◌, arith, inl, inr, ⊎_elim, Bool, true, false, List, [], ◌∷◌, ◌++◌, length, eq-eqb, add-one, length-append, get_or}
+use Rattle.std.specs.Prelude.{◌==◌, ◌||◌, Contains, if◌then◌else◌, slice_index}
 use Rattle.std.specs.List.{IsDistinct, list_any}
 use Rattle.std.specs.List.Sorted.{IsPermutation, IsNonDecreasing, IsNonDecreasingBy, IsStrictlyIncreasing}
 use Rattle.std.proofs.lemmas.List.Sorted.{Contains-permutation, IsPermutation-sym, IsPermutation-map}
 use Rattle.std.proofs.lemmas.Map.Keys.{IsDistinct-push, IsDistinct-IsPermutation, IsStrictlyIncreasing-from_distinct}
-use Rattle.std.proofs.lemmas.List.Folds.{list_any-append}
+use Rattle.std.proofs.lemmas.List.Folds.{list_any_none}
 use Rattle.std.proofs.Math.Dec.{eqb}
 use Rattle.std.specs.Cmp.{nat_eq_equiv}
-use Rattle.std.specs.Option.{is_some}
-use Rattle.std.proofs.lemmas.Bool.{cases_lt}
+use Rattle.std.proofs.lemmas.Bool.{cases_lt, cases_eq}
 use Rattle.std.proofs.lemmas.Bool.Decides.{nat_tests}
-use Rattle.std.proofs.lemmas.List.{append-nil, map-append, get_or-map, length-map}
-use Rattle.std.proofs.lemmas.List.Concat.{flat_map-append}
-use Rattle.std.proofs.lemmas.List.Elements.{Contains-append_left, Contains-push, Contains-push_cases, filter-append}
+use Rattle.std.proofs.lemmas.List.{map-append, get_or-map, length-map}
+use Rattle.std.proofs.lemmas.List.Elements.{All-map, All-contains_itself, Contains-append_left, Contains-push, Contains-push_cases, filter-append}
 use Rattle.segment_head.specs.HeadWord.{state_in, normal, splitting}
-use Rattle.bucket_meta.specs.Bucket.{allocated}
 use Rattle.bucket_meta.specs.Notes.{numbers_below}
+use Rattle.hash_word.specs.Hash.{top}
 use Rattle.image_layout.specs.Places.{Shape, key_at}
-use Rattle.sound_image.specs.Segments.{ImageWords, Frame}
-use Rattle.sound_image.specs.Records.{word_in, slot_key, slot_value, HasRecord, HasPair}
+use Rattle.sound_image.specs.Segments.{ImageWords, Frame, frame_of, depth_at, pattern_at, Owns}
+use Rattle.sound_image.specs.Records.{key_hash, slot_key, slot_value, slot_hash, HasRecord, HasPair}
+use Rattle.sound_image.specs.Rules.{KeysHaveOneValue}
+use Rattle.image_file.specs.declared.place.Place.{Place}
+use Rattle.image_file.specs.declared.records.RecordRule.TheVariants.{Once}
 use Rattle.sound_image.specs.Image.{IsSoundImage}
-use Rattle.image_file.specs.Stage.{PassesRule8}
-use Rattle.image_file.specs.Given.{IsServedImage}
-use Rattle.image_file.specs.Pairs.{is_live, live_slots, has_record, pair_in, pair_if_there, pairs_below, keys_of, ArePairs}
-use Rattle.image_file.proofs.OneSegment.{is_first, is_current, own_record}
-use Rattle.image_file.proofs.KeyRules.{record_at}
-
-bool_cases : (b : Bool) → (b ≡ true) ⊎ (b ≡ false)
-bool_cases true = inl refl
-bool_cases false = inr refl
-
-distinct_nil : IsDistinct eqb []
-unfolding IsDistinct
-distinct_nil = tt
+use Rattle.image_file.specs.Divided.{IsDivided}
+use Rattle.image_file.specs.Slots.{IsPlace, IsTaken, IsStanding, AgreeBefore}
+use Rattle.image_file.specs.Pairs.{is_live, live_slots, keys_of, ArePairs, place_at, pair_at, IsOwnAt, IsFirstAt, HasPairBelow, ArePairsBelow}
+use Rattle.image_file.proofs.Owners.{shares}
 
 -- ONE LIVE SLOT MORE
 pub live_more : (frame : Frame) (n : ℕ) → is_live frame n ≡ true → length (live_slots frame (n + 1)) ≡ length (live_slots frame n) + 1
@@ -51,168 +44,230 @@ live_same frame n fails =
     ∙ ap (λ b. length (live_slots frame n) + length (if b then n ∷ [] else [])) fails
     ∙ omega arith
 
+-- A PAIR is among pairs, or it is not
+same_pair : (p q : ℕ × ℕ) → (p ≡ q) ⊎ (p ≢ q)
+same_pair p q =
+    ⊎_elim
+    (λ (first : p.0 ≡ q.0).
+    ⊎_elim (λ (second : p.1 ≡ q.1). inl (λ j. (first j, second j)))
+    (λ (other : p.1 ≢ q.1). inr (λ (e : p ≡ q). other (ap (λ (r : ℕ × ℕ). r.1) e)))
+    (cases_eq p.1 q.1))
+    (λ (other : p.0 ≢ q.0). inr (λ (e : p ≡ q). other (ap (λ (r : ℕ × ℕ). r.0) e)))
+    (cases_eq p.0 q.0)
+
+no_pair : (pair : ℕ × ℕ) → Contains [] pair → ⊥
+no_pair pair h = absurd (omega (arith, h.1))
+
+later : (x : ℕ × ℕ) (xs : List (ℕ × ℕ)) (pair : ℕ × ℕ) → (x ≢ pair) → (Contains xs pair → ⊥) → (k : ℕ) → k < length (x ∷ xs) → get_or (x ∷ xs) k pair ≡ pair → ⊥
+later x xs pair other none zero below is = other is
+later x xs pair other none (suc k) below is = none (k, omega arith, is)
+
+decided : (pairs : List (ℕ × ℕ)) (pair : ℕ × ℕ) → Contains pairs pair ⊎ (Contains pairs pair → ⊥)
+decided [] pair = inr (no_pair pair)
+decided (x ∷ xs) pair =
+    ⊎_elim (λ (same : x ≡ pair). inl (zero, omega arith, same))
+    (λ (other : x ≢ pair).
+    ⊎_elim (λ (there : Contains xs pair). inl (suc there.0, omega (arith, there.1), there.2))
+    (λ (none : Contains xs pair → ⊥). inr (λ (there : Contains (x ∷ xs) pair). later x xs pair other none there.0 there.1 there.2))
+    (decided xs pair))
+    (same_pair x pair)
+
+-- NO KEY of the list is this one
+eq_false : (a b : ℕ) → a ≢ b → (a == b) ≡ false
+eq_false a b h = grind (arith, nat_tests)
+
+keys_differ : (pairs : List (ℕ × ℕ)) (y : ℕ) → ((pair : ℕ × ℕ) → Contains pairs pair → pair.0 ≢ y) → list_any (λ k. y == k) (keys_of pairs) ≡ false
+keys_differ pairs y other =
+    list_any_none (λ k. y == k) (keys_of pairs)
+    (All-map (λ k. (y == k) ≡ false) (λ (pair : ℕ × ℕ). pair.0) pairs
+    (λ i d h. eq_false y (get_or pairs i d).0 (λ e. other (get_or pairs i d) (All-contains_itself pairs i d h) (sym e))))
+
+distinct_nil : IsDistinct eqb []
+unfolding IsDistinct
+distinct_nil = tt
+
+-- PLACES by their numbers
+pub place_number : (s b r : ℕ) → b < 66 → r < 14 → place_at (924 * s + 14 * b + r) ≡ record { segment = s; bucket = b; slot = r }
+place_number s b r bucket slot =
+    let segment : (924 * s + 14 * b + r) / 924 ≡ s = omega arith in
+    let in_segment : (924 * s + 14 * b + r) % 924 / 14 ≡ b = omega arith in
+    let in_bucket : (924 * s + 14 * b + r) % 14 ≡ r = omega arith in
+    λ j. record { segment = segment j; bucket = in_segment j; slot = in_bucket j }
+
+pub in_image : (shape : Shape) (n : ℕ) → n < 924 * shape.segments → IsPlace shape (place_at n)
+in_image shape n below = record { segment = omega arith; bucket = omega arith; slot = omega arith }
+
+-- ONE OWNER of a hash
+module _ (shape : Shape) (word : ImageWords) (i : IsDivided shape word) where
+  owner_before : (s t h : ℕ) → Owns (frame_of shape word) s h → Owns (frame_of shape word) t h → s < t → ⊥
+  owner_before s t h one two less =
+      let frame = frame_of shape word in
+      let depth : depth_at frame s ≡ depth_at frame t = omega (arith, one.deepest t two.own, two.deepest s one.own) in
+      let pattern : pattern_at frame s ≡ pattern_at frame t =
+      sym one.own.covers ∙ ap (λ (d : ℕ). top d h) depth ∙ two.own.covers in
+      (shares shape word i t two.own.slot two.own.live).alone s less one.own.live depth pattern
+
+  one_owner : (s t h : ℕ) → Owns (frame_of shape word) s h → Owns (frame_of shape word) t h → s ≡ t
+  one_owner s t h one two =
+      ⊎_elim (λ (less : s < t). absurd (owner_before s t h one two less))
+      (λ (more : t ≤ s).
+      ⊎_elim (λ (less : t < s). absurd (owner_before t s h two one less)) (λ (level : s ≤ t). omega arith) (cases_lt t s))
+      (cases_lt s t)
+
+-- PAIRS of the record slots below a limit
 module _ (shape : Shape) (word : ImageWords) where
-  -- ONE RECORD SLOT MORE
-  none_below : pairs_below shape word zero ≡ []
-  unfolding pairs_below
-  none_below = refl
+  pub none_below : ArePairsBelow shape word 0 []
+  none_below =
+      record { each = λ n below. absurd (omega (arith, below)); others = λ pair there. absurd (no_pair pair there); once = distinct_nil }
 
-  more : (n : ℕ) → pairs_below shape word (suc n) ≡ pairs_below shape word n ++ pair_if_there shape word n
-  unfolding pairs_below
-  more n =
-      flat_map-append (pair_if_there shape word) (numbers_below n) (n ∷ [])
-      ∙ ap (λ xs. pairs_below shape word n ++ xs) (append-nil (pair_if_there shape word n))
+  there_at : (n : ℕ) → n < 924 * shape.segments → IsOwnAt shape word n
+      → HasRecord shape word (place_at n).segment (place_at n).bucket (place_at n).slot
+  there_at n below own =
+      let is = in_image shape n below in
+      record { segment = is.segment; bucket = is.bucket; slot = is.slot; is_allocated = own.taken }
 
-  pub one_more : (n : ℕ) → pairs_below shape word (n + 1) ≡ pairs_below shape word n ++ pair_if_there shape word n
-  one_more n = ap (pairs_below shape word) (add-one n) ∙ more n
+  raised : (n : ℕ) (pair : ℕ × ℕ) → HasPairBelow shape word n pair → HasPairBelow shape word (n + 1) pair
+  raised n pair has = record { n = has.n; below = omega (arith, has.below); own = has.own; is = has.is }
 
-  with_record : (n : ℕ) → has_record shape word n ≡ true → pairs_below shape word (suc n) ≡ pairs_below shape word n ++ pair_in shape word n ∷ []
-  with_record n holds = more n ∙ ap (λ b. pairs_below shape word n ++ (if b then pair_in shape word n ∷ [] else [])) holds
-
-  without_record : (n : ℕ) → has_record shape word n ≡ false → pairs_below shape word (suc n) ≡ pairs_below shape word n
-  without_record n fails =
-      more n ∙ ap (λ b. pairs_below shape word n ++ (if b then pair_in shape word n ∷ [] else [])) fails ∙ append-nil (pairs_below shape word n)
-
-  -- a record slot below a limit has this pair
-  pub record IsAmong (limit : ℕ) (pair : ℕ × ℕ) : Type 0 where
-    pub slot : ℕ
-    pub below : slot < limit
-    pub there : has_record shape word slot ≡ true
-    pub is : pair_in shape word slot ≡ pair
-
-  raised : (n : ℕ) (pair : ℕ × ℕ) → IsAmong n pair → IsAmong (suc n) pair
-  raised n pair a = record { slot = a.slot; below = omega (arith, a.below); there = a.there; is = a.is }
-
-  pub among : (n : ℕ) (pair : ℕ × ℕ) → Contains (pairs_below shape word n) pair → IsAmong n pair
-  among zero pair h = absurd (omega (arith, h.1, ap length none_below))
-  among (suc n) pair h =
-      ⊎_elim
-      (λ (holds : has_record shape word n ≡ true).
-      ⊎_elim (λ (old : Contains (pairs_below shape word n) pair). raised n pair (among n pair old))
-      (λ (new : pair_in shape word n ≡ pair). record { slot = n; below = omega arith; there = holds; is = new })
-      (Contains-push_cases (pairs_below shape word n) (pair_in shape word n) pair
-      (subst (λ (xs : List (ℕ × ℕ)). Contains xs pair) (with_record n holds) h)))
-      (λ (fails : has_record shape word n ≡ false). raised n pair (among n pair (subst (λ (xs : List (ℕ × ℕ)). Contains xs pair) (without_record n fails) h)))
-      (bool_cases (has_record shape word n))
-
-  -- what is counted or listed of a record slot
-  pub length_more : (n : ℕ) (o : Option (ℕ × ℕ)) → option_to_list o ≡ pair_if_there shape word n
-      → length (pairs_below shape word (n + 1)) ≡ length (pairs_below shape word n) + length (option_to_list o)
-  length_more n o is =
-      ap length (one_more n) ∙ length-append (pairs_below shape word n) _
-      ∙ ap (λ (xs : List (ℕ × ℕ)). length (pairs_below shape word n) + length xs) (sym is)
-
-  pub items_more : (n : ℕ) (o : Option (ℕ × ℕ)) (items : List (ℕ × ℕ)) → option_to_list o ≡ pair_if_there shape word n
-      → items ≡ pairs_below shape word n → items ++ option_to_list o ≡ pairs_below shape word (n + 1)
-  items_more n o items is before =
-      ap (λ (xs : List (ℕ × ℕ)). xs ++ option_to_list o) before ∙ ap (λ (xs : List (ℕ × ℕ)). pairs_below shape word n ++ xs) is ∙ sym (one_more n)
-
-  pub nothing_below : pairs_below shape word 0 ≡ []
-  nothing_below = none_below
-
-  pub contained : (n t : ℕ) → t < n → has_record shape word t ≡ true → Contains (pairs_below shape word n) (pair_in shape word t)
-  contained zero t h there = absurd (omega arith)
-  contained (suc n) t h there =
-      ⊎_elim
-      (λ (lower : t < n). subst (λ (xs : List (ℕ × ℕ)). Contains xs (pair_in shape word t)) (sym (more n))
-      (Contains-append_left (pairs_below shape word n) (pair_if_there shape word n) (pair_in shape word t) (contained n t lower there)))
-      (λ (last : n ≤ t).
-      let same : n ≡ t = omega arith in
-      subst (λ m. Contains (pairs_below shape word (suc n)) (pair_in shape word m)) same
-      (subst (λ (xs : List (ℕ × ℕ)). Contains xs (pair_in shape word n)) (sym (with_record n (ap (has_record shape word) same ∙ there)))
-      (Contains-push (pairs_below shape word n) (pair_in shape word n))))
-      (cases_lt t n)
-
-module _ (shape : Shape) (words : List ℕ) (sound : IsSoundImage shape words) (served : PassesRule8 shape (slice_index words)) where
-  abbrev word : ImageWords
-  word = slice_index words
-
-  pub is_served : IsServedImage shape word
-  is_served = record { each_fits = sound.each_fits; numbers_fit = λ w. (sound.follows 1 w).one refl; passes = served }
-
-  there_at : (t : ℕ) → t < 924 → has_record shape word t ≡ true → HasRecord shape word 0 (t / 14) (t % 14)
-  there_at t h there = record_at shape word is_served (t / 14) (t % 14) (omega arith) (omega arith) (taken _ there)
-    where
-      taken : (n : ℕ) → (n == 1) ≡ true → n ≡ 1
-      taken n e = grind (arith, nat_tests)
-
-  -- A PAIR of the image stands in a record slot
-  pair_contained : (k v : ℕ) → HasPair shape word k v → Contains (pairs_below shape word 924) (k, v)
-  pair_contained k v p =
-      let first : p.s ≡ 0 = is_first shape word is_served p.s p.own.record_there.segment in
-      let there : HasRecord shape word 0 p.b p.r = subst (λ s. HasRecord shape word s p.b p.r) first p.own.record_there in
-      let bucket : (14 * p.b + p.r) / 14 ≡ p.b = omega (arith, there.slot) in
-      let slot : (14 * p.b + p.r) % 14 ≡ p.r = omega (arith, there.slot) in
-      let taken : allocated ((14 * p.b + p.r) % 14) (word_in shape word 0 ((14 * p.b + p.r) / 14) 1) ≡ 1 = rw (bucket, slot) there.is_allocated in
-      let key : slot_key shape word 0 ((14 * p.b + p.r) / 14) ((14 * p.b + p.r) % 14) ≡ k =
-      rw (bucket, slot) (ap (λ s. slot_key shape word s p.b p.r) (sym first) ∙ p.key_is) in
-      let value : slot_value shape word 0 ((14 * p.b + p.r) / 14) ((14 * p.b + p.r) % 14) ≡ v =
-      rw (bucket, slot) (ap (λ s. slot_value shape word s p.b p.r) (sym first) ∙ p.value_is) in
-      let same : pair_in shape word (14 * p.b + p.r) ≡ (k, v) = λ j. (key j, value j) in
-      subst (λ (pair : ℕ × ℕ). Contains (pairs_below shape word 924) pair) same
-      (contained shape word 924 (14 * p.b + p.r) (omega (arith, there.bucket, there.slot)) (eq-eqb _ _ taken))
-
-  contained_pair : (k v : ℕ) → Contains (pairs_below shape word 924) (k, v) → HasPair shape word k v
-  contained_pair k v h =
-      let a = among shape word 924 (k, v) h in
-      let there = there_at a.slot a.below a.there in
+  -- a record slot by its numbers
+  own_at : (s b r : ℕ) → b < 66 → r < 14 → IsTaken shape word s b r → Owns (frame_of shape word) s (slot_hash shape word s b r)
+      → IsOwnAt shape word (924 * s + 14 * b + r)
+  own_at s b r bucket slot taken owned =
+      let same = place_number s b r bucket slot in
       record {
-        s = 0;
-        b = a.slot / 14;
-        r = a.slot % 14;
-        own = own_record shape word is_served (a.slot / 14) (a.slot % 14) there;
-        key_is = ap (λ (pair : ℕ × ℕ). pair.0) a.is;
-        value_is = ap (λ (pair : ℕ × ℕ). pair.1) a.is;
+        taken = subst (λ (p : Place). IsTaken shape word p.segment p.bucket p.slot) (sym same) taken;
+        owned = subst (λ (p : Place). Owns (frame_of shape word) p.segment (slot_hash shape word p.segment p.bucket p.slot)) (sym same) owned;
       }
 
-  -- NO KEY stands twice
-  apart : (t n : ℕ) → t < n → n < 924 → has_record shape word t ≡ true → has_record shape word n ≡ true
-      → slot_key shape word 0 (t / 14) (t % 14) ≢ slot_key shape word 0 (n / 14) (n % 14)
-  apart t n less below one two =
-      let there = there_at n below two in
-      let earlier = there_at t (omega arith) one in
-      let before : key_at shape 0 (t / 14) (t % 14) < key_at shape 0 (n / 14) (n % 14) = omega (arith, less) in
-      ((sound.follows 7 (key_at shape 0 (n / 14) (n % 14))).seven refl).once 0 (n / 14) (n % 14) (is_current shape word is_served) there refl
-      (t / 14) (t % 14) earlier before
+  pair_of : (s b r : ℕ) → b < 66 → r < 14 → pair_at shape word (924 * s + 14 * b + r) ≡ (slot_key shape word s b r, slot_value shape word s b r)
+  pair_of s b r bucket slot =
+      ap (λ (p : Place). (slot_key shape word p.segment p.bucket p.slot, slot_value shape word p.segment p.bucket p.slot)) (place_number s b r bucket slot)
 
-  other_key : (n : ℕ) (b : Bool) → has_record shape word n ≡ b → (y : ℕ) → (b ≡ true → slot_key shape word 0 (n / 14) (n % 14) ≢ y)
-      → list_any (λ k. y == k) (keys_of (pair_if_there shape word n)) ≡ false
-  other_key n true is y other =
-      ap (λ (b : Bool). list_any (λ k. y == k) (keys_of (if b then pair_in shape word n ∷ [] else []))) is ∙ differ y _ (λ e. other refl (sym e))
-    where
-      differ : (a b : ℕ) → a ≢ b → list_any (λ k. a == k) (b ∷ []) ≡ false
-      differ a b h = grind (arith, nat_tests)
-  other_key n false is y other =
-      ap (λ (b : Bool). list_any (λ k. y == k) (keys_of (if b then pair_in shape word n ∷ [] else []))) is
+  module _ (i : IsStanding shape word) (values : (w : ℕ) → KeysHaveOneValue shape word w) (n : ℕ) (below : n < 924 * shape.segments)
+    (pairs : List (ℕ × ℕ)) (are : ArePairsBelow shape word n pairs) where
+    -- a record that has one of its key before it: its pair is there
+    module _ (own : IsOwnAt shape word n) (none : Contains pairs (pair_at shape word n) → ⊥) (c t : ℕ)
+      (there : HasRecord shape word (place_at n).segment c t)
+      (less : key_at shape (place_at n).segment c t < key_at shape (place_at n).segment (place_at n).bucket (place_at n).slot)
+      (same : slot_key shape word (place_at n).segment c t ≡ slot_key shape word (place_at n).segment (place_at n).bucket (place_at n).slot) where
+      same_hash : slot_hash shape word (place_at n).segment c t ≡ slot_hash shape word (place_at n).segment (place_at n).bucket (place_at n).slot
+      same_hash = ap (key_hash shape) same
 
-  keys_more : (n : ℕ) → keys_of (pairs_below shape word (suc n)) ≡ keys_of (pairs_below shape word n) ++ keys_of (pair_if_there shape word n)
-  keys_more n = ap keys_of (more shape word n) ∙ map-append _ (pairs_below shape word n) (pair_if_there shape word n)
+      earlier_own : IsOwnAt shape word (924 * (place_at n).segment + 14 * c + t)
+      earlier_own =
+          own_at (place_at n).segment c t there.bucket there.slot there.is_allocated
+          (subst (Owns (frame_of shape word) (place_at n).segment) (sym same_hash) own.owned)
 
-  none_equal : (n : ℕ) (y : ℕ) → ((t : ℕ) → t < n → has_record shape word t ≡ true → slot_key shape word 0 (t / 14) (t % 14) ≢ y)
-      → list_any (λ k. y == k) (keys_of (pairs_below shape word n)) ≡ false
-  none_equal zero y differ = ap (λ (xs : List (ℕ × ℕ)). list_any (λ k. y == k) (keys_of xs)) (none_below shape word)
-  none_equal (suc n) y differ =
-      let front = none_equal n y (λ t h. differ t (omega arith)) in
-      let last = other_key n (has_record shape word n) refl y (λ there. differ n (omega arith) there) in
-      ap (list_any (λ k. y == k)) (keys_more n) ∙ list_any-append (λ k. y == k) (keys_of (pairs_below shape word n)) (keys_of (pair_if_there shape word n))
-      ∙ rw (front, last) refl
+      earlier : 924 * (place_at n).segment + 14 * c + t < n
+      earlier = omega (arith, less, there.bucket, there.slot)
 
-  distinct : (n : ℕ) → n ≤ 924 → IsDistinct eqb (keys_of (pairs_below shape word n))
-  distinct zero h = subst (λ (xs : List (ℕ × ℕ)). IsDistinct eqb (keys_of xs)) (sym (none_below shape word)) distinct_nil
-  distinct (suc n) h =
-      let front = distinct n (omega arith) in
-      ⊎_elim
-      (λ (holds : has_record shape word n ≡ true).
-      subst (λ (xs : List (ℕ × ℕ)). IsDistinct eqb (keys_of xs)) (sym (with_record shape word n holds))
-      (subst (IsDistinct eqb) (sym (map-append _ (pairs_below shape word n) (pair_in shape word n ∷ [])))
-      (IsDistinct-push nat_eq_equiv (keys_of (pairs_below shape word n)) (slot_key shape word 0 (n / 14) (n % 14)) front
-      (none_equal n _ (λ t less there. apart t n less (omega arith) there holds)))))
-      (λ (fails : has_record shape word n ≡ false).
-      subst (λ (xs : List (ℕ × ℕ)). IsDistinct eqb (keys_of xs)) (sym (without_record shape word n fails)) front)
-      (bool_cases (has_record shape word n))
+      same_value : slot_value shape word (place_at n).segment c t ≡ slot_value shape word (place_at n).segment (place_at n).bucket (place_at n).slot
+      same_value =
+          values (key_at shape (place_at n).segment (place_at n).bucket (place_at n).slot) (place_at n).segment (place_at n).bucket (place_at n).slot
+          (record { record_there = there_at n below own; owned = own.owned }) refl c t there less same
 
-  pub listed-ArePairs : ArePairs shape word (pairs_below shape word 924)
-  listed-ArePairs = record { each = λ k v. (pair_contained k v, contained_pair k v); once = distinct 924 (omega arith) }
+      pair_same : pair_at shape word (924 * (place_at n).segment + 14 * c + t) ≡ pair_at shape word n
+      pair_same = pair_of (place_at n).segment c t there.bucket there.slot ∙ (λ j. (same j, same_value j))
+
+      no_twin : ⊥
+      no_twin =
+          none (subst (λ (pair : ℕ × ℕ). Contains pairs pair) pair_same (are.each (924 * (place_at n).segment + 14 * c + t) earlier earlier_own))
+
+    contained_anyway : (IsFirstAt shape word n → ⊥) → IsOwnAt shape word n → Contains pairs (pair_at shape word n)
+    contained_anyway other own =
+        ⊎_elim (λ (there : Contains pairs (pair_at shape word n)). there)
+        (λ (none : Contains pairs (pair_at shape word n) → ⊥).
+        absurd (other (record { own = own; first = λ c t there less same. no_twin own none c t there less same })))
+        (decided pairs (pair_at shape word n))
+
+    pub one_skipped : (IsFirstAt shape word n → ⊥) → ArePairsBelow shape word (n + 1) pairs
+    one_skipped other =
+        record {
+          each = λ m less own.
+              ⊎_elim (λ (lower : m < n). are.each m lower own)
+              (λ (last : n ≤ m).
+              let same : m ≡ n = omega arith in
+              subst (λ (k : ℕ). Contains pairs (pair_at shape word k)) (sym same) (contained_anyway other (subst (IsOwnAt shape word) same own)))
+              (cases_lt m n);
+          others = λ pair there. raised n pair (are.others pair there);
+          once = are.once;
+        }
+
+    -- a record that has none before it: no pair has its key
+    module _ (first : IsFirstAt shape word n) where
+      module _ (m : ℕ) (lower : m < n) (own : IsOwnAt shape word m)
+        (same : slot_key shape word (place_at m).segment (place_at m).bucket (place_at m).slot
+            ≡ slot_key shape word (place_at n).segment (place_at n).bucket (place_at n).slot) where
+        hash_same : slot_hash shape word (place_at m).segment (place_at m).bucket (place_at m).slot
+            ≡ slot_hash shape word (place_at n).segment (place_at n).bucket (place_at n).slot
+        hash_same = ap (key_hash shape) same
+
+        segment_same : (place_at m).segment ≡ (place_at n).segment
+        segment_same =
+            one_owner shape word i.divided (place_at m).segment (place_at n).segment
+            (slot_hash shape word (place_at n).segment (place_at n).bucket (place_at n).slot)
+            (subst (Owns (frame_of shape word) (place_at m).segment) hash_same own.owned) first.own.owned
+
+        twin_there : HasRecord shape word (place_at n).segment (place_at m).bucket (place_at m).slot
+        twin_there =
+            subst (λ (s : ℕ). HasRecord shape word s (place_at m).bucket (place_at m).slot) segment_same (there_at m (omega arith) own)
+
+        twin_key : slot_key shape word (place_at n).segment (place_at m).bucket (place_at m).slot
+            ≡ slot_key shape word (place_at n).segment (place_at n).bucket (place_at n).slot
+        twin_key = ap (λ (s : ℕ). slot_key shape word s (place_at m).bucket (place_at m).slot) (sym segment_same) ∙ same
+
+        impossible : ⊥
+        impossible =
+            first.first (place_at m).bucket (place_at m).slot twin_there (omega (arith, lower, segment_same)) twin_key
+
+      key_new : (pair : ℕ × ℕ) → Contains pairs pair → pair.0 ≢ slot_key shape word (place_at n).segment (place_at n).bucket (place_at n).slot
+      key_new pair there same =
+          let has = are.others pair there in
+          impossible has.n has.below has.own (ap (λ (p : ℕ × ℕ). p.0) has.is ∙ same)
+
+      pub one_added : ArePairsBelow shape word (n + 1) (pairs ++ pair_at shape word n ∷ [])
+      one_added =
+          record {
+            each = λ m less own.
+                ⊎_elim (λ (lower : m < n). Contains-append_left pairs (pair_at shape word n ∷ []) (pair_at shape word m) (are.each m lower own))
+                (λ (last : n ≤ m).
+                let same : m ≡ n = omega arith in
+                subst (λ (k : ℕ). Contains (pairs ++ pair_at shape word n ∷ []) (pair_at shape word k)) (sym same)
+                (Contains-push pairs (pair_at shape word n)))
+                (cases_lt m n);
+            others = λ pair there.
+                ⊎_elim (λ (old : Contains pairs pair). raised n pair (are.others pair old))
+                (λ (new : pair_at shape word n ≡ pair). record { n = n; below = omega arith; own = first.own; is = new })
+                (Contains-push_cases pairs (pair_at shape word n) pair there);
+            once = subst (IsDistinct eqb) (sym (map-append _ pairs (pair_at shape word n ∷ [])))
+                (IsDistinct-push nat_eq_equiv (keys_of pairs) (pair_at shape word n).0 are.once (keys_differ pairs (pair_at shape word n).0 key_new));
+          }
+
+  -- ALL OF THEM are the image's pairs
+  pub all-ArePairs : (pairs : List (ℕ × ℕ)) → ArePairsBelow shape word (924 * shape.segments) pairs → ArePairs shape word pairs
+  all-ArePairs pairs are =
+      record {
+        each = λ k v. (
+          (λ (p : HasPair shape word k v).
+          let there = p.own.record_there in
+          let own = own_at p.s p.b p.r there.bucket there.slot there.is_allocated p.own.owned in
+          let is : pair_at shape word (924 * p.s + 14 * p.b + p.r) ≡ (k, v) =
+          pair_of p.s p.b p.r there.bucket there.slot ∙ (λ j. (p.key_is j, p.value_is j)) in
+          subst (λ (pair : ℕ × ℕ). Contains pairs pair) is
+          (are.each (924 * p.s + 14 * p.b + p.r) (omega (arith, there.segment, there.bucket, there.slot)) own)),
+          (λ (there : Contains pairs (k, v)).
+          let has = are.others (k, v) there in
+          record {
+            s = (place_at has.n).segment;
+            b = (place_at has.n).bucket;
+            r = (place_at has.n).slot;
+            own = record { record_there = there_at has.n has.below has.own; owned = has.own.owned };
+            key_is = ap (λ (pair : ℕ × ℕ). pair.0) has.is;
+            value_is = ap (λ (pair : ℕ × ℕ). pair.1) has.is;
+          }),
+        );
+        once = are.once;
+      }
 
 -- SORTED: pairs in another order are the same pairs, and their keys rise where they do not fall
 pub sorted-ArePairs : (shape : Shape) (word : ImageWords) (xs ys : List (ℕ × ℕ)) → IsPermutation xs ys → ArePairs shape word xs → ArePairs shape word ys
@@ -240,18 +295,25 @@ rising pairs once sorted = IsStrictlyIncreasing-from_distinct (keys_of pairs) ke
         let first : i < length pairs = omega (arith, h, long) in
         omega (arith, key_at_place i d first, key_at_place j d long, sorted i j (0, 0) h long)
 
--- A TEST of whether there is a pair counts it
-pub counts_one : (o : Option (ℕ × ℕ)) → is_some o ≡ true → length (option_to_list o) ≡ 1
-counts_one None h = absurd (cc)
-counts_one (Some pair) h = refl
-
-pub counts_none : (o : Option (ℕ × ℕ)) → is_some o ≡ false → length (option_to_list o) ≡ 0
-counts_none None h = refl
-counts_none (Some pair) h = absurd (cc)
-
 -- THE STATE of a header word, as a test
 pub live_test : (x y : ℕ) → x ≡ y → (x / 256 % 256 ≡ 1) ⊎ (x / 256 % 256 ≡ 2) → ((state_in y == normal) || (state_in y == splitting)) ≡ true
 live_test x y same live = subst (λ z. ((state_in z == normal) || (state_in z == splitting)) ≡ true) same (grind (arith, nat_tests))
 
 pub dead_test : (x y : ℕ) → x ≡ y → x / 256 % 256 ≢ 1 → x / 256 % 256 ≢ 2 → ((state_in y == normal) || (state_in y == splitting)) ≡ false
 dead_test x y same one two = subst (λ z. ((state_in z == normal) || (state_in z == splitting)) ≡ false) same (grind (arith, nat_tests))
+
+-- A SOUND IMAGE follows the rules that its pairs need
+pub sound-IsStanding : (shape : Shape) (words lent : List ℕ) → lent ≡ words → IsSoundImage shape words → IsStanding shape (slice_index lent)
+sound-IsStanding shape words lent same sound =
+    subst (λ (ws : List ℕ). IsStanding shape (slice_index ws)) (sym same)
+    (record {
+      divided = record {
+        numbered = record { in_range = sound.in_range; each_fits = sound.each_fits; numbers_fit = λ w. (sound.follows 1 w).one refl };
+        hashes_owned = λ w. (sound.follows 2 w).two refl;
+      };
+      stand = λ w. (sound.follows 4 w).four refl;
+    })
+
+pub sound-values : (shape : Shape) (words lent : List ℕ) → lent ≡ words → IsSoundImage shape words → (w : ℕ) → KeysHaveOneValue shape (slice_index lent) w
+sound-values shape words lent same sound w =
+    subst (λ (ws : List ℕ). KeysHaveOneValue shape (slice_index ws) w) (sym same) ((sound.follows 5 w).five refl)

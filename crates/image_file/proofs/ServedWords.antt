@@ -118,7 +118,7 @@ module _ (shape : Shape) (word : ImageWords) where
             }
 
         module _ (table : IsCurrentTable) where
-          pub key_breaks : (w : ℕ) → IsFirstKey shape word Home w → IsLeast (IsServed shape word) w
+          pub key_breaks : (w : ℕ) → IsFirstKey shape word Home 0 w → IsLeast (IsServed shape word) w
           key_breaks w k =
               record {
                 broken = λ served. k.first.broken (served.home 0 k.b k.r
@@ -131,11 +131,11 @@ module _ (shape : Shape) (word : ImageWords) where
                       table = λ h. table;
                       home = λ b r there h.
                           let earlier : key_at shape 0 b r < key_at shape 0 k.b k.r = omega (arith, h, k.at_key) in
-                          keys_before shape word Home k.b k.r b r k.buckets_before k.first.before k.first.slot there.slot there.is_allocated earlier;
+                          keys_before shape word Home 0 k.b k.r b r k.buckets_before k.first.before k.first.slot there.slot there.is_allocated earlier;
                     }) less;
               }
 
-          pub passes : BucketsFollow shape word Home 66 → PassesRule8 shape word
+          pub passes : BucketsFollow shape word Home 0 66 → PassesRule8 shape word
           passes each w =
               served_at (w + 1) w
               (record {

@@ -7,7 +7,9 @@ use Rattle.sound_image.specs.Image.{image_bytes, magic, IsSoundImage}
 use Rattle.image_file.specs.declared.fault.ImageFault.{ImageFault}
 use Rattle.image_file.specs.declared.fault.ImageFault.TheVariants.{Length, Magic, Format, Geometry, Unsound, NoMemory}
 use Rattle.image_file.specs.Stage.{PassesRule8}
-use Rattle.image_file.specs.Breach.{IsFirstBreach}
+use Rattle.image_file.specs.declared.breach.Scope.{Scope}
+use Rattle.image_file.specs.declared.breach.Scope.TheVariants.{Served, Sound}
+use Rattle.image_file.specs.Breach.{StageHoldsAt, IsFirstBreach}
 
 -- the words that bytes spell, eight bytes each, the lowest first
 abbrev pub word_in_file : List ℕ → ImageWords
@@ -41,14 +43,30 @@ pub record HasFront (bytes : List ℕ) (Says : Shape → Type 0) : Type 0 where
   pub format_there : HasFormat (word_in_file bytes)
   pub says : Says (shape_in (word_in_file bytes))
 
--- the bytes have this fault, and none that is looked at before it
+-- the bytes have this fault, and none that is looked at before it, where these rules are looked at
+abbrev pub HasFaultIn : Scope → List ℕ → ImageFault → Type 0
+HasFaultIn scope bytes Length = (length bytes < 256) ⊎ HasFront bytes (λ shape. IsShape shape × (length bytes ≢ 8 * words_of shape))
+HasFaultIn scope bytes Magic = (256 ≤ length bytes) × (HasMagic (word_in_file bytes) → ⊥)
+HasFaultIn scope bytes Format = (256 ≤ length bytes) × HasMagic (word_in_file bytes) × (HasFormat (word_in_file bytes) → ⊥)
+HasFaultIn scope bytes Geometry = HasFront bytes (λ shape. IsShape shape → ⊥)
+HasFaultIn scope bytes (Unsound rule word) =
+    IsFramed bytes × IsFirstBreach (shape_in (word_in_file bytes)) (word_in_file bytes) scope rule word
+HasFaultIn scope bytes NoMemory = ⊤
+
+-- the fault of bytes that are no image that the program serves, and of bytes that are no sound image
 abbrev pub HasFault : List ℕ → ImageFault → Type 0
-HasFault bytes Length = (length bytes < 256) ⊎ HasFront bytes (λ shape. IsShape shape × (length bytes ≢ 8 * words_of shape))
-HasFault bytes Magic = (256 ≤ length bytes) × (HasMagic (word_in_file bytes) → ⊥)
-HasFault bytes Format = (256 ≤ length bytes) × HasMagic (word_in_file bytes) × (HasFormat (word_in_file bytes) → ⊥)
-HasFault bytes Geometry = HasFront bytes (λ shape. IsShape shape → ⊥)
-HasFault bytes (Unsound rule word) = IsFramed bytes × IsFirstBreach (shape_in (word_in_file bytes)) (word_in_file bytes) rule word
-HasFault bytes NoMemory = ⊤
+HasFault = HasFaultIn Served
+
+abbrev pub HasSoundFault : List ℕ → ImageFault → Type 0
+HasSoundFault = HasFaultIn Sound
+
+-- the bytes are the file of a sound image of which the stage's rule holds too, if it is looked at
+pub record IsFileIn (scope : Scope) (bytes : List ℕ) : Type 0 where
+  pub shape : Shape
+  pub words : List ℕ
+  pub sound : IsSoundImage shape words
+  pub stage : (w : ℕ) → StageHoldsAt shape (slice_index words) scope w
+  pub file : bytes ≡ image_bytes words
 
 -- the bytes are the file of a sound image that the program serves
 pub record IsServedFile (bytes : List ℕ) : Type 0 where
@@ -56,4 +74,11 @@ pub record IsServedFile (bytes : List ℕ) : Type 0 where
   pub words : List ℕ
   pub sound : IsSoundImage shape words
   pub served : PassesRule8 shape (slice_index words)
+  pub file : bytes ≡ image_bytes words
+
+-- the bytes are the file of a sound image
+pub record IsSoundFile (bytes : List ℕ) : Type 0 where
+  pub shape : Shape
+  pub words : List ℕ
+  pub sound : IsSoundImage shape words
   pub file : bytes ≡ image_bytes words

@@ -1,9 +1,12 @@
 pub mod Lending
 pub mod Formatted
 pub mod Stage
-pub mod Unnoted
+pub mod Divided
+pub mod Leaves
+pub mod Steps
+pub mod Slots
+pub mod Noted
+pub mod Repairs
 pub mod Breach
 pub mod Fault
-pub mod Slots
-pub mod Given
 pub mod Pairs

@@ -1,75 +1,133 @@
--- What the rules say of the record slots of the first segment, slot by slot and bucket by bucket.
-use Rattle.std.specs.Prelude.{◌≡◌, ℕ, ◌+◌, ◌<◌, ◌≤◌}
-use Rattle.hash_word.specs.Hash.{home_of, finger_of}
-use Rattle.bucket_meta.specs.Bucket.{lock_of, allocated, member, finger}
+-- What the rules say of the record slots, slot by slot, bucket by bucket and segment by segment.
+use Rattle.std.specs.Prelude.{◌≡◌, ℕ, ◌+◌, ◌<◌, ◌≤◌, ⊤}
+use Rattle.hash_word.specs.Hash.{home_of}
+use Rattle.bucket_meta.specs.Bucket.{lock_of, allocated}
 use Rattle.image_layout.specs.Places.{Shape, bucket_at, key_at}
-use Rattle.sound_image.specs.Segments.{ImageWords}
-use Rattle.sound_image.specs.Records.{word_in, slot_key, slot_value, slot_hash}
+use Rattle.sound_image.specs.Segments.{ImageWords, frame_of, Owns}
+use Rattle.sound_image.specs.Records.{word_in, slot_key, slot_value, slot_hash, HasRecord, HasExactNotes}
+use Rattle.sound_image.specs.Rules.{StandsRight, SameValueAsBefore, NotBefore, RecordsStandRight}
+use Rattle.image_file.specs.declared.place.Place.{Place}
 use Rattle.image_file.specs.declared.records.RecordRule.{RecordRule}
-use Rattle.image_file.specs.declared.records.RecordRule.TheVariants.{Home, Marks, Value, Once}
-use Rattle.image_file.specs.Unnoted.{IsUnnoted}
+use Rattle.image_file.specs.declared.records.RecordRule.TheVariants.{Home, Stand, Value, Once}
+use Rattle.image_file.specs.Divided.{IsDivided}
+
+-- an image of this shape has the record slot
+pub record IsPlace (shape : Shape) (place : Place) : Type 0 where
+  pub segment : place.segment < shape.segments
+  pub bucket : place.bucket < 66
+  pub slot : place.slot < 14
 
 module _ (shape : Shape) (word : ImageWords) where
-  -- slot r of bucket b of the first segment has a record
-  abbrev pub IsTaken : ℕ → ℕ → Type 0
-  IsTaken b r = allocated r (word_in shape word 0 b 1) ≡ 1
+  -- slot r of bucket b of segment s has a record
+  abbrev pub IsTaken : ℕ → ℕ → ℕ → Type 0
+  IsTaken s b r = allocated r (word_in shape word s b 1) ≡ 1
 
-  -- an earlier slot of the bucket has a record of the same key
-  pub record IsTwin (b r t : ℕ) : Type 0 where
-    pub earlier : t < r
-    pub taken : IsTaken b t
-    pub same_key : slot_key shape word 0 b t ≡ slot_key shape word 0 b r
+  -- the hashes have owners, and the records stand where they are looked for
+  pub record IsStanding : Type 0 where
+    pub divided : IsDivided shape word
+    pub stand : (w : ℕ) → RecordsStandRight shape word w
 
-  -- it has no membership bit, and its fingerprint is that of its key
-  pub record IsMarked (b r : ℕ) : Type 0 where
-    pub no_member : member r (word_in shape word 0 b 1) ≡ 0
-    pub by_finger : finger r (word_in shape word 0 b 2) (word_in shape word 0 b 3) ≡ finger_of (slot_hash shape word 0 b r)
+  -- what is known before a rule is looked at
+  abbrev pub Needs : RecordRule → Type 0
+  Needs Home = ⊤
+  Needs Stand = IsDivided shape word
+  Needs Value = IsStanding
+  Needs Once = IsStanding
 
-  -- what a rule says of the record in slot r of bucket b: that it stands in its home bucket, that its marks are right,
-  -- that its earlier twins have its value, or that it has none
-  abbrev pub Follows : RecordRule → ℕ → ℕ → Type 0
-  Follows Home b r = b ≡ home_of (slot_hash shape word 0 b r)
-  Follows Marks b r = IsMarked b r
-  Follows Value b r = (t : ℕ) → IsTwin b r t → slot_value shape word 0 b t ≡ slot_value shape word 0 b r
-  Follows Once b r = (t : ℕ) → IsTwin b r t → ⊥
+  -- what a rule says of the record in slot r of bucket b of segment s: that it stands in its home bucket; if it is the
+  -- segment's own, that it stands right, or that those of its key before it have its value; or that it is the segment's
+  -- own, and none of its key is before it
+  abbrev pub Follows : RecordRule → ℕ → ℕ → ℕ → Type 0
+  Follows Home s b r = b ≡ home_of (slot_hash shape word s b r)
+  Follows Stand s b r = Owns (frame_of shape word) s (slot_hash shape word s b r) → StandsRight shape word s b r
+  Follows Value s b r = Owns (frame_of shape word) s (slot_hash shape word s b r) → SameValueAsBefore shape word s b r
+  Follows Once s b r = Owns (frame_of shape word) s (slot_hash shape word s b r) × NotBefore shape word s b r
 
+  -- what a rule allows of two records of a key: to have one value, or nothing
+  abbrev pub Agrees : RecordRule → Place → Place → Type 0
+  Agrees Home place other = ⊥
+  Agrees Stand place other = ⊥
+  Agrees Value place other =
+      slot_value shape word other.segment other.bucket other.slot ≡ slot_value shape word place.segment place.bucket place.slot
+  Agrees Once place other = ⊥
+
+  -- another place of the segment has a record of the same key
+  pub record IsTwin (place other : Place) : Type 0 where
+    pub same_segment : other.segment ≡ place.segment
+    pub taken : IsTaken other.segment other.bucket other.slot
+    pub same_key : slot_key shape word other.segment other.bucket other.slot ≡ slot_key shape word place.segment place.bucket place.slot
+
+  -- the place in the same segment
+  abbrev pub beside : Place → ℕ → ℕ → Place
+  beside place c t = record { segment = place.segment; bucket = c; slot = t }
+
+  -- records of the same key in slots of bucket c below a limit agree with it
+  abbrev pub AgreeBelow : RecordRule → Place → ℕ → ℕ → Type 0
+  AgreeBelow rule place c limit = (t : ℕ) → t < limit → IsTwin place (beside place c t) → Agrees rule place (beside place c t)
+
+  -- those of bucket c before it agree with it
+  abbrev pub AgreeIn : RecordRule → Place → ℕ → Type 0
+  AgreeIn rule place c =
+      (t : ℕ) → t < 14 → key_at shape place.segment c t < key_at shape place.segment place.bucket place.slot → IsTwin place (beside place c t)
+      → Agrees rule place (beside place c t)
+
+  -- those of the segment before it agree with it
+  abbrev pub AgreeBefore : RecordRule → Place → Type 0
+  AgreeBefore rule place =
+      (c t : ℕ) → HasRecord shape word place.segment c t → key_at shape place.segment c t < key_at shape place.segment place.bucket place.slot
+      → slot_key shape word place.segment c t ≡ slot_key shape word place.segment place.bucket place.slot → Agrees rule place (beside place c t)
+
+  -- THE FIRST RECORD of which a rule does not hold
   -- the rule holds of each record of a bucket in a slot below a limit
-  abbrev pub FollowBelow : RecordRule → ℕ → ℕ → Type 0
-  FollowBelow rule b limit = (r : ℕ) → r < limit → IsTaken b r → Follows rule b r
+  abbrev pub FollowBelow : RecordRule → ℕ → ℕ → ℕ → Type 0
+  FollowBelow rule s b limit = (r : ℕ) → r < limit → IsTaken s b r → Follows rule s b r
 
   -- slot r is the first of bucket b with a record of which the rule does not hold
-  pub record IsFirstBroken (rule : RecordRule) (b r : ℕ) : Type 0 where
+  pub record IsFirstBroken (rule : RecordRule) (s b r : ℕ) : Type 0 where
     pub slot : r < 14
-    pub taken : IsTaken b r
-    pub broken : Follows rule b r → ⊥
-    pub before : FollowBelow rule b r
+    pub taken : IsTaken s b r
+    pub broken : Follows rule s b r → ⊥
+    pub before : FollowBelow rule s b r
 
   -- the rule holds of each record of the buckets below a limit
-  abbrev pub BucketsFollow : RecordRule → ℕ → Type 0
-  BucketsFollow rule limit = (b : ℕ) → b < limit → FollowBelow rule b 14
+  abbrev pub BucketsFollow : RecordRule → ℕ → ℕ → Type 0
+  BucketsFollow rule s limit = (b : ℕ) → b < limit → FollowBelow rule s b 14
 
   -- the key's word is that of the first record of the segment of which the rule does not hold
-  pub record IsFirstKey (rule : RecordRule) (w : ℕ) : Type 0 where
+  pub record IsFirstKey (rule : RecordRule) (s w : ℕ) : Type 0 where
     pub b : ℕ
     pub r : ℕ
     pub bucket : b < 66
-    pub first : IsFirstBroken rule b r
-    pub buckets_before : BucketsFollow rule b
-    pub at_key : w ≡ key_at shape 0 b r
+    pub first : IsFirstBroken rule s b r
+    pub buckets_before : BucketsFollow rule s b
+    pub at_key : w ≡ key_at shape s b r
 
-  -- what a clean image has at the words of bucket b: it is unlocked, notes nothing, and has each key once
-  pub record IsRepairedAt (b w : ℕ) : Type 0 where
-    pub lock : w ≡ bucket_at shape 0 b → lock_of (word_in shape word 0 b 0) ≡ 0
-    pub notes : b < 64 → w ≡ bucket_at shape 0 b + 1 → IsUnnoted shape word 0 b
-    pub once : (r : ℕ) → r < 14 → IsTaken b r → w ≡ key_at shape 0 b r → Follows Once b r
+  -- the rule holds of each record of the segments below a limit
+  abbrev pub SegmentsFollow : RecordRule → ℕ → Type 0
+  SegmentsFollow rule limit = (s : ℕ) → s < limit → BucketsFollow rule s 66
+
+  -- the key's word is that of the first record of the image of which the rule does not hold
+  pub record IsFirstOfAll (rule : RecordRule) (w : ℕ) : Type 0 where
+    pub s : ℕ
+    pub segment : s < shape.segments
+    pub first : IsFirstKey rule s w
+    pub segments_before : SegmentsFollow rule s
+
+  -- A CLEAN IMAGE
+  -- what it has at the words of bucket b: it is unlocked, its notes are exact, and each record is the segment's own and
+  -- the only one of its key
+  pub record IsRepairedAt (s b w : ℕ) : Type 0 where
+    pub lock : w ≡ bucket_at shape s b → lock_of (word_in shape word s b 0) ≡ 0
+    pub notes : b < 64 → w ≡ bucket_at shape s b + 1 → HasExactNotes shape word s b
+    pub once : (r : ℕ) → r < 14 → IsTaken s b r → w ≡ key_at shape s b r → Follows Once s b r
 
   -- a word of bucket b is the least at which it is not so
-  pub record IsBrokenIn (b w : ℕ) : Type 0 where
-    pub from : bucket_at shape 0 b ≤ w
-    pub within : w < bucket_at shape 0 b + 32
-    pub broken : IsRepairedAt b w → ⊥
-    pub before : (v : ℕ) → v < w → IsRepairedAt b v
+  pub record IsBrokenIn (s b w : ℕ) : Type 0 where
+    pub from : bucket_at shape s b ≤ w
+    pub within : w < bucket_at shape s b + 32
+    pub broken : IsRepairedAt s b w → ⊥
+    pub before : (v : ℕ) → v < w → IsRepairedAt s b v
 
   -- buckets below a limit are repaired
-  abbrev pub AreRepaired : ℕ → Type 0
-  AreRepaired limit = (b : ℕ) → b < limit → (w : ℕ) → IsRepairedAt b w
+  abbrev pub AreRepaired : ℕ → ℕ → Type 0
+  AreRepaired s limit = (b : ℕ) → b < limit → (w : ℕ) → IsRepairedAt s b w

@@ -3,7 +3,7 @@
 use std::error::Error;
 use std::fmt;
 
-/// Why bytes are no image that the program serves. Each says also that none that is looked at before it is there: first a
+/// Why bytes are no image, or none that the program serves. Each says also that none that is looked at before it is there: first a
 /// length below 256 bytes, then magic, format and geometry, then the length, and then the rules.
 #[derive(Clone, Copy, Debug, PartialEq, Eq)]
 pub enum ImageFault {
@@ -15,7 +15,8 @@ pub enum ImageFault {
     Format,
     /// The third word is not 1 to 16384, or the fourth is above 16.
     Geometry,
-    /// A rule is broken: the first one in the order 1, 8, 2, 3, 4, 5, 6, 7, and the least word at which it is.
+    /// A rule is broken: the first one in the order 1, 8, 2, 3, 4, 5, 6, 7, and the least word at which it is. Rule 8 is
+    /// looked at only where the image is to be served.
     Unsound {
         /// The number of the rule.
         rule: u8,

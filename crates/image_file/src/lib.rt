@@ -5,21 +5,27 @@
 #![tactic(auto)]
 
 mod breach;
+mod directory;
 mod fault;
 mod formatted;
+mod heads;
 mod laws;
+mod leaves;
 mod medium;
+mod notes;
+mod place;
 mod read;
 mod records;
+mod repaired;
 mod rules;
 mod summary;
 mod words;
 
 pub use fault::ImageFault;
 pub use formatted::format;
-pub use laws::read_of_written;
+pub use laws::{read_of_written, sound_read_of_written};
 pub use medium::{Medium, to_bytes};
-pub use read::from_bytes;
+pub use read::{from_bytes, sound_from_bytes};
 pub use summary::{Summary, check, list};
 pub use words::Words;
 

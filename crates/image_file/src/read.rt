@@ -3,9 +3,10 @@
 ghost use Rattle.std.specs.Prelude.{◌≡◌, ℕ, ◌+◌, ◌*◌, ◌%◌, ◌<◌, ◌≤◌, length, slice_index, IfOk, IfErr, Err};
 ghost use Rattle.sound_image.specs.Image.{image_bytes, IsSoundImage};
 ghost use Rattle.image_file.specs.Stage.{PassesRule8};
-ghost use Rattle.image_file.specs.Fault.{word_in_file, shape_in, IsFramed, HasFault, IsServedFile};
+ghost use Rattle.image_file.specs.Breach.{StageHoldsAt};
+ghost use Rattle.image_file.specs.Fault.{word_in_file, shape_in, IsFramed, HasFaultIn, HasFault, HasSoundFault, IsFileIn, IsServedFile, IsSoundFile};
 
-use crate::breach::first_breach;
+use crate::breach::{Scope, first_breach};
 use crate::fault::ImageFault;
 use crate::formatted::{FORMAT, MAGIC};
 use crate::medium::{Medium, WORD_BYTES};
@@ -45,11 +46,12 @@ fn words_in(alloc: Global, bytes: &[u8]) -> Result<Words, NoMemory>
 }
 
 /// The geometry that a file says, if all that is looked at before the rules is right.
-fn geometry_in(bytes: &[u8]) -> Result<Geometry, ImageFault>
+fn geometry_in(bytes: &[u8], scope: Scope) -> Result<Geometry, ImageFault>
     ensures framed { IfOk result (λ geometry. IsFramed bytes.now) }
     ensures shape { IfOk result (λ geometry. geometry ≡ shape_in (word_in_file bytes.now)) }
-    ensures fault { IfErr result (λ fault. HasFault bytes.now fault) }
+    ensures fault { IfErr result (λ fault. HasFaultIn scope bytes.now fault) }
 {
+    let _ = scope;
     if bytes.len() < FRONT_BYTES {
         return Err(ImageFault::Length);
     }
@@ -69,6 +71,34 @@ fn geometry_in(bytes: &[u8]) -> Result<Geometry, ImageFault>
     Ok(geometry)
 }
 
+/// The image whose file these bytes are, exactly where they are the file of a sound image, and one that the program
+/// serves if that is looked at.
+fn image_in(alloc: Global, bytes: &[u8], scope: Scope) -> Result<Medium, ImageFault>
+    ensures sound { IfOk result (λ medium. IsSoundImage medium.geometry medium.words) }
+    ensures stage { IfOk result (λ medium. (w : ℕ) → StageHoldsAt medium.geometry (slice_index medium.words) scope w) }
+    ensures file { IfOk result (λ medium. bytes.now ≡ image_bytes medium.words) }
+    ensures fault { IfErr result (λ fault. HasFaultIn scope bytes.now fault) }
+    ensures complete { IsFileIn scope bytes.now → IfErr result (λ fault. fault ≡ ImageFault.NoMemory) }
+{
+    let geometry = match geometry_in(bytes, scope) {
+        Ok(geometry) => geometry,
+        Err(fault) => return Err(fault),
+    };
+    let Ok(words) = words_in(alloc, bytes) else {
+        return Err(ImageFault::NoMemory);
+    };
+    let Ok(found) = first_breach(alloc, &geometry, words.as_slice(), scope) else {
+        return Err(ImageFault::NoMemory);
+    };
+    match found {
+        Some(breach) => Err(ImageFault::Unsound {
+            rule: breach.rule,
+            word: breach.word,
+        }),
+        None => Ok(Medium { geometry, words }),
+    }
+}
+
 /// The image whose file these bytes are, exactly where they are the file of a sound image that the program serves.
 ///
 /// # Errors
@@ -81,18 +111,20 @@ pub fn from_bytes(alloc: Global, bytes: &[u8]) -> Result<Medium, ImageFault>
     ensures fault { IfErr result (λ fault. HasFault bytes.now fault) }
     ensures complete { IsServedFile bytes.now → IfErr result (λ fault. fault ≡ ImageFault.NoMemory) }
 {
-    let geometry = match geometry_in(bytes) {
-        Ok(geometry) => geometry,
-        Err(fault) => return Err(fault),
-    };
-    let Ok(words) = words_in(alloc, bytes) else {
-        return Err(ImageFault::NoMemory);
-    };
-    match first_breach(&geometry, words.as_slice()) {
-        Some(breach) => Err(ImageFault::Unsound {
-            rule: breach.rule,
-            word: breach.word,
-        }),
-        None => Ok(Medium { geometry, words }),
-    }
+    image_in(alloc, bytes, Scope::Served)
+}
+
+/// The image whose file these bytes are, exactly where they are the file of a sound image: also one that the present
+/// program does not serve.
+///
+/// # Errors
+///
+/// The first fault of the bytes, but that rule 8 is not looked at: see [`ImageFault`]. `NoMemory` if memory runs out.
+pub fn sound_from_bytes(alloc: Global, bytes: &[u8]) -> Result<Medium, ImageFault>
+    ensures sound { IfOk result (λ medium. IsSoundImage medium.geometry medium.words) }
+    ensures file { IfOk result (λ medium. bytes.now ≡ image_bytes medium.words) }
+    ensures fault { IfErr result (λ fault. HasSoundFault bytes.now fault) }
+    ensures complete { IsSoundFile bytes.now → IfErr result (λ fault. fault ≡ ImageFault.NoMemory) }
+{
+    image_in(alloc, bytes, Scope::Sound)
 }

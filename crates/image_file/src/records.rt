@@ -1,13 +1,17 @@
-//! What the rules say of the records of the first segment, slot by slot.
+//! What the rules say of records, slot by slot.
 
 ghost use Rattle.std.specs.Prelude.{◌≡◌, ℕ, ◌+◌, ◌*◌, ◌<◌, ◌≤◌, ◌↔◌, IfSome, IfNone, IsTrue, length, slice_index};
-ghost use Rattle.image_layout.specs.Places.{bucket_at, words_of};
+ghost use Rattle.image_layout.specs.Places.{words_of};
 ghost use Rattle.bucket_meta.specs.Bucket.{finger};
 ghost use Rattle.hash_word.specs.Hash.{home_of};
-ghost use Rattle.sound_image.specs.Records.{key_hash, slot_key, slot_value, slot_hash};
-ghost use Rattle.image_file.specs.Slots.{IsTaken, IsTwin, IsMarked, Follows, FollowBelow, IsFirstBroken, BucketsFollow, IsFirstKey};
+ghost use Rattle.sound_image.specs.Segments.{frame_of, Owns};
+ghost use Rattle.sound_image.specs.Records.{slot_hash};
+ghost use Rattle.sound_image.specs.Rules.{StandsRight};
+ghost use Rattle.image_file.specs.Divided.{IsDivided};
+ghost use Rattle.image_file.specs.Slots.{IsPlace, IsTwin, Needs, IsStanding, Agrees, AgreeBelow, AgreeIn, AgreeBefore, beside, Follows, FollowBelow, IsFirstBroken, BucketsFollow, IsFirstKey, SegmentsFollow, IsFirstOfAll};
 
-use hash_word::Kind;
+use crate::heads::owns;
+use crate::place::{BUCKETS, HOMES, Place, SLOTS, bucket_word, is_taken, key_in, record_hash, value_in};
 use image_layout::Geometry;
 
 /// One thing that a rule says of each record.
@@ -15,79 +19,21 @@ use image_layout::Geometry;
 pub(crate) enum RecordRule {
     /// It stands in its home bucket.
     Home,
-    /// It has no membership bit, and the fingerprint of its key.
-    Marks,
-    /// Earlier records of its key in the bucket have its value.
+    /// It stands where it is looked for, with its fingerprint, if it is its segment's own.
+    Stand,
+    /// Those of its key before it have its value, if it is its segment's own.
     Value,
-    /// No earlier record of the bucket has its key.
+    /// It is its segment's own, and none of its key is before it.
     Once,
 }
 
-/// How many buckets a segment has, with its two stash buckets.
-pub(crate) const BUCKETS: u8 = 66;
-
-/// How many buckets of a segment are homes.
-pub(crate) const HOMES: u8 = 64;
-
-/// How many record slots a bucket has.
-pub(crate) const SLOTS: u8 = 14;
-
-/// The word where bucket `b` of the first segment begins, 0 to 65 with the stash buckets.
-pub(crate) fn bucket_word(geometry: &Geometry, b: u8) -> usize
-    requires bucket { b < 66 }
-    ensures is { result ≡ bucket_at geometry.now 0 b }
-    ensures within { result + 32 ≤ words_of geometry.now }
-    ensures most { result + 32 ≤ 35258400 }
-{
-    let _ = geometry.segments();
-    let word = if b < HOMES {
-        geometry.bucket_at(0, b)
-    } else {
-        geometry.stash_at(0, b - HOMES)
-    };
-    word as usize
-}
-
-/// The hash of a key in an image of this geometry.
-pub(crate) fn record_hash(geometry: &Geometry, key: u64) -> u64
-    ensures { result ≡ key_hash geometry.now key }
-{
-    let kind = if geometry.kind() == 0 {
-        Kind::Identity
-    } else {
-        Kind::Mix
-    };
-    hash_word::hash(kind, key)
-}
-
-/// Whether slot `slot` of bucket `b` has a record.
-pub(crate) fn is_taken(geometry: &Geometry, words: &[u64], b: u8, slot: u8) -> bool
+/// The hash of the key in a record slot.
+pub(crate) fn hash_in(geometry: &Geometry, words: &[u64], place: Place) -> u64
     requires whole { length words.now ≡ words_of geometry.now }
-    requires bucket { b < 66 }
-    requires slot { slot < 14 }
-    ensures { IsTrue result ↔ IsTaken geometry.now (slice_index words.now) b slot }
+    requires place { IsPlace geometry.now place }
+    ensures { result ≡ slot_hash geometry.now (slice_index words.now) place.segment place.bucket place.slot }
 {
-    words[bucket_word(geometry, b) + 1] >> slot & 1 == 1
-}
-
-/// The key in a slot.
-pub(crate) fn key_in(geometry: &Geometry, words: &[u64], b: u8, slot: u8) -> u64
-    requires whole { length words.now ≡ words_of geometry.now }
-    requires bucket { b < 66 }
-    requires slot { slot < 14 }
-    ensures { result ≡ slot_key geometry.now (slice_index words.now) 0 b slot }
-{
-    words[bucket_word(geometry, b) + 4 + 2 * usize::from(slot)]
-}
-
-/// The value in a slot.
-pub(crate) fn value_in(geometry: &Geometry, words: &[u64], b: u8, slot: u8) -> u64
-    requires whole { length words.now ≡ words_of geometry.now }
-    requires bucket { b < 66 }
-    requires slot { slot < 14 }
-    ensures { result ≡ slot_value geometry.now (slice_index words.now) 0 b slot }
-{
-    words[bucket_word(geometry, b) + 5 + 2 * usize::from(slot)]
+    record_hash(geometry, key_in(geometry, words, place))
 }
 
 /// The fingerprint in a slot.
@@ -102,117 +48,206 @@ fn finger_in(w2: u64, w3: u64, slot: u8) -> u64
     }
 }
 
-/// Whether a record has no membership bit, and the fingerprint of its key.
-fn is_marked(geometry: &Geometry, words: &[u64], b: u8, slot: u8) -> bool
+/// Whether a record stands in its home bucket without the membership bit, in its probing bucket with it, or in the stash;
+/// and with the fingerprint of its key.
+fn stands_right(geometry: &Geometry, words: &[u64], place: Place) -> bool
     requires whole { length words.now ≡ words_of geometry.now }
-    requires bucket { b < 66 }
-    requires slot { slot < 14 }
-    ensures { IsTrue result ↔ IsMarked geometry.now (slice_index words.now) b slot }
+    requires place { IsPlace geometry.now place }
+    ensures { IsTrue result ↔ StandsRight geometry.now (slice_index words.now) place.segment place.bucket place.slot }
 {
-    let at = bucket_word(geometry, b);
-    let hash = record_hash(geometry, key_in(geometry, words, b, slot));
-    words[at + 1] >> (14 + slot) & 1 == 0
-        && finger_in(words[at + 2], words[at + 3], slot) == u64::from(hash_word::finger(hash))
-}
-
-/// Whether an earlier slot has a record of the same key.
-fn is_twin(geometry: &Geometry, words: &[u64], b: u8, slot: u8, earlier: u8) -> bool
-    requires whole { length words.now ≡ words_of geometry.now }
-    requires bucket { b < 66 }
-    requires slot { slot < 14 }
-    requires earlier { earlier < slot }
-    ensures { IsTrue result ↔ IsTwin geometry.now (slice_index words.now) b slot earlier }
-{
-    is_taken(geometry, words, b, earlier)
-        && key_in(geometry, words, b, earlier) == key_in(geometry, words, b, slot)
-}
-
-/// Whether no earlier record of the bucket has the key.
-fn is_first(geometry: &Geometry, words: &[u64], b: u8, slot: u8) -> bool
-    requires whole { length words.now ≡ words_of geometry.now }
-    requires bucket { b < 66 }
-    requires slot { slot < 14 }
-    ensures { IsTrue result ↔ ((t : ℕ) → IsTwin geometry.now (slice_index words.now) b slot t → ⊥) }
-{
-    for earlier in 0..slot {
-        if is_twin(geometry, words, b, slot, earlier) {
-            return false;
-        }
+    let at = bucket_word(geometry, place.segment, place.bucket);
+    let hash = hash_in(geometry, words, place);
+    if finger_in(words[at + 2], words[at + 3], place.slot) != u64::from(hash_word::finger(hash)) {
+        return false;
     }
-    true
-}
-
-/// Whether earlier records of the key in the bucket have the value.
-fn has_one_value(geometry: &Geometry, words: &[u64], b: u8, slot: u8) -> bool
-    requires whole { length words.now ≡ words_of geometry.now }
-    requires bucket { b < 66 }
-    requires slot { slot < 14 }
-    ensures { IsTrue result ↔ ((t : ℕ) → IsTwin geometry.now (slice_index words.now) b slot t →
-        slot_value geometry.now (slice_index words.now) 0 b t ≡ slot_value geometry.now (slice_index words.now) 0 b slot) }
-{
-    let value = value_in(geometry, words, b, slot);
-    for earlier in 0..slot {
-        if is_twin(geometry, words, b, slot, earlier)
-            && value_in(geometry, words, b, earlier) != value
-        {
-            return false;
-        }
+    let home = hash_word::home(hash);
+    if words[at + 1] >> (14 + place.slot) & 1 == 0 {
+        place.bucket == home || place.bucket >= HOMES
+    } else {
+        place.bucket == (home + 1) % HOMES || place.bucket >= HOMES
     }
-    true
 }
 
 /// Whether a record stands in its home bucket.
-fn is_at_home(geometry: &Geometry, words: &[u64], b: u8, slot: u8) -> bool
+fn is_at_home(geometry: &Geometry, words: &[u64], place: Place) -> bool
     requires whole { length words.now ≡ words_of geometry.now }
-    requires bucket { b < 66 }
-    requires slot { slot < 14 }
-    ensures { IsTrue result ↔ (b ≡ home_of (slot_hash geometry.now (slice_index words.now) 0 b slot)) }
+    requires place { IsPlace geometry.now place }
+    ensures { IsTrue result ↔ (place.bucket ≡ home_of (slot_hash geometry.now (slice_index words.now) place.segment place.bucket place.slot)) }
 {
-    let hash = record_hash(geometry, key_in(geometry, words, b, slot));
-    hash_word::home(hash) == b
+    hash_word::home(hash_in(geometry, words, place)) == place.bucket
+}
+
+/// Whether a segment owns the record in one of its slots.
+pub(crate) fn is_own(geometry: &Geometry, words: &[u64], place: Place) -> bool
+    requires whole { length words.now ≡ words_of geometry.now }
+    requires divided { IsDivided geometry.now (slice_index words.now) }
+    requires place { IsPlace geometry.now place }
+    ensures { IsTrue result ↔ Owns (frame_of geometry.now (slice_index words.now)) place.segment (slot_hash geometry.now (slice_index words.now) place.segment place.bucket place.slot) }
+{
+    owns(geometry, words, place.segment, hash_in(geometry, words, place))
+}
+
+/// Whether two places of a segment have records of one key.
+fn is_twin(geometry: &Geometry, words: &[u64], place: Place, other: Place) -> bool
+    requires whole { length words.now ≡ words_of geometry.now }
+    requires place { IsPlace geometry.now place }
+    requires other { IsPlace geometry.now other }
+    requires segment { other.segment ≡ place.segment }
+    ensures { IsTrue result ↔ IsTwin geometry.now (slice_index words.now) place other }
+{
+    is_taken(geometry, words, other)
+        && key_in(geometry, words, other) == key_in(geometry, words, place)
 }
 
 impl RecordRule {
-    /// Whether the rule holds of the record in a slot.
-    fn holds(self, geometry: &Geometry, words: &[u64], b: u8, slot: u8) -> bool
+    /// Whether the rule allows two records of a key.
+    fn agrees(self, geometry: &Geometry, words: &[u64], place: Place, other: Place) -> bool
         requires whole { length words.now ≡ words_of geometry.now }
-        requires bucket { b < 66 }
-        requires slot { slot < 14 }
-        ensures { IsTrue result ↔ Follows geometry.now (slice_index words.now) self b slot }
+        requires place { IsPlace geometry.now place }
+        requires other { IsPlace geometry.now other }
+        ensures { IsTrue result ↔ Agrees geometry.now (slice_index words.now) self place other }
     {
         match self {
-            RecordRule::Home => is_at_home(geometry, words, b, slot),
-            RecordRule::Marks => is_marked(geometry, words, b, slot),
-            RecordRule::Value => has_one_value(geometry, words, b, slot),
-            RecordRule::Once => is_first(geometry, words, b, slot),
+            RecordRule::Value => {
+                value_in(geometry, words, other) == value_in(geometry, words, place)
+            }
+            RecordRule::Home | RecordRule::Stand | RecordRule::Once => false,
+        }
+    }
+
+    /// Whether the rule allows the records of the key in slots of bucket `c` below a limit.
+    fn agree_below(self, geometry: &Geometry, words: &[u64], place: Place, c: u8, limit: u8) -> bool
+        requires whole { length words.now ≡ words_of geometry.now }
+        requires place { IsPlace geometry.now place }
+        requires bucket { c < 66 }
+        requires limit { limit ≤ 14 }
+        ensures { IsTrue result ↔ AgreeBelow geometry.now (slice_index words.now) self place c limit }
+    {
+        for slot in 0..limit {
+            let other = Place {
+                bucket: c,
+                slot,
+                ..place
+            };
+            if is_twin(geometry, words, place, other)
+                && !self.agrees(geometry, words, place, other)
+            {
+                return false;
+            }
+        }
+        true
+    }
+
+    /// Whether the rule allows the records of the key in bucket `c` that are before this one.
+    fn agree_in(self, geometry: &Geometry, words: &[u64], place: Place, c: u8) -> bool
+        requires whole { length words.now ≡ words_of geometry.now }
+        requires place { IsPlace geometry.now place }
+        requires bucket { c < 66 }
+        ensures { IsTrue result ↔ AgreeIn geometry.now (slice_index words.now) self place c }
+    {
+        let limit = if c < place.bucket {
+            SLOTS
+        } else if c == place.bucket {
+            place.slot
+        } else {
+            0
+        };
+        self.agree_below(geometry, words, place, c, limit)
+    }
+
+    /// Whether the rule allows the records of the key that are before this one in its segment, whose own it is. Those
+    /// are the segment's own too, so they stand in their home bucket, in their probing bucket or in the stash, which are
+    /// those of this one.
+    pub(crate) fn agree_before(self, geometry: &Geometry, words: &[u64], place: Place) -> bool
+        requires whole { length words.now ≡ words_of geometry.now }
+        requires standing { IsStanding geometry.now (slice_index words.now) }
+        requires place { IsPlace geometry.now place }
+        requires own { Owns (frame_of geometry.now (slice_index words.now)) place.segment (slot_hash geometry.now (slice_index words.now) place.segment place.bucket place.slot) }
+        ensures { IsTrue result ↔ AgreeBefore geometry.now (slice_index words.now) self place }
+    {
+        let home = hash_word::home(hash_in(geometry, words, place));
+        if !self.agree_in(geometry, words, place, home) {
+            return false;
+        }
+        if !self.agree_in(geometry, words, place, (home + 1) % HOMES) {
+            return false;
+        }
+        if !self.agree_in(geometry, words, place, HOMES) {
+            return false;
+        }
+        self.agree_in(geometry, words, place, HOMES + 1)
+    }
+
+    /// Whether the rule holds of the record in a slot.
+    fn holds(self, geometry: &Geometry, words: &[u64], place: Place) -> bool
+        requires whole { length words.now ≡ words_of geometry.now }
+        requires needs { Needs geometry.now (slice_index words.now) self }
+        requires place { IsPlace geometry.now place }
+        ensures { IsTrue result ↔ Follows geometry.now (slice_index words.now) self place.segment place.bucket place.slot }
+    {
+        match self {
+            RecordRule::Home => is_at_home(geometry, words, place),
+            RecordRule::Stand => {
+                !is_own(geometry, words, place) || stands_right(geometry, words, place)
+            }
+            RecordRule::Value => {
+                !is_own(geometry, words, place) || self.agree_before(geometry, words, place)
+            }
+            RecordRule::Once => {
+                is_own(geometry, words, place) && self.agree_before(geometry, words, place)
+            }
         }
     }
 
     /// The first slot of a bucket with a record of which the rule does not hold.
-    pub(crate) fn first_broken(self, geometry: &Geometry, words: &[u64], b: u8) -> Option<u8>
+    pub(crate) fn first_broken(self, geometry: &Geometry, words: &[u64], s: u64, b: u8) -> Option<u8>
         requires whole { length words.now ≡ words_of geometry.now }
+        requires needs { Needs geometry.now (slice_index words.now) self }
+        requires segment { s < geometry.now.segments }
         requires bucket { b < 66 }
-        ensures some { IfSome result (λ slot. IsFirstBroken geometry.now (slice_index words.now) self b slot) }
-        ensures none { IfNone result (FollowBelow geometry.now (slice_index words.now) self b 14) }
+        ensures some { IfSome result (λ slot. IsFirstBroken geometry.now (slice_index words.now) self s b slot) }
+        ensures none { IfNone result (FollowBelow geometry.now (slice_index words.now) self s b 14) }
     {
         for slot in 0..SLOTS {
-            if is_taken(geometry, words, b, slot) && !self.holds(geometry, words, b, slot) {
+            let place = Place {
+                segment: s,
+                bucket: b,
+                slot,
+            };
+            if is_taken(geometry, words, place) && !self.holds(geometry, words, place) {
                 return Some(slot);
             }
         }
         None
     }
 
-    /// The word of the key of the first record of the segment of which the rule does not hold.
-    pub(crate) fn first_key(self, geometry: &Geometry, words: &[u64]) -> Option<u64>
+    /// The word of the key of the first record of a segment of which the rule does not hold.
+    pub(crate) fn first_key(self, geometry: &Geometry, words: &[u64], s: u64) -> Option<u64>
         requires whole { length words.now ≡ words_of geometry.now }
-        ensures some { IfSome result (λ w. IsFirstKey geometry.now (slice_index words.now) self w) }
-        ensures none { IfNone result (BucketsFollow geometry.now (slice_index words.now) self 66) }
+        requires needs { Needs geometry.now (slice_index words.now) self }
+        requires segment { s < geometry.now.segments }
+        ensures some { IfSome result (λ w. IsFirstKey geometry.now (slice_index words.now) self s w) }
+        ensures none { IfNone result (BucketsFollow geometry.now (slice_index words.now) self s 66) }
     {
         for b in 0..BUCKETS {
-            if let Some(slot) = self.first_broken(geometry, words, b) {
-                let key = bucket_word(geometry, b) + 4 + 2 * usize::from(slot);
+            if let Some(slot) = self.first_broken(geometry, words, s, b) {
+                let key = bucket_word(geometry, s, b) + 4 + 2 * usize::from(slot);
                 return Some(key as u64);
+            }
+        }
+        None
+    }
+
+    /// The word of the key of the first record of the image of which the rule does not hold.
+    pub(crate) fn first_of_all(self, geometry: &Geometry, words: &[u64]) -> Option<u64>
+        requires whole { length words.now ≡ words_of geometry.now }
+        requires needs { Needs geometry.now (slice_index words.now) self }
+        ensures some { IfSome result (λ w. IsFirstOfAll geometry.now (slice_index words.now) self w) }
+        ensures none { IfNone result (SegmentsFollow geometry.now (slice_index words.now) self geometry.now.segments) }
+    {
+        for s in 0..geometry.segments() {
+            if let Some(word) = self.first_key(geometry, words, s) {
+                return Some(word);
             }
         }
         None

@@ -1,19 +1,18 @@
 //! The rules of a sound image one by one, and rule 8: each says at which word it is broken first.
 
-ghost use Rattle.std.specs.Prelude.{◌≡◌, ℕ, ◌+◌, ◌%◌, ◌^◌, ◌<◌, ◌↔◌, IfSome, IfNone, IsTrue, length, slice_index};
+ghost use Rattle.std.specs.Prelude.{◌≡◌, ℕ, ◌+◌, ◌%◌, ◌^◌, ◌<◌, ◌≤◌, ◌↔◌, IfSome, IfNone, IsTrue, length, slice_index};
 ghost use Rattle.image_layout.specs.Places.{words_of};
 ghost use Rattle.segment_head.specs.HeadWord.{version_in, state_in, depth_in, normal};
 ghost use Rattle.sound_image.specs.Segments.{frame_of};
 ghost use Rattle.sound_image.specs.Directory.{HeadInRange, LinkInRange};
-ghost use Rattle.sound_image.specs.Rules.{NumbersFit, EntriesLead, RecordsStandRight, KeysHaveOneValue, CleanMeansRepaired};
+ghost use Rattle.sound_image.specs.Rules.{NumbersFit, RecordsStandRight, KeysHaveOneValue, VersionsArePast};
 ghost use Rattle.image_file.specs.Breach.{IsLeast};
 ghost use Rattle.image_file.specs.Stage.{IsServed, PassesRule8};
-ghost use Rattle.image_file.specs.Unnoted.{HasNote, IsUnnoted};
-ghost use Rattle.image_file.specs.Slots.{IsBrokenIn, IsRepairedAt};
-ghost use Rattle.image_file.specs.Given.{IsServedImage};
+ghost use Rattle.image_file.specs.Divided.{IsDivided};
+ghost use Rattle.image_file.specs.Slots.{IsStanding};
 
 use crate::formatted::STATE_WORD;
-use crate::records::{BUCKETS, HOMES, RecordRule, bucket_word};
+use crate::records::RecordRule;
 use image_layout::Geometry;
 
 /// The word of the number of slots for segments.
@@ -21,9 +20,6 @@ const SEGMENTS_WORD: u64 = 2;
 
 /// The word of the directory's depth.
 pub(crate) const ROOT_WORD: usize = 8;
-
-/// The first word of the directory, the entry of depth 0.
-const ENTRY_WORD: usize = 32;
 
 /// Whether a header word is in its range.
 fn head_in_range(geometry: &Geometry, words: &[u64], s: u64) -> bool
@@ -97,99 +93,48 @@ pub(crate) fn rule_eight(geometry: &Geometry, words: &[u64]) -> Option<u64>
     if !is_whole_table(words[header as usize], words[STATE_WORD]) {
         return Some(header);
     }
-    RecordRule::Home.first_key(geometry, words)
+    RecordRule::Home.first_key(geometry, words, 0)
 }
 
-/// The least word at which rule 3 is broken: the directory's entry does not lead to the segment.
-pub(crate) fn rule_three(geometry: &Geometry, words: &[u64]) -> Option<u64>
-    requires whole { length words.now ≡ words_of geometry.now }
-    requires served { IsServedImage geometry.now (slice_index words.now) }
-    ensures none { IfNone result ((w : ℕ) → EntriesLead geometry.now (slice_index words.now) w) }
-    ensures some { IfSome result (λ w. IsLeast (EntriesLead geometry.now (slice_index words.now)) w) }
-{
-    let _ = geometry.segments();
-    if words[ENTRY_WORD] == 0 {
-        None
-    } else {
-        Some(ENTRY_WORD as u64)
-    }
-}
-
-/// The least word at which rule 4 is broken: a record has a membership bit or another fingerprint.
+/// The least word at which rule 4 is broken: a record in its owner does not stand where it is looked for.
 pub(crate) fn rule_four(geometry: &Geometry, words: &[u64]) -> Option<u64>
     requires whole { length words.now ≡ words_of geometry.now }
-    requires served { IsServedImage geometry.now (slice_index words.now) }
+    requires divided { IsDivided geometry.now (slice_index words.now) }
     ensures none { IfNone result ((w : ℕ) → RecordsStandRight geometry.now (slice_index words.now) w) }
     ensures some { IfSome result (λ w. IsLeast (RecordsStandRight geometry.now (slice_index words.now)) w) }
 {
-    RecordRule::Marks.first_key(geometry, words)
+    RecordRule::Stand.first_of_all(geometry, words)
 }
 
-/// The least word at which rule 5 is broken: a key stands twice with two values.
+/// The least word at which rule 5 is broken: a key stands twice in its owner with two values.
 pub(crate) fn rule_five(geometry: &Geometry, words: &[u64]) -> Option<u64>
     requires whole { length words.now ≡ words_of geometry.now }
-    requires served { IsServedImage geometry.now (slice_index words.now) }
+    requires standing { IsStanding geometry.now (slice_index words.now) }
     ensures none { IfNone result ((w : ℕ) → KeysHaveOneValue geometry.now (slice_index words.now) w) }
     ensures some { IfSome result (λ w. IsLeast (KeysHaveOneValue geometry.now (slice_index words.now)) w) }
 {
-    RecordRule::Value.first_key(geometry, words)
+    RecordRule::Value.first_of_all(geometry, words)
 }
 
-/// Whether the first metadata word of a bucket has a note on this side: 0 for the bucket's own records, 1 for those
-/// of the bucket before it.
-fn has_note(meta: u64, side: u64) -> bool
-    ensures { IsTrue result ↔ HasNote meta side }
-{
-    for place in 0..4u32 {
-        if meta >> (28 + place) & 1 == 1 && meta >> (32 + place) & 1 == side {
-            return true;
-        }
-    }
-    false
-}
-
-/// Whether nothing is noted or counted of the records of home bucket `b`.
-fn is_unnoted(geometry: &Geometry, words: &[u64], b: u8) -> bool
+/// The version of a segment.
+pub(crate) fn version_of(geometry: &Geometry, words: &[u64], s: u64) -> u64
     requires whole { length words.now ≡ words_of geometry.now }
-    requires bucket { b < 64 }
-    ensures { IsTrue result ↔ IsUnnoted geometry.now (slice_index words.now) 0 b }
+    requires slot { s < geometry.now.segments }
+    ensures { result ≡ version_in ((frame_of geometry.now (slice_index words.now)).header s) }
 {
-    let meta = words[bucket_word(geometry, b) + 1];
-    let beside = words[bucket_word(geometry, (b + 1) % HOMES) + 1];
-    (meta >> 40) % 32 == 0 && !has_note(meta, 0) && !has_note(beside, 1)
+    words[geometry.head_at(s) as usize + 1] % 256
 }
 
-/// The least word of bucket `b` at which a clean image is not repaired: the bucket is locked, it has notes, or a key
-/// stands in it twice.
-fn bucket_breach(geometry: &Geometry, words: &[u64], b: u8) -> Option<u64>
+/// The least word at which rule 6 is broken: a version is above the image's.
+pub(crate) fn rule_six(geometry: &Geometry, words: &[u64]) -> Option<u64>
     requires whole { length words.now ≡ words_of geometry.now }
-    requires bucket { b < 66 }
-    ensures none { IfNone result ((w : ℕ) → IsRepairedAt geometry.now (slice_index words.now) b w) }
-    ensures some { IfSome result (λ w. IsBrokenIn geometry.now (slice_index words.now) b w) }
+    ensures none { IfNone result ((w : ℕ) → VersionsArePast geometry.now (slice_index words.now) w) }
+    ensures some { IfSome result (λ w. IsLeast (VersionsArePast geometry.now (slice_index words.now)) w) }
 {
-    let at = bucket_word(geometry, b);
-    if words[at] % 2 == 1 {
-        return Some(at as u64);
-    }
-    if b < HOMES && !is_unnoted(geometry, words, b) {
-        return Some(at as u64 + 1);
-    }
-    match RecordRule::Once.first_broken(geometry, words, b) {
-        Some(slot) => Some(at as u64 + 4 + 2 * u64::from(slot)),
-        None => None,
-    }
-}
-
-/// The least word at which rule 7 is broken: the image is marked clean, and is not as a clean one is.
-pub(crate) fn rule_seven(geometry: &Geometry, words: &[u64]) -> Option<u64>
-    requires whole { length words.now ≡ words_of geometry.now }
-    requires served { IsServedImage geometry.now (slice_index words.now) }
-    ensures none { IfNone result ((w : ℕ) → CleanMeansRepaired geometry.now (slice_index words.now) w) }
-    ensures some { IfSome result (λ w. IsLeast (CleanMeansRepaired geometry.now (slice_index words.now)) w) }
-{
-    for b in 0..BUCKETS {
-        if let Some(word) = bucket_breach(geometry, words, b) {
-            return Some(word);
+    let version = words[STATE_WORD] % 256;
+    for s in 0..geometry.segments() {
+        if version_of(geometry, words, s) > version {
+            return Some(geometry.head_at(s) + 1);
         }
     }
     None

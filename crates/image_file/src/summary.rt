@@ -1,26 +1,28 @@
 //! What an image holds.
 
-ghost use Rattle.std.specs.Prelude.{◌≡◌, ℕ, ◌/◌, ◌%◌, ◌^◌, ◌<◌, ◌↔◌, List, length, slice_index, option_to_list, IfOk, IsTrue};
+ghost use Rattle.std.specs.Prelude.{◌≡◌, ℕ, ◌/◌, ◌%◌, ◌^◌, ◌*◌, ◌<◌, ◌↔◌, List, length, slice_index, IfOk, IfSome, IfNone, IsTrue};
 ghost use Rattle.std.specs.List.Sorted.{IsStrictlyIncreasing};
 ghost use Rattle.image_layout.specs.Places.{words_of};
 ghost use Rattle.sound_image.specs.Segments.{frame_of, image_version, IsClean};
 ghost use Rattle.sound_image.specs.Image.{IsSoundImage};
-ghost use Rattle.image_file.specs.Stage.{PassesRule8};
-ghost use Rattle.image_file.specs.Pairs.{live_slots, pair_if_there, pairs_below, keys_of, ArePairs};
+ghost use Rattle.sound_image.specs.Rules.{KeysHaveOneValue};
+ghost use Rattle.image_file.specs.Slots.{IsStanding};
+ghost use Rattle.image_file.specs.Pairs.{live_slots, keys_of, ArePairs, place_at, pair_at, IsFirstAt, ArePairsBelow};
 
 use crate::formatted::STATE_WORD;
 use crate::medium::Medium;
-use crate::records::{is_taken, key_in, value_in};
+use crate::place::{Place, is_taken, key_in, value_in};
+use crate::records::{RecordRule, is_own};
 use crate::rules::ROOT_WORD;
 use image_layout::Geometry;
 use map_model::NoMemory;
 use std::alloc::Global;
 
 /// How many record slots a segment has: 14 in each of 66 buckets.
-const RECORD_SLOTS: u16 = 924;
+const RECORD_SLOTS: u64 = 924;
 
 /// How many record slots a bucket has.
-const BUCKET_SLOTS: u16 = 14;
+const BUCKET_SLOTS: u64 = 14;
 
 /// An image in numbers.
 #[derive(Clone, Copy, Debug, PartialEq, Eq)]
@@ -59,46 +61,67 @@ fn is_clean(status: u64) -> bool
     (status >> 8) % 2 == 1
 }
 
-/// The pair in record slot `place` of the first segment, 0 to 923, bucket by bucket.
-fn pair_at(geometry: &Geometry, words: &[u64], place: u16) -> Option<(u64, u64)>
-    requires whole { length words.now ≡ words_of geometry.now }
-    requires place { place < 924 }
-    ensures { option_to_list result ≡ pair_if_there geometry.now (slice_index words.now) place }
+/// Record slot `n` of an image, of the 924 of each segment, bucket by bucket.
+fn place_of(n: u64) -> Place
+    requires { n < 15138816 }
+    ensures { result ≡ place_at n }
 {
-    let b = (place / BUCKET_SLOTS) as u8;
-    let slot = (place % BUCKET_SLOTS) as u8;
-    if is_taken(geometry, words, b, slot) {
+    Place {
+        segment: n / RECORD_SLOTS,
+        bucket: (n % RECORD_SLOTS / BUCKET_SLOTS) as u8,
+        slot: (n % BUCKET_SLOTS) as u8,
+    }
+}
+
+/// The pair in record slot `n`, if it has a record that is its segment's own and the first of its key there.
+fn pair_in(geometry: &Geometry, words: &[u64], n: u64) -> Option<(u64, u64)>
+    requires whole { length words.now ≡ words_of geometry.now }
+    requires standing { IsStanding geometry.now (slice_index words.now) }
+    requires slot { n < 924 * geometry.now.segments }
+    ensures some { IfSome result (λ pair. IsFirstAt geometry.now (slice_index words.now) n × (pair ≡ pair_at geometry.now (slice_index words.now) n)) }
+    ensures none { IfNone result (IsFirstAt geometry.now (slice_index words.now) n → ⊥) }
+{
+    let _ = geometry.segments();
+    let place = place_of(n);
+    if is_taken(geometry, words, place)
+        && is_own(geometry, words, place)
+        && RecordRule::Once.agree_before(geometry, words, place)
+    {
         Some((
-            key_in(geometry, words, b, slot),
-            value_in(geometry, words, b, slot),
+            key_in(geometry, words, place),
+            value_in(geometry, words, place),
         ))
     } else {
         None
     }
 }
 
-/// How many record slots of the first segment have a record.
+/// How many pairs an image has.
 fn count_pairs(geometry: &Geometry, words: &[u64]) -> u64
     requires whole { length words.now ≡ words_of geometry.now }
-    ensures { result ≡ length (pairs_below geometry.now (slice_index words.now) 924) }
+    requires standing { IsStanding geometry.now (slice_index words.now) }
+    requires values { (w : ℕ) → KeysHaveOneValue geometry.now (slice_index words.now) w }
+    ensures { (pairs : List (ℕ × ℕ)) × ArePairsBelow geometry.now (slice_index words.now) (924 * geometry.now.segments) pairs × (result ≡ length pairs) }
 {
     let mut count = 0;
-    for place in 0..RECORD_SLOTS {
-        if pair_at(geometry, words, place).is_some() {
+    for n in 0..RECORD_SLOTS * geometry.segments() {
+        if let Some(_) = pair_in(geometry, words, n) {
             count += 1;
         }
     }
     count
 }
 
-/// The pairs of the first segment, in the order of their record slots.
+/// The pairs of an image, in the order of their record slots.
 fn all_pairs(alloc: Global, geometry: &Geometry, words: &[u64]) -> Result<Vec<(u64, u64)>, NoMemory>
     requires whole { length words.now ≡ words_of geometry.now }
-    ensures { IfOk result (λ pairs. pairs.items ≡ pairs_below geometry.now (slice_index words.now) 924) }
+    requires standing { IsStanding geometry.now (slice_index words.now) }
+    requires values { (w : ℕ) → KeysHaveOneValue geometry.now (slice_index words.now) w }
+    ensures { IfOk result (λ pairs. ArePairsBelow geometry.now (slice_index words.now) (924 * geometry.now.segments) pairs.items) }
 {
     let mut pairs = Vec::new(alloc);
-    for place in 0..RECORD_SLOTS {
-        match pair_at(geometry, words, place) {
+    for n in 0..RECORD_SLOTS * geometry.segments() {
+        match pair_in(geometry, words, n) {
             Some(pair) => {
                 pairs.push(pair)?;
             }
@@ -111,7 +134,6 @@ fn all_pairs(alloc: Global, geometry: &Geometry, words: &[u64]) -> Result<Vec<(u
 /// An image in numbers.
 pub fn check(medium: &Medium) -> Summary
     requires sound { IsSoundImage medium.now.geometry medium.now.words }
-    requires served { PassesRule8 medium.now.geometry (slice_index medium.now.words) }
     ensures version { result.version ≡ image_version (frame_of medium.now.geometry (slice_index medium.now.words)) }
     ensures depth { result.depth ≡ (frame_of medium.now.geometry (slice_index medium.now.words)).root }
     ensures live { result.live ≡ length (live_slots (frame_of medium.now.geometry (slice_index medium.now.words)) medium.now.geometry.segments) }
@@ -135,7 +157,6 @@ pub fn check(medium: &Medium) -> Summary
 /// `NoMemory` if memory runs out.
 pub fn list(alloc: Global, medium: &Medium) -> Result<Vec<(u64, u64)>, NoMemory>
     requires sound { IsSoundImage medium.now.geometry medium.now.words }
-    requires served { PassesRule8 medium.now.geometry (slice_index medium.now.words) }
     ensures pairs { IfOk result (λ pairs. ArePairs medium.now.geometry (slice_index medium.now.words) pairs.items) }
     ensures rising { IfOk result (λ pairs. IsStrictlyIncreasing (keys_of pairs.items)) }
 {

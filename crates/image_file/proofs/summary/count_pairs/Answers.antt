@@ -1,29 +1,38 @@
--- A record slot more counts one where it has a pair.
-use Rattle.std.proofs.Common.{◌≡◌, ℕ, ◌∙◌, sym, ap, arith, length, slice_index}
-use Rattle.image_file.specs.Pairs.{pairs_below}
-use Rattle.image_file.proofs.Listed.{length_more, nothing_below, counts_one, counts_none}
+-- A record slot more counts one, if it is the first of its key.
+use Rattle.std.proofs.Common.{◌≡◌, ℕ, ◌+◌, ◌*◌, ◌<◌, ◌++◌, ◌∷◌, [], List, refl, arith, length, length-append, slice_index}
+use Rattle.image_file.specs.Pairs.{pair_at}
+use Rattle.image_file.proofs.Listed.{none_below, one_added, one_skipped}
 use Rattle.image_file.proofs.summary.count_pairs.Goals as goal
-use Rattle.image_file.proofs.summary.count_pairs.Goals.{then-is_some, else-is_some}
+use Rattle.image_file.proofs.summary.count_pairs.Goals.{in-Some, in_default}
 
-pub loop-place-init : goal.loop-place-init
-loop-place-init c =
-    record { counted = ap length (sym (nothing_below c.args.geometry.now (slice_index c.args.words.now))); few = omega arith }
+pub loop-n-init : goal.loop-n-init
+loop-n-init c = record { counted = ([], none_below c.args.geometry.now (slice_index c.args.words.now), refl); few = omega arith }
 
-pub loop-place-preserved : goal.loop-place-preserved
-loop-place-preserved c =
-    let more = length_more c.args.geometry.now (slice_index c.args.words.now) c.loop-place.place c.pair_at.result c.pair_at.ensures in
-    let before = c.loop-place.invariant.counted in
-    let few = c.loop-place.invariant.few in
-    elim c.if-is_some.branch [
-      | then-is_some w ↦
-          let one = counts_one c.pair_at.result (sym c.is_some.ensures ∙ w.if-is_some.true) in
-          record { counted = omega (arith, more, before, one, w.count-is); few = omega (arith, few, w.count-is) }
-      | else-is_some w ↦
-          let none = counts_none c.pair_at.result (sym c.is_some.ensures ∙ w.if-is_some.false) in
-          record { counted = omega (arith, more, before, none, w.count-is); few = omega (arith, few, w.count-is) }
+pub loop-n-preserved : goal.loop-n-preserved
+loop-n-preserved c =
+    let shape = c.args.geometry.now in
+    let word = slice_index c.args.words.now in
+    let below : c.loop-n.n < 924 * shape.segments = omega (arith, c.loop-n-test.true, c.segments-n-end.ensures.is) in
+    let before = c.loop-n.invariant.counted in
+    let few = c.loop-n.invariant.few in
+    elim c.match-pair_in.branch [
+      | in-Some w ↦
+          let longer = length-append before.0 (pair_at shape word c.loop-n.n ∷ []) in
+          record {
+            counted = (
+              before.0 ++ pair_at shape word c.loop-n.n ∷ [],
+              one_added shape word c.requires.standing c.requires.values c.loop-n.n below before.0 before.1 w.in-Some.ensures.some.0,
+              omega (arith, longer, before.2, w.count-is),
+            );
+            few = omega (arith, few, w.count-is);
+          }
+      | in_default w ↦
+          record {
+            counted = (
+              before.0,
+              one_skipped shape word c.requires.standing c.requires.values c.loop-n.n below before.0 before.1 w.in_default.ensures.none,
+              omega (arith, before.2, w.count-is),
+            );
+            few = omega (arith, few, w.count-is);
+          }
     ]
-
-pub returns : goal.returns
-returns c =
-    let last : c.loop-place.place ≡ 924 = omega arith in
-    c.loop-place.invariant.counted ∙ ap (λ (n : ℕ). length (pairs_below c.args.geometry.now (slice_index c.args.words.now) n)) last

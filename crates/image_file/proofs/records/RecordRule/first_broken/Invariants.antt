@@ -3,4 +3,4 @@ use Rattle.image_file.specs.Slots.{FollowBelow}
 use Rattle.image_file.proofs.records.RecordRule.first_broken.Given as goal
 
 abbrev pub invariant-loop-slot : goal.invariant-loop-slot
-invariant-loop-slot l = FollowBelow l.geometry (slice_index l.words) l.self l.b l.slot
+invariant-loop-slot l = FollowBelow l.geometry (slice_index l.words) l.self l.s l.b l.slot

@@ -3,4 +3,4 @@ use Rattle.image_file.specs.Slots.{BucketsFollow}
 use Rattle.image_file.proofs.records.RecordRule.first_key.Given as goal
 
 abbrev pub invariant-loop-b : goal.invariant-loop-b
-invariant-loop-b l = BucketsFollow l.geometry (slice_index l.words) l.self l.b
+invariant-loop-b l = BucketsFollow l.geometry (slice_index l.words) l.self l.s l.b

@@ -1,0 +1,15 @@
+-- The records before it agree where those of the four buckets do.
+use Rattle.std.proofs.Common.{◌<◌, ◌∙◌, ap, refl, arith, slice_index}
+use Rattle.hash_word.specs.Hash.{home_of}
+use Rattle.image_file.proofs.Twins.{before-in, four-before}
+use Rattle.image_file.proofs.records.RecordRule.agree_before.Goals as goal
+
+pub returns : goal.returns
+returns c = (
+  (λ last.
+  four-before c.args.geometry.now (slice_index c.args.words.now) c.args.self c.args.place c.requires.place c.requires.standing c.requires.own
+  c.home-home.result (c.home-home.ensures.of ∙ ap home_of c.hash_in.ensures) (c.if-not-agree_in.ensures.0 refl) (c.if-not-agree_in-2.ensures.0 refl)
+  (c.if-not-agree_in-3.ensures.0 refl) (c.agree_in-4.ensures.0 last)),
+  (λ all. c.agree_in-4.ensures.1
+  (before-in c.args.geometry.now (slice_index c.args.words.now) c.args.self c.args.place c.requires.place all 65 (omega arith))),
+)
