@@ -1,5 +1,8 @@
 //! The time that the steps take.
 
+ghost use Rattle.std.specs.Prelude.{IfOk};
+ghost use Rattle.sound_image.specs.Image.{IsSoundImage};
+
 use image_file::{Medium, check, format, list, sound_from_bytes, to_bytes};
 use image_layout::Geometry;
 use std::alloc::Global;
@@ -31,11 +34,19 @@ pub(crate) fn print_small(alloc: Global, rt: &impl Print) -> io::Result<()> {
     };
     let summary = check(&medium);
     println!(rt; "bytes {}", bytes.len())?;
-    println!(rt; "version {} depth {} live {} pairs {}", summary.version, summary.depth, summary.live, summary.pairs)
+    println!(rt;
+        "version {} depth {} live {} pairs {}",
+        summary.version, summary.depth, summary.live, summary.pairs
+    )
 }
 
 /// Reads the image of a file.
-fn print_load<R: Files + Alloc<A = Global> + Print + Clock>(rt: &R, path: &str) -> io::Result<Medium> {
+fn print_load<R: Files + Alloc<A = Global> + Print + Clock>(
+    rt: &R,
+    path: &str,
+) -> io::Result<Medium>
+    ensures { IfOk result (λ medium. IsSoundImage medium.geometry medium.words) }
+{
     let start = Instant::now(rt)?;
     let bytes = fs::read(rt, path)?;
     println!(rt; "read {} {}", start.elapsed(rt)?.as_nanos(), bytes.len())?;
@@ -48,7 +59,9 @@ fn print_load<R: Files + Alloc<A = Global> + Print + Clock>(rt: &R, path: &str) 
 }
 
 /// Tells what an image holds.
-fn print_held<R: Alloc<A = Global> + Print + Clock>(rt: &R, medium: &Medium) -> io::Result<()> {
+fn print_held<R: Alloc<A = Global> + Print + Clock>(rt: &R, medium: &Medium) -> io::Result<()>
+    requires { IsSoundImage medium.now.geometry medium.now.words }
+{
     let start = Instant::now(rt)?;
     let summary = check(medium);
     println!(rt; "check {} {}", start.elapsed(rt)?.as_nanos(), summary.pairs)?;
@@ -60,7 +73,13 @@ fn print_held<R: Alloc<A = Global> + Print + Clock>(rt: &R, medium: &Medium) -> 
 }
 
 /// Writes an image to a file.
-fn print_store<R: Files + Alloc<A = Global> + Print + Clock>(rt: &R, medium: &Medium, path: &str) -> io::Result<()> {
+fn print_store<R: Files + Alloc<A = Global> + Print + Clock>(
+    rt: &R,
+    medium: &Medium,
+    path: &str,
+) -> io::Result<()>
+    requires { IsSoundImage medium.now.geometry medium.now.words }
+{
     let start = Instant::now(rt)?;
     let Ok(bytes) = to_bytes(rt.alloc(), medium) else {
         return Err(no_memory());
@@ -72,7 +91,11 @@ fn print_store<R: Files + Alloc<A = Global> + Print + Clock>(rt: &R, medium: &Me
 }
 
 /// Reads the image at one path, tells what it holds, and writes it to the other, and prints what each step took.
-pub(crate) fn print_times<R: Files + Alloc<A = Global> + Print + Clock>(rt: &R, image: &str, copy: &str) -> io::Result<()> {
+pub(crate) fn print_times<R: Files + Alloc<A = Global> + Print + Clock>(
+    rt: &R,
+    image: &str,
+    copy: &str,
+) -> io::Result<()> {
     let medium = print_load(rt, image)?;
     print_held(rt, &medium)?;
     print_store(rt, &medium, copy)
