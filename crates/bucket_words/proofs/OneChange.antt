@@ -42,37 +42,37 @@ module _ (shape : Shape) (front word : Words) (table : IsHomeTable shape front w
     not_this : (t : ℕ) → IsTaken word at t → t ≢ r
     not_this t taken e = not_both _ taken (ap (λ t. allocated t (word (at + 1))) e ∙ free)
 
-    abbrev by_key : Words
-    by_key = with_word word (at + 4 + 2 * r) x
+    -- word m of the bucket is the key or the value of the slot
+    module _ (m i : ℕ) (from : 4 + 2 * r ≤ m) (to : m ≤ 5 + 2 * r) (place : i ≡ at + m) where
+      abbrev stored : Words
+      stored = with_word word i x
 
-    key_kept : (m j : ℕ) → j ≡ at + m → m ≢ 4 + 2 * r → by_key j ≡ word j
-    key_kept m j place apart = other_word shape front word table b (4 + 2 * r) x (at + 4 + 2 * r) (omega arith) (omega arith) m j place apart
+      in_bucket : m < 32
+      in_bucket = omega (arith, slot, to)
 
-    pub key_keeps : KeepsTable shape front word by_key
-    key_keeps =
-        keeps shape front word by_key table
-        (kept_front shape front word table b (4 + 2 * r) x (at + 4 + 2 * r) (omega arith) (omega arith)) b
-        (other_bucket shape front word table b (4 + 2 * r) x (at + 4 + 2 * r) (omega arith) (omega arith))
-        (λ t slot_t. slot_of_words word by_key at t (key_kept 1 (at + 1) refl (omega arith))
-        (λ taken. let apart = not_this t taken in key_kept (4 + 2 * t) (at + 4 + 2 * t) (omega arith) (λ e. apart (omega (arith, e))))
-        (λ taken. key_kept (5 + 2 * t) (at + 5 + 2 * t) (omega arith) (λ e. omega (arith, e)))
-        (λ taken. finger_of_words t _ _ _ _ (key_kept 2 (at + 2) refl (omega arith)) (key_kept 3 (at + 3) refl (omega arith))))
+      stored_kept : (n j : ℕ) → j ≡ at + n → n ≢ m → stored j ≡ word j
+      stored_kept n j there apart = other_word shape front word table b m x i in_bucket place n j there apart
 
-    abbrev by_value : Words
-    by_value = with_word word (at + 5 + 2 * r) x
+      not_its_key : (t : ℕ) → t ≢ r → 4 + 2 * t ≢ m
+      not_its_key t apart e = apart (omega (arith, e, from, to))
 
-    value_kept : (m j : ℕ) → j ≡ at + m → m ≢ 5 + 2 * r → by_value j ≡ word j
-    value_kept m j place apart = other_word shape front word table b (5 + 2 * r) x (at + 5 + 2 * r) (omega arith) (omega arith) m j place apart
+      not_its_value : (t : ℕ) → t ≢ r → 5 + 2 * t ≢ m
+      not_its_value t apart e = apart (omega (arith, e, from, to))
 
-    pub value_keeps : KeepsTable shape front word by_value
-    value_keeps =
-        keeps shape front word by_value table
-        (kept_front shape front word table b (5 + 2 * r) x (at + 5 + 2 * r) (omega arith) (omega arith)) b
-        (other_bucket shape front word table b (5 + 2 * r) x (at + 5 + 2 * r) (omega arith) (omega arith))
-        (λ t slot_t. slot_of_words word by_value at t (value_kept 1 (at + 1) refl (omega arith))
-        (λ taken. value_kept (4 + 2 * t) (at + 4 + 2 * t) (omega arith) (λ e. omega (arith, e)))
-        (λ taken. let apart = not_this t taken in value_kept (5 + 2 * t) (at + 5 + 2 * t) (omega arith) (λ e. apart (omega (arith, e))))
-        (λ taken. finger_of_words t _ _ _ _ (value_kept 2 (at + 2) refl (omega arith)) (value_kept 3 (at + 3) refl (omega arith))))
+      record_word_keeps : KeepsTable shape front word stored
+      record_word_keeps =
+          keeps shape front word stored table (kept_front shape front word table b m x i in_bucket place) b
+          (other_bucket shape front word table b m x i in_bucket place)
+          (λ t slot_t. slot_of_words word stored at t (stored_kept 1 (at + 1) refl (λ e. omega (arith, e, from)))
+          (λ taken. stored_kept (4 + 2 * t) (at + 4 + 2 * t) (omega arith) (not_its_key t (not_this t taken)))
+          (λ taken. stored_kept (5 + 2 * t) (at + 5 + 2 * t) (omega arith) (not_its_value t (not_this t taken)))
+          (λ taken. finger_of_words t _ _ _ _ (stored_kept 2 (at + 2) refl (λ e. omega (arith, e, from))) (stored_kept 3 (at + 3) refl (λ e. omega (arith, e, from)))))
+
+    pub key_keeps : KeepsTable shape front word (with_word word (at + 4 + 2 * r) x)
+    key_keeps = record_word_keeps (4 + 2 * r) (at + 4 + 2 * r) (omega arith) (omega arith) (omega arith)
+
+    pub value_keeps : KeepsTable shape front word (with_word word (at + 5 + 2 * r) x)
+    value_keeps = record_word_keeps (5 + 2 * r) (at + 5 + 2 * r) (omega arith) (omega arith) (omega arith)
 
   -- FINGERPRINTS
   module _ (x : ℕ) where
