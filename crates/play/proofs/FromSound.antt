@@ -13,7 +13,7 @@ use Rattle.sound_image.specs.Records.{word_in, slot_key, slot_hash, HasRecord, H
 use Rattle.sound_image.specs.Rules.{StandsRight, IsCleanAndCurrent, CleanMeansRepaired}
 use Rattle.sound_image.specs.Image.{IsSoundImage}
 use Rattle.image_file.specs.Stage.{PassesRule8}
-use Rattle.image_file.specs.Unnoted.{IsUnstashed}
+use Rattle.play.specs.Unstashed.{IsUnstashed}
 use Rattle.play.specs.Served.{IsTaken, IsServedBucket, HasServedHead, IsServedTable}
 use Rattle.play.proofs.Hashes.{key_hash-fits, home_of-below}
 use Rattle.play.proofs.Notes.{each_empty, something_there, none_in_stash}

@@ -11,7 +11,7 @@ use Rattle.bucket_meta.specs.Notes.{numbers_below}
 use Rattle.image_layout.specs.Places.{Shape}
 use Rattle.sound_image.specs.Segments.{ImageWords}
 use Rattle.sound_image.specs.Records.{word_in, slot_hash, stashed_in, stashed_of}
-use Rattle.image_file.specs.Unnoted.{IsUnstashed}
+use Rattle.play.specs.Unstashed.{IsUnstashed}
 
 -- a list of pieces of which all are empty
 pub all_empty : {X : Type 0} (f : ℕ → List X) (n : ℕ) → ((i : ℕ) → i < n → f i ≡ []) → flat_map f (numbers_below n) ≡ []

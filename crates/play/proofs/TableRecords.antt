@@ -7,7 +7,7 @@ use Rattle.image_layout.specs.Places.{Shape, bucket_at}
 use Rattle.sound_image.specs.Records.{key_hash, word_in, slot_key, slot_hash, HasRecord, notes_in, notes_of, HasExactNotes}
 use Rattle.sound_image.specs.Rules.{StandsRight, SameValueAsBefore, NotBefore}
 use Rattle.play.specs.Served.{IsServedTable}
-use Rattle.image_file.specs.Unnoted.{IsUnstashed}
+use Rattle.play.specs.Unstashed.{IsUnstashed}
 use Rattle.play.proofs.Hashes.{home_of-below}
 use Rattle.play.proofs.Notes.{all_empty, nothing_there, none_in_stash}
 use Rattle.play.proofs.OneSegment.{is_first}

@@ -5,3 +5,4 @@ pub mod Opening
 pub mod Run
 pub mod Ran
 pub mod Played
+pub mod Unstashed
