@@ -12,7 +12,7 @@ use Rattle.script_text.specs.declared.line.Mode.TheVariants.{Play}
 use Rattle.script_text.specs.declared.fault.ScriptFault.{ScriptFault}
 use Rattle.script_text.specs.Script.{IsScript}
 use Rattle.script_text.proofs.Complete.{no_fault as no_script_fault}
-use Rattle.image_file.proofs.Accepted.{no_fault}
+use Rattle.image_file.proofs.Accepted.{served-no_fault}
 use Rattle.dash_top.specs.Commands.{check_words, list_words, play_words, IsNoCommand, ReadsImage}
 use Rattle.dash_top.specs.Commands.ReadsImage.{for_check, for_list, for_play}
 use Rattle.dash_top.specs.Told.{Told, RefusesImage, RefusesScript}
@@ -50,7 +50,7 @@ pub good_image_is_taken : (t : Told) (fault : ImageFault) → RefusesImage t.sto
 good_image_is_taken t fault refused good =
     let short : length good.start ≤ 282067200 = subst (λ (x : List ℕ). length x ≤ 282067200) (sym good.good.file) (file-le good.good.shape good.good.words good.good.sound) in
     let whole : refused.start ≡ good.start = whole_front t.store_old 282067200 refused.start good.start good.store_tells refused.reads short in
-    refused.not_memory (no_fault good.start good.good fault (subst (λ (x : List ℕ). HasFault x fault) whole refused.has_fault))
+    refused.not_memory (served-no_fault good.start good.good fault (subst (λ (x : List ℕ). HasFault x fault) whole refused.has_fault))
 
 -- THE WORDS: of two forms only one can be said
 check_is_no_list : (words : List (List ℕ)) → words ≡ check_words → words ≡ list_words → ⊥

@@ -11,8 +11,9 @@ use Rattle.sound_image.specs.Image.{image_bytes, SaysShape, IsSoundImage}
 use Rattle.image_file.specs.declared.fault.ImageFault.{ImageFault}
 use Rattle.image_file.specs.declared.fault.ImageFault.TheVariants.{Length, Magic, Format, Geometry, Unsound, NoMemory}
 use Rattle.image_file.specs.declared.breach.Scope.{Scope}
+use Rattle.image_file.specs.declared.breach.Scope.TheVariants.{Served}
 use Rattle.image_file.specs.Breach.{StageHoldsAt, HoldsAt, IsFirstBreach}
-use Rattle.image_file.specs.Fault.{word_in_file, shape_in, HasMagic, HasFormat, IsFramed, HasFaultIn, IsFileIn}
+use Rattle.image_file.specs.Fault.{word_in_file, shape_in, HasMagic, HasFormat, IsFramed, HasFaultIn, IsFileIn, HasFault, IsServedFile}
 use Rattle.image_file.proofs.FileWords.{length-image_bytes, words_there}
 
 -- A SHAPE that Geometry refuses is none
@@ -126,3 +127,8 @@ module _ (scope : Scope) (bytes : List ℕ) (f : IsFileIn scope bytes) where
   no_fault Geometry front = absurd (front.says served_in_range)
   no_fault (Unsound rule word) h = absurd (h.1.least.broken (served_holds rule word))
   no_fault NoMemory h = refl
+
+-- nor has the file of an image that the program serves
+pub served-no_fault : (bytes : List ℕ) → IsServedFile bytes → (fault : ImageFault) → HasFault bytes fault → fault ≡ NoMemory
+served-no_fault bytes f fault h =
+    no_fault Served bytes (record { shape = f.shape; words = f.words; sound = f.sound; stage = f.served; file = f.file }) fault h
