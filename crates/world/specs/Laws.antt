@@ -1,0 +1,37 @@
+-- The laws of the world, each to be read on its own.
+use Rattle.std.specs.Prelude.{◌≡◌, ℕ, List}
+use Rattle.std.proofs.Common.{set}
+use Rattle.trace.specs.Events.{Words}
+use Rattle.bucket_words.specs.Tables.{IsHomeTable, find}
+use Rattle.world.specs.Site.{Site}
+use Rattle.world.specs.Views.{View, At}
+use Rattle.world.specs.History.{Log}
+use Rattle.world.specs.Wants.{word_of, words_after}
+use Rattle.world.specs.Kinds.{Kind, wanted, view_after, May}
+use Rattle.world.specs.Media.{IsPossible, Stands}
+use Rattle.world.specs.Invariant.{History, Holds}
+
+module _ (site : Site) (kind : Kind) where
+  -- the word that a step finds
+  abbrev pub found_by : Words → ℕ
+  found_by words = words (word_of site.shape (wanted site.shape kind))
+
+  -- the words after it
+  abbrev pub words_by : ℕ → Words → Words
+  words_by j words = words_after site.shape (wanted site.shape kind) j words
+
+  -- the views after it
+  abbrev pub views_by : ℕ → View → Words → List View → List View
+  views_by j v words views = set views j (view_after site.shape kind (found_by words) v)
+
+  -- A STEP KEEPS THE INVARIANT, by a condition on the view of who takes it
+  abbrev pub Keeps : Type 0
+  Keeps = (words : Words) (views : List View) (j : ℕ) (v : View) → Holds site words views → At views j v → May site kind v
+      → Holds site (words_by j words) (views_by j v words views)
+
+-- WHAT A CUT MAY LEAVE is a table, and has for each key what one history, in which all replies are right, gives it, or
+-- what one change that is stored and not drawn does
+abbrev pub MediaStand : Type 0
+MediaStand = (site : Site) (words : Words) (views : List View) → Holds site words views
+    → (log : Log) × History site words views log
+    × ((medium : Words) → IsPossible site words views medium → IsHomeTable site.shape site.front medium × ((k : ℕ) → Stands site views log k (find site.shape medium k)))
