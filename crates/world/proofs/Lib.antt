@@ -1,0 +1,6 @@
+pub mod Grounds
+pub mod Tables
+pub mod Lists
+pub mod Seats
+pub mod KeepLocks
+pub mod KeepKnown

@@ -1,0 +1,41 @@
+-- What tables are by the cores of their words, as the parts of the invariant use it.
+use Rattle.std.proofs.Common.{◌≡◌, ℕ, zero, suc, ◌+◌, ◌<◌, Option, refl, sym, ◌∙◌, subst, arith}
+use Rattle.trace.specs.Events.{Words}
+use Rattle.image_layout.specs.Places.{Shape, IsShape, words_of}
+use Rattle.bucket_words.specs.Core.{core_of, core}
+use Rattle.bucket_words.specs.Tables.{IsHomeTable, home_at, find}
+use Rattle.world.specs.Site.{Site, IsSite, IsUnder}
+use Rattle.world.proofs.Grounds.{home_is_lock, lock_within, lock_core}
+
+-- ---- from bucket_words
+table_by_cores : (shape : Shape) (front word other : Words) → IsShape shape → shape.segments ≡ 1 → ((i : ℕ) → core shape word i ≡ core shape other i)
+    → IsHomeTable shape front word → IsHomeTable shape front other
+table_by_cores shape front word other is one same table = ?
+
+find_by_home : (shape : Shape) (word other : Words) → IsShape shape → shape.segments ≡ 1 → (k : ℕ)
+    → ((n : ℕ) → n < 32 → core shape word (home_at shape k + n) ≡ core shape other (home_at shape k + n)) → find shape word k ≡ find shape other k
+find_by_home shape word other is one k same = ?
+
+-- ---- over a site
+module _ (site : Site) (is : IsSite site) where
+  pub one_segment : site.shape.segments ≡ 1
+  one_segment = is.front.one_segment
+
+  pub same_table : (word other : Words) → ((i : ℕ) → core site.shape word i ≡ core site.shape other i) → IsHomeTable site.shape site.front word → IsHomeTable site.shape site.front other
+  same_table word other same table = table_by_cores site.shape site.front word other is.shape one_segment same table
+
+  -- what a key has depends on the cores of the image's words
+  pub same_find : (word other : Words) (k : ℕ) → ((i : ℕ) → i < words_of site.shape → core site.shape word i ≡ core site.shape other i) → find site.shape word k ≡ find site.shape other k
+  same_find word other k same = find_by_home site.shape word other is.shape one_segment k
+      (λ n near. same (home_at site.shape k + n) (let w = lock_within site.shape (home_at site.shape k) (home_is_lock site.shape k) one_segment in omega (arith, w, near)))
+
+  -- and on those that lie under its home lock
+  pub find_under : (word other : Words) (k : ℕ) → ((i : ℕ) → IsUnder (home_at site.shape k) i → core site.shape word i ≡ core site.shape other i) → find site.shape word k ≡ find site.shape other k
+  find_under word other k same = find_by_home site.shape word other is.shape one_segment k (λ n near. at n near)
+    where
+      at : (n : ℕ) → n < 32 → core site.shape word (home_at site.shape k + n) ≡ core site.shape other (home_at site.shape k + n)
+      at zero near = let e : home_at site.shape k + 0 ≡ home_at site.shape k = omega arith in
+          subst (λ (z : ℕ). core site.shape word z ≡ core site.shape other z) (sym e)
+            (lock_core site.shape (home_at site.shape k) (word (home_at site.shape k)) (home_is_lock site.shape k) one_segment
+              ∙ sym (lock_core site.shape (home_at site.shape k) (other (home_at site.shape k)) (home_is_lock site.shape k) one_segment))
+      at (suc n) near = same (home_at site.shape k + suc n) (omega arith, omega (arith, near))
