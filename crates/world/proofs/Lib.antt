@@ -4,3 +4,5 @@ pub mod Lists
 pub mod Seats
 pub mod KeepLocks
 pub mod KeepKnown
+pub mod KeepMedia
+pub mod KeepPlans

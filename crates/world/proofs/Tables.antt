@@ -1,10 +1,12 @@
 -- What tables are by the cores of their words, as the parts of the invariant use it.
-use Rattle.std.proofs.Common.{◌≡◌, ℕ, zero, suc, ◌+◌, ◌<◌, Option, refl, sym, ◌∙◌, subst, arith}
-use Rattle.trace.specs.Events.{Words}
+use Rattle.std.proofs.Common.{◌≡◌, ℕ, zero, suc, ◌+◌, ◌<◌, Option, refl, cond, sym, ap, ◌∙◌, subst, arith}
+use Rattle.trace.specs.Events.{Words, with_word}
+use Rattle.trace.proofs.Replaced.{cases_at, replaced_other}
 use Rattle.image_layout.specs.Places.{Shape, IsShape, words_of}
+use Rattle.image_layout.specs.Volatile.{counter_word}
 use Rattle.bucket_words.specs.Core.{core_of, core}
 use Rattle.bucket_words.specs.Tables.{IsHomeTable, home_at, find}
-use Rattle.world.specs.Site.{Site, IsSite, IsUnder}
+use Rattle.world.specs.Site.{Site, IsSite, IsLockWord, IsUnder}
 use Rattle.world.proofs.Grounds.{home_is_lock, lock_within, lock_core}
 
 -- ---- from bucket_words
@@ -39,3 +41,17 @@ module _ (site : Site) (is : IsSite site) where
             (lock_core site.shape (home_at site.shape k) (word (home_at site.shape k)) (home_is_lock site.shape k) one_segment
               ∙ sym (lock_core site.shape (home_at site.shape k) (other (home_at site.shape k)) (home_is_lock site.shape k) one_segment))
       at (suc n) near = same (home_at site.shape k + suc n) (omega arith, omega (arith, near))
+
+  -- a store that keeps its word's core keeps all cores
+  pub cores_replaced : (words : Words) (i x : ℕ) → core_of site.shape i x ≡ core_of site.shape i (words i)
+      → (n : ℕ) → core site.shape (with_word words i x) n ≡ core site.shape words n
+  cores_replaced words i x same n = cases_at (λ b. core_of site.shape n (cond b x (words n)) ≡ core_of site.shape n (words n)) n i
+      (λ e. subst (λ (z : ℕ). core_of site.shape z x ≡ core_of site.shape z (words z)) (sym e) same) (λ _. refl)
+
+  -- so does one to a lock word
+  pub lock_cores : (words : Words) (lock x : ℕ) → IsLockWord site.shape lock → (n : ℕ) → core site.shape (with_word words lock x) n ≡ core site.shape words n
+  lock_cores words lock x l = cores_replaced words lock x (lock_core site.shape lock x l one_segment ∙ sym (lock_core site.shape lock (words lock) l one_segment))
+
+  -- a draw changes no word of the image
+  pub counter_cores : (words : Words) (x n : ℕ) → n < words_of site.shape → core site.shape (with_word words (counter_word site.shape) x) n ≡ core site.shape words n
+  counter_cores words x n within = ap (core_of site.shape n) (replaced_other words (counter_word site.shape) x n (λ e. omega (arith, within, e)))
