@@ -2,7 +2,13 @@ pub mod Grounds
 pub mod Tables
 pub mod Lists
 pub mod Seats
+pub mod Entries
+pub mod NotedLists
 pub mod KeepLocks
 pub mod KeepKnown
 pub mod KeepMedia
 pub mod KeepPlans
+pub mod KeepHistory
+pub mod KeepRoom
+pub mod KeepNotes
+pub mod Keeps
