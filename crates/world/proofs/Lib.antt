@@ -12,3 +12,5 @@ pub mod KeepHistory
 pub mod KeepRoom
 pub mod KeepNotes
 pub mod Keeps
+pub mod Ties
+pub mod Worlds

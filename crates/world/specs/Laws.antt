@@ -1,15 +1,19 @@
 -- The laws of the world, each to be read on its own.
 use Rattle.std.specs.Prelude.{◌≡◌, ℕ, List}
 use Rattle.std.proofs.Common.{set}
-use Rattle.trace.specs.Events.{Words}
+use Rattle.trace.specs.Events.{Words, with_word, value}
+use Rattle.trace.specs.Media.{IsPossible as DevicePossible}
+use Rattle.op_core.specs.declared.want.Want.{Want}
+use Rattle.image_layout.specs.Places.{Shape, words_of}
 use Rattle.bucket_words.specs.Tables.{IsHomeTable, find}
 use Rattle.world.specs.Site.{Site}
 use Rattle.world.specs.Views.{View, At}
 use Rattle.world.specs.History.{Log}
-use Rattle.world.specs.Wants.{word_of, words_after}
+use Rattle.world.specs.Wants.{word_of, left_by, words_after}
 use Rattle.world.specs.Kinds.{Kind, wanted, view_after, May}
 use Rattle.world.specs.Media.{IsPossible, Stands}
 use Rattle.world.specs.Invariant.{History, Holds}
+use Rattle.world.specs.World.{World, step, IsWell, Begins}
 
 module _ (site : Site) (kind : Kind) where
   -- the word that a step finds
@@ -35,3 +39,27 @@ abbrev pub MediaStand : Type 0
 MediaStand = (site : Site) (words : Words) (views : List View) → Holds site words views
     → (log : Log) × History site words views log
     × ((medium : Words) → IsPossible site words views medium → IsHomeTable site.shape site.front medium × ((k : ℕ) → Stands site views log k (find site.shape medium k)))
+
+-- the words that a want leaves differ from those before in its own word at most
+abbrev pub ChangesOneWord : Type 0
+ChangesOneWord = (shape : Shape) (want : Want) (c : ℕ) (words : Words)
+    → words_after shape want c words ≡ with_word words (word_of shape want) (left_by shape want (words (word_of shape want)))
+
+-- A STEP DOES WHAT ITS EVENT SAYS: the words after it are those that the events make
+abbrev pub DoesItsEvent : Type 0
+DoesItsEvent = (shape : Shape) (start : Words) (kind : Kind) (j : ℕ) (world : World) → world.words ≡ value start world.trace
+    → (step shape kind j world).words ≡ value start (step shape kind j world).trace
+
+-- A STEP KEEPS THE WORLD WELL, by a condition on the view of who takes it
+abbrev pub KeepsWell : Type 0
+KeepsWell = (site : Site) (start : Words) (kind : Kind) (world : World) (j : ℕ) (v : View) → IsWell site start world → At world.views j v → May site kind v
+    → IsWell site start (step site.shape kind j world)
+
+-- a restart leaves the world well
+abbrev pub BeginsWell : Type 0
+BeginsWell = (site : Site) (start : Words) (world : World) → Begins site start world → IsWell site start world
+
+-- WHAT A CUT OF THE DEVICE MAY LEAVE is what the views say
+abbrev pub DeviceLeaves : Type 0
+DeviceLeaves = (site : Site) (start : Words) (world : World) (medium : Words) → IsWell site start world
+    → DevicePossible (words_of site.shape) start world.trace medium → IsPossible site world.words world.views medium

@@ -5,4 +5,6 @@ pub mod Wants
 pub mod Kinds
 pub mod Media
 pub mod Invariant
+pub mod Tied
+pub mod World
 pub mod Laws

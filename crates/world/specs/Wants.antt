@@ -1,6 +1,6 @@
 -- What an event that a machine wants does to the memory: which word it is on, which event of the device it is, and which
 -- words it leaves.
-use Rattle.std.specs.Prelude.{ℕ, ◌*◌, ◌==◌, if◌then◌else◌}
+use Rattle.std.specs.Prelude.{ℕ, ◌+◌, ◌*◌, ◌%◌, ◌^◌, ◌==◌, if◌then◌else◌}
 use Rattle.op_core.specs.declared.want.Want.{Want}
 use Rattle.op_core.specs.declared.want.Want.TheVariants.{Load, Store, Exchange, Flush, Fence, Draw, Power, Done}
 use Rattle.trace.specs.Events.{Words, Event, after}
@@ -20,6 +20,17 @@ module _ (shape : Shape) where
   word_of Draw = counter_word shape
   word_of Power = power_word shape
   word_of Done = counter_word shape
+
+  -- what it leaves in that word, by the value that it finds
+  abbrev pub left_by : Want → ℕ → ℕ
+  left_by (Load i) n = n
+  left_by (Store i x) n = x
+  left_by (Exchange i a b) n = if n == a then b else n
+  left_by (Flush l) n = n
+  left_by Fence n = n
+  left_by Draw n = (n + 1) % 2 ^ 64
+  left_by Power n = n
+  left_by Done n = n
 
   -- the event of the device, by the word that it finds and by who takes it
   abbrev pub event_of : Want → ℕ → ℕ → Event

@@ -7,4 +7,6 @@
 
 mod laws;
 
-pub use laws::{each_step_keeps, media_stand};
+pub use laws::{
+    device_leaves_what_views_say, each_step_keeps, media_stand, steps_do_events, worlds_stay_well,
+};
