@@ -187,7 +187,7 @@ module _ (site : Site) (words : Words) (views : List View) (j : ℕ) (v : View) 
 
   pub keep_notes : (kind : Kind) → May site kind v → Notes site (words_by site kind j words) (views_by site kind j v words views) (log_after kind h.log)
   keep_notes (peeks i) may = calm _ mine
-  keep_notes asks_power may = calm _ mine
+  keep_notes asks_power may = let w = record v { notes = []; answer = None } in calm w (none_noted site words h.log w refl refl)
   keep_notes (finds_room call) may = counted call (words (counter_word site.shape)) (nat_lt (words (counter_word site.shape)) (2 ^ 63))
   keep_notes (refuses call reply) may = let w = with_reply v (next_entry v call reply (words (counter_word site.shape)) false) in calm w (none_noted site words h.log w refl refl)
   keep_notes (places k a) may = calm _ (placed k a may)

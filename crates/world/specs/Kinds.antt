@@ -23,7 +23,7 @@ use Rattle.world.specs.History.{Log, change_of, result_of, reply_by, MayReply}
 pub data Kind : Type 0 where
   -- a load of any word, of which nothing is kept
   peeks : (word : ℕ) → Kind
-  -- a load of the power word
+  -- a load of the power word, with which an attempt begins: what was noted before is forgotten
   asks_power : Kind
   -- a load of the commit counter before a change is stored: there is room for one place more, or else the call is
   -- answered as spent
@@ -167,7 +167,7 @@ with_draw call n v = record v {
 -- the view after, by the word that was found
 abbrev pub view_after : Shape → Kind → ℕ → View → View
 view_after shape (peeks i) n v = v
-view_after shape asks_power n v = v
+view_after shape asks_power n v = record v { notes = []; answer = None }
 view_after shape (finds_room call) n v = with_count (nat_lt n (2 ^ 63)) call n v
 view_after shape (refuses call reply) n v = with_reply v (next_entry v call reply n false)
 view_after shape (places k a) n v = record v { notes = unmarked v.notes; answer = Some (record { key = k; value = a; place = n }) }
