@@ -14,3 +14,4 @@ pub mod KeepNotes
 pub mod Keeps
 pub mod Ties
 pub mod Worlds
+pub mod Legality

@@ -1,5 +1,9 @@
 -- The laws of the world, each to be read on its own.
-use Rattle.std.specs.Prelude.{◌≡◌, ℕ, List}
+use Rattle.std.specs.Prelude.{◌≡◌, ℕ, List, map}
+use Rattle.std.specs.FinMap.{get}
+use Rattle.map_model.specs.Map.{Map}
+use Rattle.map_model.specs.Weave.{weave}
+use Rattle.map_model.specs.Legal.{replay, IsLegal}
 use Rattle.std.proofs.Common.{set}
 use Rattle.trace.specs.Events.{Words, with_word, value}
 use Rattle.trace.specs.Media.{IsPossible as DevicePossible}
@@ -8,7 +12,7 @@ use Rattle.image_layout.specs.Places.{Shape, words_of}
 use Rattle.bucket_words.specs.Tables.{IsHomeTable, find}
 use Rattle.world.specs.Site.{Site}
 use Rattle.world.specs.Views.{View, At}
-use Rattle.world.specs.History.{Log}
+use Rattle.world.specs.History.{Log, map_now}
 use Rattle.world.specs.Wants.{word_of, left_by, words_after}
 use Rattle.world.specs.Kinds.{Kind, wanted, view_after, May}
 use Rattle.world.specs.Media.{IsPossible, Stands}
@@ -39,6 +43,13 @@ abbrev pub MediaStand : Type 0
 MediaStand = (site : Site) (words : Words) (views : List View) → Holds site words views
     → (log : Log) × History site words views log
     × ((medium : Words) → IsPossible site words views medium → IsHomeTable site.shape site.front medium × ((k : ℕ) → Stands site views log k (find site.shape medium k)))
+
+-- THE REPLIES ARE LEGAL: over a map that starts with the start's pairs, the replies of all callers are one legal history,
+-- whose replay has for each key what the log gives it
+abbrev pub EntriesAreLegal : Type 0
+EntriesAreLegal = (site : Site) (words : Words) (views : List View) (log : Log) → History site words views log
+    → (start : Map) → ((k : ℕ) → get start k ≡ site.start k)
+    → IsLegal start (map (λ v. v.own) views) × ((k : ℕ) → get (replay start (weave (map (λ v. v.own) views))) k ≡ map_now site.start log k)
 
 -- the words that a want leaves differ from those before in its own word at most
 abbrev pub ChangesOneWord : Type 0

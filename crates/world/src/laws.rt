@@ -2,7 +2,7 @@
 
 ghost use Rattle.world.specs.Site.{Site};
 ghost use Rattle.world.specs.Kinds.{Kind};
-ghost use Rattle.world.specs.Laws.{Keeps, MediaStand, ChangesOneWord, DoesItsEvent, KeepsWell, BeginsWell, DeviceLeaves};
+ghost use Rattle.world.specs.Laws.{Keeps, MediaStand, EntriesAreLegal, ChangesOneWord, DoesItsEvent, KeepsWell, BeginsWell, DeviceLeaves};
 
 /// Each kind of step keeps the invariant, for any number of callers, by a condition on the stepping caller's view alone.
 pub fn each_step_keeps()
@@ -13,6 +13,12 @@ pub fn each_step_keeps()
 /// Whatever a power cut may leave is a table, and stands in the history in which all replies are right.
 pub fn media_stand()
     ensures { MediaStand }
+{
+}
+
+/// The replies of all callers are one legal history of a plain map, whose replay has what the log gives each key.
+pub fn entries_are_legal()
+    ensures { EntriesAreLegal }
 {
 }
 
