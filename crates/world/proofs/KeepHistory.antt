@@ -25,7 +25,7 @@ use Rattle.world.proofs.Lists.{total_set, has_joined}
 use Rattle.world.proofs.Seats.{each, guarded_no_counter}
 use Rattle.world.proofs.Entries.{in_order_more, seen_of_more, count_more, count_none, total_none, drew_here, when_now, when_more, right_more, shown_may, shown_keeps}
 use Rattle.world.proofs.NotedLists.{marked_to, again_all}
-use Rattle.world.proofs.KeepMedia.{newest, agrees, held_is_map}
+use Rattle.world.proofs.KeepMedia.{newest, newest_agrees, held_is_map}
 
 abbrev drew_of : ℕ → View → ℕ
 drew_of n v = length (filter (drew_at n) v.own)
@@ -128,7 +128,7 @@ module _ (site : Site) (words : Words) (views : List View) (j : ℕ) (v : View) 
   refused call reply keeps known = counted _ call reply (words (counter_word site.shape)) refl refl refl keeps (elim known [
       inl any ↦ any (map_now site.start h.log (key_of call)) |
       inr k ↦ subst (λ (a : Option ℕ). MayReply a call reply) (held_is_map site words views j v h at (key_of call) k.0 k.1)
-          (k.2 words (h.media.table words (newest site words views)) (agrees site words views j v h at words (newest site words views))) ])
+          (k.2 words (h.media.table words (newest site words views)) (newest_agrees site words views j v h at)) ])
 
   room : (call : Call) → IsChange call → (t : Bool) → History site words (set views j (with_count t call (words (counter_word site.shape)) v)) h.log
   room call change true = calm (with_count true call (words (counter_word site.shape)) v) refl refl

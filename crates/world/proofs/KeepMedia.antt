@@ -1,6 +1,6 @@
 -- What a cut may leave is a table and stands in the history, at each kind of step.
 use Rattle.std.proofs.Common.{◌≡◌, ◌≢◌, ◌⊎◌, ℕ, suc, ◌+◌, ◌*◌, ◌%◌, ◌^◌, ◌<◌, List, [], ◌∷◌, ◌++◌, set, cond, eqb, Bool, true, false, Option, None, Some, inl, inr, refl, sym, ap, ◌∙◌, subst, arith}
-use Rattle.std.proofs.lemmas.Bool.{cases_eq, eq-eqb, ne_eqb}
+use Rattle.std.proofs.lemmas.Bool.{cases_Bool, cases_eq, eq-eqb, eqb-true, ne_eqb}
 use Rattle.std.specs.Prelude.{nat_lt}
 use mathlib.Core.Logic.{dite}
 use native.Mathlib.Decide.{ℕ_discrete}
@@ -20,7 +20,7 @@ use Rattle.world.specs.Media.{MayLeave, IsPossible, IsPlanned, Stands}
 use Rattle.world.specs.Invariant.{Media, Holds}
 use Rattle.world.specs.Kinds.{Kind, peeks, asks_power, finds_room, refuses, places, looks, notes_word, validates, learns, tries, stores, publishes, flushes, fences, draws_place, unlocks, without, loosened, of_other_keys, marked, all_again, with_answer, with_look, with_count, with_lock, with_draw, log_after, Agrees, IsHarmless, IsPublishing, IsUnplanned, May}
 use Rattle.world.specs.Laws.{words_by, views_by}
-use Rattle.world.proofs.Tables.{same_table, same_find, find_under, lock_cores, counter_cores}
+use Rattle.world.proofs.Tables.{same_table, same_find, find_under, cores_with, lock_cores, counter_cores}
 use Rattle.world.proofs.Lists.{set_here}
 use Rattle.world.proofs.Seats.{each, is_v, carry, one_guard, guarded_within, lock_of, loosened_has, flush_loose, of_other_keys_stays}
 use Rattle.world.proofs.Grounds.{under_within}
@@ -30,12 +30,32 @@ newest site words views i within = inl refl
 
 -- ---- what a medium has, by what a view knows and holds
 module _ (site : Site) (words : Words) (views : List View) (j : ℕ) (v : View) (h : Holds site words views) (at : At views j v) where
-  -- a possible medium agrees with what a view knows
-  pub agrees : (m : Words) → IsPossible site words views m → Agrees site v m
-  agrees m p i x known firm = let r = h.known.knows j v i x at known in elim (p i (guarded_within site h.site_is words views h.locks j v i at r.1)) [
-      inl e ↦ e ∙ ap (core_of site.shape i) r.0 |
+  -- a possible medium has the cores of the words that a view knows and has not loose
+  core_agrees : (m : Words) → IsPossible site words views m → (i x : ℕ) → Has (i, x) v.known → ((y : ℕ) → IsLoose v (i, y) → ⊥) → core site.shape m i ≡ core site.shape words i
+  core_agrees m p i x known firm = let r = h.known.knows j v i x at known in elim (p i (guarded_within site h.site_is words views h.locks j v i at r.1)) [
+      inl e ↦ e |
       inr e ↦ absurd (let q = one_guard site h.site_is words views h.locks e.0 j e.1 v i e.3 at (h.known.loose e.0 e.1 i e.2 e.3 e.4) r.1 in
           firm e.2 (subst (λ (u : View). IsLoose u (i, e.2)) (is_v views j v v at e.0 e.1 e.3 q) e.4)) ]
+
+  -- so the medium of the same cores that has the newest words, where it has their cores, has those words whole
+  abbrev pub whole : Words → Words
+  whole m n = cond (eqb (core site.shape m n) (core site.shape words n)) (words n) (m n)
+
+  pub whole_cores : (m : Words) (n : ℕ) → core site.shape (whole m) n ≡ core site.shape m n
+  whole_cores m n = elim (cases_Bool (eqb (core site.shape m n) (core site.shape words n))) [
+      inl t ↦ ap (λ b. core_of site.shape n (cond b (words n) (m n))) t ∙ sym (eqb-true (core site.shape m n) (core site.shape words n) t) |
+      inr f ↦ ap (λ b. core_of site.shape n (cond b (words n) (m n))) f ]
+
+  pub whole_table : (m : Words) → IsPossible site words views m → IsHomeTable site.shape site.front (whole m)
+  whole_table m p = same_table site h.site_is m (whole m) (λ n. sym (whole_cores m n)) (h.media.table m p)
+
+  pub whole_agrees : (m : Words) → IsPossible site words views m → Agrees site v (whole m)
+  whole_agrees m p i x known firm =
+      ap (λ b. cond b (words i) (m i)) (eq-eqb (core site.shape m i) (core site.shape words i) (core_agrees m p i x known firm)) ∙ (h.known.knows j v i x at known).0
+
+  -- the newest words have what a view knows
+  pub newest_agrees : Agrees site v words
+  newest_agrees i x known firm = (h.known.knows j v i x at known).0
 
   -- under a lock of which nothing is loose all media have one core
   pub quiet : (lock : ℕ) → IsFirm v lock → HasLock v.held lock → (m : Words) → IsPossible site words views m
@@ -154,19 +174,33 @@ module _ (site : Site) (words : Words) (views : List View) (j : ℕ) (v : View) 
                λ k. subst (λ (a : Option ℕ). Stands site views' h.log k a) (same_find site h.site_is (with_word q.0 i x) m k (λ n _. q.2 n)) (r.1 k))) ] in
       record { table = λ m p. (all m p).0; stands = λ m p k. (all m p).1 k }
 
+  -- what a store does to a medium it does to the one with whole words
+  stored_cores : (m : Words) (i x n : ℕ) → core site.shape (with_word (whole site words views j v h at m) i x) n ≡ core site.shape (with_word m i x) n
+  stored_cores m i x = cores_with site h.site_is (whole site words views j v h at m) m i x (whole_cores site words views j v h at m)
+
+  stored_table : (m : Words) (i x : ℕ) → IsHomeTable site.shape site.front (with_word (whole site words views j v h at m) i x) → IsHomeTable site.shape site.front (with_word m i x)
+  stored_table m i x table = same_table site h.site_is (with_word (whole site words views j v h at m) i x) (with_word m i x) (stored_cores m i x) table
+
+  stored_find : (m : Words) (i x k : ℕ) → find site.shape (with_word m i x) k ≡ find site.shape (with_word (whole site words views j v h at m) i x) k
+  stored_find m i x k = sym (same_find site h.site_is (with_word (whole site words views j v h at m) i x) (with_word m i x) k (λ n _. stored_cores m i x n))
+
+  same_whole : (m : Words) (k : ℕ) → find site.shape (whole site words views j v h at m) k ≡ find site.shape m k
+  same_whole m k = same_find site h.site_is (whole site words views j v h at m) m k (λ n _. whole_cores site words views j v h at m n)
+
   harmless : (i x : ℕ) → IsGuarded v.held i → IsHarmless site v i x → Media site (with_word words i x) (set views j (storer site words i x v.planned v)) h.log
   harmless i x g keeps = let w = storer site words i x v.planned v in media_store i x v.planned g (λ call has. has)
-      (λ m p. let r = keeps m (h.media.table m p) (agrees site words views j v h at m p) in
-          (r.table, λ k. subst (λ (a : Option ℕ). Stands site (set views j w) h.log k a) (sym (r.pairs k))
+      (λ m p. let r = keeps (whole site words views j v h at m) (whole_table site words views j v h at m p) (whole_agrees site words views j v h at m p) in
+          (stored_table m i x r.table,
+           λ k. subst (λ (a : Option ℕ). Stands site (set views j w) h.log k a) (sym (stored_find m i x k ∙ (r.pairs k ∙ same_whole m k)))
               (elim (h.media.stands m p k) [ inl e ↦ inl e | inr s ↦ inr (planned_stays views j v w at k (find site.shape m k) (λ call has _. has) s) ])))
 
   published : (i x : ℕ) (call : Call) → IsGuarded v.held i → IsPublishing site v call i x
       → Media site (with_word words i x) (set views j (storer site words i x (call ∷ v.planned) v)) h.log
   published i x call g publishing = let w = storer site words i x (call ∷ v.planned) v in media_store i x (call ∷ v.planned) g (λ c has. inr has)
-      (λ m p. let r = (publishing m (h.media.table m p) (agrees site words views j v h at m p)).1 in
-          (r.table, λ k. elim (cases_eq k (key_of call)) [
-            inl e ↦ inr (j, w, call, set_here views j v w at, inl refl, sym e, sym (ap (find site.shape (with_word m i x)) e ∙ r.here)) |
-            inr n ↦ subst (λ (a : Option ℕ). Stands site (set views j w) h.log k a) (sym (r.elsewhere k n))
+      (λ m p. let r = (publishing (whole site words views j v h at m) (whole_table site words views j v h at m p) (whole_agrees site words views j v h at m p)).1 in
+          (stored_table m i x r.table, λ k. elim (cases_eq k (key_of call)) [
+            inl e ↦ inr (j, w, call, set_here views j v w at, inl refl, sym e, sym (ap (find site.shape (with_word m i x)) e ∙ (stored_find m i x (key_of call) ∙ r.here))) |
+            inr n ↦ subst (λ (a : Option ℕ). Stands site (set views j w) h.log k a) (sym (stored_find m i x k ∙ (r.elsewhere k n ∙ same_whole m k)))
               (elim (h.media.stands m p k) [ inl e ↦ inl e | inr s ↦ inr (planned_stays views j v w at k (find site.shape m k) (λ c has _. inr has) s) ]) ]))
 
   calm : (w : View) → IsQuiet w v → Media site words (set views j w) h.log

@@ -178,7 +178,7 @@ module _ (site : Site) (words : Words) (views : List View) (j : ℕ) (v : View) 
             within = omega (arith, c);
             had = when_now site.start h.log (words (counter_word site.shape)) k c
               ∙ (sym (free_is_map site words views h k even)
-              ∙ may.1 words (h.media.table words (newest site words views)) (λ o i x has in_words. ap (core_of site.shape i) ((mine.0 o has).same (free o has) i x in_words)));
+              ∙ may.1 words (h.media.table words (newest site words views)) (λ o i x has in_words. (mine.0 o has).same (free o has) i x in_words));
             after_seen = (let s = h.history.within j v at in omega (arith, c, s)) }
 
   counted : (call : Call) (n : ℕ) (t : Bool) → Notes site words (set views j (with_count t call n v)) h.log

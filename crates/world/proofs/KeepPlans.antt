@@ -20,7 +20,7 @@ use Rattle.world.specs.Laws.{words_by, views_by}
 use Rattle.world.proofs.Tables.{same_find, lock_cores, counter_cores}
 use Rattle.world.proofs.Seats.{each, without_stays, of_other_keys_has}
 use Rattle.world.proofs.KeepLocks.{look_held, count_held, answer_held}
-use Rattle.world.proofs.KeepMedia.{newest, agrees, held_is_map, look_quiet, count_quiet, answer_quiet, storer}
+use Rattle.world.proofs.KeepMedia.{newest, newest_agrees, held_is_map, look_quiet, count_quiet, answer_quiet, storer}
 
 -- what is said of one planned change
 abbrev pub IsKept : Site → Words → View → Log → Call → Type 0
@@ -62,7 +62,7 @@ module _ (site : Site) (words : Words) (views : List View) (j : ℕ) (v : View) 
   apart i u c k n a g has e = n (h.locks.alone i j u v (home_at site.shape k) g.0 has.0 a at (subst (λ (z : ℕ). Has (home_at site.shape z, g.0) u.held) e g.1) has.1)
 
   harmless : (i x : ℕ) → IsHarmless site v i x → Plans site (with_word words i x) (set views j (storer site words i x v.planned v)) h.log
-  harmless i x keeps = let r = keeps words (h.media.table words (newest site words views)) (agrees site words views j v h at words (newest site words views)) in
+  harmless i x keeps = let r = keeps words (h.media.table words (newest site words views)) (newest_agrees site words views j v h at) in
       plans_law site words (with_word words i x) views h.log h.log j v _ at h.plans
         (λ a u c n b has o. (o.0, r.pairs (key_of c) ∙ o.1, o.2))
         (λ c has. let o = mine c has in (o.0, r.pairs (key_of c) ∙ o.1, o.2))
@@ -70,7 +70,7 @@ module _ (site : Site) (words : Words) (views : List View) (j : ℕ) (v : View) 
   published : (i x : ℕ) (call : Call) → HasLock v.held (home_at site.shape (key_of call)) → IsUnplanned site v (key_of call) → IsPublishing site v call i x
       → Plans site (with_word words i x) (set views j (storer site words i x (call ∷ v.planned) v)) h.log
   published i x call has none publishing =
-      let r = publishing words (h.media.table words (newest site words views)) (agrees site words views j v h at words (newest site words views)) in
+      let r = publishing words (h.media.table words (newest site words views)) (newest_agrees site words views j v h at) in
       plans_law site words (with_word words i x) views h.log h.log j v _ at h.plans
         (λ a u c n b has' o. (o.0, r.1.elsewhere (key_of c) (apart a u c (key_of call) n b o.0 has) ∙ o.1, o.2))
         (λ c has'. elim has' [

@@ -54,6 +54,11 @@ module _ (site : Site) (is : IsSite site) where
   cores_replaced words i x same n = cases_at (λ b. core_of site.shape n (cond b x (words n)) ≡ core_of site.shape n (words n)) n i
       (λ e. subst (λ (z : ℕ). core_of site.shape z x ≡ core_of site.shape z (words z)) (sym e) same) (λ _. refl)
 
+  -- a store leaves words of one core such
+  pub cores_with : (word other : Words) (i x : ℕ) → ((n : ℕ) → core site.shape word n ≡ core site.shape other n)
+      → (n : ℕ) → core site.shape (with_word word i x) n ≡ core site.shape (with_word other i x) n
+  cores_with word other i x same n = cases_at (λ b. core_of site.shape n (cond b x (word n)) ≡ core_of site.shape n (cond b x (other n))) n i (λ _. refl) (λ _. same n)
+
   -- so does one to a lock word
   pub lock_cores : (words : Words) (lock x : ℕ) → IsLockWord site.shape lock → (n : ℕ) → core site.shape (with_word words lock x) n ≡ core site.shape words n
   lock_cores words lock x l = cores_replaced words lock x (lock_core site.shape lock x l one_segment ∙ sym (lock_core site.shape lock (words lock) l one_segment))

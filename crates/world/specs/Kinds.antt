@@ -190,13 +190,14 @@ log_after _ log = log
 
 -- ---- what a kind asks of the stepping view alone
 module _ (site : Site) where
-  -- a medium has the cores of the words that a view knows and has not loose
+  -- a medium has the words that a view knows and has not loose. What a cut leaves has their cores alone; since those
+  -- decide, it is enough to speak of media that have them whole
   abbrev pub Agrees : View → Words → Type 0
-  Agrees v medium = (i x : ℕ) → Has (i, x) v.known → ((y : ℕ) → IsLoose v (i, y) → ⊥) → core_of site.shape i (medium i) ≡ core_of site.shape i x
+  Agrees v medium = (i x : ℕ) → Has (i, x) v.known → ((y : ℕ) → IsLoose v (i, y) → ⊥) → medium i ≡ x
 
-  -- words have the cores of all noted words
+  -- words are those that were noted
   abbrev pub AgreesWithNotes : List Note → Words → Type 0
-  AgreesWithNotes notes words = (note : Note) (i x : ℕ) → Has note notes → Has (i, x) note.words → core_of site.shape i (words i) ≡ core_of site.shape i x
+  AgreesWithNotes notes words = (note : Note) (i x : ℕ) → Has note notes → Has (i, x) note.words → words i ≡ x
 
   -- whatever table agrees with the view, the store leaves it a table with the same pairs
   abbrev pub IsHarmless : View → ℕ → ℕ → Type 0
