@@ -1,11 +1,11 @@
 -- What one word's change does to a table: nothing, or one key has another value.
-use Rattle.std.specs.Prelude.{◌≡◌, ◌≢◌, ℕ, ◌+◌, ◌*◌, ◌<◌, Option, None, Some}
-use Rattle.bucket_meta.specs.Bucket.{allocated, member, finger}
-use Rattle.trace.specs.Events.{Words, with_word}
+use Rattle.std.specs.Prelude.{◌≡◌, ◌≢◌, ℕ, ◌+◌, ◌<◌, Option}
+use Rattle.bucket_meta.specs.Bucket.{allocated, member}
+use Rattle.trace.specs.Events.{Words}
 use Rattle.image_layout.specs.Places.{Shape, bucket_at}
 use Rattle.sound_image.specs.Records.{key_hash}
 use Rattle.hash_word.specs.Hash.{home_of, finger_of}
-use Rattle.bucket_words.specs.Buckets.{IsTaken, key_in, value_in, finger_in}
+use Rattle.bucket_words.specs.Buckets.{IsTaken, key_in, finger_in}
 use Rattle.bucket_words.specs.Tables.{IsHomeTable, find}
 
 module _ (shape : Shape) (front : Words) where

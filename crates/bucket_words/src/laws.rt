@@ -16,8 +16,7 @@ pub fn tables_are_sound()
     ensures rules { (shape : Shape) (front word : Words) → IsShape shape → IsOpenFront shape front → IsHomeTable shape front word → FollowsRules shape word }
     ensures pairs { (shape : Shape) (front word : Words) → IsShape shape → IsOpenFront shape front → IsHomeTable shape front word
         → ((i : ℕ) → word i < 2 ^ 64) → (k : ℕ) (a : Option ℕ) → HasAt shape word k a ↔ (find shape word k ≡ a) }
-{
-}
+{}
 
 /// Whether words are a table, and what it has at a key, depends on the words' cores alone.
 pub fn cores_decide()
@@ -26,15 +25,13 @@ pub fn cores_decide()
     ensures pairs { (shape : Shape) (word other : Words) → IsShape shape → shape.segments ≡ 1 → ((i : ℕ) → core shape word i ≡ core shape other i)
         → (k : ℕ) → find shape word k ≡ find shape other k }
     ensures once { (shape : Shape) (word : Words) (i : ℕ) → core shape (core shape word) i ≡ core shape word i }
-{
-}
+{}
 
 /// What a table has at a key depends on the cores of the words of the key's home bucket alone.
 pub fn home_words_decide()
     ensures { (shape : Shape) (word other : Words) → IsShape shape → shape.segments ≡ 1 → (k : ℕ)
         → ((n : ℕ) → n < 32 → core shape word (home_at shape k + n) ≡ core shape other (home_at shape k + n)) → find shape word k ≡ find shape other k }
-{
-}
+{}
 
 /// What the change of one word does to a table.
 pub fn changes_of_one_word()
@@ -60,5 +57,4 @@ pub fn changes_of_one_word()
     ensures remove { (shape : Shape) (front word : Words) (b r k x : ℕ) → IsShape shape → shape.segments ≡ 1 → IsHomeTable shape front word → Stands shape word b r k
         → SameButSlot r (word (bucket_at shape 0 b + 1)) x → allocated r x ≡ 0
         → ChangesKey shape front word (with_word word (bucket_at shape 0 b + 1) x) k None }
-{
-}
+{}

@@ -4,3 +4,4 @@ pub mod Records
 pub mod Rules
 pub mod Image
 pub mod Left
+pub mod Agreement

@@ -1,0 +1,11 @@
+pub mod WordCores
+pub mod Slots
+pub mod Finding
+pub mod SameCores
+pub mod OneSegment
+pub mod TableSound
+pub mod Pairs
+pub mod OneWord
+pub mod OneSlot
+pub mod OneChange
+pub mod WorkedTable

@@ -1,0 +1,23 @@
+-- When two images agree but for locks and overflow parts: for the lock words of buckets, and for what their metadata
+-- say of notes and of counts.
+use Rattle.std.specs.Prelude.{◌≡◌, ℕ, ◌+◌, ◌%◌, ◌^◌, ◌<◌, ◌⊎◌}
+use Rattle.image_layout.specs.Places.{Shape, bucket_at}
+use Rattle.sound_image.specs.Segments.{ImageWords}
+
+module _ (shape : Shape) where
+  -- word i is the lock word of a bucket, or has an overflow part: word 0 of the bucket, or word 1 or 3
+  pub record IsLockOrOverflow (i : ℕ) : Type 0 where
+    pub s : ℕ
+    pub b : ℕ
+    pub part : ℕ
+    pub segment : s < shape.segments
+    pub bucket : b < 66
+    pub which : (part ≡ 0) ⊎ (part ≡ 1) ⊎ (part ≡ 3)
+    pub place : i ≡ bucket_at shape s b + part
+
+  -- every other word is the same; of word 1 of a bucket the bits that say which slots are allocated and which records
+  -- stand in their probing bucket, and of word 3 the fingerprints of slots 8 to 13
+  pub record AgreeButForLocksAndOverflow (word other : ImageWords) : Type 0 where
+    pub elsewhere : (i : ℕ) → (IsLockOrOverflow i → ⊥) → word i ≡ other i
+    pub slots : (s b : ℕ) → s < shape.segments → b < 66 → word (bucket_at shape s b + 1) % 2 ^ 28 ≡ other (bucket_at shape s b + 1) % 2 ^ 28
+    pub fingers : (s b : ℕ) → s < shape.segments → b < 66 → word (bucket_at shape s b + 3) % 2 ^ 48 ≡ other (bucket_at shape s b + 3) % 2 ^ 48
