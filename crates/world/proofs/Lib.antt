@@ -15,3 +15,4 @@ pub mod Keeps
 pub mod Ties
 pub mod Worlds
 pub mod Legality
+pub mod Good

@@ -9,6 +9,7 @@ use Rattle.trace.specs.Events.{Words, with_word, value}
 use Rattle.trace.specs.Media.{IsPossible as DevicePossible}
 use Rattle.op_core.specs.declared.want.Want.{Want}
 use Rattle.image_layout.specs.Places.{Shape, words_of}
+use Rattle.sound_image.specs.Rules.{FollowsRules}
 use Rattle.bucket_words.specs.Tables.{IsHomeTable, find}
 use Rattle.world.specs.Site.{Site}
 use Rattle.world.specs.Views.{View, At}
@@ -37,12 +38,17 @@ module _ (site : Site) (kind : Kind) where
   Keeps = (words : Words) (views : List View) (j : ℕ) (v : View) → Holds site words views → At views j v → May site kind v
       → Holds site (words_by j words) (views_by j v words views)
 
--- WHAT A CUT MAY LEAVE is a table, and has for each key what one history, in which all replies are right, gives it, or
--- what one change that is stored and not drawn does
+-- what a cut may leave is a table, hence follows the seven rules of a sound image, and has for each key what the history
+-- gives it, or what one change that is stored and not drawn does
+pub record IsGoodMedium (site : Site) (views : List View) (log : Log) (medium : Words) : Type 0 where
+  pub table : IsHomeTable site.shape site.front medium
+  pub rules : FollowsRules site.shape medium
+  pub stands : (k : ℕ) → Stands site views log k (find site.shape medium k)
+
+-- WHATEVER A CUT MAY LEAVE IS GOOD, over one history in which all replies are right
 abbrev pub MediaStand : Type 0
 MediaStand = (site : Site) (words : Words) (views : List View) → Holds site words views
-    → (log : Log) × History site words views log
-    × ((medium : Words) → IsPossible site words views medium → IsHomeTable site.shape site.front medium × ((k : ℕ) → Stands site views log k (find site.shape medium k)))
+    → (log : Log) × History site words views log × ((medium : Words) → IsPossible site words views medium → IsGoodMedium site views log medium)
 
 -- THE REPLIES ARE LEGAL: over a map that starts with the start's pairs, the replies of all callers are one legal history,
 -- whose replay has for each key what the log gives it
