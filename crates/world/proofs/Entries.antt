@@ -1,6 +1,6 @@
 -- One reply more: the replies of a caller stay in order, and how many of them drew a place.
-use Rattle.std.proofs.Common.{◌≡◌, ◌⊎◌, ℕ, zero, suc, ◌+◌, ◌<◌, ◌≤◌, Bool, true, false, cond, ◌&&◌, eqb, List, [], ◌∷◌, ◌++◌, length, Option, None, Some, inl, inr, refl, sym, ap, ◌∙◌, subst, arith}
-use Rattle.std.proofs.lemmas.Bool.{cases_Bool, eqb-true, ne_eqb, le-leb, lt-leb}
+use Rattle.std.proofs.Common.{◌≡◌, ℕ, suc, ◌+◌, ◌≤◌, Bool, true, false, cond, ◌&&◌, eqb, List, [], ◌∷◌, ◌++◌, length, Option, None, Some, inl, inr, refl, sym, ap, ◌∙◌, subst, arith}
+use Rattle.std.proofs.lemmas.Bool.{ne_eqb, le-leb, lt-leb}
 use Rattle.std.specs.Prelude.{filter}
 use Rattle.map_model.specs.declared.call.Call.TheVariants.{Get}
 use Rattle.map_model.specs.declared.entry.Entry.{Entry}
@@ -8,7 +8,7 @@ use Rattle.map_model.specs.Map.{is_change, shown}
 use Rattle.map_model.specs.Weave.{drew_at}
 use Rattle.map_model.specs.Legal.{InOrder, seen_of, seen_after}
 use Rattle.world.specs.Views.{View, Has, At}
-use Rattle.world.specs.History.{Change, Log, map_now, map_when, Drew, MayReply, IsRight}
+use Rattle.world.specs.History.{Change, Log, map_now, map_when, MayReply, IsRight}
 use Rattle.world.specs.Invariant.{total}
 
 -- ---- replies in order
@@ -68,7 +68,8 @@ module _ (start : ℕ → Option ℕ) (log : Log) (c : Change) where
   right_more e r = record {
     within = (let w = r.within in omega (arith, w));
     reply = subst (λ (a : Option ℕ). MayReply a e.call e.reply) (sym (when_more e.place _ (place_le e.drew e.place (length log) r.within))) r.reply;
-    drew = λ d. inr (r.drew d) }
+    drew = λ d. inr (r.drew d);
+  }
 
 -- a get may answer what its key has
 pub shown_may : (a : Option ℕ) (k : ℕ) → MayReply a (Get k) (shown a)

@@ -1,9 +1,8 @@
 -- Where lock words stand, what lies under them, and that they have no core.
-use Rattle.std.proofs.Common.{◌≡◌, ◌≢◌, ℕ, ◌+◌, ◌-◌, ◌*◌, ◌/◌, ◌%◌, ◌^◌, ◌<◌, ◌≤◌, cond, ◌||◌, false, refl, sym, ap, ◌∙◌, arith, eqb}
+use Rattle.std.proofs.Common.{◌≡◌, ℕ, ◌+◌, ◌-◌, ◌/◌, ◌%◌, ◌^◌, ◌<◌, ◌≤◌, cond, ◌||◌, false, refl, ap, ◌∙◌, arith, eqb}
 use Rattle.std.proofs.lemmas.Bool.{ne_eqb, le-ltb}
 use Rattle.std.specs.Prelude.{nat_lt}
-use Rattle.image_layout.specs.Places.{Shape, first_segment, words_of, bucket_at}
-use Rattle.image_layout.specs.Volatile.{counter_word}
+use Rattle.image_layout.specs.Places.{Shape, first_segment, words_of}
 use Rattle.sound_image.specs.Records.{key_hash}
 use Rattle.hash_word.specs.Hash.{home_of}
 use Rattle.bucket_words.specs.Core.{core_in_bucket, group_of, core_of}

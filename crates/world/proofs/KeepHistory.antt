@@ -1,5 +1,5 @@
 -- The history is kept, at each kind of step.
-use Rattle.std.proofs.Common.{◌≡◌, ◌≢◌, ◌⊎◌, ℕ, zero, suc, ◌+◌, ◌*◌, ◌%◌, ◌^◌, ◌<◌, ◌≤◌, Bool, true, false, cond, ◌&&◌, eqb, List, [], ◌∷◌, ◌++◌, length, set, Option, None, Some, inl, inr, refl, sym, ap, ◌∙◌, subst, arith}
+use Rattle.std.proofs.Common.{◌≡◌, ℕ, suc, ◌+◌, ◌%◌, ◌^◌, ◌<◌, ◌≤◌, Bool, true, false, cond, ◌&&◌, eqb, List, [], ◌∷◌, ◌++◌, length, set, Option, None, Some, inl, inr, refl, sym, ap, ◌∙◌, subst, arith}
 use Rattle.std.proofs.lemmas.Bool.{cases_eq, eq-eqb, cases_Bool}
 use Rattle.std.specs.Prelude.{filter, nat_lt}
 use Rattle.trace.specs.Events.{Words, with_word, after}
@@ -15,7 +15,7 @@ use Rattle.map_model.specs.Map.{key_of, is_change, shown}
 use Rattle.map_model.specs.Weave.{draws, drew_at}
 use Rattle.map_model.specs.Legal.{IsChange, InOrder, seen_of, seen_after}
 use Rattle.world.specs.Site.{Site, IsLockWord}
-use Rattle.world.specs.Views.{Answer, View, Has, At, IsGuarded}
+use Rattle.world.specs.Views.{Answer, View, Has, At}
 use Rattle.world.specs.History.{Log, map_now, map_when, MayReply, IsRight, change_of}
 use Rattle.world.specs.Invariant.{total, History, IsAnswer, Holds}
 use Rattle.world.specs.Kinds.{Kind, peeks, asks_power, finds_room, refuses, places, looks, notes_word, validates, learns, tries, stores, publishes, flushes, fences, draws_place, unlocks, marked, all_again, next_entry, with_reply, with_answer, with_look, with_count, with_lock, with_draw, log_after, IsKnownReply, May}
@@ -39,8 +39,9 @@ beyond site words views log o n le = total_none (drew_of n) views (λ j v a. cou
   where
     none : (e : Entry) → IsRight site.start log e → drew_at n e ≡ false
     none e r = elim (cases_Bool e.drew) [
-        inl t ↦ drew_here e n t (λ q. let w = subst (λ b. cond b (suc e.place) e.place ≤ length log) t r.within in omega (arith, w, le, q)) |
-        inr f ↦ ap (λ b. b && eqb e.place n) f ]
+      | inl t ↦ drew_here e n t (λ q. let w = subst (λ b. cond b (suc e.place) e.place ≤ length log) t r.within in omega (arith, w, le, q))
+      | inr f ↦ ap (λ b. b && eqb e.place n) f
+    ]
 
 -- the view keeps its replies
 history_same : (site : Site) (words us : Words) (views : List View) (j : ℕ) (v w : View) (log : Log) → At views j v → History site words views log
@@ -53,7 +54,8 @@ history_same site words us views j v w log at o same own seen = record {
   after_own = each views j v w at (λ i u. seen_of 0 u.own ≤ u.seen) (let a = o.after_own j v at in let q = ap (seen_of 0) own in omega (arith, a, q, seen)) (λ i u n a. o.after_own i u a);
   within = each views j v w at (λ i u. u.seen ≤ length log) (let a = o.within j v at in omega (arith, a, seen)) (λ i u n a. o.within i u a);
   drawn = (let s = total_set draws_of views j v w at in let d = o.drawn in let q = ap draws own in omega (arith, s, d, q));
-  each_once = λ n below. (let s = total_set (drew_of n) views j v w at in let d = o.each_once n below in let q = ap (λ es. length (filter (drew_at n) es)) own in omega (arith, s, d, q)) }
+  each_once = λ n below. (let s = total_set (drew_of n) views j v w at in let d = o.each_once n below in let q = ap (λ es. length (filter (drew_at n) es)) own in omega (arith, s, d, q));
+}
 
 -- the view has one reply more, which may have drawn the next place
 module _ (site : Site) (words us : Words) (views : List View) (j : ℕ) (v w : View) (log log' : Log) (at : At views j v) (o : History site words views log) (e : Entry)
@@ -66,23 +68,26 @@ module _ (site : Site) (words us : Words) (views : List View) (j : ℕ) (v w : V
       let s = total_set (drew_of n) views j v w at in
       let q : drew_of n w ≡ drew_of n v + cond (drew_at n e) 1 0 = ap (λ es. length (filter (drew_at n) es)) own ∙ count_more (drew_at n) v.own e in
       elim (cases_Bool e.drew) [
-        inl t ↦ (let c = count ∙ ap (λ b. length log + cond b 1 0) t in let p = place t in elim (cases_eq n e.place) [
-          inl same ↦ (let z = beyond site words views log o n (omega (arith, same, p)) in
-            let d : drew_at n e ≡ true = ap (λ b. b && eqb e.place n) t ∙ eq-eqb e.place n (sym same) in
-            let q' = q ∙ ap (λ b. drew_of n v + cond b 1 0) d in omega (arith, s, q', z)) |
-          inr other ↦ (let z = o.each_once n (omega (arith, c, below, p, other)) in
-            let q' = q ∙ ap (λ b. drew_of n v + cond b 1 0) (drew_here e n t other) in omega (arith, s, q', z)) ]) |
-        inr f ↦ (let c = count ∙ ap (λ b. length log + cond b 1 0) f in let z = o.each_once n (omega (arith, c, below)) in
+        | inl t ↦ (let c = count ∙ ap (λ b. length log + cond b 1 0) t in let p = place t in elim (cases_eq n e.place) [
+          | inl same ↦ (let z = beyond site words views log o n (omega (arith, same, p)) in
+              let d : drew_at n e ≡ true = ap (λ b. b && eqb e.place n) t ∙ eq-eqb e.place n (sym same) in
+              let q' = q ∙ ap (λ b. drew_of n v + cond b 1 0) d in omega (arith, s, q', z))
+          | inr other ↦ (let z = o.each_once n (omega (arith, c, below, p, other)) in
+              let q' = q ∙ ap (λ b. drew_of n v + cond b 1 0) (drew_here e n t other) in omega (arith, s, q', z))
+        ])
+        | inr f ↦ (let c = count ∙ ap (λ b. length log + cond b 1 0) f in let z = o.each_once n (omega (arith, c, below)) in
             let d : drew_at n e ≡ false = ap (λ b. b && eqb e.place n) f in
-            let q' = q ∙ ap (λ b. drew_of n v + cond b 1 0) d in omega (arith, s, q', z)) ]
+            let q' = q ∙ ap (λ b. drew_of n v + cond b 1 0) d in omega (arith, s, q', z))
+      ]
 
   pub history_more : History site us (set views j w) log'
   history_more = record {
     counter = counter;
     right = λ i u x a has. each views j v w at (λ i u. Has x u.own → IsRight site.start log' x)
         (λ q. elim (has_joined v.own (e ∷ []) x (subst (λ (es : List Entry). Has x es) own q)) [
-          inl old ↦ more x (o.right j v x at old) |
-          inr new ↦ elim new [ inl is ↦ subst (λ (z : Entry). IsRight site.start log' z) (sym is) right | inr none ↦ absurd none ] ])
+          | inl old ↦ more x (o.right j v x at old)
+          | inr new ↦ elim new [ inl is ↦ subst (λ (z : Entry). IsRight site.start log' z) (sym is) right | inr none ↦ absurd none ]
+        ])
         (λ i u n a q. more x (o.right i u x a q)) i u a has;
     in_order = each views j v w at (λ i u. InOrder 1 0 u.own)
         (subst (λ (es : List Entry). InOrder 1 0 es) (sym own) (in_order_more 1 0 v.own e (o.in_order j v at) (omega (arith, serial)) drew (let a = o.after_own j v at in omega (arith, a, later))))
@@ -91,7 +96,8 @@ module _ (site : Site) (words us : Words) (views : List View) (j : ℕ) (v w : V
         (let q = ap (seen_of 0) own ∙ seen_of_more 0 v.own e in omega (arith, q, seen)) (λ i u n a. o.after_own i u a);
     within = each views j v w at (λ i u. u.seen ≤ length log') (let r = right.within in omega (arith, r, seen)) (λ i u n a. let b = o.within i u a in omega (arith, b, count));
     drawn = (let s = total_set draws_of views j v w at in let d = o.drawn in let q = ap draws own ∙ count_more (λ (x : Entry). x.drew) v.own e in omega (arith, s, d, q, count));
-    each_once = once_at }
+    each_once = once_at;
+  }
 
 module _ (site : Site) (words : Words) (views : List View) (j : ℕ) (v : View) (h : Holds site words views) (at : At views j v) where
   calm : (w : View) → w.own ≡ v.own → w.seen ≡ v.seen → History site words (set views j w) h.log
@@ -113,7 +119,7 @@ module _ (site : Site) (words : Words) (views : List View) (j : ℕ) (v : View) 
       → History site words (set views j w) h.log
   replied w call reply place own seen keeps later within may =
       history_more site words words views j v w h.log h.log at h.history (next_entry v call reply place false) h.history.counter (λ x r. r) own seen refl (sym keeps) later
-        (record { within = within; reply = may; drew = λ d. absurd (cc) }) (omega arith) (λ d. absurd (cc))
+      (record { within = within; reply = may; drew = λ d. absurd (cc) }) (omega arith) (λ d. absurd (cc))
 
   counted : (w : View) (call : Call) (reply : Reply) (n : ℕ) → n ≡ words (counter_word site.shape) → w.own ≡ v.own ++ next_entry v call reply n false ∷ [] → w.seen ≡ n
       → is_change reply ≡ false → MayReply (map_now site.start h.log (key_of call)) call reply → History site words (set views j w) h.log
@@ -121,14 +127,15 @@ module _ (site : Site) (words : Words) (views : List View) (j : ℕ) (v : View) 
       let c = h.history.counter in
       let s = h.history.within j v at in
       replied w call reply n own seen keeps (omega (arith, is, c, s)) (omega (arith, is, c))
-        (subst (λ (a : Option ℕ). MayReply a call reply) (sym (when_now site.start h.log n (key_of call) (is ∙ c))) may)
+      (subst (λ (a : Option ℕ). MayReply a call reply) (sym (when_now site.start h.log n (key_of call) (is ∙ c))) may)
 
   refused : (call : Call) (reply : Reply) → is_change reply ≡ false → IsKnownReply site v call reply
       → History site words (set views j (with_reply v (next_entry v call reply (words (counter_word site.shape)) false))) h.log
   refused call reply keeps known = counted _ call reply (words (counter_word site.shape)) refl refl refl keeps (elim known [
-      inl any ↦ any (map_now site.start h.log (key_of call)) |
-      inr k ↦ subst (λ (a : Option ℕ). MayReply a call reply) (held_is_map site words views j v h at (key_of call) k.0 k.1)
-          (k.2 words (h.media.table words (newest site words views)) (newest_agrees site words views j v h at)) ])
+    | inl any ↦ any (map_now site.start h.log (key_of call))
+    | inr k ↦ subst (λ (a : Option ℕ). MayReply a call reply) (held_is_map site words views j v h at (key_of call) k.0 k.1)
+        (k.2 words (h.media.table words (newest site words views)) (newest_agrees site words views j v h at))
+  ])
 
   room : (call : Call) → IsChange call → (t : Bool) → History site words (set views j (with_count t call (words (counter_word site.shape)) v)) h.log
   room call change true = calm (with_count true call (words (counter_word site.shape)) v) refl refl
@@ -142,7 +149,7 @@ module _ (site : Site) (words : Words) (views : List View) (j : ℕ) (v : View) 
   answered lock true (Some a) again is =
       let good : IsAnswer site h.log v.seen a = h.notes.answered j v a at is (marked_to words lock v.notes (again_all words (marked lock (words lock) v.notes) again)) in
       replied _ (Get a.key) (shown a.value) a.place refl refl (shown_keeps a.value) good.after_seen good.within
-        (subst (λ (x : Option ℕ). MayReply x (Get a.key) (shown a.value)) (sym good.had) (shown_may a.value a.key))
+      (subst (λ (x : Option ℕ). MayReply x (Get a.key) (shown a.value)) (sym good.had) (shown_may a.value a.key))
 
   -- a change draws the next place
   no_wrap : (words (counter_word site.shape) + 1) % 2 ^ 64 ≡ suc (length h.log)
@@ -155,13 +162,14 @@ module _ (site : Site) (words : Words) (views : List View) (j : ℕ) (v : View) 
       let c : n ≡ length h.log = h.history.counter in
       let s = h.history.within j v at in
       history_more site words _ views j v (with_draw call n v) h.log (change_of call ∷ h.log) at h.history (next_entry v call Done n true)
-        (replaced_same words (counter_word site.shape) _ ∙ no_wrap) (λ x r. right_more site.start h.log (change_of call) x r) refl refl refl refl (omega (arith, c, s))
-        (record {
-          within = omega (arith, c);
-          reply = subst (λ (a : Option ℕ). MayReply a call Done)
-              (sym (when_more site.start h.log (change_of call) n (key_of call) (omega (arith, c)) ∙ when_now site.start h.log n (key_of call) c)) (h.plans.fits j v call at has);
-          drew = λ _. inl (c, refl) })
-        (omega arith) (λ _. c)
+      (replaced_same words (counter_word site.shape) _ ∙ no_wrap) (λ x r. right_more site.start h.log (change_of call) x r) refl refl refl refl (omega (arith, c, s))
+      (record {
+        within = omega (arith, c);
+        reply = subst (λ (a : Option ℕ). MayReply a call Done)
+            (sym (when_more site.start h.log (change_of call) n (key_of call) (omega (arith, c)) ∙ when_now site.start h.log n (key_of call) c)) (h.plans.fits j v call at has);
+        drew = λ _. inl (c, refl);
+      })
+      (omega arith) (λ _. c)
 
   pub keep_history : (kind : Kind) → May site kind v → History site (words_by site kind j words) (views_by site kind j v words views) (log_after kind h.log)
   keep_history (peeks i) may = calm _ refl refl

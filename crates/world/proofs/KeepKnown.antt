@@ -1,5 +1,5 @@
 -- Known words are the newest, and known and loose words lie under the view's locks, at each kind of step.
-use Rattle.std.proofs.Common.{◌≡◌, ◌≢◌, ◌⊎◌, ℕ, ◌+◌, ◌*◌, ◌%◌, ◌^◌, List, [], ◌∷◌, set, cond, eqb, Bool, true, false, Option, None, Some, inl, inr, refl, sym, ap, ◌∙◌, arith, subst}
+use Rattle.std.proofs.Common.{◌≡◌, ◌≢◌, ℕ, ◌+◌, ◌%◌, ◌^◌, List, ◌∷◌, set, cond, eqb, Bool, true, false, Option, None, Some, inl, inr, refl, sym, ap, ◌∙◌, subst}
 use Rattle.std.specs.Prelude.{nat_lt}
 use Rattle.trace.specs.Events.{Words, with_word, after}
 use Rattle.trace.specs.Events.Event.{loaded, exchanged}
@@ -22,7 +22,8 @@ known_law : (words us : Words) (views : List View) (j : ℕ) (v w : View) → At
 known_law words us views j v w at o others own = record {
   knows = λ a u i x at' h. each views j v w at (λ a u. Has (i, x) u.known → (us i ≡ x) × IsGuarded u.held i) (λ h. own.0 i x h)
       (λ a u n at' h. let r = o.knows a u i x at' h in (others a u n at' i r.1 ∙ r.0, r.1)) a u at' h;
-  loose = λ a u i x at' h. each views j v w at (λ a u. IsLoose u (i, x) → IsGuarded u.held i) (λ h. own.1 i x h) (λ a u n at' h. o.loose a u i x at' h) a u at' h }
+  loose = λ a u i x at' h. each views j v w at (λ a u. IsLoose u (i, x) → IsGuarded u.held i) (λ h. own.1 i x h) (λ a u n at' h. o.loose a u i x at' h) a u at' h;
+}
 
 look_fits : (words : Words) (t : Bool) (lock n : ℕ) (v : View) → Fits words v → Fits words (with_look t lock n v)
 look_fits words true lock n v f = f
@@ -51,41 +52,50 @@ module _ (site : Site) (words : Words) (views : List View) (j : ℕ) (v : View) 
 
   tried : (lock free : ℕ) → IsLockWord site.shape lock → (t : Bool)
       → KnownWords (after (cond t (exchanged j lock (free + 1)) (loaded j lock)) words) (set views j (with_lock t lock free v))
-  tried lock free is true = relocked lock (free + 1) (with_lock true lock free v) is
-      ((λ i x q. (let r = mine.0 i x q in
-          (replaced_other words lock (free + 1) i (guarded_no_lock site h.site_is words views h.locks j v i lock at r.1 is) ∙ r.0, (r.1.0, (r.1.1.0, inr r.1.1.1), r.1.2)))),
-       (λ i x q. (let g = mine.1 i x q in (g.0, (g.1.0, inr g.1.1), g.2))))
+  tried lock free is true = relocked lock (free + 1) (with_lock true lock free v) is (
+    (λ i x q. (let r = mine.0 i x q in
+        (replaced_other words lock (free + 1) i (guarded_no_lock site h.site_is words views h.locks j v i lock at r.1 is) ∙ r.0, (r.1.0, (r.1.1.0, inr r.1.1.1), r.1.2)))),
+    (λ i x q. (let g = mine.1 i x q in (g.0, (g.1.0, inr g.1.1), g.2))),
+  )
   tried lock free is false = calm v mine
 
   stored : (i x : ℕ) (calls : List Call) → IsGuarded v.held i
       → KnownWords (with_word words i x) (set views j (record v { known = (i, x) ∷ without i v.known; dirty = loosened site.shape i (words i) x v.dirty; planned = calls }))
   stored i x calls g = known_law words (with_word words i x) views j v _ at h.known
-      (λ a u ne a' m g'. replaced_other words i x m (λ e. ne (one_guard site h.site_is words views h.locks a j u v i a' at (subst (λ (n : ℕ). IsGuarded u.held n) e g') g)))
-      ((λ n y q. elim (has_first i x n y (without i v.known) q) [
-          inl e ↦ (ap (with_word words i x) e.0 ∙ (replaced_same words i x ∙ sym e.1), subst (λ (m : ℕ). IsGuarded v.held m) (sym e.0) g) |
-          inr r ↦ (let s = without_has i n y v.known r in let t = mine.0 n y s.1 in (replaced_other words i x n s.0 ∙ t.0, t.1)) ]),
-       (λ n y q. elim q [
-          inl d ↦ elim (loosened_has site.shape i (words i) x v.dirty (n, y) d) [
-            inl e ↦ subst (λ (m : ℕ). IsGuarded v.held m) (sym (ap (λ (z : ℕ × ℕ). z.0) e)) g |
-            inr r ↦ mine.1 n y (inl r) ] |
-          inr f ↦ mine.1 n y (inr f) ]))
+      (λ a u ne a' m g'. replaced_other words i x m (λ e. ne (one_guard site h.site_is words views h.locks a j u v i a' at (subst (λ (n : ℕ). IsGuarded u.held n) e g') g))) (
+        (λ n y q. elim (has_first i x n y (without i v.known) q) [
+          | inl e ↦ (ap (with_word words i x) e.0 ∙ (replaced_same words i x ∙ sym e.1), subst (λ (m : ℕ). IsGuarded v.held m) (sym e.0) g)
+          | inr r ↦ (let s = without_has i n y v.known r in let t = mine.0 n y s.1 in (replaced_other words i x n s.0 ∙ t.0, t.1))
+        ]),
+        (λ n y q. elim q [
+          | inl d ↦ elim (loosened_has site.shape i (words i) x v.dirty (n, y) d) [
+            | inl e ↦ subst (λ (m : ℕ). IsGuarded v.held m) (sym (ap (λ (z : ℕ × ℕ). z.0) e)) g
+            | inr r ↦ mine.1 n y (inl r)
+          ]
+          | inr f ↦ mine.1 n y (inr f)
+        ]),
+      )
 
   still_guarded : (lock n : ℕ) (g : IsGuarded v.held n) → (g.0 ≡ lock → ⊥) → IsGuarded (without lock v.held) n
   still_guarded lock n g ne = (g.0, (g.1.0, without_stays lock g.0 g.1.0 v.held ne g.1.1), g.2)
 
   drawn : (call : Call) (n x : ℕ) → KnownWords (with_word words (counter_word site.shape) x) (set views j (with_draw call n v))
   drawn call n x = known_law words _ views j v _ at h.known
-      (λ i u ne a m g. replaced_other words (counter_word site.shape) x m (guarded_no_counter site h.site_is words views h.locks i u m a g))
-      ((λ i y q. (let t = mine.0 i y q in
-          (replaced_other words (counter_word site.shape) x i (guarded_no_counter site h.site_is words views h.locks j v i at t.1) ∙ t.0, t.1))), mine.1)
+      (λ i u ne a m g. replaced_other words (counter_word site.shape) x m (guarded_no_counter site h.site_is words views h.locks i u m a g)) (
+        (λ i y q. (let t = mine.0 i y q in
+            (replaced_other words (counter_word site.shape) x i (guarded_no_counter site h.site_is words views h.locks j v i at t.1) ∙ t.0, t.1))),
+        mine.1,
+      )
 
   freed : (lock next m : ℕ) → Has (lock, m) v.held → ((p : ℕ × ℕ) → IsLoose v p → IsUnder lock p.0 → ⊥) → IsLockWord site.shape lock
       → KnownWords (with_word words lock next) (views_by site (unlocks lock next) j v words views)
-  freed lock next m has firm is = relocked lock next _ is
-      ((λ n y q. (let o = not_under_has lock n y v.known q in let r = mine.0 n y o.1 in
-          (replaced_other words lock next n (guarded_no_lock site h.site_is words views h.locks j v n lock at r.1 is) ∙ r.0,
-           still_guarded lock n r.1 (λ e. o.0 (subst (λ (z : ℕ). IsUnder z n) e r.1.2))))),
-       (λ n y q. (let g = mine.1 n y q in still_guarded lock n g (λ e. firm (n, y) q (subst (λ (z : ℕ). IsUnder z n) e g.2)))))
+  freed lock next m has firm is = relocked lock next _ is (
+    (λ n y q. (let o = not_under_has lock n y v.known q in let r = mine.0 n y o.1 in (
+      replaced_other words lock next n (guarded_no_lock site h.site_is words views h.locks j v n lock at r.1 is) ∙ r.0,
+      still_guarded lock n r.1 (λ e. o.0 (subst (λ (z : ℕ). IsUnder z n) e r.1.2)),
+    ))),
+    (λ n y q. (let g = mine.1 n y q in still_guarded lock n g (λ e. firm (n, y) q (subst (λ (z : ℕ). IsUnder z n) e g.2)))),
+  )
 
   pub keep_known : (kind : Kind) → May site kind v → KnownWords (words_by site kind j words) (views_by site kind j v words views)
   keep_known (peeks i) may = calm _ mine
@@ -96,9 +106,13 @@ module _ (site : Site) (words : Words) (views : List View) (j : ℕ) (v : View) 
   keep_known (looks lock) may = calm _ (look_fits words (eqb (words lock % 2) 0) lock (words lock) v mine)
   keep_known (notes_word lock i) may = calm _ mine
   keep_known (validates lock) may = calm _ (answer_fits words (all_again (marked lock (words lock) v.notes)) v.answer (record v { notes = marked lock (words lock) v.notes }) mine)
-  keep_known (learns i) may = calm _ ((λ n y q. elim (has_first i (words i) n y v.known q) [
-      inl e ↦ (ap words e.0 ∙ sym e.1, subst (λ (m : ℕ). IsGuarded v.held m) (sym e.0) may) |
-      inr r ↦ mine.0 n y r ]), mine.1)
+  keep_known (learns i) may = calm _ (
+    (λ n y q. elim (has_first i (words i) n y v.known q) [
+      | inl e ↦ (ap words e.0 ∙ sym e.1, subst (λ (m : ℕ). IsGuarded v.held m) (sym e.0) may)
+      | inr r ↦ mine.0 n y r
+    ]),
+    mine.1,
+  )
   keep_known (tries lock free) may = tried lock free may.0 (eqb (words lock) free)
   keep_known (stores i x) may = stored i x v.planned may.0
   keep_known (publishes i x call) may = stored i x (call ∷ v.planned) may.0

@@ -1,5 +1,5 @@
 -- The locks are kept, at each kind of step.
-use Rattle.std.proofs.Common.{◌≡◌, ◌≢◌, ◌⊎◌, ℕ, ◌+◌, ◌*◌, ◌%◌, ◌<◌, ◌^◌, List, [], ◌∷◌, set, cond, eqb, Bool, true, false, Option, None, Some, inl, inr, refl, sym, ap, ◌∙◌, arith, subst}
+use Rattle.std.proofs.Common.{◌≡◌, ◌≢◌, ℕ, ◌+◌, ◌%◌, ◌^◌, List, set, cond, eqb, Bool, true, false, Option, None, Some, inl, inr, refl, sym, ap, ◌∙◌, arith, subst}
 use Rattle.std.proofs.lemmas.Bool.{eqb-true}
 use Rattle.std.specs.Prelude.{nat_lt}
 use mathlib.Core.Logic.{dite}
@@ -16,7 +16,7 @@ use Rattle.world.specs.Kinds.{Kind, peeks, asks_power, finds_room, refuses, plac
 use Rattle.world.specs.Laws.{words_by, views_by}
 use Rattle.world.proofs.Grounds.{lock_within}
 use Rattle.world.proofs.Lists.{set_here}
-use Rattle.world.proofs.Seats.{each, is_v, carry, guarded_no_lock, has_first, without_has, without_stays}
+use Rattle.world.proofs.Seats.{each, carry, guarded_no_lock, has_first, without_has, without_stays}
 
 module _ (site : Site) (words us : Words) (views : List View) (j : ℕ) (v w : View) (at : At views j v) (l : Locks site words views) where
   -- no lock word changes, and the view holds what it held
@@ -51,20 +51,21 @@ module _ (site : Site) (words : Words) (views : List View) (j : ℕ) (v : View) 
   locks_taken = record {
     alone = λ i n x y c p q a a' h h'. each views j v taker at (λ i x. Has (c, p) x.held → i ≡ n)
         (λ h. each views j v taker at (λ n y. Has (c, q) y.held → j ≡ n) (λ _. refl)
-          (λ n y m a h'. elim (has_first lock (free + 1) c p v.held h) [ inl e ↦ absurd (not_held n y c q a h' e.0) | inr r ↦ l.alone j n v y c p q at a r h' ]) n y a' h')
+        (λ n y m a h'. elim (has_first lock (free + 1) c p v.held h) [ inl e ↦ absurd (not_held n y c q a h' e.0) | inr r ↦ l.alone j n v y c p q at a r h' ]) n y a' h')
         (λ i x m a h. each views j v taker at (λ n y. Has (c, q) y.held → i ≡ n)
-          (λ h'. elim (has_first lock (free + 1) c q v.held h') [ inl e ↦ absurd (not_held i x c p a h e.0) | inr r ↦ l.alone i j x v c p q a at h r ])
-          (λ n y m a' h'. l.alone i n x y c p q a a' h h') n y a' h') i x a h;
+        (λ h'. elim (has_first lock (free + 1) c q v.held h') [ inl e ↦ absurd (not_held i x c p a h e.0) | inr r ↦ l.alone i j x v c p q a at h r ])
+        (λ n y m a' h'. l.alone i n x y c p q a a' h h') n y a' h') i x a h;
     locked = λ i x c p a h. each views j v taker at (λ i x. Has (c, p) x.held → IsLockWord site.shape c × (us c ≡ p) × (p % 2 ≡ 1))
         (λ h. elim (has_first lock (free + 1) c p v.held h) [
-          inl e ↦ (let e0 = e.0 in let e1 = e.1 in
-            (subst (λ z. IsLockWord site.shape z) (sym e0) is, ap us e0 ∙ (replaced_same words lock (free + 1) ∙ sym e1), omega (arith, e1, even))) |
-          inr r ↦ others j v c p at r ])
+          | inl e ↦ (let e0 = e.0 in let e1 = e.1 in
+              (subst (λ z. IsLockWord site.shape z) (sym e0) is, ap us e0 ∙ (replaced_same words lock (free + 1) ∙ sym e1), omega (arith, e1, even)))
+          | inr r ↦ others j v c p at r
+        ])
         (λ i x n a h. others i x c p a h) i x a h;
     odd = λ c is' odd. dite (ℕ_discrete c lock)
         (λ (e : c ≡ lock). (j, taker, set_here views j v taker at, (free + 1, inl (ap (λ z. (z, free + 1)) e))))
         (λ (ne : c ≢ lock). let o = l.odd c is' (ap (λ n. n % 2) (sym (replaced_other words lock (free + 1) c ne)) ∙ odd) in
-            let s = carry views j v taker at (λ i u. HasLock u.held c) (λ q. (q.0, inr q.1)) o.0 o.1 o.2 o.3 in (o.0, s.0, s.1, s.2));
+        let s = carry views j v taker at (λ i u. HasLock u.held c) (λ q. (q.0, inr q.1)) o.0 o.1 o.2 o.3 in (o.0, s.0, s.1, s.2));
   }
 
 -- a lock is freed
@@ -86,10 +87,10 @@ module _ (site : Site) (words : Words) (views : List View) (j : ℕ) (v w : View
         (λ i x n a h. away i x c p a h (λ e. n (l.alone i j x v lock p m a at (subst (λ z. Has (z, p) x.held) e h) mine))) i x a h;
     odd = λ c is odd. dite (ℕ_discrete c lock)
         (λ (e : c ≡ lock). let r = l.locked j v lock m at mine in
-            let s : with_word words lock next c ≡ next = ap (with_word words lock next) e ∙ replaced_same words lock next in absurd (omega (arith, s, odd, r.2, is_next)))
+        let s : with_word words lock next c ≡ next = ap (with_word words lock next) e ∙ replaced_same words lock next in absurd (omega (arith, s, odd, r.2, is_next)))
         (λ (ne : c ≢ lock). let o = l.odd c is (ap (λ n. n % 2) (sym (replaced_other words lock next c ne)) ∙ odd) in
-            let s = carry views j v w at (λ i u. HasLock u.held c) (λ q. (q.0, subst (λ z. Has (c, q.0) z) (sym held) (without_stays lock c q.0 v.held ne q.1))) o.0 o.1 o.2 o.3 in
-            (o.0, s.0, s.1, s.2));
+        let s = carry views j v w at (λ i u. HasLock u.held c) (λ q. (q.0, subst (λ z. Has (c, q.0) z) (sym held) (without_stays lock c q.0 v.held ne q.1))) o.0 o.1 o.2 o.3 in
+        (o.0, s.0, s.1, s.2));
   }
 
 -- what a look, a count and a validation leave as it was
@@ -122,7 +123,7 @@ module _ (site : Site) (words : Words) (views : List View) (j : ℕ) (v : View) 
   drawn : (w : View) → w.held ≡ v.held → (x : ℕ) → Locks site (with_word words (counter_word site.shape) x) (set views j w)
   drawn w held x = locks_same site words (with_word words (counter_word site.shape) x) views j v w at h.locks held
       (λ lock is. replaced_other words (counter_word site.shape) x lock
-          (λ e. let near = lock_within site.shape lock is h.site_is.front.one_segment in omega (arith, near, e)))
+      (λ e. let near = lock_within site.shape lock is h.site_is.front.one_segment in omega (arith, near, e)))
 
   pub keep_locks : (kind : Kind) → May site kind v → Locks site (words_by site kind j words) (views_by site kind j v words views)
   keep_locks (peeks i) may = calm _ refl

@@ -1,5 +1,5 @@
 -- The commit counter does not wrap, at each kind of step.
-use Rattle.std.proofs.Common.{◌≡◌, ◌⊎◌, ℕ, suc, ◌+◌, ◌*◌, ◌%◌, ◌^◌, ◌<◌, ◌≤◌, Bool, true, false, cond, eqb, List, ◌∷◌, length, set, Option, None, Some, refl, arith}
+use Rattle.std.proofs.Common.{◌≡◌, ℕ, ◌+◌, ◌%◌, ◌^◌, ◌≤◌, Bool, true, false, eqb, List, length, set, Option, None, Some, refl, arith}
 use Rattle.std.proofs.lemmas.Bool.{ltb-true}
 use Rattle.std.specs.Prelude.{nat_lt}
 use Rattle.trace.specs.Events.{Words}
@@ -7,7 +7,7 @@ use Rattle.image_layout.specs.Volatile.{counter_word}
 use Rattle.map_model.specs.declared.call.Call.{Call}
 use Rattle.world.specs.Site.{Site}
 use Rattle.world.specs.Views.{Answer, View, At}
-use Rattle.world.specs.History.{Log, change_of}
+use Rattle.world.specs.History.{Log}
 use Rattle.world.specs.Invariant.{total, Room, Holds}
 use Rattle.world.specs.Kinds.{Kind, peeks, asks_power, finds_room, refuses, places, looks, notes_word, validates, learns, tries, stores, publishes, flushes, fences, draws_place, unlocks, marked, all_again, with_answer, with_look, with_count, with_lock, with_draw, log_after, May}
 use Rattle.world.specs.Laws.{views_by}
@@ -25,7 +25,8 @@ room_law : (site : Site) (views : List View) (j : ℕ) (v w : View) (log log' : 
 room_law site views j v w log log' at r callers most few = record {
   callers = (let s = total_set callers_of views j v w at in let p = r.callers in omega (arith, s, p, callers));
   each = each views j v w at (λ i u. u.room ≤ u.callers) most (λ i u n a. r.each i u a);
-  few = (let s = total_set room_of views j v w at in omega (arith, s, few)) }
+  few = (let s = total_set room_of views j v w at in omega (arith, s, few));
+}
 
 module _ (site : Site) (words : Words) (views : List View) (j : ℕ) (v : View) (h : Holds site words views) (at : At views j v) where
   calm : (w : View) → w.callers ≡ v.callers → w.room ≡ v.room → Room site (set views j w) h.log

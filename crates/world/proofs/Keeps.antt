@@ -22,4 +22,3 @@ keeps_all site kind words views j v h at may = record {
   notes = keep_notes site words views j v h at kind may;
   room = keep_room site words views j v h at kind may;
 }
-

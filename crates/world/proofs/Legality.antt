@@ -1,22 +1,21 @@
 -- A history in log form makes the replies of all callers one legal history of a plain map, and its map is that map's.
-use Rattle.std.proofs.Common.{◌≡◌, ◌⊎◌, ℕ, zero, suc, ◌+◌, ◌<◌, ◌≤◌, Bool, true, false, cond, eqb, List, [], ◌∷◌, ◌++◌, length, map, Option, None, Some, inl, inr, refl, sym, ap, ◌∙◌, subst, arith, length-append}
+use Rattle.std.proofs.Common.{◌≡◌, ℕ, zero, suc, ◌+◌, ◌<◌, ◌≤◌, Bool, true, false, cond, eqb, List, [], ◌∷◌, ◌++◌, length, map, Option, None, Some, inl, inr, refl, sym, ap, ◌∙◌, subst, arith, length-append}
 use Rattle.std.proofs.lemmas.Bool.{eqb-true, le-leb, lt-leb}
 use Rattle.std.proofs.lemmas.List.Elements.{filter-append}
 use Rattle.std.specs.Prelude.{filter}
 use Rattle.std.specs.List.{AllByRecursion}
-use Rattle.std.specs.Ordering.{nat_cmp}
 use Rattle.std.specs.Cmp.{nat_cmp_total, unsigned_tied}
-use Rattle.std.specs.FinMap.{get, insert, remove, get-insert, get-remove}
+use Rattle.std.specs.FinMap.{get, get-insert, get-remove}
 use Rattle.trace.specs.Events.{Words}
 use Rattle.map_model.specs.declared.call.Call.{Call}
 use Rattle.map_model.specs.declared.call.Call.TheVariants.{Get, Insert, Update, Remove}
 use Rattle.map_model.specs.declared.entry.Reply.{Reply}
 use Rattle.map_model.specs.declared.entry.Reply.TheVariants.{Found, Absent, Done, Exists, Full, Deep, Spent}
 use Rattle.map_model.specs.declared.entry.Entry.{Entry}
-use Rattle.map_model.specs.Map.{Map, key_of, shown, reply_of, is_change, changed, after}
+use Rattle.map_model.specs.Map.{Map, key_of, shown, reply_of, is_change, changed}
 use Rattle.map_model.specs.Weave.{all_of, draws, drew_at, weave}
 use Rattle.map_model.specs.Legal.{IsReplyOf, replay, InOrder, IsPlace, IsLegal, seen_after}
-use Rattle.map_model.specs.ByPlaces.{draws_below, map_at, IsRightAtPlace, IsLegalByPlaces}
+use Rattle.map_model.specs.ByPlaces.{draws_below, map_at, IsRightAtPlace}
 use Rattle.map_model.proofs.Elements.{Has as IsIn, All-from_each, Has-append_cases, Has-filter_parts}
 use Rattle.map_model.proofs.Rows.{replay-append}
 use Rattle.map_model.proofs.Places.{and-parts}
@@ -76,14 +75,15 @@ drew_below (e ∷ log) n c d = elim d [ inl q ↦ (let p = q.0 in omega (arith, 
 when_next : (start : ℕ → Option ℕ) (log : Log) (n k : ℕ) (c : Change) → Drew log n c → map_when start log (suc n) k ≡ cond (eqb k c.0) c.1 (map_when start log n k)
 when_next start [] n k c d = absurd d
 when_next start (e ∷ log) n k c d = elim d [
-    inl q ↦ (let p = q.0 in
+  | inl q ↦ (let p = q.0 in
       ap (λ b. cond b (map_when start log (suc n) k) (map_now start (e ∷ log) k)) (lt-leb (suc n) (length log) (omega (arith, p)))
       ∙ (ap (λ (x : Change). cond (eqb k x.0) x.1 (map_now start log k)) (sym q.1)
-      ∙ ap (λ a. cond (eqb k c.0) c.1 a) (sym (ap (λ b. cond b (map_when start log n k) (map_now start (e ∷ log) k)) (le-leb n (length log) (omega (arith, p))) ∙ when_now start log n k p)))) |
-    inr r ↦ (let p = drew_below log n c r in
+      ∙ ap (λ a. cond (eqb k c.0) c.1 a) (sym (ap (λ b. cond b (map_when start log n k) (map_now start (e ∷ log) k)) (le-leb n (length log) (omega (arith, p))) ∙ when_now start log n k p))))
+  | inr r ↦ (let p = drew_below log n c r in
       ap (λ b. cond b (map_when start log (suc n) k) (map_now start (e ∷ log) k)) (le-leb (suc n) (length log) (omega (arith, p)))
       ∙ (when_next start log n k c r
-      ∙ ap (λ a. cond (eqb k c.0) c.1 a) (sym (ap (λ b. cond b (map_when start log n k) (map_now start (e ∷ log) k)) (le-leb n (length log) (omega (arith, p))))))) ]
+      ∙ ap (λ a. cond (eqb k c.0) c.1 a) (sym (ap (λ b. cond b (map_when start log n k) (map_now start (e ∷ log) k)) (le-leb n (length log) (omega (arith, p)))))))
+]
 
 -- ---- the lists of all views
 abbrev own_of : View → List Entry
@@ -101,8 +101,9 @@ turned (x ∷ es) e h = elim h [ inl q ↦ inl (sym q) | inr r ↦ inr (turned e
 whose : (views : List View) (e : Entry) → IsIn (all_of (map own_of views)) e → (j : ℕ) × (v : View) × At views j v × Has e v.own
 whose [] e h = absurd h
 whose (v ∷ views) e h = elim (Has-append_cases v.own (all_of (map own_of views)) e h) [
-    inl mine ↦ (0, v, refl, turned v.own e mine) |
-    inr r ↦ (let s = whose views e r in (suc s.0, s.1, s.2, s.3)) ]
+  | inl mine ↦ (0, v, refl, turned v.own e mine)
+  | inr r ↦ (let s = whose views e r in (suc s.0, s.1, s.2, s.3))
+]
 
 all_in_order : (views : List View) → ((j : ℕ) (v : View) → At views j v → InOrder 1 0 v.own) → AllByRecursion (InOrder 1 0) (map own_of views)
 all_in_order [] h = tt
@@ -142,8 +143,8 @@ module _ (site : Site) (words : Words) (views : List View) (log : Log) (o : Hist
       let r = right e parts.1 in
       let m = map_at start all n in
       let done : Done ≡ reply_by (get m (key_of e.call)) e.call =
-          subst (λ (a : Option ℕ). Done ≡ reply_by a e.call) (ap (λ p. map_when site.start log p (key_of e.call)) place ∙ sym (so_far (key_of e.call)))
-            (subst (λ (x : Reply). MayReply (map_when site.start log e.place (key_of e.call)) e.call x) (change_is_done e.reply change) r.reply) in
+      subst (λ (a : Option ℕ). Done ≡ reply_by a e.call) (ap (λ p. map_when site.start log p (key_of e.call)) place ∙ sym (so_far (key_of e.call)))
+      (subst (λ (x : Reply). MayReply (map_when site.start log e.place (key_of e.call)) e.call x) (change_is_done e.reply change) r.reply) in
       ap (λ z. get z k) (ap (λ es. replay start (draws_below all n ++ es)) one.1 ∙ replay-append start (draws_below all n) (e ∷ []))
       ∙ (ap (λ b. get (cond b (changed m e.call) m) k) change
       ∙ (changed_is m e.call k done
@@ -165,7 +166,8 @@ module _ (site : Site) (words : Words) (views : List View) (log : Log) (o : Hist
     each_once = λ n below. count_all (drew_at n) views ∙ o.each_once n (let c = count in omega (arith, below, c));
     replies = All-from_each (IsRightAtPlace start all) all (λ e h. let r = right e h in
         reply_is (map_at start all e.place) e.call e.reply
-          (subst (λ (a : Option ℕ). MayReply a e.call e.reply) (sym (map_is e.place (place_le e.drew e.place (length log) r.within) (key_of e.call))) r.reply)) })
+        (subst (λ (a : Option ℕ). MayReply a e.call e.reply) (sym (map_is e.place (place_le e.drew e.place (length log) r.within) (key_of e.call))) r.reply));
+  })
 
   replays : (k : ℕ) → get (replay start (weave (map own_of views))) k ≡ map_now site.start log k
   replays k = ap (λ m. get m k) (replay-weave start (map own_of views) legal ∙ ap (map_at start all) count)

@@ -1,22 +1,16 @@
 -- What tables are by the cores of their words, as the parts of the invariant use it.
-use Rattle.std.proofs.Common.{◌≡◌, ℕ, zero, suc, ◌+◌, ◌*◌, ◌<◌, ◌≤◌, Option, inl, inr, refl, cond, sym, ap, ◌∙◌, subst, arith}
-use Rattle.std.proofs.lemmas.Bool.{cases_lt, lt-ltb, le-ltb}
-use Rattle.std.specs.Prelude.{nat_lt}
+use Rattle.std.proofs.Common.{◌≡◌, ℕ, zero, suc, ◌+◌, ◌<◌, ◌≤◌, refl, cond, sym, ap, ◌∙◌, subst, arith}
 use Rattle.trace.specs.Events.{Words, with_word}
 use Rattle.trace.proofs.Replaced.{cases_at, replaced_other}
-use Rattle.image_layout.specs.Places.{Shape, IsShape, words_of, bucket_at}
+use Rattle.image_layout.specs.Places.{words_of, bucket_at}
 use Rattle.image_layout.specs.Volatile.{counter_word}
-use Rattle.bucket_meta.specs.Bucket.{allocated, member, finger}
-use Rattle.hash_word.specs.Hash.{home_of, finger_of}
-use Rattle.sound_image.specs.Records.{key_hash}
-use Rattle.bucket_words.specs.Buckets.{IsTaken, IsHomeBucket}
 use Rattle.bucket_words.proofs.WordCores.{core_before}
 use Rattle.bucket_words.proofs.Slots.{kept_bucket}
 use Rattle.bucket_words.proofs.SameCores.{slots_of_cores, table_of_cores, find_of_home}
 use Rattle.bucket_words.specs.Core.{core_of, core}
 use Rattle.bucket_words.specs.Tables.{IsHomeTable, home_at, find}
 use Rattle.world.specs.Site.{Site, IsSite, IsLockWord, IsUnder}
-use Rattle.world.proofs.Grounds.{home_is_lock, lock_within, under_within, lock_core}
+use Rattle.world.proofs.Grounds.{home_is_lock, lock_within, lock_core}
 
 -- ---- over a site
 module _ (site : Site) (is : IsSite site) where
@@ -38,8 +32,8 @@ module _ (site : Site) (is : IsSite site) where
       at : (n : ℕ) → n < 32 → core site.shape word (home_at site.shape k + n) ≡ core site.shape other (home_at site.shape k + n)
       at zero near = let e : home_at site.shape k + 0 ≡ home_at site.shape k = omega arith in
           subst (λ (z : ℕ). core site.shape word z ≡ core site.shape other z) (sym e)
-            (lock_core site.shape (home_at site.shape k) (word (home_at site.shape k)) (home_is_lock site.shape k) one_segment
-              ∙ sym (lock_core site.shape (home_at site.shape k) (other (home_at site.shape k)) (home_is_lock site.shape k) one_segment))
+          (lock_core site.shape (home_at site.shape k) (word (home_at site.shape k)) (home_is_lock site.shape k) one_segment
+          ∙ sym (lock_core site.shape (home_at site.shape k) (other (home_at site.shape k)) (home_is_lock site.shape k) one_segment))
       at (suc n) near = same (home_at site.shape k + suc n) (omega arith, omega (arith, near))
 
   -- a store that keeps its word's core keeps all cores
@@ -68,7 +62,8 @@ module _ (site : Site) (is : IsSite site) where
     same_front = λ i below. sym (core_before site.shape i (other i) below) ∙ (sym (same i (let w = within 0 (omega arith) in omega (arith, below, w)))
         ∙ (core_before site.shape i (word i) below ∙ table.same_front i below));
     buckets = λ b near. kept_bucket site.shape word other b
-        (slots_of_cores site.shape is.shape.some word other b near (λ n inside. same (bucket_at site.shape 0 b + n) (let w = within b near in omega (arith, inside, w)))) (table.buckets b near) }
+        (slots_of_cores site.shape is.shape.some word other b near (λ n inside. same (bucket_at site.shape 0 b + n) (let w = within b near in omega (arith, inside, w)))) (table.buckets b near);
+  }
     where
       within : (b : ℕ) → b < 66 → bucket_at site.shape 0 b + 32 ≤ words_of site.shape
       within b near = lock_within site.shape (bucket_at site.shape 0 b) (b, near, refl) one_segment

@@ -1,13 +1,13 @@
 -- The events of the device and the views stay tied, at each kind of step.
-use Rattle.std.proofs.Common.{◌≡◌, ◌≢◌, ◌⊎◌, ℕ, zero, suc, ◌+◌, ◌*◌, ◌/◌, ◌%◌, ◌^◌, ◌<◌, ◌≤◌, Bool, true, false, cond, eqb, List, [], ◌∷◌, ◌++◌, length, set, Option, None, Some, inl, inr, refl, sym, ap, ◌∙◌, subst, arith}
-use Rattle.std.proofs.lemmas.Bool.{cases_Bool, cases_eq, eqb-true, eqb-false}
+use Rattle.std.proofs.Common.{◌≡◌, ◌≢◌, ◌⊎◌, ℕ, ◌+◌, ◌%◌, ◌^◌, ◌<◌, Bool, true, false, cond, eqb, List, [], ◌∷◌, ◌++◌, length, set, Option, None, Some, inl, inr, refl, sym, ap, ◌∙◌, subst, arith}
+use Rattle.std.proofs.lemmas.Bool.{cases_Bool, eqb-true, eqb-false}
 use Rattle.std.specs.Prelude.{nat_lt, Contains}
 use mathlib.Core.Logic.{dite}
 use native.Mathlib.Decide.{ℕ_discrete}
 use Rattle.trace.specs.Events.{Words, line_of, with_word, Event, Trace, value}
 use Rattle.trace.specs.Events.Event.{loaded, stored, exchanged, drawn, flushed, fenced}
-use Rattle.trace.specs.Progress.{pending, HadSince}
-use Rattle.trace.specs.Steps.{Writes, HadSinceSettled}
+use Rattle.trace.specs.Progress.{pending}
+use Rattle.trace.specs.Steps.{Writes}
 use Rattle.trace.proofs.Replaced.{replaced_same, replaced_other}
 use Rattle.trace.proofs.Listed.{has_of_contains, contains_of_has}
 use Rattle.trace.proofs.Moments.{since_more}
@@ -25,7 +25,7 @@ use Rattle.world.specs.Kinds.{Kind, peeks, asks_power, finds_room, refuses, plac
 use Rattle.world.specs.Wants.{event_of}
 use Rattle.world.specs.Tied.{IsFlushed, Tied}
 use Rattle.world.specs.Laws.{found_by, views_by}
-use Rattle.world.proofs.Grounds.{lock_core, lock_within}
+use Rattle.world.proofs.Grounds.{lock_core}
 use Rattle.world.proofs.Lists.{set_here, set_there, has_joined}
 use Rattle.world.proofs.Seats.{each, is_v, carry, one_guard, guarded_within, guarded_no_lock, guarded_no_counter}
 
@@ -41,23 +41,32 @@ has_right (x ∷ xs) ys p h = inr (has_right xs ys p h)
 on_line_is : (l : ℕ) (d : List (ℕ × ℕ)) (p : ℕ × ℕ) → Has p (on_line l d) → line_of p.0 ≡ l
 on_line_is l [] p h = absurd h
 on_line_is l (q ∷ d) p h = elim (cases_Bool (eqb (line_of q.0) l)) [
-    inl t ↦ elim (subst (λ b. Has p (cond b (q ∷ on_line l d) (on_line l d))) t h) [
-      inl e ↦ ap (λ (z : ℕ × ℕ). line_of z.0) e ∙ eqb-true (line_of q.0) l t | inr r ↦ on_line_is l d p r ] |
-    inr f ↦ on_line_is l d p (subst (λ b. Has p (cond b (q ∷ on_line l d) (on_line l d))) f h) ]
+  | inl t ↦ elim (subst (λ b. Has p (cond b (q ∷ on_line l d) (on_line l d))) t h) [
+    | inl e ↦ ap (λ (z : ℕ × ℕ). line_of z.0) e ∙ eqb-true (line_of q.0) l t
+    | inr r ↦ on_line_is l d p r
+  ]
+  | inr f ↦ on_line_is l d p (subst (λ b. Has p (cond b (q ∷ on_line l d) (on_line l d))) f h)
+]
 
 on_line_stays : (l : ℕ) (d : List (ℕ × ℕ)) (p : ℕ × ℕ) → line_of p.0 ≡ l → Has p d → Has p (on_line l d)
 on_line_stays l [] p at h = absurd h
 on_line_stays l (q ∷ d) p at h = elim (cases_Bool (eqb (line_of q.0) l)) [
-    inl t ↦ subst (λ b. Has p (cond b (q ∷ on_line l d) (on_line l d))) (sym t) (elim h [ inl e ↦ inl e | inr r ↦ inr (on_line_stays l d p at r) ]) |
-    inr f ↦ subst (λ b. Has p (cond b (q ∷ on_line l d) (on_line l d))) (sym f) (elim h [
-      inl e ↦ absurd (eqb-false (line_of q.0) l f (ap (λ (z : ℕ × ℕ). line_of z.0) (sym e) ∙ at)) | inr r ↦ on_line_stays l d p at r ]) ]
+  | inl t ↦ subst (λ b. Has p (cond b (q ∷ on_line l d) (on_line l d))) (sym t) (elim h [ inl e ↦ inl e | inr r ↦ inr (on_line_stays l d p at r) ])
+  | inr f ↦ subst (λ b. Has p (cond b (q ∷ on_line l d) (on_line l d))) (sym f) (elim h [
+    | inl e ↦ absurd (eqb-false (line_of q.0) l f (ap (λ (z : ℕ × ℕ). line_of z.0) (sym e) ∙ at))
+    | inr r ↦ on_line_stays l d p at r
+  ])
+]
 
 off_line_stays : (l : ℕ) (d : List (ℕ × ℕ)) (p : ℕ × ℕ) → (line_of p.0 ≡ l → ⊥) → Has p d → Has p (off_line l d)
 off_line_stays l [] p other h = absurd h
 off_line_stays l (q ∷ d) p other h = elim (cases_Bool (eqb (line_of q.0) l)) [
-    inl t ↦ subst (λ b. Has p (cond b (off_line l d) (q ∷ off_line l d))) (sym t) (elim h [
-      inl e ↦ absurd (other (ap (λ (z : ℕ × ℕ). line_of z.0) e ∙ eqb-true (line_of q.0) l t)) | inr r ↦ off_line_stays l d p other r ]) |
-    inr f ↦ subst (λ b. Has p (cond b (off_line l d) (q ∷ off_line l d))) (sym f) (elim h [ inl e ↦ inl e | inr r ↦ inr (off_line_stays l d p other r) ]) ]
+  | inl t ↦ subst (λ b. Has p (cond b (off_line l d) (q ∷ off_line l d))) (sym t) (elim h [
+    | inl e ↦ absurd (other (ap (λ (z : ℕ × ℕ). line_of z.0) e ∙ eqb-true (line_of q.0) l t))
+    | inr r ↦ off_line_stays l d p other r
+  ])
+  | inr f ↦ subst (λ b. Has p (cond b (off_line l d) (q ∷ off_line l d))) (sym f) (elim h [ inl e ↦ inl e | inr r ↦ inr (off_line_stays l d p other r) ])
+]
 
 -- what a view after a step has loose as it had before
 abbrev pub KeepsLoose : View → View → Type 0
@@ -93,19 +102,25 @@ module _ (site : Site) (start : Words) (es : Trace) (views : List View) (j : ℕ
   tied_load : (i : ℕ) → KeepsLoose w v → Tied site start (loaded j i ∷ es) (set views j w)
   tied_load i same = record {
     covered = λ n y within had. elim (may_more start (loaded j i) es n y had) [
-      inl none ↦ absurd none |
-      inr h ↦ elim (o.covered n y within h) [
-        inl e ↦ inl e |
-        inr s ↦ leaves now n y (λ x l. elim l [ inl d ↦ inl (subst (λ (z : List (ℕ × ℕ)). Has (n, x) z) (sym same.0) d) | inr f ↦ inr (subst (λ (z : List (ℕ × ℕ)). Has (n, x) z) (sym same.1) f) ])
-            s.0 s.1 s.2 s.3 s.4 s.5 ] ];
+      | inl none ↦ absurd none
+      | inr h ↦ elim (o.covered n y within h) [
+        | inl e ↦ inl e
+        | inr s ↦ leaves now n y (λ x l. elim l [ inl d ↦ inl (subst (λ (z : List (ℕ × ℕ)). Has (n, x) z) (sym same.0) d) | inr f ↦ inr (subst (λ (z : List (ℕ × ℕ)). Has (n, x) z) (sym same.1) f) ])
+            s.0 s.1 s.2 s.3 s.4 s.5
+      ]
+    ];
     fresh = λ c u n x a has. each views j v w at (λ c u. Has (n, x) u.flushed → IsFlushed site start (loaded j i ∷ es) c u.dirty n)
         (λ has. subst (λ (d : List (ℕ × ℕ)). IsFlushed site start (loaded j i ∷ es) j d n) (sym same.0)
-            (kept j v n (o.fresh j v n x at (subst (λ (z : List (ℕ × ℕ)). Has (n, x) z) same.1 has))))
-        (λ c u ne a has. kept c u n (o.fresh c u n x a has)) c u a has }
+        (kept j v n (o.fresh j v n x at (subst (λ (z : List (ℕ × ℕ)). Has (n, x) z) same.1 has))))
+        (λ c u ne a has. kept c u n (o.fresh c u n x a has)) c u a has;
+  }
     where
       kept : (c : ℕ) (u : View) (n : ℕ) → IsFlushed site start es c u.dirty n → IsFlushed site start (loaded j i ∷ es) c u.dirty n
-      kept c u n f = record { moment = f.moment; is_pending = f.is_pending;
-        since = λ y had. elim (since_more start (loaded j i) es f.moment n y had) [ inl none ↦ absurd none | inr h ↦ f.since y h ] }
+      kept c u n f = record {
+        moment = f.moment;
+        is_pending = f.is_pending;
+        since = λ y had. elim (since_more start (loaded j i) es f.moment n y had) [ inl none ↦ absurd none | inr h ↦ f.since y h ];
+      }
 
   -- an event that writes a word: its old value is now loose, or had the same core; and nobody else had the word flushed
   tied_write : (e : Event) (i x : ℕ) → ((n y : ℕ) → Writes now e n y → (n ≡ i) × (y ≡ x)) → value start (e ∷ es) ≡ with_word now i x
@@ -116,102 +131,147 @@ module _ (site : Site) (start : Words) (es : Trace) (views : List View) (j : ℕ
       → Tied site start (e ∷ es) (set views j w)
   tied_write e i x writes becomes no_fence same_flushed dirty lost inside alone = record {
     covered = λ n y within had. elim (may_more start e es n y had) [
-      inl wrote ↦ (let q = writes n y wrote in inl (ap (core_of site.shape n) (q.1 ∙ sym (new_at n q.0)))) |
-      inr h ↦ elim (o.covered n y within h) [
-        inl same ↦ dite (ℕ_discrete n i)
-          (λ (q : n ≡ i). elim (lost (subst (λ (z : ℕ). z < words_of site.shape) q within)) [
-            inl core ↦ inl (same ∙ (subst (λ (z : ℕ). core_of site.shape z (now z) ≡ core_of site.shape z x) (sym q) core ∙ ap (core_of site.shape n) (sym (new_at n q)))) |
-            inr loose ↦ inr (j, w, now n, set_here views j v w at, inl (subst (λ (z : ℕ). Has (z, now z) w.dirty) (sym q) loose), same) ])
-          (λ (q : n ≢ i). inl (same ∙ ap (core_of site.shape n) (sym (old_at n q)))) |
-        inr s ↦ leaves (value start (e ∷ es)) n y (λ z l. elim l [ inl d ↦ inl (dirty (n, z) d) | inr f ↦ inr (subst (λ (q : List (ℕ × ℕ)). Has (n, z) q) (sym same_flushed) f) ]) s.0 s.1 s.2 s.3 s.4 s.5 ] ];
+      | inl wrote ↦ (let q = writes n y wrote in inl (ap (core_of site.shape n) (q.1 ∙ sym (new_at n q.0))))
+      | inr h ↦ elim (o.covered n y within h) [
+        | inl same ↦ dite (ℕ_discrete n i)
+            (λ (q : n ≡ i). elim (lost (subst (λ (z : ℕ). z < words_of site.shape) q within)) [
+              | inl core ↦ inl (same ∙ (subst (λ (z : ℕ). core_of site.shape z (now z) ≡ core_of site.shape z x) (sym q) core ∙ ap (core_of site.shape n) (sym (new_at n q))))
+              | inr loose ↦ inr (j, w, now n, set_here views j v w at, inl (subst (λ (z : ℕ). Has (z, now z) w.dirty) (sym q) loose), same)
+            ])
+            (λ (q : n ≢ i). inl (same ∙ ap (core_of site.shape n) (sym (old_at n q))))
+        | inr s ↦ leaves (value start (e ∷ es)) n y (λ z l. elim l [ inl d ↦ inl (dirty (n, z) d) | inr f ↦ inr (subst (λ (q : List (ℕ × ℕ)). Has (n, z) q) (sym same_flushed) f) ]) s.0 s.1 s.2 s.3 s.4 s.5
+      ]
+    ];
     fresh = λ c u n y a has. each views j v w at (λ c u. Has (n, y) u.flushed → IsFlushed site start (e ∷ es) c u.dirty n)
         (λ has. let has' = subst (λ (q : List (ℕ × ℕ)). Has (n, y) q) same_flushed has in
-            own n (o.fresh j v n y at has') (λ q. lost (subst (λ (z : ℕ). z < words_of site.shape) q (inside n y has'))))
-        (λ c u ne a has. other c u n (o.fresh c u n y a has) (λ q. alone c u y ne a (subst (λ (z : ℕ). Has (z, y) u.flushed) q has))) c u a has }
+        own n (o.fresh j v n y at has') (λ q. lost (subst (λ (z : ℕ). z < words_of site.shape) q (inside n y has'))))
+        (λ c u ne a has. other c u n (o.fresh c u n y a has) (λ q. alone c u y ne a (subst (λ (z : ℕ). Has (z, y) u.flushed) q has))) c u a has;
+  }
     where
       new_at : (n : ℕ) → n ≡ i → value start (e ∷ es) n ≡ x
       new_at n q = ap (λ (m : Words). m n) becomes ∙ (ap (with_word now i x) q ∙ replaced_same now i x)
+
       old_at : (n : ℕ) → (n ≡ i → ⊥) → value start (e ∷ es) n ≡ now n
       old_at n q = ap (λ (m : Words). m n) becomes ∙ replaced_other now i x n q
+
       still : (c : ℕ) (p : ℕ × ℕ) → Contains (pending c es) p → Contains (pending c (e ∷ es)) p
       still c p h = contains_of_has p (pending c (e ∷ es)) (pending_more e es c p (no_fence c) (has_of_contains p (pending c es) h))
+
       other : (c : ℕ) (u : View) (n : ℕ) → IsFlushed site start es c u.dirty n → (n ≡ i → ⊥) → IsFlushed site start (e ∷ es) c u.dirty n
-      other c u n f ne = record { moment = f.moment; is_pending = still c (line_of n, f.moment) f.is_pending;
+      other c u n f ne = record {
+        moment = f.moment;
+        is_pending = still c (line_of n, f.moment) f.is_pending;
         since = λ y had. elim (since_more start e es f.moment n y had) [
-          inl wrote ↦ absurd (ne (writes n y wrote).0) |
-          inr h ↦ elim (f.since y h) [ inl same ↦ inl (same ∙ ap (core_of site.shape n) (sym (old_at n ne))) | inr z ↦ inr z ] ] }
+          | inl wrote ↦ absurd (ne (writes n y wrote).0)
+          | inr h ↦ elim (f.since y h) [ inl same ↦ inl (same ∙ ap (core_of site.shape n) (sym (old_at n ne))) | inr z ↦ inr z ]
+        ];
+      }
+
       own : (n : ℕ) → IsFlushed site start es j v.dirty n → (n ≡ i → (core_of site.shape i (now i) ≡ core_of site.shape i x) ⊎ Has (i, now i) w.dirty) → IsFlushed site start (e ∷ es) j w.dirty n
-      own n f lose = record { moment = f.moment; is_pending = still j (line_of n, f.moment) f.is_pending;
+      own n f lose = record {
+        moment = f.moment;
+        is_pending = still j (line_of n, f.moment) f.is_pending;
         since = λ y had. elim (since_more start e es f.moment n y had) [
-          inl wrote ↦ (let q = writes n y wrote in inl (ap (core_of site.shape n) (q.1 ∙ sym (new_at n q.0)))) |
-          inr h ↦ elim (f.since y h) [
-            inl same ↦ dite (ℕ_discrete n i)
-              (λ (q : n ≡ i). elim (lose q) [
-                inl core ↦ inl (same ∙ (subst (λ (z : ℕ). core_of site.shape z (now z) ≡ core_of site.shape z x) (sym q) core ∙ ap (core_of site.shape n) (sym (new_at n q)))) |
-                inr loose ↦ inr (now n, subst (λ (z : ℕ). Has (z, now z) w.dirty) (sym q) loose, same) ])
-              (λ (q : n ≢ i). inl (same ∙ ap (core_of site.shape n) (sym (old_at n q)))) |
-            inr z ↦ inr (z.0, dirty (n, z.0) z.1, z.2) ] ] }
+          | inl wrote ↦ (let q = writes n y wrote in inl (ap (core_of site.shape n) (q.1 ∙ sym (new_at n q.0))))
+          | inr h ↦ elim (f.since y h) [
+            | inl same ↦ dite (ℕ_discrete n i)
+                (λ (q : n ≡ i). elim (lose q) [
+                  | inl core ↦ inl (same ∙ (subst (λ (z : ℕ). core_of site.shape z (now z) ≡ core_of site.shape z x) (sym q) core ∙ ap (core_of site.shape n) (sym (new_at n q))))
+                  | inr loose ↦ inr (now n, subst (λ (z : ℕ). Has (z, now z) w.dirty) (sym q) loose, same)
+                ])
+                (λ (q : n ≢ i). inl (same ∙ ap (core_of site.shape n) (sym (old_at n q))))
+            | inr z ↦ inr (z.0, dirty (n, z.0) z.1, z.2)
+          ]
+        ];
+      }
 
 module _ (site : Site) (start : Words) (es : Trace) (views : List View) (j : ℕ) (v : View) (at : At views j v) (o : Tied site start es views) where
   tied_flush : (l : ℕ) → Tied site start (flushed j l ∷ es) (set views j (record v { dirty = off_line l v.dirty; flushed = on_line l v.dirty ++ v.flushed }))
   tied_flush l = record {
     covered = λ n y within had. elim (may_more start (flushed j l) es n y had) [
-      inl none ↦ absurd none |
-      inr h ↦ elim (o.covered n y within h) [
-        inl e ↦ inl e |
-        inr s ↦ leaves site start es views j v _ at o (value start es) n y (λ x loose. elim loose [
-            inl d ↦ moves n x d | inr f ↦ inr (has_right (on_line l v.dirty) v.flushed (n, x) f) ]) s.0 s.1 s.2 s.3 s.4 s.5 ] ];
+      | inl none ↦ absurd none
+      | inr h ↦ elim (o.covered n y within h) [
+        | inl e ↦ inl e
+        | inr s ↦ leaves site start es views j v _ at o (value start es) n y (λ x loose. elim loose [
+          | inl d ↦ moves n x d
+          | inr f ↦ inr (has_right (on_line l v.dirty) v.flushed (n, x) f)
+        ]) s.0 s.1 s.2 s.3 s.4 s.5
+      ]
+    ];
     fresh = λ c u n x a has. each views j v _ at (λ c u. Has (n, x) u.flushed → IsFlushed site start (flushed j l ∷ es) c u.dirty n)
         (λ has. dite (ℕ_discrete (line_of n) l)
-          (λ (q : line_of n ≡ l). just n q)
-          (λ (q : line_of n ≢ l). elim (has_joined (on_line l v.dirty) v.flushed (n, x) has) [
-            inl on ↦ absurd (q (on_line_is l v.dirty (n, x) on)) |
-            inr old ↦ before n q (o.fresh j v n x at old) ]))
-        (λ c u ne a has. kept c u n (o.fresh c u n x a has)) c u a has }
+        (λ (q : line_of n ≡ l). just n q)
+        (λ (q : line_of n ≢ l). elim (has_joined (on_line l v.dirty) v.flushed (n, x) has) [
+          | inl on ↦ absurd (q (on_line_is l v.dirty (n, x) on))
+          | inr old ↦ before n q (o.fresh j v n x at old)
+        ]))
+        (λ c u ne a has. kept c u n (o.fresh c u n x a has)) c u a has;
+  }
     where
       moves : (n x : ℕ) → Has (n, x) v.dirty → Has (n, x) (off_line l v.dirty) ⊎ Has (n, x) (on_line l v.dirty ++ v.flushed)
       moves n x d = dite (ℕ_discrete (line_of n) l)
           (λ (q : line_of n ≡ l). inr (has_left (on_line l v.dirty) v.flushed (n, x) (on_line_stays l v.dirty (n, x) q d)))
           (λ (q : line_of n ≢ l). inl (off_line_stays l v.dirty (n, x) q d))
+
       still : (c : ℕ) (p : ℕ × ℕ) → Contains (pending c es) p → Contains (pending c (flushed j l ∷ es)) p
       still c p h = contains_of_has p (pending c (flushed j l ∷ es)) (pending_more (flushed j l) es c p (λ e. absurd (cc)) (has_of_contains p (pending c es) h))
+
       kept : (c : ℕ) (u : View) (n : ℕ) → IsFlushed site start es c u.dirty n → IsFlushed site start (flushed j l ∷ es) c u.dirty n
-      kept c u n f = record { moment = f.moment; is_pending = still c (line_of n, f.moment) f.is_pending;
-        since = λ y had. elim (since_more start (flushed j l) es f.moment n y had) [ inl none ↦ absurd none | inr h ↦ f.since y h ] }
+      kept c u n f = record {
+        moment = f.moment;
+        is_pending = still c (line_of n, f.moment) f.is_pending;
+        since = λ y had. elim (since_more start (flushed j l) es f.moment n y had) [ inl none ↦ absurd none | inr h ↦ f.since y h ];
+      }
+
       before : (n : ℕ) → (line_of n ≡ l → ⊥) → IsFlushed site start es j v.dirty n → IsFlushed site start (flushed j l ∷ es) j (off_line l v.dirty) n
-      before n q f = record { moment = f.moment; is_pending = still j (line_of n, f.moment) f.is_pending;
+      before n q f = record {
+        moment = f.moment;
+        is_pending = still j (line_of n, f.moment) f.is_pending;
         since = λ y had. elim (since_more start (flushed j l) es f.moment n y had) [
-          inl none ↦ absurd none |
-          inr h ↦ elim (f.since y h) [ inl e ↦ inl e | inr z ↦ inr (z.0, off_line_stays l v.dirty (n, z.0) q z.1, z.2) ] ] }
+          | inl none ↦ absurd none
+          | inr h ↦ elim (f.since y h) [ inl e ↦ inl e | inr z ↦ inr (z.0, off_line_stays l v.dirty (n, z.0) q z.1, z.2) ]
+        ];
+      }
+
       just : (n : ℕ) → line_of n ≡ l → IsFlushed site start (flushed j l ∷ es) j (off_line l v.dirty) n
-      just n q = record { moment = length es;
+      just n q = record {
+        moment = length es;
         is_pending = subst (λ (z : ℕ). Contains (pending j (flushed j l ∷ es)) (z, length es)) (sym q)
             (contains_of_has (l, length es) (pending j (flushed j l ∷ es)) (flush_pending es j l));
-        since = λ y had. inl (ap (core_of site.shape n) (flush_since start es j l n y had)) }
+        since = λ y had. inl (ap (core_of site.shape n) (flush_since start es j l n y had));
+      }
 
   tied_fence : Tied site start (fenced j ∷ es) (set views j (record v { flushed = [] }))
   tied_fence = record {
     covered = λ n y within had. elim (may_more start (fenced j) es n y had) [
-      inl none ↦ absurd none |
-      inr h ↦ elim (o.covered n y within h) [
-        inl e ↦ inl e |
-        inr s ↦ dite (ℕ_discrete s.0 j)
-          (λ (q : s.0 ≡ j). elim (subst (λ (u : View). IsLoose u (n, s.2)) (is_v views j v v at s.0 s.1 s.3 q) s.4) [
-            inl d ↦ inr (j, w, s.2, set_here views j v w at, inl d, s.5) |
-            inr f ↦ (let r = o.fresh j v n s.2 at f in
-              elim (r.since y (fence_since start es j n r.moment y (has_of_contains (line_of n, r.moment) (pending j es) r.is_pending) had)) [
-                inl e ↦ inl e |
-                inr z ↦ inr (j, w, z.0, set_here views j v w at, inl z.1, z.2) ]) ])
-          (λ (q : s.0 ≢ j). inr (s.0, s.1, s.2, set_there views j s.0 s.1 w q s.3, s.4, s.5)) ] ];
+      | inl none ↦ absurd none
+      | inr h ↦ elim (o.covered n y within h) [
+        | inl e ↦ inl e
+        | inr s ↦ dite (ℕ_discrete s.0 j)
+            (λ (q : s.0 ≡ j). elim (subst (λ (u : View). IsLoose u (n, s.2)) (is_v views j v v at s.0 s.1 s.3 q) s.4) [
+              | inl d ↦ inr (j, w, s.2, set_here views j v w at, inl d, s.5)
+              | inr f ↦ (let r = o.fresh j v n s.2 at f in
+                  elim (r.since y (fence_since start es j n r.moment y (has_of_contains (line_of n, r.moment) (pending j es) r.is_pending) had)) [
+                    | inl e ↦ inl e
+                    | inr z ↦ inr (j, w, z.0, set_here views j v w at, inl z.1, z.2)
+                  ])
+            ])
+            (λ (q : s.0 ≢ j). inr (s.0, s.1, s.2, set_there views j s.0 s.1 w q s.3, s.4, s.5))
+      ]
+    ];
     fresh = λ c u n x a has. each views j v w at (λ c u. Has (n, x) u.flushed → IsFlushed site start (fenced j ∷ es) c u.dirty n)
-        (λ none. absurd none) (λ c u ne a has. kept c u n ne (o.fresh c u n x a has)) c u a has }
+        (λ none. absurd none) (λ c u ne a has. kept c u n ne (o.fresh c u n x a has)) c u a has;
+  }
     where
       w : View
       w = record v { flushed = [] }
+
       kept : (c : ℕ) (u : View) (n : ℕ) → c ≢ j → IsFlushed site start es c u.dirty n → IsFlushed site start (fenced j ∷ es) c u.dirty n
-      kept c u n ne f = record { moment = f.moment;
+      kept c u n ne f = record {
+        moment = f.moment;
         is_pending = subst (λ (ps : List (ℕ × ℕ)). Contains ps (line_of n, f.moment)) (sym (pending_fence_other es c j (λ e. ne (sym e)))) f.is_pending;
-        since = λ y had. elim (since_more start (fenced j) es f.moment n y had) [ inl none ↦ absurd none | inr h ↦ f.since y h ] }
+        since = λ y had. elim (since_more start (fenced j) es f.moment n y had) [ inl none ↦ absurd none | inr h ↦ f.since y h ];
+      }
 
 -- ---- by kinds
 module _ (site : Site) (start : Words) (es : Trace) (views : List View) (j : ℕ) (v : View) (h : Holds site (value start es) views) (at : At views j v) (o : Tied site start es views) where
@@ -227,13 +287,15 @@ module _ (site : Site) (start : Words) (es : Trace) (views : List View) (j : ℕ
   -- a store that changes the word's core makes its old value loose
   loses : (i x : ℕ) → (core_of site.shape i (words i) ≡ core_of site.shape i x) ⊎ Has (i, words i) (loosened site.shape i (words i) x v.dirty)
   loses i x = elim (cases_Bool (eqb (core_of site.shape i (words i)) (core_of site.shape i x))) [
-      inl t ↦ inl (eqb-true (core_of site.shape i (words i)) (core_of site.shape i x) t) |
-      inr f ↦ inr (subst (λ b. Has (i, words i) (cond b v.dirty ((i, words i) ∷ v.dirty))) (sym f) (inl refl)) ]
+    | inl t ↦ inl (eqb-true (core_of site.shape i (words i)) (core_of site.shape i x) t)
+    | inr f ↦ inr (subst (λ b. Has (i, words i) (cond b v.dirty ((i, words i) ∷ v.dirty))) (sym f) (inl refl))
+  ]
 
   more_dirty : (i x : ℕ) (p : ℕ × ℕ) → Has p v.dirty → Has p (loosened site.shape i (words i) x v.dirty)
   more_dirty i x p d = elim (cases_Bool (eqb (core_of site.shape i (words i)) (core_of site.shape i x))) [
-      inl t ↦ subst (λ b. Has p (cond b v.dirty ((i, words i) ∷ v.dirty))) (sym t) d |
-      inr f ↦ subst (λ b. Has p (cond b v.dirty ((i, words i) ∷ v.dirty))) (sym f) (inr d) ]
+    | inl t ↦ subst (λ b. Has p (cond b v.dirty ((i, words i) ∷ v.dirty))) (sym t) d
+    | inr f ↦ subst (λ b. Has p (cond b v.dirty ((i, words i) ∷ v.dirty))) (sym f) (inr d)
+  ]
 
   tied_store : (i x : ℕ) (w : View) → w.dirty ≡ loosened site.shape i (words i) x v.dirty → w.flushed ≡ v.flushed → IsGuarded v.held i → Tied site start (stored j i x ∷ es) (set views j w)
   tied_store i x w dirty same g = tied_write site start es views j v w at o (stored j i x) i x (λ n y q. q) refl (λ c e. absurd (cc)) same

@@ -1,28 +1,24 @@
 -- The world: one step does what its event says and keeps it well, and a restart leaves it well.
-use Rattle.std.proofs.Common.{◌≡◌, ◌⊎◌, ℕ, zero, suc, ◌+◌, ◌*◌, ◌%◌, ◌^◌, ◌<◌, ◌≤◌, Bool, true, false, cond, eqb, List, [], ◌∷◌, length, set, Option, None, Some, inl, inr, refl, sym, ap, ◌∙◌, subst, arith}
-use Rattle.std.proofs.lemmas.Bool.{cases_Bool, eqb-true}
-use mathlib.Core.Option.{some, some-injective, some-ne-none}
-use Rattle.op_core.specs.declared.want.Want.{Want}
+use Rattle.std.proofs.Common.{◌≡◌, ℕ, zero, suc, ◌*◌, ◌<◌, ◌≤◌, Bool, true, false, cond, eqb, List, [], ◌∷◌, set, inl, inr, refl, sym, ap, ◌∙◌, subst, arith}
+use mathlib.Core.Option.{some-injective, some-ne-none}
 use Rattle.op_core.specs.declared.want.Want.TheVariants.{Load, Store, Exchange, Flush, Fence, Draw, Power, Done}
 use Rattle.trace.specs.Events.{Words, with_word, Trace, value, after}
 use Rattle.trace.specs.Events.Event.{loaded, exchanged}
-use Rattle.trace.specs.Media.{IsPossible as DevicePossible}
 use Rattle.trace.proofs.Replaced.{replaced_self}
 use Rattle.trace.proofs.Media.{had_of_may}
-use Rattle.image_layout.specs.Places.{Shape, words_of}
+use Rattle.image_layout.specs.Places.{words_of}
 use Rattle.image_layout.specs.Volatile.{counter_word, power_word}
 use Rattle.bucket_words.specs.Core.{core_of, core}
-use Rattle.bucket_words.specs.Tables.{IsHomeTable, find}
 use Rattle.world.specs.Site.{Site}
 use Rattle.world.specs.Views.{View, Has, At, IsLoose}
-use Rattle.world.specs.Wants.{word_of, left_by, event_of, words_after}
+use Rattle.world.specs.Wants.{word_of, event_of}
 use Rattle.world.specs.Media.{MayLeave, IsPossible}
 use Rattle.map_model.specs.Weave.{draws}
 use Rattle.map_model.specs.Legal.{InOrder, seen_of}
 use Rattle.world.specs.Kinds.{Kind, wanted, view_after, May}
-use Rattle.world.specs.Invariant.{total, Holds}
+use Rattle.world.specs.Invariant.{Holds}
 use Rattle.world.specs.Tied.{Tied}
-use Rattle.world.specs.World.{World, changed_at, step, IsWell, fresh_view, Begins}
+use Rattle.world.specs.World.{World, changed_at, IsWell, fresh_view, Begins}
 use Rattle.world.specs.Laws.{found_by, words_by, views_by, ChangesOneWord, DoesItsEvent, KeepsWell, BeginsWell, DeviceLeaves}
 use Rattle.world.proofs.Tables.{table_below, same_find}
 use Rattle.world.proofs.Entries.{total_none}
@@ -58,7 +54,7 @@ tied_after : (site : Site) (start : Words) (es : Trace) (views : List View) (kin
     → Tied site start (event_of site.shape (wanted site.shape kind) (found_by site kind words) j ∷ es) (views_by site kind j v words views)
 tied_after site start es views kind j v at may tied words is =
     subst (λ (ws : Words). Holds site ws views → Tied site start (event_of site.shape (wanted site.shape kind) (found_by site kind ws) j ∷ es) (views_by site kind j v ws views))
-      (sym is) (λ h. keep_tied site start es views j v h at tied kind may)
+    (sym is) (λ h. keep_tied site start es views j v h at tied kind may)
 
 pub keeps_well : KeepsWell
 keeps_well site start kind world j v well at may =
@@ -67,7 +63,8 @@ keeps_well site start kind world j v well at may =
       words_are = does_its_event site.shape start kind j world well.words_are;
       holds = subst (λ (views : List View). Holds site (words_by site kind j world.words) views) (sym same) (keeps_all site kind world.words world.views j v well.holds at may);
       tied = subst (λ (views : List View). Tied site start (event_of site.shape (wanted site.shape kind) (found_by site kind world.words) j ∷ world.trace) views) (sym same)
-          (tied_after site start world.trace world.views kind j v at may well.tied world.words well.words_are well.holds) }
+          (tied_after site start world.trace world.views kind j v at may well.tied world.words well.words_are well.holds);
+    }
 
 -- ---- a cut of the device
 pub device_leaves : DeviceLeaves
@@ -96,14 +93,17 @@ module _ (site : Site) (start : Words) (world : World) (b : Begins site start wo
     locks = record {
       alone = λ i j u v lock x y at at' h h'. absurd (none (λ v. v.held) (λ _. refl) i u (lock, x) at h);
       locked = λ j v lock x at h. absurd (none (λ v. v.held) (λ _. refl) j v (lock, x) at h);
-      odd = λ lock is odd. absurd (let f = b.free lock is in omega (arith, f, odd)) };
+      odd = λ lock is odd. absurd (let f = b.free lock is in omega (arith, f, odd));
+    };
     known = record {
       knows = λ j v i x at h. absurd (none (λ v. v.known) (λ _. refl) j v (i, x) at h);
-      loose = λ j v i x at h. absurd (not_loose j v (i, x) at h) };
+      loose = λ j v i x at h. absurd (not_loose j v (i, x) at h);
+    };
     plans = record {
       held = λ j v c at h. absurd (none (λ v. v.planned) (λ _. refl) j v c at h);
       stored = λ j v c at h. absurd (none (λ v. v.planned) (λ _. refl) j v c at h);
-      fits = λ j v c at h. absurd (none (λ v. v.planned) (λ _. refl) j v c at h) };
+      fits = λ j v c at h. absurd (none (λ v. v.planned) (λ _. refl) j v c at h);
+    };
     history = record {
       counter = b.counter;
       right = λ j v e at h. absurd (none (λ v. v.own) (λ _. refl) j v e at h);
@@ -111,17 +111,22 @@ module _ (site : Site) (start : Words) (world : World) (b : Begins site start wo
       after_own = is_fresh (λ v. seen_of 0 v.own ≤ v.seen) (λ n. omega arith);
       within = is_fresh (λ v. v.seen ≤ 0) (λ n. omega arith);
       drawn = total_none (λ v. draws v.own) world.views (is_fresh (λ v. draws v.own ≡ 0) (λ n. refl));
-      each_once = λ n below. absurd (omega (arith, below)) };
+      each_once = λ n below. absurd (omega (arith, below));
+    };
     media = record {
       table = λ m p. table_below site b.site_is world.words m (λ i within. sym (cores m p i within)) b.table;
-      stands = λ m p k. inl (same_find site b.site_is m world.words k (cores m p) ∙ b.pairs k) };
+      stands = λ m p k. inl (same_find site b.site_is m world.words k (cores m p) ∙ b.pairs k);
+    };
     notes = record {
       noted = λ j v n at h. absurd (none (λ v. v.notes) (λ _. refl) j v n at h);
-      answered = λ j v a at is all. absurd (let q = ap (λ (z : View). z.answer) (b.fresh j v at) in cc) };
+      answered = λ j v a at is all. absurd (let q = ap (λ (z : View). z.answer) (b.fresh j v at) in cc);
+    };
     room = record {
       callers = b.callers;
       each = is_fresh (λ v. v.room ≤ v.callers) (λ n. omega arith);
-      few = (let z = total_none (λ v. v.room) world.views (is_fresh (λ v. v.room ≡ 0) (λ n. refl)) in omega (arith, z)) } }
+      few = (let z = total_none (λ v. v.room) world.views (is_fresh (λ v. v.room ≡ 0) (λ n. refl)) in omega (arith, z));
+    };
+  }
 
   begins_well_here : IsWell site start world
   begins_well_here = record {
@@ -129,7 +134,9 @@ module _ (site : Site) (start : Words) (world : World) (b : Begins site start wo
     holds = begins_holds;
     tied = record {
       covered = λ i y within had. inl (ap (core_of site.shape i) (b.settled i y within had ∙ ap (λ (ws : Words). ws i) b.words_are));
-      fresh = λ c v i x at has. absurd (none (λ v. v.flushed) (λ _. refl) c v (i, x) at has) } }
+      fresh = λ c v i x at has. absurd (none (λ v. v.flushed) (λ _. refl) c v (i, x) at has);
+    };
+  }
 
 pub begins_well : BeginsWell
 begins_well site start world b = begins_well_here site start world b

@@ -1,6 +1,6 @@
 -- What holds of the newest words and of all views between any two events, from the end of a restart to the close. It is
 -- said object by object: locks, words, planned changes, history, media, notes, room.
-use Rattle.std.specs.Prelude.{◌≡◌, ℕ, ◌+◌, ◌%◌, ◌^◌, ◌<◌, ◌≤◌, true, Option, Some, List, [], ◌∷◌, ◌⊎◌, length, filter}
+use Rattle.std.specs.Prelude.{◌≡◌, ℕ, ◌+◌, ◌%◌, ◌^◌, ◌<◌, ◌≤◌, true, Some, List, [], ◌∷◌, ◌⊎◌, length, filter}
 use Rattle.trace.specs.Events.{Words}
 use Rattle.image_layout.specs.Volatile.{counter_word}
 use Rattle.map_model.specs.declared.call.Call.{Call}

@@ -1,6 +1,6 @@
 -- The kinds of step: why an event is made, with its numbers. For each: which event it is, what the stepping view becomes,
 -- and what it asks of that view alone.
-use Rattle.std.specs.Prelude.{◌≡◌, ◌==◌, ◌&&◌, ℕ, suc, ◌+◌, ◌/◌, ◌%◌, ◌^◌, ◌<◌, nat_lt, nat_le, not, Bool, true, false, ⊤, Option, None, Some, List, [], ◌∷◌, ◌++◌, ◌⊎◌, length, if◌then◌else◌}
+use Rattle.std.specs.Prelude.{◌≡◌, ◌==◌, ◌&&◌, ℕ, suc, ◌+◌, ◌%◌, ◌^◌, ◌<◌, nat_lt, Bool, true, false, ⊤, Option, None, Some, List, [], ◌∷◌, ◌++◌, ◌⊎◌, length, if◌then◌else◌}
 use Rattle.op_core.specs.declared.want.Want.{Want}
 use Rattle.op_core.specs.declared.want.Want.TheVariants.{Load, Store, Exchange, Flush, Fence, Draw, Power}
 use Rattle.trace.specs.Events.{Words, line_of, with_word}
@@ -161,8 +161,13 @@ with_lock false lock free v = v
 -- a view that drew the place of a change
 abbrev pub with_draw : Call → ℕ → View → View
 with_draw call n v = record v {
-    planned = of_other_keys (key_of call) v.planned; room = 0;
-    own = v.own ++ next_entry v call Done n true ∷ []; seen = suc n; notes = []; answer = None }
+  planned = of_other_keys (key_of call) v.planned;
+  room = 0;
+  own = v.own ++ next_entry v call Done n true ∷ [];
+  seen = suc n;
+  notes = [];
+  answer = None;
+}
 
 -- the view after, by the word that was found
 abbrev pub view_after : Shape → Kind → ℕ → View → View
@@ -218,7 +223,7 @@ module _ (site : Site) where
   abbrev pub IsKnownReply : View → Call → Reply → Type 0
   IsKnownReply v call reply = ((a : Option ℕ) → MayReply a call reply)
       ⊎ (HasLock v.held (home_at site.shape (key_of call)) × IsUnplanned v (key_of call)
-          × ((medium : Words) → IsHomeTable site.shape site.front medium → Agrees v medium → MayReply (find site.shape medium (key_of call)) call reply))
+      × ((medium : Words) → IsHomeTable site.shape site.front medium → Agrees v medium → MayReply (find site.shape medium (key_of call)) call reply))
 
   abbrev pub May : Kind → View → Type 0
   May (peeks i) v = ⊤

@@ -29,7 +29,8 @@ abbrev pub step : Shape → Kind → ℕ → World → World
 step shape kind j world = record {
   words = words_after shape (wanted shape kind) j world.words;
   trace = event_of shape (wanted shape kind) (world.words (word_of shape (wanted shape kind))) j ∷ world.trace;
-  views = changed_at j (view_after shape kind (world.words (word_of shape (wanted shape kind)))) world.views }
+  views = changed_at j (view_after shape kind (world.words (word_of shape (wanted shape kind)))) world.views;
+}
 
 -- the world is well: its words are those that its events made, and the invariant holds of words and views, and of
 -- views and events
@@ -41,8 +42,19 @@ pub record IsWell (site : Site) (start : Words) (world : World) : Type 0 where
 -- the view of a caller that has done nothing yet
 abbrev pub fresh_view : ℕ → View
 fresh_view callers = record {
-  held = []; known = []; dirty = []; flushed = []; planned = []; notes = []; answer = None; own = [];
-  seen = 0; callers = callers; room = 0; stored_power = false }
+  held = [];
+  known = [];
+  dirty = [];
+  flushed = [];
+  planned = [];
+  notes = [];
+  answer = None;
+  own = [];
+  seen = 0;
+  callers = callers;
+  room = 0;
+  stored_power = false;
+}
 
 -- the world as a restart leaves it: a table, with all its words settled, no lock taken, the commit counter 0, and nobody has
 -- done anything
