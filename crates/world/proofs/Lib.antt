@@ -16,3 +16,4 @@ pub mod Ties
 pub mod Worlds
 pub mod Legality
 pub mod Good
+pub mod Holders

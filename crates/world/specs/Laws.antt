@@ -1,10 +1,9 @@
 -- The laws of the world, each to be read on its own.
-use Rattle.std.specs.Prelude.{◌≡◌, ℕ, List, map}
+use Rattle.std.specs.Prelude.{◌≡◌, ℕ, List, map, set}
 use Rattle.std.specs.FinMap.{get}
 use Rattle.map_model.specs.Map.{Map}
 use Rattle.map_model.specs.Weave.{weave}
 use Rattle.map_model.specs.Legal.{replay, IsLegal}
-use Rattle.std.proofs.Common.{set}
 use Rattle.trace.specs.Events.{Words, with_word, value}
 use Rattle.trace.specs.Media.{IsPossible as DevicePossible}
 use Rattle.op_core.specs.declared.want.Want.{Want}

@@ -7,4 +7,5 @@ pub mod Media
 pub mod Invariant
 pub mod Tied
 pub mod World
+pub mod Holders
 pub mod Laws

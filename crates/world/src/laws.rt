@@ -1,7 +1,9 @@
 //! The laws of the world. The functions do nothing: each stands for the law that its contract says.
 
-ghost use Rattle.world.specs.Site.{Site};
+ghost use Rattle.world.specs.Site.{Site, IsSite};
+ghost use Rattle.world.specs.Views.{View};
 ghost use Rattle.world.specs.Kinds.{Kind};
+ghost use Rattle.world.specs.Holders.{MayPrepare, MayPublish, MayTell};
 ghost use Rattle.world.specs.Laws.{Keeps, MediaStand, EntriesAreLegal, ChangesOneWord, DoesItsEvent, KeepsWell, BeginsWell, DeviceLeaves};
 
 /// Each kind of step keeps the invariant, for any number of callers, by a condition on the stepping caller's view alone.
@@ -34,4 +36,11 @@ pub fn worlds_stay_well()
 /// What a power cut of the device may leave is what the views say.
 pub fn device_leaves_what_views_say()
     ensures { DeviceLeaves }
+{}
+
+/// What the holder of a lock has to know of a bucket for its stores, for refusals, and a reader for an answer.
+pub fn holders_may()
+    ensures prepare { (site : Site) → IsSite site → (v : View) → MayPrepare site v }
+    ensures publish { (site : Site) → IsSite site → (v : View) → MayPublish site v }
+    ensures tell { (site : Site) → IsSite site → (v : View) → MayTell site v }
 {}
