@@ -1,2 +1,13 @@
-//! The world.
+//! The world of many callers: words that they share, what each of them knows and owes, and what stays true between any
+//! two events.
+//!
+//! Definitions and laws alone. `specs/` reads from `Site` over `Views` and `History` to `Invariant`; `Kinds` has the
+//! kinds of step, and `Laws` the laws.
 #![tactic(auto)]
+
+mod laws;
+
+pub use laws::{
+    device_leaves_what_views_say, each_step_keeps, entries_are_legal, holders_may, media_stand, steps_do_events,
+    worlds_stay_well,
+};

@@ -1,0 +1,5 @@
+use Rattle.world.proofs.Keeps.{keeps_all}
+use Rattle.world.proofs.laws.each_step_keeps.Goals as goal
+
+pub returns : goal.returns
+returns c = keeps_all

@@ -1,0 +1,11 @@
+pub mod Site
+pub mod Views
+pub mod History
+pub mod Wants
+pub mod Kinds
+pub mod Media
+pub mod Invariant
+pub mod Tied
+pub mod World
+pub mod Holders
+pub mod Laws

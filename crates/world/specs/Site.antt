@@ -1,0 +1,28 @@
+-- What is fixed from the end of a restart to the close: how the image is laid out, the words in front of its first
+-- bucket, what each key had at the start, and how many callers there are.
+use Rattle.std.specs.Prelude.{◌≡◌, ℕ, ◌+◌, ◌^◌, ◌<◌, Option}
+use Rattle.trace.specs.Events.{Words}
+use Rattle.image_layout.specs.Places.{Shape, IsShape, bucket_at}
+use Rattle.bucket_words.specs.Tables.{IsOpenFront}
+
+pub record Site : Type 0 where
+  pub shape : Shape
+  -- the words in front of the first bucket
+  pub front : Words
+  -- what a key had at the start
+  pub start : ℕ → Option ℕ
+  pub callers : ℕ
+
+-- the image has one segment, as a restart leaves it, and the callers are too few to spend the commit counter
+pub record IsSite (site : Site) : Type 0 where
+  pub shape : IsShape site.shape
+  pub front : IsOpenFront site.shape site.front
+  pub few : site.callers < 2 ^ 32
+
+-- a word is the lock word of a bucket
+abbrev pub IsLockWord : Shape → ℕ → Type 0
+IsLockWord shape lock = (b : ℕ) × (b < 66) × (lock ≡ bucket_at shape 0 b)
+
+-- word i is one of the 31 words behind a lock word, which the lock guards
+abbrev pub IsUnder : ℕ → ℕ → Type 0
+IsUnder lock i = (lock < i) × (i < lock + 32)

@@ -1,0 +1,46 @@
+//! The laws of the world. The functions do nothing: each stands for the law that its contract says.
+
+ghost use Rattle.world.specs.Site.{Site, IsSite};
+ghost use Rattle.world.specs.Views.{View};
+ghost use Rattle.world.specs.Kinds.{Kind};
+ghost use Rattle.world.specs.Holders.{MayPrepare, MayPublish, MayTell};
+ghost use Rattle.world.specs.Laws.{Keeps, MediaStand, EntriesAreLegal, ChangesOneWord, DoesItsEvent, KeepsWell, BeginsWell, DeviceLeaves};
+
+/// Each kind of step keeps the invariant, for any number of callers, by a condition on the stepping caller's view alone.
+pub fn each_step_keeps()
+    ensures { (site : Site) (kind : Kind) → Keeps site kind }
+{}
+
+/// Whatever a power cut may leave is a table, and stands in the history in which all replies are right.
+pub fn media_stand()
+    ensures { MediaStand }
+{}
+
+/// The replies of all callers are one legal history of a plain map, whose replay has what the log gives each key.
+pub fn entries_are_legal()
+    ensures { EntriesAreLegal }
+{}
+
+/// A step leaves the words that its event makes of them, which differ in one word at most.
+pub fn steps_do_events()
+    ensures words { DoesItsEvent }
+    ensures one { ChangesOneWord }
+{}
+
+/// A restart leaves the world well, and each step keeps it so: words, views and the events of the device.
+pub fn worlds_stay_well()
+    ensures begins { BeginsWell }
+    ensures steps { KeepsWell }
+{}
+
+/// What a power cut of the device may leave is what the views say.
+pub fn device_leaves_what_views_say()
+    ensures { DeviceLeaves }
+{}
+
+/// What the holder of a lock has to know of a bucket for its stores, for refusals, and a reader for an answer.
+pub fn holders_may()
+    ensures prepare { (site : Site) → IsSite site → (v : View) → MayPrepare site v }
+    ensures publish { (site : Site) → IsSite site → (v : View) → MayPublish site v }
+    ensures tell { (site : Site) → IsSite site → (v : View) → MayTell site v }
+{}
