@@ -6,8 +6,10 @@
 #![tactic(auto)]
 
 mod laws;
+pub mod site;
 
 pub use laws::{
     device_leaves_what_views_say, each_step_keeps, entries_are_legal, holders_may, media_stand, steps_do_events,
     worlds_stay_well,
 };
+pub use site::Site;
