@@ -53,6 +53,10 @@ HasFaultIn scope bytes (Unsound rule word) =
     IsFramed bytes × IsFirstBreach (shape_in (word_in_file bytes)) (word_in_file bytes) scope rule word
 HasFaultIn scope bytes NoMemory = ⊤
 
+-- the bytes have this fault, whichever rules are looked at
+abbrev pub HasFaultAnyway : List ℕ → ImageFault → Type 0
+HasFaultAnyway bytes fault = (scope : Scope) → HasFaultIn scope bytes fault
+
 -- the fault of bytes that are no image that the program serves, and of bytes that are no sound image
 abbrev pub HasFault : List ℕ → ImageFault → Type 0
 HasFault = HasFaultIn Served

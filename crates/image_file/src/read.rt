@@ -4,7 +4,7 @@ ghost use Rattle.std.specs.Prelude.{◌≡◌, ℕ, ◌+◌, ◌*◌, ◌%◌, �
 ghost use Rattle.sound_image.specs.Image.{image_bytes, IsSoundImage};
 ghost use Rattle.image_file.specs.Stage.{PassesRule8};
 ghost use Rattle.image_file.specs.Breach.{StageHoldsAt};
-ghost use Rattle.image_file.specs.Fault.{word_in_file, shape_in, IsFramed, HasFaultIn, HasFault, HasSoundFault, IsFileIn, IsServedFile, IsSoundFile};
+ghost use Rattle.image_file.specs.Fault.{word_in_file, shape_in, IsFramed, HasFaultIn, HasFaultAnyway, HasFault, HasSoundFault, IsFileIn, IsServedFile, IsSoundFile};
 
 use crate::breach::{Scope, first_breach};
 use crate::fault::ImageFault;
@@ -46,12 +46,11 @@ fn words_in(alloc: Global, bytes: &[u8]) -> Result<Words, NoMemory>
 }
 
 /// The geometry that a file says, if all that is looked at before the rules is right.
-fn geometry_in(bytes: &[u8], scope: Scope) -> Result<Geometry, ImageFault>
+fn geometry_in(bytes: &[u8]) -> Result<Geometry, ImageFault>
     ensures framed { IfOk result (λ geometry. IsFramed bytes.now) }
     ensures shape { IfOk result (λ geometry. geometry ≡ shape_in (word_in_file bytes.now)) }
-    ensures fault { IfErr result (λ fault. HasFaultIn scope bytes.now fault) }
+    ensures fault { IfErr result (λ fault. HasFaultAnyway bytes.now fault) }
 {
-    let _ = scope;
     if bytes.len() < FRONT_BYTES {
         return Err(ImageFault::Length);
     }
@@ -80,7 +79,7 @@ fn image_in(alloc: Global, bytes: &[u8], scope: Scope) -> Result<Medium, ImageFa
     ensures fault { IfErr result (λ fault. HasFaultIn scope bytes.now fault) }
     ensures complete { IsFileIn scope bytes.now → IfErr result (λ fault. fault ≡ ImageFault.NoMemory) }
 {
-    let geometry = match geometry_in(bytes, scope) {
+    let geometry = match geometry_in(bytes) {
         Ok(geometry) => geometry,
         Err(fault) => return Err(fault),
     };

@@ -6,7 +6,7 @@ use Rattle.image_file.proofs.Accepted.{all_words, accepted-IsSoundImage, accepte
 use Rattle.image_file.proofs.read.image_in.Goals as goal
 
 pub returns-in-Err-clause-complete : goal.returns-in-Err-clause-complete
-returns-in-Err-clause-complete c served = no_fault c.args.scope c.args.bytes.now served c.in-Err.fault c.in-Err.ensures.fault
+returns-in-Err-clause-complete c served = no_fault c.args.scope c.args.bytes.now served c.in-Err.fault (c.in-Err.ensures.fault c.args.scope)
 
 pub first_breach-requires : goal.first_breach-requires
 first_breach-requires c =
@@ -41,3 +41,6 @@ returns-in-None-clause-stage c =
     accepted-stage c.args.bytes.now c.in-Ok-words_in.words c.in-Ok-words_in.ensures c.as_slice.ensures.fits c.in-Ok.geometry c.in-Ok.ensures.framed
     c.in-Ok.ensures.shape c.args.scope
     (subst (λ (words : List ℕ). (n w : ℕ) → HoldsAt c.in-Ok.geometry (slice_index words) c.args.scope n w) c.as_slice.ensures.value (told_none _ c.in-Ok-first_breach.found c.in-None.is c.in-Ok-first_breach.ensures.none))
+
+pub returns-in-Err-clause-fault : goal.returns-in-Err-clause-fault
+returns-in-Err-clause-fault c = c.in-Err.ensures.fault c.args.scope
