@@ -1,6 +1,6 @@
 -- A view is cut in two, and two are joined: so it is where words alone are shared, for a new caller's pass, for what is
 -- told from caller to caller, and at the end of a pass.
-use Rattle.std.specs.Prelude.{◌≡◌, ◌≢◌, ℕ, ◌+◌, ◌-◌, ◌≤◌, max, ◌||◌, List, [], ◌∷◌, ◌++◌, None, set}
+use Rattle.std.specs.Prelude.{◌≢◌, ℕ, ◌+◌, ◌-◌, ◌≤◌, max, ◌||◌, List, [], ◌∷◌, ◌++◌, None, set}
 use Rattle.trace.specs.Events.{Words}
 use Rattle.world.specs.Site.{Site}
 use Rattle.world.specs.Views.{View, At}
@@ -18,9 +18,18 @@ left_of v n = record v { callers = v.callers - n; room = 0 }
 -- the view that takes in another: all that the other holds, knows, owes and has planned
 abbrev pub joined : View → View → View
 joined v w = record v {
-    held = v.held ++ w.held; known = v.known ++ w.known; dirty = v.dirty ++ w.dirty; flushed = v.flushed ++ w.flushed;
-    planned = v.planned ++ w.planned; notes = []; answer = None; seen = max v.seen w.seen;
-    callers = v.callers + w.callers; room = v.room + w.room; stored_power = v.stored_power || w.stored_power }
+  held = v.held ++ w.held;
+  known = v.known ++ w.known;
+  dirty = v.dirty ++ w.dirty;
+  flushed = v.flushed ++ w.flushed;
+  planned = v.planned ++ w.planned;
+  notes = [];
+  answer = None;
+  seen = max v.seen w.seen;
+  callers = v.callers + w.callers;
+  room = v.room + w.room;
+  stored_power = v.stored_power || w.stored_power;
+}
 
 -- the view that was taken in: its replies stay, as its caller's
 abbrev pub spent : View → View

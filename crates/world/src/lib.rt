@@ -8,6 +8,6 @@
 mod laws;
 
 pub use laws::{
-    device_leaves_what_views_say, each_step_keeps, entries_are_legal, holders_may, media_stand, seats_keep, steps_do_events,
-    worlds_stay_well,
+    device_leaves_what_views_say, each_step_keeps, entries_are_legal, holders_may, media_stand,
+    seats_keep, steps_do_events, worlds_stay_well,
 };
