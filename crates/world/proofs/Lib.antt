@@ -17,3 +17,4 @@ pub mod Worlds
 pub mod Legality
 pub mod Good
 pub mod Holders
+pub mod Reseated

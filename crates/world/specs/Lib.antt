@@ -8,4 +8,5 @@ pub mod Invariant
 pub mod Tied
 pub mod World
 pub mod Holders
+pub mod Seats
 pub mod Laws

@@ -4,6 +4,7 @@ ghost use Rattle.world.specs.Site.{Site, IsSite};
 ghost use Rattle.world.specs.Views.{View};
 ghost use Rattle.world.specs.Kinds.{Kind};
 ghost use Rattle.world.specs.Holders.{MayPrepare, MayPublish, MayTell};
+ghost use Rattle.world.specs.Seats.{CutsKeep, JoinsKeep};
 ghost use Rattle.world.specs.Laws.{Keeps, MediaStand, EntriesAreLegal, ChangesOneWord, DoesItsEvent, KeepsWell, BeginsWell, DeviceLeaves};
 
 /// Each kind of step keeps the invariant, for any number of callers, by a condition on the stepping caller's view alone.
@@ -43,4 +44,10 @@ pub fn holders_may()
     ensures prepare { (site : Site) → IsSite site → (v : View) → MayPrepare site v }
     ensures publish { (site : Site) → IsSite site → (v : View) → MayPublish site v }
     ensures tell { (site : Site) → IsSite site → (v : View) → MayTell site v }
+{}
+
+/// A view that is cut in two, and two that are joined, keep the invariant.
+pub fn seats_keep()
+    ensures cuts { CutsKeep }
+    ensures joins { JoinsKeep }
 {}
