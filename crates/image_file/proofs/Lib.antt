@@ -18,4 +18,5 @@ pub mod CleanSegments
 pub mod Listed
 pub mod Counts
 pub mod Breaches
+pub mod SoundSegments
 pub mod Accepted

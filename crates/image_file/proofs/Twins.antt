@@ -9,14 +9,14 @@ use Rattle.sound_image.specs.Records.{key_hash, slot_key, slot_hash, HasRecord}
 use Rattle.sound_image.specs.Rules.{InItsBucket}
 use Rattle.image_file.specs.declared.place.Place.{Place}
 use Rattle.image_file.specs.declared.records.RecordRule.{RecordRule}
-use Rattle.image_file.specs.Slots.{IsPlace, IsStanding, Agrees, beside, AgreeIn, AgreeBefore}
+use Rattle.image_file.specs.Slots.{IsPlace, IsStandingIn, Agrees, beside, AgreeIn, AgreeBefore}
 
 module _ (shape : Shape) (word : ImageWords) (rule : RecordRule) (place : Place) (is : IsPlace shape place) where
   pub before-in : AgreeBefore shape word rule place → (c : ℕ) → c < 66 → AgreeIn shape word rule place c
   before-in all c below t fits less twin =
       all c t (record { segment = is.segment; bucket = below; slot = fits; is_allocated = twin.taken }) less twin.same_key
 
-  module _ (i : IsStanding shape word) (own : Owns (frame_of shape word) place.segment (slot_hash shape word place.segment place.bucket place.slot))
+  module _ (i : IsStandingIn shape word place.segment) (own : Owns (frame_of shape word) place.segment (slot_hash shape word place.segment place.bucket place.slot))
       (home : ℕ) (home_is : home ≡ home_of (slot_hash shape word place.segment place.bucket place.slot)) (at_home : AgreeIn shape word rule place home)
       (at_probing : AgreeIn shape word rule place ((home + 1) % 64)) (in_stash : AgreeIn shape word rule place 64) (in_last : AgreeIn shape word rule place 65) where
     module _ (c t : ℕ) (there : HasRecord shape word place.segment c t)
@@ -44,8 +44,7 @@ module _ (shape : Shape) (word : ImageWords) (rule : RecordRule) (place : Place)
       agrees : Agrees shape word rule place (beside shape word place c t)
       agrees =
           from_place
-          (i.stand (key_at shape place.segment c t) place.segment c t
-          (record { record_there = there; owned = subst (Owns (frame_of shape word) place.segment) (sym same_hash) own }) refl).bucket
+          (i.stand c t (record { record_there = there; owned = subst (Owns (frame_of shape word) place.segment) (sym same_hash) own })).bucket
 
     pub four-before : AgreeBefore shape word rule place
     four-before c t there less same = agrees c t there less same

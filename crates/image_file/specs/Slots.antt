@@ -4,7 +4,7 @@ use Rattle.hash_word.specs.Hash.{home_of}
 use Rattle.bucket_meta.specs.Bucket.{lock_of, allocated}
 use Rattle.image_layout.specs.Places.{Shape, bucket_at, key_at}
 use Rattle.sound_image.specs.Segments.{ImageWords, frame_of, Owns}
-use Rattle.sound_image.specs.Records.{word_in, slot_key, slot_value, slot_hash, HasRecord, HasExactNotes}
+use Rattle.sound_image.specs.Records.{word_in, slot_key, slot_value, slot_hash, HasRecord, HasOwnRecord, HasExactNotes}
 use Rattle.sound_image.specs.Rules.{StandsRight, SameValueAsBefore, NotBefore, RecordsStandRight}
 use Rattle.image_file.specs.declared.place.Place.{Place}
 use Rattle.image_file.specs.declared.records.RecordRule.{RecordRule}
@@ -27,12 +27,17 @@ module _ (shape : Shape) (word : ImageWords) where
     pub divided : IsDivided shape word
     pub stand : (w : ℕ) → RecordsStandRight shape word w
 
-  -- what is known before a rule is looked at
-  abbrev pub Needs : RecordRule → Type 0
-  Needs Home = ⊤
-  Needs Stand = IsDivided shape word
-  Needs Value = IsStanding
-  Needs Once = IsStanding
+  -- the hashes have owners, and the records of this segment stand where they are looked for
+  pub record IsStandingIn (s : ℕ) : Type 0 where
+    pub divided : IsDivided shape word
+    pub stand : (b r : ℕ) → HasOwnRecord shape word s b r → StandsRight shape word s b r
+
+  -- what is known before a rule is looked at in segment s
+  abbrev pub Needs : RecordRule → ℕ → Type 0
+  Needs Home s = ⊤
+  Needs Stand s = IsDivided shape word
+  Needs Value s = IsStandingIn s
+  Needs Once s = IsStandingIn s
 
   -- what a rule says of the record in slot r of bucket b of segment s: that it stands in its home bucket; if it is the
   -- segment's own, that it stands right, or that those of its key before it have its value; or that it is the segment's

@@ -10,6 +10,7 @@ use crate::leaves::rule_two;
 use crate::medium::shape_in_range;
 use crate::repaired::rule_seven;
 use crate::rules::{rule_eight, rule_five, rule_four, rule_one, rule_six};
+use crate::sound_segments::are_sound_segments;
 use crate::words::each_fits;
 use image_layout::Geometry;
 use map_model::NoMemory;
@@ -45,7 +46,8 @@ fn stage_breach(geometry: &Geometry, words: &[u64], scope: Scope) -> Option<u64>
     }
 }
 
-/// The first breach of rules 3 to 7, of an image that follows those before them.
+/// The first breach of rules 3 to 7, of an image that follows those before them. One pass tells whether there is one of
+/// rules 4 to 7, and only where it does not say that there is none they are looked at one by one.
 fn later_breach(geometry: &Geometry, words: &[u64], scope: Scope) -> Option<Breach>
     requires whole { length words.now ≡ words_of geometry.now }
     requires divided { IsDivided geometry.now (slice_index words.now) }
@@ -55,6 +57,9 @@ fn later_breach(geometry: &Geometry, words: &[u64], scope: Scope) -> Option<Brea
 {
     if let Some(word) = rule_three(geometry, words) {
         return Some(Breach { rule: 3, word });
+    }
+    if are_sound_segments(geometry, words) {
+        return None;
     }
     if let Some(word) = rule_four(geometry, words) {
         return Some(Breach { rule: 4, word });

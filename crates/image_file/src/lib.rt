@@ -18,6 +18,7 @@ mod read;
 mod records;
 mod repaired;
 mod rules;
+mod sound_segments;
 mod summary;
 mod words;
 

@@ -8,7 +8,7 @@ ghost use Rattle.sound_image.specs.Segments.{frame_of, Owns};
 ghost use Rattle.sound_image.specs.Records.{slot_hash};
 ghost use Rattle.sound_image.specs.Rules.{StandsRight};
 ghost use Rattle.image_file.specs.Divided.{IsDivided};
-ghost use Rattle.image_file.specs.Slots.{IsPlace, IsTwin, Needs, IsStanding, Agrees, AgreeBelow, AgreeIn, AgreeBefore, beside, Follows, FollowBelow, IsFirstBroken, BucketsFollow, IsFirstKey, SegmentsFollow, IsFirstOfAll};
+ghost use Rattle.image_file.specs.Slots.{IsPlace, IsTwin, Needs, IsStandingIn, Agrees, AgreeBelow, AgreeIn, AgreeBefore, beside, Follows, FollowBelow, IsFirstBroken, BucketsFollow, IsFirstKey, SegmentsFollow, IsFirstOfAll};
 
 use crate::heads::owns;
 use crate::place::{
@@ -167,7 +167,7 @@ impl RecordRule {
     /// those of this one.
     pub(crate) fn agree_before(self, geometry: &Geometry, words: &[u64], place: Place) -> bool
         requires whole { length words.now ≡ words_of geometry.now }
-        requires standing { IsStanding geometry.now (slice_index words.now) }
+        requires standing { IsStandingIn geometry.now (slice_index words.now) place.segment }
         requires place { IsPlace geometry.now place }
         requires own { Owns (frame_of geometry.now (slice_index words.now)) place.segment (slot_hash geometry.now (slice_index words.now) place.segment place.bucket place.slot) }
         ensures { IsTrue result ↔ AgreeBefore geometry.now (slice_index words.now) self place }
@@ -188,7 +188,7 @@ impl RecordRule {
     /// Whether the rule holds of the record in a slot.
     fn holds(self, geometry: &Geometry, words: &[u64], place: Place) -> bool
         requires whole { length words.now ≡ words_of geometry.now }
-        requires needs { Needs geometry.now (slice_index words.now) self }
+        requires needs { Needs geometry.now (slice_index words.now) self place.segment }
         requires place { IsPlace geometry.now place }
         ensures { IsTrue result ↔ Follows geometry.now (slice_index words.now) self place.segment place.bucket place.slot }
     {
@@ -215,7 +215,7 @@ impl RecordRule {
         b: u8,
     ) -> Option<u8>
         requires whole { length words.now ≡ words_of geometry.now }
-        requires needs { Needs geometry.now (slice_index words.now) self }
+        requires needs { Needs geometry.now (slice_index words.now) self s }
         requires segment { s < geometry.now.segments }
         requires bucket { b < 66 }
         ensures some { IfSome result (λ slot. IsFirstBroken geometry.now (slice_index words.now) self s b slot) }
@@ -237,7 +237,7 @@ impl RecordRule {
     /// The word of the key of the first record of a segment of which the rule does not hold.
     pub(crate) fn first_key(self, geometry: &Geometry, words: &[u64], s: u64) -> Option<u64>
         requires whole { length words.now ≡ words_of geometry.now }
-        requires needs { Needs geometry.now (slice_index words.now) self }
+        requires needs { Needs geometry.now (slice_index words.now) self s }
         requires segment { s < geometry.now.segments }
         ensures some { IfSome result (λ w. IsFirstKey geometry.now (slice_index words.now) self s w) }
         ensures none { IfNone result (BucketsFollow geometry.now (slice_index words.now) self s 66) }
@@ -254,7 +254,7 @@ impl RecordRule {
     /// The word of the key of the first record of the image of which the rule does not hold.
     pub(crate) fn first_of_all(self, geometry: &Geometry, words: &[u64]) -> Option<u64>
         requires whole { length words.now ≡ words_of geometry.now }
-        requires needs { Needs geometry.now (slice_index words.now) self }
+        requires needs { (s : ℕ) → Needs geometry.now (slice_index words.now) self s }
         ensures some { IfSome result (λ w. IsFirstOfAll geometry.now (slice_index words.now) self w) }
         ensures none { IfNone result (SegmentsFollow geometry.now (slice_index words.now) self geometry.now.segments) }
     {

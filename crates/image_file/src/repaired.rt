@@ -6,7 +6,7 @@ ghost use Rattle.sound_image.specs.Segments.{frame_of, IsClean};
 ghost use Rattle.sound_image.specs.Records.{HasExactNotes};
 ghost use Rattle.sound_image.specs.Rules.{CleanMeansRepaired, IsCleanAndCurrent};
 ghost use Rattle.image_file.specs.Breach.{IsLeast};
-ghost use Rattle.image_file.specs.Slots.{IsStanding, IsRepairedAt, IsBrokenIn};
+ghost use Rattle.image_file.specs.Slots.{IsStanding, IsStandingIn, IsRepairedAt, IsBrokenIn};
 ghost use Rattle.image_file.specs.Repairs.{IsRepairedSegmentAt, IsBrokenSegment};
 
 use crate::formatted::STATE_WORD;
@@ -34,7 +34,7 @@ fn has_its_notes(geometry: &Geometry, words: &[u64], s: u64, b: u8) -> bool
 /// not exact, or a record is not the segment's own or not the first of its key.
 fn bucket_breach(geometry: &Geometry, words: &[u64], s: u64, b: u8) -> Option<u64>
     requires whole { length words.now ≡ words_of geometry.now }
-    requires standing { IsStanding geometry.now (slice_index words.now) }
+    requires standing { IsStandingIn geometry.now (slice_index words.now) s }
     requires segment { s < geometry.now.segments }
     requires bucket { b < 66 }
     ensures none { IfNone result ((w : ℕ) → IsRepairedAt geometry.now (slice_index words.now) s b w) }
@@ -63,10 +63,22 @@ fn is_current(geometry: &Geometry, words: &[u64], s: u64) -> bool
     is_live(geometry, words, s) && version_of(geometry, words, s) == words[STATE_WORD] % 256
 }
 
-/// The least word of a segment at which a clean image is not repaired, if the segment has the image's version.
-fn segment_breach(geometry: &Geometry, words: &[u64], s: u64) -> Option<u64>
+/// Whether an image is marked clean, and a segment of it is live and has its version.
+pub(crate) fn is_clean_and_current(geometry: &Geometry, words: &[u64], s: u64) -> bool
     requires whole { length words.now ≡ words_of geometry.now }
-    requires standing { IsStanding geometry.now (slice_index words.now) }
+    requires segment { s < geometry.now.segments }
+    ensures { IsTrue result ↔ IsCleanAndCurrent geometry.now (slice_index words.now) s }
+{
+    if (words[STATE_WORD] >> 8) % 2 == 0 {
+        return false;
+    }
+    is_current(geometry, words, s)
+}
+
+/// The least word of a segment at which a clean image is not repaired, if the segment has the image's version.
+pub(crate) fn segment_breach(geometry: &Geometry, words: &[u64], s: u64) -> Option<u64>
+    requires whole { length words.now ≡ words_of geometry.now }
+    requires standing { IsStandingIn geometry.now (slice_index words.now) s }
     requires segment { s < geometry.now.segments }
     requires clean { IsClean (frame_of geometry.now (slice_index words.now)) }
     ensures none { IfNone result (IsCleanAndCurrent geometry.now (slice_index words.now) s → (w : ℕ) → IsRepairedSegmentAt geometry.now (slice_index words.now) s w) }

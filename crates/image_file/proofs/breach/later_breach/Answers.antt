@@ -1,6 +1,7 @@
 -- The rules that were looked at before hold.
-use Rattle.std.proofs.Common.{slice_index}
+use Rattle.std.proofs.Common.{refl, slice_index}
 use Rattle.image_file.proofs.Breaches.{no_rules, one_known, eight_known, two_known, three_known, four_known, five_known, six_known, seven_known, three_breaks, four_breaks, five_breaks, six_breaks, seven_breaks, all_hold}
+use Rattle.image_file.proofs.SoundSegments.{all_follow}
 use Rattle.image_file.proofs.breach.later_breach.Goals as goal
 
 pub returns-in-Some-clause-some : goal.returns-in-Some-clause-some
@@ -12,6 +13,17 @@ returns-in-Some-clause-some c =
     let eight = eight_known shape word scope one c.requires.stage in
     let two = two_known shape word scope eight c.requires.divided.hashes_owned in
     three_breaks shape word scope c.in-Some.word two c.in-Some.ensures.some
+
+pub returns-then-are_sound_segments-clause-none : goal.returns-then-are_sound_segments-clause-none
+returns-then-are_sound_segments-clause-none c =
+    let shape = c.args.geometry.now in
+    let word = slice_index c.args.words.now in
+    let scope = c.args.scope in
+    let one = one_known shape word scope (no_rules shape word scope) c.requires.divided.numbered.numbers_fit in
+    let eight = eight_known shape word scope one c.requires.stage in
+    let two = two_known shape word scope eight c.requires.divided.hashes_owned in
+    let three = three_known shape word scope two c.in_default.ensures.none in
+    all_follow shape word scope three (c.if-are_sound_segments.ensures refl)
 
 pub returns-in-Some-rule_four-clause-some : goal.returns-in-Some-rule_four-clause-some
 returns-in-Some-rule_four-clause-some c =

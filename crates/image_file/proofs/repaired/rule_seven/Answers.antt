@@ -1,7 +1,11 @@
 -- Rule 7 is broken first in the first segment that is not repaired.
 use Rattle.std.proofs.Common.{below_more, arith, slice_index}
 use Rattle.image_file.proofs.CleanSegments.{segment_breaks, all_repaired}
+use Rattle.image_file.proofs.SoundSegments.{standing_in}
 use Rattle.image_file.proofs.repaired.rule_seven.Goals as goal
+
+pub segment_breach-requires-clause-standing : goal.segment_breach-requires-clause-standing
+segment_breach-requires-clause-standing c = standing_in c.args.geometry.now (slice_index c.args.words.now) c.requires.standing c.loop-s.s
 
 pub returns-in-Some-clause-some : goal.returns-in-Some-clause-some
 returns-in-Some-clause-some c =

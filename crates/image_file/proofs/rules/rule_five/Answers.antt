@@ -2,7 +2,11 @@
 use Rattle.std.proofs.Common.{slice_index}
 use Rattle.image_file.proofs.Answered.{if_none, if_some}
 use Rattle.image_file.proofs.KeyRules.{keys_have_one_value, first_of_two_values}
+use Rattle.image_file.proofs.SoundSegments.{standing_in}
 use Rattle.image_file.proofs.rules.rule_five.Goals as goal
+
+pub first_of_all-requires-clause-needs : goal.first_of_all-requires-clause-needs
+first_of_all-requires-clause-needs c s = standing_in c.args.geometry.now (slice_index c.args.words.now) c.requires.standing s
 
 pub returns-clause-none : goal.returns-clause-none
 returns-clause-none c =

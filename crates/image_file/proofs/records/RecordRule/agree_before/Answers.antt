@@ -1,8 +1,31 @@
 -- The records before it agree where those of the four buckets do.
-use Rattle.std.proofs.Common.{◌∙◌, ap, refl, arith, slice_index}
+use Rattle.std.proofs.Common.{◌+◌, ◌%◌, ◌∙◌, ap, refl, arith, slice_index}
 use Rattle.hash_word.specs.Hash.{home_of}
+use Rattle.image_file.proofs.Answered.{untrue}
 use Rattle.image_file.proofs.Twins.{before-in, four-before}
 use Rattle.image_file.proofs.records.RecordRule.agree_before.Goals as goal
+
+pub returns-then-not-agree_in : goal.returns-then-not-agree_in
+returns-then-not-agree_in c = (
+  untrue,
+  λ all. c.if-not-agree_in.ensures.1
+      (before-in c.args.geometry.now (slice_index c.args.words.now) c.args.self c.args.place c.requires.place all c.home-home.result
+      (omega (arith, c.home-home.ensures.range))),
+)
+
+pub returns-then-not-agree_in-2 : goal.returns-then-not-agree_in-2
+returns-then-not-agree_in-2 c = (
+  untrue,
+  λ all. c.if-not-agree_in-2.ensures.1
+      (before-in c.args.geometry.now (slice_index c.args.words.now) c.args.self c.args.place c.requires.place all ((c.home-home.result + 1) % 64) (omega arith)),
+)
+
+pub returns-then-not-agree_in-3 : goal.returns-then-not-agree_in-3
+returns-then-not-agree_in-3 c = (
+  untrue,
+  λ all. c.if-not-agree_in-3.ensures.1
+      (before-in c.args.geometry.now (slice_index c.args.words.now) c.args.self c.args.place c.requires.place all 64 (omega arith)),
+)
 
 pub returns : goal.returns
 returns c = (
