@@ -1,2 +1,4 @@
 pub mod Indexes
 pub mod LastTaken
+pub mod Falling
+pub mod Asked

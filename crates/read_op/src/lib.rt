@@ -4,16 +4,15 @@
 //! what an answer makes of it.
 #![tactic(auto)]
 
+mod laws;
 mod op;
 mod slots;
 mod step;
 mod words;
 
+pub use laws::{asks_within, ends_in_time};
 pub use op::ReadOp;
 pub use step::{Found, Path, ReadEnd, ReadStep, Second};
-
-
-
 
 #[cfg(test)]
 mod tests;

@@ -6,13 +6,12 @@ ghost use Rattle.op_core.specs.declared.want.Want.TheVariants as want;
 ghost use Rattle.read_op.specs.declared.step.ReadStep.TheVariants.{Ended};
 ghost use Rattle.read_op.specs.Steps.{begun, wanted, taken, wanted_again, is_live, covers, moved, busy, head_taken, filled, checked, lock_checked, end_of, next_of};
 
-use hash_word::dir_index;
-use op_core::{Ans, Machine, Want, Why};
-use world::Site;
-
 use crate::slots::{value_of, with_word};
 use crate::step::{Found, Path, ReadEnd, ReadStep, Second};
 use crate::words::{ROOT, entry_word, head_word, key_hash, lock_word};
+use hash_word::dir_index;
+use op_core::{Ans, Machine, Want, Why};
+use world::Site;
 
 /// A get over the home bucket alone, one attempt.
 #[derive(Clone, Copy, Debug, PartialEq, Eq)]
@@ -31,7 +30,11 @@ pub struct ReadOp {
 fn moved(word: u64, before: u64, after: u64) -> ReadStep
     ensures { result ≡ moved word before after }
 {
-    ReadStep::Ended(ReadEnd::Again(Why::Moved { word, before, after }))
+    ReadStep::Ended(ReadEnd::Again(Why::Moved {
+        word,
+        before,
+        after,
+    }))
 }
 
 /// The end of an attempt that found a lock taken.
@@ -118,7 +121,13 @@ impl ReadOp {
         if is_live(head) && version != self.site.version {
             ReadStep::Ended(ReadEnd::Stale(segment, version))
         } else if is_live(head) && covers(head, self.hash) {
-            ReadStep::Lock { path: Path { root, segment, head } }
+            ReadStep::Lock {
+                path: Path {
+                    root,
+                    segment,
+                    head,
+                },
+            }
         } else {
             moved(head_word(&self.site, segment), head, head)
         }
@@ -129,9 +138,20 @@ impl ReadOp {
         ensures { result ≡ filled self.now path free words next }
     {
         if next < 31 {
-            ReadStep::Fill { path, free, words, next: next + 1 }
+            ReadStep::Fill {
+                path,
+                free,
+                words,
+                next: next + 1,
+            }
         } else {
-            ReadStep::Count { found: Found { path, free, value: value_of(&words, self.key) } }
+            ReadStep::Count {
+                found: Found {
+                    path,
+                    free,
+                    value: value_of(&words, self.key),
+                },
+            }
         }
     }
 
@@ -160,7 +180,11 @@ impl ReadOp {
             Second::Lock => return self.after_lock(found, place, seen),
         };
         if seen == before {
-            ReadStep::Check { found, place, at: next }
+            ReadStep::Check {
+                found,
+                place,
+                at: next,
+            }
         } else {
             moved(self.word_again(&found, at), before, seen)
         }
@@ -176,15 +200,34 @@ impl ReadOp {
             ReadStep::Power => ReadStep::Ended(ReadEnd::Off),
             ReadStep::Root if value <= geometry.depth() => ReadStep::Entry { root: value },
             ReadStep::Root => moved(ROOT, value, value),
-            ReadStep::Entry { root } if value < geometry.segments() => ReadStep::Head { root, segment: value },
-            ReadStep::Entry { root } => moved(entry_word(&self.site, self.hash, root), value, value),
+            ReadStep::Entry { root } if value < geometry.segments() => ReadStep::Head {
+                root,
+                segment: value,
+            },
+            ReadStep::Entry { root } => moved(
+                entry_word(&self.site, self.hash, root),
+                value,
+                value,
+            ),
             ReadStep::Head { root, segment } => self.after_head(root, segment, value),
-            ReadStep::Lock { path } if value % 2 == 0 => ReadStep::Fill { path, free: value, words: [0; 32], next: 1 },
+            ReadStep::Lock { path } if value % 2 == 0 => ReadStep::Fill {
+                path,
+                free: value,
+                words: [0; 32],
+                next: 1,
+            },
             ReadStep::Lock { path } => busy(lock_word(&self.site, self.hash, path.segment), value),
-            ReadStep::Fill { path, free, words, next } => {
-                self.after_word(path, free, with_word(words, next, value), next)
-            }
-            ReadStep::Count { found } => ReadStep::Check { found, place: value, at: Second::Root },
+            ReadStep::Fill {
+                path,
+                free,
+                words,
+                next,
+            } => { self.after_word(path, free, with_word(words, next, value), next) }
+            ReadStep::Count { found } => ReadStep::Check {
+                found,
+                place: value,
+                at: Second::Root,
+            },
             ReadStep::Check { found, place, at } => self.after_again(found, place, at, value),
             ReadStep::Ended(_) => self.step,
         }

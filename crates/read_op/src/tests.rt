@@ -20,7 +20,14 @@ fn word(i: u64) -> u64 {
 // Runs a get of a key to its end, where from event `from` on word `changed` has the value `value`. How it ended, and
 // after how many events.
 fn run(geometry: Geometry, key: u64, from: u64, changed: u64, value: u64) -> (ReadEnd, u64) {
-    let mut op = ReadOp::new(key, Site { geometry, version: 1, caller: 1 });
+    let mut op = ReadOp::new(
+        key,
+        Site {
+            geometry,
+            version: 1,
+            caller: 1,
+        },
+    );
     for events in 0..150 {
         let asked = match op.want() {
             Want::Load(i) => i,
@@ -28,7 +35,11 @@ fn run(geometry: Geometry, key: u64, from: u64, changed: u64, value: u64) -> (Re
             Want::Done => return (op.end(), events),
             _ => break,
         };
-        let seen = if asked == changed && events >= from { value } else { word(asked) };
+        let seen = if asked == changed && events >= from {
+            value
+        } else {
+            word(asked)
+        };
         op.take(Ans::Value(seen));
     }
     (ReadEnd::Off, 150)
@@ -45,7 +56,11 @@ fn gets_of_one_pair(rt: HostRuntime) -> Result<(), Fail> {
 #[test]
 fn gets_that_end_early(rt: HostRuntime) -> Result<(), Fail> {
     let g = Geometry::new(1, 0, 0)?;
-    let moved = |word, before, after| ReadEnd::Again(Why::Moved { word, before, after });
+    let moved = |word, before, after| ReadEnd::Again(Why::Moved {
+        word,
+        before,
+        after,
+    });
     let busy = ReadEnd::Again(Why::Busy { word: 96, seen: 3 });
     assert_eq!(rt; run(g, 5, 0, 2209, 1), (ReadEnd::Off, 1));
     assert_eq!(rt; run(g, 5, 0, 96, 3), (busy, 5));

@@ -1,0 +1,18 @@
+//! The laws of a get. The functions do nothing: each stands for the law that its contract says.
+
+ghost use Rattle.std.specs.Prelude.{ℕ, ◌≤◌};
+ghost use Rattle.world.specs.declared.site.Site.{Site};
+ghost use Rattle.read_op.specs.Steps.{begun};
+ghost use Rattle.read_op.specs.Budget.{left, Falls, EndsInTime, AsksWithin};
+
+/// Each event leaves fewer to do, so that a get ends within 41 events.
+pub fn ends_in_time()
+    ensures falls { Falls }
+    ensures most { (key : ℕ) (site : Site) → left (begun key site).step ≤ 150 }
+    ensures ends { EndsInTime }
+{}
+
+/// A get asks for words of the image, the commit counter and the power word alone, in any state.
+pub fn asks_within()
+    ensures { AsksWithin }
+{}
