@@ -1,34 +1,23 @@
 -- A get fits the world: what it wants is of a kind, its view may take the step, and the step keeps the view suited.
-use Rattle.std.proofs.Common.{◌≡◌, ◌≢◌, ℕ, zero, suc, ◌+◌, ◌-◌, ◌*◌, ◌/◌, ◌%◌, ◌^◌, ◌<◌, ◌≤◌, ◌⊎◌, inl, inr, Bool, true, false, cond, Option, Some, None, List, [], ◌∷◌, length, refl, sym, ◌∙◌, ap, subst, arith, slice_index, slice_set, get_or-set_same, get_or-set_other, length-set}
-use Rattle.std.specs.Prelude.{◌==◌, ◌&&◌, nat_lt, nat_le, not, replicate, if◌then◌else◌}
-use Rattle.std.proofs.lemmas.Bool.{cases_eq, eq-eqb, ne_eqb, lt-ltb, le-leb, ltb-true, ltb-false}
-use Rattle.hash_word.specs.Hash.{home_of, index_of}
-use Rattle.bucket_meta.specs.Bucket.{allocated}
-use Rattle.segment_head.specs.HeadWord.{version_in}
-use Rattle.trace.specs.Events.{Words}
-use Rattle.image_layout.specs.Places.{root_word, bucket_at, entry_at}
+use Rattle.std.proofs.Common.{◌≡◌, ◌≢◌, ℕ, ◌<◌, inl, cond, refl, sym, ◌∙◌, ap, subst, arith}
+use Rattle.std.proofs.lemmas.Bool.{lt-ltb}
+use Rattle.hash_word.specs.Hash.{home_of}
+use Rattle.image_layout.specs.Places.{root_word, bucket_at}
 use Rattle.image_layout.specs.Volatile.{counter_word}
-use Rattle.bucket_words.specs.Buckets.{find_below}
-use Rattle.bucket_words.specs.Tables.{IsHomeTable, home_at, find}
-use Rattle.op_core.specs.declared.why.Why.{Why}
+use Rattle.bucket_words.specs.Tables.{home_at}
 use Rattle.op_core.specs.declared.want.Want.TheVariants.{Load, Done}
-use Rattle.world.specs.Site.{Site, IsSite, IsLockWord, IsUnder}
-use Rattle.world.specs.Views.{Note, Answer, View, Has, At}
-use Rattle.world.specs.Kinds.{Kind, wanted as wanted_by, view_after, with_look, with_noted, with_answer, marked, all_again, AgreesWithNotes, May}
-use Rattle.world.specs.Invariant.{Holds}
-use Rattle.world.specs.Laws.{found_by}
+use Rattle.world.specs.Site.{Site, IsSite, IsLockWord}
+use Rattle.world.specs.Views.{View, Has}
+use Rattle.world.specs.Kinds.{wanted as wanted_by, May}
 use Rattle.world.proofs.Grounds.{home_is_lock}
-use Rattle.read_op.specs.declared.step.Path.{Path}
 use Rattle.read_op.specs.declared.step.Found.{Found}
-use Rattle.read_op.specs.declared.step.ReadEnd.{ReadEnd}
-use Rattle.read_op.specs.declared.step.ReadEnd.TheVariants as ends
 use Rattle.read_op.specs.declared.step.Second.{Second}
 use Rattle.read_op.specs.declared.step.Second.TheVariants as again
 use Rattle.read_op.specs.declared.step.ReadStep.{ReadStep}
 use Rattle.read_op.specs.declared.step.ReadStep.TheVariants.{Power, Root, Entry, Head, Lock, Fill, Count, Check, Ended}
 use Rattle.read_op.specs.declared.op.ReadOp.{ReadOp}
-use Rattle.read_op.specs.Steps.{wanted, wanted_in, wanted_again, next_in, entry_word, head_word, lock_word, is_live, covers, value_of, moved, busy, end_by}
-use Rattle.read_op.specs.Fits.{IsIn, kind_in, kind_again, lock_in, note_of, IsBare, IsFilling, IsTelling, IsChecking, suits_in, Suits, WantsByKind, MayStep, OwesTheSame, HasReplied, HasNotReplied, EntersAnswer, StepsWell, KeepsSuits}
+use Rattle.read_op.specs.Steps.{wanted_in, wanted_again, lock_word}
+use Rattle.read_op.specs.Fits.{IsIn, kind_in, kind_again, note_of, suits_in, WantsByKind, MayStep}
 
 -- ---- what is wanted
 again_wants : (op : ReadOp) (site : Site) (found : Found) (at : Second) → wanted_again op found at ≡ wanted_by site.shape (kind_again op found at)

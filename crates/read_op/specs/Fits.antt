@@ -1,6 +1,6 @@
 -- How a get fits the world: the kind of each of its events, the view that its caller has in each step, and what each
 -- event does to that view.
-use Rattle.std.specs.Prelude.{◌≡◌, ◌≢◌, ℕ, ◌+◌, ◌%◌, ◌^◌, ◌<◌, ◌≤◌, ⊤, Option, None, Some, List, [], ◌∷◌, ◌++◌, length, slice_index, false}
+use Rattle.std.specs.Prelude.{◌≡◌, ◌≢◌, ℕ, ◌+◌, ◌%◌, ◌^◌, ◌<◌, ◌≤◌, ⊤, None, Some, List, [], ◌∷◌, ◌++◌, length, slice_index, false}
 use Rattle.op_core.specs.declared.want.Want.TheVariants.{Done}
 use Rattle.op_core.specs.declared.want.Ans.TheVariants.{Value}
 use Rattle.trace.specs.Events.{Words}
@@ -13,7 +13,7 @@ use Rattle.sound_image.specs.Records.{key_hash}
 use Rattle.bucket_words.specs.Tables.{find}
 use Rattle.world.specs.declared.site.Site.{Site as Here}
 use Rattle.world.specs.Site.{Site, IsSite}
-use Rattle.world.specs.Views.{Note, Answer, View, Has, At}
+use Rattle.world.specs.Views.{Note, View, Has, At}
 use Rattle.world.specs.Kinds.{Kind, peeks, asks_power, looks, notes_word, places, validates, wanted as wanted_by, view_after, next_entry, AgreesWithNotes, May}
 use Rattle.world.specs.Invariant.{Holds}
 use Rattle.world.specs.Laws.{found_by}
