@@ -1,0 +1,12 @@
+use Rattle.read_op.proofs.Fitting.{wants_by_kind, may_step}
+use Rattle.read_op.proofs.Stepping.{keeps_suits}
+use Rattle.read_op.proofs.laws.fits_the_world.Goals as goal
+
+pub returns-clause-wants : goal.returns-clause-wants
+returns-clause-wants c = wants_by_kind
+
+pub returns-clause-may : goal.returns-clause-may
+returns-clause-may c = may_step
+
+pub returns-clause-keeps : goal.returns-clause-keeps
+returns-clause-keeps c = keeps_suits

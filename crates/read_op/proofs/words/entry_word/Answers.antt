@@ -1,0 +1,11 @@
+use Rattle.std.proofs.Common.{◌<◌, ◌≤◌, ◌^◌, ℕ, sym, subst, arith}
+use Rattle.read_op.proofs.Indexes.{index_below}
+use Rattle.read_op.proofs.words.entry_word.Goals as goal
+
+-- src/words.rt:30:9
+pub entry_at-requires-clause-index : goal.entry_at-requires-clause-index
+entry_at-requires-clause-index c =
+    let most = c.depth.ensures.most in
+    let within = c.if-root-depth.true in
+    let low : c.args.root ≤ 16 = omega (arith, most, within) in
+    subst (λ (n : ℕ). n < 2 ^ c.args.root) (sym c.dir_index.ensures) (index_below c.args.root c.args.hash (omega (arith, low)) c.ranges.hash.fits)

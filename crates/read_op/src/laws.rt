@@ -1,0 +1,29 @@
+//! The laws of a get. The functions do nothing: each stands for the law that its contract says.
+
+ghost use Rattle.std.specs.Prelude.{ℕ, ◌≤◌};
+ghost use Rattle.world.specs.declared.site.Site.{Site};
+ghost use Rattle.read_op.specs.Steps.{begun};
+ghost use Rattle.world.specs.Site.{Site as Image};
+ghost use Rattle.world.specs.Views.{View};
+ghost use Rattle.read_op.specs.declared.op.ReadOp.{ReadOp};
+ghost use Rattle.read_op.specs.Fits.{WantsByKind, MayStep, KeepsSuits};
+ghost use Rattle.read_op.specs.Budget.{left, Falls, EndsInTime, AsksWithin};
+
+/// Each event leaves fewer to do, so that a get ends within 41 events.
+pub fn ends_in_time()
+    ensures falls { Falls }
+    ensures most { (key : ℕ) (site : Site) → left (begun key site).step ≤ 150 }
+    ensures ends { EndsInTime }
+{}
+
+/// A get asks for words of the image, the commit counter and the power word alone, in any state.
+pub fn asks_within()
+    ensures { AsksWithin }
+{}
+
+/// A get fits the world: each event that it wants is one of a kind, and a view that suits it may take that step.
+pub fn fits_the_world()
+    ensures wants { (site : Image) (op : ReadOp) → WantsByKind site op }
+    ensures may { (site : Image) (op : ReadOp) (v : View) → MayStep site op v }
+    ensures keeps { KeepsSuits }
+{}

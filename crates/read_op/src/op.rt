@@ -1,0 +1,263 @@
+//! The machine.
+
+ghost use Rattle.std.specs.Prelude.{◌≡◌, ℕ, ◌==◌, ◌||◌, ◌&&◌, nat_le};
+ghost use Rattle.segment_head.specs.HeadWord.{version_in};
+ghost use Rattle.op_core.specs.declared.want.Want.TheVariants as want;
+ghost use Rattle.read_op.specs.declared.step.ReadStep.TheVariants.{Ended};
+ghost use Rattle.read_op.specs.Steps.{begun, wanted, taken, wanted_again, is_live, covers, moved, busy, head_taken, filled, checked, lock_checked, end_of, next_of};
+
+use crate::slots::{value_of, with_word};
+use crate::step::{Found, Path, ReadEnd, ReadStep, Second};
+use crate::words::{ROOT, entry_word, head_word, key_hash, lock_word};
+use hash_word::dir_index;
+use op_core::{Ans, Machine, Want, Why};
+use world::Site;
+
+/// A get over the home bucket alone, one attempt.
+#[derive(Clone, Copy, Debug, PartialEq, Eq)]
+pub struct ReadOp {
+    /// The key.
+    pub key: u64,
+    /// Its hash.
+    pub hash: u64,
+    /// Where the get runs.
+    pub site: Site,
+    /// Where it stands.
+    pub step: ReadStep,
+}
+
+/// The end of an attempt that found a word changed.
+fn moved(word: u64, before: u64, after: u64) -> ReadStep
+    ensures { result ≡ moved word before after }
+{
+    ReadStep::Ended(ReadEnd::Again(Why::Moved {
+        word,
+        before,
+        after,
+    }))
+}
+
+/// The end of an attempt that found a lock taken.
+fn busy(word: u64, seen: u64) -> ReadStep
+    ensures { result ≡ busy word seen }
+{
+    ReadStep::Ended(ReadEnd::Again(Why::Busy { word, seen }))
+}
+
+/// Whether a header is that of a live segment: a normal or a splitting one.
+fn is_live(head: u64) -> bool
+    ensures { result ≡ is_live head }
+{
+    let state = (head >> 8) & 0xFF;
+    state == 1 || state == 2
+}
+
+/// Whether the segment of a header covers a hash.
+fn covers(head: u64, hash: u64) -> bool
+    ensures { result ≡ covers head hash }
+{
+    let depth = ((head >> 16) & 0xFF) as u8;
+    depth <= 64 && dir_index(hash, depth) == head >> 32
+}
+
+/// The version byte of a header.
+fn version_in(head: u64) -> u8
+    ensures { result ≡ version_in head }
+{
+    (head & 0xFF) as u8
+}
+
+/// What a get ends with if all words were found the same.
+fn end_of(found: &Found, place: u64) -> ReadEnd
+    ensures { result ≡ end_of found.now place }
+{
+    match found.value {
+        Some(value) => ReadEnd::Found(value, place),
+        None => ReadEnd::Absent(place),
+    }
+}
+
+impl ReadOp {
+    /// A get of a key, which has done nothing yet.
+    pub fn new(key: u64, version_v: Site) -> ReadOp
+        ensures { result ≡ begun key version_v }
+    {
+        ReadOp {
+            key,
+            hash: key_hash(&version_v, key),
+            site: version_v,
+            step: ReadStep::Power,
+        }
+    }
+
+    /// How it ended, once it wants nothing more.
+    pub fn end(self) -> ReadEnd
+        requires { wanted self ≡ want.Done }
+        ensures { self.step ≡ Ended result }
+    {
+        match self.step {
+            ReadStep::Ended(end) => end,
+            _ => unreachable!(),
+        }
+    }
+
+    /// The word that is looked at again.
+    fn word_again(&self, found: &Found, at: Second) -> u64
+        ensures { want.Load result ≡ wanted_again self.now found.now at }
+    {
+        match at {
+            Second::Root => ROOT,
+            Second::Entry => entry_word(&self.site, self.hash, found.path.root),
+            Second::Head => head_word(&self.site, found.path.segment),
+            Second::Lock => lock_word(&self.site, self.hash, found.path.segment),
+        }
+    }
+
+    /// The step after the first look at the header.
+    fn after_head(&self, root: u64, segment: u64, head: u64) -> ReadStep
+        ensures { result ≡ head_taken self.now root segment head }
+    {
+        let version = version_in(head);
+        if is_live(head) && version != self.site.version {
+            ReadStep::Ended(ReadEnd::Stale(segment, version))
+        } else if is_live(head) && covers(head, self.hash) {
+            ReadStep::Lock {
+                path: Path {
+                    root,
+                    segment,
+                    head,
+                },
+            }
+        } else {
+            moved(head_word(&self.site, segment), head, head)
+        }
+    }
+
+    /// The step after a word of the bucket.
+    fn after_word(&self, path: Path, free: u64, words: [u64; 32], next: u8) -> ReadStep
+        ensures { result ≡ filled self.now path free words next }
+    {
+        if next < 31 {
+            ReadStep::Fill {
+                path,
+                free,
+                words,
+                next: next + 1,
+            }
+        } else {
+            ReadStep::Count {
+                found: Found {
+                    path,
+                    free,
+                    value: value_of(&words, self.key),
+                },
+            }
+        }
+    }
+
+    /// The step after the last look at the lock word.
+    fn after_lock(&self, found: Found, place: u64, seen: u64) -> ReadStep
+        ensures { result ≡ lock_checked self.now found place seen }
+    {
+        let lock = lock_word(&self.site, self.hash, found.path.segment);
+        if seen % 2 == 1 {
+            busy(lock, seen)
+        } else if seen == found.free {
+            ReadStep::Ended(end_of(&found, place))
+        } else {
+            moved(lock, found.free, seen)
+        }
+    }
+
+    /// The step after a second look.
+    fn after_again(&self, found: Found, place: u64, at: Second, seen: u64) -> ReadStep
+        ensures { result ≡ checked self.now found place at seen }
+    {
+        let (before, next) = match at {
+            Second::Root => (found.path.root, Second::Entry),
+            Second::Entry => (found.path.segment, Second::Head),
+            Second::Head => (found.path.head, Second::Lock),
+            Second::Lock => return self.after_lock(found, place, seen),
+        };
+        if seen == before {
+            ReadStep::Check {
+                found,
+                place,
+                at: next,
+            }
+        } else {
+            moved(self.word_again(&found, at), before, seen)
+        }
+    }
+
+    /// The step after a value was loaded.
+    fn after(&self, value: u64) -> ReadStep
+        ensures { result ≡ next_of self.now value }
+    {
+        let geometry = &self.site.geometry;
+        match self.step {
+            ReadStep::Power if value == 0 => ReadStep::Root,
+            ReadStep::Power => ReadStep::Ended(ReadEnd::Off),
+            ReadStep::Root if value <= geometry.depth() => ReadStep::Entry { root: value },
+            ReadStep::Root => moved(ROOT, value, value),
+            ReadStep::Entry { root } if value < geometry.segments() => ReadStep::Head {
+                root,
+                segment: value,
+            },
+            ReadStep::Entry { root } => moved(
+                entry_word(&self.site, self.hash, root),
+                value,
+                value,
+            ),
+            ReadStep::Head { root, segment } => self.after_head(root, segment, value),
+            ReadStep::Lock { path } if value % 2 == 0 => ReadStep::Fill {
+                path,
+                free: value,
+                words: [0; 32],
+                next: 1,
+            },
+            ReadStep::Lock { path } => busy(lock_word(&self.site, self.hash, path.segment), value),
+            ReadStep::Fill {
+                path,
+                free,
+                words,
+                next,
+            } => { self.after_word(path, free, with_word(words, next, value), next) }
+            ReadStep::Count { found } => ReadStep::Check {
+                found,
+                place: value,
+                at: Second::Root,
+            },
+            ReadStep::Check { found, place, at } => self.after_again(found, place, at, value),
+            ReadStep::Ended(_) => self.step,
+        }
+    }
+}
+
+impl Machine for ReadOp {
+    ghost wanted = { wanted };
+
+    ghost taken = { taken };
+
+    fn want(&self) -> Want {
+        match &self.step {
+            ReadStep::Power => Want::Power,
+            ReadStep::Root => Want::Load(ROOT),
+            ReadStep::Entry { root } => Want::Load(entry_word(&self.site, self.hash, *root)),
+            ReadStep::Head { segment, .. } => Want::Load(head_word(&self.site, *segment)),
+            ReadStep::Lock { path } => Want::Load(lock_word(&self.site, self.hash, path.segment)),
+            ReadStep::Fill { path, next, .. } => {
+                Want::Load(lock_word(&self.site, self.hash, path.segment) + u64::from(next % 32))
+            }
+            ReadStep::Count { .. } => Want::Load(self.site.geometry.words()),
+            ReadStep::Check { found, at, .. } => Want::Load(self.word_again(found, *at)),
+            ReadStep::Ended(_) => Want::Done,
+        }
+    }
+
+    fn take(&mut self, ans: Ans) {
+        if let Ans::Value(value) = ans {
+            self.step = self.after(value);
+        }
+    }
+}

@@ -1,0 +1,2 @@
+//! A machine.
+#![tactic(auto)]
