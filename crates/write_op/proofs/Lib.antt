@@ -1,0 +1,3 @@
+mod Search
+mod Tops
+mod Falls

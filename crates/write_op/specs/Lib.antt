@@ -1,0 +1,5 @@
+pub mod Slots
+pub mod Ways
+pub mod Wanted
+pub mod Taken
+pub mod Left
