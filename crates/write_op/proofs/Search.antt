@@ -1,5 +1,5 @@
 -- A search that begins at a slot is one look at it and the search from the next slot on.
-use Rattle.std.proofs.Common.{◌≡◌, ◌==◌, ◌&&◌, ℕ, zero, suc, ◌+◌, ◌-◌, ◌*◌, ◌<◌, ◌≤◌, cond, Option, Some, None, List, ◌∙◌, ap, arith, slice_index, if◌then◌else◌}
+use Rattle.std.proofs.Common.{◌≡◌, ◌==◌, ◌&&◌, ℕ, suc, ◌+◌, ◌-◌, ◌*◌, ◌<◌, ◌≤◌, cond, Some, None, List, ◌∙◌, ap, arith, slice_index, if◌then◌else◌}
 use Rattle.std.proofs.lemmas.Bool.{and_from, and_left, and_right, eq-eqb, ne_eqb}
 use Rattle.bucket_meta.specs.Bucket.{allocated}
 use Rattle.write_op.specs.Slots.{is_taken, slot_with, slot_free}

@@ -1,5 +1,5 @@
 -- The words of one bucket, by their numbers in it: where a key stands, where a free slot is, and what a change stores.
-use Rattle.std.specs.Prelude.{ℕ, zero, suc, ◌+◌, ◌-◌, ◌*◌, ◌/◌, ◌%◌, ◌^◌, nat_lt, Bool, ◌==◌, ◌&&◌, Option, None, Some, List, slice_index, slice_set, if◌then◌else◌, bit_or, bit_and}
+use Rattle.std.specs.Prelude.{ℕ, zero, suc, ◌+◌, ◌*◌, ◌%◌, ◌^◌, nat_lt, Bool, ◌==◌, ◌&&◌, Option, None, Some, List, slice_index, slice_set, if◌then◌else◌, bit_or, bit_and}
 use Rattle.std.specs.Int.{bit_not, w64, to_le_bytes, from_le_bytes}
 use Rattle.bucket_meta.specs.Bucket.{allocated}
 

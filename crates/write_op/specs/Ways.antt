@@ -1,5 +1,5 @@
 -- The way to a bucket: its words, and what the header of its segment has to be.
-use Rattle.std.specs.Prelude.{ℕ, ◌+◌, ◌*◌, nat_le, nat_lt, Bool, ◌==◌, ◌&&◌, ◌||◌, not, if◌then◌else◌}
+use Rattle.std.specs.Prelude.{ℕ, ◌+◌, nat_le, nat_lt, Bool, ◌==◌, ◌&&◌, ◌||◌, not, if◌then◌else◌}
 use Rattle.image_layout.specs.Places.{Shape, root_word, entry_at, head_at, bucket_at}
 use Rattle.hash_word.specs.Hash.{index_of, home_of, probing_of, top}
 use Rattle.segment_head.specs.HeadWord.{version_in, state_in, depth_in, pattern_in, normal, splitting}

@@ -100,7 +100,10 @@ pub fn free_of(kept: &Kept, side: Side) -> u64
 fn unlock(task: &Task, kept: &Kept, side: Side) -> Want
     ensures { result ≡ unlock task.now kept.now side }
 {
-    Want::Store(lock_word(task, kept, side), free_of(kept, side).wrapping_add(2))
+    Want::Store(
+        lock_word(task, kept, side),
+        free_of(kept, side).wrapping_add(2),
+    )
 }
 
 /// What a change wants.
@@ -111,7 +114,9 @@ pub fn want_of(task: &Task, kept: &Kept, step: Step) -> Want
     match step {
         Step::AskPower => Want::Power,
         Step::LoadRoot | Step::RootAgain => Want::Load(ROOT),
-        Step::LoadEntry | Step::EntryAgain => Want::Load(entry_word(geometry, task.hash, kept.root)),
+        Step::LoadEntry | Step::EntryAgain => Want::Load(entry_word(
+            geometry, task.hash, kept.root,
+        )),
         Step::LoadHead | Step::HeadAgain => Want::Load(head_word(geometry, kept.segment)),
         Step::LookAt(side) => Want::Load(lock_word(task, kept, side)),
         Step::TryLock(side) => {

@@ -85,7 +85,11 @@ pub fn lock_word(task: &Task, kept: &Kept, side: Side) -> u64
     ensures is { result ≡ lock_word task.now kept.now side }
     ensures most { result ≤ 35258400 }
 {
-    block(&task.site.geometry, kept.segment, bucket_of(side, task.hash))
+    block(
+        &task.site.geometry,
+        kept.segment,
+        bucket_of(side, task.hash),
+    )
 }
 
 /// The commit counter.

@@ -203,7 +203,11 @@ pub fn step_after(task: &Task, kept: &Kept, step: Step, ans: Ans) -> Step
             let sight = look_at_head(task.site.version, task.hash, head);
             after_head(sight, kept.segment, head_word(geometry, kept.segment), head)
         }
-        (Step::LookAt(side), Ans::Value(seen)) => after_look(side, lock_word(task, kept, side), seen),
+        (Step::LookAt(side), Ans::Value(seen)) => after_look(
+            side,
+            lock_word(task, kept, side),
+            seen,
+        ),
         (Step::TryLock(Side::Home), Ans::Won) => Step::LookAt(Side::Probing),
         (Step::TryLock(Side::Probing), Ans::Won) => Step::RootAgain,
         (Step::TryLock(side), Ans::Lost(seen)) => {

@@ -24,7 +24,11 @@ fn fresh() -> Memory {
 
 impl Memory {
     fn word(&self, at: u64) -> u64 {
-        if at < 2213 { self.words[at as usize] } else { 0 }
+        if at < 2213 {
+            self.words[at as usize]
+        } else {
+            0
+        }
     }
 
     fn set(&mut self, at: u64, value: u64) {
@@ -71,7 +75,11 @@ impl Memory {
 }
 
 fn end_of(op: WriteOp) -> WriteEnd {
-    if op.want() == Want::Done { op.end() } else { WriteEnd::Off }
+    if op.want() == Want::Done {
+        op.end()
+    } else {
+        WriteEnd::Off
+    }
 }
 
 fn site() -> Result<Site, Fail> {
@@ -88,7 +96,16 @@ fn calls_one_after_another(rt: HostRuntime) -> Result<(), Fail> {
     let mut memory = fresh();
     let first = memory.run(Call::Insert(5, 7), site);
     assert_eq!(rt; first, WriteEnd::Replied(Reply::Done, 0));
-    for (at, value) in [(96u64, 2), (97, 1), (98, 5), (99, 0), (100, 5), (101, 7), (128, 2), (2208, 1)] {
+    for (at, value) in [
+        (96u64, 2),
+        (97, 1),
+        (98, 5),
+        (99, 0),
+        (100, 5),
+        (101, 7),
+        (128, 2),
+        (2208, 1),
+    ] {
         assert_eq!(rt; memory.word(at), value, "at {at}");
     }
     let table = [
@@ -113,14 +130,54 @@ fn calls_one_after_another(rt: HostRuntime) -> Result<(), Fail> {
 fn calls_that_are_not_made(rt: HostRuntime) -> Result<(), Fail> {
     let site = site()?;
     let table = [
-        (96u64, 3, WriteEnd::Again(Why::Busy { word: 96, seen: 3 }), 3, 0),
-        (128, 3, WriteEnd::Again(Why::Busy { word: 128, seen: 3 }), 2, 3),
-        (96, u64::MAX - 1, WriteEnd::Replied(Reply::Spent, 0), u64::MAX - 1, 0),
-        (128, u64::MAX - 1, WriteEnd::Replied(Reply::Spent, 0), 2, u64::MAX - 1),
-        (2208, 1 << 63, WriteEnd::Replied(Reply::Spent, 1 << 63), 2, 2),
+        (
+            96u64,
+            3,
+            WriteEnd::Again(Why::Busy { word: 96, seen: 3 }),
+            3,
+            0,
+        ),
+        (
+            128,
+            3,
+            WriteEnd::Again(Why::Busy { word: 128, seen: 3 }),
+            2,
+            3,
+        ),
+        (
+            96,
+            u64::MAX - 1,
+            WriteEnd::Replied(Reply::Spent, 0),
+            u64::MAX - 1,
+            0,
+        ),
+        (
+            128,
+            u64::MAX - 1,
+            WriteEnd::Replied(Reply::Spent, 0),
+            2,
+            u64::MAX - 1,
+        ),
+        (
+            2208,
+            1 << 63,
+            WriteEnd::Replied(Reply::Spent, 1 << 63),
+            2,
+            2,
+        ),
         (97, 0x3FFF, WriteEnd::NoSlot, 1, 1),
         (65, 258, WriteEnd::Stale(0, 2), 0, 0),
-        (8, 1, WriteEnd::Again(Why::Moved { word: 8, before: 1, after: 1 }), 0, 0),
+        (
+            8,
+            1,
+            WriteEnd::Again(Why::Moved {
+                word: 8,
+                before: 1,
+                after: 1,
+            }),
+            0,
+            0,
+        ),
     ];
     for (at, value, end, home, probing) in table {
         let mut memory = fresh();
