@@ -1,3 +1,4 @@
 mod Search
 mod Tops
 mod Falls
+mod Marks

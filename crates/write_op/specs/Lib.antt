@@ -3,3 +3,4 @@ pub mod Ways
 pub mod Wanted
 pub mod Taken
 pub mod Left
+pub mod Stored
