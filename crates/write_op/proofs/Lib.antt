@@ -2,3 +2,4 @@ mod Search
 mod Tops
 mod Falls
 mod Marks
+mod Fitting

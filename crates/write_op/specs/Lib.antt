@@ -4,3 +4,4 @@ pub mod Wanted
 pub mod Taken
 pub mod Left
 pub mod Stored
+pub mod Fits

@@ -1,6 +1,9 @@
 //! Laws of the machine. The functions do nothing: each stands for the law that its contract says.
 
-ghost use Rattle.std.specs.Prelude.{ℕ, ◌<◌, ◌≤◌};
+ghost use Rattle.std.specs.Prelude.{◌≡◌, ℕ, ◌<◌, ◌≤◌};
+ghost use Rattle.op_core.specs.declared.want.Want.TheVariants.{Done};
+ghost use Rattle.world.specs.Kinds.{wanted as wanted_by};
+ghost use Rattle.write_op.specs.Fits.{Fits, kind_of};
 ghost use Rattle.op_core.specs.declared.want.Ans.{Ans};
 ghost use Rattle.map_model.specs.declared.call.Call.{Call};
 ghost use Rattle.world.specs.declared.site.Site.{Site};
@@ -21,4 +24,9 @@ pub fn attempt_ends()
 pub fn marks_change_one_slot()
     ensures inserted { (w1 slot : ℕ) → slot < 14 → TakesSlot w1 slot }
     ensures removed { (w1 slot : ℕ) → slot < 14 → FreesSlot w1 slot }
+{}
+
+/// Each event that a change wants is the event of its kind in the world of many callers.
+pub fn events_have_kinds()
+    ensures { (op : WriteOp) (n : ℕ) → Fits op → (wanted op ≡ Done → ⊥) → wanted op ≡ wanted_by op.task.site.geometry (kind_of op n) }
 {}
