@@ -1,2 +1,22 @@
-//! A machine.
+//! A change of one key, as a machine: an insert, an update or a remove in the key's home bucket, which holds the locks of
+//! the home and the probing bucket while it changes them.
+//!
+//! [`WriteOp`] asks for one event at a time. `control` has its control points; `path` and `bucket` say which words it
+//! looks at and what it stores; `asking` is what it wants at each point, and `taking` what an answer makes of it.
+//! `specs/` says the same by cases.
 #![tactic(auto)]
+
+mod asking;
+mod bucket;
+pub mod control;
+mod laws;
+pub mod machine;
+mod path;
+mod taking;
+
+pub use control::WriteEnd;
+pub use laws::{attempt_ends, events_have_kinds, marks_change_one_slot};
+pub use machine::WriteOp;
+
+#[cfg(test)]
+mod tests;

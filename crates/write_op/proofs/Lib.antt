@@ -1,0 +1,5 @@
+mod Search
+mod Tops
+mod Falls
+mod Marks
+mod Fitting

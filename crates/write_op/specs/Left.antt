@@ -1,0 +1,63 @@
+-- How many events a change still makes at most.
+use Rattle.std.specs.Prelude.{ℕ, ◌+◌, ◌-◌, ⊤}
+use Rattle.op_core.specs.declared.want.Want.{Want}
+use Rattle.op_core.specs.declared.want.Want.TheVariants as want
+use Rattle.op_core.specs.declared.want.Ans.{Ans}
+use Rattle.op_core.specs.declared.want.Ans.TheVariants as ans
+use Rattle.write_op.specs.declared.control.Side.TheVariants.{Home, Probing}
+use Rattle.write_op.specs.declared.control.Held.TheVariants.{OnlyHome, OnlyProbing, Both}
+use Rattle.write_op.specs.declared.control.Point.{Point}
+use Rattle.write_op.specs.declared.control.Point.TheVariants.{StoreKey, StoreValue, StoreFinger, FlushFinger, FlushRecord, FenceRecord, Publish, FlushPublished, FencePublished, DrawPlace}
+use Rattle.write_op.specs.declared.control.Step.{Step}
+use Rattle.write_op.specs.declared.control.Step.TheVariants.{AskPower, LoadRoot, LoadEntry, LoadHead, LookAt, TryLock, RootAgain, EntryAgain, HeadAgain, LoadWord, LoadCount, Make, CountSpent, GiveBack, Ended}
+use Rattle.write_op.specs.declared.machine.WriteOp.{WriteOp}
+
+-- an answer of the kind that was asked for
+abbrev pub IsAnswer : Want → Ans → Type 0
+IsAnswer (want.Load w) (ans.Value v) = ⊤
+IsAnswer (want.Store w v) ans.Passed = ⊤
+IsAnswer (want.Exchange w x y) ans.Won = ⊤
+IsAnswer (want.Exchange w x y) (ans.Lost v) = ⊤
+IsAnswer (want.Flush l) ans.Passed = ⊤
+IsAnswer want.Fence ans.Passed = ⊤
+IsAnswer want.Draw (ans.Drawn n) = ⊤
+IsAnswer want.Power (ans.Value v) = ⊤
+IsAnswer w a = ⊥
+
+abbrev pub left_at : Point → ℕ
+left_at StoreKey = 12
+left_at StoreValue = 11
+left_at StoreFinger = 10
+left_at FlushFinger = 9
+left_at FlushRecord = 8
+left_at FenceRecord = 7
+left_at Publish = 6
+left_at FlushPublished = 5
+left_at FencePublished = 4
+left_at DrawPlace = 3
+
+abbrev pub left_in : Step → ℕ
+left_in AskPower = 55
+left_in LoadRoot = 54
+left_in LoadEntry = 53
+left_in LoadHead = 52
+left_in (LookAt Home) = 51
+left_in (TryLock Home) = 50
+left_in (LookAt Probing) = 49
+left_in (TryLock Probing) = 48
+left_in RootAgain = 47
+left_in EntryAgain = 46
+left_in HeadAgain = 45
+left_in (LoadWord at) = 14 + (31 - at)
+left_in LoadCount = 13
+left_in (Make point) = left_at point
+left_in (CountSpent Home) = 1
+left_in (CountSpent Probing) = 2
+left_in (GiveBack OnlyHome end) = 1
+left_in (GiveBack OnlyProbing end) = 1
+left_in (GiveBack Both end) = 2
+left_in (Ended end) = 0
+
+-- at most so many events are left
+abbrev pub left : WriteOp → ℕ
+left op = left_in op.step

@@ -1,0 +1,32 @@
+//! Laws of the machine. The functions do nothing: each stands for the law that its contract says.
+
+ghost use Rattle.std.specs.Prelude.{◌≡◌, ℕ, ◌<◌, ◌≤◌};
+ghost use Rattle.op_core.specs.declared.want.Want.TheVariants.{Done};
+ghost use Rattle.world.specs.Kinds.{wanted as wanted_by};
+ghost use Rattle.write_op.specs.Fits.{Fits, kind_of};
+ghost use Rattle.op_core.specs.declared.want.Ans.{Ans};
+ghost use Rattle.map_model.specs.declared.call.Call.{Call};
+ghost use Rattle.world.specs.declared.site.Site.{Site};
+ghost use Rattle.write_op.specs.declared.machine.WriteOp.{WriteOp};
+ghost use Rattle.write_op.specs.Taken.{begun, wanted, taken};
+ghost use Rattle.write_op.specs.Left.{IsAnswer, left};
+ghost use Rattle.write_op.specs.Stored.{TakesSlot, FreesSlot};
+
+/// An attempt ends: each answer of the kind that was asked for leaves fewer events, of at most 55 at its beginning.
+pub fn attempt_ends()
+    ensures falls { (op : WriteOp) (ans : Ans) → IsAnswer (wanted op) ans → left (taken op ans) < left op }
+    ensures tight { (call : Call) (site : Site) → left (begun call site) ≤ 55 }
+    ensures bound { (call : Call) (site : Site) → left (begun call site) ≤ 700 }
+{}
+
+/// The metadata word that an insert stores has its slot taken, and the one that a remove stores has it free; all that they
+/// say of the other slots is as it was.
+pub fn marks_change_one_slot()
+    ensures inserted { (w1 slot : ℕ) → slot < 14 → TakesSlot w1 slot }
+    ensures removed { (w1 slot : ℕ) → slot < 14 → FreesSlot w1 slot }
+{}
+
+/// Each event that a change wants is the event of its kind in the world of many callers.
+pub fn events_have_kinds()
+    ensures { (op : WriteOp) (n : ℕ) → Fits op → (wanted op ≡ Done → ⊥) → wanted op ≡ wanted_by op.task.site.geometry (kind_of op n) }
+{}

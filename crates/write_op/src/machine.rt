@@ -1,0 +1,83 @@
+//! The machine.
+
+ghost use Rattle.std.specs.Prelude.{◌≡◌};
+ghost use Rattle.op_core.specs.declared.want.Want.TheVariants.{Done};
+ghost use Rattle.write_op.specs.Taken.{begun, end_of, first_step};
+
+use crate::asking::{key_for, want_of};
+use crate::control::{Kept, Step, Task, WriteEnd};
+use crate::path::key_hash;
+use crate::taking::{kept_after, step_after};
+use map_model::Call;
+use op_core::{Ans, Machine, Want};
+use world::Site;
+
+/// A change of one key: an insert, an update or a remove.
+#[derive(Clone, Copy)]
+pub struct WriteOp {
+    task: Task,
+    kept: Kept,
+    step: Step,
+}
+
+/// Where a call begins. One that is no change ends at once.
+fn first_step(call: Call) -> Step
+    ensures { result ≡ first_step call }
+{
+    match call {
+        Call::Get(_) => Step::Ended(WriteEnd::Off),
+        Call::Insert(..) | Call::Update(..) | Call::Remove(_) => Step::AskPower,
+    }
+}
+
+impl WriteOp {
+    /// The machine for a call, an insert, an update or a remove, before its first event. For a `Get` it wants nothing,
+    /// and has ended in `Off`.
+    pub fn new(call: Call, site: Site) -> WriteOp
+        ensures { result ≡ begun call site }
+    {
+        let hash = key_hash(&site.geometry, key_for(call));
+        WriteOp {
+            task: Task { site, call, hash },
+            kept: Kept {
+                root: 0,
+                segment: 0,
+                head: 0,
+                home_free: 0,
+                probing_free: 0,
+                words: [0; 32],
+                slot: 0,
+            },
+            step: first_step(call),
+        }
+    }
+
+    /// How the change ended. It has to want nothing more.
+    pub fn end(self) -> WriteEnd
+        requires { Rattle.write_op.specs.Taken.wanted self ≡ Done }
+        ensures { result ≡ end_of self }
+    {
+        match self.step {
+            Step::Ended(end) => end,
+            _ => WriteEnd::Off,
+        }
+    }
+}
+
+impl Machine for WriteOp {
+    ghost use Rattle.write_op.specs.Taken.{wanted, taken};
+
+    ghost wanted = { wanted };
+
+    ghost taken = { taken };
+
+    fn want(&self) -> Want {
+        want_of(&self.task, &self.kept, self.step)
+    }
+
+    fn take(&mut self, ans: Ans) {
+        let kept = kept_after(&self.task, &self.kept, self.step, ans);
+        self.step = step_after(&self.task, &self.kept, self.step, ans);
+        self.kept = kept;
+    }
+}
