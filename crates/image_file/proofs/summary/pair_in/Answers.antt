@@ -18,8 +18,7 @@ returns-then-agree_before-clause-some c =
     let word = slice_index c.args.words.now in
     let is = c.place_of-place.ensures in
     let key = subst (λ (p : Place). c.key_in.result ≡ slot_key shape word p.segment p.bucket p.slot) is c.key_in.ensures in
-    let value = subst (λ (p : Place). c.value_in.result ≡ slot_value shape word p.segment p.bucket p.slot) is c.value_in.ensures in
-    (
+    let value = subst (λ (p : Place). c.value_in.result ≡ slot_value shape word p.segment p.bucket p.slot) is c.value_in.ensures in (
       record {
         own = record {
           taken = subst (λ (p : Place). IsTaken shape word p.segment p.bucket p.slot) is (c.if-is_taken.ensures.0 refl);
