@@ -17,7 +17,8 @@ use Rattle.read_op.specs.declared.step.ReadStep.{ReadStep}
 use Rattle.read_op.specs.declared.step.ReadStep.TheVariants.{Power, Root, Entry, Head, Lock, Fill, Count, Check, Ended}
 use Rattle.read_op.specs.declared.op.ReadOp.{ReadOp}
 use Rattle.read_op.specs.Steps.{wanted_in, wanted_again, lock_word}
-use Rattle.read_op.specs.Fits.{IsIn, kind_in, kind_again, note_of, suits_in, WantsByKind, MayStep}
+use Rattle.sound_image.specs.Records.{key_hash}
+use Rattle.read_op.specs.Fits.{BeginsSuited, IsIn, kind_in, kind_again, note_of, suits_in, WantsByKind, MayStep}
 
 -- ---- what is wanted
 again_wants : (op : ReadOp) (site : Site) (found : Found) (at : Second) → wanted_again op found at ≡ wanted_by site.shape (kind_again op found at)
@@ -70,3 +71,6 @@ may_in op site v good is (Ended end) suits = tt
 
 pub may_step : (site : Site) (op : ReadOp) (v : View) → MayStep site op v
 may_step site op v good is suits = may_in op site v good is op.step suits
+
+pub begins_suited : BeginsSuited
+begins_suited site here key same fits = (record { shape = same; hash = ap (λ g. key_hash g key) same; fits = fits }, (λ v. tt))

@@ -25,7 +25,7 @@ use Rattle.read_op.specs.declared.step.Second.TheVariants as again
 use Rattle.read_op.specs.declared.step.ReadStep.{ReadStep}
 use Rattle.read_op.specs.declared.step.ReadStep.TheVariants.{Power, Root, Entry, Head, Lock, Fill, Count, Check, Ended}
 use Rattle.read_op.specs.declared.op.ReadOp.{ReadOp}
-use Rattle.read_op.specs.Steps.{wanted, taken, entry_word, head_word, lock_word}
+use Rattle.read_op.specs.Steps.{begun, wanted, taken, entry_word, head_word, lock_word}
 
 -- the get runs in this image, and its hash is its key's
 pub record IsIn (site : Site) (op : ReadOp) : Type 0 where
@@ -52,6 +52,10 @@ module _ (op : ReadOp) where
   kind_in (Count found) = places op.key found.value
   kind_in (Check found place at) = kind_again found at
   kind_in (Ended end) = peeks (counter_word op.site.geometry)
+
+-- THE KIND of the event that a get wants next
+abbrev pub kind_of : ReadOp → Kind
+kind_of op = kind_in op op.step
 
 -- a get of this key and hash, in this place
 module _ (here : Here) (hash key : ℕ) where
@@ -108,18 +112,23 @@ module _ (here : Here) (hash key : ℕ) where
   suits_in site (Ended end) v = ⊤
 
 -- the view suits the get
-abbrev pub Suits : ReadOp → Site → View → Type 0
-Suits op site v = suits_in op.site op.hash op.key site op.step v
+abbrev pub Suits : Site → ReadOp → View → Type 0
+Suits site op v = suits_in op.site op.hash op.key site op.step v
 
 -- ---- the laws
+-- a get that has done nothing yet, of a key whose hash has 64 bits, is in the image where it runs, and suits any view
+abbrev pub BeginsSuited : Type 0
+BeginsSuited = (site : Site) (here : Here) (key : ℕ) → here.geometry ≡ site.shape → (begun key here).hash < 2 ^ 64
+    → IsIn site (begun key here) × ((v : View) → Suits site (begun key here) v)
+
 module _ (site : Site) (op : ReadOp) where
   -- what a get wants is what its kind wants
   abbrev pub WantsByKind : Type 0
-  WantsByKind = IsIn site op → wanted op ≢ Done → wanted op ≡ wanted_by site.shape (kind_in op op.step)
+  WantsByKind = IsIn site op → wanted op ≢ Done → wanted op ≡ wanted_by site.shape (kind_of op)
 
   -- a view that suits may take the step
   abbrev pub MayStep : View → Type 0
-  MayStep v = IsSite site → IsIn site op → Suits op site v → May site (kind_in op op.step) v
+  MayStep v = IsSite site → IsIn site op → Suits site op v → May site (kind_of op) v
 
 -- the view has its locks and unsettled words, and its planned changes, as before
 pub record OwesTheSame (v after : View) : Type 0 where
@@ -148,22 +157,22 @@ EntersAnswer key s v after = HasNotReplied v after
 module _ (site : Site) (op : ReadOp) (words : Words) where
   -- the value that the next event finds, the get after it, and the view
   abbrev pub finds : ℕ
-  finds = found_by site (kind_in op op.step) words
+  finds = found_by site (kind_of op) words
 
   abbrev pub next_op : ReadOp
   next_op = taken op (Value finds)
 
   abbrev pub next_view : View → View
-  next_view v = view_after site.shape (kind_in op op.step) finds v
+  next_view v = view_after site.shape (kind_of op) finds v
 
   -- A STEP of a get that wants something keeps the view suited, adds an entry if and only if it answers, and leaves locks
   -- and words alone
   pub record StepsWell (v : View) : Type 0 where
     pub is_in : IsIn site next_op
-    pub suits : Suits next_op site (next_view v)
+    pub suits : Suits site next_op (next_view v)
     pub owes : OwesTheSame v (next_view v)
     pub answers : EntersAnswer op.key next_op.step v (next_view v)
 
 abbrev pub KeepsSuits : Type 0
 KeepsSuits = (site : Site) (op : ReadOp) (words : Words) (views : List View) (j : ℕ) (v : View) → Holds site words views → At views j v
-    → IsIn site op → Suits op site v → wanted op ≢ Done → StepsWell site op words v
+    → IsIn site op → Suits site op v → wanted op ≢ Done → StepsWell site op words v

@@ -6,7 +6,7 @@ ghost use Rattle.read_op.specs.Steps.{begun};
 ghost use Rattle.world.specs.Site.{Site as Image};
 ghost use Rattle.world.specs.Views.{View};
 ghost use Rattle.read_op.specs.declared.op.ReadOp.{ReadOp};
-ghost use Rattle.read_op.specs.Fits.{WantsByKind, MayStep, KeepsSuits};
+ghost use Rattle.read_op.specs.Fits.{BeginsSuited, WantsByKind, MayStep, KeepsSuits};
 ghost use Rattle.read_op.specs.Budget.{left, Falls, EndsInTime, AsksWithin};
 
 /// Each event leaves fewer to do, so that a get ends within 41 events.
@@ -23,6 +23,7 @@ pub fn asks_within()
 
 /// A get fits the world: each event that it wants is one of a kind, and a view that suits it may take that step.
 pub fn fits_the_world()
+    ensures begins { BeginsSuited }
     ensures wants { (site : Image) (op : ReadOp) → WantsByKind site op }
     ensures may { (site : Image) (op : ReadOp) (v : View) → MayStep site op v }
     ensures keeps { KeepsSuits }

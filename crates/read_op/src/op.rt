@@ -1,6 +1,6 @@
 //! The machine.
 
-ghost use Rattle.std.specs.Prelude.{◌≡◌, ℕ, ◌==◌, ◌||◌, ◌&&◌, nat_le};
+ghost use Rattle.std.specs.Prelude.{◌≡◌, ℕ, ◌==◌, ◌||◌, ◌&&◌, ◌<◌, ◌^◌, nat_le};
 ghost use Rattle.segment_head.specs.HeadWord.{version_in};
 ghost use Rattle.op_core.specs.declared.want.Want.TheVariants as want;
 ghost use Rattle.read_op.specs.declared.step.ReadStep.TheVariants.{Ended};
@@ -80,7 +80,8 @@ fn end_of(found: &Found, place: u64) -> ReadEnd
 impl ReadOp {
     /// A get of a key, which has done nothing yet.
     pub fn new(key: u64, version_v: Site) -> ReadOp
-        ensures { result ≡ begun key version_v }
+        ensures is { result ≡ begun key version_v }
+        ensures fits { result.hash < 2 ^ 64 }
     {
         ReadOp {
             key,

@@ -1,6 +1,9 @@
-use Rattle.read_op.proofs.Fitting.{wants_by_kind, may_step}
+use Rattle.read_op.proofs.Fitting.{begins_suited, wants_by_kind, may_step}
 use Rattle.read_op.proofs.Stepping.{keeps_suits}
 use Rattle.read_op.proofs.laws.fits_the_world.Goals as goal
+
+pub returns-clause-begins : goal.returns-clause-begins
+returns-clause-begins c = begins_suited
 
 pub returns-clause-wants : goal.returns-clause-wants
 returns-clause-wants c = wants_by_kind
