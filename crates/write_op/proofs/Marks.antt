@@ -1,12 +1,11 @@
 -- The metadata words of an insert and of a remove differ from the one before in two bits of their slot alone.
-use Rattle.std.proofs.Common.{◌≡◌, ◌≢◌, ℕ, zero, suc, ◌+◌, ◌*◌, ◌%◌, ◌^◌, ◌<◌, ap, cond, sym, ◌∙◌, arith, bit_and, bit_or}
+use Rattle.std.proofs.Common.{◌≡◌, ◌≢◌, ℕ, ◌+◌, ◌*◌, ◌%◌, ◌^◌, ◌<◌, ap, cond, sym, ◌∙◌, arith, bit_and, bit_or}
 use Rattle.std.specs.Int.{bit_not, w64}
 use Rattle.std.proofs.lemmas.Bool.{lt-ltb}
 use Rattle.std.proofs.lemmas.Nat.{one_shl}
 use Rattle.std.proofs.lemmas.Nat.Bits.{bit_at_set_same, bit_at_set_other, bit_at_clear_same, bit_at_clear_other}
-use Rattle.bucket_meta.specs.Bucket.{bit, allocated, member}
-use Rattle.bucket_words.specs.Changes.{SameButSlot}
-use Rattle.write_op.specs.Slots.{mask, inserted_mark, removed_mark}
+use Rattle.bucket_meta.specs.Bucket.{bit}
+use Rattle.write_op.specs.Slots.{mask}
 use Rattle.write_op.specs.Stored.{TakesSlot, FreesSlot}
 
 mask_is : (i : ℕ) → i < 64 → mask i ≡ 1 * 2 ^ i % 2 ^ 64

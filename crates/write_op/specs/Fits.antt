@@ -10,7 +10,6 @@ use Rattle.image_layout.specs.Places.{root_word}
 use Rattle.hash_word.specs.Hash.{finger_of}
 use Rattle.world.specs.Kinds.{Kind}
 use Rattle.world.specs.Kinds.Kind.{peeks, asks_power, finds_room, refuses, learns, tries, stores, publishes, flushes, fences, draws_place, unlocks}
-use Rattle.write_op.specs.declared.control.Side.{Side}
 use Rattle.write_op.specs.declared.control.Side.TheVariants.{Home, Probing}
 use Rattle.write_op.specs.declared.control.Held.TheVariants.{OnlyHome, OnlyProbing, Both}
 use Rattle.write_op.specs.declared.control.Point.{Point}

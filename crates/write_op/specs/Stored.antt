@@ -1,5 +1,5 @@
 -- What the words that a change stores say of the slots of their bucket.
-use Rattle.std.specs.Prelude.{◌≡◌, ◌≢◌, ℕ, ◌<◌, ◌^◌}
+use Rattle.std.specs.Prelude.{◌≡◌, ℕ}
 use Rattle.bucket_meta.specs.Bucket.{allocated, member}
 use Rattle.bucket_words.specs.Changes.{SameButSlot}
 use Rattle.write_op.specs.Slots.{inserted_mark, removed_mark}

@@ -3,7 +3,7 @@
 ghost use Rattle.std.specs.Prelude.{◌≡◌, ℕ, ◌<◌, ◌≤◌};
 ghost use Rattle.op_core.specs.declared.want.Want.TheVariants.{Done};
 ghost use Rattle.world.specs.Kinds.{wanted as wanted_by};
-ghost use Rattle.write_op.specs.Fits.{Fits, kind_of};
+ghost use Rattle.write_op.specs.Fits.{Fits, IsWord, kind_of};
 ghost use Rattle.op_core.specs.declared.want.Ans.{Ans};
 ghost use Rattle.map_model.specs.declared.call.Call.{Call};
 ghost use Rattle.world.specs.declared.site.Site.{Site};
@@ -29,4 +29,11 @@ pub fn marks_change_one_slot()
 /// Each event that a change wants is the event of its kind in the world of many callers.
 pub fn events_have_kinds()
     ensures { (op : WriteOp) (n : ℕ) → Fits op → (wanted op ≡ Done → ⊥) → wanted op ≡ wanted_by op.task.site.geometry (kind_of op n) }
+{}
+
+/// What an exchange expects is always a free value with a next version, and a word of the bucket that is loaded lies
+/// behind its lock.
+pub fn numbers_stay_in_range()
+    ensures begins { (call : Call) (site : Site) → Fits (begun call site) }
+    ensures keeps { (op : WriteOp) (ans : Ans) → IsWord ans → Fits op → Fits (taken op ans) }
 {}
