@@ -1,8 +1,7 @@
 -- Where rules 4 to 7 hold of each segment they hold of the image.
-use Rattle.std.proofs.Common.{◌≡◌, ℕ, ◌<◌, refl}
+use Rattle.std.proofs.Common.{ℕ, refl}
 use Rattle.image_layout.specs.Places.{Shape, key_at}
 use Rattle.sound_image.specs.Segments.{ImageWords}
-use Rattle.sound_image.specs.Rules.{RecordsStandRight, KeysHaveOneValue, VersionsArePast, CleanMeansRepaired}
 use Rattle.image_file.specs.declared.records.RecordRule.TheVariants.{Stand, Value}
 use Rattle.image_file.specs.declared.breach.Scope.{Scope}
 use Rattle.image_file.specs.Breach.{HoldsAt}

@@ -1,5 +1,5 @@
 -- A record of the segment that none of its key is before is the pair of its slot.
-use Rattle.std.proofs.Common.{◌≡◌, ℕ, refl, subst, slice_index}
+use Rattle.std.proofs.Common.{◌≡◌, refl, subst, slice_index}
 use Rattle.sound_image.specs.Segments.{frame_of, Owns}
 use Rattle.sound_image.specs.Records.{slot_key, slot_value, slot_hash}
 use Rattle.image_file.specs.declared.place.Place.{Place}

@@ -1,5 +1,5 @@
 -- What a rule says of the records of the key before one is what it says of the one.
-use Rattle.std.proofs.Common.{◌≡◌, ◌↔◌, refl, sym, subst, IsTrue, slice_index}
+use Rattle.std.proofs.Common.{◌↔◌, refl, sym, subst, IsTrue, slice_index}
 use Rattle.image_file.specs.declared.records.RecordRule.{RecordRule}
 use Rattle.image_file.specs.declared.records.RecordRule.TheVariants.{Value, Once}
 use Rattle.image_file.specs.Slots.{AgreeBefore, Follows}
