@@ -1,8 +1,8 @@
 //! Rules 4 to 7 in one pass over the segments.
 
-ghost use Rattle.std.specs.Prelude.{◌≡◌, ℕ, ◌<◌, ◌↔◌, IsTrue, length, slice_index};
+ghost use Rattle.std.specs.Prelude.{◌≡◌, ◌<◌, ◌↔◌, IsTrue, length, slice_index};
 ghost use Rattle.image_layout.specs.Places.{words_of};
-ghost use Rattle.sound_image.specs.Segments.{frame_of, IsClean};
+ghost use Rattle.sound_image.specs.Segments.{frame_of};
 ghost use Rattle.sound_image.specs.Directory.{VersionIsPast};
 ghost use Rattle.image_file.specs.Divided.{IsDivided};
 ghost use Rattle.image_file.specs.Slots.{IsStandingIn};
