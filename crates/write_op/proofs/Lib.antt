@@ -3,3 +3,5 @@ mod Tops
 mod Falls
 mod Marks
 mod Fitting
+mod Insides
+mod Chosen

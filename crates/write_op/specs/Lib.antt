@@ -5,3 +5,4 @@ pub mod Taken
 pub mod Left
 pub mod Stored
 pub mod Fits
+pub mod Inside

@@ -10,6 +10,7 @@ ghost use Rattle.world.specs.declared.site.Site.{Site};
 ghost use Rattle.write_op.specs.declared.machine.WriteOp.{WriteOp};
 ghost use Rattle.write_op.specs.Taken.{begun, wanted, taken};
 ghost use Rattle.write_op.specs.Left.{IsAnswer, left};
+ghost use Rattle.write_op.specs.Inside.{IsInside, AsksInside};
 ghost use Rattle.write_op.specs.Stored.{TakesSlot, FreesSlot};
 
 /// An attempt ends: each answer of the kind that was asked for leaves fewer events, of at most 55 at its beginning.
@@ -36,4 +37,11 @@ pub fn events_have_kinds()
 pub fn numbers_stay_in_range()
     ensures begins { (call : Call) (site : Site) → Fits (begun call site) }
     ensures keeps { (op : WriteOp) (ans : Ans) → IsWord ans → Fits op → Fits (taken op ans) }
+{}
+
+/// The word that a change asks for is one of the image, or one of the volatile ones behind it, where its numbers are in
+/// range, and whatever words the answers bring, they stay so.
+pub fn words_are_inside()
+    ensures asks { (op : WriteOp) → IsInside op → AsksInside op }
+    ensures keeps { (op : WriteOp) (ans : Ans) → IsWord ans → IsInside op → IsInside (taken op ans) }
 {}

@@ -15,7 +15,9 @@ mod path;
 mod taking;
 
 pub use control::WriteEnd;
-pub use laws::{attempt_ends, events_have_kinds, marks_change_one_slot, numbers_stay_in_range};
+pub use laws::{
+    attempt_ends, events_have_kinds, marks_change_one_slot, numbers_stay_in_range, words_are_inside,
+};
 pub use machine::WriteOp;
 
 #[cfg(test)]

@@ -64,13 +64,13 @@ impl Memory {
     }
 
     /// Runs a call to its end, which comes within 55 events.
-    fn run(&mut self, call: Call, site: Site) -> WriteEnd {
-        let mut op = WriteOp::new(call, site);
+    fn run(&mut self, call: Call) -> Result<WriteEnd, Fail> {
+        let mut op = WriteOp::new(call, site()?);
         for _ in 0..55u8 {
             let want = op.want();
             op.take(self.answer(want));
         }
-        end_of(op)
+        Ok(end_of(op))
     }
 }
 
@@ -92,9 +92,8 @@ fn site() -> Result<Site, Fail> {
 
 #[test]
 fn calls_one_after_another(rt: HostRuntime) -> Result<(), Fail> {
-    let site = site()?;
     let mut memory = fresh();
-    let first = memory.run(Call::Insert(5, 7), site);
+    let first = memory.run(Call::Insert(5, 7))?;
     assert_eq!(rt; first, WriteEnd::Replied(Reply::Done, 0));
     for (at, value) in [
         (96u64, 2),
@@ -116,19 +115,19 @@ fn calls_one_after_another(rt: HostRuntime) -> Result<(), Fail> {
         (Call::Update(5, 9), Reply::Absent, 3),
     ];
     for (call, reply, place) in table {
-        let end = memory.run(call, site);
+        let end = memory.run(call)?;
         assert_eq!(rt; end, WriteEnd::Replied(reply, place));
     }
     for (at, value) in [(96u64, 12), (97, 0), (98, 5), (100, 5), (101, 9), (128, 12)] {
         assert_eq!(rt; memory.word(at), value, "at {at}");
     }
-    assert_eq!(rt; memory.run(Call::Get(5), site), WriteEnd::Off);
+    let got = memory.run(Call::Get(5))?;
+    assert_eq!(rt; got, WriteEnd::Off);
     Ok(())
 }
 
 #[test]
 fn calls_that_are_not_made(rt: HostRuntime) -> Result<(), Fail> {
-    let site = site()?;
     let table = [
         (
             96u64,
@@ -182,14 +181,14 @@ fn calls_that_are_not_made(rt: HostRuntime) -> Result<(), Fail> {
     for (at, value, end, home, probing) in table {
         let mut memory = fresh();
         memory.set(at, value);
-        let found = memory.run(Call::Insert(5, 7), site);
+        let found = memory.run(Call::Insert(5, 7))?;
         assert_eq!(rt; found, end, "at {at}");
         assert_eq!(rt; memory.word(96), home, "home at {at}");
         assert_eq!(rt; memory.word(128), probing, "probing at {at}");
     }
     let mut memory = fresh();
     memory.power = 1;
-    let found = memory.run(Call::Insert(5, 7), site);
+    let found = memory.run(Call::Insert(5, 7))?;
     assert_eq!(rt; found, WriteEnd::Off);
     Ok(())
 }
