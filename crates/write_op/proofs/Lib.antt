@@ -5,3 +5,5 @@ mod Marks
 mod Fitting
 mod Insides
 mod Chosen
+mod Hashes
+mod Fingers
