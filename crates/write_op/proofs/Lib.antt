@@ -7,3 +7,4 @@ mod Insides
 mod Chosen
 mod Hashes
 mod Fingers
+mod Beginning

@@ -13,6 +13,7 @@ ghost use Rattle.write_op.specs.Left.{IsAnswer, left};
 ghost use Rattle.write_op.specs.Inside.{IsInside, AsksInside};
 ghost use Rattle.write_op.specs.Stored.{TakesSlot, FreesSlot, SetsFinger};
 ghost use Rattle.write_op.specs.Slots.{with_finger};
+ghost use Rattle.write_op.specs.Suits.{BeginsSuited};
 ghost use Rattle.write_op.specs.Wanted.{key_for};
 ghost use Rattle.image_layout.specs.Places.{IsShape};
 
@@ -54,4 +55,9 @@ pub fn words_are_inside()
     ensures begins { (call : Call) (site : Site) → IsShape site.geometry → key_for call < 2 ^ 64 → IsInside (begun call site) }
     ensures asks { (op : WriteOp) → IsInside op → AsksInside op }
     ensures keeps { (op : WriteOp) (ans : Ans) → IsWord ans → IsInside op → IsInside (taken op ans) }
+{}
+
+/// A change that has done nothing yet suits the view of a caller that holds, knows and owes nothing.
+pub fn fits_the_world()
+    ensures begins { BeginsSuited }
 {}
