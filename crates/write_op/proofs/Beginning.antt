@@ -1,5 +1,5 @@
 -- A change that has done nothing yet suits the view of a caller that holds, knows and owes nothing.
-use Rattle.std.proofs.Common.{◌≡◌, ℕ, ◌<◌, ◌^◌, [], refl, sym, ap, subst}
+use Rattle.std.proofs.Common.{◌<◌, [], refl, sym, ap, subst}
 use Rattle.image_layout.specs.Places.{IsShape}
 use Rattle.sound_image.specs.Records.{key_hash}
 use Rattle.map_model.specs.declared.call.Call.{Call}

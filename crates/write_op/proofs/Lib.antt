@@ -8,3 +8,5 @@ mod Chosen
 mod Hashes
 mod Fingers
 mod Beginning
+mod Searching
+mod Locked
