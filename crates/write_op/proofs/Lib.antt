@@ -10,3 +10,6 @@ mod Fingers
 mod Beginning
 mod Searching
 mod Locked
+mod Stores
+mod Publishing
+mod Mays

@@ -105,6 +105,12 @@ module _ (ws : List ℕ) (at key : ℕ) where
   pub key_from : (s : ℕ) → words_from (at + 4 + 2 * s) ≡ slice_index ws (4 + 2 * s)
   key_from s = let e : at + 4 + 2 * s - at ≡ 4 + 2 * s = omega arith in ap (slice_index ws) e
 
+  pub word_from : (n : ℕ) → words_from (at + n) ≡ slice_index ws n
+  word_from n = let e : at + n - at ≡ n = omega arith in ap (slice_index ws) e
+
+  pub value_from : (s : ℕ) → words_from (at + 5 + 2 * s) ≡ slice_index ws (5 + 2 * s)
+  value_from s = let e : at + 5 + 2 * s - at ≡ 5 + 2 * s = omega arith in ap (slice_index ws) e
+
   pub hits_there : (s : ℕ) → IsThere ws key s → Hits words_from at key s
   hits_there s h = record { taken = ap (allocated s) meta_from ∙ h.taken; key = key_from s ∙ h.has_key }
 

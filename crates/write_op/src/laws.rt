@@ -13,7 +13,7 @@ ghost use Rattle.write_op.specs.Left.{IsAnswer, left};
 ghost use Rattle.write_op.specs.Inside.{IsInside, AsksInside};
 ghost use Rattle.write_op.specs.Stored.{TakesSlot, FreesSlot, SetsFinger};
 ghost use Rattle.write_op.specs.Slots.{with_finger};
-ghost use Rattle.write_op.specs.Suits.{BeginsSuited};
+ghost use Rattle.write_op.specs.Suits.{BeginsSuited, MayStep};
 ghost use Rattle.write_op.specs.Wanted.{key_for};
 ghost use Rattle.image_layout.specs.Places.{IsShape};
 
@@ -57,7 +57,9 @@ pub fn words_are_inside()
     ensures keeps { (op : WriteOp) (ans : Ans) → IsWord ans → IsInside op → IsInside (taken op ans) }
 {}
 
-/// A change that has done nothing yet suits the view of a caller that holds, knows and owes nothing.
+/// A change fits the world: one that has done nothing yet suits the view of a caller that holds, knows and owes nothing,
+/// and a view that suits may take the step.
 pub fn fits_the_world()
     ensures begins { BeginsSuited }
+    ensures may { MayStep }
 {}

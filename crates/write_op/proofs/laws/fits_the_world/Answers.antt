@@ -1,6 +1,10 @@
 -- By the control points.
 use Rattle.write_op.proofs.Beginning.{begins_suited}
+use Rattle.write_op.proofs.Mays.{may_step}
 use Rattle.write_op.proofs.laws.fits_the_world.Goals as goal
 
-pub returns : goal.returns
-returns c = record { begins = begins_suited }
+pub returns-clause-begins : goal.returns-clause-begins
+returns-clause-begins c = begins_suited
+
+pub returns-clause-may : goal.returns-clause-may
+returns-clause-may c = may_step
