@@ -13,3 +13,5 @@ mod Locked
 mod Stores
 mod Publishing
 mod Mays
+mod Leavings
+mod Going

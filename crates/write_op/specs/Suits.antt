@@ -190,6 +190,11 @@ module _ (t : Task) (k : Kept) where
   SuitsLooking Home v = HoldsOnly [] v × (k.segment ≡ 0)
   SuitsLooking Probing v = HoldsOnly (locks_of OnlyHome) v × (k.segment ≡ 0) × HasNext Home
 
+  -- an end before which all locks are given back
+  abbrev pub GivesBack : WriteEnd → Type 0
+  GivesBack NoSlot = ⊥
+  GivesBack end = ⊤
+
   -- while locks are given back
   abbrev pub SuitsGiving : Held → View → Type 0
   SuitsGiving OnlyHome v = HoldsOnly (locks_of OnlyHome) v × HasNext Home
@@ -216,7 +221,7 @@ module _ (t : Task) (k : Kept) where
   SuitsStep (LoadWord at) v = HasBoth v × IsQuiet v × KnowsBelow k.words at v
   SuitsStep LoadCount v = HasBoth v × IsQuiet v × KnowsBelow k.words 32 v
   SuitsStep (Make point) v = IsMaking point v
-  SuitsStep (GiveBack held end) v = SuitsGiving held v × (end ≢ NoSlot)
+  SuitsStep (GiveBack held end) v = SuitsGiving held v × GivesBack end
   SuitsStep (Ended end) v = SuitsEnd end v
 
 -- THE VIEW SUITS the change, in an attempt that began with another view
