@@ -56,17 +56,18 @@ replied call r place before v quiet same = record {
   seen = ap (λ d. cond d (suc place) place) (sym quiet);
 }
 
-module _ (t : Task) (before : View) (k : Kept) (v : View) (some : 0 < v.callers) (same : HasNotReplied before v) where
-  pub ended : (end : WriteEnd) → GivesBack t k end → EntersEnd t.call end before v → HoldsOnly [] v → Goes t before k (Ended end) v
-  ended (Replied r place) gives enters only = record { enters = enters; view = only; callers = some }
-  ended NoSlot gives enters only = absurd gives
-  ended (Again why) gives enters only = record { enters = enters; view = only; callers = some }
-  ended (Stale segment byte) gives enters only = record { enters = enters; view = only; callers = some }
-  ended Off gives enters only = record { enters = enters; view = only; callers = some }
+pub end_goes : (t : Task) (before : View) (k : Kept) (v : View) → 0 < v.callers → (end : WriteEnd) → GivesBack t k end → EntersEnd t.call end before v → HoldsOnly [] v
+    → Goes t before k (Ended end) v
+end_goes t before k v some (Replied r place) gives enters only = record { enters = enters; view = only; callers = some }
+end_goes t before k v some NoSlot gives enters only = absurd gives
+end_goes t before k v some (Again why) gives enters only = record { enters = enters; view = only; callers = some }
+end_goes t before k v some (Stale segment byte) gives enters only = record { enters = enters; view = only; callers = some }
+end_goes t before k v some Off gives enters only = record { enters = enters; view = only; callers = some }
 
+module _ (t : Task) (before : View) (k : Kept) (v : View) (some : 0 < v.callers) (same : HasNotReplied before v) where
   -- at a lock word
   pub give_up_goes : (side : Side) (end : WriteEnd) → GivesBack t k end → EntersEnd t.call end before v → SuitsLooking t k side v → Goes t before k (give_up side end) v
-  give_up_goes Home end gives enters suits = ended end gives enters suits.0
+  give_up_goes Home end gives enters suits = end_goes t before k v some end gives enters suits.0
   give_up_goes Probing end gives enters suits = record { enters = enters; view = ((suits.0, suits.2), gives); callers = some }
 
   pub look_goes : (side : Side) (word n : ℕ) → SuitsLooking t k side v → Goes t before k (after_look side word n) v

@@ -15,3 +15,5 @@ mod Publishing
 mod Mays
 mod Leavings
 mod Going
+mod Counted
+mod Making
