@@ -1,5 +1,5 @@
 -- The load of the commit counter keeps the view suited: it refuses the call, or finds room for the change and chooses its slot.
-use Rattle.std.proofs.Common.{◌≡◌, ℕ, ◌+◌, ◌^◌, ◌<◌, ◌≤◌, Bool, true, false, cond, Option, Some, None, List, refl, sym, ◌∙◌, ap, subst, arith, length}
+use Rattle.std.proofs.Common.{◌≡◌, ℕ, ◌^◌, ◌<◌, Bool, true, false, cond, Option, Some, None, refl, sym, ap, subst, arith}
 use Rattle.std.specs.Prelude.{nat_le, nat_lt}
 use Rattle.std.proofs.lemmas.Bool.{lt-ltb, le-ltb, leb-true, leb-false}
 use Rattle.image_layout.specs.Places.{Shape}
@@ -10,13 +10,11 @@ use Rattle.map_model.specs.declared.entry.Reply.TheVariants as reply
 use Rattle.map_model.specs.Map.{is_change}
 use Rattle.map_model.specs.Legal.{IsChange}
 use Rattle.world.specs.declared.site.Site.{Site}
-use Rattle.world.specs.Views.{View, Has}
+use Rattle.world.specs.Views.{View}
 use Rattle.world.specs.Kinds.{next_entry, with_reply, with_count, view_after}
 use Rattle.world.specs.Kinds.Kind.{finds_room}
 use Rattle.write_op.specs.declared.control.Held.TheVariants.{Both}
-use Rattle.write_op.specs.declared.control.WriteEnd.{WriteEnd}
 use Rattle.write_op.specs.declared.control.WriteEnd.TheVariants.{Replied, NoSlot}
-use Rattle.write_op.specs.declared.control.Point.{Point}
 use Rattle.write_op.specs.declared.control.Point.TheVariants.{StoreKey, Publish}
 use Rattle.write_op.specs.declared.control.Step.TheVariants.{Make, GiveBack, Ended}
 use Rattle.write_op.specs.declared.control.Kept.{Kept}
@@ -25,7 +23,7 @@ use Rattle.write_op.specs.Slots.{slot_with, slot_free}
 use Rattle.write_op.specs.Wanted.{key_for}
 use Rattle.write_op.specs.Taken.{chosen, inserting, changing, decided, with_slot}
 use Rattle.write_op.specs.Fits.{count_inserting, count_changing, count_kind}
-use Rattle.write_op.specs.Suits.{HasNotReplied, IsQuiet, HasBoth, KnowsBelow, IsThere, IsChosen, KnowsAt, IsMaking}
+use Rattle.write_op.specs.Suits.{HasNotReplied, IsQuiet, HasBoth, KnowsBelow, IsChosen, KnowsAt}
 use Rattle.write_op.proofs.Locked.{nothing_is}
 use Rattle.write_op.proofs.Searching.{FindsKey, finds_key, FindsFree, finds_free}
 use Rattle.write_op.proofs.Going.{Goes, replied}

@@ -1,41 +1,32 @@
 -- Each step of a change up to its stores keeps the view suited.
-use Rattle.std.proofs.Common.{◌≡◌, ◌⊎◌, ◌==◌, ℕ, suc, ◌+◌, ◌-◌, ◌*◌, ◌%◌, ◌^◌, ◌<◌, ◌≤◌, inl, inr, Bool, true, false, cond, Option, Some, None, List, [], ◌∷◌, ◌++◌, refl, sym, ◌∙◌, ap, subst, arith, length, slice_index, slice_set, get_or-set_same, get_or-set_other}
-use Rattle.std.specs.Prelude.{nat_le, nat_lt, if◌then◌else◌}
-use Rattle.std.proofs.lemmas.Bool.{cases_eq, le-leb, ltb-true, ltb-false}
-use Rattle.hash_word.specs.Hash.{index_of}
-use Rattle.trace.specs.Events.{Words}
-use Rattle.image_layout.specs.Places.{root_word, entry_at}
-use Rattle.bucket_words.specs.Tables.{IsHomeTable}
-use Rattle.op_core.specs.declared.want.Ans.{Ans}
-use Rattle.op_core.specs.declared.want.Ans.TheVariants.{Value, Won, Lost, Passed, Drawn}
+use Rattle.std.proofs.Common.{◌≡◌, ◌==◌, ℕ, suc, ◌+◌, ◌-◌, ◌%◌, ◌^◌, ◌<◌, ◌≤◌, inl, inr, Bool, true, false, cond, List, [], ◌∷◌, ◌++◌, sym, ◌∙◌, ap, subst, arith, length, slice_index, slice_set, get_or-set_same, get_or-set_other}
+use Rattle.std.specs.Prelude.{nat_lt, if◌then◌else◌}
+use Rattle.std.proofs.lemmas.Bool.{cases_eq, ltb-false}
+use Rattle.op_core.specs.declared.want.Ans.TheVariants.{Won, Lost}
 use Rattle.op_core.specs.declared.why.Why.TheVariants.{Busy}
 use Rattle.map_model.specs.declared.call.Call.{Call}
-use Rattle.map_model.specs.declared.call.Call.TheVariants.{Get, Insert, Update, Remove}
 use Rattle.map_model.specs.declared.entry.Reply.{Reply}
-use Rattle.map_model.specs.declared.entry.Reply.TheVariants as reply
 use Rattle.map_model.specs.Map.{is_change}
-use Rattle.map_model.specs.Legal.{IsChange}
-use Rattle.world.specs.Site.{Site, IsSite, IsUnder}
+use Rattle.world.specs.Site.{IsUnder}
 use Rattle.world.specs.Views.{View, Has}
-use Rattle.world.specs.Kinds.{next_entry, with_reply, with_lock, with_count, view_after}
-use Rattle.world.specs.Invariant.{Holds}
+use Rattle.world.specs.Kinds.{next_entry, with_reply, with_lock}
 use Rattle.write_op.specs.declared.path.Sight.{Sight}
 use Rattle.write_op.specs.declared.path.Sight.TheVariants.{Good, Late, Other}
 use Rattle.write_op.specs.declared.control.Side.{Side}
 use Rattle.write_op.specs.declared.control.Side.TheVariants.{Home, Probing}
-use Rattle.write_op.specs.declared.control.Held.TheVariants.{OnlyHome, OnlyProbing, Both}
+use Rattle.write_op.specs.declared.control.Held.TheVariants.{Both}
 use Rattle.write_op.specs.declared.control.WriteEnd.{WriteEnd}
 use Rattle.write_op.specs.declared.control.WriteEnd.TheVariants.{Replied, NoSlot, Again, Stale, Off}
 use Rattle.write_op.specs.declared.control.Step.{Step}
-use Rattle.write_op.specs.declared.control.Step.TheVariants.{AskPower, LoadRoot, LoadEntry, LoadHead, LookAt, TryLock, RootAgain, EntryAgain, HeadAgain, LoadWord, LoadCount, Make, CountSpent, GiveBack, Ended}
+use Rattle.write_op.specs.declared.control.Step.TheVariants.{TryLock, LoadWord, LoadCount, CountSpent, GiveBack, Ended}
 use Rattle.write_op.specs.declared.control.Kept.{Kept}
 use Rattle.write_op.specs.declared.control.Task.{Task}
-use Rattle.write_op.specs.Ways.{entry_word, head_word, lock_word, sight_of}
+use Rattle.write_op.specs.Ways.{lock_word}
 use Rattle.write_op.specs.Wanted.{home_word, free_of}
-use Rattle.write_op.specs.Taken.{moved, seen_at, give_up, after_head, after_look, after_loss, again, kept_after, step_after}
+use Rattle.write_op.specs.Taken.{moved, give_up, after_head, after_look, after_loss, again, kept_after, step_after}
 use Rattle.write_op.specs.Fits.{IsFree}
-use Rattle.write_op.specs.Suits.{HasReplied, HasNotReplied, EntersEnd, Enters, HoldsOnly, IsQuiet, HasBoth, KnowsBelow, locks_of, HasNext, GivesBack, SuitsLooking, SuitsStep}
-use Rattle.write_op.proofs.Locked.{task_in, nothing_is}
+use Rattle.write_op.specs.Suits.{HasReplied, HasNotReplied, EntersEnd, Enters, HoldsOnly, IsQuiet, HasBoth, KnowsBelow, GivesBack, SuitsLooking, SuitsStep}
+use Rattle.write_op.proofs.Locked.{nothing_is}
 
 -- the next state suits the next view
 pub record Goes (t : Task) (before : View) (k : Kept) (s : Step) (v : View) : Type 0 where

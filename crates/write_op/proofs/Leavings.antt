@@ -1,16 +1,13 @@
 -- What the lists of a change's view have after a store, a flush, an unlock and a draw.
-use Rattle.std.proofs.Common.{◌≡◌, ◌⊎◌, ℕ, ◌+◌, ◌*◌, ◌/◌, ◌%◌, ◌<◌, ◌≤◌, true, false, cond, ◌&&◌, eqb, List, [], ◌∷◌, inl, inr, refl, sym, ◌∙◌, ap, subst, arith, slice_index, slice_set, length, get_or-set_same, get_or-set_other}
-use Rattle.std.specs.Prelude.{nat_lt}
-use Rattle.std.proofs.lemmas.Bool.{cases_Bool, cases_eq, eq-eqb, ne_eqb, eqb-true, eqb-false, lt-ltb}
+use Rattle.std.proofs.Common.{◌≡◌, ℕ, ◌+◌, ◌<◌, ◌≤◌, cond, eqb, List, [], ◌∷◌, inl, inr, refl, sym, ◌∙◌, ap, subst, arith, slice_index, slice_set, length, get_or-set_same, get_or-set_other}
+use Rattle.std.proofs.lemmas.Bool.{cases_Bool, cases_eq, eq-eqb, ne_eqb, eqb-false}
 use Rattle.trace.specs.Events.{line_of}
 use Rattle.map_model.specs.declared.call.Call.{Call}
 use Rattle.map_model.specs.Map.{key_of}
 use Rattle.world.specs.Site.{IsUnder}
-use Rattle.world.specs.Views.{View, Has}
+use Rattle.world.specs.Views.{Has}
 use Rattle.world.specs.Kinds.{without, not_under, off_line, of_other_keys}
 use Rattle.world.proofs.Seats.{without_has, without_stays, not_under_has}
-use Rattle.write_op.specs.declared.control.Kept.{Kept}
-use Rattle.write_op.specs.declared.control.Task.{Task}
 
 pub nothing_left : {X : Type 0} (l : List X) → ((p : X) → Has p l → ⊥) → l ≡ []
 nothing_left [] none = refl

@@ -17,3 +17,4 @@ mod Leavings
 mod Going
 mod Counted
 mod Making
+mod Keeping

@@ -1,38 +1,33 @@
 -- Each store, flush and fence of a change, its draw and the stores that give its locks back keep the view suited.
-use Rattle.std.proofs.Common.{◌≡◌, ◌⊎◌, ℕ, suc, ◌+◌, ◌-◌, ◌*◌, ◌/◌, ◌%◌, ◌^◌, ◌<◌, ◌≤◌, inl, inr, Bool, true, false, cond, List, [], ◌∷◌, ◌++◌, refl, sym, ◌∙◌, ap, subst, arith, length, slice_index, slice_set, length-set}
+use Rattle.std.proofs.Common.{◌≡◌, ℕ, suc, ◌+◌, ◌*◌, ◌%◌, ◌<◌, ◌≤◌, inl, inr, Bool, true, false, cond, List, [], ◌∷◌, ◌++◌, refl, ◌∙◌, ap, subst, arith, length, slice_index, length-set}
 use Rattle.std.specs.Prelude.{nat_lt}
-use Rattle.std.proofs.lemmas.Bool.{ltb-true, ltb-false}
+use Rattle.std.proofs.lemmas.Bool.{ltb-true}
 use Rattle.trace.specs.Events.{line_of}
 use Rattle.hash_word.specs.Hash.{finger_of}
-use Rattle.op_core.specs.declared.want.Ans.TheVariants.{Passed, Drawn}
 use Rattle.map_model.specs.declared.call.Call.{Call}
 use Rattle.map_model.specs.declared.call.Call.TheVariants.{Get, Insert, Update, Remove}
 use Rattle.map_model.specs.declared.entry.Reply.TheVariants as reply
 use Rattle.map_model.specs.Map.{key_of}
 use Rattle.map_model.specs.Legal.{IsInsert, IsChange}
-use Rattle.world.specs.Site.{Site, IsSite, IsUnder}
+use Rattle.world.specs.Site.{Site, IsSite}
 use Rattle.world.specs.Views.{View, Has}
-use Rattle.world.specs.Kinds.{next_entry, without, not_under, off_line, on_line, loosened, of_other_keys, view_after}
+use Rattle.world.specs.Kinds.{without, not_under, off_line, on_line, loosened, of_other_keys, view_after}
 use Rattle.world.proofs.Seats.{loosened_has}
-use Rattle.write_op.specs.declared.control.Side.{Side}
 use Rattle.write_op.specs.declared.control.Side.TheVariants.{Home, Probing}
 use Rattle.write_op.specs.declared.control.Held.TheVariants.{OnlyHome, OnlyProbing, Both}
 use Rattle.write_op.specs.declared.control.WriteEnd.{WriteEnd}
 use Rattle.write_op.specs.declared.control.WriteEnd.TheVariants.{Replied, NoSlot, Again, Stale, Off}
-use Rattle.write_op.specs.declared.control.Point.{Point}
 use Rattle.write_op.specs.declared.control.Point.TheVariants.{StoreKey, StoreValue, StoreFinger, FlushFinger, FlushRecord, FenceRecord, Publish, FlushPublished, FencePublished, DrawPlace}
-use Rattle.write_op.specs.declared.control.Step.{Step}
 use Rattle.write_op.specs.declared.control.Step.TheVariants.{Make, GiveBack, Ended}
 use Rattle.write_op.specs.declared.control.Kept.{Kept}
 use Rattle.write_op.specs.declared.control.Task.{Task}
 use Rattle.write_op.specs.Slots.{finger_place, with_finger}
 use Rattle.write_op.specs.Ways.{lock_word}
 use Rattle.write_op.specs.Wanted.{key_for, value_for, home_word, published_word, free_of}
-use Rattle.write_op.specs.Taken.{made}
 use Rattle.write_op.specs.Fits.{made_kind}
-use Rattle.write_op.specs.Suits.{HasReplied, HasNotReplied, EntersEnd, HoldsOnly, IsQuiet, HasBoth, KnowsBelow, with_key, with_value, with_fingers, words_before, IsOfRecord, MayBeDirty, GivesBack, locks_of, IsMaking, SuitsGiving}
-use Rattle.write_op.proofs.Locked.{task_in, lock_at, locks_apart, nothing_is}
-use Rattle.write_op.proofs.Stores.{place_near, place_low}
+use Rattle.write_op.specs.Suits.{HasNotReplied, EntersEnd, HoldsOnly, HasBoth, KnowsBelow, with_key, with_value, with_fingers, words_before, IsOfRecord, GivesBack, IsMaking, SuitsGiving}
+use Rattle.write_op.proofs.Locked.{task_in, lock_at, locks_apart}
+use Rattle.write_op.proofs.Stores.{place_near}
 use Rattle.write_op.proofs.Leavings.{nothing_left, off_line_is, without_only, without_second, not_under_none, drawn_only, stored_known, stored_under}
 use Rattle.write_op.proofs.Going.{Goes, end_goes}
 

@@ -13,7 +13,7 @@ ghost use Rattle.write_op.specs.Left.{IsAnswer, left};
 ghost use Rattle.write_op.specs.Inside.{IsInside, AsksInside};
 ghost use Rattle.write_op.specs.Stored.{TakesSlot, FreesSlot, SetsFinger};
 ghost use Rattle.write_op.specs.Slots.{with_finger};
-ghost use Rattle.write_op.specs.Suits.{BeginsSuited, MayStep};
+ghost use Rattle.write_op.specs.Suits.{BeginsSuited, MayStep, KeepsSuits};
 ghost use Rattle.write_op.specs.Wanted.{key_for};
 ghost use Rattle.image_layout.specs.Places.{IsShape};
 
@@ -58,8 +58,9 @@ pub fn words_are_inside()
 {}
 
 /// A change fits the world: one that has done nothing yet suits the view of a caller that holds, knows and owes nothing,
-/// and a view that suits may take the step.
+/// a view that suits may take the step, and the step keeps the view suited.
 pub fn fits_the_world()
     ensures begins { BeginsSuited }
     ensures may { MayStep }
+    ensures keeps { KeepsSuits }
 {}
