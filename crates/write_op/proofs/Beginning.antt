@@ -1,4 +1,5 @@
--- A change that has done nothing yet suits the view of a caller that holds, knows and owes nothing.
+-- A change that has done nothing yet suits the view of a caller that holds, knows and owes nothing, and one that has ended
+-- leaves the view as its end says.
 use Rattle.std.proofs.Common.{◌<◌, [], refl, sym, ap, subst}
 use Rattle.image_layout.specs.Places.{IsShape}
 use Rattle.sound_image.specs.Records.{key_hash}
@@ -9,7 +10,7 @@ use Rattle.world.specs.declared.site.Site.{Site as Here}
 use Rattle.world.specs.Views.{View}
 use Rattle.write_op.specs.Wanted.{key_for}
 use Rattle.write_op.specs.Taken.{begun}
-use Rattle.write_op.specs.Suits.{HoldsOnly, Suits, BeginsSuited}
+use Rattle.write_op.specs.Suits.{Enters, HoldsOnly, SuitsStep, Suits, BeginsSuited, EndsWell}
 use Rattle.write_op.proofs.Hashes.{begins_inside}
 
 suits_first : (here : Here) (call : Call) (v : View) → IsChange call → HoldsOnly [] v → 0 < v.callers → Suits v (begun call here) v
@@ -28,4 +29,10 @@ begins_suited site here call v good same fits change only some = (
     whole = refl;
   },
   suits_first here call v change only some,
+)
+
+pub ends_well : EndsWell
+ends_well op before v end e suits = (
+  subst (λ s. Enters op.task.call s before v) e suits.enters,
+  subst (λ s. SuitsStep op.task op.kept s v) e suits.view,
 )

@@ -47,7 +47,7 @@ replied call r place before v quiet same = record {
   seen = ap (λ d. cond d (suc place) place) (sym quiet);
 }
 
-pub end_goes : (t : Task) (before : View) (k : Kept) (v : View) → 0 < v.callers → (end : WriteEnd) → GivesBack t k end → EntersEnd t.call end before v → HoldsOnly [] v
+pub end_goes : (t : Task) (before : View) (k : Kept) (v : View) → 0 < v.callers → (end : WriteEnd) → GivesBack end → EntersEnd t.call end before v → HoldsOnly [] v
     → Goes t before k (Ended end) v
 end_goes t before k v some (Replied r place) gives enters only = record { enters = enters; view = only; callers = some }
 end_goes t before k v some NoSlot gives enters only = absurd gives
@@ -57,7 +57,7 @@ end_goes t before k v some Off gives enters only = record { enters = enters; vie
 
 module _ (t : Task) (before : View) (k : Kept) (v : View) (some : 0 < v.callers) (same : HasNotReplied before v) where
   -- at a lock word
-  pub give_up_goes : (side : Side) (end : WriteEnd) → GivesBack t k end → EntersEnd t.call end before v → SuitsLooking t k side v → Goes t before k (give_up side end) v
+  pub give_up_goes : (side : Side) (end : WriteEnd) → GivesBack end → EntersEnd t.call end before v → SuitsLooking t k side v → Goes t before k (give_up side end) v
   give_up_goes Home end gives enters suits = end_goes t before k v some end gives enters suits.0
   give_up_goes Probing end gives enters suits = record { enters = enters; view = ((suits.0, suits.2), gives); callers = some }
 
@@ -103,7 +103,7 @@ module _ (t : Task) (before : View) (k : Kept) (v : View) (some : 0 < v.callers)
   head_goes Other segment word n only first = record { enters = same; view = only; callers = some }
 
   -- under both locks
-  pub back_goes : (end : WriteEnd) → GivesBack t k end → EntersEnd t.call end before v → HasBoth t k v → IsQuiet v → Goes t before k (GiveBack Both end) v
+  pub back_goes : (end : WriteEnd) → GivesBack end → EntersEnd t.call end before v → HasBoth t k v → IsQuiet v → Goes t before k (GiveBack Both end) v
   back_goes end gives enters both quiet = record { enters = enters; view = ((both, quiet), gives); callers = some }
 
   pub again_goes : (next : Step) (word old n : ℕ) → Goes t before k next v → HasBoth t k v → IsQuiet v → Goes t before k (again next word old n) v

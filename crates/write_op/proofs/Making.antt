@@ -51,7 +51,7 @@ module _ (site : Site) (good : IsSite site) (version caller : ℕ) (call : Call)
   s = k.slot
 
   -- ---- locks given back
-  pub give_home : (end : WriteEnd) → GivesBack t k end → EntersEnd call end before v → SuitsGiving t k OnlyHome v
+  pub give_home : (end : WriteEnd) → GivesBack end → EntersEnd call end before v → SuitsGiving t k OnlyHome v
       → Goes t before k (Ended end) (record v { held = without lock v.held; known = not_under lock v.known })
   give_home end gives enters suits =
       let o = suits.0 in
@@ -64,7 +64,7 @@ module _ (site : Site) (good : IsSite site) (version caller : ℕ) (call : Call)
         planned = o.planned;
       } in end_goes t before k w some end gives (enters_moved call end before v w refl refl enters) only
 
-  pub give_probing : (end : WriteEnd) → GivesBack t k end → EntersEnd call end before v → SuitsGiving t k OnlyProbing v
+  pub give_probing : (end : WriteEnd) → GivesBack end → EntersEnd call end before v → SuitsGiving t k OnlyProbing v
       → Goes t before k (Ended end) (record v { held = without (lock_word t k Probing) v.held; known = not_under (lock_word t k Probing) v.known })
   give_probing end gives enters suits =
       let o = suits.0 in
@@ -77,7 +77,7 @@ module _ (site : Site) (good : IsSite site) (version caller : ℕ) (call : Call)
         planned = o.planned;
       } in end_goes t before k w some end gives (enters_moved call end before v w refl refl enters) only
 
-  pub give_both : (end : WriteEnd) → GivesBack t k end → EntersEnd call end before v → SuitsGiving t k Both v
+  pub give_both : (end : WriteEnd) → GivesBack end → EntersEnd call end before v → SuitsGiving t k Both v
       → Goes t before k (GiveBack OnlyProbing end) (record v { held = without lock v.held; known = not_under lock v.known })
   give_both end gives enters suits =
       let b = suits.0 in

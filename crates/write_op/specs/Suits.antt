@@ -95,6 +95,11 @@ IsChosen (Insert key value) words slot = (allocated slot (slice_index words 1) �
 IsChosen (Update key value) words slot = IsThere words key slot
 IsChosen (Remove key) words slot = IsThere words key slot
 
+-- an end before which all locks are given back
+abbrev pub GivesBack : WriteEnd → Type 0
+GivesBack NoSlot = ⊥
+GivesBack end = ⊤
+
 module _ (t : Task) (k : Kept) where
   -- the locks that are held, the latest first, each with its locked value
   abbrev pub lock_of : Side → ℕ × ℕ
@@ -190,11 +195,6 @@ module _ (t : Task) (k : Kept) where
   SuitsLooking Home v = HoldsOnly [] v × (k.segment ≡ 0)
   SuitsLooking Probing v = HoldsOnly (locks_of OnlyHome) v × (k.segment ≡ 0) × HasNext Home
 
-  -- an end before which all locks are given back
-  abbrev pub GivesBack : WriteEnd → Type 0
-  GivesBack NoSlot = ⊥
-  GivesBack end = ⊤
-
   -- while locks are given back
   abbrev pub SuitsGiving : Held → View → Type 0
   SuitsGiving OnlyHome v = HoldsOnly (locks_of OnlyHome) v × HasNext Home
@@ -240,6 +240,12 @@ BeginsSuited = (site : Site) (here : Here) (call : Call) (v : View) → IsSite s
 abbrev pub MayStep : Type 0
 MayStep = (site : Site) (op : WriteOp) (before v : View) (n : ℕ) → IsSite site → IsIn site op → Suits before op v → May site (kind_of op n) v
 
+-- where a change has ended, its caller's own entries are more by its reply or as they were, and its locks are given back, and
+-- nothing is known, unsettled or planned; where no slot was free both locks are kept, and the bucket's words are known
+abbrev pub EndsWell : Type 0
+EndsWell = (op : WriteOp) (before v : View) (end : WriteEnd) → op.step ≡ Ended end → Suits before op v
+    → EntersEnd op.task.call end before v × SuitsEnd op.task op.kept end v
+
 -- what an event that found a value answers
 abbrev pub answer_to : Want → ℕ → Ans
 answer_to (want.Load i) n = Value n
@@ -262,11 +268,12 @@ module _ (site : Site) (op : WriteOp) (words : Words) where
   abbrev pub next_view : View → View
   next_view v = view_after site.shape (kind_of op finds) finds v
 
-  -- A STEP keeps the view suited
+  -- after a step the view suits the change that its answer leaves
   pub record StepsWell (before v : View) : Type 0 where
     pub is_in : IsIn site next_op
     pub suits : Suits before next_op (next_view v)
 
+-- A STEP of a change that wants something keeps the view suited, beside any other callers, whatever word it finds
 abbrev pub KeepsSuits : Type 0
 KeepsSuits = (site : Site) (op : WriteOp) (words : Words) (views : List View) (j : ℕ) (before v : View) → Holds site words views → At views j v
     → IsIn site op → Suits before op v → wanted op ≢ want.Done → finds site op words < 2 ^ 64 → StepsWell site op words before v

@@ -13,7 +13,7 @@ ghost use Rattle.write_op.specs.Left.{IsAnswer, left};
 ghost use Rattle.write_op.specs.Inside.{IsInside, AsksInside};
 ghost use Rattle.write_op.specs.Stored.{TakesSlot, FreesSlot, SetsFinger};
 ghost use Rattle.write_op.specs.Slots.{with_finger};
-ghost use Rattle.write_op.specs.Suits.{BeginsSuited, MayStep, KeepsSuits};
+ghost use Rattle.write_op.specs.Suits.{BeginsSuited, MayStep, KeepsSuits, EndsWell};
 ghost use Rattle.write_op.specs.Wanted.{key_for};
 ghost use Rattle.image_layout.specs.Places.{IsShape};
 
@@ -58,9 +58,11 @@ pub fn words_are_inside()
 {}
 
 /// A change fits the world: one that has done nothing yet suits the view of a caller that holds, knows and owes nothing,
-/// a view that suits may take the step, and the step keeps the view suited.
+/// a view that suits may take the step, the step keeps the view suited, and at the end
+/// the caller has replied as the end says and holds and owes nothing.
 pub fn fits_the_world()
     ensures begins { BeginsSuited }
     ensures may { MayStep }
     ensures keeps { KeepsSuits }
+    ensures ends { EndsWell }
 {}
