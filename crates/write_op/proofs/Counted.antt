@@ -39,8 +39,13 @@ module _ (shape : Shape) (t : Task) (before : View) (k : Kept) (v : View) (some 
       → Goes t before (with_slot k o) (GiveBack Both (Replied r n)) (with_reply v (next_entry v t.call r n false))
   refused r n o plain = let b = both_slot t k v o both in record {
     enters = replied t.call r n before v plain same;
-    view = ((record { held = b.held; under = b.under; home = b.home; probing = b.probing; first = b.first },
-      record { dirty = quiet.dirty; flushed = quiet.flushed; planned = quiet.planned }), tt);
+    view = (
+      (
+        record { held = b.held; under = b.under; home = b.home; probing = b.probing; first = b.first },
+        record { dirty = quiet.dirty; flushed = quiet.flushed; planned = quiet.planned },
+      ),
+      tt,
+    );
     callers = some;
   }
 
@@ -81,11 +86,15 @@ module _ (shape : Shape) (t : Task) (before : View) (k : Kept) (v : View) (some 
   no_slot : slot_with k.words (key_for t.call) 0 14 ≡ None → slot_free k.words 0 14 ≡ None → Goes t before k (Ended NoSlot) with_room
   no_slot e f = record {
     enters = record { own = same.own; seen = same.seen };
-    view = (record { held = both.held; under = both.under; home = both.home; probing = both.probing; first = both.first },
-      record { dirty = quiet.dirty; flushed = quiet.flushed; planned = quiet.planned }, knows, e, f);
+    view = (
+      record { held = both.held; under = both.under; home = both.home; probing = both.probing; first = both.first },
+      record { dirty = quiet.dirty; flushed = quiet.flushed; planned = quiet.planned },
+      knows,
+      e,
+      f,
+    );
     callers = some;
   }
-
 
 module _ (shape : Shape) (here : Site) (hash : ℕ) (before : View) (k : Kept) (v : View) (some : 0 < v.callers) (same : HasNotReplied before v) (quiet : IsQuiet v) (n : ℕ) where
   abbrev task_of : Call → Task

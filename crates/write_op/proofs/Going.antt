@@ -86,13 +86,16 @@ module _ (t : Task) (before : View) (k : Kept) (v : View) (some : 0 < v.callers)
       → Goes t before (kept_after t k (TryLock Probing) (cond b Won (Lost n))) (step_after t k (TryLock Probing) (cond b Won (Lost n))) (with_lock b (lock_word t k Probing) (free_of k Probing) v)
   try_probing n true free suits = let only = suits.0 in record {
     enters = record { own = same.own; seen = same.seen };
-    view = (record {
-      held = ap (λ l. (lock_word t k Probing, free_of k Probing + 1) ∷ l) only.held;
-      under = λ p h. absurd (nothing_is v.known only.known p h);
-      home = suits.2;
-      probing = free.1;
-      first = suits.1;
-    }, record { dirty = only.dirty; flushed = only.flushed; planned = only.planned });
+    view = (
+      record {
+        held = ap (λ l. (lock_word t k Probing, free_of k Probing + 1) ∷ l) only.held;
+        under = λ p h. absurd (nothing_is v.known only.known p h);
+        home = suits.2;
+        probing = free.1;
+        first = suits.1;
+      },
+      record { dirty = only.dirty; flushed = only.flushed; planned = only.planned },
+    );
     callers = some;
   }
   try_probing n false free suits = loss_goes Probing (lock_word t k Probing) (free_of k Probing) n suits

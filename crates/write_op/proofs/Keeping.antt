@@ -18,7 +18,7 @@ use Rattle.map_model.specs.Legal.{IsChange}
 use Rattle.world.specs.Site.{Site, IsSite}
 use Rattle.world.specs.Views.{View}
 use Rattle.world.specs.Wants.{word_of}
-use Rattle.world.specs.Kinds.{next_entry, with_reply, view_after}
+use Rattle.world.specs.Kinds.{next_entry, with_reply, wanted as wanted_by, view_after}
 use Rattle.world.specs.Invariant.{Holds}
 use Rattle.write_op.specs.declared.control.Side.{Side}
 use Rattle.write_op.specs.declared.control.Side.TheVariants.{Home, Probing}
@@ -35,6 +35,7 @@ use Rattle.write_op.specs.Wanted.{key_for, published_word, published_value, want
 use Rattle.write_op.specs.Taken.{seen_at, chosen, with_slot, kept_after, step_after}
 use Rattle.write_op.specs.Fits.{kind_at, StepFits, IsWord}
 use Rattle.write_op.specs.Suits.{HasNotReplied, Enters, HoldsOnly, IsMaking, SuitsLooking, SuitsStep, answer_to, KeepsSuits}
+use Rattle.write_op.proofs.Fitting.{wants_of_kinds}
 use Rattle.write_op.proofs.Chosen.{stays_inside}
 use Rattle.write_op.proofs.Locked.{task_in}
 use Rattle.write_op.proofs.Going.{Goes, either_goes, replied, end_goes, look_goes, try_home, try_probing, head_goes, again_goes, word_goes}
@@ -165,16 +166,18 @@ keeps_suits site op words views j before v h at is suits wants small =
     let k : Kept = op.kept in
     let s : Step = op.step in
     let P : Shape → ℕ → Type 0 = λ g m.
-        let t : Task = record { site = record { geometry = g; version = op.task.site.version; caller = op.task.site.caller }; call = op.task.call; hash = m } in
-        let n : ℕ = words (word_of g (wanted_of t k s)) in
-        SuitsStep t k s v → wanted_of t k s ≢ want.Done
-        → Goes t before (kept_after t k s (answer_to (wanted_of t k s) n)) (step_after t k s (answer_to (wanted_of t k s) n)) (view_after site.shape (kind_at t k s n) n v) in
+    let t : Task = record { site = record { geometry = g; version = op.task.site.version; caller = op.task.site.caller }; call = op.task.call; hash = m } in
+    let n : ℕ = words (word_of g (wanted_of t k s)) in
+    SuitsStep t k s v → wanted_of t k s ≢ want.Done
+    → Goes t before (kept_after t k s (answer_to (wanted_of t k s) n)) (step_after t k s (answer_to (wanted_of t k s) n)) (view_after site.shape (kind_at t k s n) n v) in
     let here : P site.shape (key_hash site.shape (key_for op.task.call)) = λ view d.
-        step_goes site op.task.site.version op.task.site.caller op.task.call is.change before k is.inside.slot is.whole (subst (λ m. m < 2 ^ 64) is.hash is.inside.hash) words views h v suits.callers
-        s _ refl is.inside.numbers suits.enters view d in
+    step_goes site op.task.site.version op.task.site.caller op.task.call is.change before k is.inside.slot is.whole (subst (λ m. m < 2 ^ 64) is.hash is.inside.hash) words views h v suits.callers
+    s _ refl is.inside.numbers suits.enters view d in
     let there : P site.shape op.task.hash = subst (λ m. P site.shape m) (sym is.hash) here in
     let goes = subst (λ g. P g op.task.hash) (sym is.shape) there suits.view wants in
+    let n : ℕ = words (word_of op.task.site.geometry (wanted_of op.task k s)) in
     record {
+      wants = wants_of_kinds op n is.inside.numbers wants ∙ ap (λ g. wanted_by g (kind_at op.task k s n)) is.shape;
       is_in = record {
         shape = is.shape;
         hash = is.hash;

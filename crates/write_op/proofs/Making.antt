@@ -85,14 +85,20 @@ module _ (site : Site) (good : IsSite site) (version caller : ℕ) (call : Call)
       let w : View = record v { held = without lock v.held; known = not_under lock v.known } in
       record {
         enters = enters_moved call end before v w refl refl enters;
-        view = ((record {
-          held = ap (without lock) b.held
-              ∙ without_second (lock_word t k Probing) (free_of k Probing + 1) lock (free_of k Home + 1) (locks_apart site good version caller call k b.first);
-          known = not_under_none lock v.known b.under;
-          dirty = q.dirty;
-          flushed = q.flushed;
-          planned = q.planned;
-        }, b.probing), gives);
+        view = (
+          (
+            record {
+              held = ap (without lock) b.held
+                  ∙ without_second (lock_word t k Probing) (free_of k Probing + 1) lock (free_of k Home + 1) (locks_apart site good version caller call k b.first);
+              known = not_under_none lock v.known b.under;
+              dirty = q.dirty;
+              flushed = q.flushed;
+              planned = q.planned;
+            },
+            b.probing,
+          ),
+          gives,
+        );
         callers = some;
       }
 
@@ -159,8 +165,11 @@ module _ (site : Site) (good : IsSite site) (version caller : ℕ) (call : Call)
       view = record {
         both = store_both (finger_place s) n new_finger v.planned (omega (arith, n0)) (omega (arith, n1)) m.both;
         chosen = m.chosen;
-        knows = (m.knows.0, stored_known lock (finger_place s) new_finger (with_value t k) v.known
-            (length-set (with_key t k) value_at (value_for call) ∙ (length-set k.words key_at (key_for call) ∙ whole)) (omega (arith, n1)) m.knows.1);
+        knows = (
+          m.knows.0,
+          stored_known lock (finger_place s) new_finger (with_value t k) v.known
+              (length-set (with_key t k) value_at (value_for call) ∙ (length-set k.words key_at (key_for call) ∙ whole)) (omega (arith, n1)) m.knows.1,
+        );
         room = m.room;
         dirty = λ p h. elim (loosened_has site.shape (home_word t k (finger_place s)) n new_finger v.dirty p h) [ inl e ↦ inr (ap (λ (z : ℕ × ℕ). z.0) e) | inr r ↦ inl (m.dirty p r) ];
         flushed = m.flushed;
@@ -319,10 +328,16 @@ module _ (site : Site) (good : IsSite site) (version caller : ℕ) (call : Call)
         own = ap (λ o. o ++ record { serial = suc (length o); call = call; reply = reply.Done; place = n; drew = true } ∷ []) same.own;
         seen = refl;
       };
-      view = ((moved_both (view_after site.shape (made_kind t k DrawPlace) n v) refl refl m.both, record {
-        dirty = nothing_left v.dirty m.dirty;
-        flushed = nothing_left v.flushed m.flushed;
-        planned = ap (of_other_keys (key_of call)) m.planned ∙ drawn_only call;
-      }), tt);
+      view = (
+        (
+          moved_both (view_after site.shape (made_kind t k DrawPlace) n v) refl refl m.both,
+          record {
+            dirty = nothing_left v.dirty m.dirty;
+            flushed = nothing_left v.flushed m.flushed;
+            planned = ap (of_other_keys (key_of call)) m.planned ∙ drawn_only call;
+          },
+        ),
+        tt,
+      );
       callers = some;
     }

@@ -42,10 +42,12 @@ module _ (site : Site) (good : IsSite site) (version caller : ℕ) (k : Kept) (s
         → (o : Option ℕ) → FindsKey k.words key 0 14 o → May site (count_inserting (Insert key value) o) v
     inserting_may key value both knows (Some s) f =
         let call : Call = Insert key value in
-        let word = words_from k.words (at site good version caller call k) key in
-        (refl, (may_tell site good v).refusal call reply.Exists word (knows_bucket site good version caller call k v both k.words knows settled)
-        (has_home_at site good version caller call k v both) (no_plan site v key quiet.planned)
-        (sym (ap (λ b. cond b reply.Exists reply.Done) (some_from k.words (at site good version caller call k) key s f.1 f.0))))
+        let word = words_from k.words (at site good version caller call k) key in (
+          refl,
+          (may_tell site good v).refusal call reply.Exists word (knows_bucket site good version caller call k v both k.words knows settled)
+              (has_home_at site good version caller call k v both) (no_plan site v key quiet.planned)
+              (sym (ap (λ b. cond b reply.Exists reply.Done) (some_from k.words (at site good version caller call k) key s f.1 f.0))),
+        )
     inserting_may key value both knows None f = (tt, some)
 
     changing_may : (call : Call) → IsChange call → (o : Option ℕ) → (o ≡ None → May site (refuses call reply.Absent) v) → May site (count_changing call o) v
@@ -56,19 +58,23 @@ module _ (site : Site) (good : IsSite site) (version caller : ℕ) (k : Kept) (s
         → FindsKey k.words key 0 14 None → May site (refuses (Update key value) reply.Absent) v
     absent_update key value both knows f =
         let call : Call = Update key value in
-        let word = words_from k.words (at site good version caller call k) key in
-        (refl, (may_tell site good v).refusal call reply.Absent word (knows_bucket site good version caller call k v both k.words knows settled)
-        (has_home_at site good version caller call k v both) (no_plan site v key quiet.planned)
-        (sym (ap (λ a. reply_by a call) (none_from k.words (at site good version caller call k) key f))))
+        let word = words_from k.words (at site good version caller call k) key in (
+          refl,
+          (may_tell site good v).refusal call reply.Absent word (knows_bucket site good version caller call k v both k.words knows settled)
+              (has_home_at site good version caller call k v both) (no_plan site v key quiet.planned)
+              (sym (ap (λ a. reply_by a call) (none_from k.words (at site good version caller call k) key f))),
+        )
 
     absent_remove : (key : ℕ) → HasBoth (task_in site version caller (Remove key)) k v → KnowsBelow (task_in site version caller (Remove key)) k k.words 32 v
         → FindsKey k.words key 0 14 None → May site (refuses (Remove key) reply.Absent) v
     absent_remove key both knows f =
         let call : Call = Remove key in
-        let word = words_from k.words (at site good version caller call k) key in
-        (refl, (may_tell site good v).refusal call reply.Absent word (knows_bucket site good version caller call k v both k.words knows settled)
-        (has_home_at site good version caller call k v both) (no_plan site v key quiet.planned)
-        (sym (ap (λ a. reply_by a call) (none_from k.words (at site good version caller call k) key f))))
+        let word = words_from k.words (at site good version caller call k) key in (
+          refl,
+          (may_tell site good v).refusal call reply.Absent word (knows_bucket site good version caller call k v both k.words knows settled)
+              (has_home_at site good version caller call k v both) (no_plan site v key quiet.planned)
+              (sym (ap (λ a. reply_by a call) (none_from k.words (at site good version caller call k) key f))),
+        )
 
     count_may : (call : Call) → IsChange call → HasBoth (task_in site version caller call) k v → KnowsBelow (task_in site version caller call) k k.words 32 v → May site (count_kind call k.words) v
     count_may (Get key) change both knows = absurd change
@@ -148,9 +154,9 @@ module _ (site : Site) (good : IsSite site) (version caller : ℕ) (k : Kept) (s
 pub may_step : MayStep
 may_step site op before v n good is suits =
     let P : Shape → ℕ → Type 0 = λ g h.
-        let t : Task = record { site = record { geometry = g; version = op.task.site.version; caller = op.task.site.caller }; call = op.task.call; hash = h } in
-        SuitsStep t op.kept op.step v → May site (kind_at t op.kept op.step n) v in
+    let t : Task = record { site = record { geometry = g; version = op.task.site.version; caller = op.task.site.caller }; call = op.task.call; hash = h } in
+    SuitsStep t op.kept op.step v → May site (kind_at t op.kept op.step n) v in
     let here : P site.shape (key_hash site.shape (key_for op.task.call)) =
-        step_may site good op.task.site.version op.task.site.caller op.kept is.inside.slot is.whole v suits.callers op.task.call is.change op.step n is.inside.numbers in
+    step_may site good op.task.site.version op.task.site.caller op.kept is.inside.slot is.whole v suits.callers op.task.call is.change op.step n is.inside.numbers in
     let there : P site.shape op.task.hash = subst (λ h. P site.shape h) (sym is.hash) here in
     subst (λ g. P g op.task.hash) (sym is.shape) there suits.view

@@ -70,10 +70,10 @@ module _ (site : Site) (good : IsSite site) (version caller : ℕ) (k : Kept) (s
         has_home_at site good version caller call k v m.both,
         no_plan site v key m.planned,
         subst (λ i. IsPublishing site v call i (inserted_mark (slice_index ws 1) s)) e
-        ((may_publish site good v).insert (bucket site good version caller call k) s key value (inserted_mark (slice_index ws 1) s) word
-        (knows_bucket site good version caller call k v m.both new m.knows (never_loose call m)) ready
-        (value_from new a key s ∙ value_stored site good version caller call k slots whole)
-        (subst (λ z. SameButSlot s z (inserted_mark (slice_index ws 1) s)) (sym meta) mark.others) mark.taken mark.at_home),
+            ((may_publish site good v).insert (bucket site good version caller call k) s key value (inserted_mark (slice_index ws 1) s) word
+            (knows_bucket site good version caller call k v m.both new m.knows (never_loose call m)) ready
+            (value_from new a key s ∙ value_stored site good version caller call k slots whole)
+            (subst (λ z. SameButSlot s z (inserted_mark (slice_index ws 1) s)) (sym meta) mark.others) mark.taken mark.at_home),
       )
 
   stands : (call : Call) (there : IsThere ws (key_for call) s)
@@ -98,8 +98,8 @@ module _ (site : Site) (good : IsSite site) (version caller : ℕ) (k : Kept) (s
         has_home_at site good version caller call k v m.both,
         no_plan site v key m.planned,
         subst (λ i. IsPublishing site v call i value) e
-        ((may_publish site good v).update (bucket site good version caller call k) s key value (words_from ws a key)
-        (knows_bucket site good version caller call k v m.both ws m.knows (never_loose call m)) (stands call m.chosen)),
+            ((may_publish site good v).update (bucket site good version caller call k) s key value (words_from ws a key)
+            (knows_bucket site good version caller call k v m.both ws m.knows (never_loose call m)) (stands call m.chosen)),
       )
 
   remove_may : (key : ℕ) → IsMaking (task_in site version caller (Remove key)) k Publish v → May site (made_kind (task_in site version caller (Remove key)) k Publish) v
@@ -115,9 +115,9 @@ module _ (site : Site) (good : IsSite site) (version caller : ℕ) (k : Kept) (s
         has_home_at site good version caller call k v m.both,
         no_plan site v key m.planned,
         subst (λ i. IsPublishing site v call i (removed_mark (slice_index ws 1) s)) e
-        ((may_publish site good v).remove (bucket site good version caller call k) s key (removed_mark (slice_index ws 1) s) word
-        (knows_bucket site good version caller call k v m.both ws m.knows (never_loose call m)) (stands call m.chosen)
-        (subst (λ z. SameButSlot s z (removed_mark (slice_index ws 1) s)) (sym (meta_from ws a key)) mark.others) mark.is_free),
+            ((may_publish site good v).remove (bucket site good version caller call k) s key (removed_mark (slice_index ws 1) s) word
+            (knows_bucket site good version caller call k v m.both ws m.knows (never_loose call m)) (stands call m.chosen)
+            (subst (λ z. SameButSlot s z (removed_mark (slice_index ws 1) s)) (sym (meta_from ws a key)) mark.others) mark.is_free),
       )
 
   pub publish_may : (call : Call) → IsChange call → IsMaking (task_in site version caller call) k Publish v → May site (made_kind (task_in site version caller call) k Publish) v

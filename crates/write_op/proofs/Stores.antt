@@ -93,11 +93,11 @@ module _ (site : Site) (good : IsSite site) (version caller : ℕ) (call : Call)
   finger_stored = elim (cases_lt s 8) [
     | inl low ↦ (let p = place_low s low in
         let w : slice_index (with_fingers t k) 2 ≡ with_finger (slice_index ws 2) s (finger_of t.hash) =
-            subst (λ n. slice_index (with_fingers t k) n ≡ with_finger (slice_index ws n) s (finger_of t.hash)) p finger_word in
+        subst (λ n. slice_index (with_fingers t k) n ≡ with_finger (slice_index ws n) s (finger_of t.hash)) p finger_word in
         ap (λ z. finger s z (slice_index (with_fingers t k) 3)) w ∙ (sets_low (slice_index ws 2) (slice_index (with_fingers t k) 3) s (finger_of t.hash) low (omega arith)).here)
     | inr high ↦ (let p = place_high s high in
         let w : slice_index (with_fingers t k) 3 ≡ with_finger (slice_index ws 3) s (finger_of t.hash) =
-            subst (λ n. slice_index (with_fingers t k) n ≡ with_finger (slice_index ws n) s (finger_of t.hash)) p finger_word in
+        subst (λ n. slice_index (with_fingers t k) n ≡ with_finger (slice_index ws n) s (finger_of t.hash)) p finger_word in
         ap (λ z. finger s (slice_index (with_fingers t k) 2) z) w
         ∙ (sets_high (slice_index (with_fingers t k) 2) (slice_index ws 3) s (finger_of t.hash) high slots (omega arith)).here)
   ]
@@ -120,14 +120,14 @@ module _ (site : Site) (good : IsSite site) (version caller : ℕ) (call : Call)
     of_record_far : (i : ℕ) → IsOfRecord t k i → home_word t k 4 ≤ i
     of_record_far i h = elim h [ inl e ↦ omega (arith, e) | inr e ↦ omega (arith, e) ]
 
-    pub key_may : IsMaking t k StoreKey v → May site (made_kind t k StoreKey)  v
+    pub key_may : IsMaking t k StoreKey v → May site (made_kind t k StoreKey) v
     key_may m =
         let l = lock_at site good version caller call k v m.both in
         let e : at site good version caller call k + 4 + 2 * s ≡ home_word t k (4 + 2 * s) = omega (arith, l) in
         let meta = known_at StoreKey m ws m.knows.1 1 (omega arith) (omega arith) refl (far_loose StoreKey m (λ p h. absurd (m.dirty p h)) m.flushed) in (
           guarded site good version caller call k v m.both (4 + 2 * s) (omega arith) (omega (arith, slots)),
           subst (λ i. IsHarmless site v i (key_for call)) e
-          ((may_prepare site good v).key (bucket site good version caller call k) s (slice_index ws 1) (key_for call) slots meta (free_chosen call ws s m.knows.0 m.chosen)),
+              ((may_prepare site good v).key (bucket site good version caller call k) s (slice_index ws 1) (key_for call) slots meta (free_chosen call ws s m.knows.0 m.chosen)),
         )
 
     pub value_may : IsMaking t k StoreValue v → May site (made_kind t k StoreValue) v
@@ -135,10 +135,10 @@ module _ (site : Site) (good : IsSite site) (version caller : ℕ) (call : Call)
         let l = lock_at site good version caller call k v m.both in
         let e : at site good version caller call k + 5 + 2 * s ≡ home_word t k (5 + 2 * s) = omega (arith, l) in
         let meta = known_at StoreValue m (with_key t k) m.knows.1 1 (omega arith) (omega arith) (key_same 1 (λ e. omega (arith, e)))
-            (far_loose StoreValue m (λ p h. of_record_far p.0 (m.dirty p h)) m.flushed) in (
+        (far_loose StoreValue m (λ p h. of_record_far p.0 (m.dirty p h)) m.flushed) in (
           guarded site good version caller call k v m.both (5 + 2 * s) (omega arith) (omega (arith, slots)),
           subst (λ i. IsHarmless site v i (value_for call)) e
-          ((may_prepare site good v).value (bucket site good version caller call k) s (slice_index ws 1) (value_for call) slots meta (free_chosen call ws s m.knows.0 m.chosen)),
+              ((may_prepare site good v).value (bucket site good version caller call k) s (slice_index ws 1) (value_for call) slots meta (free_chosen call ws s m.knows.0 m.chosen)),
         )
 
     pub fingers_may : IsMaking t k StoreFinger v → May site (made_kind t k StoreFinger) v
@@ -150,12 +150,11 @@ module _ (site : Site) (good : IsSite site) (version caller : ℕ) (call : Call)
         let is_free = free_chosen call ws s m.knows.0 m.chosen in
         let f : ℕ = finger_of t.hash in
         let known : (n : ℕ) → 1 ≤ n → n < 4 → KnowsWord v (at site good version caller call k + n) (slice_index ws n) =
-            λ n from low. known_at StoreFinger m (with_value t k) m.knows.1 n from low (value_same n (λ e. omega (arith, e, low)) (λ e. omega (arith, e, low)))
-            (far_loose StoreFinger m (λ p h. of_record_far p.0 (m.dirty p h)) m.flushed) in
+        λ n from low. known_at StoreFinger m (with_value t k) m.knows.1 n from low (value_same n (λ e. omega (arith, e, low)) (λ e. omega (arith, e, low)))
+        (far_loose StoreFinger m (λ p h. of_record_far p.0 (m.dirty p h)) m.flushed) in
         let apart : (u : ℕ) → allocated u (slice_index ws 1) ≡ 1 → u ≢ s = λ u one e. (let z : allocated u (slice_index ws 1) ≡ 0 = ap (λ r. allocated r (slice_index ws 1)) e ∙ is_free in omega (arith, one, z)) in
         let b = bucket site good version caller call k in
-        let Goal : ℕ → Type 0 = λ n. IsHarmless site v (home_word t k n) (with_finger (slice_index ws n) s f) in
-        (
+        let Goal : ℕ → Type 0 = λ n. IsHarmless site v (home_word t k n) (with_finger (slice_index ws n) s f) in (
           guarded site good version caller call k v m.both (finger_place s) (omega (arith, n0)) (omega (arith, n1)),
           elim (cases_lt s 8) [
             | inl low ↦ subst Goal (sym (place_low s low)) (let e : at site good version caller call k + 2 ≡ home_word t k 2 = omega (arith, l) in

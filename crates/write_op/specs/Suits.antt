@@ -17,7 +17,7 @@ use Rattle.world.specs.declared.site.Site.{Site as Here}
 use Rattle.world.specs.Site.{Site, IsSite, IsUnder}
 use Rattle.world.specs.Views.{View, Has, At}
 use Rattle.world.specs.Wants.{word_of}
-use Rattle.world.specs.Kinds.{next_entry, view_after, May}
+use Rattle.world.specs.Kinds.{next_entry, wanted as wanted_by, view_after, May}
 use Rattle.world.specs.Invariant.{Holds}
 use Rattle.write_op.specs.declared.control.Side.{Side}
 use Rattle.write_op.specs.declared.control.Side.TheVariants.{Home, Probing}
@@ -268,8 +268,9 @@ module _ (site : Site) (op : WriteOp) (words : Words) where
   abbrev pub next_view : View → View
   next_view v = view_after site.shape (kind_of op finds) finds v
 
-  -- after a step the view suits the change that its answer leaves
+  -- the event is that of its kind in this image, and after it the view suits the change that its answer leaves
   pub record StepsWell (before v : View) : Type 0 where
+    pub wants : wanted op ≡ wanted_by site.shape (kind_of op finds)
     pub is_in : IsIn site next_op
     pub suits : Suits before next_op (next_view v)
 

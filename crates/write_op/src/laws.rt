@@ -58,8 +58,8 @@ pub fn words_are_inside()
 {}
 
 /// A change fits the world: one that has done nothing yet suits the view of a caller that holds, knows and owes nothing,
-/// a view that suits may take the step, the step keeps the view suited, and at the end
-/// the caller has replied as the end says and holds and owes nothing.
+/// a view that suits may take the step, the step keeps the view suited, and at the end the caller has replied as the end
+/// says, and holds and owes nothing where no locks are kept.
 pub fn fits_the_world()
     ensures begins { BeginsSuited }
     ensures may { MayStep }
