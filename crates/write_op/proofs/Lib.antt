@@ -5,3 +5,16 @@ mod Marks
 mod Fitting
 mod Insides
 mod Chosen
+mod Hashes
+mod Fingers
+mod Beginning
+mod Searching
+mod Locked
+mod Stores
+mod Publishing
+mod Mays
+mod Leavings
+mod Going
+mod Counted
+mod Making
+mod Keeping

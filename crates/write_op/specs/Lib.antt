@@ -6,3 +6,4 @@ pub mod Left
 pub mod Stored
 pub mod Fits
 pub mod Inside
+pub mod Suits

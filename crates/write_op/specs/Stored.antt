@@ -1,6 +1,6 @@
 -- What the words that a change stores say of the slots of their bucket.
-use Rattle.std.specs.Prelude.{◌≡◌, ℕ}
-use Rattle.bucket_meta.specs.Bucket.{allocated, member}
+use Rattle.std.specs.Prelude.{◌≡◌, ◌≢◌, ℕ, ◌<◌}
+use Rattle.bucket_meta.specs.Bucket.{allocated, member, finger}
 use Rattle.bucket_words.specs.Changes.{SameButSlot}
 use Rattle.write_op.specs.Slots.{inserted_mark, removed_mark}
 
@@ -15,3 +15,8 @@ pub record FreesSlot (w1 slot : ℕ) : Type 0 where
   pub is_free : allocated slot (removed_mark w1 slot) ≡ 0
   pub no_member : member slot (removed_mark w1 slot) ≡ 0
   pub others : SameButSlot slot w1 (removed_mark w1 slot)
+
+-- words of fingerprints x2 and x3 have the slot's fingerprint, and those of the others as words w2 and w3
+pub record SetsFinger (w2 w3 x2 x3 slot f : ℕ) : Type 0 where
+  pub here : finger slot x2 x3 ≡ f
+  pub others : (t : ℕ) → t < 14 → t ≢ slot → finger t x2 x3 ≡ finger t w2 w3

@@ -1,6 +1,6 @@
 //! Laws of the machine. The functions do nothing: each stands for the law that its contract says.
 
-ghost use Rattle.std.specs.Prelude.{◌≡◌, ℕ, ◌<◌, ◌≤◌};
+ghost use Rattle.std.specs.Prelude.{◌≡◌, ℕ, ◌<◌, ◌≤◌, ◌^◌};
 ghost use Rattle.op_core.specs.declared.want.Want.TheVariants.{Done};
 ghost use Rattle.world.specs.Kinds.{wanted as wanted_by};
 ghost use Rattle.write_op.specs.Fits.{Fits, IsWord, kind_of};
@@ -11,7 +11,11 @@ ghost use Rattle.write_op.specs.declared.machine.WriteOp.{WriteOp};
 ghost use Rattle.write_op.specs.Taken.{begun, wanted, taken};
 ghost use Rattle.write_op.specs.Left.{IsAnswer, left};
 ghost use Rattle.write_op.specs.Inside.{IsInside, AsksInside};
-ghost use Rattle.write_op.specs.Stored.{TakesSlot, FreesSlot};
+ghost use Rattle.write_op.specs.Stored.{TakesSlot, FreesSlot, SetsFinger};
+ghost use Rattle.write_op.specs.Slots.{with_finger};
+ghost use Rattle.write_op.specs.Suits.{BeginsSuited, MayStep, KeepsSuits, EndsWell};
+ghost use Rattle.write_op.specs.Wanted.{key_for};
+ghost use Rattle.image_layout.specs.Places.{IsShape};
 
 /// An attempt ends: each answer of the kind that was asked for leaves fewer events, of at most 55 at its beginning.
 pub fn attempt_ends()
@@ -25,6 +29,12 @@ pub fn attempt_ends()
 pub fn marks_change_one_slot()
     ensures inserted { (w1 slot : ℕ) → slot < 14 → TakesSlot w1 slot }
     ensures removed { (w1 slot : ℕ) → slot < 14 → FreesSlot w1 slot }
+{}
+
+/// The word of fingerprints that an insert stores has its slot's fingerprint, and those of the other slots as they were.
+pub fn fingers_change_one_slot()
+    ensures low { (w2 w3 slot f : ℕ) → slot < 8 → f < 256 → SetsFinger w2 w3 (with_finger w2 slot f) w3 slot f }
+    ensures high { (w2 w3 slot f : ℕ) → 8 ≤ slot → slot < 14 → f < 256 → SetsFinger w2 w3 w2 (with_finger w3 slot f) slot f }
 {}
 
 /// Each event that a change wants is the event of its kind in the world of many callers.
@@ -42,6 +52,17 @@ pub fn numbers_stay_in_range()
 /// The word that a change asks for is one of the image, or one of the volatile ones behind it, where its numbers are in
 /// range, and whatever words the answers bring, they stay so.
 pub fn words_are_inside()
+    ensures begins { (call : Call) (site : Site) → IsShape site.geometry → key_for call < 2 ^ 64 → IsInside (begun call site) }
     ensures asks { (op : WriteOp) → IsInside op → AsksInside op }
     ensures keeps { (op : WriteOp) (ans : Ans) → IsWord ans → IsInside op → IsInside (taken op ans) }
+{}
+
+/// A change fits the world: one that has done nothing yet suits the view of a caller that holds, knows and owes nothing,
+/// a view that suits may take the step, the step keeps the view suited, and at the end the caller has replied as the end
+/// says, and holds and owes nothing where no locks are kept.
+pub fn fits_the_world()
+    ensures begins { BeginsSuited }
+    ensures may { MayStep }
+    ensures keeps { KeepsSuits }
+    ensures ends { EndsWell }
 {}

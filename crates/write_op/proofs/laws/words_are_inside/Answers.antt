@@ -1,6 +1,7 @@
 -- By the control points.
 use Rattle.write_op.proofs.Insides.{asks_inside}
 use Rattle.write_op.proofs.Chosen.{stays_inside}
+use Rattle.write_op.proofs.Hashes.{begins_inside}
 use Rattle.write_op.proofs.laws.words_are_inside.Goals as goal
 
 pub returns-clause-asks : goal.returns-clause-asks
@@ -8,3 +9,6 @@ returns-clause-asks c = asks_inside
 
 pub returns-clause-keeps : goal.returns-clause-keeps
 returns-clause-keeps c = stays_inside
+
+pub returns-clause-begins : goal.returns-clause-begins
+returns-clause-begins c = begins_inside

@@ -1,0 +1,17 @@
+-- By the control points.
+use Rattle.write_op.proofs.Beginning.{begins_suited, ends_well}
+use Rattle.write_op.proofs.Mays.{may_step}
+use Rattle.write_op.proofs.Keeping.{keeps_suits}
+use Rattle.write_op.proofs.laws.fits_the_world.Goals as goal
+
+pub returns-clause-begins : goal.returns-clause-begins
+returns-clause-begins c = begins_suited
+
+pub returns-clause-may : goal.returns-clause-may
+returns-clause-may c = may_step
+
+pub returns-clause-keeps : goal.returns-clause-keeps
+returns-clause-keeps c = keeps_suits
+
+pub returns-clause-ends : goal.returns-clause-ends
+returns-clause-ends c = ends_well
