@@ -2,23 +2,9 @@
 use Rattle.std.specs.Prelude.{ℕ, zero, suc, ◌∷◌}
 use Rattle.trace.specs.Events.{Words, Trace}
 use Rattle.op_core.specs.declared.want.Want.{Want}
-use Rattle.op_core.specs.declared.want.Want.TheVariants as want
 use Rattle.op_core.specs.declared.want.Ans.{Ans}
-use Rattle.op_core.specs.declared.want.Ans.TheVariants.{Value, Won, Lost, Drawn, Passed}
-use Rattle.std.specs.Prelude.{◌==◌, if◌then◌else◌}
 use Rattle.image_layout.specs.Places.{Shape}
-use Rattle.world.specs.Wants.{word_of, event_of, words_after}
-
--- what an event that found a value answers
-abbrev pub answer_to : Want → ℕ → Ans
-answer_to (want.Load i) n = Value n
-answer_to (want.Store i x) n = Passed
-answer_to (want.Exchange i a b) n = if n == a then Won else Lost n
-answer_to (want.Flush l) n = Passed
-answer_to want.Fence n = Passed
-answer_to want.Draw n = Drawn n
-answer_to want.Power n = Value n
-answer_to want.Done n = Passed
+use Rattle.world.specs.Wants.{answer_to, word_of, event_of, words_after}
 
 module _ {M : Type 0} (wanted : M → Want) (taken : M → Ans → M) (shape : Shape) where
   pub record Course : Type 0 where
