@@ -1,0 +1,97 @@
+-- The engine of one caller: the machine of its call, one event after another.
+use Rattle.std.specs.Prelude.{ℕ, Option, None, Some}
+use Rattle.op_core.specs.declared.want.Want.{Want}
+use Rattle.op_core.specs.declared.want.Ans.{Ans}
+use Rattle.map_model.specs.declared.call.Call.{Call}
+use Rattle.map_model.specs.declared.call.Call.TheVariants.{Get, Insert, Update, Remove}
+use Rattle.map_model.specs.declared.entry.Reply.{Reply}
+use Rattle.map_model.specs.declared.entry.Reply.TheVariants as reply
+use Rattle.world.specs.declared.site.Site.{Site}
+use Rattle.world.specs.Kinds.{Kind}
+use Rattle.read_op.specs.declared.step.ReadEnd.{ReadEnd}
+use Rattle.read_op.specs.declared.step.ReadEnd.TheVariants as read_end
+use Rattle.read_op.specs.declared.step.ReadStep.{ReadStep}
+use Rattle.read_op.specs.declared.step.ReadStep.TheVariants as read_step
+use Rattle.read_op.specs.Steps.{begun as read_begun, wanted as read_wanted, taken as read_taken}
+use Rattle.read_op.specs.Fits.{kind_of as read_kind}
+use Rattle.write_op.specs.declared.control.WriteEnd.{WriteEnd}
+use Rattle.write_op.specs.declared.control.WriteEnd.TheVariants as write_end
+use Rattle.write_op.specs.declared.control.Step.{Step}
+use Rattle.write_op.specs.declared.control.Step.TheVariants as write_step
+use Rattle.write_op.specs.declared.machine.WriteOp.{WriteOp}
+use Rattle.write_op.specs.Taken.{begun as write_begun, wanted as write_wanted, taken as write_taken, refused, end_of as write_end_of}
+use Rattle.write_op.specs.Fits.{kind_of as write_kind}
+use Rattle.engine.specs.declared.engine.Op.{Op}
+use Rattle.engine.specs.declared.engine.Op.TheVariants.{Read, Write}
+use Rattle.engine.specs.declared.engine.End.{End}
+use Rattle.engine.specs.declared.engine.End.TheVariants as ends
+use Rattle.engine.specs.declared.engine.Engine.{Engine}
+
+-- the machine of a call
+abbrev pub op_of : Site → Call → Op
+op_of site (Get k) = Read (read_begun k site)
+op_of site (Insert k v) = Write (write_begun (Insert k v) site)
+op_of site (Update k v) = Write (write_begun (Update k v) site)
+op_of site (Remove k) = Write (write_begun (Remove k) site)
+
+-- the engine of a call that has done nothing yet
+abbrev pub begun : Site → Call → Engine
+begun site call = record { op = op_of site call }
+
+-- an insert that found no slot is refused: the next part goes on
+abbrev pub go_on_at : WriteOp → Step → WriteOp
+go_on_at op (write_step.Ended write_end.NoSlot) = refused op
+go_on_at op step = op
+
+abbrev pub go_on : WriteOp → WriteOp
+go_on op = go_on_at op op.step
+
+-- the event that it wants
+abbrev pub wanted_by_op : Op → Want
+wanted_by_op (Read op) = read_wanted op
+wanted_by_op (Write op) = write_wanted op
+
+abbrev pub wanted : Engine → Want
+wanted e = wanted_by_op e.op
+
+-- what an answer makes of it
+abbrev pub taken_by_op : Op → Ans → Op
+taken_by_op (Read op) ans = Read (read_taken op ans)
+taken_by_op (Write op) ans = Write (go_on (write_taken op ans))
+
+abbrev pub taken : Engine → Ans → Engine
+taken e ans = record { op = taken_by_op e.op ans }
+
+-- its end, where it wants nothing more; else that of a power that is off
+abbrev pub read_end_at : ReadStep → ReadEnd
+read_end_at (read_step.Ended end) = end
+read_end_at step = read_end.Off
+
+abbrev pub end_of_op : Op → End
+end_of_op (Read op) = ends.Read (read_end_at op.step)
+end_of_op (Write op) = ends.Write (write_end_of op)
+
+abbrev pub end_of : Engine → End
+end_of e = end_of_op e.op
+
+-- the reply of an end, with its place
+abbrev pub read_reply : ReadEnd → Option (Reply × ℕ)
+read_reply (read_end.Found v place) = Some (reply.Found v, place)
+read_reply (read_end.Absent place) = Some (reply.Absent, place)
+read_reply end = None
+
+abbrev pub write_reply : WriteEnd → Option (Reply × ℕ)
+write_reply (write_end.Replied r place) = Some (r, place)
+write_reply end = None
+
+abbrev pub reply_of_end : End → Option (Reply × ℕ)
+reply_of_end (ends.Read end) = read_reply end
+reply_of_end (ends.Write end) = write_reply end
+
+-- the kind of its next event in the world of many callers, by the value that the event finds
+abbrev pub kind_of_op : Op → ℕ → Kind
+kind_of_op (Read op) n = read_kind op
+kind_of_op (Write op) n = write_kind op n
+
+abbrev pub kind_of : Engine → ℕ → Kind
+kind_of e n = kind_of_op e.op n
