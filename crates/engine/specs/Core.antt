@@ -1,5 +1,5 @@
 -- The core: a memory, and callers that run their calls on it, an event at a turn.
-use Rattle.std.specs.Prelude.{ℕ, suc, ◌-◌, Bool, true, false, Option, None, Some, List, [], ◌∷◌, ◌++◌, length, map, slice_get, slice_set}
+use Rattle.std.specs.Prelude.{ℕ, zero, suc, Bool, true, false, Option, None, Some, List, [], ◌∷◌, ◌++◌, length, map, slice_get, slice_set}
 use Rattle.op_core.specs.declared.want.Want.{Want}
 use Rattle.op_core.specs.declared.want.Want.TheVariants as want
 use Rattle.op_core.specs.declared.want.Ans.{Ans}
@@ -95,29 +95,30 @@ pub record Core : Type 0 where
   pub callers : List Caller
 
 module _ (shape : Shape) where
-  -- the event that an engine wants, done by caller c
+  -- the event that an engine wants, done by the caller at place j, which is caller j + 1
   abbrev pub with_event : ℕ → Core → Caller → Call → Engine → Core
-  with_event c core caller call e =
+  with_event j core caller call e =
       let found : ℕ = core.words (word_of shape (wanted e)) in
       record {
-        words = words_after shape (wanted e) c core.words;
-        trace = event_of shape (wanted e) found c ∷ core.trace;
-        callers = slice_set core.callers (c - 1) (answered caller call e (answer_to (wanted e) found));
+        words = words_after shape (wanted e) (suc j) core.words;
+        trace = event_of shape (wanted e) found (suc j) ∷ core.trace;
+        callers = slice_set core.callers j (answered caller call e (answer_to (wanted e) found));
       }
 
-  -- a turn of a caller that has a call; else nothing comes of it
-  abbrev pub turn_by : ℕ → Core → Option Caller → Core
-  turn_by c core None = core
-  turn_by c core (Some caller) = turn_in c core caller (current caller) caller.engine
-    where
-      abbrev pub turn_in : ℕ → Core → Caller → Option Call → Option Engine → Core
-      turn_in c core caller (Some call) (Some e) = with_event c core caller call e
-      turn_in c core caller (Some call) None = core
-      turn_in c core caller None e = core
+  -- a turn of a caller that has a call left; else nothing comes of it
+  abbrev pub turn_of_call : ℕ → Core → Caller → Option Call → Option Engine → Core
+  turn_of_call j core caller None engine = core
+  turn_of_call j core caller (Some call) None = core
+  turn_of_call j core caller (Some call) (Some e) = with_event j core caller call e
 
-  -- A TURN of caller c
+  abbrev pub turn_of_caller : ℕ → Core → Option Caller → Core
+  turn_of_caller j core None = core
+  turn_of_caller j core (Some caller) = turn_of_call j core caller (current caller) caller.engine
+
+  -- A TURN of a caller; of caller 0, who has no calls, nothing comes
   abbrev pub turn : ℕ → Core → Core
-  turn c core = turn_by c core (slice_get core.callers (c - 1))
+  turn zero core = core
+  turn (suc j) core = turn_of_caller j core (slice_get core.callers j)
 
   -- turns, one after another
   abbrev pub run : List ℕ → Core → Core

@@ -26,3 +26,22 @@ pub record MediaAreGood (shape : Shape) (start : Words) (opening : Map) (core : 
 pub record IsGood (shape : Shape) (start : Words) (opening : Map) (core : Core) : Type 0 where
   pub legal : IsLegal opening (histories core)
   pub media : MediaAreGood shape start opening core
+
+-- the core after a restart of an image: the callers have these calls, and none has done anything
+abbrev pub callers_from : Shape → ℕ → ℕ → List (List Call) → List Caller
+callers_from shape version number [] = []
+callers_from shape version number (calls ∷ scripts) =
+    fresh (record { geometry = shape; version = version; caller = number }) calls ∷ callers_from shape version (suc number) scripts
+
+abbrev pub opened : Shape → List ℕ → List (List Call) → Core
+opened shape words scripts =
+    let c : Course = restarted shape words in
+    record { words = c.words; trace = c.trace; callers = callers_from shape (c.words state_word) 1 scripts }
+
+-- THE LAW OF ALL TURNS: from every sound image that the program plays, whatever calls up to 64 callers have, and whatever
+-- turns they take, the core is good
+abbrev pub TurnsKeep : Type 0
+TurnsKeep = (shape : Shape) (words : List ℕ) → IsSoundImage shape words → PassesRule8 shape (slice_index words)
+    → (opening : Map) → HasPairsOf shape (slice_index words) opening
+    → (scripts : List (List Call)) → length scripts ≤ 64 → AllByRecursion (AllByRecursion IsWordCall) scripts
+    → (turns : List ℕ) → IsGood shape (slice_index words) opening (run shape turns (opened shape words scripts))
