@@ -17,7 +17,7 @@ use Rattle.map_model.specs.declared.entry.Reply.TheVariants as reply
 use Rattle.map_model.specs.Legal.{IsChange}
 use Rattle.world.specs.Site.{Site, IsSite}
 use Rattle.world.specs.Views.{View}
-use Rattle.world.specs.Wants.{word_of}
+use Rattle.world.specs.Wants.{answer_to, word_of}
 use Rattle.world.specs.Kinds.{next_entry, with_reply, wanted as wanted_by, view_after}
 use Rattle.world.specs.Invariant.{Holds}
 use Rattle.write_op.specs.declared.control.Side.{Side}
@@ -34,7 +34,7 @@ use Rattle.write_op.specs.Ways.{entry_word, head_word, lock_word, sight_of}
 use Rattle.write_op.specs.Wanted.{key_for, published_word, published_value, wanted_of}
 use Rattle.write_op.specs.Taken.{seen_at, chosen, with_slot, kept_after, step_after}
 use Rattle.write_op.specs.Fits.{kind_at, StepFits, IsWord}
-use Rattle.write_op.specs.Suits.{HasNotReplied, Enters, HoldsOnly, IsMaking, SuitsLooking, SuitsStep, answer_to, KeepsSuits}
+use Rattle.write_op.specs.Suits.{HasNotReplied, Enters, HoldsOnly, IsMaking, SuitsLooking, SuitsStep, KeepsSuits}
 use Rattle.write_op.proofs.Fitting.{wants_of_kinds}
 use Rattle.write_op.proofs.Chosen.{stays_inside}
 use Rattle.write_op.proofs.Locked.{task_in}

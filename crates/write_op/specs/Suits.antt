@@ -1,9 +1,6 @@
 -- How a caller's view stands at each control point of a change: what it holds, knows and owes, and what it has replied.
-use Rattle.std.specs.Prelude.{◌≡◌, ◌≢◌, ℕ, ◌+◌, ◌*◌, ◌^◌, ◌<◌, ◌≤◌, ◌==◌, if◌then◌else◌, ⊤, None, List, [], ◌∷◌, ◌++◌, ◌⊎◌, length, slice_index, slice_set}
-use Rattle.op_core.specs.declared.want.Want.{Want}
+use Rattle.std.specs.Prelude.{◌≡◌, ◌≢◌, ℕ, ◌+◌, ◌*◌, ◌^◌, ◌<◌, ◌≤◌, ⊤, None, List, [], ◌∷◌, ◌++◌, ◌⊎◌, length, slice_index, slice_set}
 use Rattle.op_core.specs.declared.want.Want.TheVariants as want
-use Rattle.op_core.specs.declared.want.Ans.{Ans}
-use Rattle.op_core.specs.declared.want.Ans.TheVariants.{Value, Won, Lost, Drawn, Passed}
 use Rattle.bucket_meta.specs.Bucket.{allocated}
 use Rattle.trace.specs.Events.{Words}
 use Rattle.hash_word.specs.Hash.{finger_of}
@@ -16,7 +13,7 @@ use Rattle.map_model.specs.Legal.{IsInsert, IsChange, seen_after}
 use Rattle.world.specs.declared.site.Site.{Site as Here}
 use Rattle.world.specs.Site.{Site, IsSite, IsUnder}
 use Rattle.world.specs.Views.{View, Has, At}
-use Rattle.world.specs.Wants.{word_of}
+use Rattle.world.specs.Wants.{answer_to, word_of}
 use Rattle.world.specs.Kinds.{next_entry, wanted as wanted_by, view_after, May}
 use Rattle.world.specs.Invariant.{Holds}
 use Rattle.write_op.specs.declared.control.Side.{Side}
@@ -255,17 +252,6 @@ EndsWell = (op : WriteOp) (before v : View) (end : WriteEnd) → op.step ≡ End
 abbrev pub RefusesWell : Type 0
 RefusesWell = (site : Site) (op : WriteOp) (before v : View) → IsIn site op → Suits before op v → op.step ≡ Ended NoSlot
     → IsIn site (refused op) × Suits before (refused op) v
-
--- what an event that found a value answers
-abbrev pub answer_to : Want → ℕ → Ans
-answer_to (want.Load i) n = Value n
-answer_to (want.Store i x) n = Passed
-answer_to (want.Exchange i a b) n = if n == a then Won else Lost n
-answer_to (want.Flush l) n = Passed
-answer_to want.Fence n = Passed
-answer_to want.Draw n = Drawn n
-answer_to want.Power n = Value n
-answer_to want.Done n = Passed
 
 module _ (site : Site) (op : WriteOp) (words : Words) where
   -- the value that the next event finds, and the change after it
