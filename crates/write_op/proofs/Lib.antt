@@ -18,3 +18,4 @@ mod Going
 mod Counted
 mod Making
 mod Keeping
+mod Numbers

@@ -14,7 +14,8 @@ ghost use Rattle.write_op.specs.Inside.{IsInside, AsksInside};
 ghost use Rattle.write_op.specs.Stored.{TakesSlot, FreesSlot, SetsFinger};
 ghost use Rattle.write_op.specs.Slots.{with_finger};
 ghost use Rattle.write_op.specs.Suits.{BeginsSuited, MayStep, KeepsSuits, EndsWell, RefusesWell};
-ghost use Rattle.write_op.specs.Wanted.{key_for};
+ghost use Rattle.write_op.specs.Wanted.{key_for, value_for};
+ghost use Rattle.write_op.specs.Numbers.{HasWords, AsksWords};
 ghost use Rattle.image_layout.specs.Places.{IsShape};
 
 /// An attempt ends: each answer of the kind that was asked for leaves fewer events, of at most 55 at its beginning, and of at
@@ -71,4 +72,13 @@ pub fn fits_the_world()
     ensures keeps { KeepsSuits }
     ensures ends { EndsWell }
     ensures refuses { RefusesWell }
+{}
+
+/// What a change stores, or puts in place of another value, is a word, where its key, its value and the words that it was
+/// answered are words.
+pub fn stores_are_words()
+    ensures begins { (call : Call) (site : Site) → key_for call < 2 ^ 64 → value_for call < 2 ^ 64 → HasWords (begun call site) }
+    ensures keeps { (op : WriteOp) (ans : Ans) → IsWord ans → HasWords op → HasWords (taken op ans) }
+    ensures refuses { (op : WriteOp) → HasWords op → HasWords (refused op) }
+    ensures asks { (op : WriteOp) → HasWords op → AsksWords op }
 {}

@@ -17,7 +17,7 @@ mod taking;
 pub use control::WriteEnd;
 pub use laws::{
     attempt_ends, events_have_kinds, fingers_change_one_slot, fits_the_world,
-    marks_change_one_slot, numbers_stay_in_range, words_are_inside,
+    marks_change_one_slot, numbers_stay_in_range, stores_are_words, words_are_inside,
 };
 pub use machine::WriteOp;
 
