@@ -5,5 +5,7 @@
 #![tactic(auto)]
 
 mod engine;
+mod laws;
 
 pub use engine::{End, Engine, Op};
+pub use laws::fits_the_world;
