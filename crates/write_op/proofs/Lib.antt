@@ -19,3 +19,4 @@ mod Counted
 mod Making
 mod Keeping
 mod Numbers
+mod Spared

@@ -16,6 +16,7 @@ ghost use Rattle.write_op.specs.Slots.{with_finger};
 ghost use Rattle.write_op.specs.Suits.{BeginsSuited, MayStep, KeepsSuits, EndsWell, RefusesWell};
 ghost use Rattle.write_op.specs.Wanted.{key_for, value_for};
 ghost use Rattle.write_op.specs.Numbers.{HasWords, AsksWords};
+ghost use Rattle.write_op.specs.Spared.{KeepsNotes, KeepsSpent};
 ghost use Rattle.image_layout.specs.Places.{IsShape};
 
 /// An attempt ends: each answer of the kind that was asked for leaves fewer events, of at most 55 at its beginning, and of at
@@ -45,8 +46,8 @@ pub fn events_have_kinds()
     ensures { (op : WriteOp) (n : ℕ) → Fits op → (wanted op ≡ Done → ⊥) → wanted op ≡ wanted_by op.task.site.geometry (kind_of op n) }
 {}
 
-/// What an exchange expects is always a free value with a next version, and a word of the bucket that is loaded lies
-/// behind its lock.
+/// What an exchange expects is always a free value with a next version, a word of the bucket that is loaded lies behind its
+/// lock, and a lock that is taken for spent was free with its last version.
 pub fn numbers_stay_in_range()
     ensures begins { (call : Call) (site : Site) → Fits (begun call site) }
     ensures keeps { (op : WriteOp) (ans : Ans) → IsWord ans → Fits op → Fits (taken op ans) }
@@ -81,4 +82,14 @@ pub fn stores_are_words()
     ensures keeps { (op : WriteOp) (ans : Ans) → IsWord ans → HasWords op → HasWords (taken op ans) }
     ensures refuses { (op : WriteOp) → HasWords op → HasWords (refused op) }
     ensures asks { (op : WriteOp) → HasWords op → AsksWords op }
+{}
+
+/// A metadata word that a change stores has the overflow notes of the word before, which its caller knows.
+pub fn stores_keep_notes()
+    ensures { KeepsNotes }
+{}
+
+/// A lock word that is free with its last version stays: a change neither stores it nor asks to exchange it.
+pub fn spent_locks_stay()
+    ensures { KeepsSpent }
 {}
