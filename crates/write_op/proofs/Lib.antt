@@ -20,3 +20,4 @@ mod Making
 mod Keeping
 mod Numbers
 mod Spared
+mod Waiting

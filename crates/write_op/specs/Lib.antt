@@ -9,3 +9,4 @@ pub mod Inside
 pub mod Suits
 pub mod Numbers
 pub mod Spared
+pub mod Waiting

@@ -1,7 +1,7 @@
 //! Laws of the machine. The functions do nothing: each stands for the law that its contract says.
 
-ghost use Rattle.std.specs.Prelude.{◌≡◌, ℕ, ◌<◌, ◌≤◌, ◌^◌};
-ghost use Rattle.op_core.specs.declared.want.Want.TheVariants.{Done};
+ghost use Rattle.std.specs.Prelude.{◌≡◌, ◌≢◌, ℕ, ◌+◌, ◌<◌, ◌≤◌, ◌^◌};
+ghost use Rattle.op_core.specs.declared.want.Want.TheVariants.{Flush, Fence, Done};
 ghost use Rattle.world.specs.Kinds.{wanted as wanted_by};
 ghost use Rattle.write_op.specs.Fits.{Fits, IsWord, kind_of};
 ghost use Rattle.op_core.specs.declared.want.Ans.{Ans};
@@ -17,6 +17,7 @@ ghost use Rattle.write_op.specs.Suits.{BeginsSuited, MayStep, KeepsSuits, EndsWe
 ghost use Rattle.write_op.specs.Wanted.{key_for, value_for};
 ghost use Rattle.write_op.specs.Numbers.{HasWords, AsksWords};
 ghost use Rattle.write_op.specs.Spared.{KeepsNotes, KeepsSpent};
+ghost use Rattle.write_op.specs.Waiting.{waiting};
 ghost use Rattle.image_layout.specs.Places.{IsShape};
 
 /// An attempt ends: each answer of the kind that was asked for leaves fewer events, of at most 55 at its beginning, and of at
@@ -92,4 +93,15 @@ pub fn stores_keep_notes()
 /// A lock word that is free with its last version stays: a change neither stores it nor asks to exchange it.
 pub fn spent_locks_stay()
     ensures { KeepsSpent }
+{}
+
+/// At most two lines are flushed and not fenced: the number that bounds them is 0 at both ends and never above 2, each flush
+/// raises it, and no event but a fence lowers it.
+pub fn flushes_are_few()
+    ensures begins { (call : Call) (site : Site) → waiting (begun call site) ≡ 0 }
+    ensures most { (op : WriteOp) → waiting op ≤ 2 }
+    ensures flushes { (op : WriteOp) (ans : Ans) (l : ℕ) → IsAnswer (wanted op) ans → wanted op ≡ Flush l → waiting op + 1 ≤ waiting (taken op ans) }
+    ensures keeps { (op : WriteOp) (ans : Ans) → IsAnswer (wanted op) ans → wanted op ≢ Fence → waiting op ≤ waiting (taken op ans) }
+    ensures ends { (op : WriteOp) → wanted op ≡ Done → waiting op ≡ 0 }
+    ensures refuses { (op : WriteOp) → waiting (refused op) ≡ 0 }
 {}
