@@ -19,3 +19,5 @@ mod Counted
 mod Making
 mod Keeping
 mod Numbers
+mod Spared
+mod Waiting

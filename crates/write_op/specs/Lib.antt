@@ -8,3 +8,5 @@ pub mod Fits
 pub mod Inside
 pub mod Suits
 pub mod Numbers
+pub mod Spared
+pub mod Waiting
