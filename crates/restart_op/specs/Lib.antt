@@ -1,0 +1,3 @@
+pub mod Restart
+pub mod Course
+pub mod Notes

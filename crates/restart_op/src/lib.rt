@@ -1,0 +1,9 @@
+//! The restart of a clean image, as a machine, which caller 0 runs alone before any other caller begins.
+//!
+//! [`RestartOp`] is the machine and [`RestartStep`] where it stands; `specs/Restart.antt` says what it wants in each step,
+//! and what an answer makes of it.
+#![tactic(auto)]
+
+mod restart;
+
+pub use restart::{RestartOp, RestartStep, Started};
