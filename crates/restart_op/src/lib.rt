@@ -4,6 +4,8 @@
 //! and what an answer makes of it.
 #![tactic(auto)]
 
+mod laws;
 mod restart;
 
+pub use laws::{restart_begins, restart_ends, restart_keeps};
 pub use restart::{RestartOp, RestartStep, Started};
