@@ -9,3 +9,6 @@ mod restart;
 
 pub use laws::{restart_begins, restart_ends, restart_keeps};
 pub use restart::{RestartOp, RestartStep, Started};
+
+#[cfg(test)]
+mod tests;
