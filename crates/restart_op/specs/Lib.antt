@@ -1,2 +1,4 @@
 pub mod Course
+pub mod Notes
 pub mod Close
+pub mod Closing

@@ -5,3 +5,4 @@ mod close;
 mod closing;
 
 pub use close::{CloseOp, CloseStep, Closed};
+pub use closing::{close_ends, close_keeps};
