@@ -6,3 +6,6 @@ mod closing;
 
 pub use close::{CloseOp, CloseStep, Closed};
 pub use closing::{close_ends, close_keeps};
+
+#[cfg(test)]
+mod close_tests;
