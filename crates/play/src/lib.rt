@@ -1,11 +1,17 @@
-//! Runs a script on an image, over a memory with flush and fence.
+//! Runs a script on an image.
 //!
-//! `play` takes the lines of a schedule one by one: `table` has the memory, the callers and the keeper, and does one event
-//! at a time; `driving` lets a caller go on until a line's goal is met; `playing` runs the lines, the end rule and the close
-//! or the cut. `specs/State.antt` and `specs/Run.antt` say the same as definitions.
+//! `play` runs the calls of one caller directly on the words of an image, one after another, and answers each with its
+//! place in the one order of all changes. Below it: `calls` picks the caller's calls out of the lines, `run` makes the
+//! calls' entries, `step` runs one call, and `bucket` works on one bucket's words.
 #![tactic(auto)]
 
-mod deed;
-mod goal;
-mod keeper;
-mod runner;
+mod bucket;
+mod calls;
+mod playing;
+mod run;
+mod step;
+
+pub use playing::play;
+
+#[cfg(test)]
+mod tests;

@@ -1,8 +1,5 @@
 //! What a line of a schedule counts.
 
-ghost use Rattle.std.specs.Prelude.{◌≡◌};
-
-use crate::deed::Deed;
 use script_text::Event;
 
 /// What a line of a schedule counts of a caller's events.

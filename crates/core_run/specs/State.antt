@@ -17,8 +17,8 @@ use Rattle.engine.specs.declared.engine.End.{End}
 use Rattle.engine.specs.declared.engine.Engine.{Engine}
 use Rattle.engine.specs.Engine.{wanted, taken, end_of, reply_of_end}
 use Rattle.engine.specs.Core.{Caller, fresh, current, Core, with_event}
-use Rattle.play.specs.declared.keeper.Keeper.{Keeper}
-use Rattle.play.specs.declared.keeper.Keeper.TheVariants.{Restarting, Open, Closing, Closed}
+use Rattle.core_run.specs.declared.keeper.Keeper.{Keeper}
+use Rattle.core_run.specs.declared.keeper.Keeper.TheVariants.{Restarting, Open, Closing, Closed}
 
 -- the keeper is caller 0: it restarts the image, leaves it to the callers, and closes it
 pub record State : Type 0 where
