@@ -1,0 +1,14 @@
+//! What a line of a schedule counts.
+
+use script_text::Event;
+
+/// What a line of a schedule counts of a caller's events.
+#[derive(Clone, Copy, Debug, PartialEq, Eq)]
+pub enum Goal {
+    /// Each event.
+    AnyEvent,
+    /// Those of a kind.
+    Kind(Event),
+    /// Stores to this word.
+    StoreTo(u64),
+}
