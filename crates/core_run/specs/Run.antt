@@ -1,6 +1,6 @@
 -- A run of a script: its schedule line by line, the end rule, and what is left.
 use Rattle.std.specs.Prelude.{ℕ, zero, suc, ◌+◌, ◌*◌, ◌==◌, Bool, true, false, Option, None, Some, List, [], ◌∷◌, length, map, if◌then◌else◌}
-use Rattle.std.specs.List.{range}
+use Rattle.std.specs.List.{range_with_len}
 use Rattle.op_core.specs.declared.want.Want.{Want}
 use Rattle.op_core.specs.declared.want.Want.TheVariants as want
 use Rattle.trace.specs.Events.{Words}
@@ -8,7 +8,6 @@ use Rattle.trace.specs.Steps.{settled_value}
 use Rattle.image_layout.specs.Places.{Shape, words_of}
 use Rattle.map_model.specs.declared.call.Call.{Call}
 use Rattle.map_model.specs.declared.entry.Reply.{Reply}
-use Rattle.map_model.specs.declared.entry.Entry.{Entry}
 use Rattle.map_model.specs.declared.entry.Stop.{Stop}
 use Rattle.script_text.specs.declared.line.Event.{Event}
 use Rattle.script_text.specs.declared.line.Event.TheVariants as event
@@ -25,7 +24,7 @@ use Rattle.engine.specs.Engine.{reply_of_end}
 use Rattle.engine.specs.Core.{Caller, current, Core}
 use Rattle.pm_trace.specs.Choice.{chosen}
 use Rattle.core_run.specs.declared.keeper.Keeper.{Keeper}
-use Rattle.core_run.specs.declared.keeper.Keeper.TheVariants.{Restarting, Open, Closing, Closed}
+use Rattle.core_run.specs.declared.keeper.Keeper.TheVariants.{Restarting, Open, Closing}
 use Rattle.core_run.specs.declared.goal.Goal.{Goal}
 use Rattle.core_run.specs.declared.goal.Goal.TheVariants.{AnyEvent, Kind, StoreTo}
 use Rattle.core_run.specs.State.{State, Deed, deed, beginning}
@@ -94,19 +93,18 @@ abbrev pub ends_in_again : Option End → Bool
 ends_in_again None = false
 ends_in_again (Some end) = is_again end
 
+-- a caller stops where it has no event left, and where its attempt ends in Again; else the rest of its line comes
+abbrev pub by_deed : Option Deed → State → (Deed → State) → State
+by_deed None s rest = s
+by_deed (Some d) s rest = if ends_in_again d.end then d.state else rest d
+
 module _ (shape : Shape) where
-  -- CALLER c GOES ON until n more events are counted: it stops earlier where it has no event left, and where an attempt ends
-  -- in Again. The first number is how many events there may be at most; it is always enough
+  -- CALLER c GOES ON until n more events are counted, or it stops. The first number is how many events there may be at
+  -- most; it is always enough
   abbrev pub drive : ℕ → ℕ → Goal → ℕ → State → State
-  abbrev pub went_on : ℕ → ℕ → Goal → ℕ → State → Option Deed → State
-  abbrev pub after_deed : ℕ → ℕ → Goal → ℕ → Deed → Bool → State
   drive zero c goal n s = s
   drive (suc most) c goal zero s = s
-  drive (suc most) c goal (suc n) s = went_on most c goal n s (deed shape c s)
-  went_on most c goal n s None = s
-  went_on most c goal n s (Some d) = after_deed most c goal n d (ends_in_again d.end)
-  after_deed most c goal n d true = d.state
-  after_deed most c goal n d false = drive most c goal (if counts goal d then n else suc n) d.state
+  drive (suc most) c goal (suc n) s = by_deed (deed shape c s) s (λ d. drive most c goal (if counts goal d then n else suc n) d.state)
 
   module _ (most : ℕ) where
     -- the restart is brought to its end, where one has begun
@@ -199,6 +197,6 @@ stop_of c = stop_for c (current c)
 
 -- the words of the medium: by the choice of the cut, or else the newest
 abbrev pub medium_words : Shape → Words → Core → Option ℕ → List ℕ
-medium_words shape start core None = map core.words (range 0 (words_of shape))
+medium_words shape start core None = map core.words (range_with_len 0 (words_of shape))
 medium_words shape start core (Some choice) =
-    chosen choice (map (settled_value start core.trace) (range 0 (words_of shape))) (map core.words (range 0 (words_of shape)))
+    chosen choice (map (settled_value start core.trace) (range_with_len 0 (words_of shape))) (map core.words (range_with_len 0 (words_of shape)))

@@ -5,17 +5,17 @@ use Rattle.op_core.specs.declared.want.Want.TheVariants as want
 use Rattle.trace.specs.Events.{Words}
 use Rattle.image_layout.specs.Places.{Shape}
 use Rattle.map_model.specs.declared.call.Call.{Call}
-use Rattle.map_model.specs.declared.entry.Reply.{Reply}
-use Rattle.world.specs.declared.site.Site.{Site}
 use Rattle.world.specs.Wants.{answer_to, word_of, event_of, words_after}
 use Rattle.restart_op.specs.declared.restart.RestartOp.{RestartOp}
 use Rattle.restart_op.specs.declared.restart.Started.{Started}
-use Rattle.restart_op.specs.Restart.{begun as restart_begun, wanted as restart_wanted, taken as restart_taken, started_by}
+use Rattle.restart_op.specs.declared.restart.RestartStep.{RestartStep}
+use Rattle.restart_op.specs.declared.restart.RestartStep.TheVariants as restart_step
+use Rattle.restart_op.specs.Restart.{begun as restart_begun, wanted as restart_wanted, taken as restart_taken, started_with}
 use Rattle.restart_op.specs.declared.close.CloseOp.{CloseOp}
-use Rattle.restart_op.specs.Close.{begun as close_begun, wanted as close_wanted, taken as close_taken}
+use Rattle.restart_op.specs.Close.{wanted as close_wanted, taken as close_taken}
 use Rattle.engine.specs.declared.engine.End.{End}
 use Rattle.engine.specs.declared.engine.Engine.{Engine}
-use Rattle.engine.specs.Engine.{wanted, taken, end_of, reply_of_end}
+use Rattle.engine.specs.Engine.{wanted, taken, end_of}
 use Rattle.engine.specs.Core.{Caller, fresh, current, Core, with_event}
 use Rattle.core_run.specs.declared.keeper.Keeper.{Keeper}
 use Rattle.core_run.specs.declared.keeper.Keeper.TheVariants.{Restarting, Open, Closing, Closed}
@@ -48,6 +48,14 @@ awake version c = fresh (record c.site { version = version }) c.calls
 abbrev pub beginning : Shape → Words → List (List Call) → State
 beginning shape words scripts =
     record { keeper = Restarting (restart_begun shape); core = record { words = words; trace = []; callers = waiting_from shape 1 scripts } }
+
+-- what a restart ended with
+abbrev pub started_at : RestartStep → Started
+started_at (restart_step.Ended started) = started
+started_at step = started_with 0
+
+abbrev pub started_by : RestartOp → Started
+started_by op = started_at op.step
 
 -- an event that was done: what was wanted, how its attempt ended if it did, and the state after it
 pub record Deed : Type 0 where

@@ -1,2 +1,3 @@
 pub mod Engine
 pub mod Fits
+pub mod Core
