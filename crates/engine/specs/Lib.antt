@@ -1,2 +1,4 @@
 pub mod Engine
 pub mod Fits
+pub mod Left
+pub mod Asks
