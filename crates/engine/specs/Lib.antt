@@ -1,3 +1,5 @@
 pub mod Engine
 pub mod Fits
 pub mod Core
+pub mod Left
+pub mod Asks
