@@ -1,3 +1,9 @@
+pub mod Facts
+pub mod FromSound
+pub mod Opened
+pub mod Same
+pub mod Cuts
+pub mod Beginning
 pub mod CloseAlong
 pub mod CloseEnding
 pub mod MarkedFront
