@@ -1,6 +1,6 @@
 -- What a cut may leave during a close: before the marker is stored what the world may leave, and after it that or the
 -- newest words with the marker.
-use Rattle.std.proofs.Common.{◌≡◌, ℕ, ◌+◌, ◌/◌, ◌%◌, ◌^◌, ◌<◌, ◌≤◌, inl, inr, cond, List, length, refl, sym, ap, ◌∙◌, subst, arith}
+use Rattle.std.proofs.Common.{◌≡◌, ℕ, ◌+◌, ◌/◌, ◌%◌, ◌^◌, ◌<◌, ◌≤◌, inl, inr, cond, Option, List, length, refl, sym, ap, ◌∙◌, subst, arith}
 use Rattle.std.specs.Prelude.{slice_index}
 use Rattle.std.specs.FinMap.{get}
 use Rattle.std.proofs.lemmas.Bool.{cases_eq, cases_lt}
@@ -10,7 +10,7 @@ use Rattle.segment_head.specs.HeadWord.{version_in, state_in, depth_in, pattern_
 use Rattle.trace.specs.Events.{Words, Trace, with_word, value_at}
 use Rattle.trace.specs.Media.{IsPossible}
 use Rattle.trace.specs.Steps.{HadSinceSettled}
-use Rattle.trace.proofs.Replaced.{cases_at, replaced_same}
+use Rattle.trace.proofs.Replaced.{cases_at, replaced_same, replaced_other}
 use Rattle.trace.proofs.Moments.{value_at_now}
 use Rattle.trace.proofs.Media.{had_of_may, may_of_had, newest_may}
 use Rattle.image_layout.specs.Places.{Shape, root_word, state_word, head_at, bucket_at, words_of}
@@ -27,12 +27,13 @@ use Rattle.world.specs.Views.{View, Has, At, IsLoose, HasLock}
 use Rattle.world.specs.Media.{IsPossible as MayBeLeft}
 use Rattle.world.specs.World.{World}
 use Rattle.world.proofs.Grounds.{home_is_lock, lock_within}
-use Rattle.world.proofs.Tables.{same_find}
+use Rattle.world.proofs.Tables.{table_below, same_find}
 use Rattle.world.proofs.Worlds.{device_leaves}
 use Rattle.restart_op.specs.Close.{with_marker}
 use Rattle.restart_op.specs.Closing.{close_after, IsQuiet, IsKept, IsClosed, CloseKeeps, CloseSettles, CloseMarks}
+use Rattle.restart_op.proofs.Same.{has_there}
 use Rattle.restart_op.proofs.MarkedFront.{IsMarkedFront}
-use Rattle.restart_op.proofs.MarkedTable.{IsMarkedTable, marked_rules, has_found}
+use Rattle.restart_op.proofs.MarkedTable.{IsMarkedTable, marked_rules}
 use Rattle.restart_op.proofs.ClosePhases.{marked, Before, After, IsSettledNow, elsewhere, phase_at, at_end, either}
 
 -- ---- the marker
@@ -215,6 +216,23 @@ module _ (site : Site) (start : Words) (world : World) (quiet : IsQuiet site sta
               let w = lock_within shape (home_at shape k) (home_is_lock shape k) one_segment in
               same_word (home_at shape k + n) (omega (arith, w, inside)) (λ e. omega (arith, e))
 
+      -- ---- its pairs: those of the medium with the marker cleared
+      abbrev plain : Words
+      plain = with_word word state_word (was state_word)
+
+      plain_is : (i : ℕ) → i < words_of shape → plain i ≡ was i
+      plain_is i within = cases_at (λ b. cond b (was state_word) (word i) ≡ was i) i state_word (λ at. ap was (sym at)) (same_word i within)
+
+      table_plain : IsHomeTable shape site.front plain
+      table_plain = table_below site quiet.well.holds.site_is was plain (λ i within. ap (core_of shape i) (sym (plain_is i within))) table_now
+
+      fits_plain : (i : ℕ) → plain i < 2 ^ 64
+      fits_plain i = cases_at (λ b. cond b (was state_word) (word i) < 2 ^ 64) i state_word (λ _. fits_now state_word) (λ _. fits_marked i)
+
+      plain_has : (k : ℕ) (a : Option ℕ) → find shape was k ≡ a → HasAt shape plain k a
+      plain_has k a is = has_of_found shape site.front plain quiet.well.holds.site_is.front table_plain fits_plain k a
+          (same_find site quiet.well.holds.site_is plain was k (λ i within. ap (core_of shape i) (plain_is i within)) ∙ is)
+
       kept_marked : IsKept site was medium
       kept_marked = record {
         sound = record {
@@ -225,7 +243,8 @@ module _ (site : Site) (start : Words) (world : World) (quiet : IsQuiet site sta
           follows = marked_rules shape word table_marked;
         };
         same = same_marked;
-        pairs = λ m agree k. subst (λ a. HasAt shape word k a) (same_marked k ∙ sym (agree k)) (has_found shape word table_marked k);
+        pairs = λ m agree k. has_there shape plain word (λ i other. replaced_other word state_word (was state_word) i other) k (get m k)
+            (plain_has k (get m k) (sym (agree k)));
         front = λ i few. in_front i (omega (arith, few)) (λ e. omega (arith, few, e));
       }
 

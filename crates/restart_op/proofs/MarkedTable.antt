@@ -1,18 +1,15 @@
--- A table with the marker set, free locks and no notes follows the seven rules, and has at each key what `find` gives.
-use Rattle.std.proofs.Common.{◌≡◌, ℕ, ◌^◌, ◌<◌, refl, sym, ap, subst, ◌∙◌, arith, inl, inr}
+-- A table with the marker set, free locks and no notes follows the seven rules.
+use Rattle.std.proofs.Common.{◌≡◌, ℕ, ◌^◌, ◌<◌, sym, ap, subst, ◌∙◌, arith, inl}
 use Rattle.hash_word.specs.Hash.{home_of}
 use Rattle.bucket_meta.specs.Bucket.{lock_of}
 use Rattle.segment_head.specs.HeadWord.{normal}
 use Rattle.trace.specs.Events.{Words}
 use Rattle.image_layout.specs.Places.{Shape, bucket_at}
 use Rattle.sound_image.specs.Segments.{frame_of, state_at, Owns}
-use Rattle.sound_image.specs.Records.{key_hash, slot_key, slot_value, slot_hash, HasRecord, HasPair, HasAt, HasExactNotes}
+use Rattle.sound_image.specs.Records.{key_hash, slot_key, slot_hash, HasRecord, HasExactNotes}
 use Rattle.sound_image.specs.Rules.{StandsRight, NotBefore, FollowsRules}
-use Rattle.bucket_words.specs.Buckets.{value_in, IsHomeBucket}
-use Rattle.bucket_words.specs.Tables.{IsHomeTable, home_at, find}
-use Rattle.bucket_words.proofs.Finding.{Hits, find_none, cases_found}
-use Rattle.bucket_words.proofs.SameCores.{home_lt}
-use Rattle.bucket_words.proofs.Pairs.{key_hash-fits, find_hit_of_table}
+use Rattle.bucket_words.specs.Buckets.{IsHomeBucket}
+use Rattle.bucket_words.proofs.Pairs.{key_hash-fits}
 use Rattle.restart_op.specs.Notes.{HasNoNotes}
 use Rattle.restart_op.proofs.MarkedFront.{IsMarkedFront, is_first, owns_each, root_in_range, version_in_range, head_in_range, link_in_range, has_owners, shares_well, entry_leads, version_is_past}
 use Rattle.restart_op.proofs.NoNotes.{exact_notes}
@@ -98,52 +95,3 @@ module _ (shape : Shape) (word : Words) (table : IsMarkedTable shape word) where
           notes = λ s b current near _. subst (λ s. HasExactNotes shape word s b) (sym (is_first shape word front s current.slot)) (exact_notes shape word table.buckets table.no_notes b near);
         };
       }
-
-  -- ---- pairs
-  home_table : IsHomeTable shape word word
-  home_table = record { same_front = λ i below. refl; buckets = table.buckets }
-
-  pair_of_hit : (k r : ℕ) → r < 14 → Hits word (home_at shape k) k r → HasPair shape word k (value_in word (home_at shape k) r)
-  pair_of_hit k r slot hit =
-      let home = home_of (key_hash shape k) in
-      let there : HasRecord shape word 0 home r =
-      record { segment = omega (arith, table.front.one_segment); bucket = omega (arith, home_lt (key_hash shape k)); slot = slot; is_allocated = hit.taken } in
-      record {
-        s = 0;
-        b = home;
-        r = r;
-        own = record { record_there = there; owned = owns_record 0 home r there.segment };
-        key_is = hit.key;
-        value_is = refl;
-      }
-
-  -- a record of the key stands in its home bucket
-  abbrev HasHit : ℕ → ℕ → Type 0
-  HasHit k v = (r : ℕ) × (r < 14) × Hits word (home_at shape k) k r × (value_in word (home_at shape k) r ≡ v)
-
-  hit_at : (b k v r : ℕ) → HasRecord shape word 0 b r → slot_key shape word 0 b r ≡ k → slot_value shape word 0 b r ≡ v → HasHit k v
-  hit_at b k v r there key value =
-      let home : home_of (key_hash shape k) ≡ b = ap (λ n. home_of (key_hash shape n)) (sym key) ∙ at_home b r there in
-      let hit : Hits word (bucket_at shape 0 b) k r = record { taken = there.is_allocated; key = key } in (
-        r,
-        there.slot,
-        subst (λ (b : ℕ). Hits word (bucket_at shape 0 b) k r) (sym home) hit,
-        ap (λ b. value_in word (bucket_at shape 0 b) r) home ∙ value,
-      )
-
-  hit_of_pair : (k v : ℕ) → HasPair shape word k v → HasHit k v
-  hit_of_pair k v pair =
-      let has = pair.own.record_there in
-      let first = in_first pair.s pair.b pair.r has in
-      hit_at pair.b k v pair.r (subst (λ s. HasRecord shape word s pair.b pair.r) first has)
-      (ap (λ s. slot_key shape word s pair.b pair.r) (sym first) ∙ pair.key_is)
-      (ap (λ s. slot_value shape word s pair.b pair.r) (sym first) ∙ pair.value_is)
-
-  pub has_found : (k : ℕ) → HasAt shape word k (find shape word k)
-  has_found k = elim (cases_found word (home_at shape k) k 14) [
-    | inl found ↦
-        subst (HasAt shape word k) (sym (find_hit_of_table shape word word home_table k found.0 found.1 found.2)) (pair_of_hit k found.0 found.1 found.2)
-    | inr none ↦
-        subst (HasAt shape word k) (sym (find_none word (home_at shape k) k 14 none))
-        (λ v pair. let hit = hit_of_pair k v pair in none hit.0 hit.1 hit.2)
-  ]
