@@ -1,0 +1,5 @@
+pub mod Engine
+pub mod Fits
+pub mod Core
+pub mod Good
+pub mod Holding
