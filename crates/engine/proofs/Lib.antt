@@ -1,2 +1,4 @@
+pub mod Ways
+pub mod Fitting
 mod Planned
 mod Told

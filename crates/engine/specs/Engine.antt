@@ -34,9 +34,13 @@ op_of site (Insert k v) = Write (write_begun (Insert k v) site)
 op_of site (Update k v) = Write (write_begun (Update k v) site)
 op_of site (Remove k) = Write (write_begun (Remove k) site)
 
+-- the engine of a machine
+abbrev pub running : Op → Engine
+running op = record { op = op }
+
 -- the engine of a call that has done nothing yet
 abbrev pub begun : Site → Call → Engine
-begun site call = record { op = op_of site call }
+begun site call = running (op_of site call)
 
 -- an insert that found no slot is refused: the next part goes on
 abbrev pub go_on_at : WriteOp → Step → WriteOp

@@ -1,5 +1,5 @@
 -- How an engine fits the world of many callers: the view of its caller in the midst of a call, and at the end of it.
-use Rattle.std.specs.Prelude.{◌≡◌, ◌≢◌, ℕ, ◌^◌, ◌<◌, ⊥, Option, None, Some, List, [], ◌∷◌, ◌++◌}
+use Rattle.std.specs.Prelude.{◌≡◌, ◌≢◌, ℕ, ◌^◌, ◌<◌, Option, None, Some, List, [], ◌∷◌, ◌++◌}
 use Rattle.op_core.specs.declared.want.Want.TheVariants.{Done}
 use Rattle.trace.specs.Events.{Words}
 use Rattle.map_model.specs.declared.call.Call.{Call}
@@ -15,11 +15,12 @@ use Rattle.world.specs.Kinds.{wanted as wanted_by, view_after, next_entry, May}
 use Rattle.world.specs.Invariant.{Holds}
 use Rattle.read_op.specs.Fits.{IsIn as ReadIsIn, Suits as ReadSuits}
 use Rattle.write_op.specs.Suits.{IsIn as WriteIsIn, Suits as WriteSuits, HoldsOnly}
-use Rattle.write_op.specs.Words.{HasWords}
+use Rattle.write_op.specs.Wanted.{key_for, value_for}
+use Rattle.write_op.specs.Numbers.{HasWords}
 use Rattle.engine.specs.declared.engine.Op.{Op}
 use Rattle.engine.specs.declared.engine.Op.TheVariants.{Read, Write}
 use Rattle.engine.specs.declared.engine.Engine.{Engine}
-use Rattle.engine.specs.Engine.{wanted, taken, end_of, reply_of_end, kind_of}
+use Rattle.engine.specs.Engine.{begun, wanted, taken, end_of, reply_of_end, kind_of}
 
 -- a view that has the replies of another, and has seen as much
 pub record HasNoMore (before v : View) : Type 0 where

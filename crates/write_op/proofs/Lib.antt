@@ -18,3 +18,6 @@ mod Going
 mod Counted
 mod Making
 mod Keeping
+mod Numbers
+mod Spared
+mod Waiting

@@ -7,3 +7,6 @@ pub mod Stored
 pub mod Fits
 pub mod Inside
 pub mod Suits
+pub mod Numbers
+pub mod Spared
+pub mod Waiting
