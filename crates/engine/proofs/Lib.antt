@@ -2,3 +2,5 @@ pub mod Ways
 pub mod Fitting
 mod Planned
 mod Told
+mod Places
+mod Turns

@@ -2,6 +2,7 @@
 use Rattle.std.specs.Prelude.{◌≡◌, ℕ, ◌+◌, ◌^◌, ◌<◌, false, Option, None, Some, List, [], ◌∷◌, ◌++◌, ◌⊎◌}
 use Rattle.std.specs.List.{AllByRecursion, AllZip}
 use Rattle.std.specs.FinMap.{get}
+use Rattle.op_core.specs.declared.want.Want.TheVariants.{Store, Exchange}
 use Rattle.bucket_meta.specs.Bucket.{note_used, overflow_count}
 use Rattle.trace.specs.Events.{Words, value_at}
 use Rattle.image_layout.specs.Places.{Shape, bucket_at}
@@ -9,11 +10,15 @@ use Rattle.map_model.specs.declared.call.Call.{Call}
 use Rattle.map_model.specs.declared.entry.Entry.{Entry}
 use Rattle.map_model.specs.Map.{Map}
 use Rattle.sound_image.specs.Image.{magic, format_word}
-use Rattle.world.specs.Site.{Site}
-use Rattle.world.specs.Views.{View}
+use Rattle.world.specs.declared.site.Site.{Site as Here}
+use Rattle.world.specs.Site.{Site, IsSite}
+use Rattle.world.specs.Views.{View, At}
+use Rattle.world.specs.Invariant.{Holds}
+use Rattle.world.specs.Wants.{words_after}
 use Rattle.world.specs.World.{World, IsWell, fresh_view, Begins}
 use Rattle.write_op.specs.Suits.{HoldsOnly}
 use Rattle.engine.specs.declared.engine.Engine.{Engine}
+use Rattle.engine.specs.Engine.{wanted}
 use Rattle.engine.specs.Fits.{Suits, IsWordCall}
 use Rattle.engine.specs.Core.{Caller, Core, call_at, current, turn, callers_from}
 use Rattle.engine.specs.Good.{IsGood}
@@ -86,6 +91,20 @@ pub record CoreHolds (site : Site) (start : Words) (core : Core) : Type 0 where
   pub each : AllZip (CallerFits site) core.callers views
 
 -- ---- the laws
+-- what an engine stores, or puts in place of another value, is a word
+pub record StoresWords (e : Engine) : Type 0 where
+  pub stores : (i x : ℕ) → wanted e ≡ Store i x → x < 2 ^ 64
+  pub exchanges : (i a b : ℕ) → wanted e ≡ Exchange i a b → b < 2 ^ 64
+
+abbrev pub StoresAreWords : Type 0
+StoresAreWords = (site : Site) (here : Here) (call : Call) (e : Engine) (before v : View) → IsSite site → Suits site here call e before v → StoresWords e
+
+-- its events leave buckets without notes
+abbrev pub StoresKeepNotes : Type 0
+StoresKeepNotes = (site : Site) (here : Here) (call : Call) (e : Engine) (words : Words) (views : List View) (j c : ℕ) (before v : View)
+    → Holds site words views → At views j v → Suits site here call e before v → HasNoNotes site.shape words
+    → HasNoNotes site.shape (words_after site.shape (wanted e) c words)
+
 -- A TURN of any caller, and of a number that is nobody's, keeps the core
 abbrev pub TurnKeeps : Type 0
 TurnKeeps = (site : Site) (start : Words) (core : Core) (c : ℕ) → CoreHolds site start core → CoreHolds site start (turn site.shape c core)
