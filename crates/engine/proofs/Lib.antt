@@ -4,3 +4,5 @@ mod Planned
 mod Told
 mod Places
 mod Turns
+mod Cut
+mod Goodness
