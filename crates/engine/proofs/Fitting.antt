@@ -1,5 +1,5 @@
 -- Each step of an engine keeps the view suited, for a get and for a change.
-use Rattle.std.proofs.Common.{◌≡◌, ◌≢◌, ◌==◌, ℕ, suc, ◌^◌, ◌<◌, ◌⊎◌, inl, inr, Bool, true, false, cond, Some, None, List, [], ◌∷◌, ◌++◌, length, refl, sym, ◌∙◌, ap, subst, arith}
+use Rattle.std.proofs.Common.{◌≡◌, ◌≢◌, ◌==◌, ℕ, suc, ◌^◌, ◌<◌, ◌⊎◌, inl, inr, Bool, true, false, cond, List, [], ◌∷◌, ◌++◌, length, refl, sym, ◌∙◌, ap, subst}
 use Rattle.op_core.specs.declared.want.Want.{Want}
 use Rattle.op_core.specs.declared.want.Want.TheVariants as want
 use Rattle.op_core.specs.declared.want.Ans.{Ans}
@@ -24,8 +24,8 @@ use Rattle.read_op.specs.declared.step.ReadEnd.TheVariants as read_end
 use Rattle.read_op.specs.declared.step.ReadStep.{ReadStep}
 use Rattle.read_op.specs.declared.step.ReadStep.TheVariants as reads
 use Rattle.read_op.specs.declared.op.ReadOp.{ReadOp}
-use Rattle.read_op.specs.Steps.{begun as read_begun, wanted as read_wanted, wanted_in, taken as read_taken}
-use Rattle.read_op.specs.Fits.{IsIn as ReadIsIn, Suits as ReadSuits, HasNotReplied as ReadNotReplied, HasReplied, EntersAnswer, OwesTheSame, kind_of as read_kind, StepsWell as ReadStepsWell}
+use Rattle.read_op.specs.Steps.{wanted as read_wanted, wanted_in, taken as read_taken}
+use Rattle.read_op.specs.Fits.{IsIn as ReadIsIn, Suits as ReadSuits, HasNotReplied as ReadNotReplied, HasReplied, EntersAnswer, OwesTheSame, kind_of as read_kind}
 use Rattle.read_op.proofs.Fitting.{wants_by_kind, may_step, begins_suited as read_begins}
 use Rattle.read_op.proofs.Stepping.{keeps_suits as read_keeps}
 use Rattle.write_op.specs.declared.control.WriteEnd.{WriteEnd}
@@ -42,8 +42,8 @@ use Rattle.write_op.specs.Numbers.{HasWords}
 use Rattle.engine.specs.declared.engine.Op.{Op}
 use Rattle.engine.specs.declared.engine.Op.TheVariants.{Read, Write}
 use Rattle.engine.specs.declared.engine.Engine.{Engine}
-use Rattle.engine.specs.Engine.{running, begun, go_on_at, go_on, wanted, read_reply, read_end_at, write_reply}
-use Rattle.engine.specs.Fits.{HasNoMore, HasOneMore, SuitsOp, Suits, EntersReply, HasEnded, IsWordCall, BeginsSuited, StepsWell, KeepsSuits}
+use Rattle.engine.specs.Engine.{running, go_on_at, go_on, wanted, read_reply, read_end_at, write_reply}
+use Rattle.engine.specs.Fits.{HasNoMore, HasOneMore, Suits, EntersReply, HasEnded, IsWordCall, BeginsSuited, StepsWell, KeepsSuits}
 use Rattle.engine.proofs.Ways.{callers_stay, read_value, read_done, write_done}
 
 -- ---- an engine after a step: it goes on and its view suits, or it has ended well

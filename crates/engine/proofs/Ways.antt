@@ -1,8 +1,7 @@
 -- Which steps have ended, and what a step does to nobody.
-use Rattle.std.proofs.Common.{◌≡◌, ℕ, ◌==◌, ◌<◌, Bool, true, false, cond, Option, Some, None, refl, ap, subst, arith}
-use Rattle.op_core.specs.declared.want.Want.{Want}
+use Rattle.std.proofs.Common.{◌≡◌, ℕ, ◌<◌, Bool, true, false, Option, Some, None, refl}
 use Rattle.op_core.specs.declared.want.Want.TheVariants as want
-use Rattle.op_core.specs.declared.want.Ans.TheVariants.{Value, Won, Lost}
+use Rattle.op_core.specs.declared.want.Ans.TheVariants.{Value}
 use Rattle.image_layout.specs.Places.{Shape}
 use Rattle.world.specs.Views.{Answer, View}
 use Rattle.world.specs.Wants.{answer_to}
@@ -17,7 +16,6 @@ use Rattle.read_op.specs.declared.step.ReadStep.{ReadStep}
 use Rattle.read_op.specs.declared.step.ReadStep.TheVariants as reads
 use Rattle.read_op.specs.declared.op.ReadOp.{ReadOp}
 use Rattle.read_op.specs.Steps.{wanted_in, wanted_again}
-use Rattle.write_op.specs.declared.control.Side.TheVariants.{Home, Probing}
 use Rattle.write_op.specs.declared.control.Held.TheVariants.{OnlyHome, OnlyProbing, Both}
 use Rattle.write_op.specs.declared.control.Point.{Point}
 use Rattle.write_op.specs.declared.control.Point.TheVariants.{StoreKey, StoreValue, StoreFinger, FlushFinger, FlushRecord, FenceRecord, Publish, FlushPublished, FencePublished, DrawPlace}

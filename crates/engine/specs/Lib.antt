@@ -1,5 +1,7 @@
 pub mod Engine
 pub mod Fits
+pub mod Left
+pub mod Asks
 pub mod Core
 pub mod Good
 pub mod Holding

@@ -1,6 +1,16 @@
 //! The laws of an engine. The functions do nothing: each stands for the law that its contract says.
 
+ghost use Rattle.std.specs.Prelude.{◌≡◌, ◌≢◌, ℕ, ◌+◌, ◌<◌, ◌≤◌};
+ghost use Rattle.op_core.specs.declared.want.Want.TheVariants.{Flush, Fence, Done};
+ghost use Rattle.op_core.specs.declared.want.Ans.{Ans};
+ghost use Rattle.map_model.specs.declared.call.Call.{Call};
+ghost use Rattle.world.specs.declared.site.Site.{Site};
+ghost use Rattle.write_op.specs.Left.{IsAnswer};
+ghost use Rattle.engine.specs.declared.engine.Engine.{Engine};
+ghost use Rattle.engine.specs.Engine.{begun, wanted, taken};
 ghost use Rattle.engine.specs.Fits.{BeginsSuited, KeepsSuits};
+ghost use Rattle.engine.specs.Left.{left, waiting};
+ghost use Rattle.engine.specs.Asks.{AsksWithin, AsksWords, KeepsNotes, KeepsSpent, FullIsKnown};
 
 /// An engine fits the world of many callers: at the beginning of a call it suits the view of a caller that holds, knows and owes
 /// nothing; each event is one of a kind that the view may take, and leaves a view that suits the engine; or the attempt has
@@ -13,3 +23,54 @@ pub fn fits_the_world()
     write_op::stores_are_words();
     write_op::fits_the_world();
 }
+
+/// An engine asks for words of the image and those behind it alone, and flushes lines of the image alone.
+pub fn asks_within()
+    ensures { AsksWithin }
+{
+    write_op::words_are_inside();
+}
+
+/// An attempt ends: each answer of the kind that was asked for leaves fewer events, of at most 55 at its beginning.
+pub fn attempts_end()
+    ensures falls { (e : Engine) (ans : Ans) → IsAnswer (wanted e) ans → left (taken e ans) < left e }
+    ensures begins { (site : Site) (call : Call) → left (begun site call) ≤ 55 }
+{}
+
+/// What an engine stores, or puts in place of another value, is a word.
+pub fn stores_are_words()
+    ensures { AsksWords }
+{
+    write_op::stores_are_words();
+}
+
+/// A metadata word that an engine stores has the overflow notes of the word before, which its caller knows, and it exchanges none.
+pub fn stores_keep_notes()
+    ensures { KeepsNotes }
+{
+    write_op::stores_keep_notes();
+}
+
+/// A lock word that is free with its last version stays: an engine neither stores it nor asks to exchange it.
+pub fn spent_locks_stay()
+    ensures { KeepsSpent }
+{
+    write_op::spent_locks_stay();
+}
+
+/// At most two lines are flushed and not fenced: the number that bounds them is 0 at both ends and never above 2, each flush
+/// raises it, and no event but a fence lowers it.
+pub fn flushes_are_few()
+    ensures begins { (site : Site) (call : Call) → waiting (begun site call) ≡ 0 }
+    ensures most { (e : Engine) → waiting e ≤ 2 }
+    ensures flushes { (e : Engine) (ans : Ans) (l : ℕ) → IsAnswer (wanted e) ans → wanted e ≡ Flush l → waiting e + 1 ≤ waiting (taken e ans) }
+    ensures keeps { (e : Engine) (ans : Ans) → IsAnswer (wanted e) ans → wanted e ≢ Fence → waiting e ≤ waiting (taken e ans) }
+    ensures ends { (e : Engine) → wanted e ≡ Done → waiting e ≡ 0 }
+{
+    write_op::flushes_are_few();
+}
+
+/// Where an engine is to refuse an insert for want of room, its caller knows that the key's home bucket is full.
+pub fn no_room_is_full()
+    ensures { FullIsKnown }
+{}
