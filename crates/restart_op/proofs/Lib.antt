@@ -1,0 +1,6 @@
+pub mod Facts
+pub mod FromSound
+pub mod Opened
+pub mod Same
+pub mod Cuts
+pub mod Beginning

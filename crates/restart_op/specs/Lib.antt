@@ -1,0 +1,5 @@
+pub mod Restart
+pub mod Course
+pub mod Notes
+pub mod Budget
+pub mod Restarted
