@@ -3,3 +3,6 @@ pub mod Fits
 pub mod Core
 pub mod Left
 pub mod Asks
+pub mod Core
+pub mod Good
+pub mod Holding
