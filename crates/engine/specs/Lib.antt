@@ -3,6 +3,5 @@ pub mod Fits
 pub mod Core
 pub mod Left
 pub mod Asks
-pub mod Core
 pub mod Good
 pub mod Holding
