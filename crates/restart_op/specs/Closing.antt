@@ -113,10 +113,11 @@ CloseKeeps = (site : Site) (start : Words) (world : World) → IsQuiet site star
     → IsPossible (words_of site.shape) start (close_after site.shape world.words world.trace n).trace (slice_index medium)
     → IsKept site world.words medium
 
--- what a close leaves: one medium, which has these words and the marker
+-- what a close leaves: one medium, which has these words and the marker, and may be restarted
 pub record IsClosed (shape : Shape) (words : Words) (medium : List ℕ) : Type 0 where
   pub settled : (i : ℕ) → i < words_of shape → slice_index medium i ≡ words i
   pub clean : IsClean (frame_of shape (slice_index medium))
+  pub served : IsServedImage shape medium
 
 -- THE END OF A CLOSE: one medium alone may be left, the newest words, which are those of before with the marker set
 abbrev pub CloseSettles : Type 0
