@@ -11,3 +11,4 @@ pub mod NoNotes
 pub mod MarkedTable
 pub mod ClosePhases
 pub mod CloseKeeping
+pub mod Quiet

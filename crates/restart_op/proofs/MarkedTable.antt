@@ -1,13 +1,14 @@
--- A table with the marker set, free locks and no notes follows the seven rules.
+-- A table with the marker set, free locks and no notes follows the seven rules, and the program serves it.
 use Rattle.std.proofs.Common.{◌≡◌, ℕ, ◌^◌, ◌<◌, sym, ap, subst, ◌∙◌, arith, inl}
 use Rattle.hash_word.specs.Hash.{home_of}
 use Rattle.bucket_meta.specs.Bucket.{lock_of}
-use Rattle.segment_head.specs.HeadWord.{normal}
+use Rattle.segment_head.specs.HeadWord.{version_in, normal}
 use Rattle.trace.specs.Events.{Words}
 use Rattle.image_layout.specs.Places.{Shape, bucket_at}
-use Rattle.sound_image.specs.Segments.{frame_of, state_at, Owns}
+use Rattle.sound_image.specs.Segments.{frame_of, image_version, state_at, Owns}
 use Rattle.sound_image.specs.Records.{key_hash, slot_key, slot_hash, HasRecord, HasExactNotes}
 use Rattle.sound_image.specs.Rules.{StandsRight, NotBefore, FollowsRules}
+use Rattle.image_file.specs.Stage.{PassesRule8}
 use Rattle.bucket_words.specs.Buckets.{IsHomeBucket}
 use Rattle.bucket_words.proofs.Pairs.{key_hash-fits}
 use Rattle.restart_op.specs.Notes.{HasNoNotes}
@@ -94,4 +95,22 @@ module _ (shape : Shape) (word : Words) (table : IsMarkedTable shape word) where
           once = λ s b r current there _. not_before s b r there;
           notes = λ s b current near _. subst (λ s. HasExactNotes shape word s b) (sym (is_first shape word front s current.slot)) (exact_notes shape word table.buckets table.no_notes b near);
         };
+      }
+
+  -- and it is one that the program serves
+  home_again : (s b r : ℕ) → HasRecord shape word s b r → b ≡ home_of (slot_hash shape word s b r)
+  home_again s b r h =
+      let first = in_first s b r h in
+      subst (λ s. b ≡ home_of (slot_hash shape word s b r)) (sym first) (sym (at_home b r (subst (λ s. HasRecord shape word s b r) first h)))
+
+  pub marked_serves : PassesRule8 shape word
+  marked_serves w =
+      let front = table.front in
+      record {
+        one_segment = λ _. front.one_segment;
+        root = λ _. front.root;
+        clean = λ _. front.clean;
+        first = λ _. record { is_normal = front.is_normal; no_depth = front.no_depth };
+        current = λ s h _ live. subst (λ s. version_in ((frame_of shape word).header s) ≡ image_version (frame_of shape word)) (sym (is_first shape word front s h)) front.same_version;
+        home = λ s b r there _. home_again s b r there;
       }

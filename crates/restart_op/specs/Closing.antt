@@ -1,10 +1,11 @@
 -- What a close keeps, and what it leaves.
-use Rattle.std.specs.Prelude.{◌≡◌, ◌≢◌, ℕ, ◌+◌, ◌-◌, ◌/◌, ◌^◌, ◌<◌, ◌≤◌, List, [], length, slice_index}
+use Rattle.std.specs.Prelude.{◌≡◌, ◌≢◌, ℕ, ◌+◌, ◌-◌, ◌/◌, ◌^◌, ◌<◌, ◌≤◌, List, [], ◌∷◌, length, slice_index}
 use Rattle.std.specs.FinMap.{get}
 use Rattle.op_core.specs.declared.want.Want.TheVariants.{Done}
 use Rattle.map_model.specs.Map.{Map}
-use Rattle.trace.specs.Events.{Words, Trace, with_word, value_at}
+use Rattle.trace.specs.Events.{Words, Event, Trace, with_word, value, value_at}
 use Rattle.trace.specs.Progress.{pending}
+use Rattle.trace.specs.Steps.{Writes}
 use Rattle.trace.specs.Media.{IsPossible}
 use Rattle.image_layout.specs.Places.{Shape, IsShape, state_word, words_of}
 use Rattle.sound_image.specs.Segments.{frame_of, IsClean}
@@ -21,6 +22,7 @@ use Rattle.restart_op.specs.declared.close.CloseOp.{CloseOp}
 use Rattle.restart_op.specs.Course.{Course, after_events}
 use Rattle.restart_op.specs.Close.{lines_of, begun, wanted, taken}
 use Rattle.restart_op.specs.Notes.{HasNoNotes}
+use Rattle.restart_op.specs.Restarted.{IsServedImage, site_of, world_of}
 
 -- ---- a close and its events
 -- so many events of a close, over these words and after this trace
@@ -73,15 +75,28 @@ pub record SaysShapeInFront (shape : Shape) (front : Words) : Type 0 where
   pub segments : front 2 ≡ shape.segments
   pub depth : front 3 ≡ shape.depth
 
--- the world is well, and all callers are done: nobody holds or owes anything, and nothing is noted of the stash. All
--- values ever are words
+-- all values that a word ever had have 64 bits
+abbrev pub HaveFit : Words → Trace → Type 0
+HaveFit start es = (i t : ℕ) → value_at start es t i < 2 ^ 64
+
+-- the world is well, and all callers are done: nobody holds or owes anything, and nothing is noted of the stash
 pub record IsQuiet (site : Site) (start : Words) (world : World) : Type 0 where
   pub well : IsWell site start world
   pub nothing : (j : ℕ) (v : View) → At world.views j v → OwesNothing v
-  pub fits : (i t : ℕ) → value_at start world.trace t i < 2 ^ 64
+  pub fits : HaveFit start world.trace
   pub says : SaysShapeInFront site.shape site.front
   pub no_notes : HasNoNotes site.shape world.words
   pub fenced : pending 0 world.trace ≡ []
+
+-- values fit where those that an event writes do
+abbrev pub FitsByEvents : Type 0
+FitsByEvents = (start : Words) (e : Event) (es : Trace) → ((i x : ℕ) → Writes (value start es) e i x → x < 2 ^ 64) → HaveFit start es
+    → HaveFit start (e ∷ es)
+
+-- a restart leaves the world quiet, as long as no caller begins
+abbrev pub QuietAfterRestart : Type 0
+QuietAfterRestart = (shape : Shape) (words : List ℕ) (callers : ℕ) → IsServedImage shape words → callers < 2 ^ 32
+    → IsQuiet (site_of shape words callers) (slice_index words) (world_of shape words callers)
 
 -- ---- what it keeps
 -- a medium is a sound image with the pairs of these words, and says its shape as they do
@@ -98,10 +113,11 @@ CloseKeeps = (site : Site) (start : Words) (world : World) → IsQuiet site star
     → IsPossible (words_of site.shape) start (close_after site.shape world.words world.trace n).trace (slice_index medium)
     → IsKept site world.words medium
 
--- what a close leaves: one medium, which has these words and the marker
+-- what a close leaves: one medium, which has these words and the marker, and may be restarted
 pub record IsClosed (shape : Shape) (words : Words) (medium : List ℕ) : Type 0 where
   pub settled : (i : ℕ) → i < words_of shape → slice_index medium i ≡ words i
   pub clean : IsClean (frame_of shape (slice_index medium))
+  pub served : IsServedImage shape medium
 
 -- THE END OF A CLOSE: one medium alone may be left, the newest words, which are those of before with the marker set
 abbrev pub CloseSettles : Type 0

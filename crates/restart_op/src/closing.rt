@@ -3,7 +3,7 @@
 ghost use Rattle.std.specs.Prelude.{ℕ, ◌≡◌};
 ghost use Rattle.image_layout.specs.Places.{Shape, IsShape};
 ghost use Rattle.restart_op.specs.Close.{begun};
-ghost use Rattle.restart_op.specs.Closing.{events_of, left, Falls, EndsInTime, FewWait, CloseKeeps, CloseSettles, CloseMarks};
+ghost use Rattle.restart_op.specs.Closing.{events_of, left, Falls, EndsInTime, FewWait, FitsByEvents, QuietAfterRestart, CloseKeeps, CloseSettles, CloseMarks};
 
 /// Each event leaves fewer to do, and so a close ends; and never do more than eight lines wait for a fence.
 pub fn close_ends()
@@ -11,6 +11,12 @@ pub fn close_ends()
     ensures most { (shape : Shape) → IsShape shape → left (begun shape) ≡ events_of shape }
     ensures ends { EndsInTime }
     ensures few_wait { FewWait }
+{}
+
+/// What has to hold before a close: all values fit where each event's do, and a restart leaves the world quiet.
+pub fn close_begins()
+    ensures fits { FitsByEvents }
+    ensures quiet { QuietAfterRestart }
 {}
 
 /// Whatever a power cut may leave during a close is a sound image with the pairs of the table; and where the close has

@@ -10,7 +10,7 @@ mod laws;
 mod restart;
 
 pub use close::{CloseOp, CloseStep, Closed};
-pub use closing::{close_ends, close_keeps};
+pub use closing::{close_begins, close_ends, close_keeps};
 pub use laws::{restart_begins, restart_ends, restart_keeps};
 pub use restart::{RestartOp, RestartStep, Started};
 
