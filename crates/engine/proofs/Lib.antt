@@ -1,2 +1,7 @@
 mod Ways
 mod Fitting
+mod Falling
+mod Within
+mod Sparing
+mod Waits
+mod Fullness
