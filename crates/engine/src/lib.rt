@@ -12,3 +12,6 @@ pub use laws::{
     asks_within, attempts_end, fits_the_world, flushes_are_few, no_room_is_full, spent_locks_stay,
     stores_are_words, stores_keep_notes,
 };
+
+#[cfg(test)]
+mod tests;
