@@ -6,3 +6,10 @@ mod Places
 mod Turns
 mod Cut
 mod Goodness
+mod Ways
+mod Fitting
+mod Falling
+mod Within
+mod Sparing
+mod Waits
+mod Fullness
