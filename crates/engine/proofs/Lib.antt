@@ -1,8 +1,10 @@
-pub mod Ways
-pub mod Fitting
+mod Ways
+mod Fitting
 mod Planned
 mod Told
 mod Places
+mod Unnoted
 mod Turns
 mod Cut
 mod Goodness
+mod Beginnings
