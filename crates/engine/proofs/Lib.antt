@@ -4,7 +4,7 @@ mod Planned
 mod Told
 mod Places
 mod Unnoted
-mod Turns
+mod Turning
 mod Cut
 mod Goodness
 mod Beginnings
