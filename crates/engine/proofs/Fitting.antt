@@ -1,5 +1,5 @@
 -- Each step of an engine keeps the view suited, for a get and for a change.
-use Rattle.std.proofs.Common.{◌≡◌, ◌≢◌, ◌==◌, ℕ, suc, ◌^◌, ◌<◌, ◌⊎◌, inl, inr, Bool, true, false, cond, List, [], ◌∷◌, ◌++◌, length, refl, sym, ◌∙◌, ap, subst}
+use Rattle.std.proofs.Common.{◌≡◌, ◌≢◌, ◌==◌, ℕ, suc, ◌^◌, ◌<◌, inl, inr, Bool, true, false, cond, List, [], ◌∷◌, ◌++◌, length, refl, sym, ◌∙◌, ap, subst}
 use Rattle.op_core.specs.declared.want.Want.{Want}
 use Rattle.op_core.specs.declared.want.Want.TheVariants as want
 use Rattle.op_core.specs.declared.want.Ans.{Ans}
@@ -30,8 +30,7 @@ use Rattle.read_op.proofs.Fitting.{wants_by_kind, may_step, begins_suited as rea
 use Rattle.read_op.proofs.Stepping.{keeps_suits as read_keeps}
 use Rattle.write_op.specs.declared.control.WriteEnd.{WriteEnd}
 use Rattle.write_op.specs.declared.control.WriteEnd.TheVariants.{Replied, NoSlot, Again, Stale, Off}
-use Rattle.write_op.specs.declared.control.Step.{Step}
-use Rattle.write_op.specs.declared.control.Step.TheVariants.{AskPower, LoadRoot, LoadEntry, LoadHead, LookAt, TryLock, RootAgain, EntryAgain, HeadAgain, LoadWord, LoadCount, Make, CountSpent, CountFull, GiveBack, Ended}
+use Rattle.write_op.specs.declared.control.Step.TheVariants.{Ended}
 use Rattle.write_op.specs.declared.machine.WriteOp.{WriteOp}
 use Rattle.write_op.specs.Wanted.{key_for, value_for}
 use Rattle.write_op.specs.Taken.{begun as write_begun, wanted as write_wanted, taken as write_taken, refused, end_at}
@@ -44,7 +43,7 @@ use Rattle.engine.specs.declared.engine.Op.TheVariants.{Read, Write}
 use Rattle.engine.specs.declared.engine.Engine.{Engine}
 use Rattle.engine.specs.Engine.{running, go_on_at, go_on, wanted, read_reply, read_end_at, write_reply}
 use Rattle.engine.specs.Fits.{HasNoMore, HasOneMore, Suits, EntersReply, HasEnded, IsWordCall, BeginsSuited, StepsWell, KeepsSuits}
-use Rattle.engine.proofs.Ways.{callers_stay, read_value, read_done, write_done}
+use Rattle.engine.proofs.Ways.{callers_stay, read_value, read_done, write_done, go_on_by}
 
 -- ---- an engine after a step: it goes on and its view suits, or it has ended well
 pub record GoesOn (site : Site) (here : Here) (call : Call) (e : Engine) (before w : View) : Type 0 where
@@ -106,29 +105,6 @@ module _ (key : ℕ) (call : Call) (same : call ≡ Get key) (before v w : View)
   }
 
 -- ---- a change
--- an engine goes on with a refusal where no slot was found, and else stays with its change
-go_on_by : (op : WriteOp) (s : Step) → (s ≡ Ended NoSlot) ⊎ ((s ≡ Ended NoSlot → ⊥) × (go_on_at op s ≡ op))
-go_on_by op (Ended NoSlot) = inl refl
-go_on_by op (Ended (Replied r place)) = inr ((λ e. absurd (cc)), refl)
-go_on_by op (Ended (Again why)) = inr ((λ e. absurd (cc)), refl)
-go_on_by op (Ended (Stale segment byte)) = inr ((λ e. absurd (cc)), refl)
-go_on_by op (Ended Off) = inr ((λ e. absurd (cc)), refl)
-go_on_by op AskPower = inr ((λ e. absurd (cc)), refl)
-go_on_by op LoadRoot = inr ((λ e. absurd (cc)), refl)
-go_on_by op LoadEntry = inr ((λ e. absurd (cc)), refl)
-go_on_by op LoadHead = inr ((λ e. absurd (cc)), refl)
-go_on_by op (LookAt side) = inr ((λ e. absurd (cc)), refl)
-go_on_by op (TryLock side) = inr ((λ e. absurd (cc)), refl)
-go_on_by op RootAgain = inr ((λ e. absurd (cc)), refl)
-go_on_by op EntryAgain = inr ((λ e. absurd (cc)), refl)
-go_on_by op HeadAgain = inr ((λ e. absurd (cc)), refl)
-go_on_by op (LoadWord at) = inr ((λ e. absurd (cc)), refl)
-go_on_by op LoadCount = inr ((λ e. absurd (cc)), refl)
-go_on_by op (Make point) = inr ((λ e. absurd (cc)), refl)
-go_on_by op (CountSpent side) = inr ((λ e. absurd (cc)), refl)
-go_on_by op CountFull = inr ((λ e. absurd (cc)), refl)
-go_on_by op (GiveBack held end) = inr ((λ e. absurd (cc)), refl)
-
 -- the laws of a change that are used
 pub record ChangeLaws : Type 0 where
   pub begins : WriteBegins
@@ -236,12 +212,12 @@ module _ (laws : ChangeLaws) (site : Site) (here : Here) (call : Call) (words : 
       let found : ℕ = words (word_of site.shape (read_wanted op)) in
       let well = read_keeps site op words views j v h at is view.3 s.asks in
       let w : View = view_after site.shape (read_kind op) found v in
-      let goes : (n : ℕ) → n ≡ found → ReadIsIn site (read_taken op (Value n)) → 
-          ReadSuits site (read_taken op (Value n)) (view_after site.shape (read_kind op) n v) → OwesTheSame v (view_after site.shape (read_kind op) n v)
-          → EntersAnswer op.key (read_taken op (Value n)).step v (view_after site.shape (read_kind op) n v)
-          → GoesOn site here call (running (Read (read_taken op (Value n)))) before (view_after site.shape (read_kind op) n v)
-        = λ n e is' suits' owes enters. read_goes op.key call view.0 before v (view_after site.shape (read_kind op) n v) view.5 site here (read_taken op (Value n))
-            refl view.1 is' suits' owes enters view.4 (callers_stay site.shape (read_kind op) n v s.callers) in
+      let goes : (n : ℕ) → n ≡ found → ReadIsIn site (read_taken op (Value n)) →
+      ReadSuits site (read_taken op (Value n)) (view_after site.shape (read_kind op) n v) → OwesTheSame v (view_after site.shape (read_kind op) n v)
+      → EntersAnswer op.key (read_taken op (Value n)).step v (view_after site.shape (read_kind op) n v)
+      → GoesOn site here call (running (Read (read_taken op (Value n)))) before (view_after site.shape (read_kind op) n v)
+      = λ n e is' suits' owes enters. read_goes op.key call view.0 before v (view_after site.shape (read_kind op) n v) view.5 site here (read_taken op (Value n))
+      refl view.1 is' suits' owes enters view.4 (callers_stay site.shape (read_kind op) n v s.callers) in
       let n : ℕ = words (word_of site.shape (wanted_by site.shape (read_kind op))) in
       let same : n ≡ found = ap (λ x. words (word_of site.shape x)) (sym wants) in
       let one = goes n same well.is_in well.suits well.owes well.answers in
@@ -261,7 +237,7 @@ module _ (laws : ChangeLaws) (site : Site) (here : Here) (call : Call) (words : 
       let well = laws.keeps site op words views j before v h at is view.4 s.asks fits in
       let next : WriteOp = write_taken op (answer_to (write_wanted op) n) in
       let one = write_goes laws site here call before (view_after site.shape (write_kind op n) n v) next view.0 view.1 well.is_in
-          (laws.words_stay op (answer_to (write_wanted op) n) (is_word (write_wanted op) n fits) view.3) well.suits in
+      (laws.words_stay op (answer_to (write_wanted op) n) (is_word (write_wanted op) n fits) view.3) well.suits in
       let two = subst (λ m. GoesOn site here call (running (Write (go_on (write_taken op (answer_to (write_wanted op) m))))) before (view_after site.shape (write_kind op m) m v)) same one in
       record {
         wants = subst (λ m. write_wanted op ≡ wanted_by site.shape (write_kind op m)) same well.wants;

@@ -1,5 +1,10 @@
 mod Ways
 mod Fitting
+mod Falling
+mod Within
+mod Sparing
+mod Waits
+mod Fullness
 mod Planned
 mod Told
 mod Places

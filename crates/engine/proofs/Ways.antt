@@ -1,7 +1,10 @@
--- Which steps have ended, and what a step does to nobody.
-use Rattle.std.proofs.Common.{◌≡◌, ℕ, ◌<◌, Bool, true, false, Option, Some, None, refl}
+-- What each step of a machine wants, by cases: who has ended, who is answered a value, and who goes on.
+use Rattle.std.proofs.Common.{◌≡◌, ℕ, ◌==◌, ◌<◌, ◌⊎◌, inl, inr, cond, Bool, true, false, Option, Some, None, refl}
+use Rattle.std.specs.Prelude.{⊤}
+use Rattle.op_core.specs.declared.want.Want.{Want}
 use Rattle.op_core.specs.declared.want.Want.TheVariants as want
-use Rattle.op_core.specs.declared.want.Ans.TheVariants.{Value}
+use Rattle.op_core.specs.declared.want.Ans.{Ans}
+use Rattle.op_core.specs.declared.want.Ans.TheVariants.{Value, Won, Lost}
 use Rattle.image_layout.specs.Places.{Shape}
 use Rattle.world.specs.Views.{Answer, View}
 use Rattle.world.specs.Wants.{answer_to}
@@ -24,7 +27,11 @@ use Rattle.write_op.specs.declared.control.Step.{Step}
 use Rattle.write_op.specs.declared.control.Step.TheVariants.{AskPower, LoadRoot, LoadEntry, LoadHead, LookAt, TryLock, RootAgain, EntryAgain, HeadAgain, LoadWord, LoadCount, Make, CountSpent, CountFull, GiveBack, Ended}
 use Rattle.write_op.specs.declared.control.Kept.{Kept}
 use Rattle.write_op.specs.declared.control.Task.{Task}
+use Rattle.write_op.specs.declared.control.WriteEnd.TheVariants.{Replied, NoSlot, Again, Stale, Off}
+use Rattle.write_op.specs.declared.machine.WriteOp.{WriteOp}
 use Rattle.write_op.specs.Wanted.{wanted_at, wanted_of}
+use Rattle.write_op.specs.Left.{IsAnswer}
+use Rattle.engine.specs.Engine.{go_on_at}
 
 -- ---- for how many callers a view stands
 module _ (v : View) (some : 0 < v.callers) where
@@ -86,6 +93,29 @@ read_value op (reads.Count found) n asks = refl
 read_value op (reads.Check found place at) n asks = again_value op found at n
 read_value op (reads.Ended end) n asks = absurd (asks refl)
 
+-- nothing but loads are asked for
+abbrev pub IsLoad : Want → Type 0
+IsLoad (want.Load i) = ⊤
+IsLoad want.Power = ⊤
+IsLoad w = ⊥
+
+no_exchange : (b : Bool) → cond b Won (Lost 0) ≡ Value 0 → ⊥
+no_exchange true e = absurd (cc)
+no_exchange false e = absurd (cc)
+
+by_value : (w : Want) → answer_to w 0 ≡ Value 0 → IsLoad w
+by_value (want.Load i) e = tt
+by_value (want.Store i x) e = absurd (cc)
+by_value (want.Exchange i a b) e = absurd (no_exchange (0 == a) e)
+by_value (want.Flush l) e = absurd (cc)
+by_value want.Fence e = absurd (cc)
+by_value want.Draw e = absurd (cc)
+by_value want.Power e = tt
+by_value want.Done e = absurd (cc)
+
+pub read_loads : (op : ReadOp) (s : ReadStep) → (wanted_in op s ≡ want.Done → ⊥) → IsLoad (wanted_in op s)
+read_loads op s asks = by_value (wanted_in op s) (read_value op s 0 asks)
+
 again_asks : (op : ReadOp) (found : Found) (at : Second) → wanted_again op found at ≡ want.Done → ⊥
 again_asks op found again.Root e = absurd (cc)
 again_asks op found again.Entry e = absurd (cc)
@@ -103,6 +133,25 @@ read_done op (reads.Fill path free words next) e = absurd (cc)
 read_done op (reads.Count found) e = absurd (cc)
 read_done op (reads.Check found place at) e = absurd (again_asks op found at e)
 read_done op (reads.Ended end) e = (end, refl)
+
+again_answer : (op : ReadOp) (found : Found) (at : Second) (a : Ans) → IsAnswer (wanted_again op found at) a → (n : ℕ) × (a ≡ Value n)
+again_answer op found again.Root (Value n) i = (n, refl)
+again_answer op found again.Entry (Value n) i = (n, refl)
+again_answer op found again.Head (Value n) i = (n, refl)
+again_answer op found again.Lock (Value n) i = (n, refl)
+again_answer op found at a i = absurd i
+
+-- an answer of the kind that a get asked for is a value
+pub read_answer : (op : ReadOp) (s : ReadStep) (a : Ans) → IsAnswer (wanted_in op s) a → (n : ℕ) × (a ≡ Value n)
+read_answer op reads.Power (Value n) i = (n, refl)
+read_answer op reads.Root (Value n) i = (n, refl)
+read_answer op (reads.Entry root) (Value n) i = (n, refl)
+read_answer op (reads.Head root segment) (Value n) i = (n, refl)
+read_answer op (reads.Lock path) (Value n) i = (n, refl)
+read_answer op (reads.Fill path free words next) (Value n) i = (n, refl)
+read_answer op (reads.Count found) (Value n) i = (n, refl)
+read_answer op (reads.Check found place at) a i = again_answer op found at a i
+read_answer op s a i = absurd i
 
 -- ---- a change
 point_asks : (t : Task) (k : Kept) (point : Point) → wanted_at t k point ≡ want.Done → ⊥
@@ -137,3 +186,26 @@ write_done t k (GiveBack OnlyHome end) e = absurd (cc)
 write_done t k (GiveBack OnlyProbing end) e = absurd (cc)
 write_done t k (GiveBack Both end) e = absurd (cc)
 write_done t k (Ended end) e = (end, refl)
+
+-- an engine goes on with a refusal where no slot was found, and else stays with its change
+pub go_on_by : (op : WriteOp) (s : Step) → (s ≡ Ended NoSlot) ⊎ ((s ≡ Ended NoSlot → ⊥) × (go_on_at op s ≡ op))
+go_on_by op (Ended NoSlot) = inl refl
+go_on_by op (Ended (Replied r place)) = inr ((λ e. absurd (cc)), refl)
+go_on_by op (Ended (Again why)) = inr ((λ e. absurd (cc)), refl)
+go_on_by op (Ended (Stale segment byte)) = inr ((λ e. absurd (cc)), refl)
+go_on_by op (Ended Off) = inr ((λ e. absurd (cc)), refl)
+go_on_by op AskPower = inr ((λ e. absurd (cc)), refl)
+go_on_by op LoadRoot = inr ((λ e. absurd (cc)), refl)
+go_on_by op LoadEntry = inr ((λ e. absurd (cc)), refl)
+go_on_by op LoadHead = inr ((λ e. absurd (cc)), refl)
+go_on_by op (LookAt side) = inr ((λ e. absurd (cc)), refl)
+go_on_by op (TryLock side) = inr ((λ e. absurd (cc)), refl)
+go_on_by op RootAgain = inr ((λ e. absurd (cc)), refl)
+go_on_by op EntryAgain = inr ((λ e. absurd (cc)), refl)
+go_on_by op HeadAgain = inr ((λ e. absurd (cc)), refl)
+go_on_by op (LoadWord at) = inr ((λ e. absurd (cc)), refl)
+go_on_by op LoadCount = inr ((λ e. absurd (cc)), refl)
+go_on_by op (Make point) = inr ((λ e. absurd (cc)), refl)
+go_on_by op (CountSpent side) = inr ((λ e. absurd (cc)), refl)
+go_on_by op CountFull = inr ((λ e. absurd (cc)), refl)
+go_on_by op (GiveBack held end) = inr ((λ e. absurd (cc)), refl)

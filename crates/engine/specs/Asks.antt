@@ -1,6 +1,6 @@
 -- What an engine asks of the memory: words of the image and those behind it, stores of words, and none that would change an
 -- overflow note or a lock word of the last version. And what is known where an insert finds no room.
-use Rattle.std.specs.Prelude.{◌≡◌, ◌≢◌, ℕ, ◌+◌, ◌*◌, ◌^◌, ◌<◌, ◌≤◌}
+use Rattle.std.specs.Prelude.{◌≡◌, ◌≢◌, ℕ, ◌+◌, ◌-◌, ◌*◌, ◌^◌, ◌<◌, ◌≤◌, List}
 use Rattle.op_core.specs.declared.want.Want.TheVariants.{Store, Exchange, Flush}
 use Rattle.bucket_meta.specs.Bucket.{allocated}
 use Rattle.trace.specs.Events.{Words}

@@ -1,0 +1,180 @@
+-- Each answer of the kind that was asked for leaves an engine fewer events, by its machine's steps.
+use Rattle.std.proofs.Common.{◌≡◌, ◌≢◌, ◌==◌, ℕ, ◌+◌, ◌-◌, ◌%◌, ◌^◌, ◌<◌, ◌≤◌, inl, inr, Bool, true, false, cond, Option, Some, None, List, refl, sym, subst, arith}
+use Rattle.std.specs.Prelude.{nat_le, nat_lt, if◌then◌else◌}
+use Rattle.std.proofs.lemmas.Bool.{cases_Bool}
+use Rattle.op_core.specs.declared.want.Want.{Want}
+use Rattle.op_core.specs.declared.want.Want.TheVariants as want
+use Rattle.op_core.specs.declared.want.Ans.{Ans}
+use Rattle.op_core.specs.declared.want.Ans.TheVariants.{Value, Won, Lost, Drawn, Passed}
+use Rattle.op_core.specs.declared.why.Why.TheVariants.{Busy}
+use Rattle.image_layout.specs.Places.{root_word}
+use Rattle.map_model.specs.declared.call.Call.{Call}
+use Rattle.map_model.specs.declared.call.Call.TheVariants.{Get, Insert, Update, Remove}
+use Rattle.map_model.specs.declared.entry.Reply.TheVariants.{Spent}
+use Rattle.world.specs.declared.site.Site.{Site}
+use Rattle.read_op.specs.Steps.{wanted as read_wanted, taken as read_taken}
+use Rattle.read_op.specs.Budget.{left as read_left}
+use Rattle.read_op.proofs.Falling.{falls as read_falls}
+use Rattle.write_op.specs.declared.path.Sight.{Sight}
+use Rattle.write_op.specs.declared.path.Sight.TheVariants.{Good, Late, Other}
+use Rattle.write_op.specs.declared.control.Side.{Side}
+use Rattle.write_op.specs.declared.control.Side.TheVariants.{Home, Probing}
+use Rattle.write_op.specs.declared.control.Held.TheVariants.{OnlyHome, OnlyProbing, Both}
+use Rattle.write_op.specs.declared.control.Point.{Point}
+use Rattle.write_op.specs.declared.control.Point.TheVariants.{StoreKey, StoreValue, StoreFinger, FlushFinger, FlushRecord, FenceRecord, Publish, FlushPublished, FencePublished, DrawPlace}
+use Rattle.write_op.specs.declared.control.WriteEnd.{WriteEnd}
+use Rattle.write_op.specs.declared.control.WriteEnd.TheVariants.{Replied, Again, Off}
+use Rattle.write_op.specs.declared.control.Step.{Step}
+use Rattle.write_op.specs.declared.control.Step.TheVariants.{AskPower, LoadRoot, LoadEntry, LoadHead, LookAt, TryLock, RootAgain, EntryAgain, HeadAgain, LoadWord, LoadCount, Make, CountSpent, CountFull, GiveBack, Ended}
+use Rattle.write_op.specs.declared.control.Kept.{Kept}
+use Rattle.write_op.specs.declared.control.Task.{Task}
+use Rattle.write_op.specs.declared.machine.WriteOp.{WriteOp}
+use Rattle.write_op.specs.Slots.{slot_with, slot_free}
+use Rattle.write_op.specs.Ways.{entry_word, head_word, lock_word, sight_of}
+use Rattle.write_op.specs.Wanted.{wanted_of, wanted_at, free_of}
+use Rattle.write_op.specs.Taken.{moved, give_up, seen_at, after_head, after_look, after_loss, again, inserting, changing, decided, after_count, made, step_after, taken as write_taken}
+use Rattle.write_op.specs.Left.{IsAnswer, left_at, left_in}
+use Rattle.engine.specs.declared.engine.Op.{Op}
+use Rattle.engine.specs.declared.engine.Op.TheVariants.{Read, Write}
+use Rattle.engine.specs.declared.engine.Engine.{Engine}
+use Rattle.engine.specs.Engine.{begun, go_on_at, wanted_by_op, wanted, taken_by_op, taken}
+use Rattle.engine.specs.Left.{more_of, more_in, left_of_op, left}
+use Rattle.engine.proofs.Ways.{read_answer, go_on_by}
+
+-- how many events an engine has left where its change has come to a step, and goes on if it ended without a slot
+abbrev gone : Step → ℕ
+gone (Ended end) = more_of end
+gone (GiveBack held end) = left_in (GiveBack held end) + more_of end
+gone s = left_in s
+
+abbrev before : Step → ℕ
+before s = left_in s + more_in s
+
+-- of two steps that a test chooses between, both have at most n events left
+either : (n : ℕ) (b : Bool) (s t : Step) → gone s ≤ n → gone t ≤ n → gone (cond b s t) ≤ n
+either n true s t p q = p
+either n false s t p q = q
+
+given_up : (side : Side) (end : WriteEnd) → more_of end ≡ 0 → gone (give_up side end) ≤ 1
+given_up Home end none = omega (arith, none)
+given_up Probing end none = omega (arith, none)
+
+spent_left : (side : Side) → gone (CountSpent side) ≤ 2
+spent_left Home = omega arith
+spent_left Probing = omega arith
+
+looked : (side : Side) (word seen n : ℕ) → 2 ≤ n → gone (TryLock side) ≤ n → gone (after_look side word seen) ≤ n
+looked side word seen n two more =
+    let busy : gone (give_up side (Again (Busy word seen))) ≤ n = let g = given_up side (Again (Busy word seen)) refl in omega (arith, g, two) in
+    let spent : gone (CountSpent side) ≤ n = let g = spent_left side in omega (arith, g, two) in
+    either n (seen % 2 == 1) (give_up side (Again (Busy word seen))) (if seen == 2 ^ 64 - 2 then CountSpent side else TryLock side) busy
+    (either n (seen == 2 ^ 64 - 2) (CountSpent side) (TryLock side) spent more)
+
+lost : (side : Side) (word free seen : ℕ) → gone (after_loss side word free seen) ≤ 1
+lost side word free seen = either 1 (seen % 2 == 1) (give_up side (Again (Busy word seen))) (give_up side (moved word free seen))
+    (given_up side (Again (Busy word seen)) refl) (given_up side (moved word free seen) refl)
+
+headed : (sight : Sight) (segment word head : ℕ) → gone (after_head sight segment word head) ≤ 51
+headed Good segment word head = omega arith
+headed (Late byte) segment word head = omega arith
+headed Other segment word head = omega arith
+
+looked_again : (same : Step) (word before after n : ℕ) → gone same ≤ n → 2 ≤ n → gone (again same word before after) ≤ n
+looked_again same word before after n p two = either n (before == after) same (GiveBack Both (moved word before after)) p two
+
+inserts : (count : ℕ) (found slot : Option ℕ) → gone (inserting count found slot) ≤ 12
+inserts count (Some found) slot = omega arith
+inserts count None (Some slot) = omega arith
+inserts count None None = omega arith
+
+changes : (count : ℕ) (found : Option ℕ) → gone (changing count found) ≤ 12
+changes count (Some found) = omega arith
+changes count None = omega arith
+
+decides : (call : Call) (words : List ℕ) (count : ℕ) → gone (decided call words count) ≤ 12
+decides (Get key) words count = omega arith
+decides (Insert key value) words count = inserts count (slot_with words key 0 14) (slot_free words 0 14)
+decides (Update key value) words count = changes count (slot_with words key 0 14)
+decides (Remove key) words count = changes count (slot_with words key 0 14)
+
+counts : (call : Call) (words : List ℕ) (count : ℕ) → gone (after_count call words count) ≤ 12
+counts call words count = either 12 (nat_le (2 ^ 63) count) (GiveBack Both (Replied Spent count)) (decided call words count) (omega arith) (decides call words count)
+
+makes : (t : Task) (k : Kept) (slot : ℕ) (point : Point) (a : Ans) → IsAnswer (wanted_at t k point) a → gone (made slot point a) < left_at point
+makes t k slot StoreKey Passed i = omega arith
+makes t k slot StoreValue Passed i = omega arith
+makes t k slot StoreFinger Passed i = omega arith
+makes t k slot FlushFinger Passed i = let e = either 8 (nat_lt slot 2) (Make FenceRecord) (Make FlushRecord) (omega arith) (omega arith) in omega (arith, e)
+makes t k slot FlushRecord Passed i = omega arith
+makes t k slot FenceRecord Passed i = omega arith
+makes t k slot Publish Passed i = omega arith
+makes t k slot FlushPublished Passed i = omega arith
+makes t k slot FencePublished Passed i = omega arith
+makes t k slot DrawPlace (Drawn place) i = omega arith
+makes t k slot point a i = absurd i
+
+loads_on : (at : ℕ) → gone (if nat_lt at 31 then LoadWord (at + 1) else LoadCount) < gone (LoadWord at)
+loads_on at = elim (cases_Bool (nat_lt at 31)) [
+  | inl y ↦ subst (λ b. gone (cond b (LoadWord (at + 1)) LoadCount) < gone (LoadWord at)) (sym y) (let h : at < 31 = search arith in omega (arith, h))
+  | inr y ↦ subst (λ b. gone (cond b (LoadWord (at + 1)) LoadCount) < gone (LoadWord at)) (sym y) (omega arith)
+]
+
+step_falls : (t : Task) (k : Kept) (s : Step) (a : Ans) → IsAnswer (wanted_of t k s) a → gone (step_after t k s a) < before s
+step_falls t k AskPower (Value v) i = let e = either 54 (v == 0) LoadRoot (Ended Off) (omega arith) (omega arith) in omega (arith, e)
+step_falls t k LoadRoot (Value v) i = let e = either 53 (nat_le v t.site.geometry.depth) LoadEntry (seen_at root_word v) (omega arith) (omega arith) in omega (arith, e)
+step_falls t k LoadEntry (Value v) i = let e = either 52 (nat_lt v t.site.geometry.segments) LoadHead (seen_at (entry_word t.site.geometry t.hash k.root) v) (omega arith) (omega arith) in omega (arith, e)
+step_falls t k LoadHead (Value v) i = let e = headed (sight_of t.site.version t.hash v) k.segment (head_word t.site.geometry k.segment) v in omega (arith, e)
+step_falls t k (LookAt Home) (Value v) i = let e = looked Home (lock_word t k Home) v 50 (omega arith) (omega arith) in omega (arith, e)
+step_falls t k (LookAt Probing) (Value v) i = let e = looked Probing (lock_word t k Probing) v 48 (omega arith) (omega arith) in omega (arith, e)
+step_falls t k (TryLock Home) Won i = omega arith
+step_falls t k (TryLock Probing) Won i = omega arith
+step_falls t k (TryLock Home) (Lost v) i = let e = lost Home (lock_word t k Home) (free_of k Home) v in omega (arith, e)
+step_falls t k (TryLock Probing) (Lost v) i = let e = lost Probing (lock_word t k Probing) (free_of k Probing) v in omega (arith, e)
+step_falls t k RootAgain (Value v) i = let e = looked_again EntryAgain root_word k.root v 46 (omega arith) (omega arith) in omega (arith, e)
+step_falls t k EntryAgain (Value v) i =
+    let e = looked_again HeadAgain (entry_word t.site.geometry t.hash k.root) k.segment v 45 (omega arith) (omega arith) in omega (arith, e)
+step_falls t k HeadAgain (Value v) i =
+    let e = looked_again (LoadWord 1) (head_word t.site.geometry k.segment) k.head v 44 (omega arith) (omega arith) in omega (arith, e)
+step_falls t k (LoadWord at) (Value v) i = let e = loads_on at in omega (arith, e)
+step_falls t k LoadCount (Value v) i = let e = counts t.call k.words v in omega (arith, e)
+step_falls t k (CountSpent Home) (Value v) i = omega arith
+step_falls t k (CountSpent Probing) (Value v) i = omega arith
+step_falls t k CountFull (Value v) i = omega arith
+step_falls t k (Make point) a i = let e = makes t k k.slot point a i in omega (arith, e)
+step_falls t k (GiveBack OnlyHome end) Passed i = omega arith
+step_falls t k (GiveBack OnlyProbing end) Passed i = omega arith
+step_falls t k (GiveBack Both end) Passed i = omega arith
+step_falls t k s a i = absurd i
+
+asks_some : (w : Want) (a : Ans) → IsAnswer w a → w ≢ want.Done
+asks_some w a i e = absurd (subst (λ u. IsAnswer u a) e i)
+
+before_gone : (s : Step) → before s ≤ gone s
+before_gone (GiveBack held end) = omega arith
+before_gone (Ended end) = omega arith
+before_gone s = omega arith
+
+-- an engine that goes on after its change has come to a step
+gone_on : (op : WriteOp) → left_of_op (Write (go_on_at op op.step)) ≤ gone op.step
+gone_on op = elim (go_on_by op op.step) [
+  | inl e ↦ subst (λ s. left_of_op (Write (go_on_at op s)) ≤ gone s) (sym e) (omega arith)
+  | inr stays ↦ subst (λ o. left_of_op (Write o) ≤ gone op.step) (sym stays.1) (before_gone op.step)
+]
+
+op_falls : (op : Op) (a : Ans) → IsAnswer (wanted_by_op op) a → left_of_op (taken_by_op op a) < left_of_op op
+op_falls (Read op) a i =
+    let is = read_answer op op.step a i in
+    subst (λ b. left_of_op (Read (read_taken op b)) < read_left op.step) (sym is.1) (read_falls op is.0 (asks_some (read_wanted op) a i))
+op_falls (Write op) a i =
+    let one = step_falls op.task op.kept op.step a i in
+    let two = gone_on (write_taken op a) in
+    omega (arith, one, two)
+
+pub falls : (e : Engine) (a : Ans) → IsAnswer (wanted e) a → left (taken e a) < left e
+falls e a i = op_falls e.op a i
+
+pub begins : (site : Site) (call : Call) → left (begun site call) ≤ 55
+begins site (Get key) = omega arith
+begins site (Insert key value) = omega arith
+begins site (Update key value) = omega arith
+begins site (Remove key) = omega arith

@@ -1,0 +1,101 @@
+-- The word of each event is one of the image or one behind it, and each line that is flushed is one of the image.
+use Rattle.std.proofs.Common.{ℕ, ◌+◌, ◌*◌, ◌<◌, ◌≤◌, inl, inr, cond, sym, subst, arith}
+use Rattle.std.specs.Prelude.{⊤, nat_lt}
+use Rattle.std.proofs.lemmas.Bool.{cases_Bool}
+use Rattle.op_core.specs.declared.want.Want.{Want}
+use Rattle.op_core.specs.declared.want.Want.TheVariants as want
+use Rattle.trace.specs.Events.{line_of}
+use Rattle.map_model.specs.declared.call.Call.{Call}
+use Rattle.map_model.specs.declared.call.Call.TheVariants.{Get, Insert, Update, Remove}
+use Rattle.image_layout.specs.Places.{Shape, IsShape, root_word, bucket_at, words_of}
+use Rattle.image_layout.specs.Volatile.{all_words_of}
+use Rattle.world.specs.declared.site.Site.{Site as Here}
+use Rattle.world.specs.Site.{Site, IsSite}
+use Rattle.world.specs.Views.{View}
+use Rattle.world.specs.Wants.{word_of}
+use Rattle.read_op.specs.Steps.{wanted as read_wanted}
+use Rattle.read_op.proofs.Asked.{asks_within as read_within}
+use Rattle.write_op.specs.declared.control.Side.TheVariants.{Home}
+use Rattle.write_op.specs.declared.control.Held.TheVariants.{OnlyHome, OnlyProbing, Both}
+use Rattle.write_op.specs.declared.control.Point.{Point}
+use Rattle.write_op.specs.declared.control.Point.TheVariants.{FlushFinger, FlushRecord, FlushPublished}
+use Rattle.write_op.specs.declared.control.Step.{Step}
+use Rattle.write_op.specs.declared.control.Step.TheVariants.{Make, GiveBack}
+use Rattle.write_op.specs.declared.control.Kept.{Kept}
+use Rattle.write_op.specs.declared.control.Task.{Task}
+use Rattle.write_op.specs.declared.machine.WriteOp.{WriteOp}
+use Rattle.engine.specs.declared.engine.Op.{Op}
+use Rattle.engine.specs.declared.engine.Op.TheVariants.{Read, Write}
+use Rattle.write_op.specs.Slots.{finger_place}
+use Rattle.write_op.specs.Ways.{block, bucket_of}
+use Rattle.write_op.specs.Wanted.{home_word, published_word, wanted_at, wanted_of}
+use Rattle.write_op.specs.Taken.{wanted as write_wanted}
+use Rattle.write_op.specs.Inside.{IsInside, AsksInside}
+use Rattle.engine.specs.Engine.{running}
+use Rattle.engine.specs.Fits.{Suits}
+use Rattle.engine.specs.Asks.{IsWithin, AsksWithin}
+use Rattle.engine.proofs.Ways.{IsLoad, read_loads}
+
+-- the line of a word of a bucket
+block_line : (shape : Shape) → IsShape shape → (segment b at : ℕ) → b < 64 → at ≤ 31 → 8 * line_of (block shape segment b + at) + 8 ≤ words_of shape
+block_line shape is segment b at bucket near =
+    let some = is.some in
+    elim (cases_Bool (nat_lt segment shape.segments)) [
+      | inl y ↦ subst (λ t. 8 * line_of (cond t (bucket_at shape segment b) root_word + at) + 8 ≤ words_of shape) (sym y)
+          (let within : segment < shape.segments = search arith in omega (arith, within, bucket, near))
+      | inr y ↦ subst (λ t. 8 * line_of (cond t (bucket_at shape segment b) root_word + at) + 8 ≤ words_of shape) (sym y) (omega (arith, some, near))
+    ]
+
+finger_near : (slot : ℕ) → finger_place slot ≤ 31
+finger_near slot = elim (cases_Bool (nat_lt slot 8)) [
+  | inl y ↦ subst (λ b. cond b 2 3 ≤ 31) (sym y) (omega arith)
+  | inr y ↦ subst (λ b. cond b 2 3 ≤ 31) (sym y) (omega arith)
+]
+
+published_near : (call : Call) (slot : ℕ) → slot < 14 → published_word call slot ≤ 31
+published_near (Get key) slot within = omega arith
+published_near (Insert key value) slot within = omega arith
+published_near (Update key value) slot within = omega (arith, within)
+published_near (Remove key) slot within = omega arith
+
+-- a line that is flushed is one of the image
+abbrev HasLine : Shape → Want → Type 0
+HasLine shape (want.Flush l) = 8 * l + 8 ≤ words_of shape
+HasLine shape w = ⊤
+
+module _ (t : Task) (k : Kept) (is : IsShape t.site.geometry) (within : k.slot < 14) where
+  line : (at : ℕ) → at ≤ 31 → 8 * line_of (home_word t k at) + 8 ≤ words_of t.site.geometry
+  line at near = block_line t.site.geometry is k.segment (bucket_of Home t.hash) at (omega arith) near
+
+  point_line : (point : Point) → HasLine t.site.geometry (wanted_at t k point)
+  point_line FlushFinger = line (finger_place k.slot) (finger_near k.slot)
+  point_line FlushRecord = line (4 + 2 * k.slot) (omega (arith, within))
+  point_line FlushPublished = line (published_word t.call k.slot) (published_near t.call k.slot within)
+  point_line point = tt
+
+  step_line : (s : Step) → HasLine t.site.geometry (wanted_of t k s)
+  step_line (Make point) = point_line point
+  step_line (GiveBack OnlyHome end) = tt
+  step_line (GiveBack OnlyProbing end) = tt
+  step_line (GiveBack Both end) = tt
+  step_line s = tt
+
+asks_of : ((op : WriteOp) → IsInside op → AsksInside op) → (site : Site) (here : Here) (call : Call) (op : Op) (before v : View) → IsSite site → Suits site here call (running op) before v
+    → IsWithin site (running op)
+asks_of law site here call (Read op) before v good s =
+    let is = s.suits.2 in
+    let low = read_within op (subst (λ g. IsShape g) (sym is.shape) good.shape) is.fits in
+    record {
+      word = subst (λ g. word_of g (read_wanted op) < all_words_of g) is.shape low;
+      line = λ l e. absurd (subst (λ w. IsLoad w) e (read_loads op op.step s.asks));
+    }
+asks_of law site here call (Write op) before v good s =
+    let is = s.suits.2 in
+    let low = law op is.inside in
+    record {
+      word = subst (λ g. word_of g (write_wanted op) < all_words_of g) is.shape low;
+      line = λ l e. subst (λ g. 8 * l + 8 ≤ words_of g) is.shape (subst (λ w. HasLine op.task.site.geometry w) e (step_line op.task op.kept is.inside.shape is.inside.slot op.step));
+    }
+
+pub asks_within : ((op : WriteOp) → IsInside op → AsksInside op) → AsksWithin
+asks_within law site here call e before v good s = asks_of law site here call e.op before v good s
