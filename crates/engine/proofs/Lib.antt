@@ -1,11 +1,3 @@
-pub mod Ways
-pub mod Fitting
-mod Planned
-mod Told
-mod Places
-mod Turns
-mod Cut
-mod Goodness
 mod Ways
 mod Fitting
 mod Falling
@@ -13,3 +5,11 @@ mod Within
 mod Sparing
 mod Waits
 mod Fullness
+mod Planned
+mod Told
+mod Places
+mod Unnoted
+mod Turning
+mod Cut
+mod Goodness
+mod Beginnings

@@ -1,24 +1,19 @@
 -- What holds of the core between any two turns: the world is well, and the view of each caller fits what it runs and what it was told.
-use Rattle.std.specs.Prelude.{◌≡◌, ℕ, ◌+◌, ◌^◌, ◌<◌, false, Option, None, Some, List, [], ◌∷◌, ◌++◌, ◌⊎◌}
+use Rattle.std.specs.Prelude.{◌≡◌, ℕ, ◌+◌, ◌^◌, ◌<◌, false, Option, None, Some, List, [], ◌∷◌, ◌++◌, ◌⊎◌, length, replicate}
 use Rattle.std.specs.List.{AllByRecursion, AllZip}
 use Rattle.std.specs.FinMap.{get}
-use Rattle.op_core.specs.declared.want.Want.TheVariants.{Store, Exchange}
-use Rattle.bucket_meta.specs.Bucket.{note_used, overflow_count}
+use Rattle.restart_op.specs.Notes.{HasNoNotes}
 use Rattle.trace.specs.Events.{Words, value_at}
-use Rattle.image_layout.specs.Places.{Shape, bucket_at}
+use Rattle.image_layout.specs.Places.{Shape}
 use Rattle.map_model.specs.declared.call.Call.{Call}
 use Rattle.map_model.specs.declared.entry.Entry.{Entry}
 use Rattle.map_model.specs.Map.{Map}
 use Rattle.sound_image.specs.Image.{magic, format_word}
-use Rattle.world.specs.declared.site.Site.{Site as Here}
-use Rattle.world.specs.Site.{Site, IsSite}
-use Rattle.world.specs.Views.{View, At}
-use Rattle.world.specs.Invariant.{Holds}
-use Rattle.world.specs.Wants.{words_after}
+use Rattle.world.specs.Site.{Site}
+use Rattle.world.specs.Views.{View}
 use Rattle.world.specs.World.{World, IsWell, fresh_view, Begins}
 use Rattle.write_op.specs.Suits.{HoldsOnly}
 use Rattle.engine.specs.declared.engine.Engine.{Engine}
-use Rattle.engine.specs.Engine.{wanted}
 use Rattle.engine.specs.Fits.{Suits, IsWordCall}
 use Rattle.engine.specs.Core.{Caller, Core, call_at, current, turn, callers_from}
 use Rattle.engine.specs.Good.{IsGood}
@@ -72,11 +67,6 @@ pub record FrontSaysShape (shape : Shape) (front : Words) : Type 0 where
   pub segments : front 2 ≡ shape.segments
   pub depth : front 3 ≡ shape.depth
 
--- no overflow note of a home bucket is used, and none is counted
-abbrev pub HasNoNotes : Shape → Words → Type 0
-HasNoNotes shape word =
-    (b : ℕ) → b < 64 → ((i : ℕ) → i < 4 → note_used i (word (bucket_at shape 0 b + 1)) ≡ 0) × (overflow_count (word (bucket_at shape 0 b + 1)) ≡ 0)
-
 -- the world of the core: the seat of a caller has the caller's number, and in that of caller 0 sits nobody
 abbrev pub world_of : Core → List View → World
 world_of core views = record { words = core.words; trace = core.trace; views = fresh_view 0 ∷ views }
@@ -91,20 +81,6 @@ pub record CoreHolds (site : Site) (start : Words) (core : Core) : Type 0 where
   pub each : AllZip (CallerFits site) core.callers views
 
 -- ---- the laws
--- what an engine stores, or puts in place of another value, is a word
-pub record StoresWords (e : Engine) : Type 0 where
-  pub stores : (i x : ℕ) → wanted e ≡ Store i x → x < 2 ^ 64
-  pub exchanges : (i a b : ℕ) → wanted e ≡ Exchange i a b → b < 2 ^ 64
-
-abbrev pub StoresAreWords : Type 0
-StoresAreWords = (site : Site) (here : Here) (call : Call) (e : Engine) (before v : View) → IsSite site → Suits site here call e before v → StoresWords e
-
--- its events leave buckets without notes
-abbrev pub StoresKeepNotes : Type 0
-StoresKeepNotes = (site : Site) (here : Here) (call : Call) (e : Engine) (words : Words) (views : List View) (j c : ℕ) (before v : View)
-    → Holds site words views → At views j v → Suits site here call e before v → HasNoNotes site.shape words
-    → HasNoNotes site.shape (words_after site.shape (wanted e) c words)
-
 -- A TURN of any caller, and of a number that is nobody's, keeps the core
 abbrev pub TurnKeeps : Type 0
 TurnKeeps = (site : Site) (start : Words) (core : Core) (c : ℕ) → CoreHolds site start core → CoreHolds site start (turn site.shape c core)
@@ -114,14 +90,9 @@ abbrev pub HoldingIsGood : Type 0
 HoldingIsGood = (site : Site) (start : Words) (core : Core) (opening : Map) → CoreHolds site start core → ((k : ℕ) → get opening k ≡ site.start k)
     → IsGood site.shape start opening core
 
--- the views of so many callers that have done nothing yet, behind that of caller 0
-abbrev pub fresh_views : List (List Call) → List View
-fresh_views [] = []
-fresh_views (calls ∷ scripts) = fresh_view 1 ∷ fresh_views scripts
-
--- the core with which callers begin holds
+-- the core with which callers begin holds: each has a view of its own, which has done nothing yet
 abbrev pub CoreBegins : Type 0
 CoreBegins = (site : Site) (start : Words) (core : Core) (version : ℕ) (scripts : List (List Call))
-    → Begins site start (world_of core (fresh_views scripts)) → ((i t : ℕ) → value_at start core.trace t i < 2 ^ 64)
+    → Begins site start (world_of core (replicate (length scripts) (fresh_view 1))) → ((i t : ℕ) → value_at start core.trace t i < 2 ^ 64)
     → FrontSaysShape site.shape site.front → HasNoNotes site.shape core.words → AllByRecursion (AllByRecursion IsWordCall) scripts
     → core.callers ≡ callers_from site.shape version 1 scripts → CoreHolds site start core

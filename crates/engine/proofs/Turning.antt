@@ -21,7 +21,9 @@ use Rattle.engine.specs.declared.engine.Engine.{Engine}
 use Rattle.engine.specs.Engine.{wanted, end_of, reply_of_end, kind_of}
 use Rattle.engine.specs.Fits.{IsWordCall, Suits, HasEnded, EntersReply, BeginsSuited, finds, next_engine, StepsWell, KeepsSuits}
 use Rattle.engine.specs.Core.{Caller, Core, call_at, current, engine_for, entry_of, drawn_by, ended, settled, answered, with_event, turn_of_call, turn_of_caller, turn}
-use Rattle.engine.specs.Holding.{HasEntries, IsCalling, DoesCall, CallerFits, world_of, CoreHolds, StoresAreWords, StoresKeepNotes, TurnKeeps}
+use Rattle.engine.specs.Asks.{AsksWords, KeepsNotes}
+use Rattle.engine.specs.Holding.{HasEntries, IsCalling, DoesCall, CallerFits, world_of, CoreHolds, TurnKeeps}
+use Rattle.engine.proofs.Unnoted.{stay_unnoted}
 use Rattle.engine.proofs.Planned.{planned_is, at_most_one}
 use Rattle.engine.proofs.Told.{entries_after}
 use Rattle.engine.proofs.Places.{zip_at, zip_set, one_more}
@@ -145,7 +147,7 @@ module _ (begins : BeginsSuited) (site : Site) (is_site : IsSite site) (c : Call
   settled_fits e want.Power is suits ends has = (let s = suits (λ q. let z : want.Power ≡ want.Done = sym is ∙ q in cc) in goes_on e s (has s))
 
 -- ---- the core
-module _ (begins : BeginsSuited) (keeps : KeepsSuits) (are_words : StoresAreWords) (keep_notes : StoresKeepNotes) (steps : KeepsWell) (one_word : ChangesOneWord)
+module _ (begins : BeginsSuited) (keeps : KeepsSuits) (are_words : AsksWords) (keep_notes : KeepsNotes) (steps : KeepsWell) (one_word : ChangesOneWord)
   (site : Site) (start : Words) (core : Core) (h : CoreHolds site start core) where
   now_fits : (i : ℕ) → core.words i < 2 ^ 64
   now_fits i = subst (λ x. x < 2 ^ 64) (value_at_now start core.trace i ∙ sym (ap (λ (ws : Words). ws i) h.well.words_are)) (h.fits i (length core.trace))
@@ -180,7 +182,7 @@ module _ (begins : BeginsSuited) (keeps : KeepsSuits) (are_words : StoresAreWord
 
       word_after : (i : ℕ) → core_after.words i < 2 ^ 64
       word_after i =
-          let a = are_words site c.site calling.call e calling.before v h.well.holds.site_is calling.suits in
+          let a = are_words site c.site calling.call e calling.before v calling.suits in
           subst (λ (ws : Words). ws i < 2 ^ 64) (sym (one_word site.shape (wanted e) (suc j) core.words))
           (replaced_fits core.words (word_of site.shape (wanted e)) (left_by site.shape (wanted e) n) i
               (left_fits site.shape (wanted e) n a.stores a.exchanges (now_fits (word_of site.shape (wanted e)))) (now_fits i))
@@ -201,7 +203,7 @@ module _ (begins : BeginsSuited) (keeps : KeepsSuits) (are_words : StoresAreWord
         well = well_after;
         fits = values_fit start _ core.trace h.fits (λ i. subst (λ (ws : Words). ws i < 2 ^ 64) well_after.words_are (word_after i));
         says = h.says;
-        no_notes = keep_notes site c.site calling.call e core.words (fresh_view 0 ∷ h.views) (suc j) (suc j) calling.before v h.well.holds at calling.suits h.no_notes;
+        no_notes = stay_unnoted site e core.words (fresh_view 0 ∷ h.views) (suc j) v h.well.holds at (λ b within. keep_notes site c.site calling.call e calling.before v b h.well.holds.site_is calling.suits within) (suc j) h.no_notes;
         each = zip_set (CallerFits site) core.callers h.views j (answered c calling.call e (answer_to (wanted e) n)) v (view_after site.shape kind n) h.each at caller_after;
       }
 
@@ -217,5 +219,5 @@ module _ (begins : BeginsSuited) (keeps : KeepsSuits) (are_words : StoresAreWord
   turned zero = h
   turned (suc j) = by_caller j (slice_get core.callers j) refl
 
-pub turn_keeps : BeginsSuited → KeepsSuits → StoresAreWords → StoresKeepNotes → KeepsWell → ChangesOneWord → TurnKeeps
+pub turn_keeps : BeginsSuited → KeepsSuits → AsksWords → KeepsNotes → KeepsWell → ChangesOneWord → TurnKeeps
 turn_keeps begins keeps are_words keep_notes steps one_word site start core c h = turned begins keeps are_words keep_notes steps one_word site start core h c
