@@ -5,3 +5,11 @@ mod Within
 mod Sparing
 mod Waits
 mod Fullness
+mod Planned
+mod Told
+mod Places
+mod Unnoted
+mod Turning
+mod Cut
+mod Goodness
+mod Beginnings

@@ -131,3 +131,9 @@ tolds_of core = map told_of core.callers
 
 abbrev pub histories : Core → List (List Entry)
 histories core = map history_of (tolds_of core)
+
+-- callers of these calls, the first of whom has this number, on an image of a version: none has done anything
+abbrev pub callers_from : Shape → ℕ → ℕ → List (List Call) → List Caller
+callers_from shape version number [] = []
+callers_from shape version number (calls ∷ scripts) =
+    fresh (record { geometry = shape; version = version; caller = number }) calls ∷ callers_from shape version (suc number) scripts

@@ -2,3 +2,6 @@ pub mod Engine
 pub mod Fits
 pub mod Left
 pub mod Asks
+pub mod Core
+pub mod Good
+pub mod Holding

@@ -1,17 +1,20 @@
 //! The engine of a caller: the machines of its call, one after another, one event at a time.
 //!
 //! [`Engine`] is one attempt of a call. `specs/Engine.antt` says what it wants and what an answer makes of it, and `specs/Fits.antt`
-//! how it stands in the world of many callers.
+//! how it stands in the world of many callers. `specs/Core.antt` has callers that run their calls on one memory, an event at a turn,
+//! and `specs/Holding.antt` what holds of them between any two turns.
 #![tactic(auto)]
 
 mod engine;
 mod laws;
+mod turns;
 
 pub use engine::{End, Engine, Op};
 pub use laws::{
     asks_within, attempts_end, fits_the_world, flushes_are_few, no_room_is_full, spent_locks_stay,
     stores_are_words, stores_keep_notes,
 };
+pub use turns::{core_begins, holding_is_good, turn_keeps};
 
 #[cfg(test)]
 mod tests;

@@ -1,0 +1,25 @@
+-- When the core is good: the replies of all callers are one legal history, and whatever a power cut may leave is sound and
+-- holds that history's map, open calls whole or absent.
+use Rattle.std.specs.Prelude.{◌≡◌, ℕ, List, length, map, slice_index}
+use Rattle.trace.specs.Events.{Words}
+use Rattle.trace.specs.Media.{IsPossible}
+use Rattle.map_model.specs.Map.{Map}
+use Rattle.map_model.specs.Weave.{weave}
+use Rattle.map_model.specs.Legal.{IsLegal, replay}
+use Rattle.image_layout.specs.Places.{Shape, words_of}
+use Rattle.sound_image.specs.Image.{IsSoundImage}
+use Rattle.sound_image.specs.Left.{IsLeft}
+use Rattle.session.specs.Callers.{undrawn}
+use Rattle.engine.specs.Core.{Core, tolds_of, histories}
+
+-- every list of words that a power cut may leave now is a sound image, and holds the map of the history so far, each open
+-- call whole or absent
+pub record MediaAreGood (shape : Shape) (start : Words) (opening : Map) (core : Core) : Type 0 where
+  pub sound : (medium : List ℕ) → length medium ≡ words_of shape → IsPossible (words_of shape) start core.trace (slice_index medium) → IsSoundImage shape medium
+  pub left : (medium : List ℕ) → length medium ≡ words_of shape → IsPossible (words_of shape) start core.trace (slice_index medium)
+      → IsLeft shape (slice_index medium) (replay opening (weave (histories core))) (undrawn (map (λ c. c.calls) core.callers) (tolds_of core))
+
+-- THE CORE IS GOOD: so it is between any two events
+pub record IsGood (shape : Shape) (start : Words) (opening : Map) (core : Core) : Type 0 where
+  pub legal : IsLegal opening (histories core)
+  pub media : MediaAreGood shape start opening core

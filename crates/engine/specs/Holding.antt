@@ -1,0 +1,105 @@
+-- What holds of the core between any two turns: the world is well, and the view of each caller fits what it runs and what it was told.
+use Rattle.std.specs.Prelude.{◌≡◌, ℕ, ◌<◌, false, Option, None, Some, List, [], ◌∷◌, ◌++◌, ◌⊎◌, length, replicate}
+use Rattle.std.specs.List.{AllByRecursion, AllZip}
+use Rattle.std.specs.FinMap.{get}
+use Rattle.restart_op.specs.Notes.{HasNoNotes}
+use Rattle.restart_op.specs.Closing.{SaysShapeInFront, HaveFit, IsQuiet}
+use Rattle.trace.specs.Progress.{pending}
+use Rattle.trace.specs.Events.{Words}
+use Rattle.map_model.specs.declared.call.Call.{Call}
+use Rattle.map_model.specs.declared.entry.Entry.{Entry}
+use Rattle.map_model.specs.Map.{Map}
+use Rattle.world.specs.Site.{Site}
+use Rattle.world.specs.Views.{View}
+use Rattle.world.specs.World.{World, IsWell, fresh_view}
+use Rattle.write_op.specs.Suits.{HoldsOnly}
+use Rattle.engine.specs.declared.engine.Engine.{Engine}
+use Rattle.engine.specs.Fits.{Suits, IsWordCall}
+use Rattle.engine.specs.Core.{Caller, Core, call_at, current, turn, run, callers_from}
+use Rattle.engine.specs.Good.{IsGood}
+
+-- ---- a caller and its view
+-- the replies that the caller was told, and one more at the most, which drew no place and is not told yet
+abbrev pub HasUntold : List Entry → List Entry → Type 0
+HasUntold told own = (own ≡ told) ⊎ ((e : Entry) × (own ≡ told ++ e ∷ []) × (e.drew ≡ false))
+
+-- the same, where the call that runs has drawn, with its entry
+abbrev pub HasEntries : List Entry → Option Entry → List Entry → Type 0
+HasEntries told None own = HasUntold told own
+HasEntries told (Some e) own = own ≡ told ++ e ∷ []
+
+-- all calls of the caller have their replies
+pub record IsThrough (c : Caller) (v : View) : Type 0 where
+  pub no_call : current c ≡ None
+  pub own : v.own ≡ c.entries
+  pub nothing : HoldsOnly [] v
+  pub begun : c.begun ≡ false
+  pub drew : c.drew ≡ None
+
+-- a call of the caller runs on this engine, in an attempt that began with the view `before`
+pub record IsCalling (site : Site) (c : Caller) (e : Engine) (v : View) : Type 0 where
+  pub call : Call
+  pub is_current : current c ≡ Some call
+  pub before : View
+  pub own_before : before.own ≡ c.entries
+  pub suits : Suits site c.site call e before v
+  pub entries : HasEntries c.entries c.drew v.own
+  -- so long as nothing was done, nothing is drawn or planned
+  pub drew : c.begun ≡ false → c.drew ≡ None
+  pub planned : c.begun ≡ false → v.planned ≡ []
+
+abbrev pub DoesCall : Site → Caller → Option Engine → View → Type 0
+DoesCall site c None v = IsThrough c v
+DoesCall site c (Some e) v = IsCalling site c e v
+
+-- THE VIEW fits its caller
+pub record CallerFits (site : Site) (c : Caller) (v : View) : Type 0 where
+  pub place : c.site.geometry ≡ site.shape
+  pub words : (n : ℕ) (call : Call) → call_at c n ≡ Some call → IsWordCall call
+  pub callers : 0 < v.callers
+  pub does : DoesCall site c c.engine v
+
+-- ---- the core
+-- the world of the core: the seat of a caller has the caller's number, and in that of caller 0 sits nobody
+abbrev pub world_of : Core → List View → World
+world_of core views = record { words = core.words; trace = core.trace; views = fresh_view 0 ∷ views }
+
+-- THE CORE HOLDS: so it is from the end of a restart on, between any two turns
+pub record CoreHolds (site : Site) (start : Words) (core : Core) : Type 0 where
+  pub views : List View
+  pub well : IsWell site start (world_of core views)
+  pub fits : HaveFit start core.trace
+  pub says : SaysShapeInFront site.shape site.front
+  pub no_notes : HasNoNotes site.shape core.words
+  -- caller 0 has nothing flushed that it has not fenced
+  pub fenced : pending 0 core.trace ≡ []
+  pub each : AllZip (CallerFits site) core.callers views
+
+-- ---- the laws
+-- A TURN of any caller, and of a number that is nobody's, keeps the core
+abbrev pub TurnKeeps : Type 0
+TurnKeeps = (site : Site) (start : Words) (core : Core) (c : ℕ) → CoreHolds site start core → CoreHolds site start (turn site.shape c core)
+
+-- A CORE THAT HOLDS IS GOOD
+abbrev pub HoldingIsGood : Type 0
+HoldingIsGood = (site : Site) (start : Words) (core : Core) (opening : Map) → CoreHolds site start core → ((k : ℕ) → get opening k ≡ site.start k)
+    → IsGood site.shape start opening core
+
+-- turns of any callers, one after another, keep it
+abbrev pub RunKeeps : Type 0
+RunKeeps = (site : Site) (start : Words) (core : Core) (turns : List ℕ) → CoreHolds site start core → CoreHolds site start (run site.shape turns core)
+
+-- a quiet world in which each caller of the scripts has a view of its own, which has done nothing yet: the core with which they
+-- begin holds
+abbrev pub CoreBegins : Type 0
+CoreBegins = (site : Site) (start : Words) (core : Core) (version : ℕ) (scripts : List (List Call))
+    → IsQuiet site start (world_of core (replicate (length scripts) (fresh_view 1))) → AllByRecursion (AllByRecursion IsWordCall) scripts
+    → core.callers ≡ callers_from site.shape version 1 scripts → CoreHolds site start core
+
+-- no engine of a caller runs: each call has its reply
+abbrev pub NoneRuns : Core → Type 0
+NoneRuns core = AllByRecursion (λ c. c.engine ≡ None) core.callers
+
+-- WHERE NO ENGINE RUNS the world is quiet, so that it may be closed
+abbrev pub ThroughIsQuiet : Type 0
+ThroughIsQuiet = (site : Site) (start : Words) (core : Core) (h : CoreHolds site start core) → NoneRuns core → IsQuiet site start (world_of core h.views)

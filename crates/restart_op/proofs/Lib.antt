@@ -1,0 +1,14 @@
+pub mod Facts
+pub mod FromSound
+pub mod Opened
+pub mod Same
+pub mod Cuts
+pub mod Beginning
+pub mod CloseAlong
+pub mod CloseEnding
+pub mod MarkedFront
+pub mod NoNotes
+pub mod MarkedTable
+pub mod ClosePhases
+pub mod CloseKeeping
+pub mod Quiet

@@ -1,0 +1,11 @@
+use Rattle.restart_op.proofs.CloseKeeping.{close_keeps, close_settles, close_marks}
+use Rattle.restart_op.proofs.closing.close_keeps.Goals as goal
+
+pub returns-clause-cuts : goal.returns-clause-cuts
+returns-clause-cuts c = close_keeps
+
+pub returns-clause-ends : goal.returns-clause-ends
+returns-clause-ends c = close_settles
+
+pub returns-clause-marks : goal.returns-clause-marks
+returns-clause-marks c = close_marks

@@ -1,0 +1,18 @@
+-- The laws are lemmas.
+use Rattle.restart_op.proofs.Beginning.{restart_begins, has_seats, keeps_pairs, ends_started, ends_unnoted}
+use Rattle.restart_op.proofs.laws.restart_begins.Goals as goal
+
+pub returns-clause-begins : goal.returns-clause-begins
+returns-clause-begins c = restart_begins
+
+pub returns-clause-seats : goal.returns-clause-seats
+returns-clause-seats c = has_seats
+
+pub returns-clause-pairs : goal.returns-clause-pairs
+returns-clause-pairs c = keeps_pairs
+
+pub returns-clause-started : goal.returns-clause-started
+returns-clause-started c = ends_started
+
+pub returns-clause-no_notes : goal.returns-clause-no_notes
+returns-clause-no_notes c = ends_unnoted
