@@ -1,17 +1,15 @@
 -- The core with which callers begin holds.
-use Rattle.std.proofs.Common.{◌≡◌, ℕ, zero, suc, ◌+◌, ◌<◌, List, [], ◌∷◌, length, replicate, slice_get, Option, None, Some, inl, refl, sym, ap, ◌∙◌, subst, arith}
+use Rattle.std.proofs.Common.{◌≡◌, ℕ, zero, suc, List, [], ◌∷◌, length, replicate, slice_get, Option, None, Some, inl, refl, sym, subst, arith}
 use Rattle.std.specs.List.{AllByRecursion, AllZip}
 use Rattle.std.proofs.lemmas.Option.{none-some, same_Some}
 use Rattle.map_model.specs.declared.call.Call.{Call}
 use Rattle.world.specs.declared.site.Site.{Site as Here}
 use Rattle.world.specs.Site.{Site, IsSite}
-use Rattle.world.specs.Views.{View}
 use Rattle.world.specs.World.{fresh_view}
-use Rattle.world.specs.Laws.{BeginsWell}
 use Rattle.write_op.specs.Suits.{HoldsOnly}
 use Rattle.engine.specs.Fits.{IsWordCall, BeginsSuited}
-use Rattle.engine.specs.Core.{Caller, fresh, engine_for, callers_from}
-use Rattle.engine.specs.Holding.{CallerFits, world_of, CoreBegins}
+use Rattle.engine.specs.Core.{fresh, engine_for, callers_from}
+use Rattle.engine.specs.Holding.{CallerFits, CoreBegins}
 
 word_at : (calls : List Call) → AllByRecursion IsWordCall calls → (n : ℕ) (call : Call) → slice_get calls n ≡ Some call → IsWordCall call
 word_at [] all n call is = absurd (none-some call is)
@@ -55,12 +53,14 @@ module _ (begins : BeginsSuited) (site : Site) (is_site : IsSite site) where
   all_fit version number (calls ∷ scripts) all =
       (fresh_fits (record { geometry = site.shape; version = version; caller = number }) refl calls all.0, all_fit version (suc number) scripts all.1)
 
-pub core_begins : BeginsSuited → BeginsWell → CoreBegins
-core_begins begins begins_well site start core version scripts b fits says no_notes words is = record {
+pub core_begins : BeginsSuited → CoreBegins
+core_begins begins site start core version scripts quiet words is = record {
   views = replicate (length scripts) (fresh_view 1);
-  well = begins_well site start (world_of core (replicate (length scripts) (fresh_view 1))) b;
-  fits = fits;
-  says = says;
-  no_notes = no_notes;
-  each = subst (λ callers. AllZip (CallerFits site) callers (replicate (length scripts) (fresh_view 1))) (sym is) (all_fit begins site b.site_is version 1 scripts words);
+  well = quiet.well;
+  fits = quiet.fits;
+  says = quiet.says;
+  no_notes = quiet.no_notes;
+  fenced = quiet.fenced;
+  each = subst (λ callers. AllZip (CallerFits site) callers (replicate (length scripts) (fresh_view 1))) (sym is)
+      (all_fit begins site quiet.well.holds.site_is version 1 scripts words);
 }

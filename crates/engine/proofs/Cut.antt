@@ -1,12 +1,12 @@
 -- The replies that the callers were told are a history: those that are not told yet are cut off.
-use Rattle.std.proofs.Common.{◌≡◌, ℕ, zero, suc, ◌+◌, ◌<◌, ◌≤◌, ◌⊎◌, ◌&&◌, eqb, Bool, true, false, cond, List, [], ◌∷◌, ◌++◌, length, filter, map, Option, None, Some, inl, inr, refl, sym, ap, ◌∙◌, subst, arith}
+use Rattle.std.proofs.Common.{◌≡◌, ℕ, zero, suc, ◌+◌, ◌≤◌, ◌&&◌, eqb, Bool, true, false, cond, List, [], ◌∷◌, ◌++◌, length, filter, map, Option, None, Some, inl, inr, refl, sym, ap, ◌∙◌, subst, arith}
 use mathlib.Core.Option.{some-injective, some-ne-none}
 use Rattle.std.specs.List.{AllZip}
 use Rattle.std.specs.FinMap.{get}
 use Rattle.trace.specs.Events.{Words}
 use Rattle.map_model.specs.declared.entry.Entry.{Entry}
 use Rattle.map_model.specs.Map.{Map}
-use Rattle.map_model.specs.Weave.{weave, draws, drew_at}
+use Rattle.map_model.specs.Weave.{weave, drew_at}
 use Rattle.map_model.specs.Legal.{InOrder, IsLegal, seen_of, seen_after, replay}
 use Rattle.session.specs.Callers.{with_open, history_of}
 use Rattle.world.specs.Site.{Site}
@@ -16,8 +16,8 @@ use Rattle.world.specs.Invariant.{total, History}
 use Rattle.world.specs.World.{fresh_view}
 use Rattle.world.specs.Laws.{EntriesAreLegal}
 use Rattle.world.proofs.Entries.{count_more, seen_of_more}
-use Rattle.engine.specs.Core.{Caller, Core, open_of, told_of, tolds_of, histories}
-use Rattle.engine.specs.Holding.{HasUntold, HasEntries, IsThrough, IsCalling, DoesCall, CallerFits}
+use Rattle.engine.specs.Core.{Caller, Core, open_of, told_of, histories}
+use Rattle.engine.specs.Holding.{HasUntold, HasEntries, DoesCall, CallerFits}
 
 -- ---- one caller
 told_or_open : (told own : List Entry) (begun : Bool) (drew : Option Entry) → (begun ≡ false → drew ≡ None) → HasEntries told drew own

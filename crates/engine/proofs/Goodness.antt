@@ -1,5 +1,5 @@
 -- A core that holds is good.
-use Rattle.std.proofs.Common.{◌≡◌, ℕ, zero, suc, ◌+◌, ◌*◌, ◌^◌, ◌<◌, ◌≤◌, ◌⊎◌, ◌↔◌, Bool, true, false, cond, eqb, List, [], ◌∷◌, ◌++◌, length, map, slice_get, slice_index, Contains, Option, None, Some, inl, inr, refl, sym, ap, ◌∙◌, subst, arith}
+use Rattle.std.proofs.Common.{◌≡◌, ℕ, zero, suc, ◌^◌, ◌<◌, ◌≤◌, ◌⊎◌, ◌↔◌, Bool, true, false, cond, List, [], ◌∷◌, ◌++◌, length, map, slice_get, slice_index, Contains, Option, None, Some, inl, inr, refl, sym, ap, ◌∙◌, subst, arith}
 use mathlib.Core.Option.{some-injective, some-ne-none}
 use Rattle.std.specs.List.{AllZip}
 use Rattle.std.specs.Cmp.{nat_cmp_total, unsigned_tied}
@@ -10,10 +10,9 @@ use Rattle.std.proofs.lemmas.List.Elements.{Contains-append_left, Contains-appen
 use Rattle.std.proofs.lemmas.Option.{none-some, same_Some}
 use Rattle.trace.specs.Events.{Words}
 use Rattle.trace.specs.Media.{IsPossible as DevicePossible}
-use Rattle.image_layout.specs.Places.{Shape, IsShape, bucket_at, words_of}
+use Rattle.image_layout.specs.Places.{Shape, IsShape, words_of}
 use Rattle.map_model.specs.declared.call.Call.{Call}
 use Rattle.map_model.specs.declared.call.Call.TheVariants.{Get, Insert, Update, Remove}
-use Rattle.map_model.specs.declared.entry.Reply.{Reply}
 use Rattle.map_model.specs.declared.entry.Reply.TheVariants as reply
 use Rattle.map_model.specs.declared.entry.Entry.{Entry}
 use Rattle.map_model.specs.Map.{Map, key_of, shown, reply_of, changed, after}
@@ -21,19 +20,19 @@ use Rattle.map_model.specs.Weave.{weave}
 use Rattle.map_model.specs.Legal.{replay}
 use Rattle.sound_image.specs.Rules.{FollowsRules}
 use Rattle.sound_image.specs.Records.{HasAt}
-use Rattle.sound_image.specs.Image.{SaysShape, IsSoundImage}
-use Rattle.sound_image.specs.Left.{AgreesAt, IsLeft}
+use Rattle.sound_image.specs.Image.{IsSoundImage}
+use Rattle.sound_image.specs.Left.{AgreesAt}
 use Rattle.session.specs.Callers.{undrawn_call, undrawn}
 use Rattle.bucket_words.specs.Tables.{IsOpenFront, IsHomeTable, find}
 use Rattle.world.specs.Site.{Site}
 use Rattle.world.specs.Views.{View, Has, At}
-use Rattle.world.specs.History.{map_now, result_of, reply_by}
-use Rattle.world.specs.Media.{IsPossible, IsPlanned, Stands}
+use Rattle.world.specs.History.{result_of, reply_by}
+use Rattle.world.specs.Media.{IsPossible}
 use Rattle.world.specs.World.{fresh_view}
 use Rattle.world.specs.Laws.{EntriesAreLegal, DeviceLeaves}
 use Rattle.engine.specs.Core.{Caller, Core, current, open_of, told_of, tolds_of, histories}
-use Rattle.engine.specs.Good.{MediaAreGood, IsGood}
-use Rattle.engine.specs.Holding.{HasEntries, DoesCall, CallerFits, FrontSaysShape, world_of, CoreHolds, HoldingIsGood}
+use Rattle.engine.specs.Good.{IsGood}
+use Rattle.engine.specs.Holding.{HasEntries, DoesCall, CallerFits, world_of, CoreHolds, HoldingIsGood}
 use Rattle.engine.proofs.Planned.{none_has}
 use Rattle.engine.proofs.Planned.{planned_is}
 use Rattle.engine.proofs.Places.{one_more}

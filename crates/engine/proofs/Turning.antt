@@ -1,6 +1,8 @@
 -- A turn keeps what holds of the core.
 use Rattle.std.proofs.Common.{◌≡◌, ◌≢◌, ℕ, zero, suc, ◌+◌, ◌-◌, ◌^◌, ◌<◌, ◌≤◌, Bool, true, false, cond, eqb, List, [], ◌∷◌, ◌++◌, length, drop, slice_get, Option, None, Some, inl, inr, refl, sym, ap, ◌∙◌, subst, arith, mod-lt}
-use Rattle.std.proofs.lemmas.Bool.{cases_lt}
+use Rattle.std.proofs.lemmas.Bool.{cases_lt, ne_eqb}
+use Rattle.trace.specs.Events.Event.{loaded, exchanged}
+use Rattle.trace.specs.Progress.{pending}
 use Rattle.op_core.specs.declared.want.Want.{Want}
 use Rattle.op_core.specs.declared.want.Want.TheVariants as want
 use Rattle.trace.specs.Events.{Words, Event, Trace, value, value_at, with_word}
@@ -22,7 +24,7 @@ use Rattle.engine.specs.Engine.{wanted, end_of, reply_of_end, kind_of}
 use Rattle.engine.specs.Fits.{IsWordCall, Suits, HasEnded, EntersReply, BeginsSuited, finds, next_engine, StepsWell, KeepsSuits}
 use Rattle.engine.specs.Core.{Caller, Core, call_at, current, engine_for, entry_of, drawn_by, ended, settled, answered, with_event, turn_of_call, turn_of_caller, turn}
 use Rattle.engine.specs.Asks.{AsksWords, KeepsNotes}
-use Rattle.engine.specs.Holding.{HasEntries, IsCalling, DoesCall, CallerFits, world_of, CoreHolds, TurnKeeps}
+use Rattle.engine.specs.Holding.{HasEntries, IsCalling, DoesCall, CallerFits, world_of, CoreHolds, TurnKeeps, RunKeeps}
 use Rattle.engine.proofs.Unnoted.{stay_unnoted}
 use Rattle.engine.proofs.Planned.{planned_is, at_most_one}
 use Rattle.engine.proofs.Told.{entries_after}
@@ -58,6 +60,21 @@ values_fit start e es old new i t = elim (cases_lt t (suc (length es))) [
   | inl within ↦ subst (λ x. x < 2 ^ 64) (sym (value_at_more start e es t i (omega (arith, within)))) (old i t)
   | inr past ↦ (let none : length (e ∷ es) - t ≡ 0 = omega (arith, past) in subst (λ n. value start (drop n (e ∷ es)) i < 2 ^ 64) (sym none) (new i))
 ]
+
+-- a caller's event flushes and fences nothing of caller 0
+fenced_still : (shape : Shape) (w : Want) (n j : ℕ) (es : Trace) → pending 0 (event_of shape w n (suc j) ∷ es) ≡ pending 0 es
+fenced_still shape (want.Load i) n j es = refl
+fenced_still shape (want.Store i x) n j es = refl
+fenced_still shape (want.Exchange i a b) n j es = by (eqb n a)
+  where
+    by : (t : Bool) → pending 0 (cond t (exchanged (suc j) i b) (loaded (suc j) i) ∷ es) ≡ pending 0 es
+    by true = refl
+    by false = refl
+fenced_still shape (want.Flush l) n j es = ap (λ b. cond b ((l, length es) ∷ pending 0 es) (pending 0 es)) (ne_eqb (suc j) 0 (λ q. omega (arith, q)))
+fenced_still shape want.Fence n j es = ap (λ b. cond b [] (pending 0 es)) (ne_eqb (suc j) 0 (λ q. omega (arith, q)))
+fenced_still shape want.Draw n j es = refl
+fenced_still shape want.Power n j es = refl
+fenced_still shape want.Done n j es = refl
 
 -- ---- a caller
 module _ (begins : BeginsSuited) (site : Site) (is_site : IsSite site) (c : Caller) (place : c.site.geometry ≡ site.shape)
@@ -146,6 +163,11 @@ module _ (begins : BeginsSuited) (site : Site) (is_site : IsSite site) (c : Call
   settled_fits e want.Draw is suits ends has = (let s = suits (λ q. let z : want.Draw ≡ want.Done = sym is ∙ q in cc) in goes_on e s (has s))
   settled_fits e want.Power is suits ends has = (let s = suits (λ q. let z : want.Power ≡ want.Done = sym is ∙ q in cc) in goes_on e s (has s))
 
+-- ---- turns, one after another
+pub run_keeps : TurnKeeps → RunKeeps
+run_keeps keeps site start core [] h = h
+run_keeps keeps site start core (c ∷ turns) h = run_keeps keeps site start (turn site.shape c core) turns (keeps site start core c h)
+
 -- ---- the core
 module _ (begins : BeginsSuited) (keeps : KeepsSuits) (are_words : AsksWords) (keep_notes : KeepsNotes) (steps : KeepsWell) (one_word : ChangesOneWord)
   (site : Site) (start : Words) (core : Core) (h : CoreHolds site start core) where
@@ -204,6 +226,7 @@ module _ (begins : BeginsSuited) (keeps : KeepsSuits) (are_words : AsksWords) (k
         fits = values_fit start _ core.trace h.fits (λ i. subst (λ (ws : Words). ws i < 2 ^ 64) well_after.words_are (word_after i));
         says = h.says;
         no_notes = stay_unnoted site e core.words (fresh_view 0 ∷ h.views) (suc j) v h.well.holds at (λ b within. keep_notes site c.site calling.call e calling.before v b h.well.holds.site_is calling.suits within) (suc j) h.no_notes;
+        fenced = fenced_still site.shape (wanted e) n j core.trace ∙ h.fenced;
         each = zip_set (CallerFits site) core.callers h.views j (answered c calling.call e (answer_to (wanted e) n)) v (view_after site.shape kind n) h.each at caller_after;
       }
 

@@ -1,5 +1,5 @@
 -- Where no bucket has overflow notes, an event of an engine leaves none.
-use Rattle.std.proofs.Common.{◌≡◌, ◌≢◌, ℕ, ◌+◌, ◌*◌, ◌%◌, ◌^◌, ◌<◌, ◌≤◌, ◌⊎◌, Bool, true, false, cond, eqb, List, inl, inr, refl, sym, ap, ◌∙◌, subst, arith}
+use Rattle.std.proofs.Common.{◌≡◌, ◌≢◌, ℕ, ◌+◌, ◌%◌, ◌^◌, ◌<◌, Bool, true, false, cond, eqb, List, inl, inr, refl, sym, ap, ◌∙◌, subst, arith}
 use Rattle.std.proofs.lemmas.Bool.{cases_eq, eq-eqb}
 use Rattle.bucket_meta.specs.Bucket.{note_used, overflow_count}
 use Rattle.op_core.specs.declared.want.Want.{Want}
@@ -7,13 +7,12 @@ use Rattle.op_core.specs.declared.want.Want.TheVariants as want
 use Rattle.trace.specs.Events.{Words, with_word, after}
 use Rattle.trace.specs.Events.Event.{loaded, exchanged}
 use Rattle.trace.proofs.Replaced.{replaced_other}
-use Rattle.image_layout.specs.Places.{Shape, IsShape, bucket_at}
+use Rattle.image_layout.specs.Places.{bucket_at}
 use Rattle.image_layout.specs.Volatile.{counter_word}
 use Rattle.world.specs.Site.{Site}
-use Rattle.world.specs.Views.{View, Has, At}
+use Rattle.world.specs.Views.{View, At}
 use Rattle.world.specs.Wants.{words_after}
 use Rattle.world.specs.Invariant.{Holds}
-use Rattle.write_op.specs.Spared.{SameNotes}
 use Rattle.restart_op.specs.Notes.{HasNoNotes}
 use Rattle.engine.specs.declared.engine.Engine.{Engine}
 use Rattle.engine.specs.Engine.{wanted}

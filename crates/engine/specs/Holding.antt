@@ -1,21 +1,21 @@
 -- What holds of the core between any two turns: the world is well, and the view of each caller fits what it runs and what it was told.
-use Rattle.std.specs.Prelude.{◌≡◌, ℕ, ◌+◌, ◌^◌, ◌<◌, false, Option, None, Some, List, [], ◌∷◌, ◌++◌, ◌⊎◌, length, replicate}
+use Rattle.std.specs.Prelude.{◌≡◌, ℕ, ◌<◌, false, Option, None, Some, List, [], ◌∷◌, ◌++◌, ◌⊎◌, length, replicate}
 use Rattle.std.specs.List.{AllByRecursion, AllZip}
 use Rattle.std.specs.FinMap.{get}
 use Rattle.restart_op.specs.Notes.{HasNoNotes}
-use Rattle.trace.specs.Events.{Words, value_at}
-use Rattle.image_layout.specs.Places.{Shape}
+use Rattle.restart_op.specs.Closing.{SaysShapeInFront, HaveFit, IsQuiet}
+use Rattle.trace.specs.Progress.{pending}
+use Rattle.trace.specs.Events.{Words}
 use Rattle.map_model.specs.declared.call.Call.{Call}
 use Rattle.map_model.specs.declared.entry.Entry.{Entry}
 use Rattle.map_model.specs.Map.{Map}
-use Rattle.sound_image.specs.Image.{magic, format_word}
 use Rattle.world.specs.Site.{Site}
 use Rattle.world.specs.Views.{View}
-use Rattle.world.specs.World.{World, IsWell, fresh_view, Begins}
+use Rattle.world.specs.World.{World, IsWell, fresh_view}
 use Rattle.write_op.specs.Suits.{HoldsOnly}
 use Rattle.engine.specs.declared.engine.Engine.{Engine}
 use Rattle.engine.specs.Fits.{Suits, IsWordCall}
-use Rattle.engine.specs.Core.{Caller, Core, call_at, current, turn, callers_from}
+use Rattle.engine.specs.Core.{Caller, Core, call_at, current, turn, run, callers_from}
 use Rattle.engine.specs.Good.{IsGood}
 
 -- ---- a caller and its view
@@ -60,13 +60,6 @@ pub record CallerFits (site : Site) (c : Caller) (v : View) : Type 0 where
   pub does : DoesCall site c c.engine v
 
 -- ---- the core
--- the first four words say the shape
-pub record FrontSaysShape (shape : Shape) (front : Words) : Type 0 where
-  pub magic_word : front 0 ≡ magic
-  pub format : front 1 ≡ format_word shape
-  pub segments : front 2 ≡ shape.segments
-  pub depth : front 3 ≡ shape.depth
-
 -- the world of the core: the seat of a caller has the caller's number, and in that of caller 0 sits nobody
 abbrev pub world_of : Core → List View → World
 world_of core views = record { words = core.words; trace = core.trace; views = fresh_view 0 ∷ views }
@@ -75,9 +68,11 @@ world_of core views = record { words = core.words; trace = core.trace; views = f
 pub record CoreHolds (site : Site) (start : Words) (core : Core) : Type 0 where
   pub views : List View
   pub well : IsWell site start (world_of core views)
-  pub fits : (i t : ℕ) → value_at start core.trace t i < 2 ^ 64
-  pub says : FrontSaysShape site.shape site.front
+  pub fits : HaveFit start core.trace
+  pub says : SaysShapeInFront site.shape site.front
   pub no_notes : HasNoNotes site.shape core.words
+  -- caller 0 has nothing flushed that it has not fenced
+  pub fenced : pending 0 core.trace ≡ []
   pub each : AllZip (CallerFits site) core.callers views
 
 -- ---- the laws
@@ -90,9 +85,21 @@ abbrev pub HoldingIsGood : Type 0
 HoldingIsGood = (site : Site) (start : Words) (core : Core) (opening : Map) → CoreHolds site start core → ((k : ℕ) → get opening k ≡ site.start k)
     → IsGood site.shape start opening core
 
--- the core with which callers begin holds: each has a view of its own, which has done nothing yet
+-- turns of any callers, one after another, keep it
+abbrev pub RunKeeps : Type 0
+RunKeeps = (site : Site) (start : Words) (core : Core) (turns : List ℕ) → CoreHolds site start core → CoreHolds site start (run site.shape turns core)
+
+-- a quiet world in which each caller of the scripts has a view of its own, which has done nothing yet: the core with which they
+-- begin holds
 abbrev pub CoreBegins : Type 0
 CoreBegins = (site : Site) (start : Words) (core : Core) (version : ℕ) (scripts : List (List Call))
-    → Begins site start (world_of core (replicate (length scripts) (fresh_view 1))) → ((i t : ℕ) → value_at start core.trace t i < 2 ^ 64)
-    → FrontSaysShape site.shape site.front → HasNoNotes site.shape core.words → AllByRecursion (AllByRecursion IsWordCall) scripts
+    → IsQuiet site start (world_of core (replicate (length scripts) (fresh_view 1))) → AllByRecursion (AllByRecursion IsWordCall) scripts
     → core.callers ≡ callers_from site.shape version 1 scripts → CoreHolds site start core
+
+-- no engine of a caller runs: each call has its reply
+abbrev pub NoneRuns : Core → Type 0
+NoneRuns core = AllByRecursion (λ c. c.engine ≡ None) core.callers
+
+-- WHERE NO ENGINE RUNS the world is quiet, so that it may be closed
+abbrev pub ThroughIsQuiet : Type 0
+ThroughIsQuiet = (site : Site) (start : Words) (core : Core) (h : CoreHolds site start core) → NoneRuns core → IsQuiet site start (world_of core h.views)

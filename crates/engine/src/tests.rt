@@ -53,19 +53,37 @@ fn run(geometry: Geometry, call: Call, taken: u64, power: u64) -> (Option<(Reply
 #[test]
 fn calls_of_one_pair(rt: HostRuntime) -> Result<(), Fail> {
     let g = Geometry::new(1, 0, 0)?;
-    assert_eq!(rt; run(g, Call::Get(5), 1, 0), (Some((Reply::Found(7), 1)), 41));
+    assert_eq!(rt;
+        run(g, Call::Get(5), 1, 0),
+        (Some((Reply::Found(7), 1)), 41)
+    );
     assert_eq!(rt; run(g, Call::Get(6), 1, 0), (Some((Reply::Absent, 1)), 41));
-    assert_eq!(rt; run(g, Call::Insert(5, 8), 1, 0), (Some((Reply::Exists, 1)), 45));
-    assert_eq!(rt; run(g, Call::Insert(6, 8), 1, 0), (Some((Reply::Done, 1)), 54));
-    assert_eq!(rt; run(g, Call::Update(5, 8), 1, 0), (Some((Reply::Done, 1)), 49));
-    assert_eq!(rt; run(g, Call::Remove(6), 1, 0), (Some((Reply::Absent, 1)), 45));
+    assert_eq!(rt;
+        run(g, Call::Insert(5, 8), 1, 0),
+        (Some((Reply::Exists, 1)), 45)
+    );
+    assert_eq!(rt;
+        run(g, Call::Insert(6, 8), 1, 0),
+        (Some((Reply::Done, 1)), 54)
+    );
+    assert_eq!(rt;
+        run(g, Call::Update(5, 8), 1, 0),
+        (Some((Reply::Done, 1)), 49)
+    );
+    assert_eq!(rt;
+        run(g, Call::Remove(6), 1, 0),
+        (Some((Reply::Absent, 1)), 45)
+    );
     Ok(())
 }
 
 #[test]
 fn insert_into_a_full_bucket(rt: HostRuntime) -> Result<(), Fail> {
     let g = Geometry::new(1, 0, 0)?;
-    assert_eq!(rt; run(g, Call::Insert(6, 8), 0x3FFF, 0), (Some((Reply::Deep, 1)), 46));
+    assert_eq!(rt;
+        run(g, Call::Insert(6, 8), 0x3FFF, 0),
+        (Some((Reply::Deep, 1)), 46)
+    );
     Ok(())
 }
 

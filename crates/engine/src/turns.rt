@@ -28,6 +28,5 @@ pub fn holding_is_good()
 pub fn core_begins()
     ensures { CoreBegins }
 {
-    world::worlds_stay_well();
     laws::fits_the_world();
 }
