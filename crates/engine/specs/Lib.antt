@@ -5,3 +5,4 @@ pub mod Asks
 pub mod Core
 pub mod Good
 pub mod Holding
+pub mod Laws
