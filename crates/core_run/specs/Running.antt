@@ -1,5 +1,5 @@
 -- What holds of the state of a run between any two events.
-use Rattle.std.specs.Prelude.{◌≡◌, ℕ, suc, ◌+◌, ◌*◌, ◌<◌, ◌≤◌, ⊤, ⊥, Option, None, Some, List, [], ◌∷◌, length, map, take, slice_index}
+use Rattle.std.specs.Prelude.{◌≡◌, ℕ, suc, ◌+◌, ◌*◌, ◌<◌, ◌≤◌, ⊤, Option, None, Some, List, [], ◌∷◌, length, map, take, slice_index}
 use Rattle.std.specs.List.{AllByRecursion}
 use Rattle.op_core.specs.declared.want.Want.{Want}
 use Rattle.op_core.specs.declared.want.Want.TheVariants.{Flush, Done}
@@ -12,15 +12,13 @@ use Rattle.world.specs.Site.{Site}
 use Rattle.world.specs.Wants.{word_of}
 use Rattle.restart_op.specs.declared.restart.RestartOp.{RestartOp}
 use Rattle.restart_op.specs.declared.close.CloseOp.{CloseOp}
-use Rattle.restart_op.specs.Restart.{wanted as restart_wanted}
 use Rattle.restart_op.specs.Close.{wanted as close_wanted}
 use Rattle.restart_op.specs.Restarted.{IsServedImage, restarted, site_of}
 use Rattle.restart_op.specs.Closing.{close_after}
 use Rattle.engine.specs.declared.engine.Engine.{Engine}
-use Rattle.engine.specs.Engine.{wanted}
 use Rattle.engine.specs.Left.{waiting}
 use Rattle.engine.specs.Fits.{IsWordCall}
-use Rattle.engine.specs.Core.{Caller, current, Core}
+use Rattle.engine.specs.Core.{Caller, Core}
 use Rattle.engine.specs.Holding.{CoreHolds}
 use Rattle.core_run.specs.declared.keeper.Keeper.{Keeper}
 use Rattle.core_run.specs.declared.keeper.Keeper.TheVariants.{Restarting, Open, Closing, Closed}

@@ -95,7 +95,7 @@ opens site c v call fits has = by c.engine fits.does
           open_call = begun_open c.begun c.drew (λ idle. none_has v.planned call (d.planned idle) has) (none_drawn c.entries v.own c.drew d.entries (p.1 ∙ d.own_before));
         }
 
-caller_at : (site : Site) (callers : List Caller) (views : List View) (j : ℕ) (v : View) → AllZip (CallerFits site) callers views → At views j v
+pub caller_at : (site : Site) (callers : List Caller) (views : List View) (j : ℕ) (v : View) → AllZip (CallerFits site) callers views → At views j v
     → (c : Caller) × (slice_get callers j ≡ Some c) × CallerFits site c v
 caller_at site [] [] j v all at = absurd (some-ne-none v (sym at))
 caller_at site [] (w ∷ views) j v all at = absurd all

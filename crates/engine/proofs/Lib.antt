@@ -13,3 +13,5 @@ mod Turning
 mod Cut
 mod Goodness
 mod Beginnings
+mod Opening
+mod Quiet

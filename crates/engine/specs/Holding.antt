@@ -95,11 +95,3 @@ abbrev pub CoreBegins : Type 0
 CoreBegins = (site : Site) (start : Words) (core : Core) (version : ℕ) (scripts : List (List Call))
     → IsQuiet site start (world_of core (replicate (length scripts) (fresh_view 1))) → AllByRecursion (AllByRecursion IsWordCall) scripts
     → core.callers ≡ callers_from site.shape version 1 scripts → CoreHolds site start core
-
--- no engine of a caller runs: each call has its reply
-abbrev pub NoneRuns : Core → Type 0
-NoneRuns core = AllByRecursion (λ c. c.engine ≡ None) core.callers
-
--- WHERE NO ENGINE RUNS the world is quiet, so that it may be closed
-abbrev pub ThroughIsQuiet : Type 0
-ThroughIsQuiet = (site : Site) (start : Words) (core : Core) (h : CoreHolds site start core) → NoneRuns core → IsQuiet site start (world_of core h.views)

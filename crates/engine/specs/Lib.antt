@@ -5,3 +5,4 @@ pub mod Left
 pub mod Asks
 pub mod Good
 pub mod Holding
+pub mod Laws

@@ -1,12 +1,14 @@
 //! The laws of the callers' turns. The functions do nothing: each stands for the law that its contract says.
 
-ghost use Rattle.engine.specs.Holding.{TurnKeeps, HoldingIsGood, CoreBegins};
+ghost use Rattle.engine.specs.Holding.{TurnKeeps, RunKeeps, HoldingIsGood, CoreBegins};
+ghost use Rattle.engine.specs.Laws.{OpenedHolds, TurnsKeep, ThroughIsQuiet, ThroughHasMap};
 
 use crate::laws;
 
-/// A turn of any caller keeps what holds of the core.
+/// A turn of any caller keeps what holds of the core, and so do turns one after another.
 pub fn turn_keeps()
-    ensures { TurnKeeps }
+    ensures one { TurnKeeps }
+    ensures all { RunKeeps }
 {
     world::worlds_stay_well();
     world::steps_do_events();
@@ -29,4 +31,31 @@ pub fn core_begins()
     ensures { CoreBegins }
 {
     laws::fits_the_world();
+}
+
+/// The core after a restart holds.
+pub fn opened_holds()
+    ensures { OpenedHolds }
+{
+    core_begins();
+    restart_op::close_begins();
+}
+
+/// Whatever turns the callers take, their replies are one legal history, and whatever a power cut may leave is sound and holds
+/// that history's map, open calls whole or absent.
+pub fn turns_keep()
+    ensures { TurnsKeep }
+{
+    restart_op::restart_begins();
+    opened_holds();
+    turn_keeps();
+    holding_is_good();
+}
+
+/// Where no engine runs the world may be closed, and the newest words have the map of the history.
+pub fn through_is_quiet()
+    ensures quiet { ThroughIsQuiet }
+    ensures map { ThroughHasMap }
+{
+    world::entries_are_legal();
 }

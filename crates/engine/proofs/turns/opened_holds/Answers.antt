@@ -1,0 +1,6 @@
+-- By the end of a restart.
+use Rattle.engine.proofs.Opening.{opened_holds}
+use Rattle.engine.proofs.turns.opened_holds.Goals as goal
+
+pub returns : goal.returns
+returns c = opened_holds c.core_begins.ensures c.close_begins.ensures.quiet

@@ -1,0 +1,9 @@
+-- By the views of callers that are through.
+use Rattle.engine.proofs.Quiet.{through_is_quiet, through_has_map}
+use Rattle.engine.proofs.turns.through_is_quiet.Goals as goal
+
+pub returns-clause-quiet : goal.returns-clause-quiet
+returns-clause-quiet c = through_is_quiet
+
+pub returns-clause-map : goal.returns-clause-map
+returns-clause-map c = through_has_map c.entries_are_legal.ensures

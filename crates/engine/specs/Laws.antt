@@ -1,0 +1,59 @@
+-- The law of all turns: whatever turns the callers take, their replies are one legal history, and whatever a power cut may
+-- leave is sound and holds that history's map, open calls whole or absent.
+use Rattle.std.specs.Prelude.{◌≡◌, ℕ, ◌≤◌, None, List, length, slice_index}
+use Rattle.std.specs.List.{AllByRecursion}
+use Rattle.std.specs.FinMap.{get}
+use Rattle.map_model.specs.declared.call.Call.{Call}
+use Rattle.map_model.specs.Map.{Map}
+use Rattle.map_model.specs.Weave.{weave}
+use Rattle.map_model.specs.Legal.{replay}
+use Rattle.image_layout.specs.Places.{Shape, state_word}
+use Rattle.sound_image.specs.Left.{HasPairsOf}
+use Rattle.bucket_words.specs.Tables.{find}
+use Rattle.trace.specs.Events.{Words}
+use Rattle.world.specs.Site.{Site}
+use Rattle.restart_op.specs.Restarted.{IsServedImage, restarted, words_at_end, site_of}
+use Rattle.restart_op.specs.Closing.{IsQuiet}
+use Rattle.engine.specs.Fits.{IsWordCall}
+use Rattle.engine.specs.Core.{Core, callers_from, run, histories}
+use Rattle.engine.specs.Good.{IsGood}
+use Rattle.engine.specs.Holding.{world_of, CoreHolds}
+
+-- the core after a restart of an image: the callers have these calls, and none has done anything
+abbrev pub opened : Shape → List ℕ → List (List Call) → Core
+opened shape words scripts = record {
+  words = words_at_end shape words;
+  trace = (restarted shape words 4).trace;
+  callers = callers_from shape (words_at_end shape words state_word) 1 scripts;
+}
+
+-- up to 64 callers, whose keys and values are words
+pub record AreScripts (scripts : List (List Call)) : Type 0 where
+  pub few : length scripts ≤ 64
+  pub words : AllByRecursion (AllByRecursion IsWordCall) scripts
+
+-- the core after a restart holds
+abbrev pub OpenedHolds : Type 0
+OpenedHolds = (shape : Shape) (words : List ℕ) (scripts : List (List Call)) → IsServedImage shape words → AreScripts scripts
+    → CoreHolds (site_of shape words (length scripts)) (slice_index words) (opened shape words scripts)
+
+-- THE LAW OF ALL TURNS: from every sound image that the program serves, whatever calls up to 64 callers have, and whatever
+-- turns they take, the core is good
+abbrev pub TurnsKeep : Type 0
+TurnsKeep = (shape : Shape) (words : List ℕ) → IsServedImage shape words
+    → (opening : Map) → HasPairsOf shape (slice_index words) opening
+    → (scripts : List (List Call)) → AreScripts scripts
+    → (turns : List ℕ) → IsGood shape (slice_index words) opening (run shape turns (opened shape words scripts))
+
+-- no engine of a caller runs: each call has its reply
+abbrev pub NoneRuns : Core → Type 0
+NoneRuns core = AllByRecursion (λ c. c.engine ≡ None) core.callers
+
+-- WHERE NO ENGINE RUNS the world is quiet, so that it may be closed
+abbrev pub ThroughIsQuiet : Type 0
+ThroughIsQuiet = (site : Site) (start : Words) (core : Core) (h : CoreHolds site start core) → NoneRuns core → IsQuiet site start (world_of core h.views)
+
+-- and the newest words have the map of the history
+abbrev pub ThroughHasMap : Type 0
+ThroughHasMap = (site : Site) (start : Words) (core : Core) (opening : Map) → CoreHolds site start core → ((k : ℕ) → get opening k ≡ site.start k) → NoneRuns core
+    → (k : ℕ) → get (replay opening (weave (histories core))) k ≡ find site.shape core.words k
