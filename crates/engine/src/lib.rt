@@ -14,11 +14,9 @@ pub use laws::{
     asks_within, attempts_end, fits_the_world, flushes_are_few, no_room_is_full, spent_locks_stay,
     stores_are_words, stores_keep_notes,
 };
-<<<<<<< HEAD
-pub use turns::{core_begins, holding_is_good, turn_keeps};
+pub use turns::{
+    core_begins, holding_is_good, opened_holds, through_is_quiet, turn_keeps, turns_keep,
+};
 
 #[cfg(test)]
 mod tests;
-=======
-pub use turns::{core_begins, holding_is_good, opened_holds, through_is_quiet, turn_keeps, turns_keep};
->>>>>>> bc90a4a4a8a8a8ddeeea3987204401af76f6c5b4
