@@ -58,7 +58,7 @@ may_cut Running = true
 may_cut Closing = true
 may_cut CutOff = false
 
--- the line may stand where a script is in this phase
+-- the line may stand where a script is in this phase; a fuse has no form so far
 abbrev pub may_follow : Mode → Phase → Line → Bool
 may_follow mode phase (CallLine c call) = may_call phase
 may_follow mode phase (Fuse c n) = false

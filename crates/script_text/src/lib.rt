@@ -1,8 +1,8 @@
 //! The text of a script: bytes in, lines out, or the first fault with its line.
 //!
 //! `parse` takes the bytes of a whole script and gives its lines in their order; its contract is the grammar, read
-//! off the bytes. The modules below it each read one thing: a word, a number, a line, and where a line ends; `phase` says what may
-//! follow what.
+//! off the bytes. The modules below it each read one thing: a word, a number, the form of a call or of a run, a line,
+//! and where a line ends. `phase` says what may follow what.
 //! The grammar in plain words stands in the README.
 #![tactic(auto)]
 

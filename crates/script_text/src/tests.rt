@@ -104,7 +104,19 @@ fn refuses_what_is_none_of_the_forms(rt: HostRuntime) {
         b"1 update 5",
         b"1 remove 5 6",
         b"1 remove",
-        b"fuse 1 5",
+    ];
+    for text in texts {
+        for mode in [Mode::Play, Mode::Serve] {
+            let want = Some(ScriptFault::Word { line: 1 });
+            assert_eq!(rt; refusal(rt.alloc(), mode, text), want, "{text:?}");
+        }
+    }
+}
+
+#[test]
+fn refuses_schedules_of_no_form(rt: HostRuntime) {
+    let texts = [
+        b"fuse 1 5".as_slice(),
         b"1 step 5",
         b"step 1",
         b"step 1 2 3",
@@ -129,7 +141,7 @@ fn refuses_what_is_none_of_the_forms(rt: HostRuntime) {
 }
 
 #[test]
-fn refuses_numbers_and_callers(rt: HostRuntime) {
+fn refuses_what_is_no_number(rt: HostRuntime) {
     let numbers = [
         b"1 get x".as_slice(),
         b"x get 5",
@@ -161,6 +173,10 @@ fn refuses_numbers_and_callers(rt: HostRuntime) {
         let want = Some(ScriptFault::Number { line: 1 });
         assert_eq!(rt; refusal(rt.alloc(), Mode::Play, text), want, "{text:?}");
     }
+}
+
+#[test]
+fn refuses_callers_out_of_range(rt: HostRuntime) {
     let callers = [
         b"0 get 5".as_slice(),
         b"2 get 5",
