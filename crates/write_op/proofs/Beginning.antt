@@ -1,5 +1,5 @@
 -- A change that has done nothing yet suits the view of a caller that holds, knows and owes nothing, and one that has ended
--- leaves the view as its end says.
+-- leaves the view as its end says, which suits the refusal too where no slot was free.
 use Rattle.std.proofs.Common.{◌<◌, [], refl, sym, ap, subst}
 use Rattle.image_layout.specs.Places.{IsShape}
 use Rattle.sound_image.specs.Records.{key_hash}
@@ -10,7 +10,8 @@ use Rattle.world.specs.declared.site.Site.{Site as Here}
 use Rattle.world.specs.Views.{View}
 use Rattle.write_op.specs.Wanted.{key_for}
 use Rattle.write_op.specs.Taken.{begun}
-use Rattle.write_op.specs.Suits.{Enters, HoldsOnly, SuitsStep, Suits, BeginsSuited, EndsWell}
+use Rattle.write_op.specs.Suits.{Enters, HoldsOnly, SuitsStep, Suits, BeginsSuited, EndsWell, RefusesWell}
+use Rattle.write_op.proofs.Chosen.{refused_inside}
 use Rattle.write_op.proofs.Hashes.{begins_inside}
 
 suits_first : (here : Here) (call : Call) (v : View) → IsChange call → HoldsOnly [] v → 0 < v.callers → Suits v (begun call here) v
@@ -35,4 +36,20 @@ pub ends_well : EndsWell
 ends_well op before v end e suits = (
   subst (λ s. Enters op.task.call s before v) e suits.enters,
   subst (λ s. SuitsStep op.task op.kept s v) e suits.view,
+)
+
+pub refuses_well : RefusesWell
+refuses_well site op before v is suits e = (
+  record {
+    shape = is.shape;
+    hash = is.hash;
+    inside = refused_inside op is.inside;
+    change = is.change;
+    whole = is.whole;
+  },
+  record {
+    enters = subst (λ s. Enters op.task.call s before v) e suits.enters;
+    view = subst (λ s. SuitsStep op.task op.kept s v) e suits.view;
+    callers = suits.callers;
+  },
 )

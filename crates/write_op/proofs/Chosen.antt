@@ -12,7 +12,7 @@ use Rattle.write_op.specs.declared.control.Kept.{Kept}
 use Rattle.write_op.specs.declared.control.Task.{Task}
 use Rattle.write_op.specs.declared.machine.WriteOp.{WriteOp}
 use Rattle.write_op.specs.Slots.{is_taken, slot_with, slot_free}
-use Rattle.write_op.specs.Taken.{chosen, with_slot, kept_after, taken}
+use Rattle.write_op.specs.Taken.{chosen, with_slot, kept_after, taken, refused}
 use Rattle.write_op.specs.Fits.{IsWord}
 use Rattle.write_op.specs.Inside.{IsInside}
 use Rattle.write_op.proofs.Fitting.{fits_stays}
@@ -61,3 +61,6 @@ slot_stays t k s a h = h
 
 pub stays_inside : (op : WriteOp) (a : Ans) → IsWord a → IsInside op → IsInside (taken op a)
 stays_inside op a w i = record { shape = i.shape; hash = i.hash; slot = slot_stays op.task op.kept op.step a i.slot; numbers = fits_stays op a w i.numbers }
+
+pub refused_inside : (op : WriteOp) → IsInside op → IsInside (refused op)
+refused_inside op i = record { shape = i.shape; hash = i.hash; slot = i.slot; numbers = tt }

@@ -8,7 +8,7 @@ use Rattle.map_model.specs.declared.call.Call.TheVariants.{Get, Insert, Update, 
 use Rattle.map_model.specs.declared.entry.Reply.{Reply}
 use Rattle.map_model.specs.declared.entry.Reply.TheVariants as reply
 use Rattle.map_model.specs.Map.{is_change}
-use Rattle.map_model.specs.Legal.{IsChange}
+use Rattle.map_model.specs.Legal.{IsInsert, IsChange}
 use Rattle.world.specs.declared.site.Site.{Site}
 use Rattle.world.specs.Views.{View}
 use Rattle.world.specs.Kinds.{next_entry, with_reply, with_count, view_after}
@@ -23,7 +23,7 @@ use Rattle.write_op.specs.Slots.{slot_with, slot_free}
 use Rattle.write_op.specs.Wanted.{key_for}
 use Rattle.write_op.specs.Taken.{chosen, inserting, changing, decided, with_slot}
 use Rattle.write_op.specs.Fits.{count_inserting, count_changing, count_kind}
-use Rattle.write_op.specs.Suits.{HasNotReplied, IsQuiet, HasBoth, KnowsBelow, IsChosen, KnowsAt}
+use Rattle.write_op.specs.Suits.{HasNotReplied, IsQuiet, HasBoth, KnowsBelow, IsChosen, KnowsAt, FindsNoSlot}
 use Rattle.write_op.proofs.Locked.{nothing_is}
 use Rattle.write_op.proofs.Searching.{FindsKey, finds_key, FindsFree, finds_free}
 use Rattle.write_op.proofs.Going.{Goes, replied}
@@ -83,8 +83,8 @@ module _ (shape : Shape) (t : Task) (before : View) (k : Kept) (v : View) (some 
     callers = some;
   }
 
-  no_slot : slot_with k.words (key_for t.call) 0 14 ≡ None → slot_free k.words 0 14 ≡ None → Goes t before k (Ended NoSlot) with_room
-  no_slot e f = record {
+  no_slot : slot_with k.words (key_for t.call) 0 14 ≡ None → slot_free k.words 0 14 ≡ None → IsInsert t.call → Goes t before k (Ended NoSlot) with_room
+  no_slot e f insert = record {
     enters = record { own = same.own; seen = same.seen };
     view = (
       record { held = both.held; under = both.under; home = both.home; probing = both.probing; first = both.first },
@@ -92,9 +92,16 @@ module _ (shape : Shape) (t : Task) (before : View) (k : Kept) (v : View) (some 
       knows,
       e,
       f,
+      insert,
     );
     callers = some;
   }
+
+-- the refusal of an insert that found no slot
+pub full_goes : (shape : Shape) (t : Task) (before : View) (k : Kept) (v : View) → 0 < v.callers → HasNotReplied before v → FindsNoSlot t k v → (n : ℕ) (b : Bool)
+    → Goes t before k (GiveBack Both (Replied (cond b reply.Deep reply.Full) n)) (with_reply v (next_entry v t.call (cond b reply.Deep reply.Full) n false))
+full_goes shape t before k v some same finds n true = refused shape t before k v some same finds.0 finds.1 finds.2 reply.Deep n None refl
+full_goes shape t before k v some same finds n false = refused shape t before k v some same finds.0 finds.1 finds.2 reply.Full n None refl
 
 module _ (shape : Shape) (here : Site) (hash : ℕ) (before : View) (k : Kept) (v : View) (some : 0 < v.callers) (same : HasNotReplied before v) (quiet : IsQuiet v) (n : ℕ) where
   abbrev task_of : Call → Task
@@ -114,7 +121,7 @@ module _ (shape : Shape) (here : Site) (hash : ℕ) (before : View) (k : Kept) (
         (make_key shape (task_of (Insert key value)) before k v some same both quiet knows s (free.0, (λ r low h. found r (omega arith) low h)) (tt, knows))
     insert_by key value both knows None None e f found free =
         subst (λ u. Goes (task_of (Insert key value)) before k (Ended NoSlot) u) (room_is (Insert key value) small)
-        (no_slot shape (task_of (Insert key value)) before k v some same both quiet knows e f)
+        (no_slot shape (task_of (Insert key value)) before k v some same both quiet knows e f tt)
 
     update_by : (key value : ℕ) → HasBoth (task_of (Update key value)) k v → KnowsBelow (task_of (Update key value)) k k.words 32 v
         → (o : Option ℕ) → FindsKey k.words key 0 14 o

@@ -20,14 +20,14 @@ use Rattle.image_layout.specs.Places.{root_word}
 use Rattle.write_op.specs.declared.control.WriteEnd.{WriteEnd}
 use Rattle.write_op.specs.declared.control.WriteEnd.TheVariants.{Replied, Again, Off}
 use Rattle.write_op.specs.declared.control.Step.{Step}
-use Rattle.write_op.specs.declared.control.Step.TheVariants.{AskPower, LoadRoot, LoadEntry, LoadHead, LookAt, TryLock, RootAgain, EntryAgain, HeadAgain, LoadWord, LoadCount, Make, CountSpent, GiveBack, Ended}
+use Rattle.write_op.specs.declared.control.Step.TheVariants.{AskPower, LoadRoot, LoadEntry, LoadHead, LookAt, TryLock, RootAgain, EntryAgain, HeadAgain, LoadWord, LoadCount, Make, CountSpent, CountFull, GiveBack, Ended}
 use Rattle.write_op.specs.declared.control.Kept.{Kept}
 use Rattle.write_op.specs.declared.control.Task.{Task}
 use Rattle.write_op.specs.declared.machine.WriteOp.{WriteOp}
 use Rattle.write_op.specs.Slots.{slot_with, slot_free}
 use Rattle.write_op.specs.Ways.{entry_word, head_word, lock_word, sight_of}
 use Rattle.write_op.specs.Wanted.{wanted_of, wanted_at, free_of}
-use Rattle.write_op.specs.Taken.{moved, give_up, seen_at, after_head, after_look, after_loss, again, inserting, changing, decided, after_count, made, step_after, begun}
+use Rattle.write_op.specs.Taken.{moved, give_up, seen_at, after_head, after_look, after_loss, again, inserting, changing, decided, after_count, made, step_after, refused, begun}
 use Rattle.write_op.specs.Left.{IsAnswer, left_at, left_in, left}
 
 -- of two steps that a test chooses between, both have at most n events left
@@ -119,6 +119,7 @@ step_falls t k (LoadWord at) (Value v) i = loads_on at
 step_falls t k LoadCount (Value v) i = let e = counts t.call k.words v in omega (arith, e)
 step_falls t k (CountSpent Home) (Value v) i = omega arith
 step_falls t k (CountSpent Probing) (Value v) i = omega arith
+step_falls t k CountFull (Value v) i = omega arith
 step_falls t k (Make point) a i = makes t k k.slot point a i
 step_falls t k (GiveBack OnlyHome end) Passed i = omega arith
 step_falls t k (GiveBack OnlyProbing end) Passed i = omega arith
@@ -127,6 +128,9 @@ step_falls t k s a i = absurd i
 
 pub falls : (op : WriteOp) (a : Ans) → IsAnswer (wanted_of op.task op.kept op.step) a → left_in (step_after op.task op.kept op.step a) < left_in op.step
 falls op a i = step_falls op.task op.kept op.step a i
+
+pub refused_left : (op : WriteOp) → left (refused op) ≤ 3
+refused_left op = omega arith
 
 pub begins : (call : Call) (site : Site) → left (begun call site) ≤ 55
 begins (Get key) site = omega arith

@@ -20,7 +20,7 @@ use Rattle.write_op.specs.declared.control.Held.TheVariants.{OnlyHome, OnlyProbi
 use Rattle.write_op.specs.declared.control.Point.{Point}
 use Rattle.write_op.specs.declared.control.Point.TheVariants.{StoreKey, StoreValue, StoreFinger, FlushFinger, FlushRecord, FenceRecord, Publish, FlushPublished, FencePublished, DrawPlace}
 use Rattle.write_op.specs.declared.control.Step.{Step}
-use Rattle.write_op.specs.declared.control.Step.TheVariants.{AskPower, LoadRoot, LoadEntry, LoadHead, LookAt, TryLock, RootAgain, EntryAgain, HeadAgain, LoadWord, LoadCount, Make, CountSpent, GiveBack, Ended}
+use Rattle.write_op.specs.declared.control.Step.TheVariants.{AskPower, LoadRoot, LoadEntry, LoadHead, LookAt, TryLock, RootAgain, EntryAgain, HeadAgain, LoadWord, LoadCount, Make, CountSpent, CountFull, GiveBack, Ended}
 use Rattle.write_op.specs.declared.control.Kept.{Kept}
 use Rattle.write_op.specs.declared.control.Task.{Task}
 use Rattle.write_op.specs.declared.machine.WriteOp.{WriteOp}
@@ -82,6 +82,7 @@ step_wants t k (LoadWord at) n f d = refl
 step_wants t k LoadCount n f d = either_loads t.site.geometry (nat_le (2 ^ 63) n) (finds_room t.call) (count_kind t.call k.words) refl (count_loads t.site.geometry t.call k.words)
 step_wants t k (Make point) n f d = made_wants t k point
 step_wants t k (CountSpent side) n f d = refl
+step_wants t k CountFull n f d = refl
 step_wants t k (GiveBack OnlyHome end) n f d = refl
 step_wants t k (GiveBack OnlyProbing end) n f d = refl
 step_wants t k (GiveBack Both end) n f d = refl
@@ -185,6 +186,7 @@ step_stays t k HeadAgain (Value v) w f =
 step_stays t k (LoadWord at) (Value v) w f = loaded_fits (record k { words = slice_set k.words at v }) at
 step_stays t k LoadCount (Value v) w f = counted_fits (with_slot k (chosen t.call k.words)) t.call k.words v
 step_stays t k (CountSpent side) (Value v) w f = given_up_fits k side (Replied Spent v)
+step_stays t k CountFull (Value v) w f = tt
 step_stays t k (Make point) a w f = made_fits k k.slot point a
 step_stays t k (GiveBack OnlyHome end) Passed w f = tt
 step_stays t k (GiveBack OnlyProbing end) Passed w f = tt

@@ -27,7 +27,7 @@ use Rattle.write_op.specs.declared.control.WriteEnd.TheVariants.{Replied, Off}
 use Rattle.write_op.specs.declared.control.Point.{Point}
 use Rattle.write_op.specs.declared.control.Point.TheVariants.{StoreKey, StoreValue, StoreFinger, FlushFinger, FlushRecord, FenceRecord, Publish, FlushPublished, FencePublished, DrawPlace}
 use Rattle.write_op.specs.declared.control.Step.{Step}
-use Rattle.write_op.specs.declared.control.Step.TheVariants.{AskPower, LoadRoot, LoadEntry, LoadHead, LookAt, TryLock, RootAgain, EntryAgain, HeadAgain, LoadWord, LoadCount, Make, CountSpent, GiveBack, Ended}
+use Rattle.write_op.specs.declared.control.Step.TheVariants.{AskPower, LoadRoot, LoadEntry, LoadHead, LookAt, TryLock, RootAgain, EntryAgain, HeadAgain, LoadWord, LoadCount, Make, CountSpent, CountFull, GiveBack, Ended}
 use Rattle.write_op.specs.declared.control.Kept.{Kept}
 use Rattle.write_op.specs.declared.control.Task.{Task}
 use Rattle.write_op.specs.Ways.{entry_word, head_word, lock_word, sight_of}
@@ -39,7 +39,7 @@ use Rattle.write_op.proofs.Fitting.{wants_of_kinds}
 use Rattle.write_op.proofs.Chosen.{stays_inside}
 use Rattle.write_op.proofs.Locked.{task_in}
 use Rattle.write_op.proofs.Going.{Goes, either_goes, replied, end_goes, look_goes, try_home, try_probing, head_goes, again_goes, word_goes}
-use Rattle.write_op.proofs.Counted.{count_goes}
+use Rattle.write_op.proofs.Counted.{count_goes, full_goes}
 use Rattle.write_op.proofs.Making.{give_home, give_probing, give_both, key_goes, value_goes, fingers_goes, publish_goes, flush_finger_goes, flush_record_goes, fence_record_goes, flush_published_goes, fence_published_goes, draw_goes}
 
 published_far : (call : Call) (s : ℕ) → s < 14 → (1 ≤ published_word call s) × (published_word call s < 32)
@@ -127,6 +127,7 @@ module _ (site : Site) (version caller : ℕ) (call : Call) (change : IsChange c
   step_goes LoadCount n found f same suits d = count_goes site.shape t.site t.hash before k v some same suits.1 n call change suits.0 suits.2
   step_goes (Make point) n found f same suits d = made_goes point n same suits
   step_goes (CountSpent side) n found f same suits d = spent_goes side n same suits
+  step_goes CountFull n found f same suits d = full_goes site.shape t before k v some same suits n (site.shape.depth == 0)
   step_goes (GiveBack OnlyHome end) n found f enters suits d = give_home site good version caller call change before k slots whole v some end suits.1 enters suits.0
   step_goes (GiveBack OnlyProbing end) n found f enters suits d = give_probing site good version caller call change before k slots whole v some end suits.1 enters suits.0
   step_goes (GiveBack Both end) n found f enters suits d = give_both site good version caller call change before k slots whole v some end suits.1 enters suits.0

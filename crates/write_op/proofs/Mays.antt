@@ -1,12 +1,12 @@
 -- A view that suits a change may take its step, by the control points.
-use Rattle.std.proofs.Common.{◌≡◌, ℕ, ◌+◌, ◌%◌, ◌^◌, ◌<◌, inl, inr, Bool, true, false, cond, Option, Some, None, List, refl, sym, ap, subst, arith, length}
+use Rattle.std.proofs.Common.{◌≡◌, ℕ, ◌+◌, ◌%◌, ◌^◌, ◌<◌, inl, inr, Bool, true, false, cond, ◌==◌, Option, Some, None, List, refl, sym, ap, subst, arith, length}
 use Rattle.std.specs.Prelude.{nat_le}
 use Rattle.image_layout.specs.Places.{Shape}
 use Rattle.sound_image.specs.Records.{key_hash}
 use Rattle.map_model.specs.declared.call.Call.{Call}
 use Rattle.map_model.specs.declared.call.Call.TheVariants.{Get, Insert, Update, Remove}
 use Rattle.map_model.specs.declared.entry.Reply.TheVariants as reply
-use Rattle.map_model.specs.Legal.{IsChange}
+use Rattle.map_model.specs.Legal.{IsInsert, IsChange}
 use Rattle.world.specs.Site.{Site, IsSite}
 use Rattle.world.specs.Views.{View, Has, IsLoose}
 use Rattle.world.specs.Kinds.{Kind, May}
@@ -19,7 +19,7 @@ use Rattle.write_op.specs.declared.control.Held.TheVariants.{OnlyHome, OnlyProbi
 use Rattle.write_op.specs.declared.control.Point.{Point}
 use Rattle.write_op.specs.declared.control.Point.TheVariants.{StoreKey, StoreValue, StoreFinger, FlushFinger, FlushRecord, FenceRecord, Publish, FlushPublished, FencePublished, DrawPlace}
 use Rattle.write_op.specs.declared.control.Step.{Step}
-use Rattle.write_op.specs.declared.control.Step.TheVariants.{AskPower, LoadRoot, LoadEntry, LoadHead, LookAt, TryLock, RootAgain, EntryAgain, HeadAgain, LoadWord, LoadCount, Make, CountSpent, GiveBack, Ended}
+use Rattle.write_op.specs.declared.control.Step.TheVariants.{AskPower, LoadRoot, LoadEntry, LoadHead, LookAt, TryLock, RootAgain, EntryAgain, HeadAgain, LoadWord, LoadCount, Make, CountSpent, CountFull, GiveBack, Ended}
 use Rattle.write_op.specs.declared.control.Kept.{Kept}
 use Rattle.write_op.specs.declared.control.Task.{Task}
 use Rattle.write_op.specs.Slots.{slot_with}
@@ -129,6 +129,11 @@ module _ (site : Site) (good : IsSite site) (version caller : ℕ) (k : Kept) (s
     quiet_only : (locks : List (ℕ × ℕ)) → HoldsOnly locks v → IsQuiet v
     quiet_only locks h = record { dirty = h.dirty; flushed = h.flushed; planned = h.planned }
 
+    -- an insert may be refused for want of room, whatever its key has
+    full_may : (b : Bool) → IsInsert call → May site (refuses call (cond b reply.Deep reply.Full)) v
+    full_may true insert = (refl, inl (λ a. insert))
+    full_may false insert = (refl, inl (λ a. insert))
+
     step_may : (s : Step) (n : ℕ) → StepFits k s → SuitsStep t k s v → May site (kind_at t k s n) v
     step_may AskPower n f suits = tt
     step_may LoadRoot n f suits = tt
@@ -143,6 +148,7 @@ module _ (site : Site) (good : IsSite site) (version caller : ℕ) (k : Kept) (s
     step_may LoadCount n f suits = either_may (nat_le (2 ^ 63) n) (finds_room call) (count_kind call k.words) (change, some) (count_may suits.1 call change suits.0 suits.2)
     step_may (Make point) n f suits = made_may point suits
     step_may (CountSpent side) n f suits = (refl, inl (λ a. change))
+    step_may CountFull n f suits = full_may (site.shape.depth == 0) suits.5
     step_may (GiveBack OnlyHome end) n f suits = let o = suits.0.0 in
         unlock_may Home (subst (λ l. Has (lock_word t k Home, free_of k Home + 1) l) (sym o.held) (inl refl)) (quiet_only (locks_of t k OnlyHome) o) suits.0.1
     step_may (GiveBack OnlyProbing end) n f suits = let o = suits.0.0 in

@@ -15,13 +15,14 @@ use Rattle.write_op.specs.declared.control.Held.TheVariants.{OnlyHome, OnlyProbi
 use Rattle.write_op.specs.declared.control.Point.{Point}
 use Rattle.write_op.specs.declared.control.Point.TheVariants.{StoreKey, StoreValue, StoreFinger, FlushFinger, FlushRecord, FenceRecord, Publish, FlushPublished, FencePublished, DrawPlace}
 use Rattle.write_op.specs.declared.control.Step.{Step}
-use Rattle.write_op.specs.declared.control.Step.TheVariants.{AskPower, LoadRoot, LoadEntry, LoadHead, LookAt, TryLock, RootAgain, EntryAgain, HeadAgain, LoadWord, LoadCount, Make, CountSpent, GiveBack, Ended}
+use Rattle.write_op.specs.declared.control.Step.TheVariants.{AskPower, LoadRoot, LoadEntry, LoadHead, LookAt, TryLock, RootAgain, EntryAgain, HeadAgain, LoadWord, LoadCount, Make, CountSpent, CountFull, GiveBack, Ended}
 use Rattle.write_op.specs.declared.control.Kept.{Kept}
 use Rattle.write_op.specs.declared.control.Task.{Task}
 use Rattle.write_op.specs.declared.machine.WriteOp.{WriteOp}
 use Rattle.write_op.specs.Slots.{slot_with, finger_place, with_finger}
 use Rattle.write_op.specs.Ways.{entry_word, head_word, lock_word}
 use Rattle.write_op.specs.Wanted.{key_for, value_for, home_word, published_word, published_value, free_of}
+use Rattle.write_op.specs.Taken.{no_room}
 
 -- the load of the commit counter under both locks, by where the key stands: it answers a refusal, or finds room
 abbrev pub count_inserting : Call → Option ℕ → Kind
@@ -67,6 +68,7 @@ kind_at t k (LoadWord at) n = learns (home_word t k at)
 kind_at t k LoadCount n = if nat_le (2 ^ 63) n then finds_room t.call else count_kind t.call k.words
 kind_at t k (Make point) n = made_kind t k point
 kind_at t k (CountSpent side) n = refuses t.call Spent
+kind_at t k CountFull n = refuses t.call (no_room t.site)
 kind_at t k (GiveBack OnlyHome end) n = unlocks (lock_word t k Home) ((free_of k Home + 2) % 2 ^ 64)
 kind_at t k (GiveBack OnlyProbing end) n = unlocks (lock_word t k Probing) ((free_of k Probing + 2) % 2 ^ 64)
 kind_at t k (GiveBack Both end) n = unlocks (lock_word t k Home) ((free_of k Home + 2) % 2 ^ 64)

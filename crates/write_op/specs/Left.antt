@@ -9,7 +9,7 @@ use Rattle.write_op.specs.declared.control.Held.TheVariants.{OnlyHome, OnlyProbi
 use Rattle.write_op.specs.declared.control.Point.{Point}
 use Rattle.write_op.specs.declared.control.Point.TheVariants.{StoreKey, StoreValue, StoreFinger, FlushFinger, FlushRecord, FenceRecord, Publish, FlushPublished, FencePublished, DrawPlace}
 use Rattle.write_op.specs.declared.control.Step.{Step}
-use Rattle.write_op.specs.declared.control.Step.TheVariants.{AskPower, LoadRoot, LoadEntry, LoadHead, LookAt, TryLock, RootAgain, EntryAgain, HeadAgain, LoadWord, LoadCount, Make, CountSpent, GiveBack, Ended}
+use Rattle.write_op.specs.declared.control.Step.TheVariants.{AskPower, LoadRoot, LoadEntry, LoadHead, LookAt, TryLock, RootAgain, EntryAgain, HeadAgain, LoadWord, LoadCount, Make, CountSpent, CountFull, GiveBack, Ended}
 use Rattle.write_op.specs.declared.machine.WriteOp.{WriteOp}
 
 -- an answer of the kind that was asked for
@@ -53,6 +53,7 @@ left_in LoadCount = 13
 left_in (Make point) = left_at point
 left_in (CountSpent Home) = 1
 left_in (CountSpent Probing) = 2
+left_in CountFull = 3
 left_in (GiveBack OnlyHome end) = 1
 left_in (GiveBack OnlyProbing end) = 1
 left_in (GiveBack Both end) = 2

@@ -28,7 +28,7 @@ use Rattle.write_op.specs.declared.control.Point.TheVariants.{StoreKey, StoreVal
 use Rattle.write_op.specs.declared.control.WriteEnd.{WriteEnd}
 use Rattle.write_op.specs.declared.control.WriteEnd.TheVariants.{Replied, NoSlot}
 use Rattle.write_op.specs.declared.control.Step.{Step}
-use Rattle.write_op.specs.declared.control.Step.TheVariants.{AskPower, LoadRoot, LoadEntry, LoadHead, LookAt, TryLock, RootAgain, EntryAgain, HeadAgain, LoadWord, LoadCount, Make, CountSpent, GiveBack, Ended}
+use Rattle.write_op.specs.declared.control.Step.TheVariants.{AskPower, LoadRoot, LoadEntry, LoadHead, LookAt, TryLock, RootAgain, EntryAgain, HeadAgain, LoadWord, LoadCount, Make, CountSpent, CountFull, GiveBack, Ended}
 use Rattle.write_op.specs.declared.control.Kept.{Kept}
 use Rattle.write_op.specs.declared.control.Task.{Task}
 use Rattle.write_op.specs.declared.machine.WriteOp.{WriteOp}
@@ -37,7 +37,7 @@ use Rattle.write_op.specs.Ways.{lock_word}
 use Rattle.write_op.specs.Wanted.{key_for, value_for, home_word, published_word, free_of}
 use Rattle.write_op.specs.Fits.{kind_of}
 use Rattle.write_op.specs.Inside.{IsInside}
-use Rattle.write_op.specs.Taken.{begun, wanted, taken}
+use Rattle.write_op.specs.Taken.{begun, wanted, taken, refused}
 
 -- the change runs in this image, its hash is its key's, its numbers are in range, and it has room for a bucket's words
 pub record IsIn (site : Site) (op : WriteOp) : Type 0 where
@@ -201,9 +201,13 @@ module _ (t : Task) (k : Kept) where
   SuitsGiving OnlyProbing v = HoldsOnly (locks_of OnlyProbing) v × HasNext Probing
   SuitsGiving Both v = HasBoth v × IsQuiet v
 
+  -- an insert, whose key is absent and whose home bucket is full, has both locks
+  abbrev pub FindsNoSlot : View → Type 0
+  FindsNoSlot v = HasBoth v × IsQuiet v × KnowsBelow k.words 32 v × (slot_with k.words (key_for t.call) 0 14 ≡ None) × (slot_free k.words 0 14 ≡ None) × IsInsert t.call
+
   -- at the ends: both locks are kept where no slot is free, and else all is as at the beginning
   abbrev pub SuitsEnd : WriteEnd → View → Type 0
-  SuitsEnd NoSlot v = HasBoth v × IsQuiet v × KnowsBelow k.words 32 v × (slot_with k.words (key_for t.call) 0 14 ≡ None) × (slot_free k.words 0 14 ≡ None)
+  SuitsEnd NoSlot v = FindsNoSlot v
   SuitsEnd end v = HoldsOnly [] v
 
   -- THE VIEW at each control point
@@ -215,6 +219,7 @@ module _ (t : Task) (k : Kept) where
   SuitsStep (LookAt side) v = SuitsLooking side v
   SuitsStep (TryLock side) v = SuitsLooking side v
   SuitsStep (CountSpent side) v = SuitsLooking side v
+  SuitsStep CountFull v = FindsNoSlot v
   SuitsStep RootAgain v = HasBoth v × IsQuiet v
   SuitsStep EntryAgain v = HasBoth v × IsQuiet v
   SuitsStep HeadAgain v = HasBoth v × IsQuiet v
@@ -245,6 +250,11 @@ MayStep = (site : Site) (op : WriteOp) (before v : View) (n : ℕ) → IsSite si
 abbrev pub EndsWell : Type 0
 EndsWell = (op : WriteOp) (before v : View) (end : WriteEnd) → op.step ≡ Ended end → Suits before op v
     → EntersEnd op.task.call end before v × SuitsEnd op.task op.kept end v
+
+-- an insert that found no slot may go on, to its refusal: the view suits it still
+abbrev pub RefusesWell : Type 0
+RefusesWell = (site : Site) (op : WriteOp) (before v : View) → IsIn site op → Suits before op v → op.step ≡ Ended NoSlot
+    → IsIn site (refused op) × Suits before (refused op) v
 
 -- what an event that found a value answers
 abbrev pub answer_to : Want → ℕ → Ans

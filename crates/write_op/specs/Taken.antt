@@ -6,7 +6,8 @@ use Rattle.op_core.specs.declared.want.Ans.TheVariants.{Value, Won, Lost, Drawn,
 use Rattle.op_core.specs.declared.why.Why.TheVariants.{Busy, Moved}
 use Rattle.map_model.specs.declared.call.Call.{Call}
 use Rattle.map_model.specs.declared.call.Call.TheVariants.{Get, Insert, Update, Remove}
-use Rattle.map_model.specs.declared.entry.Reply.TheVariants.{Absent, Done, Exists, Spent}
+use Rattle.map_model.specs.declared.entry.Reply.{Reply}
+use Rattle.map_model.specs.declared.entry.Reply.TheVariants.{Absent, Done, Exists, Full, Deep, Spent}
 use Rattle.image_layout.specs.Places.{root_word}
 use Rattle.sound_image.specs.Records.{key_hash}
 use Rattle.world.specs.declared.site.Site.{Site}
@@ -21,7 +22,7 @@ use Rattle.write_op.specs.declared.control.Point.TheVariants.{StoreKey, StoreVal
 use Rattle.write_op.specs.declared.control.WriteEnd.{WriteEnd}
 use Rattle.write_op.specs.declared.control.WriteEnd.TheVariants.{Replied, NoSlot, Again, Stale, Off}
 use Rattle.write_op.specs.declared.control.Step.{Step}
-use Rattle.write_op.specs.declared.control.Step.TheVariants.{AskPower, LoadRoot, LoadEntry, LoadHead, LookAt, TryLock, RootAgain, EntryAgain, HeadAgain, LoadWord, LoadCount, Make, CountSpent, GiveBack, Ended}
+use Rattle.write_op.specs.declared.control.Step.TheVariants.{AskPower, LoadRoot, LoadEntry, LoadHead, LookAt, TryLock, RootAgain, EntryAgain, HeadAgain, LoadWord, LoadCount, Make, CountSpent, CountFull, GiveBack, Ended}
 use Rattle.write_op.specs.declared.control.Kept.{Kept}
 use Rattle.write_op.specs.declared.control.Task.{Task}
 use Rattle.write_op.specs.declared.machine.WriteOp.{WriteOp}
@@ -89,6 +90,10 @@ decided (Remove key) words count = changing count (slot_with words key 0 14)
 abbrev pub after_count : Call → List ℕ → ℕ → Step
 after_count call words count = if nat_le (2 ^ 63) count then GiveBack Both (Replied Spent count) else decided call words count
 
+-- the reply to an insert that found no room: the table does not grow, and one of depth 0 may not
+abbrev pub no_room : Site → Reply
+no_room site = if site.geometry.depth == 0 then Deep else Full
+
 -- the line of the fingerprints is the record's too for slots 0 and 1
 abbrev pub made : ℕ → Point → Ans → Step
 made slot StoreKey Passed = Make StoreValue
@@ -138,6 +143,7 @@ step_after t k HeadAgain (Value v) = again (LoadWord 1) (head_word t.site.geomet
 step_after t k (LoadWord at) (Value v) = if nat_lt at 31 then LoadWord (at + 1) else LoadCount
 step_after t k LoadCount (Value v) = after_count t.call k.words v
 step_after t k (CountSpent side) (Value v) = give_up side (Replied Spent v)
+step_after t k CountFull (Value v) = GiveBack Both (Replied (no_room t.site) v)
 step_after t k (Make point) a = made k.slot point a
 step_after t k (GiveBack held end) Passed = gave_back held end
 step_after t k s a = s
@@ -147,6 +153,10 @@ wanted op = wanted_of op.task op.kept op.step
 
 abbrev pub taken : WriteOp → Ans → WriteOp
 taken op a = record { task = op.task; kept = kept_after op.task op.kept op.step a; step = step_after op.task op.kept op.step a }
+
+-- an insert that found no slot goes on, to its refusal
+abbrev pub refused : WriteOp → WriteOp
+refused op = record op { step = CountFull }
 
 -- nothing was seen yet
 abbrev pub nothing : Kept

@@ -14,7 +14,7 @@ use Rattle.write_op.specs.declared.control.Held.TheVariants.{OnlyHome, OnlyProbi
 use Rattle.write_op.specs.declared.control.Point.{Point}
 use Rattle.write_op.specs.declared.control.Point.TheVariants.{StoreKey, StoreValue, StoreFinger, FlushFinger, FlushRecord, FenceRecord, Publish, FlushPublished, FencePublished, DrawPlace}
 use Rattle.write_op.specs.declared.control.Step.{Step}
-use Rattle.write_op.specs.declared.control.Step.TheVariants.{AskPower, LoadRoot, LoadEntry, LoadHead, LookAt, TryLock, RootAgain, EntryAgain, HeadAgain, LoadWord, LoadCount, Make, CountSpent, GiveBack, Ended}
+use Rattle.write_op.specs.declared.control.Step.TheVariants.{AskPower, LoadRoot, LoadEntry, LoadHead, LookAt, TryLock, RootAgain, EntryAgain, HeadAgain, LoadWord, LoadCount, Make, CountSpent, CountFull, GiveBack, Ended}
 use Rattle.write_op.specs.declared.control.Kept.{Kept}
 use Rattle.write_op.specs.declared.control.Task.{Task}
 use Rattle.write_op.specs.Slots.{inserted_mark, removed_mark, finger_place, with_finger}
@@ -86,6 +86,7 @@ wanted_of t k (LoadWord at) = want.Load (home_word t k at)
 wanted_of t k LoadCount = want.Load (counter_word t.site.geometry)
 wanted_of t k (Make point) = wanted_at t k point
 wanted_of t k (CountSpent side) = want.Load (counter_word t.site.geometry)
+wanted_of t k CountFull = want.Load (counter_word t.site.geometry)
 wanted_of t k (GiveBack OnlyHome end) = unlock t k Home
 wanted_of t k (GiveBack OnlyProbing end) = unlock t k Probing
 wanted_of t k (GiveBack Both end) = unlock t k Home

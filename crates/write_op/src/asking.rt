@@ -124,7 +124,7 @@ pub fn want_of(task: &Task, kept: &Kept, step: Step) -> Want
             Want::Exchange(lock_word(task, kept, side), free, free.wrapping_add(1))
         }
         Step::LoadWord(at) => Want::Load(home_word(task, kept, u64::from(at))),
-        Step::LoadCount | Step::CountSpent(_) => Want::Load(counter(geometry)),
+        Step::LoadCount | Step::CountSpent(_) | Step::CountFull => Want::Load(counter(geometry)),
         Step::Make(point) => want_at(task, kept, point),
         Step::GiveBack(Held::OnlyHome | Held::Both, _) => unlock(task, kept, Side::Home),
         Step::GiveBack(Held::OnlyProbing, _) => unlock(task, kept, Side::Probing),

@@ -54,7 +54,8 @@ pub enum Point {
 pub enum WriteEnd {
     /// It was answered, with its place: the one that it drew, or else the number of changes that it saw.
     Replied(Reply, u64),
-    /// The key is absent and its home bucket is full. Both locks are kept.
+    /// The key is absent and its home bucket is full. Both locks are kept, until [`WriteOp::refuse`](crate::WriteOp::refuse)
+    /// goes on.
     NoSlot,
     /// It is to be made again.
     Again(Why),
@@ -93,6 +94,8 @@ pub enum Step {
     Make(Point),
     /// Loads the commit counter, since this bucket's lock has its last version.
     CountSpent(Side),
+    /// Loads the commit counter, since no slot is free.
+    CountFull,
     /// Gives locks back, and then ends so.
     GiveBack(Held, WriteEnd),
     /// Has ended.

@@ -8,20 +8,22 @@ ghost use Rattle.op_core.specs.declared.want.Ans.{Ans};
 ghost use Rattle.map_model.specs.declared.call.Call.{Call};
 ghost use Rattle.world.specs.declared.site.Site.{Site};
 ghost use Rattle.write_op.specs.declared.machine.WriteOp.{WriteOp};
-ghost use Rattle.write_op.specs.Taken.{begun, wanted, taken};
+ghost use Rattle.write_op.specs.Taken.{begun, wanted, taken, refused};
 ghost use Rattle.write_op.specs.Left.{IsAnswer, left};
 ghost use Rattle.write_op.specs.Inside.{IsInside, AsksInside};
 ghost use Rattle.write_op.specs.Stored.{TakesSlot, FreesSlot, SetsFinger};
 ghost use Rattle.write_op.specs.Slots.{with_finger};
-ghost use Rattle.write_op.specs.Suits.{BeginsSuited, MayStep, KeepsSuits, EndsWell};
+ghost use Rattle.write_op.specs.Suits.{BeginsSuited, MayStep, KeepsSuits, EndsWell, RefusesWell};
 ghost use Rattle.write_op.specs.Wanted.{key_for};
 ghost use Rattle.image_layout.specs.Places.{IsShape};
 
-/// An attempt ends: each answer of the kind that was asked for leaves fewer events, of at most 55 at its beginning.
+/// An attempt ends: each answer of the kind that was asked for leaves fewer events, of at most 55 at its beginning, and of at
+/// most 3 where an insert that found no slot goes on to its refusal.
 pub fn attempt_ends()
     ensures falls { (op : WriteOp) (ans : Ans) → IsAnswer (wanted op) ans → left (taken op ans) < left op }
     ensures tight { (call : Call) (site : Site) → left (begun call site) ≤ 55 }
     ensures bound { (call : Call) (site : Site) → left (begun call site) ≤ 700 }
+    ensures refuses { (op : WriteOp) → left (refused op) ≤ 3 }
 {}
 
 /// The metadata word that an insert stores has its slot taken, and the one that a remove stores has it free; all that they
@@ -47,6 +49,7 @@ pub fn events_have_kinds()
 pub fn numbers_stay_in_range()
     ensures begins { (call : Call) (site : Site) → Fits (begun call site) }
     ensures keeps { (op : WriteOp) (ans : Ans) → IsWord ans → Fits op → Fits (taken op ans) }
+    ensures refuses { (op : WriteOp) → Fits (refused op) }
 {}
 
 /// The word that a change asks for is one of the image, or one of the volatile ones behind it, where its numbers are in
@@ -55,14 +58,17 @@ pub fn words_are_inside()
     ensures begins { (call : Call) (site : Site) → IsShape site.geometry → key_for call < 2 ^ 64 → IsInside (begun call site) }
     ensures asks { (op : WriteOp) → IsInside op → AsksInside op }
     ensures keeps { (op : WriteOp) (ans : Ans) → IsWord ans → IsInside op → IsInside (taken op ans) }
+    ensures refuses { (op : WriteOp) → IsInside op → IsInside (refused op) }
 {}
 
 /// A change fits the world: one that has done nothing yet suits the view of a caller that holds, knows and owes nothing,
 /// a view that suits may take the step, the step keeps the view suited, and at the end the caller has replied as the end
-/// says, and holds and owes nothing where no locks are kept.
+/// says, and holds and owes nothing where no locks are kept. Where they are kept, since no slot was free, the view suits the
+/// change still when it goes on to its refusal.
 pub fn fits_the_world()
     ensures begins { BeginsSuited }
     ensures may { MayStep }
     ensures keeps { KeepsSuits }
     ensures ends { EndsWell }
+    ensures refuses { RefusesWell }
 {}

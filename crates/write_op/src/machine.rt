@@ -1,8 +1,10 @@
 //! The machine.
 
-ghost use Rattle.std.specs.Prelude.{◌≡◌};
+ghost use Rattle.std.specs.Prelude.{◌≡◌, ◌≤◌};
 ghost use Rattle.op_core.specs.declared.want.Want.TheVariants.{Done};
-ghost use Rattle.write_op.specs.Taken.{begun, end_of, first_step};
+ghost use Rattle.write_op.specs.declared.control.WriteEnd.TheVariants.{NoSlot};
+ghost use Rattle.write_op.specs.Taken.{begun, end_of, first_step, refused};
+ghost use Rattle.write_op.specs.Left.{left};
 
 use crate::asking::{key_for, want_of};
 use crate::control::{Kept, Step, Task, WriteEnd};
@@ -60,6 +62,19 @@ impl WriteOp {
         match self.step {
             Step::Ended(end) => end,
             _ => WriteEnd::Off,
+        }
+    }
+
+    /// Goes on with an insert that found no slot: it is refused, and its locks are given back.
+    pub fn refuse(self) -> WriteOp
+        requires no_more { Rattle.write_op.specs.Taken.wanted self ≡ Done }
+        requires no_slot { end_of self ≡ NoSlot }
+        ensures is { result ≡ refused self }
+        ensures few { left result ≤ 3 }
+    {
+        WriteOp {
+            step: Step::CountFull,
+            ..self
         }
     }
 }

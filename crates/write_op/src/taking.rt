@@ -1,7 +1,7 @@
 //! What an answer makes of a change.
 
 ghost use Rattle.std.specs.Prelude.{◌≡◌};
-ghost use Rattle.write_op.specs.Taken.{moved, seen_at, give_up, after_head, after_look, after_loss, again, chosen, decided, after_count, made, gave_back, kept_after, step_after};
+ghost use Rattle.write_op.specs.Taken.{moved, seen_at, give_up, after_head, after_look, after_loss, again, chosen, decided, after_count, no_room, made, gave_back, kept_after, step_after};
 
 use crate::asking::{free_of, key_for};
 use crate::bucket::{lowest_free, lowest_with, with_word};
@@ -9,6 +9,7 @@ use crate::control::{Held, Kept, Point, Side, Step, Task, WriteEnd};
 use crate::path::{ROOT, Sight, entry_word, head_word, lock_word, look_at_head};
 use map_model::{Call, Reply};
 use op_core::{Ans, Why};
+use world::Site;
 
 /// From this many changes on, the commit counter gives no place.
 const SPENT_COUNT: u64 = 1 << 63;
@@ -127,6 +128,17 @@ fn after_count(call: Call, words: &[u64; 32], count: u64) -> Step
     }
 }
 
+/// The reply to an insert that found no room: the table does not grow, and one of depth 0 may not.
+fn no_room(site: &Site) -> Reply
+    ensures { result ≡ no_room site.now }
+{
+    if site.geometry.depth() == 0 {
+        Reply::Deep
+    } else {
+        Reply::Full
+    }
+}
+
 /// After a point of the stores. The record's line is that of the fingerprints for slots 0 and 1.
 fn made(slot: u8, point: Point, ans: Ans) -> Step
     ensures { result ≡ made slot point ans }
@@ -227,6 +239,9 @@ pub fn step_after(task: &Task, kept: &Kept, step: Step, ans: Ans) -> Step
         (Step::LoadCount, Ans::Value(count)) => after_count(task.call, &kept.words, count),
         (Step::CountSpent(side), Ans::Value(count)) => {
             give_up(side, WriteEnd::Replied(Reply::Spent, count))
+        }
+        (Step::CountFull, Ans::Value(count)) => {
+            Step::GiveBack(Held::Both, WriteEnd::Replied(no_room(&task.site), count))
         }
         (Step::Make(point), ans) => made(kept.slot, point, ans),
         (Step::GiveBack(held, end), Ans::Passed) => gave_back(held, end),

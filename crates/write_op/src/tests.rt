@@ -239,3 +239,52 @@ fn events_of_an_insert(rt: HostRuntime) -> Result<(), Fail> {
     }
     Ok(())
 }
+
+/// The answer to an event, the first 0, by a memory whose home bucket has 14 records and not the key.
+fn full_answer(event: u8) -> Ans {
+    match event {
+        3 | 10 => Ans::Value(257),
+        4 => Ans::Value(4),
+        5 | 7 => Ans::Won,
+        6 => Ans::Value(6),
+        11 => Ans::Value(0x3FFF),
+        42 => Ans::Value(9),
+        _ => Ans::Value(0),
+    }
+}
+
+/// The refusal of an insert that found no slot; any other state stays.
+fn refused(op: WriteOp) -> WriteOp {
+    if op.want() == Want::Done && op.end() == WriteEnd::NoSlot {
+        op.refuse()
+    } else {
+        op
+    }
+}
+
+#[test]
+fn full_bucket_is_refused(rt: HostRuntime) -> Result<(), Fail> {
+    for (segments, depth, reply) in [(1u64, 0u64, Reply::Deep), (2, 1, Reply::Full)] {
+        let here = Site {
+            geometry: Geometry::new(segments, depth, 0)?,
+            ..site()?
+        };
+        let counter = here.geometry.words();
+        let mut op = WriteOp::new(Call::Insert(5, 7), here);
+        for event in 0..43u8 {
+            op.take(full_answer(event));
+        }
+        assert_eq!(rt; end_of(op), WriteEnd::NoSlot);
+        op = refused(op);
+        assert_eq!(rt; op.want(), Want::Load(counter));
+        op.take(Ans::Value(10));
+        let first = op.want();
+        op.take(Ans::Passed);
+        let second = op.want();
+        op.take(Ans::Passed);
+        assert!(rt; matches!(first, Want::Store(_, 6)));
+        assert!(rt; matches!(second, Want::Store(_, 8)));
+        assert_eq!(rt; end_of(op), WriteEnd::Replied(reply, 10));
+    }
+    Ok(())
+}

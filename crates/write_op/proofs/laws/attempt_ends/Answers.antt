@@ -1,5 +1,5 @@
 -- Each case of the machine has fewer events left.
-use Rattle.write_op.proofs.Falls.{falls, begins, begins_below}
+use Rattle.write_op.proofs.Falls.{falls, begins, begins_below, refused_left}
 use Rattle.write_op.proofs.laws.attempt_ends.Goals as goal
 
 pub returns-clause-falls : goal.returns-clause-falls
@@ -10,3 +10,6 @@ returns-clause-tight c = begins
 
 pub returns-clause-bound : goal.returns-clause-bound
 returns-clause-bound c = begins_below
+
+pub returns-clause-refuses : goal.returns-clause-refuses
+returns-clause-refuses c = refused_left

@@ -1,5 +1,5 @@
 -- By the control points.
-use Rattle.write_op.proofs.Beginning.{begins_suited, ends_well}
+use Rattle.write_op.proofs.Beginning.{begins_suited, ends_well, refuses_well}
 use Rattle.write_op.proofs.Mays.{may_step}
 use Rattle.write_op.proofs.Keeping.{keeps_suits}
 use Rattle.write_op.proofs.laws.fits_the_world.Goals as goal
@@ -15,3 +15,6 @@ returns-clause-keeps c = keeps_suits
 
 pub returns-clause-ends : goal.returns-clause-ends
 returns-clause-ends c = ends_well
+
+pub returns-clause-refuses : goal.returns-clause-refuses
+returns-clause-refuses c = refuses_well

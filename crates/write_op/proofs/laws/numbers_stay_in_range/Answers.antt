@@ -7,3 +7,6 @@ returns-clause-begins c = fits_begins
 
 pub returns-clause-keeps : goal.returns-clause-keeps
 returns-clause-keeps c = fits_stays
+
+pub returns-clause-refuses : goal.returns-clause-refuses
+returns-clause-refuses c op = tt

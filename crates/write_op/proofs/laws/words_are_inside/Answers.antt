@@ -1,6 +1,6 @@
 -- By the control points.
 use Rattle.write_op.proofs.Insides.{asks_inside}
-use Rattle.write_op.proofs.Chosen.{stays_inside}
+use Rattle.write_op.proofs.Chosen.{stays_inside, refused_inside}
 use Rattle.write_op.proofs.Hashes.{begins_inside}
 use Rattle.write_op.proofs.laws.words_are_inside.Goals as goal
 
@@ -12,3 +12,6 @@ returns-clause-keeps c = stays_inside
 
 pub returns-clause-begins : goal.returns-clause-begins
 returns-clause-begins c = begins_inside
+
+pub returns-clause-refuses : goal.returns-clause-refuses
+returns-clause-refuses c = refused_inside
