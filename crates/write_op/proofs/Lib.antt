@@ -18,3 +18,6 @@ mod Going
 mod Counted
 mod Making
 mod Keeping
+mod Recalling
+mod Caused
+mod Sound

@@ -7,3 +7,4 @@ pub mod Stored
 pub mod Fits
 pub mod Inside
 pub mod Suits
+pub mod Causes
