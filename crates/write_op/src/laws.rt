@@ -91,7 +91,8 @@ pub fn stores_keep_notes()
     ensures { KeepsNotes }
 {}
 
-/// A lock word that is free with its last version stays: a change neither stores it nor asks to exchange it.
+/// A lock word that is free with its last version stays: a change does not store it, and no exchange that it asks for expects
+/// that value.
 pub fn spent_locks_stay()
     ensures { KeepsSpent }
 {}
