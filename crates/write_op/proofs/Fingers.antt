@@ -1,5 +1,5 @@
 -- A word of fingerprints with one byte replaced has that byte there, and the others as they were.
-use Rattle.std.proofs.Common.{◌≡◌, ◌≢◌, ℕ, zero, suc, ◌-◌, ◌*◌, ◌%◌, ◌<◌, ◌≤◌, inl, inr, cond, List, refl, sym, ◌∙◌, ap, subst, arith, length, slice_index, slice_set, get_or-set_same, get_or-set_other, length-set}
+use Rattle.std.proofs.Common.{◌≡◌, ◌≢◌, ℕ, zero, suc, ◌-◌, ◌*◌, ◌%◌, ◌^◌, ◌<◌, ◌≤◌, inl, inr, cond, List, refl, sym, ◌∙◌, ap, subst, arith, length, slice_index, slice_set, get_or-set_same, get_or-set_other, length-set}
 use Rattle.std.specs.Int.{w64, to_le_bytes, from_le_bytes}
 use Rattle.std.proofs.lemmas.Bool.{cases_eq, cases_lt, lt-ltb, le-ltb}
 use Rattle.std.proofs.lemmas.Nat.{le_bytes_8}
@@ -91,3 +91,16 @@ sets_high w2 w3 slot f high slots fits = record {
   here = high_here w3 slot f fits w2 high slots;
   others = λ t small apart. high_there w3 slot f fits w2 t high slots small apart;
 }
+
+-- eight bytes make a word
+pub finger_below : (w slot f : ℕ) → f < 256 → with_finger w slot f < 2 ^ 64
+finger_below w slot f fits =
+    let b0 = set_small w slot f fits 0 in
+    let b1 = set_small w slot f fits 1 in
+    let b2 = set_small w slot f fits 2 in
+    let b3 = set_small w slot f fits 3 in
+    let b4 = set_small w slot f fits 4 in
+    let b5 = set_small w slot f fits 5 in
+    let b6 = set_small w slot f fits 6 in
+    let b7 = set_small w slot f fits 7 in
+    omega (arith, b0, b1, b2, b3, b4, b5, b6, b7)

@@ -1,7 +1,7 @@
 -- Each event of a change is of its kind, and its numbers stay in range, by its control points.
-use Rattle.std.proofs.Common.{◌≡◌, ◌==◌, ℕ, ◌+◌, ◌-◌, ◌%◌, ◌^◌, ◌<◌, inl, inr, Bool, true, false, cond, Option, Some, None, List, refl, sym, ap, subst, arith}
+use Rattle.std.proofs.Common.{◌≡◌, ◌==◌, ℕ, ◌+◌, ◌-◌, ◌%◌, ◌^◌, ◌<◌, inl, inr, Bool, true, false, cond, Option, Some, None, List, refl, sym, ◌∙◌, ap, subst, arith}
 use Rattle.std.specs.Prelude.{nat_le, nat_lt, if◌then◌else◌, slice_set}
-use Rattle.std.proofs.lemmas.Bool.{cases_Bool, eqb-false}
+use Rattle.std.proofs.lemmas.Bool.{cases_Bool, eqb-true, eqb-false}
 use Rattle.op_core.specs.declared.want.Want.TheVariants as want
 use Rattle.op_core.specs.declared.want.Ans.{Ans}
 use Rattle.op_core.specs.declared.want.Ans.TheVariants.{Value, Won, Lost, Drawn, Passed}
@@ -120,7 +120,7 @@ looked_fits k side word seen small is = elim (cases_Bool (seen % 2 == 1)) [
       (given_up_fits k side (Again (Busy word seen)))
   | inr y ↦ subst (λ b. StepFits k (cond b (give_up side (Again (Busy word seen))) (if seen == 2 ^ 64 - 2 then CountSpent side else TryLock side))) (sym y)
       (elim (cases_Bool (seen == 2 ^ 64 - 2)) [
-        | inl z ↦ subst (λ b. StepFits k (cond b (CountSpent side) (TryLock side))) (sym z) tt
+        | inl z ↦ subst (λ b. StepFits k (cond b (CountSpent side) (TryLock side))) (sym z) (is ∙ eqb-true seen (2 ^ 64 - 2) z)
         | inr z ↦ subst (λ b. StepFits k (cond b (CountSpent side) (TryLock side))) (sym z)
             (let odd = eqb-false (seen % 2) 1 y in let last = eqb-false seen (2 ^ 64 - 2) z in
             (let e : free_of k side % 2 ≡ 0 = omega (arith, is, odd) in e, both_free k side seen is small odd last))

@@ -21,3 +21,6 @@ mod Keeping
 mod Recalling
 mod Caused
 mod Sound
+mod Numbers
+mod Spared
+mod Waiting

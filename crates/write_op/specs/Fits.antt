@@ -1,5 +1,5 @@
 -- How a change stands in the world of many callers: of which kind each of its events is, and which numbers it has.
-use Rattle.std.specs.Prelude.{◌≡◌, ℕ, ◌+◌, ◌*◌, ◌%◌, ◌^◌, ◌<◌, ◌≤◌, nat_le, Option, None, Some, List, slice_index, if◌then◌else◌, ⊤}
+use Rattle.std.specs.Prelude.{◌≡◌, ℕ, ◌+◌, ◌-◌, ◌*◌, ◌%◌, ◌^◌, ◌<◌, ◌≤◌, nat_le, Option, None, Some, List, slice_index, if◌then◌else◌, ⊤}
 use Rattle.op_core.specs.declared.want.Ans.{Ans}
 use Rattle.op_core.specs.declared.want.Ans.TheVariants.{Value}
 use Rattle.map_model.specs.declared.call.Call.{Call}
@@ -84,9 +84,11 @@ IsFree free = (free % 2 ≡ 0) × (free + 2 < 2 ^ 64)
 abbrev pub StepFits : Kept → Step → Type 0
 StepFits k (TryLock side) = IsFree (free_of k side)
 StepFits k (LoadWord at) = (1 ≤ at) × (at ≤ 31)
+StepFits k (CountSpent side) = free_of k side ≡ 2 ^ 64 - 2
 StepFits k s = ⊤
 
--- what an exchange expects is a free value, and a word that is loaded is one of the bucket behind its lock
+-- what an exchange expects is a free value with a next version, a word that is loaded is one of the bucket behind its lock, and
+-- a lock that is taken for spent is free with its last version
 abbrev pub Fits : WriteOp → Type 0
 Fits op = StepFits op.kept op.step
 

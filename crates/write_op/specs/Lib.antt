@@ -8,3 +8,6 @@ pub mod Fits
 pub mod Inside
 pub mod Suits
 pub mod Causes
+pub mod Numbers
+pub mod Spared
+pub mod Waiting

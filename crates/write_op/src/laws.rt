@@ -1,7 +1,7 @@
 //! Laws of the machine. The functions do nothing: each stands for the law that its contract says.
 
-ghost use Rattle.std.specs.Prelude.{◌≡◌, ℕ, ◌<◌, ◌≤◌, ◌^◌};
-ghost use Rattle.op_core.specs.declared.want.Want.TheVariants.{Done};
+ghost use Rattle.std.specs.Prelude.{◌≡◌, ◌≢◌, ℕ, ◌+◌, ◌<◌, ◌≤◌, ◌^◌};
+ghost use Rattle.op_core.specs.declared.want.Want.TheVariants.{Flush, Fence, Done};
 ghost use Rattle.world.specs.Kinds.{wanted as wanted_by};
 ghost use Rattle.write_op.specs.Fits.{Fits, IsWord, kind_of};
 ghost use Rattle.op_core.specs.declared.want.Ans.{Ans};
@@ -9,21 +9,25 @@ ghost use Rattle.map_model.specs.declared.call.Call.{Call};
 ghost use Rattle.world.specs.declared.site.Site.{Site};
 ghost use Rattle.write_op.specs.declared.machine.WriteOp.{WriteOp};
 ghost use Rattle.write_op.specs.Taken.{begun, wanted, taken, refused};
-ghost use Rattle.write_op.specs.Left.{IsAnswer, left};
+ghost use Rattle.write_op.specs.Left.{IsAnswer, left, EndsAsSaid};
 ghost use Rattle.write_op.specs.Inside.{IsInside, AsksInside};
 ghost use Rattle.write_op.specs.Stored.{TakesSlot, FreesSlot, SetsFinger};
 ghost use Rattle.write_op.specs.Slots.{with_finger};
 ghost use Rattle.write_op.specs.Suits.{BeginsSuited, MayStep, KeepsSuits, EndsWell, RefusesWell};
-ghost use Rattle.write_op.specs.Wanted.{key_for};
+ghost use Rattle.write_op.specs.Wanted.{key_for, value_for};
+ghost use Rattle.write_op.specs.Numbers.{HasWords, AsksWords};
+ghost use Rattle.write_op.specs.Spared.{KeepsNotes, KeepsSpent};
+ghost use Rattle.write_op.specs.Waiting.{waiting};
 ghost use Rattle.image_layout.specs.Places.{IsShape};
 
 /// An attempt ends: each answer of the kind that was asked for leaves fewer events, of at most 55 at its beginning, and of at
-/// most 3 where an insert that found no slot goes on to its refusal.
+/// most 3 where an insert that found no slot goes on to its refusal; and where nothing more is wanted, it has ended as it says.
 pub fn attempt_ends()
     ensures falls { (op : WriteOp) (ans : Ans) → IsAnswer (wanted op) ans → left (taken op ans) < left op }
     ensures tight { (call : Call) (site : Site) → left (begun call site) ≤ 55 }
     ensures bound { (call : Call) (site : Site) → left (begun call site) ≤ 700 }
     ensures refuses { (op : WriteOp) → left (refused op) ≤ 3 }
+    ensures ends { EndsAsSaid }
 {}
 
 /// The metadata word that an insert stores has its slot taken, and the one that a remove stores has it free; all that they
@@ -44,8 +48,8 @@ pub fn events_have_kinds()
     ensures { (op : WriteOp) (n : ℕ) → Fits op → (wanted op ≡ Done → ⊥) → wanted op ≡ wanted_by op.task.site.geometry (kind_of op n) }
 {}
 
-/// What an exchange expects is always a free value with a next version, and a word of the bucket that is loaded lies
-/// behind its lock.
+/// What an exchange expects is always a free value with a next version, a word of the bucket that is loaded lies behind its
+/// lock, and a lock that is taken for spent was free with its last version.
 pub fn numbers_stay_in_range()
     ensures begins { (call : Call) (site : Site) → Fits (begun call site) }
     ensures keeps { (op : WriteOp) (ans : Ans) → IsWord ans → Fits op → Fits (taken op ans) }
@@ -71,4 +75,35 @@ pub fn fits_the_world()
     ensures keeps { KeepsSuits }
     ensures ends { EndsWell }
     ensures refuses { RefusesWell }
+{}
+
+/// What a change stores, or puts in place of another value, is a word, where its key, its value and the words that it was
+/// answered are words.
+pub fn stores_are_words()
+    ensures begins { (call : Call) (site : Site) → key_for call < 2 ^ 64 → value_for call < 2 ^ 64 → HasWords (begun call site) }
+    ensures keeps { (op : WriteOp) (ans : Ans) → IsWord ans → HasWords op → HasWords (taken op ans) }
+    ensures refuses { (op : WriteOp) → HasWords op → HasWords (refused op) }
+    ensures asks { (op : WriteOp) → HasWords op → AsksWords op }
+{}
+
+/// A metadata word that a change stores has the overflow notes of the word before, which its caller knows.
+pub fn stores_keep_notes()
+    ensures { KeepsNotes }
+{}
+
+/// A lock word that is free with its last version stays: a change does not store it, and no exchange that it asks for expects
+/// that value.
+pub fn spent_locks_stay()
+    ensures { KeepsSpent }
+{}
+
+/// At most two lines are flushed and not fenced: the number that bounds them is 0 at both ends and never above 2, each flush
+/// raises it, and no event but a fence lowers it.
+pub fn flushes_are_few()
+    ensures begins { (call : Call) (site : Site) → waiting (begun call site) ≡ 0 }
+    ensures most { (op : WriteOp) → waiting op ≤ 2 }
+    ensures flushes { (op : WriteOp) (ans : Ans) (l : ℕ) → IsAnswer (wanted op) ans → wanted op ≡ Flush l → waiting op + 1 ≤ waiting (taken op ans) }
+    ensures keeps { (op : WriteOp) (ans : Ans) → IsAnswer (wanted op) ans → wanted op ≢ Fence → waiting op ≤ waiting (taken op ans) }
+    ensures ends { (op : WriteOp) → wanted op ≡ Done → waiting op ≡ 0 }
+    ensures refuses { (op : WriteOp) → waiting (refused op) ≡ 0 }
 {}

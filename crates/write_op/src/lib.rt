@@ -18,8 +18,9 @@ mod taking;
 pub use causes::ends_have_causes;
 pub use control::WriteEnd;
 pub use laws::{
-    attempt_ends, events_have_kinds, fingers_change_one_slot, fits_the_world,
-    marks_change_one_slot, numbers_stay_in_range, words_are_inside,
+    attempt_ends, events_have_kinds, fingers_change_one_slot, fits_the_world, flushes_are_few,
+    marks_change_one_slot, numbers_stay_in_range, spent_locks_stay, stores_are_words,
+    stores_keep_notes, words_are_inside,
 };
 pub use machine::WriteOp;
 
