@@ -27,7 +27,7 @@ again_wants op site found again.Entry = refl
 again_wants op site found again.Head = refl
 again_wants op site found again.Lock = refl
 
-wants_in : (op : ReadOp) (site : Site) → IsIn site op → (s : ReadStep) → wanted_in op s ≢ Done → wanted_in op s ≡ wanted_by site.shape (kind_in op s)
+pub wants_in : (op : ReadOp) (site : Site) → IsIn site op → (s : ReadStep) → wanted_in op s ≢ Done → wanted_in op s ≡ wanted_by site.shape (kind_in op s)
 wants_in op site is Power wants = refl
 wants_in op site is Root wants = refl
 wants_in op site is (Entry root) wants = refl

@@ -4,3 +4,6 @@ pub mod Falling
 pub mod Asked
 pub mod Fitting
 pub mod Stepping
+pub mod Loading
+pub mod Causing
+pub mod Sounding

@@ -76,13 +76,13 @@ module _ (site : Site) (op : ReadOp) (is : IsIn site op) (words : Words) (views 
   stale_v : (segment byte : ℕ) → Kept (Ended (ends.Stale segment byte)) v
   stale_v segment byte = record { suits = tt; owes = same_v; answers = quiet_v }
 
-  table : IsHomeTable site.shape site.front words
+  pub table : IsHomeTable site.shape site.front words
   table = h.media.table words (λ i within. inl refl)
 
-  root_is : words root_word ≡ 0
+  pub root_is : words root_word ≡ 0
   root_is = table.same_front root_word (omega arith) ∙ h.site_is.front.root
 
-  entry_is : (root : ℕ) → root ≡ 0 → words (entry_word op.site op.hash root) ≡ 0
+  pub entry_is : (root : ℕ) → root ≡ 0 → words (entry_word op.site op.hash root) ≡ 0
   entry_is root first =
       let low : entry_at 0 (index_of 0 op.hash) ≡ 32 = let fits = is.fits in omega (arith, fits) in
       ap (λ n. words (entry_word op.site op.hash n)) first

@@ -8,6 +8,7 @@ ghost use Rattle.world.specs.Views.{View};
 ghost use Rattle.read_op.specs.declared.op.ReadOp.{ReadOp};
 ghost use Rattle.read_op.specs.Fits.{BeginsSuited, WantsByKind, MayStep, KeepsSuits};
 ghost use Rattle.read_op.specs.Budget.{left, Falls, EndsInTime, AsksWithin};
+ghost use Rattle.read_op.specs.Causes.{EndsByCause, KeepsLoads, EndsSoundly, NeverStale, NeverBusy};
 
 /// Each event leaves fewer to do, so that a get ends within 41 events.
 pub fn ends_in_time()
@@ -27,4 +28,13 @@ pub fn fits_the_world()
     ensures wants { (site : Image) (op : ReadOp) → WantsByKind site op }
     ensures may { (site : Image) (op : ReadOp) (v : View) → MayStep site op v }
     ensures keeps { KeepsSuits }
+{}
+
+/// Each end of a get has its cause: what the event by which it comes loaded and found, and what was loaded before it.
+pub fn ends_have_causes()
+    ensures causes { EndsByCause }
+    ensures loads { KeepsLoads }
+    ensures in_world { EndsSoundly }
+    ensures current { NeverStale }
+    ensures alone { NeverBusy }
 {}

@@ -1,7 +1,9 @@
 -- Each answer of the kind that was asked for leaves a change fewer events, by its control points.
-use Rattle.std.proofs.Common.{◌==◌, ℕ, ◌+◌, ◌-◌, ◌%◌, ◌^◌, ◌<◌, ◌≤◌, inl, inr, Bool, true, false, cond, Option, Some, None, List, sym, subst, arith}
-use Rattle.std.specs.Prelude.{nat_le, nat_lt, if◌then◌else◌}
+use Rattle.std.proofs.Common.{◌≡◌, ◌==◌, ℕ, ◌+◌, ◌-◌, ◌%◌, ◌^◌, ◌<◌, ◌≤◌, inl, inr, Bool, true, false, cond, Option, Some, None, List, refl, sym, subst, arith}
+use Rattle.std.specs.Prelude.{⊤, nat_le, nat_lt, if◌then◌else◌}
 use Rattle.std.proofs.lemmas.Bool.{cases_Bool}
+use Rattle.op_core.specs.declared.want.Want.{Want}
+use Rattle.op_core.specs.declared.want.Want.TheVariants as want
 use Rattle.op_core.specs.declared.want.Ans.{Ans}
 use Rattle.op_core.specs.declared.want.Ans.TheVariants.{Value, Won, Lost, Drawn, Passed}
 use Rattle.map_model.specs.declared.call.Call.{Call}
@@ -27,8 +29,8 @@ use Rattle.write_op.specs.declared.machine.WriteOp.{WriteOp}
 use Rattle.write_op.specs.Slots.{slot_with, slot_free}
 use Rattle.write_op.specs.Ways.{entry_word, head_word, lock_word, sight_of}
 use Rattle.write_op.specs.Wanted.{wanted_of, wanted_at, free_of}
-use Rattle.write_op.specs.Taken.{moved, give_up, seen_at, after_head, after_look, after_loss, again, inserting, changing, decided, after_count, made, step_after, refused, begun}
-use Rattle.write_op.specs.Left.{IsAnswer, left_at, left_in, left}
+use Rattle.write_op.specs.Taken.{moved, give_up, seen_at, after_head, after_look, after_loss, again, inserting, changing, decided, after_count, made, step_after, refused, begun, end_at}
+use Rattle.write_op.specs.Left.{IsAnswer, left_at, left_in, left, EndsAsSaid}
 
 -- of two steps that a test chooses between, both have at most n events left
 either : (n : ℕ) (b : Bool) (s t : Step) → left_in s ≤ n → left_in t ≤ n → left_in (cond b s t) ≤ n
@@ -140,3 +142,31 @@ begins (Remove key) site = omega arith
 
 pub begins_below : (call : Call) (site : Site) → left (begun call site) ≤ 700
 begins_below call site = let e = begins call site in omega (arith, e)
+
+-- ---- nothing more is wanted at the end alone
+abbrev IsEndBy : Want → Step → Type 0
+IsEndBy want.Done s = s ≡ Ended (end_at s)
+IsEndBy w s = ⊤
+
+point_no_end : (t : Task) (k : Kept) (point : Point) (s : Step) → IsEndBy (wanted_at t k point) s
+point_no_end t k StoreKey s = tt
+point_no_end t k StoreValue s = tt
+point_no_end t k StoreFinger s = tt
+point_no_end t k FlushFinger s = tt
+point_no_end t k FlushRecord s = tt
+point_no_end t k FenceRecord s = tt
+point_no_end t k Publish s = tt
+point_no_end t k FlushPublished s = tt
+point_no_end t k FencePublished s = tt
+point_no_end t k DrawPlace s = tt
+
+is_end : (t : Task) (k : Kept) (s : Step) → IsEndBy (wanted_of t k s) s
+is_end t k (Make point) = point_no_end t k point (Make point)
+is_end t k (GiveBack OnlyHome end) = tt
+is_end t k (GiveBack OnlyProbing end) = tt
+is_end t k (GiveBack Both end) = tt
+is_end t k (Ended end) = refl
+is_end t k s = tt
+
+pub ends_as_said : EndsAsSaid
+ends_as_said op e = subst (λ w. IsEndBy w op.step) e (is_end op.task op.kept op.step)

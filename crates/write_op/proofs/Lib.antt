@@ -18,6 +18,9 @@ mod Going
 mod Counted
 mod Making
 mod Keeping
+mod Recalling
+mod Caused
+mod Sound
 mod Numbers
 mod Spared
 mod Waiting

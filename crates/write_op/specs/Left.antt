@@ -1,5 +1,5 @@
 -- How many events a change still makes at most.
-use Rattle.std.specs.Prelude.{ℕ, ◌+◌, ◌-◌, ⊤}
+use Rattle.std.specs.Prelude.{◌≡◌, ℕ, ◌+◌, ◌-◌, ⊤}
 use Rattle.op_core.specs.declared.want.Want.{Want}
 use Rattle.op_core.specs.declared.want.Want.TheVariants as want
 use Rattle.op_core.specs.declared.want.Ans.{Ans}
@@ -11,6 +11,7 @@ use Rattle.write_op.specs.declared.control.Point.TheVariants.{StoreKey, StoreVal
 use Rattle.write_op.specs.declared.control.Step.{Step}
 use Rattle.write_op.specs.declared.control.Step.TheVariants.{AskPower, LoadRoot, LoadEntry, LoadHead, LookAt, TryLock, RootAgain, EntryAgain, HeadAgain, LoadWord, LoadCount, Make, CountSpent, CountFull, GiveBack, Ended}
 use Rattle.write_op.specs.declared.machine.WriteOp.{WriteOp}
+use Rattle.write_op.specs.Taken.{wanted, end_of}
 
 -- an answer of the kind that was asked for
 abbrev pub IsAnswer : Want → Ans → Type 0
@@ -62,3 +63,7 @@ left_in (Ended end) = 0
 -- at most so many events are left
 abbrev pub left : WriteOp → ℕ
 left op = left_in op.step
+
+-- a change that wants nothing more has ended as it says
+abbrev pub EndsAsSaid : Type 0
+EndsAsSaid = (op : WriteOp) → wanted op ≡ want.Done → op.step ≡ Ended (end_of op)

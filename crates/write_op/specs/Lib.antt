@@ -7,6 +7,7 @@ pub mod Stored
 pub mod Fits
 pub mod Inside
 pub mod Suits
+pub mod Causes
 pub mod Numbers
 pub mod Spared
 pub mod Waiting

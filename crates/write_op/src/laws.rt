@@ -9,7 +9,7 @@ ghost use Rattle.map_model.specs.declared.call.Call.{Call};
 ghost use Rattle.world.specs.declared.site.Site.{Site};
 ghost use Rattle.write_op.specs.declared.machine.WriteOp.{WriteOp};
 ghost use Rattle.write_op.specs.Taken.{begun, wanted, taken, refused};
-ghost use Rattle.write_op.specs.Left.{IsAnswer, left};
+ghost use Rattle.write_op.specs.Left.{IsAnswer, left, EndsAsSaid};
 ghost use Rattle.write_op.specs.Inside.{IsInside, AsksInside};
 ghost use Rattle.write_op.specs.Stored.{TakesSlot, FreesSlot, SetsFinger};
 ghost use Rattle.write_op.specs.Slots.{with_finger};
@@ -21,12 +21,13 @@ ghost use Rattle.write_op.specs.Waiting.{waiting};
 ghost use Rattle.image_layout.specs.Places.{IsShape};
 
 /// An attempt ends: each answer of the kind that was asked for leaves fewer events, of at most 55 at its beginning, and of at
-/// most 3 where an insert that found no slot goes on to its refusal.
+/// most 3 where an insert that found no slot goes on to its refusal; and where nothing more is wanted, it has ended as it says.
 pub fn attempt_ends()
     ensures falls { (op : WriteOp) (ans : Ans) → IsAnswer (wanted op) ans → left (taken op ans) < left op }
     ensures tight { (call : Call) (site : Site) → left (begun call site) ≤ 55 }
     ensures bound { (call : Call) (site : Site) → left (begun call site) ≤ 700 }
     ensures refuses { (op : WriteOp) → left (refused op) ≤ 3 }
+    ensures ends { EndsAsSaid }
 {}
 
 /// The metadata word that an insert stores has its slot taken, and the one that a remove stores has it free; all that they
@@ -90,7 +91,8 @@ pub fn stores_keep_notes()
     ensures { KeepsNotes }
 {}
 
-/// A lock word that is free with its last version stays: a change neither stores it nor asks to exchange it.
+/// A lock word that is free with its last version stays: a change does not store it, and no exchange that it asks for expects
+/// that value.
 pub fn spent_locks_stay()
     ensures { KeepsSpent }
 {}

@@ -8,12 +8,14 @@
 
 mod asking;
 mod bucket;
+mod causes;
 pub mod control;
 mod laws;
 pub mod machine;
 mod path;
 mod taking;
 
+pub use causes::ends_have_causes;
 pub use control::WriteEnd;
 pub use laws::{
     attempt_ends, events_have_kinds, fingers_change_one_slot, fits_the_world, flushes_are_few,

@@ -1,5 +1,5 @@
 -- Each case of the machine has fewer events left.
-use Rattle.write_op.proofs.Falls.{falls, begins, begins_below, refused_left}
+use Rattle.write_op.proofs.Falls.{falls, begins, begins_below, refused_left, ends_as_said}
 use Rattle.write_op.proofs.laws.attempt_ends.Goals as goal
 
 pub returns-clause-falls : goal.returns-clause-falls
@@ -13,3 +13,6 @@ returns-clause-bound c = begins_below
 
 pub returns-clause-refuses : goal.returns-clause-refuses
 returns-clause-refuses c = refused_left
+
+pub returns-clause-ends : goal.returns-clause-ends
+returns-clause-ends c = ends_as_said
