@@ -26,12 +26,16 @@ module _ (begins : BeginsSuited) (site : Site) (is_site : IsSite site) where
       place = place;
       words = word_at calls all;
       callers = omega arith;
+      replied = refl;
+      within = omega arith;
       does = record { no_call = is; own = refl; nothing = holds_nothing 1; begun = refl; drew = refl };
     }
     first (Some call) is = record {
       place = place;
       words = word_at calls all;
       callers = omega arith;
+      replied = refl;
+      within = omega arith;
       does = record {
         call = call;
         is_current = is;
@@ -41,6 +45,7 @@ module _ (begins : BeginsSuited) (site : Site) (is_site : IsSite site) where
         entries = inl refl;
         drew = λ _. refl;
         planned = λ _. refl;
+        drew_call = λ e is. absurd (none-some e is);
       };
     }
 

@@ -36,6 +36,7 @@ use Rattle.engine.specs.Holding.{HasEntries, DoesCall, CallerFits, world_of, Cor
 use Rattle.engine.proofs.Planned.{none_has}
 use Rattle.engine.proofs.Planned.{planned_is}
 use Rattle.engine.proofs.Places.{one_more}
+use Rattle.engine.proofs.Scripted.{all_follow}
 use Rattle.engine.proofs.Cut.{told_legal, IsLegalWith}
 
 -- what the tables' law says
@@ -189,6 +190,7 @@ module _ (legal : EntriesAreLegal) (leaves : DeviceLeaves) (follow : TablesFollo
 
   is_good : IsGood site.shape start opening core
   is_good = record {
+    scripted = all_follow site core.callers h.views h.each;
     legal = told.0;
     media = record { sound = is_sound; left = left_at };
   }

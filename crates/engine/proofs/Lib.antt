@@ -9,6 +9,7 @@ mod Planned
 mod Told
 mod Places
 mod Unnoted
+mod Scripted
 mod Turning
 mod Cut
 mod Goodness

@@ -1,6 +1,11 @@
 -- A turn keeps what holds of the core.
-use Rattle.std.proofs.Common.{◌≡◌, ◌≢◌, ℕ, zero, suc, ◌+◌, ◌-◌, ◌^◌, ◌<◌, ◌≤◌, Bool, true, false, cond, eqb, List, [], ◌∷◌, ◌++◌, length, drop, slice_get, Option, None, Some, inl, inr, refl, sym, ap, ◌∙◌, subst, arith, mod-lt}
+use Rattle.std.proofs.Common.{map, take, ◌≡◌, ◌≢◌, ℕ, zero, suc, ◌+◌, ◌-◌, ◌^◌, ◌<◌, ◌≤◌, Bool, true, false, cond, eqb, List, [], ◌∷◌, ◌++◌, length, drop, slice_get, Option, None, Some, inl, inr, refl, sym, ap, ◌∙◌, subst, arith, mod-lt}
 use Rattle.std.proofs.lemmas.Bool.{cases_lt, ne_eqb}
+use Rattle.std.proofs.lemmas.Option.{none-some, same_Some}
+use Rattle.op_core.specs.declared.want.Ans.{Ans}
+use Rattle.op_core.specs.declared.want.Ans.TheVariants.{Value, Won, Lost, Drawn, Passed}
+use Rattle.map_model.specs.declared.entry.Reply.TheVariants as reply
+use Rattle.engine.proofs.Scripted.{replied_more, within_more, calls_set, settled_calls}
 use Rattle.trace.specs.Events.Event.{loaded, exchanged}
 use Rattle.trace.specs.Progress.{pending}
 use Rattle.op_core.specs.declared.want.Want.{Want}
@@ -20,11 +25,11 @@ use Rattle.world.specs.Wants.{answer_to, word_of, left_by, event_of, words_after
 use Rattle.world.specs.World.{changed_at, IsWell, fresh_view}
 use Rattle.world.specs.Laws.{ChangesOneWord, KeepsWell}
 use Rattle.engine.specs.declared.engine.Engine.{Engine}
-use Rattle.engine.specs.Engine.{wanted, end_of, reply_of_end, kind_of}
+use Rattle.engine.specs.Engine.{taken, wanted, end_of, reply_of_end, kind_of}
 use Rattle.engine.specs.Fits.{IsWordCall, Suits, HasEnded, EntersReply, BeginsSuited, finds, next_engine, StepsWell, KeepsSuits}
 use Rattle.engine.specs.Core.{Caller, Core, call_at, current, engine_for, entry_of, drawn_by, ended, settled, answered, with_event, turn_of_call, turn_of_caller, turn}
 use Rattle.engine.specs.Asks.{AsksWords, KeepsNotes}
-use Rattle.engine.specs.Holding.{HasEntries, IsCalling, DoesCall, CallerFits, world_of, CoreHolds, TurnKeeps, RunKeeps}
+use Rattle.engine.specs.Holding.{HasEntries, IsCalling, DoesCall, CallerFits, world_of, CoreHolds, CallsStay, TurnKeeps, RunKeeps}
 use Rattle.engine.proofs.Unnoted.{stay_unnoted}
 use Rattle.engine.proofs.Planned.{planned_is, at_most_one}
 use Rattle.engine.proofs.Told.{entries_after}
@@ -61,6 +66,14 @@ values_fit start e es old new i t = elim (cases_lt t (suc (length es))) [
   | inr past ↦ (let none : length (e ∷ es) - t ≡ 0 = omega (arith, past) in subst (λ n. value start (drop n (e ∷ es)) i < 2 ^ 64) (sym none) (new i))
 ]
 
+-- what was drawn is the call's
+drawn_call : (c : Caller) (call : Call) → ((d : Entry) → c.drew ≡ Some d → d.call ≡ call) → (a : Ans) (d : Entry) → drawn_by c call a ≡ Some d → d.call ≡ call
+drawn_call c call old (Drawn n) d is = sym (ap (λ (e : Entry). e.call) (same_Some (entry_of c call reply.Done n) d is))
+drawn_call c call old (Value v) d is = old d is
+drawn_call c call old Won d is = old d is
+drawn_call c call old (Lost v) d is = old d is
+drawn_call c call old Passed d is = old d is
+
 -- a caller's event flushes and fences nothing of caller 0
 fenced_still : (shape : Shape) (w : Want) (n j : ℕ) (es : Trace) → pending 0 (event_of shape w n (suc j) ∷ es) ≡ pending 0 es
 fenced_still shape (want.Load i) n j es = refl
@@ -79,7 +92,8 @@ fenced_still shape want.Done n j es = refl
 -- ---- a caller
 module _ (begins : BeginsSuited) (site : Site) (is_site : IsSite site) (c : Caller) (place : c.site.geometry ≡ site.shape)
   (words : (n : ℕ) (call : Call) → call_at c n ≡ Some call → IsWordCall call) (call : Call) (is_current : current c ≡ Some call)
-  (before w : View) (own_before : before.own ≡ c.entries) (drew : Option Entry) where
+  (replied : map (λ (e : Entry). e.call) c.entries ≡ take (length c.entries) c.calls) (within : length c.entries ≤ length c.calls)
+  (before w : View) (own_before : before.own ≡ c.entries) (drew : Option Entry) (drew_call : (e : Entry) → drew ≡ Some e → e.call ≡ call) where
   -- the caller after the event, but for its engine
   abbrev drawn : Caller
   drawn = record c { drew = drew }
@@ -89,6 +103,8 @@ module _ (begins : BeginsSuited) (site : Site) (is_site : IsSite site) (c : Call
     place = place;
     words = words;
     callers = suits.callers;
+    replied = replied;
+    within = within;
     does = record {
       call = call;
       is_current = is_current;
@@ -98,17 +114,20 @@ module _ (begins : BeginsSuited) (site : Site) (is_site : IsSite site) (c : Call
       entries = entries;
       drew = λ no. absurd (let n = no in cc);
       planned = λ no. absurd (let n = no in cc);
+      drew_call = drew_call;
     };
   }
 
   module _ (nothing : HoldsOnly [] w) (callers : 0 < w.callers) where
     -- the next call begins, if there is one
-    next : (e : Entry) (o : Option Call) → call_at c (suc (length c.entries)) ≡ o → w.own ≡ c.entries ++ e ∷ []
+    next : (e : Entry) → e.call ≡ call → (o : Option Call) → call_at c (suc (length c.entries)) ≡ o → w.own ≡ c.entries ++ e ∷ []
         → CallerFits site (record drawn { entries = c.entries ++ e ∷ []; engine = engine_for c.site o; begun = false; drew = None }) w
-    next e None is own = record {
+    next e of_call None is own = record {
       place = place;
       words = words;
       callers = callers;
+      replied = replied_more c.entries c.calls e call replied of_call is_current;
+      within = within_more c.entries c.calls e call is_current;
       does = record {
         no_call = ap (λ n. slice_get c.calls n) (one_more c.entries e) ∙ is;
         own = own;
@@ -117,10 +136,12 @@ module _ (begins : BeginsSuited) (site : Site) (is_site : IsSite site) (c : Call
         drew = refl;
       };
     }
-    next e (Some following) is own = record {
+    next e of_call (Some following) is own = record {
       place = place;
       words = words;
       callers = callers;
+      replied = replied_more c.entries c.calls e call replied of_call is_current;
+      within = within_more c.entries c.calls e call is_current;
       does = record {
         call = following;
         is_current = ap (λ n. slice_get c.calls n) (one_more c.entries e) ∙ is;
@@ -130,6 +151,7 @@ module _ (begins : BeginsSuited) (site : Site) (is_site : IsSite site) (c : Call
         entries = inl own;
         drew = λ _. refl;
         planned = λ _. nothing.planned;
+        drew_call = λ d drawn_is. absurd (none-some d drawn_is);
       };
     }
 
@@ -138,6 +160,8 @@ module _ (begins : BeginsSuited) (site : Site) (is_site : IsSite site) (c : Call
       place = place;
       words = words;
       callers = callers;
+      replied = replied;
+      within = within;
       does = record {
         call = call;
         is_current = is_current;
@@ -147,9 +171,10 @@ module _ (begins : BeginsSuited) (site : Site) (is_site : IsSite site) (c : Call
         entries = inl (enters.own ∙ own_before);
         drew = λ _. refl;
         planned = λ _. nothing.planned;
+        drew_call = λ d drawn_is. absurd (none-some d drawn_is);
       };
     }
-    ended_fits (Some r) enters = next (entry_of c call r.0 r.1) (call_at c (suc (length c.entries))) refl
+    ended_fits (Some r) enters = next (entry_of c call r.0 r.1) refl (call_at c (suc (length c.entries))) refl
         (enters.own ∙ ap (λ (es : List Entry). es ++ record { serial = suc (length es); call = call; reply = r.0; place = r.1; drew = is_change r.0 } ∷ []) own_before)
 
   settled_fits : (e : Engine) (asked : Want) → wanted e ≡ asked → (wanted e ≢ want.Done → Suits site c.site call e before w) → (wanted e ≡ want.Done → HasEnded call e before w)
@@ -167,6 +192,31 @@ module _ (begins : BeginsSuited) (site : Site) (is_site : IsSite site) (c : Call
 pub run_keeps : TurnKeeps → RunKeeps
 run_keeps keeps site start core [] h = h
 run_keeps keeps site start core (c ∷ turns) h = run_keeps keeps site start (turn site.shape c core) turns (keeps site start core c h)
+
+calls_kept : (shape : Shape) (j : ℕ) (core : Core) (c : Caller) (is : slice_get core.callers j ≡ Some c) (call : Call) (e : Engine)
+    → map (λ (c : Caller). c.calls) (with_event shape j core c call e).callers ≡ map (λ (c : Caller). c.calls) core.callers
+calls_kept shape j core c is call e =
+    let found : ℕ = core.words (word_of shape (wanted e)) in
+    calls_set core.callers j c (answered c call e (answer_to (wanted e) found)) is
+    (settled_calls (record c { drew = drawn_by c call (answer_to (wanted e) found) }) call (taken e (answer_to (wanted e) found)) (wanted (taken e (answer_to (wanted e) found))))
+
+by_call : (shape : Shape) (j : ℕ) (core : Core) (c : Caller) (is : slice_get core.callers j ≡ Some c) (call : Option Call) (engine : Option Engine)
+    → map (λ (c : Caller). c.calls) (turn_of_call shape j core c call engine).callers ≡ map (λ (c : Caller). c.calls) core.callers
+by_call shape j core c is None engine = refl
+by_call shape j core c is (Some call) None = refl
+by_call shape j core c is (Some call) (Some e) = calls_kept shape j core c is call e
+
+turn_calls : (shape : Shape) (c : ℕ) (core : Core) → map (λ (c : Caller). c.calls) (turn shape c core).callers ≡ map (λ (c : Caller). c.calls) core.callers
+turn_calls shape zero core = refl
+turn_calls shape (suc j) core = by_caller (slice_get core.callers j) refl
+  where
+    by_caller : (o : Option Caller) → slice_get core.callers j ≡ o → map (λ (c : Caller). c.calls) (turn_of_caller shape j core o).callers ≡ map (λ (c : Caller). c.calls) core.callers
+    by_caller None is = refl
+    by_caller (Some c) is = by_call shape j core c is (current c) c.engine
+
+pub calls_stay : CallsStay
+calls_stay shape core [] = refl
+calls_stay shape core (c ∷ turns) = calls_stay shape (turn shape c core) turns ∙ turn_calls shape c core
 
 -- ---- the core
 module _ (begins : BeginsSuited) (keeps : KeepsSuits) (are_words : AsksWords) (keep_notes : KeepsNotes) (steps : KeepsWell) (one_word : ChangesOneWord)
@@ -210,8 +260,8 @@ module _ (begins : BeginsSuited) (keeps : KeepsSuits) (are_words : AsksWords) (k
               (left_fits site.shape (wanted e) n a.stores a.exchanges (now_fits (word_of site.shape (wanted e)))) (now_fits i))
 
       caller_after : CallerFits site (answered c calling.call e (answer_to (wanted e) n)) (view_after site.shape kind n v)
-      caller_after = settled_fits begins site h.well.holds.site_is c fits.place fits.words calling.call calling.is_current calling.before (view_after site.shape kind n v)
-          calling.own_before (drawn_by c calling.call (answer_to (wanted e) n)) (next_engine site e core.words) (wanted (next_engine site e core.words)) refl well_step.suits well_step.ends
+      caller_after = settled_fits begins site h.well.holds.site_is c fits.place fits.words calling.call calling.is_current fits.replied fits.within calling.before (view_after site.shape kind n v)
+          calling.own_before (drawn_by c calling.call (answer_to (wanted e) n)) (drawn_call c calling.call calling.drew_call (answer_to (wanted e) n)) (next_engine site e core.words) (wanted (next_engine site e core.words)) refl well_step.suits well_step.ends
           (λ s. subst (λ w. HasEntries c.entries (drawn_by c calling.call (answer_to w n)) (view_after site.shape kind n v).own) (sym well_step.wants)
               (entries_after site c calling.call v n calling.entries
                   (λ planned has. let p = planned_is site c.site calling.call calling.before v e planned calling.suits has in (p.0, p.1 ∙ calling.own_before))

@@ -1,6 +1,7 @@
 -- When the core is good: the replies of all callers are one legal history, and whatever a power cut may leave is sound and
 -- holds that history's map, open calls whole or absent.
 use Rattle.std.specs.Prelude.{◌≡◌, ℕ, List, length, map, slice_index}
+use Rattle.std.specs.List.{AllZip}
 use Rattle.trace.specs.Events.{Words}
 use Rattle.trace.specs.Media.{IsPossible}
 use Rattle.map_model.specs.Map.{Map}
@@ -9,7 +10,7 @@ use Rattle.map_model.specs.Legal.{IsLegal, replay}
 use Rattle.image_layout.specs.Places.{Shape, words_of}
 use Rattle.sound_image.specs.Image.{IsSoundImage}
 use Rattle.sound_image.specs.Left.{IsLeft}
-use Rattle.session.specs.Callers.{undrawn}
+use Rattle.session.specs.Callers.{FollowsScript, undrawn}
 use Rattle.engine.specs.Core.{Core, tolds_of, histories}
 
 -- every list of words that a power cut may leave now is a sound image, and holds the map of the history so far, each open
@@ -21,5 +22,8 @@ pub record MediaAreGood (shape : Shape) (start : Words) (opening : Map) (core : 
 
 -- THE CORE IS GOOD: so it is between any two events
 pub record IsGood (shape : Shape) (start : Words) (opening : Map) (core : Core) : Type 0 where
+  -- the callers do the first of their calls, in their order
+  pub scripted : AllZip FollowsScript (map (λ c. c.calls) core.callers) (tolds_of core)
+  -- all replies are one legal history
   pub legal : IsLegal opening (histories core)
   pub media : MediaAreGood shape start opening core

@@ -1,11 +1,12 @@
 -- What holds of the core between any two turns: the world is well, and the view of each caller fits what it runs and what it was told.
-use Rattle.std.specs.Prelude.{◌≡◌, ℕ, ◌<◌, false, Option, None, Some, List, [], ◌∷◌, ◌++◌, ◌⊎◌, length, replicate}
+use Rattle.std.specs.Prelude.{map, take, ◌≤◌, ◌≡◌, ℕ, ◌<◌, false, Option, None, Some, List, [], ◌∷◌, ◌++◌, ◌⊎◌, length, replicate}
 use Rattle.std.specs.List.{AllByRecursion, AllZip}
 use Rattle.std.specs.FinMap.{get}
 use Rattle.restart_op.specs.Notes.{HasNoNotes}
 use Rattle.restart_op.specs.Closing.{SaysShapeInFront, HaveFit, IsQuiet}
 use Rattle.trace.specs.Progress.{pending}
 use Rattle.trace.specs.Events.{Words}
+use Rattle.image_layout.specs.Places.{Shape}
 use Rattle.map_model.specs.declared.call.Call.{Call}
 use Rattle.map_model.specs.declared.entry.Entry.{Entry}
 use Rattle.map_model.specs.Map.{Map}
@@ -47,6 +48,8 @@ pub record IsCalling (site : Site) (c : Caller) (e : Engine) (v : View) : Type 0
   -- so long as nothing was done, nothing is drawn or planned
   pub drew : c.begun ≡ false → c.drew ≡ None
   pub planned : c.begun ≡ false → v.planned ≡ []
+  -- what was drawn is this call's
+  pub drew_call : (e : Entry) → c.drew ≡ Some e → e.call ≡ call
 
 abbrev pub DoesCall : Site → Caller → Option Engine → View → Type 0
 DoesCall site c None v = IsThrough c v
@@ -57,6 +60,9 @@ pub record CallerFits (site : Site) (c : Caller) (v : View) : Type 0 where
   pub place : c.site.geometry ≡ site.shape
   pub words : (n : ℕ) (call : Call) → call_at c n ≡ Some call → IsWordCall call
   pub callers : 0 < v.callers
+  -- its replies are to the first of its calls, in their order
+  pub replied : map (λ e. e.call) c.entries ≡ take (length c.entries) c.calls
+  pub within : length c.entries ≤ length c.calls
   pub does : DoesCall site c c.engine v
 
 -- ---- the core
@@ -84,6 +90,10 @@ TurnKeeps = (site : Site) (start : Words) (core : Core) (c : ℕ) → CoreHolds 
 abbrev pub HoldingIsGood : Type 0
 HoldingIsGood = (site : Site) (start : Words) (core : Core) (opening : Map) → CoreHolds site start core → ((k : ℕ) → get opening k ≡ site.start k)
     → IsGood site.shape start opening core
+
+-- the calls of the callers stay as they are
+abbrev pub CallsStay : Type 0
+CallsStay = (shape : Shape) (core : Core) (turns : List ℕ) → map (λ c. c.calls) (run shape turns core).callers ≡ map (λ c. c.calls) core.callers
 
 -- turns of any callers, one after another, keep it
 abbrev pub RunKeeps : Type 0

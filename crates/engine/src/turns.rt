@@ -1,14 +1,15 @@
 //! The laws of the callers' turns. The functions do nothing: each stands for the law that its contract says.
 
-ghost use Rattle.engine.specs.Holding.{TurnKeeps, RunKeeps, HoldingIsGood, CoreBegins};
+ghost use Rattle.engine.specs.Holding.{CallsStay, TurnKeeps, RunKeeps, HoldingIsGood, CoreBegins};
 ghost use Rattle.engine.specs.Laws.{OpenedHolds, TurnsKeep, ThroughIsQuiet, ThroughHasMap};
 
 use crate::laws;
 
-/// A turn of any caller keeps what holds of the core, and so do turns one after another.
+/// A turn of any caller keeps what holds of the core, and so do turns one after another, which leave the callers their calls.
 pub fn turn_keeps()
     ensures one { TurnKeeps }
     ensures all { RunKeeps }
+    ensures calls { CallsStay }
 {
     world::worlds_stay_well();
     world::steps_do_events();
