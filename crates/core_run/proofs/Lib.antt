@@ -4,3 +4,6 @@ mod Turned
 mod Opened
 mod Closes
 mod Deeds
+mod Goods
+mod Ended
+mod Follows
