@@ -16,3 +16,4 @@ mod Goodness
 mod Beginnings
 mod Opening
 mod Quiet
+mod Alone

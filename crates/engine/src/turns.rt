@@ -1,7 +1,7 @@
 //! The laws of the callers' turns. The functions do nothing: each stands for the law that its contract says.
 
 ghost use Rattle.engine.specs.Holding.{CallsStay, TurnKeeps, RunKeeps, HoldingIsGood, CoreBegins};
-ghost use Rattle.engine.specs.Laws.{OpenedHolds, TurnsKeep, ThroughIsQuiet, ThroughHasMap};
+ghost use Rattle.engine.specs.Laws.{OpenedHolds, TurnsKeep, CallsAreScripts, TurnsAlone, ThroughIsQuiet, ThroughHasMap};
 
 use crate::laws;
 
@@ -45,7 +45,8 @@ pub fn opened_holds()
 /// Whatever turns the callers take, their replies are one legal history, and whatever a power cut may leave is sound and holds
 /// that history's map, open calls whole or absent.
 pub fn turns_keep()
-    ensures { TurnsKeep }
+    ensures good { TurnsKeep }
+    ensures scripts { CallsAreScripts }
 {
     restart_op::restart_begins();
     opened_holds();
@@ -59,4 +60,11 @@ pub fn through_is_quiet()
     ensures map { ThroughHasMap }
 {
     world::entries_are_legal();
+}
+
+/// The replies to a caller that runs alone are, one after another, those of a plain map.
+pub fn turns_alone()
+    ensures { TurnsAlone }
+{
+    turns_keep();
 }
