@@ -14,4 +14,10 @@ pub use laws::{
     asks_within, attempts_end, fits_the_world, flushes_are_few, no_room_is_full, spent_locks_stay,
     stores_are_words, stores_keep_notes,
 };
-pub use turns::{core_begins, holding_is_good, opened_holds, through_is_quiet, turn_keeps, turns_alone, turns_keep};
+pub use turns::{
+    core_begins, holding_is_good, opened_holds, through_is_quiet, turn_keeps, turns_alone,
+    turns_keep,
+};
+
+#[cfg(test)]
+mod tests;
