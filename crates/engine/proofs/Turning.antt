@@ -91,9 +91,9 @@ fenced_still shape want.Done n j es = refl
 
 -- ---- a caller
 module _ (begins : BeginsSuited) (site : Site) (is_site : IsSite site) (c : Caller) (place : c.site.geometry ≡ site.shape)
-  (words : (n : ℕ) (call : Call) → call_at c n ≡ Some call → IsWordCall call) (call : Call) (is_current : current c ≡ Some call)
-  (replied : map (λ (e : Entry). e.call) c.entries ≡ take (length c.entries) c.calls) (within : length c.entries ≤ length c.calls)
-  (before w : View) (own_before : before.own ≡ c.entries) (drew : Option Entry) (drew_call : (e : Entry) → drew ≡ Some e → e.call ≡ call) where
+    (words : (n : ℕ) (call : Call) → call_at c n ≡ Some call → IsWordCall call) (call : Call) (is_current : current c ≡ Some call)
+    (replied : map (λ (e : Entry). e.call) c.entries ≡ take (length c.entries) c.calls) (within : length c.entries ≤ length c.calls)
+    (before w : View) (own_before : before.own ≡ c.entries) (drew : Option Entry) (drew_call : (e : Entry) → drew ≡ Some e → e.call ≡ call) where
   -- the caller after the event, but for its engine
   abbrev drawn : Caller
   drawn = record c { drew = drew }
@@ -220,7 +220,7 @@ calls_stay shape core (c ∷ turns) = calls_stay shape (turn shape c core) turns
 
 -- ---- the core
 module _ (begins : BeginsSuited) (keeps : KeepsSuits) (are_words : AsksWords) (keep_notes : KeepsNotes) (steps : KeepsWell) (one_word : ChangesOneWord)
-  (site : Site) (start : Words) (core : Core) (h : CoreHolds site start core) where
+    (site : Site) (start : Words) (core : Core) (h : CoreHolds site start core) where
   now_fits : (i : ℕ) → core.words i < 2 ^ 64
   now_fits i = subst (λ x. x < 2 ^ 64) (value_at_now start core.trace i ∙ sym (ap (λ (ws : Words). ws i) h.well.words_are)) (h.fits i (length core.trace))
 
@@ -257,17 +257,17 @@ module _ (begins : BeginsSuited) (keeps : KeepsSuits) (are_words : AsksWords) (k
           let a = are_words site c.site calling.call e calling.before v calling.suits in
           subst (λ (ws : Words). ws i < 2 ^ 64) (sym (one_word site.shape (wanted e) (suc j) core.words))
           (replaced_fits core.words (word_of site.shape (wanted e)) (left_by site.shape (wanted e) n) i
-              (left_fits site.shape (wanted e) n a.stores a.exchanges (now_fits (word_of site.shape (wanted e)))) (now_fits i))
+          (left_fits site.shape (wanted e) n a.stores a.exchanges (now_fits (word_of site.shape (wanted e)))) (now_fits i))
 
       caller_after : CallerFits site (answered c calling.call e (answer_to (wanted e) n)) (view_after site.shape kind n v)
       caller_after = settled_fits begins site h.well.holds.site_is c fits.place fits.words calling.call calling.is_current fits.replied fits.within calling.before (view_after site.shape kind n v)
           calling.own_before (drawn_by c calling.call (answer_to (wanted e) n)) (drawn_call c calling.call calling.drew_call (answer_to (wanted e) n)) (next_engine site e core.words) (wanted (next_engine site e core.words)) refl well_step.suits well_step.ends
           (λ s. subst (λ w. HasEntries c.entries (drawn_by c calling.call (answer_to w n)) (view_after site.shape kind n v).own) (sym well_step.wants)
-              (entries_after site c calling.call v n calling.entries
-                  (λ planned has. let p = planned_is site c.site calling.call calling.before v e planned calling.suits has in (p.0, p.1 ∙ calling.own_before))
-                  kind well_step.may
-                  (let l = at_most_one site c.site calling.call calling.before (view_after site.shape kind n v) (next_engine site e core.words) s in
-                  subst (λ (es : List Entry). length (view_after site.shape kind n v).own ≤ suc (length es)) calling.own_before l)))
+          (entries_after site c calling.call v n calling.entries
+          (λ planned has. let p = planned_is site c.site calling.call calling.before v e planned calling.suits has in (p.0, p.1 ∙ calling.own_before))
+          kind well_step.may
+          (let l = at_most_one site c.site calling.call calling.before (view_after site.shape kind n v) (next_engine site e core.words) s in
+          subst (λ (es : List Entry). length (view_after site.shape kind n v).own ≤ suc (length es)) calling.own_before l)))
 
       stepped : CoreHolds site start core_after
       stepped = record {
