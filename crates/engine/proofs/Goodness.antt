@@ -37,7 +37,7 @@ use Rattle.engine.proofs.Planned.{none_has}
 use Rattle.engine.proofs.Planned.{planned_is}
 use Rattle.engine.proofs.Places.{one_more}
 use Rattle.engine.proofs.Scripted.{all_follow}
-use Rattle.engine.proofs.Cut.{told_legal, IsLegalWith}
+use Rattle.engine.proofs.Cut.{told_had, told_legal, IsLegalWith}
 
 -- what the tables' law says
 abbrev pub TablesFollow : Type 0
@@ -197,6 +197,7 @@ module _ (legal : EntriesAreLegal) (leaves : DeviceLeaves) (follow : TablesFollo
     scripted = all_follow site core.callers h.views h.each;
     legal = told.0;
     media = record { sound = is_sound; left = left_at };
+    had_no_room = told_had site core h.views h.each h.full opening same;
   }
 
 pub holding_is_good : EntriesAreLegal → DeviceLeaves → TablesFollow → PairsAreFound → HoldingIsGood

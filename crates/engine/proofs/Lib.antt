@@ -17,3 +17,6 @@ mod Beginnings
 mod Opening
 mod Quiet
 mod Alone
+mod Different
+mod NoRoom
+mod Refusals

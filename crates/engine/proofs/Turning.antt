@@ -18,7 +18,7 @@ use Rattle.map_model.specs.declared.entry.Reply.{Reply}
 use Rattle.map_model.specs.declared.entry.Entry.{Entry}
 use Rattle.world.specs.Site.{Site, IsSite}
 use Rattle.write_op.specs.Suits.{HoldsOnly}
-use Rattle.map_model.specs.Map.{is_change}
+use Rattle.map_model.specs.Map.{key_of, is_change}
 use Rattle.world.specs.Views.{View, At}
 use Rattle.world.specs.Kinds.{Kind, view_after}
 use Rattle.world.specs.Wants.{answer_to, word_of, left_by, event_of, words_after}
@@ -28,7 +28,10 @@ use Rattle.engine.specs.declared.engine.Engine.{Engine}
 use Rattle.engine.specs.Engine.{taken, wanted, end_of, reply_of_end, kind_of}
 use Rattle.engine.specs.Fits.{IsWordCall, Suits, HasEnded, EntersReply, BeginsSuited, finds, next_engine, StepsWell, KeepsSuits}
 use Rattle.engine.specs.Core.{Caller, Core, call_at, current, engine_for, entry_of, drawn_by, ended, settled, answered, with_event, turn_of_call, turn_of_caller, turn}
-use Rattle.engine.specs.Asks.{AsksWords, KeepsNotes}
+use Rattle.engine.specs.Asks.{AsksWords, KeepsNotes, FullIsKnown}
+use Rattle.map_model.specs.declared.call.Call.TheVariants.{Get, Insert, Update, Remove}
+use Rattle.write_op.specs.Wanted.{key_for}
+use Rattle.engine.proofs.Refusals.{had_after}
 use Rattle.engine.specs.Holding.{HasEntries, IsCalling, DoesCall, CallerFits, world_of, CoreHolds, CallsStay, TurnKeeps, RunKeeps}
 use Rattle.engine.proofs.Unnoted.{stay_unnoted}
 use Rattle.engine.proofs.Planned.{planned_is, at_most_one}
@@ -218,8 +221,14 @@ pub calls_stay : CallsStay
 calls_stay shape core [] = refl
 calls_stay shape core (c ∷ turns) = calls_stay shape (turn shape c core) turns ∙ turn_calls shape c core
 
+key_is : (call : Call) → key_for call ≡ key_of call
+key_is (Get key) = refl
+key_is (Insert key value) = refl
+key_is (Update key value) = refl
+key_is (Remove key) = refl
+
 -- ---- the core
-module _ (begins : BeginsSuited) (keeps : KeepsSuits) (are_words : AsksWords) (keep_notes : KeepsNotes) (steps : KeepsWell) (one_word : ChangesOneWord)
+module _ (begins : BeginsSuited) (keeps : KeepsSuits) (are_words : AsksWords) (keep_notes : KeepsNotes) (known : FullIsKnown) (steps : KeepsWell) (one_word : ChangesOneWord)
     (site : Site) (start : Words) (core : Core) (h : CoreHolds site start core) where
   now_fits : (i : ℕ) → core.words i < 2 ^ 64
   now_fits i = subst (λ x. x < 2 ^ 64) (value_at_now start core.trace i ∙ sym (ap (λ (ws : Words). ws i) h.well.words_are)) (h.fits i (length core.trace))
@@ -276,6 +285,8 @@ module _ (begins : BeginsSuited) (keeps : KeepsSuits) (are_words : AsksWords) (k
         fits = values_fit start _ core.trace h.fits (λ i. subst (λ (ws : Words). ws i < 2 ^ 64) well_after.words_are (word_after i));
         says = h.says;
         no_notes = stay_unnoted site e core.words (fresh_view 0 ∷ h.views) (suc j) v h.well.holds at (λ b within. keep_notes site c.site calling.call e calling.before v b h.well.holds.site_is calling.suits within) (suc j) h.no_notes;
+        full = had_after known site c.site calling.call (subst (λ k. k < 2 ^ 64) (key_is calling.call) (fits.words (length c.entries) calling.call calling.is_current).0) e core.words
+            (fresh_view 0 ∷ h.views) (suc j) calling.before v h.well.holds now_fits at calling.suits well_step.wants h.full;
         fenced = fenced_still site.shape (wanted e) n j core.trace ∙ h.fenced;
         each = zip_set (CallerFits site) core.callers h.views j (answered c calling.call e (answer_to (wanted e) n)) v (view_after site.shape kind n) h.each at caller_after;
       }
@@ -292,5 +303,5 @@ module _ (begins : BeginsSuited) (keeps : KeepsSuits) (are_words : AsksWords) (k
   turned zero = h
   turned (suc j) = by_caller j (slice_get core.callers j) refl
 
-pub turn_keeps : BeginsSuited → KeepsSuits → AsksWords → KeepsNotes → KeepsWell → ChangesOneWord → TurnKeeps
-turn_keeps begins keeps are_words keep_notes steps one_word site start core c h = turned begins keeps are_words keep_notes steps one_word site start core h c
+pub turn_keeps : BeginsSuited → KeepsSuits → AsksWords → KeepsNotes → FullIsKnown → KeepsWell → ChangesOneWord → TurnKeeps
+turn_keeps begins keeps are_words keep_notes known steps one_word site start core c h = turned begins keeps are_words keep_notes known steps one_word site start core h c

@@ -10,8 +10,11 @@ use Rattle.image_layout.specs.Places.{Shape}
 use Rattle.map_model.specs.declared.call.Call.{Call}
 use Rattle.map_model.specs.declared.entry.Entry.{Entry}
 use Rattle.map_model.specs.Map.{Map}
+use Rattle.map_model.specs.Weave.{all_of}
+use Rattle.map_model.specs.ByPlaces.{map_at}
+use Rattle.session.specs.Session.{HadNoRoom}
 use Rattle.world.specs.Site.{Site}
-use Rattle.world.specs.Views.{View}
+use Rattle.world.specs.Views.{View, At, Has}
 use Rattle.world.specs.World.{World, IsWell, fresh_view}
 use Rattle.write_op.specs.Suits.{HoldsOnly}
 use Rattle.engine.specs.declared.engine.Engine.{Engine}
@@ -70,6 +73,15 @@ pub record CallerFits (site : Site) (c : Caller) (v : View) : Type 0 where
 abbrev pub world_of : Core → List View → World
 world_of core views = record { words = core.words; trace = core.trace; views = fresh_view 0 ∷ views }
 
+-- all entries of the views
+abbrev pub all_own : List View → List Entry
+all_own views = all_of (map (λ (v : View). v.own) views)
+
+-- each insert that was refused for want of room had 14 keys in the map at its place, whatever map the core began with
+abbrev pub FullHad : Site → List View → Type 0
+FullHad site views = (opening : Map) → ((k : ℕ) → get opening k ≡ site.start k) → (j : ℕ) (v : View) (e : Entry) → At views j v → Has e v.own
+    → HadNoRoom site.shape (map_at opening (all_own views) e.place) e
+
 -- THE CORE HOLDS: so it is from the end of a restart on, between any two turns
 pub record CoreHolds (site : Site) (start : Words) (core : Core) : Type 0 where
   pub views : List View
@@ -80,6 +92,7 @@ pub record CoreHolds (site : Site) (start : Words) (core : Core) : Type 0 where
   -- caller 0 has nothing flushed that it has not fenced
   pub fenced : pending 0 core.trace ≡ []
   pub each : AllZip (CallerFits site) core.callers views
+  pub full : FullHad site (fresh_view 0 ∷ views)
 
 -- ---- the laws
 -- A TURN of any caller, and of a number that is nobody's, keeps the core
