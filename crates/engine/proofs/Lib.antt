@@ -20,3 +20,4 @@ mod Alone
 mod Different
 mod NoRoom
 mod Refusals
+mod SpentLocks

@@ -1,5 +1,5 @@
 -- What holds of the core between any two turns: the world is well, and the view of each caller fits what it runs and what it was told.
-use Rattle.std.specs.Prelude.{map, take, ◌≤◌, ◌≡◌, ℕ, ◌<◌, false, Option, None, Some, List, [], ◌∷◌, ◌++◌, ◌⊎◌, length, replicate}
+use Rattle.std.specs.Prelude.{⊤, map, take, ◌≤◌, ◌≡◌, ℕ, ◌<◌, false, Option, None, Some, List, [], ◌∷◌, ◌++◌, ◌⊎◌, length, replicate}
 use Rattle.std.specs.List.{AllByRecursion, AllZip}
 use Rattle.std.specs.FinMap.{get}
 use Rattle.restart_op.specs.Notes.{HasNoNotes}
@@ -17,6 +17,10 @@ use Rattle.world.specs.Site.{Site}
 use Rattle.world.specs.Views.{View, At, Has}
 use Rattle.world.specs.World.{World, IsWell, fresh_view}
 use Rattle.write_op.specs.Suits.{HoldsOnly}
+use Rattle.write_op.specs.declared.control.Step.{Step}
+use Rattle.write_op.specs.declared.control.Step.TheVariants.{CountSpent}
+use Rattle.engine.specs.declared.engine.Op.{Op}
+use Rattle.engine.specs.declared.engine.Op.TheVariants.{Read, Write}
 use Rattle.engine.specs.declared.engine.Engine.{Engine}
 use Rattle.engine.specs.Fits.{Suits, IsWordCall}
 use Rattle.engine.specs.Core.{Caller, Core, call_at, current, turn, run, callers_from}
@@ -81,6 +85,15 @@ all_own views = all_of (map (λ (v : View). v.own) views)
 abbrev pub FullHad : Site → List View → Type 0
 FullHad site views = (opening : Map) → ((k : ℕ) → get opening k ≡ site.start k) → (j : ℕ) (v : View) (e : Entry) → At views j v → Has e v.own
     → HadNoRoom site.shape (map_at opening (all_own views) e.place) e
+
+-- a change is to say that a number is spent, since it found a lock word of the last version
+abbrev pub IsSpentStep : Step → Type 0
+IsSpentStep (CountSpent side) = ⊤
+IsSpentStep step = ⊥
+
+abbrev pub IsAtSpent : Op → Type 0
+IsAtSpent (Read op) = ⊥
+IsAtSpent (Write op) = IsSpentStep op.step
 
 -- THE CORE HOLDS: so it is from the end of a restart on, between any two turns
 pub record CoreHolds (site : Site) (start : Words) (core : Core) : Type 0 where
