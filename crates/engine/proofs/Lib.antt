@@ -21,3 +21,4 @@ mod Different
 mod NoRoom
 mod Refusals
 mod SpentLocks
+mod Spending

@@ -216,7 +216,7 @@ same_below all other zero same = refl
 same_below all other (suc n) same = ap (λ es. es ++ filter (drew_at n) all) (same_below all other n (λ m low. same m (omega (arith, low))))
     ∙ ap (λ es. draws_below other n ++ es) (same n (omega arith))
 
-changed_cases : (views : List View) (j i : ℕ) (v u : View) (change : View → View) → At views j v → At (changed_at j change views) i u → (u ≡ change v) ⊎ At views i u
+pub changed_cases : (views : List View) (j i : ℕ) (v u : View) (change : View → View) → At views j v → At (changed_at j change views) i u → (u ≡ change v) ⊎ At views i u
 changed_cases [] j i v u change at at_u = absurd (some-ne-none v (sym at))
 changed_cases (w ∷ views) zero zero v u change at at_u = inl (sym (some-injective (change w) u at_u) ∙ ap change (some-injective w v at))
 changed_cases (w ∷ views) zero (suc i) v u change at at_u = inr at_u

@@ -1,5 +1,5 @@
 -- What holds of the core between any two turns: the world is well, and the view of each caller fits what it runs and what it was told.
-use Rattle.std.specs.Prelude.{⊤, map, take, ◌≤◌, ◌≡◌, ℕ, ◌<◌, false, Option, None, Some, List, [], ◌∷◌, ◌++◌, ◌⊎◌, length, replicate}
+use Rattle.std.specs.Prelude.{◌^◌, ⊤, map, take, ◌≤◌, ◌≡◌, ℕ, ◌<◌, false, Option, None, Some, List, [], ◌∷◌, ◌++◌, ◌⊎◌, length, replicate}
 use Rattle.std.specs.List.{AllByRecursion, AllZip}
 use Rattle.std.specs.FinMap.{get}
 use Rattle.restart_op.specs.Notes.{HasNoNotes}
@@ -10,7 +10,8 @@ use Rattle.image_layout.specs.Places.{Shape}
 use Rattle.map_model.specs.declared.call.Call.{Call}
 use Rattle.map_model.specs.declared.entry.Entry.{Entry}
 use Rattle.map_model.specs.Map.{Map}
-use Rattle.map_model.specs.Weave.{all_of}
+use Rattle.map_model.specs.Weave.{all_of, draws}
+use Rattle.map_model.specs.declared.entry.Reply.TheVariants.{Spent}
 use Rattle.map_model.specs.ByPlaces.{map_at}
 use Rattle.session.specs.Session.{HadNoRoom}
 use Rattle.world.specs.Site.{Site}
@@ -24,7 +25,7 @@ use Rattle.engine.specs.declared.engine.Op.TheVariants.{Read, Write}
 use Rattle.engine.specs.declared.engine.Engine.{Engine}
 use Rattle.engine.specs.Fits.{Suits, IsWordCall}
 use Rattle.engine.specs.Core.{Caller, Core, call_at, current, turn, run, callers_from}
-use Rattle.engine.specs.Good.{IsGood}
+use Rattle.engine.specs.Good.{HasSpentLock, IsGood}
 
 -- ---- a caller and its view
 -- the replies that the caller was told, and one more at the most, which drew no place and is not told yet
@@ -94,6 +95,10 @@ IsSpentStep step = ⊥
 abbrev pub IsAtSpent : Op → Type 0
 IsAtSpent (Read op) = ⊥
 IsAtSpent (Write op) = IsSpentStep op.step
+
+-- each reply that a number is spent has its cause: 2 ^ 63 changes are drawn, or some lock word has the last version
+abbrev pub HadSpent : Shape → Words → List View → Type 0
+HadSpent shape words views = (j : ℕ) (v : View) (e : Entry) → At views j v → Has e v.own → e.reply ≡ Spent → (2 ^ 63 ≤ draws (all_own views)) ⊎ HasSpentLock shape words
 
 -- THE CORE HOLDS: so it is from the end of a restart on, between any two turns
 pub record CoreHolds (site : Site) (start : Words) (core : Core) : Type 0 where
