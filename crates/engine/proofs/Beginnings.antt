@@ -2,14 +2,17 @@
 use Rattle.std.proofs.Common.{◌≡◌, ℕ, zero, suc, List, [], ◌∷◌, length, replicate, slice_get, Option, None, Some, inl, refl, sym, subst, arith}
 use Rattle.std.specs.List.{AllByRecursion, AllZip}
 use Rattle.std.proofs.lemmas.Option.{none-some, same_Some}
+use mathlib.Core.Option.{some-injective, some-ne-none}
+use Rattle.map_model.specs.declared.entry.Entry.{Entry}
 use Rattle.map_model.specs.declared.call.Call.{Call}
 use Rattle.world.specs.declared.site.Site.{Site as Here}
 use Rattle.world.specs.Site.{Site, IsSite}
+use Rattle.world.specs.Views.{View, At, Has}
 use Rattle.world.specs.World.{fresh_view}
 use Rattle.write_op.specs.Suits.{HoldsOnly}
 use Rattle.engine.specs.Fits.{IsWordCall, BeginsSuited}
 use Rattle.engine.specs.Core.{fresh, engine_for, callers_from}
-use Rattle.engine.specs.Holding.{CallerFits, CoreBegins}
+use Rattle.engine.specs.Holding.{FullHad, CallerFits, CoreBegins}
 
 word_at : (calls : List Call) → AllByRecursion IsWordCall calls → (n : ℕ) (call : Call) → slice_get calls n ≡ Some call → IsWordCall call
 word_at [] all n call is = absurd (none-some call is)
@@ -58,6 +61,16 @@ module _ (begins : BeginsSuited) (site : Site) (is_site : IsSite site) where
   all_fit version number (calls ∷ scripts) all =
       (fresh_fits (record { geometry = site.shape; version = version; caller = number }) refl calls all.0, all_fit version (suc number) scripts all.1)
 
+-- nobody has an entry
+no_entry : (n j : ℕ) (v : View) (e : Entry) → At (replicate n (fresh_view 1)) j v → Has e v.own → ⊥
+no_entry zero j v e at has = absurd (some-ne-none v (sym at))
+no_entry (suc n) zero v e at has = subst (λ (z : View). Has e z.own) (sym (some-injective (fresh_view 1) v at)) has
+no_entry (suc n) (suc j) v e at has = no_entry n j v e at has
+
+none_had : (site : Site) (n : ℕ) → FullHad site (fresh_view 0 ∷ replicate n (fresh_view 1))
+none_had site n opening same zero v e at has = absurd (subst (λ (z : View). Has e z.own) (sym (some-injective (fresh_view 0) v at)) has)
+none_had site n opening same (suc j) v e at has = absurd (no_entry n j v e at has)
+
 pub core_begins : BeginsSuited → CoreBegins
 core_begins begins site start core version scripts quiet words is = record {
   views = replicate (length scripts) (fresh_view 1);
@@ -66,6 +79,7 @@ core_begins begins site start core version scripts quiet words is = record {
   says = quiet.says;
   no_notes = quiet.no_notes;
   fenced = quiet.fenced;
+  full = none_had site (length scripts);
   each = subst (λ callers. AllZip (CallerFits site) callers (replicate (length scripts) (fresh_view 1))) (sym is)
       (all_fit begins site quiet.well.holds.site_is version 1 scripts words);
 }

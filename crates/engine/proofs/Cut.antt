@@ -1,12 +1,18 @@
 -- The replies that the callers were told are a history: those that are not told yet are cut off.
 use Rattle.std.proofs.Common.{◌≡◌, ℕ, zero, suc, ◌+◌, ◌≤◌, ◌&&◌, eqb, Bool, true, false, cond, List, [], ◌∷◌, ◌++◌, length, filter, map, Option, None, Some, inl, inr, refl, sym, ap, ◌∙◌, subst, arith}
 use mathlib.Core.Option.{some-injective, some-ne-none}
-use Rattle.std.specs.List.{AllZip}
+use Rattle.std.specs.List.{AllByRecursion, AllZip}
+use Rattle.std.proofs.lemmas.List.Elements.{filter-append}
+use Rattle.image_layout.specs.Places.{Shape}
+use Rattle.map_model.specs.ByPlaces.{map_at}
+use Rattle.map_model.proofs.Elements.{Has as IsIn, All-from_each, Has-append_cases}
+use Rattle.session.specs.Session.{HadNoRoom}
+use Rattle.engine.proofs.Refusals.{one_fails, same_below}
 use Rattle.std.specs.FinMap.{get}
 use Rattle.trace.specs.Events.{Words}
 use Rattle.map_model.specs.declared.entry.Entry.{Entry}
 use Rattle.map_model.specs.Map.{Map}
-use Rattle.map_model.specs.Weave.{weave, drew_at}
+use Rattle.map_model.specs.Weave.{all_of, weave, drew_at}
 use Rattle.map_model.specs.Legal.{InOrder, IsLegal, seen_of, seen_after, replay}
 use Rattle.session.specs.Callers.{with_open, history_of}
 use Rattle.world.specs.Site.{Site}
@@ -17,7 +23,7 @@ use Rattle.world.specs.World.{fresh_view}
 use Rattle.world.specs.Laws.{EntriesAreLegal}
 use Rattle.world.proofs.Entries.{count_more, seen_of_more}
 use Rattle.engine.specs.Core.{Caller, Core, open_of, told_of, histories}
-use Rattle.engine.specs.Holding.{HasUntold, HasEntries, DoesCall, CallerFits}
+use Rattle.engine.specs.Holding.{all_own, FullHad, HasUntold, HasEntries, DoesCall, CallerFits}
 
 -- ---- one caller
 told_or_open : (told own : List Entry) (begun : Bool) (drew : Option Entry) → (begun ≡ false → drew ≡ None) → HasEntries told drew own
@@ -120,6 +126,50 @@ module _ (site : Site) (words : Words) (views others : List View) (log : Log) (a
     drawn = cut_total (λ (e : Entry). e.drew) (λ e q. q) views others all ∙ o.drawn;
     each_once = λ n below. cut_total (drew_at n) (λ e q. ap (λ b. b && eqb e.place n) q) views others all ∙ o.each_once n below;
   }
+
+-- ---- refusals
+cut_filter : (p : Entry → Bool) → ((e : Entry) → e.drew ≡ false → p e ≡ false) → (v w : View) → IsCut v w → filter p v.own ≡ filter p w.own
+cut_filter p none v w cut = elim cut.0 [
+  | inl same ↦ ap (filter p) same
+  | inr one ↦ ap (filter p) one.1 ∙ one_fails p w.own one.0 (none one.0 one.2)
+]
+
+all_filter : (p : Entry → Bool) → ((e : Entry) → e.drew ≡ false → p e ≡ false) → (views others : List View) → AllZip IsCut views others
+    → filter p (all_own views) ≡ filter p (all_own others)
+all_filter p none [] [] all = refl
+all_filter p none [] (y ∷ others) all = absurd all
+all_filter p none (x ∷ views) [] all = absurd all
+all_filter p none (x ∷ views) (y ∷ others) all =
+    filter-append p x.own (all_own views) ∙ (ap (λ es. es ++ filter p (all_own views)) (cut_filter p none x y all.0)
+    ∙ (ap (λ es. filter p y.own ++ es) (all_filter p none views others all.1) ∙ sym (filter-append p y.own (all_own others))))
+
+whose : (views : List View) (e : Entry) → IsIn (all_own views) e → (j : ℕ) × (v : View) × At views j v × Has e v.own
+whose [] e h = absurd h
+whose (v ∷ views) e h = elim (Has-append_cases v.own (all_own views) e h) [
+  | inl mine ↦ (0, v, refl, turned v.own e mine)
+  | inr r ↦ (let s = whose views e r in (suc s.0, s.1, s.2, s.3))
+]
+  where
+    turned : (es : List Entry) (e : Entry) → IsIn es e → Has e es
+    turned [] e h = absurd h
+    turned (x ∷ es) e h = elim h [ inl q ↦ inl (sym q) | inr r ↦ inr (turned es e r) ]
+
+abbrev pub HadAll : Shape → Map → List (List Entry) → Type 0
+HadAll shape opening lists = AllByRecursion (λ e. HadNoRoom shape (map_at opening (all_of lists) e.place) e) (all_of lists)
+
+pub told_had : (site : Site) (core : Core) (views : List View) → AllZip (CallerFits site) core.callers views → FullHad site (fresh_view 0 ∷ views)
+    → (opening : Map) → ((k : ℕ) → get opening k ≡ site.start k) → HadAll site.shape opening (histories core)
+told_had site core views each had opening same =
+    let others = all_cut core.callers views in
+    let fits = cuts site core.callers views each in
+    subst (λ lists. HadAll site.shape opening lists) (own_of_cut site core.callers views each)
+    (All-from_each (λ e. HadNoRoom site.shape (map_at opening (all_own others) e.place) e) (all_own others) (λ e is_in.
+    let w = whose others e is_in in
+    let c = cut_at views others w.0 w.1 fits w.2 in
+    subst (λ m. HadNoRoom site.shape m e)
+    (ap (replay opening) (same_below (all_own views) (all_own others) e.place
+    (λ m low. all_filter (drew_at m) (λ x q. ap (λ b. b && eqb x.place m) q) views others fits)))
+    (had opening same (suc w.0) c.0 e c.1 (cut_has c.0 w.1 c.2 e w.3))))
 
 -- an empty list in front says nothing
 abbrev pub IsLegalWith : Map → Log → (ℕ → Option ℕ) → List (List Entry) → Type 0

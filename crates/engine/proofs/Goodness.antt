@@ -37,7 +37,7 @@ use Rattle.engine.proofs.Planned.{none_has}
 use Rattle.engine.proofs.Planned.{planned_is}
 use Rattle.engine.proofs.Places.{one_more}
 use Rattle.engine.proofs.Scripted.{all_follow}
-use Rattle.engine.proofs.Cut.{told_legal, IsLegalWith}
+use Rattle.engine.proofs.Cut.{told_had, told_legal, IsLegalWith}
 
 -- what the tables' law says
 abbrev pub TablesFollow : Type 0
@@ -121,7 +121,7 @@ undrawn_has (x ∷ callers) (suc j) c call is open_here =
 
 -- ---- the core
 module _ (legal : EntriesAreLegal) (leaves : DeviceLeaves) (follow : TablesFollow) (found : PairsAreFound)
-  (site : Site) (start : Words) (core : Core) (opening : Map) (h : CoreHolds site start core) (same : (k : ℕ) → get opening k ≡ site.start k) where
+    (site : Site) (start : Words) (core : Core) (opening : Map) (h : CoreHolds site start core) (same : (k : ℕ) → get opening k ≡ site.start k) where
   abbrev now : Map
   now = replay opening (weave (histories core))
 
@@ -183,9 +183,13 @@ module _ (legal : EntriesAreLegal) (leaves : DeviceLeaves) (follow : TablesFollo
     left_at k = elim (h.well.holds.media.stands word by_views k) [
       | inl is ↦ inl (has_at k (get now k) (is ∙ sym (told.1 k)))
       | inr p ↦ (let call = p.2 in let key = p.5 in
-          inr (call, whose p.0 p.1 call p.3 p.4 p.0 p.3, key,
-              subst (λ q. AgreesAt site.shape word (after now call (reply_of now call)) q) key
-              (planned_at p.0 p.1 call p.3 p.4 (ap (λ q. find site.shape word q) key ∙ sym p.6))))
+          inr (
+            call,
+            whose p.0 p.1 call p.3 p.4 p.0 p.3,
+            key,
+            subst (λ q. AgreesAt site.shape word (after now call (reply_of now call)) q) key
+                (planned_at p.0 p.1 call p.3 p.4 (ap (λ q. find site.shape word q) key ∙ sym p.6)),
+          ))
     ]
 
   is_good : IsGood site.shape start opening core
@@ -193,6 +197,7 @@ module _ (legal : EntriesAreLegal) (leaves : DeviceLeaves) (follow : TablesFollo
     scripted = all_follow site core.callers h.views h.each;
     legal = told.0;
     media = record { sound = is_sound; left = left_at };
+    had_no_room = told_had site core h.views h.each h.full opening same;
   }
 
 pub holding_is_good : EntriesAreLegal → DeviceLeaves → TablesFollow → PairsAreFound → HoldingIsGood

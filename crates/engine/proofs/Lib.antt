@@ -16,3 +16,9 @@ mod Goodness
 mod Beginnings
 mod Opening
 mod Quiet
+mod Alone
+mod Different
+mod NoRoom
+mod Refusals
+mod SpentLocks
+mod Spending

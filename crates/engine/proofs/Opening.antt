@@ -1,11 +1,13 @@
 -- The core after a restart, and the law of all turns.
-use Rattle.std.proofs.Common.{length, slice_index, refl, arith}
+use Rattle.std.proofs.Common.{◌≡◌, ℕ, List, ◌∙◌, ap, map, suc, [], ◌∷◌, length, slice_index, refl, arith}
 use Rattle.restart_op.specs.Restarted.{words_at_end, site_of, KeepsPairs}
 use Rattle.restart_op.specs.Closing.{QuietAfterRestart}
 use Rattle.image_layout.specs.Places.{state_word}
-use Rattle.engine.specs.Core.{run}
-use Rattle.engine.specs.Holding.{CoreBegins, RunKeeps, HoldingIsGood}
-use Rattle.engine.specs.Laws.{opened, OpenedHolds, TurnsKeep}
+use Rattle.image_layout.specs.Places.{Shape}
+use Rattle.map_model.specs.declared.call.Call.{Call}
+use Rattle.engine.specs.Core.{Caller, callers_from, run}
+use Rattle.engine.specs.Holding.{CallsStay, CoreBegins, RunKeeps, HoldingIsGood}
+use Rattle.engine.specs.Laws.{CallsAreScripts, opened, OpenedHolds, TurnsKeep}
 
 pub opened_holds : CoreBegins → QuietAfterRestart → OpenedHolds
 opened_holds begins quiet shape words scripts image are =
@@ -18,3 +20,11 @@ turns_keep opens keeps good pairs shape words image opening has scripts are turn
     good site (slice_index words) (run shape turns (opened shape words scripts)) opening
     (keeps site (slice_index words) (opened shape words scripts) turns (opens shape words scripts image are))
     ((pairs shape words opening image).0 has)
+
+opened_calls : (shape : Shape) (version number : ℕ) (scripts : List (List Call)) → map (λ (c : Caller). c.calls) (callers_from shape version number scripts) ≡ scripts
+opened_calls shape version number [] = refl
+opened_calls shape version number (calls ∷ scripts) = ap (λ (css : List (List Call)). calls ∷ css) (opened_calls shape version (suc number) scripts)
+
+pub calls_are_scripts : CallsStay → CallsAreScripts
+calls_are_scripts stay shape words scripts turns =
+    stay shape (opened shape words scripts) turns ∙ opened_calls shape (words_at_end shape words state_word) 1 scripts

@@ -88,7 +88,7 @@ draws_or_not shape (draws_place call) = inl (call, refl)
 draws_or_not shape kind = inr tt
 
 module _ (site : Site) (c : Caller) (call : Call) (v : View) (n : ℕ) (has : HasEntries c.entries c.drew v.own)
-  (only : (planned : Call) → Has planned v.planned → (planned ≡ call) × (v.own ≡ c.entries)) where
+    (only : (planned : Call) → Has planned v.planned → (planned ≡ call) × (v.own ≡ c.entries)) where
   drawing : (kind : Kind) (planned : Call) → kind ≡ draws_place planned → May site kind v
       → HasEntries c.entries (drawn_by c call (answer_to (wanted_by site.shape kind) n)) (view_after site.shape kind n v).own
   drawing kind planned is may = subst (λ (k : Kind). HasEntries c.entries (drawn_by c call (answer_to (wanted_by site.shape k) n)) (view_after site.shape k n v).own) (sym is)

@@ -18,7 +18,7 @@ use Rattle.map_model.specs.declared.entry.Reply.{Reply}
 use Rattle.map_model.specs.declared.entry.Entry.{Entry}
 use Rattle.world.specs.Site.{Site, IsSite}
 use Rattle.write_op.specs.Suits.{HoldsOnly}
-use Rattle.map_model.specs.Map.{is_change}
+use Rattle.map_model.specs.Map.{key_of, is_change}
 use Rattle.world.specs.Views.{View, At}
 use Rattle.world.specs.Kinds.{Kind, view_after}
 use Rattle.world.specs.Wants.{answer_to, word_of, left_by, event_of, words_after}
@@ -28,7 +28,10 @@ use Rattle.engine.specs.declared.engine.Engine.{Engine}
 use Rattle.engine.specs.Engine.{taken, wanted, end_of, reply_of_end, kind_of}
 use Rattle.engine.specs.Fits.{IsWordCall, Suits, HasEnded, EntersReply, BeginsSuited, finds, next_engine, StepsWell, KeepsSuits}
 use Rattle.engine.specs.Core.{Caller, Core, call_at, current, engine_for, entry_of, drawn_by, ended, settled, answered, with_event, turn_of_call, turn_of_caller, turn}
-use Rattle.engine.specs.Asks.{AsksWords, KeepsNotes}
+use Rattle.engine.specs.Asks.{AsksWords, KeepsNotes, FullIsKnown}
+use Rattle.map_model.specs.declared.call.Call.TheVariants.{Get, Insert, Update, Remove}
+use Rattle.write_op.specs.Wanted.{key_for}
+use Rattle.engine.proofs.Refusals.{had_after}
 use Rattle.engine.specs.Holding.{HasEntries, IsCalling, DoesCall, CallerFits, world_of, CoreHolds, CallsStay, TurnKeeps, RunKeeps}
 use Rattle.engine.proofs.Unnoted.{stay_unnoted}
 use Rattle.engine.proofs.Planned.{planned_is, at_most_one}
@@ -91,9 +94,9 @@ fenced_still shape want.Done n j es = refl
 
 -- ---- a caller
 module _ (begins : BeginsSuited) (site : Site) (is_site : IsSite site) (c : Caller) (place : c.site.geometry ≡ site.shape)
-  (words : (n : ℕ) (call : Call) → call_at c n ≡ Some call → IsWordCall call) (call : Call) (is_current : current c ≡ Some call)
-  (replied : map (λ (e : Entry). e.call) c.entries ≡ take (length c.entries) c.calls) (within : length c.entries ≤ length c.calls)
-  (before w : View) (own_before : before.own ≡ c.entries) (drew : Option Entry) (drew_call : (e : Entry) → drew ≡ Some e → e.call ≡ call) where
+    (words : (n : ℕ) (call : Call) → call_at c n ≡ Some call → IsWordCall call) (call : Call) (is_current : current c ≡ Some call)
+    (replied : map (λ (e : Entry). e.call) c.entries ≡ take (length c.entries) c.calls) (within : length c.entries ≤ length c.calls)
+    (before w : View) (own_before : before.own ≡ c.entries) (drew : Option Entry) (drew_call : (e : Entry) → drew ≡ Some e → e.call ≡ call) where
   -- the caller after the event, but for its engine
   abbrev drawn : Caller
   drawn = record c { drew = drew }
@@ -218,9 +221,15 @@ pub calls_stay : CallsStay
 calls_stay shape core [] = refl
 calls_stay shape core (c ∷ turns) = calls_stay shape (turn shape c core) turns ∙ turn_calls shape c core
 
+key_is : (call : Call) → key_for call ≡ key_of call
+key_is (Get key) = refl
+key_is (Insert key value) = refl
+key_is (Update key value) = refl
+key_is (Remove key) = refl
+
 -- ---- the core
-module _ (begins : BeginsSuited) (keeps : KeepsSuits) (are_words : AsksWords) (keep_notes : KeepsNotes) (steps : KeepsWell) (one_word : ChangesOneWord)
-  (site : Site) (start : Words) (core : Core) (h : CoreHolds site start core) where
+module _ (begins : BeginsSuited) (keeps : KeepsSuits) (are_words : AsksWords) (keep_notes : KeepsNotes) (known : FullIsKnown) (steps : KeepsWell) (one_word : ChangesOneWord)
+    (site : Site) (start : Words) (core : Core) (h : CoreHolds site start core) where
   now_fits : (i : ℕ) → core.words i < 2 ^ 64
   now_fits i = subst (λ x. x < 2 ^ 64) (value_at_now start core.trace i ∙ sym (ap (λ (ws : Words). ws i) h.well.words_are)) (h.fits i (length core.trace))
 
@@ -257,17 +266,17 @@ module _ (begins : BeginsSuited) (keeps : KeepsSuits) (are_words : AsksWords) (k
           let a = are_words site c.site calling.call e calling.before v calling.suits in
           subst (λ (ws : Words). ws i < 2 ^ 64) (sym (one_word site.shape (wanted e) (suc j) core.words))
           (replaced_fits core.words (word_of site.shape (wanted e)) (left_by site.shape (wanted e) n) i
-              (left_fits site.shape (wanted e) n a.stores a.exchanges (now_fits (word_of site.shape (wanted e)))) (now_fits i))
+          (left_fits site.shape (wanted e) n a.stores a.exchanges (now_fits (word_of site.shape (wanted e)))) (now_fits i))
 
       caller_after : CallerFits site (answered c calling.call e (answer_to (wanted e) n)) (view_after site.shape kind n v)
       caller_after = settled_fits begins site h.well.holds.site_is c fits.place fits.words calling.call calling.is_current fits.replied fits.within calling.before (view_after site.shape kind n v)
           calling.own_before (drawn_by c calling.call (answer_to (wanted e) n)) (drawn_call c calling.call calling.drew_call (answer_to (wanted e) n)) (next_engine site e core.words) (wanted (next_engine site e core.words)) refl well_step.suits well_step.ends
           (λ s. subst (λ w. HasEntries c.entries (drawn_by c calling.call (answer_to w n)) (view_after site.shape kind n v).own) (sym well_step.wants)
-              (entries_after site c calling.call v n calling.entries
-                  (λ planned has. let p = planned_is site c.site calling.call calling.before v e planned calling.suits has in (p.0, p.1 ∙ calling.own_before))
-                  kind well_step.may
-                  (let l = at_most_one site c.site calling.call calling.before (view_after site.shape kind n v) (next_engine site e core.words) s in
-                  subst (λ (es : List Entry). length (view_after site.shape kind n v).own ≤ suc (length es)) calling.own_before l)))
+          (entries_after site c calling.call v n calling.entries
+          (λ planned has. let p = planned_is site c.site calling.call calling.before v e planned calling.suits has in (p.0, p.1 ∙ calling.own_before))
+          kind well_step.may
+          (let l = at_most_one site c.site calling.call calling.before (view_after site.shape kind n v) (next_engine site e core.words) s in
+          subst (λ (es : List Entry). length (view_after site.shape kind n v).own ≤ suc (length es)) calling.own_before l)))
 
       stepped : CoreHolds site start core_after
       stepped = record {
@@ -276,6 +285,8 @@ module _ (begins : BeginsSuited) (keeps : KeepsSuits) (are_words : AsksWords) (k
         fits = values_fit start _ core.trace h.fits (λ i. subst (λ (ws : Words). ws i < 2 ^ 64) well_after.words_are (word_after i));
         says = h.says;
         no_notes = stay_unnoted site e core.words (fresh_view 0 ∷ h.views) (suc j) v h.well.holds at (λ b within. keep_notes site c.site calling.call e calling.before v b h.well.holds.site_is calling.suits within) (suc j) h.no_notes;
+        full = had_after known site c.site calling.call (subst (λ k. k < 2 ^ 64) (key_is calling.call) (fits.words (length c.entries) calling.call calling.is_current).0) e core.words
+            (fresh_view 0 ∷ h.views) (suc j) calling.before v h.well.holds now_fits at calling.suits well_step.wants h.full;
         fenced = fenced_still site.shape (wanted e) n j core.trace ∙ h.fenced;
         each = zip_set (CallerFits site) core.callers h.views j (answered c calling.call e (answer_to (wanted e) n)) v (view_after site.shape kind n) h.each at caller_after;
       }
@@ -292,5 +303,5 @@ module _ (begins : BeginsSuited) (keeps : KeepsSuits) (are_words : AsksWords) (k
   turned zero = h
   turned (suc j) = by_caller j (slice_get core.callers j) refl
 
-pub turn_keeps : BeginsSuited → KeepsSuits → AsksWords → KeepsNotes → KeepsWell → ChangesOneWord → TurnKeeps
-turn_keeps begins keeps are_words keep_notes steps one_word site start core c h = turned begins keeps are_words keep_notes steps one_word site start core h c
+pub turn_keeps : BeginsSuited → KeepsSuits → AsksWords → KeepsNotes → FullIsKnown → KeepsWell → ChangesOneWord → TurnKeeps
+turn_keeps begins keeps are_words keep_notes known steps one_word site start core c h = turned begins keeps are_words keep_notes known steps one_word site start core h c

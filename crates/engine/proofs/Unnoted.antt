@@ -26,7 +26,7 @@ replaced_here : (words : Words) (i x : ℕ) → with_word words i x i ≡ x
 replaced_here words i x = ap (λ b. cond b x (words i)) (eq-eqb i i refl)
 
 module _ (site : Site) (e : Engine) (words : Words) (views : List View) (j : ℕ) (v : View) (h : Holds site words views) (at : At views j v)
-  (leaves : (b : ℕ) → b < 66 → LeavesNotes site e v b) (c : ℕ) (none : HasNoNotes site.shape words) where
+    (leaves : (b : ℕ) → b < 66 → LeavesNotes site e v b) (c : ℕ) (none : HasNoNotes site.shape words) where
   module _ (b : ℕ) (within : b < 64) where
     abbrev meta : ℕ
     meta = bucket_at site.shape 0 b + 1

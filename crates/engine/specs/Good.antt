@@ -1,17 +1,24 @@
 -- When the core is good: the replies of all callers are one legal history, and whatever a power cut may leave is sound and
 -- holds that history's map, open calls whole or absent.
-use Rattle.std.specs.Prelude.{◌≡◌, ℕ, List, length, map, slice_index}
-use Rattle.std.specs.List.{AllZip}
+use Rattle.std.specs.Prelude.{◌-◌, ◌^◌, ◌≡◌, ℕ, List, length, map, slice_index}
+use Rattle.std.specs.List.{AllByRecursion, AllZip}
 use Rattle.trace.specs.Events.{Words}
 use Rattle.trace.specs.Media.{IsPossible}
 use Rattle.map_model.specs.Map.{Map}
-use Rattle.map_model.specs.Weave.{weave}
+use Rattle.map_model.specs.Weave.{all_of, weave}
+use Rattle.map_model.specs.ByPlaces.{map_at}
+use Rattle.session.specs.Session.{HadNoRoom}
 use Rattle.map_model.specs.Legal.{IsLegal, replay}
 use Rattle.image_layout.specs.Places.{Shape, words_of}
 use Rattle.sound_image.specs.Image.{IsSoundImage}
 use Rattle.sound_image.specs.Left.{IsLeft}
 use Rattle.session.specs.Callers.{FollowsScript, undrawn}
+use Rattle.world.specs.Site.{IsLockWord}
 use Rattle.engine.specs.Core.{Core, tolds_of, histories}
+
+-- some lock word is free with the last version
+abbrev pub HasSpentLock : Shape → Words → Type 0
+HasSpentLock shape words = (lock : ℕ) × IsLockWord shape lock × (words lock ≡ 2 ^ 64 - 2)
 
 -- every list of words that a power cut may leave now is a sound image, and holds the map of the history so far, each open
 -- call whole or absent
@@ -27,3 +34,5 @@ pub record IsGood (shape : Shape) (start : Words) (opening : Map) (core : Core) 
   -- all replies are one legal history
   pub legal : IsLegal opening (histories core)
   pub media : MediaAreGood shape start opening core
+  -- each insert that was refused for want of room had 14 keys in the map at its place
+  pub had_no_room : AllByRecursion (λ e. HadNoRoom shape (map_at opening (all_of (histories core)) e.place) e) (all_of (histories core))

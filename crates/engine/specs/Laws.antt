@@ -1,12 +1,13 @@
 -- The law of all turns: whatever turns the callers take, their replies are one legal history, and whatever a power cut may
 -- leave is sound and holds that history's map, open calls whole or absent.
-use Rattle.std.specs.Prelude.{◌≡◌, ℕ, ◌≤◌, None, List, length, slice_index}
+use Rattle.std.specs.Prelude.{◌≡◌, ℕ, ◌≤◌, None, List, [], ◌∷◌, map, length, slice_index}
 use Rattle.std.specs.List.{AllByRecursion}
 use Rattle.std.specs.FinMap.{get}
 use Rattle.map_model.specs.declared.call.Call.{Call}
+use Rattle.map_model.specs.declared.entry.Entry.{Entry}
 use Rattle.map_model.specs.Map.{Map}
 use Rattle.map_model.specs.Weave.{weave}
-use Rattle.map_model.specs.Legal.{replay}
+use Rattle.map_model.specs.Legal.{AreReplies, replay}
 use Rattle.image_layout.specs.Places.{Shape, state_word}
 use Rattle.sound_image.specs.Left.{HasPairsOf}
 use Rattle.bucket_words.specs.Tables.{find}
@@ -44,6 +45,24 @@ TurnsKeep = (shape : Shape) (words : List ℕ) → IsServedImage shape words
     → (opening : Map) → HasPairsOf shape (slice_index words) opening
     → (scripts : List (List Call)) → AreScripts scripts
     → (turns : List ℕ) → IsGood shape (slice_index words) opening (run shape turns (opened shape words scripts))
+
+-- and the callers have the calls of the scripts
+abbrev pub CallsAreScripts : Type 0
+CallsAreScripts = (shape : Shape) (words : List ℕ) (scripts : List (List Call)) (turns : List ℕ)
+    → map (λ c. c.calls) (run shape turns (opened shape words scripts)).callers ≡ scripts
+
+-- the only caller's replies are, one after another, those of the plain map
+pub record IsRightAlone (opening : Map) (core : Core) : Type 0 where
+  pub entries : List Entry
+  pub only : histories core ≡ entries ∷ []
+  pub replies : AreReplies opening entries
+
+-- ONE CALLER ALONE, whose calls the core runs one after another
+abbrev pub TurnsAlone : Type 0
+TurnsAlone = (shape : Shape) (words : List ℕ) → IsServedImage shape words
+    → (opening : Map) → HasPairsOf shape (slice_index words) opening
+    → (calls : List Call) → AllByRecursion IsWordCall calls
+    → (turns : List ℕ) → IsRightAlone opening (run shape turns (opened shape words (calls ∷ [])))
 
 -- no engine of a caller runs: each call has its reply
 abbrev pub NoneRuns : Core → Type 0

@@ -1,7 +1,7 @@
 //! The laws of the callers' turns. The functions do nothing: each stands for the law that its contract says.
 
 ghost use Rattle.engine.specs.Holding.{CallsStay, TurnKeeps, RunKeeps, HoldingIsGood, CoreBegins};
-ghost use Rattle.engine.specs.Laws.{OpenedHolds, TurnsKeep, ThroughIsQuiet, ThroughHasMap};
+ghost use Rattle.engine.specs.Laws.{OpenedHolds, TurnsKeep, CallsAreScripts, TurnsAlone, ThroughIsQuiet, ThroughHasMap};
 
 use crate::laws;
 
@@ -16,6 +16,7 @@ pub fn turn_keeps()
     laws::fits_the_world();
     laws::stores_are_words();
     laws::stores_keep_notes();
+    laws::no_room_is_full();
 }
 
 /// A core that holds is good: the replies are one legal history, and whatever a power cut may leave holds its map.
@@ -45,7 +46,8 @@ pub fn opened_holds()
 /// Whatever turns the callers take, their replies are one legal history, and whatever a power cut may leave is sound and holds
 /// that history's map, open calls whole or absent.
 pub fn turns_keep()
-    ensures { TurnsKeep }
+    ensures good { TurnsKeep }
+    ensures scripts { CallsAreScripts }
 {
     restart_op::restart_begins();
     opened_holds();
@@ -59,4 +61,11 @@ pub fn through_is_quiet()
     ensures map { ThroughHasMap }
 {
     world::entries_are_legal();
+}
+
+/// The replies to a caller that runs alone are, one after another, those of a plain map.
+pub fn turns_alone()
+    ensures { TurnsAlone }
+{
+    turns_keep();
 }
