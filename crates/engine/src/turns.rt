@@ -17,6 +17,7 @@ pub fn turn_keeps()
     laws::stores_are_words();
     laws::stores_keep_notes();
     laws::no_room_is_full();
+    laws::spent_locks_stay();
 }
 
 /// A core that holds is good: the replies are one legal history, and whatever a power cut may leave holds its map.
