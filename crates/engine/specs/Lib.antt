@@ -6,3 +6,4 @@ pub mod Core
 pub mod Good
 pub mod Holding
 pub mod Laws
+pub mod Sessions

@@ -2,6 +2,7 @@
 
 ghost use Rattle.engine.specs.Holding.{CallsStay, TurnKeeps, RunKeeps, HoldingIsGood, CoreBegins};
 ghost use Rattle.engine.specs.Laws.{OpenedHolds, TurnsKeep, CallsAreScripts, TurnsAlone, ThroughIsQuiet, ThroughHasMap};
+ghost use Rattle.engine.specs.Sessions.{CutIsSession};
 
 use crate::laws;
 
@@ -67,6 +68,13 @@ pub fn through_is_quiet()
 /// The replies to a caller that runs alone are, one after another, those of a plain map.
 pub fn turns_alone()
     ensures { TurnsAlone }
+{
+    turns_keep();
+}
+
+/// A scheduled run that a power cut ends is a session: what the callers were told, and whatever words the cut may leave.
+pub fn cut_is_session()
+    ensures { CutIsSession }
 {
     turns_keep();
 }
