@@ -1,5 +1,5 @@
 -- The core with which callers begin holds.
-use Rattle.std.proofs.Common.{◌≡◌, ℕ, zero, suc, List, [], ◌∷◌, length, replicate, slice_get, Option, None, Some, inl, refl, sym, subst, arith}
+use Rattle.std.proofs.Common.{◌∙◌, ap, ◌≡◌, ℕ, zero, suc, List, [], ◌∷◌, length, replicate, slice_get, Option, None, Some, inl, refl, sym, subst, arith}
 use Rattle.std.specs.List.{AllByRecursion, AllZip}
 use Rattle.std.proofs.lemmas.Option.{none-some, same_Some}
 use mathlib.Core.Option.{some-injective, some-ne-none}
@@ -10,9 +10,14 @@ use Rattle.world.specs.Site.{Site, IsSite}
 use Rattle.world.specs.Views.{View, At, Has}
 use Rattle.world.specs.World.{fresh_view}
 use Rattle.write_op.specs.Suits.{HoldsOnly}
+use Rattle.image_layout.specs.Places.{Shape}
+use Rattle.trace.specs.Events.{Words}
+use Rattle.engine.specs.declared.engine.Engine.{Engine}
+use Rattle.engine.specs.Engine.{begun}
+use Rattle.engine.proofs.SpentLocks.{not_begun}
 use Rattle.engine.specs.Fits.{IsWordCall, BeginsSuited}
-use Rattle.engine.specs.Core.{fresh, engine_for, callers_from}
-use Rattle.engine.specs.Holding.{FullHad, CallerFits, CoreBegins}
+use Rattle.engine.specs.Core.{fresh, engine_for, callers_from, Caller}
+use Rattle.engine.specs.Holding.{HadSpent, IsAtSpent, FullHad, CallerFits, CoreBegins}
 
 word_at : (calls : List Call) → AllByRecursion IsWordCall calls → (n : ℕ) (call : Call) → slice_get calls n ≡ Some call → IsWordCall call
 word_at [] all n call is = absurd (none-some call is)
@@ -71,6 +76,22 @@ none_had : (site : Site) (n : ℕ) → FullHad site (fresh_view 0 ∷ replicate 
 none_had site n opening same zero v e at has = absurd (subst (λ (z : View). Has e z.own) (sym (some-injective (fresh_view 0) v at)) has)
 none_had site n opening same (suc j) v e at has = absurd (no_entry n j v e at has)
 
+none_spent : (shape : Shape) (words : Words) (n : ℕ) → HadSpent shape words (fresh_view 0 ∷ replicate n (fresh_view 1))
+none_spent shape words n zero v e at has spent = absurd (subst (λ (z : View). Has e z.own) (sym (some-injective (fresh_view 0) v at)) has)
+none_spent shape words n (suc j) v e at has spent = absurd (no_entry n j v e at has)
+
+first_not : (here : Here) (o : Option Call) (e : Engine) → engine_for here o ≡ Some e → IsAtSpent e.op → ⊥
+first_not here None e is f = none-some e is
+first_not here (Some call) e is f = not_begun here call (subst (λ (z : Engine). IsAtSpent z.op) (sym (same_Some (begun here call) e is)) f)
+
+none_at_spent : (shape : Shape) (version number : ℕ) (scripts : List (List Call)) (j : ℕ) (c : Caller) (e : Engine)
+    → slice_get (callers_from shape version number scripts) j ≡ Some c → c.engine ≡ Some e → IsAtSpent e.op → ⊥
+none_at_spent shape version number [] j c e at runs f = none-some c at
+none_at_spent shape version number (calls ∷ scripts) zero c e at runs f =
+    let here : Here = record { geometry = shape; version = version; caller = number } in
+    first_not here (slice_get calls 0) e (ap (λ (z : Caller). z.engine) (same_Some (fresh here calls) c at) ∙ runs) f
+none_at_spent shape version number (calls ∷ scripts) (suc j) c e at runs f = none_at_spent shape version (suc number) scripts j c e at runs f
+
 pub core_begins : BeginsSuited → CoreBegins
 core_begins begins site start core version scripts quiet words is = record {
   views = replicate (length scripts) (fresh_view 1);
@@ -80,6 +101,8 @@ core_begins begins site start core version scripts quiet words is = record {
   no_notes = quiet.no_notes;
   fenced = quiet.fenced;
   full = none_had site (length scripts);
+  spent = none_spent site.shape core.words (length scripts);
+  at_spent = λ j c e at runs f. absurd (none_at_spent site.shape version 1 scripts j c e (subst (λ callers. slice_get callers j ≡ Some c) is at) runs f);
   each = subst (λ callers. AllZip (CallerFits site) callers (replicate (length scripts) (fresh_view 1))) (sym is)
       (all_fit begins site quiet.well.holds.site_is version 1 scripts words);
 }

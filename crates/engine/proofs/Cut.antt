@@ -1,5 +1,5 @@
 -- The replies that the callers were told are a history: those that are not told yet are cut off.
-use Rattle.std.proofs.Common.{◌≡◌, ℕ, zero, suc, ◌+◌, ◌≤◌, ◌&&◌, eqb, Bool, true, false, cond, List, [], ◌∷◌, ◌++◌, length, filter, map, Option, None, Some, inl, inr, refl, sym, ap, ◌∙◌, subst, arith}
+use Rattle.std.proofs.Common.{◌⊎◌, ◌^◌, ◌≡◌, ℕ, zero, suc, ◌+◌, ◌≤◌, ◌&&◌, eqb, Bool, true, false, cond, List, [], ◌∷◌, ◌++◌, length, filter, map, Option, None, Some, inl, inr, refl, sym, ap, ◌∙◌, subst, arith}
 use mathlib.Core.Option.{some-injective, some-ne-none}
 use Rattle.std.specs.List.{AllByRecursion, AllZip}
 use Rattle.std.proofs.lemmas.List.Elements.{filter-append}
@@ -7,12 +7,14 @@ use Rattle.image_layout.specs.Places.{Shape}
 use Rattle.map_model.specs.ByPlaces.{map_at}
 use Rattle.map_model.proofs.Elements.{Has as IsIn, All-from_each, Has-append_cases}
 use Rattle.session.specs.Session.{HadNoRoom}
+use Rattle.map_model.specs.declared.entry.Reply.TheVariants.{Spent}
+use Rattle.engine.specs.Good.{HasSpentLock}
 use Rattle.engine.proofs.Refusals.{one_fails, same_below}
 use Rattle.std.specs.FinMap.{get}
 use Rattle.trace.specs.Events.{Words}
 use Rattle.map_model.specs.declared.entry.Entry.{Entry}
 use Rattle.map_model.specs.Map.{Map}
-use Rattle.map_model.specs.Weave.{all_of, weave, drew_at}
+use Rattle.map_model.specs.Weave.{all_of, draws, weave, drew_at}
 use Rattle.map_model.specs.Legal.{InOrder, IsLegal, seen_of, seen_after, replay}
 use Rattle.session.specs.Callers.{with_open, history_of}
 use Rattle.world.specs.Site.{Site}
@@ -23,7 +25,7 @@ use Rattle.world.specs.World.{fresh_view}
 use Rattle.world.specs.Laws.{EntriesAreLegal}
 use Rattle.world.proofs.Entries.{count_more, seen_of_more}
 use Rattle.engine.specs.Core.{Caller, Core, open_of, told_of, histories}
-use Rattle.engine.specs.Holding.{all_own, FullHad, HasUntold, HasEntries, DoesCall, CallerFits}
+use Rattle.engine.specs.Holding.{HadSpent, all_own, FullHad, HasUntold, HasEntries, DoesCall, CallerFits}
 
 -- ---- one caller
 told_or_open : (told own : List Entry) (begun : Bool) (drew : Option Entry) → (begun ≡ false → drew ≡ None) → HasEntries told drew own
@@ -170,6 +172,22 @@ told_had site core views each had opening same =
     (ap (replay opening) (same_below (all_own views) (all_own others) e.place
     (λ m low. all_filter (drew_at m) (λ x q. ap (λ b. b && eqb x.place m) q) views others fits)))
     (had opening same (suc w.0) c.0 e c.1 (cut_has c.0 w.1 c.2 e w.3))))
+
+abbrev pub SpentAll : Shape → Words → List (List Entry) → Type 0
+SpentAll shape words lists = AllByRecursion (λ e. e.reply ≡ Spent → (2 ^ 63 ≤ draws (all_of lists)) ⊎ HasSpentLock shape words) (all_of lists)
+
+pub told_spent : (site : Site) (core : Core) (views : List View) → AllZip (CallerFits site) core.callers views → HadSpent site.shape core.words (fresh_view 0 ∷ views)
+    → SpentAll site.shape core.words (histories core)
+told_spent site core views each had =
+    let others = all_cut core.callers views in
+    let fits = cuts site core.callers views each in
+    subst (λ lists. SpentAll site.shape core.words lists) (own_of_cut site core.callers views each)
+    (All-from_each (λ e. e.reply ≡ Spent → (2 ^ 63 ≤ draws (all_own others)) ⊎ HasSpentLock site.shape core.words) (all_own others) (λ e is_in spent.
+    let w = whose others e is_in in
+    let c = cut_at views others w.0 w.1 fits w.2 in
+    subst (λ n. (2 ^ 63 ≤ n) ⊎ HasSpentLock site.shape core.words)
+    (ap length (all_filter (λ (x : Entry). x.drew) (λ x q. q) views others fits))
+    (had (suc w.0) c.0 e c.1 (cut_has c.0 w.1 c.2 e w.3) spent)))
 
 -- an empty list in front says nothing
 abbrev pub IsLegalWith : Map → Log → (ℕ → Option ℕ) → List (List Entry) → Type 0

@@ -37,7 +37,7 @@ use Rattle.engine.proofs.Planned.{none_has}
 use Rattle.engine.proofs.Planned.{planned_is}
 use Rattle.engine.proofs.Places.{one_more}
 use Rattle.engine.proofs.Scripted.{all_follow}
-use Rattle.engine.proofs.Cut.{told_had, told_legal, IsLegalWith}
+use Rattle.engine.proofs.Cut.{told_had, told_spent, told_legal, IsLegalWith}
 
 -- what the tables' law says
 abbrev pub TablesFollow : Type 0
@@ -198,6 +198,7 @@ module _ (legal : EntriesAreLegal) (leaves : DeviceLeaves) (follow : TablesFollo
     legal = told.0;
     media = record { sound = is_sound; left = left_at };
     had_no_room = told_had site core h.views h.each h.full opening same;
+    spent = told_spent site core h.views h.each h.spent;
   }
 
 pub holding_is_good : EntriesAreLegal → DeviceLeaves → TablesFollow → PairsAreFound → HoldingIsGood

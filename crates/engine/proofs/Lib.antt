@@ -22,3 +22,4 @@ mod NoRoom
 mod Refusals
 mod SpentLocks
 mod Spending
+mod CutSession

@@ -1,6 +1,6 @@
 -- An event keeps it that each reply that a number is spent has its cause.
-use Rattle.std.proofs.Common.{◌≡◌, ℕ, zero, suc, ◌+◌, ◌%◌, ◌^◌, ◌<◌, ◌≤◌, ◌⊎◌, eqb, nat_le, nat_lt, Bool, true, false, cond, List, [], ◌∷◌, ◌++◌, length, filter, slice_get, slice_set, Option, None, Some, inl, inr, refl, sym, ap, ◌∙◌, subst, arith, length-append}
-use mathlib.Core.Option.{some-injective, some-ne-none}
+use Rattle.std.proofs.Common.{◌≡◌, ℕ, zero, suc, ◌+◌, ◌%◌, ◌^◌, ◌≤◌, ◌⊎◌, eqb, nat_le, nat_lt, Bool, true, false, cond, List, [], ◌∷◌, ◌++◌, length, filter, slice_get, slice_set, Option, None, Some, inl, inr, refl, sym, ap, ◌∙◌, subst, arith, length-append}
+use mathlib.Core.Option.{some-injective}
 use Rattle.std.proofs.lemmas.Bool.{ltb-false}
 use Rattle.std.proofs.lemmas.Option.{none-some, same_Some}
 use Rattle.std.proofs.lemmas.List.Elements.{filter-append}
@@ -8,7 +8,6 @@ use Rattle.op_core.specs.declared.want.Want.{Want}
 use Rattle.op_core.specs.declared.want.Want.TheVariants as want
 use Rattle.trace.specs.Events.{Words}
 use Rattle.image_layout.specs.Places.{Shape}
-use Rattle.image_layout.specs.Volatile.{counter_word}
 use Rattle.map_model.specs.declared.call.Call.{Call}
 use Rattle.map_model.specs.declared.call.Call.TheVariants.{Get, Insert, Update, Remove}
 use Rattle.map_model.specs.declared.entry.Reply.{Reply}
@@ -187,8 +186,8 @@ totals_grow (w ∷ views) (suc j) v change at more = let r = totals_grow views j
 
 -- ---- an event
 module _ (site : Site) (e : Engine) (words after : Words) (views : List View) (j : ℕ) (v : View) (h : Holds site words views) (at : At views j v)
-  (wants : wanted e ≡ wanted_by site.shape (kind_of e (finds site e words))) (stays : HasSpentLock site.shape words → HasSpentLock site.shape after)
-  (now : IsAtSpent e.op → HasSpentLock site.shape words) (had : HadSpent site.shape words views) where
+    (wants : wanted e ≡ wanted_by site.shape (kind_of e (finds site e words))) (stays : HasSpentLock site.shape words → HasSpentLock site.shape after)
+    (now : IsAtSpent e.op → HasSpentLock site.shape words) (had : HadSpent site.shape words views) where
   abbrev n : ℕ
   n = finds site e words
 

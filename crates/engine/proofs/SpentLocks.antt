@@ -1,6 +1,6 @@
 -- A change that is to say that a number is spent has found a lock word of the last version, and that word stays.
-use Rattle.std.proofs.Common.{◌≡◌, ◌≢◌, ℕ, ◌+◌, ◌-◌, ◌*◌, ◌/◌, ◌%◌, ◌^◌, ◌<◌, ◌≤◌, ◌⊎◌, eqb, nat_le, nat_lt, Bool, true, false, cond, List, Option, None, Some, inl, inr, refl, sym, ap, ◌∙◌, subst, arith, mod-lt}
-use Rattle.std.proofs.lemmas.Bool.{cases_eq, eq-eqb, ne_eqb, lt-ltb}
+use Rattle.std.proofs.Common.{◌≡◌, ◌≢◌, ℕ, ◌+◌, ◌-◌, ◌/◌, ◌%◌, ◌^◌, ◌<◌, ◌⊎◌, eqb, nat_le, nat_lt, Bool, true, false, cond, List, Option, None, Some, inl, inr, refl, sym, ap, ◌∙◌, subst, arith, mod-lt}
+use Rattle.std.proofs.lemmas.Bool.{cases_eq, ne_eqb, lt-ltb}
 use Rattle.op_core.specs.declared.want.Want.{Want}
 use Rattle.op_core.specs.declared.want.Want.TheVariants as want
 use Rattle.op_core.specs.declared.want.Ans.{Ans}
@@ -9,7 +9,7 @@ use Rattle.hash_word.specs.Hash.{home_of, probing_of}
 use Rattle.trace.specs.Events.{Words, with_word, after}
 use Rattle.trace.specs.Events.Event.{loaded, exchanged}
 use Rattle.trace.proofs.Replaced.{replaced_other}
-use Rattle.image_layout.specs.Places.{Shape, root_word, bucket_at}
+use Rattle.image_layout.specs.Places.{root_word, bucket_at}
 use Rattle.image_layout.specs.Volatile.{counter_word}
 use Rattle.map_model.specs.declared.call.Call.{Call}
 use Rattle.map_model.specs.declared.call.Call.TheVariants.{Get, Insert, Update, Remove}
@@ -36,13 +36,13 @@ use Rattle.write_op.specs.declared.machine.WriteOp.{WriteOp}
 use Rattle.write_op.specs.Slots.{slot_with, slot_free}
 use Rattle.write_op.specs.Ways.{block, bucket_of, lock_word, sight_of}
 use Rattle.write_op.specs.Wanted.{wanted_of}
-use Rattle.write_op.specs.Taken.{give_up, after_head, after_look, after_loss, again, inserting, changing, decided, after_count, made, gave_back, step_after, taken as write_taken}
+use Rattle.write_op.specs.Taken.{give_up, after_head, after_look, after_loss, inserting, changing, decided, made, step_after, taken as write_taken}
 use Rattle.write_op.specs.Suits.{SuitsStep}
 use Rattle.engine.specs.declared.engine.Op.{Op}
 use Rattle.engine.specs.declared.engine.Op.TheVariants.{Read, Write}
 use Rattle.engine.specs.declared.engine.Engine.{Engine}
-use Rattle.engine.specs.Engine.{begun, wanted, taken, wanted_by_op, taken_by_op, op_of, go_on_at, go_on}
-use Rattle.engine.specs.Fits.{SuitsOp, Suits, finds, next_engine}
+use Rattle.engine.specs.Engine.{begun, wanted, wanted_by_op, taken_by_op, go_on_at}
+use Rattle.engine.specs.Fits.{SuitsOp, Suits, next_engine}
 use Rattle.engine.specs.Asks.{LeavesSpent, KeepsSpent}
 use Rattle.engine.specs.Good.{HasSpentLock}
 use Rattle.engine.specs.Holding.{IsSpentStep, IsAtSpent}
@@ -146,8 +146,8 @@ lock_at site good t k side place first = (
   bucket_of side t.hash,
   near side t.hash,
   ap (λ s. block t.site.geometry s (bucket_of side t.hash)) first
-  ∙ (ap (λ g. block g 0 (bucket_of side t.hash)) place
-  ∙ ap (λ b. cond b (bucket_at site.shape 0 (bucket_of side t.hash)) root_word)
+      ∙ (ap (λ g. block g 0 (bucket_of side t.hash)) place
+      ∙ ap (λ b. cond b (bucket_at site.shape 0 (bucket_of side t.hash)) root_word)
       (lt-ltb 0 site.shape.segments (let one = good.front.one_segment in omega (arith, one)))),
 )
 

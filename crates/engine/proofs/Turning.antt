@@ -28,11 +28,14 @@ use Rattle.engine.specs.declared.engine.Engine.{Engine}
 use Rattle.engine.specs.Engine.{taken, wanted, end_of, reply_of_end, kind_of}
 use Rattle.engine.specs.Fits.{IsWordCall, Suits, HasEnded, EntersReply, BeginsSuited, finds, next_engine, StepsWell, KeepsSuits}
 use Rattle.engine.specs.Core.{Caller, Core, call_at, current, engine_for, entry_of, drawn_by, ended, settled, answered, with_event, turn_of_call, turn_of_caller, turn}
-use Rattle.engine.specs.Asks.{AsksWords, KeepsNotes, FullIsKnown}
+use Rattle.engine.specs.Asks.{AsksWords, KeepsNotes, FullIsKnown, KeepsSpent}
+use Rattle.engine.specs.Good.{HasSpentLock}
+use Rattle.engine.proofs.SpentLocks.{spent_by, spent_stays}
+use Rattle.engine.proofs.Spending.{spent_after, settled_at, set_cases}
 use Rattle.map_model.specs.declared.call.Call.TheVariants.{Get, Insert, Update, Remove}
 use Rattle.write_op.specs.Wanted.{key_for}
 use Rattle.engine.proofs.Refusals.{had_after}
-use Rattle.engine.specs.Holding.{HasEntries, IsCalling, DoesCall, CallerFits, world_of, CoreHolds, CallsStay, TurnKeeps, RunKeeps}
+use Rattle.engine.specs.Holding.{IsAtSpent, HasEntries, IsCalling, DoesCall, CallerFits, world_of, CoreHolds, CallsStay, TurnKeeps, RunKeeps}
 use Rattle.engine.proofs.Unnoted.{stay_unnoted}
 use Rattle.engine.proofs.Planned.{planned_is, at_most_one}
 use Rattle.engine.proofs.Told.{entries_after}
@@ -228,13 +231,13 @@ key_is (Update key value) = refl
 key_is (Remove key) = refl
 
 -- ---- the core
-module _ (begins : BeginsSuited) (keeps : KeepsSuits) (are_words : AsksWords) (keep_notes : KeepsNotes) (known : FullIsKnown) (steps : KeepsWell) (one_word : ChangesOneWord)
+module _ (begins : BeginsSuited) (keeps : KeepsSuits) (are_words : AsksWords) (keep_notes : KeepsNotes) (known : FullIsKnown) (keep_spent : KeepsSpent) (steps : KeepsWell) (one_word : ChangesOneWord)
     (site : Site) (start : Words) (core : Core) (h : CoreHolds site start core) where
   now_fits : (i : ℕ) → core.words i < 2 ^ 64
   now_fits i = subst (λ x. x < 2 ^ 64) (value_at_now start core.trace i ∙ sym (ap (λ (ws : Words). ws i) h.well.words_are)) (h.fits i (length core.trace))
 
   module _ (j : ℕ) (c : Caller) (is : slice_get core.callers j ≡ Some c) (v : View) (at : At h.views j v) (fits : CallerFits site c v) where
-    module _ (e : Engine) (calling : IsCalling site c e v) where
+    module _ (e : Engine) (is_engine : c.engine ≡ Some e) (calling : IsCalling site c e v) where
       abbrev n : ℕ
       n = finds site e core.words
 
@@ -278,6 +281,23 @@ module _ (begins : BeginsSuited) (keeps : KeepsSuits) (are_words : AsksWords) (k
           (let l = at_most_one site c.site calling.call calling.before (view_after site.shape kind n v) (next_engine site e core.words) s in
           subst (λ (es : List Entry). length (view_after site.shape kind n v).own ≤ suc (length es)) calling.own_before l)))
 
+      stays_spent : HasSpentLock site.shape core.words → HasSpentLock site.shape core_after.words
+      stays_spent = spent_stays keep_spent site c.site calling.call e core.words (fresh_view 0 ∷ h.views) (suc j) (suc j) calling.before v h.well.holds at calling.suits
+
+      now_spent : IsAtSpent e.op → HasSpentLock site.shape core.words
+      now_spent = h.at_spent j c e is is_engine
+
+      at_spent_after : (i : ℕ) (d : Caller) (x : Engine) → slice_get core_after.callers i ≡ Some d → d.engine ≡ Some x → IsAtSpent x.op → HasSpentLock site.shape core_after.words
+      at_spent_after i d x at_i runs f = elim (set_cases core.callers j i (answered c calling.call e (answer_to (wanted e) n)) d at_i) [
+        | inl here ↦ elim (spent_by site c.site calling.call calling.before v core.words h.well.holds.site_is e calling.suits
+            (settled_at (record c { drew = drawn_by c calling.call (answer_to (wanted e) n) }) calling.call (next_engine site e core.words) (wanted (next_engine site e core.words)) x
+            (ap (λ (z : Caller). z.engine) here.1 ∙ runs) f)) [
+              | inl old ↦ stays_spent (now_spent old)
+              | inr lock ↦ stays_spent lock
+            ]
+        | inr there ↦ stays_spent (h.at_spent i d x there runs f)
+      ]
+
       stepped : CoreHolds site start core_after
       stepped = record {
         views = after;
@@ -287,21 +307,23 @@ module _ (begins : BeginsSuited) (keeps : KeepsSuits) (are_words : AsksWords) (k
         no_notes = stay_unnoted site e core.words (fresh_view 0 ∷ h.views) (suc j) v h.well.holds at (λ b within. keep_notes site c.site calling.call e calling.before v b h.well.holds.site_is calling.suits within) (suc j) h.no_notes;
         full = had_after known site c.site calling.call (subst (λ k. k < 2 ^ 64) (key_is calling.call) (fits.words (length c.entries) calling.call calling.is_current).0) e core.words
             (fresh_view 0 ∷ h.views) (suc j) calling.before v h.well.holds now_fits at calling.suits well_step.wants h.full;
+        spent = spent_after site e core.words core_after.words (fresh_view 0 ∷ h.views) (suc j) v h.well.holds at well_step.wants stays_spent now_spent h.spent;
+        at_spent = at_spent_after;
         fenced = fenced_still site.shape (wanted e) n j core.trace ∙ h.fenced;
         each = zip_set (CallerFits site) core.callers h.views j (answered c calling.call e (answer_to (wanted e) n)) v (view_after site.shape kind n) h.each at caller_after;
       }
 
-    by_engine : (engine : Option Engine) → DoesCall site c engine v → CoreHolds site start (turn_of_call site.shape j core c (current c) engine)
-    by_engine None through = subst (λ o. CoreHolds site start (turn_of_call site.shape j core c o None)) (sym through.no_call) h
-    by_engine (Some e) calling = subst (λ o. CoreHolds site start (turn_of_call site.shape j core c o (Some e))) (sym calling.is_current) (stepped e calling)
+    by_engine : (engine : Option Engine) → c.engine ≡ engine → DoesCall site c engine v → CoreHolds site start (turn_of_call site.shape j core c (current c) engine)
+    by_engine None is_engine through = subst (λ o. CoreHolds site start (turn_of_call site.shape j core c o None)) (sym through.no_call) h
+    by_engine (Some e) is_engine calling = subst (λ o. CoreHolds site start (turn_of_call site.shape j core c o (Some e))) (sym calling.is_current) (stepped e is_engine calling)
 
   by_caller : (j : ℕ) (o : Option Caller) → slice_get core.callers j ≡ o → CoreHolds site start (turn_of_caller site.shape j core o)
   by_caller j None is = h
-  by_caller j (Some c) is = let z = zip_at (CallerFits site) core.callers h.views j c h.each is in by_engine j c is z.0 z.1 z.2 c.engine z.2.does
+  by_caller j (Some c) is = let z = zip_at (CallerFits site) core.callers h.views j c h.each is in by_engine j c is z.0 z.1 z.2 c.engine refl z.2.does
 
   turned : (c : ℕ) → CoreHolds site start (turn site.shape c core)
   turned zero = h
   turned (suc j) = by_caller j (slice_get core.callers j) refl
 
-pub turn_keeps : BeginsSuited → KeepsSuits → AsksWords → KeepsNotes → FullIsKnown → KeepsWell → ChangesOneWord → TurnKeeps
-turn_keeps begins keeps are_words keep_notes known steps one_word site start core c h = turned begins keeps are_words keep_notes known steps one_word site start core h c
+pub turn_keeps : BeginsSuited → KeepsSuits → AsksWords → KeepsNotes → FullIsKnown → KeepsSpent → KeepsWell → ChangesOneWord → TurnKeeps
+turn_keeps begins keeps are_words keep_notes known keep_spent steps one_word site start core c h = turned begins keeps are_words keep_notes known keep_spent steps one_word site start core h c

@@ -1,11 +1,12 @@
 -- When the core is good: the replies of all callers are one legal history, and whatever a power cut may leave is sound and
 -- holds that history's map, open calls whole or absent.
-use Rattle.std.specs.Prelude.{◌-◌, ◌^◌, ◌≡◌, ℕ, List, length, map, slice_index}
+use Rattle.std.specs.Prelude.{◌≤◌, ◌⊎◌, ◌-◌, ◌^◌, ◌≡◌, ℕ, List, length, map, slice_index}
 use Rattle.std.specs.List.{AllByRecursion, AllZip}
 use Rattle.trace.specs.Events.{Words}
 use Rattle.trace.specs.Media.{IsPossible}
 use Rattle.map_model.specs.Map.{Map}
-use Rattle.map_model.specs.Weave.{all_of, weave}
+use Rattle.map_model.specs.Weave.{all_of, draws, weave}
+use Rattle.map_model.specs.declared.entry.Reply.TheVariants.{Spent}
 use Rattle.map_model.specs.ByPlaces.{map_at}
 use Rattle.session.specs.Session.{HadNoRoom}
 use Rattle.map_model.specs.Legal.{IsLegal, replay}
@@ -36,3 +37,5 @@ pub record IsGood (shape : Shape) (start : Words) (opening : Map) (core : Core) 
   pub media : MediaAreGood shape start opening core
   -- each insert that was refused for want of room had 14 keys in the map at its place
   pub had_no_room : AllByRecursion (λ e. HadNoRoom shape (map_at opening (all_of (histories core)) e.place) e) (all_of (histories core))
+  -- where a reply is that a number is spent, 2 ^ 63 changes are drawn, or some lock word has the last version
+  pub spent : AllByRecursion (λ e. e.reply ≡ Spent → (2 ^ 63 ≤ draws (all_of (histories core))) ⊎ HasSpentLock shape core.words) (all_of (histories core))

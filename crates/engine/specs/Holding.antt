@@ -1,5 +1,5 @@
 -- What holds of the core between any two turns: the world is well, and the view of each caller fits what it runs and what it was told.
-use Rattle.std.specs.Prelude.{◌^◌, ⊤, map, take, ◌≤◌, ◌≡◌, ℕ, ◌<◌, false, Option, None, Some, List, [], ◌∷◌, ◌++◌, ◌⊎◌, length, replicate}
+use Rattle.std.specs.Prelude.{slice_get, ◌^◌, ⊤, map, take, ◌≤◌, ◌≡◌, ℕ, ◌<◌, false, Option, None, Some, List, [], ◌∷◌, ◌++◌, ◌⊎◌, length, replicate}
 use Rattle.std.specs.List.{AllByRecursion, AllZip}
 use Rattle.std.specs.FinMap.{get}
 use Rattle.restart_op.specs.Notes.{HasNoNotes}
@@ -111,6 +111,9 @@ pub record CoreHolds (site : Site) (start : Words) (core : Core) : Type 0 where
   pub fenced : pending 0 core.trace ≡ []
   pub each : AllZip (CallerFits site) core.callers views
   pub full : FullHad site (fresh_view 0 ∷ views)
+  pub spent : HadSpent site.shape core.words (fresh_view 0 ∷ views)
+  -- and where a change is to give that reply, there is such a lock word
+  pub at_spent : (j : ℕ) (c : Caller) (e : Engine) → slice_get core.callers j ≡ Some c → c.engine ≡ Some e → IsAtSpent e.op → HasSpentLock site.shape core.words
 
 -- ---- the laws
 -- A TURN of any caller, and of a number that is nobody's, keeps the core

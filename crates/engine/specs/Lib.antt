@@ -6,3 +6,4 @@ pub mod Asks
 pub mod Good
 pub mod Holding
 pub mod Laws
+pub mod Sessions

@@ -2,6 +2,7 @@
 
 ghost use Rattle.engine.specs.Holding.{CallsStay, TurnKeeps, RunKeeps, HoldingIsGood, CoreBegins};
 ghost use Rattle.engine.specs.Laws.{OpenedHolds, TurnsKeep, CallsAreScripts, TurnsAlone, ThroughIsQuiet, ThroughHasMap};
+ghost use Rattle.engine.specs.Sessions.{CutIsSession};
 
 use crate::laws;
 
@@ -17,6 +18,7 @@ pub fn turn_keeps()
     laws::stores_are_words();
     laws::stores_keep_notes();
     laws::no_room_is_full();
+    laws::spent_locks_stay();
 }
 
 /// A core that holds is good: the replies are one legal history, and whatever a power cut may leave holds its map.
@@ -66,6 +68,13 @@ pub fn through_is_quiet()
 /// The replies to a caller that runs alone are, one after another, those of a plain map.
 pub fn turns_alone()
     ensures { TurnsAlone }
+{
+    turns_keep();
+}
+
+/// A scheduled run that a power cut ends is a session: what the callers were told, and whatever words the cut may leave.
+pub fn cut_is_session()
+    ensures { CutIsSession }
 {
     turns_keep();
 }
