@@ -15,7 +15,7 @@ use Rattle.engine.specs.Laws.{opened, TurnsKeep, CallsAreScripts}
 use Rattle.engine.specs.Sessions.{CutIsSession}
 
 -- two images that say the same shape begin alike
-same_kind : (shape : Shape) (old new : List ℕ) → SaysShape shape old → SaysShape shape new → (i : ℕ) → i < 4 → slice_index new i ≡ slice_index old i
+pub same_kind : (shape : Shape) (old new : List ℕ) → SaysShape shape old → SaysShape shape new → (i : ℕ) → i < 4 → slice_index new i ≡ slice_index old i
 same_kind shape old new o n zero low = n.magic_word ∙ sym o.magic_word
 same_kind shape old new o n (suc zero) low = n.format ∙ sym o.format
 same_kind shape old new o n (suc (suc zero)) low = n.segments ∙ sym o.segments
@@ -23,7 +23,7 @@ same_kind shape old new o n (suc (suc (suc zero))) low = n.depth ∙ sym o.depth
 same_kind shape old new o n (suc (suc (suc (suc i)))) low = absurd (omega (arith, low))
 
 -- a served image has no free slot for a segment
-none_free : (shape : Shape) (words : List ℕ) → IsServedImage shape words → (s : ℕ) → s < shape.segments → state_at (frame_of shape (slice_index words)) s ≡ free → ⊥
+pub none_free : (shape : Shape) (words : List ℕ) → IsServedImage shape words → (s : ℕ) → s < shape.segments → state_at (frame_of shape (slice_index words)) s ≡ free → ⊥
 none_free shape words image s low is_free =
     let one : shape.segments ≡ 1 = (image.serves 2).one_segment refl in
     let first : s ≡ 0 = omega (arith, low, one) in

@@ -23,3 +23,4 @@ mod Refusals
 mod SpentLocks
 mod Spending
 mod CutSession
+mod CloseSession

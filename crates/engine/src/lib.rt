@@ -15,8 +15,8 @@ pub use laws::{
     stores_are_words, stores_keep_notes,
 };
 pub use turns::{
-    core_begins, cut_is_session, holding_is_good, opened_holds, through_is_quiet, turn_keeps,
-    turns_alone, turns_keep,
+    close_is_session, core_begins, cut_is_session, holding_is_good, opened_holds, through_is_quiet,
+    turn_keeps, turns_alone, turns_keep,
 };
 
 #[cfg(test)]

@@ -2,7 +2,7 @@
 
 ghost use Rattle.engine.specs.Holding.{CallsStay, TurnKeeps, RunKeeps, HoldingIsGood, CoreBegins};
 ghost use Rattle.engine.specs.Laws.{OpenedHolds, TurnsKeep, CallsAreScripts, TurnsAlone, ThroughIsQuiet, ThroughHasMap};
-ghost use Rattle.engine.specs.Sessions.{CutIsSession};
+ghost use Rattle.engine.specs.Sessions.{CutIsSession, CloseIsSession};
 
 use crate::laws;
 
@@ -77,4 +77,16 @@ pub fn cut_is_session()
     ensures { CutIsSession }
 {
     turns_keep();
+}
+
+/// A run that ends by a close is a session: each call has its reply, and the one image that is left has the map's pairs.
+pub fn close_is_session()
+    ensures { CloseIsSession }
+{
+    turns_keep();
+    opened_holds();
+    turn_keeps();
+    through_is_quiet();
+    restart_op::restart_begins();
+    restart_op::close_keeps();
 }
