@@ -17,6 +17,7 @@ pub mod Chains
 pub mod CleanSegments
 pub mod Listed
 pub mod Counts
+pub mod EmptyBuckets
 pub mod Breaches
 pub mod SoundSegments
 pub mod Accepted

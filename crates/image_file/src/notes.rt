@@ -7,7 +7,7 @@ ghost use Rattle.sound_image.specs.Records.{word_in, notes_of, stashed_of, HasEx
 ghost use Rattle.image_file.specs.Noted.{IsNoteOn, matches, how_many, piece_on, noted, IsStashed, piece_in, stashed_below, IsNamed, AreNamed};
 ghost use Rattle.image_file.specs.Slots.{IsPlace};
 
-use crate::place::{HOMES, Place, SLOTS, bucket_word, is_taken};
+use crate::place::{HOMES, Place, SLOTS, bucket_word, is_empty, is_taken};
 use crate::records::hash_in;
 use image_layout::Geometry;
 
@@ -147,6 +147,9 @@ fn count_in(geometry: &Geometry, words: &[u64], s: u64, b: u8, k: u8, sought: Op
     ensures is { result ≡ how_many sought (stashed_below geometry.now (slice_index words.now) s b k 14) }
     ensures most { result ≤ 14 }
 {
+    if is_empty(geometry, words, s, HOMES + k) {
+        return 0;
+    }
     let mut count = 0;
     for slot in 0..SLOTS {
         count += count_slot(geometry, words, s, b, k, slot, sought);
