@@ -12,6 +12,7 @@ pub mod NoNotes
 pub mod EmptySound
 pub mod KeyRules
 pub mod ServedWords
+pub mod MarkedWords
 pub mod Twins
 pub mod Chains
 pub mod CleanSegments

@@ -1,5 +1,5 @@
 -- No bit of its slots is set.
-use Rattle.std.proofs.Common.{◌≡◌, ℕ, ◌+◌, ◌<◌, ◌/◌, ◌%◌, ◌^◌, ap, subst, sym, arith, slice_index}
+use Rattle.std.proofs.Common.{◌≡◌, ℕ, ◌+◌, ◌%◌, subst, sym, arith, slice_index}
 use Rattle.std.proofs.lemmas.Bool.Decides.{nat_tests}
 use Rattle.bucket_meta.specs.Bucket.{allocated}
 use Rattle.image_file.proofs.EmptyBuckets.{no_bit}
