@@ -1,4 +1,4 @@
--- A sound image that the present program serves is a served table.
+-- A sound image that the present program serves and may play is a served table.
 use Rattle.std.proofs.Common.{◌≡◌, ℕ, ◌+◌, ◌%◌, ◌^◌, ◌<◌, ◌≤◌, ◌⊎◌, refl, sym, ap, subst, ◌∙◌, arith, inl, inr, List, [], ◌∷◌, length, length-append, ⊎_elim}
 use Rattle.std.specs.Prelude.{slice_index, ◌==◌, ◌&&◌, if◌then◌else◌}
 use Rattle.std.proofs.lemmas.Bool.{cases_lt}
@@ -12,7 +12,7 @@ use Rattle.sound_image.specs.Directory.{HeadInRange}
 use Rattle.sound_image.specs.Records.{word_in, slot_key, slot_hash, HasRecord, HasOwnRecord, notes_in, notes_of, HasExactNotes}
 use Rattle.sound_image.specs.Rules.{StandsRight, IsCleanAndCurrent, CleanMeansRepaired}
 use Rattle.sound_image.specs.Image.{IsSoundImage}
-use Rattle.image_file.specs.Stage.{PassesRule8}
+use Rattle.image_file.specs.Stage.{PassesRule8, MayBePlayed}
 use Rattle.play.specs.Unstashed.{IsUnstashed}
 use Rattle.play.specs.Served.{IsTaken, IsServedBucket, HasServedHead, IsServedTable}
 use Rattle.play.proofs.Hashes.{key_hash-fits, home_of-below}
@@ -22,7 +22,7 @@ use Rattle.play.proofs.Notes.{each_empty, something_there, none_in_stash}
 bit_cases : (n : ℕ) → (n % 2 ≡ 0) ⊎ (n % 2 ≡ 1)
 bit_cases n = ⊎_elim (λ (low : n % 2 < 1). inl (omega (arith, low))) (λ (high : 1 ≤ n % 2). inr (omega (arith, high))) (cases_lt (n % 2) 1)
 
-module _ (shape : Shape) (words : List ℕ) (sound : IsSoundImage shape words) (serves : PassesRule8 shape (slice_index words)) where
+module _ (shape : Shape) (words : List ℕ) (sound : IsSoundImage shape words) (serves : PassesRule8 shape (slice_index words)) (untouched : MayBePlayed shape (slice_index words)) where
   abbrev word : ImageWords
   word = slice_index words
 
@@ -52,10 +52,10 @@ module _ (shape : Shape) (words : List ℕ) (sound : IsSoundImage shape words) (
       omega (arith, none)
 
   same_version : version_in (frame.header 0) ≡ image_version frame
-  same_version = (serves (head_at shape 0 + 1)).current 0 some refl (inl is_normal)
+  same_version = (untouched (head_at shape 0 + 1)).current 0 some refl (inl is_normal)
 
   is_current : IsCleanAndCurrent shape word 0
-  is_current = record { clean = (serves 16).clean refl; slot = some; live = inl is_normal; same_version = same_version }
+  is_current = record { clean = (untouched 16).clean refl; slot = some; live = inl is_normal; same_version = same_version }
 
   -- the entry leads to the one segment
   leads_to_first : (h s : ℕ) → LeadsToOwner frame h s → s < shape.segments
@@ -79,7 +79,7 @@ module _ (shape : Shape) (words : List ℕ) (sound : IsSoundImage shape words) (
     one_segment = one_segment;
     root = root_is;
     version_fits = ((sound.follows 1 16).one refl).version_fits refl;
-    clean = (serves 16).clean refl;
+    clean = (untouched 16).clean refl;
     entry = entry_is;
     same_version = same_version;
     is_normal = is_normal;

@@ -3,7 +3,7 @@
 ghost use Rattle.std.specs.Prelude.{◌≡◌, ◌≤◌, All, length, slice_index, IfOk};
 ghost use Rattle.script_text.specs.Calls.{IsLineSoFar};
 ghost use Rattle.sound_image.specs.Image.{IsSoundImage};
-ghost use Rattle.image_file.specs.Stage.{PassesRule8};
+ghost use Rattle.image_file.specs.Stage.{PassesRule8, MayBePlayed};
 ghost use Rattle.play.specs.Played.{IsPlay};
 
 use crate::calls::calls_of_caller;
@@ -22,6 +22,7 @@ use std::alloc::Global;
 pub fn play(alloc: Global, medium: Medium, script: &Script) -> Result<Session, NoMemory>
     requires sound { IsSoundImage medium.geometry medium.words }
     requires served { PassesRule8 medium.geometry (slice_index medium.words) }
+    requires untouched { MayBePlayed medium.geometry (slice_index medium.words) }
     requires few { length script.now ≤ 1000000 }
     requires so_far { All IsLineSoFar script.now }
     ensures played { IfOk result (IsPlay medium.geometry medium.words script.now) }

@@ -15,7 +15,7 @@ pub run-requires : goal.run-requires
 run-requires c =
     let calls : c.deref.result.now ≡ calls_of 1 c.args.script.now = c.deref.ensures.value ∙ c.in_ok-calls.ensures ∙ ap (calls_of 1) c.as_slice.ensures in
     record {
-      table = subst (IsServedTable c.args.medium.geometry) (sym c.as_mut_slice.ensures.value) (sound-IsServedTable c.args.medium.geometry c.args.medium.words c.requires.sound c.requires.served);
+      table = subst (IsServedTable c.args.medium.geometry) (sym c.as_mut_slice.ensures.value) (sound-IsServedTable c.args.medium.geometry c.args.medium.words c.requires.sound c.requires.served c.requires.untouched);
       served = subst (All IsServedCall) (sym calls) (all_served c.args.script.now c.requires.so_far);
     }
 
@@ -28,7 +28,7 @@ returns-clause-played c =
     subst (λ (cs : List Call). IsKeptRun shape first cs c.run.new.words c.in_ok-lists.lists) calls
     (subst (λ (ws : List ℕ). IsKeptRun shape ws c.deref.result.now c.run.new.words c.in_ok-lists.lists) c.as_mut_slice.ensures.value c.in_ok-lists.ensures.ran) in
     let as_long : length c.run.new.words ≡ length first = ran.run.table.whole ∙ sym c.requires.sound.whole in
-    is_play shape first c.args.script.now _ refl refl (sound-IsServedTable shape first c.requires.sound c.requires.served)
+    is_play shape first c.args.script.now _ refl refl (sound-IsServedTable shape first c.requires.sound c.requires.served c.requires.untouched)
     (subst (λ (ws : List ℕ). IsKeptRun shape first (calls_of 1 c.args.script.now) ws c.in_ok-lists.lists) (sym (lent_whole (length first) c.run.new.words first as_long)) ran)
     (λ es. refl)
 
