@@ -1,3 +1,6 @@
 pub mod State
 pub mod Run
 pub mod Running
+pub mod States
+pub mod Causes
+pub mod Alone
