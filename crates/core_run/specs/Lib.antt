@@ -4,3 +4,5 @@ pub mod Running
 pub mod States
 pub mod Causes
 pub mod Alone
+pub mod Opening
+pub mod Sessions
