@@ -7,6 +7,7 @@
 pub mod deed;
 pub mod goal;
 pub mod keeper;
+pub mod states;
 
 pub use deed::Deed;
 pub use goal::Goal;

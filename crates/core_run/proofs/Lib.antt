@@ -1,0 +1,6 @@
+mod Waits
+mod Told
+mod Turned
+mod Opened
+mod Closes
+mod Deeds
