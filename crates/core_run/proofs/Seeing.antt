@@ -105,15 +105,15 @@ module _ (site : Site) (words : Words) (v : View) (h : Holds site words (fresh_v
       held p = at_seat p.0 p.1 p.2 p.3
 
   -- ---- a get
-  module _ (key hash : ℕ) (fits : hash < 2 ^ 64) (nothing : v.held ≡ []) where
+  module _ (key hash : ℕ) (fits : hash < 2 ^ 64) (nothing : v.held ≡ []) (now : ReadStep) where
     abbrev site_here : Here
     site_here = record { geometry = site.shape; version = here.version; caller = here.caller }
 
     abbrev op : ReadOp
-    op = record { key = key; hash = hash; site = site_here; step = reads.Power }
+    op = record { key = key; hash = hash; site = site_here; step = now }
 
     abbrev Sees : ReadStep → Type 0
-    Sees s = ReadSees site.front words op s
+    Sees s = ReadSees site.front words site_here hash s
 
     entry_low : (root : ℕ) → root ≡ 0 → read_entry site_here hash root ≡ 32
     entry_low root first =
@@ -162,7 +162,7 @@ module _ (site : Site) (words : Words) (v : View) (h : Holds site words (fresh_v
     told (Some x) place = tt
 
     -- each second look finds the same
-    looks_again : (found : Found) (place : ℕ) (at : Second) → IsSeen site.front words op found.path found.free
+    looks_again : (found : Found) (place : ℕ) (at : Second) → IsSeen site.front words site_here hash found.path found.free
         → Sees (checked op found place at (words (word_of site.shape (wanted_again op found at))))
     looks_again found place again.Root i =
         so Sees (words root_word == found.path.root) (reads.Check found place again.Entry) _ (eq-eqb (words root_word) found.path.root (root_is ∙ sym i.is_path.root)) i
