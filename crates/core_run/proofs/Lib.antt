@@ -4,3 +4,6 @@ mod Turned
 mod Opened
 mod Closes
 mod Deeds
+pub mod Seeing
+pub mod Changing
+pub mod Going

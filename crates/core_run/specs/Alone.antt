@@ -5,12 +5,12 @@ use Rattle.trace.specs.Events.{Words}
 use Rattle.image_layout.specs.Places.{root_word}
 use Rattle.image_layout.specs.Volatile.{power_word}
 use Rattle.map_model.specs.declared.entry.Reply.{Reply}
+use Rattle.world.specs.declared.site.Site.{Site as Here}
 use Rattle.world.specs.Site.{Site}
 use Rattle.restart_op.specs.Closing.{left as close_left, events_of}
 use Rattle.read_op.specs.declared.step.Path.{Path}
 use Rattle.read_op.specs.declared.step.ReadStep.{ReadStep}
 use Rattle.read_op.specs.declared.step.ReadStep.TheVariants as reads
-use Rattle.read_op.specs.declared.op.ReadOp.{ReadOp}
 use Rattle.read_op.specs.Steps.{entry_word as read_entry, head_word as read_head, lock_word as read_lock}
 use Rattle.write_op.specs.declared.control.WriteEnd.{WriteEnd}
 use Rattle.write_op.specs.declared.control.Step.{Step}
@@ -28,8 +28,8 @@ use Rattle.engine.specs.Engine.{reply_of_end}
 use Rattle.engine.specs.Core.{Caller, Core}
 use Rattle.core_run.specs.declared.keeper.Keeper.{Keeper}
 use Rattle.core_run.specs.declared.keeper.Keeper.TheVariants.{Restarting, Open, Closing, Closed}
-use Rattle.core_run.specs.State.{State}
-use Rattle.core_run.specs.Running.{Task, site_in}
+use Rattle.core_run.specs.State.{State, Deed, deed, beginning}
+use Rattle.core_run.specs.Running.{Task, IsTask, site_in, start_of, IsRunning}
 
 -- an attempt ended with a reply
 abbrev pub IsReply : Option (Reply × ℕ) → Type 0
@@ -42,27 +42,27 @@ EndsCall end = IsReply (reply_of_end end)
 -- ---- what an engine saw, by the words in front and the newest words
 module _ (front words : Words) where
   -- a get: the path that it saw is that of the words in front
-  pub record IsPath (op : ReadOp) (path : Path) : Type 0 where
+  pub record IsPath (here : Here) (hash : ℕ) (path : Path) : Type 0 where
     pub root : path.root ≡ front root_word
-    pub segment : path.segment ≡ front (read_entry op.site op.hash path.root)
-    pub head : path.head ≡ front (read_head op.site path.segment)
+    pub segment : path.segment ≡ front (read_entry here hash path.root)
+    pub head : path.head ≡ front (read_head here path.segment)
 
   -- and the free value of the lock word is what that has now
-  pub record IsSeen (op : ReadOp) (path : Path) (free : ℕ) : Type 0 where
-    pub is_path : IsPath op path
+  pub record IsSeen (here : Here) (hash : ℕ) (path : Path) (free : ℕ) : Type 0 where
+    pub is_path : IsPath here hash path
     pub even : free % 2 ≡ 0
-    pub same : free ≡ words (read_lock op.site op.hash path.segment)
+    pub same : free ≡ words (read_lock here hash path.segment)
 
-  abbrev pub ReadSees : ReadOp → ReadStep → Type 0
-  ReadSees op reads.Power = ⊤
-  ReadSees op reads.Root = ⊤
-  ReadSees op (reads.Entry root) = root ≡ front root_word
-  ReadSees op (reads.Head root segment) = (root ≡ front root_word) × (segment ≡ front (read_entry op.site op.hash root))
-  ReadSees op (reads.Lock path) = IsPath op path
-  ReadSees op (reads.Fill path free seen next) = IsSeen op path free
-  ReadSees op (reads.Count found) = IsSeen op found.path found.free
-  ReadSees op (reads.Check found place at) = IsSeen op found.path found.free
-  ReadSees op (reads.Ended end) = EndsCall (ends.Read end)
+  abbrev pub ReadSees : Here → ℕ → ReadStep → Type 0
+  ReadSees here hash reads.Power = ⊤
+  ReadSees here hash reads.Root = ⊤
+  ReadSees here hash (reads.Entry root) = root ≡ front root_word
+  ReadSees here hash (reads.Head root segment) = (root ≡ front root_word) × (segment ≡ front (read_entry here hash root))
+  ReadSees here hash (reads.Lock path) = IsPath here hash path
+  ReadSees here hash (reads.Fill path free seen next) = IsSeen here hash path free
+  ReadSees here hash (reads.Count found) = IsSeen here hash found.path found.free
+  ReadSees here hash (reads.Check found place at) = IsSeen here hash found.path found.free
+  ReadSees here hash (reads.Ended end) = EndsCall (ends.Read end)
 
   -- a change: its way is that of the words in front
   pub record IsWay (t : Change) (k : Kept) : Type 0 where
@@ -83,7 +83,7 @@ module _ (front words : Words) where
   WriteSees t k s = ⊤
 
   abbrev pub OpSees : Op → Type 0
-  OpSees (Read op) = ReadSees op op.step
+  OpSees (Read op) = ReadSees op.site op.hash op.step
   OpSees (Write op) = WriteSees op.task op.kept op.step
 
   abbrev pub EngineSees : Option Engine → Type 0
@@ -105,3 +105,22 @@ IsAloneBy t Closed core = ⊤
 -- THE CALLER IS ALONE, beside a state of a run
 abbrev pub IsAlone : Task → State → Type 0
 IsAlone t s = IsAloneBy t s.keeper s.core
+
+-- what is run is one script
+pub record IsForOne (t : Task) : Type 0 where
+  pub task : IsTask t
+  pub one : length t.scripts ≡ 1
+
+-- ---- the laws of one event
+-- it is so at the beginning
+abbrev pub BeginsAlone : Type 0
+BeginsAlone = (t : Task) → IsForOne t → IsAlone t (beginning t.shape (start_of t) t.scripts)
+
+-- each event keeps it
+abbrev pub AloneStays : Type 0
+AloneStays = (t : Task) (c : ℕ) (s : State) (d : Deed) → IsForOne t → IsRunning t s → IsAlone t s → deed t.shape c s ≡ Some d → IsAlone t d.state
+
+-- and an attempt that ends has its reply
+abbrev pub AloneReplies : Type 0
+AloneReplies = (t : Task) (c : ℕ) (s : State) (d : Deed) (end : End) → IsForOne t → IsRunning t s → IsAlone t s → deed t.shape c s ≡ Some d → d.end ≡ Some end
+    → EndsCall end
