@@ -1,0 +1,4 @@
+mod FirstSlot
+mod Different
+mod WithoutEntries
+mod CausesBegin
