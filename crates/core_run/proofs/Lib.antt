@@ -7,3 +7,7 @@ mod Deeds
 pub mod Seeing
 pub mod Changing
 pub mod Going
+mod FirstSlot
+mod Different
+mod WithoutEntries
+mod CausesBegin

@@ -4,6 +4,7 @@
 //! that runs on a memory answers to these definitions.
 #![tactic(auto)]
 
+pub mod causes;
 pub mod deed;
 pub mod goal;
 pub mod keeper;
