@@ -1,5 +1,5 @@
 -- The words that a cut leaves are those of a possible medium.
-use Rattle.std.proofs.Common.{◌≡◌, ℕ, ◌+◌, ◌<◌, ◌⊎◌, List, length, map, refl, sym, ap, ◌∙◌, subst, inl, inr, Some}
+use Rattle.std.proofs.Common.{◌≡◌, ℕ, ◌<◌, ◌⊎◌, List, length, map, arith, sym, ap, ◌∙◌, inl, inr}
 use Rattle.std.specs.Prelude.{slice_index}
 use Rattle.std.specs.List.{range_with_len}
 use Rattle.std.proofs.lemmas.List.FromFn.{get_or-map-range_with_len, length-map-range_with_len}
@@ -13,11 +13,10 @@ use Rattle.pm_trace.specs.Choice.{chosen}
 use Rattle.pm_trace.proofs.Chosen.{chosen_is_either, chosen_length}
 use Rattle.image_layout.specs.Places.{Shape, words_of}
 use Rattle.engine.specs.Core.{Core}
-use Rattle.core_run.specs.Run.{medium_words}
 
 -- the words of an image, by their numbers, as a list
 listed : (words : Words) (width i : ℕ) → i < width → slice_index (map words (range_with_len 0 width)) i ≡ words i
-listed words width i within = get_or-map-range_with_len words 0 width i i 0 within refl
+listed words width i within = get_or-map-range_with_len words 0 width i i 0 within (omega arith)
 
 pub words_listed : (shape : Shape) (words : Words) (i : ℕ) → i < words_of shape → slice_index (map words (range_with_len 0 (words_of shape))) i ≡ words i
 words_listed shape words i within = listed words (words_of shape) i within

@@ -11,3 +11,8 @@ mod FirstSlot
 mod Different
 mod WithoutEntries
 mod CausesBegin
+mod Opening
+mod Along
+mod Leaving
+mod Newest
+mod OneSession

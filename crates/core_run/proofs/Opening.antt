@@ -19,7 +19,7 @@ use Rattle.image_file.specs.Stage.{segments_word}
 use Rattle.restart_op.specs.Restarted.{IsServedImage}
 use Rattle.sound_image.specs.Image.{IsSoundImage}
 use Rattle.sound_image.specs.Segments.{ImageWords, Frame, frame_of, depth_at, IsLive, IsLiveFor, Owns}
-use Rattle.sound_image.specs.Records.{word_in, slot_key, slot_value, slot_hash, HasRecord, HasOwnRecord, HasPair, HasAt}
+use Rattle.sound_image.specs.Records.{word_in, slot_key, slot_value, HasRecord, HasPair, HasAt}
 use Rattle.sound_image.specs.Left.{HasPairsOf}
 use Rattle.core_run.specs.Opening.{map_below, opening_of}
 

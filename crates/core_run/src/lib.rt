@@ -8,6 +8,7 @@ pub mod causes;
 pub mod deed;
 pub mod goal;
 pub mod keeper;
+pub mod sessions;
 pub mod states;
 
 pub use deed::Deed;

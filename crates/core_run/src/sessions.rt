@@ -1,0 +1,10 @@
+//! A run of one script is a session. The function does nothing: it stands for the law that its contract says.
+
+ghost use Rattle.core_run.specs.Sessions.{RunsAreSessions};
+
+/// A run of one caller's script over an image that the program serves is a session: what its caller was told follows the script
+/// and is one legal history of a plain map; the image that is left is sound and has that history's map, the open call whole or
+/// absent, and is closed where the script has no cut; and each refusal had its cause.
+pub fn runs_are_sessions()
+    ensures { RunsAreSessions }
+{}
