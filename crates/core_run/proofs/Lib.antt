@@ -1,3 +1,5 @@
 pub mod Seeing
 pub mod Changing
 pub mod Going
+pub mod Staying
+pub mod Working

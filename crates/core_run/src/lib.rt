@@ -4,10 +4,12 @@
 //! that runs on a memory answers to these definitions.
 #![tactic(auto)]
 
+mod alone;
 pub mod deed;
 pub mod goal;
 pub mod keeper;
 
+pub use alone::alone_stays;
 pub use deed::Deed;
 pub use goal::Goal;
 pub use keeper::Keeper;
