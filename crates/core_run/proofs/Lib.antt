@@ -1,5 +1,14 @@
-pub mod Seeing
-pub mod Changing
-pub mod Going
-pub mod Staying
-pub mod Working
+mod Seeing
+mod Changing
+mod Going
+mod Staying
+mod Working
+mod Waits
+mod Told
+mod Turned
+mod Opened
+mod Closes
+mod Deeds
+mod Goods
+mod Ended
+mod Follows

@@ -2,3 +2,4 @@ pub mod State
 pub mod Run
 pub mod Running
 pub mod Alone
+pub mod States
