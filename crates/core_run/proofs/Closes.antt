@@ -127,23 +127,24 @@ module _ (few : FewWait) (t : Task) (before : Core) (o : IsOpen t before) (none 
     after = goes_on (suc k) (wanted (op_at (suc k))) refl;
   }
 
+-- the core of a close
+pub same_core : (t : Task) (op : CloseOp) (core : Core) (r : IsClosing t op core) → core ≡ record {
+  words = (close_after t.shape r.before.words r.before.trace r.events).words;
+  trace = (close_after t.shape r.before.words r.before.trace r.events).trace;
+  callers = r.before.callers;
+}
+same_core t op core r =
+    let c = close_after t.shape r.before.words r.before.trace r.events in
+    ap (λ (ws : Words). record { words = ws; trace = core.trace; callers = core.callers }) r.words_are
+    ∙ ap (λ (es : Trace). record { words = c.words; trace = es; callers = core.callers }) r.trace_is
+    ∙ ap (λ (cs : List Caller). record { words = c.words; trace = c.trace; callers = cs }) r.callers_are
+
 module _ (few : FewWait) (t : Task) where
   abbrev IsWell : CloseOp → Core → Type 0
   IsWell op core = wanted op ≢ want.Done → DeedIsWell t 0 (record { keeper = Closing op; core = core }) (close_deed t.shape op core)
-
-  pub same_core : (op : CloseOp) (core : Core) (r : IsClosing t op core) → core ≡ record {
-    words = (close_after t.shape r.before.words r.before.trace r.events).words;
-    trace = (close_after t.shape r.before.words r.before.trace r.events).trace;
-    callers = r.before.callers;
-  }
-  same_core op core r =
-      let c = close_after t.shape r.before.words r.before.trace r.events in
-      ap (λ (ws : Words). record { words = ws; trace = core.trace; callers = core.callers }) r.words_are
-      ∙ ap (λ (es : Trace). record { words = c.words; trace = es; callers = core.callers }) r.trace_is
-      ∙ ap (λ (cs : List Caller). record { words = c.words; trace = c.trace; callers = cs }) r.callers_are
 
   pub close_well : (op : CloseOp) (core : Core) → IsClosing t op core → IsWell op core
   close_well op core r =
       let c = close_after t.shape r.before.words r.before.trace r.events in
       subst (λ (p : CloseOp). IsWell p core) (sym r.op_is)
-      (subst (λ (k : Core). IsWell c.op k) (sym (same_core op core r)) (well_at few t r.before r.was_open r.run_out r.events))
+      (subst (λ (k : Core). IsWell c.op k) (sym (same_core t op core r)) (well_at few t r.before r.was_open r.run_out r.events))

@@ -3,7 +3,7 @@ use Rattle.std.proofs.Common.{◌≡◌, ◌≢◌, ℕ, zero, suc, ◌+◌, ◌
 use Rattle.std.specs.Prelude.{⊤, ◌==◌}
 use Rattle.std.specs.List.{AllByRecursion, AllZip}
 use Rattle.std.proofs.lemmas.Bool.{ne_eqb}
-use Rattle.std.proofs.lemmas.Option.{none-some, same_Some}
+use Rattle.std.proofs.lemmas.Option.{none-some, same_Some, slice_get_within}
 use Rattle.trace.specs.Events.{Words, Trace, with_word, after}
 use Rattle.trace.specs.Events.Event.{loaded, exchanged}
 use Rattle.image_layout.specs.Places.{Shape, state_word, bucket_at, words_of}
@@ -51,8 +51,11 @@ use Rattle.engine.specs.Engine.{op_of, begun, wanted, wanted_by_op, taken, taken
 use Rattle.engine.specs.Fits.{SuitsOp, Suits, KeepsSuits, StepsWell}
 use Rattle.engine.specs.Core.{Caller, Core, current, call_at, engine_for, ended, settled, answered, drawn_by, with_event}
 use Rattle.engine.specs.Holding.{IsCalling, IsThrough, DoesCall, CallerFits}
+use Rattle.core_run.specs.declared.keeper.Keeper.TheVariants.{Open}
 use Rattle.core_run.specs.State.{Deed, end_by, engine_deed, call_deed}
-use Rattle.core_run.specs.Alone.{EndsCall, ReadSees, WriteSees, OpSees, EngineSees}
+use Rattle.core_run.specs.Alone.{behind, all_behind, EndsCall, ReadSees, WriteSees, OpSees, EngineSees}
+use Rattle.engine.specs.Left.{left}
+use Rattle.core_run.proofs.Working.{Falls, BeginsLow, work_of, work, all_work, IsWorked, settled_works, is_answer}
 use Rattle.core_run.proofs.Seeing.{read_goes}
 use Rattle.core_run.proofs.Changing.{Comes, gone_on, write_goes}
 
@@ -272,15 +275,19 @@ module _ (site : Site) (words : Words) (v : View) (h : Holds site words (fresh_v
     op_sees (Write op) suits asks i = write_sees op suits i
 
   -- ---- its event
-  module _ (keeps : KeepsSuits) (few : (i : ℕ) → words i < 2 ^ 64) (trace : Trace) (c : Caller) (at_here : c.site ≡ here) where
+  module _ (keeps : KeepsSuits) (less : Falls) (first : BeginsLow) (few : (i : ℕ) → words i < 2 ^ 64) (trace : Trace) (c : Caller) (at_here : c.site ≡ here) where
     abbrev core : Core
     core = record { words = words; trace = trace; callers = c ∷ [] }
 
     -- what an event of the caller leaves
     pub record IsLeft (d : Deed) : Type 0 where
+      pub still_open : d.state.keeper ≡ Open
       pub power_on : d.state.core.words (power_word site.shape) ≡ 0
       pub sees : AllByRecursion (λ c. EngineSees site.front d.state.core.words c.engine) d.state.core.callers
       pub told : (end : End) → d.end ≡ Some end → EndsCall end
+      pub falls : all_work d.state.core.callers < work c
+      pub answers : (end : End) → d.end ≡ Some end → all_behind d.state.core.callers + 1 ≡ behind c
+      pub goes_on : d.end ≡ None → all_behind d.state.core.callers ≡ behind c
 
     module _ (e : Engine) (calling : IsCalling site c e v) (sees : OpSees site.front words e.op) where
       abbrev call : Call
@@ -298,17 +305,33 @@ module _ (site : Site) (words : Words) (v : View) (h : Holds site words (fresh_v
       next_sees : OpSees site.front (after_want (wanted e)) (taken e a).op
       next_sees = op_sees call calling.before e.op suits_here.suits suits_here.asks sees
 
-      event_left : IsLeft (engine_deed site.shape 0 core c call e)
-      event_left = record {
+      within : length c.entries < length c.calls
+      within = slice_get_within c.calls (length c.entries) call calling.is_current
+
+      next_work : IsWorked (behind c) (left e) (end_by site.shape (taken e a) (wanted (taken e a))) (answered c call e a)
+      next_work = settled_works site.shape first (record c { drew = drawn_by c call a }) call (taken e a) (left e) (wanted (taken e a))
+          (less e a (is_answer (wanted e) (words (word_of site.shape (wanted e))) suits_here.asks)) within
+          (λ done. done_told site.front (after_want (wanted e)) (taken e a).op done next_sees) refl
+
+      -- the work of the caller with this engine
+      work_is : c.engine ≡ Some e → work c ≡ left e + 56 * behind c
+      work_is is = ap (λ o. work_of o + 56 * behind c) is
+
+      event_left : c.engine ≡ Some e → IsLeft (engine_deed site.shape 0 core c call e)
+      event_left is = record {
+        still_open = refl;
         power_on = subst (λ w. after_want w (power_word site.shape) ≡ 0) (sym stepped.wants) (power_by (kind_of e (words (word_of site.shape (wanted e)))) stepped.may ∙ power);
         sees = (settled_sees site.front (after_want (wanted e)) (record c { drew = drawn_by c call a }) call (taken e a) (wanted (taken e a)) next_sees, tt);
+        falls = (let f = next_work.falls in let w = work_is is in omega (arith, f, w));
+        answers = λ end ends. (let n = next_work.answers end ends in omega (arith, n));
+        goes_on = λ none. (let n = next_work.goes_on none in omega (arith, n));
         told = ended_told site.shape site.front (after_want (wanted e)) (taken e a) (wanted (taken e a)) refl next_sees;
       }
 
-    pub caller_left : (o : Option Call) (engine : Option Engine) → current c ≡ o → DoesCall site c engine v → EngineSees site.front words engine
+    pub caller_left : (o : Option Call) (engine : Option Engine) → current c ≡ o → c.engine ≡ engine → DoesCall site c engine v → EngineSees site.front words engine
         → (d : Deed) → call_deed site.shape 0 core c o engine ≡ Some d → IsLeft d
-    caller_left None engine is does sees d e = absurd (none-some d e)
-    caller_left (Some asked) None is does sees d e = absurd (none-some d e)
-    caller_left (Some asked) (Some g) is does sees d e =
+    caller_left None engine is runs does sees d e = absurd (none-some d e)
+    caller_left (Some asked) None is runs does sees d e = absurd (none-some d e)
+    caller_left (Some asked) (Some g) is runs does sees d e =
         let same : does.call ≡ asked = same_Some does.call asked (sym does.is_current ∙ is) in
-        subst IsLeft (same_Some (engine_deed site.shape 0 core c asked g) d e) (subst (λ x. IsLeft (engine_deed site.shape 0 core c x g)) same (event_left g does sees))
+        subst IsLeft (same_Some (engine_deed site.shape 0 core c asked g) d e) (subst (λ x. IsLeft (engine_deed site.shape 0 core c x g)) same (event_left g does sees runs))

@@ -1,12 +1,14 @@
+mod Seeing
+mod Changing
+mod Going
+mod Staying
+mod Working
 mod Waits
 mod Told
 mod Turned
 mod Opened
 mod Closes
 mod Deeds
-pub mod Seeing
-pub mod Changing
-pub mod Going
 mod FirstSlot
 mod Different
 mod WithoutEntries
@@ -16,3 +18,6 @@ mod Along
 mod Leaving
 mod Newest
 mod OneSession
+mod Goods
+mod Ended
+mod Follows

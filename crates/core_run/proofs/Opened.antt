@@ -29,6 +29,18 @@ none_told t version number [] = tt
 none_told t version number (calls ∷ scripts) =
     (record { its_calls = refl; within = omega arith; drawn = λ e q. absurd (none-some e q); here = refl }, none_told t version (suc number) scripts)
 
+-- the core of a restart
+pub same_core : (t : Task) (op : RestartOp) (core : Core) (r : IsRestarting t op core) → core ≡ record {
+  words = (restarted t.shape t.first r.events).words;
+  trace = (restarted t.shape t.first r.events).trace;
+  callers = waiting_from t.shape 1 t.scripts;
+}
+same_core t op core r =
+    let c = restarted t.shape t.first r.events in
+    ap (λ (ws : Words). record { words = ws; trace = core.trace; callers = core.callers }) r.words_are
+    ∙ ap (λ (es : Trace). record { words = c.words; trace = es; callers = core.callers }) r.trace_is
+    ∙ ap (λ (cs : List Caller). record { words = c.words; trace = c.trace; callers = cs }) r.callers_are
+
 module _ (waits : EnginesWait) (t : Task) (is : IsTask t) (opens : OpenedHolds) where
   abbrev at_end : Core
   at_end = opened t.shape t.first t.scripts
@@ -85,12 +97,6 @@ module _ (waits : EnginesWait) (t : Task) (is : IsTask t) (opens : OpenedHolds) 
   }
   well_at (suc (suc (suc (suc k)))) few = absurd (omega (arith, few))
 
-  same_core : (op : RestartOp) (core : Core) (r : IsRestarting t op core) → core ≡ core_at r.events
-  same_core op core r =
-      ap (λ (ws : Words). record { words = ws; trace = core.trace; callers = core.callers }) r.words_are
-      ∙ ap (λ (es : Trace). record { words = (core_at r.events).words; trace = es; callers = core.callers }) r.trace_is
-      ∙ ap (λ (cs : List Caller). record { words = (core_at r.events).words; trace = (core_at r.events).trace; callers = cs }) r.callers_are
-
   pub restart_well : (op : RestartOp) (core : Core) → IsRestarting t op core → IsWell op core
   restart_well op core r =
-      subst (λ (o : RestartOp). IsWell o core) (sym r.op_is) (subst (λ (c : Core). IsWell (op_at r.events) c) (sym (same_core op core r)) (well_at r.events r.few))
+      subst (λ (o : RestartOp). IsWell o core) (sym r.op_is) (subst (λ (c : Core). IsWell (op_at r.events) c) (sym (same_core t op core r)) (well_at r.events r.few))

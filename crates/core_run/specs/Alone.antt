@@ -1,5 +1,5 @@
 -- One caller alone: nobody else steps, so what it saw of the memory is still so, and each of its calls ends.
-use Rattle.std.specs.Prelude.{◌≡◌, ℕ, ◌+◌, ◌%◌, ◌≤◌, ⊤, Option, None, Some, List, length}
+use Rattle.std.specs.Prelude.{◌≡◌, ℕ, ◌+◌, ◌-◌, ◌%◌, ◌≤◌, ⊤, Option, None, Some, List, [], ◌∷◌, length}
 use Rattle.std.specs.List.{AllByRecursion}
 use Rattle.trace.specs.Events.{Words}
 use Rattle.image_layout.specs.Places.{root_word}
@@ -110,6 +110,14 @@ IsAlone t s = IsAloneBy t s.keeper s.core
 pub record IsForOne (t : Task) : Type 0 where
   pub task : IsTask t
   pub one : length t.scripts ≡ 1
+
+-- so many calls have no reply yet
+abbrev pub behind : Caller → ℕ
+behind c = length c.calls - length c.entries
+
+abbrev pub all_behind : List Caller → ℕ
+all_behind [] = 0
+all_behind (c ∷ callers) = behind c + all_behind callers
 
 -- ---- the laws of one event
 -- it is so at the beginning

@@ -4,5 +4,6 @@ pub mod Running
 pub mod States
 pub mod Causes
 pub mod Alone
+pub mod Ends
 pub mod Opening
 pub mod Sessions

@@ -1,9 +1,11 @@
 //! A run of a script over the core: what each line of a schedule does, the end rule, the close and the cut.
 //!
 //! Definitions and laws. `specs/State.antt` has the state of a run and one event of it, `specs/Run.antt` the lines. A driver
-//! that runs on a memory answers to these definitions.
+//! that runs on a memory answers to these definitions. `specs/Running.antt` says what holds of a state between any two events,
+//! and `specs/States.antt` what follows of it.
 #![tactic(auto)]
 
+mod alone;
 pub mod causes;
 pub mod deed;
 pub mod goal;
@@ -11,6 +13,12 @@ pub mod keeper;
 pub mod sessions;
 pub mod states;
 
+pub use alone::alone_stays;
+pub use causes::{any_keeper_keeps, causes_begin, causes_stay, no_slot_is_free};
 pub use deed::Deed;
 pub use goal::Goal;
 pub use keeper::Keeper;
+pub use sessions::runs_are_sessions;
+pub use states::{
+    close_may_begin, closed_is_closed, deeds_are_well, moments_are_good, run_begins, tolds_follow,
+};
