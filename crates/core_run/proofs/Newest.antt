@@ -1,5 +1,5 @@
--- Each event takes the words as it does the trace, and the callers' events leave the image open.
-use Rattle.std.proofs.Common.{◌≡◌, ℕ, zero, suc, ◌-◌, ◌∷◌, Option, None, Some, refl, sym, ap, ◌∙◌, subst}
+-- Each event takes the words as it does the trace.
+use Rattle.std.proofs.Common.{◌≡◌, ℕ, zero, suc, ◌-◌, ◌∷◌, Option, None, Some, ap, subst}
 use Rattle.std.specs.Prelude.{slice_get}
 use Rattle.std.proofs.lemmas.Option.{none-some, same_Some}
 use Rattle.op_core.specs.declared.want.Want.{Want}
@@ -30,20 +30,6 @@ kept_by : (P : State → Type 0) (d : Deed) → P d.state → IsKept P (Some d)
 kept_by P d p e is = subst (λ (x : Deed). P x.state) (same_Some d e is) p
 
 module _ (shape : Shape) where
-  engine_keeps_open : (core : Core) (j : ℕ) (c : Caller) (call : Option Call) (e : Option Engine) → IsKept (λ s. s.keeper ≡ Open) (call_deed shape j core c call e)
-  engine_keeps_open core j c None e d is = absurd (none-some d is)
-  engine_keeps_open core j c (Some call) None d is = absurd (none-some d is)
-  engine_keeps_open core j c (Some call) (Some e) d is = kept_by (λ s. s.keeper ≡ Open) (engine_deed shape j core c call e) refl d is
-
-  caller_keeps_open : (core : Core) (j : ℕ) (o : Option Caller) → IsKept (λ s. s.keeper ≡ Open) (caller_deed shape j core o)
-  caller_keeps_open core j None d is = absurd (none-some d is)
-  caller_keeps_open core j (Some c) d is = engine_keeps_open core j c (current c) c.engine d is
-
-  -- callers leave the image open
-  pub stays_open : (j : ℕ) → Stays shape (λ s. s.keeper ≡ Open) (suc j)
-  stays_open j s d is_open is = caller_keeps_open s.core j (slice_get s.core.callers j) d (ap (λ k. open_deed shape j k s.core) (sym is_open) ∙ is)
-
-  -- ---- each event takes the words as the trace does
   next_is_newest : (start : Words) (w : Want) (c : ℕ) (core : Core) → core.words ≡ value start core.trace
       → words_after shape w c core.words ≡ value start (event_of shape w (core.words (word_of shape w)) c ∷ core.trace)
   next_is_newest start w c core newest = ap (λ (ws : Words). after (event_of shape w (core.words (word_of shape w)) c) ws) newest

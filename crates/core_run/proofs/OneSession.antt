@@ -22,32 +22,23 @@ use Rattle.engine.specs.Laws.{NoneRuns}
 use Rattle.core_run.specs.declared.keeper.Keeper.{Keeper}
 use Rattle.core_run.specs.declared.keeper.Keeper.TheVariants.{Open, Closing, Closed}
 use Rattle.core_run.specs.State.{State, beginning}
-use Rattle.core_run.specs.Run.{rounds, most_events, cut_of, medium_words}
-use Rattle.core_run.specs.Running.{Task, IsTask, start_of, IsRunning, IsRunningBy, DeedsAreWell}
+use Rattle.core_run.specs.Run.{rounds, cut_of, medium_words}
+use Rattle.core_run.specs.Running.{Task, IsTask, start_of, IsRunningBy, DeedsAreWell}
 use Rattle.core_run.specs.States.{RunBegins, CloseMayBegin, IsGoodMoment, IsGoodMedium, MomentsAreGood, IsClosedWell, ClosedIsClosed, ToldsFollow}
 use Rattle.core_run.specs.Causes.{entries_of, HasSpentLock, HadCause, RefusalsAreCaused, CausesBegin, CausesStay, AnyKeeperKeeps, NoSlotIsFree}
-use Rattle.core_run.specs.Alone.{IsAlone, IsForOne, BeginsAlone, AloneStays}
+use Rattle.core_run.specs.Alone.{IsForOne, BeginsAlone, AloneStays}
+use Rattle.core_run.specs.Ends.{IsRun, most_of, RoundsEnd, RoundsAreEnough, RunsAreWell}
 use Rattle.core_run.specs.Opening.{opening_of}
 use Rattle.core_run.specs.Sessions.{end_state, RunsAreSessions}
 use Rattle.core_run.proofs.Opening.{first_is_live, one_segment, opening-HasPairsOf}
 use Rattle.core_run.proofs.Along.{Stays, rounds_keep, end_keeps}
-use Rattle.core_run.proofs.Newest.{IsNewest, stays_open, stays_newest}
+use Rattle.core_run.proofs.Newest.{IsNewest, stays_newest}
 use Rattle.core_run.proofs.Leaving.{words_listed, newest_length, cut_length, cut_is_possible}
 
--- while a state of the run is open, the calls run out
-abbrev pub CallsRunOut : Type 0
-CallsRunOut = (t : Task) (s : State) → IsForOne t → IsRunning t s → IsAlone t s → s.keeper ≡ Open
-    → NoneRuns (rounds t.shape (most_events t.shape t.scripts) (most_events t.shape t.scripts) s).core
-
--- without a cut the image is closed at the end
-abbrev pub RunsClose : Type 0
-RunsClose = (t : Task) (lines : List Line) → IsForOne t → cut_of lines ≡ None → (end_state t lines).keeper ≡ Closed
-
 -- ---- along a run
--- the state is one of the run, the caller is alone, refusals had their causes, and the words are the newest of the trace
+-- the state is one of the run, refusals had their causes, and the words are the newest of the trace
 pub record IsWellAlong (t : Task) (opening : Map) (s : State) : Type 0 where
-  pub running : IsRunning t s
-  pub alone : IsAlone t s
+  pub run : IsRun t s
   pub caused : RefusalsAreCaused t opening s
   pub newest : IsNewest (start_of t) s
 
@@ -61,39 +52,40 @@ begun_left shape is = few (lines_of shape) (some (words_of shape) (let one = is.
     few : (lines : ℕ) → 1 ≤ lines → (lines - 1 - 0) + 1 + ((lines - 1 - 0) + 1 + 0 + 7) / 8 + 4 ≤ lines + (lines + 7) / 8 + 4
     few lines h = omega (arith, h)
 
-module _ (deeds : DeedsAreWell) (begins : RunBegins) (may_close : CloseMayBegin) (alone_begins : BeginsAlone) (alone_stays : AloneStays) (run_out : CallsRunOut)
-    (causes_begin : CausesBegin) (causes_stay : CausesStay) (any_keeper : AnyKeeperKeeps) (t : Task) (one : IsForOne t) (opening : Map)
+module _ (deeds : DeedsAreWell) (begins : RunBegins) (may_close : CloseMayBegin) (alone_begins : BeginsAlone) (alone_stays : AloneStays) (rounds_end : RoundsEnd)
+    (enough : RoundsAreEnough) (causes_begin : CausesBegin) (causes_stay : CausesStay) (any_keeper : AnyKeeperKeeps) (t : Task) (one : IsForOne t) (opening : Map)
     (has : HasPairsOf t.shape (start_of t) opening) where
   stays : (c : ℕ) → Stays t.shape (IsWellAlong t opening) c
   stays c s d p is = record {
-    running = (deeds t c s d one.task p.running is).after;
-    alone = alone_stays t c s d one p.running p.alone is;
-    caused = causes_stay t opening c s d one.task has p.running p.caused is;
+    run = record { running = (deeds t c s d one.task p.run.running is).after; alone = alone_stays t c s d one p.run.running p.run.alone is };
+    caused = causes_stay t opening c s d one.task has p.run.running p.caused is;
     newest = stays_newest t.shape (start_of t) c s d p.newest is;
   }
 
   -- the close begins where the calls have run out
-  closing_after : (s r : State) → NoneRuns r.core → r.keeper ≡ Open → IsWellAlong t opening r → IsWellAlong t opening (record r { keeper = Closing (close_begun t.shape) })
-  closing_after s r none is_open p = record {
-    running = may_close t r.core one.task (subst (λ (k : Keeper). IsRunningBy t k r.core) is_open p.running) none;
-    alone = begun_left t.shape one.task.served.sound.in_range;
+  closing_after : (r : State) → NoneRuns r.core → r.keeper ≡ Open → IsWellAlong t opening r → IsWellAlong t opening (record r { keeper = Closing (close_begun t.shape) })
+  closing_after r none is_open p = record {
+    run = record {
+      running = may_close t r.core one.task (subst (λ (k : Keeper). IsRunningBy t k r.core) is_open p.run.running) none;
+      alone = begun_left t.shape one.task.served.sound.in_range;
+    };
     caused = any_keeper t opening r (Closing (close_begun t.shape)) p.caused;
     newest = p.newest;
   }
 
   abbrev most : ℕ
-  most = most_events t.shape t.scripts
+  most = most_of t
 
   closes : (s : State) → s.keeper ≡ Open → IsWellAlong t opening s → IsWellAlong t opening (record (rounds t.shape most most s) { keeper = Closing (close_begun t.shape) })
   closes s is_open p =
-      closing_after s (rounds t.shape most most s) (run_out t s one p.running p.alone is_open)
-      (rounds_keep t.shape (λ (r : State). r.keeper ≡ Open) (stays_open t.shape) most most s is_open)
+      let ended = rounds_end t most most s one (omega arith) p.run is_open (enough t s one p.run is_open) in
+      closing_after (rounds t.shape most most s) ended.none_runs ended.still_open
       (rounds_keep t.shape (IsWellAlong t opening) (λ j. stays (suc j)) most most s p)
 
   pub well_at_end : (lines : List Line) → IsWellAlong t opening (end_state t lines)
   well_at_end lines =
       end_keeps t.shape (IsWellAlong t opening) stays most closes lines (cut_of lines) (beginning t.shape (start_of t) t.scripts)
-      (record { running = begins t one.task; alone = alone_begins t one; caused = causes_begin t opening; newest = refl })
+      (record { run = record { running = begins t one.task; alone = alone_begins t one }; caused = causes_begin t opening; newest = refl })
 
 -- ---- what is left
 -- what holds of each element holds of one that is contained, and so does what follows from it
@@ -113,10 +105,10 @@ module _ (moments : MomentsAreGood) (closed : ClosedIsClosed) (follow : ToldsFol
   left_by cut = medium_words t.shape (start_of t) s.core cut
 
   good : IsGoodMoment t opening s
-  good = moments t s opening is p.running has
+  good = moments t s opening is p.run.running has
 
   is_closed : s.keeper ≡ Closed → IsClosedWell t opening s.core
-  is_closed q = closed t s opening is p.running q has
+  is_closed q = closed t s opening is p.run.running q has
 
   good_medium : (cut : Option ℕ) → (cut ≡ None → s.keeper ≡ Closed) → IsGoodMedium t opening s.core (left_by cut)
   good_medium None at_none = good.media (left_by None) (newest_length t.shape s.core.words) (is_closed (at_none refl)).possible
@@ -162,7 +154,7 @@ module _ (moments : MomentsAreGood) (closed : ClosedIsClosed) (follow : ToldsFol
       record {
         tolds = tolds_of s.core;
         printed = refl;
-        scripted = follow t s is p.running;
+        scripted = follow t s is p.run.running;
         opening = opening;
         opening_pairs = has;
         legal = good.legal;
@@ -177,12 +169,12 @@ module _ (moments : MomentsAreGood) (closed : ClosedIsClosed) (follow : ToldsFol
       }
 
 -- A RUN IS A SESSION
-pub runs_are_sessions : DeedsAreWell → RunBegins → CloseMayBegin → BeginsAlone → AloneStays → CallsRunOut → RunsClose → CausesBegin → CausesStay → AnyKeeperKeeps
-    → MomentsAreGood → ClosedIsClosed → ToldsFollow → NoSlotIsFree → RunsAreSessions
-runs_are_sessions deeds begins may_close alone_begins alone_stays run_out ends causes_begin causes_stay any_keeper moments closed follow no_free t lines is single =
+pub runs_are_sessions : DeedsAreWell → RunBegins → CloseMayBegin → BeginsAlone → AloneStays → RoundsEnd → RoundsAreEnough → RunsAreWell → CausesBegin → CausesStay
+    → AnyKeeperKeeps → MomentsAreGood → ClosedIsClosed → ToldsFollow → NoSlotIsFree → RunsAreSessions
+runs_are_sessions deeds begins may_close alone_begins alone_stays rounds_end enough ends causes_begin causes_stay any_keeper moments closed follow no_free t lines is single =
     let one : IsForOne t = record { task = is; one = single } in
     let opening = opening_of t.shape (start_of t) in
     let has = opening-HasPairsOf t.shape t.first is.served in
     is_session moments closed follow no_free t is opening has (end_state t lines)
-    (well_at_end deeds begins may_close alone_begins alone_stays run_out causes_begin causes_stay any_keeper t one opening has lines)
-    (cut_of lines) (ends t lines one)
+    (well_at_end deeds begins may_close alone_begins alone_stays rounds_end enough causes_begin causes_stay any_keeper t one opening has lines)
+    (cut_of lines) (ends t lines one).is_closed
