@@ -49,7 +49,7 @@ module _ (shape : Shape) (P : State → Type 0) where
 
   -- ---- a run
   module _ (stays : (c : ℕ) → Stays c) (most : ℕ)
-    (closes : (s : State) → s.keeper ≡ Open → P s → P (record (rounds shape most most s) { keeper = Closing (close_begun shape) })) where
+      (closes : (s : State) → s.keeper ≡ Open → P s → P (record (rounds shape most most s) { keeper = Closing (close_begun shape) })) where
     restarted_keeps_by : (k : Keeper) (s : State) → P s → P (restarted_by shape most k s)
     restarted_keeps_by (Restarting op) s p = drive_keeps 0 (stays 0) most AnyEvent most s p
     restarted_keeps_by Open s p = p
