@@ -2,3 +2,11 @@ mod FirstSlot
 mod Different
 mod WithoutEntries
 mod CausesBegin
+mod Growing
+mod Replying
+mod Counting
+mod Full
+mod Stepping
+mod Keeping
+mod CausesTurn
+mod CausesStay

@@ -5,12 +5,12 @@ mod Within
 mod Sparing
 mod Waits
 mod Fullness
-mod Planned
-mod Told
-mod Places
+pub mod Planned
+pub mod Told
+pub mod Places
 mod Unnoted
 mod Turning
-mod Cut
+pub mod Cut
 mod Goodness
 mod Beginnings
 mod Opening
