@@ -11,11 +11,11 @@ use Rattle.engine.specs.Core.{Caller, current, told_of, Core}
 use Rattle.core_run.specs.State.{waiting, waiting_from}
 use Rattle.core_run.specs.Causes.{HadCause, CallHasCause, CausesBegin}
 
-none_told : (P : Entry → Type 0) (shape : Shape) (n : ℕ) (scripts : List (List Call)) → AllByRecursion P (all_of (map history_of (map told_of (waiting_from shape n scripts))))
+pub none_told : (P : Entry → Type 0) (shape : Shape) (n : ℕ) (scripts : List (List Call)) → AllByRecursion P (all_of (map history_of (map told_of (waiting_from shape n scripts))))
 none_told P shape n [] = tt
 none_told P shape n (calls ∷ scripts) = none_told P shape (suc n) scripts
 
-none_comes : (shape : Shape) (opening : Map) (core : Core) (n : ℕ) (scripts : List (List Call))
+pub none_comes : (shape : Shape) (opening : Map) (core : Core) (n : ℕ) (scripts : List (List Call))
     → AllByRecursion (λ c. CallHasCause shape opening core c (current c) c.engine) (waiting_from shape n scripts)
 none_comes shape opening core n [] = tt
 none_comes shape opening core n (calls ∷ scripts) = (runs_none (current (waiting shape n calls)), none_comes shape opening core (suc n) scripts)

@@ -21,3 +21,11 @@ mod OneSession
 mod Goods
 mod Ended
 mod Follows
+mod Growing
+mod Replying
+mod Counting
+mod Full
+mod Stepping
+mod Keeping
+mod CausesTurn
+mod CausesStay

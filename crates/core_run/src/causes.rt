@@ -18,7 +18,6 @@ pub fn causes_stay()
     engine::spent_locks_stay();
     engine::no_room_is_full();
     restart_op::restart_begins();
-    restart_op::restart_ends();
 }
 
 /// It is so whatever the keeper does next.
