@@ -18,6 +18,7 @@ pub fn runs_are_sessions()
     states::tolds_follow();
     alone::alone_stays();
     causes::causes_begin();
+    causes::causes_stay();
     causes::any_keeper_keeps();
     causes::no_slot_is_free();
 }
