@@ -5,14 +5,20 @@
 //! and `specs/States.antt` what follows of it.
 #![tactic(auto)]
 
+mod alone;
+pub mod causes;
 pub mod deed;
 pub mod goal;
 pub mod keeper;
+pub mod sessions;
 pub mod states;
 
+pub use alone::alone_stays;
+pub use causes::{any_keeper_keeps, causes_begin, causes_stay, no_slot_is_free};
 pub use deed::Deed;
 pub use goal::Goal;
 pub use keeper::Keeper;
+pub use sessions::runs_are_sessions;
 pub use states::{
     close_may_begin, closed_is_closed, deeds_are_well, moments_are_good, run_begins, tolds_follow,
 };

@@ -5,13 +5,13 @@ mod Within
 mod Sparing
 mod Waits
 mod Fullness
-mod Planned
-mod Told
-mod Places
+pub mod Planned
+pub mod Told
+pub mod Places
 mod Unnoted
 mod Scripted
 mod Turning
-mod Cut
+pub mod Cut
 mod Goodness
 mod Beginnings
 mod Opening
