@@ -12,3 +12,4 @@ mod Deeds
 mod Goods
 mod Ended
 mod Follows
+mod Measures

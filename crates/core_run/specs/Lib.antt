@@ -3,3 +3,4 @@ pub mod Run
 pub mod Running
 pub mod Alone
 pub mod States
+pub mod Ends
