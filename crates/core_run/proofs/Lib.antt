@@ -13,3 +13,4 @@ mod Goods
 mod Ended
 mod Follows
 mod Measures
+mod Driving
