@@ -1,12 +1,9 @@
 -- How many events a seat has left at most: each event leaves fewer, and at first there are no more than the run counts.
-use Rattle.std.proofs.Common.{◌≡◌, ◌≢◌, ℕ, zero, suc, ◌+◌, ◌-◌, ◌*◌, ◌/◌, ◌<◌, ◌≤◌, Bool, true, false, cond, Option, Some, None, List, [], ◌∷◌, length, map, refl, sym, ◌∙◌, ap, subst, arith}
-use Rattle.std.specs.Prelude.{⊤}
+use Rattle.std.proofs.Common.{◌≡◌, ℕ, zero, suc, ◌+◌, ◌<◌, ◌≤◌, Option, Some, None, List, length, map, refl, sym, ◌∙◌, ap, subst, arith}
 use Rattle.std.proofs.lemmas.Option.{none-some, same_Some}
-use Rattle.trace.specs.Events.{Words}
 use Rattle.op_core.specs.declared.want.Want.{Want}
 use Rattle.op_core.specs.declared.want.Want.TheVariants as want
-use Rattle.image_layout.specs.Places.{Shape, words_of}
-use Rattle.map_model.specs.declared.call.Call.{Call}
+use Rattle.image_layout.specs.Places.{Shape}
 use Rattle.world.specs.Wants.{answer_to, word_of}
 use Rattle.restart_op.specs.declared.restart.RestartOp.{RestartOp}
 use Rattle.restart_op.specs.declared.restart.Started.{Started}
@@ -17,7 +14,7 @@ use Rattle.restart_op.specs.Budget.{left as restart_left}
 use Rattle.restart_op.specs.Restarted.{EndsStarted, restarted}
 use Rattle.restart_op.specs.declared.close.CloseOp.{CloseOp}
 use Rattle.restart_op.specs.Close.{wanted as close_wanted, taken as close_taken}
-use Rattle.restart_op.specs.Closing.{left as close_left, events_of, Falls as CloseFalls}
+use Rattle.restart_op.specs.Closing.{left as close_left, Falls as CloseFalls}
 use Rattle.read_op.specs.declared.step.Second.{Second}
 use Rattle.read_op.specs.declared.step.Second.TheVariants as again
 use Rattle.read_op.specs.declared.step.ReadStep.{ReadStep}
@@ -36,19 +33,18 @@ use Rattle.engine.specs.declared.engine.Op.{Op}
 use Rattle.engine.specs.declared.engine.Op.TheVariants.{Read, Write}
 use Rattle.engine.specs.declared.engine.Engine.{Engine}
 use Rattle.engine.specs.declared.engine.End.{End}
-use Rattle.engine.specs.Left.{more_of, more_in, left_of_op, left}
+use Rattle.engine.specs.Left.{more_of, more_in, left_of_op}
 use Rattle.engine.specs.Fits.{KeepsSuits}
 use Rattle.engine.specs.Core.{Caller, Core}
 use Rattle.core_run.specs.declared.keeper.Keeper.{Keeper}
 use Rattle.core_run.specs.declared.keeper.Keeper.TheVariants.{Restarting, Open, Closing, Closed}
 use Rattle.core_run.specs.State.{State, Deed, by_keeper, restarting, closing, restart_deed, close_deed, keeper_deed, open_deed, deed}
-use Rattle.core_run.specs.Run.{all_calls, most_events}
-use Rattle.core_run.specs.Running.{Task, IsTask, IsOpen, IsRestarting, IsRunningBy, IsRunning}
-use Rattle.core_run.specs.Alone.{EndsCall, IsAloneBy, IsAlone, IsForOne, behind, all_behind}
+use Rattle.core_run.specs.Run.{all_calls}
+use Rattle.core_run.specs.Running.{Task, IsOpen, IsRunningBy}
+use Rattle.core_run.specs.Alone.{IsAloneBy, IsForOne, behind, all_behind}
 use Rattle.core_run.specs.Ends.{IsRun, most_of, IsShut}
 use Rattle.core_run.proofs.Working.{Falls, BeginsLow, work_of, work, all_work}
-use Rattle.core_run.proofs.Going.{IsLeft}
-use Rattle.core_run.proofs.Staying.{IsOfOne, of_one, seat_left}
+use Rattle.core_run.proofs.Staying.{of_one, seat_left}
 
 abbrev pub keeper_left : Keeper → ℕ
 keeper_left (Restarting op) = restart_left op.step

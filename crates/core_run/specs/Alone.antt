@@ -12,7 +12,6 @@ use Rattle.read_op.specs.declared.step.Path.{Path}
 use Rattle.read_op.specs.declared.step.ReadStep.{ReadStep}
 use Rattle.read_op.specs.declared.step.ReadStep.TheVariants as reads
 use Rattle.read_op.specs.Steps.{entry_word as read_entry, head_word as read_head, lock_word as read_lock}
-use Rattle.write_op.specs.declared.control.WriteEnd.{WriteEnd}
 use Rattle.write_op.specs.declared.control.Step.{Step}
 use Rattle.write_op.specs.declared.control.Step.TheVariants.{LoadEntry, LoadHead, LookAt, TryLock, RootAgain, EntryAgain, HeadAgain, GiveBack, Ended}
 use Rattle.write_op.specs.declared.control.Kept.{Kept}

@@ -1,9 +1,9 @@
 -- A run of one script ends: whatever is done keeps a state of it, each call ends, and the close does.
-use Rattle.std.specs.Prelude.{◌≡◌, ℕ, ◌+◌, ◌<◌, ◌≤◌, ⊤, false, Option, None, List}
+use Rattle.std.specs.Prelude.{◌≡◌, ℕ, ◌+◌, ◌<◌, ◌≤◌, ⊤, false, None, List}
 use Rattle.script_text.specs.declared.line.Event.TheVariants as event
 use Rattle.script_text.specs.declared.line.Line.{Line}
 use Rattle.restart_op.specs.declared.restart.RestartOp.{RestartOp}
-use Rattle.engine.specs.Core.{Caller, Core}
+use Rattle.engine.specs.Core.{Caller}
 use Rattle.engine.specs.Laws.{NoneRuns}
 use Rattle.core_run.specs.declared.keeper.Keeper.{Keeper}
 use Rattle.core_run.specs.declared.keeper.Keeper.TheVariants.{Restarting, Open, Closing, Closed}

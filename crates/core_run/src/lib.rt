@@ -11,9 +11,7 @@ pub mod goal;
 pub mod keeper;
 pub mod states;
 
-pub use alone::{
-    alone_stays, calls_run_out, drives_are_enough, runs_are_well, runs_stay_well,
-};
+pub use alone::{alone_stays, calls_run_out, drives_are_enough, runs_are_well, runs_stay_well};
 pub use deed::Deed;
 pub use goal::Goal;
 pub use keeper::Keeper;
