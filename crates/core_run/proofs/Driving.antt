@@ -37,7 +37,7 @@ use Rattle.core_run.specs.Ends.{IsRun, most_of, HasAnswered, HasRunOut, IsShut, 
 use Rattle.core_run.proofs.Seeing.{either, so, not_so}
 use Rattle.core_run.proofs.Working.{Falls, BeginsLow}
 use Rattle.core_run.proofs.Staying.{IsOfOne, of_one}
-use Rattle.core_run.proofs.Measures.{left_for, open_left, deed_less, left_low, behind_low, stays_shut}
+use Rattle.core_run.proofs.Measures.{left_for, open_left, deed_less, left_low, behind_low, stays_shut, IsEarly, stays_early}
 
 -- ---- ends with a reply
 again_no : (end : End) → EndsCall end → is_again end ≡ false
@@ -52,7 +52,7 @@ again_no (ends.Write (write_end.Again why)) told = absurd told
 again_no (ends.Write (write_end.Stale segment byte)) told = absurd told
 again_no (ends.Write write_end.Off) told = absurd told
 
-never_again : (o : Option End) → ((end : End) → o ≡ Some end → EndsCall end) → ends_in_again o ≡ false
+pub never_again : (o : Option End) → ((end : End) → o ≡ Some end → EndsCall end) → ends_in_again o ≡ false
 never_again None told = refl
 never_again (Some end) told = again_no end (told end refl)
 
@@ -160,17 +160,20 @@ module _ (wells : DeedsAreWell) (stays : AloneStays) (replies : AloneReplies) (k
           not_so (λ x. deed t.shape c x ≡ None) (ends_in_again d.end) d.state (drive t.shape m c AnyEvent n d.state) (never_again d.end (told c s d r e))
           (rest d.state (after c s d r e) (omega (arith, a, f)) (omega (arith, b)))
 
-  drive_shut : (m : ℕ) (goal : Goal) (n : ℕ) (s : State) → IsShut s.keeper → IsShut (drive t.shape m 0 goal n s).keeper
-  drive_shut zero goal n s shut = shut
-  drive_shut (suc m) goal zero s shut = shut
-  drive_shut (suc m) goal (suc n) s shut = by (λ n' u p. drive_shut m goal n' u p) (deed t.shape 0 s) refl
-    where
-      by : ((n' : ℕ) (u : State) → IsShut u.keeper → IsShut (drive t.shape m 0 goal n' u).keeper) → (o : Option Deed) → deed t.shape 0 s ≡ o → IsShut (by_deed o s (λ d. drive t.shape m 0 goal (if counts goal d then n else suc n) d.state)).keeper
-      by rest None e = shut
-      by rest (Some d) e =
-          let next : IsShut d.state.keeper = stays_shut t.shape s.keeper s.core d shut e in
-          either (λ (x : State). IsShut x.keeper) (ends_in_again d.end) d.state (drive t.shape m 0 goal (if counts goal d then n else suc n) d.state) next
-          (rest (if counts goal d then n else suc n) d.state next)
+  -- what caller 0 keeps to in each of its events it keeps to in all
+  module _ (P : Keeper → Type 0) (keeps_to : (k : Keeper) (core : Core) (d : Deed) → P k → keeper_deed t.shape k core ≡ Some d → P d.state.keeper) where
+    drive_keeps : (m : ℕ) (goal : Goal) (n : ℕ) (s : State) → P s.keeper → P (drive t.shape m 0 goal n s).keeper
+    drive_keeps zero goal n s p = p
+    drive_keeps (suc m) goal zero s p = p
+    drive_keeps (suc m) goal (suc n) s p = by (λ n' u q. drive_keeps m goal n' u q) (deed t.shape 0 s) refl
+      where
+        by : ((n' : ℕ) (u : State) → P u.keeper → P (drive t.shape m 0 goal n' u).keeper) → (o : Option Deed) → deed t.shape 0 s ≡ o
+            → P (by_deed o s (λ d. drive t.shape m 0 goal (if counts goal d then n else suc n) d.state)).keeper
+        by rest None e = p
+        by rest (Some d) e =
+            let next : P d.state.keeper = keeps_to s.keeper s.core d p e in
+            either (λ (x : State). P x.keeper) (ends_in_again d.end) d.state (drive t.shape m 0 goal (if counts goal d then n else suc n) d.state) next
+            (rest (if counts goal d then n else suc n) d.state next)
 
   -- ---- the restart
   restarted_by_stays : (most : ℕ) (k : Keeper) (s : State) → IsRun t s → IsRun t (restarted_by t.shape most k s)
@@ -194,6 +197,17 @@ module _ (wells : DeedsAreWell) (stays : AloneStays) (replies : AloneReplies) (k
       by Open here e = absurd (let z : Open ≡ Restarting op = sym here ∙ e in cc)
       by (Closing close) here e = absurd (let z : Closing close ≡ Restarting op = sym here ∙ e in cc)
       by Closed here e = absurd (let z : Closed ≡ Restarting op = sym here ∙ e in cc)
+
+  pub restart_opens : (most : ℕ) (s : State) (op : RestartOp) → most_of t ≤ most → IsRun t s → s.keeper ≡ Restarting op → (restarted t.shape most s).keeper ≡ Open
+  restart_opens most s op enough r here =
+      by (restarted t.shape most s).keeper refl
+      (subst (λ k. IsEarly (restarted_by t.shape most k s).keeper) (sym here) (drive_keeps IsEarly (stays_early t.shape) most AnyEvent most s (subst IsEarly (sym here) tt)))
+    where
+      by : (k : Keeper) → (restarted t.shape most s).keeper ≡ k → IsEarly k → (restarted t.shape most s).keeper ≡ Open
+      by (Restarting begun) is early = absurd (restart_ends most s enough r begun is)
+      by Open is early = is
+      by (Closing close) is early = absurd early
+      by Closed is early = absurd early
 
   pub ready_stays : (most c : ℕ) (s : State) → IsRun t s → IsRun t (ready_for t.shape most c s)
   ready_stays most zero s r = r
@@ -348,7 +362,7 @@ module _ (wells : DeedsAreWell) (stays : AloneStays) (replies : AloneReplies) (k
         let at_close : State = run_out t.shape most s in
         let run : IsRun t at_close = run_out_stays s r in
         let l = low 0 at_close run in
-        is_closed (closed t.shape most s).keeper (closed t.shape most s).core (drive_shut most AnyEvent most at_close (run_out_shut s r))
+        is_closed (closed t.shape most s).keeper (closed t.shape most s).core (drive_keeps IsShut (stays_shut t.shape) most AnyEvent most at_close (run_out_shut s r))
         (drive_through most 0 most at_close run (omega (arith, l, enough)) (omega arith))
 
     -- ---- the lines

@@ -1,5 +1,6 @@
 -- How many events a seat has left at most: each event leaves fewer, and at first there are no more than the run counts.
 use Rattle.std.proofs.Common.{◌≡◌, ℕ, zero, suc, ◌+◌, ◌<◌, ◌≤◌, Option, Some, None, List, length, map, refl, sym, ◌∙◌, ap, subst, arith}
+use Rattle.std.specs.Prelude.{⊤}
 use Rattle.std.proofs.lemmas.Option.{none-some, same_Some}
 use Rattle.op_core.specs.declared.want.Want.{Want}
 use Rattle.op_core.specs.declared.want.Want.TheVariants as want
@@ -122,6 +123,32 @@ stays_shut shape (Closing op) core d shut e =
     let next : CloseOp = close_taken op (answer_to (close_wanted op) (core.words (word_of shape (close_wanted op)))) in
     subst (λ (x : Deed). IsShut x.state.keeper) (same_Some (close_deed shape op core) d e) (closing_shut shape next (close_wanted next))
 stays_shut shape Closed core d shut e = absurd (none-some d e)
+
+-- a keeper who restarts the image goes on with it, or leaves it to the callers
+abbrev pub IsEarly : Keeper → Type 0
+IsEarly (Restarting op) = ⊤
+IsEarly Open = ⊤
+IsEarly (Closing op) = ⊥
+IsEarly Closed = ⊥
+
+restarting_early : (shape : Shape) (op : RestartOp) (w : Want) (core : Core) → IsEarly (restarting shape op w core).keeper
+restarting_early shape op want.Done core = tt
+restarting_early shape op (want.Load i) core = tt
+restarting_early shape op (want.Store i x) core = tt
+restarting_early shape op (want.Exchange i a b) core = tt
+restarting_early shape op (want.Flush l) core = tt
+restarting_early shape op want.Fence core = tt
+restarting_early shape op want.Draw core = tt
+restarting_early shape op want.Power core = tt
+
+pub stays_early : (shape : Shape) (k : Keeper) (core : Core) (d : Deed) → IsEarly k → keeper_deed shape k core ≡ Some d → IsEarly d.state.keeper
+stays_early shape (Restarting op) core d early e =
+    let w : Want = restart_wanted op in
+    let next : RestartOp = restart_taken op (answer_to w (core.words (word_of shape w))) in
+    subst (λ (x : Deed). IsEarly x.state.keeper) (same_Some (restart_deed shape op core) d e) (restarting_early shape next (restart_wanted next) (by_keeper shape w core))
+stays_early shape Open core d early e = absurd (none-some d e)
+stays_early shape (Closing op) core d early e = absurd early
+stays_early shape Closed core d early e = absurd early
 
 -- ---- an engine
 again_low : (at : Second) → left_again at ≤ 4

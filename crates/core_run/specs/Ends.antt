@@ -56,6 +56,11 @@ ClosedStays = (t : Task) (most : ℕ) (s : State) → IsForOne t → most_of t �
 abbrev pub RestartEnds : Type 0
 RestartEnds = (t : Task) (most : ℕ) (s : State) → IsForOne t → most_of t ≤ most → IsRun t s → (op : RestartOp) → (restarted t.shape most s).keeper ≡ Restarting op → ⊥
 
+-- and has left the image to the callers, where it was not over
+abbrev pub RestartOpens : Type 0
+RestartOpens = (t : Task) (most : ℕ) (s : State) (op : RestartOp) → IsForOne t → most_of t ≤ most → IsRun t s → s.keeper ≡ Restarting op
+    → (restarted t.shape most s).keeper ≡ Open
+
 -- ONE CALL has ended
 pub record HasAnswered (before after : State) : Type 0 where
   pub still_open : after.keeper ≡ Open
