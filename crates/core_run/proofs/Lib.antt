@@ -29,3 +29,6 @@ mod Stepping
 mod Keeping
 mod CausesTurn
 mod CausesStay
+mod Measures
+mod Driving
+mod Lines
