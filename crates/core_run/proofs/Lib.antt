@@ -29,3 +29,5 @@ mod Stepping
 mod Keeping
 mod CausesTurn
 mod CausesStay
+mod Measures
+mod Driving

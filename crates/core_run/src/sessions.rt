@@ -17,6 +17,8 @@ pub fn runs_are_sessions()
     states::closed_is_closed();
     states::tolds_follow();
     alone::alone_stays();
+    alone::calls_run_out();
+    alone::runs_are_well();
     causes::causes_begin();
     causes::causes_stay();
     causes::any_keeper_keeps();
