@@ -1,6 +1,7 @@
 mod FirstSlot
+mod CausesTold
 mod Different
-mod WithoutEntries
+mod CallsBegun
 mod CausesBegin
 mod Growing
 mod Replying

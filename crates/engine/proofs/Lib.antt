@@ -4,14 +4,14 @@ mod Falling
 mod Within
 mod Sparing
 mod Waits
-mod Fullness
+pub mod Fullness
 pub mod Planned
 pub mod Told
 pub mod Places
 mod Unnoted
 mod Turning
 pub mod Cut
-mod Goodness
+pub mod Goodness
 mod Beginnings
 mod Opening
 mod Quiet
