@@ -20,7 +20,7 @@ use Rattle.core_run.specs.declared.keeper.Keeper.TheVariants.{Restarting, Open, 
 use Rattle.core_run.specs.State.{Deed, restart_deed, close_deed, engine_deed, keeper_deed, call_deed, caller_deed, open_deed}
 use Rattle.core_run.specs.Running.{Task, IsRunningBy, site_in, start_of}
 use Rattle.core_run.specs.Causes.{HaveCauses, CausesStay}
-use Rattle.core_run.proofs.Keeping.{restart_keeps, close_keeps}
+use Rattle.core_run.proofs.KeeperCauses.{restart_keeps, close_keeps}
 use Rattle.core_run.proofs.CausesTurn.{turn_keeps}
 
 -- what is said of a deed is said of one that it equals

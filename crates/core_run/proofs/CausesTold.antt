@@ -2,7 +2,7 @@
 use Rattle.std.proofs.Common.{inl, inr, arith}
 use Rattle.std.proofs.lemmas.List.Elements.{All-from_recursion, All-contains}
 use Rattle.core_run.specs.Causes.{HadCause, entries_of, CausesAreTold}
-use Rattle.core_run.proofs.Different.{each}
+use Rattle.core_run.proofs.DifferentKeys.{each}
 
 pub causes_are_told : CausesAreTold
 causes_are_told t opening s have = record {

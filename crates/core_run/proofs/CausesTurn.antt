@@ -58,12 +58,12 @@ use Rattle.engine.proofs.Planned.{planned_is}
 use Rattle.engine.proofs.Told.{entries_after}
 use Rattle.core_run.specs.Causes.{entries_of, HasSpentLock, HadCause, EndHasCause, StepHasCause, OpHasCause, CallHasCause, HaveCauses}
 use Rattle.core_run.proofs.CallsBegun.{begins_caused}
-use Rattle.core_run.proofs.Different.{each}
-use Rattle.core_run.proofs.Growing.{IsGrown, entries, history, same_maps, all_draws, all_have, all_set, at_of}
-use Rattle.core_run.proofs.Replying.{HasGrounds, no_cause, op_says}
-use Rattle.core_run.proofs.Counting.{counter_is, map_is}
-use Rattle.core_run.proofs.Full.{had_no_room}
-use Rattle.core_run.proofs.Stepping.{ComesAfter, cause_stays, op_stays, call_stays, spent_stays}
+use Rattle.core_run.proofs.DifferentKeys.{each}
+use Rattle.core_run.proofs.GrownEntries.{IsGrown, entries, history, same_maps, all_draws, all_have, all_set, at_of}
+use Rattle.core_run.proofs.ReplyCauses.{HasGrounds, no_cause, op_says}
+use Rattle.core_run.proofs.CountedDraws.{counter_is, map_is}
+use Rattle.core_run.proofs.FullBuckets.{had_no_room}
+use Rattle.core_run.proofs.StayingCauses.{ComesAfter, cause_stays, op_stays, call_stays, spent_stays}
 
 -- ---- lists of entries
 one_longer : (xs ys : List Entry) (e : Entry) → xs ≡ ys ++ e ∷ [] → length xs ≡ suc (length ys)

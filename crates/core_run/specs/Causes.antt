@@ -72,6 +72,7 @@ module _ (shape : Shape) (opening : Map) (core : Core) where
     OpHasCause (Read op) = ⊤
     OpHasCause (Write op) = StepHasCause op.step
 
+  -- of the call that a caller runs, if it runs one
   abbrev pub CallHasCause : Caller → Option Call → Option Engine → Type 0
   CallHasCause c None engine = ⊤
   CallHasCause c (Some call) None = ⊤

@@ -28,7 +28,7 @@ use Rattle.world.proofs.Grounds.{one_lock, home_is_lock}
 use Rattle.world.proofs.KeepMedia.{newest, held_is_map}
 use Rattle.write_op.specs.Taken.{no_room}
 use Rattle.engine.specs.Asks.{FindsFull}
-use Rattle.core_run.proofs.Different.{each, different_values}
+use Rattle.core_run.proofs.DifferentKeys.{each, different_values}
 
 top_of_all : (depth h : ℕ) → depth ≡ 0 → h < 2 ^ 64 → top depth h ≡ 0
 top_of_all depth h flat fits = ap (λ d. top d h) flat ∙ div-eq_of_lt fits

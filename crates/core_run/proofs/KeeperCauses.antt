@@ -25,8 +25,8 @@ use Rattle.core_run.specs.State.{waiting_from, awake, by_keeper, restarting, res
 use Rattle.core_run.specs.Causes.{HadCause, CallHasCause, HaveCauses, entries_of}
 use Rattle.core_run.proofs.CausesBegin.{none_told, none_comes}
 use Rattle.core_run.proofs.CallsBegun.{begins_caused}
-use Rattle.core_run.proofs.Different.{each}
-use Rattle.core_run.proofs.Stepping.{ComesAfter, cause_stays, call_stays}
+use Rattle.core_run.proofs.DifferentKeys.{each}
+use Rattle.core_run.proofs.StayingCauses.{ComesAfter, cause_stays, call_stays}
 
 -- ---- the restart
 none_told_awake : (P : Entry → Type 0) (shape : Shape) (version n : ℕ) (scripts : List (List Call))

@@ -18,7 +18,7 @@ use Rattle.engine.specs.Core.{Caller, Core, histories}
 use Rattle.engine.specs.Holding.{HasUntold, CallerFits, CoreHolds}
 use Rattle.engine.proofs.Cut.{untold_of, told_legal}
 use Rattle.core_run.specs.Causes.{entries_of}
-use Rattle.core_run.proofs.Growing.{entries, history, drew_here}
+use Rattle.core_run.proofs.GrownEntries.{entries, history, drew_here}
 
 untold_draws : (told own : List Entry) → HasUntold told own → draws told ≡ draws own
 untold_draws told own has = elim has [
