@@ -73,10 +73,10 @@ pub record HasOpen (c : Caller) (call : Call) : Type 0 where
   pub is_current : current c ≡ Some call
   pub open_call : (told_of c).left_open ≡ Some None
 
-not_longer : (xs ys : List Entry) (e : Entry) → xs ≡ ys ++ e ∷ [] → xs ≡ ys → ⊥
+pub not_longer : (xs ys : List Entry) (e : Entry) → xs ≡ ys ++ e ∷ [] → xs ≡ ys → ⊥
 not_longer xs ys e p q = let l = ap length (sym q ∙ p) ∙ one_more ys e in omega (arith, l)
 
-none_drawn : (told own : List Entry) (drew : Option Entry) → HasEntries told drew own → own ≡ told → drew ≡ None
+pub none_drawn : (told own : List Entry) (drew : Option Entry) → HasEntries told drew own → own ≡ told → drew ≡ None
 none_drawn told own None has same = refl
 none_drawn told own (Some e) has same = absurd (not_longer own told e has same)
 
@@ -121,7 +121,7 @@ undrawn_has (x ∷ callers) (suc j) c call is open_here =
 
 -- ---- the core
 module _ (legal : EntriesAreLegal) (leaves : DeviceLeaves) (follow : TablesFollow) (found : PairsAreFound)
-  (site : Site) (start : Words) (core : Core) (opening : Map) (h : CoreHolds site start core) (same : (k : ℕ) → get opening k ≡ site.start k) where
+    (site : Site) (start : Words) (core : Core) (opening : Map) (h : CoreHolds site start core) (same : (k : ℕ) → get opening k ≡ site.start k) where
   abbrev now : Map
   now = replay opening (weave (histories core))
 
@@ -183,9 +183,13 @@ module _ (legal : EntriesAreLegal) (leaves : DeviceLeaves) (follow : TablesFollo
     left_at k = elim (h.well.holds.media.stands word by_views k) [
       | inl is ↦ inl (has_at k (get now k) (is ∙ sym (told.1 k)))
       | inr p ↦ (let call = p.2 in let key = p.5 in
-          inr (call, whose p.0 p.1 call p.3 p.4 p.0 p.3, key,
-              subst (λ q. AgreesAt site.shape word (after now call (reply_of now call)) q) key
-              (planned_at p.0 p.1 call p.3 p.4 (ap (λ q. find site.shape word q) key ∙ sym p.6))))
+          inr (
+            call,
+            whose p.0 p.1 call p.3 p.4 p.0 p.3,
+            key,
+            subst (λ q. AgreesAt site.shape word (after now call (reply_of now call)) q) key
+                (planned_at p.0 p.1 call p.3 p.4 (ap (λ q. find site.shape word q) key ∙ sym p.6)),
+          ))
     ]
 
   is_good : IsGood site.shape start opening core
