@@ -1,16 +1,15 @@
 -- What is done in a run of one script keeps a state of it, and ends.
-use Rattle.std.proofs.Common.{◌≡◌, ◌≢◌, ℕ, zero, suc, ◌+◌, ◌-◌, ◌*◌, ◌<◌, ◌≤◌, inl, inr, Bool, true, false, cond, Option, Some, None, List, [], ◌∷◌, length, map, slice_get, refl, sym, ◌∙◌, ap, subst, arith}
-use Rattle.std.specs.Prelude.{⊤, if◌then◌else◌}
+use Rattle.std.proofs.Common.{◌≡◌, ℕ, zero, suc, ◌+◌, ◌<◌, ◌≤◌, inl, inr, true, false, Option, Some, None, List, [], ◌∷◌, length, refl, sym, ◌∙◌, ap, subst, arith}
+use Rattle.std.specs.Prelude.{if◌then◌else◌}
 use Rattle.std.specs.List.{AllByRecursion}
 use Rattle.std.proofs.lemmas.Bool.{cases_lt}
-use Rattle.std.proofs.lemmas.Option.{none-some, same_Some, slice_get_within, slice_get_cases}
+use Rattle.std.proofs.lemmas.Option.{none-some, slice_get_within, slice_get_cases}
 use Rattle.map_model.specs.declared.call.Call.{Call}
 use Rattle.map_model.specs.declared.entry.Reply.{Reply}
 use Rattle.image_layout.specs.Places.{Shape, IsShape}
 use Rattle.script_text.specs.declared.line.Event.TheVariants as event
 use Rattle.script_text.specs.declared.line.Line.{Line}
 use Rattle.script_text.specs.declared.line.Line.TheVariants as line
-use Rattle.world.specs.Views.{View}
 use Rattle.read_op.specs.declared.step.ReadEnd.TheVariants as read_end
 use Rattle.write_op.specs.declared.control.WriteEnd.TheVariants as write_end
 use Rattle.restart_op.specs.declared.restart.RestartOp.{RestartOp}
@@ -30,15 +29,15 @@ use Rattle.core_run.specs.declared.keeper.Keeper.TheVariants.{Restarting, Open, 
 use Rattle.core_run.specs.declared.goal.Goal.{Goal}
 use Rattle.core_run.specs.declared.goal.Goal.TheVariants.{AnyEvent, Kind, StoreTo}
 use Rattle.core_run.specs.State.{State, beginning, Deed, restart_deed, close_deed, keeper_deed, engine_deed, call_deed, open_deed, deed}
-use Rattle.core_run.specs.Run.{is_some_reply, ends_call, counts, is_again, ends_in_again, by_deed, drive, restarted_by, restarted, round, has_call, has_calls, rounds, close_begins, run_out, ready_for, line_done, lines_done, closed, cut_of, most_events, state_at_end, core_run}
-use Rattle.core_run.specs.Running.{Task, IsTask, site_in, start_of, IsOpen, IsRunningBy, IsRunning, DeedsAreWell}
+use Rattle.core_run.specs.Run.{is_some_reply, ends_call, counts, is_again, ends_in_again, by_deed, drive, restarted_by, restarted, round, has_call, has_calls, rounds, close_begins, run_out, ready_for, line_done, lines_done, closed, cut_of, state_at_end}
+use Rattle.core_run.specs.Running.{Task, site_in, start_of, IsOpen, IsRunningBy, DeedsAreWell}
 use Rattle.core_run.specs.States.{RunBegins, CloseMayBegin}
-use Rattle.core_run.specs.Alone.{IsReply, EndsCall, IsAloneBy, IsAlone, IsForOne, behind, all_behind, BeginsAlone, AloneStays, AloneReplies}
+use Rattle.core_run.specs.Alone.{IsReply, EndsCall, IsAloneBy, IsForOne, behind, all_behind, BeginsAlone, AloneStays, AloneReplies}
 use Rattle.core_run.specs.Ends.{IsRun, most_of, HasAnswered, HasRunOut, IsShut, IsWellRun}
 use Rattle.core_run.proofs.Seeing.{either, so, not_so}
 use Rattle.core_run.proofs.Working.{Falls, BeginsLow}
 use Rattle.core_run.proofs.Staying.{IsOfOne, of_one}
-use Rattle.core_run.proofs.Measures.{left_for, open_left, deed_less, left_low, behind_low, stays_shut}
+use Rattle.core_run.proofs.Measures.{left_for, open_left, deed_less, left_low, behind_low, stays_shut, IsEarly, stays_early}
 
 -- ---- ends with a reply
 again_no : (end : End) → EndsCall end → is_again end ≡ false
@@ -53,7 +52,7 @@ again_no (ends.Write (write_end.Again why)) told = absurd told
 again_no (ends.Write (write_end.Stale segment byte)) told = absurd told
 again_no (ends.Write write_end.Off) told = absurd told
 
-never_again : (o : Option End) → ((end : End) → o ≡ Some end → EndsCall end) → ends_in_again o ≡ false
+pub never_again : (o : Option End) → ((end : End) → o ≡ Some end → EndsCall end) → ends_in_again o ≡ false
 never_again None told = refl
 never_again (Some end) told = again_no end (told end refl)
 
@@ -96,7 +95,7 @@ drive_none shape zero c goal s = refl
 drive_none shape (suc m) c goal s = refl
 
 module _ (wells : DeedsAreWell) (stays : AloneStays) (replies : AloneReplies) (keeps : KeepsSuits) (less : Falls) (first : BeginsLow) (started : EndsStarted) (falls : CloseFalls)
-  (close_may : CloseMayBegin) (close_low : (shape : Shape) → IsShape shape → close_left (close_begun shape) ≡ events_of shape) (t : Task) (is : IsForOne t) where
+    (close_may : CloseMayBegin) (close_low : (shape : Shape) → IsShape shape → close_left (close_begun shape) ≡ events_of shape) (t : Task) (is : IsForOne t) where
   -- ---- one event
   after : (c : ℕ) (s : State) (d : Deed) → IsRun t s → deed t.shape c s ≡ Some d → IsRun t d.state
   after c s d r e = record { running = (wells t c s d is.task r.running e).after; alone = stays t c s d is r.running r.alone e }
@@ -161,17 +160,20 @@ module _ (wells : DeedsAreWell) (stays : AloneStays) (replies : AloneReplies) (k
           not_so (λ x. deed t.shape c x ≡ None) (ends_in_again d.end) d.state (drive t.shape m c AnyEvent n d.state) (never_again d.end (told c s d r e))
           (rest d.state (after c s d r e) (omega (arith, a, f)) (omega (arith, b)))
 
-  drive_shut : (m : ℕ) (goal : Goal) (n : ℕ) (s : State) → IsShut s.keeper → IsShut (drive t.shape m 0 goal n s).keeper
-  drive_shut zero goal n s shut = shut
-  drive_shut (suc m) goal zero s shut = shut
-  drive_shut (suc m) goal (suc n) s shut = by (λ n' u p. drive_shut m goal n' u p) (deed t.shape 0 s) refl
-    where
-      by : ((n' : ℕ) (u : State) → IsShut u.keeper → IsShut (drive t.shape m 0 goal n' u).keeper) → (o : Option Deed) → deed t.shape 0 s ≡ o → IsShut (by_deed o s (λ d. drive t.shape m 0 goal (if counts goal d then n else suc n) d.state)).keeper
-      by rest None e = shut
-      by rest (Some d) e =
-          let next : IsShut d.state.keeper = stays_shut t.shape s.keeper s.core d shut e in
-          either (λ (x : State). IsShut x.keeper) (ends_in_again d.end) d.state (drive t.shape m 0 goal (if counts goal d then n else suc n) d.state) next
-          (rest (if counts goal d then n else suc n) d.state next)
+  -- what caller 0 keeps to in each of its events it keeps to in all
+  module _ (P : Keeper → Type 0) (keeps_to : (k : Keeper) (core : Core) (d : Deed) → P k → keeper_deed t.shape k core ≡ Some d → P d.state.keeper) where
+    drive_keeps : (m : ℕ) (goal : Goal) (n : ℕ) (s : State) → P s.keeper → P (drive t.shape m 0 goal n s).keeper
+    drive_keeps zero goal n s p = p
+    drive_keeps (suc m) goal zero s p = p
+    drive_keeps (suc m) goal (suc n) s p = by (λ n' u q. drive_keeps m goal n' u q) (deed t.shape 0 s) refl
+      where
+        by : ((n' : ℕ) (u : State) → P u.keeper → P (drive t.shape m 0 goal n' u).keeper) → (o : Option Deed) → deed t.shape 0 s ≡ o
+            → P (by_deed o s (λ d. drive t.shape m 0 goal (if counts goal d then n else suc n) d.state)).keeper
+        by rest None e = p
+        by rest (Some d) e =
+            let next : P d.state.keeper = keeps_to s.keeper s.core d p e in
+            either (λ (x : State). P x.keeper) (ends_in_again d.end) d.state (drive t.shape m 0 goal (if counts goal d then n else suc n) d.state) next
+            (rest (if counts goal d then n else suc n) d.state next)
 
   -- ---- the restart
   restarted_by_stays : (most : ℕ) (k : Keeper) (s : State) → IsRun t s → IsRun t (restarted_by t.shape most k s)
@@ -196,6 +198,17 @@ module _ (wells : DeedsAreWell) (stays : AloneStays) (replies : AloneReplies) (k
       by (Closing close) here e = absurd (let z : Closing close ≡ Restarting op = sym here ∙ e in cc)
       by Closed here e = absurd (let z : Closed ≡ Restarting op = sym here ∙ e in cc)
 
+  pub restart_opens : (most : ℕ) (s : State) (op : RestartOp) → most_of t ≤ most → IsRun t s → s.keeper ≡ Restarting op → (restarted t.shape most s).keeper ≡ Open
+  restart_opens most s op enough r here =
+      by (restarted t.shape most s).keeper refl
+      (subst (λ k. IsEarly (restarted_by t.shape most k s).keeper) (sym here) (drive_keeps IsEarly (stays_early t.shape) most AnyEvent most s (subst IsEarly (sym here) tt)))
+    where
+      by : (k : Keeper) → (restarted t.shape most s).keeper ≡ k → IsEarly k → (restarted t.shape most s).keeper ≡ Open
+      by (Restarting begun) is early = absurd (restart_ends most s enough r begun is)
+      by Open is early = is
+      by (Closing close) is early = absurd early
+      by Closed is early = absurd early
+
   pub ready_stays : (most c : ℕ) (s : State) → IsRun t s → IsRun t (ready_for t.shape most c s)
   ready_stays most zero s r = r
   ready_stays most (suc j) s r = restarted_stays most s r
@@ -217,8 +230,10 @@ module _ (wells : DeedsAreWell) (stays : AloneStays) (replies : AloneReplies) (k
     calls_deed : (call : Call) → current one.caller ≡ Some call → (e : Option Engine) → DoesCall (site_in t) one.caller e one.view
         → (d : Deed) × (call_deed t.shape 0 (record core { callers = one.caller ∷ [] }) one.caller (current one.caller) e ≡ Some d)
     calls_deed call now None does = absurd (none-some call (sym does.no_call ∙ now))
-    calls_deed call now (Some e) does = (engine_deed t.shape 0 (record core { callers = one.caller ∷ [] }) one.caller call e,
-        ap (λ x. call_deed t.shape 0 (record core { callers = one.caller ∷ [] }) one.caller x (Some e)) now)
+    calls_deed call now (Some e) does = (
+      engine_deed t.shape 0 (record core { callers = one.caller ∷ [] }) one.caller call e,
+      ap (λ x. call_deed t.shape 0 (record core { callers = one.caller ∷ [] }) one.caller x (Some e)) now,
+    )
 
     -- a caller who has a call left has an event left
     has_deed : 0 < all_behind core.callers → (d : Deed) × (open_deed t.shape 0 Open core ≡ Some d)
@@ -269,7 +284,7 @@ module _ (wells : DeedsAreWell) (stays : AloneStays) (replies : AloneReplies) (k
       let e : deed t.shape 1 s ≡ Some d = got.1 in
       subst (λ x. HasAnswered s (by_deed x s (λ d. drive t.shape m 1 (Kind event.End) (if counts (Kind event.End) d then 0 else 1) d.state))) (sym e)
       (not_so (HasAnswered s) (ends_in_again d.end) d.state (drive t.shape m 1 (Kind event.End) (if ends_call d.end then 0 else 1) d.state) (never_again d.end (told 1 s d r e))
-          (call_on m s r here more few (answered_by m) d e got.2 d.end refl))
+      (call_on m s r here more few (answered_by m) d e got.2 d.end refl))
 
   pub call_ends : (most : ℕ) (s : State) → most_of t ≤ most → IsRun t s → s.keeper ≡ Open → 0 < all_behind s.core.callers → HasAnswered s (drive t.shape most 1 (Kind event.End) 1 s)
   call_ends most s enough r here more = let l = low 1 s r in answered_by most s r here more (omega (arith, l, enough))
@@ -347,7 +362,7 @@ module _ (wells : DeedsAreWell) (stays : AloneStays) (replies : AloneReplies) (k
         let at_close : State = run_out t.shape most s in
         let run : IsRun t at_close = run_out_stays s r in
         let l = low 0 at_close run in
-        is_closed (closed t.shape most s).keeper (closed t.shape most s).core (drive_shut most AnyEvent most at_close (run_out_shut s r))
+        is_closed (closed t.shape most s).keeper (closed t.shape most s).core (drive_keeps IsShut (stays_shut t.shape) most AnyEvent most at_close (run_out_shut s r))
         (drive_through most 0 most at_close run (omega (arith, l, enough)) (omega arith))
 
     -- ---- the lines
@@ -376,8 +391,10 @@ module _ (wells : DeedsAreWell) (stays : AloneStays) (replies : AloneReplies) (k
     where
       at_lines : State
       at_lines = lines_done t.shape (most_of t) lines (beginning t.shape (start_of t) t.scripts)
+
       run : IsRun t at_lines
       run = lines_stay (most_of t) (omega arith) lines (beginning t.shape (start_of t) t.scripts) (record { running = begins t is.task; alone = alone t is })
+
       by : (o : Option ℕ) → cut_of lines ≡ o → IsWellRun t lines
       by None none = record {
         is_run = subst (λ o. IsRun t (state_at_end t.shape (most_of t) lines o (beginning t.shape (start_of t) t.scripts))) (sym none) (closed_stays (most_of t) (omega arith) at_lines run);

@@ -1,12 +1,10 @@
 -- How many events a seat has left at most: each event leaves fewer, and at first there are no more than the run counts.
-use Rattle.std.proofs.Common.{◌≡◌, ◌≢◌, ℕ, zero, suc, ◌+◌, ◌-◌, ◌*◌, ◌/◌, ◌<◌, ◌≤◌, Bool, true, false, cond, Option, Some, None, List, [], ◌∷◌, length, map, refl, sym, ◌∙◌, ap, subst, arith}
+use Rattle.std.proofs.Common.{◌≡◌, ℕ, zero, suc, ◌+◌, ◌<◌, ◌≤◌, Option, Some, None, List, length, map, refl, sym, ◌∙◌, ap, subst, arith}
 use Rattle.std.specs.Prelude.{⊤}
 use Rattle.std.proofs.lemmas.Option.{none-some, same_Some}
-use Rattle.trace.specs.Events.{Words}
 use Rattle.op_core.specs.declared.want.Want.{Want}
 use Rattle.op_core.specs.declared.want.Want.TheVariants as want
-use Rattle.image_layout.specs.Places.{Shape, words_of}
-use Rattle.map_model.specs.declared.call.Call.{Call}
+use Rattle.image_layout.specs.Places.{Shape}
 use Rattle.world.specs.Wants.{answer_to, word_of}
 use Rattle.restart_op.specs.declared.restart.RestartOp.{RestartOp}
 use Rattle.restart_op.specs.declared.restart.Started.{Started}
@@ -17,7 +15,7 @@ use Rattle.restart_op.specs.Budget.{left as restart_left}
 use Rattle.restart_op.specs.Restarted.{EndsStarted, restarted}
 use Rattle.restart_op.specs.declared.close.CloseOp.{CloseOp}
 use Rattle.restart_op.specs.Close.{wanted as close_wanted, taken as close_taken}
-use Rattle.restart_op.specs.Closing.{left as close_left, events_of, Falls as CloseFalls}
+use Rattle.restart_op.specs.Closing.{left as close_left, Falls as CloseFalls}
 use Rattle.read_op.specs.declared.step.Second.{Second}
 use Rattle.read_op.specs.declared.step.Second.TheVariants as again
 use Rattle.read_op.specs.declared.step.ReadStep.{ReadStep}
@@ -36,19 +34,18 @@ use Rattle.engine.specs.declared.engine.Op.{Op}
 use Rattle.engine.specs.declared.engine.Op.TheVariants.{Read, Write}
 use Rattle.engine.specs.declared.engine.Engine.{Engine}
 use Rattle.engine.specs.declared.engine.End.{End}
-use Rattle.engine.specs.Left.{more_of, more_in, left_of_op, left}
+use Rattle.engine.specs.Left.{more_of, more_in, left_of_op}
 use Rattle.engine.specs.Fits.{KeepsSuits}
 use Rattle.engine.specs.Core.{Caller, Core}
 use Rattle.core_run.specs.declared.keeper.Keeper.{Keeper}
 use Rattle.core_run.specs.declared.keeper.Keeper.TheVariants.{Restarting, Open, Closing, Closed}
 use Rattle.core_run.specs.State.{State, Deed, by_keeper, restarting, closing, restart_deed, close_deed, keeper_deed, open_deed, deed}
-use Rattle.core_run.specs.Run.{all_calls, most_events}
-use Rattle.core_run.specs.Running.{Task, IsTask, IsOpen, IsRestarting, IsRunningBy, IsRunning}
-use Rattle.core_run.specs.Alone.{EndsCall, IsAloneBy, IsAlone, IsForOne, behind, all_behind}
+use Rattle.core_run.specs.Run.{all_calls}
+use Rattle.core_run.specs.Running.{Task, IsOpen, IsRunningBy}
+use Rattle.core_run.specs.Alone.{IsAloneBy, IsForOne, behind, all_behind}
 use Rattle.core_run.specs.Ends.{IsRun, most_of, IsShut}
 use Rattle.core_run.proofs.Working.{Falls, BeginsLow, work_of, work, all_work}
-use Rattle.core_run.proofs.Going.{IsLeft}
-use Rattle.core_run.proofs.Staying.{IsOfOne, of_one, seat_left}
+use Rattle.core_run.proofs.Staying.{of_one, seat_left}
 
 abbrev pub keeper_left : Keeper → ℕ
 keeper_left (Restarting op) = restart_left op.step
@@ -126,6 +123,32 @@ stays_shut shape (Closing op) core d shut e =
     let next : CloseOp = close_taken op (answer_to (close_wanted op) (core.words (word_of shape (close_wanted op)))) in
     subst (λ (x : Deed). IsShut x.state.keeper) (same_Some (close_deed shape op core) d e) (closing_shut shape next (close_wanted next))
 stays_shut shape Closed core d shut e = absurd (none-some d e)
+
+-- a keeper who restarts the image goes on with it, or leaves it to the callers
+abbrev pub IsEarly : Keeper → Type 0
+IsEarly (Restarting op) = ⊤
+IsEarly Open = ⊤
+IsEarly (Closing op) = ⊥
+IsEarly Closed = ⊥
+
+restarting_early : (shape : Shape) (op : RestartOp) (w : Want) (core : Core) → IsEarly (restarting shape op w core).keeper
+restarting_early shape op want.Done core = tt
+restarting_early shape op (want.Load i) core = tt
+restarting_early shape op (want.Store i x) core = tt
+restarting_early shape op (want.Exchange i a b) core = tt
+restarting_early shape op (want.Flush l) core = tt
+restarting_early shape op want.Fence core = tt
+restarting_early shape op want.Draw core = tt
+restarting_early shape op want.Power core = tt
+
+pub stays_early : (shape : Shape) (k : Keeper) (core : Core) (d : Deed) → IsEarly k → keeper_deed shape k core ≡ Some d → IsEarly d.state.keeper
+stays_early shape (Restarting op) core d early e =
+    let w : Want = restart_wanted op in
+    let next : RestartOp = restart_taken op (answer_to w (core.words (word_of shape w))) in
+    subst (λ (x : Deed). IsEarly x.state.keeper) (same_Some (restart_deed shape op core) d e) (restarting_early shape next (restart_wanted next) (by_keeper shape w core))
+stays_early shape Open core d early e = absurd (none-some d e)
+stays_early shape (Closing op) core d early e = absurd early
+stays_early shape Closed core d early e = absurd early
 
 -- ---- an engine
 again_low : (at : Second) → left_again at ≤ 4

@@ -1,8 +1,8 @@
 //! The laws of one caller alone. The functions do nothing: each stands for the law that its contract says.
 
-ghost use Rattle.core_run.specs.Alone.{BeginsAlone, AloneStays, AloneReplies};
+ghost use Rattle.core_run.specs.Alone.{BeginsAlone, AloneStays, AloneReplies, NeverAgain};
 ghost use Rattle.core_run.specs.Ends.{DriveStays, RestartedStays, RoundStays, RoundsStay, ReadyStays, RunOutStays, LineStays, LinesStay, ClosedStays};
-ghost use Rattle.core_run.specs.Ends.{RestartEnds, CallEnds, RoundsEnd, RoundsAreEnough, RunOutEnds, ClosedEnds, DrivesAreEnough, RunsAreWell};
+ghost use Rattle.core_run.specs.Ends.{RestartEnds, RestartOpens, CallEnds, RoundsEnd, RoundsAreEnough, RunOutEnds, ClosedEnds, DrivesAreEnough, RunsAreWell};
 
 use crate::states;
 
@@ -11,6 +11,7 @@ pub fn alone_stays()
     ensures begins { BeginsAlone }
     ensures stays { AloneStays }
     ensures replies { AloneReplies }
+    ensures never_again { NeverAgain }
 {
     engine::fits_the_world();
     engine::attempts_end();
@@ -43,6 +44,7 @@ pub fn runs_stay_well()
 /// events at most, the close begins, and it ends.
 pub fn calls_run_out()
     ensures restart { RestartEnds }
+    ensures opens { RestartOpens }
     ensures call { CallEnds }
     ensures rounds { RoundsEnd }
     ensures few { RoundsAreEnough }
