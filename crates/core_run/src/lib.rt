@@ -15,9 +15,7 @@ pub mod sessions;
 pub mod states;
 
 pub use alone::{alone_stays, calls_run_out, drives_are_enough, runs_are_well, runs_stay_well};
-pub use causes::{
-    any_keeper_keeps, causes_are_told, causes_begin, causes_stay, no_slot_is_free,
-};
+pub use causes::{any_keeper_keeps, causes_are_told, causes_begin, causes_stay, no_slot_is_free};
 pub use deed::Deed;
 pub use goal::Goal;
 pub use keeper::Keeper;
