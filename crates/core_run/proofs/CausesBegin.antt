@@ -1,5 +1,5 @@
 -- At the beginning nothing is refused.
-use Rattle.std.proofs.Common.{◌≡◌, ℕ, suc, List, [], ◌∷◌, Option, None, Some, refl, sym, ap, subst, map}
+use Rattle.std.proofs.Common.{ℕ, suc, List, [], ◌∷◌, Option, None, Some, map}
 use Rattle.std.specs.List.{AllByRecursion}
 use Rattle.image_layout.specs.Places.{Shape}
 use Rattle.map_model.specs.declared.call.Call.{Call}
@@ -7,9 +7,9 @@ use Rattle.map_model.specs.declared.entry.Entry.{Entry}
 use Rattle.map_model.specs.Map.{Map}
 use Rattle.map_model.specs.Weave.{all_of}
 use Rattle.session.specs.Callers.{history_of}
-use Rattle.engine.specs.Core.{Caller, current, told_of, Core}
+use Rattle.engine.specs.Core.{current, told_of, Core}
 use Rattle.core_run.specs.State.{waiting, waiting_from}
-use Rattle.core_run.specs.Causes.{HadCause, CallHasCause, CausesBegin}
+use Rattle.core_run.specs.Causes.{CallHasCause, CausesBegin}
 
 pub none_told : (P : Entry → Type 0) (shape : Shape) (n : ℕ) (scripts : List (List Call)) → AllByRecursion P (all_of (map history_of (map told_of (waiting_from shape n scripts))))
 none_told P shape n [] = tt

@@ -1,9 +1,8 @@
 -- Each event of a run keeps it that each refusal has its cause.
-use Rattle.std.proofs.Common.{◌≡◌, ℕ, zero, suc, List, Option, None, Some, slice_get, slice_index, refl, sym, ap, ◌∙◌, subst}
+use Rattle.std.proofs.Common.{◌≡◌, ℕ, zero, suc, Option, None, Some, slice_get, refl, subst}
 use Rattle.std.specs.FinMap.{get}
 use Rattle.std.proofs.lemmas.Option.{none-some, same_Some}
 use Rattle.image_layout.specs.Places.{Shape}
-use Rattle.map_model.specs.declared.call.Call.{Call}
 use Rattle.map_model.specs.Map.{Map}
 use Rattle.map_model.specs.Laws.{WeaveLeavesDraws}
 use Rattle.world.specs.Site.{Site}
@@ -21,7 +20,7 @@ use Rattle.core_run.specs.declared.keeper.Keeper.TheVariants.{Restarting, Open, 
 use Rattle.core_run.specs.State.{Deed, restart_deed, close_deed, engine_deed, keeper_deed, call_deed, caller_deed, open_deed}
 use Rattle.core_run.specs.Running.{Task, IsRunningBy, site_in, start_of}
 use Rattle.core_run.specs.Causes.{HaveCauses, CausesStay}
-use Rattle.core_run.proofs.Keeping.{restart_keeps, close_keeps}
+use Rattle.core_run.proofs.KeeperCauses.{restart_keeps, close_keeps}
 use Rattle.core_run.proofs.CausesTurn.{turn_keeps}
 
 -- what is said of a deed is said of one that it equals
@@ -39,8 +38,8 @@ by_keeper t opening Closed core d running have is = absurd (none-some d is)
 
 -- ---- a caller
 module _ (legal : EntriesAreLegal) (woven : WeaveLeavesDraws) (keeps : KeepsSuits) (spares : KeepsSpent) (fulls : FullIsKnown) (one_word : ChangesOneWord)
-  (site : Site) (start : _) (core : Core) (h : CoreHolds site start core) (opening : Map) (same : (k : ℕ) → get opening k ≡ site.start k)
-  (have : HaveCauses site.shape opening core) (d : Deed) (j : ℕ) where
+    (site : Site) (start : _) (core : Core) (h : CoreHolds site start core) (opening : Map) (same : (k : ℕ) → get opening k ≡ site.start k)
+    (have : HaveCauses site.shape opening core) (d : Deed) (j : ℕ) where
   by_engine : (c : Caller) (is : slice_get core.callers j ≡ Some c) (v : View) → At h.views j v → CallerFits site c v → (engine : Option Engine) → c.engine ≡ engine
       → DoesCall site c engine v → call_deed site.shape j core c (current c) engine ≡ Some d → HaveCauses site.shape opening d.state.core
   by_engine c is v at fits None runs does deed = absurd (none-some d (subst (λ o. call_deed site.shape j core c o None ≡ Some d) does.no_call deed))

@@ -1,7 +1,5 @@
 -- The event of a caller: what it adds to the entries, and the cause of a refusal that it places.
-use Rattle.std.proofs.Common.{◌≡◌, ◌≢◌, ℕ, suc, ◌+◌, ◌-◌, ◌%◌, ◌^◌, ◌<◌, ◌≤◌, ◌⊎◌, Bool, true, false, cond, eqb, List, [], ◌∷◌, ◌++◌, length, slice_get, slice_set, Option, None, Some, inl, inr, refl, sym, ap, ◌∙◌, subst, arith, length-append}
-use Rattle.std.specs.Prelude.{⊤}
-use Rattle.std.specs.List.{AllByRecursion}
+use Rattle.std.proofs.Common.{◌≡◌, ℕ, suc, ◌^◌, ◌<◌, ◌≤◌, ◌⊎◌, Bool, true, false, cond, eqb, List, [], ◌∷◌, ◌++◌, length, slice_get, Option, None, Some, inl, inr, refl, sym, ap, ◌∙◌, subst, arith, length-append}
 use Rattle.std.specs.FinMap.{get}
 use Rattle.std.proofs.lemmas.Bool.{lt-ltb}
 use Rattle.std.proofs.lemmas.List.{append_cancel_left}
@@ -26,8 +24,7 @@ use Rattle.session.specs.Session.{HadNoRoom}
 use Rattle.session.specs.Callers.{with_open}
 use Rattle.world.specs.declared.site.Site.{Site as Here}
 use Rattle.world.specs.Site.{Site, IsSite, IsLockWord}
-use Rattle.world.specs.Views.{View, At, Has}
-use Rattle.world.specs.Kinds.{Kind, view_after}
+use Rattle.world.specs.Views.{View, At}
 use Rattle.world.specs.Wants.{answer_to, word_of}
 use Rattle.world.specs.World.{fresh_view}
 use Rattle.world.specs.Laws.{EntriesAreLegal, ChangesOneWord}
@@ -41,44 +38,40 @@ use Rattle.write_op.specs.declared.control.Task.{Task}
 use Rattle.write_op.specs.declared.control.WriteEnd.{WriteEnd}
 use Rattle.write_op.specs.declared.control.WriteEnd.TheVariants.{Replied, NoSlot, Again, Stale, Off}
 use Rattle.write_op.specs.declared.control.Step.{Step}
-use Rattle.write_op.specs.declared.control.Step.TheVariants.{AskPower, LoadRoot, LoadEntry, LoadHead, LookAt, TryLock, RootAgain, EntryAgain, HeadAgain, LoadWord, LoadCount, Make, CountSpent, CountFull, GiveBack, Ended}
+use Rattle.write_op.specs.declared.control.Step.TheVariants.{CountSpent, GiveBack, Ended}
 use Rattle.write_op.specs.declared.machine.WriteOp.{WriteOp}
 use Rattle.write_op.specs.Ways.{lock_word, bucket_of}
-use Rattle.write_op.specs.Wanted.{wanted_of, key_for}
+use Rattle.write_op.specs.Wanted.{wanted_of}
 use Rattle.write_op.specs.Suits.{Enters, SuitsStep, FindsNoSlot, SuitsLooking}
 use Rattle.write_op.specs.Taken.{no_room, end_at}
 use Rattle.engine.specs.declared.engine.Op.{Op}
 use Rattle.engine.specs.declared.engine.Op.TheVariants.{Read, Write}
 use Rattle.engine.specs.declared.engine.Engine.{Engine}
-use Rattle.engine.specs.Engine.{begun, running, wanted, wanted_by_op, taken_by_op, end_of, end_of_op, reply_of_end, read_reply, write_reply, read_end_at, kind_of}
-use Rattle.engine.specs.Fits.{HasNoMore, HasOneMore, SuitsOp, Suits, EntersReply, HasEnded, KeepsSuits, finds, next_engine, next_view, StepsWell}
+use Rattle.engine.specs.Engine.{running, wanted, wanted_by_op, taken_by_op, end_of, end_of_op, reply_of_end, read_reply, write_reply, read_end_at, kind_of}
+use Rattle.engine.specs.Fits.{SuitsOp, Suits, EntersReply, HasEnded, KeepsSuits, finds, next_engine, next_view, StepsWell}
 use Rattle.engine.specs.Asks.{KeepsSpent, FullIsKnown, FindsFull}
-use Rattle.engine.specs.Core.{Caller, Core, current, call_at, engine_for, entry_of, open_of, drawn_by, ended, settled, answered, with_event}
-use Rattle.engine.specs.Holding.{HasUntold, HasEntries, IsCalling, DoesCall, CallerFits, CoreHolds}
+use Rattle.engine.specs.Core.{Caller, Core, current, call_at, entry_of, open_of, drawn_by, ended, settled, answered, with_event}
+use Rattle.engine.specs.Holding.{HasUntold, HasEntries, IsCalling, CallerFits, CoreHolds}
+use Rattle.engine.proofs.Fullness.{key_is}
+use Rattle.engine.proofs.Goodness.{not_longer, none_drawn}
 use Rattle.engine.proofs.Planned.{planned_is}
 use Rattle.engine.proofs.Told.{entries_after}
-use Rattle.core_run.specs.Causes.{IsRefusal, entries_of, HasSpentLock, HadCause, EndHasCause, StepHasCause, OpHasCause, CallHasCause, HaveCauses}
-use Rattle.core_run.proofs.WithoutEntries.{begun_caused}
-use Rattle.core_run.proofs.Growing.{all_each, IsGrown, entries, history, same_maps, all_draws, all_have, all_set, at_of}
-use Rattle.core_run.proofs.Replying.{HasGrounds, no_cause, op_says}
-use Rattle.core_run.proofs.Counting.{counter_is, map_is}
-use Rattle.core_run.proofs.Full.{key_is, had_no_room}
-use Rattle.core_run.proofs.Stepping.{ComesAfter, cause_stays, op_stays, call_stays, spent_stays}
+use Rattle.core_run.specs.Causes.{entries_of, HasSpentLock, HadCause, EndHasCause, StepHasCause, OpHasCause, CallHasCause, HaveCauses}
+use Rattle.core_run.proofs.CallsBegun.{begins_caused}
+use Rattle.core_run.proofs.DifferentKeys.{each}
+use Rattle.core_run.proofs.GrownEntries.{IsGrown, entries, history, same_maps, all_draws, all_have, all_set, at_of}
+use Rattle.core_run.proofs.ReplyCauses.{HasGrounds, no_cause, op_says}
+use Rattle.core_run.proofs.CountedDraws.{counter_is, map_is}
+use Rattle.core_run.proofs.FullBuckets.{had_no_room}
+use Rattle.core_run.proofs.StayingCauses.{ComesAfter, cause_stays, op_stays, call_stays, spent_stays}
 
 -- ---- lists of entries
 one_longer : (xs ys : List Entry) (e : Entry) → xs ≡ ys ++ e ∷ [] → length xs ≡ suc (length ys)
 one_longer xs ys e is = let l = ap length is ∙ length-append ys (e ∷ []) in omega (arith, l)
 
-not_longer : (xs ys : List Entry) (e : Entry) → xs ≡ ys ++ e ∷ [] → xs ≡ ys → ⊥
-not_longer xs ys e p q = let l = one_longer xs ys e p in let m = ap length q in omega (arith, l, m)
-
 abbrev first_drew : List Entry → Bool
 first_drew [] = false
 first_drew (x ∷ xs) = x.drew
-
-none_drawn : (told own : List Entry) (drew : Option Entry) → HasEntries told drew own → own ≡ told → drew ≡ None
-none_drawn told own None has same = refl
-none_drawn told own (Some e) has same = absurd (not_longer own told e has same)
 
 open_same : (told : List Entry) (b : Bool) (drew more : Option Entry) → (b ≡ false → drew ≡ None) → more ≡ drew → with_open told (Some more) ≡ with_open told (open_of b drew)
 open_same told false drew more idle same = ap (λ o. with_open told (Some o)) (same ∙ idle refl)
@@ -119,11 +112,13 @@ own_of_op site here call (Write op) before v suits w = own_of_step op.task op.ke
 
 -- ---- where a lock is
 is_lock : (site : Site) → IsSite site → (t : Task) (k : Kept) (side : Side) → t.site.geometry ≡ site.shape → k.segment ≡ 0 → IsLockWord site.shape (lock_word t k side)
-is_lock site good t k side place first =
-    (bucket_of side t.hash, near side,
-        ap (λ s. lock_word t (record k { segment = s }) side) first
-        ∙ (ap (λ b. cond b (bucket_at t.site.geometry 0 (bucket_of side t.hash)) root_word) (lt-ltb 0 t.site.geometry.segments some)
-        ∙ ap (λ g. bucket_at g 0 (bucket_of side t.hash)) place))
+is_lock site good t k side place first = (
+  bucket_of side t.hash,
+  near side,
+  ap (λ s. lock_word t (record k { segment = s }) side) first
+      ∙ (ap (λ b. cond b (bucket_at t.site.geometry 0 (bucket_of side t.hash)) root_word) (lt-ltb 0 t.site.geometry.segments some)
+      ∙ ap (λ g. bucket_at g 0 (bucket_of side t.hash)) place),
+)
   where
     near : (side : Side) → bucket_of side t.hash < 66
     near Home = omega arith
@@ -191,14 +186,8 @@ module _ (shape : Shape) (opening : Map) (core : Core) (c : Caller) (call : Call
     op_moves (Read op) had = tt
     op_moves (Write op) had = step_moves op.step had
 
--- an engine that has just begun, whatever the call
-begins_caused : (shape : Shape) (opening : Map) (core : Core) (c : Caller) (here : Here) (o p : Option Call) → CallHasCause shape opening core c o (engine_for here p)
-begins_caused shape opening core c here None p = tt
-begins_caused shape opening core c here (Some call) None = tt
-begins_caused shape opening core c here (Some call) (Some next) = begun_caused shape opening core c here call next
-
 module _ (legal : EntriesAreLegal) (woven : WeaveLeavesDraws) (keeps : KeepsSuits) (spares : KeepsSpent) (fulls : FullIsKnown) (one_word : ChangesOneWord)
-  (site : Site) (start : Words) (core : Core) (h : CoreHolds site start core) (opening : Map) (same : (k : ℕ) → get opening k ≡ site.start k) where
+    (site : Site) (start : Words) (core : Core) (h : CoreHolds site start core) (opening : Map) (same : (k : ℕ) → get opening k ≡ site.start k) where
   now_fits : (i : ℕ) → core.words i < 2 ^ 64
   now_fits i = subst (λ x. x < 2 ^ 64) (value_at_now start core.trace i ∙ sym (ap (λ (ws : Words). ws i) h.well.words_are)) (h.fits i (length core.trace))
 
@@ -206,7 +195,7 @@ module _ (legal : EntriesAreLegal) (woven : WeaveLeavesDraws) (keeps : KeepsSuit
   many = draws (entries_of core)
 
   module _ (j : ℕ) (c : Caller) (is : slice_get core.callers j ≡ Some c) (v : View) (at : At h.views j v) (fits : CallerFits site c v)
-    (e : Engine) (calling : IsCalling site c e v) where
+      (e : Engine) (calling : IsCalling site c e v) where
     abbrev call : Call
     call = calling.call
 
@@ -239,8 +228,8 @@ module _ (legal : EntriesAreLegal) (woven : WeaveLeavesDraws) (keeps : KeepsSuit
     has_after : HasEnded call later calling.before seen → HasEntries c.entries drew seen.own
     has_after end = subst (λ w. HasEntries c.entries (drawn_by c call (answer_to w n)) seen.own) (sym well_step.wants)
         (entries_after site c call v n calling.entries
-            (λ planned has. let p = planned_is site c.site call calling.before v e planned calling.suits has in (p.0, p.1 ∙ calling.own_before))
-            (kind_of e n) well_step.may (enters_short (reply_of_end (end_of later)) end.enters))
+        (λ planned has. let p = planned_is site c.site call calling.before v e planned calling.suits has in (p.0, p.1 ∙ calling.own_before))
+        (kind_of e n) well_step.may (enters_short (reply_of_end (end_of later)) end.enters))
 
     draw_place : wanted e ≡ want.Draw → many ≤ n
     draw_place w =
@@ -255,12 +244,15 @@ module _ (legal : EntriesAreLegal) (woven : WeaveLeavesDraws) (keeps : KeepsSuit
       grown_open : IsGrown many P (history c) (with_open c.entries (Some drew))
       grown_open = elim (drawn_or_not c call (wanted e) n) [
         | inl not ↦ inl (open_same c.entries c.begun c.drew drew calling.drew not)
-        | inr draw ↦ inr (entry_of c call reply.Done n, record {
+        | inr draw ↦ inr (
+          entry_of c call reply.Done n,
+          record {
             is = ap (λ o. with_open c.entries (Some o)) draw.1
                 ∙ ap (λ (es : List Entry). es ++ entry_of c call reply.Done n ∷ []) (sym (open_none c.entries c.begun c.drew (none_before draw.0)));
             drew = λ _. draw_place draw.0;
             has = drawn_has;
-          })
+          },
+        )
       ]
 
       none_was : drew ≡ None → c.drew ≡ None
@@ -277,11 +269,14 @@ module _ (legal : EntriesAreLegal) (woven : WeaveLeavesDraws) (keeps : KeepsSuit
         ]
 
         grown_told : (o : Option Entry) → drew ≡ o → HasEntries c.entries o seen.own → IsGrown many P (history c) (c.entries ++ entry_of c call r.0 r.1 ∷ [])
-        grown_told None none untold = inr (entry_of c call r.0 r.1, record {
-          is = ap (λ (es : List Entry). es ++ entry_of c call r.0 r.1 ∷ []) (sym (open_none c.entries c.begun c.drew (none_was none)));
-          drew = λ yes. absurd (let no = not_drew untold in let clash : true ≡ false = sym yes ∙ no in cc);
-          has = has;
-        })
+        grown_told None none untold = inr (
+          entry_of c call r.0 r.1,
+          record {
+            is = ap (λ (es : List Entry). es ++ entry_of c call r.0 r.1 ∷ []) (sym (open_none c.entries c.begun c.drew (none_was none)));
+            drew = λ yes. absurd (let no = not_drew untold in let clash : true ≡ false = sym yes ∙ no in cc);
+            has = has;
+          },
+        )
         grown_told (Some d) some entered =
             subst (λ es. IsGrown many P (history c) es) (ap (λ o. with_open c.entries (Some o)) some ∙ (sym entered ∙ own)) grown_open
 
@@ -331,7 +326,7 @@ module _ (legal : EntriesAreLegal) (woven : WeaveLeavesDraws) (keeps : KeepsSuit
       no_room = subst (λ k. HadNoRoom site.shape k (entry_of c call (no_room here) m))
           (sym (comes_after.maps m (omega (arith, counted)) ∙ ap (λ k. map_at opening (entries_of core) k) counted))
           (had_no_room site core.words (fresh_view 0 ∷ h.views) h.well.holds now_fits (suc j) v at none call full (map_at opening (entries_of core) many)
-              (map_is site start core h legal woven opening same) here place word (entry_of c call (no_room here) m) refl refl);
+          (map_is site start core h legal woven opening same) here place word (entry_of c call (no_room here) m) refl refl);
       spent = λ q. absurd (full_or_deep here q);
     }
 
@@ -350,14 +345,17 @@ module _ (legal : EntriesAreLegal) (woven : WeaveLeavesDraws) (keeps : KeepsSuit
         looks = λ side m at_look a last.
             let found : m ≡ core.words (lock_word op.task op.kept side) = ap value_in (sym a ∙ ap ans_at at_look) in
             let suits_look = subst (λ s. SuitsStep op.task op.kept s v) at_look suits.suits.4.view in
-            comes_after.spent (lock_word op.task op.kept side,
-                is_lock site h.well.holds.site_is op.task op.kept side place (looking_first op.task op.kept side v suits_look), sym found ∙ last);
+            comes_after.spent (
+              lock_word op.task op.kept side,
+              is_lock site h.well.holds.site_is op.task op.kept side place (looking_first op.task op.kept side v suits_look),
+              sym found ∙ last,
+            );
         lock = λ side m at_spent a. spent_by_count m (ap value_in (sym a ∙ ap ans_at at_spent) ∙ counts) (inr (subst (λ s. StepHasCause site.shape opening after c call s) at_spent had));
         count = λ m at_count a most. spent_by_count m (ap value_in (sym a ∙ ap ans_at at_count) ∙ counts) (inl most);
         full = λ m at_full a.
             let finds_none : FindsNoSlot op.task op.kept v = subst (λ s. SuitsStep op.task op.kept s v) at_full suits.suits.4.view in
             full_by_count op.task.site place (fulls site c.site call (running (Write op)) calling.before v h.well.holds.site_is suits at_full) finds_none.1.planned m
-                (ap value_in (sym a ∙ ap ans_at at_full) ∙ counts);
+            (ap value_in (sym a ∙ ap ans_at at_full) ∙ counts);
       }
 
     later_says : (op : Op) → Suits site c.site call (running op) calling.before v → OpHasCause site.shape opening core c call op
@@ -400,8 +398,8 @@ module _ (legal : EntriesAreLegal) (woven : WeaveLeavesDraws) (keeps : KeepsSuit
           told = all_have many (HadCause site.shape opening after) c done
               (grown (HadCause site.shape opening after) (no_cause site.shape opening after c call reply.Done n (λ z. z)) (λ r q. reply_cause site.shape opening after c call later.op r says q))
               core.callers j is
-              (all_each (HadCause site.shape opening core) (HadCause site.shape opening after) (cause_stays site.shape opening core after comes_after) (entries core.callers) have.told);
+              (each (HadCause site.shape opening core) (HadCause site.shape opening after) (cause_stays site.shape opening core after comes_after) (entries core.callers) have.told);
           coming = all_set many (λ x. Unit {0}) c done any_grown (Comes after) core.callers j is
-              (all_each (Comes core) (Comes after) (λ d had. call_stays site.shape opening core after comes_after d (current d) d.engine had) core.callers have.coming)
+              (each (Comes core) (Comes after) (λ d had. call_stays site.shape opening core after comes_after d (current d) d.engine had) core.callers have.coming)
               (comes (wanted later));
         }

@@ -1,6 +1,5 @@
 -- Each line of a script leaves a state of the run, one after another.
-use Rattle.std.proofs.Common.{ℕ, ◌≤◌, Option, None, Some, List, [], ◌∷◌}
-use Rattle.std.proofs.Math.Nat.{le-refl}
+use Rattle.std.proofs.Common.{arith, ℕ, ◌≤◌, Option, None, Some, List, [], ◌∷◌}
 use Rattle.script_text.specs.declared.line.Line.{Line}
 use Rattle.core_run.specs.State.{State}
 use Rattle.core_run.specs.Run.{line_done, lines_done, cut_of}

@@ -1,7 +1,6 @@
 -- A run of one caller's script is a session.
-use Rattle.std.proofs.Common.{◌≡◌, ℕ, zero, suc, ◌+◌, ◌-◌, ◌*◌, ◌/◌, ◌^◌, ◌<◌, ◌≤◌, true, List, [], ◌∷◌, Option, None, Some, refl, sym, ap, ◌∙◌, subst, inl, inr, arith}
+use Rattle.std.proofs.Common.{◌≡◌, ℕ, suc, ◌+◌, ◌-◌, ◌*◌, ◌/◌, ◌^◌, ◌<◌, ◌≤◌, true, List, Option, None, Some, refl, sym, ap, ◌∙◌, subst, arith}
 use Rattle.std.specs.Prelude.{Contains, not, is_some}
-use Rattle.std.specs.List.{AllByRecursion}
 use Rattle.image_layout.specs.Places.{Shape, IsShape, words_of, bucket_at}
 use Rattle.bucket_meta.specs.Bucket.{version_of}
 use Rattle.map_model.specs.declared.entry.Entry.{Entry}
@@ -9,12 +8,11 @@ use Rattle.map_model.specs.declared.entry.Reply.TheVariants.{Spent}
 use Rattle.map_model.specs.Map.{Map}
 use Rattle.map_model.specs.Weave.{draws, weave}
 use Rattle.map_model.specs.Legal.{replay}
-use Rattle.map_model.specs.ByPlaces.{map_at}
 use Rattle.sound_image.specs.Image.{IsSoundImage}
 use Rattle.sound_image.specs.Left.{HasPairsOf}
 use Rattle.script_text.specs.declared.line.Line.{Line}
 use Rattle.session.specs.Transcript.{transcript_of}
-use Rattle.session.specs.Session.{IsSession, IsClosed, HadNoRoom, HasSpentBucket}
+use Rattle.session.specs.Session.{IsSession, IsClosed, HasSpentBucket}
 use Rattle.restart_op.specs.Close.{lines_of, begun as close_begun}
 use Rattle.restart_op.specs.Closing.{left as close_left, events_of}
 use Rattle.engine.specs.Core.{tolds_of, histories}
@@ -25,7 +23,7 @@ use Rattle.core_run.specs.State.{State, beginning}
 use Rattle.core_run.specs.Run.{rounds, cut_of, medium_words}
 use Rattle.core_run.specs.Running.{Task, IsTask, start_of, IsRunningBy, DeedsAreWell}
 use Rattle.core_run.specs.States.{RunBegins, CloseMayBegin, IsGoodMoment, IsGoodMedium, MomentsAreGood, IsClosedWell, ClosedIsClosed, ToldsFollow}
-use Rattle.core_run.specs.Causes.{entries_of, HasSpentLock, HadCause, RefusalsAreCaused, CausesBegin, CausesStay, AnyKeeperKeeps, NoSlotIsFree}
+use Rattle.core_run.specs.Causes.{entries_of, HasSpentLock, AreToldCauses, CausesAreTold, RefusalsAreCaused, CausesBegin, CausesStay, AnyKeeperKeeps, NoSlotIsFree}
 use Rattle.core_run.specs.Alone.{IsForOne, BeginsAlone, AloneStays}
 use Rattle.core_run.specs.Ends.{IsRun, most_of, RoundsEnd, RoundsAreEnough, RunsAreWell}
 use Rattle.core_run.specs.Opening.{opening_of}
@@ -88,17 +86,7 @@ module _ (deeds : DeedsAreWell) (begins : RunBegins) (may_close : CloseMayBegin)
       (record { run = record { running = begins t one.task; alone = alone_begins t one }; caused = causes_begin t opening; newest = refl })
 
 -- ---- what is left
--- what holds of each element holds of one that is contained, and so does what follows from it
-holds_of : {X : Type 0} (P : X → Type 0) (xs : List X) (x : X) → AllByRecursion P xs → Contains xs x → P x
-holds_of P [] x all (k, lt, is) = absurd (omega arith)
-holds_of P (y ∷ ys) x all (zero, lt, is) = subst P is all.0
-holds_of P (y ∷ ys) x all (suc k, lt, is) = holds_of P ys x all.1 (k, omega arith, is)
-
-each_has : {X : Type 0} (P Q : X → Type 0) → ((x : X) → P x → Q x) → (xs : List X) → AllByRecursion P xs → AllByRecursion Q xs
-each_has P Q follows [] all = tt
-each_has P Q follows (x ∷ xs) all = (follows x all.0, each_has P Q follows xs all.1)
-
-module _ (moments : MomentsAreGood) (closed : ClosedIsClosed) (follow : ToldsFollow) (no_free : NoSlotIsFree) (t : Task) (is : IsTask t) (opening : Map)
+module _ (moments : MomentsAreGood) (closed : ClosedIsClosed) (follow : ToldsFollow) (told : CausesAreTold) (no_free : NoSlotIsFree) (t : Task) (is : IsTask t) (opening : Map)
     (has : HasPairsOf t.shape (start_of t) opening) (s : State) (p : IsWellAlong t opening s) where
   -- the words that are left
   abbrev left_by : Option ℕ → List ℕ
@@ -106,6 +94,9 @@ module _ (moments : MomentsAreGood) (closed : ClosedIsClosed) (follow : ToldsFol
 
   good : IsGoodMoment t opening s
   good = moments t s opening is p.run.running has
+
+  causes : AreToldCauses t.shape opening s.core
+  causes = told t opening s p.caused
 
   is_closed : s.keeper ≡ Closed → IsClosedWell t opening s.core
   is_closed q = closed t s opening is p.run.running q has
@@ -140,11 +131,7 @@ module _ (moments : MomentsAreGood) (closed : ClosedIsClosed) (follow : ToldsFol
 
   spent : (cut : Option ℕ) → (cut ≡ None → s.keeper ≡ Closed) → (e : Entry) → Contains (entries_of s.core) e → e.reply ≡ Spent → draws (entries_of s.core) < 2 ^ 63
       → (true ≡ true → not (is_some cut) ≡ true) → HasSpentBucket t.shape (left_by cut)
-  spent None at_none e among refused few ended =
-      elim ((holds_of (HadCause t.shape opening s.core) (entries_of s.core) e p.caused.told among).spent refused) [
-        | inl many ↦ absurd (omega (arith, many, few))
-        | inr lock ↦ spent_bucket (good_medium None at_none).sound lock
-      ]
+  spent None at_none e among refused few ended = spent_bucket (good_medium None at_none).sound (causes.spent e among refused few)
   spent (Some choice) at_none e among refused few ended = absurd (let z = ended refl in cc)
 
   pub is_session : (cut : Option ℕ) → (cut ≡ None → s.keeper ≡ Closed)
@@ -162,19 +149,18 @@ module _ (moments : MomentsAreGood) (closed : ClosedIsClosed) (follow : ToldsFol
         same_kind = medium.same_kind;
         after_close = after_close cut at_none;
         after_cut = λ _. medium.left;
-        had_no_room = each_has (HadCause t.shape opening s.core) (λ (e : Entry). HadNoRoom t.shape (map_at opening (entries_of s.core) e.place) e) (λ e h. h.no_room)
-            (entries_of s.core) p.caused.told;
+        had_no_room = causes.no_room;
         none_free = λ e among full slot within is_free. absurd (no_free t slot is within is_free);
         spent = spent cut at_none;
       }
 
 -- A RUN IS A SESSION
-pub runs_are_sessions : DeedsAreWell → RunBegins → CloseMayBegin → BeginsAlone → AloneStays → RoundsEnd → RoundsAreEnough → RunsAreWell → CausesBegin → CausesStay
-    → AnyKeeperKeeps → MomentsAreGood → ClosedIsClosed → ToldsFollow → NoSlotIsFree → RunsAreSessions
-runs_are_sessions deeds begins may_close alone_begins alone_stays rounds_end enough ends causes_begin causes_stay any_keeper moments closed follow no_free t lines is single =
+pub runs_are_sessions : DeedsAreWell → RunBegins → CloseMayBegin → BeginsAlone → AloneStays → RoundsEnd → RoundsAreEnough → RunsAreWell
+    → CausesBegin → CausesStay → AnyKeeperKeeps → CausesAreTold → NoSlotIsFree → MomentsAreGood → ClosedIsClosed → ToldsFollow → RunsAreSessions
+runs_are_sessions deeds begins may_close alone_begins alone_stays rounds_end enough well causes_begin causes_stay any_keeper told no_free moments closed follow t lines is single =
     let one : IsForOne t = record { task = is; one = single } in
     let opening = opening_of t.shape (start_of t) in
     let has = opening-HasPairsOf t.shape t.first is.served in
-    is_session moments closed follow no_free t is opening has (end_state t lines)
+    is_session moments closed follow told no_free t is opening has (end_state t lines)
     (well_at_end deeds begins may_close alone_begins alone_stays rounds_end enough causes_begin causes_stay any_keeper t one opening has lines)
-    (cut_of lines) (ends t lines one).is_closed
+    (cut_of lines) (well t lines one).is_closed

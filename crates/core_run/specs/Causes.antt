@@ -1,9 +1,9 @@
 -- A call is refused for a cause: its key's home bucket was full, or a number was spent.
-use Rattle.std.specs.Prelude.{◌≡◌, ◌≢◌, ℕ, ◌-◌, ◌^◌, ◌<◌, ◌≤◌, ⊤, ◌⊎◌, Option, None, Some, List}
+use Rattle.std.specs.Prelude.{◌≡◌, ◌≢◌, ℕ, ◌-◌, ◌^◌, ◌<◌, ◌≤◌, ⊤, ◌⊎◌, Option, None, Some, List, Contains, slice_index}
 use Rattle.std.specs.List.{AllByRecursion}
 use Rattle.trace.specs.Events.{Words}
 use Rattle.segment_head.specs.HeadWord.{free}
-use Rattle.image_layout.specs.Places.{Shape}
+use Rattle.image_layout.specs.Places.{Shape, words_of}
 use Rattle.map_model.specs.declared.call.Call.{Call}
 use Rattle.map_model.specs.declared.entry.Reply.{Reply}
 use Rattle.map_model.specs.declared.entry.Reply.TheVariants.{Found, Absent, Done, Exists, Full, Deep, Spent}
@@ -13,8 +13,9 @@ use Rattle.map_model.specs.Weave.{all_of, draws}
 use Rattle.map_model.specs.ByPlaces.{map_at}
 use Rattle.sound_image.specs.Segments.{frame_of, state_at}
 use Rattle.sound_image.specs.Left.{HasPairsOf}
-use Rattle.session.specs.Session.{HadNoRoom}
+use Rattle.session.specs.Session.{HadNoRoom, HasSpentBucket}
 use Rattle.world.specs.Site.{IsLockWord}
+use Rattle.restart_op.specs.Restarted.{IsServedImage}
 use Rattle.write_op.specs.declared.control.WriteEnd.{WriteEnd}
 use Rattle.write_op.specs.declared.control.WriteEnd.TheVariants.{Replied}
 use Rattle.write_op.specs.declared.control.Step.{Step}
@@ -71,6 +72,7 @@ module _ (shape : Shape) (opening : Map) (core : Core) where
     OpHasCause (Read op) = ⊤
     OpHasCause (Write op) = StepHasCause op.step
 
+  -- of the call that a caller runs, if it runs one
   abbrev pub CallHasCause : Caller → Option Call → Option Engine → Type 0
   CallHasCause c None engine = ⊤
   CallHasCause c (Some call) None = ⊤
@@ -99,6 +101,19 @@ CausesStay = (t : Task) (opening : Map) (c : ℕ) (s : State) (d : Deed) → IsT
 abbrev pub AnyKeeperKeeps : Type 0
 AnyKeeperKeeps = (t : Task) (opening : Map) (s : State) (keeper : Keeper) → RefusalsAreCaused t opening s
     → RefusalsAreCaused t opening (record s { keeper = keeper })
+
+-- what a session asks for of the refusals that were told
+pub record AreToldCauses (shape : Shape) (opening : Map) (core : Core) : Type 0 where
+  pub no_room : AllByRecursion (λ e. HadNoRoom shape (map_at opening (entries_of core) e.place) e) (entries_of core)
+  pub spent : (e : Entry) → Contains (entries_of core) e → e.reply ≡ Spent → draws (entries_of core) < 2 ^ 63 → HasSpentLock shape core.words
+
+abbrev pub CausesAreTold : Type 0
+CausesAreTold = (t : Task) (opening : Map) (s : State) → RefusalsAreCaused t opening s → AreToldCauses t.shape opening s.core
+
+-- a lock word with the last version is that of a bucket of a live segment, in an image that has these words and is served
+abbrev pub SpentLockIsBucket : Type 0
+SpentLockIsBucket = (shape : Shape) (words : Words) (medium : List ℕ) → IsServedImage shape medium
+    → ((i : ℕ) → i < words_of shape → slice_index medium i ≡ words i) → HasSpentLock shape words → HasSpentBucket shape medium
 
 -- no slot of an image that is run is free: its one segment is live
 abbrev pub NoSlotIsFree : Type 0

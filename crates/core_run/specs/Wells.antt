@@ -1,5 +1,5 @@
 -- Each state between the lines of a script is one of a run: what a driver needs that runs them one after another.
-use Rattle.std.specs.Prelude.{◌≡◌, ℕ, ⊤, Option, None, Some, List, [], ◌∷◌}
+use Rattle.std.specs.Prelude.{ℕ, ⊤, Option, None, Some, List, [], ◌∷◌}
 use Rattle.script_text.specs.declared.line.Line.{Line}
 use Rattle.core_run.specs.State.{State, beginning}
 use Rattle.core_run.specs.Run.{line_done, lines_done, run_out, cut_of}

@@ -1,6 +1,6 @@
 //! Refusals have their causes. The functions do nothing: each stands for the law that its contract says.
 
-ghost use Rattle.core_run.specs.Causes.{CausesBegin, CausesStay, AnyKeeperKeeps, NoSlotIsFree};
+ghost use Rattle.core_run.specs.Causes.{CausesBegin, CausesStay, AnyKeeperKeeps, CausesAreTold, SpentLockIsBucket, NoSlotIsFree};
 
 /// At the beginning nothing is refused.
 pub fn causes_begin()
@@ -23,6 +23,12 @@ pub fn causes_stay()
 /// It is so whatever the keeper does next.
 pub fn any_keeper_keeps()
     ensures { AnyKeeperKeeps }
+{}
+
+/// Where it is so, the refusals that were told have the causes that a session asks for.
+pub fn causes_are_told()
+    ensures told { CausesAreTold }
+    ensures bucket { SpentLockIsBucket }
 {}
 
 /// No slot of an image that is run is free.

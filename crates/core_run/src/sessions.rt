@@ -13,12 +13,15 @@ pub fn runs_are_sessions()
     states::deeds_are_well();
     states::run_begins();
     states::close_may_begin();
-    states::moments_are_good();
-    states::closed_is_closed();
-    states::tolds_follow();
     alone::alone_stays();
+    alone::calls_run_out();
+    alone::runs_are_well();
     causes::causes_begin();
     causes::causes_stay();
     causes::any_keeper_keeps();
+    causes::causes_are_told();
     causes::no_slot_is_free();
+    states::moments_are_good();
+    states::closed_is_closed();
+    states::tolds_follow();
 }

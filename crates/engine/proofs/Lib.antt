@@ -4,7 +4,7 @@ mod Falling
 mod Within
 mod Sparing
 mod Waits
-mod Fullness
+pub mod Fullness
 pub mod Planned
 pub mod Told
 pub mod Places
@@ -12,7 +12,7 @@ mod Unnoted
 mod Scripted
 mod Turning
 pub mod Cut
-mod Goodness
+pub mod Goodness
 mod Beginnings
 mod Opening
 mod Quiet

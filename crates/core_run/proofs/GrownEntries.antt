@@ -27,10 +27,6 @@ module _ {X : Type 0} (P : X → Type 0) where
   all_back [] ys a = a
   all_back (x ∷ xs) ys a = all_back xs ys a.1
 
-pub all_each : {X : Type 0} (P Q : X → Type 0) → ((x : X) → P x → Q x) → (xs : List X) → AllByRecursion P xs → AllByRecursion Q xs
-all_each P Q on [] all = tt
-all_each P Q on (x ∷ xs) all = (on x all.0, all_each P Q on xs all.1)
-
 -- ---- one caller
 -- a list is as before, or has one entry more, of which this holds
 pub record HasMore (n : ℕ) (P : Entry → Type 0) (xs : List Entry) (e : Entry) (ys : List Entry) : Type 0 where
@@ -112,7 +108,7 @@ module _ (n : ℕ) (P : Entry → Type 0) (c d : Caller) (grown : IsGrown n P (h
       all_join P (history d) (entries callers) (grown_has n P (history c) (history d) grown mine) (all_back P (history x) (entries callers) all)
   all_have (x ∷ callers) (suc j) is all =
       all_join P (history x) (entries (slice_set callers j d)) (all_front P (history x) (entries callers) all)
-          (all_have callers j is (all_back P (history x) (entries callers) all))
+      (all_have callers j is (all_back P (history x) (entries callers) all))
 
   same_below : (callers : List Caller) (j : ℕ) → slice_get callers j ≡ Some c → (m : ℕ) → m ≤ n
       → draws_below (entries (slice_set callers j d)) m ≡ draws_below (entries callers) m

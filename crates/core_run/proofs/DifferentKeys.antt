@@ -15,7 +15,7 @@ rising_by_index (x ∷ []) rises k within = absurd (omega arith)
 rising_by_index (x ∷ y ∷ ys) rises zero within = rises.0.0
 rising_by_index (x ∷ y ∷ ys) rises (suc k) within = rw add-one (let P : ℕ → Type 0 = λ n. get_or (y ∷ ys) k 0 < get_or (y ∷ ys) n 0 in subst P (add-one k) (rising_by_index (y ∷ ys) rises.1 k (omega arith)))
 
-pub each : (P Q : ℕ → Type 0) → ((y : ℕ) → P y → Q y) → (xs : List ℕ) → AllByRecursion P xs → AllByRecursion Q xs
+pub each : {X : Type 0} (P Q : X → Type 0) → ((y : X) → P y → Q y) → (xs : List X) → AllByRecursion P xs → AllByRecursion Q xs
 each P Q on [] all = tt
 each P Q on (x ∷ xs) all = (on x all.0, each P Q on xs all.1)
 

@@ -1,39 +1,28 @@
 -- An event of a caller keeps it that each refusal has its cause.
-use Rattle.std.proofs.Common.{◌≡◌, ◌≢◌, ℕ, suc, ◌+◌, ◌-◌, ◌%◌, ◌^◌, ◌<◌, ◌≤◌, ◌⊎◌, Bool, true, false, cond, eqb, List, [], ◌∷◌, ◌++◌, length, slice_get, slice_set, Option, None, Some, inl, inr, refl, sym, ap, ◌∙◌, subst, arith, length-append}
-use Rattle.std.specs.Prelude.{⊤}
-use Rattle.std.specs.List.{AllByRecursion}
-use Rattle.std.specs.FinMap.{get}
-use Rattle.std.proofs.lemmas.Bool.{cases_eq, eq-eqb, eqb-true, ne_eqb, lt-ltb, cases_Bool}
-use Rattle.std.proofs.lemmas.List.{append_cancel_left}
+use Rattle.std.proofs.Common.{◌≡◌, ℕ, ◌-◌, ◌^◌, ◌<◌, ◌≤◌, cond, Option, None, Some, inl, inr, refl, sym, ap, ◌∙◌, subst, arith}
+use Rattle.std.proofs.lemmas.Bool.{cases_eq, eq-eqb, ne_eqb}
 use Rattle.op_core.specs.declared.want.Want.{Want}
 use Rattle.op_core.specs.declared.want.Want.TheVariants as want
-use Rattle.op_core.specs.declared.want.Ans.{Ans}
-use Rattle.op_core.specs.declared.want.Ans.TheVariants.{Value, Won, Lost, Drawn, Passed}
-use Rattle.trace.specs.Events.{Words, with_word}
-use Rattle.image_layout.specs.Places.{Shape, root_word, bucket_at, words_of}
-use Rattle.image_layout.specs.Volatile.{counter_word}
+use Rattle.trace.specs.Events.{Words}
+use Rattle.image_layout.specs.Places.{Shape, words_of}
 use Rattle.map_model.specs.declared.entry.Entry.{Entry}
-use Rattle.map_model.specs.declared.entry.Reply.{Reply}
-use Rattle.map_model.specs.declared.entry.Reply.TheVariants as reply
 use Rattle.map_model.specs.Map.{Map}
 use Rattle.map_model.specs.Weave.{draws}
 use Rattle.map_model.specs.ByPlaces.{map_at}
 use Rattle.session.specs.Session.{HadNoRoom}
-use Rattle.world.specs.Site.{Site, IsLockWord}
-use Rattle.world.specs.Wants.{answer_to, word_of, left_by, words_after}
+use Rattle.world.specs.Site.{IsLockWord}
+use Rattle.world.specs.Wants.{word_of, left_by, words_after}
 use Rattle.world.specs.Laws.{ChangesOneWord}
 use Rattle.world.proofs.Grounds.{lock_within}
 use Rattle.map_model.specs.declared.call.Call.{Call}
 use Rattle.write_op.specs.declared.control.WriteEnd.{WriteEnd}
 use Rattle.write_op.specs.declared.control.WriteEnd.TheVariants.{Replied, NoSlot, Again, Stale, Off}
 use Rattle.write_op.specs.declared.control.Step.{Step}
-use Rattle.write_op.specs.declared.control.Step.TheVariants.{AskPower, LoadRoot, LoadEntry, LoadHead, LookAt, TryLock, RootAgain, EntryAgain, HeadAgain, LoadWord, LoadCount, Make, CountSpent, CountFull, GiveBack, Ended}
+use Rattle.write_op.specs.declared.control.Step.TheVariants.{CountSpent, GiveBack, Ended}
 use Rattle.engine.specs.declared.engine.Op.{Op}
 use Rattle.engine.specs.declared.engine.Op.TheVariants.{Read, Write}
 use Rattle.engine.specs.declared.engine.Engine.{Engine}
-use Rattle.engine.specs.Asks.{LeavesSpent}
-use Rattle.engine.specs.Engine.{wanted}
-use Rattle.engine.specs.Core.{Caller, Core, current}
+use Rattle.engine.specs.Core.{Caller, Core}
 use Rattle.core_run.specs.Causes.{IsRefusal, entries_of, HasSpentLock, HadCause, EndHasCause, StepHasCause, OpHasCause, CallHasCause}
 
 -- ---- a lock word with the last version

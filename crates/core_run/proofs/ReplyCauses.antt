@@ -1,5 +1,5 @@
 -- Where a change comes to a refusal: what an answer makes of the causes of its replies.
-use Rattle.std.proofs.Common.{◌≡◌, ℕ, ◌+◌, ◌-◌, ◌*◌, ◌%◌, ◌^◌, ◌<◌, ◌≤◌, ◌==◌, Bool, true, false, cond, nat_le, nat_lt, List, Option, None, Some, inl, inr, refl, sym, subst, arith}
+use Rattle.std.proofs.Common.{◌≡◌, ℕ, ◌+◌, ◌-◌, ◌%◌, ◌^◌, ◌≤◌, ◌==◌, Bool, true, false, cond, nat_le, nat_lt, List, Option, None, Some, inl, inr, refl, sym, subst, arith}
 use Rattle.std.specs.Prelude.{if◌then◌else◌}
 use Rattle.std.proofs.lemmas.Bool.{cases_Bool, eqb-true}
 use Rattle.op_core.specs.declared.want.Ans.{Ans}
@@ -28,7 +28,7 @@ use Rattle.write_op.specs.declared.machine.WriteOp.{WriteOp}
 use Rattle.write_op.specs.Slots.{slot_with, slot_free}
 use Rattle.write_op.specs.Ways.{entry_word, head_word, lock_word, sight_of}
 use Rattle.write_op.specs.Wanted.{free_of}
-use Rattle.write_op.specs.Taken.{moved, seen_at, give_up, after_head, after_look, after_loss, again, inserting, changing, decided, after_count, no_room, made, gave_back, step_after, taken, refused}
+use Rattle.write_op.specs.Taken.{moved, seen_at, give_up, after_head, after_look, after_loss, inserting, changing, decided, after_count, no_room, made, step_after, taken}
 use Rattle.engine.specs.Engine.{go_on, go_on_at}
 use Rattle.engine.specs.Core.{Caller, entry_of, Core}
 use Rattle.core_run.specs.Causes.{IsRefusal, HadCause, HasSpentLock, EndHasCause, StepHasCause}

@@ -1,26 +1,24 @@
 -- Where an insert finds no room, the map has 14 keys.
-use Rattle.std.proofs.Common.{◌≡◌, ℕ, ◌+◌, ◌*◌, ◌^◌, ◌<◌, ◌≤◌, ◌==◌, Bool, true, false, cond, List, [], Option, is_some, inl, inr, refl, sym, ap, ◌∙◌, subst, arith}
-use Rattle.std.specs.Prelude.{⊤, IsSome, if◌then◌else◌}
+use Rattle.std.proofs.Common.{◌≡◌, ℕ, ◌+◌, ◌*◌, ◌^◌, ◌<◌, ◌==◌, Bool, true, false, List, [], is_some, refl, sym, ap, ◌∙◌, subst, arith}
+use Rattle.std.specs.Prelude.{IsSome, if◌then◌else◌}
 use Rattle.std.specs.FinMap.{get}
 use Rattle.std.proofs.Math.Nat.{div-eq_of_lt}
-use Rattle.std.proofs.lemmas.Bool.{cases_Bool, eqb-true}
+use Rattle.std.proofs.lemmas.Bool.{eqb-true}
 use Rattle.bucket_meta.specs.Bucket.{allocated}
 use Rattle.hash_word.specs.Hash.{top, home_of}
 use Rattle.trace.specs.Events.{Words}
 use Rattle.image_layout.specs.Places.{Shape, bucket_at}
 use Rattle.map_model.specs.declared.call.Call.{Call}
-use Rattle.map_model.specs.declared.call.Call.TheVariants.{Get, Insert, Update, Remove}
-use Rattle.map_model.specs.declared.entry.Reply.TheVariants.{Full, Deep, Spent}
+use Rattle.map_model.specs.declared.entry.Reply.TheVariants.{Full, Deep}
 use Rattle.map_model.specs.declared.entry.Entry.{Entry}
 use Rattle.map_model.specs.Map.{Map, key_of}
 use Rattle.sound_image.specs.Records.{key_hash}
 use Rattle.session.specs.Session.{HasAtLeast, HadNoRoom, least_full}
-use Rattle.bucket_words.specs.Buckets.{IsTaken, key_in, find_below}
-use Rattle.bucket_words.specs.Tables.{IsHomeTable, home_at, find}
+use Rattle.bucket_words.specs.Buckets.{IsTaken, key_in}
+use Rattle.bucket_words.specs.Tables.{IsHomeTable, home_at}
 use Rattle.bucket_words.proofs.Finding.{Hits}
 use Rattle.bucket_words.proofs.Pairs.{key_hash-fits, find_hit_of_table}
 use Rattle.bucket_words.proofs.SameCores.{home_lt}
-use Rattle.write_op.specs.Wanted.{key_for}
 use Rattle.world.specs.declared.site.Site.{Site as Here}
 use Rattle.world.specs.Site.{Site}
 use Rattle.world.specs.Views.{View, Has, At, HasLock}
@@ -30,20 +28,14 @@ use Rattle.world.proofs.Grounds.{one_lock, home_is_lock}
 use Rattle.world.proofs.KeepMedia.{newest, held_is_map}
 use Rattle.write_op.specs.Taken.{no_room}
 use Rattle.engine.specs.Asks.{FindsFull}
-use Rattle.core_run.proofs.Different.{each, different_values}
-
-pub key_is : (call : Call) → key_for call ≡ key_of call
-key_is (Get key) = refl
-key_is (Insert key value) = refl
-key_is (Update key value) = refl
-key_is (Remove key) = refl
+use Rattle.core_run.proofs.DifferentKeys.{each, different_values}
 
 top_of_all : (depth h : ℕ) → depth ≡ 0 → h < 2 ^ 64 → top depth h ≡ 0
 top_of_all depth h flat fits = ap (λ d. top d h) flat ∙ div-eq_of_lt fits
 
 module _ (site : Site) (words : Words) (views : List View) (h : Holds site words views) (fits : (i : ℕ) → words i < 2 ^ 64)
-  (j : ℕ) (v : View) (at : At views j v) (none : v.planned ≡ []) (call : Call) (full : FindsFull site call v)
-  (m : Map) (same : (k : ℕ) → get m k ≡ map_now site.start h.log k) where
+    (j : ℕ) (v : View) (at : At views j v) (none : v.planned ≡ []) (call : Call) (full : FindsFull site call v)
+    (m : Map) (same : (k : ℕ) → get m k ≡ map_now site.start h.log k) where
   abbrev home : ℕ
   home = home_at site.shape (key_of call)
 
@@ -109,7 +101,7 @@ module _ (site : Site) (words : Words) (views : List View) (h : Holds site words
       in_map = many.in_map;
       pass = each _ _ (λ k low. let flat = no_depth q in top_of_all site.shape.depth (key_hash site.shape k) flat (key_hash-fits site.shape k low)
           ∙ sym (top_of_all site.shape.depth (key_hash site.shape (key_of e.call)) flat
-              (key_hash-fits site.shape (key_of e.call) (subst (λ (c : Call). key_of c < 2 ^ 64) (sym is) word)))) many.keys many.pass;
+          (key_hash-fits site.shape (key_of e.call) (subst (λ (c : Call). key_of c < 2 ^ 64) (sym is) word)))) many.keys many.pass;
     };
   }
     where

@@ -1,12 +1,11 @@
 -- An event of the keeper refuses nothing, and changes no lock.
-use Rattle.std.proofs.Common.{◌≡◌, ◌≢◌, ℕ, suc, ◌-◌, ◌^◌, ◌<◌, Bool, List, [], ◌∷◌, Option, None, Some, refl, sym, ap, ◌∙◌, subst, arith, map}
+use Rattle.std.proofs.Common.{◌≡◌, ℕ, suc, List, [], ◌∷◌, refl, sym, ap, ◌∙◌, subst, arith, map}
 use Rattle.std.specs.Prelude.{if◌then◌else◌}
 use Rattle.std.proofs.lemmas.Bool.{ne_eqb}
-use Rattle.std.proofs.lemmas.Option.{none-some, same_Some}
 use Rattle.std.specs.List.{AllByRecursion}
 use Rattle.op_core.specs.declared.want.Want.{Want}
 use Rattle.op_core.specs.declared.want.Want.TheVariants as want
-use Rattle.trace.specs.Events.{Words, with_word}
+use Rattle.trace.specs.Events.{Words}
 use Rattle.image_layout.specs.Places.{Shape, state_word}
 use Rattle.map_model.specs.declared.call.Call.{Call}
 use Rattle.map_model.specs.declared.entry.Entry.{Entry}
@@ -23,11 +22,11 @@ use Rattle.restart_op.specs.declared.close.CloseStep.TheVariants.{Flush, Fence, 
 use Rattle.restart_op.specs.Close.{wanted as close_wanted, wanted_in}
 use Rattle.engine.specs.Core.{Caller, current, told_of, Core}
 use Rattle.core_run.specs.State.{waiting_from, awake, by_keeper, restarting, restart_deed, close_deed, waiting}
-use Rattle.core_run.specs.Causes.{HasSpentLock, HadCause, CallHasCause, HaveCauses, entries_of}
+use Rattle.core_run.specs.Causes.{HadCause, CallHasCause, HaveCauses, entries_of}
 use Rattle.core_run.proofs.CausesBegin.{none_told, none_comes}
-use Rattle.core_run.proofs.WithoutEntries.{next_caused}
-use Rattle.core_run.proofs.Growing.{all_each}
-use Rattle.core_run.proofs.Stepping.{ComesAfter, cause_stays, call_stays}
+use Rattle.core_run.proofs.CallsBegun.{begins_caused}
+use Rattle.core_run.proofs.DifferentKeys.{each}
+use Rattle.core_run.proofs.StayingCauses.{ComesAfter, cause_stays, call_stays}
 
 -- ---- the restart
 none_told_awake : (P : Entry → Type 0) (shape : Shape) (version n : ℕ) (scripts : List (List Call))
@@ -40,7 +39,7 @@ none_comes_awake : (shape : Shape) (opening : Map) (core : Core) (version n : �
 none_comes_awake shape opening core version n [] = tt
 none_comes_awake shape opening core version n (calls ∷ scripts) =
     let c = awake version (waiting shape n calls) in
-    (next_caused shape opening core c c.site (current c), none_comes_awake shape opening core version (suc n) scripts)
+    (begins_caused shape opening core c c.site (current c) (current c), none_comes_awake shape opening core version (suc n) scripts)
 
 -- callers that wait have no refusals, whatever the memory
 still_none : (shape : Shape) (opening : Map) (core : Core) (scripts : List (List Call)) → core.callers ≡ waiting_from shape 1 scripts → HaveCauses shape opening core
@@ -96,7 +95,7 @@ module _ (shape : Shape) (opening : Map) (op : CloseOp) (core : Core) where
 
   pub close_keeps : HaveCauses shape opening core → HaveCauses shape opening (close_deed shape op core).state.core
   close_keeps have = record {
-    told = all_each (HadCause shape opening core) (HadCause shape opening next) (cause_stays shape opening core next after_close) (entries_of core) have.told;
-    coming = all_each (λ (c : Caller). CallHasCause shape opening core c (current c) c.engine) (λ (c : Caller). CallHasCause shape opening next c (current c) c.engine)
+    told = each (HadCause shape opening core) (HadCause shape opening next) (cause_stays shape opening core next after_close) (entries_of core) have.told;
+    coming = each (λ (c : Caller). CallHasCause shape opening core c (current c) c.engine) (λ (c : Caller). CallHasCause shape opening next c (current c) c.engine)
         (λ c had. call_stays shape opening core next after_close c (current c) c.engine had) core.callers have.coming;
   }

@@ -1,5 +1,5 @@
 -- The commit counter counts the draws of what the callers were told, and the map at that place is what the history gives.
-use Rattle.std.proofs.Common.{◌≡◌, ℕ, ◌+◌, Bool, true, false, List, [], ◌∷◌, ◌++◌, length, Option, None, Some, inl, inr, refl, sym, ap, ◌∙◌, subst, arith, cond}
+use Rattle.std.proofs.Common.{◌≡◌, ℕ, ◌+◌, List, [], ◌∷◌, length, inl, inr, refl, sym, ap, ◌∙◌, arith, cond}
 use Rattle.std.specs.List.{AllZip}
 use Rattle.std.specs.FinMap.{get}
 use Rattle.trace.specs.Events.{Words}
@@ -9,30 +9,16 @@ use Rattle.map_model.specs.Map.{Map}
 use Rattle.map_model.specs.Weave.{draws}
 use Rattle.map_model.specs.ByPlaces.{map_at}
 use Rattle.map_model.specs.Laws.{WeaveLeavesDraws}
-use Rattle.session.specs.Callers.{with_open}
 use Rattle.world.specs.Site.{Site}
 use Rattle.world.specs.Views.{View}
 use Rattle.world.specs.History.{map_now}
 use Rattle.world.specs.Invariant.{total}
 use Rattle.world.specs.Laws.{EntriesAreLegal}
-use Rattle.engine.specs.Core.{Caller, Core, open_of, histories}
-use Rattle.engine.specs.Holding.{HasUntold, HasEntries, DoesCall, CallerFits, CoreHolds}
-use Rattle.engine.proofs.Cut.{told_legal}
+use Rattle.engine.specs.Core.{Caller, Core, histories}
+use Rattle.engine.specs.Holding.{HasUntold, CallerFits, CoreHolds}
+use Rattle.engine.proofs.Cut.{untold_of, told_legal}
 use Rattle.core_run.specs.Causes.{entries_of}
-use Rattle.core_run.proofs.Growing.{entries, history, drew_here}
-
-told_or_open : (told own : List Entry) (begun : Bool) (drew : Option Entry) → (begun ≡ false → drew ≡ None) → HasEntries told drew own
-    → HasUntold (with_open told (open_of begun drew)) own
-told_or_open told own false drew none has = subst (λ d. HasEntries told d own) (none refl) has
-told_or_open told own true None none has = has
-told_or_open told own true (Some e) none has = inl has
-
-untold_of : (site : Site) (c : Caller) (v : View) → CallerFits site c v → HasUntold (history c) v.own
-untold_of site c v fits = by c.engine fits.does
-  where
-    by : (engine : _) → DoesCall site c engine v → HasUntold (history c) v.own
-    by None d = told_or_open c.entries v.own c.begun c.drew (λ _. d.drew) (subst (λ o. HasEntries c.entries o v.own) (sym d.drew) (inl d.own))
-    by (Some e) d = told_or_open c.entries v.own c.begun c.drew d.drew d.entries
+use Rattle.core_run.proofs.GrownEntries.{entries, history, drew_here}
 
 untold_draws : (told own : List Entry) → HasUntold told own → draws told ≡ draws own
 untold_draws told own has = elim has [
