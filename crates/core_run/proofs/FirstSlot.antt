@@ -4,7 +4,7 @@ use Rattle.image_layout.specs.Places.{head_at}
 use Rattle.image_file.specs.Stage.{segments_word, IsServed}
 use Rattle.sound_image.specs.Segments.{frame_of, state_at}
 use Rattle.core_run.specs.Running.{start_of}
-use Rattle.core_run.specs.Causes.{NoSlotIsFree}
+use Rattle.core_run.specs.States.{NoSlotIsFree}
 
 pub no_slot_is_free : NoSlotIsFree
 no_slot_is_free t s task within is_free =

@@ -2,7 +2,6 @@ pub mod State
 pub mod Run
 pub mod Running
 pub mod States
-pub mod Causes
 pub mod Alone
 pub mod Ends
 pub mod Opening

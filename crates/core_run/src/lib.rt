@@ -6,7 +6,6 @@
 #![tactic(auto)]
 
 mod alone;
-pub mod causes;
 pub mod deed;
 pub mod goal;
 pub mod keeper;
@@ -14,11 +13,11 @@ pub mod sessions;
 pub mod states;
 
 pub use alone::alone_stays;
-pub use causes::{any_keeper_keeps, causes_begin, causes_stay, no_slot_is_free};
 pub use deed::Deed;
 pub use goal::Goal;
 pub use keeper::Keeper;
 pub use sessions::runs_are_sessions;
 pub use states::{
-    close_may_begin, closed_is_closed, deeds_are_well, moments_are_good, run_begins, tolds_follow,
+    close_may_begin, closed_is_closed, deeds_are_well, moments_are_good, no_slot_is_free,
+    run_begins, tolds_follow,
 };
