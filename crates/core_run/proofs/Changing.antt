@@ -1,8 +1,8 @@
 -- What a caller alone saw in a change is still so after its event, and an attempt that ended has its reply: step by step.
-use Rattle.std.proofs.Common.{◌≡◌, ◌≢◌, ℕ, zero, suc, ◌+◌, ◌-◌, ◌*◌, ◌/◌, ◌%◌, ◌^◌, ◌<◌, ◌≤◌, inl, inr, Bool, true, false, cond, Option, Some, None, List, [], ◌∷◌, refl, sym, ◌∙◌, ap, subst, arith, slice_set}
-use Rattle.std.specs.Prelude.{⊤, ◌==◌, ◌&&◌, ◌||◌, nat_le, nat_lt, not, if◌then◌else◌}
+use Rattle.std.proofs.Common.{◌≡◌, ℕ, ◌+◌, ◌-◌, ◌%◌, ◌^◌, ◌<◌, inl, inr, Bool, true, false, cond, Option, Some, None, List, [], ◌∷◌, refl, sym, ◌∙◌, ap, subst, arith, slice_set}
+use Rattle.std.specs.Prelude.{⊤, ◌==◌, ◌&&◌, ◌||◌, nat_le, nat_lt, not}
 use Rattle.std.proofs.lemmas.Bool.{eq-eqb, ne_eqb, le-leb, lt-ltb, and_from, and_left, not_from_true}
-use Rattle.hash_word.specs.Hash.{index_of, home_of, top}
+use Rattle.hash_word.specs.Hash.{index_of, top}
 use Rattle.segment_head.specs.HeadWord.{version_in, state_in, depth_in, pattern_in, normal, splitting}
 use Rattle.trace.specs.Events.{Words}
 use Rattle.image_layout.specs.Places.{root_word, state_word, entry_at, head_at, bucket_at}
@@ -10,23 +10,21 @@ use Rattle.image_layout.specs.Volatile.{power_word}
 use Rattle.op_core.specs.declared.want.Want.{Want}
 use Rattle.op_core.specs.declared.want.Want.TheVariants as want
 use Rattle.op_core.specs.declared.want.Ans.{Ans}
-use Rattle.op_core.specs.declared.want.Ans.TheVariants.{Value, Won, Lost, Drawn, Passed}
+use Rattle.op_core.specs.declared.want.Ans.TheVariants.{Value, Won, Lost}
 use Rattle.map_model.specs.declared.call.Call.{Call}
 use Rattle.map_model.specs.declared.call.Call.TheVariants.{Get, Insert, Update, Remove}
 use Rattle.map_model.specs.declared.entry.Reply.TheVariants.{Spent}
 use Rattle.map_model.specs.Legal.{IsChange}
 use Rattle.sound_image.specs.Records.{key_hash}
 use Rattle.world.specs.declared.site.Site.{Site as Here}
-use Rattle.world.specs.Site.{Site, IsSite, IsLockWord}
-use Rattle.world.specs.Views.{View, Has, At, HasLock}
+use Rattle.world.specs.Site.{Site}
+use Rattle.world.specs.Views.{View, HasLock}
 use Rattle.world.specs.Wants.{answer_to, word_of, words_after}
 use Rattle.world.specs.World.{fresh_view}
 use Rattle.world.specs.Invariant.{Holds}
-use Rattle.write_op.specs.declared.path.Sight.{Sight}
 use Rattle.write_op.specs.declared.path.Sight.TheVariants.{Good, Late, Other}
 use Rattle.write_op.specs.declared.control.Side.{Side}
 use Rattle.write_op.specs.declared.control.Side.TheVariants.{Home, Probing}
-use Rattle.write_op.specs.declared.control.Held.{Held}
 use Rattle.write_op.specs.declared.control.Held.TheVariants.{OnlyHome, OnlyProbing, Both}
 use Rattle.write_op.specs.declared.control.Point.{Point}
 use Rattle.write_op.specs.declared.control.Point.TheVariants.{StoreKey, StoreValue, StoreFinger, FlushFinger, FlushRecord, FenceRecord, Publish, FlushPublished, FencePublished, DrawPlace}
@@ -40,8 +38,8 @@ use Rattle.write_op.specs.declared.machine.WriteOp.{WriteOp}
 use Rattle.write_op.specs.Slots.{slot_with, slot_free}
 use Rattle.write_op.specs.Ways.{entry_word, head_word, lock_word, bucket_of, is_covering, sight_of}
 use Rattle.write_op.specs.Wanted.{key_for, wanted_of, wanted_at, free_of}
-use Rattle.write_op.specs.Taken.{give_up, after_head, after_look, inserting, changing, decided, made, step_after, kept_after}
-use Rattle.write_op.specs.Suits.{HoldsOnly, SuitsStep}
+use Rattle.write_op.specs.Taken.{give_up, after_head, after_look, inserting, changing, decided, step_after, kept_after}
+use Rattle.write_op.specs.Suits.{SuitsStep}
 use Rattle.engine.specs.Engine.{go_on_at}
 use Rattle.core_run.specs.Alone.{IsWay, WriteSees}
 use Rattle.core_run.proofs.Seeing.{either, so, not_so, root_is, root_none, entry_is, head_is, version_good, state_good, depth_none, pattern_none, one_segment, top_none, free_even}
@@ -61,8 +59,8 @@ gone_on front words op (Ended Off) is i = absurd i
 gone_on front words op s is i = subst (WriteSees front words op.task op.kept) (sym is) i
 
 module _ (site : Site) (words : Words) (v : View) (h : Holds site words (fresh_view 0 ∷ v ∷ [])) (power : words (power_word site.shape) ≡ 0)
-  (here : Here) (shape_is : here.geometry ≡ site.shape) (version_is : here.version ≡ words state_word)
-  (version_fits : site.front state_word < 2 ^ 8) (call : Call) (change : IsChange call) (fits : key_hash site.shape (key_for call) < 2 ^ 64) (caller : ℕ) where
+    (here : Here) (shape_is : here.geometry ≡ site.shape) (version_is : here.version ≡ words state_word)
+    (version_fits : site.front state_word < 2 ^ 8) (call : Call) (change : IsChange call) (fits : key_hash site.shape (key_for call) < 2 ^ 64) (caller : ℕ) where
   abbrev hash : ℕ
   hash = key_hash site.shape (key_for call)
 
@@ -135,8 +133,8 @@ module _ (site : Site) (words : Words) (v : View) (h : Holds site words (fresh_v
       not_so (λ s. s ≡ Good) (not (version_in head == here.version) && ((state_in head == normal) || (state_in head == splitting))) (Late (version_in head)) _
       (and_left (not (version_in head == here.version)) ((state_in head == normal) || (state_in head == splitting)) (not_from_true (version_in head == here.version) version))
       (so (λ s. s ≡ Good) ((version_in head == here.version) && ((state_in head == normal) && is_covering head hash)) Good Other
-          (and_from (version_in head == here.version) ((state_in head == normal) && is_covering head hash) version (and_from (state_in head == normal) (is_covering head hash) state covering))
-          refl)
+      (and_from (version_in head == here.version) ((state_in head == normal) && is_covering head hash) version (and_from (state_in head == normal) (is_covering head hash) state covering))
+      refl)
 
   -- ---- the steps
   abbrev C : Want → Kept → Step → Type 0
@@ -148,7 +146,7 @@ module _ (site : Site) (words : Words) (v : View) (h : Holds site words (fresh_v
       (λ has. (let z = subst (λ l. HasLock l (lock_word t k Home)) suits.0.held has in z.1))
   even_at k Probing first suits = free_even site words v h power here shape_is version_is version_fits (lock_word t k Probing) (bucket_of Probing hash, bucket_near Probing, lock_low k Probing first)
       (λ has. (let z = subst (λ l. HasLock l (lock_word t k Probing)) suits.0.held has in
-          elim z.1 [ inl e ↦ apart k first (ap (λ p. p.0) e) | inr none ↦ none ]))
+      elim z.1 [ inl e ↦ apart k first (ap (λ p. p.0) e) | inr none ↦ none ]))
 
   -- a free lock is tried next, or counted as spent
   looked : (w : Want) (side : Side) (k : Kept) (seen : ℕ) → seen % 2 ≡ 0 → IsWay site.front (after w) t k → free_of k side ≡ after w (lock_word t k side)
@@ -175,7 +173,6 @@ module _ (site : Site) (words : Words) (v : View) (h : Holds site words (fresh_v
   decides w k (Insert key value) is ws count = inserts w k count (slot_with ws key 0 14) (slot_free ws 0 14)
   decides w k (Update key value) is ws count = changes w k count (slot_with ws key 0 14)
   decides w k (Remove key) is ws count = changes w k count (slot_with ws key 0 14)
-
 
   ends : (w : Want) (k : Kept) (end : WriteEnd) → WriteSees site.front words t k (Ended end) → C w k (Ended end)
   ends w k (Replied r place) i = tt

@@ -1,12 +1,12 @@
 -- An event of one caller alone: its engine sees what is so, the power stays on, and an attempt that ended has its reply.
-use Rattle.std.proofs.Common.{◌≡◌, ◌≢◌, ℕ, zero, suc, ◌+◌, ◌-◌, ◌*◌, ◌%◌, ◌^◌, ◌<◌, ◌≤◌, inl, inr, Bool, true, false, cond, eqb, Option, Some, None, List, [], ◌∷◌, length, map, slice_get, refl, sym, ◌∙◌, ap, subst, arith}
-use Rattle.std.specs.Prelude.{⊤, ◌==◌}
-use Rattle.std.specs.List.{AllByRecursion, AllZip}
+use Rattle.std.proofs.Common.{◌≡◌, ℕ, suc, ◌+◌, ◌*◌, ◌^◌, ◌<◌, Bool, true, false, cond, Option, Some, None, [], ◌∷◌, length, refl, sym, ◌∙◌, ap, subst, arith}
+use Rattle.std.specs.Prelude.{◌==◌}
+use Rattle.std.specs.List.{AllByRecursion}
 use Rattle.std.proofs.lemmas.Bool.{ne_eqb}
 use Rattle.std.proofs.lemmas.Option.{none-some, same_Some, slice_get_within}
 use Rattle.trace.specs.Events.{Words, Trace, with_word, after}
 use Rattle.trace.specs.Events.Event.{loaded, exchanged}
-use Rattle.image_layout.specs.Places.{Shape, state_word, bucket_at, words_of}
+use Rattle.image_layout.specs.Places.{Shape, state_word, words_of}
 use Rattle.image_layout.specs.Volatile.{power_word}
 use Rattle.op_core.specs.declared.want.Want.{Want}
 use Rattle.op_core.specs.declared.want.Want.TheVariants as want
@@ -15,11 +15,10 @@ use Rattle.op_core.specs.declared.want.Ans.TheVariants.{Value}
 use Rattle.map_model.specs.declared.call.Call.{Call}
 use Rattle.map_model.specs.declared.call.Call.TheVariants.{Get, Insert, Update, Remove}
 use Rattle.map_model.specs.declared.entry.Reply.{Reply}
-use Rattle.map_model.specs.declared.entry.Entry.{Entry}
 use Rattle.sound_image.specs.Records.{key_hash}
 use Rattle.world.specs.declared.site.Site.{Site as Here}
-use Rattle.world.specs.Site.{Site, IsSite, IsLockWord, IsUnder}
-use Rattle.world.specs.Views.{View, Has, At, HasLock, IsGuarded}
+use Rattle.world.specs.Site.{Site, IsLockWord}
+use Rattle.world.specs.Views.{View, Has, IsGuarded}
 use Rattle.world.specs.Wants.{answer_to, word_of, words_after}
 use Rattle.world.specs.World.{fresh_view}
 use Rattle.world.specs.Kinds.{Kind, wanted as wanted_by, May, peeks, asks_power, finds_room, refuses, places, looks, notes_word, validates, learns, tries, stores, publishes, flushes, fences, draws_place, unlocks}
@@ -47,10 +46,10 @@ use Rattle.engine.specs.declared.engine.Op.TheVariants.{Read, Write}
 use Rattle.engine.specs.declared.engine.Engine.{Engine}
 use Rattle.engine.specs.declared.engine.End.{End}
 use Rattle.engine.specs.declared.engine.End.TheVariants as ends
-use Rattle.engine.specs.Engine.{op_of, begun, wanted, wanted_by_op, taken, taken_by_op, end_of, end_of_op, read_end_at, reply_of_end, kind_of}
+use Rattle.engine.specs.Engine.{op_of, wanted, wanted_by_op, taken, taken_by_op, end_of, end_of_op, read_end_at, reply_of_end, kind_of}
 use Rattle.engine.specs.Fits.{SuitsOp, Suits, KeepsSuits, StepsWell}
-use Rattle.engine.specs.Core.{Caller, Core, current, call_at, engine_for, ended, settled, answered, drawn_by, with_event}
-use Rattle.engine.specs.Holding.{IsCalling, IsThrough, DoesCall, CallerFits}
+use Rattle.engine.specs.Core.{Caller, Core, current, call_at, engine_for, ended, settled, answered, drawn_by}
+use Rattle.engine.specs.Holding.{IsCalling, DoesCall}
 use Rattle.core_run.specs.declared.keeper.Keeper.TheVariants.{Open}
 use Rattle.core_run.specs.State.{Deed, end_by, engine_deed, call_deed}
 use Rattle.core_run.specs.Alone.{behind, all_behind, EndsCall, ReadSees, WriteSees, OpSees, EngineSees}
@@ -185,7 +184,7 @@ ended_told shape front words e want.Power is i end ends = absurd (none-some end 
 
 -- ---- one caller
 module _ (site : Site) (words : Words) (v : View) (h : Holds site words (fresh_view 0 ∷ v ∷ [])) (power : words (power_word site.shape) ≡ 0)
-  (version_fits : site.front state_word < 2 ^ 8) where
+    (version_fits : site.front state_word < 2 ^ 8) where
   abbrev here : Here
   here = record { geometry = site.shape; version = words state_word; caller = 1 }
 

@@ -18,3 +18,5 @@ mod OneSession
 mod Goods
 mod Ended
 mod Follows
+mod Measures
+mod Driving

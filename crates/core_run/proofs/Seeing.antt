@@ -1,6 +1,6 @@
 -- What a caller alone saw is still so after its event, and an attempt that ended has its reply: step by step.
-use Rattle.std.proofs.Common.{◌≡◌, ◌≢◌, ℕ, zero, suc, ◌+◌, ◌-◌, ◌*◌, ◌/◌, ◌%◌, ◌^◌, ◌<◌, ◌≤◌, inl, inr, Bool, true, false, cond, Option, Some, None, List, [], ◌∷◌, refl, sym, ◌∙◌, ap, subst, arith, slice_set}
-use Rattle.std.specs.Prelude.{⊤, ◌==◌, ◌&&◌, ◌||◌, nat_le, nat_lt, not, replicate, if◌then◌else◌}
+use Rattle.std.proofs.Common.{◌≡◌, ℕ, zero, suc, ◌+◌, ◌%◌, ◌^◌, ◌<◌, inl, inr, Bool, true, false, cond, Option, Some, None, [], ◌∷◌, refl, sym, ◌∙◌, ap, subst, arith}
+use Rattle.std.specs.Prelude.{◌==◌, ◌&&◌, nat_le, nat_lt, not, replicate}
 use Rattle.std.proofs.lemmas.Bool.{cases_Bool, eq-eqb, eqb-true, eqb-false, ne_eqb, le-leb, lt-ltb, and_from, and_right, or_left, not_from_true}
 use mathlib.Core.Option.{some-injective}
 use Rattle.hash_word.specs.Hash.{index_of, home_of, top}
@@ -9,31 +9,20 @@ use Rattle.trace.specs.Events.{Words}
 use Rattle.image_layout.specs.Places.{root_word, state_word, entry_at, head_at, bucket_at}
 use Rattle.image_layout.specs.Volatile.{power_word}
 use Rattle.bucket_words.specs.Tables.{IsHomeTable}
-use Rattle.op_core.specs.declared.want.Want.{Want}
-use Rattle.op_core.specs.declared.want.Want.TheVariants as want
-use Rattle.op_core.specs.declared.want.Ans.{Ans}
-use Rattle.op_core.specs.declared.want.Ans.TheVariants.{Value, Won, Lost, Drawn, Passed}
-use Rattle.map_model.specs.declared.call.Call.{Call}
-use Rattle.map_model.specs.declared.call.Call.TheVariants.{Get, Insert, Update, Remove}
-use Rattle.map_model.specs.declared.entry.Reply.TheVariants.{Spent}
-use Rattle.map_model.specs.Legal.{IsChange}
-use Rattle.sound_image.specs.Records.{key_hash}
 use Rattle.world.specs.declared.site.Site.{Site as Here}
-use Rattle.world.specs.Site.{Site, IsSite, IsLockWord}
-use Rattle.world.specs.Views.{View, Has, At, HasLock}
-use Rattle.world.specs.Wants.{answer_to, word_of, words_after}
+use Rattle.world.specs.Site.{Site, IsLockWord}
+use Rattle.world.specs.Views.{View, At, HasLock}
+use Rattle.world.specs.Wants.{word_of}
 use Rattle.world.specs.World.{fresh_view}
 use Rattle.world.specs.Invariant.{Holds}
-use Rattle.read_op.specs.declared.step.Path.{Path}
 use Rattle.read_op.specs.declared.step.Found.{Found}
-use Rattle.read_op.specs.declared.step.ReadEnd.TheVariants as read_ends
 use Rattle.read_op.specs.declared.step.Second.{Second}
 use Rattle.read_op.specs.declared.step.Second.TheVariants as again
 use Rattle.read_op.specs.declared.step.ReadStep.{ReadStep}
 use Rattle.read_op.specs.declared.step.ReadStep.TheVariants as reads
 use Rattle.read_op.specs.declared.op.ReadOp.{ReadOp}
-use Rattle.read_op.specs.Steps.{wanted_in, wanted_again, next_in, checked, is_live, covers, value_of, moved as read_moved, busy, end_by, entry_word as read_entry, head_word as read_head, lock_word as read_lock}
-use Rattle.core_run.specs.Alone.{IsPath, IsSeen, ReadSees}
+use Rattle.read_op.specs.Steps.{wanted_in, wanted_again, next_in, checked, is_live, covers, end_by, entry_word as read_entry, head_word as read_head, lock_word as read_lock}
+use Rattle.core_run.specs.Alone.{IsSeen, ReadSees}
 
 pub either : {S : Type 0} (P : S → Type 0) (b : Bool) (s t : S) → P s → P t → P (cond b s t)
 either P true s t p q = p
@@ -47,8 +36,8 @@ not_so P b s t is p = subst (λ c. P (cond c s t)) (sym is) p
 
 -- ---- a world of one caller
 module _ (site : Site) (words : Words) (v : View) (h : Holds site words (fresh_view 0 ∷ v ∷ [])) (power : words (power_word site.shape) ≡ 0)
-  (here : Here) (shape_is : here.geometry ≡ site.shape) (version_is : here.version ≡ words state_word)
-  (version_fits : site.front state_word < 2 ^ 8) where
+    (here : Here) (shape_is : here.geometry ≡ site.shape) (version_is : here.version ≡ words state_word)
+    (version_fits : site.front state_word < 2 ^ 8) where
   pub table : IsHomeTable site.shape site.front words
   table = h.media.table words (λ i within. inl refl)
 
@@ -101,6 +90,7 @@ module _ (site : Site) (words : Words) (v : View) (h : Holds site words (fresh_v
       at_seat zero u at has = let z = subst (λ w. HasLock w.held lock) (sym (some-injective (fresh_view 0) u at)) has in z.1
       at_seat (suc zero) u at has = none (subst (λ w. HasLock w.held lock) (sym (some-injective v u at)) has)
       at_seat (suc (suc j)) u at has = absurd (let q = at in cc)
+
       held : ((j : ℕ) × (u : View) × At (fresh_view 0 ∷ v ∷ []) j u × HasLock u.held lock) → ⊥
       held p = at_seat p.0 p.1 p.2 p.3
 
@@ -154,8 +144,8 @@ module _ (site : Site) (words : Words) (v : View) (h : Holds site words (fresh_v
         not_so Sees (is_live seen && not (version_in seen == here.version)) _ _
         (and_right (is_live seen) (not (version_in seen == here.version)) (not_from_true (version_in seen == here.version) (eq-eqb (version_in seen) here.version (ap version_in is ∙ version_good))))
         (so Sees (is_live seen && covers seen hash) _ _
-            (and_from (is_live seen) (covers seen hash) (ap is_live is ∙ live) (ap (λ n. covers n hash) is ∙ covering))
-            (record { root = r; segment = s; head = good }))
+        (and_from (is_live seen) (covers seen hash) (ap is_live is ∙ live) (ap (λ n. covers n hash) is ∙ covering))
+        (record { root = r; segment = s; head = good }))
 
     told : (value : Option ℕ) (place : ℕ) → Sees (reads.Ended (end_by value place))
     told None place = tt
@@ -172,7 +162,7 @@ module _ (site : Site) (words : Words) (v : View) (h : Holds site words (fresh_v
     looks_again found place again.Head i =
         so Sees (words (read_head site_here found.path.segment) == found.path.head) (reads.Check found place again.Lock) _
         (eq-eqb (words (read_head site_here found.path.segment)) found.path.head
-            (same_head found.path.segment (i.is_path.segment ∙ entry_none found.path.root i.is_path.root) ∙ sym i.is_path.head)) i
+        (same_head found.path.segment (i.is_path.segment ∙ entry_none found.path.root i.is_path.root) ∙ sym i.is_path.head)) i
     looks_again found place again.Lock i =
         let lock : ℕ = read_lock site_here hash found.path.segment in
         let even : words lock % 2 ≡ 0 = ap (λ n. n % 2) (sym i.same) ∙ i.even in

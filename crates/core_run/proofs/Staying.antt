@@ -1,19 +1,17 @@
 -- Each event of a run of one script keeps what one caller alone saw, and an attempt that ends has its reply.
-use Rattle.std.proofs.Common.{◌≡◌, ◌≢◌, ℕ, zero, suc, ◌+◌, ◌-◌, ◌*◌, ◌%◌, ◌^◌, ◌<◌, ◌≤◌, inl, inr, Bool, true, false, cond, Option, Some, None, List, [], ◌∷◌, length, map, slice_get, slice_index, refl, sym, ◌∙◌, ap, subst, arith}
+use Rattle.std.proofs.Common.{◌≡◌, ℕ, zero, suc, ◌^◌, ◌<◌, ◌≤◌, cond, Some, None, List, [], ◌∷◌, length, map, slice_get, refl, sym, ◌∙◌, ap, subst, arith}
 use Rattle.std.proofs.lemmas.List.{get_or_past}
-use Rattle.std.specs.Prelude.{⊤}
 use Rattle.std.specs.List.{AllByRecursion, AllZip}
 use Rattle.std.proofs.lemmas.Bool.{ne_eqb}
 use Rattle.std.proofs.lemmas.Option.{none-some, same_Some}
-use Rattle.trace.specs.Events.{Words, value_at, with_word}
+use Rattle.trace.specs.Events.{Words}
 use Rattle.trace.proofs.Moments.{value_at_now}
-use Rattle.image_layout.specs.Places.{Shape, state_word, words_of}
+use Rattle.image_layout.specs.Places.{state_word}
 use Rattle.image_layout.specs.Volatile.{power_word}
 use Rattle.op_core.specs.declared.want.Want.{Want}
 use Rattle.op_core.specs.declared.want.Want.TheVariants as want
 use Rattle.map_model.specs.declared.call.Call.{Call}
-use Rattle.world.specs.Site.{Site}
-use Rattle.world.specs.Views.{View, At}
+use Rattle.world.specs.Views.{View}
 use Rattle.world.specs.Wants.{answer_to, word_of, words_after}
 use Rattle.world.specs.World.{fresh_view}
 use Rattle.world.specs.Invariant.{Holds}
@@ -21,18 +19,17 @@ use Rattle.restart_op.specs.declared.restart.RestartOp.{RestartOp}
 use Rattle.restart_op.specs.declared.restart.RestartStep.{RestartStep}
 use Rattle.restart_op.specs.declared.restart.RestartStep.TheVariants as restart_step
 use Rattle.restart_op.specs.Restart.{wanted as restart_wanted, wanted_in as restart_wanted_in, taken as restart_taken}
-use Rattle.restart_op.specs.Restarted.{IsStarted, EndsStarted}
+use Rattle.restart_op.specs.Restarted.{EndsStarted}
 use Rattle.restart_op.specs.declared.close.CloseOp.{CloseOp}
 use Rattle.restart_op.specs.Close.{wanted as close_wanted, taken as close_taken}
 use Rattle.restart_op.specs.Closing.{left as close_left, events_of, Falls as CloseFalls}
-use Rattle.engine.specs.declared.engine.Engine.{Engine}
 use Rattle.engine.specs.declared.engine.End.{End}
 use Rattle.engine.specs.Fits.{KeepsSuits}
 use Rattle.engine.specs.Core.{Caller, Core, current}
-use Rattle.engine.specs.Holding.{CallerFits, CoreHolds}
+use Rattle.engine.specs.Holding.{CallerFits}
 use Rattle.core_run.specs.declared.keeper.Keeper.{Keeper}
 use Rattle.core_run.specs.declared.keeper.Keeper.TheVariants.{Restarting, Open, Closing, Closed}
-use Rattle.core_run.specs.State.{State, awake, started_by, waiting_from, beginning, Deed, by_keeper, restarting, closing, restart_deed, close_deed, keeper_deed, caller_deed, open_deed, deed}
+use Rattle.core_run.specs.State.{State, awake, started_by, Deed, by_keeper, restarting, closing, restart_deed, close_deed, keeper_deed, caller_deed, open_deed, deed}
 use Rattle.core_run.specs.Running.{Task, IsTask, site_in, start_of, AllTold, IsOpen, IsRunningBy, IsRunning}
 use Rattle.core_run.specs.Alone.{EndsCall, EngineSees, AreAlone, IsAloneBy, IsAlone, IsForOne, BeginsAlone, AloneStays, AloneReplies}
 use Rattle.core_run.proofs.Working.{Falls, BeginsLow}
@@ -82,8 +79,11 @@ module _ (keeps : KeepsSuits) (less : Falls) (first : BeginsLow) (started : Ends
     Left d = IsLeft (site_in t) core.words one.view one.holds a.power (version_fits started t is.task) keeps less first (words_fit t core o) core.trace one.caller one.at_here d
 
     by_seat : (j : ℕ) (d : Deed) → caller_deed t.shape j core_of_one (slice_get (one.caller ∷ []) j) ≡ Some d → (j ≡ 0) × Left d
-    by_seat zero d e = (refl, caller_left (site_in t) core.words one.view one.holds a.power (version_fits started t is.task) keeps less first (words_fit t core o) core.trace one.caller one.at_here
-        (current one.caller) one.caller.engine refl refl one.fits.does (subst (λ cs. AllByRecursion (λ c. EngineSees (site_in t).front core.words c.engine) cs) one.callers_are a.sees).0 d e)
+    by_seat zero d e = (
+      refl,
+      caller_left (site_in t) core.words one.view one.holds a.power (version_fits started t is.task) keeps less first (words_fit t core o) core.trace one.caller one.at_here
+          (current one.caller) one.caller.engine refl refl one.fits.does (subst (λ cs. AllByRecursion (λ c. EngineSees (site_in t).front core.words c.engine) cs) one.callers_are a.sees).0 d e,
+    )
     by_seat (suc j) d e = absurd (none-some d e)
 
     pub seat_left : (j : ℕ) (d : Deed) → open_deed t.shape j Open core ≡ Some d → (j ≡ 0) × Left d

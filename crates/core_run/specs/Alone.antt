@@ -1,5 +1,5 @@
 -- One caller alone: nobody else steps, so what it saw of the memory is still so, and each of its calls ends.
-use Rattle.std.specs.Prelude.{◌≡◌, ℕ, ◌+◌, ◌-◌, ◌%◌, ◌≤◌, ⊤, Option, None, Some, List, [], ◌∷◌, length}
+use Rattle.std.specs.Prelude.{◌≡◌, ℕ, ◌+◌, ◌-◌, ◌%◌, ◌≤◌, ⊤, false, Option, None, Some, List, [], ◌∷◌, length}
 use Rattle.std.specs.List.{AllByRecursion}
 use Rattle.trace.specs.Events.{Words}
 use Rattle.image_layout.specs.Places.{root_word}
@@ -12,7 +12,6 @@ use Rattle.read_op.specs.declared.step.Path.{Path}
 use Rattle.read_op.specs.declared.step.ReadStep.{ReadStep}
 use Rattle.read_op.specs.declared.step.ReadStep.TheVariants as reads
 use Rattle.read_op.specs.Steps.{entry_word as read_entry, head_word as read_head, lock_word as read_lock}
-use Rattle.write_op.specs.declared.control.WriteEnd.{WriteEnd}
 use Rattle.write_op.specs.declared.control.Step.{Step}
 use Rattle.write_op.specs.declared.control.Step.TheVariants.{LoadEntry, LoadHead, LookAt, TryLock, RootAgain, EntryAgain, HeadAgain, GiveBack, Ended}
 use Rattle.write_op.specs.declared.control.Kept.{Kept}
@@ -29,6 +28,7 @@ use Rattle.engine.specs.Core.{Caller, Core}
 use Rattle.core_run.specs.declared.keeper.Keeper.{Keeper}
 use Rattle.core_run.specs.declared.keeper.Keeper.TheVariants.{Restarting, Open, Closing, Closed}
 use Rattle.core_run.specs.State.{State, Deed, deed, beginning}
+use Rattle.core_run.specs.Run.{ends_in_again}
 use Rattle.core_run.specs.Running.{Task, IsTask, site_in, start_of, IsRunning}
 
 -- an attempt ended with a reply
@@ -132,3 +132,7 @@ AloneStays = (t : Task) (c : ℕ) (s : State) (d : Deed) → IsForOne t → IsRu
 abbrev pub AloneReplies : Type 0
 AloneReplies = (t : Task) (c : ℕ) (s : State) (d : Deed) (end : End) → IsForOne t → IsRunning t s → IsAlone t s → deed t.shape c s ≡ Some d → d.end ≡ Some end
     → EndsCall end
+
+-- so none is to be made again
+abbrev pub NeverAgain : Type 0
+NeverAgain = (t : Task) (c : ℕ) (s : State) (d : Deed) → IsForOne t → IsRunning t s → IsAlone t s → deed t.shape c s ≡ Some d → ends_in_again d.end ≡ false

@@ -1,9 +1,9 @@
 -- A run of one script ends: whatever is done keeps a state of it, each call ends, and the close does.
-use Rattle.std.specs.Prelude.{◌≡◌, ℕ, ◌+◌, ◌<◌, ◌≤◌, ⊤, false, Option, None, List}
+use Rattle.std.specs.Prelude.{◌≡◌, ℕ, ◌+◌, ◌<◌, ◌≤◌, ⊤, false, None, List}
 use Rattle.script_text.specs.declared.line.Event.TheVariants as event
 use Rattle.script_text.specs.declared.line.Line.{Line}
 use Rattle.restart_op.specs.declared.restart.RestartOp.{RestartOp}
-use Rattle.engine.specs.Core.{Caller, Core}
+use Rattle.engine.specs.Core.{Caller}
 use Rattle.engine.specs.Laws.{NoneRuns}
 use Rattle.core_run.specs.declared.keeper.Keeper.{Keeper}
 use Rattle.core_run.specs.declared.keeper.Keeper.TheVariants.{Restarting, Open, Closing, Closed}
@@ -55,6 +55,11 @@ ClosedStays = (t : Task) (most : ℕ) (s : State) → IsForOne t → most_of t �
 -- the restart is over
 abbrev pub RestartEnds : Type 0
 RestartEnds = (t : Task) (most : ℕ) (s : State) → IsForOne t → most_of t ≤ most → IsRun t s → (op : RestartOp) → (restarted t.shape most s).keeper ≡ Restarting op → ⊥
+
+-- and has left the image to the callers, where it was not over
+abbrev pub RestartOpens : Type 0
+RestartOpens = (t : Task) (most : ℕ) (s : State) (op : RestartOp) → IsForOne t → most_of t ≤ most → IsRun t s → s.keeper ≡ Restarting op
+    → (restarted t.shape most s).keeper ≡ Open
 
 -- ONE CALL has ended
 pub record HasAnswered (before after : State) : Type 0 where

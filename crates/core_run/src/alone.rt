@@ -1,15 +1,88 @@
 //! The laws of one caller alone. The functions do nothing: each stands for the law that its contract says.
 
-ghost use Rattle.core_run.specs.Alone.{BeginsAlone, AloneStays, AloneReplies};
+ghost use Rattle.core_run.specs.Alone.{BeginsAlone, AloneStays, AloneReplies, NeverAgain};
+ghost use Rattle.core_run.specs.Ends.{DriveStays, RestartedStays, RoundStays, RoundsStay, ReadyStays, RunOutStays, LineStays, LinesStay, ClosedStays};
+ghost use Rattle.core_run.specs.Ends.{RestartEnds, RestartOpens, CallEnds, RoundsEnd, RoundsAreEnough, RunOutEnds, ClosedEnds, DrivesAreEnough, RunsAreWell};
+
+use crate::states;
 
 /// One caller alone: what it saw of the memory stays so, from the beginning on, and each of its attempts ends with a reply.
 pub fn alone_stays()
     ensures begins { BeginsAlone }
     ensures stays { AloneStays }
     ensures replies { AloneReplies }
+    ensures never_again { NeverAgain }
 {
     engine::fits_the_world();
     engine::attempts_end();
     restart_op::restart_begins();
     restart_op::close_ends();
+}
+
+/// Whatever is done in a run of one script keeps a state of it: each part of a line, each line, the end rule and the close.
+pub fn runs_stay_well()
+    ensures drive { DriveStays }
+    ensures restarted { RestartedStays }
+    ensures round { RoundStays }
+    ensures rounds { RoundsStay }
+    ensures ready { ReadyStays }
+    ensures run_out { RunOutStays }
+    ensures line { LineStays }
+    ensures lines { LinesStay }
+    ensures closed { ClosedStays }
+{
+    engine::fits_the_world();
+    engine::attempts_end();
+    restart_op::restart_begins();
+    restart_op::close_ends();
+    states::deeds_are_well();
+    states::close_may_begin();
+    alone_stays();
+}
+
+/// In a run of one script the restart ends, each call ends in its turn, all calls run out in no more turns than there are
+/// events at most, the close begins, and it ends.
+pub fn calls_run_out()
+    ensures restart { RestartEnds }
+    ensures opens { RestartOpens }
+    ensures call { CallEnds }
+    ensures rounds { RoundsEnd }
+    ensures few { RoundsAreEnough }
+    ensures run_out { RunOutEnds }
+    ensures closed { ClosedEnds }
+{
+    engine::fits_the_world();
+    engine::attempts_end();
+    restart_op::restart_begins();
+    restart_op::close_ends();
+    states::deeds_are_well();
+    states::close_may_begin();
+    alone_stays();
+}
+
+/// The number of events that a run of one script counts at most is enough: with a greater one a caller goes no further.
+pub fn drives_are_enough()
+    ensures { DrivesAreEnough }
+{
+    engine::fits_the_world();
+    engine::attempts_end();
+    restart_op::restart_begins();
+    restart_op::close_ends();
+    states::deeds_are_well();
+    states::close_may_begin();
+    alone_stays();
+}
+
+/// A run of one script is one, whatever its lines are, and without a cut the image is closed at its end.
+pub fn runs_are_well()
+    ensures { RunsAreWell }
+{
+    engine::fits_the_world();
+    engine::attempts_end();
+    restart_op::restart_begins();
+    restart_op::close_ends();
+    states::run_begins();
+    states::deeds_are_well();
+    states::close_may_begin();
+    alone_stays();
 }

@@ -12,7 +12,7 @@ pub mod keeper;
 pub mod sessions;
 pub mod states;
 
-pub use alone::alone_stays;
+pub use alone::{alone_stays, calls_run_out, drives_are_enough, runs_are_well, runs_stay_well};
 pub use deed::Deed;
 pub use goal::Goal;
 pub use keeper::Keeper;

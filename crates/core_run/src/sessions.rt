@@ -2,7 +2,7 @@
 
 ghost use Rattle.core_run.specs.Sessions.{RunsAreSessions};
 
-use crate::states;
+use crate::{alone, states};
 
 /// A run of one caller's script over an image that the program serves is a session: what its caller was told follows the script
 /// and is one legal history of a plain map; the image that is left is sound and has that history's map, the open call whole or
@@ -14,4 +14,5 @@ pub fn runs_are_sessions()
     states::closed_is_closed();
     states::tolds_follow();
     states::no_slot_is_free();
+    alone::runs_are_well();
 }
