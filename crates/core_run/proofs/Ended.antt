@@ -1,10 +1,9 @@
 -- What a close has left: the newest words, and an answer to each call.
-use Rattle.std.proofs.Common.{◌≡◌, ℕ, zero, suc, ◌<◌, ◌≤◌, List, [], ◌∷◌, length, map, slice_get, slice_index, None, inl, inr, sym, ap, ◌∙◌, subst, arith}
+use Rattle.std.proofs.Common.{◌≡◌, ℕ, suc, ◌≤◌, List, [], ◌∷◌, length, map, slice_get, slice_index, None, inl, inr, sym, ap, ◌∙◌, subst, arith}
 use Rattle.std.specs.List.{range_with_len, AllByRecursion, AllZip}
 use Rattle.std.proofs.lemmas.Bool.{cases_lt}
-use Rattle.std.proofs.lemmas.List.FromFn.{length-map-range_with_len, get_or-map-range_with_len}
 use Rattle.std.proofs.lemmas.Option.{none-some, slice_get-get_or}
-use Rattle.trace.specs.Events.{Words, Trace, value, after}
+use Rattle.trace.specs.Events.{Words, Trace, value}
 use Rattle.trace.specs.Media.{MayHold, IsPossible}
 use Rattle.trace.proofs.Media.{may_of_had, newest_may}
 use Rattle.map_model.specs.declared.call.Call.{Call}
@@ -15,7 +14,6 @@ use Rattle.sound_image.specs.Left.{HasPairsOf}
 use Rattle.session.specs.Callers.{IsAnswered}
 use Rattle.world.specs.Site.{Site}
 use Rattle.world.specs.Views.{View}
-use Rattle.world.specs.Wants.{word_of, event_of}
 use Rattle.op_core.specs.declared.want.Want.TheVariants.{Done}
 use Rattle.restart_op.specs.declared.close.CloseOp.{CloseOp}
 use Rattle.restart_op.specs.Close.{wanted}

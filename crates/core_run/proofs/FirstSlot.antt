@@ -1,7 +1,7 @@
 -- The one slot for a segment is not free.
-use Rattle.std.proofs.Common.{◌≡◌, ℕ, ◌+◌, ◌<◌, refl, sym, ◌∙◌, ap, subst, arith}
+use Rattle.std.proofs.Common.{◌≡◌, ◌+◌, refl, sym, ◌∙◌, ap, arith}
 use Rattle.image_layout.specs.Places.{head_at}
-use Rattle.image_file.specs.Stage.{segments_word, IsServed}
+use Rattle.image_file.specs.Stage.{segments_word}
 use Rattle.sound_image.specs.Segments.{frame_of, state_at}
 use Rattle.core_run.specs.Running.{start_of}
 use Rattle.core_run.specs.States.{NoSlotIsFree}

@@ -12,7 +12,7 @@ use Rattle.world.specs.Site.{IsLockWord}
 use Rattle.restart_op.specs.declared.close.CloseStep.{CloseStep}
 use Rattle.restart_op.specs.declared.close.CloseStep.TheVariants.{Flush, Fence, Load, Store, FlushState, FenceState, Ended}
 use Rattle.restart_op.specs.Closing.{close_after}
-use Rattle.restart_op.proofs.CloseAlong.{IsKeptBy, words_by, along}
+use Rattle.restart_op.proofs.CloseAlong.{words_by, along}
 use Rattle.engine.specs.Good.{HasSpentLock}
 use Rattle.core_run.specs.States.{WereSpent}
 
