@@ -2,7 +2,8 @@
 //!
 //! Definitions and laws. `specs/State.antt` has the state of a run and one event of it, `specs/Run.antt` the lines. A driver
 //! that runs on a memory answers to these definitions. `specs/Running.antt` says what holds of a state between any two events,
-//! and `specs/States.antt` what follows of it.
+//! and `specs/States.antt` what follows of it; `specs/Ends.antt` that a run of one caller ends, and `specs/Sessions.antt` that it
+//! is a session.
 #![tactic(auto)]
 
 mod alone;
