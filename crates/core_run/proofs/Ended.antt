@@ -1,10 +1,9 @@
 -- What a close has left: the newest words, and an answer to each call.
-use Rattle.std.proofs.Common.{◌≡◌, ℕ, zero, suc, ◌<◌, ◌≤◌, List, [], ◌∷◌, length, map, slice_get, slice_index, None, inl, inr, sym, ap, ◌∙◌, subst, arith}
+use Rattle.std.proofs.Common.{◌≡◌, ℕ, suc, ◌≤◌, List, [], ◌∷◌, length, map, slice_get, slice_index, None, inl, inr, sym, ap, ◌∙◌, subst, arith}
 use Rattle.std.specs.List.{range_with_len, AllByRecursion, AllZip}
 use Rattle.std.proofs.lemmas.Bool.{cases_lt}
-use Rattle.std.proofs.lemmas.List.FromFn.{length-map-range_with_len, get_or-map-range_with_len}
 use Rattle.std.proofs.lemmas.Option.{none-some, slice_get-get_or}
-use Rattle.trace.specs.Events.{Words, Trace, value, after}
+use Rattle.trace.specs.Events.{Words, Trace, value}
 use Rattle.trace.specs.Media.{MayHold, IsPossible}
 use Rattle.trace.proofs.Media.{may_of_had, newest_may}
 use Rattle.map_model.specs.declared.call.Call.{Call}
@@ -15,7 +14,6 @@ use Rattle.sound_image.specs.Left.{HasPairsOf}
 use Rattle.session.specs.Callers.{IsAnswered}
 use Rattle.world.specs.Site.{Site}
 use Rattle.world.specs.Views.{View}
-use Rattle.world.specs.Wants.{word_of, event_of}
 use Rattle.op_core.specs.declared.want.Want.TheVariants.{Done}
 use Rattle.restart_op.specs.declared.close.CloseOp.{CloseOp}
 use Rattle.restart_op.specs.Close.{wanted}
@@ -29,23 +27,15 @@ use Rattle.core_run.specs.declared.keeper.Keeper.TheVariants.{Closed}
 use Rattle.core_run.specs.Running.{Task, IsTask, site_in, start_of, HasToldInOrder, AllTold, IsClosing, IsRunningBy}
 use Rattle.core_run.specs.States.{last_words, IsClosedWell, ClosedIsClosed}
 use Rattle.core_run.proofs.Closes.{same_core}
+use Rattle.core_run.proofs.Newest.{close_newest}
+use Rattle.core_run.proofs.Leaving.{words_listed, newest_length}
 use Rattle.core_run.proofs.Goods.{quiet_before, kept_at, pairs_at}
 
 -- ---- the newest words
--- those of a close are what its events make
-close_words : (shape : Shape) (start words : Words) (es : Trace) → words ≡ value start es → (n : ℕ)
-    → (close_after shape words es n).words ≡ value start (close_after shape words es n).trace
-close_words shape start words es is zero = is
-close_words shape start words es is (suc n) =
-    let c = close_after shape words es n in
-    ap (λ (ws : Words). after (event_of shape (wanted c.op) (c.words (word_of shape (wanted c.op))) 0) ws) (close_words shape start words es is n)
-
-listed : (width : ℕ) (words : Words) (i : ℕ) → i < width → slice_index (map words (range_with_len 0 width)) i ≡ words i
-listed width words i within = get_or-map-range_with_len words 0 width i i 0 within (omega arith)
-
-newest_possible : (width : ℕ) (start words : Words) (es : Trace) → words ≡ value start es → IsPossible width start es (slice_index (map words (range_with_len 0 width)))
-newest_possible width start words es is i within =
-    subst (λ x. MayHold start es i x) (sym (listed width words i within ∙ ap (λ (ws : Words). ws i) is)) (may_of_had start es i (value start es i) (newest_may start es i))
+newest_possible : (shape : Shape) (start words : Words) (es : Trace) → words ≡ value start es
+    → IsPossible (words_of shape) start es (slice_index (map words (range_with_len 0 (words_of shape))))
+newest_possible shape start words es is i within =
+    subst (λ x. MayHold start es i x) (sym (words_listed shape words i within ∙ ap (λ (ws : Words). ws i) is)) (may_of_had start es i (value start es i) (newest_may start es i))
 
 -- ---- each call is answered
 past_end : (calls : List Call) (n : ℕ) → slice_get calls n ≡ None → length calls ≤ n
@@ -82,9 +72,9 @@ module _ (quiet : ThroughIsQuiet) (maps : ThroughHasMap) (pairs : KeepsPairs) (c
       let now : Core = record { words = c.words; trace = c.trace; callers = r.before.callers } in
       let last = last_words t now in
       let o = r.was_open in
-      let possible = newest_possible (words_of t.shape) (start_of t) c.words c.trace
-      (close_words t.shape (start_of t) r.before.words r.before.trace o.holds.well.words_are r.events) in
-      let whole = length-map-range_with_len c.words 0 (words_of t.shape) in
+      let possible = newest_possible t.shape (start_of t) c.words c.trace
+      (close_newest t.shape (start_of t) r.before.words r.before.trace o.holds.well.words_are r.events) in
+      let whole = newest_length t.shape c.words in
       let end = settles (site_in t) (start_of t) (world_of r.before o.holds.views) (quiet_before quiet maps pairs cuts t is opening has r.before o r.run_out) r.events
       (ap wanted (sym r.op_is) ∙ done) last whole possible in
       subst (λ (k : Core). IsClosedWell t opening k) (sym (same_core t op core r)) (record {

@@ -13,7 +13,7 @@ use Rattle.sound_image.specs.Left.{HasPairsOf, IsLeft}
 use Rattle.session.specs.Callers.{history_of, undrawn}
 use Rattle.restart_op.specs.declared.restart.RestartOp.{RestartOp}
 use Rattle.restart_op.specs.declared.close.CloseOp.{CloseOp}
-use Rattle.restart_op.specs.Restarted.{RestartKeeps, KeepsPairs}
+use Rattle.restart_op.specs.Restarted.{restarted, RestartKeeps, KeepsPairs}
 use Rattle.restart_op.specs.Closing.{close_after, IsQuiet, IsKept, CloseKeeps}
 use Rattle.engine.specs.Core.{Core, told_of, tolds_of, histories}
 use Rattle.engine.specs.Good.{IsGood}
@@ -23,9 +23,10 @@ use Rattle.core_run.specs.declared.keeper.Keeper.{Keeper}
 use Rattle.core_run.specs.declared.keeper.Keeper.TheVariants.{Restarting, Open, Closing, Closed}
 use Rattle.core_run.specs.State.{State, waiting_from}
 use Rattle.core_run.specs.Running.{Task, IsTask, site_in, start_of, IsOpen, IsRestarting, IsClosing, IsRunningBy}
-use Rattle.core_run.specs.States.{IsGoodMoment, MomentsAreGood}
+use Rattle.core_run.specs.States.{entries_of, HadNoRooms, WereSpent, IsGoodMoment, MomentsAreGood}
 use Rattle.core_run.proofs.Opened.{same_core as same_restart}
 use Rattle.core_run.proofs.Closes.{same_core as same_close}
+use Rattle.core_run.proofs.Locks.{were_spent}
 
 -- ---- nothing is told
 abbrev waiting_histories : Shape → ℕ → List (List Call) → List (List Entry)
@@ -94,6 +95,8 @@ module _ (good : HoldingIsGood) (quiet : ThroughIsQuiet) (maps : ThroughHasMap) 
               same_kind = same.front;
               left = λ k. inl (subst (λ (es : List Entry). HasPairsOf t.shape (slice_index medium) (replay opening es)) (sym (none_woven lists none)) (same.pairs opening has) k);
             };
+        had_no_room = subst (λ (es : List Entry). HadNoRooms t.shape opening es) (sym none) tt;
+        spent = subst (λ (es : List Entry). WereSpent t.shape (restarted t.shape t.first r.events).words es) (sym none) tt;
       })
 
   open_is_good : (core : Core) → IsOpen t core → IsGood t.shape (start_of t) opening core
@@ -112,11 +115,15 @@ module _ (good : HoldingIsGood) (quiet : ThroughIsQuiet) (maps : ThroughHasMap) 
               left = subst (λ (scripts : List (List Call)). IsLeft t.shape (slice_index medium) (replay opening (weave (histories core))) (undrawn scripts (tolds_of core))) o.scripts
                   (g.media.left medium whole possible);
             };
+        had_no_room = g.had_no_room;
+        spent = g.spent;
       }
 
   closing_good : (op : CloseOp) (core : Core) → IsClosing t op core → IsGoodCore core
   closing_good op core r = subst IsGoodCore (sym (same_close t op core r)) (record {
     legal = (open_is_good r.before r.was_open).legal;
+    had_no_room = (open_is_good r.before r.was_open).had_no_room;
+    spent = were_spent t.shape r.before.words r.before.trace r.events (entries_of r.before) (open_is_good r.before r.was_open).spent;
     media = λ medium whole possible.
         let kept = kept_at quiet maps pairs cuts t is opening has r.before r.was_open r.run_out r.events medium whole possible in
         record {
@@ -133,7 +140,7 @@ module _ (good : HoldingIsGood) (quiet : ThroughIsQuiet) (maps : ThroughHasMap) 
   good_core Closed core r = closing_good r.0 core r.1
 
   good_moment : (s : State) → IsRunningBy t s.keeper s.core → IsGoodMoment t opening s
-  good_moment s r = let g = good_core s.keeper s.core r in record { legal = g.legal; media = g.media }
+  good_moment s r = let g = good_core s.keeper s.core r in record { legal = g.legal; media = g.media; had_no_room = g.had_no_room; spent = g.spent }
 
 pub moments_are_good : HoldingIsGood → ThroughIsQuiet → ThroughHasMap → RestartKeeps → KeepsPairs → CloseKeeps → MomentsAreGood
 moments_are_good good quiet maps restarts pairs cuts t s opening is run has = good_moment good quiet maps restarts pairs cuts t is opening has s run

@@ -1,17 +1,24 @@
 -- The laws of the states of a run: it begins, each event keeps it, and at any moment it is good.
-use Rattle.std.specs.Prelude.{◌≡◌, ℕ, ◌<◌, List, length, map, slice_index}
-use Rattle.std.specs.List.{range_with_len, AllZip}
+use Rattle.std.specs.Prelude.{◌≡◌, ◌≢◌, ℕ, ◌^◌, ◌<◌, ◌≤◌, ◌⊎◌, List, length, map, slice_index}
+use Rattle.std.specs.List.{range_with_len, AllByRecursion, AllZip}
+use Rattle.trace.specs.Events.{Words}
 use Rattle.trace.specs.Media.{IsPossible}
+use Rattle.segment_head.specs.HeadWord.{free}
+use Rattle.map_model.specs.declared.entry.Reply.TheVariants.{Spent}
+use Rattle.map_model.specs.declared.entry.Entry.{Entry}
 use Rattle.map_model.specs.Map.{Map}
-use Rattle.map_model.specs.Weave.{weave}
+use Rattle.map_model.specs.Weave.{all_of, draws, weave}
+use Rattle.map_model.specs.ByPlaces.{map_at}
 use Rattle.map_model.specs.Legal.{IsLegal, replay}
-use Rattle.image_layout.specs.Places.{words_of}
+use Rattle.image_layout.specs.Places.{Shape, words_of}
 use Rattle.sound_image.specs.Image.{IsSoundImage}
-use Rattle.sound_image.specs.Segments.{frame_of, IsClean}
+use Rattle.sound_image.specs.Segments.{frame_of, state_at, IsClean}
 use Rattle.sound_image.specs.Left.{HasPairsOf, IsLeft}
 use Rattle.session.specs.Callers.{FollowsScript, IsAnswered, undrawn}
+use Rattle.session.specs.Session.{HadNoRoom}
 use Rattle.restart_op.specs.Close.{begun as close_begun}
 use Rattle.engine.specs.Core.{Core, tolds_of, histories}
+use Rattle.engine.specs.Good.{HasSpentLock}
 use Rattle.engine.specs.Laws.{NoneRuns}
 use Rattle.core_run.specs.declared.keeper.Keeper.TheVariants.{Closing, Closed}
 use Rattle.core_run.specs.State.{State, beginning}
@@ -33,11 +40,26 @@ pub record IsGoodMedium (t : Task) (opening : Map) (core : Core) (medium : List 
   pub same_kind : (i : ℕ) → i < 4 → slice_index medium i ≡ slice_index t.first i
   pub left : IsLeft t.shape (slice_index medium) (replay opening (weave (histories core))) (undrawn t.scripts (tolds_of core))
 
--- THE MOMENT IS GOOD: the replies so far are one legal history, and so is every medium that a power cut may leave
+-- the entries of all callers so far, those of open calls that drew among them
+abbrev pub entries_of : Core → List Entry
+entries_of core = all_of (histories core)
+
+-- where a call was refused for want of room, the map had none at its place
+abbrev pub HadNoRooms : Shape → Map → List Entry → Type 0
+HadNoRooms shape opening entries = AllByRecursion (λ e. HadNoRoom shape (map_at opening entries e.place) e) entries
+
+-- where a call was refused for want of a number, 2 ^ 63 changes are drawn, or some lock word has the last version
+abbrev pub WereSpent : Shape → Words → List Entry → Type 0
+WereSpent shape words entries = AllByRecursion (λ e. e.reply ≡ Spent → (2 ^ 63 ≤ draws entries) ⊎ HasSpentLock shape words) entries
+
+-- THE MOMENT IS GOOD: the replies so far are one legal history, and so is every medium that a power cut may leave; and each
+-- refusal had its cause
 pub record IsGoodMoment (t : Task) (opening : Map) (s : State) : Type 0 where
   pub legal : IsLegal opening (histories s.core)
   pub media : (medium : List ℕ) → length medium ≡ words_of t.shape → IsPossible (words_of t.shape) (start_of t) s.core.trace (slice_index medium)
       → IsGoodMedium t opening s.core medium
+  pub had_no_room : HadNoRooms t.shape opening (entries_of s.core)
+  pub spent : WereSpent t.shape s.core.words (entries_of s.core)
 
 abbrev pub MomentsAreGood : Type 0
 MomentsAreGood = (t : Task) (s : State) (opening : Map) → IsTask t → IsRunning t s → HasPairsOf t.shape (start_of t) opening → IsGoodMoment t opening s
@@ -62,3 +84,7 @@ ClosedIsClosed = (t : Task) (s : State) (opening : Map) → IsTask t → IsRunni
 -- what callers were told follows their scripts
 abbrev pub ToldsFollow : Type 0
 ToldsFollow = (t : Task) (s : State) → IsTask t → IsRunning t s → AllZip FollowsScript t.scripts (tolds_of s.core)
+
+-- no slot of an image that is run is free: its one segment is live
+abbrev pub NoSlotIsFree : Type 0
+NoSlotIsFree = (t : Task) (s : ℕ) → IsTask t → s < t.shape.segments → state_at (frame_of t.shape (start_of t)) s ≢ free

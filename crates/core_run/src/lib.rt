@@ -2,12 +2,11 @@
 //!
 //! Definitions and laws. `specs/State.antt` has the state of a run and one event of it, `specs/Run.antt` the lines. A driver
 //! that runs on a memory answers to these definitions. `specs/Running.antt` says what holds of a state between any two events,
-//! and `specs/States.antt` what follows of it. `specs/Ends.antt` says that a run of one script ends, and `specs/Sessions.antt` that
-//! it is a session.
+//! and `specs/States.antt` what follows of it; `specs/Ends.antt` that a run of one caller ends, and `specs/Sessions.antt` that it
+//! is a session.
 #![tactic(auto)]
 
 mod alone;
-pub mod causes;
 pub mod deed;
 pub mod goal;
 pub mod keeper;
@@ -17,11 +16,11 @@ pub mod states;
 pub use alone::{
     alone_stays, calls_run_out, drives_are_enough, lines_are_well, runs_are_well, runs_stay_well,
 };
-pub use causes::{any_keeper_keeps, causes_are_told, causes_begin, causes_stay, no_slot_is_free};
 pub use deed::Deed;
 pub use goal::Goal;
 pub use keeper::Keeper;
 pub use sessions::runs_are_sessions;
 pub use states::{
-    close_may_begin, closed_is_closed, deeds_are_well, moments_are_good, run_begins, tolds_follow,
+    close_may_begin, closed_is_closed, deeds_are_well, moments_are_good, no_slot_is_free,
+    run_begins, tolds_follow,
 };

@@ -2,7 +2,7 @@
 
 ghost use Rattle.core_run.specs.Sessions.{RunsAreSessions};
 
-use crate::{alone, causes, states};
+use crate::{alone, states};
 
 /// A run of one caller's script over an image that the program serves is a session: what its caller was told follows the script
 /// and is one legal history of a plain map; the image that is left is sound and has that history's map, the open call whole or
@@ -10,18 +10,9 @@ use crate::{alone, causes, states};
 pub fn runs_are_sessions()
     ensures { RunsAreSessions }
 {
-    states::deeds_are_well();
-    states::run_begins();
-    states::close_may_begin();
-    alone::alone_stays();
-    alone::calls_run_out();
-    alone::runs_are_well();
-    causes::causes_begin();
-    causes::causes_stay();
-    causes::any_keeper_keeps();
-    causes::causes_are_told();
-    causes::no_slot_is_free();
     states::moments_are_good();
     states::closed_is_closed();
     states::tolds_follow();
+    states::no_slot_is_free();
+    alone::runs_are_well();
 }

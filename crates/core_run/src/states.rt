@@ -1,7 +1,7 @@
 //! The laws of the states of a run. The functions do nothing: each stands for the law that its contract says.
 
 ghost use Rattle.core_run.specs.Running.{DeedsAreWell};
-ghost use Rattle.core_run.specs.States.{RunBegins, CloseMayBegin, MomentsAreGood, ClosedIsClosed, ToldsFollow};
+ghost use Rattle.core_run.specs.States.{RunBegins, CloseMayBegin, MomentsAreGood, ClosedIsClosed, ToldsFollow, NoSlotIsFree};
 
 /// Each event of a state of a run is one that a memory may be asked for, and leaves a state of the run.
 pub fn deeds_are_well()
@@ -25,7 +25,8 @@ pub fn close_may_begin()
 {}
 
 /// At any moment the replies so far are one legal history, and whatever a power cut may leave is a sound image of the same kind
-/// with that history's map, each open call whole or absent.
+/// with that history's map, each open call whole or absent; and each refusal had its cause, a full home bucket or a number that
+/// is spent.
 pub fn moments_are_good()
     ensures { MomentsAreGood }
 {
@@ -49,4 +50,9 @@ pub fn closed_is_closed()
 /// What each caller was told follows its script: its calls are the first of it, in their order, and at most one is open.
 pub fn tolds_follow()
     ensures { ToldsFollow }
+{}
+
+/// No slot of an image that is run is free.
+pub fn no_slot_is_free()
+    ensures { NoSlotIsFree }
 {}

@@ -34,7 +34,7 @@ told_or_open told own false drew none has = subst (λ d. HasEntries told d own) 
 told_or_open told own true None none has = has
 told_or_open told own true (Some e) none has = inl has
 
-pub untold_of : (site : Site) (c : Caller) (v : View) → CallerFits site c v → HasUntold (history_of (told_of c)) v.own
+untold_of : (site : Site) (c : Caller) (v : View) → CallerFits site c v → HasUntold (history_of (told_of c)) v.own
 untold_of site c v fits = by c.engine fits.does
   where
     by : (engine : _) → DoesCall site c engine v → HasUntold (history_of (told_of c)) v.own

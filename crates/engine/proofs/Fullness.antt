@@ -61,7 +61,7 @@ none_has words key (suc n) at r e from low taken same =
     ]
 
 -- ---- where the home bucket is
-pub key_is : (call : Call) → key_for call ≡ key_of call
+key_is : (call : Call) → key_for call ≡ key_of call
 key_is (Get key) = refl
 key_is (Insert key value) = refl
 key_is (Update key value) = refl

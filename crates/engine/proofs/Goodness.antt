@@ -73,10 +73,10 @@ pub record HasOpen (c : Caller) (call : Call) : Type 0 where
   pub is_current : current c ≡ Some call
   pub open_call : (told_of c).left_open ≡ Some None
 
-pub not_longer : (xs ys : List Entry) (e : Entry) → xs ≡ ys ++ e ∷ [] → xs ≡ ys → ⊥
+not_longer : (xs ys : List Entry) (e : Entry) → xs ≡ ys ++ e ∷ [] → xs ≡ ys → ⊥
 not_longer xs ys e p q = let l = ap length (sym q ∙ p) ∙ one_more ys e in omega (arith, l)
 
-pub none_drawn : (told own : List Entry) (drew : Option Entry) → HasEntries told drew own → own ≡ told → drew ≡ None
+none_drawn : (told own : List Entry) (drew : Option Entry) → HasEntries told drew own → own ≡ told → drew ≡ None
 none_drawn told own None has same = refl
 none_drawn told own (Some e) has same = absurd (not_longer own told e has same)
 

@@ -4,7 +4,7 @@ mod Falling
 mod Within
 mod Sparing
 mod Waits
-pub mod Fullness
+mod Fullness
 pub mod Planned
 pub mod Told
 pub mod Places
@@ -12,7 +12,7 @@ mod Unnoted
 mod Scripted
 mod Turning
 pub mod Cut
-pub mod Goodness
+mod Goodness
 mod Beginnings
 mod Opening
 mod Quiet

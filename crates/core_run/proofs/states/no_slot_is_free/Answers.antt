@@ -1,6 +1,6 @@
 -- The one slot is normal.
 use Rattle.core_run.proofs.FirstSlot.{no_slot_is_free}
-use Rattle.core_run.proofs.causes.no_slot_is_free.Goals as goal
+use Rattle.core_run.proofs.states.no_slot_is_free.Goals as goal
 
 pub returns : goal.returns
 returns c = no_slot_is_free
