@@ -1,14 +1,19 @@
 //! The time that the steps take.
 
-ghost use Rattle.std.specs.Prelude.{IfOk};
+ghost use Rattle.std.specs.Prelude.{◌≤◌, length, IfOk};
 ghost use Rattle.sound_image.specs.Image.{IsSoundImage};
 
-use image_file::{Medium, check, format, list, sound_from_bytes, to_bytes};
+use image_file::{
+    Medium, Words, check, format, list, sound_from_bytes, sound_from_words, to_bytes,
+};
 use image_layout::Geometry;
 use std::alloc::Global;
 use std::fs::{self, Files, OpenFile};
 use std::io::{self, Print, Read};
 use std::time::{Clock, Instant};
+
+/// How many bytes of a file are read at a time.
+const PIECE: usize = 1 << 20;
 
 fn no_memory() -> io::Error {
     io::Error::from(io::ErrorKind::OutOfMemory)
@@ -40,13 +45,39 @@ pub(crate) fn print_small(alloc: Global, rt: &impl Print) -> io::Result<()> {
     )
 }
 
-/// The bytes of a file, read into a vector that has room for them and for the end's test from the start on.
-fn read_whole<R: Files + Alloc<A = Global>>(rt: &R, path: &str) -> io::Result<Vec<u8>> {
+/// Reads until a buffer is full or the file ends, and returns how many bytes were read.
+fn fill<F: Read>(file: &mut F, buffer: &mut [u8]) -> io::Result<usize>
+    ensures { IfOk result (λ count. count ≤ length buffer.new) }
+{
+    let mut filled = 0;
+    for _ in 0..=buffer.len() {
+        let count = file.read(&mut buffer[filled..])?;
+        if count == 0 {
+            break;
+        }
+        filled += count;
+    }
+    Ok(filled)
+}
+
+/// The words of a file, read piece by piece into room that its length tells, so that its bytes are not kept beside them.
+fn read_words<R: Files + Alloc<A = Global>>(rt: &R, path: &str) -> io::Result<Words> {
     let mut file = fs::open(rt, path)?;
-    let length = file.metadata()?.len() as usize;
-    let mut bytes = Vec::with_capacity(rt.alloc(), length.saturating_add(1))?;
-    file.read_to_end(&mut bytes)?;
-    Ok(bytes)
+    let length = file.metadata()?.len();
+    let Ok(mut words) = Words::with_room(rt.alloc(), (length / 8) as usize) else {
+        return Err(no_memory());
+    };
+    let mut buffer = vec![in rt.alloc(); 0u8; PIECE]?;
+    for _ in 0..=length / PIECE as u64 {
+        let count = fill(&mut file, &mut buffer)?;
+        if count % 8 != 0 {
+            return Err(no_image());
+        }
+        if words.push_bytes(&buffer[..count]).is_err() {
+            return Err(no_memory());
+        }
+    }
+    Ok(words)
 }
 
 /// Reads the image of a file.
@@ -57,10 +88,10 @@ fn print_load<R: Files + Alloc<A = Global> + Print + Clock>(
     ensures { IfOk result (λ medium. IsSoundImage medium.geometry medium.words) }
 {
     let start = Instant::now(rt)?;
-    let bytes = read_whole(rt, path)?;
-    println!(rt; "read {} {}", start.elapsed(rt)?.as_nanos(), bytes.len())?;
+    let words = read_words(rt, path)?;
+    println!(rt; "read {}", start.elapsed(rt)?.as_nanos())?;
     let start = Instant::now(rt)?;
-    let Ok(medium) = sound_from_bytes(rt.alloc(), &bytes) else {
+    let Ok(medium) = sound_from_words(rt.alloc(), words) else {
         return Err(no_image());
     };
     println!(rt; "load {}", start.elapsed(rt)?.as_nanos())?;

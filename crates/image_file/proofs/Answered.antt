@@ -1,5 +1,5 @@
 -- What follows from what an optional answer says.
-use Rattle.std.proofs.Common.{◌≡◌, ◌↔◌, refl, subst, Bool, true, false, not, IsTrue, Option, Some, None, IfSome, IfNone}
+use Rattle.std.proofs.Common.{◌≡◌, ◌↔◌, refl, subst, Bool, true, false, not, IsTrue, Option, Some, None, IfSome, IfNone, Result, Ok, Err, IfErr}
 
 pub if_none : {X : Type 0} {P Q : Type 0} (o : Option X) → (P → Q) → IfNone o P → IfNone o Q
 if_none None f h = f h
@@ -8,6 +8,10 @@ if_none (Some x) f h = tt
 pub if_some : {X : Type 0} {P Q : X → Type 0} (o : Option X) → ((x : X) → P x → Q x) → IfSome o P → IfSome o Q
 if_some None f h = tt
 if_some (Some x) f h = f x h
+
+pub if_err : {X E : Type 0} {P Q : E → Type 0} (r : Result X E) → ((e : E) → P e → Q e) → IfErr r P → IfErr r Q
+if_err (Ok x) f h = tt
+if_err (Err e) f h = f e h
 
 -- and from what a test says
 pub refused : {P : Type 0} (b : Bool) → (IsTrue b ↔ P) → IsTrue (not b) → P → ⊥

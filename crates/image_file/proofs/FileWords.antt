@@ -1,9 +1,11 @@
 -- The words that an image's file spells are its words, and bytes that spell words are their file.
-use Rattle.std.proofs.Common.{◌≡◌, ℕ, zero, suc, ◌+◌, ◌*◌, ◌<◌, ◌≤◌, ◌^◌, refl, sym, ap, subst, ◌∙◌, arith, List, [], ◌∷◌, ◌++◌, length, take, drop, length-append, length-drop, ⊎_elim}
+use Rattle.std.proofs.Common.{◌≡◌, ℕ, zero, suc, ◌+◌, ◌*◌, ◌<◌, ◌≤◌, ◌^◌, refl, sym, ap, subst, ◌∙◌, arith, List, [], ◌∷◌, ◌++◌, length, take, drop, length-append, length-drop, append_assoc, ⊎_elim}
 use Rattle.std.proofs.lemmas.Bool.{cases_lt}
+use Rattle.std.proofs.Math.Seq.{take-add}
+use Rattle.std.proofs.lemmas.Grind.{flat_map-append}
 use Rattle.std.specs.Prelude.{slice_index}
 use Rattle.std.specs.Int.{w64, from_le_bytes}
-use Rattle.std.proofs.lemmas.List.{take-append-drop, drop_at, drop-drop, drop_all, get_or-drop, get_or-take, get_or_past, length-take-le}
+use Rattle.std.proofs.lemmas.List.{drop_at, drop-drop, drop_all, get_or-drop, get_or-take, get_or_past, length-take-le}
 use Rattle.std.proofs.lemmas.Nat.{le_bytes_8}
 use Rattle.byteorder.specs.Endian.{little_bytes, little_number}
 use Rattle.byteorder.specs.Numbers.{little_number-reads_back, little_from-take}
@@ -15,7 +17,7 @@ length-image_bytes [] = refl
 length-image_bytes (w ∷ words) = length-append (little_bytes 8 w) (image_bytes words) ∙ omega (arith, length-image_bytes words)
 
 -- WORDS of a file
-word_there : (words : List ℕ) (i : ℕ) → ((k : ℕ) → slice_index words k < 2 ^ 64) → word_in_file (image_bytes words) i ≡ slice_index words i
+pub word_there : (words : List ℕ) (i : ℕ) → ((k : ℕ) → slice_index words k < 2 ^ 64) → word_in_file (image_bytes words) i ≡ slice_index words i
 word_there [] i fits = ap (little_number 8) (drop_all (8 * i) [] (omega arith))
 word_there (w ∷ words) zero fits = little_number-reads_back 8 w (image_bytes words) (fits 0)
 word_there (w ∷ words) (suc i) fits =
@@ -41,22 +43,16 @@ first_word bytes w long fits is =
     let same : from_le_bytes w64 front ≡ little_number 8 front = omega arith in
     sym (le_bytes_8 front w (length-take-le 8 bytes long) (λ k. front_fits bytes k long fits) (is ∙ sym (little_from-take 0 8 8 bytes (omega arith)) ∙ sym same))
 
-pub bytes_spell : (words bytes : List ℕ) → length bytes ≡ 8 * length words → ((k : ℕ) → slice_index bytes k < 256)
-    → ((i : ℕ) → i < length words → slice_index words i ≡ word_in_file bytes i) → bytes ≡ image_bytes words
-bytes_spell [] [] long fits each = refl
-bytes_spell [] (b ∷ bytes) long fits each = absurd (omega arith)
-bytes_spell (w ∷ words) bytes long fits each =
-    let rest = drop 8 bytes in
-    let front : take 8 bytes ≡ little_bytes 8 w = first_word bytes w (omega arith) fits (each 0 (omega arith)) in
-    let later : (i : ℕ) → i < length words → slice_index words i ≡ word_in_file rest i =
-    λ i h.
-    let further : 8 + 8 * i ≡ 8 * suc i = omega arith in
-    each (suc i) (omega arith) ∙ ap (little_number 8) (ap (λ n. drop n bytes) (sym further) ∙ sym (drop-drop (8 * i) 8 bytes)) in
-    let shorter : length rest ≡ 8 * length words = length-drop 8 bytes ∙ omega arith in
-    let back : rest ≡ image_bytes words = bytes_spell words rest shorter (λ k. subst (λ n. n < 256) (sym (get_or-drop 8 bytes k 0)) (fits (8 + k))) later in
-    sym (take-append-drop 8 bytes) ∙ ap (λ bs. bs ++ rest) front ∙ ap (λ bs. little_bytes 8 w ++ bs) back
-
--- BYTES that are read word by word: these are the words in front of a number
-pub record IsFront (bytes words : List ℕ) (count : ℕ) : Type 0 where
-  pub many : length words ≡ count
-  pub each : (i : ℕ) → i < count → slice_index words i ≡ word_in_file bytes i
+-- a word more of a piece that is added
+pub word_more : (words old piece : List ℕ) (i w : ℕ) → 8 * i + 8 ≤ length piece → ((k : ℕ) → slice_index piece k < 256) → w ≡ word_in_file piece i
+    → image_bytes words ≡ image_bytes old ++ take (8 * i) piece → image_bytes (words ++ w ∷ []) ≡ image_bytes old ++ take (8 * (i + 1)) piece
+word_more words old piece i w long fits is before =
+    let rest = drop (8 * i) piece in
+    let there : 8 ≤ length rest = omega (arith, long, length-drop (8 * i) piece) in
+    let front : take 8 rest ≡ little_bytes 8 w = first_word rest w there (λ k. subst (λ n. n < 256) (sym (get_or-drop (8 * i) piece k 0)) (fits (8 * i + k))) is in
+    let further : 8 * i + 8 ≡ 8 * (i + 1) = omega arith in
+    flat_map-append (little_bytes 8) words (w ∷ [])
+    ∙ ap (λ bs. bs ++ little_bytes 8 w) before
+    ∙ append_assoc (image_bytes old) (take (8 * i) piece) (little_bytes 8 w)
+    ∙ ap (λ bs. image_bytes old ++ (take (8 * i) piece ++ bs)) (sym front)
+    ∙ ap (λ bs. image_bytes old ++ bs) (sym (take-add (8 * i) 8 piece) ∙ ap (λ n. take n piece) further)

@@ -5,6 +5,7 @@ pub mod Tops
 pub mod LeafOwners
 pub mod Parts
 pub mod FileWords
+pub mod Fronts
 pub mod RoundTrip
 pub mod OneLive
 pub mod Unnoted

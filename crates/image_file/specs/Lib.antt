@@ -9,4 +9,5 @@ pub mod Noted
 pub mod Repairs
 pub mod Breach
 pub mod Fault
+pub mod Front
 pub mod Pairs

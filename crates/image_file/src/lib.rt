@@ -27,7 +27,7 @@ pub use fault::ImageFault;
 pub use formatted::format;
 pub use laws::{read_of_written, sound_read_of_written};
 pub use medium::{Medium, to_bytes};
-pub use read::{from_bytes, sound_from_bytes};
+pub use read::{from_bytes, sound_from_bytes, sound_from_words};
 pub use summary::{Summary, check, list};
 pub use untouched::playable;
 pub use words::Words;

@@ -4,14 +4,11 @@ ghost use Rattle.std.specs.Prelude.{◌≡◌, ◌*◌, IfOk, length};
 ghost use Rattle.image_layout.specs.Places.{IsShape, words_of};
 ghost use Rattle.sound_image.specs.Image.{image_bytes};
 
-use crate::words::Words;
+use crate::words::{WORD_BYTES, Words};
 use byteorder::{ByteOrder, LittleEndian};
 use image_layout::Geometry;
 use map_model::NoMemory;
 use std::alloc::Global;
-
-/// How many bytes of its file a word takes, the lowest first.
-pub(crate) const WORD_BYTES: usize = 8;
 
 /// An image in memory: how it is laid out, and its words.
 #[derive(Debug, Drop)]

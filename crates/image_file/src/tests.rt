@@ -1,7 +1,7 @@
 // Files word by word, and what is said of them, literally.
 use crate::{
-    ImageFault, Summary, check, format, from_bytes, list, playable, read_of_written,
-    sound_from_bytes, sound_read_of_written, to_bytes,
+    ImageFault, Summary, Words, check, format, from_bytes, list, playable, read_of_written,
+    sound_from_bytes, sound_from_words, sound_read_of_written, to_bytes,
 };
 use image_layout::Geometry;
 use std::alloc::Global;
@@ -126,6 +126,22 @@ fn one_pair_is_read(rt: HostRuntime) -> Result<(), Fail> {
     assert_eq!(rt; list(alloc, &medium)?.as_slice(), [(5, 7)].as_slice());
     assert_eq!(rt; to_bytes(alloc, &medium)?.as_slice(), bytes.as_slice());
     assert!(rt; read_of_written(alloc, &medium).is_ok());
+    Ok(())
+}
+
+#[test]
+fn words_in_pieces(rt: HostRuntime) -> Result<(), Fail> {
+    let alloc = rt.alloc();
+    let bytes = file_with(alloc, &[])?;
+    let mut words = Words::with_room(alloc, 1)?;
+    for piece in bytes.chunks_exact(8) {
+        words.push_bytes(piece)?;
+    }
+    let medium = sound_from_words(alloc, words)?;
+    assert_eq!(rt; list(alloc, &medium)?.as_slice(), [(5, 7)].as_slice());
+    assert_eq!(rt; to_bytes(alloc, &medium)?.as_slice(), bytes.as_slice());
+    let few = Words::with_room(alloc, 0)?;
+    assert!(rt; matches!(sound_from_words(alloc, few), Err(ImageFault::Length)));
     Ok(())
 }
 

@@ -1,10 +1,45 @@
 //! The words of an image.
 
-ghost use Rattle.std.specs.Prelude.{◌≡◌, ℕ, ◌<◌, ◌^◌, slice_index};
+ghost use Rattle.std.specs.Prelude.{◌≡◌, ℕ, ◌+◌, ◌*◌, ◌/◌, ◌%◌, ◌<◌, ◌≤◌, ◌^◌, ◌++◌, [], length, slice_index, IfOk, OnOk, OnErr, vec_len, vec_capacity};
 ghost use Rattle.std.specs.Borrow.{sem};
+ghost use Rattle.sound_image.specs.Image.{image_bytes};
+ghost use Rattle.image_file.specs.Fault.{word_in_file};
 ghost use Rattle.image_file.specs.Lending.{LendsWords};
 
+use byteorder::{ByteOrder, LittleEndian};
+use map_model::NoMemory;
+use std::alloc::Global;
 use std::marker::Model;
+
+/// How many bytes of its file a word takes, the lowest first.
+pub(crate) const WORD_BYTES: usize = 8;
+
+/// The word of that number in a file.
+pub(crate) fn word_at(bytes: &[u8], index: usize) -> u64
+    requires { 8 * index + 8 ≤ length bytes.now }
+    ensures { result ≡ word_in_file bytes.now index }
+{
+    LittleEndian::read_u64(&bytes[WORD_BYTES * index..])
+}
+
+// Each of these bytes is of 8 bits.
+fn each_byte_fits(bytes: &[u8])
+    ensures { (i : ℕ) → slice_index bytes.now i < 256 }
+{
+    let _ = bytes;
+}
+
+// Adds the words that a piece of a file spells, for which there is room.
+fn push_words(words: &mut Vec<u64>, piece: &[u8])
+    requires whole { length piece.now % 8 ≡ 0 }
+    requires room { vec_len words.old + length piece.now / 8 ≤ vec_capacity words.old }
+    ensures { image_bytes words.new.items ≡ image_bytes words.old.items ++ piece.now }
+{
+    each_byte_fits(piece);
+    for index in 0..piece.len() / WORD_BYTES {
+        words.push_reserved(word_at(piece, index));
+    }
+}
 
 // Each of these words is of 64 bits.
 pub(crate) fn each_fits(words: &[u64])
@@ -33,6 +68,33 @@ impl Words {
         ensures { result ≡ words.items }
     {
         Words { words }
+    }
+
+    /// No words yet, with room for so many.
+    ///
+    /// # Errors
+    ///
+    /// `NoMemory` if memory runs out.
+    pub fn with_room(alloc: Global, count: usize) -> Result<Words, NoMemory>
+        ensures { IfOk result (λ words. words ≡ []) }
+    {
+        let words = Vec::with_capacity(alloc, count)?;
+        Ok(Words { words })
+    }
+
+    /// Adds the words that the next piece of a file spells, eight bytes each. It takes memory only where there is no room.
+    ///
+    /// # Errors
+    ///
+    /// `NoMemory` if memory runs out; the words are then those of before.
+    pub fn push_bytes(&mut self, piece: &[u8]) -> Result<(), NoMemory>
+        requires { length piece.now % 8 ≡ 0 }
+        ensures ok { OnOk result (image_bytes self.new ≡ image_bytes self.old ++ piece.now) }
+        ensures err { OnErr result (self.new ≡ self.old) }
+    {
+        self.words.reserve(piece.len() / WORD_BYTES)?;
+        push_words(&mut self.words, piece);
+        Ok(())
     }
 
     /// The words, to be read.
