@@ -15,7 +15,7 @@ use Rattle.sound_image.specs.Records.{key_hash}
 use Rattle.bucket_words.specs.Tables.{IsHomeTable}
 use Rattle.world.specs.Site.{Site, IsLockWord}
 use Rattle.world.specs.Views.{View, Has, HasLock}
-use Rattle.world.specs.Wants.{word_of}
+use Rattle.world.specs.Wants.{word_of, answer_to}
 use Rattle.write_op.specs.declared.path.Sight.TheVariants.{Good, Late, Other}
 use Rattle.write_op.specs.declared.control.Side.{Side}
 use Rattle.write_op.specs.declared.control.Side.TheVariants.{Home, Probing}
@@ -26,7 +26,7 @@ use Rattle.write_op.specs.declared.machine.WriteOp.{WriteOp}
 use Rattle.write_op.specs.Ways.{entry_word, head_word, block, bucket_of, lock_word, sight_of, is_covering}
 use Rattle.write_op.specs.Wanted.{key_for, wanted_of}
 use Rattle.write_op.specs.Taken.{wanted}
-use Rattle.write_op.specs.Suits.{SuitsLooking, SuitsStep, answer_to, finds}
+use Rattle.write_op.specs.Suits.{SuitsLooking, SuitsStep, finds}
 use Rattle.write_op.specs.Causes.{Finds, IsAmiss, FindsTaken, IsHonest, EndsSo, IsOwnLock, IsSoundEnd, IsRunning, EndsSoundly, NeverStale, NeverBusy}
 use Rattle.write_op.proofs.Locked.{lock_is}
 use Rattle.write_op.proofs.Caused.{ends_by_cause}
