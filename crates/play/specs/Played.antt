@@ -1,5 +1,5 @@
 -- What a play of a script leaves.
-use Rattle.std.specs.Prelude.{◌≡◌, ℕ, ◌-◌, ◌≤◌, Option, None, Some, Bool, true, false, is_some, not, List, [], ◌∷◌, ◌++◌, length, map, replicate, slice_index}
+use Rattle.std.specs.Prelude.{◌≡◌, ℕ, None, true, is_some, not, List, [], ◌∷◌, ◌++◌, map, replicate, slice_index}
 use Rattle.map_model.specs.Kept.{lists_of}
 use Rattle.map_model.specs.declared.call.Call.{Call}
 use Rattle.image_layout.specs.Places.{Shape}
@@ -9,7 +9,6 @@ use Rattle.session.specs.Transcript.{transcript_of}
 use Rattle.session.specs.Session.{Ending, IsSession}
 use Rattle.reply_text.specs.declared.left.Session.{Session}
 use Rattle.reply_text.specs.Told.{tolds_of}
-use Rattle.engine.specs.Core.{Core}
 use Rattle.core_run.specs.State.{State}
 use Rattle.core_run.specs.Run.{core_run, cut_of, stop_of, medium_words}
 
