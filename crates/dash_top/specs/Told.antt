@@ -1,11 +1,12 @@
 -- What the store and the source tell before a call and after it, and what was read of them.
-use Rattle.std.specs.Prelude.{◌≡◌, ◌≢◌, ℕ, ◌≤◌, List, length, Option}
+use Rattle.std.specs.Prelude.{◌≡◌, ◌≢◌, ℕ, ◌≤◌, List, length, slice_index, Option}
 use Rattle.std.specs.Io.KnownBytes.{Consumes, IsAtEnd}
 use Rattle.outside.specs.Causes.{Rose}
 use Rattle.outside.specs.Storing.{IsFront}
 use Rattle.image_layout.specs.Places.{Shape}
 use Rattle.sound_image.specs.Image.{image_bytes, IsSoundImage}
-use Rattle.image_file.specs.Fault.{HasFault}
+use Rattle.image_file.specs.Stage.{PassesRule8}
+use Rattle.image_file.specs.Fault.{HasFault, IsPlayFault}
 use Rattle.image_file.specs.declared.fault.ImageFault.{ImageFault}
 use Rattle.image_file.specs.declared.fault.ImageFault.TheVariants.{NoMemory as NoMemoryForImage}
 use Rattle.script_text.specs.declared.line.Mode.TheVariants.{Play}
@@ -61,6 +62,14 @@ pub record RefusesImage (store : Option (List ℕ)) (fault : ImageFault) : Type 
   pub reads : IsFront store image_limit start
   pub has_fault : HasFault start fault
   pub not_memory : fault ≢ NoMemoryForImage
+
+-- an image was read that the program serves, but that may not be played, by this fault
+pub record RefusesPlay (store : Option (List ℕ)) (fault : ImageFault) : Type 0 where
+  pub shape : Shape
+  pub words : List ℕ
+  pub reads : ReadsSound store shape words
+  pub served : PassesRule8 shape (slice_index words)
+  pub has_fault : IsPlayFault shape (slice_index words) fault
 
 -- THE COUNTS of faults of the source, the sink and the store, before the call and after it
 pub record Counts : Type 0 where

@@ -1,17 +1,18 @@
 -- What the top call promises of a whole run.
-use Rattle.std.specs.Prelude.{◌≡◌, ℕ, List, ◌++◌, Option, Some}
+use Rattle.std.specs.Prelude.{◌≡◌, ℕ, List, ◌++◌, Option, Some, slice_index}
 use Rattle.image_layout.specs.Places.{Shape}
 use Rattle.script_text.specs.declared.line.Line.{Line}
 use Rattle.script_text.specs.declared.line.Mode.TheVariants.{Play}
 use Rattle.script_text.specs.declared.fault.ScriptFault.{ScriptFault}
 use Rattle.script_text.specs.Script.{IsScript}
 use Rattle.image_file.specs.declared.fault.ImageFault.{ImageFault}
+use Rattle.image_file.specs.Stage.{MayBePlayed}
 use Rattle.image_file.specs.Fault.{IsServedFile}
-use Rattle.dash_top.specs.Commands.{check_words, list_words, play_words, SaysFormat, IsNoCommand, ReadsImage}
+use Rattle.dash_top.specs.Commands.{check_words, list_words, play_words, SaysFormat, IsNoCommand}
 use Rattle.dash_top.specs.Texts.{usage_text, script_fault_text, image_fault_text}
 use Rattle.dash_top.specs.Played.{IsPlayed}
-use Rattle.dash_top.specs.Told.{Told, RefusesScript, RefusesImage}
-use Rattle.dash_top.specs.Work.{IsDone}
+use Rattle.dash_top.specs.Told.{Told, RefusesScript}
+use Rattle.dash_top.specs.Work.{IsDone, IsRefused}
 
 -- THE HEADLINE: wherever store, source and sink tell their bytes, the script is all that the source had left, and
 -- the store's bytes, the script, the bytes that the sink took and the store's bytes now are a session
@@ -25,7 +26,7 @@ pub data IsText (t : Told) (words : List (List ℕ)) : List ℕ → Type 0 where
   of_done : {text : List ℕ} → IsDone t words text → IsText t words text
   of_bad_words : IsNoCommand words → IsText t words usage_text
   of_bad_script : {fault : ScriptFault} → words ≡ play_words → RefusesScript t.source_old t.source_new fault → IsText t words (script_fault_text fault)
-  of_bad_image : {fault : ImageFault} → ReadsImage words → RefusesImage t.store_old fault → IsText t words (image_fault_text fault)
+  of_bad_image : {fault : ImageFault} → IsRefused t words fault → IsText t words (image_fault_text fault)
 
 -- COMPLETE: a good command meets no refusal; so it is done, or memory was wanting
 -- the store tells the file of a sound image that the program serves
@@ -33,6 +34,11 @@ pub record HasGoodImage (t : Told) : Type 0 where
   pub start : List ℕ
   pub store_tells : t.store_old ≡ Some start
   pub good : IsServedFile start
+
+-- and it may be played
+pub record HasPlayableImage (t : Told) : Type 0 where
+  pub image : HasGoodImage t
+  pub untouched : MayBePlayed image.good.shape (slice_index image.good.words)
 
 -- the source tells a script of the grammar
 pub record HasGoodScript (t : Told) : Type 0 where
@@ -45,4 +51,4 @@ pub data IsGoodCommand (t : Told) (words : List (List ℕ)) : Type 0 where
   good_format : {shape : Shape} → SaysFormat words shape → IsGoodCommand t words
   good_check : words ≡ check_words → HasGoodImage t → IsGoodCommand t words
   good_list : words ≡ list_words → HasGoodImage t → IsGoodCommand t words
-  good_play : words ≡ play_words → HasGoodImage t → HasGoodScript t → IsGoodCommand t words
+  good_play : words ≡ play_words → HasPlayableImage t → HasGoodScript t → IsGoodCommand t words

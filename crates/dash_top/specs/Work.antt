@@ -1,5 +1,5 @@
 -- What each command does, and why one stops before it is done.
-use Rattle.std.specs.Prelude.{◌≡◌, ℕ, ◌↔◌, Option, List, [], length, slice_index, string_bytes, IsTrue}
+use Rattle.std.specs.Prelude.{◌≡◌, ◌⊎◌, ℕ, ◌↔◌, Option, List, [], length, slice_index, string_bytes, IsTrue}
 use Rattle.std.specs.List.Sorted.{IsStrictlyIncreasing}
 use Rattle.outside.specs.Causes.{Rose}
 use Rattle.outside.specs.Storing.{Holds}
@@ -8,6 +8,7 @@ use Rattle.sound_image.specs.Segments.{frame_of, image_version, IsClean}
 use Rattle.sound_image.specs.Image.{image_bytes}
 use Rattle.image_file.specs.Formatted.{IsFormatted}
 use Rattle.image_file.specs.Pairs.{live_slots, keys_of, ArePairs}
+use Rattle.image_file.specs.declared.fault.ImageFault.{ImageFault}
 use Rattle.image_file.specs.declared.summary.Summary.{Summary}
 use Rattle.dash_top.specs.declared.work.Output.{Output}
 use Rattle.dash_top.specs.declared.work.Output.TheVariants.{Nothing, Text, Lines}
@@ -16,7 +17,7 @@ use Rattle.dash_top.specs.declared.work.Stop.TheVariants.{Words, Script, Image, 
 use Rattle.dash_top.specs.Commands.{check_words, list_words, play_words, SaysFormat, IsNoCommand, ReadsImage}
 use Rattle.dash_top.specs.Texts.{check_text, list_text}
 use Rattle.dash_top.specs.Played.{IsPlayed}
-use Rattle.dash_top.specs.Told.{Told, KeepsStore, ReadsScript, RefusesScript, ReadsSound, RefusesImage}
+use Rattle.dash_top.specs.Told.{Told, KeepsStore, ReadsScript, RefusesScript, ReadsSound, RefusesImage, RefusesPlay}
 
 -- WHAT IS DONE
 -- the file of the image of an empty table of this shape stands in the store
@@ -70,11 +71,16 @@ pub data IsDone (t : Told) (words : List (List ℕ)) : List ℕ → Type 0 where
   by_list : {text : List ℕ} → words ≡ list_words → ListsPairs t.store_old text → KeepsStore t → IsDone t words text
   by_play : {transcript : List ℕ} → words ≡ play_words → Plays t transcript → IsDone t words transcript
 
+-- WHY AN IMAGE IS REFUSED: by each command that reads it, or by a play alone, where the others take it
+pub data IsRefused (t : Told) (words : List (List ℕ)) (fault : ImageFault) : Type 0 where
+  in_reading : ReadsImage words → RefusesImage t.store_old fault → IsRefused t words fault
+  in_playing : words ≡ play_words → RefusesPlay t.store_old fault → IsRefused t words fault
+
 -- WHY A COMMAND STOPS, by the counts of faults of the source and of the store
 abbrev pub HasCause : Told → List (List ℕ) → ℕ → ℕ → ℕ → ℕ → Stop → Type 0
 HasCause t words source_old source_new store_old store_new Words = IsNoCommand words × KeepsStore t
 HasCause t words source_old source_new store_old store_new (Script fault) = (words ≡ play_words) × RefusesScript t.source_old t.source_new fault × KeepsStore t
-HasCause t words source_old source_new store_old store_new (Image fault) = ReadsImage words × RefusesImage t.store_old fault × KeepsStore t
+HasCause t words source_old source_new store_old store_new (Image fault) = IsRefused t words fault × KeepsStore t
 HasCause t words source_old source_new store_old store_new Source = (words ≡ play_words) × Rose source_old source_new × KeepsStore t
 HasCause t words source_old source_new store_old store_new Store = Rose store_old store_new
 HasCause t words source_old source_new store_old store_new NoMemory = KeepsStore t
@@ -92,7 +98,7 @@ HasFormatCause store_old store_new faults_old faults_new NoMemory = store_new �
 abbrev pub HasPlayCause : Told → ℕ → ℕ → ℕ → ℕ → Stop → Type 0
 HasPlayCause t source_old source_new store_old store_new Words = ⊥
 HasPlayCause t source_old source_new store_old store_new (Script fault) = RefusesScript t.source_old t.source_new fault × KeepsStore t
-HasPlayCause t source_old source_new store_old store_new (Image fault) = RefusesImage t.store_old fault × KeepsStore t
+HasPlayCause t source_old source_new store_old store_new (Image fault) = (RefusesImage t.store_old fault ⊎ RefusesPlay t.store_old fault) × KeepsStore t
 HasPlayCause t source_old source_new store_old store_new Source = Rose source_old source_new × KeepsStore t
 HasPlayCause t source_old source_new store_old store_new Store = Rose store_old store_new
 HasPlayCause t source_old source_new store_old store_new NoMemory = KeepsStore t

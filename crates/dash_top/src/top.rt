@@ -5,10 +5,10 @@ ghost use Rattle.outside.specs.Causes.{Rose, AppendsFront};
 ghost use Rattle.outside.specs.declared.gates.Place.TheVariants.{Unmade};
 ghost use Rattle.script_text.specs.declared.fault.ScriptFault.{ScriptFault};
 ghost use Rattle.image_file.specs.declared.fault.ImageFault.{ImageFault};
-ghost use Rattle.dash_top.specs.Commands.{check_words, list_words, play_words, IsNoCommand, ReadsImage};
+ghost use Rattle.dash_top.specs.Commands.{check_words, list_words, play_words, IsNoCommand};
 ghost use Rattle.dash_top.specs.Texts.{usage_text, script_fault_text, image_fault_text};
-ghost use Rattle.dash_top.specs.Told.{told, counts, NoneRose, RefusesScript, RefusesImage};
-ghost use Rattle.dash_top.specs.Work.{IsDone};
+ghost use Rattle.dash_top.specs.Told.{told, counts, NoneRose, RefusesScript};
+ghost use Rattle.dash_top.specs.Work.{IsDone, IsRefused};
 ghost use Rattle.dash_top.specs.Top.{IsText, Headline, IsGoodCommand};
 
 use crate::status::{
@@ -68,8 +68,8 @@ pub fn dash_run<R: Threads + Wait + Sync, I: Store, S: Source, K: Sink, M: Gates
     ensures bad_script { result ≡ BAD_SCRIPT → (map string_bytes words.now ≡ play_words) × ((fault : ScriptFault)
         × RefusesScript (S.left input.old) (S.left input.new) fault
         × Appends (K.taken out.old) (K.taken out.new) (script_fault_text fault)) }
-    ensures bad_image { result ≡ BAD_IMAGE → ReadsImage (map string_bytes words.now) × ((fault : ImageFault)
-        × RefusesImage (I.contents image.old) fault
+    ensures bad_image { result ≡ BAD_IMAGE → ((fault : ImageFault)
+        × IsRefused (told (I.contents image.old) (I.contents image.new) (S.left input.old) (S.left input.new)) (map string_bytes words.now) fault
         × Appends (K.taken out.old) (K.taken out.new) (image_fault_text fault)) }
     ensures source_failed { result ≡ SOURCE_FAILED → Rose (S.faults input.old) (S.faults input.new) }
     ensures sink_failed { result ≡ SINK_FAILED → Rose (K.faults out.old) (K.faults out.new) }

@@ -6,8 +6,8 @@ ghost use Rattle.sound_image.specs.Image.{IsSoundImage};
 use image_file::{Medium, check, format, list, sound_from_bytes, to_bytes};
 use image_layout::Geometry;
 use std::alloc::Global;
-use std::fs::{self, Files};
-use std::io::{self, Print};
+use std::fs::{self, Files, OpenFile};
+use std::io::{self, Print, Read};
 use std::time::{Clock, Instant};
 
 fn no_memory() -> io::Error {
@@ -40,6 +40,15 @@ pub(crate) fn print_small(alloc: Global, rt: &impl Print) -> io::Result<()> {
     )
 }
 
+/// The bytes of a file, read into a vector that has room for them and for the end's test from the start on.
+fn read_whole<R: Files + Alloc<A = Global>>(rt: &R, path: &str) -> io::Result<Vec<u8>> {
+    let mut file = fs::open(rt, path)?;
+    let length = file.metadata()?.len() as usize;
+    let mut bytes = Vec::with_capacity(rt.alloc(), length.saturating_add(1))?;
+    file.read_to_end(&mut bytes)?;
+    Ok(bytes)
+}
+
 /// Reads the image of a file.
 fn print_load<R: Files + Alloc<A = Global> + Print + Clock>(
     rt: &R,
@@ -48,7 +57,7 @@ fn print_load<R: Files + Alloc<A = Global> + Print + Clock>(
     ensures { IfOk result (λ medium. IsSoundImage medium.geometry medium.words) }
 {
     let start = Instant::now(rt)?;
-    let bytes = fs::read(rt, path)?;
+    let bytes = read_whole(rt, path)?;
     println!(rt; "read {} {}", start.elapsed(rt)?.as_nanos(), bytes.len())?;
     let start = Instant::now(rt)?;
     let Ok(medium) = sound_from_bytes(rt.alloc(), &bytes) else {

@@ -55,7 +55,7 @@ all_counted [] = refl
 all_counted (x ∷ notes) = ap suc (all_counted notes)
 
 -- WHAT STANDS AMONG NOTES stands on one of their places
-has_piece : (f : ℕ → List Note) (p : Note → Bool) (n : ℕ) → 0 < length (filter p (flat_map f (numbers_below n))) → (i : ℕ) × (i < n) × (0 < length (filter p (f i)))
+pub has_piece : (f : ℕ → List Note) (p : Note → Bool) (n : ℕ) → 0 < length (filter p (flat_map f (numbers_below n))) → (i : ℕ) × (i < n) × (0 < length (filter p (f i)))
 has_piece f p zero some = absurd (omega (arith, some))
 has_piece f p (suc n) some =
     let parts = count_more f p n in

@@ -12,7 +12,7 @@ use Rattle.sound_image.specs.Records.{word_in, HasRecord, HasPair, HasExactNotes
 use Rattle.sound_image.specs.Rules.{FollowsRules}
 use Rattle.sound_image.specs.Image.{IsSoundImage}
 use Rattle.image_file.specs.Formatted.{IsFormatted}
-use Rattle.image_file.specs.Stage.{PassesRule8}
+use Rattle.image_file.specs.Stage.{PassesRule8, MayBePlayed}
 use Rattle.image_file.proofs.Unnoted.{HasNote}
 use Rattle.image_file.proofs.OneLive.{IsOneLive, has_owners, shares_well, entry_leads}
 use Rattle.image_file.proofs.NoNotes.{unnoted-exact}
@@ -150,9 +150,14 @@ module _ (shape : Shape) (words : List ℕ) (i : IsFormatted shape words) where
       record {
         one_segment = λ _. one;
         root = λ _. root_is;
-        clean = λ _. is_clean;
         first = λ _. record { is_normal = ap state_in i.header; no_depth = ap depth_in i.header };
+        home = λ s b r there _. absurd (formatted-no_record s b r there);
+      }
+
+  pub formatted-MayBePlayed : MayBePlayed shape word
+  formatted-MayBePlayed w =
+      record {
+        clean = λ _. is_clean;
         current = λ s h _ live. subst (λ s. version_in (frame.header s) ≡ image_version frame) (sym (first_is s live))
             (ap version_in i.header ∙ sym version_is);
-        home = λ s b r there _. absurd (formatted-no_record s b r there);
       }

@@ -55,3 +55,8 @@ bytes_spell (w ∷ words) bytes long fits each =
     let shorter : length rest ≡ 8 * length words = length-drop 8 bytes ∙ omega arith in
     let back : rest ≡ image_bytes words = bytes_spell words rest shorter (λ k. subst (λ n. n < 256) (sym (get_or-drop 8 bytes k 0)) (fits (8 + k))) later in
     sym (take-append-drop 8 bytes) ∙ ap (λ bs. bs ++ rest) front ∙ ap (λ bs. little_bytes 8 w ++ bs) back
+
+-- BYTES that are read word by word: these are the words in front of a number
+pub record IsFront (bytes words : List ℕ) (count : ℕ) : Type 0 where
+  pub many : length words ≡ count
+  pub each : (i : ℕ) → i < count → slice_index words i ≡ word_in_file bytes i

@@ -12,11 +12,13 @@ pub mod NoNotes
 pub mod EmptySound
 pub mod KeyRules
 pub mod ServedWords
+pub mod MarkedWords
 pub mod Twins
 pub mod Chains
 pub mod CleanSegments
 pub mod Listed
 pub mod Counts
+pub mod EmptyBuckets
 pub mod Breaches
 pub mod SoundSegments
 pub mod Accepted

@@ -1,9 +1,9 @@
 -- Rule 8 word by word: its least broken word, from what was looked at before.
-use Rattle.std.proofs.Common.{◌≡◌, ◌≢◌, ℕ, ◌+◌, ◌/◌, ◌%◌, ◌^◌, ◌<◌, refl, sym, subst, arith, inl}
+use Rattle.std.proofs.Common.{◌≡◌, ◌≢◌, ℕ, ◌+◌, ◌<◌, refl, sym, subst, arith}
 use Rattle.hash_word.specs.Hash.{home_of}
-use Rattle.segment_head.specs.HeadWord.{version_in, state_in, depth_in, normal}
+use Rattle.segment_head.specs.HeadWord.{state_in, depth_in, normal}
 use Rattle.image_layout.specs.Places.{Shape, head_at, key_at}
-use Rattle.sound_image.specs.Segments.{ImageWords, Frame, frame_of, image_version, IsClean}
+use Rattle.sound_image.specs.Segments.{ImageWords, Frame, frame_of}
 use Rattle.sound_image.specs.Records.{slot_hash, HasRecord}
 use Rattle.image_file.specs.declared.records.RecordRule.TheVariants.{Home}
 use Rattle.image_file.specs.Breach.{IsLeast}
@@ -15,16 +15,11 @@ module _ (shape : Shape) (word : ImageWords) where
   abbrev frame : Frame
   frame = frame_of shape word
 
-  -- the segment in slot 0 is whole, and has the image's version
-  abbrev pub IsCurrentTable : Type 0
-  IsCurrentTable = IsWholeTable shape word 0 × (version_in (frame.header 0) ≡ image_version frame)
-
   -- what rule 8 says of the words below a limit
   pub record ServedBelow (limit : ℕ) : Type 0 where
     pub one_segment : 2 < limit → shape.segments ≡ 1
     pub root : 8 < limit → frame.root ≡ 0
-    pub clean : 16 < limit → IsClean frame
-    pub table : head_at shape 0 + 1 < limit → IsCurrentTable
+    pub table : head_at shape 0 + 1 < limit → IsWholeTable shape word 0
     pub home : (b r : ℕ) → HasRecord shape word 0 b r → key_at shape 0 b r < limit → b ≡ home_of (slot_hash shape word 0 b r)
 
   abbrev first_slot : ℕ → Type 0
@@ -38,13 +33,7 @@ module _ (shape : Shape) (word : ImageWords) where
       record {
         one_segment = λ at. u.one_segment (omega (arith, at));
         root = λ at. u.root (omega (arith, at));
-        clean = λ at. u.clean (omega (arith, at));
-        first = λ at. (u.table (omega (arith, at))).0;
-        current = λ s h at live.
-            let more : 2 < limit = omega (arith, at) in
-            let first = in_first limit u s more h in
-            let here : w ≡ head_at shape 0 + 1 = subst (λ s. w ≡ head_at shape s + 1) first at in
-            subst (λ s. version_in (frame.header s) ≡ image_version frame) (sym first) (u.table (omega (arith, here))).1;
+        first = λ at. u.table (omega (arith, at));
         home = λ s b r there at.
             let more : 2 < limit = omega (arith, at) in
             let first = in_first limit u s more there.segment in
@@ -61,7 +50,6 @@ module _ (shape : Shape) (word : ImageWords) where
             (record {
               one_segment = λ h. absurd (omega (arith, h));
               root = λ h. absurd (omega (arith, h));
-              clean = λ h. absurd (omega (arith, h));
               table = λ h. absurd (omega (arith, h));
               home = λ b r there h. absurd (omega (arith, h));
             }) less;
@@ -76,92 +64,66 @@ module _ (shape : Shape) (word : ImageWords) where
               (record {
                 one_segment = λ h. one;
                 root = λ h. absurd (omega (arith, h));
-                clean = λ h. absurd (omega (arith, h));
                 table = λ h. absurd (omega (arith, h));
                 home = λ b r there h. absurd (omega (arith, h));
               }) less;
         }
 
     module _ (root : frame.root ≡ 0) where
-      pub status_breaks : (IsClean frame → ⊥) → IsLeast (IsServed shape word) 16
-      status_breaks other =
+      pub header_breaks : (IsWholeTable shape word 0 → ⊥) → IsLeast (IsServed shape word) (head_at shape 0 + 1)
+      header_breaks other =
           record {
-            broken = λ served. other (served.clean refl);
-            words_before = λ v less. served_at 16 v
+            broken = λ served. other (served.first refl);
+            words_before = λ v less. served_at (head_at shape 0 + 1) v
                 (record {
                   one_segment = λ h. one;
                   root = λ h. root;
-                  clean = λ h. absurd (omega (arith, h));
                   table = λ h. absurd (omega (arith, h));
                   home = λ b r there h. absurd (omega (arith, h));
                 }) less;
           }
 
-      module _ (clean : IsClean frame) where
-        table_from : IsServed shape word (head_at shape 0 + 1) → IsCurrentTable
-        table_from served =
-            let whole = served.first refl in
-            (whole, served.current 0 (omega (arith, one)) refl (inl whole.is_normal))
-
-        pub header_breaks : (IsCurrentTable → ⊥) → IsLeast (IsServed shape word) (head_at shape 0 + 1)
-        header_breaks other =
+      module _ (table : IsWholeTable shape word 0) where
+        pub key_breaks : (w : ℕ) → IsFirstKey shape word Home 0 w → IsLeast (IsServed shape word) w
+        key_breaks w k =
             record {
-              broken = λ served. other (table_from served);
-              words_before = λ v less. served_at (head_at shape 0 + 1) v
+              broken = λ served. k.first.broken (served.home 0 k.b k.r
+                  (record { segment = omega (arith, one); bucket = k.bucket; slot = k.first.slot; is_allocated = k.first.taken }) k.at_key);
+              words_before = λ v less. served_at w v
                   (record {
                     one_segment = λ h. one;
                     root = λ h. root;
-                    clean = λ h. clean;
-                    table = λ h. absurd (omega (arith, h));
-                    home = λ b r there h. absurd (omega (arith, h));
+                    table = λ h. table;
+                    home = λ b r there h.
+                        let earlier : key_at shape 0 b r < key_at shape 0 k.b k.r = omega (arith, h, k.at_key) in
+                        keys_before shape word Home 0 k.b k.r b r k.buckets_before k.first.before k.first.slot there.slot there.is_allocated earlier;
                   }) less;
             }
 
-        module _ (table : IsCurrentTable) where
-          pub key_breaks : (w : ℕ) → IsFirstKey shape word Home 0 w → IsLeast (IsServed shape word) w
-          key_breaks w k =
-              record {
-                broken = λ served. k.first.broken (served.home 0 k.b k.r
-                    (record { segment = omega (arith, one); bucket = k.bucket; slot = k.first.slot; is_allocated = k.first.taken }) k.at_key);
-                words_before = λ v less. served_at w v
-                    (record {
-                      one_segment = λ h. one;
-                      root = λ h. root;
-                      clean = λ h. clean;
-                      table = λ h. table;
-                      home = λ b r there h.
-                          let earlier : key_at shape 0 b r < key_at shape 0 k.b k.r = omega (arith, h, k.at_key) in
-                          keys_before shape word Home 0 k.b k.r b r k.buckets_before k.first.before k.first.slot there.slot there.is_allocated earlier;
-                    }) less;
-              }
-
-          pub passes : BucketsFollow shape word Home 0 66 → PassesRule8 shape word
-          passes each w =
-              served_at (w + 1) w
-              (record {
-                one_segment = λ h. one;
-                root = λ h. root;
-                clean = λ h. clean;
-                table = λ h. table;
-                home = λ b r there h. each b there.bucket r there.slot there.is_allocated;
-              }) (omega arith)
+        pub passes : BucketsFollow shape word Home 0 66 → PassesRule8 shape word
+        passes each w =
+            served_at (w + 1) w
+            (record {
+              one_segment = λ h. one;
+              root = λ h. root;
+              table = λ h. table;
+              home = λ b r there h. each b there.bucket r there.slot there.is_allocated;
+            }) (omega arith)
 
 -- THE HEADER at its word number
-abbrev pub SaysTable : (shape : Shape) (word : ImageWords) → ℕ → Type 0
-SaysTable shape word at = (state_in (word at) ≡ normal) × (depth_in (word at) ≡ 0) × (version_in (word at) ≡ word 16 % 2 ^ 8)
+abbrev pub SaysTable : (word : ImageWords) → ℕ → Type 0
+SaysTable word at = (state_in (word at) ≡ normal) × (depth_in (word at) ≡ 0)
 
-pub says-current : (shape : Shape) (word : ImageWords) (at : ℕ) → at ≡ head_at shape 0 → SaysTable shape word (at + 1) → IsCurrentTable shape word
-says-current shape word at is says =
-    let there = subst (λ n. SaysTable shape word (n + 1)) is says in
-    (record { is_normal = there.0; no_depth = there.1 }, there.2)
+pub says-whole : (shape : Shape) (word : ImageWords) (at : ℕ) → at ≡ head_at shape 0 → SaysTable word (at + 1) → IsWholeTable shape word 0
+says-whole shape word at is says =
+    let there = subst (λ n. SaysTable word (n + 1)) is says in
+    record { is_normal = there.0; no_depth = there.1 }
 
-pub current-says : (shape : Shape) (word : ImageWords) (at : ℕ) → at ≡ head_at shape 0 → IsCurrentTable shape word → SaysTable shape word (at + 1)
-current-says shape word at is table =
-    subst (λ n. SaysTable shape word (n + 1)) (sym is) (table.0.is_normal, table.0.no_depth, table.1)
+pub whole-says : (shape : Shape) (word : ImageWords) (at : ℕ) → at ≡ head_at shape 0 → IsWholeTable shape word 0 → SaysTable word (at + 1)
+whole-says shape word at is table = subst (λ n. SaysTable word (n + 1)) (sym is) (table.is_normal, table.no_depth)
 
-pub header_breaks-at : (shape : Shape) (word : ImageWords) (at : ℕ) → at ≡ head_at shape 0 → shape.segments ≡ 1 → word 8 ≡ 0 → word 16 / 2 ^ 8 % 2 ≢ 0
-    → (SaysTable shape word (at + 1) → ⊥) → IsLeast (IsServed shape word) (at + 1)
-header_breaks-at shape word at is one root clean other =
-    let marked : word 16 / 2 ^ 8 % 2 ≡ 1 = omega arith in
+pub header_breaks-at : (shape : Shape) (word : ImageWords) (at : ℕ) → at ≡ head_at shape 0 → shape.segments ≡ 1 → word 8 ≡ 0
+    → (SaysTable word (at + 1) → ⊥) → IsLeast (IsServed shape word) (at + 1)
+header_breaks-at shape word at is one root other =
     subst (λ n. IsLeast (IsServed shape word) (n + 1)) (sym is)
-    (header_breaks shape word one root marked (λ table. other (current-says shape word at is table)))
+    (header_breaks shape word one root (λ table. other (whole-says shape word at is table)))

@@ -6,10 +6,10 @@ use Rattle.sound_image.specs.Segments.{ImageWords}
 use Rattle.sound_image.specs.Image.{image_bytes, magic, IsSoundImage}
 use Rattle.image_file.specs.declared.fault.ImageFault.{ImageFault}
 use Rattle.image_file.specs.declared.fault.ImageFault.TheVariants.{Length, Magic, Format, Geometry, Unsound, NoMemory}
-use Rattle.image_file.specs.Stage.{PassesRule8}
+use Rattle.image_file.specs.Stage.{PassesRule8, IsUntouched}
 use Rattle.image_file.specs.declared.breach.Scope.{Scope}
 use Rattle.image_file.specs.declared.breach.Scope.TheVariants.{Served, Sound}
-use Rattle.image_file.specs.Breach.{StageHoldsAt, IsFirstBreach}
+use Rattle.image_file.specs.Breach.{IsLeast, StageHoldsAt, IsFirstBreach}
 
 -- the words that bytes spell, eight bytes each, the lowest first
 abbrev pub word_in_file : List ℕ → ImageWords
@@ -86,3 +86,13 @@ pub record IsSoundFile (bytes : List ℕ) : Type 0 where
   pub words : List ℕ
   pub sound : IsSoundImage shape words
   pub file : bytes ≡ image_bytes words
+
+-- the fault of an image that may not be played: of rule 8, at the least word of which what is asked before a play does
+-- not hold
+abbrev pub IsPlayFault : Shape → ImageWords → ImageFault → Type 0
+IsPlayFault shape word Length = ⊥
+IsPlayFault shape word Magic = ⊥
+IsPlayFault shape word Format = ⊥
+IsPlayFault shape word Geometry = ⊥
+IsPlayFault shape word (Unsound rule w) = (rule ≡ 8) × IsLeast (IsUntouched shape word) w
+IsPlayFault shape word NoMemory = ⊥

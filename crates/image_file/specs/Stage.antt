@@ -1,5 +1,6 @@
--- Rule 8: a limit of the present program, which serves clean images of one segment whose records stand in their home
--- buckets. It is no rule of a sound image, and goes as the program learns to serve more.
+-- Rule 8: a limit of the present program, which reads images of one segment whose records stand in their home buckets.
+-- It is no rule of a sound image, and goes as the program learns to serve more. An image that is to be played is also
+-- clean, and its segment has its version; one that is told need not be: a power cut may have left it.
 use Rattle.std.specs.Prelude.{◌≡◌, ℕ, ◌+◌, ◌<◌}
 use Rattle.hash_word.specs.Hash.{home_of}
 use Rattle.segment_head.specs.HeadWord.{version_in, normal}
@@ -20,16 +21,23 @@ module _ (shape : Shape) (word : ImageWords) where
     pub is_normal : state_at frame s ≡ normal
     pub no_depth : depth_at frame s ≡ 0
 
-  -- what rule 8 says of each word: there is one slot for a segment; the directory has depth 0; the marker is set; slot 0
-  -- is normal at depth 0; a live segment has the image's version; and a record stands in its home bucket
+  -- what rule 8 says of each word: there is one slot for a segment; the directory has depth 0; slot 0 is normal at depth
+  -- 0; and a record stands in its home bucket
   pub record IsServed (w : ℕ) : Type 0 where
     pub one_segment : w ≡ segments_word → shape.segments ≡ 1
     pub root : w ≡ root_word → frame.root ≡ 0
-    pub clean : w ≡ state_word → IsClean frame
     pub first : w ≡ head_at shape 0 + 1 → IsWholeTable 0
-    pub current : (s : ℕ) → s < shape.segments → w ≡ head_at shape s + 1 → IsLive frame s → version_in (frame.header s) ≡ image_version frame
     pub home : (s b r : ℕ) → HasRecord shape word s b r → w ≡ key_at shape s b r → b ≡ home_of (slot_hash shape word s b r)
 
   -- rule 8 holds of each word
   abbrev pub PassesRule8 : Type 0
   PassesRule8 = (w : ℕ) → IsServed w
+
+  -- what is asked of each word before a play: the marker is set, and a live segment has the image's version
+  pub record IsUntouched (w : ℕ) : Type 0 where
+    pub clean : w ≡ state_word → IsClean frame
+    pub current : (s : ℕ) → s < shape.segments → w ≡ head_at shape s + 1 → IsLive frame s → version_in (frame.header s) ≡ image_version frame
+
+  -- it holds of each word
+  abbrev pub MayBePlayed : Type 0
+  MayBePlayed = (w : ℕ) → IsUntouched w

@@ -20,6 +20,7 @@ mod repaired;
 mod rules;
 mod sound_segments;
 mod summary;
+mod untouched;
 mod words;
 
 pub use fault::ImageFault;
@@ -28,6 +29,7 @@ pub use laws::{read_of_written, sound_read_of_written};
 pub use medium::{Medium, to_bytes};
 pub use read::{from_bytes, sound_from_bytes};
 pub use summary::{Summary, check, list};
+pub use untouched::playable;
 pub use words::Words;
 
 #[cfg(test)]

@@ -1,13 +1,13 @@
 //! Overflow notes of home buckets, and whether they are exact.
 
-ghost use Rattle.std.specs.Prelude.{◌≡◌, ◌<◌, ◌≤◌, ◌↔◌, IsTrue, length, slice_index};
+ghost use Rattle.std.specs.Prelude.{◌≡◌, ℕ, ◌<◌, ◌≤◌, ◌↔◌, IsTrue, length, slice_index};
 ghost use Rattle.image_layout.specs.Places.{words_of};
 ghost use Rattle.bucket_meta.specs.Bucket.{note_used, note_member, note_index, note_finger};
 ghost use Rattle.sound_image.specs.Records.{word_in, notes_of, stashed_of, HasExactNotes};
 ghost use Rattle.image_file.specs.Noted.{IsNoteOn, matches, how_many, piece_on, noted, IsStashed, piece_in, stashed_below, IsNamed, AreNamed};
 ghost use Rattle.image_file.specs.Slots.{IsPlace};
 
-use crate::place::{HOMES, Place, SLOTS, bucket_word, is_taken};
+use crate::place::{HOMES, Place, SLOTS, bucket_word, is_empty, is_taken};
 use crate::records::hash_in;
 use image_layout::Geometry;
 
@@ -147,6 +147,9 @@ fn count_in(geometry: &Geometry, words: &[u64], s: u64, b: u8, k: u8, sought: Op
     ensures is { result ≡ how_many sought (stashed_below geometry.now (slice_index words.now) s b k 14) }
     ensures most { result ≤ 14 }
 {
+    if is_empty(geometry, words, s, HOMES + k) {
+        return 0;
+    }
     let mut count = 0;
     for slot in 0..SLOTS {
         count += count_slot(geometry, words, s, b, k, slot, sought);
@@ -228,6 +231,37 @@ fn are_named(geometry: &Geometry, words: &[u64], s: u64, b: u8, c: u8, side: u64
     true
 }
 
+/// Whether no place of a bucket has a note.
+fn has_no_note(meta: u64) -> bool
+    ensures { IsTrue result → (place : ℕ) → place < 4 → note_used place meta ≡ 1 → ⊥ }
+{
+    (meta >> 28) % (1 << PLACES) == 0
+}
+
+/// True only where nothing is noted or counted of home bucket `b`, and nothing is in the stash: as in most buckets, by
+/// four words alone.
+fn has_nothing_noted(geometry: &Geometry, words: &[u64], s: u64, b: u8) -> bool
+    requires whole { length words.now ≡ words_of geometry.now }
+    requires segment { s < geometry.now.segments }
+    requires bucket { b < 64 }
+    ensures { IsTrue result → HasExactNotes geometry.now (slice_index words.now) s b }
+{
+    let own = meta_in(geometry, words, s, b, 1);
+    if (own >> 40) % 32 > 0 {
+        return false;
+    }
+    if !has_no_note(own) {
+        return false;
+    }
+    if !has_no_note(meta_in(geometry, words, s, (b + 1) % HOMES, 1)) {
+        return false;
+    }
+    if !is_empty(geometry, words, s, HOMES) {
+        return false;
+    }
+    is_empty(geometry, words, s, HOMES + 1)
+}
+
 /// Whether the notes and the count of home bucket `b` are exact for its records in the stash.
 pub(crate) fn has_exact_notes(geometry: &Geometry, words: &[u64], s: u64, b: u8) -> bool
     requires whole { length words.now ≡ words_of geometry.now }
@@ -235,6 +269,9 @@ pub(crate) fn has_exact_notes(geometry: &Geometry, words: &[u64], s: u64, b: u8)
     requires bucket { b < 64 }
     ensures { IsTrue result ↔ HasExactNotes geometry.now (slice_index words.now) s b }
 {
+    if has_nothing_noted(geometry, words, s, b) {
+        return true;
+    }
     let unnoted = ((meta_in(geometry, words, s, b, 1) >> 40) % 32) as u8;
     let noted = count_notes(geometry, words, s, b, None);
     if unnoted + noted != count_stashed(geometry, words, s, b, None) {

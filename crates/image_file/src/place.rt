@@ -1,6 +1,6 @@
 //! Record slots of an image, and what stands in them.
 
-ghost use Rattle.std.specs.Prelude.{◌≡◌, ◌+◌, ◌<◌, ◌≤◌, ◌↔◌, IsTrue, length, slice_index};
+ghost use Rattle.std.specs.Prelude.{◌≡◌, ℕ, ◌+◌, ◌<◌, ◌≤◌, ◌↔◌, IsTrue, length, slice_index};
 ghost use Rattle.image_layout.specs.Places.{bucket_at, words_of};
 ghost use Rattle.sound_image.specs.Records.{key_hash, slot_key, slot_value};
 ghost use Rattle.image_file.specs.Slots.{IsPlace, IsTaken};
@@ -63,6 +63,16 @@ pub(crate) fn is_taken(geometry: &Geometry, words: &[u64], place: Place) -> bool
     ensures { IsTrue result ↔ IsTaken geometry.now (slice_index words.now) place.segment place.bucket place.slot }
 {
     words[bucket_word(geometry, place.segment, place.bucket) + 1] >> place.slot & 1 == 1
+}
+
+/// Whether a bucket has no record.
+pub(crate) fn is_empty(geometry: &Geometry, words: &[u64], s: u64, b: u8) -> bool
+    requires whole { length words.now ≡ words_of geometry.now }
+    requires segment { s < geometry.now.segments }
+    requires bucket { b < 66 }
+    ensures { IsTrue result → (r : ℕ) → r < 14 → IsTaken geometry.now (slice_index words.now) s b r → ⊥ }
+{
+    words[bucket_word(geometry, s, b) + 1] % (1 << SLOTS) == 0
 }
 
 /// The key in a record slot.

@@ -39,8 +39,11 @@ fn words_in(alloc: Global, bytes: &[u8]) -> Result<Words, NoMemory>
     requires { length bytes.now % 8 ≡ 0 }
     ensures { IfOk result (λ words. bytes.now ≡ image_bytes words) }
 {
-    let mut words = vec![in alloc; 0u64; bytes.len() / WORD_BYTES]?;
-    LittleEndian::read_u64_into(bytes, &mut words);
+    let count = bytes.len() / WORD_BYTES;
+    let mut words = Vec::with_capacity(alloc, count)?;
+    for index in 0..count {
+        words.push_reserved(word_at(bytes, index));
+    }
     each_byte_fits(bytes);
     Ok(Words::new(words))
 }

@@ -12,7 +12,7 @@ ghost use Rattle.image_file.specs.Slots.{IsPlace, IsTwin, Needs, IsStandingIn, A
 
 use crate::heads::owns;
 use crate::place::{
-    BUCKETS, HOMES, Place, SLOTS, bucket_word, is_taken, key_in, record_hash, value_in,
+    BUCKETS, HOMES, Place, SLOTS, bucket_word, is_empty, is_taken, key_in, record_hash, value_in,
 };
 use image_layout::Geometry;
 
@@ -221,6 +221,9 @@ impl RecordRule {
         ensures some { IfSome result (λ slot. IsFirstBroken geometry.now (slice_index words.now) self s b slot) }
         ensures none { IfNone result (FollowBelow geometry.now (slice_index words.now) self s b 14) }
     {
+        if is_empty(geometry, words, s, b) {
+            return None;
+        }
         for slot in 0..SLOTS {
             let place = Place {
                 segment: s,

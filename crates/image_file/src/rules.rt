@@ -67,11 +67,11 @@ pub(crate) fn rule_one(geometry: &Geometry, words: &[u64]) -> Option<u64>
     None
 }
 
-/// Whether a segment is normal, covers every hash, and has the image's version.
-fn is_whole_table(header: u64, status: u64) -> bool
-    ensures { IsTrue result ↔ ((state_in header ≡ normal) × (depth_in header ≡ 0) × (version_in header ≡ status % 2 ^ 8)) }
+/// Whether a segment is normal, and covers every hash.
+fn is_whole_table(header: u64) -> bool
+    ensures { IsTrue result ↔ ((state_in header ≡ normal) × (depth_in header ≡ 0)) }
 {
-    (header >> 8) % 256 == 1 && (header >> 16) % 256 == 0 && header % 256 == status % 256
+    (header >> 8) % 256 == 1 && (header >> 16) % 256 == 0
 }
 
 /// The least word at which rule 8 is broken: the present program does not serve the image.
@@ -86,11 +86,8 @@ pub(crate) fn rule_eight(geometry: &Geometry, words: &[u64]) -> Option<u64>
     if words[ROOT_WORD] != 0 {
         return Some(ROOT_WORD as u64);
     }
-    if (words[STATE_WORD] >> 8) % 2 == 0 {
-        return Some(STATE_WORD as u64);
-    }
     let header = geometry.head_at(0) + 1;
-    if !is_whole_table(words[header as usize], words[STATE_WORD]) {
+    if !is_whole_table(words[header as usize]) {
         return Some(header);
     }
     RecordRule::Home.first_key(geometry, words, 0)

@@ -1,7 +1,7 @@
 // Files word by word, and what is said of them, literally.
 use crate::{
-    ImageFault, Summary, check, format, from_bytes, list, read_of_written, sound_from_bytes,
-    sound_read_of_written, to_bytes,
+    ImageFault, Summary, check, format, from_bytes, list, playable, read_of_written,
+    sound_from_bytes, sound_read_of_written, to_bytes,
 };
 use image_layout::Geometry;
 use std::alloc::Global;
@@ -94,6 +94,14 @@ fn said_of_sound(alloc: Global, bytes: &[u8]) -> Result<String, Fail> {
     }
 }
 
+// Why the image of a file may not be played.
+fn said_before_play(alloc: Global, bytes: &[u8]) -> Result<String, Fail> {
+    match playable(&from_bytes(alloc, bytes)?) {
+        Ok(()) => Ok(format!(in alloc; "playable")?),
+        Err(fault) => Ok(format!(in alloc; "{fault}")?),
+    }
+}
+
 // What is wrong with a file.
 fn said_of(alloc: Global, bytes: &[u8]) -> Result<String, Fail> {
     match from_bytes(alloc, bytes) {
@@ -156,7 +164,7 @@ fn lengths(rt: HostRuntime) -> Result<(), Fail> {
 #[test]
 fn faults(rt: HostRuntime) -> Result<(), Fail> {
     let alloc = rt.alloc();
-    let cases: [(&[(usize, u64)], &str); 24] = [
+    let cases: [(&[(usize, u64)], &str); 25] = [
         (&[(0, 0)], "magic"),
         (&[(1, 2)], "format"),
         (&[(1, (2 << 32) + 1)], "format"),
@@ -167,9 +175,10 @@ fn faults(rt: HostRuntime) -> Result<(), Fail> {
         (&[(16, 256)], "rule 1 word 16"),
         (&[(65, 0x501)], "rule 1 word 65"),
         (&[(66, 2)], "rule 1 word 66"),
-        (&[(16, 1)], "rule 8 word 16"),
+        (&[(16, 1)], "accepted"),
+        (&[(65, 256)], "accepted"),
         (&[(65, 0x201)], "rule 8 word 65"),
-        (&[(65, 258)], "rule 8 word 65"),
+        (&[(65, 258)], "rule 6 word 65"),
         (&[(100, 261)], "rule 8 word 100"),
         (&[(32, 1)], "rule 3 word 32"),
         (&[(98, 6)], "rule 4 word 100"),
@@ -196,6 +205,22 @@ fn faults(rt: HostRuntime) -> Result<(), Fail> {
         format!(in alloc; "{}", ImageFault::NoMemory)?.as_str(),
         "out of memory"
     );
+    Ok(())
+}
+
+#[test]
+fn images_that_may_be_played(rt: HostRuntime) -> Result<(), Fail> {
+    let alloc = rt.alloc();
+    let cases: [(&[(usize, u64)], &str); 4] = [
+        (&[], "playable"),
+        (&[(16, 1)], "rule 8 word 16"),
+        (&[(65, 256)], "rule 8 word 65"),
+        (&[(16, 1), (65, 256)], "rule 8 word 16"),
+    ];
+    for (changes, said) in &cases {
+        let bytes = file_with(alloc, changes)?;
+        assert_eq!(rt; said_before_play(alloc, &bytes)?.as_str(), *said);
+    }
     Ok(())
 }
 

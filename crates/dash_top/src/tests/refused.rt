@@ -88,7 +88,7 @@ fn long_scripts(rt: HostRuntime) -> Result<(), Fail> {
 #[test]
 fn bad_images(rt: HostRuntime) -> Result<(), Fail> {
     let alloc = rt.alloc();
-    let rows: [(&[(usize, u64)], &str); 20] = [
+    let rows: [(&[(usize, u64)], &str); 19] = [
         (&[(2, 2)], "length"),
         (&[(0, 0)], "magic"),
         (&[(1, 3)], "format"),
@@ -99,12 +99,11 @@ fn bad_images(rt: HostRuntime) -> Result<(), Fail> {
         (&[(65, 1281)], "rule 1 word 65"),
         (&[(66, 2)], "rule 1 word 66"),
         (&[(65, 1)], "rule 8 word 65"),
-        (&[(65, 258)], "rule 8 word 65"),
         (&[(65, 513)], "rule 8 word 65"),
-        (&[(16, 1)], "rule 8 word 16"),
         (&[(32, 1)], "rule 3 word 32"),
         (&[(98, 6)], "rule 4 word 100"),
         (&[(97, 16_385)], "rule 4 word 100"),
+        (&[(65, 258)], "rule 6 word 65"),
         (
             &[(97, 3), (98, 1285), (102, 5), (103, 8)],
             "rule 5 word 102",
@@ -122,6 +121,34 @@ fn bad_images(rt: HostRuntime) -> Result<(), Fail> {
         for word in ["check", "list", "play"] {
             let left = run(&rt, alloc, &[word], &start, b"1 get 5\n", NONE)?;
             assert_eq!(rt; left.status, BAD_IMAGE);
+            assert_eq!(rt; left.written.as_slice(), written.as_bytes());
+            assert_eq!(rt; left.stored.as_slice(), start.as_slice());
+        }
+    }
+    Ok(())
+}
+
+// What a power cut may have left is told, and not played.
+#[test]
+fn images_that_are_not_played(rt: HostRuntime) -> Result<(), Fail> {
+    let alloc = rt.alloc();
+    let rows: [(&[(usize, u64)], &str, &str); 3] = [
+        (&[(16, 1)], "unclean", "16"),
+        (&[(65, 256)], "clean", "65"),
+        (&[(16, 1), (65, 256)], "unclean", "16"),
+    ];
+    for (changes, marker, word) in rows {
+        let start = file_of(alloc, ONE_SEGMENT, &[&NEW, &PAIR, changes])?;
+        let told = format!(in alloc; "sound 1 0 1 1 {marker}\n")?;
+        let refused = format!(in alloc; "fault image rule 8 word {word}\n")?;
+        let runs = [
+            ("check", DONE, told.as_str()),
+            ("list", DONE, "5 7\n"),
+            ("play", BAD_IMAGE, refused.as_str()),
+        ];
+        for (command, status, written) in runs {
+            let left = run(&rt, alloc, &[command], &start, b"1 get 5\n", NONE)?;
+            assert_eq!(rt; left.status, status);
             assert_eq!(rt; left.written.as_slice(), written.as_bytes());
             assert_eq!(rt; left.stored.as_slice(), start.as_slice());
         }

@@ -57,9 +57,17 @@ returns-in-Ok-image_fault-clause-sink_front g c = λ e. (
   image_fault_text c.in-Err-Image.fault,
   subst (λ (x : List ℕ). AppendsFront (g.K.Sink.taken c.args.out.now) (g.K.Sink.taken c.finish-in-Ok-image_fault.new.out) x)
       (c.as_bytes-in-Ok-image_fault.ensures.value ∙ c.in-Ok-image_fault.ensures) (c.finish-in-Ok-image_fault.ensures.front e),
-  of_bad_image (rw c.in-Err-Image.field-0-is at c.in-Err-Image.ensures.err).0 (rw c.in-Err-Image.field-0-is at c.in-Err-Image.ensures.err).1,
+  of_bad_image (rw c.in-Err-Image.field-0-is at c.in-Err-Image.ensures.err).0,
 )
 
 pub returns-in-Ok-image_fault-clause-complete : goal.returns-in-Ok-image_fault-clause-complete
 returns-in-Ok-image_fault-clause-complete g c = λ good none.
-    absurd (good_image _ _ c.in-Err-Image.fault (rw c.in-Err-Image.field-0-is at c.in-Err-Image.ensures.err).0 (rw c.in-Err-Image.field-0-is at c.in-Err-Image.ensures.err).1 good)
+    absurd (good_image _ _ c.in-Err-Image.fault (rw c.in-Err-Image.field-0-is at c.in-Err-Image.ensures.err).0 good)
+
+pub returns-in-Ok-image_fault-clause-bad_image : goal.returns-in-Ok-image_fault-clause-bad_image
+returns-in-Ok-image_fault-clause-bad_image g c = λ e. (
+  c.in-Err-Image.fault,
+  (rw c.in-Err-Image.field-0-is at c.in-Err-Image.ensures.err).0,
+  subst (λ (x : List ℕ). Appends (g.K.Sink.taken c.args.out.now) (g.K.Sink.taken c.finish-in-Ok-image_fault.new.out) x)
+      (c.as_bytes-in-Ok-image_fault.ensures.value ∙ c.in-Ok-image_fault.ensures) (c.finish-in-Ok-image_fault.ensures.all e),
+)

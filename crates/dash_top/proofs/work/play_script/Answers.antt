@@ -1,4 +1,4 @@
-use Rattle.std.proofs.Common.{List, ℕ, [], ◌∷◌, subst, refl, sym}
+use Rattle.std.proofs.Common.{inr, List, ℕ, [], ◌∷◌, subst, refl, sym}
 use Rattle.outside.specs.Storing.{Holds}
 use Rattle.script_text.specs.Calls.{calls_of}
 use Rattle.session.specs.Session.{IsSession}
@@ -35,4 +35,17 @@ returns-in-Ok-clause-ok g c =
     }
 
 pub returns-clause-err : goal.returns-clause-err
-returns-clause-err g c = rose_before _ _ _ c.in_ok-medium.ensures.later c.in-Err.ensures.cause.failed
+returns-clause-err g c = rose_before _ _ _ c.in_ok-medium.ensures.later c.in-Err-write_all.ensures.cause.failed
+
+pub returns-in-Err-clause-err : goal.returns-in-Err-clause-err
+returns-in-Err-clause-err g c = (
+  inr
+      (record {
+        shape = c.in_ok-medium.medium.geometry;
+        words = c.in_ok-medium.medium.words;
+        reads = c.in_ok-medium.ensures.ok;
+        served = c.in_ok-medium.ensures.served;
+        has_fault = c.in-Err.ensures.err;
+      }),
+  c.in_ok-medium.ensures.keeps,
+)

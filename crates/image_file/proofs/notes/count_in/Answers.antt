@@ -1,7 +1,11 @@
--- One slot more.
-use Rattle.std.proofs.Common.{arith, slice_index}
+-- One slot more, or none.
+use Rattle.std.proofs.Common.{◌+◌, arith, refl, sym, slice_index}
 use Rattle.image_file.specs.Noted.{matches, piece_in}
-use Rattle.image_file.proofs.Counts.{count_more}
+use Rattle.hash_word.specs.Hash.{home_of, finger_of}
+use Rattle.bucket_meta.specs.Bucket.{allocated}
+use Rattle.sound_image.specs.Records.{word_in, slot_hash}
+use Rattle.image_file.proofs.Counts.{count_more, counts_none}
+use Rattle.image_file.proofs.EmptyBuckets.{none_counted}
 use Rattle.image_file.proofs.notes.count_in.Goals as goal
 
 pub loop-slot-preserved : goal.loop-slot-preserved
@@ -11,3 +15,15 @@ loop-slot-preserved c =
       counted = omega (arith, more, c.count_slot-count.ensures.is, c.loop-slot.invariant.counted);
       few = omega (arith, c.count_slot-count.ensures.most, c.loop-slot.invariant.few);
     }
+
+pub returns-then-is_empty-clause-is : goal.returns-then-is_empty-clause-is
+returns-then-is_empty-clause-is c =
+    let shape = c.args.geometry.now in
+    let word = slice_index c.args.words.now in
+    let k = c.args.k in
+    sym
+    (none_counted (λ r. piece_in shape word c.args.s c.args.b k r) (matches c.args.sought) 14
+    (λ r slot.
+    counts_none (matches c.args.sought) (allocated r (word_in shape word c.args.s (64 + k) 1)) 1
+    (home_of (slot_hash shape word c.args.s (64 + k) r)) c.args.b (finger_of (slot_hash shape word c.args.s (64 + k) r), k)
+    (λ both. c.if-is_empty.ensures refl r slot both.0)))

@@ -35,3 +35,6 @@ returns c = (
   (λ exact. c.are_named-2.ensures.1
       (exact-named c.args.geometry.now (slice_index c.args.words.now) c.args.s c.args.b exact (probing_of c.args.b) 1)),
 )
+
+pub returns-then-has_nothing_noted : goal.returns-then-has_nothing_noted
+returns-then-has_nothing_noted c = ((λ _. c.if-has_nothing_noted.ensures refl), (λ _. refl))
