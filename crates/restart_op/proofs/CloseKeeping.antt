@@ -33,7 +33,7 @@ use Rattle.restart_op.specs.Close.{with_marker}
 use Rattle.restart_op.specs.Closing.{close_after, IsQuiet, IsKept, IsClosed, CloseKeeps, CloseSettles, CloseMarks}
 use Rattle.restart_op.proofs.Same.{has_there}
 use Rattle.restart_op.proofs.MarkedFront.{IsMarkedFront}
-use Rattle.restart_op.proofs.MarkedTable.{IsMarkedTable, marked_rules, marked_serves}
+use Rattle.restart_op.proofs.MarkedTable.{IsMarkedTable, marked_rules, marked_serves, marked_untouched}
 use Rattle.restart_op.proofs.ClosePhases.{marked, Before, After, IsSettledNow, elsewhere, phase_at, at_end, either}
 
 -- ---- the marker
@@ -285,6 +285,7 @@ module _ (site : Site) (start : Words) (world : World) (quiet : IsQuiet site sta
         served = record {
           sound = (kept_marked (λ i within. now i (word i) within (had i within))).sound;
           serves = marked_serves shape word (table_marked (λ i within. now i (word i) within (had i within)));
+          untouched = marked_untouched shape word (table_marked (λ i within. now i (word i) within (had i within)));
         };
       }
 

@@ -31,6 +31,6 @@ clean_table shape words image =
       is_normal = whole.is_normal;
       no_depth = whole.no_depth;
       home = λ b r there. (image.serves _).home 0 b r there refl;
-      clean = (image.serves 16).clean refl;
-      same_version = (image.serves (head_at shape 0 + 1)).current 0 (omega (arith, one)) refl (inl whole.is_normal);
+      clean = (image.untouched 16).clean refl;
+      same_version = (image.untouched (head_at shape 0 + 1)).current 0 (omega (arith, one)) refl (inl whole.is_normal);
     }

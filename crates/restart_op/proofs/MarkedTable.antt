@@ -1,4 +1,4 @@
--- A table with the marker set, free locks and no notes follows the seven rules, and the program serves it.
+-- A table with the marker set, free locks and no notes follows the seven rules, and the program serves and may play it.
 use Rattle.std.proofs.Common.{◌≡◌, ℕ, ◌^◌, ◌<◌, sym, ap, subst, ◌∙◌, arith, inl}
 use Rattle.hash_word.specs.Hash.{home_of}
 use Rattle.bucket_meta.specs.Bucket.{lock_of}
@@ -8,7 +8,7 @@ use Rattle.image_layout.specs.Places.{Shape, bucket_at}
 use Rattle.sound_image.specs.Segments.{frame_of, image_version, state_at, Owns}
 use Rattle.sound_image.specs.Records.{key_hash, slot_key, slot_hash, HasRecord, HasExactNotes}
 use Rattle.sound_image.specs.Rules.{StandsRight, NotBefore, FollowsRules}
-use Rattle.image_file.specs.Stage.{PassesRule8}
+use Rattle.image_file.specs.Stage.{PassesRule8, MayBePlayed}
 use Rattle.bucket_words.specs.Buckets.{IsHomeBucket}
 use Rattle.bucket_words.proofs.Pairs.{key_hash-fits}
 use Rattle.restart_op.specs.Notes.{HasNoNotes}
@@ -109,8 +109,15 @@ module _ (shape : Shape) (word : Words) (table : IsMarkedTable shape word) where
       record {
         one_segment = λ _. front.one_segment;
         root = λ _. front.root;
-        clean = λ _. front.clean;
         first = λ _. record { is_normal = front.is_normal; no_depth = front.no_depth };
-        current = λ s h _ live. subst (λ s. version_in ((frame_of shape word).header s) ≡ image_version (frame_of shape word)) (sym (is_first shape word front s h)) front.same_version;
         home = λ s b r there _. home_again s b r there;
+      }
+
+  -- which may be played
+  pub marked_untouched : MayBePlayed shape word
+  marked_untouched w =
+      let front = table.front in
+      record {
+        clean = λ _. front.clean;
+        current = λ s h _ live. subst (λ s. version_in ((frame_of shape word).header s) ≡ image_version (frame_of shape word)) (sym (is_first shape word front s h)) front.same_version;
       }

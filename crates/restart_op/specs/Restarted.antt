@@ -8,7 +8,7 @@ use Rattle.image_layout.specs.Places.{Shape, state_word, head_at, words_of}
 use Rattle.map_model.specs.Map.{Map}
 use Rattle.sound_image.specs.Image.{IsSoundImage}
 use Rattle.sound_image.specs.Left.{HasPairsOf}
-use Rattle.image_file.specs.Stage.{PassesRule8}
+use Rattle.image_file.specs.Stage.{PassesRule8, MayBePlayed}
 use Rattle.bucket_words.specs.Tables.{find}
 use Rattle.op_core.specs.declared.want.Want.TheVariants.{Done}
 use Rattle.world.specs.Site.{Site}
@@ -19,10 +19,11 @@ use Rattle.restart_op.specs.Restart.{begun, wanted, taken, started_with}
 use Rattle.restart_op.specs.Course.{Course, after_events}
 use Rattle.restart_op.specs.Notes.{HasNoNotes}
 
--- an image that is restarted: a sound one that the program serves, which is clean
+-- an image that is restarted: a sound one that the program serves, and may play: it is clean, and its segment has its version
 pub record IsServedImage (shape : Shape) (words : List ℕ) : Type 0 where
   pub sound : IsSoundImage shape words
   pub serves : PassesRule8 shape (slice_index words)
+  pub untouched : MayBePlayed shape (slice_index words)
 
 -- a restart of these words after so many of its events
 abbrev pub restarted : (shape : Shape) → List ℕ → ℕ → Course wanted taken shape
