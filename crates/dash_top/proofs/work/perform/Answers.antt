@@ -12,3 +12,6 @@ returns-in_ok-text-in-List-clause-ok g c = by_list c.in-List.ensures c.in_ok-tex
 
 pub returns-in_ok-lines-in-Play-clause-ok : goal.returns-in_ok-lines-in-Play-clause-ok
 returns-in_ok-lines-in-Play-clause-ok g c = by_play c.in-Play.ensures c.in_ok-lines-in-Play.ensures.ok
+
+pub returns-in_err-lines-in-Play-clause-err : goal.returns-in_err-lines-in-Play-clause-err
+returns-in_err-lines-in-Play-clause-err g c = ?
