@@ -9,9 +9,7 @@ use Rattle.trace.specs.Events.{Words}
 use Rattle.image_layout.specs.Places.{Shape}
 use Rattle.map_model.specs.declared.call.Call.{Call}
 use Rattle.map_model.specs.declared.entry.Reply.{Reply}
-use Rattle.world.specs.Wants.{answer_to, word_of}
 use Rattle.restart_op.specs.declared.restart.RestartOp.{RestartOp}
-use Rattle.restart_op.specs.Restart.{wanted as restart_wanted, taken as restart_taken}
 use Rattle.script_text.specs.declared.line.Event.TheVariants as event
 use Rattle.script_text.specs.declared.line.Line.{Line}
 use Rattle.script_text.specs.declared.line.Line.TheVariants as line
@@ -22,7 +20,7 @@ use Rattle.core_run.specs.declared.keeper.Keeper.{Keeper}
 use Rattle.core_run.specs.declared.keeper.Keeper.TheVariants.{Restarting, Open, Closing, Closed}
 use Rattle.core_run.specs.declared.goal.Goal.{Goal}
 use Rattle.core_run.specs.declared.goal.Goal.TheVariants.{AnyEvent, Kind, StoreTo}
-use Rattle.core_run.specs.State.{State, Deed, waiting_from, awake, beginning, deed, by_keeper, restarting, keeper_deed, call_deed, caller_deed, open_deed}
+use Rattle.core_run.specs.State.{State, Deed, waiting_from, awake, beginning, deed, restarting, keeper_deed, call_deed, caller_deed, open_deed}
 use Rattle.core_run.specs.Run.{counts, ends_in_again, by_deed, drive, restarted_by, restarted, round, has_calls, rounds, close_begins, run_out, ready_for, line_done, lines_done, closed, state_at_end, core_run, cut_of, most_events}
 
 abbrev pub IsAtRest : Caller → Type 0
