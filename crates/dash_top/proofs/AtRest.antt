@@ -23,12 +23,14 @@ use Rattle.core_run.specs.declared.goal.Goal.TheVariants.{AnyEvent, Kind, StoreT
 use Rattle.core_run.specs.State.{State, Deed, waiting_from, awake, beginning, deed, restarting, keeper_deed, call_deed, caller_deed, open_deed}
 use Rattle.core_run.specs.Run.{counts, ends_in_again, by_deed, drive, restarted_by, restarted, round, has_calls, rounds, close_begins, run_out, ready_for, line_done, lines_done, closed, state_at_end, core_run, cut_of, most_events}
 
+-- a caller with no call left has begun none
 abbrev pub IsAtRest : Caller → Type 0
 IsAtRest c = current c ≡ None → c.begun ≡ false
 
 abbrev pub AreAtRest : List Caller → Type 0
 AreAtRest cs = AllByRecursion IsAtRest cs
 
+-- all callers of a state do
 abbrev pub RestsIn : State → Type 0
 RestsIn s = AreAtRest s.core.callers
 
@@ -68,6 +70,7 @@ rest_awake version [] = tt
 rest_awake version (c ∷ cs) = ((λ none. refl), rest_awake version cs)
 
 -- ---- one event
+-- so do the callers after an event, if there is one
 abbrev RestsAfter : Option Deed → Type 0
 RestsAfter None = ⊤
 RestsAfter (Some d) = RestsIn d.state
