@@ -5,3 +5,7 @@ pub mod Scripts
 pub mod Counting
 pub mod Headlines
 pub mod Complete
+pub mod AtRest
+pub mod ToldsOfRun
+pub mod Printed
+pub mod Causes

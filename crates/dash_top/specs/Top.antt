@@ -15,7 +15,7 @@ use Rattle.dash_top.specs.Told.{Told, RefusesScript}
 use Rattle.dash_top.specs.Work.{IsDone, IsRefused}
 
 -- THE HEADLINE: wherever store, source and sink tell their bytes, the script is all that the source had left, and
--- the store's bytes, the script, the bytes that the sink took and the store's bytes now are a session
+-- the store's bytes, the script, the bytes that the sink took and the store's bytes now are those of its run, a session
 abbrev pub Headline : Told → Option (List ℕ) → Option (List ℕ) → Type 0
 Headline t sink_old sink_new =
     (start script before : List ℕ) → t.store_old ≡ Some start → t.source_old ≡ Some script → sink_old ≡ Some before

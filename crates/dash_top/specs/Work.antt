@@ -53,7 +53,7 @@ pub record ListsPairs (store : Option (List ℕ)) (text : List ℕ) : Type 0 whe
   pub rising : IsStrictlyIncreasing (keys_of pairs)
   pub text_is : text ≡ list_text pairs
 
--- the script and the image that were read, the text and what stands in the store now are a session
+-- the script and the image that were read, the text and what stands in the store now are those of its run, a session
 pub record Plays (t : Told) (transcript : List ℕ) : Type 0 where
   pub script : List ℕ
   pub reads_script : ReadsScript t.source_old t.source_new script

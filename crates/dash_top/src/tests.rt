@@ -1,4 +1,5 @@
 // Runs of the whole program over the outside in memory, with what they write and store, literally.
+mod cuts;
 mod done;
 mod failing;
 mod refused;

@@ -57,8 +57,8 @@ pub fn dash_run<R: Threads + Wait + Sync, I: Store, S: Source, K: Sink, M: Gates
     ensures done { result ≡ DONE → (text : List ℕ) × Appends (K.taken out.old) (K.taken out.new) text
         × IsDone (told (I.contents image.old) (I.contents image.new) (S.left input.old) (S.left input.new)) (map string_bytes words.now) text }
 
-    // The headline: wherever all three tell their bytes, these are a session, whose calls, woven by their places,
-    // are one legal history of a plain map that starts with the image's pairs.
+    // The headline: wherever all three tell their bytes, these are what the run of the script leaves, and a session,
+    // whose calls, woven by their places, are one legal history of a plain map that starts with the image's pairs.
     ensures headline { result ≡ DONE → map string_bytes words.now ≡ play_words
         → Headline (told (I.contents image.old) (I.contents image.new) (S.left input.old) (S.left input.new))
         (K.taken out.old) (K.taken out.new) }

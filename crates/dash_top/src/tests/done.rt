@@ -92,61 +92,98 @@ fn plays(rt: HostRuntime) -> Result<(), Fail> {
     Ok(())
 }
 
+// What the calls reply, and what `check` and `list` say of the image that is left.
 #[test]
-fn what_an_image_holds(rt: HostRuntime) -> Result<(), Fail> {
+fn histories(rt: HostRuntime) -> Result<(), Fail> {
     let alloc = rt.alloc();
-    let rows: [(&[u8], &str, &str); 3] = [
-        (b"", "sound 1 0 1 0 clean\n", ""),
-        (b"1 insert 5 7\n", "sound 1 0 1 1 clean\n", "5 7\n"),
-        (
-            b"1 insert 256 3\n1 insert 6 1\n1 insert 5 7\n1 insert 16384 2\n1 insert 0 1\n",
-            "sound 1 0 1 5 clean\n",
-            "0 1\n5 7\n6 1\n256 3\n16384 2\n",
-        ),
+    let mixed = [(1, 4_294_967_297)];
+    let spent = [
+        (96, u64::MAX - 1),
+        (97, 1),
+        (98, 5),
+        (100, 5),
+        (101, 7),
+        (128, 2),
     ];
-    for kind in ["0", "1"] {
-        let new = run(&rt, alloc, &["format", "1", "0", kind], b"", b"", NONE)?;
-        for (script, summary, pairs) in rows {
-            let image = run(&rt, alloc, &["play"], &new.stored, script, NONE)?;
-            assert_eq!(rt; image.status, DONE);
-            for (word, written) in [("check", summary), ("list", pairs)] {
-                let left = run(&rt, alloc, &[word], &image.stored, b"1 get 5\n", NONE)?;
-                assert_eq!(rt; left.status, DONE);
-                assert_eq!(rt; left.written.as_slice(), written.as_bytes());
-                assert_eq!(rt; left.stored.as_slice(), image.stored.as_slice());
-            }
-        }
-    }
-    Ok(())
-}
-
-#[test]
-fn replies(rt: HostRuntime) -> Result<(), Fail> {
-    let alloc = rt.alloc();
-    let new = file_of(alloc, ONE_SEGMENT, &[&NEW])?;
-    let mixed = file_of(alloc, ONE_SEGMENT, &[&NEW, &[(1, 4_294_967_297)]])?;
-    let spent = file_of(alloc, ONE_SEGMENT, &[&NEW, &PAIR, &[(96, u64::MAX - 1)]])?;
-    let rows: [(&[u8], &[u8], &str); 3] = [
+    let five = b"1 insert 256 3\n1 insert 6 1\n1 insert 5 7\n1 insert 16384 2\n1 insert 0 1\n";
+    let done = "1 1 DONE @0\n1 2 DONE @1\n1 3 DONE @2\n1 4 DONE @3\n1 5 DONE @4\n";
+    let rows: [(&[(usize, u64)], &[u8], &str, &str, &str); 10] = [
+        (&[], b"", "", "sound 1 0 1 0 clean\n", ""),
         (
-            &new,
+            &[],
             b"1 insert 0 1\n1 insert 16384 2\n1 get 0\n1 get 16384\n",
             "1 1 DONE @0\n1 2 DONE @1\n1 3 FOUND 1 @2\n1 4 FOUND 2 @2\n",
+            "sound 1 0 1 2 clean\n",
+            "0 1\n16384 2\n",
+        ),
+        (
+            &[],
+            b"1 insert 5 7\n1 update 5 9\n1 remove 5\n1 remove 5\n1 update 5 1\n1 get 5\n",
+            "1 1 DONE @0\n1 2 DONE @1\n1 3 DONE @2\n1 4 ABSENT @3\n1 5 ABSENT @3\n1 6 ABSENT @3\n",
+            "sound 1 0 1 0 clean\n",
+            "",
+        ),
+        (
+            &[],
+            b"1 insert 5 7\n1 insert 6 1\n1 update 6 8\n1 remove 5\n1 insert 5 2\n",
+            done,
+            "sound 1 0 1 2 clean\n",
+            "5 2\n6 8\n",
         ),
         (
             &mixed,
             b"1 insert 5 7\n1 insert 6 8\n1 insert 5 9\n1 get 5\n1 get 6\n1 get 7\n",
             "1 1 DONE @0\n1 2 DONE @1\n1 3 EXISTS @2\n1 4 FOUND 7 @2\n1 5 FOUND 8 @2\n1 6 ABSENT @2\n",
+            "sound 1 0 1 2 clean\n",
+            "5 7\n6 8\n",
         ),
         (
             &spent,
             b"1 insert 6 1\n1 get 5\n",
             "1 1 SPENT @0\n1 2 FOUND 7 @0\n",
+            "sound 1 0 1 1 clean\n",
+            "5 7\n",
+        ),
+        (
+            &[],
+            five,
+            done,
+            "sound 1 0 1 5 clean\n",
+            "0 1\n5 7\n6 1\n256 3\n16384 2\n",
+        ),
+        (
+            &mixed,
+            five,
+            done,
+            "sound 1 0 1 5 clean\n",
+            "0 1\n5 7\n6 1\n256 3\n16384 2\n",
+        ),
+        (
+            &[],
+            b"1 insert 5 7\nclose\nstep 0 1000\ncut 0\n",
+            "1 1 DONE @0\n",
+            "sound 1 0 1 1 clean\n",
+            "5 7\n",
+        ),
+        (
+            &[],
+            b"1 insert 5 7\nstep 0 2\ncut 0\n",
+            "",
+            "sound 1 0 1 0 clean\n",
+            "",
         ),
     ];
-    for (start, script, written) in rows {
-        let left = run(&rt, alloc, &["play"], start, script, NONE)?;
-        assert_eq!(rt; left.status, DONE);
-        assert_eq!(rt; left.written.as_slice(), written.as_bytes());
+    for (changes, script, written, summary, pairs) in rows {
+        let start = file_of(alloc, ONE_SEGMENT, &[&NEW, changes])?;
+        let image = run(&rt, alloc, &["play"], &start, script, NONE)?;
+        assert_eq!(rt; image.status, DONE, "at {written}");
+        assert_eq!(rt; image.written.as_slice(), written.as_bytes());
+        for (word, said) in [("check", summary), ("list", pairs)] {
+            let left = run(&rt, alloc, &[word], &image.stored, b"1 get 5\n", NONE)?;
+            assert_eq!(rt; left.status, DONE);
+            assert_eq!(rt; left.written.as_slice(), said.as_bytes());
+            assert_eq!(rt; left.stored.as_slice(), image.stored.as_slice());
+        }
     }
     Ok(())
 }

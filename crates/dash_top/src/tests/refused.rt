@@ -36,10 +36,11 @@ fn bad_words(rt: HostRuntime) -> Result<(), Fail> {
 fn bad_scripts(rt: HostRuntime) -> Result<(), Fail> {
     let alloc = rt.alloc();
     let new = file_of(alloc, ONE_SEGMENT, &[&NEW])?;
-    let rows: [(&[u8], &str); 12] = [
+    let rows: [(&[u8], &str); 16] = [
         (b"1 insert 5\n", "word line 1"),
         (b"1 get 5\n1 get 5 6", "word line 2"),
-        (b"\n\n1 update 5 6\n", "word line 3"),
+        (b"\n\n1 update 5\n", "word line 3"),
+        (b"1 get 5\nfuse 1 5\n", "word line 2"),
         (b"1 get 5\n # five\n", "word line 2"),
         (b"1\tget 5\n", "word line 1"),
         (b"1 get x\n", "number line 1"),
@@ -49,6 +50,9 @@ fn bad_scripts(rt: HostRuntime) -> Result<(), Fail> {
         (b"1 get 5\r", "number line 1"),
         (b"0 get 5\n", "caller line 1"),
         (b"# two\n2 get 5\n1 get x\n", "caller line 2"),
+        (b"1 get 5\n\nuntil 2 flush 1\n", "caller line 3"),
+        (b"step 1 1\n1 get 5\n", "order line 2"),
+        (b"cut 0\nclose\n", "order line 2"),
     ];
     for (script, said) in rows {
         let left = run(&rt, alloc, &["play"], &new, script, NONE)?;

@@ -1,9 +1,9 @@
-use Rattle.std.proofs.Common.{inr, List, ℕ, [], ◌∷◌, subst, refl, sym}
+use Rattle.std.proofs.Common.{inr, List, ℕ, subst, refl, sym, ◌∙◌}
 use Rattle.outside.specs.Storing.{Holds}
-use Rattle.script_text.specs.Calls.{calls_of}
 use Rattle.session.specs.Session.{IsSession}
-use Rattle.play.specs.Played.{IsPlay, closed_play}
+use Rattle.play.specs.Played.{IsPlay, scripts_of, ending_of}
 use Rattle.dash_top.proofs.Counting.{rose_before}
+use Rattle.dash_top.proofs.Printed.{printed_by_run}
 use Rattle.dash_top.proofs.work.play_script.Goals as goal
 
 pub returns-in-Ok-clause-ok : goal.returns-in-Ok-clause-ok
@@ -29,8 +29,10 @@ returns-in-Ok-clause-ok g c =
         start_sound = image.sound;
         lines = c.in_ok-script.script;
         script_is = read.2;
+        printed = c.in_ok-lines.ensures ∙ printed_by_run _ _ _ _ left.run;
+        left = left.run.words;
         session = subst (λ (t : List ℕ). IsSession c.in_ok-medium.medium.geometry c.in_ok-medium.medium.words c.in_ok-session.session.medium.words
-            (calls_of 1 c.in_ok-script.script ∷ []) closed_play t) (sym c.in_ok-lines.ensures) left.session;
+            (scripts_of c.in_ok-script.script) (ending_of c.in_ok-script.script) t) (sym c.in_ok-lines.ensures) left.session;
       };
     }
 
