@@ -4,7 +4,7 @@ use Rattle.std.specs.List.{AllByRecursion}
 use Rattle.script_text.specs.declared.line.Line.{Line}
 use Rattle.script_text.specs.declared.line.Mode.{Mode}
 use Rattle.script_text.specs.declared.reading.Reading.{Reading}
-use Rattle.script_text.specs.declared.reading.Reading.TheVariants.{BadWord, BadNumber, BadCaller}
+use Rattle.script_text.specs.declared.reading.Reading.TheVariants.{BadWord, BadNumber, BadCaller, BadOrder}
 use Rattle.script_text.specs.declared.fault.ScriptFault.{ScriptFault}
 use Rattle.script_text.specs.declared.fault.ScriptFault.TheVariants.{Word, Number, Caller, Order, TooLong, NoMemory}
 use Rattle.script_text.specs.Splits.{lines}
@@ -21,7 +21,7 @@ pub no_fault : (mode : Mode) (bytes : List ℕ) (script : List Line) (fault : Sc
 no_fault mode bytes script (Word line) good h = absurd (none_bad mode bytes script BadWord line good h)
 no_fault mode bytes script (Number line) good h = absurd (none_bad mode bytes script BadNumber line good h)
 no_fault mode bytes script (Caller line) good h = absurd (none_bad mode bytes script BadCaller line good h)
-no_fault mode bytes script (Order line) good h = absurd h
+no_fault mode bytes script (Order line) good h = absurd (none_bad mode bytes script BadOrder line good h)
 no_fault mode bytes script (TooLong line) good h =
     ⊎_elim (λ a. let few : length bytes ≤ 16777216 = good.short.few_bytes in absurd (omega arith)) (λ b. let few : length (lines bytes) ≤ 1000000 = good.short.few_lines in absurd (omega arith)) h.1
 no_fault mode bytes script NoMemory good h = refl

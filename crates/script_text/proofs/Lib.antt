@@ -4,3 +4,4 @@ pub mod Lines
 pub mod Progress
 pub mod Complete
 pub mod SoFar
+pub mod Ordered

@@ -1,5 +1,5 @@
 -- The calls of one caller, and the lines that there are so far.
-use Rattle.std.specs.Prelude.{◌≡◌, ℕ, ◌==◌, ⊤, List, [], ◌∷◌, if◌then◌else◌}
+use Rattle.std.specs.Prelude.{◌≡◌, ℕ, ◌^◌, ◌<◌, ◌≤◌, ◌==◌, ⊤, List, [], ◌∷◌, if◌then◌else◌}
 use Rattle.map_model.specs.declared.call.Call.{Call}
 use Rattle.map_model.specs.declared.call.Call.TheVariants.{Get, Insert, Update, Remove}
 use Rattle.script_text.specs.declared.line.Line.{Line}
@@ -16,19 +16,19 @@ calls_of caller (At c n ∷ lines) = calls_of caller lines
 calls_of caller (Close ∷ lines) = calls_of caller lines
 calls_of caller (Cut n ∷ lines) = calls_of caller lines
 
--- the calls that a script can give so far: a get or an insert
+-- the numbers of a call are words of 64 bits
 abbrev pub IsCallSoFar : Call → Type 0
-IsCallSoFar (Get k) = ⊤
-IsCallSoFar (Insert k v) = ⊤
-IsCallSoFar (Update k v) = ⊥
-IsCallSoFar (Remove k) = ⊥
+IsCallSoFar (Get k) = k < 2 ^ 64
+IsCallSoFar (Insert k v) = (k < 2 ^ 64) × (v < 2 ^ 64)
+IsCallSoFar (Update k v) = (k < 2 ^ 64) × (v < 2 ^ 64)
+IsCallSoFar (Remove k) = k < 2 ^ 64
 
--- the lines that a script can have so far: such a call of caller 1
+-- the lines that a script can have so far: calls of caller 1, runs of callers 0 and 1, a close and a cut, all of words
 abbrev pub IsLineSoFar : Line → Type 0
 IsLineSoFar (CallLine c call) = (c ≡ 1) × IsCallSoFar call
 IsLineSoFar (Fuse c n) = ⊥
-IsLineSoFar (Step c n) = ⊥
-IsLineSoFar (Until c event n) = ⊥
-IsLineSoFar (At c n) = ⊥
-IsLineSoFar Close = ⊥
-IsLineSoFar (Cut n) = ⊥
+IsLineSoFar (Step c n) = (c ≤ 1) × (n < 2 ^ 64)
+IsLineSoFar (Until c event n) = (c ≤ 1) × (n < 2 ^ 64)
+IsLineSoFar (At c n) = (c ≤ 1) × (n < 2 ^ 64)
+IsLineSoFar Close = ⊤
+IsLineSoFar (Cut n) = n < 2 ^ 64

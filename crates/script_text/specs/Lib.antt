@@ -1,5 +1,6 @@
 pub mod Splits
 pub mod Readings
+pub mod Order
 pub mod Script
 pub mod Calls
 pub mod Finding

@@ -4,15 +4,17 @@ use Rattle.std.specs.List.{AllByRecursion}
 use Rattle.script_text.specs.declared.line.Line.{Line}
 use Rattle.script_text.specs.declared.line.Mode.{Mode}
 use Rattle.script_text.specs.declared.reading.Reading.{Reading}
-use Rattle.script_text.specs.declared.reading.Reading.TheVariants.{Skipped, Says, BadWord, BadNumber, BadCaller}
+use Rattle.script_text.specs.declared.reading.Reading.TheVariants.{Skipped, Says, BadWord, BadNumber, BadCaller, BadOrder}
+use Rattle.script_text.specs.declared.phase.Phase.TheVariants.{Calling}
 use Rattle.script_text.specs.declared.fault.ScriptFault.{ScriptFault}
 use Rattle.script_text.specs.declared.fault.ScriptFault.TheVariants.{Word, Number, Caller, Order, TooLong, NoMemory}
 use Rattle.script_text.specs.Splits.{lines}
 use Rattle.script_text.specs.Readings.{line_says}
+use Rattle.script_text.specs.Order.{in_order}
 
--- what each line of the input says, one after another
+-- what each line of the input says, one after another, behind those before it
 abbrev pub readings : Mode → List ℕ → List Reading
-readings mode bytes = map (line_says mode) (lines bytes)
+readings mode bytes = in_order mode Calling (map (line_says mode) (lines bytes))
 
 -- the line is skipped, or is one of the grammar
 abbrev pub IsGood : Reading → Type 0
@@ -21,6 +23,7 @@ IsGood (Says line) = ⊤
 IsGood BadWord = ⊥
 IsGood BadNumber = ⊥
 IsGood BadCaller = ⊥
+IsGood BadOrder = ⊥
 
 -- the lines of the grammar, in their order
 abbrev pub said : List Reading → List Line
@@ -30,6 +33,7 @@ said (Says line ∷ rest) = line ∷ said rest
 said (BadWord ∷ rest) = said rest
 said (BadNumber ∷ rest) = said rest
 said (BadCaller ∷ rest) = said rest
+said (BadOrder ∷ rest) = said rest
 
 -- at most 16 MiB and a million lines
 pub record IsShort (bytes : List ℕ) : Type 0 where
@@ -51,11 +55,11 @@ pub record IsFirstBad (mode : Mode) (bytes : List ℕ) (bad : Reading) (n : ℕ)
   pub good_so_far : AllByRecursion IsGood front
   pub place : n ≡ length front + 1
 
--- the cause of a fault; want of memory has none, and the order of lines is never at fault so far
+-- the cause of a fault; want of memory has none
 abbrev pub HasFault : Mode → List ℕ → ScriptFault → Type 0
 HasFault mode bytes (Word line) = IsFirstBad mode bytes BadWord line
 HasFault mode bytes (Number line) = IsFirstBad mode bytes BadNumber line
 HasFault mode bytes (Caller line) = IsFirstBad mode bytes BadCaller line
-HasFault mode bytes (Order line) = ⊥
+HasFault mode bytes (Order line) = IsFirstBad mode bytes BadOrder line
 HasFault mode bytes (TooLong line) = (line ≡ 0) × ((16777216 < length bytes) ⊎ (1000000 < length (lines bytes)))
 HasFault mode bytes NoMemory = ⊤

@@ -1,24 +1,31 @@
 //! The text of a script: bytes in, lines out, or the first fault with its line.
 //!
 //! `parse` takes the bytes of a whole script and gives its lines in their order; its contract is the grammar, read
-//! off the bytes. The modules below it each read one thing: a word, a number, a line, and where a line ends.
+//! off the bytes. The modules below it each read one thing: a word, a number, the form of a call or of a run, a line,
+//! and where a line ends. `phase` says what may follow what.
 //! The grammar in plain words stands in the README.
 #![tactic(auto)]
 
+mod call_form;
+mod callers;
 pub mod fault;
+pub mod laws;
 pub mod line;
 mod line_end;
 mod number;
 pub mod parsing;
+pub mod phase;
 mod reading;
+mod run_form;
 pub mod script;
 #[cfg(test)]
 mod tests;
 mod word;
 
+pub use callers::MOST_CALLERS;
 pub use fault::ScriptFault;
 pub use line::{Event, Line, Mode};
 pub use number::number_of;
 pub use parsing::{MOST_BYTES, MOST_LINES, parse};
-pub use reading::MOST_CALLERS;
+pub use phase::Phase;
 pub use script::Script;

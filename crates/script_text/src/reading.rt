@@ -1,19 +1,31 @@
 // What one line says.
 ghost use Rattle.std.specs.Prelude.{◌≡◌};
 ghost use Rattle.script_text.specs.Splits.{words};
-ghost use Rattle.script_text.specs.Readings.{number, get_call, insert_call, says_call, says_words, line_says};
+ghost use Rattle.script_text.specs.Readings.{says_one, says_two, says_three, says_four, says_words, line_says};
+ghost use Rattle.script_text.specs.Order.{in_place};
 
+use crate::call_form::{call_reading, get_of, insert_of, remove_of, update_of};
 use crate::line::{Line, Mode};
 use crate::number::number_of;
+use crate::phase::Phase;
+use crate::run_form::{Aim, run_reading, until_reading};
 use crate::word::next_word;
-use map_model::Call;
 
-/// The last caller; callers are counted from 1.
-pub const MOST_CALLERS: u64 = 1;
+const CLOSE: &[u8] = b"close";
+
+const CUT: &[u8] = b"cut";
+
+const STEP: &[u8] = b"step";
+
+const UNTIL: &[u8] = b"until";
 
 const GET: &[u8] = b"get";
 
+const REMOVE: &[u8] = b"remove";
+
 const INSERT: &[u8] = b"insert";
+
+const UPDATE: &[u8] = b"update";
 
 // What a line says: nothing, a line of the grammar, or what is wrong with it.
 #[derive(Clone, Copy, Debug, PartialEq, Eq)]
@@ -23,71 +35,89 @@ pub(crate) enum Reading {
     BadWord,
     BadNumber,
     BadCaller,
+    BadOrder,
 }
 
-// The get of a key, where it is a number.
-fn get_of(key: Option<u64>) -> Option<Call>
-    ensures { result ≡ get_call key }
+// The form of one word: close.
+fn one_word(first: &[u8]) -> Reading
+    ensures { result ≡ says_one first.now }
 {
-    match key {
-        Some(key) => Some(Call::Get(key)),
-        None => None,
+    if first == CLOSE {
+        Reading::Says(Line::Close)
+    } else {
+        Reading::BadWord
     }
 }
 
-// The insert of a key and a value, where they are numbers.
-fn insert_of(key: Option<u64>, value: Option<u64>) -> Option<Call>
-    ensures { result ≡ insert_call key value }
+// The form of two words: cut c.
+fn two_words(first: &[u8], second: &[u8]) -> Reading
+    ensures { result ≡ says_two first.now second.now }
 {
-    match (key, value) {
-        (Some(key), Some(value)) => Some(Call::Insert(key, value)),
-        _ => None,
-    }
-}
-
-// A caller's call, where all its numbers are numbers and the caller is in range.
-fn call_reading(caller: Option<u64>, call: Option<Call>) -> Reading
-    ensures { result ≡ says_call caller call }
-{
-    match (caller, call) {
-        (Some(caller), Some(call)) => {
-            if caller < 1 || caller > MOST_CALLERS {
-                return Reading::BadCaller;
-            }
-            Reading::Says(Line::Call(caller as u8, call))
+    if first == CUT {
+        match number_of(second) {
+            Some(choice) => Reading::Says(Line::Cut(choice)),
+            None => Reading::BadNumber,
         }
-        _ => Reading::BadNumber,
+    } else {
+        Reading::BadWord
     }
 }
 
-// What the words of a line say.
+// The forms of three words: step C n, C get K, and C remove K.
+fn three_words(first: &[u8], second: &[u8], third: &[u8]) -> Reading
+    ensures { result ≡ says_three first.now second.now third.now }
+{
+    if first == STEP {
+        run_reading(Aim::Steps, number_of(second), number_of(third))
+    } else if second == GET {
+        call_reading(number_of(first), get_of(number_of(third)))
+    } else if second == REMOVE {
+        call_reading(number_of(first), remove_of(number_of(third)))
+    } else {
+        Reading::BadWord
+    }
+}
+
+// The forms of four words: until C KIND n, until C at W, C insert K V, and C update K V.
+fn four_words(first: &[u8], second: &[u8], third: &[u8], fourth: &[u8]) -> Reading
+    ensures { result ≡ says_four first.now second.now third.now fourth.now }
+{
+    if first == UNTIL {
+        until_reading(third, number_of(second), number_of(fourth))
+    } else if second == INSERT {
+        call_reading(
+            number_of(first),
+            insert_of(number_of(third), number_of(fourth)),
+        )
+    } else if second == UPDATE {
+        call_reading(
+            number_of(first),
+            update_of(number_of(third), number_of(fourth)),
+        )
+    } else {
+        Reading::BadWord
+    }
+}
+
+// What the words of a line say; their number decides which forms there are.
 fn words_reading(line: &[u8]) -> Reading
     ensures { result ≡ says_words (words line.now) }
 {
-    let Some((caller, rest)) = next_word(line) else {
+    let Some((first, rest)) = next_word(line) else {
         return Reading::Skipped;
     };
-    let Some((verb, rest)) = next_word(rest) else {
-        return Reading::BadWord;
+    let Some((second, rest)) = next_word(rest) else {
+        return one_word(first);
     };
-    let Some((key, rest)) = next_word(rest) else {
-        return Reading::BadWord;
+    let Some((third, rest)) = next_word(rest) else {
+        return two_words(first, second);
     };
-    let Some((value, rest)) = next_word(rest) else {
-        return if verb == GET {
-            call_reading(number_of(caller), get_of(number_of(key)))
-        } else {
-            Reading::BadWord
-        };
+    let Some((fourth, rest)) = next_word(rest) else {
+        return three_words(first, second, third);
     };
     match next_word(rest) {
-        None if verb == INSERT => {
-            call_reading(
-                number_of(caller),
-                insert_of(number_of(key), number_of(value)),
-            )
-        }
-        _ => Reading::BadWord,
+        Some(_) => Reading::BadWord,
+        None => four_words(first, second, third, fourth),
     }
 }
 
@@ -100,5 +130,15 @@ pub(crate) fn reading_of(mode: Mode, line: &[u8]) -> Reading
     }
     match mode {
         Mode::Play | Mode::Serve => words_reading(line),
+    }
+}
+
+// What a line says where it stands: one of the grammar is bad where it may not follow.
+pub(crate) fn placed(mode: Mode, phase: Phase, reading: Reading) -> Reading
+    ensures { result ≡ in_place mode phase reading }
+{
+    match reading {
+        Reading::Says(line) if !phase.may_follow(mode, line) => Reading::BadOrder,
+        _ => reading,
     }
 }

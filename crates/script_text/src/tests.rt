@@ -47,6 +47,37 @@ fn keeps_the_lines_in_their_order(rt: HostRuntime) -> Result<(), Fail> {
     Ok(())
 }
 
+#[test]
+fn reads_every_form(rt: HostRuntime) -> Result<(), Fail> {
+    let text = b"1 get 5\n1 insert 6 7\n# calls\n1 update 6 8\n1 remove 5\nstep 1 3\nuntil 0 store 1
+until 1 exchange 2\nuntil 1 flush 18446744073709551615\nuntil 1 fence 4\nuntil 1 draw 0\nuntil 1 end 6
+until 1 at 100\n\nclose\nstep 0 9\nuntil 0 at 0\n#\n cut 77 \n\n# end\n";
+    let script = parse(rt.alloc(), Mode::Play, text)?;
+    let want = [
+        GET_FIVE,
+        Line::Call(1, Call::Insert(6, 7)),
+        Line::Call(1, Call::Update(6, 8)),
+        Line::Call(1, Call::Remove(5)),
+        Line::Step(1, 3),
+        Line::Until(0, Event::Store, 1),
+        Line::Until(1, Event::Exchange, 2),
+        Line::Until(1, Event::Flush, u64::MAX),
+        Line::Until(1, Event::Fence, 4),
+        Line::Until(1, Event::Draw, 0),
+        Line::Until(1, Event::End, 6),
+        Line::At(1, 100),
+        Line::Close,
+        Line::Step(0, 9),
+        Line::At(0, 0),
+        Line::Cut(77),
+    ];
+    assert_eq!(rt; script.as_slice(), want.as_slice());
+    let script = parse(rt.alloc(), Mode::Serve, b"1 get 5\n1 remove 5\ncut 0")?;
+    let want = [GET_FIVE, Line::Call(1, Call::Remove(5)), Line::Cut(0)];
+    assert_eq!(rt; script.as_slice(), want.as_slice());
+    Ok(())
+}
+
 fn refusal(alloc: std::alloc::Global, mode: Mode, text: &[u8]) -> Option<ScriptFault> {
     match parse(alloc, mode, text) {
         Ok(_) => None,
@@ -70,13 +101,9 @@ fn refuses_what_is_none_of_the_forms(rt: HostRuntime) {
         b" # 1 get 5",
         b"x",
         b"x get",
-        b"1 update 5 6",
-        b"1 remove 5",
-        b"1 fuse 5",
-        b"1 step 5",
-        b"1 until flush 3",
-        b"close",
-        b"cut 5",
+        b"1 update 5",
+        b"1 remove 5 6",
+        b"1 remove",
     ];
     for text in texts {
         for mode in [Mode::Play, Mode::Serve] {
@@ -87,7 +114,34 @@ fn refuses_what_is_none_of_the_forms(rt: HostRuntime) {
 }
 
 #[test]
-fn refuses_numbers_and_callers(rt: HostRuntime) {
+fn refuses_schedules_of_no_form(rt: HostRuntime) {
+    let texts = [
+        b"fuse 1 5".as_slice(),
+        b"1 step 5",
+        b"step 1",
+        b"step 1 2 3",
+        b"1 until flush 3",
+        b"until 1 flush",
+        b"until x halt y",
+        b"until 7 Flush 3",
+        b"until insert 5 6",
+        b"until 1 flush 3 4",
+        b"until at 5",
+        b"close 1",
+        b"Close",
+        b"cut",
+        b"cut 1 2",
+    ];
+    for text in texts {
+        for mode in [Mode::Play, Mode::Serve] {
+            let want = Some(ScriptFault::Word { line: 1 });
+            assert_eq!(rt; refusal(rt.alloc(), mode, text), want, "{text:?}");
+        }
+    }
+}
+
+#[test]
+fn refuses_what_is_no_number(rt: HostRuntime) {
     let numbers = [
         b"1 get x".as_slice(),
         b"x get 5",
@@ -102,21 +156,76 @@ fn refuses_numbers_and_callers(rt: HostRuntime) {
         b"1 get 000000000000000000005",
         b"1 get 18446744073709551616",
         b"1 get 99999999999999999999",
+        b"1 update 5 x",
+        b"1 remove x",
+        b"step x 5",
+        b"step 7 x",
+        b"step get 5",
+        b"until x end 5",
+        b"until 7 end x",
+        b"until 7 at x",
+        b"until insert at 5",
+        b"cut insert 5 6",
+        b"cut x",
+        b"cut 18446744073709551616",
     ];
     for text in numbers {
         let want = Some(ScriptFault::Number { line: 1 });
         assert_eq!(rt; refusal(rt.alloc(), Mode::Play, text), want, "{text:?}");
     }
+}
+
+#[test]
+fn refuses_callers_out_of_range(rt: HostRuntime) {
     let callers = [
         b"0 get 5".as_slice(),
         b"2 get 5",
         b"64 get 5",
         b"65 insert 5 6",
         b"18446744073709551615 get 5",
+        b"0 update 5 6",
+        b"2 remove 5",
+        b"step 2 5",
+        b"step 256 5",
+        b"until 2 flush 5",
+        b"until 18446744073709551615 at 5",
     ];
     for text in callers {
         let want = Some(ScriptFault::Caller { line: 1 });
         assert_eq!(rt; refusal(rt.alloc(), Mode::Play, text), want, "{text:?}");
+    }
+}
+
+#[test]
+fn refuses_what_is_out_of_order(rt: HostRuntime) {
+    let plays = [
+        (b"step 1 1\n1 get 5".as_slice(), 2),
+        (b"1 get 5\nuntil 1 end 1\n\n1 get 5", 4),
+        (b"close\n1 get 5", 2),
+        (b"cut 1\n1 get 5", 2),
+        (b"cut 1\nstep 0 1", 2),
+        (b"cut 1\nclose", 2),
+        (b"cut 1\n#\ncut 1", 3),
+        (b"close\nclose", 2),
+        (b"close\nstep 0 1\nclose", 3),
+        (b"close\nstep 1 1", 2),
+        (b"close\nuntil 0 end 1\nuntil 1 end 1", 3),
+        (b"close\nuntil 1 at 1", 2),
+    ];
+    for (text, line) in plays {
+        let want = Some(ScriptFault::Order { line });
+        assert_eq!(rt; refusal(rt.alloc(), Mode::Play, text), want, "{text:?}");
+    }
+    let serves = [
+        (b"step 1 1".as_slice(), 1),
+        (b"1 get 5\nuntil 0 end 1", 2),
+        (b"until 1 at 1", 1),
+        (b"1 get 5\nclose", 2),
+        (b"cut 1\n1 get 5", 2),
+    ];
+    for (text, line) in serves {
+        let want = Some(ScriptFault::Order { line });
+        assert_eq!(rt; refusal(rt.alloc(), Mode::Serve, text), want, "{text:?}");
     }
 }
 
@@ -128,6 +237,12 @@ fn answers_the_first_fault(rt: HostRuntime) {
     let text = b"1 get 5\n1 get\n2 get 5";
     let want = Some(ScriptFault::Word { line: 2 });
     assert_eq!(rt; refusal(rt.alloc(), Mode::Serve, text), want);
+    let text = b"close\nstep 1 1\n1 get";
+    let want = Some(ScriptFault::Order { line: 2 });
+    assert_eq!(rt; refusal(rt.alloc(), Mode::Play, text), want);
+    let text = b"close\n2 get 5\nclose";
+    let want = Some(ScriptFault::Caller { line: 2 });
+    assert_eq!(rt; refusal(rt.alloc(), Mode::Play, text), want);
 }
 
 #[test]

@@ -6,7 +6,7 @@ use Rattle.script_text.proofs.parsing.parse.Given as goal
 
 abbrev pub invariant-lines : goal.invariant-lines
 invariant-lines l = record {
-  read : IsReadTo l.mode l.bytes l.rest l.lines.items l.number;
+  read : IsReadTo l.mode l.bytes l.rest l.phase l.lines.items l.number;
   short : IsShort l.bytes;
 }
 

@@ -1,0 +1,20 @@
+// Who may stand in a line.
+ghost use Rattle.std.specs.Prelude.{◌≡◌};
+ghost use Rattle.script_text.specs.Readings.{is_caller, is_seat};
+
+/// The last caller; callers are counted from 1.
+pub const MOST_CALLERS: u64 = 1;
+
+// Whether this caller may have calls.
+pub(crate) fn may_have_calls(caller: u64) -> bool
+    ensures { result ≡ is_caller caller }
+{
+    caller >= 1 && caller <= MOST_CALLERS
+}
+
+// Whether this caller may run in a schedule: also 0, who starts and closes the image.
+pub(crate) fn may_have_runs(caller: u64) -> bool
+    ensures { result ≡ is_seat caller }
+{
+    caller <= MOST_CALLERS
+}
