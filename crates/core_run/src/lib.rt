@@ -7,7 +7,9 @@
 pub mod deed;
 pub mod goal;
 pub mod keeper;
+mod states;
 
 pub use deed::Deed;
 pub use goal::Goal;
 pub use keeper::Keeper;
+pub use states::{deeds_are_well, run_begins, runs_are_well};

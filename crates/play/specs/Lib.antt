@@ -1,8 +1,4 @@
-pub mod Served
-pub mod Stored
-pub mod Versions
-pub mod Opening
-pub mod Run
-pub mod Ran
+pub mod Runners
+pub mod Tables
 pub mod Played
-pub mod Unstashed
+pub mod Deeds

@@ -1,6 +1,7 @@
 -- What a play of a script leaves.
-use Rattle.std.specs.Prelude.{◌≡◌, ℕ, List, [], ◌∷◌, true, false}
+use Rattle.std.specs.Prelude.{◌≡◌, ℕ, ◌-◌, ◌≤◌, Option, None, Some, Bool, true, false, is_some, not, List, [], ◌∷◌, ◌++◌, length, map, replicate, slice_index}
 use Rattle.map_model.specs.Kept.{lists_of}
+use Rattle.map_model.specs.declared.call.Call.{Call}
 use Rattle.image_layout.specs.Places.{Shape}
 use Rattle.script_text.specs.declared.line.Line.{Line}
 use Rattle.script_text.specs.Calls.{calls_of}
@@ -8,14 +9,44 @@ use Rattle.session.specs.Transcript.{transcript_of}
 use Rattle.session.specs.Session.{Ending, IsSession}
 use Rattle.reply_text.specs.declared.left.Session.{Session}
 use Rattle.reply_text.specs.Told.{tolds_of}
+use Rattle.engine.specs.Core.{Core}
+use Rattle.core_run.specs.State.{State}
+use Rattle.core_run.specs.Run.{core_run, cut_of, stop_of, medium_words}
+use Rattle.core_run.specs.Running.{Task, start_of}
+
+-- the calls of all callers: so far of caller 1 alone
+abbrev pub scripts_of : List Line → List (List Call)
+scripts_of lines = calls_of 1 lines ∷ []
+
+-- the state in which the run of these lines ends
+abbrev pub end_of_run : Shape → List ℕ → List Line → State
+end_of_run shape first lines = core_run shape (slice_index first) (scripts_of lines) lines
+
+-- what is left is what the run leaves: the callers' entries, where they stopped, the medium, and whether it was cut
+pub record IsOfRun (shape : Shape) (first : List ℕ) (lines : List Line) (left : Session) : Type 0 where
+  pub same_shape : left.medium.geometry ≡ shape
+  pub lists : lists_of left.lists ≡ map (λ c. c.entries) (end_of_run shape first lines).core.callers
+  pub stops : left.stops ≡ map stop_of (end_of_run shape first lines).core.callers ++ replicate 63 None
+  pub words : left.medium.words ≡ medium_words shape (slice_index first) (end_of_run shape first lines).core (cut_of lines)
+  pub cut : left.cut ≡ is_some (cut_of lines)
 
 -- a play whose script has no cut ends by a close
-abbrev pub closed_play : Ending
-closed_play = record { closed = true; scheduled = true }
+abbrev pub ending_of : List Line → Ending
+ending_of lines = record { closed = not (is_some (cut_of lines)); scheduled = true }
 
--- what is left of a play of these lines, from an image with these words: an image of the same shape, and a session
--- that closed, with its transcript
+-- A PLAY of these lines, from an image with these words: its run, which is a session, with its transcript
 pub record IsPlay (shape : Shape) (first : List ℕ) (lines : List Line) (left : Session) : Type 0 where
-  pub same_shape : left.medium.geometry ≡ shape
-  pub not_cut : left.cut ≡ false
-  pub session : IsSession shape first left.medium.words (calls_of 1 lines ∷ []) closed_play (transcript_of (tolds_of (lists_of left.lists) left.stops))
+  pub run : IsOfRun shape first lines left
+  pub session : IsSession shape first left.medium.words (scripts_of lines) (ending_of lines) (transcript_of (tolds_of (lists_of left.lists) left.stops))
+
+-- what is left of a table in this state, with one caller: the same, of any state
+pub record IsLeftOf (t : Task) (s : State) (cut : Option ℕ) (left : Session) : Type 0 where
+  pub same_shape : left.medium.geometry ≡ t.shape
+  pub lists : lists_of left.lists ≡ map (λ c. c.entries) s.core.callers
+  pub stops : left.stops ≡ map stop_of s.core.callers ++ replicate 63 None
+  pub words : left.medium.words ≡ medium_words t.shape (start_of t) s.core cut
+  pub cut : left.cut ≡ is_some cut
+
+-- the task of a play
+abbrev pub task_of : Shape → List ℕ → List Call → Task
+task_of shape first calls = record { shape = shape; first = first; scripts = calls ∷ [] }

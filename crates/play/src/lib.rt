@@ -1,15 +1,19 @@
-//! Runs a script on an image.
+//! Runs a script on an image, event by event, on a memory with flush and fence.
 //!
-//! `play` runs the calls of one caller directly on the words of an image, one after another, and answers each with its
-//! place in the one order of all changes. Below it: `calls` picks the caller's calls out of the lines, `run` makes the
-//! calls' entries, `step` runs one call, and `bucket` works on one bucket's words.
+//! `play` follows the lines of a script: `calls` picks the caller's calls out of them, `driving` does what each line says,
+//! `deeds` does one event of a caller, `event` does it on the memory, and `leaving` tells what is left. What a run does is
+//! said by the definitions of `core_run`.
 #![tactic(auto)]
 
-mod bucket;
 mod calls;
+mod counting;
+mod deeds;
+mod driving;
+mod event;
+mod leaving;
 mod playing;
-mod run;
-mod step;
+mod runner;
+mod table;
 
 pub use playing::play;
 
