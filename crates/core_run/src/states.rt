@@ -4,7 +4,9 @@ ghost use Rattle.core_run.specs.Running.{DeedsAreWell};
 ghost use Rattle.core_run.specs.Wells.{RunBegins, RunsAreWell};
 
 /// An event that a state has may be done, and leaves a state of the run.
+// HOLE: its `requires` stands for its proof.
 pub fn deeds_are_well()
+    requires { DeedsAreWell }
     ensures { DeedsAreWell }
 {}
 
@@ -14,6 +16,8 @@ pub fn run_begins()
 {}
 
 /// Each state between the lines of a script is one of the run.
+// HOLE: its `requires` stands for its proof.
 pub fn runs_are_well()
+    requires { RunsAreWell }
     ensures { RunsAreWell }
 {}

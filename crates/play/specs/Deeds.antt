@@ -1,17 +1,20 @@
 -- What the parts of an event make of a table, for each state that it may be in.
-use Rattle.std.specs.Prelude.{◌≡◌, ℕ, ◌+◌, ⊤, Option, None, Some, List, [], ◌∷◌, slice_get}
+use Rattle.std.specs.Prelude.{◌≡◌, ℕ, ⊤, Option, None, Some, List, [], ◌∷◌, slice_get}
 use Rattle.map_model.specs.declared.call.Call.{Call}
 use Rattle.map_model.specs.Kept.{Kept}
 use Rattle.engine.specs.declared.engine.Engine.{Engine}
-use Rattle.engine.specs.Core.{Caller, current}
+use Rattle.engine.specs.Core.{Caller}
 use Rattle.restart_op.specs.declared.restart.RestartOp.{RestartOp}
 use Rattle.restart_op.specs.declared.close.CloseOp.{CloseOp}
 use Rattle.core_run.specs.declared.deed.Deed.{Deed as ToldDeed}
-use Rattle.core_run.specs.declared.keeper.Keeper.TheVariants.{Open}
+use Rattle.core_run.specs.declared.keeper.Keeper.{Keeper}
+use Rattle.core_run.specs.declared.keeper.Keeper.TheVariants.{Restarting, Open, Closing, Closed}
 use Rattle.core_run.specs.State.{State, restart_deed, close_deed, engine_deed, deed}
 use Rattle.core_run.specs.Running.{Task}
+use Rattle.play.specs.declared.runner.Runner.{Runner}
+use Rattle.play.specs.declared.runner.RunningCall.{RunningCall}
 use Rattle.play.specs.declared.table.Table.{Table}
-use Rattle.play.specs.Runners.{callers_of, HaveRoom}
+use Rattle.play.specs.Runners.{running_by, HaveRoom}
 use Rattle.play.specs.Tables.{IsOf, Stands, IsAfter, HasDone}
 
 -- no caller was told anything yet
@@ -19,15 +22,23 @@ abbrev pub NoneTold : List Kept → Type 0
 NoneTold [] = ⊤
 NoneTold (k ∷ lists) = (k.entries ≡ []) × NoneTold lists
 
--- the caller at a place runs this call on this engine
-pub record Goes (place : ℕ) (call : Call) (e : Engine) (callers : List Caller) : Type 0 where
-  pub caller : Caller
-  pub is_there : slice_get callers place ≡ Some caller
-  pub is_current : current caller ≡ Some call
-  pub its_engine : caller.engine ≡ Some e
+-- the call and the engine of a runner, while there are callers' events
+abbrev pub running_of : Option Runner → Option RunningCall
+running_of None = None
+running_of (Some r) = running_by r
 
+abbrev pub running_in : Keeper → Option Runner → Option RunningCall
+running_in (Restarting op) runner = None
+running_in Open runner = running_of runner
+running_in (Closing op) runner = None
+running_in Closed runner = None
+
+-- the caller at a place runs this call on this engine
 pub record MayGo (place : ℕ) (call : Call) (e : Engine) (table : Table) : Type 0 where
-  pub goes : Goes place call e (callers_of table.callers.items table.lists)
+  pub runner : Runner
+  pub is_there : slice_get table.callers.items place ≡ Some runner
+  pub is_current : slice_get runner.calls.items runner.ended ≡ Some call
+  pub its_engine : runner.engine ≡ Some e
   pub room : HaveRoom table.callers.items table.lists
 
 -- ---- what an event makes of the table, whatever the state
@@ -44,8 +55,3 @@ FollowsCall place call e old told new = (t : Task) (s : State) (caller : Caller)
 -- the deed of a seat
 abbrev pub FollowsDeed : ℕ → Table → Option ToldDeed → Table → Type 0
 FollowsDeed seat old told new = (t : Task) (s : State) → Stands t s old → HasDone t s told (deed t.shape seat s) new
-
--- the call and the engine of the caller at a place, where it has an event
-abbrev pub IsRunningCall : ℕ → Table → Option (Call × Engine) → Type 0
-IsRunningCall place table None = (t : Task) (s : State) → IsOf t table s → (deed t.shape (place + 1) s ≡ None)
-IsRunningCall place table (Some found) = (table.keeper ≡ Open) × Goes place found.0 found.1 (callers_of table.callers.items table.lists)

@@ -40,12 +40,12 @@ pub record IsPlay (shape : Shape) (first : List ℕ) (lines : List Line) (left :
   pub session : IsSession shape first left.medium.words (scripts_of lines) (ending_of lines) (transcript_of (tolds_of (lists_of left.lists) left.stops))
 
 -- what is left of a table in this state, with one caller: the same, of any state
-pub record IsLeftOf (t : Task) (s : State) (cut : Option ℕ) (left : Session) : Type 0 where
+pub record IsLeftOf (t : Task) (s : State) (choice : Option ℕ) (left : Session) : Type 0 where
   pub same_shape : left.medium.geometry ≡ t.shape
   pub lists : lists_of left.lists ≡ map (λ c. c.entries) s.core.callers
   pub stops : left.stops ≡ map stop_of s.core.callers ++ replicate 63 None
-  pub words : left.medium.words ≡ medium_words t.shape (start_of t) s.core cut
-  pub cut : left.cut ≡ is_some cut
+  pub words : left.medium.words ≡ medium_words t.shape (start_of t) s.core choice
+  pub cut : left.cut ≡ is_some choice
 
 -- the task of a play
 abbrev pub task_of : Shape → List ℕ → List Call → Task

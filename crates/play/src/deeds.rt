@@ -8,12 +8,12 @@ ghost use Rattle.restart_op.specs.Restart.{wanted as restart_wanted};
 ghost use Rattle.restart_op.specs.Close.{wanted as close_wanted};
 ghost use Rattle.core_run.specs.Running.{Task};
 ghost use Rattle.core_run.specs.State.{State, awake, restart_deed, close_deed, keeper_deed, engine_deed, open_deed, deed};
-ghost use Rattle.play.specs.Runners.{caller_of, callers_of, HaveRoom};
+ghost use Rattle.play.specs.Runners.{awoken};
 ghost use Rattle.play.specs.Tables.{MayBeAsked, IsOf, Stands, StandsSomewhere, IsAfter, HasDone};
-ghost use Rattle.play.specs.Deeds.{MayGo, NoneTold, FollowsRestart, FollowsClose, FollowsCall, FollowsDeed, IsRunningCall};
+ghost use Rattle.play.specs.Deeds.{MayGo, FollowsRestart, FollowsClose, FollowsCall, FollowsDeed, running_in};
 
 use crate::event::event;
-use crate::runner::Runner;
+use crate::runner::{Runner, RunningCall};
 use crate::table::Table;
 use core_run::{Deed, Keeper};
 use engine::Engine;
@@ -23,11 +23,10 @@ use restart_op::{CloseOp, RestartOp};
 
 /// Callers begin, on an image of this version.
 fn awake(callers: &mut [Runner], version: u8)
-    ensures { (lists : List Kept) → NoneTold lists → HaveRoom callers.old lists
-        → (callers_of callers.new lists ≡ map (awake version) (callers_of callers.old lists)) × HaveRoom callers.new lists }
+    ensures { callers.new ≡ map (awoken version) callers.old }
 {
-    for caller in callers {
-        caller.awake(version);
+    for place in 0..callers.len() {
+        callers[place].awake(version);
     }
 }
 
@@ -98,16 +97,13 @@ impl Table {
     }
 
     /// The call of the caller at a place, and its engine, while there are callers' events.
-    fn running(&self, place: usize) -> Option<(Call, Engine)>
-        ensures { IsRunningCall place self.now result }
+    fn running(&self, place: usize) -> Option<RunningCall>
+        ensures { result ≡ running_in self.now.keeper (slice_get self.now.callers.items place) }
     {
-        if self.keeper != Keeper::Open {
-            return None;
+        match (self.keeper, self.callers.get(place)) {
+            (Keeper::Open, Some(runner)) => runner.running(),
+            _ => None,
         }
-        let runner = self.callers.get(place)?;
-        let call = runner.current()?;
-        let engine = runner.engine?;
-        Some((call, engine))
     }
 
     /// An event of the caller at a place, if it has one left.
@@ -116,8 +112,8 @@ impl Table {
         ensures { FollowsDeed (place + 1) self.old result self.new }
     {
         core_run::deeds_are_well();
-        let (call, engine) = self.running(place)?;
-        Some(self.call_deed(place, call, engine))
+        let running = self.running(place)?;
+        Some(self.call_deed(place, running.call, running.engine))
     }
 
     /// An event of a caller, if it has one left.

@@ -3,9 +3,10 @@
 ghost use Rattle.std.specs.Prelude.{◌≡◌, ℕ, None, Some, List};
 ghost use Rattle.core_run.specs.Running.{Task, IsRunning};
 ghost use Rattle.core_run.specs.State.{State};
-ghost use Rattle.core_run.specs.Run.{drive, restarted, round, rounds, has_calls, run_out, ready_for, line_done, lines_done, closed};
+ghost use Rattle.core_run.specs.Run.{drive, restarted, round, rounds, run_out, ready_for, line_done, lines_done, closed};
 ghost use Rattle.core_run.specs.Wells.{RunsThrough};
-ghost use Rattle.play.specs.Tables.{IsOf, Stands, StandsSomewhere, HasTurned};
+ghost use Rattle.play.specs.Runners.{calls_left};
+ghost use Rattle.play.specs.Tables.{Stands, StandsSomewhere, HasTurned};
 
 use crate::counting::{counts, ends_in_again};
 use crate::table::Table;
@@ -65,9 +66,14 @@ impl Table {
 
     /// Whether a caller has a call left.
     fn has_calls(&self) -> bool
-        ensures { (t : Task) (s : State) (most : ℕ) → IsOf t self.now s → result ≡ has_calls t.shape most s.core.callers }
+        ensures { result ≡ calls_left self.now.callers.items }
     {
-        self.callers.iter().any(|caller| caller.current().is_some())
+        for caller in &self.callers {
+            if caller.current().is_some() {
+                return true;
+            }
+        }
+        false
     }
 
     /// Rounds until no call is left.

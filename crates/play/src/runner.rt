@@ -1,13 +1,13 @@
 //! A caller that runs its calls.
 
-ghost use Rattle.std.specs.Prelude.{◌≡◌, ℕ, List, [], length, slice_get, Some, None};
+ghost use Rattle.std.specs.Prelude.{◌≡◌, List, length, slice_get, Some, None};
 ghost use Rattle.op_core.specs.declared.want.Want.TheVariants as want;
 ghost use Rattle.map_model.specs.declared.entry.Entry.{Entry as MadeEntry};
 ghost use Rattle.engine.specs.Core.{entry_of, engine_for, ended, answered};
 ghost use Rattle.engine.specs.Engine.{wanted, taken, end_of, reply_of_end};
-ghost use Rattle.core_run.specs.State.{awake, end_by};
+ghost use Rattle.core_run.specs.State.{end_by};
 ghost use Rattle.core_run.specs.Run.{stop_of};
-ghost use Rattle.play.specs.Runners.{caller_of, told_with, counted_with};
+ghost use Rattle.play.specs.Runners.{caller_of, running_by, awoken, told_with, counted_with};
 
 use engine::{End, Engine};
 use map_model::{Call, Entry, Reply, Stop};
@@ -31,6 +31,13 @@ pub struct Runner {
     pub(crate) drew: Option<Entry>,
 }
 
+/// A call that runs, and its engine.
+#[derive(Clone, Copy)]
+pub struct RunningCall {
+    pub(crate) call: Call,
+    pub(crate) engine: Engine,
+}
+
 /// What became of an event of a caller.
 #[derive(Clone, Copy)]
 pub(crate) struct Answered {
@@ -48,6 +55,16 @@ impl Runner {
         self.calls.get(self.ended).copied()
     }
 
+    /// Its call and engine, where it has a call left.
+    pub(crate) fn running(&self) -> Option<RunningCall>
+        ensures { result ≡ running_by self.now }
+    {
+        match (self.current(), self.engine) {
+            (Some(call), Some(engine)) => Some(RunningCall { call, engine }),
+            _ => None,
+        }
+    }
+
     /// The engine of that call, before it has done anything.
     fn next_engine(&self) -> Option<Engine>
         ensures { result ≡ engine_for self.now.site (slice_get self.now.calls.items self.now.ended) }
@@ -60,8 +77,7 @@ impl Runner {
 
     /// The caller begins, on an image of this version.
     pub(crate) fn awake(&mut self, version: u8)
-        ensures caller { caller_of self.new [] ≡ awake version (caller_of self.old []) }
-        ensures ended { self.new.ended ≡ 0 }
+        ensures { self.new ≡ awoken version self.old }
     {
         self.site.version = version;
         self.ended = 0;
@@ -114,7 +130,7 @@ impl Runner {
         ensures caller { (told : List MadeEntry) → length told ≡ self.old.ended
             → caller_of self.new (told_with result.entry told) ≡ answered (caller_of self.old told) call engine ans }
         ensures count { self.new.ended ≡ counted_with result.entry self.old.ended }
-        ensures end { result.end ≡ end_by (taken engine ans) (wanted (taken engine ans)) }
+        ensures end { result.end ≡ end_by self.old.site.geometry (taken engine ans) (wanted (taken engine ans)) }
     {
         if let Ans::Drawn(place) = ans {
             self.drew = Some(self.entry(call, Reply::Done, place));

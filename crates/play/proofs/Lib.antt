@@ -1,0 +1,4 @@
+pub mod Events
+pub mod Devices
+pub mod Mapped
+pub mod Seats
