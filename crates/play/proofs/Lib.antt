@@ -2,3 +2,5 @@ pub mod Events
 pub mod Devices
 pub mod Mapped
 pub mod Seats
+pub mod Steps
+pub mod Doing

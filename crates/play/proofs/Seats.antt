@@ -1,6 +1,8 @@
 -- The callers of a table place by place.
 use Rattle.std.proofs.Common.{◌≡◌, ℕ, zero, suc, ◌+◌, ◌-◌, ◌<◌, Option, None, Some, Bool, true, false, List, [], ◌∷◌, ◌++◌, length, map, length-append, refl, ap, sym, ◌∙◌, subst, arith}
 use Rattle.std.specs.Prelude.{slice_get, slice_set, is_some, if◌then◌else◌}
+use Rattle.std.proofs.lemmas.Option.{slice_get_within}
+use Rattle.map_model.specs.declared.call.Call.{Call}
 use Rattle.map_model.specs.declared.entry.Entry.{Entry}
 use Rattle.map_model.specs.Kept.{Kept, with_entry, lists_of, one_more}
 use Rattle.engine.specs.Core.{Caller, current}
@@ -9,7 +11,7 @@ use Rattle.core_run.specs.State.{awake}
 use Rattle.core_run.specs.Run.{has_call, has_calls}
 use Rattle.play.specs.declared.runner.Runner.{Runner}
 use Rattle.play.specs.Runners.{caller_of, callers_of, calls_left, awoken, told_with, counted_with, HasRoom, HaveRoom}
-use Rattle.play.specs.Deeds.{NoneTold}
+use Rattle.play.specs.Deeds.{NoneTold, lists_with}
 
 -- the runner at a place, with its list, is the caller there
 pub record IsSeat (runners : List Runner) (lists : List Kept) (place : ℕ) (r : Runner) : Type 0 where
@@ -56,3 +58,80 @@ entries_are [] (k ∷ lists) room = absurd room
 entries_are (q ∷ runners) [] room = absurd room
 entries_are (q ∷ runners) (k ∷ lists) room = ap (λ es. k.entries ∷ es) (entries_are runners lists room.1)
 
+
+-- no caller was told anything: the runners that begin are the callers that begin
+pub awake_callers : (version : ℕ) (runners : List Runner) (lists : List Kept) → NoneTold lists → HaveRoom runners lists
+    → callers_of (map (awoken version) runners) lists ≡ map (awake version) (callers_of runners lists)
+awake_callers version [] lists none room = refl
+awake_callers version (q ∷ runners) [] none room = refl
+awake_callers version (q ∷ runners) (k ∷ lists) none room =
+    ap (λ es. caller_of (awoken version q) es ∷ callers_of (map (awoken version) runners) lists) none.0
+    ∙ ap (λ cs. awake version (caller_of q k.entries) ∷ cs) (awake_callers version runners lists none.1 room.1)
+
+pub awake_room : (version : ℕ) (runners : List Runner) (lists : List Kept) → NoneTold lists → HaveRoom runners lists
+    → HaveRoom (map (awoken version) runners) lists
+awake_room version [] [] none room = room
+awake_room version [] (k ∷ lists) none room = room
+awake_room version (q ∷ runners) [] none room = room
+awake_room version (q ∷ runners) (k ∷ lists) none room =
+    (record { counted = sym (ap length none.0); spare = room.0.spare }, awake_room version runners lists none.1 room.1)
+
+-- ---- an entry more
+pub kept_with : Kept → Option Entry → Kept
+kept_with k None = k
+kept_with k (Some e) = one_more k e
+
+-- the runner at a place and its list are replaced: so is the caller
+pub seat_set : (runners : List Runner) (lists : List Kept) (place : ℕ) (r new : Runner) (entry : Option Entry) (k : Kept) → HaveRoom runners lists
+    → slice_get lists place ≡ Some k
+    → callers_of (slice_set runners place new) (lists_with lists place entry)
+      ≡ slice_set (callers_of runners lists) place (caller_of new (told_with entry k.entries))
+seat_set [] [] place r new entry k room is = absurd (cc)
+seat_set [] (l ∷ lists) place r new entry k room is = absurd room
+seat_set (q ∷ runners) [] place r new entry k room is = absurd room
+seat_set (q ∷ runners) (l ∷ lists) zero r new None k room is =
+    let same : l ≡ k = cc in ap (λ (k' : Kept). caller_of new k'.entries ∷ callers_of runners lists) same
+seat_set (q ∷ runners) (l ∷ lists) zero r new (Some e) k room is =
+    let same : l ≡ k = cc in ap (λ (k' : Kept). caller_of new (k'.entries ++ e ∷ []) ∷ callers_of runners lists) same
+seat_set (q ∷ runners) (l ∷ lists) (suc place) r new None k room is =
+    ap (λ cs. caller_of q l.entries ∷ cs) (seat_set runners lists place r new None k room.1 is)
+seat_set (q ∷ runners) (l ∷ lists) (suc place) r new (Some e) k room is =
+    ap (λ cs. caller_of q l.entries ∷ cs) (seat_set runners lists place r new (Some e) k room.1 is)
+
+-- the new runner counts the entry, and had room for it
+pub has_room_more : (r new : Runner) (entry : Option Entry) (k : Kept) (call : Call) → HasRoom r k → new.ended ≡ counted_with entry r.ended
+    → new.calls ≡ r.calls → slice_get r.calls.items r.ended ≡ Some call → HasRoom new (kept_with k entry)
+unfolding kept_with
+has_room_more r new None k call room count calls is =
+    record { counted = count ∙ room.counted; spare = room.spare ∙ sym (ap (λ v. length v.items) calls) }
+has_room_more r new (Some e) k call room count calls is =
+    let within = slice_get_within r.calls.items r.ended call is in
+    let same : length new.calls.items ≡ length r.calls.items = ap (λ v. length v.items) calls in
+    let long : length (k.entries ++ e ∷ []) ≡ length k.entries + 1 = length-append k.entries (e ∷ []) in
+    let counts = room.counted in
+    let spares = room.spare in
+    record { counted = omega arith; spare = omega arith }
+
+pub room_set : (runners : List Runner) (lists : List Kept) (place : ℕ) (new : Runner) (entry : Option Entry) (k : Kept) → HaveRoom runners lists
+    → slice_get lists place ≡ Some k → HasRoom new (kept_with k entry)
+    → HaveRoom (slice_set runners place new) (lists_with lists place entry)
+unfolding kept_with
+room_set [] [] place new entry k room is has = absurd (cc)
+room_set [] (l ∷ lists) place new entry k room is has = absurd room
+room_set (q ∷ runners) [] place new entry k room is has = absurd room
+room_set (q ∷ runners) (l ∷ lists) zero new None k room is has =
+    let same : k ≡ l = cc in (subst (λ (k' : Kept). HasRoom new k') same has, room.1)
+room_set (q ∷ runners) (l ∷ lists) zero new (Some e) k room is has =
+    let same : k ≡ l = cc in (subst (λ (k' : Kept). HasRoom new (one_more k' e)) same has, room.1)
+room_set (q ∷ runners) (l ∷ lists) (suc place) new None k room is has =
+    (room.0, room_set runners lists place new None k room.1 is has)
+room_set (q ∷ runners) (l ∷ lists) (suc place) new (Some e) k room is has =
+    (room.0, room_set runners lists place new (Some e) k room.1 is has)
+
+-- there is room for an entry where a call is left
+pub room_left : (r : Runner) (k : Kept) (call : Call) → HasRoom r k → slice_get r.calls.items r.ended ≡ Some call → 0 < k.spare
+room_left r k call room is =
+    let within = slice_get_within r.calls.items r.ended call is in
+    let counts = room.counted in
+    let spares = room.spare in
+    omega arith

@@ -1,7 +1,10 @@
 -- What the parts of an event make of a table, for each state that it may be in.
-use Rattle.std.specs.Prelude.{◌≡◌, ℕ, ⊤, Option, None, Some, List, [], ◌∷◌, slice_get}
+use Rattle.std.specs.Prelude.{◌≡◌, ℕ, ⊤, Option, None, Some, List, [], ◌∷◌, map, slice_get}
 use Rattle.map_model.specs.declared.call.Call.{Call}
-use Rattle.map_model.specs.Kept.{Kept}
+use Rattle.map_model.specs.declared.entry.Entry.{Entry}
+use Rattle.map_model.specs.Kept.{Kept, with_entry}
+use Rattle.op_core.specs.declared.want.Want.{Want}
+use Rattle.op_core.specs.declared.want.Want.TheVariants as want
 use Rattle.engine.specs.declared.engine.Engine.{Engine}
 use Rattle.engine.specs.Core.{Caller}
 use Rattle.restart_op.specs.declared.restart.RestartOp.{RestartOp}
@@ -9,12 +12,12 @@ use Rattle.restart_op.specs.declared.close.CloseOp.{CloseOp}
 use Rattle.core_run.specs.declared.deed.Deed.{Deed as ToldDeed}
 use Rattle.core_run.specs.declared.keeper.Keeper.{Keeper}
 use Rattle.core_run.specs.declared.keeper.Keeper.TheVariants.{Restarting, Open, Closing, Closed}
-use Rattle.core_run.specs.State.{State, restart_deed, close_deed, engine_deed, deed}
+use Rattle.core_run.specs.State.{State, started_by, restart_deed, close_deed, engine_deed, deed}
 use Rattle.core_run.specs.Running.{Task}
 use Rattle.play.specs.declared.runner.Runner.{Runner}
 use Rattle.play.specs.declared.runner.RunningCall.{RunningCall}
 use Rattle.play.specs.declared.table.Table.{Table}
-use Rattle.play.specs.Runners.{running_by, HaveRoom}
+use Rattle.play.specs.Runners.{running_by, awoken, HaveRoom}
 use Rattle.play.specs.Tables.{IsOf, Stands, IsAfter, HasDone}
 
 -- no caller was told anything yet
@@ -40,6 +43,25 @@ pub record MayGo (place : ℕ) (call : Call) (e : Engine) (table : Table) : Type
   pub is_current : slice_get runner.calls.items runner.ended ≡ Some call
   pub its_engine : runner.engine ≡ Some e
   pub room : HaveRoom table.callers.items table.lists
+
+-- the keeper and the runners after an event of the restart, by what it wants next
+abbrev pub restarting_keeper : RestartOp → Want → Keeper
+restarting_keeper op want.Done = Open
+restarting_keeper op w = Restarting op
+
+abbrev pub restarting_runners : RestartOp → Want → List Runner → List Runner
+restarting_runners op want.Done runners = map (awoken (started_by op).version) runners
+restarting_runners op w runners = runners
+
+-- the keeper after an event of the close
+abbrev pub closing_keeper : CloseOp → Want → Keeper
+closing_keeper op want.Done = Closed
+closing_keeper op w = Closing op
+
+-- the lists with an entry, where there is one
+abbrev pub lists_with : List Kept → ℕ → Option Entry → List Kept
+lists_with lists place None = lists
+lists_with lists place (Some e) = with_entry lists place e
 
 -- ---- what an event makes of the table, whatever the state
 abbrev pub FollowsRestart : RestartOp → Table → ToldDeed → Table → Type 0

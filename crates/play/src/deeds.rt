@@ -10,7 +10,7 @@ ghost use Rattle.core_run.specs.Running.{Task};
 ghost use Rattle.core_run.specs.State.{State, awake, restart_deed, close_deed, keeper_deed, engine_deed, open_deed, deed};
 ghost use Rattle.play.specs.Runners.{awoken};
 ghost use Rattle.play.specs.Tables.{MayBeAsked, IsOf, Stands, StandsSomewhere, IsAfter, HasDone};
-ghost use Rattle.play.specs.Deeds.{MayGo, FollowsRestart, FollowsClose, FollowsCall, FollowsDeed, running_in};
+ghost use Rattle.play.specs.Deeds.{MayGo, FollowsRestart, FollowsClose, FollowsCall, FollowsDeed, running_in, restarting_keeper, restarting_runners, closing_keeper};
 
 use crate::event::event;
 use crate::runner::{Runner, RunningCall};
@@ -30,7 +30,33 @@ fn awake(callers: &mut [Runner], version: u8)
     }
 }
 
+/// The close goes on, or is over.
+fn closing(op: CloseOp) -> Keeper
+    ensures { result ≡ closing_keeper op (close_wanted op) }
+{
+    if op.want() == Want::Done {
+        Keeper::Closed
+    } else {
+        Keeper::Closing(op)
+    }
+}
+
 impl Table {
+    /// The restart goes on, or leaves the image to the callers.
+    fn restarting(&mut self, op: RestartOp)
+        ensures keeper { self.new.keeper ≡ restarting_keeper op (restart_wanted op) }
+        ensures callers { self.new.callers.items ≡ restarting_runners op (restart_wanted op) self.old.callers.items }
+        ensures device { self.new.device ≡ self.old.device }
+        ensures lists { self.new.lists ≡ self.old.lists }
+    {
+        if op.want() == Want::Done {
+            awake(&mut self.callers, op.end().version);
+            self.keeper = Keeper::Open;
+        } else {
+            self.keeper = Keeper::Restarting(op);
+        }
+    }
+
     /// An event of the restart.
     fn restart(&mut self, op: RestartOp) -> Deed
         requires { MayBeAsked 0 (restart_wanted op) self.old.device }
@@ -39,12 +65,7 @@ impl Table {
         let want = op.want();
         let mut next = op;
         next.take(event(&mut self.device, 0, want));
-        if next.want() == Want::Done {
-            awake(&mut self.callers, next.end().version);
-            self.keeper = Keeper::Open;
-        } else {
-            self.keeper = Keeper::Restarting(next);
-        }
+        self.restarting(next);
         Deed { want, end: None }
     }
 
@@ -56,11 +77,7 @@ impl Table {
         let want = op.want();
         let mut next = op;
         next.take(event(&mut self.device, 0, want));
-        self.keeper = if next.want() == Want::Done {
-            Keeper::Closed
-        } else {
-            Keeper::Closing(next)
-        };
+        self.keeper = closing(next);
         Deed { want, end: None }
     }
 
@@ -112,8 +129,10 @@ impl Table {
         ensures { FollowsDeed (place + 1) self.old result self.new }
     {
         core_run::deeds_are_well();
-        let running = self.running(place)?;
-        Some(self.call_deed(place, running.call, running.engine))
+        match self.running(place) {
+            Some(running) => Some(self.call_deed(place, running.call, running.engine)),
+            None => None,
+        }
     }
 
     /// An event of a caller, if it has one left.

@@ -106,6 +106,7 @@ impl Runner {
         ensures caller { (told : List MadeEntry) → length told ≡ self.old.ended
             → caller_of self.new (told_with result told) ≡ ended (caller_of self.old told) call (reply_of_end end) }
         ensures count { self.new.ended ≡ counted_with result self.old.ended }
+        ensures calls { self.new.calls ≡ self.old.calls }
     {
         self.drew = None;
         match end.reply() {
@@ -130,6 +131,7 @@ impl Runner {
         ensures caller { (told : List MadeEntry) → length told ≡ self.old.ended
             → caller_of self.new (told_with result.entry told) ≡ answered (caller_of self.old told) call engine ans }
         ensures count { self.new.ended ≡ counted_with result.entry self.old.ended }
+        ensures calls { self.new.calls ≡ self.old.calls }
         ensures end { result.end ≡ end_by self.old.site.geometry (taken engine ans) (wanted (taken engine ans)) }
     {
         if let Ans::Drawn(place) = ans {
