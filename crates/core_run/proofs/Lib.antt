@@ -1,0 +1,9 @@
+mod Waits
+mod Told
+mod Turned
+mod Opened
+mod Closes
+mod Deeds
+mod Goods
+mod Ended
+mod Follows

@@ -8,6 +8,7 @@ use Rattle.trace.specs.Progress.{pending}
 use Rattle.image_layout.specs.Places.{Shape, state_word, words_of}
 use Rattle.image_layout.specs.Volatile.{all_words_of}
 use Rattle.map_model.specs.declared.call.Call.{Call}
+use Rattle.map_model.specs.declared.entry.Entry.{Entry}
 use Rattle.world.specs.Site.{Site}
 use Rattle.world.specs.Wants.{word_of}
 use Rattle.restart_op.specs.declared.restart.RestartOp.{RestartOp}
@@ -18,7 +19,7 @@ use Rattle.restart_op.specs.Closing.{close_after}
 use Rattle.engine.specs.declared.engine.Engine.{Engine}
 use Rattle.engine.specs.Left.{waiting}
 use Rattle.engine.specs.Fits.{IsWordCall}
-use Rattle.engine.specs.Core.{Caller, Core}
+use Rattle.engine.specs.Core.{Caller, current, Core}
 use Rattle.engine.specs.Holding.{CoreHolds}
 use Rattle.core_run.specs.declared.keeper.Keeper.{Keeper}
 use Rattle.core_run.specs.declared.keeper.Keeper.TheVariants.{Restarting, Open, Closing, Closed}
@@ -51,10 +52,12 @@ abbrev pub FewWait : Trace → ℕ → List Caller → Type 0
 FewWait trace number [] = ⊤
 FewWait trace number (c ∷ callers) = WaitsFor trace number c.engine × FewWait trace (suc number) callers
 
--- a caller's entries are of the first of its calls, numbered by its place among the callers
+-- a caller's entries are of the first of its calls, and that of the call that runs is of the next; it is numbered by its place
+-- among the callers
 pub record HasToldInOrder (t : Task) (version number : ℕ) (c : Caller) : Type 0 where
   pub its_calls : map (λ e. e.call) c.entries ≡ take (length c.entries) c.calls
   pub within : length c.entries ≤ length c.calls
+  pub drawn : (e : Entry) → c.drew ≡ Some e → current c ≡ Some e.call
   pub here : c.site ≡ record { geometry = t.shape; version = version; caller = number }
 
 abbrev pub AllTold : Task → ℕ → ℕ → List Caller → Type 0

@@ -28,11 +28,7 @@ pub record RunsWell (t : Task) (lines : List Line) : Type 0 where
   pub through : RunsThrough t (most_of t) lines (start_state t)
   pub out : RunsOut t (most_of t) (cut_of lines) (lines_done t.shape (most_of t) lines (start_state t))
 
--- ---- the laws
--- a run begins
-abbrev pub RunBegins : Type 0
-RunBegins = (t : Task) → IsTask t → IsRunning t (start_state t)
-
+-- ---- the law
 -- so it is with one caller
 abbrev pub RunsAreWell : Type 0
 RunsAreWell = (t : Task) (lines : List Line) → IsTask t → length t.scripts ≡ 1 → RunsWell t lines

@@ -1,0 +1,64 @@
+-- The laws of the states of a run: it begins, each event keeps it, and at any moment it is good.
+use Rattle.std.specs.Prelude.{◌≡◌, ℕ, ◌<◌, List, length, map, slice_index}
+use Rattle.std.specs.List.{range_with_len, AllZip}
+use Rattle.trace.specs.Media.{IsPossible}
+use Rattle.map_model.specs.Map.{Map}
+use Rattle.map_model.specs.Weave.{weave}
+use Rattle.map_model.specs.Legal.{IsLegal, replay}
+use Rattle.image_layout.specs.Places.{words_of}
+use Rattle.sound_image.specs.Image.{IsSoundImage}
+use Rattle.sound_image.specs.Segments.{frame_of, IsClean}
+use Rattle.sound_image.specs.Left.{HasPairsOf, IsLeft}
+use Rattle.session.specs.Callers.{FollowsScript, IsAnswered, undrawn}
+use Rattle.restart_op.specs.Close.{begun as close_begun}
+use Rattle.engine.specs.Core.{Core, tolds_of, histories}
+use Rattle.engine.specs.Laws.{NoneRuns}
+use Rattle.core_run.specs.declared.keeper.Keeper.TheVariants.{Closing, Closed}
+use Rattle.core_run.specs.State.{State, beginning}
+use Rattle.core_run.specs.Running.{Task, IsTask, start_of, IsOpen, IsRunning}
+
+-- a run begins with a state of it
+abbrev pub RunBegins : Type 0
+RunBegins = (t : Task) → IsTask t → IsRunning t (beginning t.shape (start_of t) t.scripts)
+
+-- where no engine runs, the close may begin
+abbrev pub CloseMayBegin : Type 0
+CloseMayBegin = (t : Task) (core : Core) → IsTask t → IsOpen t core → NoneRuns core
+    → IsRunning t (record { keeper = Closing (close_begun t.shape); core = core })
+
+-- a medium that a power cut may leave is a sound image of the same kind, and holds the map of the history so far, each open
+-- call whole or absent
+pub record IsGoodMedium (t : Task) (opening : Map) (core : Core) (medium : List ℕ) : Type 0 where
+  pub sound : IsSoundImage t.shape medium
+  pub same_kind : (i : ℕ) → i < 4 → slice_index medium i ≡ slice_index t.first i
+  pub left : IsLeft t.shape (slice_index medium) (replay opening (weave (histories core))) (undrawn t.scripts (tolds_of core))
+
+-- THE MOMENT IS GOOD: the replies so far are one legal history, and so is every medium that a power cut may leave
+pub record IsGoodMoment (t : Task) (opening : Map) (s : State) : Type 0 where
+  pub legal : IsLegal opening (histories s.core)
+  pub media : (medium : List ℕ) → length medium ≡ words_of t.shape → IsPossible (words_of t.shape) (start_of t) s.core.trace (slice_index medium)
+      → IsGoodMedium t opening s.core medium
+
+abbrev pub MomentsAreGood : Type 0
+MomentsAreGood = (t : Task) (s : State) (opening : Map) → IsTask t → IsRunning t s → HasPairsOf t.shape (start_of t) opening → IsGoodMoment t opening s
+
+-- the newest words of the image
+abbrev pub last_words : Task → Core → List ℕ
+last_words t core = map core.words (range_with_len 0 (words_of t.shape))
+
+-- THE CLOSE HAS ENDED: the newest words may be left, are a sound image with the marker set, and have the map of the history, in
+-- which each call has its reply
+pub record IsClosedWell (t : Task) (opening : Map) (core : Core) : Type 0 where
+  pub possible : IsPossible (words_of t.shape) (start_of t) core.trace (slice_index (last_words t core))
+  pub sound : IsSoundImage t.shape (last_words t core)
+  pub clean : IsClean (frame_of t.shape (slice_index (last_words t core)))
+  pub pairs : HasPairsOf t.shape (slice_index (last_words t core)) (replay opening (weave (histories core)))
+  pub answered : AllZip IsAnswered t.scripts (tolds_of core)
+
+abbrev pub ClosedIsClosed : Type 0
+ClosedIsClosed = (t : Task) (s : State) (opening : Map) → IsTask t → IsRunning t s → s.keeper ≡ Closed → HasPairsOf t.shape (start_of t) opening
+    → IsClosedWell t opening s.core
+
+-- what callers were told follows their scripts
+abbrev pub ToldsFollow : Type 0
+ToldsFollow = (t : Task) (s : State) → IsTask t → IsRunning t s → AllZip FollowsScript t.scripts (tolds_of s.core)
