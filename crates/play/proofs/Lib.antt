@@ -4,3 +4,5 @@ pub mod Mapped
 pub mod Seats
 pub mod Steps
 pub mod Doing
+pub mod Drives
+pub mod Rounds

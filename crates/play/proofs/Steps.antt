@@ -91,7 +91,7 @@ close_left t old new s op next w ans is done wants took keeper callers lists =
     }
 
 -- ---- the restart
-left_alone : (t : Task) (middle new : Table) (k l : Keeper) (core : Core) → IsOf t middle (record { keeper = k; core = core }) → new.device ≡ middle.device
+pub left_alone : (t : Task) (middle new : Table) (k l : Keeper) (core : Core) → IsOf t middle (record { keeper = k; core = core }) → new.device ≡ middle.device
     → new.keeper ≡ l → new.callers.items ≡ middle.callers.items → new.lists ≡ middle.lists → IsOf t new (record { keeper = l; core = core })
 left_alone t middle new k l core is device keeper callers lists = record {
   shape = ap (λ (d : Memory). d.shape) device ∙ is.shape;

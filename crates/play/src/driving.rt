@@ -27,7 +27,8 @@ impl Table {
         if ends_in_again(deed.end) {
             return None;
         }
-        Some(if counts(goal, deed) { left - 1 } else { left })
+        let more = if counts(goal, deed) { left - 1 } else { left };
+        Some(more)
     }
 
     /// A caller goes on until so many events are counted, or it stops; at most so many events.
@@ -36,7 +37,7 @@ impl Table {
         ensures { (t : Task) (s : State) → Stands t s self.old → Stands t (drive t.shape most seat goal n s) self.new }
     {
         let mut left = n;
-        for _done in 0..most {
+        for _event in 0..most {
             let Some(more) = self.turn(seat, goal, left) else {
                 return;
             };
@@ -81,7 +82,7 @@ impl Table {
         requires { StandsSomewhere self.old }
         ensures { (t : Task) (s : State) → Stands t s self.old → Stands t (rounds t.shape most most s) self.new }
     {
-        for _done in 0..most {
+        for _round in 0..most {
             if !self.has_calls() {
                 return;
             }
@@ -95,7 +96,7 @@ impl Table {
         ensures { (t : Task) (s : State) → Stands t s self.old → IsRunning t (run_out t.shape most s) → Stands t (run_out t.shape most s) self.new }
     {
         self.restarted(most);
-        if self.keeper == Keeper::Open {
+        if let Keeper::Open = self.keeper {
             self.rounds(most);
             self.keeper = Keeper::Closing(CloseOp::new(self.device.geometry()));
         }

@@ -7,9 +7,6 @@ use Rattle.play.proofs.Doing.{deed_may, has_done, has_none, may_go, is_open, no_
 use Rattle.core_run.specs.declared.keeper.Keeper.TheVariants.{Open}
 use Rattle.play.proofs.table.Table.caller_deed.Goals as goal
 
-pub deeds_are_well-requires : goal.deeds_are_well-requires
-deeds_are_well-requires c = ?
-
 pub call_deed-requires-clause-runs : goal.call_deed-requires-clause-runs
 call_deed-requires-clause-runs c =
     may_go c.args.self.now c.args.place c.in-Some.running c.requires.2.is_of.room (sym c.in-Some.ensures)

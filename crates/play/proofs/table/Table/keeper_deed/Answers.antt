@@ -5,9 +5,6 @@ use Rattle.core_run.specs.State.{restart_deed, close_deed}
 use Rattle.play.proofs.Doing.{deed_may, has_done, deed_of_keeper, none_told_yet}
 use Rattle.play.proofs.table.Table.keeper_deed.Goals as goal
 
-pub deeds_are_well-requires : goal.deeds_are_well-requires
-deeds_are_well-requires c = ?
-
 pub restart-requires : goal.restart-requires
 restart-requires c =
     let t = c.requires.0 in let s = c.requires.1 in let st = c.requires.2 in
