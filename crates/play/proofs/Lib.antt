@@ -6,3 +6,4 @@ pub mod Steps
 pub mod Doing
 pub mod Drives
 pub mod Rounds
+pub mod Media

@@ -38,10 +38,10 @@ impl Table {
     {
         let mut left = n;
         for _event in 0..most {
-            let Some(more) = self.turn(seat, goal, left) else {
-                return;
-            };
-            left = more;
+            match self.turn(seat, goal, left) {
+                Some(more) => left = more,
+                None => return,
+            }
         }
     }
 
@@ -83,10 +83,11 @@ impl Table {
         ensures { (t : Task) (s : State) → Stands t s self.old → Stands t (rounds t.shape most most s) self.new }
     {
         for _round in 0..most {
-            if !self.has_calls() {
+            if self.has_calls() {
+                self.round(most);
+            } else {
                 return;
             }
-            self.round(most);
         }
     }
 

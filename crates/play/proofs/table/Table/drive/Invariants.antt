@@ -5,5 +5,5 @@ use Rattle.play.specs.Tables.{Stands}
 use Rattle.play.proofs.Drives.{IsDriven}
 use Rattle.play.proofs.table.Table.drive.Given as goal
 
-abbrev pub invariant-loop-_event : goal.invariant-loop-_event
-invariant-loop-_event l = (t : Task) (s : State) → Stands t s l.initial.self → IsDriven t s l.most l.seat l.goal l.n l._event l.left l.self
+abbrev pub invariant-loop-event : goal.invariant-loop-event
+invariant-loop-event l = (t : Task) (s : State) → Stands t s l.initial.self → IsDriven t s l.most l.seat l.goal l.n l._event l.left l.self

@@ -5,5 +5,5 @@ use Rattle.play.specs.Tables.{Stands}
 use Rattle.play.proofs.Rounds.{IsInRounds}
 use Rattle.play.proofs.table.Table.rounds.Given as goal
 
-abbrev pub invariant-loop-_round : goal.invariant-loop-_round
-invariant-loop-_round l = (t : Task) (s : State) → Stands t s l.initial.self → IsInRounds t s l.most l._round l.self
+abbrev pub invariant-loop-round : goal.invariant-loop-round
+invariant-loop-round l = (t : Task) (s : State) → Stands t s l.initial.self → IsInRounds t s l.most l._round l.self
