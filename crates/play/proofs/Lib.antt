@@ -7,3 +7,4 @@ pub mod Doing
 pub mod Drives
 pub mod Rounds
 pub mod Media
+pub mod Beginning

@@ -51,7 +51,8 @@ fn most_events(geometry: &Geometry, calls: usize) -> u64
 
 /// Caller 1, before the restart has ended.
 fn runner(geometry: Geometry, calls: Vec<Call>) -> Runner
-    ensures { caller_of result [] ≡ waiting geometry 1 calls.items }
+    ensures caller { caller_of result [] ≡ waiting geometry 1 calls.items }
+    ensures ended { result.ended ≡ 0 }
 {
     Runner {
         site: Site {

@@ -7,8 +7,8 @@ use Rattle.play.proofs.leaving.medium_of.Goals as goal
 
 pub returns-in-Some-clause-words : goal.returns-in-Some-clause-words
 returns-in-Some-clause-words c start core traced words =
-    c.cut-in-Some.ensures.words
-    ∙ kept_is c.settled_values.ensures.is start core c.args.device c.in-Some.choice traced words (ap (λ ws. length ws) (sym c.cut-in-Some.ensures.words) ∙ c.cut-in-Some.ensures.whole)
+    c.cut.ensures.words
+    ∙ kept_is c.settled_values.ensures.is start core c.args.device c.in-Some.choice traced words (ap (λ ws. length ws) (sym c.cut.ensures.words) ∙ c.cut.ensures.whole)
     ∙ ap (λ o. medium_words c.args.device.shape start core o) (sym c.in-Some.is)
 
 pub returns-in-None-clause-words : goal.returns-in-None-clause-words
