@@ -8,3 +8,4 @@ pub mod Drives
 pub mod Rounds
 pub mod Media
 pub mod Beginning
+pub mod Whole

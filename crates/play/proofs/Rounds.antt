@@ -187,35 +187,36 @@ pub record IsInLines (t : Task) (s : State) (most : ℕ) (lines : List Line) (do
 pub lines_begin : (t : Task) (s : State) (most : ℕ) (lines : List Line) (table : Table) → Stands t s table → RunsThrough t most lines s → IsInLines t s most lines 0 table
 lines_begin t s most lines table st well = record { now = s; stands = st; well = well; rest = refl }
 
-drop_step : (t : Task) (most : ℕ) (lines : List Line) (i : ℕ) (l : Line) (s : State) → i < length lines → l ≡ slice_index_or lines i l
+drop_step : (t : Task) (most : ℕ) (lines : List Line) (i : ℕ) (d : Line) (s : State) → i < length lines
     → RunsThrough t most (drop i lines) s
-    → IsRunning t (line_done t.shape most l s) × RunsThrough t most (drop (suc i) lines) (line_done t.shape most l s)
-drop_step t most [] i l s within e well = absurd (omega arith)
-drop_step t most (x ∷ lines) zero l s within e well =
-    subst (λ (y : Line). IsRunning t (line_done t.shape most y s) × RunsThrough t most lines (line_done t.shape most y s)) (sym e) well
-drop_step t most (x ∷ lines) (suc i) l s within e well = drop_step t most lines i l s (omega arith) e well
+    → IsRunning t (line_done t.shape most (slice_index_or lines i d) s)
+      × RunsThrough t most (drop (suc i) lines) (line_done t.shape most (slice_index_or lines i d) s)
+drop_step t most [] i d s within well = absurd (omega arith)
+drop_step t most (x ∷ lines) zero d s within well = well
+drop_step t most (x ∷ lines) (suc i) d s within well = drop_step t most lines i d s (omega arith) well
 
-done_step : (shape : Shape) (most : ℕ) (lines : List Line) (i : ℕ) (l : Line) (s : State) → i < length lines → l ≡ slice_index_or lines i l
-    → lines_done shape most (drop i lines) s ≡ lines_done shape most (drop (suc i) lines) (line_done shape most l s)
-done_step shape most [] i l s within e = absurd (omega arith)
-done_step shape most (x ∷ lines) zero l s within e = ap (λ (y : Line). lines_done shape most lines (line_done shape most y s)) (sym e)
-done_step shape most (x ∷ lines) (suc i) l s within e = done_step shape most lines i l s (omega arith) e
+done_step : (shape : Shape) (most : ℕ) (lines : List Line) (i : ℕ) (d : Line) (s : State) → i < length lines
+    → lines_done shape most (drop i lines) s ≡ lines_done shape most (drop (suc i) lines) (line_done shape most (slice_index_or lines i d) s)
+done_step shape most [] i d s within = absurd (omega arith)
+done_step shape most (x ∷ lines) zero d s within = refl
+done_step shape most (x ∷ lines) (suc i) d s within = done_step shape most lines i d s (omega arith)
 
-pub line_running : (t : Task) (s : State) (most : ℕ) (lines : List Line) (done : ℕ) (l : Line) (table : Table) → done < length lines
-    → l ≡ slice_index_or lines done l → (within : IsInLines t s most lines done table) → IsRunning t (line_done t.shape most l within.now)
-line_running t s most lines done l table some e within = (drop_step t most lines done l within.now some e within.well).0
+pub line_running : (t : Task) (s : State) (most : ℕ) (lines : List Line) (done : ℕ) (d : Line) (table : Table) → done < length lines
+    → (within : IsInLines t s most lines done table) → IsRunning t (line_done t.shape most (slice_index_or lines done d) within.now)
+line_running t s most lines done d table some within = (drop_step t most lines done d within.now some within.well).0
 
-pub lines_go : (t : Task) (s : State) (most : ℕ) (lines : List Line) (done : ℕ) (l : Line) (old new : Table) → done < length lines
-    → l ≡ slice_index_or lines done l → (within : IsInLines t s most lines done old) → Stands t (line_done t.shape most l within.now) new
+pub lines_go : (t : Task) (s : State) (most : ℕ) (lines : List Line) (done : ℕ) (d : Line) (old new : Table) → done < length lines
+    → (within : IsInLines t s most lines done old) → Stands t (line_done t.shape most (slice_index_or lines done d) within.now) new
     → IsInLines t s most lines (done + 1) new
-lines_go t s most lines done l old new some e within st =
+lines_go t s most lines done d old new some within st =
     let next : suc done ≡ done + 1 = omega arith in
+    let l : Line = slice_index_or lines done d in
     record {
       now = line_done t.shape most l within.now;
       stands = st;
       well = subst (λ (n : ℕ). RunsThrough t most (drop n lines) (line_done t.shape most l within.now)) next
-        (drop_step t most lines done l within.now some e within.well).1;
-      rest = within.rest ∙ done_step t.shape most lines done l within.now some e
+        (drop_step t most lines done d within.now some within.well).1;
+      rest = within.rest ∙ done_step t.shape most lines done d within.now some
         ∙ ap (λ (n : ℕ). lines_done t.shape most (drop n lines) (line_done t.shape most l within.now)) next;
     }
 
@@ -229,8 +230,3 @@ pub lines_end : (t : Task) (s : State) (most : ℕ) (lines : List Line) (done : 
     → IsInLines t s most lines done table → Stands t (lines_done t.shape most lines s) table
 lines_end t s most lines done table over within =
     subst (λ (u : State). Stands t u table) (sym (within.rest ∙ ap (λ ls. lines_done t.shape most ls within.now) (lines_past lines done over))) within.stands
-
--- ---- one line
-pub line_stands : (t : Task) (s : State) (most : ℕ) (l m : Line) (table : Table) → l ≡ m → Stands t (line_done t.shape most m s) table
-    → Stands t (line_done t.shape most l s) table
-line_stands t s most l m table e st = subst (λ (k : Line). Stands t (line_done t.shape most k s) table) (sym e) st

@@ -11,7 +11,7 @@ use Rattle.pm_trace.specs.TraceOf.{IsTraceOf}
 use Rattle.core_run.specs.declared.deed.Deed.{Deed as ToldDeed}
 use Rattle.core_run.specs.declared.goal.Goal.{Goal}
 use Rattle.core_run.specs.State.{State, Deed}
-use Rattle.core_run.specs.Run.{drive}
+use Rattle.core_run.specs.Run.{drive, closed}
 use Rattle.core_run.specs.Running.{Task, IsTask, IsRunning, start_of}
 use Rattle.play.specs.declared.table.Table.{Table}
 use Rattle.play.specs.Runners.{callers_of, HaveRoom}
@@ -68,3 +68,8 @@ HasTurned t s seat goal left None table = (next : State) × Stands t next table
     × ((most : ℕ) → drive t.shape (suc most) seat goal left s ≡ next)
 HasTurned t s seat goal left (Some more) table = (next : State) × Stands t next table
     × ((most : ℕ) → drive t.shape (suc most) seat goal left s ≡ drive t.shape most seat goal more next)
+
+-- the state at the end of a run, after its lines
+abbrev pub end_state : Shape → ℕ → Option ℕ → State → State
+end_state shape most None s = closed shape most s
+end_state shape most (Some choice) s = s

@@ -4,9 +4,9 @@ ghost use Rattle.std.specs.Prelude.{◌≡◌, ℕ, None, Some, List};
 ghost use Rattle.core_run.specs.Running.{Task, IsRunning};
 ghost use Rattle.core_run.specs.State.{State};
 ghost use Rattle.core_run.specs.Run.{drive, restarted, round, rounds, run_out, ready_for, line_done, lines_done, closed};
-ghost use Rattle.core_run.specs.Wells.{RunsThrough};
+ghost use Rattle.core_run.specs.Wells.{RunsThrough, RunsOut};
 ghost use Rattle.play.specs.Runners.{calls_left};
-ghost use Rattle.play.specs.Tables.{Stands, StandsSomewhere, HasTurned};
+ghost use Rattle.play.specs.Tables.{Stands, StandsSomewhere, HasTurned, end_state};
 
 use crate::counting::{counts, ends_in_again};
 use crate::table::Table;
@@ -157,5 +157,16 @@ impl Table {
     {
         self.run_out(most);
         self.drive(most, 0, Goal::AnyEvent, most);
+    }
+
+    /// The end of a run: a close, where no cut comes before it.
+    pub(crate) fn ended(&mut self, most: u64, cut: Option<u64>)
+        requires { (t : Task) × (s : State) × Stands t s self.old × RunsOut t most cut s }
+        ensures { (t : Task) (s : State) → Stands t s self.old → RunsOut t most cut s → Stands t (end_state t.shape most cut s) self.new }
+    {
+        match cut {
+            None => self.closed(most),
+            Some(_) => {}
+        }
     }
 }

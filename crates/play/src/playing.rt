@@ -101,14 +101,14 @@ pub fn play(alloc: Global, medium: Medium, script: &Script) -> Result<Session, N
     ensures run { IfOk result (IsOfRun medium.geometry medium.words script.now) }
     ensures one_list { IfOk result (λ left. length left.lists ≡ 1) }
 {
+    core_run::run_begins();
+    core_run::runs_are_well();
     let lines = script.as_slice();
     let calls = calls_of_caller(alloc, lines, 1)?;
     let most = most_events(&medium.geometry, calls.len());
     let mut table = begun(alloc, medium, calls)?;
     table.lines_done(most, lines);
     let cut = cut_of(lines);
-    if cut.is_none() {
-        table.closed(most);
-    }
+    table.ended(most, cut);
     Ok(table.left(cut))
 }

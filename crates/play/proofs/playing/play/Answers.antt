@@ -1,0 +1,67 @@
+-- A play does its run: the table stands where the definitions of a run do, from its beginning to its end.
+use Rattle.std.proofs.Common.{◌≡◌, ℕ, ◌≤◌, Option, List, length, All, refl, ap, sym, ◌∙◌, subst, arith}
+use Rattle.map_model.specs.declared.call.Call.{Call}
+use Rattle.script_text.specs.declared.line.Line.{Line}
+use Rattle.script_text.specs.Calls.{calls_of, IsLineSoFar}
+use Rattle.core_run.specs.Run.{cut_of, lines_done}
+use Rattle.core_run.specs.Running.{Task, IsTask}
+use Rattle.core_run.specs.State.{State}
+use Rattle.core_run.specs.Wells.{start_state, most_of, RunsThrough, RunsOut}
+use Rattle.play.specs.Tables.{Stands, end_state}
+use Rattle.play.specs.Played.{task_of}
+use Rattle.play.proofs.Doing.{runners_many}
+use Rattle.play.proofs.Seats.{lists_many}
+use Rattle.play.proofs.Whole.{play_is, most_is, few_calls, is_task}
+use Rattle.play.proofs.playing.play.Goals as goal
+
+-- HOLE: the law stands beside this work
+pub runs_are_well-requires : goal.runs_are_well-requires
+runs_are_well-requires c = ?
+
+pub most_events-most-requires : goal.most_events-most-requires
+most_events-most-requires c =
+    let lines : List Line = c.as_slice-lines.result.now in
+    let few = few_calls 1 lines in
+    let are : length c.in_ok-calls.calls.items ≡ length (calls_of 1 lines) = ap (λ cs. length cs) c.in_ok-calls.ensures in
+    let same : length lines ≡ length c.args.script.now = ap (λ ls. length ls) c.as_slice-lines.ensures in
+    let is_len = c.in_ok-calls.calls.ok.0 in
+    let most = c.requires.few in
+    omega arith
+
+pub lines_done-requires : goal.lines_done-requires
+lines_done-requires c =
+    let lines : List Line = c.as_slice-lines.result.now in
+    let shape = c.args.medium.geometry in let first = c.args.medium.words in let calls = c.in_ok-calls.calls.items in
+    let t : Task = task_of shape first calls in
+    let is : IsTask t = is_task shape first lines calls c.requires.sound c.requires.served (subst (λ ls. All IsLineSoFar ls) (sym c.as_slice-lines.ensures) c.requires.so_far) c.in_ok-calls.ensures in
+    let is_len = c.in_ok-calls.calls.ok.0 in
+    let many : c.most_events-most.result ≡ most_of t = most_is shape first calls c.len.result c.most_events-most.result (omega arith) c.most_events-most.ensures in
+    (t, start_state t, record { task = is; is_of = c.in_ok-table.ensures.is_of; running = c.run_begins.ensures t is },
+      subst (λ (m : ℕ). RunsThrough t m lines (start_state t)) (sym many) (c.runs_are_well.ensures t lines is refl).through)
+
+pub ended-requires : goal.ended-requires
+ended-requires c =
+    let lines : List Line = c.as_slice-lines.result.now in
+    let shape = c.args.medium.geometry in let first = c.args.medium.words in let calls = c.in_ok-calls.calls.items in
+    let t : Task = task_of shape first calls in
+    let is : IsTask t = is_task shape first lines calls c.requires.sound c.requires.served (subst (λ ls. All IsLineSoFar ls) (sym c.as_slice-lines.ensures) c.requires.so_far) c.in_ok-calls.ensures in
+    let is_len = c.in_ok-calls.calls.ok.0 in
+    let most : ℕ = c.most_events-most.result in
+    let many : most ≡ most_of t = most_is shape first calls c.len.result most (omega arith) c.most_events-most.ensures in
+    let well = c.runs_are_well.ensures t lines is refl in
+    let begins : Stands t (start_state t) c.in_ok-table.table = record { task = is; is_of = c.in_ok-table.ensures.is_of; running = c.run_begins.ensures t is } in
+    (t, lines_done shape most lines (start_state t),
+      c.lines_done.ensures t (start_state t) begins (subst (λ (m : ℕ). RunsThrough t m lines (start_state t)) (sym many) well.through),
+      subst (λ (o : Option ℕ). RunsOut t most o (lines_done shape most lines (start_state t))) (sym c.cut_of-cut.ensures)
+      (subst (λ (m : ℕ). RunsOut t m (cut_of lines) (lines_done shape m lines (start_state t))) (sym many) well.out))
+
+pub left-requires : goal.left-requires
+left-requires c =
+    let r = ended-requires c.before in
+    runners_many r.0 (end_state r.0.shape c.most_events-most.result c.cut_of-cut.result r.1) c.ended.new.self (c.ended.ensures r.0 r.1 r.2 r.3)
+
+pub returns-clause-run : goal.returns-clause-run
+returns-clause-run c = ?
+
+pub returns-clause-one_list : goal.returns-clause-one_list
+returns-clause-one_list c = ?
