@@ -16,8 +16,9 @@ use Rattle.script_text.specs.Calls.{calls_of, IsCallSoFar, IsLineSoFar}
 use Rattle.core_run.specs.State.{State}
 use Rattle.core_run.specs.Run.{lines_done, state_at_end, cut_of, most_events}
 use Rattle.core_run.specs.Running.{Task, IsTask}
-use Rattle.core_run.specs.Wells.{start_state, most_of}
-use Rattle.play.specs.Tables.{end_state}
+use Rattle.core_run.specs.Wells.{start_state, most_of, RunsThrough, RunsOut, RunsWell}
+use Rattle.play.specs.declared.table.Table.{Table}
+use Rattle.play.specs.Tables.{Stands, end_state}
 use Rattle.play.specs.Played.{IsOfRun, IsLeftOf, task_of}
 
 end_is : (shape : Shape) (most : ℕ) (lines : List Line) (cut : Option ℕ) (s : State)
@@ -104,3 +105,15 @@ is_task shape first lines calls sound serves so_far are = record {
   few = lit≤ tt;
   words = subst (λ (cs : List Call). AllByRecursion (AllByRecursion IsWordCall) (cs ∷ [])) (sym are) (word_calls 1 lines (by_recursion IsLineSoFar lines so_far), tt);
 }
+
+-- the table stands at the end of the run
+pub play_stands : (t : Task) (lines : List Line) (most : ℕ) (cut : Option ℕ) (table after last : Table) → Stands t (start_state t) table → RunsWell t lines
+    → most ≡ most_of t → cut ≡ cut_of lines
+    → ((u : Task) (s : State) → Stands u s table → RunsThrough u most lines s → Stands u (lines_done u.shape most lines s) after)
+    → ((u : Task) (s : State) → Stands u s after → RunsOut u most cut s → Stands u (end_state u.shape most cut s) last)
+    → Stands t (end_state t.shape most cut (lines_done t.shape most lines (start_state t))) last
+play_stands t lines most cut table after last begins well many cuts through out =
+    let at_lines = through t (start_state t) begins (subst (λ (m : ℕ). RunsThrough t m lines (start_state t)) (sym many) well.through) in
+    out t (lines_done t.shape most lines (start_state t)) at_lines
+    (subst (λ (o : Option ℕ). RunsOut t most o (lines_done t.shape most lines (start_state t))) (sym cuts)
+    (subst (λ (m : ℕ). RunsOut t m (cut_of lines) (lines_done t.shape m lines (start_state t))) (sym many) well.out))

@@ -8,10 +8,10 @@ use Rattle.core_run.specs.Running.{Task, IsTask}
 use Rattle.core_run.specs.State.{State}
 use Rattle.core_run.specs.Wells.{start_state, most_of, RunsThrough, RunsOut}
 use Rattle.play.specs.Tables.{Stands, end_state}
-use Rattle.play.specs.Played.{task_of}
+use Rattle.play.specs.Played.{task_of, IsOfRun}
 use Rattle.play.proofs.Doing.{runners_many}
 use Rattle.play.proofs.Seats.{lists_many}
-use Rattle.play.proofs.Whole.{play_is, most_is, few_calls, is_task}
+use Rattle.play.proofs.Whole.{play_is, play_stands, most_is, few_calls, is_task}
 use Rattle.play.proofs.playing.play.Goals as goal
 
 -- HOLE: the law stands beside this work
@@ -57,11 +57,45 @@ ended-requires c =
 
 pub left-requires : goal.left-requires
 left-requires c =
-    let r = ended-requires c.before in
-    runners_many r.0 (end_state r.0.shape c.most_events-most.result c.cut_of-cut.result r.1) c.ended.new.self (c.ended.ensures r.0 r.1 r.2 r.3)
+    let lines : List Line = c.as_slice-lines.result.now in
+    let shape = c.args.medium.geometry in let first = c.args.medium.words in let calls = c.in_ok-calls.calls.items in
+    let t : Task = task_of shape first calls in
+    let is : IsTask t = is_task shape first lines calls c.requires.sound c.requires.served (subst (λ ls. All IsLineSoFar ls) (sym c.as_slice-lines.ensures) c.requires.so_far) c.in_ok-calls.ensures in
+    let is_len = c.in_ok-calls.calls.ok.0 in
+    let most : ℕ = c.most_events-most.result in
+    let many : most ≡ most_of t = most_is shape first calls c.len.result most (omega arith) c.most_events-most.ensures in
+    let begins : Stands t (start_state t) c.in_ok-table.table = record { task = is; is_of = c.in_ok-table.ensures.is_of; running = c.run_begins.ensures t is } in
+    let ends = play_stands t lines most c.cut_of-cut.result c.in_ok-table.table c.lines_done.new.self c.ended.new.self begins
+      (c.runs_are_well.ensures t lines is refl) many c.cut_of-cut.ensures c.lines_done.ensures c.ended.ensures in
+    runners_many t (end_state shape most c.cut_of-cut.result (lines_done shape most lines (start_state t))) c.ended.new.self ends
 
 pub returns-clause-run : goal.returns-clause-run
-returns-clause-run c = ?
+returns-clause-run c =
+    let lines : List Line = c.as_slice-lines.result.now in
+    let shape = c.args.medium.geometry in let first = c.args.medium.words in let calls = c.in_ok-calls.calls.items in
+    let t : Task = task_of shape first calls in
+    let is : IsTask t = is_task shape first lines calls c.requires.sound c.requires.served (subst (λ ls. All IsLineSoFar ls) (sym c.as_slice-lines.ensures) c.requires.so_far) c.in_ok-calls.ensures in
+    let is_len = c.in_ok-calls.calls.ok.0 in
+    let most : ℕ = c.most_events-most.result in
+    let many : most ≡ most_of t = most_is shape first calls c.len.result most (omega arith) c.most_events-most.ensures in
+    let begins : Stands t (start_state t) c.in_ok-table.table = record { task = is; is_of = c.in_ok-table.ensures.is_of; running = c.run_begins.ensures t is } in
+    let ends = play_stands t lines most c.cut_of-cut.result c.in_ok-table.table c.lines_done.new.self c.ended.new.self begins
+      (c.runs_are_well.ensures t lines is refl) many c.cut_of-cut.ensures c.lines_done.ensures c.ended.ensures in
+    subst (λ ls. IsOfRun shape first ls c.left.result) c.as_slice-lines.ensures
+    (play_is shape first lines c.left.result calls most c.cut_of-cut.result c.in_ok-calls.ensures many c.cut_of-cut.ensures
+    (c.left.ensures.left t (end_state shape most c.cut_of-cut.result (lines_done shape most lines (start_state t))) ends.is_of))
 
 pub returns-clause-one_list : goal.returns-clause-one_list
-returns-clause-one_list c = ?
+returns-clause-one_list c =
+    let lines : List Line = c.as_slice-lines.result.now in
+    let shape = c.args.medium.geometry in let first = c.args.medium.words in let calls = c.in_ok-calls.calls.items in
+    let t : Task = task_of shape first calls in
+    let is : IsTask t = is_task shape first lines calls c.requires.sound c.requires.served (subst (λ ls. All IsLineSoFar ls) (sym c.as_slice-lines.ensures) c.requires.so_far) c.in_ok-calls.ensures in
+    let is_len = c.in_ok-calls.calls.ok.0 in
+    let most : ℕ = c.most_events-most.result in
+    let many : most ≡ most_of t = most_is shape first calls c.len.result most (omega arith) c.most_events-most.ensures in
+    let begins : Stands t (start_state t) c.in_ok-table.table = record { task = is; is_of = c.in_ok-table.ensures.is_of; running = c.run_begins.ensures t is } in
+    let ends = play_stands t lines most c.cut_of-cut.result c.in_ok-table.table c.lines_done.new.self c.ended.new.self begins
+      (c.runs_are_well.ensures t lines is refl) many c.cut_of-cut.ensures c.lines_done.ensures c.ended.ensures in
+    c.left.ensures.lists ∙ lists_many c.ended.new.self.callers.items c.ended.new.self.lists ends.is_of.room
+    ∙ runners_many t (end_state shape most c.cut_of-cut.result (lines_done shape most lines (start_state t))) c.ended.new.self ends
