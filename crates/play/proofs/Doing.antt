@@ -149,7 +149,7 @@ open_none shape Open runners lists place core (Some r) room is h same =
     let seat = seat_at runners lists place r room is in
     ap (λ (c : Option Caller). caller_deed shape place core c) (ap (λ cs. slice_get cs place) (sym same) ∙ seat.its_caller)
     ∙ call_none shape place core (caller_of r seat.kept.entries) (slice_get r.calls.items (length seat.kept.entries)) r.engine
-      (ap (λ (n : ℕ). running_with (slice_get r.calls.items n) r.engine) (sym seat.room.counted) ∙ h)
+    (ap (λ (n : ℕ). running_with (slice_get r.calls.items n) r.engine) (sym seat.room.counted) ∙ h)
 
 pub no_deed : (t : Task) (s : State) (table : Table) (place : ℕ) → IsOf t table s → running_in table.keeper (slice_get table.callers.items place) ≡ None
     → deed t.shape (suc place) s ≡ None
@@ -170,13 +170,13 @@ has_event t s table place call e is opened may =
     let caller : Caller = caller_of may.runner seat.kept.entries in
     let there : slice_get s.core.callers place ≡ Some caller = ap (λ cs. slice_get cs place) (sym is.runners) ∙ seat.its_caller in
     let at_call : slice_get may.runner.calls.items (length seat.kept.entries) ≡ Some call =
-      ap (λ (n : ℕ). slice_get may.runner.calls.items n) (sym seat.room.counted) ∙ may.is_current in
+    ap (λ (n : ℕ). slice_get may.runner.calls.items n) (sym seat.room.counted) ∙ may.is_current in
     record {
       caller = caller;
       is_there = there;
       its_deed =
-        ap (λ (k : Keeper). open_deed t.shape place k s.core) (keeper_is t s table Open is opened)
-        ∙ ap (λ (c : Option Caller). caller_deed t.shape place s.core c) there
-        ∙ ap (λ (o : Option Call). call_deed t.shape place s.core caller o may.runner.engine) at_call
-        ∙ ap (λ (o : Option Engine). call_deed t.shape place s.core caller (Some call) o) may.its_engine;
+          ap (λ (k : Keeper). open_deed t.shape place k s.core) (keeper_is t s table Open is opened)
+          ∙ ap (λ (c : Option Caller). caller_deed t.shape place s.core c) there
+          ∙ ap (λ (o : Option Call). call_deed t.shape place s.core caller o may.runner.engine) at_call
+          ∙ ap (λ (o : Option Engine). call_deed t.shape place s.core caller (Some call) o) may.its_engine;
     }

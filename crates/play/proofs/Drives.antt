@@ -44,10 +44,13 @@ again_by : (t : Task) (s : State) (old new : Table) (seat : ℕ) (goal : Goal) (
     → o ≡ deed t.shape seat s → HasDone t s (Some told) o new → ends_in_again told.end ≡ true → HasTurned t s seat goal (suc left) None new
 again_by t s old new seat goal left None told st is has again = absurd has
 again_by t s old new seat goal left (Some d) told st is has again =
-    let rest : ℕ → Deed → State = λ most e. drive t.shape most seat goal (if counts goal e then left else suc left) e.state in
-    (d.state, after_stands t s old new d told st has.0 has.1, λ most.
-      ap (λ (o : Option Deed). by_deed o s (rest most)) (sym is)
-      ∙ chosen (ends_in_again d.end) true d.state (rest most d) (ap ends_in_again (sym has.0.end) ∙ again))
+    let rest : ℕ → Deed → State = λ most e. drive t.shape most seat goal (if counts goal e then left else suc left) e.state in (
+      d.state,
+      after_stands t s old new d told st has.0 has.1,
+      λ most.
+          ap (λ (o : Option Deed). by_deed o s (rest most)) (sym is)
+          ∙ chosen (ends_in_again d.end) true d.state (rest most d) (ap ends_in_again (sym has.0.end) ∙ again),
+    )
 
 pub turn_again : (t : Task) (s : State) (old new : Table) (seat : ℕ) (goal : Goal) (left : ℕ) (told : ToldDeed) → 0 < left → Stands t s old
     → HasDone t s (Some told) (deed t.shape seat s) new → ends_in_again told.end ≡ true → HasTurned t s seat goal left None new
@@ -60,11 +63,14 @@ goes_by : (t : Task) (s : State) (old new : Table) (seat : ℕ) (goal : Goal) (l
     → HasTurned t s seat goal (suc left) (Some more) new
 goes_by t s old new seat goal left more counted None told st is has again count e = absurd has
 goes_by t s old new seat goal left more counted (Some d) told st is has again count e =
-    let rest : ℕ → Deed → State = λ most f. drive t.shape most seat goal (if counts goal f then left else suc left) f.state in
-    (d.state, after_stands t s old new d told st has.0 has.1, λ most.
-      ap (λ (o : Option Deed). by_deed o s (rest most)) (sym is)
-      ∙ chosen (ends_in_again d.end) false d.state (rest most d) (ap ends_in_again (sym has.0.end) ∙ again)
-      ∙ ap (λ (n : ℕ). drive t.shape most seat goal n d.state) (sym (e ∙ chosen counted (counts goal d) left (suc left) (count d has.0.want has.0.end))))
+    let rest : ℕ → Deed → State = λ most f. drive t.shape most seat goal (if counts goal f then left else suc left) f.state in (
+      d.state,
+      after_stands t s old new d told st has.0 has.1,
+      λ most.
+          ap (λ (o : Option Deed). by_deed o s (rest most)) (sym is)
+          ∙ chosen (ends_in_again d.end) false d.state (rest most d) (ap ends_in_again (sym has.0.end) ∙ again)
+          ∙ ap (λ (n : ℕ). drive t.shape most seat goal n d.state) (sym (e ∙ chosen counted (counts goal d) left (suc left) (count d has.0.want has.0.end))),
+    )
 
 one_less : (b : Bool) (left : ℕ) → (if b then suc left - 1 else suc left) ≡ (if b then left else suc left)
 one_less true left = omega arith
@@ -103,7 +109,7 @@ drive_goes t s most seat goal n done left more old new within driven turned =
       now = turned.0;
       stands = turned.1;
       rest = turned_at t s most seat goal n done left old within driven ∙ turned.2 (most - suc done)
-        ∙ ap (λ (m : ℕ). drive t.shape m seat goal more turned.0) fewer;
+          ∙ ap (λ (m : ℕ). drive t.shape m seat goal more turned.0) fewer;
     }
 
 pub drive_stops : (t : Task) (s : State) (most seat : ℕ) (goal : Goal) (n done left : ℕ) (old new : Table) → done < most

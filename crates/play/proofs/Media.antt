@@ -75,11 +75,11 @@ kept_is law start core memory choice traced words whole =
     let c = short.first in
     let d = short.second in
     let settled : take n memory.settled ≡ map (settled_value start core.trace) (range_with_len 0 n) =
-      take_is memory.settled (settled_value start core.trace) n 0 (omega arith)
-      (λ i. let e : i ≡ 0 + i = omega arith in (law start core.trace i (slice_index memory.settled i)).0 (traced.settled i) ∙ ap (settled_value start core.trace) e) in
+    take_is memory.settled (settled_value start core.trace) n 0 (omega arith)
+    (λ i. let e : i ≡ 0 + i = omega arith in (law start core.trace i (slice_index memory.settled i)).0 (traced.settled i) ∙ ap (settled_value start core.trace) e) in
     let newest : take n memory.newest ≡ map core.words (range_with_len 0 n) =
-      take_is memory.newest core.words n 0 (omega arith)
-      (λ i. let e : i ≡ 0 + i = omega arith in traced.newest i ∙ ap (λ (f : Words). f i) (sym words) ∙ ap core.words e) in
+    take_is memory.newest core.words n 0 (omega arith)
+    (λ i. let e : i ≡ 0 + i = omega arith in traced.newest i ∙ ap (λ (f : Words). f i) (sym words) ∙ ap core.words e) in
     ap (λ xs. chosen choice xs (take n memory.newest)) settled ∙ ap (λ ys. chosen choice (map (settled_value start core.trace) (range_with_len 0 n)) ys) newest
 
 -- the choice 1 takes each newest value

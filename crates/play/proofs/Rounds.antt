@@ -56,7 +56,7 @@ round_goes t s most done old new some within st =
       now = drive t.shape most (done + 1) (Kind event.End) 1 within.now;
       stands = st;
       rest = within.rest ∙ round_step t.shape most s.core.callers done (suc done) within.now some
-        ∙ ap (λ (n : ℕ). round t.shape most (suc n) (drop n s.core.callers) (drive t.shape most n (Kind event.End) 1 within.now)) (sym next);
+          ∙ ap (λ (n : ℕ). round t.shape most (suc n) (drop n s.core.callers) (drive t.shape most n (Kind event.End) 1 within.now)) (sym next);
     }
 
 pub round_ends : (t : Task) (s : State) (most done : ℕ) (table : Table) → length s.core.callers ≤ done → IsInRound t s most done table
@@ -96,12 +96,12 @@ rounds_begin t s most table st =
 one_round : (t : Task) (s : State) (most done : ℕ) (b : Bool) (table : Table) → done < most → (within : IsInRounds t s most done table)
     → calls_left table.callers.items ≡ b
     → rounds t.shape most most s
-      ≡ (if b then rounds t.shape most (most - suc done) (round t.shape most 1 within.now.core.callers within.now) else within.now)
+    ≡ (if b then rounds t.shape most (most - suc done) (round t.shape most 1 within.now.core.callers within.now) else within.now)
 one_round t s most done b table some within left =
     let one : most - done ≡ suc (most - suc done) = omega arith in
     within.rest ∙ ap (λ (m : ℕ). rounds t.shape most m within.now) one
     ∙ ap (λ (b : Bool). if b then rounds t.shape most (most - suc done) (round t.shape most 1 within.now.core.callers within.now) else within.now)
-      (sym (calls_said t within.now most table within.stands.is_of) ∙ left)
+    (sym (calls_said t within.now most table within.stands.is_of) ∙ left)
 
 pub rounds_go : (t : Task) (s : State) (most done : ℕ) (old new : Table) → done < most → (within : IsInRounds t s most done old)
     → calls_left old.callers.items ≡ true → Stands t (round t.shape most 1 within.now.core.callers within.now) new → IsInRounds t s most (done + 1) new
@@ -111,7 +111,7 @@ rounds_go t s most done old new some within left st =
       now = round t.shape most 1 within.now.core.callers within.now;
       stands = st;
       rest = one_round t s most done true old some within left
-        ∙ ap (λ (m : ℕ). rounds t.shape most m (round t.shape most 1 within.now.core.callers within.now)) fewer;
+          ∙ ap (λ (m : ℕ). rounds t.shape most m (round t.shape most 1 within.now.core.callers within.now)) fewer;
     }
 
 pub rounds_stop : (t : Task) (s : State) (most done : ℕ) (table : Table) → done < most → (within : IsInRounds t s most done table)
@@ -190,7 +190,7 @@ lines_begin t s most lines table st well = record { now = s; stands = st; well =
 drop_step : (t : Task) (most : ℕ) (lines : List Line) (i : ℕ) (d : Line) (s : State) → i < length lines
     → RunsThrough t most (drop i lines) s
     → IsRunning t (line_done t.shape most (slice_index_or lines i d) s)
-      × RunsThrough t most (drop (suc i) lines) (line_done t.shape most (slice_index_or lines i d) s)
+    × RunsThrough t most (drop (suc i) lines) (line_done t.shape most (slice_index_or lines i d) s)
 drop_step t most [] i d s within well = absurd (omega arith)
 drop_step t most (x ∷ lines) zero d s within well = well
 drop_step t most (x ∷ lines) (suc i) d s within well = drop_step t most lines i d s (omega arith) well
@@ -215,9 +215,9 @@ lines_go t s most lines done d old new some within st =
       now = line_done t.shape most l within.now;
       stands = st;
       well = subst (λ (n : ℕ). RunsThrough t most (drop n lines) (line_done t.shape most l within.now)) next
-        (drop_step t most lines done d within.now some within.well).1;
+          (drop_step t most lines done d within.now some within.well).1;
       rest = within.rest ∙ done_step t.shape most lines done d within.now some
-        ∙ ap (λ (n : ℕ). lines_done t.shape most (drop n lines) (line_done t.shape most l within.now)) next;
+          ∙ ap (λ (n : ℕ). lines_done t.shape most (drop n lines) (line_done t.shape most l within.now)) next;
     }
 
 lines_past : (lines : List Line) (i : ℕ) → length lines ≤ i → drop i lines ≡ []

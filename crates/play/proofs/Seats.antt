@@ -58,7 +58,6 @@ entries_are [] (k ∷ lists) room = absurd room
 entries_are (q ∷ runners) [] room = absurd room
 entries_are (q ∷ runners) (k ∷ lists) room = ap (λ es. k.entries ∷ es) (entries_are runners lists room.1)
 
-
 -- no caller was told anything: the runners that begin are the callers that begin
 pub awake_callers : (version : ℕ) (runners : List Runner) (lists : List Kept) → NoneTold lists → HaveRoom runners lists
     → callers_of (map (awoken version) runners) lists ≡ map (awake version) (callers_of runners lists)
@@ -85,7 +84,7 @@ kept_with k (Some e) = one_more k e
 pub seat_set : (runners : List Runner) (lists : List Kept) (place : ℕ) (r new : Runner) (entry : Option Entry) (k : Kept) → HaveRoom runners lists
     → slice_get lists place ≡ Some k
     → callers_of (slice_set runners place new) (lists_with lists place entry)
-      ≡ slice_set (callers_of runners lists) place (caller_of new (told_with entry k.entries))
+    ≡ slice_set (callers_of runners lists) place (caller_of new (told_with entry k.entries))
 seat_set [] [] place r new entry k room is = absurd (cc)
 seat_set [] (l ∷ lists) place r new entry k room is = absurd room
 seat_set (q ∷ runners) [] place r new entry k room is = absurd room

@@ -79,15 +79,15 @@ pub close_left : (t : Task) (old new : Table) (s : State) (op next : CloseOp) (w
     → new.callers.items ≡ old.callers.items → new.lists ≡ old.lists → IsAfter t (record { want = w; end = None }) (close_deed t.shape op s.core) new
 close_left t old new s op next w ans is done wants took keeper callers lists =
     let answers : ans ≡ answer_to (close_wanted op) (s.core.words (word_of t.shape (close_wanted op))) =
-      answer_is t old s 0 w ans new.device is done ∙ ap (λ (v : Want). answer_to v (s.core.words (word_of t.shape v))) wants in
+    answer_is t old s 0 w ans new.device is done ∙ ap (λ (v : Want). answer_to v (s.core.words (word_of t.shape v))) wants in
     let said : next ≡ close_taken op (answer_to (close_wanted op) (s.core.words (word_of t.shape (close_wanted op)))) =
-      took ∙ ap (λ (a : Ans). close_taken op a) answers in
+    took ∙ ap (λ (a : Ans). close_taken op a) answers in
     let keeps = keeper ∙ closing_is t.shape next (close_wanted next) ∙ ap (λ (o : CloseOp). closing t.shape o (close_wanted o)) said in
     record {
       want = wants;
       end = refl;
       left = subst (λ (v : Want). IsOf t new (record { keeper = closing t.shape (close_taken op (answer_to (close_wanted op) (s.core.words (word_of t.shape (close_wanted op))))) (close_wanted (close_taken op (answer_to (close_wanted op) (s.core.words (word_of t.shape (close_wanted op)))))); core = by_keeper t.shape v s.core }))
-        wants (keeper_left t old new s w ans _ is done keeps callers lists);
+          wants (keeper_left t old new s w ans _ is done keeps callers lists);
     }
 
 -- ---- the restart
@@ -134,19 +134,19 @@ pub restart_left : (t : Task) (old new : Table) (memory : Memory) (s : State) (o
     → IsAfter t (record { want = w; end = None }) (restart_deed t.shape op s.core) new
 restart_left t old new memory s op next w ans is none done wants took device keeper callers lists =
     let answers : ans ≡ answer_to (restart_wanted op) (s.core.words (word_of t.shape (restart_wanted op))) =
-      answer_is t old s 0 w ans memory is done ∙ ap (λ (v : Want). answer_to v (s.core.words (word_of t.shape v))) wants in
+    answer_is t old s 0 w ans memory is done ∙ ap (λ (v : Want). answer_to v (s.core.words (word_of t.shape v))) wants in
     let said : next ≡ restart_taken op (answer_to (restart_wanted op) (s.core.words (word_of t.shape (restart_wanted op)))) =
-      took ∙ ap (λ (a : Ans). restart_taken op a) answers in
+    took ∙ ap (λ (a : Ans). restart_taken op a) answers in
     let middle : Table = record old { device = memory } in
     let there : IsOf t middle (record { keeper = s.keeper; core = by_keeper t.shape w s.core }) =
-      keeper_left t old middle s w ans s.keeper is done is.keeper refl refl in
+    keeper_left t old middle s w ans s.keeper is done is.keeper refl refl in
     let gone : IsOf t new (restarting t.shape next (restart_wanted next) (by_keeper t.shape w s.core)) =
-      restarting_left t middle new s.keeper (by_keeper t.shape w s.core) next (restart_wanted next) there none device keeper callers lists in
+    restarting_left t middle new s.keeper (by_keeper t.shape w s.core) next (restart_wanted next) there none device keeper callers lists in
     record {
       want = wants;
       end = refl;
       left = subst (λ (o : RestartOp). IsOf t new (restarting t.shape o (restart_wanted o) (by_keeper t.shape (restart_wanted op) s.core))) said
-        (subst (λ (v : Want). IsOf t new (restarting t.shape next (restart_wanted next) (by_keeper t.shape v s.core))) wants gone);
+          (subst (λ (v : Want). IsOf t new (restarting t.shape next (restart_wanted next) (by_keeper t.shape v s.core))) wants gone);
     }
 
 -- ---- a call
@@ -177,16 +177,16 @@ call_left t old new s place seat_number call e caller r after w ans end entry is
     let done : WasDone old.device (suc place) w ans new.device = subst (λ (n : ℕ). WasDone old.device n w ans new.device) number was_done in
     let seat = seat_at old.callers.items old.lists place r is.room its in
     let same : caller_of r seat.kept.entries ≡ caller =
-      let a : slice_get s.core.callers place ≡ Some (caller_of r seat.kept.entries) = ap (λ cs. slice_get cs place) (sym is.runners) ∙ seat.its_caller in
-      cc in
+    let a : slice_get s.core.callers place ≡ Some (caller_of r seat.kept.entries) = ap (λ cs. slice_get cs place) (sym is.runners) ∙ seat.its_caller in
+    cc in
     let answers : ans ≡ answer_to (wanted e) (s.core.words (word_of t.shape (wanted e))) =
-      answer_is t old s (suc place) w ans new.device is done ∙ ap (λ (v : Want). answer_to v (s.core.words (word_of t.shape v))) wants in
+    answer_is t old s (suc place) w ans new.device is done ∙ ap (λ (v : Want). answer_to v (s.core.words (word_of t.shape v))) wants in
     let moved : caller_of after (told_with entry seat.kept.entries) ≡ answered caller call e (answer_to (wanted e) (s.core.words (word_of t.shape (wanted e)))) =
-      has.caller seat.kept.entries (sym seat.room.counted) ∙ ap (λ (c : Caller). answered c call e ans) same ∙ ap (λ (a : Ans). answered caller call e a) answers in
+    has.caller seat.kept.entries (sym seat.room.counted) ∙ ap (λ (c : Caller). answered c call e ans) same ∙ ap (λ (a : Ans). answered caller call e a) answers in
     let h = holds_after t old.device new.device s.core.words s.core.trace (suc place) w (holds_of t old s is) done.shape done.callers done.follows in
     let at_want : Holds t new.device (words_after t.shape (wanted e) (suc place) s.core.words)
-        (event_of t.shape (wanted e) (s.core.words (word_of t.shape (wanted e))) (suc place) ∷ s.core.trace) =
-      subst (λ (v : Want). Holds t new.device (words_after t.shape v (suc place) s.core.words) (event_of t.shape v (s.core.words (word_of t.shape v)) (suc place) ∷ s.core.trace)) wants h in
+    (event_of t.shape (wanted e) (s.core.words (word_of t.shape (wanted e))) (suc place) ∷ s.core.trace) =
+    subst (λ (v : Want). Holds t new.device (words_after t.shape v (suc place) s.core.words) (event_of t.shape v (s.core.words (word_of t.shape v)) (suc place) ∷ s.core.trace)) wants h in
     record {
       want = wants;
       end = has.end_is ∙ end_by_same r.site.geometry t.shape (taken e ans) (wanted (taken e ans)) ∙ ap (λ (a : Ans). end_by t.shape (taken e a) (wanted (taken e a))) answers;
@@ -197,8 +197,8 @@ call_left t old new s place seat_number call e caller r after w ans end entry is
         words = at_want.words_are;
         keeper = keeper ∙ is.keeper ∙ opened;
         runners = rw (callers, lists) (seat_set old.callers.items old.lists place r after entry seat.kept is.room seat.its_list
-          ∙ ap (λ (c : Caller). slice_set (callers_of old.callers.items old.lists) place c) moved ∙ ap (λ cs. slice_set cs place (answered caller call e (answer_to (wanted e) (s.core.words (word_of t.shape (wanted e)))))) is.runners);
+            ∙ ap (λ (c : Caller). slice_set (callers_of old.callers.items old.lists) place c) moved ∙ ap (λ cs. slice_set cs place (answered caller call e (answer_to (wanted e) (s.core.words (word_of t.shape (wanted e)))))) is.runners);
         room = rw (callers, lists) (room_set old.callers.items old.lists place after entry seat.kept is.room seat.its_list
-          (has_room_more r after entry seat.kept call seat.room has.count has.calls current));
+            (has_room_more r after entry seat.kept call seat.room has.count has.calls current));
       };
     }

@@ -44,12 +44,12 @@ pub play_is : (shape : Shape) (first : List ℕ) (lines : List Line) (left : Ses
 play_is shape first lines left calls most cut are many cuts leaves =
     let one : LeavesAt shape first lines left calls most (cut_of lines) = subst (λ (c : Option ℕ). LeavesAt shape first lines left calls most c) cuts leaves in
     let two : LeavesAt shape first lines left calls (most_of (task_of shape first calls)) (cut_of lines) =
-      subst (λ (m : ℕ). LeavesAt shape first lines left calls m (cut_of lines)) many one in
+    subst (λ (m : ℕ). LeavesAt shape first lines left calls m (cut_of lines)) many one in
     let three : LeavesAt shape first lines left (calls_of 1 lines) (most_of (task_of shape first (calls_of 1 lines))) (cut_of lines) =
-      subst (λ (cs : List Call). LeavesAt shape first lines left cs (most_of (task_of shape first cs)) (cut_of lines)) are two in
+    subst (λ (cs : List Call). LeavesAt shape first lines left cs (most_of (task_of shape first cs)) (cut_of lines)) are two in
     let t : Task = task_of shape first (calls_of 1 lines) in
     let four : IsLeftOf t (state_at_end shape (most_of t) lines (cut_of lines) (start_state t)) (cut_of lines) left =
-      subst (λ (s : State). IsLeftOf t s (cut_of lines) left) (end_is shape (most_of t) lines (cut_of lines) (start_state t)) three in
+    subst (λ (s : State). IsLeftOf t s (cut_of lines) left) (end_is shape (most_of t) lines (cut_of lines) (start_state t)) three in
     record { same_shape = four.same_shape; lists = four.lists; stops = four.stops; words = four.words; cut = four.cut }
 
 -- there are no more calls than lines

@@ -1,4 +1,4 @@
-use Rattle.std.proofs.Common.{◌≡◌, ◌∙◌, Some, None, length, sym, ap}
+use Rattle.std.proofs.Common.{◌∙◌, length, sym, ap}
 use Rattle.image_layout.specs.Places.{words_of}
 use Rattle.trace.specs.Steps.{settled_value}
 use Rattle.core_run.specs.Run.{medium_words}

@@ -1,4 +1,4 @@
-use Rattle.std.proofs.Common.{◌≡◌, ℕ, [], ◌∷◌, ◌++◌, length, refl, ap, sym, ◌∙◌, arith}
+use Rattle.std.proofs.Common.{◌≡◌, [], ◌∷◌, ◌++◌, length, refl, ap, ◌∙◌, arith}
 use Rattle.map_model.specs.Kept.{with_room}
 use Rattle.core_run.specs.declared.keeper.Keeper.TheVariants.{Restarting}
 use Rattle.play.proofs.Beginning.{one_runner, one_room}

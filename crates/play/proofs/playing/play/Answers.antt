@@ -35,9 +35,12 @@ lines_done-requires c =
     let t : Task = task_of shape first calls in
     let is : IsTask t = is_task shape first lines calls c.requires.sound c.requires.served (subst (λ ls. All IsLineSoFar ls) (sym c.as_slice-lines.ensures) c.requires.so_far) c.in_ok-calls.ensures in
     let is_len = c.in_ok-calls.calls.ok.0 in
-    let many : c.most_events-most.result ≡ most_of t = most_is shape first calls c.len.result c.most_events-most.result (omega arith) c.most_events-most.ensures in
-    (t, start_state t, record { task = is; is_of = c.in_ok-table.ensures.is_of; running = c.run_begins.ensures t is },
-      subst (λ (m : ℕ). RunsThrough t m lines (start_state t)) (sym many) (c.runs_are_well.ensures t lines is refl).through)
+    let many : c.most_events-most.result ≡ most_of t = most_is shape first calls c.len.result c.most_events-most.result (omega arith) c.most_events-most.ensures in (
+      t,
+      start_state t,
+      record { task = is; is_of = c.in_ok-table.ensures.is_of; running = c.run_begins.ensures t is },
+      subst (λ (m : ℕ). RunsThrough t m lines (start_state t)) (sym many) (c.runs_are_well.ensures t lines is refl).through,
+    )
 
 pub ended-requires : goal.ended-requires
 ended-requires c =
@@ -49,11 +52,13 @@ ended-requires c =
     let most : ℕ = c.most_events-most.result in
     let many : most ≡ most_of t = most_is shape first calls c.len.result most (omega arith) c.most_events-most.ensures in
     let well = c.runs_are_well.ensures t lines is refl in
-    let begins : Stands t (start_state t) c.in_ok-table.table = record { task = is; is_of = c.in_ok-table.ensures.is_of; running = c.run_begins.ensures t is } in
-    (t, lines_done shape most lines (start_state t),
+    let begins : Stands t (start_state t) c.in_ok-table.table = record { task = is; is_of = c.in_ok-table.ensures.is_of; running = c.run_begins.ensures t is } in (
+      t,
+      lines_done shape most lines (start_state t),
       c.lines_done.ensures t (start_state t) begins (subst (λ (m : ℕ). RunsThrough t m lines (start_state t)) (sym many) well.through),
       subst (λ (o : Option ℕ). RunsOut t most o (lines_done shape most lines (start_state t))) (sym c.cut_of-cut.ensures)
-      (subst (λ (m : ℕ). RunsOut t m (cut_of lines) (lines_done shape m lines (start_state t))) (sym many) well.out))
+          (subst (λ (m : ℕ). RunsOut t m (cut_of lines) (lines_done shape m lines (start_state t))) (sym many) well.out),
+    )
 
 pub left-requires : goal.left-requires
 left-requires c =
@@ -66,7 +71,7 @@ left-requires c =
     let many : most ≡ most_of t = most_is shape first calls c.len.result most (omega arith) c.most_events-most.ensures in
     let begins : Stands t (start_state t) c.in_ok-table.table = record { task = is; is_of = c.in_ok-table.ensures.is_of; running = c.run_begins.ensures t is } in
     let ends = play_stands t lines most c.cut_of-cut.result c.in_ok-table.table c.lines_done.new.self c.ended.new.self begins
-      (c.runs_are_well.ensures t lines is refl) many c.cut_of-cut.ensures c.lines_done.ensures c.ended.ensures in
+    (c.runs_are_well.ensures t lines is refl) many c.cut_of-cut.ensures c.lines_done.ensures c.ended.ensures in
     runners_many t (end_state shape most c.cut_of-cut.result (lines_done shape most lines (start_state t))) c.ended.new.self ends
 
 pub returns-clause-run : goal.returns-clause-run
@@ -80,7 +85,7 @@ returns-clause-run c =
     let many : most ≡ most_of t = most_is shape first calls c.len.result most (omega arith) c.most_events-most.ensures in
     let begins : Stands t (start_state t) c.in_ok-table.table = record { task = is; is_of = c.in_ok-table.ensures.is_of; running = c.run_begins.ensures t is } in
     let ends = play_stands t lines most c.cut_of-cut.result c.in_ok-table.table c.lines_done.new.self c.ended.new.self begins
-      (c.runs_are_well.ensures t lines is refl) many c.cut_of-cut.ensures c.lines_done.ensures c.ended.ensures in
+    (c.runs_are_well.ensures t lines is refl) many c.cut_of-cut.ensures c.lines_done.ensures c.ended.ensures in
     subst (λ ls. IsOfRun shape first ls c.left.result) c.as_slice-lines.ensures
     (play_is shape first lines c.left.result calls most c.cut_of-cut.result c.in_ok-calls.ensures many c.cut_of-cut.ensures
     (c.left.ensures.left t (end_state shape most c.cut_of-cut.result (lines_done shape most lines (start_state t))) ends.is_of))
@@ -96,6 +101,6 @@ returns-clause-one_list c =
     let many : most ≡ most_of t = most_is shape first calls c.len.result most (omega arith) c.most_events-most.ensures in
     let begins : Stands t (start_state t) c.in_ok-table.table = record { task = is; is_of = c.in_ok-table.ensures.is_of; running = c.run_begins.ensures t is } in
     let ends = play_stands t lines most c.cut_of-cut.result c.in_ok-table.table c.lines_done.new.self c.ended.new.self begins
-      (c.runs_are_well.ensures t lines is refl) many c.cut_of-cut.ensures c.lines_done.ensures c.ended.ensures in
+    (c.runs_are_well.ensures t lines is refl) many c.cut_of-cut.ensures c.lines_done.ensures c.ended.ensures in
     c.left.ensures.lists ∙ lists_many c.ended.new.self.callers.items c.ended.new.self.lists ends.is_of.room
     ∙ runners_many t (end_state shape most c.cut_of-cut.result (lines_done shape most lines (start_state t))) c.ended.new.self ends

@@ -1,9 +1,8 @@
 -- The caller at the place takes the answer to its event, and its entry goes into its list.
-use Rattle.std.proofs.Common.{◌≡◌, ℕ, ◌+◌, ◌-◌, ◌<◌, ◌≤◌, length, Option, Some, None, arith, refl, sym, ap, ◌∙◌, add-one, subst}
+use Rattle.std.proofs.Common.{◌≡◌, ℕ, ◌+◌, ◌-◌, ◌<◌, length, Option, Some, arith, refl, sym, ap, ◌∙◌, add-one, subst}
 use Rattle.std.specs.Prelude.{slice_get}
 use Rattle.std.specs.Option.{IfSome}
 use Rattle.std.proofs.lemmas.Option.{slice_get_within, slice_get_read}
-use Rattle.map_model.specs.declared.call.Call.{Call}
 use Rattle.map_model.specs.Kept.{Kept, with_entry}
 use Rattle.play.specs.declared.runner.Runner.{Runner}
 use Rattle.play.specs.Deeds.{lists_with}
@@ -32,7 +31,7 @@ returns-in-Some c t s caller is opened there =
     let within = slice_get_within c.args.self.now.callers.items c.args.place runs.runner runs.is_there in
     let r : Runner = c.index_mut.result.now in
     let its : slice_get c.args.self.now.callers.items c.args.place ≡ Some r =
-      slice_get_read c.args.self.now.callers.items (length c.args.self.now.callers.items) c.args.place r refl within c.index_mut.ensures.value in
+    slice_get_read c.args.self.now.callers.items (length c.args.self.now.callers.items) c.args.place r refl within c.index_mut.ensures.value in
     let same : runs.runner ≡ r = let a = runs.is_there in cc in
     let here : c.args.place + 1 - 1 ≡ c.args.place = omega arith in
     call_left t c.args.self.now _ s c.args.place (c.args.place + 1) c.args.call c.args.engine caller r c.answered-answered.new.self c.next-want.result
@@ -50,7 +49,7 @@ returns-in_default c t s caller is opened there =
     let within = slice_get_within c.args.self.now.callers.items c.args.place runs.runner runs.is_there in
     let r : Runner = c.index_mut.result.now in
     let its : slice_get c.args.self.now.callers.items c.args.place ≡ Some r =
-      slice_get_read c.args.self.now.callers.items (length c.args.self.now.callers.items) c.args.place r refl within c.index_mut.ensures.value in
+    slice_get_read c.args.self.now.callers.items (length c.args.self.now.callers.items) c.args.place r refl within c.index_mut.ensures.value in
     let same : runs.runner ≡ r = let a = runs.is_there in cc in
     call_left t c.args.self.now _ s c.args.place (c.args.place + 1) c.args.call c.args.engine caller r c.answered-answered.new.self c.next-want.result
     c.event-ans.result c.answered-answered.result.end c.answered-answered.result.entry is opened there its

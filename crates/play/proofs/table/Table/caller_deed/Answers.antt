@@ -1,6 +1,6 @@
 -- The caller at a place does the event that its engine wants, where it runs a call.
-use Rattle.std.proofs.Common.{◌≡◌, ℕ, ◌+◌, ◌<◌, ◌≤◌, suc, Option, None, Some, arith, add-one, ap, sym, ◌∙◌, subst}
-use Rattle.core_run.specs.State.{Deed, deed, engine_deed}
+use Rattle.std.proofs.Common.{ℕ, suc, None, Some, arith, add-one, sym, subst}
+use Rattle.core_run.specs.State.{deed, engine_deed}
 use Rattle.play.specs.Tables.{MayBeAsked, HasDone}
 use Rattle.engine.specs.Engine.{wanted}
 use Rattle.play.proofs.Doing.{deed_may, has_done, has_none, may_go, is_open, no_deed, has_event, place_few, keeper_is}

@@ -1,4 +1,4 @@
-use Rattle.std.proofs.Common.{◌<◌, ◌≤◌, arith}
+use Rattle.std.proofs.Common.{arith}
 use Rattle.play.proofs.Drives.{drive_begins, drive_goes, drive_stops, drive_ends}
 use Rattle.play.proofs.table.Table.drive.Goals as goal
 

@@ -1,6 +1,6 @@
 -- Caller 0 does the event that its machine wants, and has none while the callers run and when the image is closed.
-use Rattle.std.proofs.Common.{◌≤◌, lit≤, arith}
-use Rattle.core_run.specs.declared.keeper.Keeper.TheVariants.{Restarting, Open, Closing, Closed}
+use Rattle.std.proofs.Common.{lit≤}
+use Rattle.core_run.specs.declared.keeper.Keeper.TheVariants.{Restarting, Closing}
 use Rattle.core_run.specs.State.{restart_deed, close_deed}
 use Rattle.play.proofs.Doing.{deed_may, has_done, deed_of_keeper, none_told_yet}
 use Rattle.play.proofs.table.Table.keeper_deed.Goals as goal

@@ -1,4 +1,4 @@
-use Rattle.std.proofs.Common.{◌<◌, ◌≤◌, arith}
+use Rattle.std.proofs.Common.{arith}
 use Rattle.map_model.specs.declared.call.Call.TheVariants.{Get}
 use Rattle.script_text.specs.declared.line.Line.TheVariants.{Call as CallLine}
 use Rattle.play.proofs.Rounds.{line_running, lines_begin, lines_go, lines_end}

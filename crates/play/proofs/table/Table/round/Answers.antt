@@ -1,4 +1,4 @@
-use Rattle.std.proofs.Common.{◌≡◌, ◌<◌, ◌≤◌, ◌+◌, length, arith}
+use Rattle.std.proofs.Common.{arith}
 use Rattle.play.proofs.Doing.{runners_many}
 use Rattle.play.proofs.Rounds.{many, round_begins, round_goes, round_ends}
 use Rattle.play.proofs.table.Table.round.Goals as goal

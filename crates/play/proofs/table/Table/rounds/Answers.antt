@@ -1,4 +1,4 @@
-use Rattle.std.proofs.Common.{◌≡◌, ◌<◌, ◌≤◌, sym, arith}
+use Rattle.std.proofs.Common.{sym, arith}
 use Rattle.play.proofs.Rounds.{rounds_begin, rounds_go, rounds_stop, rounds_end}
 use Rattle.play.proofs.table.Table.rounds.Goals as goal
 

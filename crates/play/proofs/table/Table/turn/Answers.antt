@@ -1,4 +1,4 @@
-use Rattle.std.proofs.Common.{◌≡◌, ◌<◌, ◌-◌, true, false, arith, sym, refl}
+use Rattle.std.proofs.Common.{◌≡◌, ◌-◌, true, false, arith, sym, refl}
 use Rattle.core_run.specs.Run.{ends_in_again}
 use Rattle.play.proofs.Drives.{turn_again, turn_goes}
 use Rattle.play.proofs.table.Table.turn.Goals as goal
