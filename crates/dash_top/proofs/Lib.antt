@@ -5,7 +5,4 @@ pub mod Scripts
 pub mod Counting
 pub mod Headlines
 pub mod Complete
-pub mod AtRest
-pub mod ToldsOfRun
-pub mod Printed
 pub mod Causes

@@ -1,1 +1,4 @@
+pub mod Runners
+pub mod Tables
 pub mod Played
+pub mod Deeds

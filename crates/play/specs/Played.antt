@@ -1,5 +1,5 @@
 -- What a play of a script leaves.
-use Rattle.std.specs.Prelude.{◌≡◌, ℕ, None, true, is_some, not, List, [], ◌∷◌, ◌++◌, map, replicate, slice_index}
+use Rattle.std.specs.Prelude.{◌≡◌, ℕ, Option, None, true, is_some, not, List, [], ◌∷◌, ◌++◌, map, replicate, slice_index}
 use Rattle.map_model.specs.Kept.{lists_of}
 use Rattle.map_model.specs.declared.call.Call.{Call}
 use Rattle.image_layout.specs.Places.{Shape}
@@ -11,6 +11,7 @@ use Rattle.reply_text.specs.declared.left.Session.{Session}
 use Rattle.reply_text.specs.Told.{tolds_of}
 use Rattle.core_run.specs.State.{State}
 use Rattle.core_run.specs.Run.{core_run, cut_of, stop_of, medium_words}
+use Rattle.core_run.specs.Running.{Task, start_of}
 
 -- the calls of all callers: so far of caller 1 alone
 abbrev pub scripts_of : List Line → List (List Call)
@@ -36,3 +37,15 @@ ending_of lines = record { closed = not (is_some (cut_of lines)); scheduled = tr
 pub record IsPlay (shape : Shape) (first : List ℕ) (lines : List Line) (left : Session) : Type 0 where
   pub run : IsOfRun shape first lines left
   pub session : IsSession shape first left.medium.words (scripts_of lines) (ending_of lines) (transcript_of (tolds_of (lists_of left.lists) left.stops))
+
+-- what is left of a table in this state, with one caller: the same, of any state
+pub record IsLeftOf (t : Task) (s : State) (choice : Option ℕ) (left : Session) : Type 0 where
+  pub same_shape : left.medium.geometry ≡ t.shape
+  pub lists : lists_of left.lists ≡ map (λ c. c.entries) s.core.callers
+  pub stops : left.stops ≡ map stop_of s.core.callers ++ replicate 63 None
+  pub words : left.medium.words ≡ medium_words t.shape (start_of t) s.core choice
+  pub cut : left.cut ≡ is_some choice
+
+-- the task of a play
+abbrev pub task_of : Shape → List ℕ → List Call → Task
+task_of shape first calls = record { shape = shape; first = first; scripts = calls ∷ [] }

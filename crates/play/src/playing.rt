@@ -1,26 +1,113 @@
 //! A script from its start to its end.
 
-ghost use Rattle.std.specs.Prelude.{◌≡◌, ◌≤◌, All, length, slice_index, IfOk};
+ghost use Rattle.std.specs.Prelude.{◌≡◌, ℕ, ◌≤◌, ◌+◌, ◌*◌, ◌<◌, ◌^◌, All, [], ◌∷◌, length, slice_index, IfOk};
 ghost use Rattle.script_text.specs.Calls.{IsLineSoFar};
 ghost use Rattle.restart_op.specs.Restarted.{IsServedImage};
-ghost use Rattle.play.specs.Played.{IsPlay};
+ghost use Rattle.image_layout.specs.Places.{words_of};
+ghost use Rattle.core_run.specs.Run.{cut_of, most_events};
+ghost use Rattle.core_run.specs.State.{waiting};
+ghost use Rattle.core_run.specs.Wells.{start_state};
+ghost use Rattle.play.specs.Runners.{caller_of};
+ghost use Rattle.play.specs.Tables.{IsOf};
+ghost use Rattle.play.specs.Played.{IsPlay, task_of};
 
+use crate::calls::calls_of_caller;
+use crate::runner::Runner;
+use crate::table::Table;
+use core_run::Keeper;
 use image_file::Medium;
-use map_model::NoMemory;
+use image_layout::Geometry;
+use map_model::{Call, Lists, NoMemory};
+use pm_trace::Device;
 use reply_text::Session;
-use script_text::Script;
+use restart_op::RestartOp;
+use script_text::{Line, Script};
 use std::alloc::Global;
+use world::Site;
 
-/// Runs a script on an image, to its end or to its power cut. All memory is taken before the first event.
+/// The greatest number of a caller.
+const CALLERS: u8 = 64;
+
+/// The choice of the power cut with which a script ends, if it does.
+fn cut_of(lines: &[Line]) -> Option<u64>
+    ensures { result ≡ cut_of lines.now }
+{
+    for line in lines {
+        if let Line::Cut(choice) = line {
+            return Some(*choice);
+        }
+    }
+    None
+}
+
+/// At most so many events does any line make.
+fn most_events(geometry: &Geometry, calls: usize) -> u64
+    requires { calls ≤ 1000000 }
+    ensures { result ≡ 2 * words_of geometry.now + 64 * calls + 64 }
+{
+    2 * geometry.words() + 64 * calls as u64 + 64
+}
+
+/// Caller 1, before the restart has ended.
+fn runner(geometry: Geometry, calls: Vec<Call>) -> Runner
+    ensures caller { caller_of result [] ≡ waiting geometry 1 calls.items }
+    ensures ended { result.ended ≡ 0 }
+{
+    Runner {
+        site: Site {
+            geometry,
+            version: 0,
+            caller: 1,
+        },
+        calls,
+        ended: 0,
+        engine: None,
+        begun: false,
+        drew: None,
+    }
+}
+
+/// The table over an image with the calls of caller 1, before its restart.
+fn begun(alloc: Global, medium: Medium, calls: Vec<Call>) -> Result<Table, NoMemory>
+    requires { length medium.words ≡ words_of medium.geometry }
+    ensures is_of { IfOk result (λ table. IsOf (task_of medium.geometry medium.words calls.items) table
+        (start_state (task_of medium.geometry medium.words calls.items))) }
+    ensures one { IfOk result (λ table. (length table.callers.items ≡ 1) × (length table.lists ≡ 1)) }
+{
+    let geometry = medium.geometry;
+    let lists = Lists::new(alloc, &[calls.len() as u64])?;
+    let mut callers = Vec::with_capacity(alloc, 1)?;
+    callers.push(runner(geometry, calls))?;
+    Ok(Table {
+        device: Device::new(alloc, medium, CALLERS)?,
+        keeper: Keeper::Restarting(RestartOp::new(geometry)),
+        callers,
+        lists,
+    })
+}
+
+/// Runs a script on an image: its restart, its calls by the lines of the schedule, and a close where no cut ends it. All memory
+/// is taken before the first event.
 ///
 /// # Errors
 ///
 /// `NoMemory` if memory runs out.
-pub fn play(_alloc: Global, _medium: Medium, _script: &Script) -> Result<Session, NoMemory>
-    requires served { IsServedImage _medium.geometry _medium.words }
-    requires so_far { All IsLineSoFar _script.now }
-    ensures played { IfOk result (IsPlay _medium.geometry _medium.words _script.now) }
+pub fn play(alloc: Global, medium: Medium, script: &Script) -> Result<Session, NoMemory>
+    requires served { IsServedImage medium.geometry medium.words }
+    requires few { length script.now ≤ 1000000 }
+    requires so_far { All IsLineSoFar script.now }
+    ensures played { IfOk result (IsPlay medium.geometry medium.words script.now) }
     ensures one_list { IfOk result (λ left. length left.lists ≡ 1) }
 {
-    Err(NoMemory)
+    core_run::run_begins();
+    core_run::lines_are_well();
+    core_run::runs_are_sessions();
+    let lines = script.as_slice();
+    let calls = calls_of_caller(alloc, lines, 1)?;
+    let most = most_events(&medium.geometry, calls.len());
+    let mut table = begun(alloc, medium, calls)?;
+    table.lines_done(most, lines);
+    let cut = cut_of(lines);
+    table.ended(most, cut);
+    Ok(table.left(cut))
 }

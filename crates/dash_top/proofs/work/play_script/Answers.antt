@@ -3,7 +3,7 @@ use Rattle.outside.specs.Storing.{Holds}
 use Rattle.session.specs.Session.{IsSession}
 use Rattle.play.specs.Played.{IsPlay, scripts_of, ending_of}
 use Rattle.dash_top.proofs.Counting.{rose_before}
-use Rattle.dash_top.proofs.Printed.{printed_by_run}
+use Rattle.play.proofs.Printed.{printed_by_run}
 use Rattle.dash_top.proofs.work.play_script.Goals as goal
 
 pub returns-in-Ok-clause-ok : goal.returns-in-Ok-clause-ok

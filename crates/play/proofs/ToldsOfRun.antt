@@ -7,7 +7,7 @@ use Rattle.map_model.specs.declared.entry.Stop.{Stop}
 use Rattle.reply_text.specs.Told.{left_by, tolds_of}
 use Rattle.engine.specs.Core.{Caller, current, open_of, told_of}
 use Rattle.core_run.specs.Run.{stop_for, stop_of}
-use Rattle.dash_top.proofs.AtRest.{AreAtRest}
+use Rattle.play.proofs.AtRest.{AreAtRest}
 
 same_open : (begun : Bool) (drew : Option Entry) → (if begun then Some drew else None) ≡ open_of begun drew
 same_open true drew = refl

@@ -1,0 +1,14 @@
+pub mod Events
+pub mod Devices
+pub mod Mapped
+pub mod Seats
+pub mod Steps
+pub mod Doing
+pub mod Drives
+pub mod Rounds
+pub mod Media
+pub mod Beginning
+pub mod Whole
+pub mod AtRest
+pub mod ToldsOfRun
+pub mod Printed

@@ -1,0 +1,61 @@
+-- The caller at the place takes the answer to its event, and its entry goes into its list.
+use Rattle.std.proofs.Common.{◌≡◌, ℕ, ◌+◌, ◌-◌, ◌<◌, length, Option, Some, arith, refl, sym, ap, ◌∙◌, add-one, subst}
+use Rattle.std.specs.Prelude.{slice_get}
+use Rattle.std.specs.Option.{IfSome}
+use Rattle.std.proofs.lemmas.Option.{slice_get_within, slice_get_read}
+use Rattle.map_model.specs.Kept.{Kept, with_entry}
+use Rattle.play.specs.declared.runner.Runner.{Runner}
+use Rattle.play.specs.Deeds.{lists_with}
+use Rattle.play.proofs.Seats.{seat_at, lists_many, room_left}
+use Rattle.play.proofs.Steps.{call_left}
+use Rattle.play.proofs.table.Table.call_deed.Goals as goal
+
+pub push-requires-clause-is_caller : goal.push-requires-clause-is_caller
+push-requires-clause-is_caller c =
+    let runs = c.requires.runs in
+    let within = slice_get_within c.args.self.now.callers.items c.args.place runs.runner runs.is_there in
+    let many = lists_many c.args.self.now.callers.items c.args.self.now.lists runs.room in
+    omega arith
+
+pub push-requires-clause-has_spare : goal.push-requires-clause-has_spare
+push-requires-clause-has_spare c =
+    let runs = c.requires.runs in
+    let seat = seat_at c.args.self.now.callers.items c.args.self.now.lists c.args.place runs.runner runs.room runs.is_there in
+    let here : c.args.place + 1 - 1 ≡ c.args.place = omega arith in
+    subst (λ (o : Option Kept). IfSome o (λ (kept : Kept). 0 < kept.spare)) (sym (ap (λ (n : ℕ). slice_get c.args.self.now.lists n) here ∙ seat.its_list))
+    (room_left runs.runner seat.kept c.args.call seat.room runs.is_current)
+
+pub returns-in-Some : goal.returns-in-Some
+returns-in-Some c t s caller is opened there =
+    let runs = c.requires.runs in
+    let within = slice_get_within c.args.self.now.callers.items c.args.place runs.runner runs.is_there in
+    let r : Runner = c.index_mut.result.now in
+    let its : slice_get c.args.self.now.callers.items c.args.place ≡ Some r =
+    slice_get_read c.args.self.now.callers.items (length c.args.self.now.callers.items) c.args.place r refl within c.index_mut.ensures.value in
+    let same : runs.runner ≡ r = let a = runs.is_there in cc in
+    let here : c.args.place + 1 - 1 ≡ c.args.place = omega arith in
+    call_left t c.args.self.now _ s c.args.place (c.args.place + 1) c.args.call c.args.engine caller r c.answered-answered.new.self c.next-want.result
+    c.event-ans.result c.answered-answered.result.end c.answered-answered.result.entry is opened there its
+    (subst (λ (q : Runner). slice_get q.calls.items q.ended ≡ Some c.args.call) same runs.is_current) (add-one c.args.place)
+    (record { answer = c.event-ans.ensures.answer; follows = c.event-ans.ensures.follows; shape = c.event-ans.ensures.shape; callers = c.event-ans.ensures.callers })
+    c.next-want.ensures
+    (record { caller = c.answered-answered.ensures.caller; count = c.answered-answered.ensures.count; calls = c.answered-answered.ensures.calls; end_is = c.answered-answered.ensures.end })
+    refl refl
+    (c.push.ensures ∙ ap (λ (n : ℕ). with_entry c.args.self.now.lists n c.in-Some.entry) here ∙ ap (λ o. lists_with c.args.self.now.lists c.args.place o) (sym c.in-Some.is))
+
+pub returns-in_default : goal.returns-in_default
+returns-in_default c t s caller is opened there =
+    let runs = c.requires.runs in
+    let within = slice_get_within c.args.self.now.callers.items c.args.place runs.runner runs.is_there in
+    let r : Runner = c.index_mut.result.now in
+    let its : slice_get c.args.self.now.callers.items c.args.place ≡ Some r =
+    slice_get_read c.args.self.now.callers.items (length c.args.self.now.callers.items) c.args.place r refl within c.index_mut.ensures.value in
+    let same : runs.runner ≡ r = let a = runs.is_there in cc in
+    call_left t c.args.self.now _ s c.args.place (c.args.place + 1) c.args.call c.args.engine caller r c.answered-answered.new.self c.next-want.result
+    c.event-ans.result c.answered-answered.result.end c.answered-answered.result.entry is opened there its
+    (subst (λ (q : Runner). slice_get q.calls.items q.ended ≡ Some c.args.call) same runs.is_current) (add-one c.args.place)
+    (record { answer = c.event-ans.ensures.answer; follows = c.event-ans.ensures.follows; shape = c.event-ans.ensures.shape; callers = c.event-ans.ensures.callers })
+    c.next-want.ensures
+    (record { caller = c.answered-answered.ensures.caller; count = c.answered-answered.ensures.count; calls = c.answered-answered.ensures.calls; end_is = c.answered-answered.ensures.end })
+    refl refl
+    (ap (λ o. lists_with c.args.self.now.lists c.args.place o) (sym c.in_default.is))

@@ -1,0 +1,79 @@
+-- What the parts of an event make of a table, for each state that it may be in.
+use Rattle.std.specs.Prelude.{◌≡◌, ℕ, ⊤, Option, None, Some, List, [], ◌∷◌, map, slice_get}
+use Rattle.map_model.specs.declared.call.Call.{Call}
+use Rattle.map_model.specs.declared.entry.Entry.{Entry}
+use Rattle.map_model.specs.Kept.{Kept, with_entry}
+use Rattle.op_core.specs.declared.want.Want.{Want}
+use Rattle.op_core.specs.declared.want.Want.TheVariants as want
+use Rattle.engine.specs.declared.engine.Engine.{Engine}
+use Rattle.engine.specs.Core.{Caller}
+use Rattle.restart_op.specs.declared.restart.RestartOp.{RestartOp}
+use Rattle.restart_op.specs.declared.close.CloseOp.{CloseOp}
+use Rattle.core_run.specs.declared.deed.Deed.{Deed as ToldDeed}
+use Rattle.core_run.specs.declared.keeper.Keeper.{Keeper}
+use Rattle.core_run.specs.declared.keeper.Keeper.TheVariants.{Restarting, Open, Closing, Closed}
+use Rattle.core_run.specs.State.{State, started_by, restart_deed, close_deed, engine_deed, deed}
+use Rattle.core_run.specs.Running.{Task}
+use Rattle.play.specs.declared.runner.Runner.{Runner}
+use Rattle.play.specs.declared.runner.RunningCall.{RunningCall}
+use Rattle.play.specs.declared.table.Table.{Table}
+use Rattle.play.specs.Runners.{running_by, awoken, HaveRoom}
+use Rattle.play.specs.Tables.{IsOf, Stands, IsAfter, HasDone}
+
+-- no caller was told anything yet
+abbrev pub NoneTold : List Kept → Type 0
+NoneTold [] = ⊤
+NoneTold (k ∷ lists) = (k.entries ≡ []) × NoneTold lists
+
+-- the call and the engine of a runner, while there are callers' events
+abbrev pub running_of : Option Runner → Option RunningCall
+running_of None = None
+running_of (Some r) = running_by r
+
+abbrev pub running_in : Keeper → Option Runner → Option RunningCall
+running_in (Restarting op) runner = None
+running_in Open runner = running_of runner
+running_in (Closing op) runner = None
+running_in Closed runner = None
+
+-- the caller at a place runs this call on this engine
+pub record MayGo (place : ℕ) (call : Call) (e : Engine) (table : Table) : Type 0 where
+  pub runner : Runner
+  pub is_there : slice_get table.callers.items place ≡ Some runner
+  pub is_current : slice_get runner.calls.items runner.ended ≡ Some call
+  pub its_engine : runner.engine ≡ Some e
+  pub room : HaveRoom table.callers.items table.lists
+
+-- the keeper and the runners after an event of the restart, by what it wants next
+abbrev pub restarting_keeper : RestartOp → Want → Keeper
+restarting_keeper op want.Done = Open
+restarting_keeper op w = Restarting op
+
+abbrev pub restarting_runners : RestartOp → Want → List Runner → List Runner
+restarting_runners op want.Done runners = map (awoken (started_by op).version) runners
+restarting_runners op w runners = runners
+
+-- the keeper after an event of the close
+abbrev pub closing_keeper : CloseOp → Want → Keeper
+closing_keeper op want.Done = Closed
+closing_keeper op w = Closing op
+
+-- the lists with an entry, where there is one
+abbrev pub lists_with : List Kept → ℕ → Option Entry → List Kept
+lists_with lists place None = lists
+lists_with lists place (Some e) = with_entry lists place e
+
+-- ---- what an event makes of the table, whatever the state
+abbrev pub FollowsRestart : RestartOp → Table → ToldDeed → Table → Type 0
+FollowsRestart op old told new = (t : Task) (s : State) → IsOf t old s → NoneTold old.lists → IsAfter t told (restart_deed t.shape op s.core) new
+
+abbrev pub FollowsClose : CloseOp → Table → ToldDeed → Table → Type 0
+FollowsClose op old told new = (t : Task) (s : State) → IsOf t old s → IsAfter t told (close_deed t.shape op s.core) new
+
+abbrev pub FollowsCall : ℕ → Call → Engine → Table → ToldDeed → Table → Type 0
+FollowsCall place call e old told new = (t : Task) (s : State) (caller : Caller) → IsOf t old s → s.keeper ≡ Open
+    → slice_get s.core.callers place ≡ Some caller → IsAfter t told (engine_deed t.shape place s.core caller call e) new
+
+-- the deed of a seat
+abbrev pub FollowsDeed : ℕ → Table → Option ToldDeed → Table → Type 0
+FollowsDeed seat old told new = (t : Task) (s : State) → Stands t s old → HasDone t s told (deed t.shape seat s) new

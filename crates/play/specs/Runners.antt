@@ -1,0 +1,63 @@
+-- What the runners and lists of a table are: callers of the core.
+use Rattle.std.specs.Prelude.{◌≡◌, ℕ, ◌+◌, ⊤, Option, None, Some, List, [], ◌∷◌, ◌++◌, length, slice_get, is_some, Bool, true, false, if◌then◌else◌}
+use Rattle.map_model.specs.declared.entry.Entry.{Entry}
+use Rattle.map_model.specs.Kept.{Kept}
+use Rattle.engine.specs.Core.{Caller, engine_for}
+use Rattle.engine.specs.declared.engine.Engine.{Engine}
+use Rattle.map_model.specs.declared.call.Call.{Call}
+use Rattle.play.specs.declared.runner.Runner.{Runner}
+use Rattle.play.specs.declared.runner.RunningCall.{RunningCall}
+
+-- a runner, with the entries that it was told, is a caller
+abbrev pub caller_of : Runner → List Entry → Caller
+caller_of r told = record { site = r.site; calls = r.calls.items; entries = told; engine = r.engine; begun = r.begun; drew = r.drew }
+
+-- the call of a runner and its engine, where it has a call left
+abbrev pub running_with : Option Call → Option Engine → Option RunningCall
+running_with None engine = None
+running_with (Some call) None = None
+running_with (Some call) (Some e) = Some (record { call = call; engine = e })
+
+abbrev pub running_by : Runner → Option RunningCall
+running_by r = running_with (slice_get r.calls.items r.ended) r.engine
+
+-- some runner has a call left
+abbrev pub calls_left : List Runner → Bool
+calls_left [] = false
+calls_left (r ∷ runners) = if is_some (slice_get r.calls.items r.ended) then true else calls_left runners
+
+-- a runner that begins, on an image of a version
+abbrev pub awoken : ℕ → Runner → Runner
+awoken version r = record r {
+  site = record r.site { version = version };
+  ended = 0;
+  engine = engine_for (record r.site { version = version }) (slice_get r.calls.items 0);
+  begun = false;
+  drew = None;
+}
+
+-- one entry more, where there is one
+abbrev pub told_with : Option Entry → List Entry → List Entry
+told_with None told = told
+told_with (Some e) told = told ++ e ∷ []
+
+abbrev pub counted_with : Option Entry → ℕ → ℕ
+counted_with None n = n
+counted_with (Some e) n = n + 1
+
+-- runners with their lists, place by place
+abbrev pub callers_of : List Runner → List Kept → List Caller
+callers_of [] lists = []
+callers_of (r ∷ runners) [] = []
+callers_of (r ∷ runners) (k ∷ lists) = caller_of r k.entries ∷ callers_of runners lists
+
+-- a runner counts its entries, and its list has room for those of its other calls
+pub record HasRoom (r : Runner) (k : Kept) : Type 0 where
+  pub counted : r.ended ≡ length k.entries
+  pub spare : length k.entries + k.spare ≡ length r.calls.items
+
+abbrev pub HaveRoom : List Runner → List Kept → Type 0
+HaveRoom [] [] = ⊤
+HaveRoom [] (k ∷ lists) = ⊥
+HaveRoom (r ∷ runners) [] = ⊥
+HaveRoom (r ∷ runners) (k ∷ lists) = HasRoom r k × HaveRoom runners lists

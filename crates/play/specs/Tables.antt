@@ -1,0 +1,75 @@
+-- What a table is to a state of a run, and what an event makes of it.
+use Rattle.std.specs.Prelude.{◌≡◌, ℕ, suc, ◌*◌, ◌+◌, ◌<◌, ◌≤◌, Option, None, Some, slice_index}
+use Rattle.op_core.specs.declared.want.Want.{Want}
+use Rattle.op_core.specs.declared.want.Want.TheVariants.{Flush, Done}
+use Rattle.trace.specs.Events.{value}
+use Rattle.image_layout.specs.Places.{Shape, words_of}
+use Rattle.image_layout.specs.Volatile.{all_words_of}
+use Rattle.world.specs.Wants.{word_of}
+use Rattle.pm_trace.specs.Memory.{Memory, unfenced}
+use Rattle.pm_trace.specs.TraceOf.{IsTraceOf}
+use Rattle.core_run.specs.declared.deed.Deed.{Deed as ToldDeed}
+use Rattle.core_run.specs.declared.goal.Goal.{Goal}
+use Rattle.core_run.specs.State.{State, Deed}
+use Rattle.core_run.specs.Run.{drive, closed}
+use Rattle.core_run.specs.Running.{Task, IsTask, IsRunning, start_of}
+use Rattle.play.specs.declared.table.Table.{Table}
+use Rattle.play.specs.Runners.{callers_of, HaveRoom}
+
+-- the value that an event finds
+abbrev pub found_by : Want → Memory → ℕ
+found_by w memory = slice_index memory.newest (word_of memory.shape w)
+
+-- a memory can do the event: its word is one of the memory, its line one of the image, and the caller has fewer than eight
+-- lines flushed and not fenced
+pub record MayBeAsked (caller : ℕ) (w : Want) (memory : Memory) : Type 0 where
+  pub caller_is : caller ≤ memory.callers
+  pub word : word_of memory.shape w < all_words_of memory.shape
+  pub line : (l : ℕ) → w ≡ Flush l → 8 * l + 8 ≤ words_of memory.shape
+  pub few : (l : ℕ) → w ≡ Flush l → unfenced caller memory < 8
+  pub some : w ≡ Done → ⊥
+
+-- THE TABLE is in this state: its memory came from the state's events, and its runners are the state's callers
+pub record IsOf (t : Task) (table : Table) (s : State) : Type 0 where
+  pub shape : table.device.shape ≡ t.shape
+  pub callers : table.device.callers ≡ 64
+  pub traced : IsTraceOf (start_of t) s.core.trace table.device
+  pub words : s.core.words ≡ value (start_of t) s.core.trace
+  pub keeper : table.keeper ≡ s.keeper
+  pub runners : callers_of table.callers.items table.lists ≡ s.core.callers
+  pub room : HaveRoom table.callers.items table.lists
+
+-- it stands there in a run of the task
+pub record Stands (t : Task) (s : State) (table : Table) : Type 0 where
+  pub task : IsTask t
+  pub is_of : IsOf t table s
+  pub running : IsRunning t s
+
+-- it stands somewhere
+abbrev pub StandsSomewhere : Table → Type 0
+StandsSomewhere table = (t : Task) × (s : State) × Stands t s table
+
+-- an event was done, and left this table
+pub record IsAfter (t : Task) (told : ToldDeed) (d : Deed) (table : Table) : Type 0 where
+  pub want : told.want ≡ d.want
+  pub end : told.end ≡ d.end
+  pub left : IsOf t table d.state
+
+-- what became of an event that a caller was to do, where the definitions have this one: the table stands where they say
+abbrev pub HasDone : Task → State → Option ToldDeed → Option Deed → Table → Type 0
+HasDone t s None None table = Stands t s table
+HasDone t s None (Some d) table = ⊥
+HasDone t s (Some told) None table = ⊥
+HasDone t s (Some told) (Some d) table = IsAfter t told d table × IsRunning t d.state
+
+-- ONE EVENT of a drive: how many are then to be counted, or the drive ends
+abbrev pub HasTurned : Task → State → ℕ → Goal → ℕ → Option ℕ → Table → Type 0
+HasTurned t s seat goal left None table = (next : State) × Stands t next table
+    × ((most : ℕ) → drive t.shape (suc most) seat goal left s ≡ next)
+HasTurned t s seat goal left (Some more) table = (next : State) × Stands t next table
+    × ((most : ℕ) → drive t.shape (suc most) seat goal left s ≡ drive t.shape most seat goal more next)
+
+-- the state at the end of a run, after its lines
+abbrev pub end_state : Shape → ℕ → Option ℕ → State → State
+end_state shape most None s = closed shape most s
+end_state shape most (Some choice) s = s

@@ -1,0 +1,77 @@
+//! What a line of a schedule counts.
+
+ghost use Rattle.std.specs.Prelude.{◌≡◌};
+ghost use Rattle.core_run.specs.State.{Deed as SaidDeed};
+ghost use Rattle.core_run.specs.Run.{is_of_kind, is_store_to, counts, ends_call, is_again, ends_in_again};
+
+use core_run::{Deed, Goal};
+use engine::End;
+use op_core::Want;
+use read_op::ReadEnd;
+use script_text::Event;
+use write_op::WriteEnd;
+
+/// Whether an attempt ended with the reply to its call.
+fn ends_call(end: Option<End>) -> bool
+    ensures { result ≡ ends_call end }
+{
+    match end {
+        Some(end) => end.reply().is_some(),
+        None => false,
+    }
+}
+
+/// Whether an event is of a kind.
+fn is_of_kind(kind: Event, deed: Deed) -> bool
+    ensures { (said : SaidDeed) → deed.want ≡ said.want → deed.end ≡ said.end → result ≡ is_of_kind kind said }
+{
+    match kind {
+        Event::Store => matches!(deed.want, Want::Store(..)),
+        Event::Exchange => matches!(deed.want, Want::Exchange(..)),
+        Event::Flush => matches!(deed.want, Want::Flush(_)),
+        Event::Fence => matches!(deed.want, Want::Fence),
+        Event::Draw => matches!(deed.want, Want::Draw),
+        Event::End => ends_call(deed.end),
+    }
+}
+
+/// Whether an event is a store to a word.
+fn is_store_to(word: u64, want: Want) -> bool
+    ensures { result ≡ is_store_to word want }
+{
+    match want {
+        Want::Store(at, _) => at == word,
+        _ => false,
+    }
+}
+
+/// Whether an event is counted.
+pub(crate) fn counts(goal: Goal, deed: Deed) -> bool
+    ensures { (said : SaidDeed) → deed.want ≡ said.want → deed.end ≡ said.end → result ≡ counts goal said }
+{
+    match goal {
+        Goal::AnyEvent => true,
+        Goal::Kind(kind) => is_of_kind(kind, deed),
+        Goal::StoreTo(word) => is_store_to(word, deed.want),
+    }
+}
+
+/// Whether an attempt ended and is to be made again.
+fn is_again(end: End) -> bool
+    ensures { result ≡ is_again end }
+{
+    match end {
+        End::Read(end) => matches!(end, ReadEnd::Again(_)),
+        End::Write(end) => matches!(end, WriteEnd::Again(_)),
+    }
+}
+
+/// Whether an attempt ended with this event and is to be made again.
+pub(crate) fn ends_in_again(end: Option<End>) -> bool
+    ensures { result ≡ ends_in_again end }
+{
+    match end {
+        Some(end) => is_again(end),
+        None => false,
+    }
+}

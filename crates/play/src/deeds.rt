@@ -1,0 +1,149 @@
+//! One event of a table.
+
+ghost use Rattle.std.specs.Prelude.{◌≡◌, ◌≢◌, ℕ, ◌+◌, ◌-◌, ◌<◌, List, [], Some, All, length, slice_get, map};
+ghost use Rattle.map_model.specs.Kept.{Kept};
+ghost use Rattle.engine.specs.Engine.{wanted};
+ghost use Rattle.core_run.specs.declared.keeper.Keeper.TheVariants.{Restarting, Open, Closing};
+ghost use Rattle.restart_op.specs.Restart.{wanted as restart_wanted};
+ghost use Rattle.restart_op.specs.Close.{wanted as close_wanted};
+ghost use Rattle.core_run.specs.Running.{Task};
+ghost use Rattle.core_run.specs.State.{State, awake, restart_deed, close_deed, keeper_deed, engine_deed, open_deed, deed};
+ghost use Rattle.play.specs.Runners.{awoken};
+ghost use Rattle.play.specs.Tables.{MayBeAsked, IsOf, Stands, StandsSomewhere, IsAfter, HasDone};
+ghost use Rattle.play.specs.Deeds.{MayGo, FollowsRestart, FollowsClose, FollowsCall, FollowsDeed, running_in, restarting_keeper, restarting_runners, closing_keeper};
+
+use crate::event::event;
+use crate::runner::{Runner, RunningCall};
+use crate::table::Table;
+use core_run::{Deed, Keeper};
+use engine::Engine;
+use map_model::Call;
+use op_core::{Machine, Want};
+use restart_op::{CloseOp, RestartOp};
+
+/// Callers begin, on an image of this version.
+fn awake(callers: &mut [Runner], version: u8)
+    ensures { callers.new ≡ map (awoken version) callers.old }
+{
+    for place in 0..callers.len() {
+        callers[place].awake(version);
+    }
+}
+
+/// The close goes on, or is over.
+fn closing(op: CloseOp) -> Keeper
+    ensures { result ≡ closing_keeper op (close_wanted op) }
+{
+    if op.want() == Want::Done {
+        Keeper::Closed
+    } else {
+        Keeper::Closing(op)
+    }
+}
+
+impl Table {
+    /// The restart goes on, or leaves the image to the callers.
+    fn restarting(&mut self, op: RestartOp)
+        ensures keeper { self.new.keeper ≡ restarting_keeper op (restart_wanted op) }
+        ensures callers { self.new.callers.items ≡ restarting_runners op (restart_wanted op) self.old.callers.items }
+        ensures device { self.new.device ≡ self.old.device }
+        ensures lists { self.new.lists ≡ self.old.lists }
+    {
+        if op.want() == Want::Done {
+            awake(&mut self.callers, op.end().version);
+            self.keeper = Keeper::Open;
+        } else {
+            self.keeper = Keeper::Restarting(op);
+        }
+    }
+
+    /// An event of the restart.
+    fn restart(&mut self, op: RestartOp) -> Deed
+        requires { MayBeAsked 0 (restart_wanted op) self.old.device }
+        ensures { FollowsRestart op self.old result self.new }
+    {
+        let want = op.want();
+        let mut next = op;
+        next.take(event(&mut self.device, 0, want));
+        self.restarting(next);
+        Deed { want, end: None }
+    }
+
+    /// An event of the close.
+    fn close(&mut self, op: CloseOp) -> Deed
+        requires { MayBeAsked 0 (close_wanted op) self.old.device }
+        ensures { FollowsClose op self.old result self.new }
+    {
+        let want = op.want();
+        let mut next = op;
+        next.take(event(&mut self.device, 0, want));
+        self.keeper = closing(next);
+        Deed { want, end: None }
+    }
+
+    /// An event of caller 0, if it has one left.
+    fn keeper_deed(&mut self) -> Option<Deed>
+        requires { StandsSomewhere self.old }
+        ensures { FollowsDeed 0 self.old result self.new }
+    {
+        core_run::deeds_are_well();
+        match self.keeper {
+            Keeper::Restarting(op) => Some(self.restart(op)),
+            Keeper::Closing(op) => Some(self.close(op)),
+            Keeper::Open | Keeper::Closed => None,
+        }
+    }
+
+    /// An event of the engine of the caller at a place, in its call.
+    fn call_deed(&mut self, place: usize, call: Call, engine: Engine) -> Deed
+        requires runs { MayGo place call engine self.old }
+        requires few { place < 64 }
+        requires may { MayBeAsked (place + 1) (wanted engine) self.old.device }
+        ensures { FollowsCall place call engine self.old result self.new }
+    {
+        let want = engine.next();
+        let ans = event(&mut self.device, place as u8 + 1, want);
+        let answered = self.callers[place].answered(call, engine, ans);
+        if let Some(entry) = answered.entry {
+            self.lists.push(place as u8 + 1, entry);
+        }
+        Deed {
+            want,
+            end: answered.end,
+        }
+    }
+
+    /// The call of the caller at a place, and its engine, while there are callers' events.
+    fn running(&self, place: usize) -> Option<RunningCall>
+        ensures { result ≡ running_in self.now.keeper (slice_get self.now.callers.items place) }
+    {
+        match (self.keeper, self.callers.get(place)) {
+            (Keeper::Open, Some(runner)) => runner.running(),
+            _ => None,
+        }
+    }
+
+    /// An event of the caller at a place, if it has one left.
+    fn caller_deed(&mut self, place: usize) -> Option<Deed>
+        requires { StandsSomewhere self.old }
+        ensures { FollowsDeed (place + 1) self.old result self.new }
+    {
+        core_run::deeds_are_well();
+        match self.running(place) {
+            Some(running) => Some(self.call_deed(place, running.call, running.engine)),
+            None => None,
+        }
+    }
+
+    /// An event of a caller, if it has one left.
+    pub(crate) fn deed(&mut self, seat: u8) -> Option<Deed>
+        requires { StandsSomewhere self.old }
+        ensures { FollowsDeed seat self.old result self.new }
+    {
+        if seat == 0 {
+            self.keeper_deed()
+        } else {
+            self.caller_deed(seat as usize - 1)
+        }
+    }
+}

@@ -1,0 +1,62 @@
+//! What a table leaves.
+
+ghost use Rattle.std.specs.Prelude.{◌≡◌, ◌∷◌, List, length, replicate, None};
+ghost use Rattle.trace.specs.Events.{Words, value};
+ghost use Rattle.map_model.specs.declared.entry.Entry.{Entry};
+ghost use Rattle.engine.specs.Core.{Core};
+ghost use Rattle.pm_trace.specs.TraceOf.{IsTraceOf};
+ghost use Rattle.core_run.specs.Run.{stop_of, medium_words};
+ghost use Rattle.core_run.specs.Running.{Task};
+ghost use Rattle.core_run.specs.State.{State};
+ghost use Rattle.play.specs.Runners.{caller_of};
+ghost use Rattle.play.specs.Tables.{IsOf};
+ghost use Rattle.play.specs.Played.{IsLeftOf};
+
+use crate::runner::Runner;
+use crate::table::Table;
+use image_file::Medium;
+use map_model::Stop;
+use pm_trace::Device;
+use reply_text::Session;
+
+/// The choice of a cut that takes each newest value.
+const NEWEST: u64 = 1;
+
+/// The medium that is left at a cut with this choice, or else where each newest value has settled.
+fn medium_of(device: Device, cut: Option<u64>) -> Medium
+    ensures geometry { result.geometry ≡ device.shape }
+    ensures words { (start : Words) (core : Core) → IsTraceOf start core.trace device → core.words ≡ value start core.trace
+        → result.words ≡ medium_words device.shape start core cut }
+{
+    trace::settled_values();
+    match cut {
+        Some(choice) => device.cut(choice),
+        None => device.cut(NEWEST),
+    }
+}
+
+/// Where the only caller stopped, among those of all callers.
+fn stops_of(runner: &Runner) -> [Option<Stop>; 64]
+    ensures { (told : List Entry) → length told ≡ runner.now.ended → result ≡ stop_of (caller_of runner.now told) ∷ replicate 63 None }
+{
+    let mut stops = [None; 64];
+    stops[0] = runner.stop();
+    stops
+}
+
+impl Table {
+    /// What it leaves at a cut with this choice, or where it was closed.
+    pub(crate) fn left(self, cut: Option<u64>) -> Session
+        requires { length self.callers.items ≡ 1 }
+        ensures left { (t : Task) (s : State) → IsOf t self s → IsLeftOf t s cut result }
+        ensures lists { length result.lists ≡ length self.lists }
+    {
+        let stops = stops_of(&self.callers[0]);
+        Session {
+            lists: self.lists,
+            stops,
+            medium: medium_of(self.device, cut),
+            cut: cut.is_some(),
+        }
+    }
+}

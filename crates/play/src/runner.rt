@@ -1,0 +1,171 @@
+//! A caller that runs its calls.
+
+ghost use Rattle.std.specs.Prelude.{◌≡◌, List, length, slice_get, Some, None};
+ghost use Rattle.op_core.specs.declared.want.Want.TheVariants as want;
+ghost use Rattle.map_model.specs.declared.entry.Entry.{Entry as MadeEntry};
+ghost use Rattle.engine.specs.Core.{entry_of, engine_for, ended, answered};
+ghost use Rattle.engine.specs.Engine.{wanted, taken, end_of, reply_of_end};
+ghost use Rattle.core_run.specs.State.{end_by};
+ghost use Rattle.core_run.specs.Run.{stop_of};
+ghost use Rattle.play.specs.Runners.{caller_of, running_by, awoken, told_with, counted_with};
+
+use engine::{End, Engine};
+use map_model::{Call, Entry, Reply, Stop};
+use op_core::{Ans, Want};
+use world::Site;
+
+/// A caller that runs its calls one after another. Its entries stand in the lists of the table.
+#[derive(Drop)]
+pub struct Runner {
+    /// Where it runs.
+    pub(crate) site: Site,
+    /// All its calls.
+    pub(crate) calls: Vec<Call>,
+    /// How many of them have ended.
+    pub(crate) ended: usize,
+    /// The engine of the call behind these.
+    pub(crate) engine: Option<Engine>,
+    /// Whether that call has begun.
+    pub(crate) begun: bool,
+    /// Its entry, where it drew.
+    pub(crate) drew: Option<Entry>,
+}
+
+/// A call that runs, and its engine.
+#[derive(Clone, Copy)]
+pub struct RunningCall {
+    pub(crate) call: Call,
+    pub(crate) engine: Engine,
+}
+
+/// What became of an event of a caller.
+#[derive(Clone, Copy)]
+pub(crate) struct Answered {
+    /// How its attempt ended, if it did.
+    pub(crate) end: Option<End>,
+    /// The entry of its call, if that ended.
+    pub(crate) entry: Option<Entry>,
+}
+
+impl Runner {
+    /// The call that is next, or runs.
+    pub(crate) fn current(&self) -> Option<Call>
+        ensures { result ≡ slice_get self.now.calls.items self.now.ended }
+    {
+        self.calls.get(self.ended).copied()
+    }
+
+    /// Its call and engine, where it has a call left.
+    pub(crate) fn running(&self) -> Option<RunningCall>
+        ensures { result ≡ running_by self.now }
+    {
+        match (self.current(), self.engine) {
+            (Some(call), Some(engine)) => Some(RunningCall { call, engine }),
+            _ => None,
+        }
+    }
+
+    /// The engine of that call, before it has done anything.
+    fn next_engine(&self) -> Option<Engine>
+        ensures { result ≡ engine_for self.now.site (slice_get self.now.calls.items self.now.ended) }
+    {
+        match self.current() {
+            Some(call) => Some(Engine::of(call, self.site)),
+            None => None,
+        }
+    }
+
+    /// The caller begins, on an image of this version.
+    pub(crate) fn awake(&mut self, version: u8)
+        ensures { self.new ≡ awoken version self.old }
+    {
+        self.site.version = version;
+        self.ended = 0;
+        self.engine = self.next_engine();
+        self.begun = false;
+        self.drew = None;
+    }
+
+    /// The entry of its call.
+    fn entry(&self, call: Call, reply: Reply, place: u64) -> Entry
+        requires { slice_get self.now.calls.items self.now.ended ≡ Some call }
+        ensures { (told : List MadeEntry) → length told ≡ self.now.ended → result ≡ entry_of (caller_of self.now told) call reply place }
+    {
+        Entry {
+            serial: self.ended as u64 + 1,
+            call,
+            reply,
+            place,
+            drew: matches!(reply, Reply::Done),
+        }
+    }
+
+    /// An attempt of its call has ended. The entry of the call, if that has ended too.
+    fn end_attempt(&mut self, call: Call, end: End) -> Option<Entry>
+        requires { slice_get self.old.calls.items self.old.ended ≡ Some call }
+        ensures caller { (told : List MadeEntry) → length told ≡ self.old.ended
+            → caller_of self.new (told_with result told) ≡ ended (caller_of self.old told) call (reply_of_end end) }
+        ensures count { self.new.ended ≡ counted_with result self.old.ended }
+        ensures calls { self.new.calls ≡ self.old.calls }
+    {
+        self.drew = None;
+        match end.reply() {
+            Some((reply, place)) => {
+                let entry = self.entry(call, reply, place);
+                self.ended += 1;
+                self.engine = self.next_engine();
+                self.begun = false;
+                Some(entry)
+            }
+            None => {
+                self.engine = Some(Engine::of(call, self.site));
+                self.begun = true;
+                None
+            }
+        }
+    }
+
+    /// Takes the answer to the event of its engine.
+    pub(crate) fn answered(&mut self, call: Call, engine: Engine, ans: Ans) -> Answered
+        requires { slice_get self.old.calls.items self.old.ended ≡ Some call }
+        ensures caller { (told : List MadeEntry) → length told ≡ self.old.ended
+            → caller_of self.new (told_with result.entry told) ≡ answered (caller_of self.old told) call engine ans }
+        ensures count { self.new.ended ≡ counted_with result.entry self.old.ended }
+        ensures calls { self.new.calls ≡ self.old.calls }
+        ensures end { result.end ≡ end_by self.old.site.geometry (taken engine ans) (wanted (taken engine ans)) }
+    {
+        if let Ans::Drawn(place) = ans {
+            self.drew = Some(self.entry(call, Reply::Done, place));
+        }
+        let mut next = engine;
+        next.take(ans);
+        if next.next() == Want::Done {
+            let end = next.end();
+            let entry = self.end_attempt(call, end);
+            Answered {
+                end: Some(end),
+                entry,
+            }
+        } else {
+            self.engine = Some(next);
+            self.begun = true;
+            Answered {
+                end: None,
+                entry: None,
+            }
+        }
+    }
+
+    /// Where it stopped, if it has a call left.
+    pub(crate) fn stop(&self) -> Option<Stop>
+        ensures { (told : List MadeEntry) → length told ≡ self.now.ended → result ≡ stop_of (caller_of self.now told) }
+    {
+        match self.current() {
+            Some(_) => Some(Stop {
+                begun: self.begun,
+                drew: self.drew,
+            }),
+            None => None,
+        }
+    }
+}

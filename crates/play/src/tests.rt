@@ -1,0 +1,98 @@
+//! Words and replies that were worked out by hand.
+
+ghost use Rattle.std.specs.Prelude.{◌≡◌, length, IfOk};
+
+use crate::play;
+use image_file::format;
+use image_layout::Geometry;
+use map_model::{Call, Entry, Reply};
+use reply_text::Session;
+use script_text::{Mode, parse};
+use std::alloc::Global;
+use std::process::Abort;
+use std::test::Fail;
+
+/// The words, not 0, of a closed image of one segment into which the pair 5, 7 was put.
+const ROW: [(usize, u64); 11] = [
+    (0, 0x3130_4845_4853_4144),
+    (1, 1),
+    (2, 1),
+    (16, 257),
+    (65, 257),
+    (96, 2),
+    (97, 1),
+    (98, 5),
+    (100, 5),
+    (101, 7),
+    (128, 2),
+];
+
+// What a script leaves of a new image of one segment.
+fn played(alloc: Global, script: &str) -> Result<Session, Fail>
+    ensures { IfOk result (λ left. length left.lists ≡ 1) }
+{
+    let medium = format(alloc, Geometry::new(1, 0, 0)?)?;
+    let script = parse(alloc, Mode::Play, script.as_bytes())?;
+    Ok(play(alloc, medium, &script)?)
+}
+
+// The words that are not 0.
+fn not_zero(alloc: Global, words: &[u64]) -> Result<Vec<(usize, u64)>, Fail> {
+    let mut row = Vec::new(alloc);
+    for (at, word) in words.iter().enumerate() {
+        if *word != 0 {
+            row.push((at, *word))?;
+        }
+    }
+    Ok(row)
+}
+
+// A word of the image that is left.
+fn word_of(left: &Session, at: usize) -> Option<u64> {
+    left.medium.words.as_slice().get(at).copied()
+}
+
+#[test]
+fn an_insert_and_a_get_to_the_close(rt: HostRuntime) -> Result<(), Fail> {
+    let alloc = rt.alloc();
+    let left = played(alloc, "1 insert 5 7\n1 get 5\n")?;
+    let entries = [
+        Entry {
+            serial: 1,
+            call: Call::Insert(5, 7),
+            reply: Reply::Done,
+            place: 0,
+            drew: true,
+        },
+        Entry {
+            serial: 2,
+            call: Call::Get(5),
+            reply: Reply::Found(7),
+            place: 1,
+            drew: false,
+        },
+    ];
+    assert_eq!(rt; left.lists.of(1), entries.as_slice());
+    assert_eq!(rt;
+        not_zero(alloc, left.medium.words.as_slice())?.as_slice(),
+        ROW.as_slice()
+    );
+    assert!(rt; !left.cut);
+    assert_eq!(rt; left.stops[0], None);
+    Ok(())
+}
+
+#[test]
+fn a_cut_behind_the_second_flush(rt: HostRuntime) -> Result<(), Fail> {
+    for (choice, script) in [
+        (0, "1 insert 5 7\nuntil 1 flush 2\ncut 0\n"),
+        (1, "1 insert 5 7\nuntil 1 flush 2\ncut 1\n"),
+    ] {
+        let left = played(rt.alloc(), script)?;
+        assert!(rt; left.cut);
+        assert_eq!(rt; left.lists.of(1).len(), 0);
+        assert_eq!(rt; left.stops[0].map(|stop| stop.begun), Some(true));
+        assert_eq!(rt; word_of(&left, 97), Some(choice));
+    }
+    Ok(())
+}
