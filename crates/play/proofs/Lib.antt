@@ -3,6 +3,9 @@ pub mod Devices
 pub mod Mapped
 pub mod Seats
 pub mod Steps
+pub mod Pictures
+pub mod Reopened
+pub mod Marking
 pub mod Doing
 pub mod Drives
 pub mod Rounds

@@ -2,3 +2,4 @@ pub mod Runners
 pub mod Tables
 pub mod Played
 pub mod Deeds
+pub mod Kept

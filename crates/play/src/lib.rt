@@ -10,12 +10,17 @@ mod counting;
 mod deeds;
 mod driving;
 mod event;
+mod keeping;
 mod leaving;
 mod playing;
 mod runner;
 mod table;
+pub mod tally;
 
+pub use keeping::{close, restart};
 pub use playing::play;
 
+#[cfg(test)]
+mod keeping_tests;
 #[cfg(test)]
 mod tests;

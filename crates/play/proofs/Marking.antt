@@ -1,0 +1,263 @@
+-- A close, event by event, and what it leaves.
+use Rattle.std.proofs.Common.{◌≡◌, ◌≢◌, ℕ, suc, ◌+◌, ◌-◌, ◌*◌, ◌/◌, ◌%◌, ◌^◌, ◌<◌, ◌≤◌, inl, inr, cond, Bool, true, false, List, ◌∷◌, length, refl, sym, ap, subst, ◌∙◌, arith}
+use Rattle.std.specs.Prelude.{slice_index, nat_lt, ⊤, if◌then◌else◌}
+use Rattle.std.proofs.lemmas.Bool.{cases_eq, ltb-true}
+use Rattle.std.proofs.lemmas.List.{ext_get_or, length-set, get_or-set_same, get_or-set_other}
+use Rattle.op_core.specs.declared.want.Want.{Want}
+use Rattle.op_core.specs.declared.want.Want.TheVariants as want
+use Rattle.op_core.specs.declared.want.Ans.{Ans}
+use Rattle.trace.specs.Events.{Words, Event, Trace, value, after, with_word}
+use Rattle.trace.specs.Progress.{pending}
+use Rattle.trace.proofs.Replaced.{cases_at, replaced_same, replaced_other}
+use Rattle.image_layout.specs.Places.{Shape, state_word, words_of}
+use Rattle.image_layout.specs.Volatile.{all_words_of}
+use Rattle.sound_image.specs.Image.{IsSoundImage}
+use Rattle.world.specs.Wants.{answer_to, word_of, event_of}
+use Rattle.restart_op.specs.declared.close.CloseStep.{CloseStep}
+use Rattle.restart_op.specs.declared.close.CloseStep.TheVariants.{Flush, Fence, Load, Store, FlushState, FenceState, Ended}
+use Rattle.restart_op.specs.declared.close.CloseOp.{CloseOp}
+use Rattle.restart_op.specs.Close.{lines_of, with_marker, wanted_in, wanted, taken, begun}
+use Rattle.restart_op.specs.Closing.{close_after, left}
+use Rattle.restart_op.proofs.CloseAlong.{IsKeptBy, along}
+use Rattle.restart_op.proofs.CloseEnding.{falls, few_wait}
+use Rattle.restart_op.proofs.ClosePhases.{Phase, phase_at, at_end}
+use Rattle.pm_trace.specs.Memory.{Memory, unfenced}
+use Rattle.pm_trace.specs.TraceOf.{IsTraceOf}
+use Rattle.play.specs.Tables.{MayBeAsked, found_by}
+use Rattle.play.specs.Kept.{IsTraced, image_of, marked_image, IsSettled, IsClosedFrom}
+use Rattle.play.proofs.Pictures.{image_word, image_whole, none_pending, settled_had}
+use Rattle.play.proofs.Reopened.{HasPassed}
+
+-- ---- the lines that it flushes are those of the image
+module _ (shape : Shape) where
+  abbrev LineIn : CloseStep → Words → Trace → Type 0
+  LineIn (Flush line waiting) words es = line < lines_of shape
+  LineIn s words es = ⊤
+
+  flushed_in : (line waiting : ℕ) (a b : Bool) (words : Words) (es : Trace) → nat_lt line (lines_of shape - 1) ≡ a
+      → LineIn (if a then (if b then Flush (line + 1) (waiting + 1) else Fence (line + 1)) else Fence (lines_of shape)) words es
+  flushed_in line waiting true true words es p = let l = ltb-true line (lines_of shape - 1) p in below (lines_of shape) l
+    where
+      below : (lines : ℕ) → line < lines - 1 → line + 1 < lines
+      below lines h = omega (arith, h)
+  flushed_in line waiting true false words es p = tt
+  flushed_in line waiting false b words es p = tt
+
+  fenced_in : (line : ℕ) (a : Bool) (words : Words) (es : Trace) → nat_lt line (lines_of shape) ≡ a → LineIn (if a then Flush line 0 else Load) words es
+  fenced_in line true words es p = ltb-true line (lines_of shape) p
+  fenced_in line false words es p = tt
+
+  line_on : IsKeptBy shape LineIn
+  line_on (Flush line waiting) words es h = flushed_in line waiting _ _ _ _ refl
+  line_on (Fence line) words es h = fenced_in line _ _ _ refl
+  line_on Load words es h = tt
+  line_on (Store state) words es h = tt
+  line_on FlushState words es h = tt
+  line_on FenceState words es h = tt
+  line_on Ended words es h = tt
+
+  line_fits : (line : ℕ) → line < lines_of shape → 8 * line + 8 ≤ words_of shape
+  line_fits line h = fits (words_of shape) h
+    where
+      fits : (width : ℕ) → line < width / 8 → 8 * line + 8 ≤ width
+      fits width h = omega (arith, h)
+
+  word_in : (s : CloseStep) (words : Words) (es : Trace) → LineIn s words es → word_of shape (wanted_in s) < all_words_of shape
+  word_in (Flush line waiting) words es h = let l = line_fits line h in omega (arith, l)
+  word_in (Fence line) words es h = omega arith
+  word_in Load words es h = omega arith
+  word_in (Store state) words es h = omega arith
+  word_in FlushState words es h = omega arith
+  word_in FenceState words es h = omega arith
+  word_in Ended words es h = omega arith
+
+  line_in : (s : CloseStep) (words : Words) (es : Trace) → LineIn s words es → (l : ℕ) → wanted_in s ≡ want.Flush l → 8 * l + 8 ≤ words_of shape
+  line_in (Flush line waiting) words es h l q = let f = line_fits line h in let z : line ≡ l = cc in subst (λ k. 8 * k + 8 ≤ words_of shape) z f
+  line_in (Fence line) words es h l q = cc
+  line_in Load words es h l q = cc
+  line_in (Store state) words es h l q = cc
+  line_in FlushState words es h l q = let z : 2 ≡ l = cc in subst (λ k. 8 * k + 8 ≤ words_of shape) z (omega arith)
+  line_in FenceState words es h l q = cc
+  line_in Ended words es h l q = cc
+
+-- ---- where it stands
+-- after so many events of a close of the old memory the machine is this one, and the memory came from them
+pub record IsAt (start : Words) (es : Trace) (old now : Memory) (op : CloseOp) : Type 0 where
+  pub events : ℕ
+  pub op_is : op ≡ (close_after old.shape (value start es) es events).op
+  pub words_are : (close_after old.shape (value start es) es events).words ≡ value start (close_after old.shape (value start es) es events).trace
+  pub traced : IsTraceOf start (close_after old.shape (value start es) es events).trace now
+
+-- whatever led to the old memory
+pub record ClosesOn (old now : Memory) (op : CloseOp) : Type 0 where
+  pub shape : now.shape ≡ old.shape
+  pub callers : now.callers ≡ old.callers
+  pub at : (start : Words) (es : Trace) → IsTraceOf start es old → IsAt start es old now op
+
+pub closes_first : (old : Memory) (op : CloseOp) → op ≡ begun old.shape → ClosesOn old old op
+closes_first old op is = record {
+  shape = refl;
+  callers = refl;
+  at = λ start es t. record { events = 0; op_is = is; words_are = refl; traced = t };
+}
+
+module _ (old now new : Memory) (op : CloseOp) (w : Want) (ans : Ans) (shape : now.shape ≡ old.shape) (w_is : w ≡ wanted op) (p : HasPassed now w ans new)
+    (start : Words) (es : Trace) (a : IsAt start es old now op) where
+  abbrev was_words : Words
+  was_words = (close_after old.shape (value start es) es a.events).words
+
+  abbrev was_trace : Trace
+  was_trace = (close_after old.shape (value start es) es a.events).trace
+
+  abbrev was_op : CloseOp
+  was_op = (close_after old.shape (value start es) es a.events).op
+
+  abbrev found : ℕ
+  found = was_words (word_of old.shape (wanted was_op))
+
+  want_is : w ≡ wanted was_op
+  want_is = w_is ∙ ap wanted a.op_is
+
+  found_is : found_by w now ≡ found
+  found_is =
+      a.traced.newest (word_of now.shape w)
+      ∙ ap (λ (f : Words). f (word_of now.shape w)) (sym a.words_are)
+      ∙ ap (λ (s : Shape). was_words (word_of s w)) shape
+      ∙ ap (λ (v : Want). was_words (word_of old.shape v)) want_is
+
+  answer_is : ans ≡ answer_to (wanted was_op) found
+  answer_is = p.answer ∙ ap (λ (n : ℕ). answer_to w n) found_is ∙ ap (λ (v : Want). answer_to v found) want_is
+
+  event_is : event_of now.shape w (found_by w now) 0 ≡ event_of old.shape (wanted was_op) found 0
+  event_is =
+      ap (λ (s : Shape). event_of s w (found_by w now) 0) shape
+      ∙ ap (λ (n : ℕ). event_of old.shape w n 0) found_is
+      ∙ ap (λ (v : Want). event_of old.shape v found 0) want_is
+
+  at_next : IsAt start es old new (taken op ans)
+  at_next = record {
+    events = suc a.events;
+    op_is = ap (λ (o : CloseOp). taken o ans) a.op_is ∙ ap (λ (b : Ans). taken was_op b) answer_is;
+    words_are = ap (λ (f : Words). after (event_of old.shape (wanted was_op) found 0) f) a.words_are;
+    traced = subst (λ (e : Event). IsTraceOf start (e ∷ was_trace) new) event_is (p.follows start was_trace a.traced);
+  }
+
+pub closes_on : (old now new : Memory) (op next : CloseOp) (w : Want) (ans : Ans) → ClosesOn old now op → w ≡ wanted op → HasPassed now w ans new → next ≡ taken op ans
+    → ClosesOn old new next
+closes_on old now new op next w ans c is p took =
+    subst (λ (o : CloseOp). ClosesOn old new o) (sym took)
+    (record {
+      shape = p.shape ∙ c.shape;
+      callers = p.callers ∙ c.callers;
+      at = λ start es t. at_next old now new op w ans c.shape is p start es (c.at start es t);
+    })
+
+pub close_falls : (now : Memory) (op next : CloseOp) (w : Want) (ans : Ans) → (w ≡ want.Done → ⊥) → w ≡ wanted op → ans ≡ answer_to w (found_by w now)
+    → next ≡ taken op ans → left next < left op
+close_falls now op next w ans some is answer took =
+    let all : next ≡ taken op (answer_to (wanted op) (found_by w now)) =
+    took ∙ ap (λ (b : Ans). taken op b) (answer ∙ ap (λ (v : Want). answer_to v (found_by w now)) is) in
+    subst (λ (o : CloseOp). left o < left op) (sym all) (falls op (found_by w now) (λ done. some (is ∙ done)))
+
+-- ---- it may be asked for
+module _ (old : Memory) (traced : IsTraced old) (none : unfenced 0 old ≡ 0) (now : Memory) (op : CloseOp) (c : ClosesOn old now op) where
+  abbrev here : IsAt traced.0 traced.1 old now op
+  here = c.at traced.0 traced.1 traced.2
+
+  abbrev words_here : Words
+  words_here = (close_after old.shape (value traced.0 traced.1) traced.1 here.events).words
+
+  abbrev trace_here : Trace
+  trace_here = (close_after old.shape (value traced.0 traced.1) traced.1 here.events).trace
+
+  abbrev op_here : CloseOp
+  op_here = (close_after old.shape (value traced.0 traced.1) traced.1 here.events).op
+
+  in_image : LineIn old.shape op_here.step words_here trace_here
+  in_image = along old.shape (LineIn old.shape) (line_on old.shape) (value traced.0 traced.1) traced.1 (omega arith) here.events
+
+  few : (l : ℕ) → wanted op_here ≡ want.Flush l → unfenced 0 now < 8
+  few l is =
+      let most = few_wait old.shape (value traced.0 traced.1) traced.1 (none_pending old traced.0 traced.1 traced.2 none) (suc here.events) in
+      let one_more : length (pending 0 trace_here) < 8 =
+      subst (λ (w : Want). length (pending 0 (event_of old.shape w (words_here (word_of old.shape w)) 0 ∷ trace_here)) ≤ 8) is most in
+      let once = here.traced.once 0 in omega (arith, one_more, once)
+
+  may_here : wanted op_here ≢ want.Done → MayBeAsked 0 (wanted op_here) now
+  may_here some = record {
+    caller_is = omega arith;
+    word = subst (λ (s : Shape). word_of s (wanted op_here) < all_words_of s) (sym c.shape) (word_in old.shape op_here.step words_here trace_here in_image);
+    line = λ l is. subst (λ (s : Shape). 8 * l + 8 ≤ words_of s) (sym c.shape) (line_in old.shape op_here.step words_here trace_here in_image l is);
+    few = few;
+    some = some;
+  }
+
+  pub close_may : (w : Want) → w ≡ wanted op → (w ≡ want.Done → ⊥) → MayBeAsked 0 w now
+  close_may w is some =
+      let at : w ≡ wanted op_here = is ∙ ap wanted here.op_is in
+      subst (λ (v : Want). MayBeAsked 0 v now) (sym at) (may_here (λ done. some (at ∙ done)))
+
+-- ---- its end
+module _ (old new : Memory) (op : CloseOp) (c : ClosesOn old new op) (done : wanted op ≡ want.Done) where
+  pub closed_from : (start : Words) (es : Trace) → IsTraceOf start es old → IsClosedFrom start es old new
+  closed_from start es t =
+      let a = c.at start es t in
+      record { events = a.events; ended = ap wanted (sym a.op_is) ∙ done; traced = a.traced }
+
+  module _ (traced : IsTraced old) where
+    abbrev was : Words
+    was = value traced.0 traced.1
+
+    abbrev end : IsClosedFrom traced.0 traced.1 old new
+    end = closed_from traced.0 traced.1 traced.2
+
+    abbrev trace_end : Trace
+    trace_end = (close_after old.shape was traced.1 end.events).trace
+
+    abbrev words_end : Words
+    words_end = (close_after old.shape was traced.1 end.events).words
+
+    phase : Phase old.shape traced.0 traced.1 was Ended words_end trace_end
+    phase = at_end old.shape traced.0 traced.1 was (close_after old.shape was traced.1 end.events).op.step words_end trace_end end.ended
+        (phase_at old.shape traced.0 traced.1 was refl end.events)
+
+    newest_is : (w : ℕ) → slice_index new.newest w ≡ with_word was state_word (with_marker (was state_word)) w
+    newest_is w = end.traced.newest w ∙ ap (λ (f : Words). f w) phase.0.value_is
+
+    pub marker_set : slice_index new.newest state_word ≡ with_marker (slice_index old.newest state_word)
+    marker_set = newest_is state_word ∙ replaced_same was state_word (with_marker (was state_word)) ∙ ap with_marker (sym (traced.2.newest state_word))
+
+    pub others_closed : (w : ℕ) → (w ≡ state_word → ⊥) → slice_index new.newest w ≡ slice_index old.newest w
+    others_closed w other = newest_is w ∙ replaced_other was state_word (with_marker (was state_word)) w other ∙ sym (traced.2.newest w)
+
+    pub settled_all : IsSettled new
+    settled_all w within =
+        phase.1 w (slice_index new.settled w) (subst (λ (s : Shape). w < words_of s) c.shape within) (settled_had new traced.0 trace_end w end.traced)
+        ∙ sym (newest_is w)
+
+    pub image_is : image_of new ≡ marked_image old
+    image_is =
+        let state = with_marker (slice_index old.newest state_word) in
+        let width = ap (λ (s : Shape). words_of s) c.shape in
+        ext_get_or 0 (image_of new) (marked_image old) (image_whole new ∙ width ∙ sym (image_whole old) ∙ sym (length-set (image_of old) state_word state))
+        (λ i within.
+        let low : i < words_of new.shape = subst (λ (n : ℕ). i < n) (image_whole new) within in
+        image_word new i low ∙ word_is i (subst (λ (n : ℕ). i < n) width low))
+      where
+        word_is : (i : ℕ) → i < words_of old.shape → slice_index new.newest i ≡ slice_index (marked_image old) i
+        word_is i low = elim (cases_eq i state_word) [
+          | inl at ↦ subst (λ (j : ℕ). slice_index new.newest j ≡ slice_index (marked_image old) j) (sym at)
+              (marker_set ∙ sym (get_or-set_same (image_of old) state_word (with_marker (slice_index old.newest state_word)) 0 (let whole = image_whole old in omega (arith, whole))))
+          | inr other ↦ others_closed i other ∙ sym (image_word old i low)
+              ∙ sym (get_or-set_other (image_of old) state_word i (with_marker (slice_index old.newest state_word)) 0 other)
+        ]
+
+    pub sound_closed : IsSoundImage old.shape (marked_image old) → IsSoundImage new.shape (image_of new)
+    sound_closed sound =
+        subst (λ (s : Shape). IsSoundImage s (image_of new)) (sym c.shape) (subst (λ (ws : List ℕ). IsSoundImage old.shape ws) (sym image_is) sound)
+
+    has_marker : (x : ℕ) → with_marker x / 2 ^ 8 % 2 ≡ 1
+    has_marker x = cases_at (λ b. cond b x (x + 2 ^ 8) / 2 ^ 8 % 2 ≡ 1) (x / 2 ^ 8 % 2) 1 (λ e. e) (λ n. omega (arith, n))
+
+    pub clean_closed : slice_index (image_of new) state_word / 2 ^ 8 % 2 ≡ 1
+    clean_closed = ap (λ (n : ℕ). n / 2 ^ 8 % 2) (image_word new state_word (omega arith) ∙ marker_set) ∙ has_marker (slice_index old.newest state_word)
