@@ -82,8 +82,8 @@ returns-clause-played c =
     let ends = play_stands t lines most c.cut_of-cut.result c.in_ok-table.table c.lines_done.new.self c.ended.new.self begins
     (c.lines_are_well.ensures t lines (record { task = is; one = refl })) many c.cut_of-cut.ensures c.lines_done.ensures c.ended.ensures in
     let run : IsOfRun shape first lines c.left.result =
-        play_is shape first lines c.left.result calls most c.cut_of-cut.result c.in_ok-calls.ensures many c.cut_of-cut.ensures
-        (c.left.ensures.left t (end_state shape most c.cut_of-cut.result (lines_done shape most lines (start_state t))) ends.is_of) in
+    play_is shape first lines c.left.result calls most c.cut_of-cut.result c.in_ok-calls.ensures many c.cut_of-cut.ensures
+    (c.left.ensures.left t (end_state shape most c.cut_of-cut.result (lines_done shape most lines (start_state t))) ends.is_of) in
     let so_far = subst (λ ls. All IsLineSoFar ls) (sym c.as_slice-lines.ensures) c.requires.so_far in
     subst (λ ls. IsPlay shape first ls c.left.result) c.as_slice-lines.ensures
     (is_play c.runs_are_sessions.ensures shape first lines c.left.result c.requires.served so_far run)
