@@ -93,16 +93,13 @@ impl Engine {
     pub fn take(&mut self, ans: Ans)
         ensures { self.new ≡ taken self.old ans }
     {
-        self.op = match self.op {
-            Op::Read(mut op) => {
+        match &mut self.op {
+            Op::Read(op) => op.take(ans),
+            Op::Write(op) => {
                 op.take(ans);
-                Op::Read(op)
+                *op = go_on(*op);
             }
-            Op::Write(mut op) => {
-                op.take(ans);
-                Op::Write(go_on(op))
-            }
-        };
+        }
     }
 
     /// How the attempt ended. It has to want nothing more.

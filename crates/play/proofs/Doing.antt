@@ -10,6 +10,7 @@ use Rattle.map_model.specs.Kept.{Kept}
 use Rattle.world.specs.Wants.{word_of}
 use Rattle.restart_op.specs.declared.restart.RestartOp.{RestartOp}
 use Rattle.engine.specs.declared.engine.Engine.{Engine}
+use Rattle.engine.specs.Engine.{wanted}
 use Rattle.engine.specs.Core.{Caller, Core}
 use Rattle.core_run.specs.declared.deed.Deed.{Deed as ToldDeed}
 use Rattle.core_run.specs.declared.keeper.Keeper.{Keeper}
@@ -95,34 +96,51 @@ place_few t s table place r st is =
     omega arith
 
 -- ---- a caller
-running_with_some : (call : Option Call) (e : Option Engine) (run : RunningCall) → running_with call e ≡ Some run → (call ≡ Some run.call) × (e ≡ Some run.engine)
-running_with_some None e run h = absurd (cc)
-running_with_some (Some call) None run h = absurd (cc)
-running_with_some (Some call) (Some e) run h =
-    let same : record { call = call; engine = e } ≡ run = cc in
-    (ap (λ (r : RunningCall). Some r.call) same, ap (λ (r : RunningCall). Some r.engine) same)
-
 pub record IsRunner (k : Keeper) (o : Option Runner) (run : RunningCall) : Type 0 where
   pub runner : Runner
+  pub engine : Engine
   pub opened : k ≡ Open
   pub is_there : o ≡ Some runner
   pub is_current : slice_get runner.calls.items runner.ended ≡ Some run.call
-  pub its_engine : runner.engine ≡ Some run.engine
+  pub its_engine : runner.engine ≡ Some engine
+  pub wants : wanted engine ≡ run.want
+
+running_by_some : (r : Runner) (call : Option Call) (e : Option Engine) (run : RunningCall) → slice_get r.calls.items r.ended ≡ call → r.engine ≡ e
+    → running_with call e ≡ Some run → IsRunner Open (Some r) run
+running_by_some r None e run current its h = absurd (cc)
+running_by_some r (Some call) None run current its h = absurd (cc)
+running_by_some r (Some call) (Some e) run current its h =
+    let same : record { call = call; want = wanted e } ≡ run = cc in
+    record {
+      runner = r;
+      engine = e;
+      opened = refl;
+      is_there = refl;
+      is_current = current ∙ ap (λ (q : RunningCall). Some q.call) same;
+      its_engine = its;
+      wants = ap (λ (q : RunningCall). q.want) same;
+    }
 
 running_some : (k : Keeper) (o : Option Runner) (run : RunningCall) → running_in k o ≡ Some run → IsRunner k o run
 running_some (Restarting op) o run h = absurd (cc)
 running_some (Closing op) o run h = absurd (cc)
 running_some Closed o run h = absurd (cc)
 running_some Open None run h = absurd (cc)
-running_some Open (Some r) run h =
-    let both = running_with_some (slice_get r.calls.items r.ended) r.engine run h in
-    record { runner = r; opened = refl; is_there = refl; is_current = both.0; its_engine = both.1 }
+running_some Open (Some r) run h = running_by_some r (slice_get r.calls.items r.ended) r.engine run refl refl h
 
 pub may_go : (table : Table) (place : ℕ) (run : RunningCall) → HaveRoom table.callers.items table.lists
-    → running_in table.keeper (slice_get table.callers.items place) ≡ Some run → MayGo place run.call run.engine table
+    → running_in table.keeper (slice_get table.callers.items place) ≡ Some run → MayGo place run.call run.want table
 may_go table place run room h =
     let is = running_some table.keeper (slice_get table.callers.items place) run h in
-    record { runner = is.runner; is_there = is.is_there; is_current = is.is_current; its_engine = is.its_engine; room = room }
+    record {
+      runner = is.runner;
+      engine = is.engine;
+      is_there = is.is_there;
+      is_current = is.is_current;
+      its_engine = is.its_engine;
+      wants = is.wants;
+      room = room;
+    }
 
 pub is_open : (table : Table) (place : ℕ) (run : RunningCall) → running_in table.keeper (slice_get table.callers.items place) ≡ Some run → table.keeper ≡ Open
 is_open table place run h = (running_some table.keeper (slice_get table.callers.items place) run h).opened
@@ -158,9 +176,9 @@ pub record HasEvent (t : Task) (s : State) (place : ℕ) (call : Call) (e : Engi
   pub is_there : slice_get s.core.callers place ≡ Some caller
   pub its_deed : deed t.shape (suc place) s ≡ Some (engine_deed t.shape place s.core caller call e)
 
-pub has_event : (t : Task) (s : State) (table : Table) (place : ℕ) (call : Call) (e : Engine) → IsOf t table s → table.keeper ≡ Open → MayGo place call e table
-    → HasEvent t s place call e
-has_event t s table place call e is opened may =
+pub has_event : (t : Task) (s : State) (table : Table) (place : ℕ) (call : Call) (w : Want) → IsOf t table s → table.keeper ≡ Open
+    → (may : MayGo place call w table) → HasEvent t s place call may.engine
+has_event t s table place call w is opened may =
     let seat = seat_at table.callers.items table.lists place may.runner is.room may.is_there in
     let caller : Caller = caller_of may.runner seat.kept.entries in
     let there : slice_get s.core.callers place ≡ Some caller = ap (λ cs. slice_get cs place) (sym is.runners) ∙ seat.its_caller in

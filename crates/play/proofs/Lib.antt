@@ -12,6 +12,7 @@ pub mod Rounds
 pub mod Media
 pub mod Beginning
 pub mod Whole
+pub mod Answering
 pub mod AtRest
 pub mod ToldsOfRun
 pub mod Printed

@@ -6,6 +6,7 @@ use Rattle.map_model.specs.Kept.{Kept, with_entry}
 use Rattle.op_core.specs.declared.want.Want.{Want}
 use Rattle.op_core.specs.declared.want.Want.TheVariants as want
 use Rattle.engine.specs.declared.engine.Engine.{Engine}
+use Rattle.engine.specs.Engine.{wanted}
 use Rattle.engine.specs.Core.{Caller}
 use Rattle.restart_op.specs.declared.restart.RestartOp.{RestartOp}
 use Rattle.restart_op.specs.declared.close.CloseOp.{CloseOp}
@@ -25,7 +26,7 @@ abbrev pub NoneTold : List Kept → Type 0
 NoneTold [] = ⊤
 NoneTold (k ∷ lists) = (k.entries ≡ []) × NoneTold lists
 
--- the call and the engine of a runner, while there are callers' events
+-- the call of a runner and the event that it wants, while there are callers' events
 abbrev pub running_of : Option Runner → Option RunningCall
 running_of None = None
 running_of (Some r) = running_by r
@@ -36,12 +37,14 @@ running_in Open runner = running_of runner
 running_in (Closing op) runner = None
 running_in Closed runner = None
 
--- the caller at a place runs this call on this engine
-pub record MayGo (place : ℕ) (call : Call) (e : Engine) (table : Table) : Type 0 where
+-- the caller at a place runs this call, and its engine wants this event
+pub record MayGo (place : ℕ) (call : Call) (w : Want) (table : Table) : Type 0 where
   pub runner : Runner
+  pub engine : Engine
   pub is_there : slice_get table.callers.items place ≡ Some runner
   pub is_current : slice_get runner.calls.items runner.ended ≡ Some call
-  pub its_engine : runner.engine ≡ Some e
+  pub its_engine : runner.engine ≡ Some engine
+  pub wants : wanted engine ≡ w
   pub room : HaveRoom table.callers.items table.lists
 
 -- the keeper and the runners after an event of the restart, by what it wants next

@@ -4,6 +4,7 @@ use Rattle.map_model.specs.declared.entry.Entry.{Entry}
 use Rattle.map_model.specs.Kept.{Kept}
 use Rattle.engine.specs.Core.{Caller, engine_for}
 use Rattle.engine.specs.declared.engine.Engine.{Engine}
+use Rattle.engine.specs.Engine.{wanted}
 use Rattle.map_model.specs.declared.call.Call.{Call}
 use Rattle.play.specs.declared.runner.Runner.{Runner}
 use Rattle.play.specs.declared.runner.RunningCall.{RunningCall}
@@ -12,14 +13,18 @@ use Rattle.play.specs.declared.runner.RunningCall.{RunningCall}
 abbrev pub caller_of : Runner → List Entry → Caller
 caller_of r told = record { site = r.site; calls = r.calls.items; entries = told; engine = r.engine; begun = r.begun; drew = r.drew }
 
--- the call of a runner and its engine, where it has a call left
+-- the call of a runner and the event that its engine wants, where it has a call left
 abbrev pub running_with : Option Call → Option Engine → Option RunningCall
 running_with None engine = None
 running_with (Some call) None = None
-running_with (Some call) (Some e) = Some (record { call = call; engine = e })
+running_with (Some call) (Some e) = Some (record { call = call; want = wanted e })
 
 abbrev pub running_by : Runner → Option RunningCall
 running_by r = running_with (slice_get r.calls.items r.ended) r.engine
+
+-- a runner whose engine took an answer
+abbrev pub taken_to : Engine → Runner → Runner
+taken_to e r = record r { engine = Some e; begun = true }
 
 -- some runner has a call left
 abbrev pub calls_left : List Runner → Bool

@@ -2,7 +2,6 @@
 
 ghost use Rattle.std.specs.Prelude.{◌≡◌, ◌≢◌, ℕ, ◌+◌, ◌-◌, ◌<◌, List, [], Some, All, length, slice_get, map};
 ghost use Rattle.map_model.specs.Kept.{Kept};
-ghost use Rattle.engine.specs.Engine.{wanted};
 ghost use Rattle.core_run.specs.declared.keeper.Keeper.TheVariants.{Restarting, Open, Closing};
 ghost use Rattle.restart_op.specs.Restart.{wanted as restart_wanted};
 ghost use Rattle.restart_op.specs.Close.{wanted as close_wanted};
@@ -16,7 +15,6 @@ use crate::event::event;
 use crate::runner::{Runner, RunningCall};
 use crate::table::Table;
 use core_run::{Deed, Keeper};
-use engine::Engine;
 use map_model::Call;
 use op_core::{Machine, Want};
 use restart_op::{CloseOp, RestartOp};
@@ -95,15 +93,14 @@ impl Table {
     }
 
     /// An event of the engine of the caller at a place, in its call.
-    fn call_deed(&mut self, place: usize, call: Call, engine: Engine) -> Deed
-        requires runs { MayGo place call engine self.old }
+    fn call_deed(&mut self, place: usize, call: Call, want: Want) -> Deed
+        requires runs { MayGo place call want self.old }
         requires few { place < 64 }
-        requires may { MayBeAsked (place + 1) (wanted engine) self.old.device }
-        ensures { FollowsCall place call engine self.old result self.new }
+        requires may { MayBeAsked (place + 1) want self.old.device }
+        ensures { (runs : MayGo place call want self.old) → FollowsCall place call runs.engine self.old result self.new }
     {
-        let want = engine.next();
         let ans = event(&mut self.device, place as u8 + 1, want);
-        let answered = self.callers[place].answered(call, engine, ans);
+        let answered = self.callers[place].answered(call, ans);
         if let Some(entry) = answered.entry {
             self.lists.push(place as u8 + 1, entry);
         }
@@ -113,11 +110,11 @@ impl Table {
         }
     }
 
-    /// The call of the caller at a place, and its engine, while there are callers' events.
+    /// The call of the caller at a place, and the event that it wants, while there are callers' events.
     fn running(&self, place: usize) -> Option<RunningCall>
         ensures { result ≡ running_in self.now.keeper (slice_get self.now.callers.items place) }
     {
-        match (self.keeper, self.callers.get(place)) {
+        match (&self.keeper, self.callers.get(place)) {
             (Keeper::Open, Some(runner)) => runner.running(),
             _ => None,
         }
@@ -130,7 +127,7 @@ impl Table {
     {
         core_run::deeds_are_well();
         match self.running(place) {
-            Some(running) => Some(self.call_deed(place, running.call, running.engine)),
+            Some(running) => Some(self.call_deed(place, running.call, running.want)),
             None => None,
         }
     }

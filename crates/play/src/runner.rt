@@ -3,11 +3,13 @@
 ghost use Rattle.std.specs.Prelude.{◌≡◌, List, length, slice_get, Some, None};
 ghost use Rattle.op_core.specs.declared.want.Want.TheVariants as want;
 ghost use Rattle.map_model.specs.declared.entry.Entry.{Entry as MadeEntry};
-ghost use Rattle.engine.specs.Core.{entry_of, engine_for, ended, answered};
+ghost use Rattle.image_layout.specs.Places.{Shape};
+ghost use Rattle.engine.specs.Core.{entry_of, engine_for, drawn_by, ended, answered};
+ghost use Rattle.engine.specs.declared.engine.Engine.{Engine as SaidEngine};
 ghost use Rattle.engine.specs.Engine.{wanted, taken, end_of, reply_of_end};
 ghost use Rattle.core_run.specs.State.{end_by};
 ghost use Rattle.core_run.specs.Run.{stop_of};
-ghost use Rattle.play.specs.Runners.{caller_of, running_by, awoken, told_with, counted_with};
+ghost use Rattle.play.specs.Runners.{caller_of, running_by, taken_to, awoken, told_with, counted_with};
 
 use engine::{End, Engine};
 use map_model::{Call, Entry, Reply, Stop};
@@ -31,11 +33,11 @@ pub struct Runner {
     pub(crate) drew: Option<Entry>,
 }
 
-/// A call that runs, and its engine.
+/// A call that runs, and the event that its engine wants.
 #[derive(Clone, Copy)]
 pub struct RunningCall {
     pub(crate) call: Call,
-    pub(crate) engine: Engine,
+    pub(crate) want: Want,
 }
 
 /// What became of an event of a caller.
@@ -47,6 +49,19 @@ pub(crate) struct Answered {
     pub(crate) entry: Option<Entry>,
 }
 
+/// An engine takes the answer to its event, where it stands. How its attempt ended, if it did.
+fn take(engine: &mut Engine, ans: Ans) -> Option<End>
+    ensures engine { engine.new ≡ taken engine.old ans }
+    ensures end { (shape : Shape) → result ≡ end_by shape (taken engine.old ans) (wanted (taken engine.old ans)) }
+{
+    engine.take(ans);
+    if engine.next() == Want::Done {
+        Some(engine.end())
+    } else {
+        None
+    }
+}
+
 impl Runner {
     /// The call that is next, or runs.
     pub(crate) fn current(&self) -> Option<Call>
@@ -55,12 +70,15 @@ impl Runner {
         self.calls.get(self.ended).copied()
     }
 
-    /// Its call and engine, where it has a call left.
+    /// Its call and the event that it wants, where it has a call left.
     pub(crate) fn running(&self) -> Option<RunningCall>
         ensures { result ≡ running_by self.now }
     {
-        match (self.current(), self.engine) {
-            (Some(call), Some(engine)) => Some(RunningCall { call, engine }),
+        match (self.current(), &self.engine) {
+            (Some(call), Some(engine)) => Some(RunningCall {
+                call,
+                want: engine.next(),
+            }),
             _ => None,
         }
     }
@@ -125,35 +143,51 @@ impl Runner {
         }
     }
 
-    /// Takes the answer to the event of its engine.
-    pub(crate) fn answered(&mut self, call: Call, engine: Engine, ans: Ans) -> Answered
+    /// Its entry is known, where it drew.
+    fn draws(&mut self, call: Call, ans: Ans)
         requires { slice_get self.old.calls.items self.old.ended ≡ Some call }
-        ensures caller { (told : List MadeEntry) → length told ≡ self.old.ended
-            → caller_of self.new (told_with result.entry told) ≡ answered (caller_of self.old told) call engine ans }
-        ensures count { self.new.ended ≡ counted_with result.entry self.old.ended }
-        ensures calls { self.new.calls ≡ self.old.calls }
-        ensures end { result.end ≡ end_by self.old.site.geometry (taken engine ans) (wanted (taken engine ans)) }
+        ensures drew { (told : List MadeEntry) → length told ≡ self.old.ended → self.new.drew ≡ drawn_by (caller_of self.old told) call ans }
+        ensures others { self.new ≡ record self.old { drew = self.new.drew } }
     {
         if let Ans::Drawn(place) = ans {
             self.drew = Some(self.entry(call, Reply::Done, place));
         }
-        let mut next = engine;
-        next.take(ans);
-        if next.next() == Want::Done {
-            let end = next.end();
-            let entry = self.end_attempt(call, end);
-            Answered {
-                end: Some(end),
-                entry,
-            }
-        } else {
-            self.engine = Some(next);
-            self.begun = true;
-            Answered {
-                end: None,
-                entry: None,
-            }
+    }
+
+    /// Its engine takes the answer to its event. How its attempt ended, if it did.
+    fn taken(&mut self, ans: Ans) -> Option<End>
+        requires { (e : SaidEngine) × self.old.engine ≡ Some e }
+        ensures runner { (e : SaidEngine) → self.old.engine ≡ Some e → self.new ≡ taken_to (taken e ans) self.old }
+        ensures end { (e : SaidEngine) → self.old.engine ≡ Some e
+            → result ≡ end_by self.old.site.geometry (taken e ans) (wanted (taken e ans)) }
+        ensures count { self.new.ended ≡ self.old.ended }
+        ensures calls { self.new.calls ≡ self.old.calls }
+    {
+        self.begun = true;
+        match &mut self.engine {
+            Some(engine) => take(engine, ans),
+            None => unreachable!(),
         }
+    }
+
+    /// Takes the answer to the event of its engine.
+    pub(crate) fn answered(&mut self, call: Call, ans: Ans) -> Answered
+        requires current { slice_get self.old.calls.items self.old.ended ≡ Some call }
+        requires runs { (e : SaidEngine) × self.old.engine ≡ Some e }
+        ensures caller { (e : SaidEngine) → self.old.engine ≡ Some e → (told : List MadeEntry) → length told ≡ self.old.ended
+            → caller_of self.new (told_with result.entry told) ≡ answered (caller_of self.old told) call e ans }
+        ensures count { self.new.ended ≡ counted_with result.entry self.old.ended }
+        ensures calls { self.new.calls ≡ self.old.calls }
+        ensures end { (e : SaidEngine) → self.old.engine ≡ Some e
+            → result.end ≡ end_by self.old.site.geometry (taken e ans) (wanted (taken e ans)) }
+    {
+        self.draws(call, ans);
+        let end = self.taken(ans);
+        let entry = match end {
+            Some(end) => self.end_attempt(call, end),
+            None => None,
+        };
+        Answered { end, entry }
     }
 
     /// Where it stopped, if it has a call left.

@@ -26,36 +26,36 @@ push-requires-clause-has_spare c =
     (room_left runs.runner seat.kept c.args.call seat.room runs.is_current)
 
 pub returns-in-Some : goal.returns-in-Some
-returns-in-Some c t s caller is opened there =
-    let runs = c.requires.runs in
+returns-in-Some c runs t s caller is opened there =
     let within = slice_get_within c.args.self.now.callers.items c.args.place runs.runner runs.is_there in
     let r : Runner = c.index_mut.result.now in
     let its : slice_get c.args.self.now.callers.items c.args.place ≡ Some r =
     slice_get_read c.args.self.now.callers.items (length c.args.self.now.callers.items) c.args.place r refl within c.index_mut.ensures.value in
     let same : runs.runner ≡ r = let a = runs.is_there in cc in
+    let its_engine : r.engine ≡ Some runs.engine = ap (λ (q : Runner). q.engine) (sym same) ∙ runs.its_engine in
     let here : c.args.place + 1 - 1 ≡ c.args.place = omega arith in
-    call_left t c.args.self.now _ s c.args.place (c.args.place + 1) c.args.call c.args.engine caller r c.answered-answered.new.self c.next-want.result
+    call_left t c.args.self.now _ s c.args.place (c.args.place + 1) c.args.call runs.engine caller r c.answered-answered.new.self c.args.want
     c.event-ans.result c.answered-answered.result.end c.answered-answered.result.entry is opened there its
     (subst (λ (q : Runner). slice_get q.calls.items q.ended ≡ Some c.args.call) same runs.is_current) (add-one c.args.place)
     (record { answer = c.event-ans.ensures.answer; follows = c.event-ans.ensures.follows; shape = c.event-ans.ensures.shape; callers = c.event-ans.ensures.callers })
-    c.next-want.ensures
-    (record { caller = c.answered-answered.ensures.caller; count = c.answered-answered.ensures.count; calls = c.answered-answered.ensures.calls; end_is = c.answered-answered.ensures.end })
+    (sym runs.wants)
+    (record { caller = c.answered-answered.ensures.caller runs.engine its_engine; count = c.answered-answered.ensures.count; calls = c.answered-answered.ensures.calls; end_is = c.answered-answered.ensures.end runs.engine its_engine })
     refl refl
     (c.push.ensures ∙ ap (λ (n : ℕ). with_entry c.args.self.now.lists n c.in-Some.entry) here ∙ ap (λ o. lists_with c.args.self.now.lists c.args.place o) (sym c.in-Some.is))
 
 pub returns-in_default : goal.returns-in_default
-returns-in_default c t s caller is opened there =
-    let runs = c.requires.runs in
+returns-in_default c runs t s caller is opened there =
     let within = slice_get_within c.args.self.now.callers.items c.args.place runs.runner runs.is_there in
     let r : Runner = c.index_mut.result.now in
     let its : slice_get c.args.self.now.callers.items c.args.place ≡ Some r =
     slice_get_read c.args.self.now.callers.items (length c.args.self.now.callers.items) c.args.place r refl within c.index_mut.ensures.value in
     let same : runs.runner ≡ r = let a = runs.is_there in cc in
-    call_left t c.args.self.now _ s c.args.place (c.args.place + 1) c.args.call c.args.engine caller r c.answered-answered.new.self c.next-want.result
+    let its_engine : r.engine ≡ Some runs.engine = ap (λ (q : Runner). q.engine) (sym same) ∙ runs.its_engine in
+    call_left t c.args.self.now _ s c.args.place (c.args.place + 1) c.args.call runs.engine caller r c.answered-answered.new.self c.args.want
     c.event-ans.result c.answered-answered.result.end c.answered-answered.result.entry is opened there its
     (subst (λ (q : Runner). slice_get q.calls.items q.ended ≡ Some c.args.call) same runs.is_current) (add-one c.args.place)
     (record { answer = c.event-ans.ensures.answer; follows = c.event-ans.ensures.follows; shape = c.event-ans.ensures.shape; callers = c.event-ans.ensures.callers })
-    c.next-want.ensures
-    (record { caller = c.answered-answered.ensures.caller; count = c.answered-answered.ensures.count; calls = c.answered-answered.ensures.calls; end_is = c.answered-answered.ensures.end })
+    (sym runs.wants)
+    (record { caller = c.answered-answered.ensures.caller runs.engine its_engine; count = c.answered-answered.ensures.count; calls = c.answered-answered.ensures.calls; end_is = c.answered-answered.ensures.end runs.engine its_engine })
     refl refl
     (ap (λ o. lists_with c.args.self.now.lists c.args.place o) (sym c.in_default.is))

@@ -2,7 +2,7 @@
 use Rattle.std.proofs.Common.{ℕ, suc, None, Some, arith, add-one, sym, subst}
 use Rattle.core_run.specs.State.{deed, engine_deed}
 use Rattle.play.specs.Tables.{MayBeAsked, HasDone}
-use Rattle.engine.specs.Engine.{wanted}
+use Rattle.op_core.specs.declared.want.Want.{Want}
 use Rattle.play.proofs.Doing.{deed_may, has_done, has_none, may_go, is_open, no_deed, has_event, place_few, keeper_is}
 use Rattle.core_run.specs.declared.keeper.Keeper.TheVariants.{Open}
 use Rattle.play.proofs.table.Table.caller_deed.Goals as goal
@@ -21,19 +21,19 @@ call_deed-requires-clause-may c =
     let t = c.requires.0 in let s = c.requires.1 in let st = c.requires.2 in let run = c.in-Some.running in let place = c.args.place in
     let may = may_go c.args.self.now place run st.is_of.room (sym c.in-Some.ensures) in
     let few = place_few t s c.args.self.now place may.runner st may.is_there in
-    let has = has_event t s c.args.self.now place run.call run.engine st.is_of (is_open c.args.self.now place run (sym c.in-Some.ensures)) may in
-    subst (λ (n : ℕ). MayBeAsked n (wanted run.engine) c.args.self.now.device) (sym (add-one place))
-    (deed_may c.deeds_are_well.ensures t s c.args.self.now (suc place) (engine_deed t.shape place s.core has.caller run.call run.engine) st (omega arith) has.its_deed)
+    let has = has_event t s c.args.self.now place run.call run.want st.is_of (is_open c.args.self.now place run (sym c.in-Some.ensures)) may in
+    subst (λ (n : ℕ). MayBeAsked n run.want c.args.self.now.device) (sym (add-one place))
+    (subst (λ (w : Want). MayBeAsked (suc place) w c.args.self.now.device) may.wants (deed_may c.deeds_are_well.ensures t s c.args.self.now (suc place) (engine_deed t.shape place s.core has.caller run.call may.engine) st (omega arith) has.its_deed))
 
 pub returns-in-Some : goal.returns-in-Some
 returns-in-Some c t s st =
     let run = c.in-Some.running in let place = c.args.place in
     let may = may_go c.args.self.now place run st.is_of.room (sym c.in-Some.ensures) in
     let opened = is_open c.args.self.now place run (sym c.in-Some.ensures) in
-    let has = has_event t s c.args.self.now place run.call run.engine st.is_of opened may in
+    let has = has_event t s c.args.self.now place run.call run.want st.is_of opened may in
     subst (λ (n : ℕ). HasDone t s (Some c.call_deed.result) (deed t.shape n s) c.call_deed.new.self) (sym (add-one place))
-    (has_done c.deeds_are_well.ensures t s c.args.self.now c.call_deed.new.self (suc place) (engine_deed t.shape place s.core has.caller run.call run.engine)
-    c.call_deed.result st has.its_deed (c.call_deed.ensures t s has.caller st.is_of (keeper_is t s c.args.self.now Open st.is_of opened) has.is_there))
+    (has_done c.deeds_are_well.ensures t s c.args.self.now c.call_deed.new.self (suc place) (engine_deed t.shape place s.core has.caller run.call may.engine)
+    c.call_deed.result st has.its_deed (c.call_deed.ensures may t s has.caller st.is_of (keeper_is t s c.args.self.now Open st.is_of opened) has.is_there))
 
 pub returns-in-None : goal.returns-in-None
 returns-in-None c t s st =
