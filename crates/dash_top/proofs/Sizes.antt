@@ -1,13 +1,9 @@
 -- The file of an image is never longer than what is read of a store.
-use Rattle.std.proofs.Common.{◌≡◌, ℕ, ◌+◌, ◌-◌, ◌*◌, ◌/◌, ◌^◌, ◌≤◌, List, [], ◌∷◌, length, refl, ◌∙◌, arith, length-append}
-use Rattle.byteorder.specs.Endian.{little_bytes}
+use Rattle.std.proofs.Common.{ℕ, ◌+◌, ◌-◌, ◌*◌, ◌/◌, ◌^◌, ◌≤◌, List, length, arith}
 use Rattle.image_layout.specs.Places.{Shape, IsShape, words_of}
 use Rattle.image_layout.proofs.Areas.{power_le}
 use Rattle.sound_image.specs.Image.{image_bytes, IsSoundImage}
-
-length-image_bytes : (words : List ℕ) → length (image_bytes words) ≡ 8 * length words
-length-image_bytes [] = refl
-length-image_bytes (w ∷ words) = length-append (little_bytes 8 w) (image_bytes words) ∙ omega (arith, length-image_bytes words)
+use Rattle.image_file.proofs.FileWords.{length-image_bytes}
 
 most_words : (areas segments : ℕ) → areas ≤ 131072 → segments ≤ 16384 → (32 + areas - 1 + 31) / 32 * 32 + 2144 * segments ≤ 35258400
 most_words areas segments a s = omega arith

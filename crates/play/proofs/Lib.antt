@@ -2,7 +2,7 @@ pub mod Events
 pub mod Devices
 pub mod Mapped
 pub mod Seats
-pub mod Steps
+pub mod TableParts
 pub mod Pictures
 pub mod Reopened
 pub mod Marking

@@ -1,7 +1,7 @@
 -- A close, event by event, and what it leaves.
-use Rattle.std.proofs.Common.{◌≡◌, ◌≢◌, ℕ, suc, ◌+◌, ◌-◌, ◌*◌, ◌/◌, ◌%◌, ◌^◌, ◌<◌, ◌≤◌, inl, inr, cond, Bool, true, false, List, ◌∷◌, length, refl, sym, ap, subst, ◌∙◌, arith}
-use Rattle.std.specs.Prelude.{slice_index, nat_lt, ⊤, if◌then◌else◌}
-use Rattle.std.proofs.lemmas.Bool.{cases_eq, ltb-true}
+use Rattle.std.proofs.Common.{◌≡◌, ◌≢◌, ℕ, suc, ◌+◌, ◌*◌, ◌/◌, ◌%◌, ◌^◌, ◌<◌, ◌≤◌, inl, inr, cond, List, ◌∷◌, length, refl, sym, ap, subst, ◌∙◌, arith}
+use Rattle.std.specs.Prelude.{slice_index}
+use Rattle.std.proofs.lemmas.Bool.{cases_eq}
 use Rattle.std.proofs.lemmas.List.{ext_get_or, length-set, get_or-set_same, get_or-set_other}
 use Rattle.op_core.specs.declared.want.Want.{Want}
 use Rattle.op_core.specs.declared.want.Want.TheVariants as want
@@ -13,12 +13,12 @@ use Rattle.image_layout.specs.Places.{Shape, state_word, words_of}
 use Rattle.image_layout.specs.Volatile.{all_words_of}
 use Rattle.sound_image.specs.Image.{IsSoundImage}
 use Rattle.world.specs.Wants.{answer_to, word_of, event_of}
-use Rattle.restart_op.specs.declared.close.CloseStep.{CloseStep}
-use Rattle.restart_op.specs.declared.close.CloseStep.TheVariants.{Flush, Fence, Load, Store, FlushState, FenceState, Ended}
+use Rattle.restart_op.specs.declared.close.CloseStep.TheVariants.{Ended}
 use Rattle.restart_op.specs.declared.close.CloseOp.{CloseOp}
-use Rattle.restart_op.specs.Close.{lines_of, with_marker, wanted_in, wanted, taken, begun}
+use Rattle.restart_op.specs.Close.{with_marker, wanted, taken, begun}
 use Rattle.restart_op.specs.Closing.{close_after, left}
-use Rattle.restart_op.proofs.CloseAlong.{IsKeptBy, along}
+use Rattle.restart_op.proofs.CloseAlong.{along}
+use Rattle.restart_op.proofs.CloseLines.{LineIn, line_on, word_in, line_in}
 use Rattle.restart_op.proofs.CloseEnding.{falls, few_wait}
 use Rattle.restart_op.proofs.ClosePhases.{Phase, phase_at, at_end}
 use Rattle.pm_trace.specs.Memory.{Memory, unfenced}
@@ -27,58 +27,6 @@ use Rattle.play.specs.Tables.{MayBeAsked, found_by}
 use Rattle.play.specs.Kept.{IsTraced, image_of, marked_image, IsSettled, IsClosedFrom}
 use Rattle.play.proofs.Pictures.{image_word, image_whole, none_pending, settled_had}
 use Rattle.play.proofs.Reopened.{HasPassed}
-
--- ---- the lines that it flushes are those of the image
-module _ (shape : Shape) where
-  abbrev LineIn : CloseStep → Words → Trace → Type 0
-  LineIn (Flush line waiting) words es = line < lines_of shape
-  LineIn s words es = ⊤
-
-  flushed_in : (line waiting : ℕ) (a b : Bool) (words : Words) (es : Trace) → nat_lt line (lines_of shape - 1) ≡ a
-      → LineIn (if a then (if b then Flush (line + 1) (waiting + 1) else Fence (line + 1)) else Fence (lines_of shape)) words es
-  flushed_in line waiting true true words es p = let l = ltb-true line (lines_of shape - 1) p in below (lines_of shape) l
-    where
-      below : (lines : ℕ) → line < lines - 1 → line + 1 < lines
-      below lines h = omega (arith, h)
-  flushed_in line waiting true false words es p = tt
-  flushed_in line waiting false b words es p = tt
-
-  fenced_in : (line : ℕ) (a : Bool) (words : Words) (es : Trace) → nat_lt line (lines_of shape) ≡ a → LineIn (if a then Flush line 0 else Load) words es
-  fenced_in line true words es p = ltb-true line (lines_of shape) p
-  fenced_in line false words es p = tt
-
-  line_on : IsKeptBy shape LineIn
-  line_on (Flush line waiting) words es h = flushed_in line waiting _ _ _ _ refl
-  line_on (Fence line) words es h = fenced_in line _ _ _ refl
-  line_on Load words es h = tt
-  line_on (Store state) words es h = tt
-  line_on FlushState words es h = tt
-  line_on FenceState words es h = tt
-  line_on Ended words es h = tt
-
-  line_fits : (line : ℕ) → line < lines_of shape → 8 * line + 8 ≤ words_of shape
-  line_fits line h = fits (words_of shape) h
-    where
-      fits : (width : ℕ) → line < width / 8 → 8 * line + 8 ≤ width
-      fits width h = omega (arith, h)
-
-  word_in : (s : CloseStep) (words : Words) (es : Trace) → LineIn s words es → word_of shape (wanted_in s) < all_words_of shape
-  word_in (Flush line waiting) words es h = let l = line_fits line h in omega (arith, l)
-  word_in (Fence line) words es h = omega arith
-  word_in Load words es h = omega arith
-  word_in (Store state) words es h = omega arith
-  word_in FlushState words es h = omega arith
-  word_in FenceState words es h = omega arith
-  word_in Ended words es h = omega arith
-
-  line_in : (s : CloseStep) (words : Words) (es : Trace) → LineIn s words es → (l : ℕ) → wanted_in s ≡ want.Flush l → 8 * l + 8 ≤ words_of shape
-  line_in (Flush line waiting) words es h l q = let f = line_fits line h in let z : line ≡ l = cc in subst (λ k. 8 * k + 8 ≤ words_of shape) z f
-  line_in (Fence line) words es h l q = cc
-  line_in Load words es h l q = cc
-  line_in (Store state) words es h l q = cc
-  line_in FlushState words es h l q = let z : 2 ≡ l = cc in subst (λ k. 8 * k + 8 ≤ words_of shape) z (omega arith)
-  line_in FenceState words es h l q = cc
-  line_in Ended words es h l q = cc
 
 -- ---- where it stands
 -- after so many events of a close of the old memory the machine is this one, and the memory came from them

@@ -21,7 +21,7 @@ use Rattle.play.specs.declared.runner.Runner.{Runner}
 use Rattle.play.specs.Runners.{callers_of, calls_left, HaveRoom}
 use Rattle.play.specs.Tables.{IsOf, Stands}
 use Rattle.play.proofs.Seats.{callers_many}
-use Rattle.play.proofs.Steps.{left_alone}
+use Rattle.play.proofs.TableParts.{left_alone}
 
 -- ---- a round
 round_step : (shape : Shape) (most : ℕ) (callers : List Caller) (i c : ℕ) (s : State) → i < length callers

@@ -22,7 +22,8 @@ use Rattle.play.specs.declared.table.Table.{Table}
 use Rattle.play.specs.Tables.{Stands, end_state}
 use Rattle.session.specs.Session.{IsSession}
 use Rattle.session.specs.Transcript.{transcript_of}
-use Rattle.play.specs.Played.{scripts_of, end_of_run, ending_of, IsOfRun, IsPlay, IsLeftOf, task_of}
+use Rattle.core_run.specs.Sessions.{ending_of}
+use Rattle.play.specs.Played.{scripts_of, end_of_run, IsOfRun, IsPlay, IsLeftOf, task_of}
 use Rattle.play.proofs.Printed.{printed_by_run}
 
 end_is : (shape : Shape) (most : ℕ) (lines : List Line) (cut : Option ℕ) (s : State)

@@ -1,17 +1,18 @@
 -- What a play of a script leaves.
-use Rattle.std.specs.Prelude.{◌≡◌, ℕ, Option, None, true, is_some, not, List, [], ◌∷◌, ◌++◌, map, replicate, slice_index}
+use Rattle.std.specs.Prelude.{◌≡◌, ℕ, Option, None, is_some, List, [], ◌∷◌, ◌++◌, map, replicate, slice_index}
 use Rattle.map_model.specs.Kept.{lists_of}
 use Rattle.map_model.specs.declared.call.Call.{Call}
 use Rattle.image_layout.specs.Places.{Shape}
 use Rattle.script_text.specs.declared.line.Line.{Line}
 use Rattle.script_text.specs.Calls.{calls_of}
 use Rattle.session.specs.Transcript.{transcript_of}
-use Rattle.session.specs.Session.{Ending, IsSession}
+use Rattle.session.specs.Session.{IsSession}
 use Rattle.reply_text.specs.declared.left.Session.{Session}
 use Rattle.reply_text.specs.Told.{tolds_of}
 use Rattle.core_run.specs.State.{State}
 use Rattle.core_run.specs.Run.{core_run, cut_of, stop_of, medium_words}
 use Rattle.core_run.specs.Running.{Task, start_of}
+use Rattle.core_run.specs.Sessions.{ending_of}
 
 -- the calls of all callers: so far of caller 1 alone
 abbrev pub scripts_of : List Line → List (List Call)
@@ -28,10 +29,6 @@ pub record IsOfRun (shape : Shape) (first : List ℕ) (lines : List Line) (left 
   pub stops : left.stops ≡ map stop_of (end_of_run shape first lines).core.callers ++ replicate 63 None
   pub words : left.medium.words ≡ medium_words shape (slice_index first) (end_of_run shape first lines).core (cut_of lines)
   pub cut : left.cut ≡ is_some (cut_of lines)
-
--- a play whose script has no cut ends by a close
-abbrev pub ending_of : List Line → Ending
-ending_of lines = record { closed = not (is_some (cut_of lines)); scheduled = true }
 
 -- A PLAY of these lines, from an image with these words: its run, which is a session, with its transcript
 pub record IsPlay (shape : Shape) (first : List ℕ) (lines : List Line) (left : Session) : Type 0 where

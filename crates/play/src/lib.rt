@@ -15,10 +15,11 @@ mod leaving;
 mod playing;
 mod runner;
 mod table;
-pub mod tally;
+mod tally;
 
 pub use keeping::{close, restart};
 pub use playing::play;
+pub use tally::Steps;
 
 #[cfg(test)]
 mod keeping_tests;

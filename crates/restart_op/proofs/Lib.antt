@@ -5,6 +5,7 @@ pub mod Same
 pub mod Cuts
 pub mod Beginning
 pub mod CloseAlong
+pub mod CloseLines
 pub mod CloseEnding
 pub mod MarkedFront
 pub mod NoNotes

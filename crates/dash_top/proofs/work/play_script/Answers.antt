@@ -1,7 +1,8 @@
 use Rattle.std.proofs.Common.{inr, List, ℕ, subst, refl, sym, ◌∙◌}
 use Rattle.outside.specs.Storing.{Holds}
 use Rattle.session.specs.Session.{IsSession}
-use Rattle.play.specs.Played.{IsPlay, scripts_of, ending_of}
+use Rattle.core_run.specs.Sessions.{ending_of}
+use Rattle.play.specs.Played.{IsPlay, scripts_of}
 use Rattle.dash_top.proofs.Counting.{rose_before}
 use Rattle.play.proofs.Printed.{printed_by_run}
 use Rattle.dash_top.proofs.work.play_script.Goals as goal

@@ -7,7 +7,7 @@ use Rattle.map_model.specs.Kept.{Kept, with_entry}
 use Rattle.play.specs.declared.runner.Runner.{Runner}
 use Rattle.play.specs.Deeds.{lists_with}
 use Rattle.play.proofs.Seats.{seat_at, lists_many, room_left}
-use Rattle.play.proofs.Steps.{call_left}
+use Rattle.play.proofs.TableParts.{call_left}
 use Rattle.play.proofs.table.Table.call_deed.Goals as goal
 
 pub push-requires-clause-is_caller : goal.push-requires-clause-is_caller
