@@ -16,7 +16,7 @@ use Rattle.bucket_words.proofs.Pairs.{key_hash-fits}
 use Rattle.hash_word.specs.Hash.{index_of}
 use Rattle.image_layout.specs.Places.{root_word, entry_at}
 use Rattle.image_file.specs.Stage.{segments_word}
-use Rattle.restart_op.specs.Restarted.{IsServedImage}
+use Rattle.restart_op.specs.Restarted.{IsPlayableImage}
 use Rattle.sound_image.specs.Image.{IsSoundImage}
 use Rattle.sound_image.specs.Segments.{ImageWords, Frame, frame_of, depth_at, IsLive, IsLiveFor, Owns}
 use Rattle.sound_image.specs.Records.{word_in, slot_key, slot_value, HasRecord, HasPair, HasAt}
@@ -140,7 +140,7 @@ module _ (shape : Shape) (words : List ℕ) (one_segment : shape.segments ≡ 1)
         deepest = λ s o. subst (λ s. depth_at frame s ≤ depth_at frame 0) (sym (is_first s o.slot)) (omega arith);
       }
 
-module _ (shape : Shape) (words : List ℕ) (image : IsServedImage shape words) where
+module _ (shape : Shape) (words : List ℕ) (image : IsPlayableImage shape words) where
   abbrev image_word : ImageWords
   image_word = slice_index words
 

@@ -14,7 +14,7 @@ use Rattle.world.specs.Wants.{word_of}
 use Rattle.restart_op.specs.declared.restart.RestartOp.{RestartOp}
 use Rattle.restart_op.specs.declared.close.CloseOp.{CloseOp}
 use Rattle.restart_op.specs.Close.{wanted as close_wanted}
-use Rattle.restart_op.specs.Restarted.{IsServedImage, restarted, site_of}
+use Rattle.restart_op.specs.Restarted.{IsPlayableImage, restarted, site_of}
 use Rattle.restart_op.specs.Closing.{close_after}
 use Rattle.engine.specs.declared.engine.Engine.{Engine}
 use Rattle.engine.specs.Left.{waiting}
@@ -32,7 +32,7 @@ pub record Task : Type 0 where
   pub scripts : List (List Call)
 
 pub record IsTask (t : Task) : Type 0 where
-  pub served : IsServedImage t.shape t.first
+  pub served : IsPlayableImage t.shape t.first
   pub few : length t.scripts ≤ 64
   pub words : AllByRecursion (AllByRecursion IsWordCall) t.scripts
 

@@ -9,7 +9,7 @@ use Rattle.sound_image.specs.Segments.{frame_of, state_at}
 use Rattle.sound_image.specs.Image.{SaysShape}
 use Rattle.sound_image.specs.Left.{IsLeft}
 use Rattle.session.specs.Callers.{FollowsScript, undrawn}
-use Rattle.restart_op.specs.Restarted.{IsServedImage}
+use Rattle.restart_op.specs.Restarted.{IsPlayableImage}
 use Rattle.engine.specs.Core.{run, tolds_of, histories}
 use Rattle.engine.specs.Laws.{opened, TurnsKeep, CallsAreScripts}
 use Rattle.engine.specs.Sessions.{CutIsSession}
@@ -23,7 +23,7 @@ same_kind shape old new o n (suc (suc (suc zero))) low = n.depth ∙ sym o.depth
 same_kind shape old new o n (suc (suc (suc (suc i)))) low = absurd (omega (arith, low))
 
 -- a served image has no free slot for a segment
-pub none_free : (shape : Shape) (words : List ℕ) → IsServedImage shape words → (s : ℕ) → s < shape.segments → state_at (frame_of shape (slice_index words)) s ≡ free → ⊥
+pub none_free : (shape : Shape) (words : List ℕ) → IsPlayableImage shape words → (s : ℕ) → s < shape.segments → state_at (frame_of shape (slice_index words)) s ≡ free → ⊥
 none_free shape words image s low is_free =
     let one : shape.segments ≡ 1 = (image.serves 2).one_segment refl in
     let first : s ≡ 0 = omega (arith, low, one) in

@@ -13,7 +13,7 @@ use Rattle.sound_image.specs.Left.{HasPairsOf}
 use Rattle.bucket_words.specs.Tables.{find}
 use Rattle.trace.specs.Events.{Words}
 use Rattle.world.specs.Site.{Site}
-use Rattle.restart_op.specs.Restarted.{IsServedImage, restarted, words_at_end, site_of}
+use Rattle.restart_op.specs.Restarted.{IsPlayableImage, restarted, words_at_end, site_of}
 use Rattle.restart_op.specs.Closing.{IsQuiet}
 use Rattle.engine.specs.Fits.{IsWordCall}
 use Rattle.engine.specs.Core.{Core, callers_from, run, histories}
@@ -35,13 +35,13 @@ pub record AreScripts (scripts : List (List Call)) : Type 0 where
 
 -- the core after a restart holds
 abbrev pub OpenedHolds : Type 0
-OpenedHolds = (shape : Shape) (words : List ℕ) (scripts : List (List Call)) → IsServedImage shape words → AreScripts scripts
+OpenedHolds = (shape : Shape) (words : List ℕ) (scripts : List (List Call)) → IsPlayableImage shape words → AreScripts scripts
     → CoreHolds (site_of shape words (length scripts)) (slice_index words) (opened shape words scripts)
 
 -- THE LAW OF ALL TURNS: from every sound image that the program serves, whatever calls up to 64 callers have, and whatever
 -- turns they take, the core is good
 abbrev pub TurnsKeep : Type 0
-TurnsKeep = (shape : Shape) (words : List ℕ) → IsServedImage shape words
+TurnsKeep = (shape : Shape) (words : List ℕ) → IsPlayableImage shape words
     → (opening : Map) → HasPairsOf shape (slice_index words) opening
     → (scripts : List (List Call)) → AreScripts scripts
     → (turns : List ℕ) → IsGood shape (slice_index words) opening (run shape turns (opened shape words scripts))
@@ -59,7 +59,7 @@ pub record IsRightAlone (opening : Map) (core : Core) : Type 0 where
 
 -- ONE CALLER ALONE, whose calls the core runs one after another
 abbrev pub TurnsAlone : Type 0
-TurnsAlone = (shape : Shape) (words : List ℕ) → IsServedImage shape words
+TurnsAlone = (shape : Shape) (words : List ℕ) → IsPlayableImage shape words
     → (opening : Map) → HasPairsOf shape (slice_index words) opening
     → (calls : List Call) → AllByRecursion IsWordCall calls
     → (turns : List ℕ) → IsRightAlone opening (run shape turns (opened shape words (calls ∷ [])))

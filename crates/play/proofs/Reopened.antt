@@ -21,7 +21,7 @@ use Rattle.restart_op.specs.declared.restart.RestartStep.{RestartStep}
 use Rattle.restart_op.specs.declared.restart.RestartStep.TheVariants.{Load, Store, Flush, Fence, Ended}
 use Rattle.restart_op.specs.declared.restart.RestartOp.{RestartOp}
 use Rattle.restart_op.specs.Restart.{wanted_in, wanted, next_in, taken, started_with}
-use Rattle.restart_op.specs.Restarted.{IsServedImage, restarted}
+use Rattle.restart_op.specs.Restarted.{IsPlayableImage, restarted}
 use Rattle.restart_op.proofs.Cuts.{restart_keeps}
 use Rattle.pm_trace.specs.Memory.{Memory, unfenced}
 use Rattle.pm_trace.specs.TraceOf.{IsTraceOf, Follows}
@@ -229,7 +229,7 @@ module _ (old new : Memory) (traced : IsTraced old) (follows : FollowsAll old (r
     ]
 
   -- ---- the image is sound
-  module _ (served : IsServedImage old.shape (image_of old)) where
+  module _ (served : IsPlayableImage old.shape (image_of old)) where
     abbrev words : List ℕ
     words = image_of old
 

@@ -6,7 +6,7 @@ use Rattle.std.proofs.lemmas.Bool.{cases_Bool}
 use Rattle.image_layout.specs.Places.{Shape, words_of}
 use Rattle.map_model.specs.declared.call.Call.{Call}
 use Rattle.map_model.specs.declared.call.Call.TheVariants.{Get, Insert, Update, Remove}
-use Rattle.restart_op.specs.Restarted.{IsServedImage}
+use Rattle.restart_op.specs.Restarted.{IsPlayableImage}
 use Rattle.engine.specs.Fits.{IsWordCall}
 use Rattle.reply_text.specs.declared.left.Session.{Session}
 use Rattle.script_text.specs.declared.line.Line.{Line}
@@ -103,7 +103,7 @@ by_recursion P [] all = tt
 by_recursion P (x ∷ xs) all = (all 0 x (omega arith), by_recursion P xs (λ i d h. all (suc i) d (omega arith)))
 
 -- the task of a play is one
-pub is_task : (shape : Shape) (first : List ℕ) (lines : List Line) (calls : List Call) → IsServedImage shape first
+pub is_task : (shape : Shape) (first : List ℕ) (lines : List Line) (calls : List Call) → IsPlayableImage shape first
     → All IsLineSoFar lines → calls ≡ calls_of 1 lines → IsTask (task_of shape first calls)
 is_task shape first lines calls served so_far are = record {
   served = served;
@@ -124,7 +124,7 @@ play_stands t lines most cut table after last begins well many cuts through out 
     (subst (λ (m : ℕ). RunsOut t m (cut_of lines) (lines_done t.shape m lines (start_state t))) (sym many) well.out))
 
 -- and its run is a session
-pub is_play : RunsAreSessions → (shape : Shape) (first : List ℕ) (lines : List Line) (left : Session) → IsServedImage shape first → All IsLineSoFar lines
+pub is_play : RunsAreSessions → (shape : Shape) (first : List ℕ) (lines : List Line) (left : Session) → IsPlayableImage shape first → All IsLineSoFar lines
     → IsOfRun shape first lines left → IsPlay shape first lines left
 is_play sessions shape first lines left served so_far run =
     let t : Task = task_of shape first (calls_of 1 lines) in

@@ -7,7 +7,7 @@ ghost use Rattle.map_model.specs.Map.{Map};
 ghost use Rattle.sound_image.specs.Image.{IsSoundImage};
 ghost use Rattle.sound_image.specs.Segments.{frame_of, IsClean};
 ghost use Rattle.sound_image.specs.Left.{HasPairsOf};
-ghost use Rattle.restart_op.specs.Restarted.{IsServedImage};
+ghost use Rattle.restart_op.specs.Restarted.{IsPlayableImage};
 ghost use Rattle.restart_op.specs.Close.{with_marker};
 ghost use Rattle.pm_trace.specs.Memory.{unfenced};
 ghost use Rattle.pm_trace.specs.TraceOf.{IsTraceOf};
@@ -34,7 +34,7 @@ fn count<L: Ledger>(want: Want, steps: &mut Steps<L>)
 /// word is the one word of the image that it turns to.
 pub fn restart<L: Ledger>(device: &mut Device, steps: &mut Steps<L>) -> Started
     requires traced { IsTraced device.old }
-    requires served { IsServedImage device.old.shape (image_of device.old) }
+    requires served { IsPlayableImage device.old.shape (image_of device.old) }
     requires settled { IsSettled device.old }
     requires fenced { unfenced 0 device.old ≡ 0 }
     ensures version { result.version ≡ slice_index device.old.newest state_word % 2 ^ 8 }

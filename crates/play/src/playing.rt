@@ -2,7 +2,7 @@
 
 ghost use Rattle.std.specs.Prelude.{◌≡◌, ℕ, ◌≤◌, ◌+◌, ◌*◌, ◌<◌, ◌^◌, All, [], ◌∷◌, length, slice_index, IfOk};
 ghost use Rattle.script_text.specs.Calls.{IsLineSoFar};
-ghost use Rattle.restart_op.specs.Restarted.{IsServedImage};
+ghost use Rattle.restart_op.specs.Restarted.{IsPlayableImage};
 ghost use Rattle.image_layout.specs.Places.{words_of};
 ghost use Rattle.core_run.specs.Run.{cut_of, most_events};
 ghost use Rattle.core_run.specs.State.{waiting};
@@ -93,7 +93,7 @@ fn begun(alloc: Global, medium: Medium, calls: Vec<Call>) -> Result<Table, NoMem
 ///
 /// `NoMemory` if memory runs out.
 pub fn play(alloc: Global, medium: Medium, script: &Script) -> Result<Session, NoMemory>
-    requires served { IsServedImage medium.geometry medium.words }
+    requires served { IsPlayableImage medium.geometry medium.words }
     requires few { length script.now ≤ 1000000 }
     requires so_far { All IsLineSoFar script.now }
     ensures played { IfOk result (IsPlay medium.geometry medium.words script.now) }

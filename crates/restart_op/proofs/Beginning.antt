@@ -16,7 +16,7 @@ use Rattle.bucket_words.proofs.Pairs.{found_of_has, has_of_found}
 use Rattle.world.specs.Views.{View, At}
 use Rattle.world.specs.Invariant.{total}
 use Rattle.world.specs.World.{fresh_view}
-use Rattle.restart_op.specs.Restarted.{IsServedImage, restarted, words_at_end, views_of, RestartBegins, HasSeats, KeepsPairs, EndsStarted, EndsUnnoted}
+use Rattle.restart_op.specs.Restarted.{IsPlayableImage, restarted, words_at_end, views_of, RestartBegins, HasSeats, KeepsPairs, EndsStarted, EndsUnnoted}
 use Rattle.restart_op.proofs.Facts.{IsCleanTable, clean_table}
 use Rattle.restart_op.proofs.Same.{AgreeButForState, turned, has_there}
 use Rattle.restart_op.proofs.Opened.{open_front, home_table, opened_no_notes, opened_free}
@@ -47,7 +47,7 @@ has_seats n zero from most = absurd (omega (arith, from))
 has_seats n (suc j) from most = seat_in n j (omega (arith, most))
 
 -- ---- the words
-module _ (shape : Shape) (words : List ℕ) (image : IsServedImage shape words) where
+module _ (shape : Shape) (words : List ℕ) (image : IsPlayableImage shape words) where
   abbrev word : Words
   word = slice_index words
 

@@ -17,7 +17,7 @@ use Rattle.restart_op.specs.declared.restart.RestartStep.{RestartStep}
 use Rattle.restart_op.specs.declared.restart.RestartStep.TheVariants.{Load, Store, Flush, Fence, Ended}
 use Rattle.restart_op.specs.Restart.{begun, wanted, taken, wanted_in, next_in}
 use Rattle.restart_op.specs.Course.{Course, after_events}
-use Rattle.restart_op.specs.Restarted.{IsServedImage, restarted, HasTheSame, RestartKeeps}
+use Rattle.restart_op.specs.Restarted.{IsPlayableImage, restarted, HasTheSame, RestartKeeps}
 use Rattle.restart_op.proofs.Facts.{clean_table}
 use Rattle.restart_op.proofs.Same.{AgreeButForState, has_there}
 use Rattle.restart_op.proofs.Opened.{open_front, home_table}
@@ -65,7 +65,7 @@ module _ (shape : Shape) (start : Words) where
   ]
 
 -- ---- the two cases of a medium
-module _ (shape : Shape) (words medium : List ℕ) (image : IsServedImage shape words) (whole : length medium ≡ words_of shape) where
+module _ (shape : Shape) (words medium : List ℕ) (image : IsPlayableImage shape words) (whole : length medium ≡ words_of shape) where
   abbrev word : ImageWords
   word = slice_index words
 

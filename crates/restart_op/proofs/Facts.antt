@@ -7,7 +7,7 @@ use Rattle.image_layout.specs.Places.{Shape, head_at}
 use Rattle.sound_image.specs.Segments.{ImageWords, frame_of, image_version, IsClean, state_at, depth_at}
 use Rattle.sound_image.specs.Records.{slot_hash, HasRecord}
 use Rattle.sound_image.specs.Rules.{FollowsRules}
-use Rattle.restart_op.specs.Restarted.{IsServedImage}
+use Rattle.restart_op.specs.Restarted.{IsPlayableImage}
 
 pub record IsCleanTable (shape : Shape) (word : ImageWords) : Type 0 where
   pub follows : FollowsRules shape word
@@ -20,7 +20,7 @@ pub record IsCleanTable (shape : Shape) (word : ImageWords) : Type 0 where
   pub clean : IsClean (frame_of shape word)
   pub same_version : version_in (word (head_at shape 0 + 1)) ≡ image_version (frame_of shape word)
 
-pub clean_table : (shape : Shape) (words : List ℕ) → IsServedImage shape words → IsCleanTable shape (slice_index words)
+pub clean_table : (shape : Shape) (words : List ℕ) → IsPlayableImage shape words → IsCleanTable shape (slice_index words)
 clean_table shape words image =
     let one : shape.segments ≡ 1 = (image.serves 2).one_segment refl in
     let whole = (image.serves (head_at shape 0 + 1)).first refl in

@@ -9,7 +9,7 @@ use Rattle.image_layout.specs.Places.{Shape, state_word}
 use Rattle.world.specs.Views.{View}
 use Rattle.world.specs.World.{fresh_view}
 use Rattle.world.proofs.Worlds.{begins_well}
-use Rattle.restart_op.specs.Restarted.{IsServedImage, restarted, site_of, world_of}
+use Rattle.restart_op.specs.Restarted.{IsPlayableImage, restarted, site_of, world_of}
 use Rattle.restart_op.specs.Closing.{OwesNothing, HaveFit, FitsByEvents, QuietAfterRestart}
 use Rattle.restart_op.proofs.Beginning.{restart_begins, ends_unnoted}
 
@@ -46,7 +46,7 @@ owes_nothing v is = record {
   planned = ap (λ (u : View). u.planned) is;
 }
 
-module _ (shape : Shape) (words : List ℕ) (image : IsServedImage shape words) where
+module _ (shape : Shape) (words : List ℕ) (image : IsPlayableImage shape words) where
   abbrev version : ℕ
   version = slice_index words state_word % 2 ^ 8
 

@@ -22,7 +22,7 @@ use Rattle.restart_op.specs.declared.close.CloseOp.{CloseOp}
 use Rattle.restart_op.specs.Course.{Course, after_events}
 use Rattle.restart_op.specs.Close.{lines_of, begun, wanted, taken}
 use Rattle.restart_op.specs.Notes.{HasNoNotes}
-use Rattle.restart_op.specs.Restarted.{IsServedImage, site_of, world_of}
+use Rattle.restart_op.specs.Restarted.{IsPlayableImage, site_of, world_of}
 
 -- ---- a close and its events
 -- so many events of a close, over these words and after this trace
@@ -95,7 +95,7 @@ FitsByEvents = (start : Words) (e : Event) (es : Trace) → ((i x : ℕ) → Wri
 
 -- a restart leaves the world quiet, as long as no caller begins
 abbrev pub QuietAfterRestart : Type 0
-QuietAfterRestart = (shape : Shape) (words : List ℕ) (callers : ℕ) → IsServedImage shape words → callers < 2 ^ 32
+QuietAfterRestart = (shape : Shape) (words : List ℕ) (callers : ℕ) → IsPlayableImage shape words → callers < 2 ^ 32
     → IsQuiet (site_of shape words callers) (slice_index words) (world_of shape words callers)
 
 -- ---- what it keeps
@@ -117,7 +117,7 @@ CloseKeeps = (site : Site) (start : Words) (world : World) → IsQuiet site star
 pub record IsClosed (shape : Shape) (words : Words) (medium : List ℕ) : Type 0 where
   pub settled : (i : ℕ) → i < words_of shape → slice_index medium i ≡ words i
   pub clean : IsClean (frame_of shape (slice_index medium))
-  pub served : IsServedImage shape medium
+  pub served : IsPlayableImage shape medium
 
 -- THE END OF A CLOSE: one medium alone may be left, the newest words, which are those of before with the marker set
 abbrev pub CloseSettles : Type 0

@@ -20,7 +20,7 @@ use Rattle.restart_op.specs.Course.{Course, after_events}
 use Rattle.restart_op.specs.Notes.{HasNoNotes}
 
 -- an image that is restarted: a sound one that the program serves, and may play: it is clean, and its segment has its version
-pub record IsServedImage (shape : Shape) (words : List ℕ) : Type 0 where
+pub record IsPlayableImage (shape : Shape) (words : List ℕ) : Type 0 where
   pub sound : IsSoundImage shape words
   pub serves : PassesRule8 shape (slice_index words)
   pub untouched : MayBePlayed shape (slice_index words)
@@ -42,7 +42,7 @@ pub record HasTheSame (shape : Shape) (words medium : List ℕ) : Type 0 where
 
 -- A CUT after any number of events leaves what was there
 abbrev pub RestartKeeps : Type 0
-RestartKeeps = (shape : Shape) (words medium : List ℕ) (n : ℕ) → IsServedImage shape words → length medium ≡ words_of shape
+RestartKeeps = (shape : Shape) (words medium : List ℕ) (n : ℕ) → IsPlayableImage shape words → length medium ≡ words_of shape
     → IsPossible (words_of shape) (slice_index words) (restarted shape words n).trace (slice_index medium) → HasTheSame shape words medium
 
 -- ---- the end of the restart
@@ -61,7 +61,7 @@ world_of shape words callers = record { words = words_at_end shape words; trace 
 
 -- THE WORLD BEGINS for any callers
 abbrev pub RestartBegins : Type 0
-RestartBegins = (shape : Shape) (words : List ℕ) (callers : ℕ) → IsServedImage shape words → callers < 2 ^ 32
+RestartBegins = (shape : Shape) (words : List ℕ) (callers : ℕ) → IsPlayableImage shape words → callers < 2 ^ 32
     → Begins (site_of shape words callers) (slice_index words) (world_of shape words callers)
 
 -- each caller has its seat
@@ -70,7 +70,7 @@ HasSeats = (callers j : ℕ) → 1 ≤ j → j ≤ callers → At (views_of call
 
 -- what the image had is what the words at the end have
 abbrev pub KeepsPairs : Type 0
-KeepsPairs = (shape : Shape) (words : List ℕ) (m : Map) → IsServedImage shape words
+KeepsPairs = (shape : Shape) (words : List ℕ) (m : Map) → IsPlayableImage shape words
     → HasPairsOf shape (slice_index words) m ↔ ((k : ℕ) → get m k ≡ find shape (words_at_end shape words) k)
 
 -- a restart that has ended answers the version that the state word has, and the header of the one segment
@@ -84,8 +84,8 @@ pub record IsStarted (shape : Shape) (words : List ℕ) : Type 0 where
   pub fits : version < 2 ^ 8
 
 abbrev pub EndsStarted : Type 0
-EndsStarted = (shape : Shape) (words : List ℕ) → IsServedImage shape words → IsStarted shape words
+EndsStarted = (shape : Shape) (words : List ℕ) → IsPlayableImage shape words → IsStarted shape words
 
 -- no bucket of the words at the end notes anything of the stash
 abbrev pub EndsUnnoted : Type 0
-EndsUnnoted = (shape : Shape) (words : List ℕ) → IsServedImage shape words → HasNoNotes shape (words_at_end shape words)
+EndsUnnoted = (shape : Shape) (words : List ℕ) → IsPlayableImage shape words → HasNoNotes shape (words_at_end shape words)

@@ -6,7 +6,7 @@ use Rattle.std.proofs.lemmas.List.{ext_get_or, length-set, get_or-set_same, get_
 use Rattle.image_layout.specs.Places.{Shape, state_word, words_of}
 use Rattle.sound_image.specs.Image.{IsSoundImage}
 use Rattle.restart_op.specs.Close.{with_marker}
-use Rattle.restart_op.specs.Restarted.{IsServedImage}
+use Rattle.restart_op.specs.Restarted.{IsPlayableImage}
 use Rattle.pm_trace.specs.Memory.{Memory}
 use Rattle.pm_trace.specs.TraceOf.{IsTraceOf}
 use Rattle.play.specs.Kept.{image_of, marked_image}
@@ -38,9 +38,9 @@ pub restart-started-requires-clause-served : goal.restart-started-requires-claus
 restart-started-requires-clause-served g c =
     let shape = c.in_ok-device.ensures.shape ∙ c.in_ok-medium.ensures.geometry in
     let whole = c.in_ok-medium.ensures.sound.whole ∙ ap (λ (s : Shape). words_of s) (sym shape) in
-    subst (λ (ws : List ℕ). IsServedImage c.in_ok-device.device.shape ws)
+    subst (λ (ws : List ℕ). IsPlayableImage c.in_ok-device.device.shape ws)
     (sym (first_image c.in_ok-device.device c.in_ok-medium.medium.words c.in_ok-device.ensures.begins whole))
-    (subst (λ (s : Shape). IsServedImage s c.in_ok-medium.medium.words) (sym shape)
+    (subst (λ (s : Shape). IsPlayableImage s c.in_ok-medium.medium.words) (sym shape)
     (record { sound = c.in_ok-medium.ensures.sound; serves = c.in_ok-medium.ensures.stage (ap (λ (s : Shape). s.segments) c.in_ok-new.ensures.is); untouched = c.in_ok-medium.ensures.untouched }))
 
 pub close-requires-clause-traced : goal.close-requires-clause-traced
