@@ -1,5 +1,5 @@
 -- The words that a get asks for lie in the image or right behind it.
-use Rattle.std.proofs.Common.{◌≡◌, ℕ, ◌+◌, ◌%◌, ◌^◌, ◌<◌, Bool, true, false, refl, sym, subst, arith}
+use Rattle.std.proofs.Common.{◌≡◌, ℕ, ◌+◌, ◌%◌, ◌^◌, ◌<◌, inl, inr, Bool, true, false, refl, sym, subst, arith}
 use Rattle.std.specs.Prelude.{if◌then◌else◌, nat_lt, nat_le}
 use Rattle.std.proofs.lemmas.Bool.{ltb-true, leb-true}
 use Rattle.hash_word.specs.Hash.{index_of, home_of}
@@ -16,6 +16,7 @@ use Rattle.read_op.specs.declared.step.ReadStep.TheVariants.{Power, Root, Entry,
 use Rattle.read_op.specs.declared.op.ReadOp.{ReadOp}
 use Rattle.read_op.specs.Steps.{wanted_in, wanted_again, entry_word, head_word, lock_word}
 use Rattle.read_op.specs.Budget.{AsksWithin}
+use Rattle.read_op.specs.Causes.{IsWatched}
 use Rattle.read_op.proofs.Indexes.{index_below}
 
 module _ (site : Site) (is : IsShape site.geometry) where
@@ -67,3 +68,11 @@ within_in op is fits (Ended end) = omega arith
 
 pub asks_within : AsksWithin
 asks_within op is fits = within_in op is fits op.step
+
+-- the words that it watches lie in the image
+pub watched_within : (op : ReadOp) → IsShape op.site.geometry → op.hash < 2 ^ 64 → (step : ReadStep) (word : ℕ) → IsWatched op step word → word < words_of op.site.geometry
+watched_within op is fits step word (inl first) = let low = root_within op.site is 0 (omega arith) in omega (arith, low, first)
+watched_within op is fits step word (inr (inl (root, depth, entry))) = subst (λ w. w < words_of op.site.geometry) (sym entry) (entry_within op.site is op.hash root fits)
+watched_within op is fits step word (inr (inr (segment, named, inl head))) = subst (λ w. w < words_of op.site.geometry) (sym head) (head_by op.site is segment _ refl)
+watched_within op is fits step word (inr (inr (segment, named, inr lock))) =
+    subst (λ w. w < words_of op.site.geometry) (sym lock) (let low = lock_by op.site is op.hash segment 0 (omega arith) _ refl in omega (arith, low))

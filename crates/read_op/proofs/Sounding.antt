@@ -1,5 +1,5 @@
 -- By what a get ends in a world whose invariant holds.
-use Rattle.std.proofs.Common.{◌≡◌, ◌≢◌, ℕ, ◌+◌, ◌%◌, ◌<◌, ◌≤◌, inl, inr, true, false, cond, List, sym, ◌∙◌, ap, subst, arith}
+use Rattle.std.proofs.Common.{◌≡◌, ◌≢◌, ℕ, ◌+◌, ◌%◌, ◌^◌, ◌<◌, ◌≤◌, inl, inr, true, false, cond, List, [], sym, ◌∙◌, ap, subst, arith}
 use Rattle.std.specs.Prelude.{◌==◌, ◌&&◌, ◌||◌, nat_lt, nat_le}
 use Rattle.std.proofs.lemmas.Bool.{cases_lt, eq-eqb, lt-ltb, le-ltb, false≢true}
 use Rattle.hash_word.specs.Hash.{home_of, index_of}
@@ -7,23 +7,26 @@ use Rattle.segment_head.specs.HeadWord.{version_in, state_in, pattern_in, normal
 use Rattle.op_core.specs.declared.want.Want.TheVariants.{Load, Done}
 use Rattle.op_core.specs.declared.why.Why.TheVariants.{Busy, Moved}
 use Rattle.trace.specs.Events.{Words}
-use Rattle.image_layout.specs.Places.{root_word, head_at, bucket_at}
+use Rattle.image_layout.specs.Places.{IsShape, root_word, state_word, head_at, bucket_at, words_of}
+use Rattle.image_layout.specs.Volatile.{counter_word}
 use Rattle.bucket_words.specs.Tables.{home_at}
 use Rattle.world.specs.Site.{Site, IsLockWord}
-use Rattle.world.specs.Views.{View, At}
+use Rattle.world.specs.Views.{View, At, HasLock}
 use Rattle.world.specs.Wants.{word_of}
 use Rattle.world.specs.Invariant.{Holds}
 use Rattle.world.specs.Laws.{found_by}
 use Rattle.world.proofs.Grounds.{home_is_lock}
+use Rattle.world.proofs.Lists.{same_at}
 use Rattle.read_op.specs.declared.step.ReadEnd.TheVariants as ends
 use Rattle.read_op.specs.declared.step.ReadStep.{ReadStep}
 use Rattle.read_op.specs.declared.step.ReadStep.TheVariants.{Power, Root, Entry, Head, Lock, Fill, Count, Check, Ended}
 use Rattle.read_op.specs.declared.op.ReadOp.{ReadOp}
 use Rattle.read_op.specs.Steps.{wanted, is_live, covers, head_word, lock_word}
 use Rattle.read_op.specs.Fits.{IsIn, Suits, suits_in, kind_in, finds}
-use Rattle.read_op.specs.Causes.{IsAmiss, IsSoundEnd, EndsSoundly, NeverStale, NeverBusy}
+use Rattle.read_op.specs.Causes.{IsWatched, IsAmiss, EndsSo, IsAnothers, IsSoundEnd, EndsSoundly, NeverStale, NeverBusy}
 use Rattle.read_op.proofs.Fitting.{home_lock, wants_in}
 use Rattle.read_op.proofs.Stepping.{root_is, entry_is, table}
+use Rattle.read_op.proofs.Asked.{watched_within}
 use Rattle.read_op.proofs.Causing.{ends_by_cause}
 
 module _ (site : Site) (op : ReadOp) (is : IsIn site op) (words : Words) (views : List View) (j : ℕ) (v : View) (h : Holds site words views) (at : At views j v) where
@@ -100,36 +103,70 @@ module _ (site : Site) (op : ReadOp) (is : IsIn site op) (words : Words) (views 
         absurd (false≢true (sym dead ∙ live))
   ]
 
-  ends_in_world : Suits site op v → wanted op ≢ Done → IsSoundEnd site op words
-  ends_in_world suits wants = record {
-    busy = λ word value so.
+  -- a lock word that is odd is another's, where this caller holds no lock
+  held_elsewhere : v.held ≡ [] → (lock : ℕ) → IsLockWord site.shape lock → words lock % 2 ≡ 1 → IsAnothers views j v lock
+  held_elsewhere nothing lock is_lock odd =
+      let not_own : HasLock v.held lock → ⊥ = λ has. let none : HasLock [] lock = subst (λ locks. HasLock locks lock) nothing has in elim none.1 [ ] in
+      let holder = h.locks.odd lock is_lock odd in
+      record {
+        not_own = not_own;
+        seat = holder.0;
+        elsewhere = λ same.
+            let there : At views j holder.1 = subst (λ i. At views i holder.1) same holder.2 in
+            not_own (subst (λ w. HasLock w.held lock) (same_at views j holder.1 v there at) holder.3);
+        holder = holder.1;
+        there = holder.2;
+        holds = holder.3;
+      }
+
+  -- a watched word is not the commit counter
+  not_counter : (word : ℕ) → IsWatched op op.step word → word ≢ counter_word site.shape
+  not_counter word watched counts =
+      let below = watched_within op (subst IsShape (sym is.shape) h.site_is.shape) is.fits op.step word watched in
+      let same = ap words_of is.shape in
+      omega (arith, below, same, counts)
+
+  module _ (suits : Suits site op v) (wants : wanted op ≢ Done) where
+    busy_in_world : (word value : ℕ) → EndsSo site op words (ends.Again (Busy word value))
+        → IsLockWord site.shape word × (word ≡ home_at site.shape op.key) × (words word ≡ value) × (value % 2 ≡ 1)
+    busy_in_world word value so =
         let c = ends_by_cause op (finds site op words) (ends.Again (Busy word value)) wants so in
         let found : words word ≡ value = sym (finds_word wants word c.loads) ∙ c.finds in
         let odd : words (lock_word op.site op.hash c.segment) % 2 ≡ 1 = subst (λ w. words w % 2 ≡ 1) c.is_home (ap (λ x. x % 2) found ∙ c.odd) in
         let home : word ≡ home_at site.shape op.key = c.is_home ∙ home_of_odd c.segment odd in
-        (subst (IsLockWord site.shape) (sym home) (home_is_lock site.shape op.key), home, found, c.odd);
-    moved = λ word before after so. elim (ends_by_cause op (finds site op words) (ends.Again (Moved word before after)) wants so) [
-      | inl c ↦ (c.was, sym (finds_word wants word c.loads) ∙ c.finds, c.differ)
-      | inr c ↦ absurd (never_amiss op.step suits c.amiss)
-    ];
-    stale = λ segment byte so.
+        (subst (IsLockWord site.shape) (sym home) (home_is_lock site.shape op.key), home, found, c.odd)
+
+    stale_in_world : (segment byte : ℕ) → EndsSo site op words (ends.Stale segment byte)
+        → (segment ≡ 0) × (byte ≡ site.front state_word % 2 ^ 8) × (byte ≢ op.site.version)
+    stale_in_world segment byte so =
         let c = ends_by_cause op (finds site op words) (ends.Stale segment byte) wants so in
         let found = finds_word wants (head_word op.site segment) c.loads in
         let first : segment ≡ 0 = only_live segment (ap is_live (sym found) ∙ c.live) in
-        (first, sym c.version ∙ (ap version_in (found ∙ head_is segment first) ∙ h.site_is.front.same_version), c.other);
-  }
+        (first, sym c.version ∙ (ap version_in (found ∙ head_is segment first) ∙ h.site_is.front.same_version), c.other)
+
+    ends_in_world : v.held ≡ [] → IsSoundEnd site op words views j v
+    ends_in_world nothing = record {
+      busy = λ word value so.
+          let b = busy_in_world word value so in
+          (b.0, b.1, b.2, b.3, held_elsewhere nothing word b.0 (ap (λ x. x % 2) b.2 ∙ b.3));
+      moved = λ word before after so. elim (ends_by_cause op (finds site op words) (ends.Again (Moved word before after)) wants so) [
+        | inl c ↦ (c.was, c.watched, sym (finds_word wants word c.loads) ∙ c.finds, c.differ, not_counter word c.watched)
+        | inr c ↦ absurd (never_amiss op.step suits c.amiss)
+      ];
+      stale = stale_in_world;
+    }
 
 pub ends_soundly : EndsSoundly
-ends_soundly site op words views j v h at is suits wants = ends_in_world site op is words views j v h at suits wants
+ends_soundly site op words views j v h at is suits nothing wants = ends_in_world site op is words views j v h at suits wants nothing
 
 pub never_stale : NeverStale
 never_stale site op words views j v h at is suits wants current segment byte so =
-    let stale = (ends_in_world site op is words views j v h at suits wants).stale segment byte so in
+    let stale = stale_in_world site op is words views j v h at suits wants segment byte so in
     stale.2 (stale.1 ∙ sym current)
 
 pub never_busy : NeverBusy
 never_busy site op words views j v h at is suits wants free word value so =
-    let busy = (ends_in_world site op is words views j v h at suits wants).busy word value so in
+    let busy = busy_in_world site op is words views j v h at suits wants word value so in
     let even = free word busy.0 in
     let found = busy.2 in
     let odd = busy.3 in

@@ -1,5 +1,6 @@
 -- By what each end of a get comes: what its last event loaded and found, and what the events before it had found.
 use Rattle.std.specs.Prelude.{◌≡◌, ◌≢◌, ℕ, ◌%◌, ◌^◌, ◌<◌, ◌≤◌, ⊤, true, false, Option, Some, None, List, [], ◌∷◌, ◌⊎◌}
+use Rattle.op_core.specs.declared.want.Want.{Want}
 use Rattle.op_core.specs.declared.want.Want.TheVariants.{Load, Power as LoadPower, Done}
 use Rattle.op_core.specs.declared.want.Ans.TheVariants.{Value}
 use Rattle.op_core.specs.declared.why.Why.TheVariants.{Busy, Moved}
@@ -10,7 +11,7 @@ use Rattle.image_layout.specs.Volatile.{counter_word}
 use Rattle.bucket_words.specs.Tables.{home_at}
 use Rattle.world.specs.declared.site.Site.{Site as Here}
 use Rattle.world.specs.Site.{Site, IsLockWord}
-use Rattle.world.specs.Views.{View, Has, At}
+use Rattle.world.specs.Views.{View, Has, At, HasLock}
 use Rattle.world.specs.Wants.{word_of}
 use Rattle.world.specs.Invariant.{Holds}
 use Rattle.read_op.specs.declared.step.Path.{Path}
@@ -24,6 +25,18 @@ use Rattle.read_op.specs.declared.op.ReadOp.{ReadOp}
 use Rattle.read_op.specs.Steps.{begun, wanted, taken, wanted_in, is_live, covers, entry_word, head_word, lock_word}
 use Rattle.read_op.specs.Budget.{after_all}
 use Rattle.read_op.specs.Fits.{IsIn, Suits, next_op}
+
+-- ---- what a get wants
+-- an event that changes no word: a load, a look at the power word, or none
+abbrev pub IsReading : Want → Type 0
+IsReading (Load word) = ⊤
+IsReading LoadPower = ⊤
+IsReading Done = ⊤
+IsReading want = ⊥
+
+-- A GET ONLY READS, in any state: it stores to no word and tries no exchange
+abbrev pub ReadsAlone : Type 0
+ReadsAlone = (op : ReadOp) → IsReading (wanted op)
 
 -- ---- what a get keeps
 module _ (op : ReadOp) where
@@ -65,24 +78,37 @@ IsWithin (x ∷ xs) (y ∷ ys) = ((x ≡ y) × IsWithin xs ys) ⊎ IsWithin (x �
 abbrev pub KeepsLoads : Type 0
 KeepsLoads = (key : ℕ) (site : Here) (seen : List ℕ) → IsWithin (kept (after_all (begun key site) seen)) (loads_of (begun key site) seen [])
 
+-- ---- what a get watches in this step
+module _ (op : ReadOp) (step : ReadStep) where
+  -- a root depth that was loaded and is kept
+  abbrev pub IsDepth : ℕ → Type 0
+  IsDepth root = Has (root_word, root) (kept_in op step)
+
+  -- a segment that the directory entry of the key, at that root depth, named when it was loaded
+  abbrev pub IsNamed : ℕ → Type 0
+  IsNamed segment = (root : ℕ) × IsDepth root × Has (entry_word op.site op.hash root, segment) (kept_in op step)
+
+  -- THE WORD IS WATCHED: it has the root depth, the entry of the key's hash at the root depth that was loaded, the header of
+  -- the segment that was named, or the version of the key's home bucket in it
+  abbrev pub IsWatched : ℕ → Type 0
+  IsWatched word = (word ≡ root_word) ⊎ ((root : ℕ) × IsDepth root × (word ≡ entry_word op.site op.hash root))
+      ⊎ ((segment : ℕ) × IsNamed segment × ((word ≡ head_word op.site segment) ⊎ (word ≡ lock_word op.site op.hash segment)))
+
 -- ---- causes, for a get in this step whose event finds this value
 module _ (op : ReadOp) (step : ReadStep) (seen : ℕ) where
-  -- a segment that the directory entry of the key named when it was loaded
-  abbrev pub IsNamed : ℕ → Type 0
-  IsNamed segment = (root : ℕ) × Has (entry_word op.site op.hash root, segment) (kept_in op step)
-
   -- the event loaded the lock word of the key's home bucket, in a segment that was named, and found it taken
   pub record FindsTaken (word value : ℕ) : Type 0 where
     pub loads : wanted_in op step ≡ Load word
     pub finds : seen ≡ value
     pub odd : value % 2 ≡ 1
     pub segment : ℕ
-    pub named : IsNamed segment
+    pub named : IsNamed op step segment
     pub is_home : word ≡ lock_word op.site op.hash segment
 
-  -- the event loaded a word again that is kept, and found another value there
+  -- the event loaded a watched word again that is kept, and found another value there
   pub record FindsMoved (word before after : ℕ) : Type 0 where
     pub loads : wanted_in op step ≡ Load word
+    pub watched : IsWatched op step word
     pub finds : seen ≡ after
     pub was : Has (word, before) (kept_in op step)
     pub differ : before ≢ after
@@ -95,9 +121,10 @@ module _ (op : ReadOp) (step : ReadStep) (seen : ℕ) where
   IsAmiss (Head root segment) = (is_live seen ≡ false) ⊎ (covers seen op.hash ≡ false)
   IsAmiss s = ⊥
 
-  -- the event loaded a word for the first time, and found such a value, which stands for both
+  -- the event loaded a watched word for the first time, and found such a value, which stands for both
   pub record FindsAmiss (word before after : ℕ) : Type 0 where
     pub loads : wanted_in op step ≡ Load word
+    pub watched : IsWatched op step word
     pub before_is : seen ≡ before
     pub after_is : seen ≡ after
     pub amiss : IsAmiss step
@@ -105,7 +132,7 @@ module _ (op : ReadOp) (step : ReadStep) (seen : ℕ) where
   -- the event loaded the header of a segment that was named, which is live by it, and found another version there
   pub record FindsStale (segment byte : ℕ) : Type 0 where
     pub loads : wanted_in op step ≡ Load (head_word op.site segment)
-    pub named : IsNamed segment
+    pub named : IsNamed op step segment
     pub live : is_live seen ≡ true
     pub version : version_in seen ≡ byte
     pub other : byte ≢ op.site.version
@@ -142,26 +169,36 @@ abbrev pub EndsByCause : Type 0
 EndsByCause = (op : ReadOp) (seen : ℕ) (end : ReadEnd) → wanted op ≢ Done → (taken op (Value seen)).step ≡ Ended end → Caused op seen end
 
 -- ---- causes in a world
+-- a lock is another's than the caller's in this seat, who has this view: not this caller, but another seat holds it
+pub record IsAnothers (views : List View) (j : ℕ) (v : View) (lock : ℕ) : Type 0 where
+  pub not_own : HasLock v.held lock → ⊥
+  pub seat : ℕ
+  pub elsewhere : seat ≢ j
+  pub holder : View
+  pub there : At views seat holder
+  pub holds : HasLock holder.held lock
+
 module _ (site : Site) (op : ReadOp) (words : Words) where
   -- the next event ends the get so
   abbrev pub EndsSo : ReadEnd → Type 0
   EndsSo end = (next_op site op words).step ≡ Ended end
 
-  pub record IsSoundEnd : Type 0 where
-    -- a lock that was found taken is one, and so are the newest words
+  -- its caller has this seat and this view
+  pub record IsSoundEnd (views : List View) (j : ℕ) (v : View) : Type 0 where
+    -- a lock that was found taken is the home bucket's, has that odd value in the newest words, and is another's
     pub busy : (word value : ℕ) → EndsSo (ends.Again (Busy word value))
-        → IsLockWord site.shape word × (word ≡ home_at site.shape op.key) × (words word ≡ value) × (value % 2 ≡ 1)
-    -- a word that moved was kept, and has another value
+        → IsLockWord site.shape word × (word ≡ home_at site.shape op.key) × (words word ≡ value) × (value % 2 ≡ 1) × IsAnothers views j v word
+    -- a word that moved was kept and is watched, and has another value; it is not the commit counter
     pub moved : (word before after : ℕ) → EndsSo (ends.Again (Moved word before after))
-        → Has (word, before) (kept op) × (words word ≡ after) × (before ≢ after)
+        → Has (word, before) (kept op) × IsWatched op op.step word × (words word ≡ after) × (before ≢ after) × (word ≢ counter_word site.shape)
     -- only the one segment is stale, and only by a version that is not the site's
     pub stale : (segment byte : ℕ) → EndsSo (ends.Stale segment byte)
         → (segment ≡ 0) × (byte ≡ site.front state_word % 2 ^ 8) × (byte ≢ op.site.version)
 
--- IN A WORLD whose invariant holds, beside any other callers
+-- IN A WORLD whose invariant holds, beside any other callers, for one that holds no lock
 abbrev pub EndsSoundly : Type 0
 EndsSoundly = (site : Site) (op : ReadOp) (words : Words) (views : List View) (j : ℕ) (v : View) → Holds site words views → At views j v
-    → IsIn site op → Suits site op v → wanted op ≢ Done → IsSoundEnd site op words
+    → IsIn site op → Suits site op v → v.held ≡ [] → wanted op ≢ Done → IsSoundEnd site op words views j v
 
 -- where the site has the image's version, no segment is stale
 abbrev pub NeverStale : Type 0

@@ -8,7 +8,7 @@ ghost use Rattle.world.specs.Views.{View};
 ghost use Rattle.read_op.specs.declared.op.ReadOp.{ReadOp};
 ghost use Rattle.read_op.specs.Fits.{BeginsSuited, WantsByKind, MayStep, KeepsSuits};
 ghost use Rattle.read_op.specs.Budget.{left, Falls, EndsInTime, AsksWithin};
-ghost use Rattle.read_op.specs.Causes.{EndsByCause, KeepsLoads, EndsSoundly, NeverStale, NeverBusy};
+ghost use Rattle.read_op.specs.Causes.{ReadsAlone, EndsByCause, KeepsLoads, EndsSoundly, NeverStale, NeverBusy};
 
 /// Each event leaves fewer to do, so that a get ends within 41 events.
 pub fn ends_in_time()
@@ -30,8 +30,10 @@ pub fn fits_the_world()
     ensures keeps { KeepsSuits }
 {}
 
-/// Each end of a get has its cause: what the event by which it comes loaded and found, and what was loaded before it.
+/// Each end of a get has its cause: what the event by which it comes loaded and found, and what was loaded before it. A get
+/// only reads, so the change that it finds between two looks at a word is not its own.
 pub fn ends_have_causes()
+    ensures reads { ReadsAlone }
     ensures causes { EndsByCause }
     ensures loads { KeepsLoads }
     ensures in_world { EndsSoundly }

@@ -1,7 +1,10 @@
 use Rattle.read_op.proofs.Loading.{keeps_loads}
-use Rattle.read_op.proofs.Causing.{ends_by_cause}
+use Rattle.read_op.proofs.Causing.{ends_by_cause, reads_alone}
 use Rattle.read_op.proofs.Sounding.{ends_soundly, never_stale, never_busy}
 use Rattle.read_op.proofs.laws.ends_have_causes.Goals as goal
+
+pub returns-clause-reads : goal.returns-clause-reads
+returns-clause-reads c = reads_alone
 
 pub returns-clause-causes : goal.returns-clause-causes
 returns-clause-causes c = ends_by_cause
