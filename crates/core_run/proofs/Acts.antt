@@ -1,5 +1,5 @@
 -- A run is one act after another, and each act keeps a state of the run.
-use Rattle.std.proofs.Common.{◌≡◌, ℕ, zero, suc, ◌+◌, Bool, true, false, Option, Some, None, List, [], ◌∷◌, ◌++◌, length, take, drop, refl, sym, ◌∙◌, ap, subst, arith}
+use Rattle.std.proofs.Common.{inl, inr, slice_get, ◌≡◌, ℕ, zero, suc, ◌+◌, Bool, true, false, Option, Some, None, List, [], ◌∷◌, ◌++◌, length, take, drop, refl, sym, ◌∙◌, ap, subst, arith}
 use Rattle.std.specs.Prelude.{if◌then◌else◌}
 use Rattle.std.specs.List.{AllByRecursion, AllZip}
 use Rattle.std.proofs.lemmas.List.{append_assoc, take-append-drop}
@@ -11,16 +11,21 @@ use Rattle.script_text.specs.declared.line.Event.TheVariants as event
 use Rattle.script_text.specs.declared.line.Line.{Line}
 use Rattle.script_text.specs.declared.line.Line.TheVariants as line
 use Rattle.restart_op.specs.Close.{begun as close_begun}
+use Rattle.restart_op.specs.Restart.{wanted as restart_wanted, taken as restart_taken}
+use Rattle.restart_op.specs.declared.restart.RestartOp.{RestartOp}
+use Rattle.op_core.specs.declared.want.Want.{Want}
+use Rattle.op_core.specs.declared.want.Want.TheVariants as want
+use Rattle.world.specs.Wants.{answer_to, word_of}
 use Rattle.world.specs.Site.{Site}
 use Rattle.world.specs.Views.{View}
 use Rattle.engine.specs.declared.engine.Engine.{Engine}
-use Rattle.engine.specs.Core.{Caller, current}
+use Rattle.engine.specs.Core.{Caller, current, Core}
 use Rattle.engine.specs.Holding.{CallerFits, DoesCall}
 use Rattle.core_run.specs.declared.keeper.Keeper.{Keeper}
 use Rattle.core_run.specs.declared.keeper.Keeper.TheVariants.{Restarting, Open, Closing, Closed}
 use Rattle.core_run.specs.declared.goal.Goal.{Goal}
 use Rattle.core_run.specs.declared.goal.Goal.TheVariants.{AnyEvent, Kind, StoreTo}
-use Rattle.core_run.specs.State.{State, Deed, deed}
+use Rattle.core_run.specs.State.{State, Deed, by_keeper, restarting, keeper_deed, call_deed, caller_deed, open_deed, deed}
 use Rattle.core_run.specs.Run.{counts, ends_in_again, by_deed, drive, restarted_by, restarted, round, has_call, has_calls, rounds, close_begins, run_out, ready_for, line_done, lines_done, closed, cut_of, state_at_end}
 use Rattle.core_run.specs.Running.{Task, IsTask, site_in, IsRunning, IsRunningBy, DeedsAreWell}
 use Rattle.core_run.specs.States.{RunBegins, CloseMayBegin, MomentsAreGood}
@@ -28,9 +33,64 @@ use Rattle.core_run.specs.Alone.{IsForOne, BeginsAlone}
 use Rattle.core_run.specs.Ends.{most_of, IsRun, RestartedStays, LineStays, LinesStay, RoundsEnd, RoundsAreEnough}
 use Rattle.core_run.specs.Sessions.{end_state}
 use Rattle.core_run.specs.Wells.{start_state}
-use Rattle.core_run.specs.Moments.{Act, event_by, begins_close, after_event, after_beginning, after_act, after_acts, MomentsOfRuns, IsRunOf, EveryMomentIsGood}
+use Rattle.core_run.specs.Moments.{ActsAreSingle, IsOneMore, Act, event_by, begins_close, after_event, after_beginning, after_act, after_acts, MomentsOfRuns, IsRunOf, EveryMomentIsGood}
 use Rattle.core_run.proofs.Seeing.{either}
 use Rattle.core_run.proofs.Driving.{has_none}
+
+-- ---- an act does one event at the most
+restarting_trace : (shape : Shape) (op : RestartOp) (w : Want) (core : Core) → (restarting shape op w core).core.trace ≡ core.trace
+restarting_trace shape op want.Done core = refl
+restarting_trace shape op (want.Load i) core = refl
+restarting_trace shape op (want.Store i x) core = refl
+restarting_trace shape op (want.Exchange i a b) core = refl
+restarting_trace shape op (want.Flush l) core = refl
+restarting_trace shape op want.Fence core = refl
+restarting_trace shape op want.Draw core = refl
+restarting_trace shape op want.Power core = refl
+
+module _ (shape : Shape) where
+  -- from a state with this core
+  abbrev IsSingle : State → Option Deed → Type 0
+  IsSingle s o = IsOneMore s.core.trace (after_event o s).core.trace
+
+  keeper_single : (k : Keeper) (s : State) → IsSingle s (keeper_deed shape k s.core)
+  keeper_single (Restarting op) s =
+      let w : Want = restart_wanted op in
+      let next : RestartOp = restart_taken op (answer_to w (s.core.words (word_of shape w))) in
+      inr (_, restarting_trace shape next (restart_wanted next) (by_keeper shape w s.core))
+  keeper_single Open s = inl refl
+  keeper_single (Closing op) s = inr (_, refl)
+  keeper_single Closed s = inl refl
+
+  call_single : (j : ℕ) (s : State) (caller : Caller) (call : Option Call) (e : Option Engine) → IsSingle s (call_deed shape j s.core caller call e)
+  call_single j s caller None e = inl refl
+  call_single j s caller (Some call) None = inl refl
+  call_single j s caller (Some call) (Some e) = inr (_, refl)
+
+  caller_single : (j : ℕ) (s : State) (o : Option Caller) → IsSingle s (caller_deed shape j s.core o)
+  caller_single j s None = inl refl
+  caller_single j s (Some caller) = call_single j s caller (current caller) caller.engine
+
+  open_single : (j : ℕ) (k : Keeper) (s : State) → IsSingle s (open_deed shape j k s.core)
+  open_single j Open s = caller_single j s (slice_get s.core.callers j)
+  open_single j (Restarting op) s = inl refl
+  open_single j (Closing op) s = inl refl
+  open_single j Closed s = inl refl
+
+  beginning_single : (k : Keeper) (s : State) → (after_beginning shape k s).core ≡ s.core
+  beginning_single Open s = by (has_calls shape 0 s.core.callers)
+    where
+      by : (b : Bool) → (if b then s else record s { keeper = Closing (close_begun shape) }).core ≡ s.core
+      by true = refl
+      by false = refl
+  beginning_single (Restarting op) s = refl
+  beginning_single (Closing op) s = refl
+  beginning_single Closed s = refl
+
+pub acts_are_single : ActsAreSingle
+acts_are_single shape (event_by zero) s = keeper_single shape s.keeper s
+acts_are_single shape (event_by (suc j)) s = open_single shape j s.keeper s
+acts_are_single shape begins_close s = inl (ap (λ (core : Core). core.trace) (beginning_single shape s.keeper s))
 
 -- ---- each act keeps a state of the run
 -- a caller without a call runs no engine

@@ -1,7 +1,8 @@
 -- The moments of a run. A run is one act after another: each is an event of a caller, of which caller 0 restarts the image and
 -- closes it, or the beginning of the close. A moment is the time before its first act, between two of them, or after its last.
 -- At each of them whatever a power cut may leave is sound, and holds the map of the history so far, open calls whole or absent.
-use Rattle.std.specs.Prelude.{◌≡◌, ℕ, Option, None, Some, List, [], ◌∷◌, length, take, if◌then◌else◌}
+use Rattle.std.specs.Prelude.{◌≡◌, ℕ, ◌⊎◌, Option, None, Some, List, [], ◌∷◌, length, take, if◌then◌else◌}
+use Rattle.trace.specs.Events.{Event, Trace}
 use Rattle.image_layout.specs.Places.{Shape}
 use Rattle.script_text.specs.declared.line.Line.{Line}
 use Rattle.map_model.specs.Map.{Map}
@@ -42,6 +43,13 @@ module _ (shape : Shape) where
   abbrev pub after_acts : List Act → State → State
   after_acts [] s = s
   after_acts (a ∷ acts) s = after_acts acts (after_act a s)
+
+-- an act does one event at the most, so that no moment between two events is left out
+abbrev pub IsOneMore : Trace → Trace → Type 0
+IsOneMore before after = (after ≡ before) ⊎ ((e : Event) × (after ≡ e ∷ before))
+
+abbrev pub ActsAreSingle : Type 0
+ActsAreSingle = (shape : Shape) (a : Act) (s : State) → IsOneMore s.core.trace (after_act shape a s).core.trace
 
 -- the state of a run when the first n of its acts are done
 abbrev pub moment : Task → List Act → ℕ → State
