@@ -29,7 +29,8 @@ after_event None s = s
 after_event (Some d) s = d.state
 
 module _ (shape : Shape) where
-  -- the close begins where the image is open and no caller has a call left
+  -- the close begins where the image is open and no caller has a call left; whether one has does not depend on a number of events, so
+  -- that number is 0 here
   abbrev pub after_beginning : Keeper → State → State
   after_beginning Open s = if has_calls shape 0 s.core.callers then s else record s { keeper = Closing (close_begun shape) }
   after_beginning keeper s = s
