@@ -82,7 +82,7 @@ module _ (shape : Shape) (most : ℕ) where
       by rest (Some call) is = refl
       by rest None is = let p = past_calls c is in rest (omega (arith, more, p))
 
-  has_none : (cs : List Caller) → all_behind cs ≡ 0 → has_calls shape most cs ≡ false
+  pub has_none : (cs : List Caller) → all_behind cs ≡ 0 → has_calls shape most cs ≡ false
   has_none [] none = refl
   has_none (c ∷ cs) none = by (has_none cs) (current c) refl
     where

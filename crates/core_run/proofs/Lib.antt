@@ -21,3 +21,4 @@ mod Follows
 mod Measures
 mod Driving
 mod Lines
+mod Acts

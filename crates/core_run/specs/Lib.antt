@@ -7,3 +7,4 @@ pub mod Ends
 pub mod Opening
 pub mod Sessions
 pub mod Wells
+pub mod Moments

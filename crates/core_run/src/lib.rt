@@ -2,14 +2,15 @@
 //!
 //! Definitions and laws. `specs/State.antt` has the state of a run and one event of it, `specs/Run.antt` the lines. A driver
 //! that runs on a memory answers to these definitions. `specs/Running.antt` says what holds of a state between any two events,
-//! and `specs/States.antt` what follows of it; `specs/Ends.antt` that a run of one caller ends, and `specs/Sessions.antt` that it
-//! is a session.
+//! and `specs/States.antt` what follows of it, at every moment of a run by `specs/Moments.antt`; `specs/Ends.antt` that a run of
+//! one caller ends, and `specs/Sessions.antt` that it is a session.
 #![tactic(auto)]
 
 mod alone;
 pub mod deed;
 pub mod goal;
 pub mod keeper;
+pub mod moments;
 pub mod sessions;
 pub mod states;
 
@@ -19,6 +20,7 @@ pub use alone::{
 pub use deed::Deed;
 pub use goal::Goal;
 pub use keeper::Keeper;
+pub use moments::every_moment_is_good;
 pub use sessions::runs_are_sessions;
 pub use states::{
     close_may_begin, closed_is_closed, deeds_are_well, moments_are_good, no_slot_is_free,
