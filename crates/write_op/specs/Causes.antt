@@ -164,9 +164,18 @@ module _ (t : Task) (k : Kept) (s : Step) (a : Ans) (loads : List (ℕ × ℕ)) 
     pub is_lock : word ≡ lock_word t k side
     pub named : IsNamed
 
-  -- the event found another value in a word that was loaded before
+  -- a word by which the change found its bucket: the root's, the entry of its hash at the root depth that was loaded, the
+  -- header word of the segment that this entry named, or the lock word of the home or the probing bucket there
+  abbrev pub IsWatched : ℕ → Type 0
+  IsWatched word = (word ≡ root_word)
+      ⊎ (((word ≡ entry_word t.site.geometry t.hash k.root) × Has (root_word, k.root) loads)
+      ⊎ (((word ≡ head_word t.site.geometry k.segment) × IsNamed)
+      ⊎ ((side : Side) × (word ≡ lock_word t k side) × IsNamed)))
+
+  -- the event found another value in such a word, which was loaded before
   pub record FindsMoved (word before after : ℕ) : Type 0 where
     pub finds : Found word after
+    pub watched : IsWatched word
     pub was : Has (word, before) loads
     pub differ : before ≢ after
 
@@ -178,9 +187,10 @@ module _ (t : Task) (k : Kept) (s : Step) (a : Ans) (loads : List (ℕ × ℕ)) 
   IsAmiss LoadHead n = sight_of t.site.version t.hash n ≡ Other
   IsAmiss p n = ⊥
 
-  -- the event loaded a word for the first time, and found such a value, which stands for both
+  -- the event loaded such a word for the first time, and found such a value, which stands for both
   pub record FindsAmiss (word before after : ℕ) : Type 0 where
     pub finds : Found word after
+    pub watched : IsWatched word
     pub same : before ≡ after
     pub amiss : IsAmiss s after
 
@@ -252,7 +262,7 @@ EndsStay = (op : WriteOp) (a : Ans) (end : WriteEnd) → IsDecided op.step end �
 abbrev pub BeginsOpen : Type 0
 BeginsOpen = (call : Call) (site : Here) (end : WriteEnd) → IsDecided (begun call site).step end → (end ≡ Off) × ((key : ℕ) × (call ≡ Get key))
 
--- ---- causes in a world
+-- ---- causes in a world, for a caller with this view
 module _ (site : Site) (op : WriteOp) (words : Words) (loads : List (ℕ × ℕ)) where
   -- the next event decides that the change ends so
   abbrev pub EndsSo : WriteEnd → Type 0
@@ -263,9 +273,10 @@ module _ (site : Site) (op : WriteOp) (words : Words) (loads : List (ℕ × ℕ)
   IsOwnLock word = (word ≡ home_at site.shape (key_for op.task.call))
       ⊎ (word ≡ bucket_at site.shape 0 (probing_of (home_of (key_hash site.shape (key_for op.task.call)))))
 
-  pub record IsSoundEnd : Type 0 where
-    -- a lock that was found taken is one of the two, and odd among the newest words
-    pub busy : (word seen : ℕ) → EndsSo (Again (Busy word seen)) → IsLockWord site.shape word × IsOwnLock word × (words word ≡ seen) × (seen % 2 ≡ 1)
+  pub record IsSoundEnd (v : View) : Type 0 where
+    -- a lock that was found taken is one of the two, odd among the newest words, and not held by this caller
+    pub busy : (word seen : ℕ) → EndsSo (Again (Busy word seen))
+        → IsLockWord site.shape word × IsOwnLock word × (words word ≡ seen) × (seen % 2 ≡ 1) × (HasLock v.held word → ⊥)
     -- a word that moved was loaded before, and has another value
     pub moved : (word before after : ℕ) → EndsSo (Again (Moved word before after)) → Has (word, before) loads × (words word ≡ after) × (before ≢ after)
     -- only the one segment is stale, and only by a version that is not the site's
@@ -284,7 +295,7 @@ module _ (site : Site) (op : WriteOp) (words : Words) (loads : List (ℕ × ℕ)
 
 abbrev pub EndsSoundly : Type 0
 EndsSoundly = (site : Site) (op : WriteOp) (words : Words) (loads : List (ℕ × ℕ)) (views : List View) (j : ℕ) (before v : View)
-    → IsRunning site op words loads views j before v → IsSoundEnd site op words loads
+    → IsRunning site op words loads views j before v → IsSoundEnd site op words loads v
 
 -- where the site has the image's version, no segment is stale
 abbrev pub NeverStale : Type 0
