@@ -4,13 +4,14 @@ use Rattle.std.specs.Prelude.{◌≡◌, ◌≢◌, ℕ, ◌-◌, ◌%◌, ◌^�
 use Rattle.op_core.specs.declared.want.Want.{Want}
 use Rattle.op_core.specs.declared.want.Want.TheVariants as want
 use Rattle.op_core.specs.declared.want.Ans.{Ans}
-use Rattle.op_core.specs.declared.want.Ans.TheVariants.{Value, Lost, Drawn}
+use Rattle.op_core.specs.declared.want.Ans.TheVariants.{Value, Won, Lost, Drawn}
+use Rattle.op_core.specs.declared.why.Why.{Why}
 use Rattle.op_core.specs.declared.why.Why.TheVariants.{Busy, Moved}
 use Rattle.hash_word.specs.Hash.{home_of, probing_of}
 use Rattle.segment_head.specs.HeadWord.{version_in}
 use Rattle.bucket_meta.specs.Bucket.{allocated}
 use Rattle.trace.specs.Events.{Words}
-use Rattle.image_layout.specs.Places.{root_word, state_word, bucket_at}
+use Rattle.image_layout.specs.Places.{IsShape, root_word, state_word, bucket_at}
 use Rattle.image_layout.specs.Volatile.{counter_word}
 use Rattle.sound_image.specs.Records.{key_hash}
 use Rattle.map_model.specs.declared.call.Call.{Call}
@@ -60,6 +61,17 @@ after_all op (a ∷ rest) = after_all (taken op a) rest
 abbrev pub loads_of : WriteOp → List Ans → List (ℕ × ℕ) → List (ℕ × ℕ)
 loads_of op [] before = before
 loads_of op (a ∷ rest) before = loads_of (taken op a) rest (load_of (wanted op) a ++ before)
+
+-- the words that an event changed: a store's, and that of an exchange that was won
+abbrev pub change_of : Want → Ans → List ℕ
+change_of (want.Store i x) a = i ∷ []
+change_of (want.Exchange i x y) Won = i ∷ []
+change_of w a = []
+
+-- the words that those events changed, the newest first and then those before
+abbrev pub changed_of : WriteOp → List Ans → List ℕ → List ℕ
+changed_of op [] before = before
+changed_of op (a ∷ rest) before = changed_of (taken op a) rest (change_of (wanted op) a ++ before)
 
 -- ---- what a change keeps of them
 -- each of these pairs is among those
@@ -253,6 +265,18 @@ IsHonest w a = ⊤
 abbrev pub EndsByCause : Type 0
 EndsByCause = (op : WriteOp) (a : Ans) (loads : List (ℕ × ℕ)) (end : WriteEnd) → Remembers op loads → IsHonest (wanted op) a
     → ((e : WriteEnd) → IsDecided op.step e → ⊥) → IsDecided (taken op a).step end → Caused op a loads end
+
+-- the word by which a change is told to try again
+abbrev pub told_word : Why → ℕ
+told_word (Busy word seen) = word
+told_word (Moved word before after) = word
+
+-- WHAT MOVED, OR WAS TAKEN, IS ANOTHER'S DOING: whatever answers its events bring, an attempt that is told to try again has
+-- not changed the word that it is told
+abbrev pub AgainByOthers : Type 0
+AgainByOthers = (call : Call) (site : Here) (answers : List Ans) (a : Ans) (why : Why) → IsShape site.geometry → key_for call < 2 ^ 64
+    → ((e : WriteEnd) → IsDecided (after_all (begun call site) answers).step e → ⊥) → IsDecided (taken (after_all (begun call site) answers) a).step (Again why)
+    → Has (told_word why) (changed_of (begun call site) answers []) → ⊥
 
 -- what is decided stays so
 abbrev pub EndsStay : Type 0
