@@ -118,8 +118,8 @@ module _ (t : Task) (k : Kept) (loads : List (ℕ × ℕ)) (v : ℕ) where
         (λ is. ((refl, refl), inl (leb-true (2 ^ 63) v is))) (λ _. decided_caused t.call refl)
 
   full_caused : FindsNoRoom t k loads → (b : Bool) → (t.site.geometry.depth == 0) ≡ b → CausedIf t k CountFull (Value v) loads (GiveBack Both (Replied (cond b reply.Deep reply.Full) v))
-  full_caused none true is = ((refl, refl), none, eqb-true t.site.geometry.depth 0 is)
-  full_caused none false is = ((refl, refl), none, eqb-false t.site.geometry.depth 0 is)
+  full_caused none true is = (refl, (refl, refl), none, eqb-true t.site.geometry.depth 0 is)
+  full_caused none false is = (refl, (refl, refl), none, eqb-false t.site.geometry.depth 0 is)
 
 made_caused : (t : Task) (k : Kept) (point : Point) (a : Ans) (loads : List (ℕ × ℕ)) → CausedIf t k (Make point) a loads (made k.slot point a)
 made_caused t k FlushFinger Passed loads = both_by (CausedIf t k (Make FlushFinger) Passed loads) (nat_lt k.slot 2) (Make FenceRecord) (Make FlushRecord) (λ _. tt) (λ _. tt)

@@ -1,6 +1,6 @@
 -- By what each end of a change comes: what the event that decided it loaded or tried and found, and what the events of the
 -- attempt before it had loaded.
-use Rattle.std.specs.Prelude.{◌≡◌, ◌≢◌, ℕ, ◌-◌, ◌%◌, ◌^◌, ◌<◌, ◌≤◌, ⊤, List, [], ◌∷◌, ◌++◌, ◌⊎◌, length, slice_index}
+use Rattle.std.specs.Prelude.{◌≡◌, ◌≢◌, ℕ, ◌+◌, ◌-◌, ◌%◌, ◌^◌, ◌<◌, ◌≤◌, ⊤, List, [], ◌∷◌, ◌++◌, ◌⊎◌, length, slice_index}
 use Rattle.op_core.specs.declared.want.Want.{Want}
 use Rattle.op_core.specs.declared.want.Want.TheVariants as want
 use Rattle.op_core.specs.declared.want.Ans.{Ans}
@@ -8,10 +8,10 @@ use Rattle.op_core.specs.declared.want.Ans.TheVariants.{Value, Won, Lost, Drawn}
 use Rattle.op_core.specs.declared.why.Why.{Why}
 use Rattle.op_core.specs.declared.why.Why.TheVariants.{Busy, Moved}
 use Rattle.hash_word.specs.Hash.{home_of, probing_of}
-use Rattle.segment_head.specs.HeadWord.{version_in}
+use Rattle.segment_head.specs.HeadWord.{version_in, state_in, depth_in, free}
 use Rattle.bucket_meta.specs.Bucket.{allocated}
 use Rattle.trace.specs.Events.{Words}
-use Rattle.image_layout.specs.Places.{IsShape, root_word, state_word, bucket_at}
+use Rattle.image_layout.specs.Places.{IsShape, root_word, state_word, head_at, bucket_at}
 use Rattle.image_layout.specs.Volatile.{counter_word}
 use Rattle.sound_image.specs.Records.{key_hash}
 use Rattle.map_model.specs.declared.call.Call.{Call}
@@ -108,8 +108,8 @@ module _ (t : Task) (k : Kept) where
   kept_in (LookAt Probing) = way_home
   kept_in (TryLock side) = way_by side
   kept_in (CountSpent side) = way_by side
-  kept_in CountFull = []
   kept_in (GiveBack held end) = []
+  kept_in (Ended NoSlot) = whole_way
   kept_in (Ended end) = []
   kept_in s = whole_way
 
@@ -234,8 +234,8 @@ module _ (t : Task) (k : Kept) (s : Step) (a : Ans) (loads : List (ℕ × ℕ)) 
   Answers reply.Absent place = Counts place × FindsNoKey t k loads × (IsInsert t.call → ⊥)
   Answers reply.Done place = (s ≡ Make DrawPlace) × (a ≡ Drawn place)
   Answers reply.Exists place = Counts place × FindsKey t k loads × IsInsert t.call
-  Answers reply.Full place = Counts place × FindsNoRoom t k loads × (t.site.geometry.depth ≢ 0)
-  Answers reply.Deep place = Counts place × FindsNoRoom t k loads × (t.site.geometry.depth ≡ 0)
+  Answers reply.Full place = (s ≡ CountFull) × Counts place × FindsNoRoom t k loads × (t.site.geometry.depth ≢ 0)
+  Answers reply.Deep place = (s ≡ CountFull) × Counts place × FindsNoRoom t k loads × (t.site.geometry.depth ≡ 0)
   Answers reply.Spent place = Counts place × IsSpent place
 
   -- THE CAUSE of each end
@@ -297,6 +297,10 @@ module _ (site : Site) (op : WriteOp) (words : Words) (loads : List (ℕ × ℕ)
   IsOwnLock word = (word ≡ home_at site.shape (key_for op.task.call))
       ⊎ (word ≡ bucket_at site.shape 0 (probing_of (home_of (key_hash site.shape (key_for op.task.call)))))
 
+  -- the header word of the segment in a slot was loaded, with this value
+  abbrev pub WasHead : ℕ → ℕ → Type 0
+  WasHead slot head = Has (head_at site.shape slot + 1, head) loads
+
   pub record IsSoundEnd (v : View) : Type 0 where
     -- a lock that was found taken is one of the two, odd among the newest words, and not held by this caller
     pub busy : (word seen : ℕ) → EndsSo (Again (Busy word seen))
@@ -306,6 +310,12 @@ module _ (site : Site) (op : WriteOp) (words : Words) (loads : List (ℕ × ℕ)
     -- only the one segment is stale, and only by a version that is not the site's
     pub stale : (segment byte : ℕ) → EndsSo (Stale segment byte)
         → (segment ≡ 0) × (byte ≡ site.front state_word % 2 ^ 8) × (byte ≢ op.task.site.version)
+    -- an insert is answered Full where its segment is less deep than the image's greatest depth, and every slot has a segment
+    pub full : (place : ℕ) → EndsSo (Replied reply.Full place)
+        → WasHead op.kept.segment op.kept.head × (depth_in op.kept.head < site.shape.depth)
+        × ((slot : ℕ) → slot < site.shape.segments → (head : ℕ) × WasHead slot head × (state_in head ≢ free))
+    -- and Deep where its segment has that depth
+    pub deep : (place : ℕ) → EndsSo (Replied reply.Deep place) → WasHead op.kept.segment op.kept.head × (depth_in op.kept.head ≡ site.shape.depth)
 
 -- IN A WORLD whose invariant holds, beside any other callers
 module _ (site : Site) (op : WriteOp) (words : Words) (loads : List (ℕ × ℕ)) (views : List View) (j : ℕ) (before v : View) where
