@@ -175,7 +175,7 @@ module _ (site : Site) (op : WriteOp) (words : Words) (loads : List (ℕ × ℕ)
   found_there word seen f = finds_word op.task.site.geometry words (wanted op) word seen f
 
   taken_cause : (word seen : ℕ) → EndsSo site op words loads (Again (Busy word seen)) → FindsTaken op.task op.kept op.step answer loads word seen
-  taken_cause word seen so = ends_by_cause op answer loads (Again (Busy word seen)) run.remembers (honest (wanted op) (finds site op words)) run.open_still so
+  taken_cause word seen so = ends_by_cause op answer loads (Again (Busy word seen)) run.is_in.change run.remembers (honest (wanted op) (finds site op words)) run.open_still so
 
   -- the lock that is looked at is not held
   looking : (side : Side) (s : Step) → (s ≡ LookAt side) ⊎ (s ≡ TryLock side) → SuitsStep op.task op.kept s v → SuitsLooking op.task op.kept side v
@@ -226,23 +226,23 @@ module _ (site : Site) (op : WriteOp) (words : Words) (loads : List (ℕ × ℕ)
         let found = (found_there word seen c.finds).1 in
         let is : word ≡ own c.side = c.is_lock ∙ odd_is_own c.side (subst (λ w. words w % 2 ≡ 1) c.is_lock (ap (λ z. z % 2) found ∙ c.odd)) in
         ((bucket_of c.side (key_hash site.shape (key_for op.task.call)), own_near c.side, is), which_own word c.side is, found, c.odd, (λ has. not_held c.side (looking c.side op.step c.looks run.suits.view) word c.is_lock has));
-    moved = λ word old new so. elim (ends_by_cause op answer loads (Again (Moved word old new)) run.remembers (honest (wanted op) (finds site op words)) run.open_still so) [
+    moved = λ word old new so. elim (ends_by_cause op answer loads (Again (Moved word old new)) run.is_in.change run.remembers (honest (wanted op) (finds site op words)) run.open_still so) [
       | inl c ↦ (c.was, (found_there word new c.finds).1, c.differ)
       | inr c ↦ absurd (never_amiss answer op.step new run.suits.view (found_there word new c.finds).0 c.amiss)
     ];
     stale = λ segment byte so.
-        let c = ends_by_cause op answer loads (Stale segment byte) run.remembers (honest (wanted op) (finds site op words)) run.open_still so in
+        let c = ends_by_cause op answer loads (Stale segment byte) run.is_in.change run.remembers (honest (wanted op) (finds site op words)) run.open_still so in
         let found = (found_there (head_word op.task.site.geometry segment) c.head c.finds).1 in
         let first = late_is_first segment byte c.head found c.sight in
         (first, sym c.version ∙ (ap version_in (sym found ∙ head_is segment first) ∙ run.holds.site_is.front.same_version), c.other);
     full = λ place so.
-        let c = ends_by_cause op answer loads (Replied reply.Full place) run.remembers (honest (wanted op) (finds site op words)) run.open_still so in
+        let c = ends_by_cause op answer loads (Replied reply.Full place) run.is_in.change run.remembers (honest (wanted op) (finds site op words)) run.open_still so in
         let none = (no_room_at c.0).0.no_depth in
         let same = ap (λ g. g.depth) run.is_in.shape in
         let some = c.3 in
         (was_head c.0, omega (arith, none, same, some), all_seen c.0);
     deep = λ place so.
-        let c = ends_by_cause op answer loads (Replied reply.Deep place) run.remembers (honest (wanted op) (finds site op words)) run.open_still so in
+        let c = ends_by_cause op answer loads (Replied reply.Deep place) run.is_in.change run.remembers (honest (wanted op) (finds site op words)) run.open_still so in
         (was_head c.0, (no_room_at c.0).0.no_depth ∙ (sym c.3 ∙ ap (λ g. g.depth) run.is_in.shape));
   }
 

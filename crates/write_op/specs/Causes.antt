@@ -15,10 +15,9 @@ use Rattle.image_layout.specs.Places.{IsShape, root_word, state_word, head_at, b
 use Rattle.image_layout.specs.Volatile.{counter_word}
 use Rattle.sound_image.specs.Records.{key_hash}
 use Rattle.map_model.specs.declared.call.Call.{Call}
-use Rattle.map_model.specs.declared.call.Call.TheVariants.{Get}
 use Rattle.map_model.specs.declared.entry.Reply.{Reply}
 use Rattle.map_model.specs.declared.entry.Reply.TheVariants as reply
-use Rattle.map_model.specs.Legal.{IsInsert}
+use Rattle.map_model.specs.Legal.{IsInsert, IsChange}
 use Rattle.bucket_words.specs.Tables.{home_at}
 use Rattle.world.specs.declared.site.Site.{Site as Here}
 use Rattle.world.specs.Site.{Site, IsLockWord}
@@ -216,9 +215,9 @@ module _ (t : Task) (k : Kept) (s : Step) (a : Ans) (loads : List (ℕ × ℕ)) 
     pub version : version_in head ≡ byte
     pub other : byte ≢ t.site.version
 
-  -- the event loaded the power word, and found it not 0; or else the call is no change
+  -- the event loaded the power word, and found it not 0
   abbrev pub FindsOff : Type 0
-  FindsOff = ((n : ℕ) × (wanted_of t k s ≡ want.Power) × (a ≡ Value n) × (n ≢ 0)) ⊎ ((key : ℕ) × (t.call ≡ Get key))
+  FindsOff = (n : ℕ) × (wanted_of t k s ≡ want.Power) × (a ≡ Value n) × (n ≢ 0)
 
   -- the event loaded the commit counter, and found this place
   abbrev pub Counts : ℕ → Type 0
@@ -263,7 +262,7 @@ IsHonest w a = ⊤
 
 -- EACH END HAS ITS CAUSE, at the event that decides it, whatever words there are
 abbrev pub EndsByCause : Type 0
-EndsByCause = (op : WriteOp) (a : Ans) (loads : List (ℕ × ℕ)) (end : WriteEnd) → Remembers op loads → IsHonest (wanted op) a
+EndsByCause = (op : WriteOp) (a : Ans) (loads : List (ℕ × ℕ)) (end : WriteEnd) → IsChange op.task.call → Remembers op loads → IsHonest (wanted op) a
     → ((e : WriteEnd) → IsDecided op.step e → ⊥) → IsDecided (taken op a).step end → Caused op a loads end
 
 -- the word by which a change is told to try again
@@ -282,9 +281,9 @@ AgainByOthers = (call : Call) (site : Here) (answers : List Ans) (a : Ans) (why 
 abbrev pub EndsStay : Type 0
 EndsStay = (op : WriteOp) (a : Ans) (end : WriteEnd) → IsDecided op.step end → IsDecided (taken op a).step end
 
--- a call is decided at its beginning only if it is no change
+-- no change is decided at its beginning
 abbrev pub BeginsOpen : Type 0
-BeginsOpen = (call : Call) (site : Here) (end : WriteEnd) → IsDecided (begun call site).step end → (end ≡ Off) × ((key : ℕ) × (call ≡ Get key))
+BeginsOpen = (call : Call) (site : Here) (end : WriteEnd) → IsChange call → IsDecided (begun call site).step end → ⊥
 
 -- ---- causes in a world, for a caller with this view
 module _ (site : Site) (op : WriteOp) (words : Words) (loads : List (ℕ × ℕ)) where
