@@ -86,7 +86,7 @@ full_of_op site here call (Write op) before v good s r =
     let k = op.kept in
     let finds : FindsNoSlot op.task k v = subst (λ z. SuitsStep op.task k z v) r s.suits.4.view in
     let words = k.words in
-    let lock = home_lock site op good s.suits.2 finds.0.first in
+    let lock = home_lock site op good s.suits.2 finds.0.first.first in
     let taken : (t : ℕ) → t < 14 → allocated t (slice_index words 1) ≡ 1 = λ t low. all_taken words 14 0 t finds.4 (omega arith) (omega (arith, low)) in
     let known : (i : ℕ) → 1 ≤ i → i < 32 → Has (home_at site.shape (key_of op.task.call) + i, slice_index words i) v.known
     = λ i from low. subst (λ l. Has (l + i, slice_index words i) v.known) lock (finds.2 i from low) in

@@ -152,8 +152,8 @@ lock_at site good t k side place first = (
 )
 
 first_segment : (t : Task) (k : Kept) (v : View) (side : Side) → SuitsStep t k (LookAt side) v → k.segment ≡ 0
-first_segment t k v Home suits = suits.1
-first_segment t k v Probing suits = suits.1
+first_segment t k v Home suits = suits.1.first
+first_segment t k v Probing suits = suits.1.first
 
 abbrev value_of : Ans → ℕ
 value_of (Value n) = n

@@ -10,7 +10,7 @@ use Rattle.op_core.specs.declared.why.Why.TheVariants.{Busy}
 use Rattle.map_model.specs.declared.call.Call.{Call}
 use Rattle.map_model.specs.declared.call.Call.TheVariants.{Get, Insert, Update, Remove}
 use Rattle.map_model.specs.declared.entry.Reply.TheVariants as reply
-use Rattle.map_model.specs.Legal.{IsInsert}
+use Rattle.map_model.specs.Legal.{IsInsert, IsChange}
 use Rattle.world.specs.Views.{Has}
 use Rattle.write_op.specs.declared.path.Sight.{Sight}
 use Rattle.write_op.specs.declared.path.Sight.TheVariants.{Good, Late, Other}
@@ -75,7 +75,7 @@ module _ (t : Task) (k : Kept) (loads : List (ℕ × ℕ)) (v : ℕ) where
   head_caused named Good is = tt
   head_caused named (Late byte) is = let l = late_is t.site.version t.hash v byte is in
       record { head = v; finds = (refl, refl); segment_is = refl; named = named; sight = is; version = l.0; other = l.1 }
-  head_caused named Other is = inr (record { finds = (refl, refl); same = refl; amiss = is })
+  head_caused named Other is = inr (record { finds = (refl, refl); watched = inr (inr (inl (refl, named))); same = refl; amiss = is })
 
   look_caused : (side : Side) → IsNamed t k (LookAt side) (Value v) loads → CausedIf t k (LookAt side) (Value v) loads (after_look side (lock_word t k side) v)
   look_caused side named =
@@ -90,10 +90,10 @@ module _ (t : Task) (k : Kept) (loads : List (ℕ × ℕ)) (v : ℕ) where
       both_by (CausedIf t k (TryLock side) (Lost v) loads) (v % 2 == 1) (give_up side (Again (Busy (lock_word t k side) v))) (give_up side (moved (lock_word t k side) (free_of k side) v))
       (λ odd. given_up t k (TryLock side) (Lost v) loads side (Again (Busy (lock_word t k side) v))
       (record { finds = (refl, refl); odd = eqb-true (v % 2) 1 odd; side = side; looks = inr refl; is_lock = refl; named = named }))
-      (λ _. given_up t k (TryLock side) (Lost v) loads side (moved (lock_word t k side) (free_of k side) v) (inl (record { finds = (refl, refl); was = was; differ = differ })))
+      (λ _. given_up t k (TryLock side) (Lost v) loads side (moved (lock_word t k side) (free_of k side) v) (inl (record { finds = (refl, refl); watched = inr (inr (inr (side, refl, named))); was = was; differ = differ })))
 
   -- at the counter
-  module _ (all : KeepsBelow t k 32 loads) where
+  module _ (all : KeepsBelow t k 32 loads) (change : IsChange t.call) where
     abbrev AtCount : Step → Type 0
     AtCount next = CausedIf t k LoadCount (Value v) loads next
 
@@ -107,7 +107,7 @@ module _ (t : Task) (k : Kept) (loads : List (ℕ × ℕ)) (v : ℕ) where
     change_caused key same other None is = ((refl, refl), key_nowhere t k loads all key same is, other)
 
     decided_caused : (call : Call) → t.call ≡ call → AtCount (decided call k.words v)
-    decided_caused (Get key) same = inr (key, same)
+    decided_caused (Get key) same = absurd (subst IsChange same change)
     decided_caused (Insert key value) same =
         insert_caused key (ap key_for same) (subst IsInsert (sym same) tt) (slot_with k.words key 0 14) (slot_free k.words 0 14) refl refl
     decided_caused (Update key value) same = change_caused key (ap key_for same) (λ i. subst IsInsert same i) (slot_with k.words key 0 14) refl
@@ -118,8 +118,8 @@ module _ (t : Task) (k : Kept) (loads : List (ℕ × ℕ)) (v : ℕ) where
         (λ is. ((refl, refl), inl (leb-true (2 ^ 63) v is))) (λ _. decided_caused t.call refl)
 
   full_caused : FindsNoRoom t k loads → (b : Bool) → (t.site.geometry.depth == 0) ≡ b → CausedIf t k CountFull (Value v) loads (GiveBack Both (Replied (cond b reply.Deep reply.Full) v))
-  full_caused none true is = ((refl, refl), none, eqb-true t.site.geometry.depth 0 is)
-  full_caused none false is = ((refl, refl), none, eqb-false t.site.geometry.depth 0 is)
+  full_caused none true is = (refl, (refl, refl), none, eqb-true t.site.geometry.depth 0 is)
+  full_caused none false is = (refl, (refl, refl), none, eqb-false t.site.geometry.depth 0 is)
 
 made_caused : (t : Task) (k : Kept) (point : Point) (a : Ans) (loads : List (ℕ × ℕ)) → CausedIf t k (Make point) a loads (made k.slot point a)
 made_caused t k FlushFinger Passed loads = both_by (CausedIf t k (Make FlushFinger) Passed loads) (nat_lt k.slot 2) (Make FenceRecord) (Make FlushRecord) (λ _. tt) (λ _. tt)
@@ -134,45 +134,45 @@ made_caused t k FlushPublished Passed loads = tt
 made_caused t k FencePublished Passed loads = tt
 made_caused t k point a loads = tt
 
-caused_in : (t : Task) (k : Kept) (s : Step) (a : Ans) (loads : List (ℕ × ℕ)) → Recalls t k s loads → IsHonest (wanted_of t k s) a → ((e : WriteEnd) → IsDecided s e → ⊥)
+caused_in : (t : Task) (k : Kept) (s : Step) (a : Ans) (loads : List (ℕ × ℕ)) → IsChange t.call → Recalls t k s loads → IsHonest (wanted_of t k s) a → ((e : WriteEnd) → IsDecided s e → ⊥)
     → CausedIf t k s a loads (step_after t k s a)
-caused_in t k AskPower (Value v) loads r honest still =
-    both_by (CausedIf t k AskPower (Value v) loads) (v == 0) LoadRoot (Ended Off) (λ _. tt) (λ is. inl (v, refl, refl, eqb-false v 0 is))
-caused_in t k LoadRoot (Value v) loads r honest still =
+caused_in t k AskPower (Value v) loads change r honest still =
+    both_by (CausedIf t k AskPower (Value v) loads) (v == 0) LoadRoot (Ended Off) (λ _. tt) (λ is. (v, refl, refl, eqb-false v 0 is))
+caused_in t k LoadRoot (Value v) loads change r honest still =
     both_by (CausedIf t k LoadRoot (Value v) loads) (nat_le v t.site.geometry.depth) LoadEntry (seen_at root_word v) (λ _. tt)
-    (λ is. inr (record { finds = (refl, refl); same = refl; amiss = let over = leb-false v t.site.geometry.depth is in omega (arith, over) }))
-caused_in t k LoadEntry (Value v) loads r honest still =
+    (λ is. inr (record { finds = (refl, refl); watched = inl refl; same = refl; amiss = let over = leb-false v t.site.geometry.depth is in omega (arith, over) }))
+caused_in t k LoadEntry (Value v) loads change r honest still =
     both_by (CausedIf t k LoadEntry (Value v) loads) (nat_lt v t.site.geometry.segments) LoadHead (seen_at (entry_word t.site.geometry t.hash k.root) v) (λ _. tt)
-    (λ is. inr (record { finds = (refl, refl); same = refl; amiss = let over = ltb-false v t.site.geometry.segments is in omega (arith, over) }))
-caused_in t k LoadHead (Value v) loads r honest still = head_caused t k loads v r.way.0 (sight_of t.site.version t.hash v) refl
-caused_in t k (LookAt Home) (Value v) loads r honest still = look_caused t k loads v Home r.way.1.0
-caused_in t k (LookAt Probing) (Value v) loads r honest still = look_caused t k loads v Probing r.way.1.1.0
-caused_in t k (TryLock Home) Won loads r honest still = tt
-caused_in t k (TryLock Probing) Won loads r honest still = tt
-caused_in t k (TryLock Home) (Lost v) loads r honest still = loss_caused t k loads v Home r.way.1.1.0 r.way.0 honest
-caused_in t k (TryLock Probing) (Lost v) loads r honest still = loss_caused t k loads v Probing r.way.1.1.1.0 r.way.0 honest
-caused_in t k RootAgain (Value v) loads r honest still =
+    (λ is. inr (record { finds = (refl, refl); watched = inr (inl (refl, r.way.0)); same = refl; amiss = let over = ltb-false v t.site.geometry.segments is in omega (arith, over) }))
+caused_in t k LoadHead (Value v) loads change r honest still = head_caused t k loads v r.way.0 (sight_of t.site.version t.hash v) refl
+caused_in t k (LookAt Home) (Value v) loads change r honest still = look_caused t k loads v Home r.way.1.0
+caused_in t k (LookAt Probing) (Value v) loads change r honest still = look_caused t k loads v Probing r.way.1.1.0
+caused_in t k (TryLock Home) Won loads change r honest still = tt
+caused_in t k (TryLock Probing) Won loads change r honest still = tt
+caused_in t k (TryLock Home) (Lost v) loads change r honest still = loss_caused t k loads v Home r.way.1.1.0 r.way.0 honest
+caused_in t k (TryLock Probing) (Lost v) loads change r honest still = loss_caused t k loads v Probing r.way.1.1.1.0 r.way.0 honest
+caused_in t k RootAgain (Value v) loads change r honest still =
     both_by (CausedIf t k RootAgain (Value v) loads) (k.root == v) EntryAgain (GiveBack Both (moved root_word k.root v)) (λ _. tt)
-    (λ is. inl (record { finds = (refl, refl); was = r.way.1.1.1.1.0; differ = eqb-false k.root v is }))
-caused_in t k EntryAgain (Value v) loads r honest still =
+    (λ is. inl (record { finds = (refl, refl); watched = inl refl; was = r.way.1.1.1.1.0; differ = eqb-false k.root v is }))
+caused_in t k EntryAgain (Value v) loads change r honest still =
     both_by (CausedIf t k EntryAgain (Value v) loads) (k.segment == v) HeadAgain (GiveBack Both (moved (entry_word t.site.geometry t.hash k.root) k.segment v)) (λ _. tt)
-    (λ is. inl (record { finds = (refl, refl); was = r.way.1.1.1.0; differ = eqb-false k.segment v is }))
-caused_in t k HeadAgain (Value v) loads r honest still =
+    (λ is. inl (record { finds = (refl, refl); watched = inr (inl (refl, r.way.1.1.1.1.0)); was = r.way.1.1.1.0; differ = eqb-false k.segment v is }))
+caused_in t k HeadAgain (Value v) loads change r honest still =
     both_by (CausedIf t k HeadAgain (Value v) loads) (k.head == v) (LoadWord 1) (GiveBack Both (moved (head_word t.site.geometry k.segment) k.head v)) (λ _. tt)
-    (λ is. inl (record { finds = (refl, refl); was = r.way.1.1.0; differ = eqb-false k.head v is }))
-caused_in t k (LoadWord at) (Value v) loads r honest still = both_by (CausedIf t k (LoadWord at) (Value v) loads) (nat_lt at 31) (LoadWord (at + 1)) LoadCount (λ _. tt) (λ _. tt)
-caused_in t k LoadCount (Value v) loads r honest still = count_caused t k loads v r.knows
-caused_in t k (CountSpent Home) (Value v) loads r honest still = ((refl, refl), inr (Home, subst (λ z. Has (lock_word t k Home, z) loads) r.knows r.way.0))
-caused_in t k (CountSpent Probing) (Value v) loads r honest still = ((refl, refl), inr (Probing, subst (λ z. Has (lock_word t k Probing, z) loads) r.knows r.way.0))
-caused_in t k CountFull (Value v) loads r honest still = full_caused t k loads v r.knows (t.site.geometry.depth == 0) refl
-caused_in t k (Make point) a loads r honest still = made_caused t k point a loads
-caused_in t k (GiveBack held end) a loads r honest still = absurd (still end refl)
-caused_in t k (Ended end) a loads r honest still = absurd (still end refl)
-caused_in t k s a loads r honest still = tt
+    (λ is. inl (record { finds = (refl, refl); watched = inr (inr (inl (refl, r.way.1.1.1.0))); was = r.way.1.1.0; differ = eqb-false k.head v is }))
+caused_in t k (LoadWord at) (Value v) loads change r honest still = both_by (CausedIf t k (LoadWord at) (Value v) loads) (nat_lt at 31) (LoadWord (at + 1)) LoadCount (λ _. tt) (λ _. tt)
+caused_in t k LoadCount (Value v) loads change r honest still = count_caused t k loads v r.knows change
+caused_in t k (CountSpent Home) (Value v) loads change r honest still = ((refl, refl), inr (Home, subst (λ z. Has (lock_word t k Home, z) loads) r.knows r.way.0))
+caused_in t k (CountSpent Probing) (Value v) loads change r honest still = ((refl, refl), inr (Probing, subst (λ z. Has (lock_word t k Probing, z) loads) r.knows r.way.0))
+caused_in t k CountFull (Value v) loads change r honest still = full_caused t k loads v r.knows (t.site.geometry.depth == 0) refl
+caused_in t k (Make point) a loads change r honest still = made_caused t k point a loads
+caused_in t k (GiveBack held end) a loads change r honest still = absurd (still end refl)
+caused_in t k (Ended end) a loads change r honest still = absurd (still end refl)
+caused_in t k s a loads change r honest still = tt
 
 pub ends_by_cause : EndsByCause
-ends_by_cause op a loads end r honest still decided =
-    decides op.task op.kept op.step a loads (step_after op.task op.kept op.step a) end (caused_in op.task op.kept op.step a loads (recalls op loads r) honest still) decided
+ends_by_cause op a loads end change r honest still decided =
+    decides op.task op.kept op.step a loads (step_after op.task op.kept op.step a) end (caused_in op.task op.kept op.step a loads change (recalls op loads r) honest still) decided
 
 -- ---- what is decided stays so
 stays_in : (t : Task) (k : Kept) (s : Step) (a : Ans) (end : WriteEnd) → IsDecided s end → IsDecided (step_after t k s a) end
@@ -187,7 +187,7 @@ pub ends_stay : EndsStay
 ends_stay op a end is = stays_in op.task op.kept op.step a end is
 
 pub begins_open : BeginsOpen
-begins_open (Get key) here end is = (sym is, (key, refl))
-begins_open (Insert key value) here end none = elim none [ ]
-begins_open (Update key value) here end none = elim none [ ]
-begins_open (Remove key) here end none = elim none [ ]
+begins_open (Get key) here end change is = absurd change
+begins_open (Insert key value) here end change none = elim none [ ]
+begins_open (Update key value) here end change none = elim none [ ]
+begins_open (Remove key) here end change none = elim none [ ]

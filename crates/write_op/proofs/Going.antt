@@ -25,7 +25,7 @@ use Rattle.write_op.specs.Ways.{lock_word}
 use Rattle.write_op.specs.Wanted.{home_word, free_of}
 use Rattle.write_op.specs.Taken.{moved, give_up, after_head, after_look, after_loss, again, kept_after, step_after}
 use Rattle.write_op.specs.Fits.{IsFree}
-use Rattle.write_op.specs.Suits.{HasReplied, HasNotReplied, EntersEnd, Enters, HoldsOnly, IsQuiet, HasBoth, KnowsBelow, GivesBack, SuitsLooking, SuitsStep}
+use Rattle.write_op.specs.Suits.{HasReplied, HasNotReplied, EntersEnd, Enters, HoldsOnly, IsQuiet, IsFirst, HasBoth, KnowsBelow, GivesBack, SuitsLooking, SuitsStep}
 use Rattle.write_op.proofs.Locked.{nothing_is}
 
 -- the next state suits the next view
@@ -100,7 +100,7 @@ module _ (t : Task) (before : View) (k : Kept) (v : View) (some : 0 < v.callers)
   }
   try_probing n false free suits = loss_goes Probing (lock_word t k Probing) (free_of k Probing) n suits
 
-  pub head_goes : (sight : Sight) (segment word n : ℕ) → HoldsOnly [] v → k.segment ≡ 0 → Goes t before k (after_head sight segment word n) v
+  pub head_goes : (sight : Sight) (segment word n : ℕ) → HoldsOnly [] v → IsFirst k.segment k.head → Goes t before k (after_head sight segment word n) v
   head_goes Good segment word n only first = record { enters = same; view = (only, first); callers = some }
   head_goes (Late byte) segment word n only first = record { enters = same; view = only; callers = some }
   head_goes Other segment word n only first = record { enters = same; view = only; callers = some }

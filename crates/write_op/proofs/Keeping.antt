@@ -1,10 +1,11 @@
 -- Each step of a change keeps the view suited, by the control points.
-use Rattle.std.proofs.Common.{◌≡◌, ◌≢◌, ◌==◌, ℕ, ◌^◌, ◌<◌, ◌≤◌, inl, Bool, true, false, cond, Option, Some, None, List, [], refl, sym, ◌∙◌, ap, subst, arith, length, length-set}
+use Rattle.std.proofs.Common.{◌≡◌, ◌≢◌, ◌==◌, ℕ, ◌+◌, ◌^◌, ◌<◌, ◌≤◌, inl, Bool, true, false, cond, Option, Some, None, List, [], refl, sym, ◌∙◌, ap, subst, arith, length, length-set}
 use Rattle.std.specs.Prelude.{nat_le, nat_lt}
-use Rattle.std.proofs.lemmas.Bool.{le-leb}
+use Rattle.std.proofs.lemmas.Bool.{le-leb, lt-ltb}
 use Rattle.hash_word.specs.Hash.{index_of}
+use Rattle.segment_head.specs.HeadWord.{state_in, depth_in}
 use Rattle.trace.specs.Events.{Words}
-use Rattle.image_layout.specs.Places.{Shape, root_word, entry_at}
+use Rattle.image_layout.specs.Places.{Shape, root_word, entry_at, head_at}
 use Rattle.sound_image.specs.Records.{key_hash}
 use Rattle.bucket_words.specs.Tables.{IsHomeTable}
 use Rattle.op_core.specs.declared.want.Want.{Want}
@@ -34,7 +35,7 @@ use Rattle.write_op.specs.Ways.{entry_word, head_word, lock_word, sight_of}
 use Rattle.write_op.specs.Wanted.{key_for, published_word, published_value, wanted_of}
 use Rattle.write_op.specs.Taken.{seen_at, chosen, with_slot, kept_after, step_after}
 use Rattle.write_op.specs.Fits.{kind_at, StepFits, IsWord}
-use Rattle.write_op.specs.Suits.{HasNotReplied, Enters, HoldsOnly, IsMaking, SuitsLooking, SuitsStep, KeepsSuits}
+use Rattle.write_op.specs.Suits.{HasNotReplied, Enters, HoldsOnly, IsMaking, IsFirst, SuitsLooking, SuitsStep, KeepsSuits}
 use Rattle.write_op.proofs.Fitting.{wants_of_kinds}
 use Rattle.write_op.proofs.Chosen.{stays_inside}
 use Rattle.write_op.proofs.Locked.{task_in}
@@ -72,6 +73,19 @@ module _ (site : Site) (version caller : ℕ) (call : Call) (change : IsChange c
       ap (λ n. words (entry_word site.shape t.hash n)) first
       ∙ (ap (λ b. words (cond b (entry_at 0 (index_of 0 t.hash)) root_word)) (le-leb 0 site.shape.depth (omega arith))
       ∙ (ap words low ∙ (table.same_front 32 (omega arith) ∙ good.front.entry)))
+
+  head_is : k.segment ≡ 0 → words (head_word site.shape k.segment) ≡ site.front (head_at site.shape 0 + 1)
+  head_is first =
+      let one = good.front.one_segment in
+      ap (λ n. words (head_word site.shape n)) first
+      ∙ (ap (λ b. words (cond b (head_at site.shape 0 + 1) root_word)) (lt-ltb 0 site.shape.segments (omega (arith, one)))
+      ∙ table.same_front (head_at site.shape 0 + 1) (omega arith))
+
+  -- the header that is loaded is that of the only segment
+  first_is : (n : ℕ) → n ≡ words (head_word site.shape k.segment) → k.segment ≡ 0 → IsFirst k.segment n
+  first_is n found first =
+      let same = found ∙ head_is first in
+      record { first = first; is_normal = ap state_in same ∙ good.front.is_normal; no_depth = ap depth_in same ∙ good.front.no_depth }
 
   -- the state and the view after a step that found n
   abbrev After : Step → ℕ → Type 0
@@ -111,7 +125,7 @@ module _ (site : Site) (version caller : ℕ) (call : Call) (change : IsChange c
       either_goes t before (record k { segment = n }) v (nat_lt n site.shape.segments) LoadHead (seen_at (entry_word site.shape t.hash k.root) n)
       (record { enters = same; view = (suits.0, found ∙ entry_is suits.1); callers = some }) (record { enters = same; view = suits.0; callers = some })
   step_goes LoadHead n found f same suits d =
-      head_goes t before (record k { head = n }) v some same (sight_of version t.hash n) k.segment (head_word site.shape k.segment) n suits.0 suits.1
+      head_goes t before (record k { head = n }) v some same (sight_of version t.hash n) k.segment (head_word site.shape k.segment) n suits.0 (first_is n found suits.1)
   step_goes (LookAt Home) n found f same suits d = look_goes t before (record k { home_free = n }) v some same Home (lock_word t k Home) n suits
   step_goes (LookAt Probing) n found f same suits d = look_goes t before (record k { probing_free = n }) v some same Probing (lock_word t k Probing) n suits
   step_goes (TryLock Home) n found f same suits d = try_home t before k v some same n (n == k.home_free) f suits

@@ -58,7 +58,7 @@ module _ (site : Site) (good : IsSite site) (version caller : ℕ) (call : Call)
     lock = lock_word t k Home
 
     pub lock_at : lock ≡ at
-    lock_at = lock_is Home both.first
+    lock_at = lock_is Home both.first.first
 
     pub has_home : HasLock v.held lock
     has_home = (free_of k Home + 1, subst (λ l. Has (lock, free_of k Home + 1) l) (sym both.held) (inr (inl refl)))

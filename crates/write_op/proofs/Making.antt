@@ -89,7 +89,7 @@ module _ (site : Site) (good : IsSite site) (version caller : ℕ) (call : Call)
           (
             record {
               held = ap (without lock) b.held
-                  ∙ without_second (lock_word t k Probing) (free_of k Probing + 1) lock (free_of k Home + 1) (locks_apart site good version caller call k b.first);
+                  ∙ without_second (lock_word t k Probing) (free_of k Probing + 1) lock (free_of k Home + 1) (locks_apart site good version caller call k b.first.first);
               known = not_under_none lock v.known b.under;
               dirty = q.dirty;
               flushed = q.flushed;

@@ -113,8 +113,8 @@ module _ (site : Site) (good : IsSite site) (version caller : ℕ) (k : Kept) (s
 
     -- ---- locks
     looking_lock : (side : Side) → SuitsLooking t k side v → k.segment ≡ 0
-    looking_lock Home s = s.1
-    looking_lock Probing s = s.1
+    looking_lock Home s = s.1.first
+    looking_lock Probing s = s.1.first
 
     unlock_may : (side : Side) → Has (lock_word t k side, free_of k side + 1) v.held → IsQuiet v → free_of k side + 2 < 2 ^ 64
         → May site (unlocks (lock_word t k side) ((free_of k side + 2) % 2 ^ 64)) v

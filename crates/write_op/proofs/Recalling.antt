@@ -115,7 +115,7 @@ module _ (t : Task) (k : Kept) (loads : List (ℕ × ℕ)) (whole : length k.wor
       → AreAmong (whole_way t k) loads → KeepsBelow t k 32 loads → Recalls t (with_slot k q) (inserting count p q) loads
   inserted value key count (Some found) q is free same inserts way all = slot_back q reply.Exists count
   inserted value key count None (Some slot) is free same inserts way all = record { whole = whole; way = way; knows = tt }
-  inserted value key count None None is free same inserts way all = record { whole = whole; way = tt; knows = no_room_there t k loads all key same inserts is free }
+  inserted value key count None None is free same inserts way all = record { whole = whole; way = way; knows = no_room_there t k loads all key same inserts is free }
 
   changed : (count : ℕ) (p : Option ℕ) → AreAmong (whole_way t k) loads → Recalls t (with_slot k p) (changing count p) loads
   changed count (Some found) way = record { whole = whole; way = way; knows = tt }
@@ -305,4 +305,4 @@ pub keeps_loads : KeepsLoads
 keeps_loads call site answers = all_recall answers (begun call site) [] (begins_recall call site)
 
 pub refusal_remembers : RefusalRemembers
-refusal_remembers op loads r is = record { whole = r.whole; way = tt; knows = subst (λ z. KnowsIn op.task op.kept z loads) is r.knows }
+refusal_remembers op loads r is = record { whole = r.whole; way = subst (λ z. AreAmong (kept_in op.task op.kept z) loads) is r.way; knows = subst (λ z. KnowsIn op.task op.kept z loads) is r.knows }

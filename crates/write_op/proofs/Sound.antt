@@ -1,14 +1,15 @@
 -- By what a change ends in a world whose invariant holds.
-use Rattle.std.proofs.Common.{◌≡◌, ℕ, ◌+◌, ◌%◌, ◌<◌, inl, inr, ◌⊎◌, Bool, true, false, cond, List, refl, sym, ◌∙◌, ap, subst, arith}
+use Rattle.std.proofs.Common.{◌≡◌, ◌≢◌, ℕ, ◌+◌, ◌%◌, ◌<◌, inl, inr, ◌⊎◌, Bool, true, false, cond, List, refl, sym, ◌∙◌, ap, subst, arith}
 use Rattle.std.specs.Prelude.{◌==◌, ◌&&◌, ◌||◌, not, nat_lt, nat_le}
 use Rattle.std.proofs.lemmas.Bool.{cases_lt, eq-eqb, eqb-false, lt-ltb, le-ltb, le-leb, false≢true}
 use Rattle.hash_word.specs.Hash.{home_of, index_of, top}
-use Rattle.segment_head.specs.HeadWord.{version_in, state_in, pattern_in, normal, splitting}
+use Rattle.segment_head.specs.HeadWord.{version_in, state_in, pattern_in, normal, splitting, free}
 use Rattle.op_core.specs.declared.want.Want.{Want}
 use Rattle.op_core.specs.declared.want.Want.TheVariants as want
 use Rattle.op_core.specs.declared.want.Ans.{Ans}
 use Rattle.op_core.specs.declared.want.Ans.TheVariants.{Won, Lost}
 use Rattle.op_core.specs.declared.why.Why.TheVariants.{Busy, Moved}
+use Rattle.map_model.specs.declared.entry.Reply.TheVariants as reply
 use Rattle.trace.specs.Events.{Words}
 use Rattle.image_layout.specs.Places.{Shape, root_word, entry_at, head_at, bucket_at}
 use Rattle.sound_image.specs.Records.{key_hash}
@@ -19,15 +20,15 @@ use Rattle.world.specs.Wants.{word_of, answer_to}
 use Rattle.write_op.specs.declared.path.Sight.TheVariants.{Good, Late, Other}
 use Rattle.write_op.specs.declared.control.Side.{Side}
 use Rattle.write_op.specs.declared.control.Side.TheVariants.{Home, Probing}
-use Rattle.write_op.specs.declared.control.WriteEnd.TheVariants.{Again, Stale}
+use Rattle.write_op.specs.declared.control.WriteEnd.TheVariants.{Replied, Again, Stale}
 use Rattle.write_op.specs.declared.control.Step.{Step}
-use Rattle.write_op.specs.declared.control.Step.TheVariants.{LoadRoot, LoadEntry, LoadHead, LookAt, TryLock}
+use Rattle.write_op.specs.declared.control.Step.TheVariants.{LoadRoot, LoadEntry, LoadHead, LookAt, TryLock, CountFull}
 use Rattle.write_op.specs.declared.machine.WriteOp.{WriteOp}
 use Rattle.write_op.specs.Ways.{entry_word, head_word, block, bucket_of, lock_word, sight_of, is_covering}
 use Rattle.write_op.specs.Wanted.{key_for, wanted_of}
 use Rattle.write_op.specs.Taken.{wanted}
-use Rattle.write_op.specs.Suits.{SuitsLooking, SuitsStep, finds}
-use Rattle.write_op.specs.Causes.{Finds, IsAmiss, FindsTaken, IsHonest, EndsSo, IsOwnLock, IsSoundEnd, IsRunning, EndsSoundly, NeverStale, NeverBusy}
+use Rattle.write_op.specs.Suits.{IsFirst, SuitsLooking, FindsNoSlot, SuitsStep, finds}
+use Rattle.write_op.specs.Causes.{AreAmong, whole_way, kept_in, WasHead, Finds, IsAmiss, FindsTaken, IsHonest, EndsSo, IsOwnLock, IsSoundEnd, IsRunning, EndsSoundly, NeverStale, NeverBusy}
 use Rattle.write_op.proofs.Locked.{lock_is}
 use Rattle.write_op.proofs.Caused.{ends_by_cause}
 
@@ -174,27 +175,9 @@ module _ (site : Site) (op : WriteOp) (words : Words) (loads : List (ℕ × ℕ)
   found_there word seen f = finds_word op.task.site.geometry words (wanted op) word seen f
 
   taken_cause : (word seen : ℕ) → EndsSo site op words loads (Again (Busy word seen)) → FindsTaken op.task op.kept op.step answer loads word seen
-  taken_cause word seen so = ends_by_cause op answer loads (Again (Busy word seen)) run.remembers (honest (wanted op) (finds site op words)) run.open_still so
+  taken_cause word seen so = ends_by_cause op answer loads (Again (Busy word seen)) run.is_in.change run.remembers (honest (wanted op) (finds site op words)) run.open_still so
 
-  sound_end : IsSoundEnd site op words loads
-  sound_end = record {
-    busy = λ word seen so.
-        let c = taken_cause word seen so in
-        let found = (found_there word seen c.finds).1 in
-        let is : word ≡ own c.side = c.is_lock ∙ odd_is_own c.side (subst (λ w. words w % 2 ≡ 1) c.is_lock (ap (λ z. z % 2) found ∙ c.odd)) in
-        ((bucket_of c.side (key_hash site.shape (key_for op.task.call)), own_near c.side, is), which_own word c.side is, found, c.odd);
-    moved = λ word old new so. elim (ends_by_cause op answer loads (Again (Moved word old new)) run.remembers (honest (wanted op) (finds site op words)) run.open_still so) [
-      | inl c ↦ (c.was, (found_there word new c.finds).1, c.differ)
-      | inr c ↦ absurd (never_amiss answer op.step new run.suits.view (found_there word new c.finds).0 c.amiss)
-    ];
-    stale = λ segment byte so.
-        let c = ends_by_cause op answer loads (Stale segment byte) run.remembers (honest (wanted op) (finds site op words)) run.open_still so in
-        let found = (found_there (head_word op.task.site.geometry segment) c.head c.finds).1 in
-        let first = late_is_first segment byte c.head found c.sight in
-        (first, sym c.version ∙ (ap version_in (sym found ∙ head_is segment first) ∙ run.holds.site_is.front.same_version), c.other);
-  }
-
-  -- ---- where nobody else has a lock
+  -- the lock that is looked at is not held
   looking : (side : Side) (s : Step) → (s ≡ LookAt side) ⊎ (s ≡ TryLock side) → SuitsStep op.task op.kept s v → SuitsLooking op.task op.kept side v
   looking side s (inl is) suits = subst (λ z. SuitsStep op.task op.kept z v) is suits
   looking side s (inr is) suits = subst (λ z. SuitsStep op.task op.kept z v) is suits
@@ -203,19 +186,71 @@ module _ (site : Site) (op : WriteOp) (words : Words) (loads : List (ℕ × ℕ)
   not_held Home suits word is (x, has) = subst (λ l. Has (word, x) l) suits.0.held has
   not_held Probing suits word is (x, has) = elim (subst (λ l. Has (word, x) l) suits.0.held has) [
     | inl same ↦
-        let home = own_by Home suits.1 in
-        let probing = own_by Probing suits.1 in
+        let home = own_by Home suits.1.first in
+        let probing = own_by Probing suits.1.first in
         let equal : lock_word op.task op.kept Probing ≡ lock_word op.task op.kept Home = sym is ∙ ap (λ (p : ℕ × ℕ). p.0) same in
         let m = key_hash site.shape (key_for op.task.call) in
         omega (arith, home, probing, equal)
     | inr none ↦ none
   ]
 
+  -- at a refusal that there is no room, the header of the only segment was loaded, and is normal and of depth 0
+  no_room_at : op.step ≡ CountFull → IsFirst op.kept.segment op.kept.head × Has (head_word op.task.site.geometry op.kept.segment, op.kept.head) loads
+  no_room_at is =
+      let finds : FindsNoSlot op.task op.kept v = subst (λ z. SuitsStep op.task op.kept z v) is run.suits.view in
+      let way : AreAmong (whole_way op.task op.kept) loads = subst (λ z. AreAmong (kept_in op.task op.kept z) loads) is run.remembers.way in
+      (finds.0.first, way.1.1.0)
+
+  head_word_is : (segment : ℕ) → segment ≡ 0 → head_word op.task.site.geometry segment ≡ head_at site.shape segment + 1
+  head_word_is segment first =
+      let some : 0 < op.task.site.geometry.segments = let o = one_here in omega (arith, o) in
+      ap (λ n. head_word op.task.site.geometry n) first
+      ∙ (ap (λ b. cond b (head_at op.task.site.geometry 0 + 1) root_word) (lt-ltb 0 op.task.site.geometry.segments some)
+      ∙ (ap (λ g. head_at g 0 + 1) run.is_in.shape ∙ ap (λ n. head_at site.shape n + 1) (sym first)))
+
+  was_head : op.step ≡ CountFull → WasHead site op words loads op.kept.segment op.kept.head
+  was_head is = let n = no_room_at is in subst (λ w. Has (w, op.kept.head) loads) (head_word_is op.kept.segment n.0.first) n.1
+
+  all_seen : op.step ≡ CountFull → (slot : ℕ) → slot < site.shape.segments → (h : ℕ) × WasHead site op words loads slot h × (state_in h ≢ free)
+  all_seen is slot low =
+      let n = no_room_at is in
+      let only = one in
+      let first = n.0.first in
+      let same : op.kept.segment ≡ slot = omega (arith, only, low, first) in
+      (op.kept.head, subst (λ z. WasHead site op words loads z op.kept.head) same (was_head is), (λ e. let normal_is = n.0.is_normal in omega (arith, e, normal_is)))
+
+  sound_end : IsSoundEnd site op words loads v
+  sound_end = record {
+    busy = λ word seen so.
+        let c = taken_cause word seen so in
+        let found = (found_there word seen c.finds).1 in
+        let is : word ≡ own c.side = c.is_lock ∙ odd_is_own c.side (subst (λ w. words w % 2 ≡ 1) c.is_lock (ap (λ z. z % 2) found ∙ c.odd)) in
+        ((bucket_of c.side (key_hash site.shape (key_for op.task.call)), own_near c.side, is), which_own word c.side is, found, c.odd, (λ has. not_held c.side (looking c.side op.step c.looks run.suits.view) word c.is_lock has));
+    moved = λ word old new so. elim (ends_by_cause op answer loads (Again (Moved word old new)) run.is_in.change run.remembers (honest (wanted op) (finds site op words)) run.open_still so) [
+      | inl c ↦ (c.was, (found_there word new c.finds).1, c.differ)
+      | inr c ↦ absurd (never_amiss answer op.step new run.suits.view (found_there word new c.finds).0 c.amiss)
+    ];
+    stale = λ segment byte so.
+        let c = ends_by_cause op answer loads (Stale segment byte) run.is_in.change run.remembers (honest (wanted op) (finds site op words)) run.open_still so in
+        let found = (found_there (head_word op.task.site.geometry segment) c.head c.finds).1 in
+        let first = late_is_first segment byte c.head found c.sight in
+        (first, sym c.version ∙ (ap version_in (sym found ∙ head_is segment first) ∙ run.holds.site_is.front.same_version), c.other);
+    full = λ place so.
+        let c = ends_by_cause op answer loads (Replied reply.Full place) run.is_in.change run.remembers (honest (wanted op) (finds site op words)) run.open_still so in
+        let none = (no_room_at c.0).0.no_depth in
+        let same = ap (λ g. g.depth) run.is_in.shape in
+        let some = c.3 in
+        (was_head c.0, omega (arith, none, same, some), all_seen c.0);
+    deep = λ place so.
+        let c = ends_by_cause op answer loads (Replied reply.Deep place) run.is_in.change run.remembers (honest (wanted op) (finds site op words)) run.open_still so in
+        (was_head c.0, (no_room_at c.0).0.no_depth ∙ (sym c.3 ∙ ap (λ g. g.depth) run.is_in.shape));
+  }
+
+  -- ---- where nobody else has a lock
   never_busy_here : ((lock : ℕ) → IsLockWord site.shape lock → words lock % 2 ≡ 1 → HasLock v.held lock) → (word seen : ℕ) → EndsSo site op words loads (Again (Busy word seen)) → ⊥
   never_busy_here mine word seen so =
-      let c = taken_cause word seen so in
       let b = sound_end.busy word seen so in
-      not_held c.side (looking c.side op.step c.looks run.suits.view) word c.is_lock (mine word b.0 (ap (λ z. z % 2) b.2 ∙ b.3))
+      b.4 (mine word b.0 (ap (λ z. z % 2) b.2 ∙ b.3))
 
 pub ends_soundly : EndsSoundly
 ends_soundly site op words loads views j before v run = sound_end site op words loads views j before v run

@@ -1,23 +1,23 @@
 -- By what each end of a change comes: what the event that decided it loaded or tried and found, and what the events of the
 -- attempt before it had loaded.
-use Rattle.std.specs.Prelude.{◌≡◌, ◌≢◌, ℕ, ◌-◌, ◌%◌, ◌^◌, ◌<◌, ◌≤◌, ⊤, List, [], ◌∷◌, ◌++◌, ◌⊎◌, length, slice_index}
+use Rattle.std.specs.Prelude.{◌≡◌, ◌≢◌, ℕ, ◌+◌, ◌-◌, ◌%◌, ◌^◌, ◌<◌, ◌≤◌, ⊤, List, [], ◌∷◌, ◌++◌, ◌⊎◌, length, slice_index}
 use Rattle.op_core.specs.declared.want.Want.{Want}
 use Rattle.op_core.specs.declared.want.Want.TheVariants as want
 use Rattle.op_core.specs.declared.want.Ans.{Ans}
-use Rattle.op_core.specs.declared.want.Ans.TheVariants.{Value, Lost, Drawn}
+use Rattle.op_core.specs.declared.want.Ans.TheVariants.{Value, Won, Lost, Drawn}
+use Rattle.op_core.specs.declared.why.Why.{Why}
 use Rattle.op_core.specs.declared.why.Why.TheVariants.{Busy, Moved}
 use Rattle.hash_word.specs.Hash.{home_of, probing_of}
-use Rattle.segment_head.specs.HeadWord.{version_in}
+use Rattle.segment_head.specs.HeadWord.{version_in, state_in, depth_in, free}
 use Rattle.bucket_meta.specs.Bucket.{allocated}
 use Rattle.trace.specs.Events.{Words}
-use Rattle.image_layout.specs.Places.{root_word, state_word, bucket_at}
+use Rattle.image_layout.specs.Places.{IsShape, root_word, state_word, head_at, bucket_at}
 use Rattle.image_layout.specs.Volatile.{counter_word}
 use Rattle.sound_image.specs.Records.{key_hash}
 use Rattle.map_model.specs.declared.call.Call.{Call}
-use Rattle.map_model.specs.declared.call.Call.TheVariants.{Get}
 use Rattle.map_model.specs.declared.entry.Reply.{Reply}
 use Rattle.map_model.specs.declared.entry.Reply.TheVariants as reply
-use Rattle.map_model.specs.Legal.{IsInsert}
+use Rattle.map_model.specs.Legal.{IsInsert, IsChange}
 use Rattle.bucket_words.specs.Tables.{home_at}
 use Rattle.world.specs.declared.site.Site.{Site as Here}
 use Rattle.world.specs.Site.{Site, IsLockWord}
@@ -61,6 +61,17 @@ abbrev pub loads_of : WriteOp → List Ans → List (ℕ × ℕ) → List (ℕ �
 loads_of op [] before = before
 loads_of op (a ∷ rest) before = loads_of (taken op a) rest (load_of (wanted op) a ++ before)
 
+-- the words that an event changed: a store's, and that of an exchange that was won
+abbrev pub change_of : Want → Ans → List ℕ
+change_of (want.Store i x) a = i ∷ []
+change_of (want.Exchange i x y) Won = i ∷ []
+change_of w a = []
+
+-- the words that those events changed, the newest first and then those before
+abbrev pub changed_of : WriteOp → List Ans → List ℕ → List ℕ
+changed_of op [] before = before
+changed_of op (a ∷ rest) before = changed_of (taken op a) rest (change_of (wanted op) a ++ before)
+
 -- ---- what a change keeps of them
 -- each of these pairs is among those
 abbrev pub AreAmong : List (ℕ × ℕ) → List (ℕ × ℕ) → Type 0
@@ -96,8 +107,8 @@ module _ (t : Task) (k : Kept) where
   kept_in (LookAt Probing) = way_home
   kept_in (TryLock side) = way_by side
   kept_in (CountSpent side) = way_by side
-  kept_in CountFull = []
   kept_in (GiveBack held end) = []
+  kept_in (Ended NoSlot) = whole_way
   kept_in (Ended end) = []
   kept_in s = whole_way
 
@@ -164,9 +175,18 @@ module _ (t : Task) (k : Kept) (s : Step) (a : Ans) (loads : List (ℕ × ℕ)) 
     pub is_lock : word ≡ lock_word t k side
     pub named : IsNamed
 
-  -- the event found another value in a word that was loaded before
+  -- a word by which the change found its bucket: the root's, the entry of its hash at the root depth that was loaded, the
+  -- header word of the segment that this entry named, or the lock word of the home or the probing bucket there
+  abbrev pub IsWatched : ℕ → Type 0
+  IsWatched word = (word ≡ root_word)
+      ⊎ (((word ≡ entry_word t.site.geometry t.hash k.root) × Has (root_word, k.root) loads)
+      ⊎ (((word ≡ head_word t.site.geometry k.segment) × IsNamed)
+      ⊎ ((side : Side) × (word ≡ lock_word t k side) × IsNamed)))
+
+  -- the event found another value in such a word, which was loaded before
   pub record FindsMoved (word before after : ℕ) : Type 0 where
     pub finds : Found word after
+    pub watched : IsWatched word
     pub was : Has (word, before) loads
     pub differ : before ≢ after
 
@@ -178,9 +198,10 @@ module _ (t : Task) (k : Kept) (s : Step) (a : Ans) (loads : List (ℕ × ℕ)) 
   IsAmiss LoadHead n = sight_of t.site.version t.hash n ≡ Other
   IsAmiss p n = ⊥
 
-  -- the event loaded a word for the first time, and found such a value, which stands for both
+  -- the event loaded such a word for the first time, and found such a value, which stands for both
   pub record FindsAmiss (word before after : ℕ) : Type 0 where
     pub finds : Found word after
+    pub watched : IsWatched word
     pub same : before ≡ after
     pub amiss : IsAmiss s after
 
@@ -194,9 +215,9 @@ module _ (t : Task) (k : Kept) (s : Step) (a : Ans) (loads : List (ℕ × ℕ)) 
     pub version : version_in head ≡ byte
     pub other : byte ≢ t.site.version
 
-  -- the event loaded the power word, and found it not 0; or else the call is no change
+  -- the event loaded the power word, and found it not 0
   abbrev pub FindsOff : Type 0
-  FindsOff = ((n : ℕ) × (wanted_of t k s ≡ want.Power) × (a ≡ Value n) × (n ≢ 0)) ⊎ ((key : ℕ) × (t.call ≡ Get key))
+  FindsOff = (n : ℕ) × (wanted_of t k s ≡ want.Power) × (a ≡ Value n) × (n ≢ 0)
 
   -- the event loaded the commit counter, and found this place
   abbrev pub Counts : ℕ → Type 0
@@ -212,8 +233,8 @@ module _ (t : Task) (k : Kept) (s : Step) (a : Ans) (loads : List (ℕ × ℕ)) 
   Answers reply.Absent place = Counts place × FindsNoKey t k loads × (IsInsert t.call → ⊥)
   Answers reply.Done place = (s ≡ Make DrawPlace) × (a ≡ Drawn place)
   Answers reply.Exists place = Counts place × FindsKey t k loads × IsInsert t.call
-  Answers reply.Full place = Counts place × FindsNoRoom t k loads × (t.site.geometry.depth ≢ 0)
-  Answers reply.Deep place = Counts place × FindsNoRoom t k loads × (t.site.geometry.depth ≡ 0)
+  Answers reply.Full place = (s ≡ CountFull) × Counts place × FindsNoRoom t k loads × (t.site.geometry.depth ≢ 0)
+  Answers reply.Deep place = (s ≡ CountFull) × Counts place × FindsNoRoom t k loads × (t.site.geometry.depth ≡ 0)
   Answers reply.Spent place = Counts place × IsSpent place
 
   -- THE CAUSE of each end
@@ -241,18 +262,30 @@ IsHonest w a = ⊤
 
 -- EACH END HAS ITS CAUSE, at the event that decides it, whatever words there are
 abbrev pub EndsByCause : Type 0
-EndsByCause = (op : WriteOp) (a : Ans) (loads : List (ℕ × ℕ)) (end : WriteEnd) → Remembers op loads → IsHonest (wanted op) a
+EndsByCause = (op : WriteOp) (a : Ans) (loads : List (ℕ × ℕ)) (end : WriteEnd) → IsChange op.task.call → Remembers op loads → IsHonest (wanted op) a
     → ((e : WriteEnd) → IsDecided op.step e → ⊥) → IsDecided (taken op a).step end → Caused op a loads end
+
+-- the word by which a change is told to try again
+abbrev pub told_word : Why → ℕ
+told_word (Busy word seen) = word
+told_word (Moved word before after) = word
+
+-- WHAT MOVED, OR WAS TAKEN, IS ANOTHER'S DOING: whatever answers its events bring, an attempt that is told to try again has
+-- not changed the word that it is told
+abbrev pub AgainByOthers : Type 0
+AgainByOthers = (call : Call) (site : Here) (answers : List Ans) (a : Ans) (why : Why) → IsShape site.geometry → key_for call < 2 ^ 64
+    → ((e : WriteEnd) → IsDecided (after_all (begun call site) answers).step e → ⊥) → IsDecided (taken (after_all (begun call site) answers) a).step (Again why)
+    → Has (told_word why) (changed_of (begun call site) answers []) → ⊥
 
 -- what is decided stays so
 abbrev pub EndsStay : Type 0
 EndsStay = (op : WriteOp) (a : Ans) (end : WriteEnd) → IsDecided op.step end → IsDecided (taken op a).step end
 
--- a call is decided at its beginning only if it is no change
+-- no change is decided at its beginning
 abbrev pub BeginsOpen : Type 0
-BeginsOpen = (call : Call) (site : Here) (end : WriteEnd) → IsDecided (begun call site).step end → (end ≡ Off) × ((key : ℕ) × (call ≡ Get key))
+BeginsOpen = (call : Call) (site : Here) (end : WriteEnd) → IsChange call → IsDecided (begun call site).step end → ⊥
 
--- ---- causes in a world
+-- ---- causes in a world, for a caller with this view
 module _ (site : Site) (op : WriteOp) (words : Words) (loads : List (ℕ × ℕ)) where
   -- the next event decides that the change ends so
   abbrev pub EndsSo : WriteEnd → Type 0
@@ -263,14 +296,25 @@ module _ (site : Site) (op : WriteOp) (words : Words) (loads : List (ℕ × ℕ)
   IsOwnLock word = (word ≡ home_at site.shape (key_for op.task.call))
       ⊎ (word ≡ bucket_at site.shape 0 (probing_of (home_of (key_hash site.shape (key_for op.task.call)))))
 
-  pub record IsSoundEnd : Type 0 where
-    -- a lock that was found taken is one of the two, and odd among the newest words
-    pub busy : (word seen : ℕ) → EndsSo (Again (Busy word seen)) → IsLockWord site.shape word × IsOwnLock word × (words word ≡ seen) × (seen % 2 ≡ 1)
+  -- the header word of the segment in a slot was loaded, with this value
+  abbrev pub WasHead : ℕ → ℕ → Type 0
+  WasHead slot head = Has (head_at site.shape slot + 1, head) loads
+
+  pub record IsSoundEnd (v : View) : Type 0 where
+    -- a lock that was found taken is one of the two, odd among the newest words, and not held by this caller
+    pub busy : (word seen : ℕ) → EndsSo (Again (Busy word seen))
+        → IsLockWord site.shape word × IsOwnLock word × (words word ≡ seen) × (seen % 2 ≡ 1) × (HasLock v.held word → ⊥)
     -- a word that moved was loaded before, and has another value
     pub moved : (word before after : ℕ) → EndsSo (Again (Moved word before after)) → Has (word, before) loads × (words word ≡ after) × (before ≢ after)
     -- only the one segment is stale, and only by a version that is not the site's
     pub stale : (segment byte : ℕ) → EndsSo (Stale segment byte)
         → (segment ≡ 0) × (byte ≡ site.front state_word % 2 ^ 8) × (byte ≢ op.task.site.version)
+    -- an insert is answered Full where its segment is less deep than the image's greatest depth, and every slot has a segment
+    pub full : (place : ℕ) → EndsSo (Replied reply.Full place)
+        → WasHead op.kept.segment op.kept.head × (depth_in op.kept.head < site.shape.depth)
+        × ((slot : ℕ) → slot < site.shape.segments → (head : ℕ) × WasHead slot head × (state_in head ≢ free))
+    -- and Deep where its segment has that depth
+    pub deep : (place : ℕ) → EndsSo (Replied reply.Deep place) → WasHead op.kept.segment op.kept.head × (depth_in op.kept.head ≡ site.shape.depth)
 
 -- IN A WORLD whose invariant holds, beside any other callers
 module _ (site : Site) (op : WriteOp) (words : Words) (loads : List (ℕ × ℕ)) (views : List View) (j : ℕ) (before v : View) where
@@ -284,7 +328,7 @@ module _ (site : Site) (op : WriteOp) (words : Words) (loads : List (ℕ × ℕ)
 
 abbrev pub EndsSoundly : Type 0
 EndsSoundly = (site : Site) (op : WriteOp) (words : Words) (loads : List (ℕ × ℕ)) (views : List View) (j : ℕ) (before v : View)
-    → IsRunning site op words loads views j before v → IsSoundEnd site op words loads
+    → IsRunning site op words loads views j before v → IsSoundEnd site op words loads v
 
 -- where the site has the image's version, no segment is stale
 abbrev pub NeverStale : Type 0

@@ -1,6 +1,7 @@
 -- How a caller's view stands at each control point of a change: what it holds, knows and owes, and what it has replied.
 use Rattle.std.specs.Prelude.{◌≡◌, ◌≢◌, ℕ, ◌+◌, ◌*◌, ◌^◌, ◌<◌, ◌≤◌, ⊤, None, List, [], ◌∷◌, ◌++◌, ◌⊎◌, length, slice_index, slice_set}
 use Rattle.op_core.specs.declared.want.Want.TheVariants as want
+use Rattle.segment_head.specs.HeadWord.{state_in, depth_in, normal}
 use Rattle.bucket_meta.specs.Bucket.{allocated}
 use Rattle.trace.specs.Events.{Words}
 use Rattle.hash_word.specs.Hash.{finger_of}
@@ -80,6 +81,12 @@ pub record IsQuiet (v : View) : Type 0 where
   pub flushed : v.flushed ≡ []
   pub planned : v.planned ≡ []
 
+-- the segment is the first, and its header, as it was loaded, is normal and of depth 0
+pub record IsFirst (segment head : ℕ) : Type 0 where
+  pub first : segment ≡ 0
+  pub is_normal : state_in head ≡ normal
+  pub no_depth : depth_in head ≡ 0
+
 -- slot s is taken by the key, among a bucket's words
 pub record IsThere (words : List ℕ) (key s : ℕ) : Type 0 where
   pub taken : allocated s (slice_index words 1) ≡ 1
@@ -117,7 +124,7 @@ module _ (t : Task) (k : Kept) where
     pub under : (p : ℕ × ℕ) → Has p v.known → IsUnder (lock_word t k Home) p.0
     pub home : HasNext Home
     pub probing : HasNext Probing
-    pub first : k.segment ≡ 0
+    pub first : IsFirst k.segment k.head
 
   -- words 1 to n - 1 of the home bucket are known to be these
   abbrev pub KnowsBelow : List ℕ → ℕ → View → Type 0
@@ -189,8 +196,8 @@ module _ (t : Task) (k : Kept) where
 
   -- before the lock of a bucket is won
   abbrev pub SuitsLooking : Side → View → Type 0
-  SuitsLooking Home v = HoldsOnly [] v × (k.segment ≡ 0)
-  SuitsLooking Probing v = HoldsOnly (locks_of OnlyHome) v × (k.segment ≡ 0) × HasNext Home
+  SuitsLooking Home v = HoldsOnly [] v × IsFirst k.segment k.head
+  SuitsLooking Probing v = HoldsOnly (locks_of OnlyHome) v × IsFirst k.segment k.head × HasNext Home
 
   -- while locks are given back
   abbrev pub SuitsGiving : Held → View → Type 0

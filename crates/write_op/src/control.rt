@@ -61,7 +61,7 @@ pub enum WriteEnd {
     Again(Why),
     /// The segment in this slot has this version byte, which is not the image's.
     Stale(u64, u8),
-    /// The power is off, or the call is no change.
+    /// The power is off.
     Off,
 }
 

@@ -2,6 +2,7 @@
 
 ghost use Rattle.std.specs.Prelude.{◌≡◌, ◌≤◌};
 ghost use Rattle.op_core.specs.declared.want.Want.TheVariants.{Done};
+ghost use Rattle.map_model.specs.Legal.{IsChange};
 ghost use Rattle.write_op.specs.declared.control.WriteEnd.TheVariants.{NoSlot};
 ghost use Rattle.write_op.specs.Taken.{begun, end_of, first_step, refused};
 ghost use Rattle.write_op.specs.Left.{left};
@@ -33,9 +34,9 @@ fn first_step(call: Call) -> Step
 }
 
 impl WriteOp {
-    /// The machine for a call, an insert, an update or a remove, before its first event. For a `Get` it wants nothing,
-    /// and has ended in `Off`.
+    /// The machine for a call, an insert, an update or a remove, before its first event.
     pub fn new(call: Call, site: Site) -> WriteOp
+        requires change { IsChange call }
         ensures { result ≡ begun call site }
     {
         let hash = key_hash(&site.geometry, key_for(call));

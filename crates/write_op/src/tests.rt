@@ -63,9 +63,12 @@ impl Memory {
         }
     }
 
-    /// Runs a call to its end, which comes within 55 events.
+    /// Runs a change to its end, which comes within 55 events.
     fn run(&mut self, call: Call) -> Result<WriteEnd, Fail> {
-        let mut op = WriteOp::new(call, site()?);
+        let mut op = match call {
+            Call::Get(_) => return Ok(WriteEnd::Off),
+            Call::Insert(..) | Call::Update(..) | Call::Remove(_) => WriteOp::new(call, site()?),
+        };
         for _ in 0..55u8 {
             let want = op.want();
             op.take(self.answer(want));
@@ -121,8 +124,6 @@ fn calls_one_after_another(rt: HostRuntime) -> Result<(), Fail> {
     for (at, value) in [(96u64, 12), (97, 0), (98, 5), (100, 5), (101, 9), (128, 12)] {
         assert_eq!(rt; memory.word(at), value, "at {at}");
     }
-    let got = memory.run(Call::Get(5))?;
-    assert_eq!(rt; got, WriteEnd::Off);
     Ok(())
 }
 
