@@ -24,3 +24,4 @@ mod Sound
 mod Numbers
 mod Spared
 mod Waiting
+mod Pairs
