@@ -31,7 +31,7 @@ abbrev pub HasMade : Engine → Type 0
 HasMade e = HasMadeOp e.op
 
 -- ---- an engine
--- EACH EVENT leaves what every key has as it was, beside any other callers, or else the attempt has made its change with it
+-- EACH EVENT leaves what every key has as it was, beside any other callers, or else the attempt has made its change by then
 abbrev pub LeavesOrMakes : Type 0
 LeavesOrMakes = (site : Site) (here : Here) (call : Call) (e : Engine) (words : Words) (views : List View) (j : ℕ) (before v : View) (number : ℕ)
     → Holds site words views → At views j v → Suits site here call e before v
@@ -50,7 +50,7 @@ abbrev pub EndsAsDone : Type 0
 EndsAsDone = (e : Engine) → HasMade e → wanted e ≡ Done → (place : ℕ) × (reply_of_end (end_of e) ≡ Some (reply.Done, place))
 
 -- ---- the core
--- it is the turn of a caller whose attempt has made its change by the event of this turn, or did before
+-- it is the turn of a caller whose attempt has made its change, by the event of this turn or before
 pub record MakesAt (site : Site) (core : Core) (c : ℕ) : Type 0 where
   pub seat : ℕ
   pub is_number : c ≡ suc seat

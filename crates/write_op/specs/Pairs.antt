@@ -19,7 +19,7 @@ use Rattle.write_op.specs.declared.control.WriteEnd.TheVariants.{Replied}
 use Rattle.write_op.specs.declared.control.Step.{Step}
 use Rattle.write_op.specs.declared.control.Step.TheVariants.{Make, GiveBack, Ended}
 use Rattle.write_op.specs.declared.machine.WriteOp.{WriteOp}
-use Rattle.write_op.specs.Taken.{begun, wanted, taken}
+use Rattle.write_op.specs.Taken.{begun, wanted, taken, refused}
 use Rattle.write_op.specs.Left.{IsAnswer}
 use Rattle.write_op.specs.Suits.{IsIn, Suits}
 
@@ -56,6 +56,10 @@ LeavesPairs = (site : Site) (op : WriteOp) (words : Words) (views : List View) (
 -- nothing is made at the beginning
 abbrev pub BeginsUnmade : Type 0
 BeginsUnmade = (call : Call) (here : Here) → IsMade (begun call here).step → ⊥
+
+-- nor where an insert that found no slot goes on to its refusal
+abbrev pub RefusesUnmade : Type 0
+RefusesUnmade = (op : WriteOp) → IsMade (refused op).step → ⊥
 
 -- that store makes the change
 abbrev pub MakesIt : Type 0

@@ -19,3 +19,6 @@ returns-clause-only c = made_only_so
 
 pub returns-clause-ends : goal.returns-clause-ends
 returns-clause-ends c = ends_as_done
+
+pub returns-clause-refuses : goal.returns-clause-refuses
+returns-clause-refuses c op m = m
