@@ -10,6 +10,7 @@ ghost use Rattle.engine.specs.declared.engine.Engine.{Engine};
 ghost use Rattle.engine.specs.Engine.{begun, wanted, taken};
 ghost use Rattle.engine.specs.Fits.{BeginsSuited, KeepsSuits};
 ghost use Rattle.engine.specs.Left.{left, waiting};
+ghost use Rattle.engine.specs.Pairs.{LeavesOrMakes, BeginsUnmade, StaysMade, EndsAsDone, TurnLeavesOrMakes};
 ghost use Rattle.engine.specs.Asks.{AsksWithin, AsksWords, KeepsNotes, KeepsSpent, FullIsKnown};
 
 /// An engine fits the world of many callers: at the beginning of a call it suits the view of a caller that holds, knows and owes
@@ -74,3 +75,18 @@ pub fn flushes_are_few()
 pub fn no_room_is_full()
     ensures { FullIsKnown }
 {}
+
+/// An attempt that does not end as done left the pairs as they were, beside any other callers: each event leaves what every key
+/// has, or else the attempt has made its change by then; an attempt begins without, and one that has made its change stays so,
+/// and ends as done. So it is with the turns of the callers: each leaves all pairs, or is the turn of a caller whose attempt has
+/// made its change by then, and can end as done alone.
+pub fn refusals_leave_pairs()
+    ensures leaves { LeavesOrMakes }
+    ensures begins { BeginsUnmade }
+    ensures stays { StaysMade }
+    ensures done { EndsAsDone }
+    ensures turns { TurnLeavesOrMakes }
+{
+    world::other_steps_keep_pairs();
+    write_op::refusals_leave_pairs();
+}

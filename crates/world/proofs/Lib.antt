@@ -18,3 +18,4 @@ pub mod Legality
 pub mod Good
 pub mod Holders
 pub mod Reseated
+pub mod Pairs

@@ -10,3 +10,4 @@ pub mod World
 pub mod Holders
 pub mod Seats
 pub mod Laws
+pub mod Pairs

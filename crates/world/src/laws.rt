@@ -4,6 +4,7 @@ ghost use Rattle.world.specs.Site.{Site, IsSite};
 ghost use Rattle.world.specs.Views.{View};
 ghost use Rattle.world.specs.Kinds.{Kind};
 ghost use Rattle.world.specs.Holders.{MayPrepare, MayPublish, MayTell};
+ghost use Rattle.world.specs.Pairs.{OtherStepsKeepPairs};
 ghost use Rattle.world.specs.Seats.{CutsKeep, JoinsKeep};
 ghost use Rattle.world.specs.Laws.{Keeps, MediaStand, EntriesAreLegal, ChangesOneWord, DoesItsEvent, KeepsWell, BeginsWell, DeviceLeaves};
 
@@ -50,4 +51,9 @@ pub fn holders_may()
 pub fn seats_keep()
     ensures cuts { CutsKeep }
     ensures joins { JoinsKeep }
+{}
+
+/// A step of any kind but the one that makes a change leaves what every key has as it was.
+pub fn other_steps_keep_pairs()
+    ensures { OtherStepsKeepPairs }
 {}

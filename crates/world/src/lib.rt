@@ -10,6 +10,6 @@ pub mod site;
 
 pub use laws::{
     device_leaves_what_views_say, each_step_keeps, entries_are_legal, holders_may, media_stand,
-    seats_keep, steps_do_events, worlds_stay_well,
+    other_steps_keep_pairs, seats_keep, steps_do_events, worlds_stay_well,
 };
 pub use site::Site;

@@ -25,3 +25,4 @@ mod Sound
 mod Numbers
 mod Spared
 mod Waiting
+mod Pairs

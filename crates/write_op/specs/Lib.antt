@@ -11,3 +11,4 @@ pub mod Causes
 pub mod Numbers
 pub mod Spared
 pub mod Waiting
+pub mod Pairs

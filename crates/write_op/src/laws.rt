@@ -18,6 +18,7 @@ ghost use Rattle.write_op.specs.Wanted.{key_for, value_for};
 ghost use Rattle.write_op.specs.Numbers.{HasWords, AsksWords};
 ghost use Rattle.write_op.specs.Spared.{KeepsNotes, KeepsSpent};
 ghost use Rattle.write_op.specs.Waiting.{waiting};
+ghost use Rattle.write_op.specs.Pairs.{LeavesPairs, BeginsUnmade, MakesIt, StaysMade, MadeOnlySo, EndsAsDone, RefusesUnmade};
 ghost use Rattle.image_layout.specs.Places.{IsShape};
 
 /// An attempt ends: each answer of the kind that was asked for leaves fewer events, of at most 55 at its beginning, and of at
@@ -107,3 +108,19 @@ pub fn flushes_are_few()
     ensures ends { (op : WriteOp) → wanted op ≡ Done → waiting op ≡ 0 }
     ensures refuses { (op : WriteOp) → waiting (refused op) ≡ 0 }
 {}
+
+/// A change alters the pairs by one store alone: each other event of it leaves what every key has as it was, beside any other
+/// callers. That store is not done at the beginning, nor where an insert without a slot goes on to its refusal; it and nothing
+/// else makes the change; and a change that is made stays so, and ends as done. So a change that ends otherwise, in a refusal
+/// or to be made again, stale or off, never did that store, and each of its events left all pairs.
+pub fn refusals_leave_pairs()
+    ensures leaves { LeavesPairs }
+    ensures begins { BeginsUnmade }
+    ensures makes { MakesIt }
+    ensures stays { StaysMade }
+    ensures only { MadeOnlySo }
+    ensures ends { EndsAsDone }
+    ensures refuses { RefusesUnmade }
+{
+    world::other_steps_keep_pairs();
+}

@@ -19,8 +19,8 @@ pub use causes::ends_have_causes;
 pub use control::WriteEnd;
 pub use laws::{
     attempt_ends, events_have_kinds, fingers_change_one_slot, fits_the_world, flushes_are_few,
-    marks_change_one_slot, numbers_stay_in_range, spent_locks_stay, stores_are_words,
-    stores_keep_notes, words_are_inside,
+    marks_change_one_slot, numbers_stay_in_range, refusals_leave_pairs, spent_locks_stay,
+    stores_are_words, stores_keep_notes, words_are_inside,
 };
 pub use machine::WriteOp;
 

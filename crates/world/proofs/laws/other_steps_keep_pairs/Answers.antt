@@ -1,0 +1,5 @@
+use Rattle.world.proofs.Pairs.{keeps_pairs}
+use Rattle.world.proofs.laws.other_steps_keep_pairs.Goals as goal
+
+pub returns : goal.returns
+returns c = keeps_pairs
