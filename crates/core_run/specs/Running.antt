@@ -25,7 +25,7 @@ use Rattle.core_run.specs.declared.keeper.Keeper.{Keeper}
 use Rattle.core_run.specs.declared.keeper.Keeper.TheVariants.{Restarting, Open, Closing, Closed}
 use Rattle.core_run.specs.State.{State, Deed, deed, waiting_from}
 
--- what is run: a sound image that the program serves, and the calls of callers 1, 2 and so on, 64 at the most
+-- what is run: a sound image that may be played, and the calls of callers 1, 2 and so on, 64 at the most
 pub record Task : Type 0 where
   pub shape : Shape
   pub first : List ℕ

@@ -38,7 +38,7 @@ abbrev pub OpenedHolds : Type 0
 OpenedHolds = (shape : Shape) (words : List ℕ) (scripts : List (List Call)) → IsPlayableImage shape words → AreScripts scripts
     → CoreHolds (site_of shape words (length scripts)) (slice_index words) (opened shape words scripts)
 
--- THE LAW OF ALL TURNS: from every sound image that the program serves, whatever calls up to 64 callers have, and whatever
+-- THE LAW OF ALL TURNS: from every sound image that may be played, whatever calls up to 64 callers have, and whatever
 -- turns they take, the core is good
 abbrev pub TurnsKeep : Type 0
 TurnsKeep = (shape : Shape) (words : List ℕ) → IsPlayableImage shape words
