@@ -94,3 +94,56 @@ fn power_is_off(rt: HostRuntime) -> Result<(), Fail> {
     assert_eq!(rt; run(g, Call::Remove(5), 1, 1), (None, 1));
     Ok(())
 }
+
+// An insert into slot 2 takes one event more: the record's line is not that of the fingerprints, and is flushed too.
+#[test]
+fn insert_into_a_later_slot(rt: HostRuntime) -> Result<(), Fail> {
+    let g = Geometry::new(1, 0, 0)?;
+    assert_eq!(rt;
+        run(g, Call::Insert(6, 8), 3, 0),
+        (Some((Reply::Done, 1)), 55)
+    );
+    let way = [
+        Want::Power,
+        Want::Load(8),
+        Want::Load(32),
+        Want::Load(65),
+        Want::Load(96),
+        Want::Exchange(96, 2, 3),
+        Want::Load(128),
+        Want::Exchange(128, 2, 3),
+        Want::Load(8),
+        Want::Load(32),
+        Want::Load(65),
+    ];
+    let change = [
+        Want::Load(2208),
+        Want::Store(104, 6),
+        Want::Store(105, 8),
+        Want::Store(98, 0x0006_0005),
+        Want::Flush(12),
+        Want::Flush(13),
+        Want::Fence,
+        Want::Store(97, 7),
+        Want::Flush(12),
+        Want::Fence,
+        Want::Draw,
+        Want::Store(96, 4),
+        Want::Store(128, 4),
+        Want::Done,
+    ];
+    let mut engine = Engine::of(
+        Call::Insert(6, 8),
+        Site {
+            geometry: g,
+            version: 1,
+            caller: 1,
+        },
+    );
+    let words = (97..128u64).map(|i| Want::Load(i));
+    for want in way.into_iter().chain(words).chain(change) {
+        assert_eq!(rt; engine.next(), want);
+        engine.take(answer(want, 3, 0));
+    }
+    Ok(())
+}

@@ -9,13 +9,17 @@ fn power_cuts(rt: HostRuntime) -> Result<(), Fail> {
     let alloc = rt.alloc();
     let without = "sound 1 0 1 0 unclean\n";
     let with = "sound 1 0 1 1 unclean\n";
-    let rows: [(&str, &str, &str, &str); 8] = [
+    let rows: [(&str, &str, &str, &str); 12] = [
+        ("until 1 store 3\ncut 1", "1 1 OPEN\n", without, ""),
+        ("until 1 flush 1\ncut 1", "1 1 OPEN\n", without, ""),
         ("until 1 flush 2\ncut 0", "1 1 OPEN\n", without, ""),
         ("until 1 flush 2\ncut 1", "1 1 OPEN\n", with, "5 7\n"),
         ("until 1 store 4\ncut 0", "1 1 OPEN\n", without, ""),
         ("until 1 store 4\ncut 1", "1 1 OPEN\n", with, "5 7\n"),
         ("until 1 draw 1\ncut 0", "1 1 OPEN DONE @0\n", with, "5 7\n"),
         ("until 1 draw 1\ncut 1", "1 1 OPEN DONE @0\n", with, "5 7\n"),
+        ("step 1 51\ncut 0", "1 1 OPEN\n", with, "5 7\n"),
+        ("step 1 52\ncut 0", "1 1 OPEN DONE @0\n", with, "5 7\n"),
         ("step 0 2\ncut 1", "", without, ""),
         ("close\ncut 0", "1 1 DONE @0\n", with, "5 7\n"),
     ];

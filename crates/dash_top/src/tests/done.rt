@@ -107,8 +107,15 @@ fn histories(rt: HostRuntime) -> Result<(), Fail> {
     ];
     let five = b"1 insert 256 3\n1 insert 6 1\n1 insert 5 7\n1 insert 16384 2\n1 insert 0 1\n";
     let done = "1 1 DONE @0\n1 2 DONE @1\n1 3 DONE @2\n1 4 DONE @3\n1 5 DONE @4\n";
-    let rows: [(&[(usize, u64)], &[u8], &str, &str, &str); 10] = [
+    let rows: [(&[(usize, u64)], &[u8], &str, &str, &str); 13] = [
         (&[], b"", "", "sound 1 0 1 0 clean\n", ""),
+        (
+            &[],
+            b"1 insert 5 7\n1 get 5\n",
+            "1 1 DONE @0\n1 2 FOUND 7 @1\n",
+            "sound 1 0 1 1 clean\n",
+            "5 7\n",
+        ),
         (
             &[],
             b"1 insert 0 1\n1 insert 16384 2\n1 get 0\n1 get 16384\n",
@@ -170,6 +177,20 @@ fn histories(rt: HostRuntime) -> Result<(), Fail> {
             b"1 insert 5 7\nstep 0 2\ncut 0\n",
             "",
             "sound 1 0 1 0 clean\n",
+            "",
+        ),
+        (
+            &[],
+            b"1 get 5\nstep 1 40\ncut 0\n",
+            "1 1 OPEN\n",
+            "sound 1 0 1 0 unclean\n",
+            "",
+        ),
+        (
+            &[],
+            b"1 get 5\nstep 1 41\ncut 0\n",
+            "1 1 ABSENT @0\n",
+            "sound 1 0 1 0 unclean\n",
             "",
         ),
     ];

@@ -136,10 +136,17 @@ fn bad_images(rt: HostRuntime) -> Result<(), Fail> {
 #[test]
 fn images_that_are_not_played(rt: HostRuntime) -> Result<(), Fail> {
     let alloc = rt.alloc();
-    let rows: [(&[(usize, u64)], &str, &str); 3] = [
+    let rows: [(&[(usize, u64)], &str, &str); 6] = [
         (&[(16, 1)], "unclean", "16"),
         (&[(65, 256)], "clean", "65"),
         (&[(16, 1), (65, 256)], "unclean", "16"),
+        (
+            &[(16, 1), (97, 3), (98, 1285), (102, 5), (103, 7)],
+            "unclean",
+            "16",
+        ),
+        (&[(16, 1), (96, 3)], "unclean", "16"),
+        (&[(16, 1), (97, 1_099_511_627_777)], "unclean", "16"),
     ];
     for (changes, marker, word) in rows {
         let start = file_of(alloc, ONE_SEGMENT, &[&NEW, &PAIR, changes])?;
