@@ -75,7 +75,7 @@ module _ (t : Task) (k : Kept) (loads : List (ℕ × ℕ)) (v : ℕ) where
   head_caused named Good is = tt
   head_caused named (Late byte) is = let l = late_is t.site.version t.hash v byte is in
       record { head = v; finds = (refl, refl); segment_is = refl; named = named; sight = is; version = l.0; other = l.1 }
-  head_caused named Other is = inr (record { finds = (refl, refl); same = refl; amiss = is })
+  head_caused named Other is = inr (record { finds = (refl, refl); watched = inr (inr (inl (refl, named))); same = refl; amiss = is })
 
   look_caused : (side : Side) → IsNamed t k (LookAt side) (Value v) loads → CausedIf t k (LookAt side) (Value v) loads (after_look side (lock_word t k side) v)
   look_caused side named =
@@ -90,7 +90,7 @@ module _ (t : Task) (k : Kept) (loads : List (ℕ × ℕ)) (v : ℕ) where
       both_by (CausedIf t k (TryLock side) (Lost v) loads) (v % 2 == 1) (give_up side (Again (Busy (lock_word t k side) v))) (give_up side (moved (lock_word t k side) (free_of k side) v))
       (λ odd. given_up t k (TryLock side) (Lost v) loads side (Again (Busy (lock_word t k side) v))
       (record { finds = (refl, refl); odd = eqb-true (v % 2) 1 odd; side = side; looks = inr refl; is_lock = refl; named = named }))
-      (λ _. given_up t k (TryLock side) (Lost v) loads side (moved (lock_word t k side) (free_of k side) v) (inl (record { finds = (refl, refl); was = was; differ = differ })))
+      (λ _. given_up t k (TryLock side) (Lost v) loads side (moved (lock_word t k side) (free_of k side) v) (inl (record { finds = (refl, refl); watched = inr (inr (inr (side, refl, named))); was = was; differ = differ })))
 
   -- at the counter
   module _ (all : KeepsBelow t k 32 loads) where
@@ -140,10 +140,10 @@ caused_in t k AskPower (Value v) loads r honest still =
     both_by (CausedIf t k AskPower (Value v) loads) (v == 0) LoadRoot (Ended Off) (λ _. tt) (λ is. inl (v, refl, refl, eqb-false v 0 is))
 caused_in t k LoadRoot (Value v) loads r honest still =
     both_by (CausedIf t k LoadRoot (Value v) loads) (nat_le v t.site.geometry.depth) LoadEntry (seen_at root_word v) (λ _. tt)
-    (λ is. inr (record { finds = (refl, refl); same = refl; amiss = let over = leb-false v t.site.geometry.depth is in omega (arith, over) }))
+    (λ is. inr (record { finds = (refl, refl); watched = inl refl; same = refl; amiss = let over = leb-false v t.site.geometry.depth is in omega (arith, over) }))
 caused_in t k LoadEntry (Value v) loads r honest still =
     both_by (CausedIf t k LoadEntry (Value v) loads) (nat_lt v t.site.geometry.segments) LoadHead (seen_at (entry_word t.site.geometry t.hash k.root) v) (λ _. tt)
-    (λ is. inr (record { finds = (refl, refl); same = refl; amiss = let over = ltb-false v t.site.geometry.segments is in omega (arith, over) }))
+    (λ is. inr (record { finds = (refl, refl); watched = inr (inl (refl, r.way.0)); same = refl; amiss = let over = ltb-false v t.site.geometry.segments is in omega (arith, over) }))
 caused_in t k LoadHead (Value v) loads r honest still = head_caused t k loads v r.way.0 (sight_of t.site.version t.hash v) refl
 caused_in t k (LookAt Home) (Value v) loads r honest still = look_caused t k loads v Home r.way.1.0
 caused_in t k (LookAt Probing) (Value v) loads r honest still = look_caused t k loads v Probing r.way.1.1.0
@@ -153,13 +153,13 @@ caused_in t k (TryLock Home) (Lost v) loads r honest still = loss_caused t k loa
 caused_in t k (TryLock Probing) (Lost v) loads r honest still = loss_caused t k loads v Probing r.way.1.1.1.0 r.way.0 honest
 caused_in t k RootAgain (Value v) loads r honest still =
     both_by (CausedIf t k RootAgain (Value v) loads) (k.root == v) EntryAgain (GiveBack Both (moved root_word k.root v)) (λ _. tt)
-    (λ is. inl (record { finds = (refl, refl); was = r.way.1.1.1.1.0; differ = eqb-false k.root v is }))
+    (λ is. inl (record { finds = (refl, refl); watched = inl refl; was = r.way.1.1.1.1.0; differ = eqb-false k.root v is }))
 caused_in t k EntryAgain (Value v) loads r honest still =
     both_by (CausedIf t k EntryAgain (Value v) loads) (k.segment == v) HeadAgain (GiveBack Both (moved (entry_word t.site.geometry t.hash k.root) k.segment v)) (λ _. tt)
-    (λ is. inl (record { finds = (refl, refl); was = r.way.1.1.1.0; differ = eqb-false k.segment v is }))
+    (λ is. inl (record { finds = (refl, refl); watched = inr (inl (refl, r.way.1.1.1.1.0)); was = r.way.1.1.1.0; differ = eqb-false k.segment v is }))
 caused_in t k HeadAgain (Value v) loads r honest still =
     both_by (CausedIf t k HeadAgain (Value v) loads) (k.head == v) (LoadWord 1) (GiveBack Both (moved (head_word t.site.geometry k.segment) k.head v)) (λ _. tt)
-    (λ is. inl (record { finds = (refl, refl); was = r.way.1.1.0; differ = eqb-false k.head v is }))
+    (λ is. inl (record { finds = (refl, refl); watched = inr (inr (inl (refl, r.way.1.1.1.0))); was = r.way.1.1.0; differ = eqb-false k.head v is }))
 caused_in t k (LoadWord at) (Value v) loads r honest still = both_by (CausedIf t k (LoadWord at) (Value v) loads) (nat_lt at 31) (LoadWord (at + 1)) LoadCount (λ _. tt) (λ _. tt)
 caused_in t k LoadCount (Value v) loads r honest still = count_caused t k loads v r.knows
 caused_in t k (CountSpent Home) (Value v) loads r honest still = ((refl, refl), inr (Home, subst (λ z. Has (lock_word t k Home, z) loads) r.knows r.way.0))

@@ -20,6 +20,7 @@ mod Making
 mod Keeping
 mod Recalling
 mod Caused
+mod Others
 mod Sound
 mod Numbers
 mod Spared

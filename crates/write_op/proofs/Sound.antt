@@ -176,25 +176,7 @@ module _ (site : Site) (op : WriteOp) (words : Words) (loads : List (ℕ × ℕ)
   taken_cause : (word seen : ℕ) → EndsSo site op words loads (Again (Busy word seen)) → FindsTaken op.task op.kept op.step answer loads word seen
   taken_cause word seen so = ends_by_cause op answer loads (Again (Busy word seen)) run.remembers (honest (wanted op) (finds site op words)) run.open_still so
 
-  sound_end : IsSoundEnd site op words loads
-  sound_end = record {
-    busy = λ word seen so.
-        let c = taken_cause word seen so in
-        let found = (found_there word seen c.finds).1 in
-        let is : word ≡ own c.side = c.is_lock ∙ odd_is_own c.side (subst (λ w. words w % 2 ≡ 1) c.is_lock (ap (λ z. z % 2) found ∙ c.odd)) in
-        ((bucket_of c.side (key_hash site.shape (key_for op.task.call)), own_near c.side, is), which_own word c.side is, found, c.odd);
-    moved = λ word old new so. elim (ends_by_cause op answer loads (Again (Moved word old new)) run.remembers (honest (wanted op) (finds site op words)) run.open_still so) [
-      | inl c ↦ (c.was, (found_there word new c.finds).1, c.differ)
-      | inr c ↦ absurd (never_amiss answer op.step new run.suits.view (found_there word new c.finds).0 c.amiss)
-    ];
-    stale = λ segment byte so.
-        let c = ends_by_cause op answer loads (Stale segment byte) run.remembers (honest (wanted op) (finds site op words)) run.open_still so in
-        let found = (found_there (head_word op.task.site.geometry segment) c.head c.finds).1 in
-        let first = late_is_first segment byte c.head found c.sight in
-        (first, sym c.version ∙ (ap version_in (sym found ∙ head_is segment first) ∙ run.holds.site_is.front.same_version), c.other);
-  }
-
-  -- ---- where nobody else has a lock
+  -- the lock that is looked at is not held
   looking : (side : Side) (s : Step) → (s ≡ LookAt side) ⊎ (s ≡ TryLock side) → SuitsStep op.task op.kept s v → SuitsLooking op.task op.kept side v
   looking side s (inl is) suits = subst (λ z. SuitsStep op.task op.kept z v) is suits
   looking side s (inr is) suits = subst (λ z. SuitsStep op.task op.kept z v) is suits
@@ -211,11 +193,29 @@ module _ (site : Site) (op : WriteOp) (words : Words) (loads : List (ℕ × ℕ)
     | inr none ↦ none
   ]
 
+  sound_end : IsSoundEnd site op words loads v
+  sound_end = record {
+    busy = λ word seen so.
+        let c = taken_cause word seen so in
+        let found = (found_there word seen c.finds).1 in
+        let is : word ≡ own c.side = c.is_lock ∙ odd_is_own c.side (subst (λ w. words w % 2 ≡ 1) c.is_lock (ap (λ z. z % 2) found ∙ c.odd)) in
+        ((bucket_of c.side (key_hash site.shape (key_for op.task.call)), own_near c.side, is), which_own word c.side is, found, c.odd, (λ has. not_held c.side (looking c.side op.step c.looks run.suits.view) word c.is_lock has));
+    moved = λ word old new so. elim (ends_by_cause op answer loads (Again (Moved word old new)) run.remembers (honest (wanted op) (finds site op words)) run.open_still so) [
+      | inl c ↦ (c.was, (found_there word new c.finds).1, c.differ)
+      | inr c ↦ absurd (never_amiss answer op.step new run.suits.view (found_there word new c.finds).0 c.amiss)
+    ];
+    stale = λ segment byte so.
+        let c = ends_by_cause op answer loads (Stale segment byte) run.remembers (honest (wanted op) (finds site op words)) run.open_still so in
+        let found = (found_there (head_word op.task.site.geometry segment) c.head c.finds).1 in
+        let first = late_is_first segment byte c.head found c.sight in
+        (first, sym c.version ∙ (ap version_in (sym found ∙ head_is segment first) ∙ run.holds.site_is.front.same_version), c.other);
+  }
+
+  -- ---- where nobody else has a lock
   never_busy_here : ((lock : ℕ) → IsLockWord site.shape lock → words lock % 2 ≡ 1 → HasLock v.held lock) → (word seen : ℕ) → EndsSo site op words loads (Again (Busy word seen)) → ⊥
   never_busy_here mine word seen so =
-      let c = taken_cause word seen so in
       let b = sound_end.busy word seen so in
-      not_held c.side (looking c.side op.step c.looks run.suits.view) word c.is_lock (mine word b.0 (ap (λ z. z % 2) b.2 ∙ b.3))
+      b.4 (mine word b.0 (ap (λ z. z % 2) b.2 ∙ b.3))
 
 pub ends_soundly : EndsSoundly
 ends_soundly site op words loads views j before v run = sound_end site op words loads views j before v run

@@ -4,13 +4,14 @@ use Rattle.std.specs.Prelude.{◌≡◌, ◌≢◌, ℕ, ◌-◌, ◌%◌, ◌^�
 use Rattle.op_core.specs.declared.want.Want.{Want}
 use Rattle.op_core.specs.declared.want.Want.TheVariants as want
 use Rattle.op_core.specs.declared.want.Ans.{Ans}
-use Rattle.op_core.specs.declared.want.Ans.TheVariants.{Value, Lost, Drawn}
+use Rattle.op_core.specs.declared.want.Ans.TheVariants.{Value, Won, Lost, Drawn}
+use Rattle.op_core.specs.declared.why.Why.{Why}
 use Rattle.op_core.specs.declared.why.Why.TheVariants.{Busy, Moved}
 use Rattle.hash_word.specs.Hash.{home_of, probing_of}
 use Rattle.segment_head.specs.HeadWord.{version_in}
 use Rattle.bucket_meta.specs.Bucket.{allocated}
 use Rattle.trace.specs.Events.{Words}
-use Rattle.image_layout.specs.Places.{root_word, state_word, bucket_at}
+use Rattle.image_layout.specs.Places.{IsShape, root_word, state_word, bucket_at}
 use Rattle.image_layout.specs.Volatile.{counter_word}
 use Rattle.sound_image.specs.Records.{key_hash}
 use Rattle.map_model.specs.declared.call.Call.{Call}
@@ -60,6 +61,17 @@ after_all op (a ∷ rest) = after_all (taken op a) rest
 abbrev pub loads_of : WriteOp → List Ans → List (ℕ × ℕ) → List (ℕ × ℕ)
 loads_of op [] before = before
 loads_of op (a ∷ rest) before = loads_of (taken op a) rest (load_of (wanted op) a ++ before)
+
+-- the words that an event changed: a store's, and that of an exchange that was won
+abbrev pub change_of : Want → Ans → List ℕ
+change_of (want.Store i x) a = i ∷ []
+change_of (want.Exchange i x y) Won = i ∷ []
+change_of w a = []
+
+-- the words that those events changed, the newest first and then those before
+abbrev pub changed_of : WriteOp → List Ans → List ℕ → List ℕ
+changed_of op [] before = before
+changed_of op (a ∷ rest) before = changed_of (taken op a) rest (change_of (wanted op) a ++ before)
 
 -- ---- what a change keeps of them
 -- each of these pairs is among those
@@ -164,9 +176,18 @@ module _ (t : Task) (k : Kept) (s : Step) (a : Ans) (loads : List (ℕ × ℕ)) 
     pub is_lock : word ≡ lock_word t k side
     pub named : IsNamed
 
-  -- the event found another value in a word that was loaded before
+  -- a word by which the change found its bucket: the root's, the entry of its hash at the root depth that was loaded, the
+  -- header word of the segment that this entry named, or the lock word of the home or the probing bucket there
+  abbrev pub IsWatched : ℕ → Type 0
+  IsWatched word = (word ≡ root_word)
+      ⊎ (((word ≡ entry_word t.site.geometry t.hash k.root) × Has (root_word, k.root) loads)
+      ⊎ (((word ≡ head_word t.site.geometry k.segment) × IsNamed)
+      ⊎ ((side : Side) × (word ≡ lock_word t k side) × IsNamed)))
+
+  -- the event found another value in such a word, which was loaded before
   pub record FindsMoved (word before after : ℕ) : Type 0 where
     pub finds : Found word after
+    pub watched : IsWatched word
     pub was : Has (word, before) loads
     pub differ : before ≢ after
 
@@ -178,9 +199,10 @@ module _ (t : Task) (k : Kept) (s : Step) (a : Ans) (loads : List (ℕ × ℕ)) 
   IsAmiss LoadHead n = sight_of t.site.version t.hash n ≡ Other
   IsAmiss p n = ⊥
 
-  -- the event loaded a word for the first time, and found such a value, which stands for both
+  -- the event loaded such a word for the first time, and found such a value, which stands for both
   pub record FindsAmiss (word before after : ℕ) : Type 0 where
     pub finds : Found word after
+    pub watched : IsWatched word
     pub same : before ≡ after
     pub amiss : IsAmiss s after
 
@@ -244,6 +266,18 @@ abbrev pub EndsByCause : Type 0
 EndsByCause = (op : WriteOp) (a : Ans) (loads : List (ℕ × ℕ)) (end : WriteEnd) → Remembers op loads → IsHonest (wanted op) a
     → ((e : WriteEnd) → IsDecided op.step e → ⊥) → IsDecided (taken op a).step end → Caused op a loads end
 
+-- the word by which a change is told to try again
+abbrev pub told_word : Why → ℕ
+told_word (Busy word seen) = word
+told_word (Moved word before after) = word
+
+-- WHAT MOVED, OR WAS TAKEN, IS ANOTHER'S DOING: whatever answers its events bring, an attempt that is told to try again has
+-- not changed the word that it is told
+abbrev pub AgainByOthers : Type 0
+AgainByOthers = (call : Call) (site : Here) (answers : List Ans) (a : Ans) (why : Why) → IsShape site.geometry → key_for call < 2 ^ 64
+    → ((e : WriteEnd) → IsDecided (after_all (begun call site) answers).step e → ⊥) → IsDecided (taken (after_all (begun call site) answers) a).step (Again why)
+    → Has (told_word why) (changed_of (begun call site) answers []) → ⊥
+
 -- what is decided stays so
 abbrev pub EndsStay : Type 0
 EndsStay = (op : WriteOp) (a : Ans) (end : WriteEnd) → IsDecided op.step end → IsDecided (taken op a).step end
@@ -252,7 +286,7 @@ EndsStay = (op : WriteOp) (a : Ans) (end : WriteEnd) → IsDecided op.step end �
 abbrev pub BeginsOpen : Type 0
 BeginsOpen = (call : Call) (site : Here) (end : WriteEnd) → IsDecided (begun call site).step end → (end ≡ Off) × ((key : ℕ) × (call ≡ Get key))
 
--- ---- causes in a world
+-- ---- causes in a world, for a caller with this view
 module _ (site : Site) (op : WriteOp) (words : Words) (loads : List (ℕ × ℕ)) where
   -- the next event decides that the change ends so
   abbrev pub EndsSo : WriteEnd → Type 0
@@ -263,9 +297,10 @@ module _ (site : Site) (op : WriteOp) (words : Words) (loads : List (ℕ × ℕ)
   IsOwnLock word = (word ≡ home_at site.shape (key_for op.task.call))
       ⊎ (word ≡ bucket_at site.shape 0 (probing_of (home_of (key_hash site.shape (key_for op.task.call)))))
 
-  pub record IsSoundEnd : Type 0 where
-    -- a lock that was found taken is one of the two, and odd among the newest words
-    pub busy : (word seen : ℕ) → EndsSo (Again (Busy word seen)) → IsLockWord site.shape word × IsOwnLock word × (words word ≡ seen) × (seen % 2 ≡ 1)
+  pub record IsSoundEnd (v : View) : Type 0 where
+    -- a lock that was found taken is one of the two, odd among the newest words, and not held by this caller
+    pub busy : (word seen : ℕ) → EndsSo (Again (Busy word seen))
+        → IsLockWord site.shape word × IsOwnLock word × (words word ≡ seen) × (seen % 2 ≡ 1) × (HasLock v.held word → ⊥)
     -- a word that moved was loaded before, and has another value
     pub moved : (word before after : ℕ) → EndsSo (Again (Moved word before after)) → Has (word, before) loads × (words word ≡ after) × (before ≢ after)
     -- only the one segment is stale, and only by a version that is not the site's
@@ -284,7 +319,7 @@ module _ (site : Site) (op : WriteOp) (words : Words) (loads : List (ℕ × ℕ)
 
 abbrev pub EndsSoundly : Type 0
 EndsSoundly = (site : Site) (op : WriteOp) (words : Words) (loads : List (ℕ × ℕ)) (views : List View) (j : ℕ) (before v : View)
-    → IsRunning site op words loads views j before v → IsSoundEnd site op words loads
+    → IsRunning site op words loads views j before v → IsSoundEnd site op words loads v
 
 -- where the site has the image's version, no segment is stale
 abbrev pub NeverStale : Type 0

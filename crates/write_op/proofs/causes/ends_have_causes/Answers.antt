@@ -1,5 +1,6 @@
 use Rattle.write_op.proofs.Recalling.{keeps_loads, refusal_remembers}
 use Rattle.write_op.proofs.Caused.{ends_by_cause, ends_stay, begins_open}
+use Rattle.write_op.proofs.Others.{again_by_others}
 use Rattle.write_op.proofs.Sound.{ends_soundly, never_stale, never_busy}
 use Rattle.write_op.proofs.causes.ends_have_causes.Goals as goal
 
@@ -14,6 +15,9 @@ returns-clause-refuses c = refusal_remembers
 
 pub returns-clause-causes : goal.returns-clause-causes
 returns-clause-causes c = ends_by_cause
+
+pub returns-clause-others : goal.returns-clause-others
+returns-clause-others c = again_by_others
 
 pub returns-clause-stays : goal.returns-clause-stays
 returns-clause-stays c = ends_stay
