@@ -7,3 +7,4 @@ pub mod Good
 pub mod Holding
 pub mod Laws
 pub mod Sessions
+pub mod Causes

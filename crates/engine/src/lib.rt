@@ -5,10 +5,12 @@
 //! and `specs/Holding.antt` what holds of them between any two turns.
 #![tactic(auto)]
 
+mod causes;
 mod engine;
 mod laws;
 mod turns;
 
+pub use causes::ends_have_causes;
 pub use engine::{End, Engine, Op};
 pub use laws::{
     asks_within, attempts_end, fits_the_world, flushes_are_few, no_room_is_full, spent_locks_stay,
