@@ -24,3 +24,4 @@ mod SpentLocks
 mod Spending
 mod CutSession
 mod CloseSession
+mod Doing
