@@ -1,5 +1,5 @@
 -- Along any turns the engine of each caller remembers what its attempt did.
-use Rattle.std.proofs.Common.{◌≡◌, ◌≢◌, ℕ, zero, suc, inl, inr, ◌⊎◌, ◌==◌, Bool, true, false, cond, Option, None, Some, List, [], ◌∷◌, ◌++◌, length, slice_get, slice_set, refl, sym, ◌∙◌, ap, subst}
+use Rattle.std.proofs.Common.{◌≡◌, ℕ, zero, suc, inl, inr, ◌⊎◌, ◌==◌, Bool, true, false, cond, Option, None, Some, List, [], ◌∷◌, ◌++◌, length, slice_get, slice_set, refl, sym, ◌∙◌, ap, subst}
 use Rattle.std.proofs.lemmas.Bool.{cases_eq, eq-eqb, ne_eqb}
 use Rattle.std.proofs.lemmas.Option.{none-some, same_Some}
 use Rattle.op_core.specs.declared.want.Want.{Want}
@@ -11,7 +11,6 @@ use Rattle.map_model.specs.declared.call.Call.{Call}
 use Rattle.map_model.specs.declared.call.Call.TheVariants.{Get, Insert, Update, Remove}
 use Rattle.map_model.specs.declared.entry.Reply.{Reply}
 use Rattle.world.specs.declared.site.Site.{Site as Here}
-use Rattle.world.specs.Views.{Has}
 use Rattle.world.specs.Wants.{answer_to, word_of}
 use Rattle.read_op.specs.declared.step.Found.{Found}
 use Rattle.read_op.specs.declared.step.ReadEnd.TheVariants as read_end
@@ -20,7 +19,7 @@ use Rattle.read_op.specs.declared.step.Second.TheVariants as again
 use Rattle.read_op.specs.declared.step.ReadStep.{ReadStep}
 use Rattle.read_op.specs.declared.step.ReadStep.TheVariants as reads
 use Rattle.read_op.specs.declared.op.ReadOp.{ReadOp}
-use Rattle.read_op.specs.Steps.{wanted as read_wanted, wanted_in, wanted_again, taken as read_taken, next_in}
+use Rattle.read_op.specs.Steps.{wanted as read_wanted, wanted_in, taken as read_taken, next_in}
 use Rattle.read_op.specs.Causes.{IsReading, IsWithin, kept_in, kept}
 use Rattle.read_op.proofs.Loading.{step_within}
 use Rattle.read_op.proofs.Causing.{reads_alone}
@@ -36,7 +35,7 @@ use Rattle.engine.specs.declared.engine.Op.TheVariants.{Read, Write}
 use Rattle.engine.specs.declared.engine.Engine.{Engine}
 use Rattle.engine.specs.Engine.{begun, op_of, wanted, wanted_by_op, taken, taken_by_op, end_of, reply_of_end, go_on}
 use Rattle.engine.specs.Core.{Caller, Core, call_at, current, engine_for, drawn_by, ended, settled, answered, turn, run, callers_from, fresh}
-use Rattle.engine.specs.Causes.{Doings, nothing_done, with_event_of, doings_by, Watched, watched, with_doings, answer_now, engine_next, doings_of_call, doings_of_caller, doings_after, watched_turn, watched_run, WatchingChangesNothing}
+use Rattle.engine.specs.Causes.{Doings, nothing_done, with_event_of, doings_by, Watched, with_doings, answer_now, engine_next, doings_of_call, doings_of_caller, watched_turn, watched_run, WatchingChangesNothing}
 use Rattle.engine.proofs.Ways.{go_on_by}
 use Rattle.engine.proofs.Spending.{set_cases}
 

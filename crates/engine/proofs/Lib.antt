@@ -25,3 +25,4 @@ mod Spending
 mod CutSession
 mod CloseSession
 mod Doing
+mod Deciding
