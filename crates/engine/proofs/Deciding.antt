@@ -55,13 +55,15 @@ use Rattle.engine.specs.declared.engine.End.{End}
 use Rattle.engine.specs.declared.engine.End.TheVariants as ends
 use Rattle.engine.specs.declared.engine.Engine.{Engine}
 use Rattle.engine.specs.Engine.{wanted_by_op, taken_by_op, go_on, go_on_at}
-use Rattle.engine.specs.Fits.{SuitsOp}
+use Rattle.engine.specs.Fits.{SuitsOp, KeepsSuits}
 use Rattle.engine.specs.Core.{Caller, Core, current}
-use Rattle.engine.specs.Holding.{IsCalling, DoesCall, CallerFits, CoreHolds, RunKeeps}
+use Rattle.engine.specs.Holding.{IsCalling, DoesCall, CallerFits, CoreHolds, TurnKeeps}
 use Rattle.engine.specs.Laws.{opened, OpenedHolds}
 use Rattle.engine.specs.Causes.{Doings, with_event_of, watched, watched_run, IsDecided, Decides, IsOwnLock, FindsNoRoom, HasReplyCause, HasGetCause, HasChangeCause, HasCause, EndsHaveCauses}
 use Rattle.engine.proofs.Ways.{read_value, go_on_by}
 use Rattle.engine.proofs.Places.{zip_at}
+use Rattle.engine.proofs.Turning.{run_keeps}
+use Rattle.engine.proofs.Powered.{run_powered, restart_powered}
 use Rattle.engine.proofs.Doing.{watching, ReadDid, done_next, WriteDid, OpDid, remembers, IsDoing, run_does, begin_doing}
 
 -- ---- words that are watched, in an image of this shape, by a hash
@@ -176,7 +178,8 @@ pub record ChangeCauses : Type 0 where
   pub current : NeverStale
 
 module _ (laws : ChangeCauses) (site : Site) (here : Here) (call : Call) (words : Words) (views : List View) (j : ℕ) (before v : View)
-    (h : Holds site words views) (at : At views j v) (version : here.version ≡ site.front state_word % 2 ^ 8) (d : Doings) where
+    (h : Holds site words views) (at : At views j v) (version : here.version ≡ site.front state_word % 2 ^ 8)
+    (powered : words (power_word site.shape) ≡ 0) (d : Doings) where
   abbrev Own : ℕ → Type 0
   Own word = IsOwnLock site.shape words d call word
 
@@ -224,7 +227,7 @@ module _ (laws : ChangeCauses) (site : Site) (here : Here) (call : Call) (words 
         read_never site op words views j v h at suits.2 suits.3 asks (ap (λ (s : Here). s.version) suits.1 ∙ version) segment byte so
     get_by read_end.Off so =
         let c = read_causes op read read_end.Off asks so in
-        λ none. c.off (read_is ∙ (ap (λ x. words (word_of site.shape x)) c.loads ∙ none))
+        c.off (read_is ∙ (ap (λ x. words (word_of site.shape x)) c.loads ∙ powered))
 
     get_cause : (end : ReadEnd) → (read_taken op (answer_to (read_wanted op) found)).step ≡ reads.Ended end → HasGetCause site.shape words d call end
     get_cause end decides = get_by end (subst (λ n. (read_taken op (Value n)).step ≡ reads.Ended end) (sym read_is)
@@ -309,13 +312,13 @@ module _ (laws : ChangeCauses) (site : Site) (here : Here) (call : Call) (words 
     watched_by word old new (inl c) = c.watched
     watched_by word old new (inr c) = c.watched
 
-    off_by : Caused op answer d.loads Off → words (power_word site.shape) ≢ 0
-    off_by (inl off) none =
+    never_off : Caused op answer d.loads Off → ⊥
+    never_off (inl off) =
         let told : answer ≡ Value (words (power_word op.task.site.geometry)) = ap (λ w. answer_to w (words (word_of op.task.site.geometry w))) off.1 in
         let both : Value off.0 ≡ Value (words (power_word op.task.site.geometry)) = sym off.2 ∙ told in
         let value : off.0 ≡ words (power_word op.task.site.geometry) = cc in
-        off.3 (value ∙ (ap (λ g. words (power_word g)) suits.2.shape ∙ none))
-    off_by (inr get) none = absurd (subst IsChange get.1 suits.2.change)
+        off.3 (value ∙ (ap (λ g. words (power_word g)) suits.2.shape ∙ powered))
+    never_off (inr get) = absurd (subst IsChange get.1 suits.2.change)
 
     change_by : (end : WriteEnd) → (next.step ≡ Ended NoSlot → ⊥) → IsChangeDecided next.step end → HasChangeCause site.shape words d call end
     change_by (Replied r place) on so = reply_by r place (first_at op.task op.kept v op.step answer r place suits.4.view still so) (caused (Replied r place) so)
@@ -338,7 +341,7 @@ module _ (laws : ChangeCauses) (site : Site) (here : Here) (call : Call) (words 
         }
     change_by (Stale segment byte) on so =
         laws.current site op words d.loads views j before v running (ap (λ (s : Here). s.version) suits.1 ∙ version) segment byte so
-    change_by Off on so = off_by (caused Off so)
+    change_by Off on so = never_off (caused Off so)
 
     change_cause : (end : WriteEnd) → IsChangeDecided (go_on (write_taken op (answer_to (write_wanted op) (words (word_of site.shape (write_wanted op)))))).step end
         → HasChangeCause site.shape words d call end
@@ -358,7 +361,8 @@ module _ (laws : ChangeCauses) (site : Site) (here : Here) (call : Call) (words 
   op_cause (Write op) (ends.Read end) suits asks did still decides = absurd decides
 
 -- ---- in a core that holds
-module _ (laws : ChangeCauses) (site : Site) (start : Words) (core : Core) (h : CoreHolds site start core) (version : ℕ) (current_is : version ≡ site.front state_word % 2 ^ 8) where
+module _ (laws : ChangeCauses) (site : Site) (start : Words) (core : Core) (h : CoreHolds site start core) (version : ℕ) (current_is : version ≡ site.front state_word % 2 ^ 8)
+    (powered : core.words (power_word site.shape) ≡ 0) where
   core_cause : (j : ℕ) (c : Caller) (call : Call) (e : Engine) (end : End) (d : Doings) → slice_get core.callers j ≡ Some c → current c ≡ Some call → c.engine ≡ Some e
       → IsDoing version c d → Decides site.shape core.words e end → HasCause site.shape core.words d call end
   core_cause j c call e end d there calls runs doing decides =
@@ -366,16 +370,20 @@ module _ (laws : ChangeCauses) (site : Site) (start : Words) (core : Core) (h : 
       let calling : IsCalling site c e z.0 = subst (λ o. DoesCall site c o z.0) runs z.2.does in
       let same : calling.call ≡ call = same_Some calling.call call (sym calling.is_current ∙ calls) in
       subst (λ x. HasCause site.shape core.words d x end) same
-      (op_cause laws site c.site calling.call core.words (fresh_view 0 ∷ h.views) (suc j) calling.before z.0 h.well.holds z.1 (doing.version_is ∙ current_is) d e.op end
+      (op_cause laws site c.site calling.call core.words (fresh_view 0 ∷ h.views) (suc j) calling.before z.0 h.well.holds z.1 (doing.version_is ∙ current_is) powered d e.op end
       calling.suits.suits calling.suits.asks (doing.did e runs) decides.undecided decides.decides)
 
-pub ends_have_causes : ChangeCauses → OpenedHolds → RunKeeps → EndsStarted → EndsHaveCauses
-ends_have_causes laws opens keeps started shape words image scripts are turns j c call e end there calls runs decides =
+pub ends_have_causes : ChangeCauses → OpenedHolds → KeepsSuits → TurnKeeps → EndsStarted → EndsHaveCauses
+ends_have_causes laws opens suits keeps started shape words image scripts are turns j c call e end there calls runs decides =
     let site : Site = site_of shape words (length scripts) in
     let first : Core = opened shape words scripts in
     let version : ℕ = words_at_end shape words state_word in
+    let begins : CoreHolds site (slice_index words) first = opens shape words scripts image are in
+    let same = sym (watching shape (watched first) turns) in
     let held : CoreHolds site (slice_index words) (watched_run shape turns (watched first)).core
-    = subst (λ core. CoreHolds site (slice_index words) core) (sym (watching shape (watched first) turns)) (keeps site (slice_index words) first turns (opens shape words scripts image are)) in
+    = subst (λ core. CoreHolds site (slice_index words) core) same (run_keeps keeps site (slice_index words) first turns begins) in
+    let powered : (watched_run shape turns (watched first)).core.words (power_word shape) ≡ 0
+    = subst (λ (core : Core). core.words (power_word shape) ≡ 0) same (run_powered suits keeps site (slice_index words) first turns begins (restart_powered shape words image)) in
     let is_current : version ≡ version % 2 ^ 8 = let s = started shape words image in let state = s.state in let fits = s.fits in omega (arith, state, fits) in
-    core_cause laws site (slice_index words) (watched_run shape turns (watched first)).core held version is_current j c call e end ((watched_run shape turns (watched first)).doings j) there calls runs
+    core_cause laws site (slice_index words) (watched_run shape turns (watched first)).core held version is_current powered j c call e end ((watched_run shape turns (watched first)).doings j) there calls runs
     (run_does laws.keeps laws.refuses laws.stays shape version (watched first) turns (λ i x at. begin_doing shape version 1 scripts i x at) j c there) decides

@@ -26,3 +26,4 @@ mod CutSession
 mod CloseSession
 mod Doing
 mod Deciding
+mod Powered

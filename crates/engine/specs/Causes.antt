@@ -9,7 +9,7 @@ use Rattle.hash_word.specs.Hash.{home_of, probing_of}
 use Rattle.bucket_meta.specs.Bucket.{allocated}
 use Rattle.trace.specs.Events.{Words}
 use Rattle.image_layout.specs.Places.{Shape, root_word, bucket_at}
-use Rattle.image_layout.specs.Volatile.{counter_word, power_word}
+use Rattle.image_layout.specs.Volatile.{counter_word}
 use Rattle.sound_image.specs.Records.{key_hash}
 use Rattle.map_model.specs.declared.call.Call.{Call}
 use Rattle.map_model.specs.declared.entry.Reply.{Reply}
@@ -171,16 +171,13 @@ module _ (shape : Shape) (words : Words) (did : Doings) (call : Call) where
   HasAgainCause (Busy word value) = IsTaken word value
   HasAgainCause (Moved word before after) = HasMoved word before after
 
-  -- no power is off but where the power word says so, and no segment is ever stale
-  abbrev pub IsOff : Type 0
-  IsOff = words (power_word shape) ≢ 0
-
+  -- no segment is ever stale, and no attempt finds the power off
   abbrev pub HasGetCause : ReadEnd → Type 0
   HasGetCause (read_end.Found value place) = ⊤
   HasGetCause (read_end.Absent place) = ⊤
   HasGetCause (read_end.Again why) = HasAgainCause why
   HasGetCause (read_end.Stale segment byte) = ⊥
-  HasGetCause read_end.Off = IsOff
+  HasGetCause read_end.Off = ⊥
 
   -- a change that found no slot goes on to its refusal, so that this is never its end
   abbrev pub HasChangeCause : WriteEnd → Type 0
@@ -188,7 +185,7 @@ module _ (shape : Shape) (words : Words) (did : Doings) (call : Call) where
   HasChangeCause write_end.NoSlot = ⊥
   HasChangeCause (write_end.Again why) = HasAgainCause why
   HasChangeCause (write_end.Stale segment byte) = ⊥
-  HasChangeCause write_end.Off = IsOff
+  HasChangeCause write_end.Off = ⊥
 
   abbrev pub HasCause : End → Type 0
   HasCause (ends.Read end) = HasGetCause end

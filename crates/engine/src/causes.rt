@@ -2,6 +2,7 @@
 
 ghost use Rattle.engine.specs.Causes.{WatchingChangesNothing, EndsHaveCauses};
 
+use crate::laws;
 use crate::turns;
 
 /// Whatever calls up to 64 callers have and whatever turns they take, where the next event of a caller decides how its attempt
@@ -11,6 +12,7 @@ pub fn ends_have_causes()
     ensures watching { WatchingChangesNothing }
     ensures causes { EndsHaveCauses }
 {
+    laws::fits_the_world();
     turns::opened_holds();
     turns::turn_keeps();
     restart_op::restart_begins();

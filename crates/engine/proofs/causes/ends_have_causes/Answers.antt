@@ -15,4 +15,4 @@ returns-clause-causes c = ends_have_causes (record {
   others = c.ends_have_causes.ensures.others;
   in_world = c.ends_have_causes.ensures.in_world;
   current = c.ends_have_causes.ensures.current;
-}) c.opened_holds.ensures c.turn_keeps.ensures.all c.restart_begins.ensures.started
+}) c.opened_holds.ensures c.fits_the_world.ensures.steps c.turn_keeps.ensures.one c.restart_begins.ensures.started
