@@ -254,9 +254,10 @@ module _ (laws : ChangeCauses) (site : Site) (here : Here) (call : Call) (words 
 
     -- a refusal for want of room is a reply
     refusal_replies : (end : WriteEnd) → op.step ≡ CountFull → IsChangeDecided next.step end → (place : ℕ) × (Replied (no_room op.task.site) place ≡ end)
-    refusal_replies end full so =
-        (words (counter_word op.task.site.geometry),
-        subst (λ s. IsChangeDecided (step_after op.task op.kept s (answer_to (wanted_of op.task op.kept s) (words (word_of op.task.site.geometry (wanted_of op.task op.kept s))))) end) full so)
+    refusal_replies end full so = (
+      words (counter_word op.task.site.geometry),
+      subst (λ s. IsChangeDecided (step_after op.task op.kept s (answer_to (wanted_of op.task op.kept s) (words (word_of op.task.site.geometry (wanted_of op.task op.kept s))))) end) full so,
+    )
 
     not_by_this : WriteDid op d → (why : Why) → IsChangeDecided next.step (Again why) → Has (told_word why) d.changed → ⊥
     not_by_this (inl has) why so new =
@@ -292,9 +293,11 @@ module _ (laws : ChangeCauses) (site : Site) (here : Here) (call : Call) (words 
       meta = slice_index op.kept.words 1;
       loaded = subst (λ l. Has (l + 1, slice_index op.kept.words 1) d.loads) (lock_is_own Home first) (f.absent.loaded 1 (omega arith) (omega arith));
       taken = f.full;
-      others = λ slot low. (slice_index op.kept.words (4 + 2 * slot),
-          subst (λ l. Has (l + (4 + 2 * slot), slice_index op.kept.words (4 + 2 * slot)) d.loads) (lock_is_own Home first) (f.absent.loaded (4 + 2 * slot) (omega arith) (omega (arith, low))),
-          (λ same. f.absent.nowhere slot low (record { taken = f.full slot low; has_key = same ∙ sym (ap key_for suits.0) })));
+      others = λ slot low. (
+        slice_index op.kept.words (4 + 2 * slot),
+        subst (λ l. Has (l + (4 + 2 * slot), slice_index op.kept.words (4 + 2 * slot)) d.loads) (lock_is_own Home first) (f.absent.loaded (4 + 2 * slot) (omega arith) (omega (arith, low))),
+        (λ same. f.absent.nowhere slot low (record { taken = f.full slot low; has_key = same ∙ sym (ap key_for suits.0) })),
+      );
     }
 
     reply_by : (r : Reply) (place : ℕ) → op.kept.segment ≡ 0 → Answers op.task op.kept op.step answer d.loads r place → HasReplyCause site.shape words d call r

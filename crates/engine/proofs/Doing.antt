@@ -217,13 +217,13 @@ module _ (keeps : KeepsLoads) (refuses : RefusalRemembers) (stay : EndsStay) (sh
         → EachDoes version (record { core = Rattle.engine.specs.Core.with_event shape j w.core c call e; doings = with_doings j (new_doings e) w.doings })
     stepped call e runs i x at = elim (cases_eq i j) [
       | inl same ↦ (let now : answered c call e (answer_now shape w.core.words e) ≡ x
-            = set_there w.core.callers j (answered c call e (answer_now shape w.core.words e)) x c there
-            (subst (λ k. slice_get (slice_set w.core.callers j (answered c call e (answer_now shape w.core.words e))) k ≡ Some x) same at) in
+          = set_there w.core.callers j (answered c call e (answer_now shape w.core.words e)) x c there
+          (subst (λ k. slice_get (slice_set w.core.callers j (answered c call e (answer_now shape w.core.words e))) k ≡ Some x) same at) in
           let old = each j c there in
           let new : IsDoing version (answered c call e (answer_now shape w.core.words e)) (new_doings e)
           = settled_doing version (record c { drew = drawn_by c call (answer_now shape w.core.words e) }) call (engine_next shape w.core.words e) (wanted (engine_next shape w.core.words e)) (wanted e)
-            (answer_now shape w.core.words e) (w.doings j) old.version_is
-            (op_next keeps refuses stay e.op (w.core.words (word_of shape (wanted e))) (w.doings j) (old.did e runs)) in
+          (answer_now shape w.core.words e) (w.doings j) old.version_is
+          (op_next keeps refuses stay e.op (w.core.words (word_of shape (wanted e))) (w.doings j) (old.did e runs)) in
           subst (λ b. IsDoing version x (cond b (new_doings e) (w.doings i))) (sym (eq-eqb i j same)) (subst (λ z. IsDoing version z (new_doings e)) now new))
       | inr other ↦ elim (set_cases w.core.callers j i (answered c call e (answer_now shape w.core.words e)) x at) [
         | inl here ↦ absurd (other here.0)

@@ -27,3 +27,4 @@ mod CloseSession
 mod Doing
 mod Deciding
 mod Powered
+mod Decisions

@@ -1,15 +1,15 @@
 -- The power word stays 0 from the end of a restart on: no event of a caller changes it.
-use Rattle.std.proofs.Common.{◌≡◌, ◌≢◌, ℕ, zero, suc, ◌+◌, ◌-◌, ◌*◌, ◌%◌, ◌^◌, ◌<◌, ◌≤◌, eqb, Bool, true, false, cond, Option, None, Some, List, [], ◌∷◌, length, slice_get, slice_index, refl, sym, ◌∙◌, ap, subst, arith}
+use Rattle.std.proofs.Common.{◌≡◌, ◌≢◌, ℕ, zero, suc, ◌+◌, ◌%◌, ◌^◌, ◌<◌, eqb, Bool, true, false, cond, Option, None, Some, List, [], ◌∷◌, length, slice_get, slice_index, refl, sym, ◌∙◌, ap, subst, arith}
 use Rattle.std.proofs.lemmas.List.{get_or_past}
 use Rattle.trace.specs.Events.{Words, after}
 use Rattle.trace.specs.Events.Event.{loaded, exchanged}
 use Rattle.trace.proofs.Moments.{value_at_now}
 use Rattle.trace.proofs.Replaced.{replaced_other}
-use Rattle.image_layout.specs.Places.{Shape, IsShape, state_word, words_of}
+use Rattle.image_layout.specs.Places.{Shape, state_word}
 use Rattle.image_layout.specs.Volatile.{power_word, counter_word}
 use Rattle.map_model.specs.declared.call.Call.{Call}
-use Rattle.world.specs.Site.{Site, IsSite, IsLockWord}
-use Rattle.world.specs.Views.{View, At, HasLock, IsGuarded}
+use Rattle.world.specs.Site.{Site, IsLockWord}
+use Rattle.world.specs.Views.{View, At, IsGuarded}
 use Rattle.world.specs.Kinds.{Kind, peeks, asks_power, finds_room, refuses, places, looks, notes_word, validates, learns, tries, stores, publishes, flushes, fences, draws_place, unlocks, wanted as wanted_by, May}
 use Rattle.world.specs.Wants.{word_of, words_after}
 use Rattle.world.specs.Invariant.{Holds}

@@ -16,6 +16,7 @@ use Rattle.map_model.specs.declared.entry.Reply.{Reply}
 use Rattle.map_model.specs.declared.entry.Reply.TheVariants.{Full, Deep, Spent}
 use Rattle.map_model.specs.Legal.{IsInsert}
 use Rattle.bucket_words.specs.Tables.{home_at}
+use Rattle.world.specs.declared.site.Site.{Site as Here}
 use Rattle.world.specs.Views.{Has}
 use Rattle.world.specs.Wants.{answer_to, word_of}
 use Rattle.read_op.specs.declared.step.ReadEnd.{ReadEnd}
@@ -33,7 +34,7 @@ use Rattle.engine.specs.declared.engine.Op.TheVariants.{Read, Write}
 use Rattle.engine.specs.declared.engine.End.{End}
 use Rattle.engine.specs.declared.engine.End.TheVariants as ends
 use Rattle.engine.specs.declared.engine.Engine.{Engine}
-use Rattle.engine.specs.Engine.{wanted, taken}
+use Rattle.engine.specs.Engine.{begun, wanted, taken, end_of}
 use Rattle.engine.specs.Core.{Caller, Core, current, turn, run}
 use Rattle.engine.specs.Laws.{opened, AreScripts}
 
@@ -110,6 +111,17 @@ IsDecided op end = ⊥
 pub record Decides (shape : Shape) (words : Words) (e : Engine) (end : End) : Type 0 where
   pub undecided : (other : End) → IsDecided e.op other → ⊥
   pub decides : IsDecided (engine_next shape words e).op end
+
+-- EACH END IS DECIDED by one event of its attempt: an attempt begins undecided; what is decided stays so, but for a change
+-- without a slot, which goes on to its refusal; and where an engine wants nothing more, its end is decided
+abbrev pub BeginsUndecided : Type 0
+BeginsUndecided = (here : Here) (call : Call) (end : End) → IsDecided (begun here call).op end → ⊥
+
+abbrev pub DecidedStays : Type 0
+DecidedStays = (e : Engine) (a : Ans) (end : End) → end ≢ ends.Write write_end.NoSlot → IsDecided e.op end → IsDecided (taken e a).op end
+
+abbrev pub EndsAreDecided : Type 0
+EndsAreDecided = (e : Engine) → wanted e ≡ want.Done → IsDecided e.op (end_of e)
 
 -- ---- causes, in the newest words, and in what the attempt did
 module _ (shape : Shape) (words : Words) (did : Doings) (call : Call) where

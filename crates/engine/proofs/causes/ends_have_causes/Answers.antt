@@ -1,7 +1,17 @@
 -- What each attempt did is remembered by its engine, and each end has its cause in the world that holds.
+use Rattle.engine.proofs.Decisions.{begins_undecided, decided_stays, ends_are_decided}
 use Rattle.engine.proofs.Doing.{watching}
 use Rattle.engine.proofs.Deciding.{ends_have_causes}
 use Rattle.engine.proofs.causes.ends_have_causes.Goals as goal
+
+pub returns-clause-begins : goal.returns-clause-begins
+returns-clause-begins c = begins_undecided
+
+pub returns-clause-stays : goal.returns-clause-stays
+returns-clause-stays c = decided_stays c.ends_have_causes.ensures.stays
+
+pub returns-clause-ends : goal.returns-clause-ends
+returns-clause-ends c = ends_are_decided
 
 pub returns-clause-watching : goal.returns-clause-watching
 returns-clause-watching c = watching
