@@ -25,3 +25,7 @@ mod Spending
 mod CutSession
 mod CloseSession
 mod Pairs
+mod Doing
+mod Deciding
+mod Powered
+mod Decisions

@@ -8,3 +8,4 @@ pub mod Holding
 pub mod Laws
 pub mod Sessions
 pub mod Pairs
+pub mod Causes

@@ -2,13 +2,15 @@
 //!
 //! [`Engine`] is one attempt of a call. `specs/Engine.antt` says what it wants and what an answer makes of it, and `specs/Fits.antt`
 //! how it stands in the world of many callers. `specs/Core.antt` has callers that run their calls on one memory, an event at a turn,
-//! and `specs/Holding.antt` what holds of them between any two turns.
+//! `specs/Holding.antt` what holds of them between any two turns, and `specs/Causes.antt` by what their attempts end.
 #![tactic(auto)]
 
+mod causes;
 mod engine;
 mod laws;
 mod turns;
 
+pub use causes::ends_have_causes;
 pub use engine::{End, Engine, Op};
 pub use laws::{
     asks_within, attempts_end, fits_the_world, flushes_are_few, no_room_is_full,

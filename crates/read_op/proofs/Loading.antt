@@ -38,7 +38,7 @@ module _ (op : ReadOp) (past : List (ℕ × ℕ)) where
       let last : ReadStep = cond (seen == found.free) (Ended (end_of found place)) (moved lock found.free seen) in
       either _ (seen % 2 == 1) (busy lock seen) last tt (either _ (seen == found.free) (Ended (end_of found place)) (moved lock found.free seen) tt tt)
 
-  step_within : (s : ReadStep) (seen : ℕ) → IsWithin (kept_in op s) past → IsWithin (kept_in op (next_in op s seen)) ((word_of op.site.geometry (wanted_in op s), seen) ∷ past)
+  pub step_within : (s : ReadStep) (seen : ℕ) → IsWithin (kept_in op s) past → IsWithin (kept_in op (next_in op s seen)) ((word_of op.site.geometry (wanted_in op s), seen) ∷ past)
   step_within Power seen within = either _ (seen == 0) Root (Ended ends.Off) tt tt
   step_within Root seen within = either _ (nat_le seen op.site.geometry.depth) (Entry seen) (moved root_word seen seen) (inl (refl, tt)) tt
   step_within (Entry root) seen within =

@@ -1,0 +1,392 @@
+-- Where the next event of a caller decides how its attempt ends, the cause of that end is there.
+use Rattle.std.proofs.Common.{◌≡◌, ◌≢◌, ℕ, suc, ◌+◌, ◌*◌, ◌%◌, ◌^◌, ◌<◌, ◌≤◌, inl, inr, ◌⊎◌, ◌==◌, Bool, true, false, cond, Some, List, [], ◌∷◌, length, slice_get, slice_index, refl, sym, ◌∙◌, ap, subst, arith}
+use Rattle.std.specs.Prelude.{nat_le, nat_lt}
+use Rattle.std.proofs.lemmas.Bool.{eqb-false, lt-ltb}
+use Rattle.std.proofs.lemmas.Option.{same_Some}
+use Rattle.op_core.specs.declared.want.Want.{Want}
+use Rattle.op_core.specs.declared.want.Want.TheVariants as want
+use Rattle.op_core.specs.declared.want.Ans.{Ans}
+use Rattle.op_core.specs.declared.want.Ans.TheVariants.{Value, Won, Lost}
+use Rattle.op_core.specs.declared.why.Why.{Why}
+use Rattle.op_core.specs.declared.why.Why.TheVariants.{Busy, Moved}
+use Rattle.trace.specs.Events.{Words}
+use Rattle.image_layout.specs.Places.{Shape, IsShape, root_word, bucket_at, state_word}
+use Rattle.image_layout.specs.Volatile.{counter_word, power_word}
+use Rattle.sound_image.specs.Records.{key_hash}
+use Rattle.map_model.specs.declared.call.Call.{Call}
+use Rattle.map_model.specs.declared.entry.Reply.{Reply}
+use Rattle.map_model.specs.declared.entry.Reply.TheVariants.{Full, Deep, Spent}
+use Rattle.map_model.specs.Legal.{IsInsert, IsChange}
+use Rattle.bucket_words.specs.Tables.{home_at}
+use Rattle.world.specs.declared.site.Site.{Site as Here}
+use Rattle.world.specs.Site.{Site}
+use Rattle.world.specs.Views.{View, Has, At}
+use Rattle.world.specs.Wants.{answer_to, word_of}
+use Rattle.world.specs.Invariant.{Holds}
+use Rattle.world.specs.World.{fresh_view}
+use Rattle.restart_op.specs.Restarted.{words_at_end, site_of, EndsStarted}
+use Rattle.read_op.specs.declared.step.ReadEnd.{ReadEnd}
+use Rattle.read_op.specs.declared.step.ReadEnd.TheVariants as read_end
+use Rattle.read_op.specs.declared.step.ReadStep.TheVariants as reads
+use Rattle.read_op.specs.declared.op.ReadOp.{ReadOp}
+use Rattle.read_op.specs.Steps.{wanted as read_wanted, taken as read_taken}
+use Rattle.read_op.specs.Fits.{finds as read_finds}
+use Rattle.read_op.specs.Causes.{IsWithin, kept, IsWatched as IsReadWatched}
+use Rattle.read_op.proofs.Fitting.{wants_by_kind}
+use Rattle.read_op.proofs.Causing.{ends_by_cause as read_causes}
+use Rattle.read_op.proofs.Sounding.{ends_soundly as read_soundly, never_stale as read_never}
+use Rattle.write_op.specs.declared.control.Side.{Side}
+use Rattle.write_op.specs.declared.control.Side.TheVariants.{Home, Probing}
+use Rattle.write_op.specs.declared.control.WriteEnd.{WriteEnd}
+use Rattle.write_op.specs.declared.control.WriteEnd.TheVariants.{Replied, NoSlot, Again, Stale, Off}
+use Rattle.write_op.specs.declared.control.Step.{Step}
+use Rattle.write_op.specs.declared.control.Step.TheVariants.{AskPower, LoadRoot, LoadEntry, LoadHead, LookAt, TryLock, RootAgain, EntryAgain, HeadAgain, LoadWord, LoadCount, Make, CountSpent, CountFull, GiveBack, Ended}
+use Rattle.write_op.specs.declared.control.Kept.{Kept}
+use Rattle.write_op.specs.declared.control.Task.{Task}
+use Rattle.write_op.specs.declared.machine.WriteOp.{WriteOp}
+use Rattle.write_op.specs.Ways.{entry_word, head_word, block, bucket_of, lock_word}
+use Rattle.write_op.specs.Wanted.{key_for, wanted_of}
+use Rattle.write_op.specs.Taken.{begun as write_begun, wanted as write_wanted, taken as write_taken, seen_at, no_room, step_after}
+use Rattle.write_op.specs.Suits.{SuitsStep}
+use Rattle.write_op.specs.Causes.{Finds, after_all, KnowsIn, Remembers, KeepsLoads, RefusalRemembers, EndsByCause, EndsStay, EndsSoundly, NeverStale, AgainByOthers, IsHonest, IsRunning, Answers, Caused, told_word, IsDecided as IsChangeDecided, IsWatched as IsChangeWatched, FindsNoRoom as ChangeFindsNoRoom}
+use Rattle.engine.specs.declared.engine.Op.{Op}
+use Rattle.engine.specs.declared.engine.Op.TheVariants.{Read, Write}
+use Rattle.engine.specs.declared.engine.End.{End}
+use Rattle.engine.specs.declared.engine.End.TheVariants as ends
+use Rattle.engine.specs.declared.engine.Engine.{Engine}
+use Rattle.engine.specs.Engine.{wanted_by_op, taken_by_op, go_on, go_on_at}
+use Rattle.engine.specs.Fits.{SuitsOp, KeepsSuits}
+use Rattle.engine.specs.Core.{Caller, Core, current}
+use Rattle.engine.specs.Holding.{IsCalling, DoesCall, CallerFits, CoreHolds, TurnKeeps}
+use Rattle.engine.specs.Laws.{opened, OpenedHolds}
+use Rattle.engine.specs.Causes.{Doings, with_event_of, watched, watched_run, IsDecided, Decides, IsOwnLock, FindsNoRoom, HasReplyCause, HasGetCause, HasChangeCause, HasCause, EndsHaveCauses}
+use Rattle.engine.proofs.Ways.{read_value, go_on_by}
+use Rattle.engine.proofs.Places.{zip_at}
+use Rattle.engine.proofs.Turning.{run_keeps}
+use Rattle.engine.proofs.Powered.{run_powered, restart_powered}
+use Rattle.engine.proofs.Doing.{watching, ReadDid, done_next, WriteDid, OpDid, remembers, IsDoing, run_does, begin_doing}
+
+-- ---- words that are watched, in an image of this shape, by a hash
+abbrev IsWatchedBy : Shape → ℕ → List (ℕ × ℕ) → ℕ → Type 0
+IsWatchedBy g hash loads word = (word ≡ root_word)
+    ⊎ (((root : ℕ) × Has (root_word, root) loads × (word ≡ entry_word g hash root))
+    ⊎ ((segment : ℕ) × ((root : ℕ) × Has (entry_word g hash root, segment) loads) × ((word ≡ head_word g segment) ⊎ ((side : Side) × (word ≡ block g segment (bucket_of side hash))))))
+
+within_has : (xs ys : List (ℕ × ℕ)) → IsWithin xs ys → (p : ℕ × ℕ) → Has p xs → Has p ys
+within_has [] ys w p has = absurd has
+within_has (x ∷ xs) [] w p has = absurd w
+within_has (x ∷ xs) (y ∷ ys) (inl here) p (inl is) = inl (is ∙ here.0)
+within_has (x ∷ xs) (y ∷ ys) (inl here) p (inr has) = inr (within_has xs ys here.1 p has)
+within_has (x ∷ xs) (y ∷ ys) (inr later) p has = inr (within_has (x ∷ xs) ys later p has)
+
+head_or_lock : (g : Shape) (hash segment word : ℕ) → (word ≡ head_word g segment) ⊎ (word ≡ block g segment (bucket_of Home hash))
+    → (word ≡ head_word g segment) ⊎ ((side : Side) × (word ≡ block g segment (bucket_of side hash)))
+head_or_lock g hash segment word (inl is) = inl is
+head_or_lock g hash segment word (inr is) = inr (Home, is)
+
+get_watched : (op : ReadOp) (loads : List (ℕ × ℕ)) (word : ℕ) → ((p : ℕ × ℕ) → Has p (kept op) → Has p loads) → IsReadWatched op op.step word
+    → IsWatchedBy op.site.geometry op.hash loads word
+get_watched op loads word among (inl is) = inl is
+get_watched op loads word among (inr (inl at)) = inr (inl (at.0, among (root_word, at.0) at.1, at.2))
+get_watched op loads word among (inr (inr at)) =
+    inr (inr (at.0, (at.1.0, among (entry_word op.site.geometry op.hash at.1.0, at.0) at.1.2), head_or_lock op.site.geometry op.hash at.0 word at.2))
+
+change_watched : (t : Task) (k : Kept) (s : Step) (a : Ans) (loads : List (ℕ × ℕ)) (word : ℕ) → IsChangeWatched t k s a loads word → IsWatchedBy t.site.geometry t.hash loads word
+change_watched t k s a loads word (inl is) = inl is
+change_watched t k s a loads word (inr (inl at)) = inr (inl (k.root, at.1, at.0))
+change_watched t k s a loads word (inr (inr (inl at))) = inr (inr (k.segment, (k.root, at.1), inl at.0))
+change_watched t k s a loads word (inr (inr (inr at))) = inr (inr (k.segment, (k.root, at.2), inr (at.0, at.1)))
+
+-- ---- what an event of a change finds is the newest value
+lost_finds : (words : Words) (i x y word seen : ℕ) (b : Bool) → Finds (want.Exchange i x y) (cond b Won (Lost (words i))) word seen → words word ≡ seen
+lost_finds words i x y word seen true none = absurd none
+lost_finds words i x y word seen false f = sym (ap words f.0) ∙ f.1
+
+finds_newest : (g : Shape) (words : Words) (w : Want) (word seen : ℕ) → Finds w (answer_to w (words (word_of g w))) word seen → words word ≡ seen
+finds_newest g words (want.Load i) word seen f = sym (ap words f.0) ∙ f.1
+finds_newest g words (want.Exchange i x y) word seen f = lost_finds words i x y word seen (words i == x) f
+finds_newest g words w word seen none = absurd none
+
+lost_honest : (i x y n : ℕ) (b : Bool) → (n == x) ≡ b → IsHonest (want.Exchange i x y) (cond b Won (Lost n))
+lost_honest i x y n true is = tt
+lost_honest i x y n false is = λ e. eqb-false n x is (sym e)
+
+honest : (w : Want) (n : ℕ) → IsHonest w (answer_to w n)
+honest (want.Exchange i x y) n = lost_honest i x y n (n == x) refl
+honest w n = tt
+
+-- ---- where a change is answered its segment is the first
+either_decided : (b : Bool) (s u : Step) (e : WriteEnd) → (IsChangeDecided s e → ⊥) → (IsChangeDecided u e → ⊥) → IsChangeDecided (cond b s u) e → ⊥
+either_decided true s u e p q f = p f
+either_decided false s u e p q f = q f
+
+no_reply : (r : Reply) (place : ℕ) (end : WriteEnd) → (end ≡ Off) ⊎ ((why : Why) × (end ≡ Again why)) → end ≡ Replied r place → ⊥
+no_reply r place end (inl off) is = let same : Off ≡ Replied r place = sym off ∙ is in absurd (cc)
+no_reply r place end (inr (why, told)) is = let same : Again why ≡ Replied r place = sym told ∙ is in absurd (cc)
+
+side_first : (t : Task) (k : Kept) (v : View) (side : Side) → SuitsStep t k (LookAt side) v → k.segment ≡ 0
+side_first t k v Home suits = suits.1
+side_first t k v Probing suits = suits.1
+
+first_at : (t : Task) (k : Kept) (v : View) (s : Step) (a : Ans) (r : Reply) (place : ℕ) → SuitsStep t k s v → ((e : WriteEnd) → IsChangeDecided s e → ⊥)
+    → IsChangeDecided (step_after t k s a) (Replied r place) → k.segment ≡ 0
+first_at t k v AskPower (Value n) r place suits still d =
+    absurd (either_decided (n == 0) LoadRoot (Ended Off) (Replied r place) (λ f. f) (λ f. no_reply r place Off (inl refl) f) d)
+first_at t k v LoadRoot (Value n) r place suits still d =
+    absurd (either_decided (nat_le n t.site.geometry.depth) LoadEntry (seen_at root_word n) (Replied r place) (λ f. f)
+    (λ f. no_reply r place (Again (Moved root_word n n)) (inr (Moved root_word n n, refl)) f) d)
+first_at t k v LoadEntry (Value n) r place suits still d =
+    let word : ℕ = entry_word t.site.geometry t.hash k.root in
+    absurd (either_decided (nat_lt n t.site.geometry.segments) LoadHead (seen_at word n) (Replied r place) (λ f. f)
+    (λ f. no_reply r place (Again (Moved word n n)) (inr (Moved word n n, refl)) f) d)
+first_at t k v AskPower a r place suits still d = absurd d
+first_at t k v LoadRoot a r place suits still d = absurd d
+first_at t k v LoadEntry a r place suits still d = absurd d
+first_at t k v LoadHead a r place suits still d = suits.1
+first_at t k v (LookAt side) a r place suits still d = side_first t k v side suits
+first_at t k v (TryLock side) a r place suits still d = side_first t k v side suits
+first_at t k v (CountSpent side) a r place suits still d = side_first t k v side suits
+first_at t k v RootAgain a r place suits still d = suits.0.first
+first_at t k v EntryAgain a r place suits still d = suits.0.first
+first_at t k v HeadAgain a r place suits still d = suits.0.first
+first_at t k v (LoadWord at) a r place suits still d = suits.0.first
+first_at t k v LoadCount a r place suits still d = suits.0.first
+first_at t k v CountFull a r place suits still d = suits.0.first
+first_at t k v (Make point) a r place suits still d = suits.both.first
+first_at t k v (GiveBack held end) a r place suits still d = absurd (still end refl)
+first_at t k v (Ended end) a r place suits still d = absurd (still end refl)
+
+-- no lock is given back without a slot
+gives_no_slot : (t : Task) (k : Kept) (s : Step) (loads : List (ℕ × ℕ)) → KnowsIn t k s loads → IsChangeDecided s NoSlot → s ≡ Ended NoSlot
+gives_no_slot t k (GiveBack held end) loads knows is = absurd (subst (λ e. KnowsIn t k (GiveBack held e) loads) is knows)
+gives_no_slot t k (Ended end) loads knows is = ap Ended is
+gives_no_slot t k s loads knows f = absurd f
+
+task_kept : (op : WriteOp) (answers : List Ans) → (after_all op answers).task ≡ op.task
+task_kept op [] = refl
+task_kept op (a ∷ answers) = task_kept (write_taken op a) answers
+
+-- ---- in a world, for the caller with this view, whose attempt did this
+-- the laws of a change that are used
+pub record ChangeCauses : Type 0 where
+  pub keeps : KeepsLoads
+  pub refuses : RefusalRemembers
+  pub stays : EndsStay
+  pub causes : EndsByCause
+  pub others : AgainByOthers
+  pub in_world : EndsSoundly
+  pub current : NeverStale
+
+module _ (laws : ChangeCauses) (site : Site) (here : Here) (call : Call) (words : Words) (views : List View) (j : ℕ) (before v : View)
+    (h : Holds site words views) (at : At views j v) (version : here.version ≡ site.front state_word % 2 ^ 8)
+    (powered : words (power_word site.shape) ≡ 0) (d : Doings) where
+  abbrev Own : ℕ → Type 0
+  Own word = IsOwnLock site.shape words d call word
+
+  abbrev hash_here : ℕ
+  hash_here = key_hash site.shape (key_for call)
+
+  which_own : (side : Side) (word : ℕ) → word ≡ bucket_at site.shape 0 (bucket_of side hash_here) → Own word
+  which_own Home word is = inl is
+  which_own Probing word is = inr is
+
+  -- ---- a get
+  module _ (op : ReadOp) (suits : SuitsOp site here call (Read op) before v) (asks : read_wanted op ≢ want.Done) (did : ReadDid op d) where
+    abbrev read : ℕ
+    read = read_finds site op words
+
+    abbrev found : ℕ
+    found = words (word_of site.shape (read_wanted op))
+
+    read_is : read ≡ found
+    read_is = ap (λ x. words (word_of site.shape x)) (sym (wants_by_kind site op suits.2 asks))
+
+    get_hash : op.hash ≡ hash_here
+    get_hash = suits.2.hash ∙ ap (λ c. key_hash site.shape (key_for c)) (sym suits.0)
+
+    get_by : (end : ReadEnd) → (read_taken op (Value read)).step ≡ reads.Ended end → HasGetCause site.shape words d call end
+    get_by (read_end.Found value place) so = tt
+    get_by (read_end.Absent place) so = tt
+    get_by (read_end.Again (Busy word value)) so =
+        let b = (read_soundly site op words views j v h at suits.2 suits.3 suits.4.held asks).busy word value so in record {
+          own = inl (b.1 ∙ ap (λ c. home_at site.shape (key_for c)) (sym suits.0));
+          newest = b.2;
+          odd = b.3;
+          by_others = λ has. subst (λ cs. Has word cs) did.none has;
+        }
+    get_by (read_end.Again (Moved word old new)) so =
+        let m = (read_soundly site op words views j v h at suits.2 suits.3 suits.4.held asks).moved word old new so in
+        let among = within_has (kept op) d.loads did.within in record {
+          watched = subst (λ m. IsWatchedBy site.shape m d.loads word) get_hash (subst (λ g. IsWatchedBy g op.hash d.loads word) suits.2.shape (get_watched op d.loads word among m.1));
+          loaded = among (word, old) m.0;
+          newest = m.2;
+          differ = m.3;
+          by_others = λ has. subst (λ cs. Has word cs) did.none has;
+        }
+    get_by (read_end.Stale segment byte) so =
+        read_never site op words views j v h at suits.2 suits.3 asks (ap (λ (s : Here). s.version) suits.1 ∙ version) segment byte so
+    get_by read_end.Off so =
+        let c = read_causes op read read_end.Off asks so in
+        c.off (read_is ∙ (ap (λ x. words (word_of site.shape x)) c.loads ∙ powered))
+
+    get_cause : (end : ReadEnd) → (read_taken op (answer_to (read_wanted op) found)).step ≡ reads.Ended end → HasGetCause site.shape words d call end
+    get_cause end decides = get_by end (subst (λ n. (read_taken op (Value n)).step ≡ reads.Ended end) (sym read_is)
+        (subst (λ a. (read_taken op a).step ≡ reads.Ended end) (read_value op op.step found asks) decides))
+
+  -- ---- a change
+  module _ (op : WriteOp) (suits : SuitsOp site here call (Write op) before v) (did : WriteDid op d) (still : (e : WriteEnd) → IsChangeDecided op.step e → ⊥) where
+    abbrev answer : Ans
+    answer = answer_to (write_wanted op) (words (word_of op.task.site.geometry (write_wanted op)))
+
+    abbrev next : WriteOp
+    next = write_taken op answer
+
+    remembered : WriteDid op d → Remembers op d.loads
+    remembered (inl has) = remembers laws.keeps laws.refuses laws.stays op d has
+    remembered (inr (inl full)) = full.1
+    remembered (inr (inr one)) = absurd (still (Replied one.0 one.1) one.2)
+
+    running : IsRunning site op words d.loads views j before v
+    running = record { holds = h; seat = at; is_in = suits.2; suits = suits.4; remembers = remembered did; open_still = still }
+
+    caused : (end : WriteEnd) → IsChangeDecided next.step end → Caused op answer d.loads end
+    caused end so = laws.causes op answer d.loads end (remembered did) (honest (write_wanted op) (words (word_of op.task.site.geometry (write_wanted op)))) still so
+
+    -- a refusal for want of room is a reply
+    refusal_replies : (end : WriteEnd) → op.step ≡ CountFull → IsChangeDecided next.step end → (place : ℕ) × (Replied (no_room op.task.site) place ≡ end)
+    refusal_replies end full so = (
+      words (counter_word op.task.site.geometry),
+      subst (λ s. IsChangeDecided (step_after op.task op.kept s (answer_to (wanted_of op.task op.kept s) (words (word_of op.task.site.geometry (wanted_of op.task op.kept s))))) end) full so,
+    )
+
+    not_by_this : WriteDid op d → (why : Why) → IsChangeDecided next.step (Again why) → Has (told_word why) d.changed → ⊥
+    not_by_this (inl has) why so new =
+        let same : op.task ≡ (write_begun has.call has.here).task = ap (λ (o : WriteOp). o.task) has.op_is ∙ task_kept (write_begun has.call has.here) has.answers in
+        let a : Ans = answer in
+        laws.others has.call has.here has.answers a why (subst (λ (t : Task). IsShape t.site.geometry) same suits.2.inside.shape) (subst (λ (t : Task). key_for t.call < 2 ^ 64) same suits.3.key)
+        (subst (λ (o : WriteOp). (e : WriteEnd) → IsChangeDecided o.step e → ⊥) has.op_is still) (subst (λ o. IsChangeDecided (write_taken o a).step (Again why)) has.op_is so)
+        (subst (λ cs. Has (told_word why) cs) has.changed_are new)
+    not_by_this (inr (inl full)) why so new = let r = refusal_replies (Again why) full.0 so in let same : Replied (no_room op.task.site) r.0 ≡ Again why = r.1 in absurd (cc)
+    not_by_this (inr (inr one)) why so new = absurd (still (Replied one.0 one.1) one.2)
+
+    -- a change that is to end without a slot goes on
+    goes_on : WriteDid op d → IsChangeDecided next.step NoSlot → next.step ≡ Ended NoSlot
+    goes_on (inl has) so =
+        let r = remembers laws.keeps laws.refuses laws.stays next (with_event_of (write_wanted op) answer d) (done_next op d answer has) in
+        gives_no_slot next.task next.kept next.step (with_event_of (write_wanted op) answer d).loads r.knows so
+    goes_on (inr (inl full)) so = let r = refusal_replies NoSlot full.0 so in let same : Replied (no_room op.task.site) r.0 ≡ NoSlot = r.1 in absurd (cc)
+    goes_on (inr (inr one)) so = absurd (still (Replied one.0 one.1) one.2)
+
+    change_hash : op.task.hash ≡ hash_here
+    change_hash = suits.2.hash ∙ ap (λ c. key_hash site.shape (key_for c)) suits.0
+
+    lock_is_own : (side : Side) → op.kept.segment ≡ 0 → lock_word op.task op.kept side ≡ bucket_at site.shape 0 (bucket_of side hash_here)
+    lock_is_own side first =
+        ap (λ s. block op.task.site.geometry s (bucket_of side op.task.hash)) first
+        ∙ (ap (λ g. block g 0 (bucket_of side op.task.hash)) suits.2.shape
+        ∙ (ap (λ b. cond b (bucket_at site.shape 0 (bucket_of side op.task.hash)) root_word) (lt-ltb 0 site.shape.segments (let one = h.site_is.front.one_segment in omega (arith, one)))
+        ∙ ap (λ m. bucket_at site.shape 0 (bucket_of side m)) change_hash))
+
+    full_bucket : op.kept.segment ≡ 0 → ChangeFindsNoRoom op.task op.kept d.loads → FindsNoRoom site.shape words d call
+    full_bucket first f = record {
+      insert = subst IsInsert suits.0 f.inserts;
+      meta = slice_index op.kept.words 1;
+      loaded = subst (λ l. Has (l + 1, slice_index op.kept.words 1) d.loads) (lock_is_own Home first) (f.absent.loaded 1 (omega arith) (omega arith));
+      taken = f.full;
+      others = λ slot low. (
+        slice_index op.kept.words (4 + 2 * slot),
+        subst (λ l. Has (l + (4 + 2 * slot), slice_index op.kept.words (4 + 2 * slot)) d.loads) (lock_is_own Home first) (f.absent.loaded (4 + 2 * slot) (omega arith) (omega (arith, low))),
+        (λ same. f.absent.nowhere slot low (record { taken = f.full slot low; has_key = same ∙ sym (ap key_for suits.0) })),
+      );
+    }
+
+    reply_by : (r : Reply) (place : ℕ) → op.kept.segment ≡ 0 → Answers op.task op.kept op.step answer d.loads r place → HasReplyCause site.shape words d call r
+    reply_by Full place first c = (full_bucket first c.1, λ none. c.2 (ap (λ (g : Shape). g.depth) suits.2.shape ∙ none))
+    reply_by Deep place first c = (full_bucket first c.1, sym (ap (λ (g : Shape). g.depth) suits.2.shape) ∙ c.2)
+    reply_by Spent place first c = elim c.1 [
+      | inl most ↦
+          let newest = ap (λ g. words (counter_word g)) (sym suits.2.shape) ∙ finds_newest op.task.site.geometry words (write_wanted op) (counter_word op.task.site.geometry) place c.0 in
+          inl (subst (λ z. 2 ^ 63 ≤ z) (sym newest) most)
+      | inr last ↦ inr (lock_word op.task op.kept last.0, which_own last.0 (lock_word op.task op.kept last.0) (lock_is_own last.0 first), last.1)
+    ]
+    reply_by r place first c = tt
+
+    watched_by : (word old new : ℕ) → Caused op answer d.loads (Again (Moved word old new)) → IsChangeWatched op.task op.kept op.step answer d.loads word
+    watched_by word old new (inl c) = c.watched
+    watched_by word old new (inr c) = c.watched
+
+    never_off : Caused op answer d.loads Off → ⊥
+    never_off (inl off) =
+        let told : answer ≡ Value (words (power_word op.task.site.geometry)) = ap (λ w. answer_to w (words (word_of op.task.site.geometry w))) off.1 in
+        let both : Value off.0 ≡ Value (words (power_word op.task.site.geometry)) = sym off.2 ∙ told in
+        let value : off.0 ≡ words (power_word op.task.site.geometry) = cc in
+        off.3 (value ∙ (ap (λ g. words (power_word g)) suits.2.shape ∙ powered))
+    never_off (inr get) = absurd (subst IsChange get.1 suits.2.change)
+
+    change_by : (end : WriteEnd) → (next.step ≡ Ended NoSlot → ⊥) → IsChangeDecided next.step end → HasChangeCause site.shape words d call end
+    change_by (Replied r place) on so = reply_by r place (first_at op.task op.kept v op.step answer r place suits.4.view still so) (caused (Replied r place) so)
+    change_by NoSlot on so = on (goes_on did so)
+    change_by (Again (Busy word value)) on so =
+        let b = (laws.in_world site op words d.loads views j before v running).busy word value so in record {
+          own = subst (λ c. IsOwnLock site.shape words d c word) suits.0 b.1;
+          newest = b.2;
+          odd = b.3;
+          by_others = not_by_this did (Busy word value) so;
+        }
+    change_by (Again (Moved word old new)) on so =
+        let m = (laws.in_world site op words d.loads views j before v running).moved word old new so in
+        let w = change_watched op.task op.kept op.step answer d.loads word (watched_by word old new (caused (Again (Moved word old new)) so)) in record {
+          watched = subst (λ m. IsWatchedBy site.shape m d.loads word) change_hash (subst (λ g. IsWatchedBy g op.task.hash d.loads word) suits.2.shape w);
+          loaded = m.0;
+          newest = m.1;
+          differ = m.2;
+          by_others = not_by_this did (Moved word old new) so;
+        }
+    change_by (Stale segment byte) on so =
+        laws.current site op words d.loads views j before v running (ap (λ (s : Here). s.version) suits.1 ∙ version) segment byte so
+    change_by Off on so = never_off (caused Off so)
+
+    change_cause : (end : WriteEnd) → IsChangeDecided (go_on (write_taken op (answer_to (write_wanted op) (words (word_of site.shape (write_wanted op)))))).step end
+        → HasChangeCause site.shape words d call end
+    change_cause end decides =
+        let here_so : IsChangeDecided (go_on next).step end
+        = subst (λ g. IsChangeDecided (go_on (write_taken op (answer_to (write_wanted op) (words (word_of g (write_wanted op)))))).step end) (sym suits.2.shape) decides in
+        elim (go_on_by next next.step) [
+          | inl is ↦ absurd (subst (λ s. IsChangeDecided (go_on_at next s).step end) is here_so)
+          | inr on ↦ change_by end on.0 (subst (λ (o : WriteOp). IsChangeDecided o.step end) on.1 here_so)
+        ]
+
+  op_cause : (op : Op) (end : End) → SuitsOp site here call op before v → wanted_by_op op ≢ want.Done → OpDid op d → ((other : End) → IsDecided op other → ⊥)
+      → IsDecided (taken_by_op op (answer_to (wanted_by_op op) (words (word_of site.shape (wanted_by_op op))))) end → HasCause site.shape words d call end
+  op_cause (Read op) (ends.Read end) suits asks did still decides = get_cause op suits asks did end decides
+  op_cause (Write op) (ends.Write end) suits asks did still decides = change_cause op suits did (λ e is. still (ends.Write e) is) end decides
+  op_cause (Read op) (ends.Write end) suits asks did still decides = absurd decides
+  op_cause (Write op) (ends.Read end) suits asks did still decides = absurd decides
+
+-- ---- in a core that holds
+module _ (laws : ChangeCauses) (site : Site) (start : Words) (core : Core) (h : CoreHolds site start core) (version : ℕ) (current_is : version ≡ site.front state_word % 2 ^ 8)
+    (powered : core.words (power_word site.shape) ≡ 0) where
+  core_cause : (j : ℕ) (c : Caller) (call : Call) (e : Engine) (end : End) (d : Doings) → slice_get core.callers j ≡ Some c → current c ≡ Some call → c.engine ≡ Some e
+      → IsDoing version c d → Decides site.shape core.words e end → HasCause site.shape core.words d call end
+  core_cause j c call e end d there calls runs doing decides =
+      let z = zip_at (CallerFits site) core.callers h.views j c h.each there in
+      let calling : IsCalling site c e z.0 = subst (λ o. DoesCall site c o z.0) runs z.2.does in
+      let same : calling.call ≡ call = same_Some calling.call call (sym calling.is_current ∙ calls) in
+      subst (λ x. HasCause site.shape core.words d x end) same
+      (op_cause laws site c.site calling.call core.words (fresh_view 0 ∷ h.views) (suc j) calling.before z.0 h.well.holds z.1 (doing.version_is ∙ current_is) powered d e.op end
+      calling.suits.suits calling.suits.asks (doing.did e runs) decides.undecided decides.decides)
+
+pub ends_have_causes : ChangeCauses → OpenedHolds → KeepsSuits → TurnKeeps → EndsStarted → EndsHaveCauses
+ends_have_causes laws opens suits keeps started shape words image scripts are turns j c call e end there calls runs decides =
+    let site : Site = site_of shape words (length scripts) in
+    let first : Core = opened shape words scripts in
+    let version : ℕ = words_at_end shape words state_word in
+    let begins : CoreHolds site (slice_index words) first = opens shape words scripts image are in
+    let same = sym (watching shape (watched first) turns) in
+    let held : CoreHolds site (slice_index words) (watched_run shape turns (watched first)).core
+    = subst (λ core. CoreHolds site (slice_index words) core) same (run_keeps keeps site (slice_index words) first turns begins) in
+    let powered : (watched_run shape turns (watched first)).core.words (power_word shape) ≡ 0
+    = subst (λ (core : Core). core.words (power_word shape) ≡ 0) same (run_powered suits keeps site (slice_index words) first turns begins (restart_powered shape words image)) in
+    let is_current : version ≡ version % 2 ^ 8 = let s = started shape words image in let state = s.state in let fits = s.fits in omega (arith, state, fits) in
+    core_cause laws site (slice_index words) (watched_run shape turns (watched first)).core held version is_current powered j c call e end ((watched_run shape turns (watched first)).doings j) there calls runs
+    (run_does laws.keeps laws.refuses laws.stays shape version (watched first) turns (λ i x at. begin_doing shape version 1 scripts i x at) j c there) decides

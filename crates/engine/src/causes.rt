@@ -1,0 +1,22 @@
+//! By what each attempt ends, over all turns. The function does nothing: it stands for the laws that its contract says.
+
+ghost use Rattle.engine.specs.Causes.{BeginsUndecided, DecidedStays, EndsAreDecided, WatchingChangesNothing, EndsHaveCauses};
+
+use crate::{laws, turns};
+
+/// Each end of an attempt is decided by one of its events. Whatever calls up to 64 callers have and whatever turns they take, where
+/// the next event of a caller decides how its attempt ends, the cause of that end is there: in what this attempt itself loaded and
+/// changed, and in the newest words. To keep account of what each attempt did changes nothing of the core.
+pub fn ends_have_causes()
+    ensures begins { BeginsUndecided }
+    ensures stays { DecidedStays }
+    ensures ends { EndsAreDecided }
+    ensures watching { WatchingChangesNothing }
+    ensures causes { EndsHaveCauses }
+{
+    laws::fits_the_world();
+    turns::opened_holds();
+    turns::turn_keeps();
+    restart_op::restart_begins();
+    write_op::ends_have_causes();
+}
