@@ -125,8 +125,8 @@ no_reply r place end (inl off) is = let same : Off ≡ Replied r place = sym off
 no_reply r place end (inr (why, told)) is = let same : Again why ≡ Replied r place = sym told ∙ is in absurd (cc)
 
 side_first : (t : Task) (k : Kept) (v : View) (side : Side) → SuitsStep t k (LookAt side) v → k.segment ≡ 0
-side_first t k v Home suits = suits.1
-side_first t k v Probing suits = suits.1
+side_first t k v Home suits = suits.1.first
+side_first t k v Probing suits = suits.1.first
 
 first_at : (t : Task) (k : Kept) (v : View) (s : Step) (a : Ans) (r : Reply) (place : ℕ) → SuitsStep t k s v → ((e : WriteEnd) → IsChangeDecided s e → ⊥)
     → IsChangeDecided (step_after t k s a) (Replied r place) → k.segment ≡ 0
@@ -146,13 +146,13 @@ first_at t k v LoadHead a r place suits still d = suits.1
 first_at t k v (LookAt side) a r place suits still d = side_first t k v side suits
 first_at t k v (TryLock side) a r place suits still d = side_first t k v side suits
 first_at t k v (CountSpent side) a r place suits still d = side_first t k v side suits
-first_at t k v RootAgain a r place suits still d = suits.0.first
-first_at t k v EntryAgain a r place suits still d = suits.0.first
-first_at t k v HeadAgain a r place suits still d = suits.0.first
-first_at t k v (LoadWord at) a r place suits still d = suits.0.first
-first_at t k v LoadCount a r place suits still d = suits.0.first
-first_at t k v CountFull a r place suits still d = suits.0.first
-first_at t k v (Make point) a r place suits still d = suits.both.first
+first_at t k v RootAgain a r place suits still d = suits.0.first.first
+first_at t k v EntryAgain a r place suits still d = suits.0.first.first
+first_at t k v HeadAgain a r place suits still d = suits.0.first.first
+first_at t k v (LoadWord at) a r place suits still d = suits.0.first.first
+first_at t k v LoadCount a r place suits still d = suits.0.first.first
+first_at t k v CountFull a r place suits still d = suits.0.first.first
+first_at t k v (Make point) a r place suits still d = suits.both.first.first
 first_at t k v (GiveBack held end) a r place suits still d = absurd (still end refl)
 first_at t k v (Ended end) a r place suits still d = absurd (still end refl)
 
@@ -250,7 +250,7 @@ module _ (laws : ChangeCauses) (site : Site) (here : Here) (call : Call) (words 
     running = record { holds = h; seat = at; is_in = suits.2; suits = suits.4; remembers = remembered did; open_still = still }
 
     caused : (end : WriteEnd) → IsChangeDecided next.step end → Caused op answer d.loads end
-    caused end so = laws.causes op answer d.loads end (remembered did) (honest (write_wanted op) (words (word_of op.task.site.geometry (write_wanted op)))) still so
+    caused end so = laws.causes op answer d.loads end suits.2.change (remembered did) (honest (write_wanted op) (words (word_of op.task.site.geometry (write_wanted op)))) still so
 
     -- a refusal for want of room is a reply
     refusal_replies : (end : WriteEnd) → op.step ≡ CountFull → IsChangeDecided next.step end → (place : ℕ) × (Replied (no_room op.task.site) place ≡ end)
@@ -301,8 +301,8 @@ module _ (laws : ChangeCauses) (site : Site) (here : Here) (call : Call) (words 
     }
 
     reply_by : (r : Reply) (place : ℕ) → op.kept.segment ≡ 0 → Answers op.task op.kept op.step answer d.loads r place → HasReplyCause site.shape words d call r
-    reply_by Full place first c = (full_bucket first c.1, λ none. c.2 (ap (λ (g : Shape). g.depth) suits.2.shape ∙ none))
-    reply_by Deep place first c = (full_bucket first c.1, sym (ap (λ (g : Shape). g.depth) suits.2.shape) ∙ c.2)
+    reply_by Full place first c = (full_bucket first c.2, λ none. c.3 (ap (λ (g : Shape). g.depth) suits.2.shape ∙ none))
+    reply_by Deep place first c = (full_bucket first c.2, sym (ap (λ (g : Shape). g.depth) suits.2.shape) ∙ c.3)
     reply_by Spent place first c = elim c.1 [
       | inl most ↦
           let newest = ap (λ g. words (counter_word g)) (sym suits.2.shape) ∙ finds_newest op.task.site.geometry words (write_wanted op) (counter_word op.task.site.geometry) place c.0 in
@@ -316,12 +316,11 @@ module _ (laws : ChangeCauses) (site : Site) (here : Here) (call : Call) (words 
     watched_by word old new (inr c) = c.watched
 
     never_off : Caused op answer d.loads Off → ⊥
-    never_off (inl off) =
+    never_off off =
         let told : answer ≡ Value (words (power_word op.task.site.geometry)) = ap (λ w. answer_to w (words (word_of op.task.site.geometry w))) off.1 in
         let both : Value off.0 ≡ Value (words (power_word op.task.site.geometry)) = sym off.2 ∙ told in
         let value : off.0 ≡ words (power_word op.task.site.geometry) = cc in
         off.3 (value ∙ (ap (λ g. words (power_word g)) suits.2.shape ∙ powered))
-    never_off (inr get) = absurd (subst IsChange get.1 suits.2.change)
 
     change_by : (end : WriteEnd) → (next.step ≡ Ended NoSlot → ⊥) → IsChangeDecided next.step end → HasChangeCause site.shape words d call end
     change_by (Replied r place) on so = reply_by r place (first_at op.task op.kept v op.step answer r place suits.4.view still so) (caused (Replied r place) so)
