@@ -16,7 +16,7 @@ use Rattle.sound_image.specs.Records.{key_hash}
 use Rattle.map_model.specs.declared.call.Call.{Call}
 use Rattle.map_model.specs.declared.entry.Reply.{Reply}
 use Rattle.map_model.specs.declared.entry.Reply.TheVariants.{Full, Deep, Spent}
-use Rattle.map_model.specs.Legal.{IsInsert, IsChange}
+use Rattle.map_model.specs.Legal.{IsInsert}
 use Rattle.bucket_words.specs.Tables.{home_at}
 use Rattle.world.specs.declared.site.Site.{Site as Here}
 use Rattle.world.specs.Site.{Site}
@@ -300,16 +300,21 @@ module _ (laws : ChangeCauses) (site : Site) (here : Here) (call : Call) (words 
       );
     }
 
-    reply_by : (r : Reply) (place : ℕ) → op.kept.segment ≡ 0 → Answers op.task op.kept op.step answer d.loads r place → HasReplyCause site.shape words d call r
-    reply_by Full place first c = (full_bucket first c.2, λ none. c.3 (ap (λ (g : Shape). g.depth) suits.2.shape ∙ none))
-    reply_by Deep place first c = (full_bucket first c.2, sym (ap (λ (g : Shape). g.depth) suits.2.shape) ∙ c.3)
-    reply_by Spent place first c = elim c.1 [
+    reply_by : (r : Reply) (place : ℕ) → op.kept.segment ≡ 0 → IsChangeDecided next.step (Replied r place) → Answers op.task op.kept op.step answer d.loads r place
+        → HasReplyCause site.shape words d call r
+    reply_by Full place first so c =
+        let told = (laws.in_world site op words d.loads views j before v running).full place so in
+        (full_bucket first c.2, (op.kept.segment, op.kept.head, told.0, told.1), told.2)
+    reply_by Deep place first so c =
+        let told = (laws.in_world site op words d.loads views j before v running).deep place so in
+        (full_bucket first c.2, (op.kept.segment, op.kept.head, told.0, told.1))
+    reply_by Spent place first so c = elim c.1 [
       | inl most ↦
           let newest = ap (λ g. words (counter_word g)) (sym suits.2.shape) ∙ finds_newest op.task.site.geometry words (write_wanted op) (counter_word op.task.site.geometry) place c.0 in
           inl (subst (λ z. 2 ^ 63 ≤ z) (sym newest) most)
       | inr last ↦ inr (lock_word op.task op.kept last.0, which_own last.0 (lock_word op.task op.kept last.0) (lock_is_own last.0 first), last.1)
     ]
-    reply_by r place first c = tt
+    reply_by r place first so c = tt
 
     watched_by : (word old new : ℕ) → Caused op answer d.loads (Again (Moved word old new)) → IsChangeWatched op.task op.kept op.step answer d.loads word
     watched_by word old new (inl c) = c.watched
@@ -323,7 +328,7 @@ module _ (laws : ChangeCauses) (site : Site) (here : Here) (call : Call) (words 
         off.3 (value ∙ (ap (λ g. words (power_word g)) suits.2.shape ∙ powered))
 
     change_by : (end : WriteEnd) → (next.step ≡ Ended NoSlot → ⊥) → IsChangeDecided next.step end → HasChangeCause site.shape words d call end
-    change_by (Replied r place) on so = reply_by r place (first_at op.task op.kept v op.step answer r place suits.4.view still so) (caused (Replied r place) so)
+    change_by (Replied r place) on so = reply_by r place (first_at op.task op.kept v op.step answer r place suits.4.view still so) so (caused (Replied r place) so)
     change_by NoSlot on so = on (goes_on did so)
     change_by (Again (Busy word value)) on so =
         let b = (laws.in_world site op words d.loads views j before v running).busy word value so in record {

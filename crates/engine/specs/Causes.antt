@@ -8,7 +8,8 @@ use Rattle.op_core.specs.declared.why.Why.TheVariants.{Busy, Moved}
 use Rattle.hash_word.specs.Hash.{home_of, probing_of}
 use Rattle.bucket_meta.specs.Bucket.{allocated}
 use Rattle.trace.specs.Events.{Words}
-use Rattle.image_layout.specs.Places.{Shape, root_word, bucket_at}
+use Rattle.segment_head.specs.HeadWord.{state_in, depth_in, free}
+use Rattle.image_layout.specs.Places.{Shape, root_word, head_at, bucket_at}
 use Rattle.image_layout.specs.Volatile.{counter_word}
 use Rattle.sound_image.specs.Records.{key_hash}
 use Rattle.map_model.specs.declared.call.Call.{Call}
@@ -167,14 +168,26 @@ module _ (shape : Shape) (words : Words) (did : Doings) (call : Call) where
     pub taken : (slot : ℕ) → slot < 14 → allocated slot meta ≡ 1
     pub others : (slot : ℕ) → slot < 14 → (key : ℕ) × Has (home_at shape (key_for call) + (4 + 2 * slot), key) did.loads × (key ≢ key_for call)
 
+  -- the attempt loaded the header word of the segment in a slot, with this value
+  abbrev pub WasHead : ℕ → ℕ → Type 0
+  WasHead slot head = Has (head_at shape slot + 1, head) did.loads
+
+  -- the header that it loaded of its segment has such a depth
+  abbrev pub HasDepth : (ℕ → Type 0) → Type 0
+  HasDepth Passes = (segment : ℕ) × (head : ℕ) × WasHead segment head × Passes (depth_in head)
+
+  -- it loaded the header of each slot, and found none free
+  abbrev pub NoSlotIsFree : Type 0
+  NoSlotIsFree = (slot : ℕ) → slot < shape.segments → (head : ℕ) × WasHead slot head × (state_in head ≢ free)
+
   -- the commit counter has no place left, or the attempt loaded one of the two lock words as free with its last version
   abbrev pub IsSpent : Type 0
   IsSpent = (2 ^ 63 ≤ words (counter_word shape)) ⊎ ((lock : ℕ) × IsOwnLock lock × Has (lock, 2 ^ 64 - 2) did.loads)
 
   -- THE CAUSE of each reply; the other replies are those of the plain map, and have no more
   abbrev pub HasReplyCause : Reply → Type 0
-  HasReplyCause Full = FindsNoRoom × (shape.depth ≢ 0)
-  HasReplyCause Deep = FindsNoRoom × (shape.depth ≡ 0)
+  HasReplyCause Full = FindsNoRoom × HasDepth (λ depth. depth < shape.depth) × NoSlotIsFree
+  HasReplyCause Deep = FindsNoRoom × HasDepth (λ depth. depth ≡ shape.depth)
   HasReplyCause Spent = IsSpent
   HasReplyCause r = ⊤
 
@@ -213,8 +226,8 @@ abbrev pub CausesAreThere : Shape → Watched → Type 0
 CausesAreThere shape w = (j : ℕ) (caller : Caller) (call : Call) (e : Engine) (end : End) → slice_get w.core.callers j ≡ Some caller
     → current caller ≡ Some call → caller.engine ≡ Some e → Decides shape w.core.words e end → HasCause shape w.core.words (w.doings j) call end
 
--- EACH END HAS ITS CAUSE, over all turns: from every sound image that the program serves, whatever calls up to 64 callers have,
--- and whatever turns they take
+-- EACH END HAS ITS CAUSE, over all turns: from every sound image that may be played, whatever calls up to 64 callers have, and
+-- whatever turns they take
 abbrev pub EndsHaveCauses : Type 0
 EndsHaveCauses = (shape : Shape) (words : List ℕ) → IsPlayableImage shape words → (scripts : List (List Call)) → AreScripts scripts
     → (turns : List ℕ) → CausesAreThere shape (watched_run shape turns (watched (opened shape words scripts)))
