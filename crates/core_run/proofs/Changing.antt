@@ -36,7 +36,8 @@ use Rattle.write_op.specs.declared.control.Kept.{Kept}
 use Rattle.write_op.specs.declared.control.Task.{Task as Change}
 use Rattle.write_op.specs.declared.machine.WriteOp.{WriteOp}
 use Rattle.write_op.specs.Slots.{slot_with, slot_free}
-use Rattle.write_op.specs.Ways.{entry_word, head_word, lock_word, bucket_of, is_covering, sight_of}
+use Rattle.way.specs.Ways.{entry_word, head_word, is_covering}
+use Rattle.write_op.specs.Ways.{lock_word, bucket_of, sight_of}
 use Rattle.write_op.specs.Wanted.{key_for, wanted_of, wanted_at, free_of}
 use Rattle.write_op.specs.Taken.{give_up, after_head, after_look, inserting, changing, decided, step_after, kept_after}
 use Rattle.write_op.specs.Suits.{SuitsStep}

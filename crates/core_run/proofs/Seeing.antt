@@ -21,7 +21,8 @@ use Rattle.read_op.specs.declared.step.Second.TheVariants as again
 use Rattle.read_op.specs.declared.step.ReadStep.{ReadStep}
 use Rattle.read_op.specs.declared.step.ReadStep.TheVariants as reads
 use Rattle.read_op.specs.declared.op.ReadOp.{ReadOp}
-use Rattle.read_op.specs.Steps.{wanted_in, wanted_again, next_in, checked, is_live, covers, end_by, entry_word as read_entry, head_word as read_head, lock_word as read_lock}
+use Rattle.read_op.specs.Steps.{wanted_in, wanted_again, next_in, checked, is_live, end_by, lock_word as read_lock}
+use Rattle.way.specs.Ways.{entry_word, head_word, is_covering}
 use Rattle.core_run.specs.Alone.{IsSeen, ReadSees}
 
 pub either : {S : Type 0} (P : S → Type 0) (b : Bool) (s t : S) → P s → P t → P (cond b s t)
@@ -105,46 +106,46 @@ module _ (site : Site) (words : Words) (v : View) (h : Holds site words (fresh_v
     abbrev Sees : ReadStep → Type 0
     Sees s = ReadSees site.front words site_here hash s
 
-    entry_low : (root : ℕ) → root ≡ 0 → read_entry site_here hash root ≡ 32
+    entry_low : (root : ℕ) → root ≡ 0 → entry_word site.shape hash root ≡ 32
     entry_low root first =
         let low : entry_at 0 (index_of 0 hash) ≡ 32 = omega (arith, fits) in
-        ap (λ n. read_entry site_here hash n) first ∙ (ap (λ b. cond b (entry_at 0 (index_of 0 hash)) root_word) (le-leb 0 site.shape.depth (omega arith)) ∙ low)
+        ap (λ n. entry_word site.shape hash n) first ∙ (ap (λ b. cond b (entry_at 0 (index_of 0 hash)) root_word) (le-leb 0 site.shape.depth (omega arith)) ∙ low)
 
-    head_low : (segment : ℕ) → segment ≡ 0 → read_head site_here segment ≡ head_at site.shape 0 + 1
+    head_low : (segment : ℕ) → segment ≡ 0 → head_word site.shape segment ≡ head_at site.shape 0 + 1
     head_low segment first =
         let one = one_segment in
-        ap (λ n. read_head site_here n) first ∙ ap (λ b. cond b (head_at site.shape 0 + 1) root_word) (lt-ltb 0 site.shape.segments (omega (arith, one)))
+        ap (λ n. head_word site.shape n) first ∙ ap (λ b. cond b (head_at site.shape 0 + 1) root_word) (lt-ltb 0 site.shape.segments (omega (arith, one)))
 
     lock_low : (segment : ℕ) → segment ≡ 0 → read_lock site_here hash segment ≡ bucket_at site.shape 0 (home_of hash)
     lock_low segment first =
         let one = one_segment in
         ap (λ n. read_lock site_here hash n) first ∙ ap (λ b. cond b (bucket_at site.shape 0 (home_of hash)) root_word) (lt-ltb 0 site.shape.segments (omega (arith, one)))
 
-    same_entry : (root : ℕ) → root ≡ site.front root_word → words (read_entry site_here hash root) ≡ site.front (read_entry site_here hash root)
+    same_entry : (root : ℕ) → root ≡ site.front root_word → words (entry_word site.shape hash root) ≡ site.front (entry_word site.shape hash root)
     same_entry root is = let e = entry_low root (is ∙ root_none) in ap words e ∙ (entry_is ∙ ap site.front (sym e))
 
-    entry_none : (root : ℕ) → root ≡ site.front root_word → site.front (read_entry site_here hash root) ≡ 0
+    entry_none : (root : ℕ) → root ≡ site.front root_word → site.front (entry_word site.shape hash root) ≡ 0
     entry_none root is = ap site.front (entry_low root (is ∙ root_none)) ∙ h.site_is.front.entry
 
-    same_head : (segment : ℕ) → segment ≡ 0 → words (read_head site_here segment) ≡ site.front (read_head site_here segment)
+    same_head : (segment : ℕ) → segment ≡ 0 → words (head_word site.shape segment) ≡ site.front (head_word site.shape segment)
     same_head segment first = let e = head_low segment first in ap words e ∙ (head_is ∙ ap site.front (sym e))
 
     live : is_live head ≡ true
     live = or_left (state_in head == normal) (state_in head == splitting) (eq-eqb (state_in head) normal state_good)
 
-    covering : covers head hash ≡ true
+    covering : is_covering head hash ≡ true
     covering = and_from (nat_le (depth_in head) 64) (index_of (depth_in head) hash == pattern_in head)
         (let d = depth_none in le-leb (depth_in head) 64 (omega (arith, d)))
         (eq-eqb (index_of (depth_in head) hash) (pattern_in head) (top_none hash fits (depth_in head) depth_none ∙ sym pattern_none))
 
     -- the header leads on to the lock
-    headed : (root segment seen : ℕ) → seen ≡ head → root ≡ site.front root_word → segment ≡ site.front (read_entry site_here hash root) → segment ≡ 0
-        → seen ≡ site.front (read_head site_here segment) → Sees (next_in op (reads.Head root segment) seen)
+    headed : (root segment seen : ℕ) → seen ≡ head → root ≡ site.front root_word → segment ≡ site.front (entry_word site.shape hash root) → segment ≡ 0
+        → seen ≡ site.front (head_word site.shape segment) → Sees (next_in op (reads.Head root segment) seen)
     headed root segment seen is r s first good =
         not_so Sees (is_live seen && not (version_in seen == here.version)) _ _
         (and_right (is_live seen) (not (version_in seen == here.version)) (not_from_true (version_in seen == here.version) (eq-eqb (version_in seen) here.version (ap version_in is ∙ version_good))))
-        (so Sees (is_live seen && covers seen hash) _ _
-        (and_from (is_live seen) (covers seen hash) (ap is_live is ∙ live) (ap (λ n. covers n hash) is ∙ covering))
+        (so Sees (is_live seen && is_covering seen hash) _ _
+        (and_from (is_live seen) (is_covering seen hash) (ap is_live is ∙ live) (ap (λ n. is_covering n hash) is ∙ covering))
         (record { root = r; segment = s; head = good }))
 
     told : (value : Option ℕ) (place : ℕ) → Sees (reads.Ended (end_by value place))
@@ -157,11 +158,11 @@ module _ (site : Site) (words : Words) (v : View) (h : Holds site words (fresh_v
     looks_again found place again.Root i =
         so Sees (words root_word == found.path.root) (reads.Check found place again.Entry) _ (eq-eqb (words root_word) found.path.root (root_is ∙ sym i.is_path.root)) i
     looks_again found place again.Entry i =
-        so Sees (words (read_entry site_here hash found.path.root) == found.path.segment) (reads.Check found place again.Head) _
-        (eq-eqb (words (read_entry site_here hash found.path.root)) found.path.segment (same_entry found.path.root i.is_path.root ∙ sym i.is_path.segment)) i
+        so Sees (words (entry_word site.shape hash found.path.root) == found.path.segment) (reads.Check found place again.Head) _
+        (eq-eqb (words (entry_word site.shape hash found.path.root)) found.path.segment (same_entry found.path.root i.is_path.root ∙ sym i.is_path.segment)) i
     looks_again found place again.Head i =
-        so Sees (words (read_head site_here found.path.segment) == found.path.head) (reads.Check found place again.Lock) _
-        (eq-eqb (words (read_head site_here found.path.segment)) found.path.head
+        so Sees (words (head_word site.shape found.path.segment) == found.path.head) (reads.Check found place again.Lock) _
+        (eq-eqb (words (head_word site.shape found.path.segment)) found.path.head
         (same_head found.path.segment (i.is_path.segment ∙ entry_none found.path.root i.is_path.root) ∙ sym i.is_path.head)) i
     looks_again found place again.Lock i =
         let lock : ℕ = read_lock site_here hash found.path.segment in
@@ -174,12 +175,12 @@ module _ (site : Site) (words : Words) (v : View) (h : Holds site words (fresh_v
     read_goes reads.Root i = so Sees (nat_le (words root_word) site.shape.depth) (reads.Entry (words root_word)) _
         (let a = root_is in let b = root_none in le-leb (words root_word) site.shape.depth (omega (arith, a, b))) root_is
     read_goes (reads.Entry root) i =
-        let n : ℕ = words (read_entry site_here hash root) in
+        let n : ℕ = words (entry_word site.shape hash root) in
         so Sees (nat_lt n site.shape.segments) (reads.Head root n) _
         (let a = same_entry root i in let b = entry_none root i in let c = one_segment in lt-ltb n site.shape.segments (omega (arith, a, b, c))) (i, same_entry root i)
     read_goes (reads.Head root segment) i =
         let first : segment ≡ 0 = i.1 ∙ entry_none root i.0 in
-        headed root segment (words (read_head site_here segment)) (ap words (head_low segment first)) i.0 i.1 first (same_head segment first)
+        headed root segment (words (head_word site.shape segment)) (ap words (head_low segment first)) i.0 i.1 first (same_head segment first)
     read_goes (reads.Lock path) i =
         let first : path.segment ≡ 0 = i.segment ∙ entry_none path.root i.root in
         let lock : ℕ = read_lock site_here hash path.segment in

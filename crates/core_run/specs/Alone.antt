@@ -11,12 +11,13 @@ use Rattle.restart_op.specs.Closing.{left as close_left, events_of}
 use Rattle.read_op.specs.declared.step.Path.{Path}
 use Rattle.read_op.specs.declared.step.ReadStep.{ReadStep}
 use Rattle.read_op.specs.declared.step.ReadStep.TheVariants as reads
-use Rattle.read_op.specs.Steps.{entry_word as read_entry, head_word as read_head, lock_word as read_lock}
+use Rattle.read_op.specs.Steps.{lock_word as read_lock}
 use Rattle.write_op.specs.declared.control.Step.{Step}
 use Rattle.write_op.specs.declared.control.Step.TheVariants.{LoadEntry, LoadHead, LookAt, TryLock, RootAgain, EntryAgain, HeadAgain, GiveBack, Ended}
 use Rattle.write_op.specs.declared.control.Kept.{Kept}
 use Rattle.write_op.specs.declared.control.Task.{Task as Change}
-use Rattle.write_op.specs.Ways.{entry_word, head_word, lock_word}
+use Rattle.way.specs.Ways.{entry_word, head_word}
+use Rattle.write_op.specs.Ways.{lock_word}
 use Rattle.write_op.specs.Wanted.{free_of}
 use Rattle.engine.specs.declared.engine.Op.{Op}
 use Rattle.engine.specs.declared.engine.Op.TheVariants.{Read, Write}
@@ -44,8 +45,8 @@ module _ (front words : Words) where
   -- a get: the path that it saw is that of the words in front
   pub record IsPath (here : Here) (hash : ℕ) (path : Path) : Type 0 where
     pub root : path.root ≡ front root_word
-    pub segment : path.segment ≡ front (read_entry here hash path.root)
-    pub head : path.head ≡ front (read_head here path.segment)
+    pub segment : path.segment ≡ front (entry_word here.geometry hash path.root)
+    pub head : path.head ≡ front (head_word here.geometry path.segment)
 
   -- and the free value of the lock word is what that has now
   pub record IsSeen (here : Here) (hash : ℕ) (path : Path) (free : ℕ) : Type 0 where
@@ -57,7 +58,7 @@ module _ (front words : Words) where
   ReadSees here hash reads.Power = ⊤
   ReadSees here hash reads.Root = ⊤
   ReadSees here hash (reads.Entry root) = root ≡ front root_word
-  ReadSees here hash (reads.Head root segment) = (root ≡ front root_word) × (segment ≡ front (read_entry here hash root))
+  ReadSees here hash (reads.Head root segment) = (root ≡ front root_word) × (segment ≡ front (entry_word here.geometry hash root))
   ReadSees here hash (reads.Lock path) = IsPath here hash path
   ReadSees here hash (reads.Fill path free seen next) = IsSeen here hash path free
   ReadSees here hash (reads.Count found) = IsSeen here hash found.path found.free

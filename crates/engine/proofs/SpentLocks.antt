@@ -34,7 +34,8 @@ use Rattle.write_op.specs.declared.control.Kept.{Kept}
 use Rattle.write_op.specs.declared.control.Task.{Task}
 use Rattle.write_op.specs.declared.machine.WriteOp.{WriteOp}
 use Rattle.write_op.specs.Slots.{slot_with, slot_free}
-use Rattle.write_op.specs.Ways.{block, bucket_of, lock_word, sight_of}
+use Rattle.way.specs.Ways.{bucket_word}
+use Rattle.write_op.specs.Ways.{bucket_of, lock_word, sight_of}
 use Rattle.write_op.specs.Wanted.{wanted_of}
 use Rattle.write_op.specs.Taken.{give_up, after_head, after_look, after_loss, inserting, changing, decided, made, step_after, taken as write_taken}
 use Rattle.write_op.specs.Suits.{SuitsStep}
@@ -145,8 +146,8 @@ lock_at : (site : Site) → IsSite site → (t : Task) (k : Kept) (side : Side) 
 lock_at site good t k side place first = (
   bucket_of side t.hash,
   near side t.hash,
-  ap (λ s. block t.site.geometry s (bucket_of side t.hash)) first
-      ∙ (ap (λ g. block g 0 (bucket_of side t.hash)) place
+  ap (λ s. bucket_word t.site.geometry s (bucket_of side t.hash)) first
+      ∙ (ap (λ g. bucket_word g 0 (bucket_of side t.hash)) place
       ∙ ap (λ b. cond b (bucket_at site.shape 0 (bucket_of side t.hash)) root_word)
       (lt-ltb 0 site.shape.segments (let one = good.front.one_segment in omega (arith, one)))),
 )

@@ -27,7 +27,8 @@ use Rattle.write_op.specs.declared.machine.WriteOp.{WriteOp}
 use Rattle.engine.specs.declared.engine.Op.{Op}
 use Rattle.engine.specs.declared.engine.Op.TheVariants.{Read, Write}
 use Rattle.write_op.specs.Slots.{finger_place}
-use Rattle.write_op.specs.Ways.{block, bucket_of}
+use Rattle.way.specs.Ways.{bucket_word}
+use Rattle.write_op.specs.Ways.{bucket_of}
 use Rattle.write_op.specs.Wanted.{home_word, published_word, wanted_at, wanted_of}
 use Rattle.write_op.specs.Taken.{wanted as write_wanted}
 use Rattle.write_op.specs.Inside.{IsInside, AsksInside}
@@ -37,7 +38,7 @@ use Rattle.engine.specs.Asks.{IsWithin, AsksWithin}
 use Rattle.engine.proofs.Ways.{IsLoad, read_loads}
 
 -- the line of a word of a bucket
-block_line : (shape : Shape) → IsShape shape → (segment b at : ℕ) → b < 64 → at ≤ 31 → 8 * line_of (block shape segment b + at) + 8 ≤ words_of shape
+block_line : (shape : Shape) → IsShape shape → (segment b at : ℕ) → b < 64 → at ≤ 31 → 8 * line_of (bucket_word shape segment b + at) + 8 ≤ words_of shape
 block_line shape is segment b at bucket near =
     let some = is.some in
     elim (cases_Bool (nat_lt segment shape.segments)) [

@@ -14,10 +14,11 @@ use Rattle.read_op.specs.declared.step.Second.TheVariants as again
 use Rattle.read_op.specs.declared.step.ReadStep.{ReadStep}
 use Rattle.read_op.specs.declared.step.ReadStep.TheVariants.{Power, Root, Entry, Head, Lock, Fill, Count, Check, Ended}
 use Rattle.read_op.specs.declared.op.ReadOp.{ReadOp}
-use Rattle.read_op.specs.Steps.{wanted_in, wanted_again, entry_word, head_word, lock_word}
+use Rattle.way.specs.Ways.{entry_word, head_word}
+use Rattle.read_op.specs.Steps.{wanted_in, wanted_again, lock_word}
 use Rattle.read_op.specs.Budget.{AsksWithin}
 use Rattle.read_op.specs.Causes.{IsWatched}
-use Rattle.read_op.proofs.Indexes.{index_below}
+use Rattle.way.proofs.Indexes.{index_below}
 
 module _ (site : Site) (is : IsShape site.geometry) where
   root_within : (n : ℕ) → n < 32 → root_word + n < words_of site.geometry
@@ -33,7 +34,7 @@ module _ (site : Site) (is : IsShape site.geometry) where
       omega (arith, before)
   entry_by hash root fits false low = let first = root_within 0 (omega arith) in omega (arith, first)
 
-  entry_within : (hash root : ℕ) → hash < 2 ^ 64 → entry_word site hash root < words_of site.geometry
+  entry_within : (hash root : ℕ) → hash < 2 ^ 64 → entry_word site.geometry hash root < words_of site.geometry
   entry_within hash root fits = entry_by hash root fits _ refl
 
   head_by : (segment : ℕ) (b : Bool) → nat_lt segment site.geometry.segments ≡ b
@@ -49,9 +50,9 @@ module _ (site : Site) (is : IsShape site.geometry) where
   again_within : (op : ReadOp) → op.site ≡ site → op.hash < 2 ^ 64 → (found : Found) (at : Second) → word_of op.site.geometry (wanted_again op found at) < all_words_of op.site.geometry
   again_within op same fits found again.Root = subst (λ (t : Site). root_word < all_words_of t.geometry) (sym same) (let low = root_within 0 (omega arith) in omega (arith, low))
   again_within op same fits found again.Entry =
-      subst (λ (t : Site). entry_word t op.hash found.path.root < all_words_of t.geometry) (sym same) (let low = entry_within op.hash found.path.root fits in omega (arith, low))
+      subst (λ (t : Site). entry_word t.geometry op.hash found.path.root < all_words_of t.geometry) (sym same) (let low = entry_within op.hash found.path.root fits in omega (arith, low))
   again_within op same fits found again.Head =
-      subst (λ (t : Site). head_word t found.path.segment < all_words_of t.geometry) (sym same) (let low = head_by found.path.segment _ refl in omega (arith, low))
+      subst (λ (t : Site). head_word t.geometry found.path.segment < all_words_of t.geometry) (sym same) (let low = head_by found.path.segment _ refl in omega (arith, low))
   again_within op same fits found again.Lock =
       subst (λ (t : Site). lock_word t op.hash found.path.segment < all_words_of t.geometry) (sym same) (let low = lock_by op.hash found.path.segment 0 (omega arith) _ refl in omega (arith, low))
 

@@ -12,7 +12,8 @@ use Rattle.read_op.specs.declared.step.Second.TheVariants as again
 use Rattle.read_op.specs.declared.step.ReadStep.{ReadStep}
 use Rattle.read_op.specs.declared.step.ReadStep.TheVariants.{Power, Root, Entry, Head, Lock, Fill, Count, Check, Ended}
 use Rattle.read_op.specs.declared.op.ReadOp.{ReadOp}
-use Rattle.read_op.specs.Steps.{wanted_in, wanted_again, next_in, checked, value_of, moved, busy, end_by, end_of, entry_word, head_word, lock_word, is_live, covers}
+use Rattle.way.specs.Ways.{entry_word, head_word, is_covering}
+use Rattle.read_op.specs.Steps.{wanted_in, wanted_again, next_in, checked, value_of, moved, busy, end_by, end_of, lock_word, is_live}
 use Rattle.read_op.specs.Causes.{ReadsAlone, IsReading, IsDepth, IsNamed, CausedIn, EndsByCause}
 
 -- if it is an end, it has its cause
@@ -60,10 +61,10 @@ module _ (op : ReadOp) (found : Found) (place seen : ℕ) where
   again_caused again.Root = by op (Check found place again.Root) seen (seen == found.path.root) (Check found place again.Entry) (moved root_word found.path.root seen) (λ is. tt)
       (λ is. inl (record { loads = refl; finds = refl; watched = inl refl; was = inr (inr (inr (inr (inl refl)))); differ = λ e. eqb-false seen found.path.root is (sym e) }))
   again_caused again.Entry = by op (Check found place again.Entry) seen (seen == found.path.segment) (Check found place again.Head)
-      (moved (entry_word op.site op.hash found.path.root) found.path.segment seen) (λ is. tt)
+      (moved (entry_word op.site.geometry op.hash found.path.root) found.path.segment seen) (λ is. tt)
       (λ is. inl (record { loads = refl; finds = refl; watched = inr (inl (found.path.root, depth again.Entry, refl)); was = inr (inr (inr (inl refl))); differ = λ e. eqb-false seen found.path.segment is (sym e) }))
   again_caused again.Head = by op (Check found place again.Head) seen (seen == found.path.head) (Check found place again.Lock)
-      (moved (head_word op.site found.path.segment) found.path.head seen) (λ is. tt)
+      (moved (head_word op.site.geometry found.path.segment) found.path.head seen) (λ is. tt)
       (λ is. inl (record { loads = refl; finds = refl; watched = inr (inr (found.path.segment, named again.Head, inl refl)); was = inr (inr (inl refl)); differ = λ e. eqb-false seen found.path.head is (sym e) }))
   again_caused again.Lock =
       let rest : ReadStep = cond (seen == found.free) (Ended (end_of found place)) (moved lock found.free seen) in
@@ -86,17 +87,17 @@ caused_in : (op : ReadOp) (s : ReadStep) (seen : ℕ) → wanted_in op s ≢ Don
 caused_in op Power seen wants = by op Power seen (seen == 0) Root (Ended ends.Off) (λ is. tt) (λ is. record { loads = refl; off = eqb-false seen 0 is })
 caused_in op Root seen wants = by op Root seen (nat_le seen op.site.geometry.depth) (Entry seen) (moved root_word seen seen) (λ is. tt)
     (λ is. inr (record { loads = refl; watched = inl refl; before_is = refl; after_is = refl; amiss = let over = leb-false seen op.site.geometry.depth is in omega (arith, over) }))
-caused_in op (Entry root) seen wants = by op (Entry root) seen (nat_lt seen op.site.geometry.segments) (Head root seen) (moved (entry_word op.site op.hash root) seen seen) (λ is. tt)
+caused_in op (Entry root) seen wants = by op (Entry root) seen (nat_lt seen op.site.geometry.segments) (Head root seen) (moved (entry_word op.site.geometry op.hash root) seen seen) (λ is. tt)
     (λ is. inr (record { loads = refl; watched = inr (inl (root, inl refl, refl)); before_is = refl; after_is = refl; amiss = let over = ltb-false seen op.site.geometry.segments is in omega (arith, over) }))
 caused_in op (Head root segment) seen wants =
     let next : ReadStep = Lock (record { root = root; segment = segment; head = seen }) in
-    let ill : ReadStep = moved (head_word op.site segment) seen seen in
-    let fits = is_live seen && covers seen op.hash in
+    let ill : ReadStep = moved (head_word op.site.geometry segment) seen seen in
+    let fits = is_live seen && is_covering seen op.hash in
     by op (Head root segment) seen (is_live seen && not (version_in seen == op.site.version)) (Ended (ends.Stale segment (version_in seen))) (cond fits next ill)
     (λ is. let b = both_true (is_live seen) (version_in seen == op.site.version) is in
     record { loads = refl; named = (root, inr (inl refl), inl refl); live = b.0; version = refl; other = eqb-false (version_in seen) op.site.version b.1 })
     (λ is. by op (Head root segment) seen fits next ill (λ _. tt)
-    (λ bad. inr (record { loads = refl; watched = inr (inr (segment, (root, inr (inl refl), inl refl), inl refl)); before_is = refl; after_is = refl; amiss = both_false (is_live seen) (covers seen op.hash) bad })))
+    (λ bad. inr (record { loads = refl; watched = inr (inr (segment, (root, inr (inl refl), inl refl), inl refl)); before_is = refl; after_is = refl; amiss = both_false (is_live seen) (is_covering seen op.hash) bad })))
 caused_in op (Lock path) seen wants =
     by op (Lock path) seen (seen % 2 == 0) (Fill path seen (replicate 32 0) 1) (busy (lock_word op.site op.hash path.segment) seen) (λ is. tt)
     (λ is. record {

@@ -14,7 +14,8 @@ use Rattle.read_op.specs.declared.step.Second.TheVariants as again
 use Rattle.read_op.specs.declared.step.ReadStep.{ReadStep}
 use Rattle.read_op.specs.declared.step.ReadStep.TheVariants.{Power, Root, Entry, Head, Lock, Fill, Count, Check, Ended}
 use Rattle.read_op.specs.declared.op.ReadOp.{ReadOp}
-use Rattle.read_op.specs.Steps.{begun, wanted, taken, wanted_in, next_in, checked, value_of, moved, busy, end_of, entry_word, head_word, lock_word, is_live, covers}
+use Rattle.way.specs.Ways.{entry_word, head_word, is_covering}
+use Rattle.read_op.specs.Steps.{begun, wanted, taken, wanted_in, next_in, checked, value_of, moved, busy, end_of, lock_word, is_live}
 use Rattle.read_op.specs.Budget.{left, left_again, Falls, EndsInTime, after_all}
 
 both_most : (n : ℕ) (b : Bool) (s t : ReadStep) → left s ≤ n → left t ≤ n → left (if b then s else t) ≤ n
@@ -24,9 +25,9 @@ both_most n false s t p q = q
 checked_lowers : (op : ReadOp) (found : Found) (place : ℕ) (at : Second) (seen : ℕ) → left (checked op found place at seen) ≤ left_again at - 1
 checked_lowers op found place again.Root seen = both_most 3 (seen == found.path.root) (Check found place again.Entry) (moved root_word found.path.root seen) (omega arith) (omega arith)
 checked_lowers op found place again.Entry seen =
-    both_most 2 (seen == found.path.segment) (Check found place again.Head) (moved (entry_word op.site op.hash found.path.root) found.path.segment seen) (omega arith) (omega arith)
+    both_most 2 (seen == found.path.segment) (Check found place again.Head) (moved (entry_word op.site.geometry op.hash found.path.root) found.path.segment seen) (omega arith) (omega arith)
 checked_lowers op found place again.Head seen =
-    both_most 1 (seen == found.path.head) (Check found place again.Lock) (moved (head_word op.site found.path.segment) found.path.head seen) (omega arith) (omega arith)
+    both_most 1 (seen == found.path.head) (Check found place again.Lock) (moved (head_word op.site.geometry found.path.segment) found.path.head seen) (omega arith) (omega arith)
 checked_lowers op found place again.Lock seen =
     let lock = lock_word op.site op.hash found.path.segment in
     let last : ReadStep = if seen == found.free then Ended (end_of found place) else moved lock found.free seen in
@@ -42,11 +43,11 @@ lowers : (op : ReadOp) (s : ReadStep) (seen : ℕ) → left (next_in op s seen) 
 lowers op Power seen = both_most 40 (seen == 0) Root (Ended ends.Off) (omega arith) (omega arith)
 lowers op Root seen = both_most 39 (nat_le seen op.site.geometry.depth) (Entry seen) (moved root_word seen seen) (omega arith) (omega arith)
 lowers op (Entry root) seen =
-    both_most 38 (nat_lt seen op.site.geometry.segments) (Head root seen) (moved (entry_word op.site op.hash root) seen seen) (omega arith) (omega arith)
+    both_most 38 (nat_lt seen op.site.geometry.segments) (Head root seen) (moved (entry_word op.site.geometry op.hash root) seen seen) (omega arith) (omega arith)
 lowers op (Head root segment) seen =
     let next : ReadStep = Lock (record { root = root; segment = segment; head = seen }) in
-    let ill : ReadStep = moved (head_word op.site segment) seen seen in
-    let fits = is_live seen && covers seen op.hash in
+    let ill : ReadStep = moved (head_word op.site.geometry segment) seen seen in
+    let fits = is_live seen && is_covering seen op.hash in
     both_most 37 (is_live seen && not (version_in seen == op.site.version)) (Ended (ends.Stale segment (version_in seen))) (if fits then next else ill) (omega arith)
     (both_most 37 fits next ill (omega arith) (omega arith))
 lowers op (Lock path) seen =

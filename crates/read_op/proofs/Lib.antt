@@ -1,4 +1,3 @@
-pub mod Indexes
 pub mod LastTaken
 pub mod Falling
 pub mod Asked

@@ -12,7 +12,8 @@ use Rattle.read_op.specs.declared.step.Second.TheVariants as again
 use Rattle.read_op.specs.declared.step.ReadStep.{ReadStep}
 use Rattle.read_op.specs.declared.step.ReadStep.TheVariants.{Power, Root, Entry, Head, Lock, Fill, Count, Check, Ended}
 use Rattle.read_op.specs.declared.op.ReadOp.{ReadOp}
-use Rattle.read_op.specs.Steps.{begun, wanted_in, wanted_again, taken, next_in, checked, value_of, moved, busy, end_of, entry_word, head_word, lock_word, is_live, covers}
+use Rattle.way.specs.Ways.{entry_word, head_word, is_covering}
+use Rattle.read_op.specs.Steps.{begun, wanted_in, wanted_again, taken, next_in, checked, value_of, moved, busy, end_of, lock_word, is_live}
 use Rattle.read_op.specs.Budget.{after_all}
 use Rattle.read_op.specs.Causes.{kept_in, kept, loads_of, IsWithin, KeepsLoads}
 
@@ -30,9 +31,9 @@ module _ (op : ReadOp) (past : List (ℕ × ℕ)) where
       → IsWithin (kept_in op (checked op found place at seen)) ((word_of op.site.geometry (wanted_again op found at), seen) ∷ past)
   again_within found place again.Root seen within = either _ (seen == found.path.root) (Check found place again.Entry) (moved root_word found.path.root seen) (inr within) tt
   again_within found place again.Entry seen within =
-      either _ (seen == found.path.segment) (Check found place again.Head) (moved (entry_word op.site op.hash found.path.root) found.path.segment seen) (inr within) tt
+      either _ (seen == found.path.segment) (Check found place again.Head) (moved (entry_word op.site.geometry op.hash found.path.root) found.path.segment seen) (inr within) tt
   again_within found place again.Head seen within =
-      either _ (seen == found.path.head) (Check found place again.Lock) (moved (head_word op.site found.path.segment) found.path.head seen) (inr within) tt
+      either _ (seen == found.path.head) (Check found place again.Lock) (moved (head_word op.site.geometry found.path.segment) found.path.head seen) (inr within) tt
   again_within found place again.Lock seen within =
       let lock = lock_word op.site op.hash found.path.segment in
       let last : ReadStep = cond (seen == found.free) (Ended (end_of found place)) (moved lock found.free seen) in
@@ -42,11 +43,11 @@ module _ (op : ReadOp) (past : List (ℕ × ℕ)) where
   step_within Power seen within = either _ (seen == 0) Root (Ended ends.Off) tt tt
   step_within Root seen within = either _ (nat_le seen op.site.geometry.depth) (Entry seen) (moved root_word seen seen) (inl (refl, tt)) tt
   step_within (Entry root) seen within =
-      either _ (nat_lt seen op.site.geometry.segments) (Head root seen) (moved (entry_word op.site op.hash root) seen seen) (inl (refl, within)) tt
+      either _ (nat_lt seen op.site.geometry.segments) (Head root seen) (moved (entry_word op.site.geometry op.hash root) seen seen) (inl (refl, within)) tt
   step_within (Head root segment) seen within =
       let next : ReadStep = Lock (record { root = root; segment = segment; head = seen }) in
-      let ill : ReadStep = moved (head_word op.site segment) seen seen in
-      let fits = is_live seen && covers seen op.hash in
+      let ill : ReadStep = moved (head_word op.site.geometry segment) seen seen in
+      let fits = is_live seen && is_covering seen op.hash in
       either _ (is_live seen && not (version_in seen == op.site.version)) (Ended (ends.Stale segment (version_in seen))) (cond fits next ill) tt
       (either _ fits next ill (inl (refl, within)) tt)
   step_within (Lock path) seen within =

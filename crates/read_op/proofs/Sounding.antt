@@ -21,7 +21,8 @@ use Rattle.read_op.specs.declared.step.ReadEnd.TheVariants as ends
 use Rattle.read_op.specs.declared.step.ReadStep.{ReadStep}
 use Rattle.read_op.specs.declared.step.ReadStep.TheVariants.{Power, Root, Entry, Head, Lock, Fill, Count, Check, Ended}
 use Rattle.read_op.specs.declared.op.ReadOp.{ReadOp}
-use Rattle.read_op.specs.Steps.{wanted, is_live, covers, head_word, lock_word}
+use Rattle.way.specs.Ways.{is_covering, head_word}
+use Rattle.read_op.specs.Steps.{wanted, is_live, lock_word}
 use Rattle.read_op.specs.Fits.{IsIn, Suits, suits_in, kind_in, finds}
 use Rattle.read_op.specs.Causes.{IsWatched, IsAmiss, EndsSo, IsAnothers, IsSoundEnd, EndsSoundly, NeverStale, NeverBusy}
 use Rattle.read_op.proofs.Fitting.{home_lock, wants_in}
@@ -43,9 +44,9 @@ module _ (site : Site) (op : ReadOp) (is : IsIn site op) (words : Words) (views 
   few_segments : op.site.geometry.segments ≤ 1
   few_segments = subst (λ g. g.segments ≤ 1) (sym is.shape) (let one = h.site_is.front.one_segment in omega (arith, one))
 
-  head_is : (segment : ℕ) → segment ≡ 0 → words (head_word op.site segment) ≡ site.front (head_at site.shape 0 + 1)
+  head_is : (segment : ℕ) → segment ≡ 0 → words (head_word op.site.geometry segment) ≡ site.front (head_at site.shape 0 + 1)
   head_is segment first =
-      ap (λ n. words (head_word op.site n)) first
+      ap (λ n. words (head_word op.site.geometry n)) first
       ∙ (ap (λ b. words (cond b (head_at op.site.geometry 0 + 1) root_word)) (lt-ltb 0 op.site.geometry.segments some_segment)
       ∙ (ap (λ g. words (head_at g 0 + 1)) is.shape
       ∙ (table site op is words views j v h at).same_front (head_at site.shape 0 + 1) (omega arith)))
@@ -54,7 +55,7 @@ module _ (site : Site) (op : ReadOp) (is : IsIn site op) (words : Words) (views 
   is_alive = let state = h.site_is.front.is_normal in
       ap (λ b. b || (state_in (site.front (head_at site.shape 0 + 1)) == splitting)) (eq-eqb (state_in (site.front (head_at site.shape 0 + 1))) normal state)
 
-  covers_all : covers (site.front (head_at site.shape 0 + 1)) op.hash ≡ true
+  covers_all : is_covering (site.front (head_at site.shape 0 + 1)) op.hash ≡ true
   covers_all =
       let fits = is.fits in
       let top : index_of 0 op.hash ≡ 0 = omega (arith, fits) in
@@ -70,7 +71,7 @@ module _ (site : Site) (op : ReadOp) (is : IsIn site op) (words : Words) (views 
       let some = some_segment in
       omega (arith, amiss, zero, some)
   never_amiss (Head root segment) suits (inl dead) = false≢true (sym dead ∙ (ap is_live (head_is segment suits.1) ∙ is_alive))
-  never_amiss (Head root segment) suits (inr other) = false≢true (sym other ∙ (ap (λ n. covers n op.hash) (head_is segment suits.1) ∙ covers_all))
+  never_amiss (Head root segment) suits (inr other) = false≢true (sym other ∙ (ap (λ n. is_covering n op.hash) (head_is segment suits.1) ∙ covers_all))
   never_amiss (Lock path) suits amiss = elim amiss [ ]
   never_amiss (Fill path free ws next) suits amiss = elim amiss [ ]
   never_amiss (Count found) suits amiss = elim amiss [ ]
@@ -93,13 +94,13 @@ module _ (site : Site) (op : ReadOp) (is : IsIn site op) (words : Words) (views 
   ]
 
   -- a live header of a named segment is that of the only segment
-  only_live : (segment : ℕ) → is_live (words (head_word op.site segment)) ≡ true → segment ≡ 0
+  only_live : (segment : ℕ) → is_live (words (head_word op.site.geometry segment)) ≡ true → segment ≡ 0
   only_live segment live = elim (cases_lt segment op.site.geometry.segments) [
     | inl within ↦ let few = few_segments in omega (arith, within, few)
     | inr beyond ↦
         let none : nat_lt segment op.site.geometry.segments ≡ false = le-ltb segment op.site.geometry.segments beyond in
-        let zero : words (head_word op.site segment) ≡ 0 = ap (λ b. words (cond b (head_at op.site.geometry segment + 1) root_word)) none ∙ root_zero in
-        let dead : is_live (words (head_word op.site segment)) ≡ false = ap is_live zero in
+        let zero : words (head_word op.site.geometry segment) ≡ 0 = ap (λ b. words (cond b (head_at op.site.geometry segment + 1) root_word)) none ∙ root_zero in
+        let dead : is_live (words (head_word op.site.geometry segment)) ≡ false = ap is_live zero in
         absurd (false≢true (sym dead ∙ live))
   ]
 
@@ -140,7 +141,7 @@ module _ (site : Site) (op : ReadOp) (is : IsIn site op) (words : Words) (views 
         → (segment ≡ 0) × (byte ≡ site.front state_word % 2 ^ 8) × (byte ≢ op.site.version)
     stale_in_world segment byte so =
         let c = ends_by_cause op (finds site op words) (ends.Stale segment byte) wants so in
-        let found = finds_word wants (head_word op.site segment) c.loads in
+        let found = finds_word wants (head_word op.site.geometry segment) c.loads in
         let first : segment ≡ 0 = only_live segment (ap is_live (sym found) ∙ c.live) in
         (first, sym c.version ∙ (ap version_in (found ∙ head_is segment first) ∙ h.site_is.front.same_version), c.other)
 

@@ -26,7 +26,8 @@ use Rattle.read_op.specs.declared.step.Second.TheVariants as again
 use Rattle.read_op.specs.declared.step.ReadStep.{ReadStep}
 use Rattle.read_op.specs.declared.step.ReadStep.TheVariants.{Power, Root, Entry, Head, Lock, Fill, Count, Check, Ended}
 use Rattle.read_op.specs.declared.op.ReadOp.{ReadOp}
-use Rattle.read_op.specs.Steps.{wanted_in, next_in, checked, entry_word, head_word, lock_word, is_live, covers, value_of, moved, busy, end_by}
+use Rattle.way.specs.Ways.{entry_word, head_word, is_covering}
+use Rattle.read_op.specs.Steps.{wanted_in, next_in, checked, lock_word, is_live, value_of, moved, busy, end_by}
 use Rattle.read_op.specs.Fits.{IsIn, kind_in, kind_again, note_of, IsBare, IsFilling, IsChecking, suits_in, OwesTheSame, HasNotReplied, EntersAnswer, KeepsSuits}
 use Rattle.read_op.proofs.Fitting.{home_lock}
 
@@ -82,10 +83,10 @@ module _ (site : Site) (op : ReadOp) (is : IsIn site op) (words : Words) (views 
   pub root_is : words root_word ≡ 0
   root_is = table.same_front root_word (omega arith) ∙ h.site_is.front.root
 
-  pub entry_is : (root : ℕ) → root ≡ 0 → words (entry_word op.site op.hash root) ≡ 0
+  pub entry_is : (root : ℕ) → root ≡ 0 → words (entry_word op.site.geometry op.hash root) ≡ 0
   entry_is root first =
       let low : entry_at 0 (index_of 0 op.hash) ≡ 32 = let fits = is.fits in omega (arith, fits) in
-      ap (λ n. words (entry_word op.site op.hash n)) first
+      ap (λ n. words (entry_word op.site.geometry op.hash n)) first
       ∙ (ap (λ b. words (cond b (entry_at 0 (index_of 0 op.hash)) root_word)) (le-leb 0 op.site.geometry.depth (omega arith))
       ∙ (ap words low ∙ (table.same_front 32 (omega arith) ∙ h.site_is.front.entry)))
 
@@ -228,9 +229,9 @@ module _ (site : Site) (op : ReadOp) (is : IsIn site op) (words : Words) (views 
     again_kept : (second : Second) (seen : ℕ) → Kept (checked op found place second seen) (view_after site.shape (kind_again op found second) seen v)
     again_kept again.Root seen = both (λ s. Kept s v) (seen == found.path.root) (Check found place again.Entry) (moved root_word found.path.root seen)
         (record { suits = c; owes = same_v; answers = quiet_v }) (again_v _)
-    again_kept again.Entry seen = both (λ s. Kept s v) (seen == found.path.segment) (Check found place again.Head) (moved (entry_word op.site op.hash found.path.root) found.path.segment seen)
+    again_kept again.Entry seen = both (λ s. Kept s v) (seen == found.path.segment) (Check found place again.Head) (moved (entry_word op.site.geometry op.hash found.path.root) found.path.segment seen)
         (record { suits = c; owes = same_v; answers = quiet_v }) (again_v _)
-    again_kept again.Head seen = both (λ s. Kept s v) (seen == found.path.head) (Check found place again.Lock) (moved (head_word op.site found.path.segment) found.path.head seen)
+    again_kept again.Head seen = both (λ s. Kept s v) (seen == found.path.head) (Check found place again.Lock) (moved (head_word op.site.geometry found.path.segment) found.path.head seen)
         (record { suits = c; owes = same_v; answers = quiet_v }) (again_v _)
     again_kept again.Lock seen =
         let M : List Note → Option Answer → Type 0 = λ notes told. Kept (checked op found place again.Lock seen)
@@ -249,14 +250,14 @@ module _ (site : Site) (op : ReadOp) (is : IsIn site op) (words : Words) (views 
       let n = words root_word in
       both (λ s. Kept s v) (nat_le n op.site.geometry.depth) (Entry n) (moved root_word n n) (record { suits = (bare, root_is); owes = same_v; answers = quiet_v }) (again_v _)
   step_in (Entry root) (bare, first) wants =
-      let n = words (entry_word op.site op.hash root) in
-      both (λ s. Kept s v) (nat_lt n op.site.geometry.segments) (Head root n) (moved (entry_word op.site op.hash root) n n)
+      let n = words (entry_word op.site.geometry op.hash root) in
+      both (λ s. Kept s v) (nat_lt n op.site.geometry.segments) (Head root n) (moved (entry_word op.site.geometry op.hash root) n n)
       (record { suits = (bare, entry_is root first); owes = same_v; answers = quiet_v }) (again_v _)
   step_in (Head root segment) (bare, first) wants =
-      let n = words (head_word op.site segment) in
+      let n = words (head_word op.site.geometry segment) in
       let next : ReadStep = Lock (record { root = root; segment = segment; head = n }) in
-      let ill : ReadStep = moved (head_word op.site segment) n n in
-      let fits = is_live n && covers n op.hash in
+      let ill : ReadStep = moved (head_word op.site.geometry segment) n n in
+      let fits = is_live n && is_covering n op.hash in
       both (λ s. Kept s v) (is_live n && not (version_in n == op.site.version)) (Ended (ends.Stale segment (version_in n))) (cond fits next ill) (stale_v _ _)
       (both (λ s. Kept s v) fits next ill (record { suits = (bare, first); owes = same_v; answers = quiet_v }) (again_v _))
   step_in (Lock path) (bare, first) wants = let n = words (lock_word op.site op.hash path.segment) in look path first bare n (n % 2 == 0)

@@ -22,7 +22,8 @@ use Rattle.read_op.specs.declared.step.ReadStep.{ReadStep}
 use Rattle.read_op.specs.declared.step.ReadStep.TheVariants.{Power, Root, Entry, Head, Lock, Fill, Count, Check, Ended}
 use Rattle.read_op.specs.declared.step.Found.{Found}
 use Rattle.read_op.specs.declared.op.ReadOp.{ReadOp}
-use Rattle.read_op.specs.Steps.{begun, wanted, taken, wanted_in, is_live, covers, entry_word, head_word, lock_word}
+use Rattle.way.specs.Ways.{is_covering, entry_word, head_word}
+use Rattle.read_op.specs.Steps.{begun, wanted, taken, wanted_in, is_live, lock_word}
 use Rattle.read_op.specs.Budget.{after_all}
 use Rattle.read_op.specs.Fits.{IsIn, Suits, next_op}
 
@@ -42,7 +43,7 @@ ReadsAlone = (op : ReadOp) → IsReading (wanted op)
 module _ (op : ReadOp) where
   -- the three words on the way to a segment, each with the value that was loaded from it, the newest first
   abbrev pub kept_of : Path → List (ℕ × ℕ)
-  kept_of path = (head_word op.site path.segment, path.head) ∷ (entry_word op.site op.hash path.root, path.segment) ∷ (root_word, path.root) ∷ []
+  kept_of path = (head_word op.site.geometry path.segment, path.head) ∷ (entry_word op.site.geometry op.hash path.root, path.segment) ∷ (root_word, path.root) ∷ []
 
   -- and the lock word of the home bucket
   abbrev pub kept_with : Path → ℕ → List (ℕ × ℕ)
@@ -53,7 +54,7 @@ module _ (op : ReadOp) where
   kept_in Power = []
   kept_in Root = []
   kept_in (Entry root) = (root_word, root) ∷ []
-  kept_in (Head root segment) = (entry_word op.site op.hash root, segment) ∷ (root_word, root) ∷ []
+  kept_in (Head root segment) = (entry_word op.site.geometry op.hash root, segment) ∷ (root_word, root) ∷ []
   kept_in (Lock path) = kept_of path
   kept_in (Fill path free words next) = kept_with path free
   kept_in (Count found) = kept_with found.path found.free
@@ -86,13 +87,13 @@ module _ (op : ReadOp) (step : ReadStep) where
 
   -- a segment that the directory entry of the key, at that root depth, named when it was loaded
   abbrev pub IsNamed : ℕ → Type 0
-  IsNamed segment = (root : ℕ) × IsDepth root × Has (entry_word op.site op.hash root, segment) (kept_in op step)
+  IsNamed segment = (root : ℕ) × IsDepth root × Has (entry_word op.site.geometry op.hash root, segment) (kept_in op step)
 
   -- THE WORD IS WATCHED: it has the root depth, the entry of the key's hash at the root depth that was loaded, the header of
   -- the segment that was named, or the version of the key's home bucket in it
   abbrev pub IsWatched : ℕ → Type 0
-  IsWatched word = (word ≡ root_word) ⊎ ((root : ℕ) × IsDepth root × (word ≡ entry_word op.site op.hash root))
-      ⊎ ((segment : ℕ) × IsNamed segment × ((word ≡ head_word op.site segment) ⊎ (word ≡ lock_word op.site op.hash segment)))
+  IsWatched word = (word ≡ root_word) ⊎ ((root : ℕ) × IsDepth root × (word ≡ entry_word op.site.geometry op.hash root))
+      ⊎ ((segment : ℕ) × IsNamed segment × ((word ≡ head_word op.site.geometry segment) ⊎ (word ≡ lock_word op.site op.hash segment)))
 
 -- ---- causes, for a get in this step whose event finds this value
 module _ (op : ReadOp) (step : ReadStep) (seen : ℕ) where
@@ -118,7 +119,7 @@ module _ (op : ReadOp) (step : ReadStep) (seen : ℕ) where
   abbrev pub IsAmiss : ReadStep → Type 0
   IsAmiss Root = op.site.geometry.depth < seen
   IsAmiss (Entry root) = op.site.geometry.segments ≤ seen
-  IsAmiss (Head root segment) = (is_live seen ≡ false) ⊎ (covers seen op.hash ≡ false)
+  IsAmiss (Head root segment) = (is_live seen ≡ false) ⊎ (is_covering seen op.hash ≡ false)
   IsAmiss s = ⊥
 
   -- the event loaded a watched word for the first time, and found such a value, which stands for both
@@ -131,7 +132,7 @@ module _ (op : ReadOp) (step : ReadStep) (seen : ℕ) where
 
   -- the event loaded the header of a segment that was named, which is live by it, and found another version there
   pub record FindsStale (segment byte : ℕ) : Type 0 where
-    pub loads : wanted_in op step ≡ Load (head_word op.site segment)
+    pub loads : wanted_in op step ≡ Load (head_word op.site.geometry segment)
     pub named : IsNamed op step segment
     pub live : is_live seen ≡ true
     pub version : version_in seen ≡ byte

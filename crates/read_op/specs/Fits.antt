@@ -25,7 +25,8 @@ use Rattle.read_op.specs.declared.step.Second.TheVariants as again
 use Rattle.read_op.specs.declared.step.ReadStep.{ReadStep}
 use Rattle.read_op.specs.declared.step.ReadStep.TheVariants.{Power, Root, Entry, Head, Lock, Fill, Count, Check, Ended}
 use Rattle.read_op.specs.declared.op.ReadOp.{ReadOp}
-use Rattle.read_op.specs.Steps.{begun, wanted, taken, entry_word, head_word, lock_word}
+use Rattle.way.specs.Ways.{entry_word, head_word}
+use Rattle.read_op.specs.Steps.{begun, wanted, taken, lock_word}
 
 -- the get runs in this image, and its hash is its key's
 pub record IsIn (site : Site) (op : ReadOp) : Type 0 where
@@ -37,16 +38,16 @@ module _ (op : ReadOp) where
   -- THE KIND of a second look
   abbrev pub kind_again : Found → Second → Kind
   kind_again found again.Root = peeks root_word
-  kind_again found again.Entry = peeks (entry_word op.site op.hash found.path.root)
-  kind_again found again.Head = peeks (head_word op.site found.path.segment)
+  kind_again found again.Entry = peeks (entry_word op.site.geometry op.hash found.path.root)
+  kind_again found again.Head = peeks (head_word op.site.geometry found.path.segment)
   kind_again found again.Lock = validates (lock_word op.site op.hash found.path.segment)
 
   -- the kind of the next event; where none is wanted it is a look at the counter
   abbrev pub kind_in : ReadStep → Kind
   kind_in Power = asks_power
   kind_in Root = peeks root_word
-  kind_in (Entry root) = peeks (entry_word op.site op.hash root)
-  kind_in (Head root segment) = peeks (head_word op.site segment)
+  kind_in (Entry root) = peeks (entry_word op.site.geometry op.hash root)
+  kind_in (Head root segment) = peeks (head_word op.site.geometry segment)
   kind_in (Lock path) = looks (lock_word op.site op.hash path.segment)
   kind_in (Fill path free words next) = notes_word (lock_word op.site op.hash path.segment) (lock_word op.site op.hash path.segment + next % 32)
   kind_in (Count found) = places op.key found.value

@@ -1,10 +1,11 @@
 -- What a get wants in each step, and what an answer makes of it.
 use Rattle.std.specs.Prelude.{◌==◌, ◌&&◌, ◌||◌, ℕ, ◌+◌, ◌%◌, nat_le, nat_lt, not, Bool, if◌then◌else◌, Option, Some, None, List, slice_index, slice_set, replicate}
-use Rattle.hash_word.specs.Hash.{home_of, index_of}
-use Rattle.segment_head.specs.HeadWord.{version_in, state_in, depth_in, pattern_in, normal, splitting}
-use Rattle.image_layout.specs.Places.{root_word, entry_at, head_at, bucket_at}
+use Rattle.hash_word.specs.Hash.{home_of}
+use Rattle.segment_head.specs.HeadWord.{version_in, state_in, normal, splitting}
+use Rattle.image_layout.specs.Places.{root_word}
 use Rattle.image_layout.specs.Volatile.{counter_word}
 use Rattle.sound_image.specs.Records.{key_hash}
+use Rattle.way.specs.Ways.{entry_word, head_word, bucket_word, is_covering}
 use Rattle.bucket_words.specs.Buckets.{find_below}
 use Rattle.op_core.specs.declared.want.Want.{Want}
 use Rattle.op_core.specs.declared.want.Want.TheVariants.{Load, Power as LoadPower, Done}
@@ -22,27 +23,14 @@ use Rattle.read_op.specs.declared.step.ReadStep.{ReadStep}
 use Rattle.read_op.specs.declared.step.ReadStep.TheVariants.{Power, Root, Entry, Head, Lock, Fill, Count, Check, Ended}
 use Rattle.read_op.specs.declared.op.ReadOp.{ReadOp}
 
--- ---- the words that it asks for; the root's word where a number is out of range
--- the directory entry of a hash at a root depth
-abbrev pub entry_word : Site → ℕ → ℕ → ℕ
-entry_word site hash root = if nat_le root site.geometry.depth then entry_at root (index_of root hash) else root_word
-
--- the header of a segment
-abbrev pub head_word : Site → ℕ → ℕ
-head_word site segment = if nat_lt segment site.geometry.segments then head_at site.geometry segment + 1 else root_word
-
--- the lock word of the home bucket of a hash
+-- the lock word of the home bucket of a hash; the root's word where a number is out of range
 abbrev pub lock_word : Site → ℕ → ℕ → ℕ
-lock_word site hash segment = if nat_lt segment site.geometry.segments then bucket_at site.geometry segment (home_of hash) else root_word
+lock_word site hash segment = bucket_word site.geometry segment (home_of hash)
 
 -- ---- what it makes of the words
 -- a header of a live segment
 abbrev pub is_live : ℕ → Bool
 is_live head = (state_in head == normal) || (state_in head == splitting)
-
--- the segment of a header covers a hash
-abbrev pub covers : ℕ → ℕ → Bool
-covers head hash = nat_le (depth_in head) 64 && (index_of (depth_in head) hash == pattern_in head)
 
 -- what a key has in a bucket of these words
 abbrev pub value_of : List ℕ → ℕ → Option ℕ
@@ -72,15 +60,15 @@ module _ (op : ReadOp) where
   -- a second look
   abbrev pub wanted_again : Found → Second → Want
   wanted_again found again.Root = Load root_word
-  wanted_again found again.Entry = Load (entry_word op.site op.hash found.path.root)
-  wanted_again found again.Head = Load (head_word op.site found.path.segment)
+  wanted_again found again.Entry = Load (entry_word op.site.geometry op.hash found.path.root)
+  wanted_again found again.Head = Load (head_word op.site.geometry found.path.segment)
   wanted_again found again.Lock = Load (lock_word op.site op.hash found.path.segment)
 
   abbrev pub wanted_in : ReadStep → Want
   wanted_in Power = LoadPower
   wanted_in Root = Load root_word
-  wanted_in (Entry root) = Load (entry_word op.site op.hash root)
-  wanted_in (Head root segment) = Load (head_word op.site segment)
+  wanted_in (Entry root) = Load (entry_word op.site.geometry op.hash root)
+  wanted_in (Head root segment) = Load (head_word op.site.geometry segment)
   wanted_in (Lock path) = Load (lock_word op.site op.hash path.segment)
   wanted_in (Fill path free words next) = Load (lock_word op.site op.hash path.segment + next % 32)
   wanted_in (Count found) = Load (counter_word op.site.geometry)
@@ -91,8 +79,8 @@ module _ (op : ReadOp) where
   abbrev pub head_taken : ℕ → ℕ → ℕ → ReadStep
   head_taken root segment head =
       if is_live head && not (version_in head == op.site.version) then Ended (ends.Stale segment (version_in head))
-      else if is_live head && covers head op.hash then Lock (record { root = root; segment = segment; head = head })
-      else moved (head_word op.site segment) head head
+      else if is_live head && is_covering head op.hash then Lock (record { root = root; segment = segment; head = head })
+      else moved (head_word op.site.geometry segment) head head
 
   -- a bucket's words, the next one among them
   abbrev pub filled : Path → ℕ → List ℕ → ℕ → ReadStep
@@ -112,10 +100,10 @@ module _ (op : ReadOp) where
   checked found place again.Root seen = if seen == found.path.root then Check found place again.Entry else moved root_word found.path.root seen
   checked found place again.Entry seen =
       if seen == found.path.segment then Check found place again.Head
-      else moved (entry_word op.site op.hash found.path.root) found.path.segment seen
+      else moved (entry_word op.site.geometry op.hash found.path.root) found.path.segment seen
   checked found place again.Head seen =
       if seen == found.path.head then Check found place again.Lock
-      else moved (head_word op.site found.path.segment) found.path.head seen
+      else moved (head_word op.site.geometry found.path.segment) found.path.head seen
   checked found place again.Lock seen = lock_checked found place seen
 
   -- a word that was seen
@@ -123,7 +111,7 @@ module _ (op : ReadOp) where
   next_in Power seen = if seen == 0 then Root else Ended ends.Off
   next_in Root seen = if nat_le seen op.site.geometry.depth then Entry seen else moved root_word seen seen
   next_in (Entry root) seen =
-      if nat_lt seen op.site.geometry.segments then Head root seen else moved (entry_word op.site op.hash root) seen seen
+      if nat_lt seen op.site.geometry.segments then Head root seen else moved (entry_word op.site.geometry op.hash root) seen seen
   next_in (Head root segment) seen = head_taken root segment seen
   next_in (Lock path) seen =
       if seen % 2 == 0 then Fill path seen (replicate 32 0) 1 else busy (lock_word op.site op.hash path.segment) seen

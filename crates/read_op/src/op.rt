@@ -4,13 +4,13 @@ ghost use Rattle.std.specs.Prelude.{◌≡◌, ℕ, ◌==◌, ◌||◌, ◌&&◌
 ghost use Rattle.segment_head.specs.HeadWord.{version_in};
 ghost use Rattle.op_core.specs.declared.want.Want.TheVariants as want;
 ghost use Rattle.read_op.specs.declared.step.ReadStep.TheVariants.{Ended};
-ghost use Rattle.read_op.specs.Steps.{begun, wanted, taken, wanted_again, is_live, covers, moved, busy, head_taken, filled, checked, lock_checked, end_of, next_of};
+ghost use Rattle.read_op.specs.Steps.{begun, wanted, taken, wanted_again, is_live, moved, busy, head_taken, filled, checked, lock_checked, end_of, next_of};
 
 use crate::slots::{value_of, with_word};
 use crate::step::{Found, Path, ReadEnd, ReadStep, Second};
-use crate::words::{ROOT, entry_word, head_word, key_hash, lock_word};
-use hash_word::dir_index;
+use crate::words::lock_word;
 use op_core::{Ans, Machine, Want, Why};
+use way::{ROOT_WORD, entry_word, head_word, is_covering, key_hash};
 use world::Site;
 
 /// A get over the home bucket alone, one attempt.
@@ -52,14 +52,6 @@ fn is_live(head: u64) -> bool
     state == 1 || state == 2
 }
 
-/// Whether the segment of a header covers a hash.
-fn covers(head: u64, hash: u64) -> bool
-    ensures { result ≡ covers head hash }
-{
-    let depth = ((head >> 16) & 0xFF) as u8;
-    depth <= 64 && dir_index(hash, depth) == head >> 32
-}
-
 /// The version byte of a header.
 fn version_in(head: u64) -> u8
     ensures { result ≡ version_in head }
@@ -85,7 +77,7 @@ impl ReadOp {
     {
         ReadOp {
             key,
-            hash: key_hash(&version_v, key),
+            hash: key_hash(&version_v.geometry, key),
             site: version_v,
             step: ReadStep::Power,
         }
@@ -107,9 +99,9 @@ impl ReadOp {
         ensures { want.Load result ≡ wanted_again self.now found.now at }
     {
         match at {
-            Second::Root => ROOT,
-            Second::Entry => entry_word(&self.site, self.hash, found.path.root),
-            Second::Head => head_word(&self.site, found.path.segment),
+            Second::Root => ROOT_WORD,
+            Second::Entry => entry_word(&self.site.geometry, self.hash, found.path.root),
+            Second::Head => head_word(&self.site.geometry, found.path.segment),
             Second::Lock => lock_word(&self.site, self.hash, found.path.segment),
         }
     }
@@ -121,7 +113,7 @@ impl ReadOp {
         let version = version_in(head);
         if is_live(head) && version != self.site.version {
             ReadStep::Ended(ReadEnd::Stale(segment, version))
-        } else if is_live(head) && covers(head, self.hash) {
+        } else if is_live(head) && is_covering(head, self.hash) {
             ReadStep::Lock {
                 path: Path {
                     root,
@@ -130,7 +122,7 @@ impl ReadOp {
                 },
             }
         } else {
-            moved(head_word(&self.site, segment), head, head)
+            moved(head_word(&self.site.geometry, segment), head, head)
         }
     }
 
@@ -200,13 +192,13 @@ impl ReadOp {
             ReadStep::Power if value == 0 => ReadStep::Root,
             ReadStep::Power => ReadStep::Ended(ReadEnd::Off),
             ReadStep::Root if value <= geometry.depth() => ReadStep::Entry { root: value },
-            ReadStep::Root => moved(ROOT, value, value),
+            ReadStep::Root => moved(ROOT_WORD, value, value),
             ReadStep::Entry { root } if value < geometry.segments() => ReadStep::Head {
                 root,
                 segment: value,
             },
             ReadStep::Entry { root } => moved(
-                entry_word(&self.site, self.hash, root),
+                entry_word(&self.site.geometry, self.hash, root),
                 value,
                 value,
             ),
@@ -243,9 +235,13 @@ impl Machine for ReadOp {
     fn want(&self) -> Want {
         match &self.step {
             ReadStep::Power => Want::Power,
-            ReadStep::Root => Want::Load(ROOT),
-            ReadStep::Entry { root } => Want::Load(entry_word(&self.site, self.hash, *root)),
-            ReadStep::Head { segment, .. } => Want::Load(head_word(&self.site, *segment)),
+            ReadStep::Root => Want::Load(ROOT_WORD),
+            ReadStep::Entry { root } => Want::Load(entry_word(
+                &self.site.geometry,
+                self.hash,
+                *root,
+            )),
+            ReadStep::Head { segment, .. } => Want::Load(head_word(&self.site.geometry, *segment)),
             ReadStep::Lock { path } => Want::Load(lock_word(&self.site, self.hash, path.segment)),
             ReadStep::Fill { path, next, .. } => {
                 Want::Load(lock_word(&self.site, self.hash, path.segment) + u64::from(next % 32))

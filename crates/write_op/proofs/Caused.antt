@@ -26,7 +26,8 @@ use Rattle.write_op.specs.declared.control.Step.TheVariants.{AskPower, LoadRoot,
 use Rattle.write_op.specs.declared.control.Kept.{Kept}
 use Rattle.write_op.specs.declared.control.Task.{Task}
 use Rattle.write_op.specs.Slots.{slot_with, slot_free}
-use Rattle.write_op.specs.Ways.{entry_word, head_word, lock_word, sight_of, is_covering}
+use Rattle.way.specs.Ways.{entry_word, head_word, is_covering}
+use Rattle.write_op.specs.Ways.{lock_word, sight_of}
 use Rattle.write_op.specs.Wanted.{key_for, free_of, wanted_of}
 use Rattle.write_op.specs.Taken.{moved, seen_at, give_up, after_head, after_look, after_loss, inserting, changing, decided, after_count, made, step_after}
 use Rattle.write_op.specs.Causes.{KeepsBelow, FindsNoRoom, IsDecided, IsHonest, IsNamed, CausedIn, EndsByCause, EndsStay, BeginsOpen}

@@ -30,7 +30,8 @@ use Rattle.write_op.specs.declared.path.Sight.TheVariants.{Good, Late, Other}
 use Rattle.write_op.specs.declared.control.WriteEnd.{WriteEnd}
 use Rattle.write_op.specs.declared.control.WriteEnd.TheVariants.{Replied, Again, Off}
 use Rattle.write_op.specs.Slots.{slot_with, slot_free}
-use Rattle.write_op.specs.Ways.{entry_word, head_word, lock_word, sight_of}
+use Rattle.way.specs.Ways.{entry_word, head_word}
+use Rattle.write_op.specs.Ways.{lock_word, sight_of}
 use Rattle.write_op.specs.Taken.{moved, seen_at, give_up, after_head, after_look, after_loss, chosen, inserting, changing, decided, after_count, made, with_slot, kept_after, step_after, nothing, first_step}
 use Rattle.write_op.specs.Wanted.{free_of, wanted_of, wanted_at}
 use Rattle.write_op.specs.Fits.{count_inserting, count_changing, count_kind, made_kind, kind_at, StepFits, IsWord}

@@ -1,5 +1,5 @@
 -- The word of each event is one of the image or one behind it, by the control points.
-use Rattle.std.proofs.Common.{ℕ, ◌+◌, ◌*◌, ◌/◌, ◌^◌, ◌<◌, ◌≤◌, inl, inr, cond, refl, sym, subst, arith}
+use Rattle.std.proofs.Common.{ℕ, ◌+◌, ◌*◌, ◌/◌, ◌^◌, ◌<◌, ◌≤◌, inl, inr, cond, sym, subst, arith}
 use Rattle.std.specs.Prelude.{nat_le, nat_lt}
 use Rattle.std.proofs.lemmas.Bool.{cases_Bool}
 use Rattle.map_model.specs.declared.call.Call.{Call}
@@ -20,11 +20,12 @@ use Rattle.write_op.specs.declared.control.Kept.{Kept}
 use Rattle.write_op.specs.declared.control.Task.{Task}
 use Rattle.write_op.specs.declared.machine.WriteOp.{WriteOp}
 use Rattle.write_op.specs.Slots.{finger_place}
-use Rattle.write_op.specs.Ways.{entry_word, head_word, block, bucket_of, lock_word}
+use Rattle.way.specs.Ways.{entry_word, head_word, bucket_word}
+use Rattle.write_op.specs.Ways.{bucket_of, lock_word}
 use Rattle.write_op.specs.Wanted.{home_word, published_word, wanted_of, wanted_at}
 use Rattle.write_op.specs.Fits.{StepFits}
 use Rattle.write_op.specs.Inside.{IsInside, AsksInside}
-use Rattle.write_op.proofs.Tops.{top_below}
+use Rattle.way.proofs.Indexes.{index_below}
 
 module _ (shape : Shape) (is : IsShape shape) where
   entry_inside : (hash root : ℕ) → hash < 2 ^ 64 → entry_word shape hash root < words_of shape
@@ -35,7 +36,7 @@ module _ (shape : Shape) (is : IsShape shape) where
             (let near : root ≤ shape.depth = search arith in
             let most = is.depth in
             let small : root ≤ 16 = omega (arith, near, most) in
-            let before = entry_before shape root (index_of root hash) near (top_below root hash (index_of root hash) small fits refl) in omega (arith, before))
+            let before = entry_before shape root (index_of root hash) near (index_below root hash (omega (arith, small)) fits) in omega (arith, before))
         | inr y ↦ subst (λ b. cond b (entry_at root (index_of root hash)) root_word < words_of shape) (sym y) (omega (arith, some))
       ]
 
@@ -47,7 +48,7 @@ module _ (shape : Shape) (is : IsShape shape) where
         | inr y ↦ subst (λ b. cond b (head_at shape segment + 1) root_word < words_of shape) (sym y) (omega (arith, some))
       ]
 
-  block_inside : (segment b at : ℕ) → b < 64 → at ≤ 31 → block shape segment b + at < words_of shape
+  block_inside : (segment b at : ℕ) → b < 64 → at ≤ 31 → bucket_word shape segment b + at < words_of shape
   block_inside segment b at bucket near =
       let some = is.some in
       elim (cases_Bool (nat_lt segment shape.segments)) [

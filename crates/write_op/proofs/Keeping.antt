@@ -31,7 +31,8 @@ use Rattle.write_op.specs.declared.control.Step.{Step}
 use Rattle.write_op.specs.declared.control.Step.TheVariants.{AskPower, LoadRoot, LoadEntry, LoadHead, LookAt, TryLock, RootAgain, EntryAgain, HeadAgain, LoadWord, LoadCount, Make, CountSpent, CountFull, GiveBack, Ended}
 use Rattle.write_op.specs.declared.control.Kept.{Kept}
 use Rattle.write_op.specs.declared.control.Task.{Task}
-use Rattle.write_op.specs.Ways.{entry_word, head_word, lock_word, sight_of}
+use Rattle.way.specs.Ways.{entry_word, head_word}
+use Rattle.write_op.specs.Ways.{lock_word, sight_of}
 use Rattle.write_op.specs.Wanted.{key_for, published_word, published_value, wanted_of}
 use Rattle.write_op.specs.Taken.{seen_at, chosen, with_slot, kept_after, step_after}
 use Rattle.write_op.specs.Fits.{kind_at, StepFits, IsWord}

@@ -1,5 +1,4 @@
 mod Search
-mod Tops
 mod Falls
 mod Marks
 mod Fitting

@@ -29,12 +29,13 @@ use Rattle.write_op.specs.declared.control.Kept.{Kept}
 use Rattle.write_op.specs.declared.control.Task.{Task}
 use Rattle.write_op.specs.declared.machine.WriteOp.{WriteOp}
 use Rattle.write_op.specs.Slots.{slot_with, slot_free}
-use Rattle.write_op.specs.Ways.{entry_word, head_word, bucket_of, lock_word, sight_of}
+use Rattle.way.specs.Ways.{entry_word, head_word}
+use Rattle.write_op.specs.Ways.{bucket_of, lock_word, sight_of}
 use Rattle.write_op.specs.Wanted.{free_of, wanted_of}
 use Rattle.write_op.specs.Taken.{begun, wanted, taken, moved, seen_at, give_up, after_head, after_look, after_loss, again, inserting, changing, decided, after_count, made, gave_back, kept_after, step_after}
 use Rattle.write_op.specs.Causes.{after_all, change_of, changed_of, told_word, IsDecided, AgainByOthers}
 use Rattle.write_op.proofs.Recalling.{both_by}
-use Rattle.write_op.proofs.Tops.{top_below}
+use Rattle.way.proofs.Indexes.{index_below}
 use Rattle.write_op.proofs.Hashes.{begins_inside}
 
 -- ---- what was changed, and which numbers are kept, at each control point before the stores
@@ -150,7 +151,7 @@ step_owns t k s a ws o = o
 -- ---- the words on the way are apart from the two locks
 module _ (g : Shape) (is : IsShape g) (k : Kept) (hash : ℕ) (fits : hash < 2 ^ 64) (root : k.root ≤ g.depth) (segment : k.segment < g.segments) where
   abbrev block : ℕ → ℕ
-  block b = Rattle.write_op.specs.Ways.block g k.segment b
+  block b = Rattle.way.specs.Ways.bucket_word g k.segment b
 
   block_is : (b : ℕ) → block b ≡ bucket_at g k.segment b
   block_is b = ap (λ z. cond z (bucket_at g k.segment b) root_word) (lt-ltb k.segment g.segments segment)
@@ -165,7 +166,7 @@ module _ (g : Shape) (is : IsShape g) (k : Kept) (hash : ℕ) (fits : hash < 2 ^
       let small : k.root ≤ 16 = omega (arith, root, most) in
       let i : entry_word g hash k.root ≡ entry_at k.root (index_of k.root hash)
       = ap (λ z. cond z (entry_at k.root (index_of k.root hash)) root_word) (le-leb k.root g.depth root) in
-      let low = entry_before g k.root (index_of k.root hash) root (top_below k.root hash (index_of k.root hash) small fits refl) in
+      let low = entry_before g k.root (index_of k.root hash) root (index_below k.root hash (omega (arith, small)) fits) in
       let both : entry_at k.root (index_of k.root hash) ≡ bucket_at g k.segment b = sym i ∙ (same ∙ e) in
       let below : bucket_at g k.segment b < first_segment g = subst (λ z. z < first_segment g) both low in
       omega (arith, below)

@@ -28,7 +28,8 @@ use Rattle.write_op.specs.declared.control.Step.TheVariants.{AskPower, LoadRoot,
 use Rattle.write_op.specs.declared.control.Kept.{Kept}
 use Rattle.write_op.specs.declared.control.Task.{Task}
 use Rattle.write_op.specs.Slots.{slot_with, slot_free}
-use Rattle.write_op.specs.Ways.{entry_word, head_word, lock_word, sight_of}
+use Rattle.way.specs.Ways.{entry_word, head_word}
+use Rattle.write_op.specs.Ways.{lock_word, sight_of}
 use Rattle.write_op.specs.Wanted.{wanted_of, wanted_at, free_of}
 use Rattle.write_op.specs.Taken.{moved, give_up, seen_at, after_head, after_look, after_loss, inserting, changing, decided, made, step_after, wanted}
 use Rattle.write_op.specs.Left.{IsAnswer}

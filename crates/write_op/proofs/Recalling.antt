@@ -28,7 +28,8 @@ use Rattle.write_op.specs.declared.control.Kept.{Kept}
 use Rattle.write_op.specs.declared.control.Task.{Task}
 use Rattle.write_op.specs.declared.machine.WriteOp.{WriteOp}
 use Rattle.write_op.specs.Slots.{is_taken, slot_with, slot_free}
-use Rattle.write_op.specs.Ways.{entry_word, head_word, lock_word, sight_of}
+use Rattle.way.specs.Ways.{entry_word, head_word}
+use Rattle.write_op.specs.Ways.{lock_word, sight_of}
 use Rattle.write_op.specs.Wanted.{key_for, home_word, wanted_of}
 use Rattle.write_op.specs.Taken.{begun, wanted, taken, moved, seen_at, after_head, after_look, again, chosen, inserting, changing, decided, made, gave_back, with_slot, kept_after, step_after}
 use Rattle.write_op.specs.Causes.{load_of, after_all, loads_of, AreAmong, kept_in, whole_way, way, way_home, KeepsBelow, FindsKey, FindsNoKey, FindsNoRoom, KnowsIn, Remembers, KeepsLoads, RefusalRemembers}

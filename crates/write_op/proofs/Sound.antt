@@ -24,7 +24,8 @@ use Rattle.write_op.specs.declared.control.WriteEnd.TheVariants.{Replied, Again,
 use Rattle.write_op.specs.declared.control.Step.{Step}
 use Rattle.write_op.specs.declared.control.Step.TheVariants.{LoadRoot, LoadEntry, LoadHead, LookAt, TryLock, CountFull}
 use Rattle.write_op.specs.declared.machine.WriteOp.{WriteOp}
-use Rattle.write_op.specs.Ways.{entry_word, head_word, block, bucket_of, lock_word, sight_of, is_covering}
+use Rattle.way.specs.Ways.{entry_word, head_word, bucket_word, is_covering}
+use Rattle.write_op.specs.Ways.{bucket_of, lock_word, sight_of}
 use Rattle.write_op.specs.Wanted.{key_for, wanted_of}
 use Rattle.write_op.specs.Taken.{wanted}
 use Rattle.write_op.specs.Suits.{IsFirst, SuitsLooking, FindsNoSlot, SuitsStep, finds}
@@ -136,8 +137,8 @@ module _ (site : Site) (op : WriteOp) (words : Words) (loads : List (ℕ × ℕ)
 
   own_by : (side : Side) → op.kept.segment ≡ 0 → lock_word op.task op.kept side ≡ own side
   own_by side first =
-      ap (λ g. block g op.kept.segment (bucket_of side op.task.hash)) run.is_in.shape
-      ∙ (ap (λ m. block site.shape op.kept.segment (bucket_of side m)) run.is_in.hash
+      ap (λ g. bucket_word g op.kept.segment (bucket_of side op.task.hash)) run.is_in.shape
+      ∙ (ap (λ m. bucket_word site.shape op.kept.segment (bucket_of side m)) run.is_in.hash
       ∙ lock_is site run.holds.site_is op.task.site.version op.task.site.caller op.task.call op.kept side first)
 
   odd_is_own : (side : Side) → words (lock_word op.task op.kept side) % 2 ≡ 1 → lock_word op.task op.kept side ≡ own side

@@ -20,7 +20,8 @@ use Rattle.write_op.specs.declared.control.Kept.{Kept}
 use Rattle.write_op.specs.declared.control.Task.{Task}
 use Rattle.write_op.specs.declared.machine.WriteOp.{WriteOp}
 use Rattle.write_op.specs.Slots.{slot_with, finger_place, with_finger}
-use Rattle.write_op.specs.Ways.{entry_word, head_word, lock_word}
+use Rattle.way.specs.Ways.{entry_word, head_word}
+use Rattle.write_op.specs.Ways.{lock_word}
 use Rattle.write_op.specs.Wanted.{key_for, value_for, home_word, published_word, published_value, free_of}
 use Rattle.write_op.specs.Taken.{no_room}
 

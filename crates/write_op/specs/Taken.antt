@@ -27,7 +27,8 @@ use Rattle.write_op.specs.declared.control.Kept.{Kept}
 use Rattle.write_op.specs.declared.control.Task.{Task}
 use Rattle.write_op.specs.declared.machine.WriteOp.{WriteOp}
 use Rattle.write_op.specs.Slots.{slot_with, slot_free}
-use Rattle.write_op.specs.Ways.{entry_word, head_word, lock_word, sight_of}
+use Rattle.way.specs.Ways.{entry_word, head_word}
+use Rattle.write_op.specs.Ways.{lock_word, sight_of}
 use Rattle.write_op.specs.Wanted.{key_for, free_of, wanted_of}
 
 -- another value at the second look at a word

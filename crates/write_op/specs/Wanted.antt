@@ -18,7 +18,8 @@ use Rattle.write_op.specs.declared.control.Step.TheVariants.{AskPower, LoadRoot,
 use Rattle.write_op.specs.declared.control.Kept.{Kept}
 use Rattle.write_op.specs.declared.control.Task.{Task}
 use Rattle.write_op.specs.Slots.{inserted_mark, removed_mark, finger_place, with_finger}
-use Rattle.write_op.specs.Ways.{entry_word, head_word, lock_word}
+use Rattle.way.specs.Ways.{entry_word, head_word}
+use Rattle.write_op.specs.Ways.{lock_word}
 
 abbrev pub key_for : Call → ℕ
 key_for (Get key) = key

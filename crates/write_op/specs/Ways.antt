@@ -1,26 +1,14 @@
--- The way to a bucket: its words, and what the header of its segment has to be.
-use Rattle.std.specs.Prelude.{ℕ, ◌+◌, nat_le, nat_lt, Bool, ◌==◌, ◌&&◌, ◌||◌, not, if◌then◌else◌}
-use Rattle.image_layout.specs.Places.{Shape, root_word, entry_at, head_at, bucket_at}
-use Rattle.hash_word.specs.Hash.{index_of, home_of, probing_of, top}
-use Rattle.segment_head.specs.HeadWord.{version_in, state_in, depth_in, pattern_in, normal, splitting}
+-- The two buckets of a hash and their lock words, and what the header of their segment has to be.
+use Rattle.std.specs.Prelude.{ℕ, ◌==◌, ◌&&◌, ◌||◌, not, if◌then◌else◌}
+use Rattle.way.specs.Ways.{bucket_word, is_covering}
+use Rattle.hash_word.specs.Hash.{home_of, probing_of}
+use Rattle.segment_head.specs.HeadWord.{version_in, state_in, normal, splitting}
 use Rattle.write_op.specs.declared.control.Side.{Side}
 use Rattle.write_op.specs.declared.control.Side.TheVariants.{Home, Probing}
 use Rattle.write_op.specs.declared.control.Kept.{Kept}
 use Rattle.write_op.specs.declared.control.Task.{Task}
 use Rattle.write_op.specs.declared.path.Sight.{Sight}
 use Rattle.write_op.specs.declared.path.Sight.TheVariants.{Good, Late, Other}
-
--- the entry of a hash in the directory of a depth; a depth that the image has not gives the root's word
-abbrev pub entry_word : Shape → ℕ → ℕ → ℕ
-entry_word shape hash root = if nat_le root shape.depth then entry_at root (index_of root hash) else root_word
-
--- the header word of a segment; a slot that the image has not gives the root's word
-abbrev pub head_word : Shape → ℕ → ℕ
-head_word shape segment = if nat_lt segment shape.segments then head_at shape segment + 1 else root_word
-
--- the first word of a bucket of a segment; a slot that the image has not gives the root's word
-abbrev pub block : Shape → ℕ → ℕ → ℕ
-block shape segment b = if nat_lt segment shape.segments then bucket_at shape segment b else root_word
 
 -- the number of the home and of the probing bucket of a hash
 abbrev pub bucket_of : Side → ℕ → ℕ
@@ -29,11 +17,7 @@ bucket_of Probing hash = probing_of (home_of hash)
 
 -- the lock word of one of the two buckets, with which it begins
 abbrev pub lock_word : Task → Kept → Side → ℕ
-lock_word t k side = block t.site.geometry k.segment (bucket_of side t.hash)
-
--- a header covers a hash whose top bits, as many as its depth, are its pattern
-abbrev pub is_covering : ℕ → ℕ → Bool
-is_covering h1 hash = nat_le (depth_in h1) 64 && (top (depth_in h1) hash == pattern_in h1)
+lock_word t k side = bucket_word t.site.geometry k.segment (bucket_of side t.hash)
 
 -- what a header says to a change: a live segment of another version is late; a good one is normal and covers the hash
 abbrev pub sight_of : ℕ → ℕ → ℕ → Sight

@@ -5,10 +5,11 @@ ghost use Rattle.write_op.specs.Wanted.{key_for, value_for, home_word, published
 
 use crate::bucket::{finger_place, inserted_mark, removed_mark, with_finger};
 use crate::control::{Held, Kept, Point, Side, Step, Task};
-use crate::path::{ROOT, counter, entry_word, head_word, lock_word};
+use crate::path::{counter, lock_word};
 use hash_word::finger;
 use map_model::Call;
 use op_core::Want;
+use way::{ROOT_WORD, entry_word, head_word};
 
 /// The key of a call.
 pub fn key_for(call: Call) -> u64
@@ -113,7 +114,7 @@ pub fn want_of(task: &Task, kept: &Kept, step: Step) -> Want
     let geometry = &task.site.geometry;
     match step {
         Step::AskPower => Want::Power,
-        Step::LoadRoot | Step::RootAgain => Want::Load(ROOT),
+        Step::LoadRoot | Step::RootAgain => Want::Load(ROOT_WORD),
         Step::LoadEntry | Step::EntryAgain => Want::Load(entry_word(
             geometry, task.hash, kept.root,
         )),

@@ -9,10 +9,10 @@ ghost use Rattle.write_op.specs.Left.{left};
 
 use crate::asking::{key_for, want_of};
 use crate::control::{Kept, Step, Task, WriteEnd};
-use crate::path::key_hash;
 use crate::taking::{kept_after, step_after};
 use map_model::Call;
 use op_core::{Ans, Machine, Want};
+use way::key_hash;
 use world::Site;
 
 /// A change of one key: an insert, an update or a remove.

@@ -6,9 +6,10 @@ ghost use Rattle.write_op.specs.Taken.{moved, seen_at, give_up, after_head, afte
 use crate::asking::{free_of, key_for};
 use crate::bucket::{lowest_free, lowest_with, with_word};
 use crate::control::{Held, Kept, Point, Side, Step, Task, WriteEnd};
-use crate::path::{ROOT, Sight, entry_word, head_word, lock_word, look_at_head};
+use crate::path::{Sight, lock_word, look_at_head};
 use map_model::{Call, Reply};
 use op_core::{Ans, Why};
+use way::{ROOT_WORD, entry_word, head_word};
 use world::Site;
 
 /// From this many changes on, the commit counter gives no place.
@@ -206,7 +207,7 @@ pub fn step_after(task: &Task, kept: &Kept, step: Step, ans: Ans) -> Step
         (Step::AskPower, Ans::Value(0)) => Step::LoadRoot,
         (Step::AskPower, Ans::Value(_)) => Step::Ended(WriteEnd::Off),
         (Step::LoadRoot, Ans::Value(root)) if root <= geometry.depth() => Step::LoadEntry,
-        (Step::LoadRoot, Ans::Value(root)) => seen_at(ROOT, root),
+        (Step::LoadRoot, Ans::Value(root)) => seen_at(ROOT_WORD, root),
         (Step::LoadEntry, Ans::Value(segment)) if segment < geometry.segments() => Step::LoadHead,
         (Step::LoadEntry, Ans::Value(segment)) => {
             seen_at(entry_word(geometry, task.hash, kept.root), segment)
@@ -225,7 +226,7 @@ pub fn step_after(task: &Task, kept: &Kept, step: Step, ans: Ans) -> Step
         (Step::TryLock(side), Ans::Lost(seen)) => {
             after_loss(side, lock_word(task, kept, side), free_of(kept, side), seen)
         }
-        (Step::RootAgain, Ans::Value(root)) => again(Step::EntryAgain, ROOT, kept.root, root),
+        (Step::RootAgain, Ans::Value(root)) => again(Step::EntryAgain, ROOT_WORD, kept.root, root),
         (Step::EntryAgain, Ans::Value(segment)) => {
             let word = entry_word(geometry, task.hash, kept.root);
             again(Step::HeadAgain, word, kept.segment, segment)

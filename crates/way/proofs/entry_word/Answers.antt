@@ -1,8 +1,8 @@
+-- A hash has its entry within the directory of each depth that an image may have.
 use Rattle.std.proofs.Common.{◌<◌, ◌≤◌, ◌^◌, ℕ, sym, subst, arith}
-use Rattle.read_op.proofs.Indexes.{index_below}
-use Rattle.read_op.proofs.words.entry_word.Goals as goal
+use Rattle.way.proofs.Indexes.{index_below}
+use Rattle.way.proofs.entry_word.Goals as goal
 
--- src/words.rt:30:9
 pub entry_at-requires-clause-index : goal.entry_at-requires-clause-index
 entry_at-requires-clause-index c =
     let most = c.depth.ensures.most in

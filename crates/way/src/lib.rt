@@ -1,0 +1,75 @@
+//! The words on the way from a hash to its bucket: root, directory entry, header, bucket.
+//!
+//! A machine that looks for a key loads the root depth, the entry of the key's hash, the header of the segment that the
+//! entry names, and the lock word with which a bucket of that segment begins. Here is said which words these are: a
+//! depth or a slot that the image has not gives the root's word, so each function answers for any numbers.
+#![tactic(auto)]
+
+ghost use Rattle.std.specs.Prelude.{◌≡◌, ◌<◌, ◌≤◌, ◌^◌, ◌+◌};
+ghost use Rattle.image_layout.specs.Places.{words_of, root_word};
+ghost use Rattle.sound_image.specs.Records.{key_hash};
+ghost use Rattle.way.specs.Ways.{entry_word, head_word, bucket_word};
+
+use hash_word::{Kind, dir_index, hash};
+use image_layout::Geometry;
+
+/// The word of the root depth.
+pub const ROOT_WORD: u64 = 8;
+
+/// The hash of a key in an image that is laid out so.
+pub fn key_hash(geometry: &Geometry, key: u64) -> u64
+    ensures { result ≡ key_hash geometry.now key }
+{
+    if geometry.kind() == 0 {
+        hash(Kind::Identity, key)
+    } else {
+        hash(Kind::Mix, key)
+    }
+}
+
+/// The word of the entry of a hash in the directory of this depth; that of the root where the image has no such depth.
+pub fn entry_word(geometry: &Geometry, hash: u64, root: u64) -> u64
+    ensures { result ≡ entry_word geometry.now hash root }
+{
+    if root <= geometry.depth() {
+        geometry.entry_at(root, dir_index(hash, root as u8))
+    } else {
+        ROOT_WORD
+    }
+}
+
+/// The header word of the segment in a slot, with its version, state, depth and pattern; that of the root where there is
+/// no such slot.
+pub fn head_word(geometry: &Geometry, segment: u64) -> u64
+    ensures { result ≡ head_word geometry.now segment }
+{
+    if segment < geometry.segments() {
+        geometry.head_at(segment) + 1
+    } else {
+        ROOT_WORD
+    }
+}
+
+/// The first word of a bucket of the segment in a slot, its lock word; that of the root where there is no such slot.
+pub fn bucket_word(geometry: &Geometry, segment: u64, bucket: u8) -> u64
+    requires { bucket < 64 }
+    ensures is { result ≡ bucket_word geometry.now segment bucket }
+    ensures most { result ≤ 35258400 }
+{
+    if segment < geometry.segments() {
+        geometry.bucket_at(segment, bucket)
+    } else {
+        ROOT_WORD
+    }
+}
+
+/// Whether a header covers a hash: the hash's top bits, as many as the header's depth, are its pattern.
+pub fn is_covering(head: u64, hash: u64) -> bool
+    ensures { result ≡ Rattle.way.specs.Ways.is_covering head hash }
+{
+    let depth = (head >> 16 & 255) as u8;
+    depth <= 64 && dir_index(hash, depth) == head >> 32
+}
+
+#[cfg(test)]
+mod tests;
