@@ -44,7 +44,8 @@ use Rattle.write_op.specs.declared.control.Step.TheVariants.{AskPower, LoadRoot,
 use Rattle.write_op.specs.declared.control.Kept.{Kept}
 use Rattle.write_op.specs.declared.control.Task.{Task}
 use Rattle.write_op.specs.declared.machine.WriteOp.{WriteOp}
-use Rattle.write_op.specs.Ways.{entry_word, head_word, block, bucket_of, lock_word}
+use Rattle.way.specs.Ways.{entry_word, head_word, bucket_word}
+use Rattle.write_op.specs.Ways.{bucket_of, lock_word}
 use Rattle.write_op.specs.Wanted.{key_for, wanted_of}
 use Rattle.write_op.specs.Taken.{begun as write_begun, wanted as write_wanted, taken as write_taken, seen_at, no_room, step_after}
 use Rattle.write_op.specs.Suits.{SuitsStep}
@@ -70,7 +71,7 @@ use Rattle.engine.proofs.Doing.{watching, ReadDid, done_next, WriteDid, OpDid, r
 abbrev IsWatchedBy : Shape → ℕ → List (ℕ × ℕ) → ℕ → Type 0
 IsWatchedBy g hash loads word = (word ≡ root_word)
     ⊎ (((root : ℕ) × Has (root_word, root) loads × (word ≡ entry_word g hash root))
-    ⊎ ((segment : ℕ) × ((root : ℕ) × Has (entry_word g hash root, segment) loads) × ((word ≡ head_word g segment) ⊎ ((side : Side) × (word ≡ block g segment (bucket_of side hash))))))
+    ⊎ ((segment : ℕ) × ((root : ℕ) × Has (entry_word g hash root, segment) loads) × ((word ≡ head_word g segment) ⊎ ((side : Side) × (word ≡ bucket_word g segment (bucket_of side hash))))))
 
 within_has : (xs ys : List (ℕ × ℕ)) → IsWithin xs ys → (p : ℕ × ℕ) → Has p xs → Has p ys
 within_has [] ys w p has = absurd has
@@ -79,8 +80,8 @@ within_has (x ∷ xs) (y ∷ ys) (inl here) p (inl is) = inl (is ∙ here.0)
 within_has (x ∷ xs) (y ∷ ys) (inl here) p (inr has) = inr (within_has xs ys here.1 p has)
 within_has (x ∷ xs) (y ∷ ys) (inr later) p has = inr (within_has (x ∷ xs) ys later p has)
 
-head_or_lock : (g : Shape) (hash segment word : ℕ) → (word ≡ head_word g segment) ⊎ (word ≡ block g segment (bucket_of Home hash))
-    → (word ≡ head_word g segment) ⊎ ((side : Side) × (word ≡ block g segment (bucket_of side hash)))
+head_or_lock : (g : Shape) (hash segment word : ℕ) → (word ≡ head_word g segment) ⊎ (word ≡ bucket_word g segment (bucket_of Home hash))
+    → (word ≡ head_word g segment) ⊎ ((side : Side) × (word ≡ bucket_word g segment (bucket_of side hash)))
 head_or_lock g hash segment word (inl is) = inl is
 head_or_lock g hash segment word (inr is) = inr (Home, is)
 
@@ -282,8 +283,8 @@ module _ (laws : ChangeCauses) (site : Site) (here : Here) (call : Call) (words 
 
     lock_is_own : (side : Side) → op.kept.segment ≡ 0 → lock_word op.task op.kept side ≡ bucket_at site.shape 0 (bucket_of side hash_here)
     lock_is_own side first =
-        ap (λ s. block op.task.site.geometry s (bucket_of side op.task.hash)) first
-        ∙ (ap (λ g. block g 0 (bucket_of side op.task.hash)) suits.2.shape
+        ap (λ s. bucket_word op.task.site.geometry s (bucket_of side op.task.hash)) first
+        ∙ (ap (λ g. bucket_word g 0 (bucket_of side op.task.hash)) suits.2.shape
         ∙ (ap (λ b. cond b (bucket_at site.shape 0 (bucket_of side op.task.hash)) root_word) (lt-ltb 0 site.shape.segments (let one = h.site_is.front.one_segment in omega (arith, one)))
         ∙ ap (λ m. bucket_at site.shape 0 (bucket_of side m)) change_hash))
 

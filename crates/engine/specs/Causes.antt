@@ -26,7 +26,8 @@ use Rattle.read_op.specs.declared.step.ReadStep.TheVariants.{Ended}
 use Rattle.write_op.specs.declared.control.Side.{Side}
 use Rattle.write_op.specs.declared.control.WriteEnd.{WriteEnd}
 use Rattle.write_op.specs.declared.control.WriteEnd.TheVariants as write_end
-use Rattle.write_op.specs.Ways.{entry_word, head_word, block, bucket_of}
+use Rattle.way.specs.Ways.{entry_word, head_word, bucket_word}
+use Rattle.write_op.specs.Ways.{bucket_of}
 use Rattle.write_op.specs.Wanted.{key_for}
 use Rattle.write_op.specs.Causes.{load_of, change_of, IsDecided as IsChangeDecided}
 use Rattle.restart_op.specs.Restarted.{IsPlayableImage}
@@ -149,7 +150,7 @@ module _ (shape : Shape) (words : Words) (did : Doings) (call : Call) where
   abbrev pub IsWatched : ℕ → Type 0
   IsWatched word = (word ≡ root_word)
       ⊎ (((root : ℕ) × Has (root_word, root) did.loads × (word ≡ entry_word shape hash_for root))
-      ⊎ ((segment : ℕ) × IsNamed segment × ((word ≡ head_word shape segment) ⊎ ((side : Side) × (word ≡ block shape segment (bucket_of side hash_for))))))
+      ⊎ ((segment : ℕ) × IsNamed segment × ((word ≡ head_word shape segment) ⊎ ((side : Side) × (word ≡ bucket_word shape segment (bucket_of side hash_for))))))
 
   -- such a word has another value than the attempt loaded, and not by this attempt
   pub record HasMoved (word before after : ℕ) : Type 0 where
