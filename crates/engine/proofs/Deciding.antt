@@ -1,5 +1,5 @@
 -- Where the next event of a caller decides how its attempt ends, the cause of that end is there.
-use Rattle.std.proofs.Common.{◌≡◌, ◌≢◌, ℕ, suc, ◌+◌, ◌*◌, ◌%◌, ◌^◌, ◌<◌, ◌≤◌, inl, inr, ◌⊎◌, ◌==◌, Bool, true, false, cond, Some, List, [], ◌∷◌, length, slice_get, slice_index, refl, sym, ◌∙◌, ap, subst, arith}
+use Rattle.std.proofs.Common.{◌≡◌, ◌≢◌, ℕ, suc, ◌+◌, ◌*◌, ◌%◌, ◌^◌, ◌<◌, ◌≤◌, inl, inr, ◌⊎◌, ◌==◌, Bool, true, false, cond, Some, List, [], ◌∷◌, length, slice_get, slice_index, slice_set, refl, sym, ◌∙◌, ap, subst, arith}
 use Rattle.std.specs.Prelude.{nat_le, nat_lt}
 use Rattle.std.proofs.lemmas.Bool.{eqb-false, lt-ltb}
 use Rattle.std.proofs.lemmas.Option.{same_Some}
@@ -25,13 +25,18 @@ use Rattle.world.specs.Wants.{answer_to, word_of}
 use Rattle.world.specs.Invariant.{Holds}
 use Rattle.world.specs.World.{fresh_view}
 use Rattle.restart_op.specs.Restarted.{words_at_end, site_of, EndsStarted}
+use Rattle.read_op.specs.declared.step.Path.{Path}
+use Rattle.read_op.specs.declared.step.Found.{Found}
+use Rattle.read_op.specs.declared.step.Second.{Second}
+use Rattle.read_op.specs.declared.step.Second.TheVariants as again
+use Rattle.read_op.specs.declared.step.ReadStep.{ReadStep}
 use Rattle.read_op.specs.declared.step.ReadEnd.{ReadEnd}
 use Rattle.read_op.specs.declared.step.ReadEnd.TheVariants as read_end
 use Rattle.read_op.specs.declared.step.ReadStep.TheVariants as reads
 use Rattle.read_op.specs.declared.op.ReadOp.{ReadOp}
-use Rattle.read_op.specs.Steps.{wanted as read_wanted, taken as read_taken}
+use Rattle.read_op.specs.Steps.{wanted as read_wanted, taken as read_taken, wanted_in, next_in, value_of}
 use Rattle.read_op.specs.Fits.{finds as read_finds}
-use Rattle.read_op.specs.Causes.{IsWithin, kept, IsWatched as IsReadWatched}
+use Rattle.read_op.specs.Causes.{IsWithin, kept, kept_in as read_kept_in, Caused as ReadCaused}
 use Rattle.read_op.proofs.Fitting.{wants_by_kind}
 use Rattle.read_op.proofs.Causing.{ends_by_cause as read_causes}
 use Rattle.read_op.proofs.Sounding.{ends_soundly as read_soundly, never_stale as read_never}
@@ -49,7 +54,7 @@ use Rattle.write_op.specs.Ways.{bucket_of, lock_word}
 use Rattle.write_op.specs.Wanted.{key_for, wanted_of}
 use Rattle.write_op.specs.Taken.{begun as write_begun, wanted as write_wanted, taken as write_taken, seen_at, no_room, step_after}
 use Rattle.write_op.specs.Suits.{SuitsStep}
-use Rattle.write_op.specs.Causes.{Finds, after_all, KnowsIn, Remembers, KeepsLoads, RefusalRemembers, EndsByCause, EndsStay, EndsSoundly, NeverStale, AgainByOthers, IsHonest, IsRunning, Answers, Caused, told_word, IsDecided as IsChangeDecided, IsWatched as IsChangeWatched, FindsNoRoom as ChangeFindsNoRoom}
+use Rattle.write_op.specs.Causes.{Finds, AreAmong, kept_in, way_home, whole_way, way_by, after_all, KnowsIn, Remembers, KeepsLoads, RefusalRemembers, EndsByCause, EndsStay, EndsSoundly, NeverStale, AgainByOthers, IsHonest, IsRunning, Answers, Caused, told_word, IsDecided as IsChangeDecided, IsWatched as IsChangeWatched, FindsNoRoom as ChangeFindsNoRoom}
 use Rattle.engine.specs.declared.engine.Op.{Op}
 use Rattle.engine.specs.declared.engine.Op.TheVariants.{Read, Write}
 use Rattle.engine.specs.declared.engine.End.{End}
@@ -60,18 +65,21 @@ use Rattle.engine.specs.Fits.{SuitsOp, KeepsSuits}
 use Rattle.engine.specs.Core.{Caller, Core, current}
 use Rattle.engine.specs.Holding.{IsCalling, DoesCall, CallerFits, CoreHolds, TurnKeeps}
 use Rattle.engine.specs.Laws.{opened, OpenedHolds}
-use Rattle.engine.specs.Causes.{Doings, with_event_of, watched, watched_run, IsDecided, Decides, IsOwnLock, FindsNoRoom, HasReplyCause, HasGetCause, HasChangeCause, HasCause, EndsHaveCauses}
+use Rattle.engine.specs.Causes.{Doings, with_event_of, watched, watched_run, IsDecided, Decides, IsOwnLock, IsNamed, FindsNoRoom, HasReplyCause, HasGetCause, HasChangeCause, HasCause, EndsHaveCauses}
 use Rattle.engine.proofs.Ways.{read_value, go_on_by}
 use Rattle.engine.proofs.Places.{zip_at}
 use Rattle.engine.proofs.Turning.{run_keeps}
 use Rattle.engine.proofs.Powered.{run_powered, restart_powered}
-use Rattle.engine.proofs.Doing.{watching, ReadDid, done_next, WriteDid, OpDid, remembers, IsDoing, run_does, begin_doing}
+use Rattle.engine.proofs.Doing.{InDepth, InDepthOrTold, done_depth, RootIn, watching, ReadDid, done_next, WriteDid, OpDid, remembers, IsDoing, run_does, begin_doing}
 
 -- ---- words that are watched, in an image of this shape, by a hash
+abbrev NamedBy : Shape → ℕ → List (ℕ × ℕ) → ℕ → Type 0
+NamedBy g hash loads segment = (root : ℕ) × (Has (root_word, root) loads × (root ≤ g.depth)) × Has (entry_word g hash root, segment) loads
+
 abbrev IsWatchedBy : Shape → ℕ → List (ℕ × ℕ) → ℕ → Type 0
 IsWatchedBy g hash loads word = (word ≡ root_word)
-    ⊎ (((root : ℕ) × Has (root_word, root) loads × (word ≡ entry_word g hash root))
-    ⊎ ((segment : ℕ) × ((root : ℕ) × Has (entry_word g hash root, segment) loads) × ((word ≡ head_word g segment) ⊎ ((side : Side) × (word ≡ bucket_word g segment (bucket_of side hash))))))
+    ⊎ (((root : ℕ) × (Has (root_word, root) loads × (root ≤ g.depth)) × (word ≡ entry_word g hash root))
+    ⊎ ((segment : ℕ) × NamedBy g hash loads segment × ((word ≡ head_word g segment) ⊎ ((side : Side) × (word ≡ bucket_word g segment (bucket_of side hash))))))
 
 within_has : (xs ys : List (ℕ × ℕ)) → IsWithin xs ys → (p : ℕ × ℕ) → Has p xs → Has p ys
 within_has [] ys w p has = absurd has
@@ -80,23 +88,111 @@ within_has (x ∷ xs) (y ∷ ys) (inl here) p (inl is) = inl (is ∙ here.0)
 within_has (x ∷ xs) (y ∷ ys) (inl here) p (inr has) = inr (within_has xs ys here.1 p has)
 within_has (x ∷ xs) (y ∷ ys) (inr later) p has = inr (within_has (x ∷ xs) ys later p has)
 
-head_or_lock : (g : Shape) (hash segment word : ℕ) → (word ≡ head_word g segment) ⊎ (word ≡ bucket_word g segment (bucket_of Home hash))
-    → (word ≡ head_word g segment) ⊎ ((side : Side) × (word ≡ bucket_word g segment (bucket_of side hash)))
-head_or_lock g hash segment word (inl is) = inl is
-head_or_lock g hash segment word (inr is) = inr (Home, is)
+same_load : (i word : ℕ) → want.Load i ≡ want.Load word → word ≡ i
+same_load i word is = cc
 
-get_watched : (op : ReadOp) (loads : List (ℕ × ℕ)) (word : ℕ) → ((p : ℕ × ℕ) → Has p (kept op) → Has p loads) → IsReadWatched op op.step word
-    → IsWatchedBy op.site.geometry op.hash loads word
-get_watched op loads word among (inl is) = inl is
-get_watched op loads word among (inr (inl at)) = inr (inl (at.0, among (root_word, at.0) at.1, at.2))
-get_watched op loads word among (inr (inr at)) =
-    inr (inr (at.0, (at.1.0, among (entry_word op.site.geometry op.hash at.1.0, at.0) at.1.2), head_or_lock op.site.geometry op.hash at.0 word at.2))
+filling_goes : (b : Bool) (path : Path) (free next : ℕ) (words : List ℕ) (found : Found) (e : ReadEnd) → cond b (reads.Fill path free words next) (reads.Count found) ≡ reads.Ended e → ⊥
+filling_goes true path free next words found e is = absurd (cc)
+filling_goes false path free next words found e is = absurd (cc)
 
-change_watched : (t : Task) (k : Kept) (s : Step) (a : Ans) (loads : List (ℕ × ℕ)) (word : ℕ) → IsChangeWatched t k s a loads word → IsWatchedBy t.site.geometry t.hash loads word
-change_watched t k s a loads word (inl is) = inl is
-change_watched t k s a loads word (inr (inl at)) = inr (inl (k.root, at.1, at.0))
-change_watched t k s a loads word (inr (inr (inl at))) = inr (inr (k.segment, (k.root, at.1), inl at.0))
-change_watched t k s a loads word (inr (inr (inr at))) = inr (inr (k.segment, (k.root, at.2), inr (at.0, at.1)))
+-- the word that a get is told to have moved, by its step
+module _ (op : ReadOp) (loads : List (ℕ × ℕ)) (word old new n : ℕ) where
+  abbrev Watched : Type 0
+  Watched = IsWatchedBy op.site.geometry op.hash loads word
+
+  abbrev Told : ReadStep → Type 0
+  Told s = next_in op s n ≡ reads.Ended (read_end.Again (Moved word old new))
+
+  abbrev Among : ReadStep → Type 0
+  Among s = (p : ℕ × ℕ) → Has p (read_kept_in op s) → Has p loads
+
+  abbrev Entry : ℕ → ℕ → ℕ × ℕ
+  Entry root segment = (entry_word op.site.geometry op.hash root, segment)
+
+  check_watched : (found : Found) (place : ℕ) (at : Second) → (Has (root_word, found.path.root) loads × (found.path.root ≤ op.site.geometry.depth))
+      → Has (Entry found.path.root found.path.segment) loads → wanted_in op (reads.Check found place at) ≡ want.Load word → Watched
+  check_watched found place again.Root root entry asks = inl (same_load root_word word asks)
+  check_watched found place again.Entry root entry asks = inr (inl (found.path.root, root, same_load (entry_word op.site.geometry op.hash found.path.root) word asks))
+  check_watched found place again.Head root entry asks =
+      inr (inr (found.path.segment, (found.path.root, root, entry), inl (same_load (head_word op.site.geometry found.path.segment) word asks)))
+  check_watched found place again.Lock root entry asks =
+      inr (inr (found.path.segment, (found.path.root, root, entry), inr (Home, same_load (bucket_word op.site.geometry found.path.segment (bucket_of Home op.hash)) word asks)))
+
+  get_watched : (s : ReadStep) → Among s → RootIn op s → wanted_in op s ≡ want.Load word → Told s → Watched
+  get_watched reads.Power among low asks told = absurd (cc)
+  get_watched reads.Root among low asks told = inl (same_load root_word word asks)
+  get_watched (reads.Entry root) among low asks told =
+      inr (inl (root, (among (root_word, root) (inl refl), low), same_load (entry_word op.site.geometry op.hash root) word asks))
+  get_watched (reads.Head root segment) among low asks told = inr (inr (
+    segment,
+    (root, (among (root_word, root) (inr (inl refl)), low), among (Entry root segment) (inl refl)),
+    inl (same_load (head_word op.site.geometry segment) word asks),
+  ))
+  get_watched (reads.Lock path) among low asks told = inr (inr (
+    path.segment,
+    (path.root, (among (root_word, path.root) (inr (inr (inl refl))), low), among (Entry path.root path.segment) (inr (inl refl))),
+    inr (Home, same_load (bucket_word op.site.geometry path.segment (bucket_of Home op.hash)) word asks),
+  ))
+  get_watched (reads.Fill path free words next) among low asks told =
+      let filled = slice_set words next n in
+      absurd (filling_goes (nat_lt next 31) path free (next + 1) filled (record { path = path; free = free; value = value_of filled op.key }) (read_end.Again (Moved word old new)) told)
+  get_watched (reads.Count found) among low asks told = absurd (cc)
+  get_watched (reads.Check found place at) among low asks told =
+      check_watched found place at (among (root_word, found.path.root) (inr (inr (inr (inr (inl refl))))), low)
+      (among (Entry found.path.root found.path.segment) (inr (inr (inr (inl refl))))) asks
+  get_watched (reads.Ended end) among low asks told = absurd (cc)
+
+-- an event that found a value looked at the word
+abbrev Looks : Want → ℕ → Type 0
+Looks (want.Load i) word = i ≡ word
+Looks (want.Exchange i x y) word = i ≡ word
+Looks w word = ⊥
+
+found_looks : (w : Want) (a : Ans) (word seen : ℕ) → Finds w a word seen → Looks w word
+found_looks (want.Load i) (Value n) word seen f = f.0
+found_looks (want.Exchange i x y) (Lost n) word seen f = f.0
+found_looks w a word seen f = absurd f
+
+-- the word that a change is told to have moved, by its step
+module _ (t : Task) (k : Kept) (loads : List (ℕ × ℕ)) (low : k.root ≤ t.site.geometry.depth) where
+  abbrev Root : Type 0
+  Root = Has (root_word, k.root) loads × (k.root ≤ t.site.geometry.depth)
+
+  abbrev Named : Type 0
+  Named = NamedBy t.site.geometry t.hash loads k.segment
+
+  whole_named : AreAmong (whole_way t k) loads → Named
+  whole_named way = (k.root, (way.1.1.1.1.0, low), way.1.1.1.0)
+
+  home_named : AreAmong (way_home t k) loads → Named
+  home_named way = (k.root, (way.1.1.1.0, low), way.1.1.0)
+
+  side_named : (side : Side) → AreAmong (way_by t k side) loads → Named
+  side_named Home way = home_named way
+  side_named Probing way = whole_named way
+
+  look_named : (side : Side) → AreAmong (kept_in t k (LookAt side)) loads → Named
+  look_named Home way = (k.root, (way.1.1.0, low), way.1.0)
+  look_named Probing way = home_named way
+
+  named_watched : (s : Step) (a : Ans) (word : ℕ) → Named → IsChangeWatched t k s a loads word → IsWatchedBy t.site.geometry t.hash loads word
+  named_watched s a word named (inl is) = inl is
+  named_watched s a word named (inr (inl at)) = inr (inl (k.root, (at.1, low), at.0))
+  named_watched s a word named (inr (inr (inl at))) = inr (inr (k.segment, named, inl at.0))
+  named_watched s a word named (inr (inr (inr at))) = inr (inr (k.segment, named, inr (at.0, at.1)))
+
+  change_watched : (s : Step) (a : Ans) (word : ℕ) → AreAmong (kept_in t k s) loads → ((e : WriteEnd) → IsChangeDecided s e → ⊥) → Looks (wanted_of t k s) word
+      → IsChangeWatched t k s a loads word → IsWatchedBy t.site.geometry t.hash loads word
+  change_watched AskPower a word way still looks watched = absurd looks
+  change_watched LoadRoot a word way still looks watched = inl (sym looks)
+  change_watched LoadEntry a word way still looks watched = inr (inl (k.root, (way.0, low), sym looks))
+  change_watched LoadHead a word way still looks watched = named_watched LoadHead a word (k.root, (way.1.0, low), way.0) watched
+  change_watched (LookAt side) a word way still looks watched = named_watched (LookAt side) a word (look_named side way) watched
+  change_watched (TryLock side) a word way still looks watched = named_watched (TryLock side) a word (side_named side way) watched
+  change_watched (CountSpent side) a word way still looks watched = named_watched (CountSpent side) a word (side_named side way) watched
+  change_watched (GiveBack held end) a word way still looks watched = absurd (still end refl)
+  change_watched (Ended end) a word way still looks watched = absurd (still end refl)
+  change_watched s a word way still looks watched = named_watched s a word (whole_named way) watched
 
 -- ---- what an event of a change finds is the newest value
 lost_finds : (words : Words) (i x y word seen : ℕ) (b : Bool) → Finds (want.Exchange i x y) (cond b Won (Lost (words i))) word seen → words word ≡ seen
@@ -205,6 +301,10 @@ module _ (laws : ChangeCauses) (site : Site) (here : Here) (call : Call) (words 
     get_hash : op.hash ≡ hash_here
     get_hash = suits.2.hash ∙ ap (λ c. key_hash site.shape (key_for c)) (sym suits.0)
 
+    get_loads : (word old new : ℕ) → ReadCaused op read (read_end.Again (Moved word old new)) → read_wanted op ≡ want.Load word
+    get_loads word old new (inl c) = c.loads
+    get_loads word old new (inr c) = c.loads
+
     get_by : (end : ReadEnd) → (read_taken op (Value read)).step ≡ reads.Ended end → HasGetCause site.shape words d call end
     get_by (read_end.Found value place) so = tt
     get_by (read_end.Absent place) so = tt
@@ -218,7 +318,8 @@ module _ (laws : ChangeCauses) (site : Site) (here : Here) (call : Call) (words 
     get_by (read_end.Again (Moved word old new)) so =
         let m = (read_soundly site op words views j v h at suits.2 suits.3 suits.4.held asks).moved word old new so in
         let among = within_has (kept op) d.loads did.within in record {
-          watched = subst (λ m. IsWatchedBy site.shape m d.loads word) get_hash (subst (λ g. IsWatchedBy g op.hash d.loads word) suits.2.shape (get_watched op d.loads word among m.1));
+          watched = subst (λ m. IsWatchedBy site.shape m d.loads word) get_hash (subst (λ g. IsWatchedBy g op.hash d.loads word) suits.2.shape
+          (get_watched op d.loads word old new read op.step among did.root_in (get_loads word old new (read_causes op read (read_end.Again (Moved word old new)) asks so)) so));
           loaded = among (word, old) m.0;
           newest = m.2;
           differ = m.3;
@@ -246,6 +347,15 @@ module _ (laws : ChangeCauses) (site : Site) (here : Here) (call : Call) (words 
     remembered (inl has) = remembers laws.keeps laws.refuses laws.stays op d has
     remembered (inr (inl full)) = full.1
     remembered (inr (inr one)) = absurd (still (Replied one.0 one.1) one.2)
+
+    undecided_depth : InDepthOrTold op → InDepth op
+    undecided_depth (inl low) = low
+    undecided_depth (inr told) = absurd (still (Again told.0) told.1)
+
+    depth : WriteDid op d → InDepth op
+    depth (inl has) = undecided_depth (done_depth laws.stays op d has)
+    depth (inr (inl full)) = full.2
+    depth (inr (inr one)) = absurd (still (Replied one.0 one.1) one.2)
 
     running : IsRunning site op words d.loads views j before v
     running = record { holds = h; seat = at; is_in = suits.2; suits = suits.4; remembers = remembered did; open_still = still }
@@ -301,14 +411,24 @@ module _ (laws : ChangeCauses) (site : Site) (here : Here) (call : Call) (words 
       );
     }
 
+    -- its segment was named, and is one of the image
+    full_named : op.step ≡ CountFull → IsNamed site.shape words d call op.kept.segment
+    full_named full =
+        let way = subst (λ s. AreAmong (kept_in op.task op.kept s) d.loads) full (remembered did).way in
+        subst (λ m. NamedBy site.shape m d.loads op.kept.segment) change_hash (subst (λ g. NamedBy g op.task.hash d.loads op.kept.segment) suits.2.shape
+        (whole_named op.task op.kept d.loads (depth did) way))
+
+    full_within : op.kept.segment ≡ 0 → op.kept.segment < site.shape.segments
+    full_within first = let one = h.site_is.front.one_segment in omega (arith, one, first)
+
     reply_by : (r : Reply) (place : ℕ) → op.kept.segment ≡ 0 → IsChangeDecided next.step (Replied r place) → Answers op.task op.kept op.step answer d.loads r place
         → HasReplyCause site.shape words d call r
     reply_by Full place first so c =
         let told = (laws.in_world site op words d.loads views j before v running).full place so in
-        (full_bucket first c.2, (op.kept.segment, op.kept.head, told.0, told.1), told.2)
+        (full_bucket first c.2, (op.kept.segment, full_named c.0, full_within first, op.kept.head, told.0, told.1), told.2)
     reply_by Deep place first so c =
         let told = (laws.in_world site op words d.loads views j before v running).deep place so in
-        (full_bucket first c.2, (op.kept.segment, op.kept.head, told.0, told.1))
+        (full_bucket first c.2, (op.kept.segment, full_named c.0, full_within first, op.kept.head, told.0, told.1))
     reply_by Spent place first so c = elim c.1 [
       | inl most ↦
           let newest = ap (λ g. words (counter_word g)) (sym suits.2.shape) ∙ finds_newest op.task.site.geometry words (write_wanted op) (counter_word op.task.site.geometry) place c.0 in
@@ -320,6 +440,10 @@ module _ (laws : ChangeCauses) (site : Site) (here : Here) (call : Call) (words 
     watched_by : (word old new : ℕ) → Caused op answer d.loads (Again (Moved word old new)) → IsChangeWatched op.task op.kept op.step answer d.loads word
     watched_by word old new (inl c) = c.watched
     watched_by word old new (inr c) = c.watched
+
+    looked_by : (word old new : ℕ) → Caused op answer d.loads (Again (Moved word old new)) → Looks (write_wanted op) word
+    looked_by word old new (inl c) = found_looks (write_wanted op) answer word new c.finds
+    looked_by word old new (inr c) = found_looks (write_wanted op) answer word new c.finds
 
     never_off : Caused op answer d.loads Off → ⊥
     never_off off =
@@ -340,7 +464,8 @@ module _ (laws : ChangeCauses) (site : Site) (here : Here) (call : Call) (words 
         }
     change_by (Again (Moved word old new)) on so =
         let m = (laws.in_world site op words d.loads views j before v running).moved word old new so in
-        let w = change_watched op.task op.kept op.step answer d.loads word (watched_by word old new (caused (Again (Moved word old new)) so)) in record {
+        let c = caused (Again (Moved word old new)) so in
+        let w = change_watched op.task op.kept d.loads (depth did) op.step answer word (remembered did).way still (looked_by word old new c) (watched_by word old new c) in record {
           watched = subst (λ m. IsWatchedBy site.shape m d.loads word) change_hash (subst (λ g. IsWatchedBy g op.task.hash d.loads word) suits.2.shape w);
           loaded = m.0;
           newest = m.1;

@@ -141,15 +141,19 @@ module _ (shape : Shape) (words : Words) (did : Doings) (call : Call) where
     pub odd : value % 2 ≡ 1
     pub by_others : Has word did.changed → ⊥
 
-  -- a segment that the directory entry of the key's hash named when it was loaded
+  -- a root depth that was loaded, and that the image may have
+  abbrev pub IsDepth : ℕ → Type 0
+  IsDepth root = Has (root_word, root) did.loads × (root ≤ shape.depth)
+
+  -- a segment that the directory entry of the key's hash, at such a root depth, named when it was loaded
   abbrev pub IsNamed : ℕ → Type 0
-  IsNamed segment = (root : ℕ) × Has (entry_word shape hash_for root, segment) did.loads
+  IsNamed segment = (root : ℕ) × IsDepth root × Has (entry_word shape hash_for root, segment) did.loads
 
   -- a word by which the attempt found its bucket: the root's, the directory entry at the root depth that was loaded, or the
   -- header word or a lock word in a segment that was named
   abbrev pub IsWatched : ℕ → Type 0
   IsWatched word = (word ≡ root_word)
-      ⊎ (((root : ℕ) × Has (root_word, root) did.loads × (word ≡ entry_word shape hash_for root))
+      ⊎ (((root : ℕ) × IsDepth root × (word ≡ entry_word shape hash_for root))
       ⊎ ((segment : ℕ) × IsNamed segment × ((word ≡ head_word shape segment) ⊎ ((side : Side) × (word ≡ bucket_word shape segment (bucket_of side hash_for))))))
 
   -- such a word has another value than the attempt loaded, and not by this attempt
@@ -173,9 +177,9 @@ module _ (shape : Shape) (words : Words) (did : Doings) (call : Call) where
   abbrev pub WasHead : ℕ → ℕ → Type 0
   WasHead slot head = Has (head_at shape slot + 1, head) did.loads
 
-  -- the header that it loaded of its segment has such a depth
+  -- the header that it loaded of its segment, one of the image that was named, has such a depth
   abbrev pub HasDepth : (ℕ → Type 0) → Type 0
-  HasDepth Passes = (segment : ℕ) × (head : ℕ) × WasHead segment head × Passes (depth_in head)
+  HasDepth Passes = (segment : ℕ) × IsNamed segment × (segment < shape.segments) × (head : ℕ) × WasHead segment head × Passes (depth_in head)
 
   -- it loaded the header of each slot, and found none free
   abbrev pub NoSlotIsFree : Type 0
