@@ -60,12 +60,12 @@ use Rattle.engine.specs.declared.engine.Op.TheVariants.{Read, Write}
 use Rattle.engine.specs.declared.engine.End.{End}
 use Rattle.engine.specs.declared.engine.End.TheVariants as ends
 use Rattle.engine.specs.declared.engine.Engine.{Engine}
-use Rattle.engine.specs.Engine.{wanted_by_op, taken_by_op, go_on, go_on_at}
+use Rattle.engine.specs.Engine.{wanted, wanted_by_op, taken_by_op, go_on, go_on_at}
 use Rattle.engine.specs.Fits.{SuitsOp, KeepsSuits}
 use Rattle.engine.specs.Core.{Caller, Core, current}
 use Rattle.engine.specs.Holding.{IsCalling, DoesCall, CallerFits, CoreHolds, TurnKeeps}
 use Rattle.engine.specs.Laws.{opened, OpenedHolds}
-use Rattle.engine.specs.Causes.{Doings, with_event_of, watched, watched_run, IsDecided, Decides, IsOwnLock, IsNamed, FindsNoRoom, HasReplyCause, HasGetCause, HasChangeCause, HasCause, EndsHaveCauses}
+use Rattle.engine.specs.Causes.{Doings, with_event_of, watched, watched_run, IsDecided, Decides, IsOwnLock, IsNamed, Looked, FindsNoRoom, HasReplyCause, HasGetCause, HasChangeCause, HasCause, EndsHaveCauses}
 use Rattle.engine.proofs.Ways.{read_value, go_on_by}
 use Rattle.engine.proofs.Places.{zip_at}
 use Rattle.engine.proofs.Turning.{run_keeps}
@@ -305,33 +305,37 @@ module _ (laws : ChangeCauses) (site : Site) (here : Here) (call : Call) (words 
     get_loads word old new (inl c) = c.loads
     get_loads word old new (inr c) = c.loads
 
-    get_by : (end : ReadEnd) → (read_taken op (Value read)).step ≡ reads.Ended end → HasGetCause site.shape words d call end
+    get_looked : (word seen : ℕ) → read_wanted op ≡ want.Load word → words word ≡ seen → Looked site.shape words d call (read_wanted op) word seen
+    get_looked word seen loads newest = subst (λ w. Looked site.shape words d call w word seen) (sym loads) (refl, newest)
+
+    get_by : (end : ReadEnd) → (read_taken op (Value read)).step ≡ reads.Ended end → HasGetCause site.shape words d call (read_wanted op) end
     get_by (read_end.Found value place) so = tt
     get_by (read_end.Absent place) so = tt
     get_by (read_end.Again (Busy word value)) so =
-        let b = (read_soundly site op words views j v h at suits.2 suits.3 suits.4.held asks).busy word value so in record {
+        let b = (read_soundly site op words views j v h at suits.2 suits.3 suits.4.held asks).busy word value so in (get_looked word value (read_causes op read (read_end.Again (Busy word value)) asks so).loads b.2, record {
           own = inl (b.1 ∙ ap (λ c. home_at site.shape (key_for c)) (sym suits.0));
           newest = b.2;
           odd = b.3;
           by_others = λ has. subst (λ cs. Has word cs) did.none has;
-        }
+        })
     get_by (read_end.Again (Moved word old new)) so =
         let m = (read_soundly site op words views j v h at suits.2 suits.3 suits.4.held asks).moved word old new so in
-        let among = within_has (kept op) d.loads did.within in record {
+        let among = within_has (kept op) d.loads did.within in
+        let loads = get_loads word old new (read_causes op read (read_end.Again (Moved word old new)) asks so) in (get_looked word new loads m.2, record {
           watched = subst (λ m. IsWatchedBy site.shape m d.loads word) get_hash (subst (λ g. IsWatchedBy g op.hash d.loads word) suits.2.shape
-          (get_watched op d.loads word old new read op.step among did.root_in (get_loads word old new (read_causes op read (read_end.Again (Moved word old new)) asks so)) so));
+          (get_watched op d.loads word old new read op.step among did.root_in loads so));
           loaded = among (word, old) m.0;
           newest = m.2;
           differ = m.3;
           by_others = λ has. subst (λ cs. Has word cs) did.none has;
-        }
+        })
     get_by (read_end.Stale segment byte) so =
         read_never site op words views j v h at suits.2 suits.3 asks (ap (λ (s : Here). s.version) suits.1 ∙ version) segment byte so
     get_by read_end.Off so =
         let c = read_causes op read read_end.Off asks so in
         c.off (read_is ∙ (ap (λ x. words (word_of site.shape x)) c.loads ∙ powered))
 
-    get_cause : (end : ReadEnd) → (read_taken op (answer_to (read_wanted op) found)).step ≡ reads.Ended end → HasGetCause site.shape words d call end
+    get_cause : (end : ReadEnd) → (read_taken op (answer_to (read_wanted op) found)).step ≡ reads.Ended end → HasGetCause site.shape words d call (read_wanted op) end
     get_cause end decides = get_by end (subst (λ n. (read_taken op (Value n)).step ≡ reads.Ended end) (sym read_is)
         (subst (λ a. (read_taken op a).step ≡ reads.Ended end) (read_value op op.step found asks) decides))
 
@@ -441,9 +445,15 @@ module _ (laws : ChangeCauses) (site : Site) (here : Here) (call : Call) (words 
     watched_by word old new (inl c) = c.watched
     watched_by word old new (inr c) = c.watched
 
+    change_looked : (word seen : ℕ) → Finds (write_wanted op) answer word seen → Looked site.shape words d call (write_wanted op) word seen
+    change_looked word seen f = subst (λ g. Finds (write_wanted op) (answer_to (write_wanted op) (words (word_of g (write_wanted op)))) word seen) suits.2.shape f
+
+    moved_finds : (word old new : ℕ) → Caused op answer d.loads (Again (Moved word old new)) → Finds (write_wanted op) answer word new
+    moved_finds word old new (inl c) = c.finds
+    moved_finds word old new (inr c) = c.finds
+
     looked_by : (word old new : ℕ) → Caused op answer d.loads (Again (Moved word old new)) → Looks (write_wanted op) word
-    looked_by word old new (inl c) = found_looks (write_wanted op) answer word new c.finds
-    looked_by word old new (inr c) = found_looks (write_wanted op) answer word new c.finds
+    looked_by word old new c = found_looks (write_wanted op) answer word new (moved_finds word old new c)
 
     never_off : Caused op answer d.loads Off → ⊥
     never_off off =
@@ -452,32 +462,32 @@ module _ (laws : ChangeCauses) (site : Site) (here : Here) (call : Call) (words 
         let value : off.0 ≡ words (power_word op.task.site.geometry) = cc in
         off.3 (value ∙ (ap (λ g. words (power_word g)) suits.2.shape ∙ powered))
 
-    change_by : (end : WriteEnd) → (next.step ≡ Ended NoSlot → ⊥) → IsChangeDecided next.step end → HasChangeCause site.shape words d call end
+    change_by : (end : WriteEnd) → (next.step ≡ Ended NoSlot → ⊥) → IsChangeDecided next.step end → HasChangeCause site.shape words d call (write_wanted op) end
     change_by (Replied r place) on so = reply_by r place (first_at op.task op.kept v op.step answer r place suits.4.view still so) so (caused (Replied r place) so)
     change_by NoSlot on so = on (goes_on did so)
     change_by (Again (Busy word value)) on so =
-        let b = (laws.in_world site op words d.loads views j before v running).busy word value so in record {
+        let b = (laws.in_world site op words d.loads views j before v running).busy word value so in (change_looked word value (caused (Again (Busy word value)) so).finds, record {
           own = subst (λ c. IsOwnLock site.shape words d c word) suits.0 b.1;
           newest = b.2;
           odd = b.3;
           by_others = not_by_this did (Busy word value) so;
-        }
+        })
     change_by (Again (Moved word old new)) on so =
         let m = (laws.in_world site op words d.loads views j before v running).moved word old new so in
         let c = caused (Again (Moved word old new)) so in
-        let w = change_watched op.task op.kept d.loads (depth did) op.step answer word (remembered did).way still (looked_by word old new c) (watched_by word old new c) in record {
+        let w = change_watched op.task op.kept d.loads (depth did) op.step answer word (remembered did).way still (looked_by word old new c) (watched_by word old new c) in (change_looked word new (moved_finds word old new c), record {
           watched = subst (λ m. IsWatchedBy site.shape m d.loads word) change_hash (subst (λ g. IsWatchedBy g op.task.hash d.loads word) suits.2.shape w);
           loaded = m.0;
           newest = m.1;
           differ = m.2;
           by_others = not_by_this did (Moved word old new) so;
-        }
+        })
     change_by (Stale segment byte) on so =
         laws.current site op words d.loads views j before v running (ap (λ (s : Here). s.version) suits.1 ∙ version) segment byte so
     change_by Off on so = never_off (caused Off so)
 
     change_cause : (end : WriteEnd) → IsChangeDecided (go_on (write_taken op (answer_to (write_wanted op) (words (word_of site.shape (write_wanted op)))))).step end
-        → HasChangeCause site.shape words d call end
+        → HasChangeCause site.shape words d call (write_wanted op) end
     change_cause end decides =
         let here_so : IsChangeDecided (go_on next).step end
         = subst (λ g. IsChangeDecided (go_on (write_taken op (answer_to (write_wanted op) (words (word_of g (write_wanted op)))))).step end) (sym suits.2.shape) decides in
@@ -487,7 +497,7 @@ module _ (laws : ChangeCauses) (site : Site) (here : Here) (call : Call) (words 
         ]
 
   op_cause : (op : Op) (end : End) → SuitsOp site here call op before v → wanted_by_op op ≢ want.Done → OpDid op d → ((other : End) → IsDecided op other → ⊥)
-      → IsDecided (taken_by_op op (answer_to (wanted_by_op op) (words (word_of site.shape (wanted_by_op op))))) end → HasCause site.shape words d call end
+      → IsDecided (taken_by_op op (answer_to (wanted_by_op op) (words (word_of site.shape (wanted_by_op op))))) end → HasCause site.shape words d call (wanted_by_op op) end
   op_cause (Read op) (ends.Read end) suits asks did still decides = get_cause op suits asks did end decides
   op_cause (Write op) (ends.Write end) suits asks did still decides = change_cause op suits did (λ e is. still (ends.Write e) is) end decides
   op_cause (Read op) (ends.Write end) suits asks did still decides = absurd decides
@@ -497,12 +507,12 @@ module _ (laws : ChangeCauses) (site : Site) (here : Here) (call : Call) (words 
 module _ (laws : ChangeCauses) (site : Site) (start : Words) (core : Core) (h : CoreHolds site start core) (version : ℕ) (current_is : version ≡ site.front state_word % 2 ^ 8)
     (powered : core.words (power_word site.shape) ≡ 0) where
   core_cause : (j : ℕ) (c : Caller) (call : Call) (e : Engine) (end : End) (d : Doings) → slice_get core.callers j ≡ Some c → current c ≡ Some call → c.engine ≡ Some e
-      → IsDoing version c d → Decides site.shape core.words e end → HasCause site.shape core.words d call end
+      → IsDoing version c d → Decides site.shape core.words e end → HasCause site.shape core.words d call (wanted e) end
   core_cause j c call e end d there calls runs doing decides =
       let z = zip_at (CallerFits site) core.callers h.views j c h.each there in
       let calling : IsCalling site c e z.0 = subst (λ o. DoesCall site c o z.0) runs z.2.does in
       let same : calling.call ≡ call = same_Some calling.call call (sym calling.is_current ∙ calls) in
-      subst (λ x. HasCause site.shape core.words d x end) same
+      subst (λ x. HasCause site.shape core.words d x (wanted e) end) same
       (op_cause laws site c.site calling.call core.words (fresh_view 0 ∷ h.views) (suc j) calling.before z.0 h.well.holds z.1 (doing.version_is ∙ current_is) powered d e.op end
       calling.suits.suits calling.suits.asks (doing.did e runs) decides.undecided decides.decides)
 

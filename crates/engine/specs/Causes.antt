@@ -29,7 +29,7 @@ use Rattle.write_op.specs.declared.control.WriteEnd.TheVariants as write_end
 use Rattle.way.specs.Ways.{entry_word, head_word, bucket_word}
 use Rattle.write_op.specs.Ways.{bucket_of}
 use Rattle.write_op.specs.Wanted.{key_for}
-use Rattle.write_op.specs.Causes.{load_of, change_of, IsDecided as IsChangeDecided}
+use Rattle.write_op.specs.Causes.{Finds, load_of, change_of, IsDecided as IsChangeDecided}
 use Rattle.restart_op.specs.Restarted.{IsPlayableImage}
 use Rattle.engine.specs.declared.engine.Op.{Op}
 use Rattle.engine.specs.declared.engine.Op.TheVariants.{Read, Write}
@@ -196,30 +196,36 @@ module _ (shape : Shape) (words : Words) (did : Doings) (call : Call) where
   HasReplyCause Spent = IsSpent
   HasReplyCause r = ⊤
 
-  -- of being told to try again
-  abbrev pub HasAgainCause : Why → Type 0
-  HasAgainCause (Busy word value) = IsTaken word value
-  HasAgainCause (Moved word before after) = HasMoved word before after
+  -- where the event that decides is this one
+  module _ (event : Want) where
+    -- the event loaded this word, or tried to exchange it in vain, and found this value
+    abbrev pub Looked : ℕ → ℕ → Type 0
+    Looked word seen = Finds event (answer_to event (words (word_of shape event))) word seen
 
-  -- no segment is ever stale, and no attempt finds the power off
-  abbrev pub HasGetCause : ReadEnd → Type 0
-  HasGetCause (read_end.Found value place) = ⊤
-  HasGetCause (read_end.Absent place) = ⊤
-  HasGetCause (read_end.Again why) = HasAgainCause why
-  HasGetCause (read_end.Stale segment byte) = ⊥
-  HasGetCause read_end.Off = ⊥
+    -- of being told to try again
+    abbrev pub HasAgainCause : Why → Type 0
+    HasAgainCause (Busy word value) = Looked word value × IsTaken word value
+    HasAgainCause (Moved word before after) = Looked word after × HasMoved word before after
 
-  -- a change that found no slot goes on to its refusal, so that this is never its end
-  abbrev pub HasChangeCause : WriteEnd → Type 0
-  HasChangeCause (write_end.Replied r place) = HasReplyCause r
-  HasChangeCause write_end.NoSlot = ⊥
-  HasChangeCause (write_end.Again why) = HasAgainCause why
-  HasChangeCause (write_end.Stale segment byte) = ⊥
-  HasChangeCause write_end.Off = ⊥
+    -- no segment is ever stale, and no attempt finds the power off
+    abbrev pub HasGetCause : ReadEnd → Type 0
+    HasGetCause (read_end.Found value place) = ⊤
+    HasGetCause (read_end.Absent place) = ⊤
+    HasGetCause (read_end.Again why) = HasAgainCause why
+    HasGetCause (read_end.Stale segment byte) = ⊥
+    HasGetCause read_end.Off = ⊥
 
-  abbrev pub HasCause : End → Type 0
-  HasCause (ends.Read end) = HasGetCause end
-  HasCause (ends.Write end) = HasChangeCause end
+    -- a change that found no slot goes on to its refusal, so that this is never its end
+    abbrev pub HasChangeCause : WriteEnd → Type 0
+    HasChangeCause (write_end.Replied r place) = HasReplyCause r
+    HasChangeCause write_end.NoSlot = ⊥
+    HasChangeCause (write_end.Again why) = HasAgainCause why
+    HasChangeCause (write_end.Stale segment byte) = ⊥
+    HasChangeCause write_end.Off = ⊥
+
+    abbrev pub HasCause : End → Type 0
+    HasCause (ends.Read end) = HasGetCause end
+    HasCause (ends.Write end) = HasChangeCause end
 
 -- ---- the laws
 -- watching changes nothing
@@ -229,7 +235,7 @@ WatchingChangesNothing = (shape : Shape) (w : Watched) (turns : List ℕ) → (w
 -- whichever caller has its turn next, where its event decides the attempt the cause is there
 abbrev pub CausesAreThere : Shape → Watched → Type 0
 CausesAreThere shape w = (j : ℕ) (caller : Caller) (call : Call) (e : Engine) (end : End) → slice_get w.core.callers j ≡ Some caller
-    → current caller ≡ Some call → caller.engine ≡ Some e → Decides shape w.core.words e end → HasCause shape w.core.words (w.doings j) call end
+    → current caller ≡ Some call → caller.engine ≡ Some e → Decides shape w.core.words e end → HasCause shape w.core.words (w.doings j) call (wanted e) end
 
 -- EACH END HAS ITS CAUSE, over all turns: from every sound image that may be played, whatever calls up to 64 callers have, and
 -- whatever turns they take
