@@ -1,12 +1,12 @@
 -- Where the next event of a caller decides how its attempt ends, the cause of that end is there.
-use Rattle.std.proofs.Common.{◌≡◌, ◌≢◌, ℕ, suc, ◌+◌, ◌*◌, ◌%◌, ◌^◌, ◌<◌, ◌≤◌, inl, inr, ◌⊎◌, ◌==◌, Bool, true, false, cond, Some, List, [], ◌∷◌, length, slice_get, slice_index, slice_set, refl, sym, ◌∙◌, ap, subst, arith}
-use Rattle.std.specs.Prelude.{nat_le, nat_lt}
+use Rattle.std.proofs.Common.{◌≡◌, ◌≢◌, ℕ, suc, ◌+◌, ◌*◌, ◌%◌, ◌^◌, ◌<◌, ◌≤◌, inl, inr, ◌⊎◌, ◌==◌, Bool, true, false, cond, Option, None, Some, ◌-◌, List, [], ◌∷◌, length, slice_get, slice_index, slice_set, refl, sym, ◌∙◌, ap, subst, arith}
+use Rattle.std.specs.Prelude.{nat_le, nat_lt, replicate}
 use Rattle.std.proofs.lemmas.Bool.{eqb-false, lt-ltb}
 use Rattle.std.proofs.lemmas.Option.{same_Some}
 use Rattle.op_core.specs.declared.want.Want.{Want}
 use Rattle.op_core.specs.declared.want.Want.TheVariants as want
 use Rattle.op_core.specs.declared.want.Ans.{Ans}
-use Rattle.op_core.specs.declared.want.Ans.TheVariants.{Value, Won, Lost}
+use Rattle.op_core.specs.declared.want.Ans.TheVariants.{Value, Won, Lost, Drawn, Passed}
 use Rattle.op_core.specs.declared.why.Why.{Why}
 use Rattle.op_core.specs.declared.why.Why.TheVariants.{Busy, Moved}
 use Rattle.trace.specs.Events.{Words}
@@ -14,8 +14,9 @@ use Rattle.image_layout.specs.Places.{Shape, IsShape, root_word, bucket_at, stat
 use Rattle.image_layout.specs.Volatile.{counter_word, power_word}
 use Rattle.sound_image.specs.Records.{key_hash}
 use Rattle.map_model.specs.declared.call.Call.{Call}
+use Rattle.map_model.specs.declared.call.Call.TheVariants.{Get, Insert, Update, Remove}
 use Rattle.map_model.specs.declared.entry.Reply.{Reply}
-use Rattle.map_model.specs.declared.entry.Reply.TheVariants.{Full, Deep, Spent}
+use Rattle.map_model.specs.declared.entry.Reply.TheVariants.{Full, Deep, Spent, Exists, Absent, Done}
 use Rattle.map_model.specs.Legal.{IsInsert}
 use Rattle.bucket_words.specs.Tables.{home_at}
 use Rattle.world.specs.declared.site.Site.{Site as Here}
@@ -34,7 +35,7 @@ use Rattle.read_op.specs.declared.step.ReadEnd.{ReadEnd}
 use Rattle.read_op.specs.declared.step.ReadEnd.TheVariants as read_end
 use Rattle.read_op.specs.declared.step.ReadStep.TheVariants as reads
 use Rattle.read_op.specs.declared.op.ReadOp.{ReadOp}
-use Rattle.read_op.specs.Steps.{wanted as read_wanted, taken as read_taken, wanted_in, next_in, value_of}
+use Rattle.read_op.specs.Steps.{wanted as read_wanted, taken as read_taken, wanted_in, next_in, value_of, moved, busy, end_by as read_end_by}
 use Rattle.read_op.specs.Fits.{finds as read_finds}
 use Rattle.read_op.specs.Causes.{IsWithin, kept, kept_in as read_kept_in, Caused as ReadCaused}
 use Rattle.read_op.proofs.Fitting.{wants_by_kind}
@@ -51,10 +52,15 @@ use Rattle.write_op.specs.declared.control.Task.{Task}
 use Rattle.write_op.specs.declared.machine.WriteOp.{WriteOp}
 use Rattle.way.specs.Ways.{entry_word, head_word, bucket_word}
 use Rattle.write_op.specs.Ways.{bucket_of, lock_word}
-use Rattle.write_op.specs.Wanted.{key_for, wanted_of}
-use Rattle.write_op.specs.Taken.{begun as write_begun, wanted as write_wanted, taken as write_taken, seen_at, no_room, step_after}
+use Rattle.write_op.specs.Wanted.{key_for, free_of, wanted_of}
+use Rattle.write_op.specs.Slots.{slot_with, slot_free}
+use Rattle.write_op.specs.Fits.{StepFits}
+use Rattle.write_op.specs.declared.control.Held.TheVariants.{Both}
+use Rattle.write_op.specs.declared.control.Point.{Point}
+use Rattle.write_op.specs.declared.control.Point.TheVariants.{StoreKey, StoreValue, StoreFinger, FlushFinger, FlushRecord, FenceRecord, Publish, FlushPublished, FencePublished, DrawPlace}
+use Rattle.write_op.specs.Taken.{begun as write_begun, wanted as write_wanted, taken as write_taken, seen_at, no_room, step_after, give_up, after_look, after_loss, inserting, changing, decided, after_count, made}
 use Rattle.write_op.specs.Suits.{SuitsStep}
-use Rattle.write_op.specs.Causes.{Finds, AreAmong, kept_in, way_home, whole_way, way_by, after_all, KnowsIn, Remembers, KeepsLoads, RefusalRemembers, EndsByCause, EndsStay, EndsSoundly, NeverStale, AgainByOthers, IsHonest, IsRunning, Answers, Caused, told_word, IsDecided as IsChangeDecided, IsWatched as IsChangeWatched, FindsNoRoom as ChangeFindsNoRoom}
+use Rattle.write_op.specs.Causes.{Finds, AreAmong, kept_in, way_home, whole_way, way_by, after_all, KnowsIn, Remembers, KeepsLoads, RefusalRemembers, EndsByCause, EndsStay, EndsSoundly, NeverStale, AgainByOthers, IsHonest, IsRunning, Answers, Caused, told_word, IsDecided as IsChangeDecided, FindsNoRoom as ChangeFindsNoRoom}
 use Rattle.engine.specs.declared.engine.Op.{Op}
 use Rattle.engine.specs.declared.engine.Op.TheVariants.{Read, Write}
 use Rattle.engine.specs.declared.engine.End.{End}
@@ -70,16 +76,20 @@ use Rattle.engine.proofs.Ways.{read_value, go_on_by}
 use Rattle.engine.proofs.Places.{zip_at}
 use Rattle.engine.proofs.Turning.{run_keeps}
 use Rattle.engine.proofs.Powered.{run_powered, restart_powered}
-use Rattle.engine.proofs.Doing.{InDepth, InDepthOrTold, done_depth, RootIn, watching, ReadDid, done_next, WriteDid, OpDid, remembers, IsDoing, run_does, begin_doing}
+use Rattle.engine.proofs.Doing.{InDepth, InDepthOrTold, done_depth, InRange, watching, ReadDid, done_next, WriteDid, OpDid, remembers, IsDoing, run_does, begin_doing}
 
 -- ---- words that are watched, in an image of this shape, by a hash
 abbrev NamedBy : Shape → ℕ → List (ℕ × ℕ) → ℕ → Type 0
 NamedBy g hash loads segment = (root : ℕ) × (Has (root_word, root) loads × (root ≤ g.depth)) × Has (entry_word g hash root, segment) loads
 
-abbrev IsWatchedBy : Shape → ℕ → List (ℕ × ℕ) → ℕ → Type 0
-IsWatchedBy g hash loads word = (word ≡ root_word)
+abbrev IsOnWayBy : Shape → ℕ → List (ℕ × ℕ) → ℕ → Type 0
+IsOnWayBy g hash loads word = (word ≡ root_word)
     ⊎ (((root : ℕ) × (Has (root_word, root) loads × (root ≤ g.depth)) × (word ≡ entry_word g hash root))
-    ⊎ ((segment : ℕ) × NamedBy g hash loads segment × ((word ≡ head_word g segment) ⊎ ((side : Side) × (word ≡ bucket_word g segment (bucket_of side hash))))))
+    ⊎ ((segment : ℕ) × NamedBy g hash loads segment × (word ≡ head_word g segment)))
+
+abbrev IsWatchedBy : Shape → ℕ → List (ℕ × ℕ) → ℕ → ℕ → ℕ → Type 0
+IsWatchedBy g hash loads word old new = IsOnWayBy g hash loads word
+    ⊎ (((segment : ℕ) × NamedBy g hash loads segment × (side : Side) × (word ≡ bucket_word g segment (bucket_of side hash))) × (old % 2 ≡ 0) × (new % 2 ≡ 0))
 
 within_has : (xs ys : List (ℕ × ℕ)) → IsWithin xs ys → (p : ℕ × ℕ) → Has p xs → Has p ys
 within_has [] ys w p has = absurd has
@@ -95,13 +105,17 @@ filling_goes : (b : Bool) (path : Path) (free next : ℕ) (words : List ℕ) (fo
 filling_goes true path free next words found e is = absurd (cc)
 filling_goes false path free next words found e is = absurd (cc)
 
+no_again : (o : Option ℕ) (place : ℕ) (why : Why) → reads.Ended (read_end_by o place) ≡ reads.Ended (read_end.Again why) → ⊥
+no_again None place why is = absurd (cc)
+no_again (Some x) place why is = absurd (cc)
+
 -- the word that a get is told to have moved, by its step
 module _ (op : ReadOp) (loads : List (ℕ × ℕ)) (word old new n : ℕ) where
   abbrev Watched : Type 0
-  Watched = IsWatchedBy op.site.geometry op.hash loads word
+  Watched = IsWatchedBy op.site.geometry op.hash loads word old new
 
   abbrev Told : ReadStep → Type 0
-  Told s = next_in op s n ≡ reads.Ended (read_end.Again (Moved word old new))
+  Told s = s ≡ reads.Ended (read_end.Again (Moved word old new))
 
   abbrev Among : ReadStep → Type 0
   Among s = (p : ℕ × ℕ) → Has p (read_kept_in op s) → Has p loads
@@ -109,37 +123,53 @@ module _ (op : ReadOp) (loads : List (ℕ × ℕ)) (word old new n : ℕ) where
   abbrev Entry : ℕ → ℕ → ℕ × ℕ
   Entry root segment = (entry_word op.site.geometry op.hash root, segment)
 
-  check_watched : (found : Found) (place : ℕ) (at : Second) → (Has (root_word, found.path.root) loads × (found.path.root ≤ op.site.geometry.depth))
-      → Has (Entry found.path.root found.path.segment) loads → wanted_in op (reads.Check found place at) ≡ want.Load word → Watched
-  check_watched found place again.Root root entry asks = inl (same_load root_word word asks)
-  check_watched found place again.Entry root entry asks = inr (inl (found.path.root, root, same_load (entry_word op.site.geometry op.hash found.path.root) word asks))
-  check_watched found place again.Head root entry asks =
-      inr (inr (found.path.segment, (found.path.root, root, entry), inl (same_load (head_word op.site.geometry found.path.segment) word asks)))
-  check_watched found place again.Lock root entry asks =
-      inr (inr (found.path.segment, (found.path.root, root, entry), inr (Home, same_load (bucket_word op.site.geometry found.path.segment (bucket_of Home op.hash)) word asks)))
+  -- a lock word that was free, and is told to have moved, is free again
+  lock_told : (lock free place : ℕ) (value : Option ℕ) (b c : Bool) → (n % 2 == 1) ≡ b → free % 2 ≡ 0
+      → Told (cond b (busy lock n) (cond c (reads.Ended (read_end_by value place)) (moved lock free n))) → (old % 2 ≡ 0) × (new % 2 ≡ 0)
+  lock_told lock free place value true c odd even told = absurd (cc)
+  lock_told lock free place value false true odd even told = absurd (no_again value place (Moved word old new) told)
+  lock_told lock free place value false false odd even told =
+      let was : free ≡ old = cc in
+      let is : n ≡ new = cc in
+      let other = eqb-false (n % 2) 1 odd in
+      (omega (arith, even, was), omega (arith, other, is))
 
-  get_watched : (s : ReadStep) → Among s → RootIn op s → wanted_in op s ≡ want.Load word → Told s → Watched
+  locking_told : (path : Path) (words : List ℕ) (next lock : ℕ) (b : Bool) → Told (cond b (reads.Fill path n words next) (busy lock n)) → ⊥
+  locking_told path words next lock true told = absurd (cc)
+  locking_told path words next lock false told = absurd (cc)
+
+  check_watched : (found : Found) (place : ℕ) (at : Second) → (Has (root_word, found.path.root) loads × (found.path.root ≤ op.site.geometry.depth))
+      → Has (Entry found.path.root found.path.segment) loads → found.free % 2 ≡ 0 → wanted_in op (reads.Check found place at) ≡ want.Load word
+      → Told (next_in op (reads.Check found place at) n) → Watched
+  check_watched found place again.Root root entry even asks told = inl (inl (same_load root_word word asks))
+  check_watched found place again.Entry root entry even asks told =
+      inl (inr (inl (found.path.root, root, same_load (entry_word op.site.geometry op.hash found.path.root) word asks)))
+  check_watched found place again.Head root entry even asks told =
+      inl (inr (inr (found.path.segment, (found.path.root, root, entry), same_load (head_word op.site.geometry found.path.segment) word asks)))
+  check_watched found place again.Lock root entry even asks told =
+      let lock : ℕ = bucket_word op.site.geometry found.path.segment (bucket_of Home op.hash) in
+      let both = lock_told lock found.free place found.value (n % 2 == 1) (n == found.free) refl even told in
+      inr ((found.path.segment, (found.path.root, root, entry), Home, same_load lock word asks), both.0, both.1)
+
+  get_watched : (s : ReadStep) → Among s → InRange op s → wanted_in op s ≡ want.Load word → Told (next_in op s n) → Watched
   get_watched reads.Power among low asks told = absurd (cc)
-  get_watched reads.Root among low asks told = inl (same_load root_word word asks)
+  get_watched reads.Root among low asks told = inl (inl (same_load root_word word asks))
   get_watched (reads.Entry root) among low asks told =
-      inr (inl (root, (among (root_word, root) (inl refl), low), same_load (entry_word op.site.geometry op.hash root) word asks))
-  get_watched (reads.Head root segment) among low asks told = inr (inr (
+      inl (inr (inl (root, (among (root_word, root) (inl refl), low), same_load (entry_word op.site.geometry op.hash root) word asks)))
+  get_watched (reads.Head root segment) among low asks told = inl (inr (inr (
     segment,
     (root, (among (root_word, root) (inr (inl refl)), low), among (Entry root segment) (inl refl)),
-    inl (same_load (head_word op.site.geometry segment) word asks),
-  ))
-  get_watched (reads.Lock path) among low asks told = inr (inr (
-    path.segment,
-    (path.root, (among (root_word, path.root) (inr (inr (inl refl))), low), among (Entry path.root path.segment) (inr (inl refl))),
-    inr (Home, same_load (bucket_word op.site.geometry path.segment (bucket_of Home op.hash)) word asks),
-  ))
+    same_load (head_word op.site.geometry segment) word asks,
+  )))
+  get_watched (reads.Lock path) among low asks told =
+      absurd (locking_told path (replicate 32 0) 1 (bucket_word op.site.geometry path.segment (bucket_of Home op.hash)) (n % 2 == 0) told)
   get_watched (reads.Fill path free words next) among low asks told =
       let filled = slice_set words next n in
       absurd (filling_goes (nat_lt next 31) path free (next + 1) filled (record { path = path; free = free; value = value_of filled op.key }) (read_end.Again (Moved word old new)) told)
   get_watched (reads.Count found) among low asks told = absurd (cc)
   get_watched (reads.Check found place at) among low asks told =
-      check_watched found place at (among (root_word, found.path.root) (inr (inr (inr (inr (inl refl))))), low)
-      (among (Entry found.path.root found.path.segment) (inr (inr (inr (inl refl))))) asks
+      check_watched found place at (among (root_word, found.path.root) (inr (inr (inr (inr (inl refl))))), low.0)
+      (among (Entry found.path.root found.path.segment) (inr (inr (inr (inl refl))))) low.1 asks told
   get_watched (reads.Ended end) among low asks told = absurd (cc)
 
 -- an event that found a value looked at the word
@@ -153,11 +183,81 @@ found_looks (want.Load i) (Value n) word seen f = f.0
 found_looks (want.Exchange i x y) (Lost n) word seen f = f.0
 found_looks w a word seen f = absurd f
 
--- the word that a change is told to have moved, by its step
-module _ (t : Task) (k : Kept) (loads : List (ℕ × ℕ)) (low : k.root ≤ t.site.geometry.depth) where
-  abbrev Root : Type 0
-  Root = Has (root_word, k.root) loads × (k.root ≤ t.site.geometry.depth)
+-- ---- the word that a change is told to have moved, by its step
+-- where two steps are not decided so, neither is one of them
+either_decided : (b : Bool) (s u : Step) (e : WriteEnd) → (IsChangeDecided s e → ⊥) → (IsChangeDecided u e → ⊥) → IsChangeDecided (cond b s u) e → ⊥
+either_decided true s u e p q f = p f
+either_decided false s u e p q f = q f
 
+given_up : (side : Side) (end e : WriteEnd) → IsChangeDecided (give_up side end) e → end ≡ e
+given_up Home end e is = is
+given_up Probing end e is = is
+
+module _ (word old new : ℕ) where
+  abbrev TellsMoved : Step → Type 0
+  TellsMoved s = IsChangeDecided s (Again (Moved word old new))
+
+  reply_tells : (r : Reply) (place : ℕ) → Replied r place ≡ Again (Moved word old new) → ⊥
+  reply_tells r place is = absurd (cc)
+
+  off_tells : Off ≡ Again (Moved word old new) → ⊥
+  off_tells is = absurd (cc)
+
+  no_slot_tells : NoSlot ≡ Again (Moved word old new) → ⊥
+  no_slot_tells is = absurd (cc)
+
+  busy_tells : (lock n : ℕ) → Again (Busy lock n) ≡ Again (Moved word old new) → ⊥
+  busy_tells lock n is = absurd (cc)
+
+  look_tells : (side : Side) (lock n : ℕ) → TellsMoved (after_look side lock n) → ⊥
+  look_tells side lock n told = either_decided (n % 2 == 1) (give_up side (Again (Busy lock n))) (cond (n == 2 ^ 64 - 2) (CountSpent side) (TryLock side)) (Again (Moved word old new))
+      (λ is. busy_tells lock n (given_up side (Again (Busy lock n)) (Again (Moved word old new)) is))
+      (λ f. either_decided (n == 2 ^ 64 - 2) (CountSpent side) (TryLock side) (Again (Moved word old new)) (λ g. g) (λ g. g) f) told
+
+  inserting_tells : (n : ℕ) (o p : Option ℕ) → TellsMoved (inserting n o p) → ⊥
+  inserting_tells n (Some x) p told = reply_tells Exists n told
+  inserting_tells n None (Some slot) told = told
+  inserting_tells n None None told = no_slot_tells told
+
+  changing_tells : (n : ℕ) (o : Option ℕ) → TellsMoved (changing n o) → ⊥
+  changing_tells n (Some x) told = told
+  changing_tells n None told = reply_tells Absent n told
+
+  decided_tells : (c : Call) (words : List ℕ) (n : ℕ) → TellsMoved (decided c words n) → ⊥
+  decided_tells (Get key) words n told = off_tells told
+  decided_tells (Insert key value) words n told = inserting_tells n (slot_with words key 0 14) (slot_free words 0 14) told
+  decided_tells (Update key value) words n told = changing_tells n (slot_with words key 0 14) told
+  decided_tells (Remove key) words n told = changing_tells n (slot_with words key 0 14) told
+
+  count_tells : (c : Call) (words : List ℕ) (n : ℕ) → TellsMoved (after_count c words n) → ⊥
+  count_tells c words n told =
+      either_decided (nat_le (2 ^ 63) n) (GiveBack Both (Replied Spent n)) (decided c words n) (Again (Moved word old new)) (λ is. reply_tells Spent n is) (λ f. decided_tells c words n f) told
+
+  make_tells : (slot : ℕ) (point : Point) (a : Ans) → TellsMoved (made slot point a) → ⊥
+  make_tells slot StoreKey Passed told = told
+  make_tells slot StoreValue Passed told = told
+  make_tells slot StoreFinger Passed told = told
+  make_tells slot FlushFinger Passed told = either_decided (nat_lt slot 2) (Make FenceRecord) (Make FlushRecord) (Again (Moved word old new)) (λ f. f) (λ f. f) told
+  make_tells slot FlushRecord Passed told = told
+  make_tells slot FenceRecord Passed told = told
+  make_tells slot Publish Passed told = told
+  make_tells slot FlushPublished Passed told = told
+  make_tells slot FencePublished Passed told = told
+  make_tells slot DrawPlace (Drawn place) told = reply_tells Done place told
+  make_tells slot point a told = told
+
+  -- a lock that is lost, and not to one that has it, is free again
+  loss_told : (side : Side) (lock free n : ℕ) (b : Bool) → (n % 2 == 1) ≡ b → free % 2 ≡ 0
+      → TellsMoved (cond b (give_up side (Again (Busy lock n))) (give_up side (Again (Moved lock free n)))) → (old % 2 ≡ 0) × (new % 2 ≡ 0)
+  loss_told side lock free n true odd even told = absurd (busy_tells lock n (given_up side (Again (Busy lock n)) (Again (Moved word old new)) told))
+  loss_told side lock free n false odd even told =
+      let same : Again (Moved lock free n) ≡ Again (Moved word old new) = given_up side (Again (Moved lock free n)) (Again (Moved word old new)) told in
+      let was : free ≡ old = cc in
+      let is : n ≡ new = cc in
+      let other = eqb-false (n % 2) 1 odd in
+      (omega (arith, even, was), omega (arith, other, is))
+
+module _ (t : Task) (k : Kept) (loads : List (ℕ × ℕ)) (low : k.root ≤ t.site.geometry.depth) where
   abbrev Named : Type 0
   Named = NamedBy t.site.geometry t.hash loads k.segment
 
@@ -171,28 +271,40 @@ module _ (t : Task) (k : Kept) (loads : List (ℕ × ℕ)) (low : k.root ≤ t.s
   side_named Home way = home_named way
   side_named Probing way = whole_named way
 
-  look_named : (side : Side) → AreAmong (kept_in t k (LookAt side)) loads → Named
-  look_named Home way = (k.root, (way.1.1.0, low), way.1.0)
-  look_named Probing way = home_named way
+  module _ (word old new : ℕ) where
+    abbrev WatchedBy : Type 0
+    WatchedBy = IsWatchedBy t.site.geometry t.hash loads word old new
 
-  named_watched : (s : Step) (a : Ans) (word : ℕ) → Named → IsChangeWatched t k s a loads word → IsWatchedBy t.site.geometry t.hash loads word
-  named_watched s a word named (inl is) = inl is
-  named_watched s a word named (inr (inl at)) = inr (inl (k.root, (at.1, low), at.0))
-  named_watched s a word named (inr (inr (inl at))) = inr (inr (k.segment, named, inl at.0))
-  named_watched s a word named (inr (inr (inr at))) = inr (inr (k.segment, named, inr (at.0, at.1)))
+    try_watched : (side : Side) (n : ℕ) → AreAmong (way_by t k side) loads → free_of k side % 2 ≡ 0 → lock_word t k side ≡ word
+        → TellsMoved word old new (after_loss side (lock_word t k side) (free_of k side) n) → WatchedBy
+    try_watched side n way even looks told =
+        let both = loss_told word old new side (lock_word t k side) (free_of k side) n (n % 2 == 1) refl even told in
+        inr ((k.segment, side_named side way, side, sym looks), both.0, both.1)
 
-  change_watched : (s : Step) (a : Ans) (word : ℕ) → AreAmong (kept_in t k s) loads → ((e : WriteEnd) → IsChangeDecided s e → ⊥) → Looks (wanted_of t k s) word
-      → IsChangeWatched t k s a loads word → IsWatchedBy t.site.geometry t.hash loads word
-  change_watched AskPower a word way still looks watched = absurd looks
-  change_watched LoadRoot a word way still looks watched = inl (sym looks)
-  change_watched LoadEntry a word way still looks watched = inr (inl (k.root, (way.0, low), sym looks))
-  change_watched LoadHead a word way still looks watched = named_watched LoadHead a word (k.root, (way.1.0, low), way.0) watched
-  change_watched (LookAt side) a word way still looks watched = named_watched (LookAt side) a word (look_named side way) watched
-  change_watched (TryLock side) a word way still looks watched = named_watched (TryLock side) a word (side_named side way) watched
-  change_watched (CountSpent side) a word way still looks watched = named_watched (CountSpent side) a word (side_named side way) watched
-  change_watched (GiveBack held end) a word way still looks watched = absurd (still end refl)
-  change_watched (Ended end) a word way still looks watched = absurd (still end refl)
-  change_watched s a word way still looks watched = named_watched s a word (whole_named way) watched
+    change_watched : (s : Step) (a : Ans) → AreAmong (kept_in t k s) loads → StepFits k s → ((e : WriteEnd) → IsChangeDecided s e → ⊥) → Looks (wanted_of t k s) word
+        → TellsMoved word old new (step_after t k s a) → WatchedBy
+    change_watched AskPower a way fits still looks told = absurd looks
+    change_watched LoadRoot a way fits still looks told = inl (inl (sym looks))
+    change_watched LoadEntry a way fits still looks told = inl (inr (inl (k.root, (way.0, low), sym looks)))
+    change_watched LoadHead a way fits still looks told = inl (inr (inr (k.segment, (k.root, (way.1.0, low), way.0), sym looks)))
+    change_watched (LookAt side) (Value n) way fits still looks told = absurd (look_tells word old new side (lock_word t k side) n told)
+    change_watched (TryLock Home) (Lost n) way fits still looks told = try_watched Home n way fits.0 looks told
+    change_watched (TryLock Probing) (Lost n) way fits still looks told = try_watched Probing n way fits.0 looks told
+    change_watched RootAgain a way fits still looks told = inl (inl (sym looks))
+    change_watched EntryAgain a way fits still looks told = inl (inr (inl (k.root, (way.1.1.1.1.0, low), sym looks)))
+    change_watched HeadAgain a way fits still looks told = inl (inr (inr (k.segment, whole_named way, sym looks)))
+    change_watched (LoadWord at) (Value n) way fits still looks told =
+        absurd (either_decided (nat_lt at 31) (LoadWord (at + 1)) LoadCount (Again (Moved word old new)) (λ f. f) (λ f. f) told)
+    change_watched LoadCount (Value n) way fits still looks told = absurd (count_tells word old new t.call k.words n told)
+    change_watched (Make point) a way fits still looks told = absurd (make_tells word old new k.slot point a told)
+    change_watched (CountSpent side) (Value n) way fits still looks told =
+        absurd (reply_tells word old new Spent n (given_up side (Replied Spent n) (Again (Moved word old new)) told))
+    change_watched CountFull (Value n) way fits still looks told = absurd (reply_tells word old new (no_room t.site) n told)
+    change_watched (GiveBack held end) a way fits still looks told = absurd (still end refl)
+    change_watched (Ended end) a way fits still looks told = absurd (still end refl)
+    change_watched (TryLock Home) a way fits still looks told = absurd told
+    change_watched (TryLock Probing) a way fits still looks told = absurd told
+    change_watched s a way fits still looks told = absurd told
 
 -- ---- what an event of a change finds is the newest value
 lost_finds : (words : Words) (i x y word seen : ℕ) (b : Bool) → Finds (want.Exchange i x y) (cond b Won (Lost (words i))) word seen → words word ≡ seen
@@ -213,10 +325,6 @@ honest (want.Exchange i x y) n = lost_honest i x y n (n == x) refl
 honest w n = tt
 
 -- ---- where a change is answered its segment is the first
-either_decided : (b : Bool) (s u : Step) (e : WriteEnd) → (IsChangeDecided s e → ⊥) → (IsChangeDecided u e → ⊥) → IsChangeDecided (cond b s u) e → ⊥
-either_decided true s u e p q f = p f
-either_decided false s u e p q f = q f
-
 no_reply : (r : Reply) (place : ℕ) (end : WriteEnd) → (end ≡ Off) ⊎ ((why : Why) × (end ≡ Again why)) → end ≡ Replied r place → ⊥
 no_reply r place end (inl off) is = let same : Off ≡ Replied r place = sym off ∙ is in absurd (cc)
 no_reply r place end (inr (why, told)) is = let same : Again why ≡ Replied r place = sym told ∙ is in absurd (cc)
@@ -322,8 +430,8 @@ module _ (laws : ChangeCauses) (site : Site) (here : Here) (call : Call) (words 
         let m = (read_soundly site op words views j v h at suits.2 suits.3 suits.4.held asks).moved word old new so in
         let among = within_has (kept op) d.loads did.within in
         let loads = get_loads word old new (read_causes op read (read_end.Again (Moved word old new)) asks so) in (get_looked word new loads m.2, record {
-          watched = subst (λ m. IsWatchedBy site.shape m d.loads word) get_hash (subst (λ g. IsWatchedBy g op.hash d.loads word) suits.2.shape
-          (get_watched op d.loads word old new read op.step among did.root_in loads so));
+          watched = subst (λ m. IsWatchedBy site.shape m d.loads word old new) get_hash (subst (λ g. IsWatchedBy g op.hash d.loads word old new) suits.2.shape
+          (get_watched op d.loads word old new read op.step among did.in_range loads so));
           loaded = among (word, old) m.0;
           newest = m.2;
           differ = m.3;
@@ -441,10 +549,6 @@ module _ (laws : ChangeCauses) (site : Site) (here : Here) (call : Call) (words 
     ]
     reply_by r place first so c = tt
 
-    watched_by : (word old new : ℕ) → Caused op answer d.loads (Again (Moved word old new)) → IsChangeWatched op.task op.kept op.step answer d.loads word
-    watched_by word old new (inl c) = c.watched
-    watched_by word old new (inr c) = c.watched
-
     change_looked : (word seen : ℕ) → Finds (write_wanted op) answer word seen → Looked site.shape words d call (write_wanted op) word seen
     change_looked word seen f = subst (λ g. Finds (write_wanted op) (answer_to (write_wanted op) (words (word_of g (write_wanted op)))) word seen) suits.2.shape f
 
@@ -475,8 +579,8 @@ module _ (laws : ChangeCauses) (site : Site) (here : Here) (call : Call) (words 
     change_by (Again (Moved word old new)) on so =
         let m = (laws.in_world site op words d.loads views j before v running).moved word old new so in
         let c = caused (Again (Moved word old new)) so in
-        let w = change_watched op.task op.kept d.loads (depth did) op.step answer word (remembered did).way still (looked_by word old new c) (watched_by word old new c) in (change_looked word new (moved_finds word old new c), record {
-          watched = subst (λ m. IsWatchedBy site.shape m d.loads word) change_hash (subst (λ g. IsWatchedBy g op.task.hash d.loads word) suits.2.shape w);
+        let w = change_watched op.task op.kept d.loads (depth did) word old new op.step answer (remembered did).way suits.2.inside.numbers still (looked_by word old new c) so in (change_looked word new (moved_finds word old new c), record {
+          watched = subst (λ m. IsWatchedBy site.shape m d.loads word old new) change_hash (subst (λ g. IsWatchedBy g op.task.hash d.loads word old new) suits.2.shape w);
           loaded = m.0;
           newest = m.1;
           differ = m.2;

@@ -1,7 +1,7 @@
 -- Along any turns the engine of each caller remembers what its attempt did.
 use Rattle.std.proofs.Common.{◌≡◌, ℕ, zero, suc, inl, inr, ◌⊎◌, ◌==◌, Bool, true, false, cond, ◌≤◌, arith, ◌%◌, ◌+◌, ◌&&◌, not, nat_le, nat_lt, replicate, Option, None, Some, List, [], ◌∷◌, ◌++◌, length, slice_get, slice_set, refl, sym, ◌∙◌, ap, subst}
 use Rattle.std.specs.Prelude.{⊤}
-use Rattle.std.proofs.lemmas.Bool.{cases_eq, eq-eqb, ne_eqb, leb-true}
+use Rattle.std.proofs.lemmas.Bool.{cases_eq, eq-eqb, ne_eqb, eqb-true, leb-true}
 use Rattle.std.proofs.lemmas.Option.{none-some, same_Some}
 use Rattle.op_core.specs.declared.want.Want.{Want}
 use Rattle.op_core.specs.declared.want.Want.TheVariants as want
@@ -16,6 +16,7 @@ use Rattle.map_model.specs.declared.call.Call.TheVariants.{Get, Insert, Update, 
 use Rattle.map_model.specs.declared.entry.Reply.{Reply}
 use Rattle.world.specs.declared.site.Site.{Site as Here}
 use Rattle.world.specs.Wants.{answer_to, word_of}
+use Rattle.read_op.specs.declared.step.Path.{Path}
 use Rattle.read_op.specs.declared.step.Found.{Found}
 use Rattle.read_op.specs.declared.step.ReadEnd.TheVariants as read_end
 use Rattle.read_op.specs.declared.step.Second.{Second}
@@ -51,19 +52,22 @@ watching shape w [] = refl
 watching shape w (c ∷ turns) = watching shape (watched_turn shape c w) turns
 
 -- ---- a get: all that it keeps was loaded, and nothing was changed
--- the root depth that it keeps is not above the greatest
-abbrev pub RootIn : ReadOp → ReadStep → Type 0
-RootIn op (reads.Entry root) = root ≤ op.site.geometry.depth
-RootIn op (reads.Head root segment) = root ≤ op.site.geometry.depth
-RootIn op (reads.Lock path) = path.root ≤ op.site.geometry.depth
-RootIn op (reads.Fill path free words next) = path.root ≤ op.site.geometry.depth
-RootIn op (reads.Count found) = found.path.root ≤ op.site.geometry.depth
-RootIn op (reads.Check found place at) = found.path.root ≤ op.site.geometry.depth
-RootIn op s = ⊤
+-- what it keeps is in range: the root depth is not above the greatest, and the value of the lock word is free
+abbrev IsKeptWell : ReadOp → Path → ℕ → Type 0
+IsKeptWell op path free = (path.root ≤ op.site.geometry.depth) × (free % 2 ≡ 0)
+
+abbrev pub InRange : ReadOp → ReadStep → Type 0
+InRange op (reads.Entry root) = root ≤ op.site.geometry.depth
+InRange op (reads.Head root segment) = root ≤ op.site.geometry.depth
+InRange op (reads.Lock path) = path.root ≤ op.site.geometry.depth
+InRange op (reads.Fill path free words next) = IsKeptWell op path free
+InRange op (reads.Count found) = IsKeptWell op found.path found.free
+InRange op (reads.Check found place at) = IsKeptWell op found.path found.free
+InRange op s = ⊤
 
 pub record ReadDid (op : ReadOp) (d : Doings) : Type 0 where
   pub within : IsWithin (kept op) d.loads
-  pub root_in : RootIn op op.step
+  pub in_range : InRange op op.step
   pub none : d.changed ≡ []
 
 reading_changes : (w : Want) (a : Ans) → IsReading w → change_of w a ≡ []
@@ -109,56 +113,61 @@ module _ (op : ReadOp) where
   next_within (reads.Check found place at) n loads w = again_within found place at n loads w
   next_within (reads.Ended end) n loads w = w
 
-  -- ---- the root depth
-  root_taken : (a : Ans) → RootIn op (next_by op.step a) → RootIn (read_taken op a) (read_taken op a).step
-  root_taken (Value n) r = r
-  root_taken a r = r
+  -- ---- it stays in range
+  range_taken : (a : Ans) → InRange op (next_by op.step a) → InRange (read_taken op a) (read_taken op a).step
+  range_taken (Value n) r = r
+  range_taken a r = r
 
-  either_root : (b : Bool) (s u : ReadStep) → RootIn op s → RootIn op u → RootIn op (cond b s u)
-  either_root true s u p q = p
-  either_root false s u p q = q
+  either_range : (b : Bool) (s u : ReadStep) → InRange op s → InRange op u → InRange op (cond b s u)
+  either_range true s u p q = p
+  either_range false s u p q = q
 
-  first_root : (n : ℕ) (b : Bool) → nat_le n op.site.geometry.depth ≡ b → RootIn op (cond b (reads.Entry n) (moved root_word n n))
-  first_root n true is = leb-true n op.site.geometry.depth is
-  first_root n false is = tt
+  first_range : (n : ℕ) (b : Bool) → nat_le n op.site.geometry.depth ≡ b → InRange op (cond b (reads.Entry n) (moved root_word n n))
+  first_range n true is = leb-true n op.site.geometry.depth is
+  first_range n false is = tt
 
-  again_root : (found : Found) (place : ℕ) (at : Second) (n : ℕ) → RootIn op (reads.Check found place at)
-      → RootIn op (next_by (reads.Check found place at) (answer_to (wanted_in op (reads.Check found place at)) n))
-  again_root found place again.Root n r = either_root (n == found.path.root) (reads.Check found place again.Entry) (moved root_word found.path.root n) r tt
-  again_root found place again.Entry n r =
-      either_root (n == found.path.segment) (reads.Check found place again.Head) (moved (entry_word op.site.geometry op.hash found.path.root) found.path.segment n) r tt
-  again_root found place again.Head n r =
-      either_root (n == found.path.head) (reads.Check found place again.Lock) (moved (head_word op.site.geometry found.path.segment) found.path.head n) r tt
-  again_root found place again.Lock n r =
+  first_free : (path : Path) (n : ℕ) (b : Bool) → (n % 2 == 0) ≡ b → path.root ≤ op.site.geometry.depth
+      → InRange op (cond b (reads.Fill path n (replicate 32 0) 1) (busy (lock_word op.site op.hash path.segment) n))
+  first_free path n true is r = (r, eqb-true (n % 2) 0 is)
+  first_free path n false is r = tt
+
+  again_range : (found : Found) (place : ℕ) (at : Second) (n : ℕ) → InRange op (reads.Check found place at)
+      → InRange op (next_by (reads.Check found place at) (answer_to (wanted_in op (reads.Check found place at)) n))
+  again_range found place again.Root n r = either_range (n == found.path.root) (reads.Check found place again.Entry) (moved root_word found.path.root n) r tt
+  again_range found place again.Entry n r =
+      either_range (n == found.path.segment) (reads.Check found place again.Head) (moved (entry_word op.site.geometry op.hash found.path.root) found.path.segment n) r tt
+  again_range found place again.Head n r =
+      either_range (n == found.path.head) (reads.Check found place again.Lock) (moved (head_word op.site.geometry found.path.segment) found.path.head n) r tt
+  again_range found place again.Lock n r =
       let lock : ℕ = lock_word op.site op.hash found.path.segment in
       let same : ReadStep = cond (n == found.free) (reads.Ended (read_end_of found place)) (moved lock found.free n) in
-      either_root (n % 2 == 1) (busy lock n) same tt (either_root (n == found.free) (reads.Ended (read_end_of found place)) (moved lock found.free n) tt tt)
+      either_range (n % 2 == 1) (busy lock n) same tt (either_range (n == found.free) (reads.Ended (read_end_of found place)) (moved lock found.free n) tt tt)
 
-  next_root : (s : ReadStep) (n : ℕ) → RootIn op s → RootIn op (next_by s (answer_to (wanted_in op s) n))
-  next_root reads.Power n r = either_root (n == 0) reads.Root (reads.Ended read_end.Off) tt tt
-  next_root reads.Root n r = first_root n (nat_le n op.site.geometry.depth) refl
-  next_root (reads.Entry root) n r =
-      either_root (nat_lt n op.site.geometry.segments) (reads.Head root n) (moved (entry_word op.site.geometry op.hash root) n n) r tt
-  next_root (reads.Head root segment) n r =
+  next_range : (s : ReadStep) (n : ℕ) → InRange op s → InRange op (next_by s (answer_to (wanted_in op s) n))
+  next_range reads.Power n r = either_range (n == 0) reads.Root (reads.Ended read_end.Off) tt tt
+  next_range reads.Root n r = first_range n (nat_le n op.site.geometry.depth) refl
+  next_range (reads.Entry root) n r =
+      either_range (nat_lt n op.site.geometry.segments) (reads.Head root n) (moved (entry_word op.site.geometry op.hash root) n n) r tt
+  next_range (reads.Head root segment) n r =
       let next : ReadStep = reads.Lock (record { root = root; segment = segment; head = n }) in
       let ill : ReadStep = moved (head_word op.site.geometry segment) n n in
       let fits = is_live n && is_covering n op.hash in
-      either_root (is_live n && not (version_in n == op.site.version)) (reads.Ended (read_end.Stale segment (version_in n))) (cond fits next ill) tt (either_root fits next ill r tt)
-  next_root (reads.Lock path) n r =
-      either_root (n % 2 == 0) (reads.Fill path n (replicate 32 0) 1) (busy (lock_word op.site op.hash path.segment) n) r tt
-  next_root (reads.Fill path free words next) n r =
+      either_range (is_live n && not (version_in n == op.site.version)) (reads.Ended (read_end.Stale segment (version_in n))) (cond fits next ill) tt (either_range fits next ill r tt)
+  next_range (reads.Lock path) n r =
+      first_free path n (n % 2 == 0) refl r
+  next_range (reads.Fill path free words next) n r =
       let filled = slice_set words next n in
-      either_root (nat_lt next 31) (reads.Fill path free filled (next + 1)) (reads.Count (record { path = path; free = free; value = value_of filled op.key })) r r
-  next_root (reads.Count found) n r = r
-  next_root (reads.Check found place at) n r = again_root found place at n r
-  next_root (reads.Ended end) n r = tt
+      either_range (nat_lt next 31) (reads.Fill path free filled (next + 1)) (reads.Count (record { path = path; free = free; value = value_of filled op.key })) r r
+  next_range (reads.Count found) n r = r
+  next_range (reads.Check found place at) n r = again_range found place at n r
+  next_range (reads.Ended end) n r = tt
 
   read_next : (n : ℕ) (d : Doings) → ReadDid op d → ReadDid (read_taken op (answer_to (read_wanted op) n)) (with_event_of (read_wanted op) (answer_to (read_wanted op) n) d)
   read_next n d did =
       let a : Ans = answer_to (read_wanted op) n in
       record {
         within = subst (λ ks. IsWithin ks (load_of (read_wanted op) a ++ d.loads)) (sym (taken_kept a)) (next_within op.step n d.loads did.within);
-        root_in = root_taken a (next_root op.step n did.root_in);
+        in_range = range_taken a (next_range op.step n did.in_range);
         none = ap (λ cs. cs ++ d.changed) (reading_changes (read_wanted op) a (reads_alone op)) ∙ did.none;
       }
 
@@ -247,7 +256,7 @@ OpDid (Read op) d = ReadDid op d
 OpDid (Write op) d = WriteDid op d
 
 pub begun_did : (here : Here) (call : Call) → OpDid (begun here call).op nothing_done
-begun_did here (Get key) = record { within = tt; root_in = tt; none = refl }
+begun_did here (Get key) = record { within = tt; in_range = tt; none = refl }
 begun_did here (Insert key value) = inl (record { call = Insert key value; here = here; answers = []; op_is = refl; loads_are = refl; changed_are = refl })
 begun_did here (Update key value) = inl (record { call = Update key value; here = here; answers = []; op_is = refl; loads_are = refl; changed_are = refl })
 begun_did here (Remove key) = inl (record { call = Remove key; here = here; answers = []; op_is = refl; loads_are = refl; changed_are = refl })

@@ -149,16 +149,25 @@ module _ (shape : Shape) (words : Words) (did : Doings) (call : Call) where
   abbrev pub IsNamed : ℕ → Type 0
   IsNamed segment = (root : ℕ) × IsDepth root × Has (entry_word shape hash_for root, segment) did.loads
 
-  -- a word by which the attempt found its bucket: the root's, the directory entry at the root depth that was loaded, or the
-  -- header word or a lock word in a segment that was named
-  abbrev pub IsWatched : ℕ → Type 0
-  IsWatched word = (word ≡ root_word)
+  -- a word by which the attempt found its segment: the root's, the directory entry at the root depth that was loaded, or the
+  -- header word of a segment that was named
+  abbrev pub IsOnWay : ℕ → Type 0
+  IsOnWay word = (word ≡ root_word)
       ⊎ (((root : ℕ) × IsDepth root × (word ≡ entry_word shape hash_for root))
-      ⊎ ((segment : ℕ) × IsNamed segment × ((word ≡ head_word shape segment) ⊎ ((side : Side) × (word ≡ bucket_word shape segment (bucket_of side hash_for))))))
+      ⊎ ((segment : ℕ) × IsNamed segment × (word ≡ head_word shape segment)))
+
+  -- the lock word of one of the two buckets of the key's hash, in a segment that was named
+  abbrev pub IsLockThere : ℕ → Type 0
+  IsLockThere word = (segment : ℕ) × IsNamed segment × (side : Side) × (word ≡ bucket_word shape segment (bucket_of side hash_for))
+
+  -- a word that may be told with these two values: one on the way, or such a lock word, which has them as free, so that two
+  -- such values are of two versions
+  abbrev pub IsWatched : ℕ → ℕ → ℕ → Type 0
+  IsWatched word before after = IsOnWay word ⊎ (IsLockThere word × (before % 2 ≡ 0) × (after % 2 ≡ 0))
 
   -- such a word has another value than the attempt loaded, and not by this attempt
   pub record HasMoved (word before after : ℕ) : Type 0 where
-    pub watched : IsWatched word
+    pub watched : IsWatched word before after
     pub loaded : Has (word, before) did.loads
     pub newest : words word ≡ after
     pub differ : before ≢ after
