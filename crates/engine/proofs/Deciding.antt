@@ -420,23 +420,29 @@ module _ (laws : ChangeCauses) (site : Site) (here : Here) (call : Call) (words 
     get_by (read_end.Found value place) so = tt
     get_by (read_end.Absent place) so = tt
     get_by (read_end.Again (Busy word value)) so =
-        let b = (read_soundly site op words views j v h at suits.2 suits.3 suits.4.held asks).busy word value so in (get_looked word value (read_causes op read (read_end.Again (Busy word value)) asks so).loads b.2, record {
-          own = inl (b.1 ∙ ap (λ c. home_at site.shape (key_for c)) (sym suits.0));
-          newest = b.2;
-          odd = b.3;
-          by_others = λ has. subst (λ cs. Has word cs) did.none has;
-        })
+        let b = (read_soundly site op words views j v h at suits.2 suits.3 suits.4.held asks).busy word value so in (
+          get_looked word value (read_causes op read (read_end.Again (Busy word value)) asks so).loads b.2,
+          record {
+            own = inl (b.1 ∙ ap (λ c. home_at site.shape (key_for c)) (sym suits.0));
+            newest = b.2;
+            odd = b.3;
+            by_others = λ has. subst (λ cs. Has word cs) did.none has;
+          },
+        )
     get_by (read_end.Again (Moved word old new)) so =
         let m = (read_soundly site op words views j v h at suits.2 suits.3 suits.4.held asks).moved word old new so in
         let among = within_has (kept op) d.loads did.within in
-        let loads = get_loads word old new (read_causes op read (read_end.Again (Moved word old new)) asks so) in (get_looked word new loads m.2, record {
-          watched = subst (λ m. IsWatchedBy site.shape m d.loads word old new) get_hash (subst (λ g. IsWatchedBy g op.hash d.loads word old new) suits.2.shape
-          (get_watched op d.loads word old new read op.step among did.in_range loads so));
-          loaded = among (word, old) m.0;
-          newest = m.2;
-          differ = m.3;
-          by_others = λ has. subst (λ cs. Has word cs) did.none has;
-        })
+        let loads = get_loads word old new (read_causes op read (read_end.Again (Moved word old new)) asks so) in (
+          get_looked word new loads m.2,
+          record {
+            watched = subst (λ m. IsWatchedBy site.shape m d.loads word old new) get_hash (subst (λ g. IsWatchedBy g op.hash d.loads word old new) suits.2.shape
+                (get_watched op d.loads word old new read op.step among did.in_range loads so));
+            loaded = among (word, old) m.0;
+            newest = m.2;
+            differ = m.3;
+            by_others = λ has. subst (λ cs. Has word cs) did.none has;
+          },
+        )
     get_by (read_end.Stale segment byte) so =
         read_never site op words views j v h at suits.2 suits.3 asks (ap (λ (s : Here). s.version) suits.1 ∙ version) segment byte so
     get_by read_end.Off so =
@@ -570,22 +576,28 @@ module _ (laws : ChangeCauses) (site : Site) (here : Here) (call : Call) (words 
     change_by (Replied r place) on so = reply_by r place (first_at op.task op.kept v op.step answer r place suits.4.view still so) so (caused (Replied r place) so)
     change_by NoSlot on so = on (goes_on did so)
     change_by (Again (Busy word value)) on so =
-        let b = (laws.in_world site op words d.loads views j before v running).busy word value so in (change_looked word value (caused (Again (Busy word value)) so).finds, record {
-          own = subst (λ c. IsOwnLock site.shape words d c word) suits.0 b.1;
-          newest = b.2;
-          odd = b.3;
-          by_others = not_by_this did (Busy word value) so;
-        })
+        let b = (laws.in_world site op words d.loads views j before v running).busy word value so in (
+          change_looked word value (caused (Again (Busy word value)) so).finds,
+          record {
+            own = subst (λ c. IsOwnLock site.shape words d c word) suits.0 b.1;
+            newest = b.2;
+            odd = b.3;
+            by_others = not_by_this did (Busy word value) so;
+          },
+        )
     change_by (Again (Moved word old new)) on so =
         let m = (laws.in_world site op words d.loads views j before v running).moved word old new so in
         let c = caused (Again (Moved word old new)) so in
-        let w = change_watched op.task op.kept d.loads (depth did) word old new op.step answer (remembered did).way suits.2.inside.numbers still (looked_by word old new c) so in (change_looked word new (moved_finds word old new c), record {
-          watched = subst (λ m. IsWatchedBy site.shape m d.loads word old new) change_hash (subst (λ g. IsWatchedBy g op.task.hash d.loads word old new) suits.2.shape w);
-          loaded = m.0;
-          newest = m.1;
-          differ = m.2;
-          by_others = not_by_this did (Moved word old new) so;
-        })
+        let w = change_watched op.task op.kept d.loads (depth did) word old new op.step answer (remembered did).way suits.2.inside.numbers still (looked_by word old new c) so in (
+          change_looked word new (moved_finds word old new c),
+          record {
+            watched = subst (λ m. IsWatchedBy site.shape m d.loads word old new) change_hash (subst (λ g. IsWatchedBy g op.task.hash d.loads word old new) suits.2.shape w);
+            loaded = m.0;
+            newest = m.1;
+            differ = m.2;
+            by_others = not_by_this did (Moved word old new) so;
+          },
+        )
     change_by (Stale segment byte) on so =
         laws.current site op words d.loads views j before v running (ap (λ (s : Here). s.version) suits.1 ∙ version) segment byte so
     change_by Off on so = never_off (caused Off so)
