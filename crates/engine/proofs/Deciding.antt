@@ -184,7 +184,7 @@ found_looks (want.Exchange i x y) (Lost n) word seen f = f.0
 found_looks w a word seen f = absurd f
 
 -- ---- the word that a change is told to have moved, by its step
--- where two steps are not decided so, neither is one of them
+-- a choice between two steps that are not decided so is not either
 either_decided : (b : Bool) (s u : Step) (e : WriteEnd) → (IsChangeDecided s e → ⊥) → (IsChangeDecided u e → ⊥) → IsChangeDecided (cond b s u) e → ⊥
 either_decided true s u e p q f = p f
 either_decided false s u e p q f = q f
