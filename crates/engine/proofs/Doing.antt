@@ -1,17 +1,22 @@
 -- Along any turns the engine of each caller remembers what its attempt did.
-use Rattle.std.proofs.Common.{◌≡◌, ℕ, zero, suc, inl, inr, ◌⊎◌, ◌==◌, Bool, true, false, cond, Option, None, Some, List, [], ◌∷◌, ◌++◌, length, slice_get, slice_set, refl, sym, ◌∙◌, ap, subst}
-use Rattle.std.proofs.lemmas.Bool.{cases_eq, eq-eqb, ne_eqb}
+use Rattle.std.proofs.Common.{◌≡◌, ℕ, zero, suc, inl, inr, ◌⊎◌, ◌==◌, Bool, true, false, cond, ◌≤◌, arith, ◌%◌, ◌+◌, ◌&&◌, not, nat_le, nat_lt, replicate, Option, None, Some, List, [], ◌∷◌, ◌++◌, length, slice_get, slice_set, refl, sym, ◌∙◌, ap, subst}
+use Rattle.std.specs.Prelude.{⊤}
+use Rattle.std.proofs.lemmas.Bool.{cases_eq, eq-eqb, ne_eqb, eqb-true, leb-true}
 use Rattle.std.proofs.lemmas.Option.{none-some, same_Some}
 use Rattle.op_core.specs.declared.want.Want.{Want}
 use Rattle.op_core.specs.declared.want.Want.TheVariants as want
 use Rattle.op_core.specs.declared.want.Ans.{Ans}
 use Rattle.op_core.specs.declared.want.Ans.TheVariants.{Value, Won, Lost, Drawn, Passed}
-use Rattle.image_layout.specs.Places.{Shape}
+use Rattle.op_core.specs.declared.why.Why.{Why}
+use Rattle.op_core.specs.declared.why.Why.TheVariants.{Moved}
+use Rattle.segment_head.specs.HeadWord.{version_in}
+use Rattle.image_layout.specs.Places.{Shape, root_word}
 use Rattle.map_model.specs.declared.call.Call.{Call}
 use Rattle.map_model.specs.declared.call.Call.TheVariants.{Get, Insert, Update, Remove}
 use Rattle.map_model.specs.declared.entry.Reply.{Reply}
 use Rattle.world.specs.declared.site.Site.{Site as Here}
 use Rattle.world.specs.Wants.{answer_to, word_of}
+use Rattle.read_op.specs.declared.step.Path.{Path}
 use Rattle.read_op.specs.declared.step.Found.{Found}
 use Rattle.read_op.specs.declared.step.ReadEnd.TheVariants as read_end
 use Rattle.read_op.specs.declared.step.Second.{Second}
@@ -19,16 +24,19 @@ use Rattle.read_op.specs.declared.step.Second.TheVariants as again
 use Rattle.read_op.specs.declared.step.ReadStep.{ReadStep}
 use Rattle.read_op.specs.declared.step.ReadStep.TheVariants as reads
 use Rattle.read_op.specs.declared.op.ReadOp.{ReadOp}
-use Rattle.read_op.specs.Steps.{wanted as read_wanted, wanted_in, taken as read_taken, next_in}
+use Rattle.read_op.specs.Steps.{wanted as read_wanted, wanted_in, taken as read_taken, next_in, moved, busy, lock_word, end_of as read_end_of, is_live, value_of}
+use Rattle.way.specs.Ways.{is_covering, entry_word, head_word}
 use Rattle.read_op.specs.Causes.{IsReading, IsWithin, kept_in, kept}
 use Rattle.read_op.proofs.Loading.{step_within}
 use Rattle.read_op.proofs.Causing.{reads_alone}
-use Rattle.write_op.specs.declared.control.WriteEnd.TheVariants.{Replied, NoSlot}
+use Rattle.write_op.specs.declared.control.WriteEnd.TheVariants.{Replied, NoSlot, Again}
+use Rattle.write_op.specs.declared.control.Side.TheVariants.{Home, Probing}
+use Rattle.write_op.specs.declared.control.Kept.{Kept}
 use Rattle.write_op.specs.declared.control.Step.{Step}
-use Rattle.write_op.specs.declared.control.Step.TheVariants.{CountFull, Ended}
+use Rattle.write_op.specs.declared.control.Step.TheVariants.{LoadRoot, LoadEntry, LoadHead, LookAt, LoadWord, LoadCount, CountFull, Ended}
 use Rattle.write_op.specs.declared.machine.WriteOp.{WriteOp}
 use Rattle.write_op.specs.Wanted.{wanted_of}
-use Rattle.write_op.specs.Taken.{begun as write_begun, wanted as write_wanted, taken as write_taken, refused, no_room, step_after}
+use Rattle.write_op.specs.Taken.{begun as write_begun, wanted as write_wanted, taken as write_taken, refused, no_room, step_after, kept_after, seen_at, with_slot, chosen}
 use Rattle.write_op.specs.Causes.{load_of, change_of, after_all, loads_of, changed_of, Remembers, KeepsLoads, RefusalRemembers, EndsStay, IsDecided as IsChangeDecided}
 use Rattle.engine.specs.declared.engine.Op.{Op}
 use Rattle.engine.specs.declared.engine.Op.TheVariants.{Read, Write}
@@ -44,8 +52,22 @@ watching shape w [] = refl
 watching shape w (c ∷ turns) = watching shape (watched_turn shape c w) turns
 
 -- ---- a get: all that it keeps was loaded, and nothing was changed
+-- what it keeps is in range: the root depth is not above the greatest, and the value of the lock word is free
+abbrev IsKeptWell : ReadOp → Path → ℕ → Type 0
+IsKeptWell op path free = (path.root ≤ op.site.geometry.depth) × (free % 2 ≡ 0)
+
+abbrev pub InRange : ReadOp → ReadStep → Type 0
+InRange op (reads.Entry root) = root ≤ op.site.geometry.depth
+InRange op (reads.Head root segment) = root ≤ op.site.geometry.depth
+InRange op (reads.Lock path) = path.root ≤ op.site.geometry.depth
+InRange op (reads.Fill path free words next) = IsKeptWell op path free
+InRange op (reads.Count found) = IsKeptWell op found.path found.free
+InRange op (reads.Check found place at) = IsKeptWell op found.path found.free
+InRange op s = ⊤
+
 pub record ReadDid (op : ReadOp) (d : Doings) : Type 0 where
   pub within : IsWithin (kept op) d.loads
+  pub in_range : InRange op op.step
   pub none : d.changed ≡ []
 
 reading_changes : (w : Want) (a : Ans) → IsReading w → change_of w a ≡ []
@@ -91,11 +113,61 @@ module _ (op : ReadOp) where
   next_within (reads.Check found place at) n loads w = again_within found place at n loads w
   next_within (reads.Ended end) n loads w = w
 
+  -- ---- it stays in range
+  range_taken : (a : Ans) → InRange op (next_by op.step a) → InRange (read_taken op a) (read_taken op a).step
+  range_taken (Value n) r = r
+  range_taken a r = r
+
+  either_range : (b : Bool) (s u : ReadStep) → InRange op s → InRange op u → InRange op (cond b s u)
+  either_range true s u p q = p
+  either_range false s u p q = q
+
+  first_range : (n : ℕ) (b : Bool) → nat_le n op.site.geometry.depth ≡ b → InRange op (cond b (reads.Entry n) (moved root_word n n))
+  first_range n true is = leb-true n op.site.geometry.depth is
+  first_range n false is = tt
+
+  first_free : (path : Path) (n : ℕ) (b : Bool) → (n % 2 == 0) ≡ b → path.root ≤ op.site.geometry.depth
+      → InRange op (cond b (reads.Fill path n (replicate 32 0) 1) (busy (lock_word op.site op.hash path.segment) n))
+  first_free path n true is r = (r, eqb-true (n % 2) 0 is)
+  first_free path n false is r = tt
+
+  again_range : (found : Found) (place : ℕ) (at : Second) (n : ℕ) → InRange op (reads.Check found place at)
+      → InRange op (next_by (reads.Check found place at) (answer_to (wanted_in op (reads.Check found place at)) n))
+  again_range found place again.Root n r = either_range (n == found.path.root) (reads.Check found place again.Entry) (moved root_word found.path.root n) r tt
+  again_range found place again.Entry n r =
+      either_range (n == found.path.segment) (reads.Check found place again.Head) (moved (entry_word op.site.geometry op.hash found.path.root) found.path.segment n) r tt
+  again_range found place again.Head n r =
+      either_range (n == found.path.head) (reads.Check found place again.Lock) (moved (head_word op.site.geometry found.path.segment) found.path.head n) r tt
+  again_range found place again.Lock n r =
+      let lock : ℕ = lock_word op.site op.hash found.path.segment in
+      let same : ReadStep = cond (n == found.free) (reads.Ended (read_end_of found place)) (moved lock found.free n) in
+      either_range (n % 2 == 1) (busy lock n) same tt (either_range (n == found.free) (reads.Ended (read_end_of found place)) (moved lock found.free n) tt tt)
+
+  next_range : (s : ReadStep) (n : ℕ) → InRange op s → InRange op (next_by s (answer_to (wanted_in op s) n))
+  next_range reads.Power n r = either_range (n == 0) reads.Root (reads.Ended read_end.Off) tt tt
+  next_range reads.Root n r = first_range n (nat_le n op.site.geometry.depth) refl
+  next_range (reads.Entry root) n r =
+      either_range (nat_lt n op.site.geometry.segments) (reads.Head root n) (moved (entry_word op.site.geometry op.hash root) n n) r tt
+  next_range (reads.Head root segment) n r =
+      let next : ReadStep = reads.Lock (record { root = root; segment = segment; head = n }) in
+      let ill : ReadStep = moved (head_word op.site.geometry segment) n n in
+      let fits = is_live n && is_covering n op.hash in
+      either_range (is_live n && not (version_in n == op.site.version)) (reads.Ended (read_end.Stale segment (version_in n))) (cond fits next ill) tt (either_range fits next ill r tt)
+  next_range (reads.Lock path) n r =
+      first_free path n (n % 2 == 0) refl r
+  next_range (reads.Fill path free words next) n r =
+      let filled = slice_set words next n in
+      either_range (nat_lt next 31) (reads.Fill path free filled (next + 1)) (reads.Count (record { path = path; free = free; value = value_of filled op.key })) r r
+  next_range (reads.Count found) n r = r
+  next_range (reads.Check found place at) n r = again_range found place at n r
+  next_range (reads.Ended end) n r = tt
+
   read_next : (n : ℕ) (d : Doings) → ReadDid op d → ReadDid (read_taken op (answer_to (read_wanted op) n)) (with_event_of (read_wanted op) (answer_to (read_wanted op) n) d)
   read_next n d did =
       let a : Ans = answer_to (read_wanted op) n in
       record {
         within = subst (λ ks. IsWithin ks (load_of (read_wanted op) a ++ d.loads)) (sym (taken_kept a)) (next_within op.step n d.loads did.within);
+        in_range = range_taken a (next_range op.step n did.in_range);
         none = ap (λ cs. cs ++ d.changed) (reading_changes (read_wanted op) a (reads_alone op)) ∙ did.none;
       }
 
@@ -132,16 +204,59 @@ done_next op d a did = let first = write_begun did.call did.here in record {
       ∙ (ap (λ l. change_of (write_wanted (after_all first did.answers)) a ++ l) did.changed_are ∙ sym (changed_more first did.answers a []));
 }
 
+-- the root depth that it keeps is not above the greatest, or it is told to try again
+abbrev pub InDepth : WriteOp → Type 0
+InDepth op = op.kept.root ≤ op.task.site.geometry.depth
+
+abbrev pub InDepthOrTold : WriteOp → Type 0
+InDepthOrTold op = InDepth op ⊎ ((why : Why) × IsChangeDecided op.step (Again why))
+
+first_depth : (op : WriteOp) (n : ℕ) (b : Bool) → nat_le n op.task.site.geometry.depth ≡ b
+    → (n ≤ op.task.site.geometry.depth) ⊎ ((why : Why) × IsChangeDecided (cond b LoadEntry (seen_at root_word n)) (Again why))
+first_depth op n true is = inl (leb-true n op.task.site.geometry.depth is)
+first_depth op n false is = inr (Moved root_word n n, refl)
+
+slot_keeps : (k : Kept) (o : Option ℕ) (most : ℕ) → k.root ≤ most → (with_slot k o).root ≤ most
+slot_keeps k None most low = low
+slot_keeps k (Some slot) most low = low
+
+depth_next : (op : WriteOp) (s : Step) (a : Ans) → InDepth op
+    → ((kept_after op.task op.kept s a).root ≤ op.task.site.geometry.depth) ⊎ ((why : Why) × IsChangeDecided (step_after op.task op.kept s a) (Again why))
+depth_next op LoadRoot (Value n) low = first_depth op n (nat_le n op.task.site.geometry.depth) refl
+depth_next op LoadEntry (Value n) low = inl low
+depth_next op LoadHead (Value n) low = inl low
+depth_next op (LookAt Home) (Value n) low = inl low
+depth_next op (LookAt Probing) (Value n) low = inl low
+depth_next op (LoadWord at) (Value n) low = inl low
+depth_next op LoadCount (Value n) low = inl (slot_keeps op.kept (chosen op.task.call op.kept.words) op.task.site.geometry.depth low)
+depth_next op s a low = inl low
+
+in_depth : EndsStay → (op : WriteOp) (answers : List Ans) → InDepthOrTold op → InDepthOrTold (after_all op answers)
+in_depth stay op [] depth = depth
+in_depth stay op (a ∷ answers) (inl low) = in_depth stay (write_taken op a) answers (depth_next op op.step a low)
+in_depth stay op (a ∷ answers) (inr told) = in_depth stay (write_taken op a) answers (inr (told.0, stay op a (Again told.0) told.1))
+
+pub done_depth : EndsStay → (op : WriteOp) (d : Doings) → HasDone op d → InDepthOrTold op
+done_depth stay op d did = subst InDepthOrTold (sym did.op_is) (in_depth stay (write_begun did.call did.here) did.answers (inl (omega arith)))
+
+told_no_slot : (why : Why) (s : Step) → s ≡ Ended NoSlot → IsChangeDecided s (Again why) → ⊥
+told_no_slot why s is decided = let same : NoSlot ≡ Again why = subst (λ z. IsChangeDecided z (Again why)) is decided in absurd (cc)
+
+-- who found no slot is not told to try again
+no_slot_depth : (op : WriteOp) → InDepthOrTold op → op.step ≡ Ended NoSlot → InDepth op
+no_slot_depth op (inl low) is = low
+no_slot_depth op (inr told) is = absurd (told_no_slot told.0 op.step is told.1)
+
 -- it has done so, or is to be refused and remembers that, or is answered
 abbrev pub WriteDid : WriteOp → Doings → Type 0
-WriteDid op d = HasDone op d ⊎ (((op.step ≡ CountFull) × Remembers op d.loads) ⊎ ((r : Reply) × (place : ℕ) × IsChangeDecided op.step (Replied r place)))
+WriteDid op d = HasDone op d ⊎ (((op.step ≡ CountFull) × Remembers op d.loads × InDepth op) ⊎ ((r : Reply) × (place : ℕ) × IsChangeDecided op.step (Replied r place)))
 
 abbrev pub OpDid : Op → Doings → Type 0
 OpDid (Read op) d = ReadDid op d
 OpDid (Write op) d = WriteDid op d
 
 pub begun_did : (here : Here) (call : Call) → OpDid (begun here call).op nothing_done
-begun_did here (Get key) = record { within = tt; none = refl }
+begun_did here (Get key) = record { within = tt; in_range = tt; none = refl }
 begun_did here (Insert key value) = inl (record { call = Insert key value; here = here; answers = []; op_is = refl; loads_are = refl; changed_are = refl })
 begun_did here (Update key value) = inl (record { call = Update key value; here = here; answers = []; op_is = refl; loads_are = refl; changed_are = refl })
 begun_did here (Remove key) = inl (record { call = Remove key; here = here; answers = []; op_is = refl; loads_are = refl; changed_are = refl })
@@ -171,7 +286,11 @@ module _ (keeps : KeepsLoads) (refuses : RefusalRemembers) (stay : EndsStay) whe
       let a : Ans = answer_to (write_wanted op) n in
       let next = done_next op d a did in
       gone_on (write_taken op a) (with_event_of (write_wanted op) a d) (inl next)
-      (λ is. inr (inl (refl, refuses (write_taken op a) (load_of (write_wanted op) a ++ d.loads) (remembers (write_taken op a) (with_event_of (write_wanted op) a d) next) is)))
+      (λ is. inr (inl (
+        refl,
+        refuses (write_taken op a) (load_of (write_wanted op) a ++ d.loads) (remembers (write_taken op a) (with_event_of (write_wanted op) a d) next) is,
+        no_slot_depth (write_taken op a) (done_depth stay (write_taken op a) (with_event_of (write_wanted op) a d) next) is,
+      )))
   write_next op n d (inr (inl full)) =
       answered_next op d (answer_to (write_wanted op) n) (no_room op.task.site) n
       (subst (λ s. IsChangeDecided (step_after op.task op.kept s (answer_to (wanted_of op.task op.kept s) n)) (Replied (no_room op.task.site) n)) (sym full.0) refl)

@@ -86,6 +86,15 @@ is_publish : (s : Step) → IsPublish s ⊎ (IsPublish s → ⊥)
 is_publish (Make point) = point_publish point
 is_publish s = inr (λ p. p)
 
+-- before the store that makes the change it is not made
+point_unmade : (point : Point) → IsPublish (Make point) → IsMade (Make point) → ⊥
+point_unmade Publish p m = m
+point_unmade point p m = p
+
+publish_unmade : (s : Step) → IsPublish s → IsMade s → ⊥
+publish_unmade (Make point) p m = point_unmade point p m
+publish_unmade s p m = p
+
 -- who goes on to a refusal has made nothing
 made_on : (op : WriteOp) → IsMade op.step → IsMade (go_on op).step
 made_on op m = elim (go_on_by op op.step) [
@@ -105,11 +114,11 @@ module _ (other : OtherStepsKeepPairs) (leaves : LeavesPairs) (makes : MakesIt) 
       subst LeavesBy (sym (wants_by_kind site op is s.asks))
       (other site words views j v (read_kind op) number h at (may_step site op v h.site_is is s.suits.3) (read_plain op op.step))
 
-  op_leaves : (op : Op) → Suits site here call (running op) before v → LeavesBy (wanted_by_op op) ⊎ HasMade (next_engine site (running op) words)
+  op_leaves : (op : Op) → Suits site here call (running op) before v → LeavesBy (wanted_by_op op) ⊎ ((HasMadeOp op → ⊥) × HasMade (next_engine site (running op) words))
   op_leaves (Read op) s = inl (read_leaves op s)
   op_leaves (Write op) s = elim (is_publish op.step) [
     | inl p ↦ inr (let n : ℕ = words (word_of site.shape (write_wanted op)) in
-        made_on (write_taken op (answer_to (write_wanted op) n)) (makes op (answer_to (write_wanted op) n) (answers (write_wanted op) n s.asks) p))
+        (publish_unmade op.step p, made_on (write_taken op (answer_to (write_wanted op) n)) (makes op (answer_to (write_wanted op) n) (answers (write_wanted op) n s.asks) p)))
     | inr plain ↦ inl (leaves site op words views j before v number h at s.suits.2 s.suits.4 s.asks plain)
   ]
 
@@ -146,7 +155,7 @@ module _ (leaves : LeavesOrMakes) (site : Site) (start : Words) (core : Core) (h
     by_call e is_engine calling = subst (λ o. LeavesTo (suc j) (turn_of_call site.shape j core c o (Some e))) (sym calling.is_current)
         (elim (leaves site c.site calling.call e core.words (fresh_view 0 ∷ h.views) (suc j) calling.before v (suc j) h.well.holds at calling.suits) [
           | inl same ↦ inl same
-          | inr made ↦ inr (record { seat = j; is_number = refl; caller = c; is_caller = is; engine = e; runs = is_engine; made = made })
+          | inr made ↦ inr (record { seat = j; is_number = refl; caller = c; is_caller = is; engine = e; runs = is_engine; not_before = made.0; made = made.1 })
         ])
 
     by_engine : (engine : Option Engine) → c.engine ≡ engine → DoesCall site c engine v → LeavesTo (suc j) (turn_of_call site.shape j core c (current c) engine)

@@ -29,7 +29,7 @@ use Rattle.write_op.specs.declared.control.WriteEnd.TheVariants as write_end
 use Rattle.way.specs.Ways.{entry_word, head_word, bucket_word}
 use Rattle.write_op.specs.Ways.{bucket_of}
 use Rattle.write_op.specs.Wanted.{key_for}
-use Rattle.write_op.specs.Causes.{load_of, change_of, IsDecided as IsChangeDecided}
+use Rattle.write_op.specs.Causes.{Finds, load_of, change_of, IsDecided as IsChangeDecided}
 use Rattle.restart_op.specs.Restarted.{IsPlayableImage}
 use Rattle.engine.specs.declared.engine.Op.{Op}
 use Rattle.engine.specs.declared.engine.Op.TheVariants.{Read, Write}
@@ -141,20 +141,33 @@ module _ (shape : Shape) (words : Words) (did : Doings) (call : Call) where
     pub odd : value % 2 ≡ 1
     pub by_others : Has word did.changed → ⊥
 
-  -- a segment that the directory entry of the key's hash named when it was loaded
-  abbrev pub IsNamed : ℕ → Type 0
-  IsNamed segment = (root : ℕ) × Has (entry_word shape hash_for root, segment) did.loads
+  -- a root depth that was loaded, and that the image may have
+  abbrev pub IsDepth : ℕ → Type 0
+  IsDepth root = Has (root_word, root) did.loads × (root ≤ shape.depth)
 
-  -- a word by which the attempt found its bucket: the root's, the directory entry at the root depth that was loaded, or the
-  -- header word or a lock word in a segment that was named
-  abbrev pub IsWatched : ℕ → Type 0
-  IsWatched word = (word ≡ root_word)
-      ⊎ (((root : ℕ) × Has (root_word, root) did.loads × (word ≡ entry_word shape hash_for root))
-      ⊎ ((segment : ℕ) × IsNamed segment × ((word ≡ head_word shape segment) ⊎ ((side : Side) × (word ≡ bucket_word shape segment (bucket_of side hash_for))))))
+  -- a segment that the directory entry of the key's hash, at such a root depth, named when it was loaded
+  abbrev pub IsNamed : ℕ → Type 0
+  IsNamed segment = (root : ℕ) × IsDepth root × Has (entry_word shape hash_for root, segment) did.loads
+
+  -- a word by which the attempt found its segment: the root's, the directory entry at the root depth that was loaded, or the
+  -- header word of a segment that was named
+  abbrev pub IsOnWay : ℕ → Type 0
+  IsOnWay word = (word ≡ root_word)
+      ⊎ (((root : ℕ) × IsDepth root × (word ≡ entry_word shape hash_for root))
+      ⊎ ((segment : ℕ) × IsNamed segment × (word ≡ head_word shape segment)))
+
+  -- the lock word of one of the two buckets of the key's hash, in a segment that was named
+  abbrev pub IsLockThere : ℕ → Type 0
+  IsLockThere word = (segment : ℕ) × IsNamed segment × (side : Side) × (word ≡ bucket_word shape segment (bucket_of side hash_for))
+
+  -- a word that may be told with these two values: one on the way, or such a lock word, which has them as free, so that two
+  -- such values are of two versions
+  abbrev pub IsWatched : ℕ → ℕ → ℕ → Type 0
+  IsWatched word before after = IsOnWay word ⊎ (IsLockThere word × (before % 2 ≡ 0) × (after % 2 ≡ 0))
 
   -- such a word has another value than the attempt loaded, and not by this attempt
   pub record HasMoved (word before after : ℕ) : Type 0 where
-    pub watched : IsWatched word
+    pub watched : IsWatched word before after
     pub loaded : Has (word, before) did.loads
     pub newest : words word ≡ after
     pub differ : before ≢ after
@@ -173,9 +186,9 @@ module _ (shape : Shape) (words : Words) (did : Doings) (call : Call) where
   abbrev pub WasHead : ℕ → ℕ → Type 0
   WasHead slot head = Has (head_at shape slot + 1, head) did.loads
 
-  -- the header that it loaded of its segment has such a depth
+  -- the header that it loaded of its segment, one of the image that was named, has such a depth
   abbrev pub HasDepth : (ℕ → Type 0) → Type 0
-  HasDepth Passes = (segment : ℕ) × (head : ℕ) × WasHead segment head × Passes (depth_in head)
+  HasDepth Passes = (segment : ℕ) × IsNamed segment × (segment < shape.segments) × (head : ℕ) × WasHead segment head × Passes (depth_in head)
 
   -- it loaded the header of each slot, and found none free
   abbrev pub NoSlotIsFree : Type 0
@@ -192,30 +205,36 @@ module _ (shape : Shape) (words : Words) (did : Doings) (call : Call) where
   HasReplyCause Spent = IsSpent
   HasReplyCause r = ⊤
 
-  -- of being told to try again
-  abbrev pub HasAgainCause : Why → Type 0
-  HasAgainCause (Busy word value) = IsTaken word value
-  HasAgainCause (Moved word before after) = HasMoved word before after
+  -- where the event that decides is this one
+  module _ (event : Want) where
+    -- the event loaded this word, or tried to exchange it in vain, and found this value
+    abbrev pub Looked : ℕ → ℕ → Type 0
+    Looked word seen = Finds event (answer_to event (words (word_of shape event))) word seen
 
-  -- no segment is ever stale, and no attempt finds the power off
-  abbrev pub HasGetCause : ReadEnd → Type 0
-  HasGetCause (read_end.Found value place) = ⊤
-  HasGetCause (read_end.Absent place) = ⊤
-  HasGetCause (read_end.Again why) = HasAgainCause why
-  HasGetCause (read_end.Stale segment byte) = ⊥
-  HasGetCause read_end.Off = ⊥
+    -- of being told to try again
+    abbrev pub HasAgainCause : Why → Type 0
+    HasAgainCause (Busy word value) = Looked word value × IsTaken word value
+    HasAgainCause (Moved word before after) = Looked word after × HasMoved word before after
 
-  -- a change that found no slot goes on to its refusal, so that this is never its end
-  abbrev pub HasChangeCause : WriteEnd → Type 0
-  HasChangeCause (write_end.Replied r place) = HasReplyCause r
-  HasChangeCause write_end.NoSlot = ⊥
-  HasChangeCause (write_end.Again why) = HasAgainCause why
-  HasChangeCause (write_end.Stale segment byte) = ⊥
-  HasChangeCause write_end.Off = ⊥
+    -- no segment is ever stale, and no attempt finds the power off
+    abbrev pub HasGetCause : ReadEnd → Type 0
+    HasGetCause (read_end.Found value place) = ⊤
+    HasGetCause (read_end.Absent place) = ⊤
+    HasGetCause (read_end.Again why) = HasAgainCause why
+    HasGetCause (read_end.Stale segment byte) = ⊥
+    HasGetCause read_end.Off = ⊥
 
-  abbrev pub HasCause : End → Type 0
-  HasCause (ends.Read end) = HasGetCause end
-  HasCause (ends.Write end) = HasChangeCause end
+    -- a change that found no slot goes on to its refusal, so that this is never its end
+    abbrev pub HasChangeCause : WriteEnd → Type 0
+    HasChangeCause (write_end.Replied r place) = HasReplyCause r
+    HasChangeCause write_end.NoSlot = ⊥
+    HasChangeCause (write_end.Again why) = HasAgainCause why
+    HasChangeCause (write_end.Stale segment byte) = ⊥
+    HasChangeCause write_end.Off = ⊥
+
+    abbrev pub HasCause : End → Type 0
+    HasCause (ends.Read end) = HasGetCause end
+    HasCause (ends.Write end) = HasChangeCause end
 
 -- ---- the laws
 -- watching changes nothing
@@ -225,7 +244,7 @@ WatchingChangesNothing = (shape : Shape) (w : Watched) (turns : List ℕ) → (w
 -- whichever caller has its turn next, where its event decides the attempt the cause is there
 abbrev pub CausesAreThere : Shape → Watched → Type 0
 CausesAreThere shape w = (j : ℕ) (caller : Caller) (call : Call) (e : Engine) (end : End) → slice_get w.core.callers j ≡ Some caller
-    → current caller ≡ Some call → caller.engine ≡ Some e → Decides shape w.core.words e end → HasCause shape w.core.words (w.doings j) call end
+    → current caller ≡ Some call → caller.engine ≡ Some e → Decides shape w.core.words e end → HasCause shape w.core.words (w.doings j) call (wanted e) end
 
 -- EACH END HAS ITS CAUSE, over all turns: from every sound image that may be played, whatever calls up to 64 callers have, and
 -- whatever turns they take

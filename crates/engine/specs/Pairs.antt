@@ -31,11 +31,12 @@ abbrev pub HasMade : Engine → Type 0
 HasMade e = HasMadeOp e.op
 
 -- ---- an engine
--- EACH EVENT leaves what every key has as it was, beside any other callers, or else the attempt has made its change by then
+-- EACH EVENT leaves what every key has as it was, beside any other callers, or else it is the one by which the attempt makes its
+-- change: not made before it, and made after
 abbrev pub LeavesOrMakes : Type 0
 LeavesOrMakes = (site : Site) (here : Here) (call : Call) (e : Engine) (words : Words) (views : List View) (j : ℕ) (before v : View) (number : ℕ)
     → Holds site words views → At views j v → Suits site here call e before v
-    → ((k : ℕ) → find site.shape (words_after site.shape (wanted e) number words) k ≡ find site.shape words k) ⊎ HasMade (next_engine site e words)
+    → ((k : ℕ) → find site.shape (words_after site.shape (wanted e) number words) k ≡ find site.shape words k) ⊎ ((HasMade e → ⊥) × HasMade (next_engine site e words))
 
 -- an attempt begins without
 abbrev pub BeginsUnmade : Type 0
@@ -50,7 +51,7 @@ abbrev pub EndsAsDone : Type 0
 EndsAsDone = (e : Engine) → HasMade e → wanted e ≡ Done → (place : ℕ) × (reply_of_end (end_of e) ≡ Some (reply.Done, place))
 
 -- ---- the core
--- it is the turn of a caller whose attempt has made its change, by the event of this turn or before
+-- it is the turn of a caller whose attempt makes its change by the event of this turn, and had not before
 pub record MakesAt (site : Site) (core : Core) (c : ℕ) : Type 0 where
   pub seat : ℕ
   pub is_number : c ≡ suc seat
@@ -58,6 +59,7 @@ pub record MakesAt (site : Site) (core : Core) (c : ℕ) : Type 0 where
   pub is_caller : slice_get core.callers seat ≡ Some caller
   pub engine : Engine
   pub runs : caller.engine ≡ Some engine
+  pub not_before : HasMade engine → ⊥
   pub made : HasMade (next_engine site engine core.words)
 
 -- EACH TURN leaves what every key has as it was, or else it is the turn of such a caller, whose attempt can end as done alone

@@ -77,9 +77,9 @@ pub fn no_room_is_full()
 {}
 
 /// An attempt that does not end as done left the pairs as they were, beside any other callers: each event leaves what every key
-/// has, or else the attempt has made its change by then; an attempt begins without, and one that has made its change stays so,
-/// and ends as done. So it is with the turns of the callers: each leaves all pairs, or is the turn of a caller whose attempt has
-/// made its change by then, and can end as done alone.
+/// has, or else is the one by which the attempt makes its change, not made before it and made after; an attempt begins without,
+/// and one that has made its change stays so, and ends as done. So it is with the turns of the callers: each leaves all pairs, or
+/// is the turn of a caller whose attempt makes its change by the event of this turn, and can end as done alone.
 pub fn refusals_leave_pairs()
     ensures leaves { LeavesOrMakes }
     ensures begins { BeginsUnmade }
