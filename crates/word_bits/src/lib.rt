@@ -1,0 +1,45 @@
+//! Some bits of a 64-bit word, as a number: looked at, and put in above those that are there.
+//!
+//! Bits are counted from 0, the lowest. `specs/Bits.antt` says what a number of bits is.
+#![tactic(auto)]
+
+ghost use Rattle.std.specs.Prelude.{◌≡◌, ◌==◌, ◌<◌, ◌+◌, ◌*◌, ◌^◌};
+ghost use Rattle.word_bits.specs.Bits.{bits, bit};
+
+/// The number that `count` bits of a word make, from bit `low` upwards.
+pub fn bits_of(word: u64, low: u32, count: u32) -> u64
+    requires place { low < 64 }
+    requires some { count < 64 }
+    ensures value { result ≡ bits low count word }
+    ensures below { result < 2 ^ count }
+{
+    (word >> low) & ((1 << count) - 1)
+}
+
+/// Whether bit `i` of a word is 1.
+pub fn is_set(word: u64, i: u32) -> bool
+    requires { i < 64 }
+    ensures { result ≡ (bit i word == 1) }
+{
+    (word >> i) & 1 == 1
+}
+
+/// A word with the bits of `value` put above the `low` bits that it has.
+pub fn with_bits(word: u64, low: u32, value: u64) -> u64
+    requires place { low < 64 }
+    requires free { word < 2 ^ low }
+    requires fits { value * 2 ^ low < 2 ^ 64 }
+    ensures { result ≡ word + 2 ^ low * value }
+{
+    word | (value << low)
+}
+
+/// The word with this bit alone, which is 0 past the word's end.
+pub fn mask(i: u32) -> u64
+    ensures { result ≡ Rattle.word_bits.specs.Bits.mask i }
+{
+    if i < 64 { 1 << i } else { 0 }
+}
+
+#[cfg(test)]
+mod tests;
