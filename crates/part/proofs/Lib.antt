@@ -1,0 +1,4 @@
+pub mod Thens
+pub mod Turning
+pub mod Still
+mod Counting

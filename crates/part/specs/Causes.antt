@@ -1,0 +1,182 @@
+-- The causes of an attempt's end, one vocabulary for all machines: in the newest words, and in what the attempt did.
+use Rattle.std.specs.Prelude.{◌≡◌, ◌≢◌, ℕ, ◌+◌, ◌-◌, ◌*◌, ◌%◌, ◌^◌, ◌<◌, ◌≤◌, ⊤, true, false, None, Some, List, ◌⊎◌}
+use Rattle.op_core.specs.declared.want.Want.{Want}
+use Rattle.op_core.specs.declared.want.Want.TheVariants.{Power, Done}
+use Rattle.op_core.specs.declared.want.Ans.{Ans}
+use Rattle.op_core.specs.declared.why.Why.{Why}
+use Rattle.op_core.specs.declared.why.Why.TheVariants.{Busy, Moved}
+use Rattle.op_core.specs.Answers.{IsAnswer, Finds}
+use Rattle.hash_word.specs.Hash.{home_of, probing_of}
+use Rattle.bucket_meta.specs.Bucket.{allocated}
+use Rattle.trace.specs.Events.{Words}
+use Rattle.segment_head.specs.HeadWord.{version_in, state_in, depth_in, is_live, free}
+use Rattle.image_layout.specs.Places.{Shape, IsShape, root_word, head_at, bucket_at}
+use Rattle.image_layout.specs.Volatile.{counter_word, power_word}
+use Rattle.sound_image.specs.Records.{key_hash}
+use Rattle.way.specs.Ways.{entry_word, head_word, bucket_word}
+use Rattle.map_model.specs.declared.call.Call.{Call}
+use Rattle.map_model.specs.declared.entry.Reply.{Reply}
+use Rattle.map_model.specs.declared.entry.Reply.TheVariants.{Full, Deep, Spent}
+use Rattle.map_model.specs.Map.{key_of}
+use Rattle.map_model.specs.Legal.{IsInsert}
+use Rattle.bucket_words.specs.Tables.{home_at}
+use Rattle.world.specs.declared.site.Site.{Site as Here}
+use Rattle.world.specs.Site.{Site}
+use Rattle.world.specs.Views.{View, At, Has}
+use Rattle.world.specs.Invariant.{Holds}
+use Rattle.world.specs.Wants.{answer_to, word_of}
+use Rattle.part.specs.Doings.{Doings, with_event_of, IsStill}
+use Rattle.part.specs.Outcomes.{Outcome, replied, again, stale, off, finished}
+use Rattle.part.specs.Part.{Part, Suits, finds, next}
+
+-- the home bucket of a hash, or the one after it
+abbrev pub IsBucketOf : ℕ → ℕ → Type 0
+IsBucketOf hash b = (b ≡ home_of hash) ⊎ (b ≡ probing_of (home_of hash))
+
+module _ (shape : Shape) (words : Words) (did : Doings) (call : Call) where
+  abbrev pub hash_for : ℕ
+  hash_for = key_hash shape (key_of call)
+
+  -- ---- busy
+  -- the lock word of one of the two buckets of the call's key
+  abbrev pub IsOwnLock : ℕ → Type 0
+  IsOwnLock word = (b : ℕ) × IsBucketOf hash_for b × (word ≡ bucket_at shape 0 b)
+
+  -- one of the two is taken, and not by this attempt
+  pub record IsTaken (word value : ℕ) : Type 0 where
+    pub own : IsOwnLock word
+    pub newest : words word ≡ value
+    pub odd : value % 2 ≡ 1
+    pub by_others : Has word did.changed → ⊥
+
+  -- ---- moved
+  -- a root depth that was loaded, and that the image may have
+  abbrev pub IsDepth : ℕ → Type 0
+  IsDepth root = Has (root_word, root) did.loads × (root ≤ shape.depth)
+
+  -- a segment that the directory entry of the key's hash, at such a root depth, named when it was loaded
+  abbrev pub IsNamed : ℕ → Type 0
+  IsNamed segment = (root : ℕ) × IsDepth root × Has (entry_word shape hash_for root, segment) did.loads
+
+  -- a word by which the attempt found its segment: the root's, the directory entry at the root depth that was loaded, or the
+  -- header word of a segment that was named
+  abbrev pub IsOnWay : ℕ → Type 0
+  IsOnWay word = (word ≡ root_word)
+      ⊎ (((root : ℕ) × IsDepth root × (word ≡ entry_word shape hash_for root))
+      ⊎ ((segment : ℕ) × IsNamed segment × (word ≡ head_word shape segment)))
+
+  -- the lock word of one of the two buckets of the key's hash, in a segment that was named
+  abbrev pub IsLockThere : ℕ → Type 0
+  IsLockThere word = (segment : ℕ) × IsNamed segment × (b : ℕ) × IsBucketOf hash_for b × (word ≡ bucket_word shape segment b)
+
+  -- a word that may be told with these two values: one on the way, or such a lock word, which has them as free, so that two
+  -- such values are of two versions
+  abbrev pub IsWatched : ℕ → ℕ → ℕ → Type 0
+  IsWatched word before after = IsOnWay word ⊎ (IsLockThere word × (before % 2 ≡ 0) × (after % 2 ≡ 0))
+
+  -- such a word has another value than the attempt loaded, and not by this attempt
+  pub record HasMoved (word before after : ℕ) : Type 0 where
+    pub watched : IsWatched word before after
+    pub loaded : Has (word, before) did.loads
+    pub newest : words word ≡ after
+    pub differ : before ≢ after
+    pub by_others : Has word did.changed → ⊥
+
+  -- ---- no room
+  -- the attempt loaded the metadata word of the home bucket, by which all 14 slots are taken, and the key word of each slot,
+  -- none of which is the key of this insert
+  pub record FindsNoRoom : Type 0 where
+    pub insert : IsInsert call
+    pub meta : ℕ
+    pub loaded : Has (home_at shape (key_of call) + 1, meta) did.loads
+    pub taken : (slot : ℕ) → slot < 14 → allocated slot meta ≡ 1
+    pub others : (slot : ℕ) → slot < 14 → (key : ℕ) × Has (home_at shape (key_of call) + (4 + 2 * slot), key) did.loads × (key ≢ key_of call)
+
+  -- the attempt loaded the header word of the segment in a slot, with this value
+  abbrev pub WasHead : ℕ → ℕ → Type 0
+  WasHead slot head = Has (head_at shape slot + 1, head) did.loads
+
+  -- the header that it loaded of its segment, one of the image that was named, has such a depth
+  abbrev pub HasDepth : (ℕ → Type 0) → Type 0
+  HasDepth Passes = (segment : ℕ) × IsNamed segment × (segment < shape.segments) × (head : ℕ) × WasHead segment head × Passes (depth_in head)
+
+  -- it loaded the header of each slot, and found none free
+  abbrev pub NoSlotIsFree : Type 0
+  NoSlotIsFree = (slot : ℕ) → slot < shape.segments → (head : ℕ) × WasHead slot head × (state_in head ≢ free)
+
+  -- ---- spent
+  -- the commit counter has no place left, or the attempt loaded one of the two lock words as free with its last version
+  abbrev pub IsSpent : Type 0
+  IsSpent = (2 ^ 63 ≤ words (counter_word shape)) ⊎ ((lock : ℕ) × IsOwnLock lock × Has (lock, 2 ^ 64 - 2) did.loads)
+
+  -- THE CAUSE of each reply; the other replies are those of the plain map, and have no more
+  abbrev pub HasReplyCause : Reply → Type 0
+  HasReplyCause Full = FindsNoRoom × HasDepth (λ depth. depth < shape.depth) × NoSlotIsFree
+  HasReplyCause Deep = FindsNoRoom × HasDepth (λ depth. depth ≡ shape.depth)
+  HasReplyCause Spent = IsSpent
+  HasReplyCause r = ⊤
+
+  -- ---- where the event that decides is this one
+  module _ (event : Want) where
+    -- the event loaded this word, or tried to exchange it in vain, and found this value
+    abbrev pub Looked : ℕ → ℕ → Type 0
+    Looked word seen = Finds event (answer_to event (words (word_of shape event))) word seen
+
+    -- THE CAUSE of being told to try again
+    abbrev pub HasAgainCause : Why → Type 0
+    HasAgainCause (Busy word value) = Looked word value × IsTaken word value
+    HasAgainCause (Moved word before after) = Looked word after × HasMoved word before after
+
+    -- of being told that a segment is stale, where the image has this version: the event loaded the header of a segment that was
+    -- named, which is live by it, and found this other version there
+    pub record IsStale (version segment byte : ℕ) : Type 0 where
+      pub named : IsNamed segment
+      pub head : ℕ
+      pub looked : Looked (head_word shape segment) head
+      pub live : is_live head ≡ true
+      pub found : version_in head ≡ byte
+      pub other : byte ≢ version
+
+    -- of being told that the power is off: the event loaded the power word, which is not 0
+    abbrev pub IsOff : Type 0
+    IsOff = (event ≡ Power) × (words (power_word shape) ≢ 0)
+
+    -- THE CAUSE of each outcome
+    abbrev pub HasCause : Here → Outcome → Type 0
+    HasCause here (replied reply place) = HasReplyCause reply
+    HasCause here (again why) = HasAgainCause why
+    HasCause here (stale segment byte) = IsStale here.version segment byte
+    HasCause here off = IsOff
+    HasCause here finished = ⊤
+
+-- ---- the causes of a part's outcomes
+module _ {M : Type 0} (p : Part M) where
+  -- what a machine has remembered it remembers after its next event, with what that did; and where the event decides the outcome, the
+  -- cause is there
+  pub record StepsByCause (site : Site) (here : Here) (call : Call) (words : Words) (op : M) (did : Doings) : Type 0 where
+    pub remembers : p.Remembers site (next p site words op) (with_event_of (p.wanted op) (answer_to (p.wanted op) (finds p site words op)) did)
+    pub caused : (outcome : Outcome) → p.outcome op ≡ None → p.outcome (next p site words op) ≡ Some outcome → HasCause site.shape words did call (p.wanted op) here outcome
+
+  -- EACH OUTCOME HAS ITS CAUSE, beside any other callers; it stays as it was decided; and where a machine wants nothing more, and does
+  -- not hand on, it is decided
+  pub record EndsByCause : Type 0 where
+    pub steps : (site : Site) (here : Here) (call : Call) (words : Words) (views : List View) (j : ℕ) (op : M) (before v : View) (did : Doings)
+        → Holds site words views → At views j v → Suits p site here call op before v → p.wanted op ≢ Done → finds p site words op < 2 ^ 64 → p.Remembers site op did
+        → StepsByCause site here call words op did
+    pub stays : (op : M) (a : Ans) (outcome : Outcome) → IsAnswer (p.wanted op) a → p.outcome op ≡ Some outcome → p.outcome (p.taken op a) ≡ Some outcome
+    pub decided : (site : Site) (here : Here) (call : Call) (op : M) (v : View) → p.Stands site here call op v → p.wanted op ≡ Done → p.hands_on op ≡ false
+        → (outcome : Outcome) × (p.outcome op ≡ Some outcome)
+
+-- ---- a caller alone
+-- NOTHING MOVES for a caller to whom what it loaded is still so
+abbrev pub AloneNothingMoves : Type 0
+AloneNothingMoves = (shape : Shape) (words : Words) (did : Doings) (call : Call) (word before after : ℕ) → IsShape shape → key_of call < 2 ^ 64
+    → IsStill shape words did → HasMoved shape words did call word before after → ⊥
+
+-- so no event of such a caller decides that its attempt is to be made again since a word moved
+module _ {M : Type 0} (p : Part M) where
+  abbrev pub AloneNeverMoved : Type 0
+  AloneNeverMoved = (site : Site) (here : Here) (call : Call) (words : Words) (views : List View) (j : ℕ) (op : M) (before v : View) (did : Doings)
+      → Holds site words views → At views j v → Suits p site here call op before v → p.wanted op ≢ Done → finds p site words op < 2 ^ 64 → p.Remembers site op did
+      → key_of call < 2 ^ 64 → IsStill site.shape words did → p.outcome op ≡ None
+      → (word was is : ℕ) → p.outcome (next p site words op) ≡ Some (again (Moved word was is)) → ⊥

@@ -1,0 +1,105 @@
+-- A machine that reads the commit counter, in each step, and as a part of a call: it gives the call no reply.
+use Rattle.std.specs.Prelude.{◌≡◌, ℕ, ◌==◌, true, false, ⊤, Bool, Option, None, Some, [], if◌then◌else◌}
+use Rattle.op_core.specs.declared.want.Want.{Want}
+use Rattle.op_core.specs.declared.want.Want.TheVariants.{Load, Power, Done}
+use Rattle.op_core.specs.declared.want.Ans.{Ans}
+use Rattle.op_core.specs.declared.want.Ans.TheVariants.{Value}
+use Rattle.image_layout.specs.Places.{Shape}
+use Rattle.image_layout.specs.Volatile.{counter_word}
+use Rattle.map_model.specs.declared.call.Call.{Call}
+use Rattle.world.specs.declared.site.Site.{Site as Here}
+use Rattle.world.specs.Site.{Site}
+use Rattle.world.specs.Views.{View}
+use Rattle.world.specs.Kinds.{Kind, peeks, asks_power}
+use Rattle.world.specs.Attempts.{HoldsOnly}
+use Rattle.part.specs.declared.count.CountEnd.{CountEnd}
+use Rattle.part.specs.declared.count.CountEnd.TheVariants.{Counted, Off}
+use Rattle.part.specs.declared.count.CountStep.{CountStep}
+use Rattle.part.specs.declared.count.CountStep.TheVariants.{AskPower, LoadCounter, Ended}
+use Rattle.part.specs.declared.count.CountOp.{CountOp}
+use Rattle.part.specs.Outcomes.{Outcome, off, finished}
+use Rattle.part.specs.Part.{Part}
+use Rattle.part.specs.Then.{Then, then_part}
+
+-- ---- the machine
+-- a count that has done nothing yet
+abbrev pub begun : Here → CountOp
+begun here = record { site = here; step = AskPower }
+
+abbrev pub wanted_in : Shape → CountStep → Want
+wanted_in shape AskPower = Power
+wanted_in shape LoadCounter = Load (counter_word shape)
+wanted_in shape (Ended end) = Done
+
+abbrev pub wanted : CountOp → Want
+wanted op = wanted_in op.site.geometry op.step
+
+abbrev pub step_after : CountStep → ℕ → CountStep
+step_after AskPower n = if n == 0 then LoadCounter else Ended Off
+step_after LoadCounter n = Ended (Counted n)
+step_after (Ended end) n = Ended end
+
+abbrev pub taken : CountOp → Ans → CountOp
+taken op (Value n) = record op { step = step_after op.step n }
+taken op a = op
+
+-- ---- the part
+abbrev pub kind_in : Shape → CountStep → Kind
+kind_in shape AskPower = asks_power
+kind_in shape LoadCounter = peeks (counter_word shape)
+kind_in shape (Ended end) = peeks (counter_word shape)
+
+abbrev pub left_in : CountStep → ℕ
+left_in AskPower = 2
+left_in LoadCounter = 1
+left_in (Ended end) = 0
+
+abbrev pub outcome_of : CountEnd → Outcome
+outcome_of (Counted n) = finished
+outcome_of Off = off
+
+abbrev pub outcome_in : CountStep → Option Outcome
+outcome_in (Ended end) = Some (outcome_of end)
+outcome_in step = None
+
+-- it runs in this image, and its caller holds and owes nothing
+pub record Stands (site : Site) (here : Here) (call : Call) (op : CountOp) (v : View) : Type 0 where
+  pub at : op.site ≡ here
+  pub shape : op.site.geometry ≡ site.shape
+  pub nothing : HoldsOnly [] v
+
+abbrev pub count_part : Part CountOp
+count_part = record {
+  wanted = wanted;
+  taken = taken;
+  kind = λ op n. kind_in op.site.geometry op.step;
+  Stands = Stands;
+  outcome = λ op. outcome_in op.step;
+  Remembers = λ site op did. ⊤;
+  HasMade = λ op. ⊥;
+  left = λ op. left_in op.step;
+  most_events = 2;
+  waiting = λ op. 0;
+  most_waiting = 0;
+  hands_on = λ op. false;
+}
+
+-- ---- two of them, one after another
+-- where the first has counted, the second is begun
+abbrev pub has_counted : CountStep → Bool
+has_counted (Ended (Counted n)) = true
+has_counted step = false
+
+-- so nothing is decided there
+abbrev pub first_outcome : CountStep → Option Outcome
+first_outcome (Ended Off) = Some off
+first_outcome step = None
+
+abbrev pub first_count : Part CountOp
+first_count = record count_part { outcome = λ op. first_outcome op.step; hands_on = λ op. has_counted op.step }
+
+abbrev pub begun_again : CountOp → CountOp
+begun_again op = begun op.site
+
+abbrev pub two_counts : Part (Then CountOp CountOp)
+two_counts = then_part first_count count_part begun_again 2

@@ -1,0 +1,21 @@
+-- How an attempt ends, whatever machine makes it.
+use Rattle.std.specs.Prelude.{ℕ, Option, None, Some}
+use Rattle.op_core.specs.declared.why.Why.{Why}
+use Rattle.map_model.specs.declared.entry.Reply.{Reply}
+
+pub data Outcome : Type 0 where
+  -- with this reply, at this place
+  replied : (reply : Reply) (place : ℕ) → Outcome
+  -- it is to be made again
+  again : (why : Why) → Outcome
+  -- the segment in this slot is live and has this version, which is not the image's
+  stale : (segment version : ℕ) → Outcome
+  -- the power is off
+  off : Outcome
+  -- it has done its work, which gives the call no reply
+  finished : Outcome
+
+-- the reply with its place, where that is the outcome
+abbrev pub reply_of : Option Outcome → Option (Reply × ℕ)
+reply_of (Some (replied reply place)) = Some (reply, place)
+reply_of outcome = None

@@ -1,0 +1,127 @@
+-- WHAT AN ENGINE HAS TO KNOW OF A MACHINE, and nothing else: what it wants and makes of an answer, and why; how its caller's view
+-- stands; how it ends; and how long it goes on. A machine of which the laws below hold is a part of a call.
+use Rattle.std.specs.Prelude.{◌≡◌, ◌≢◌, ℕ, ◌+◌, ◌^◌, ◌<◌, ◌≤◌, Bool, false, Option, Some, List, []}
+use Rattle.op_core.specs.declared.want.Want.{Want}
+use Rattle.op_core.specs.declared.want.Want.TheVariants.{Flush, Fence, Done}
+use Rattle.op_core.specs.declared.want.Ans.{Ans}
+use Rattle.op_core.specs.Answers.{IsAnswer}
+use Rattle.trace.specs.Events.{Words}
+use Rattle.image_layout.specs.Places.{buckets}
+use Rattle.map_model.specs.declared.call.Call.{Call}
+use Rattle.map_model.specs.declared.entry.Reply.TheVariants as reply
+use Rattle.world.specs.declared.site.Site.{Site as Here}
+use Rattle.world.specs.Site.{Site, IsSite}
+use Rattle.world.specs.Views.{View, At}
+use Rattle.world.specs.Wants.{answer_to, word_of}
+use Rattle.world.specs.Kinds.{Kind, cuts_power, wanted as wanted_by, view_after, May}
+use Rattle.world.specs.Invariant.{Holds}
+use Rattle.world.specs.Attempts.{HoldsOnly, EntersReply}
+use Rattle.world.specs.Pairs.{IsPublishingKind}
+use Rattle.part.specs.Doings.{Doings}
+use Rattle.part.specs.Outcomes.{Outcome, replied, reply_of}
+use Rattle.part.specs.Asks.{IsWithin, PutsWord, LeavesNotes}
+
+pub record Part (M : Type 0) : Type 1 where
+  -- the event that it wants, and what an answer makes of it
+  pub wanted : M → Want
+  pub taken : M → Ans → M
+  -- the kind of that event, by the value that the event finds
+  pub kind : M → ℕ → Kind
+  -- how the view of its caller stands: what it holds, knows and owes, and what it noted
+  pub Stands : Site → Here → Call → M → View → Type 0
+  -- how its attempt ends, once that is decided: a reply is then entered, and what is held may still be given back
+  pub outcome : M → Option Outcome
+  -- what it remembers of what its attempt did
+  pub Remembers : Site → M → Doings → Type 0
+  -- the one store that makes its change was done
+  pub HasMade : M → Type 0
+  -- at most so many events are left, of so many
+  pub left : M → ℕ
+  pub most_events : ℕ
+  -- at most so many lines are flushed and not fenced, and never more than so many
+  pub waiting : M → ℕ
+  pub most_waiting : ℕ
+  -- it wants nothing more and keeps what it holds, and another part goes on
+  pub hands_on : M → Bool
+
+module _ {M : Type 0} (p : Part M) where
+  -- THE VIEW SUITS the machine, in a call whose attempt began with the view `before`
+  pub record Suits (site : Site) (here : Here) (call : Call) (op : M) (before v : View) : Type 0 where
+    pub stands : p.Stands site here call op v
+    pub enters : EntersReply call (reply_of (p.outcome op)) before v
+    pub callers : 0 < v.callers
+
+  -- the value that the next event finds, the machine after it, and the view
+  module _ (site : Site) (words : Words) (op : M) where
+    abbrev pub finds : ℕ
+    finds = words (word_of site.shape (p.wanted op))
+
+    abbrev pub next : M
+    next = p.taken op (answer_to (p.wanted op) finds)
+
+    abbrev pub next_view : View → View
+    next_view v = view_after site.shape (p.kind op finds) finds v
+
+  -- ---- the laws
+  -- the event is that of its kind, which the view may take; the view after it stands for the next state, with the reply of that
+  -- entered; and if it is the event that makes a change, the change was not made before it, and is made after it
+  pub record StepsWell (site : Site) (here : Here) (call : Call) (words : Words) (op : M) (before v : View) : Type 0 where
+    pub wants : p.wanted op ≡ wanted_by site.shape (p.kind op (finds site words op))
+    pub may : May site (p.kind op (finds site words op)) v
+    pub stands : p.Stands site here call (next site words op) (next_view site words op v)
+    pub enters : EntersReply call (reply_of (p.outcome (next site words op))) before (next_view site words op v)
+    pub makes : IsPublishingKind (p.kind op (finds site words op)) → (p.HasMade op → ⊥) × p.HasMade (next site words op)
+
+  -- EACH STEP, beside any other callers
+  abbrev pub KeepsSuits : Type 0
+  KeepsSuits = (site : Site) (here : Here) (call : Call) (words : Words) (views : List View) (j : ℕ) (op : M) (before v : View)
+      → Holds site words views → At views j v → Suits site here call op before v → p.wanted op ≢ Done → finds site words op < 2 ^ 64 → StepsWell site here call words op before v
+
+  -- a machine that wants nothing more holds, knows and owes nothing, but where it hands on
+  abbrev pub EndsBare : Type 0
+  EndsBare = (site : Site) (here : Here) (call : Call) (op : M) (v : View) → p.Stands site here call op v → p.wanted op ≡ Done → p.hands_on op ≡ false → HoldsOnly [] v
+
+  -- each answer of the kind that was asked for leaves fewer events
+  pub record EndsInTime : Type 0 where
+    pub falls : (op : M) (a : Ans) → IsAnswer (p.wanted op) a → p.left (p.taken op a) < p.left op
+    pub most : (op : M) → p.left op ≤ p.most_events
+
+  -- it asks for words of the image and those behind it alone
+  abbrev pub AsksWithin : Type 0
+  AsksWithin = (site : Site) (here : Here) (call : Call) (op : M) (before v : View) → IsSite site → Suits site here call op before v → IsWithin site.shape (p.wanted op)
+
+  -- it puts words alone into the memory
+  abbrev pub PutsWords : Type 0
+  PutsWords = (site : Site) (here : Here) (call : Call) (op : M) (before v : View) → Suits site here call op before v → PutsWord (p.wanted op)
+
+  -- it changes no overflow note
+  abbrev pub KeepsNotes : Type 0
+  KeepsNotes = (site : Site) (here : Here) (call : Call) (op : M) (before v : View) (b : ℕ) → IsSite site → Suits site here call op before v → b < buckets → LeavesNotes site.shape v b (p.wanted op)
+
+  -- each flush is counted among the lines that wait, no event but a fence lets one go, and at the end none waits
+  pub record FlushesFew : Type 0 where
+    pub most : (op : M) → p.waiting op ≤ p.most_waiting
+    pub flushes : (op : M) (a : Ans) (l : ℕ) → IsAnswer (p.wanted op) a → p.wanted op ≡ Flush l → p.waiting op + 1 ≤ p.waiting (p.taken op a)
+    pub keeps : (op : M) (a : Ans) → IsAnswer (p.wanted op) a → p.wanted op ≢ Fence → p.waiting op ≤ p.waiting (p.taken op a)
+    pub ends : (op : M) → p.wanted op ≡ Done → p.waiting op ≡ 0
+
+  -- a change that is made stays so, and ends as done
+  pub record EndsAsDone : Type 0 where
+    pub stays : (op : M) (a : Ans) → IsAnswer (p.wanted op) a → p.HasMade op → p.HasMade (p.taken op a)
+    pub done : (op : M) → p.HasMade op → p.wanted op ≡ Done → (place : ℕ) × (p.outcome op ≡ Some (replied reply.Done place))
+
+  -- it never cuts the power
+  abbrev pub KeepsPower : Type 0
+  KeepsPower = (op : M) (n : ℕ) → p.kind op n ≢ cuts_power
+
+  -- THE MACHINE IS A PART OF A CALL
+  pub record IsPart : Type 0 where
+    pub steps : KeepsSuits
+    pub ends : EndsBare
+    pub time : EndsInTime
+    pub within : AsksWithin
+    pub words : PutsWords
+    pub notes : KeepsNotes
+    pub flushes : FlushesFew
+    pub made : EndsAsDone
+    pub power : KeepsPower

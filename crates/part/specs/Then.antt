@@ -1,0 +1,94 @@
+-- ONE PART AFTER ANOTHER: where the first hands on, the second goes on from the state that is made of it.
+use Rattle.std.specs.Prelude.{◌≡◌, ℕ, ◌+◌, ◌<◌, ◌≤◌, max, Bool, true, false, Option}
+use Rattle.op_core.specs.declared.want.Want.{Want}
+use Rattle.op_core.specs.declared.want.Ans.{Ans}
+use Rattle.map_model.specs.declared.call.Call.{Call}
+use Rattle.world.specs.declared.site.Site.{Site as Here}
+use Rattle.world.specs.Site.{Site}
+use Rattle.world.specs.Views.{View}
+use Rattle.world.specs.Kinds.{Kind}
+use Rattle.part.specs.Doings.{Doings}
+use Rattle.part.specs.Outcomes.{Outcome}
+use Rattle.part.specs.Part.{Part}
+
+-- a state of the first, or of the second
+pub data Then (A B : Type 0) : Type 0 where
+  first : A → Then A B
+  second : B → Then A B
+
+-- the second goes on from `next` of the first's state, and takes at most `most` events from there
+module _ {A B : Type 0} (a : Part A) (b : Part B) (next : A → B) (most : ℕ) where
+  abbrev pub passed : Bool → A → Then A B
+  passed true x = second (next x)
+  passed false x = first x
+
+  abbrev pub wanted : Then A B → Want
+  wanted (first x) = a.wanted x
+  wanted (second y) = b.wanted y
+
+  abbrev pub taken : Then A B → Ans → Then A B
+  taken (first x) ans = passed (a.hands_on (a.taken x ans)) (a.taken x ans)
+  taken (second y) ans = second (b.taken y ans)
+
+  abbrev pub kind : Then A B → ℕ → Kind
+  kind (first x) n = a.kind x n
+  kind (second y) n = b.kind y n
+
+  -- the first has not ended, or has ended without handing on
+  pub record StandsFirst (site : Site) (here : Here) (call : Call) (x : A) (v : View) : Type 0 where
+    pub stands : a.Stands site here call x v
+    pub closed : a.hands_on x ≡ false
+
+  abbrev pub Stands : Site → Here → Call → Then A B → View → Type 0
+  Stands site here call (first x) v = StandsFirst site here call x v
+  Stands site here call (second y) v = b.Stands site here call y v
+
+  abbrev pub outcome : Then A B → Option Outcome
+  outcome (first x) = a.outcome x
+  outcome (second y) = b.outcome y
+
+  abbrev pub Remembers : Site → Then A B → Doings → Type 0
+  Remembers site (first x) did = a.Remembers site x did
+  Remembers site (second y) did = b.Remembers site y did
+
+  abbrev pub HasMade : Then A B → Type 0
+  HasMade (first x) = a.HasMade x
+  HasMade (second y) = b.HasMade y
+
+  abbrev pub left : Then A B → ℕ
+  left (first x) = a.left x + most
+  left (second y) = b.left y
+
+  abbrev pub waiting : Then A B → ℕ
+  waiting (first x) = a.waiting x
+  waiting (second y) = b.waiting y
+
+  abbrev pub hands_on : Then A B → Bool
+  hands_on (first x) = false
+  hands_on (second y) = b.hands_on y
+
+  abbrev pub then_part : Part (Then A B)
+  then_part = record {
+    wanted = wanted;
+    taken = taken;
+    kind = kind;
+    Stands = Stands;
+    outcome = outcome;
+    Remembers = Remembers;
+    HasMade = HasMade;
+    left = left;
+    most_events = max (a.most_events + most) b.most_events;
+    waiting = waiting;
+    most_waiting = max a.most_waiting b.most_waiting;
+    hands_on = hands_on;
+  }
+
+  -- WHAT THE TWO OWE EACH OTHER where the first hands on: its view stands for the second, which is bounded, has decided what the
+  -- first has, remembers by what the first remembers, and counts the lines that still wait; and a change that was made is made
+  pub record Passes : Type 0 where
+    pub stands : (site : Site) (here : Here) (call : Call) (x : A) (v : View) → a.Stands site here call x v → 0 < v.callers → a.hands_on x ≡ true → b.Stands site here call (next x) v
+    pub decided : (x : A) → a.hands_on x ≡ true → a.outcome x ≡ b.outcome (next x)
+    pub remembers : (site : Site) (x : A) (did : Doings) → a.hands_on x ≡ true → a.Remembers site x did → b.Remembers site (next x) did
+    pub few : (x : A) → b.left (next x) ≤ most
+    pub waiting : (x : A) → a.hands_on x ≡ true → a.waiting x ≤ b.waiting (next x)
+    pub made : (x : A) → a.hands_on x ≡ true → a.HasMade x → b.HasMade (next x)

@@ -1,0 +1,50 @@
+//! The laws. The functions do nothing: each stands for the law that its contract says.
+
+ghost use Rattle.part.specs.Part.{IsPart};
+ghost use Rattle.part.specs.Turns.{TurnKeeps};
+ghost use Rattle.part.specs.Doings.{NothingIsStill, OwnEventsKeepStill};
+ghost use Rattle.part.specs.Causes.{EndsByCause, AloneNothingMoves, AloneNeverMoved};
+ghost use Rattle.part.specs.Count.{count_part, first_count, two_counts};
+
+/// What an attempt loaded is still so, or it changed that itself: so it is at the beginning, and after each event of its own,
+/// whichever it is. So nothing moves for a caller while nobody else steps.
+pub fn own_events_move_nothing()
+    ensures begins { NothingIsStill }
+    ensures own { OwnEventsKeepStill }
+    ensures alone { AloneNothingMoves }
+{}
+
+/// A count is a part of a call, and each of its outcomes has its cause.
+pub fn counts_are_parts()
+    ensures part { IsPart count_part }
+    ensures causes { EndsByCause count_part }
+{}
+
+/// A count that hands on where it has counted is one too.
+pub fn first_counts_are_parts()
+    ensures part { IsPart first_count }
+    ensures causes { EndsByCause first_count }
+{}
+
+/// Two counts, one after another, are a part, whose outcomes have their causes: by the law of one part after another.
+pub fn two_counts_are_a_part()
+    ensures part { IsPart two_counts }
+    ensures causes { EndsByCause two_counts }
+{
+    world::steps_add_one_reply();
+    counts_are_parts();
+    first_counts_are_parts();
+}
+
+/// A turn of a caller that counts twice keeps the invariant, the pairs and the power word, and leaves a view that suits the counts, or
+/// the attempt has ended; and to a caller alone it never says that a word moved: by the laws of a turn of any part.
+pub fn turns_of_counts_keep()
+    ensures keeps { TurnKeeps two_counts }
+    ensures alone { AloneNeverMoved two_counts }
+{
+    world::each_step_keeps();
+    world::steps_add_one_reply();
+    world::other_steps_keep_pairs();
+    world::steps_keep_the_power_word();
+    two_counts_are_a_part();
+}

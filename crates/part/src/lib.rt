@@ -1,0 +1,11 @@
+//! A machine is a part of a call: what an engine has to know of it, as one record that each machine proves of itself.
+#![tactic(auto)]
+
+mod count;
+mod laws;
+
+pub use count::{CountEnd, CountOp, CountStep};
+pub use laws::{
+    counts_are_parts, first_counts_are_parts, own_events_move_nothing, turns_of_counts_keep,
+    two_counts_are_a_part,
+};
