@@ -10,10 +10,13 @@ use Rattle.sound_image.specs.Segments.{ImageWords}
 use Rattle.sound_image.specs.Image.{image_bytes, SaysShape, IsSoundImage}
 use Rattle.image_file.specs.declared.fault.ImageFault.{ImageFault}
 use Rattle.image_file.specs.declared.fault.ImageFault.TheVariants.{Length, Magic, Format, Geometry, Unsound, NoMemory}
-use Rattle.image_file.specs.declared.breach.Scope.{Scope}
-use Rattle.image_file.specs.declared.breach.Scope.TheVariants.{Served}
-use Rattle.image_file.specs.Breach.{StageHoldsAt, HoldsAt, IsFirstBreach}
+use Rattle.image_rules.specs.declared.breach.Rule.{Rule}
+use Rattle.image_rules.specs.declared.breach.Rule.TheVariants as rule
+use Rattle.image_rules.specs.declared.breach.Scope.{Scope}
+use Rattle.image_rules.specs.declared.breach.Scope.TheVariants.{Served}
+use Rattle.image_rules.specs.Breach.{StageHoldsAt, HoldsAt, IsFirstBreach}
 use Rattle.image_file.specs.Fault.{word_in_file, shape_in, HasMagic, HasFormat, IsFramed, HasFaultIn, IsFileIn, HasFault, IsServedFile}
+use Rattle.image_rules.proofs.Breaches.{follows_rules, rules_hold}
 use Rattle.image_file.proofs.FileWords.{length-image_bytes, words_there}
 
 -- A SHAPE that Geometry refuses is none
@@ -51,25 +54,26 @@ module _ (bytes words : List ℕ) (file : bytes ≡ image_bytes words) (fits : (
           depth = sym (at_word 3) ∙ ap (λ (s : Shape). s.depth) (sym is);
         }
 
-    pub accepted-IsSoundImage : (scope : Scope) → ((n w : ℕ) → HoldsAt shape (slice_index words) scope n w) → IsSoundImage shape words
+    pub accepted-IsSoundImage : (scope : Scope) → ((r : Rule) (w : ℕ) → HoldsAt shape (slice_index words) scope r w) → IsSoundImage shape words
     accepted-IsSoundImage scope holds =
         record {
           in_range = subst IsShape (sym is) framed.shape_there;
           whole = all_words;
           each_fits = fits;
           says_shape = says_shape;
-          follows = λ n w. (holds n w).sound;
+          follows = follows_rules shape (slice_index words) scope holds;
         }
 
-    pub accepted-stage : (scope : Scope) → ((n w : ℕ) → HoldsAt shape (slice_index words) scope n w) → (w : ℕ) → StageHoldsAt shape (slice_index words) scope w
-    accepted-stage scope holds w = (holds 8 w).stage refl
+    pub accepted-stage : (scope : Scope) → ((r : Rule) (w : ℕ) → HoldsAt shape (slice_index words) scope r w)
+        → (w : ℕ) → StageHoldsAt shape (slice_index words) scope w
+    accepted-stage scope holds = holds rule.Served
 
     -- a breach of the words is one of the bytes
-    pub breach-HasFault : (scope : Scope) (n w : ℕ) → IsFirstBreach shape (slice_index words) scope n w → HasFaultIn scope bytes (Unsound n w)
-    breach-HasFault scope n w breach = (
+    pub breach-HasFault : (scope : Scope) (r : Rule) (w : ℕ) → IsFirstBreach shape (slice_index words) scope r w → HasFaultIn scope bytes (Unsound r w)
+    breach-HasFault scope r w breach = (
       framed,
-      subst (λ (s : Shape). IsFirstBreach s (word_in_file bytes) scope n w) is
-          (subst (λ (word : ImageWords). IsFirstBreach shape word scope n w) (sym spelled) breach),
+      subst (λ (s : Shape). IsFirstBreach s (word_in_file bytes) scope r w) is
+          (subst (λ (word : ImageWords). IsFirstBreach shape word scope r w) (sym spelled) breach),
     )
 
 -- SUCH A FILE has no fault
@@ -113,11 +117,11 @@ module _ (scope : Scope) (bytes : List ℕ) (f : IsFileIn scope bytes) where
       let long : length bytes ≡ 8 * words_of f.shape = ap length f.file ∙ length-image_bytes f.words ∙ ap (λ n. 8 * n) f.sound.whole in
       absurd (omega (arith, short, long, f.sound.in_range.some))
 
-  served_holds : (n w : ℕ) → HoldsAt (shape_in (word_in_file bytes)) (word_in_file bytes) scope n w
-  served_holds n w =
-      subst (λ (s : Shape). HoldsAt s (word_in_file bytes) scope n w) (sym served_shape)
-      (subst (λ (word : ImageWords). HoldsAt f.shape word scope n w) (sym served_spelled)
-      (record { sound = f.sound.follows n w; stage = λ _. f.stage w }))
+  served_holds : (r : Rule) (w : ℕ) → HoldsAt (shape_in (word_in_file bytes)) (word_in_file bytes) scope r w
+  served_holds r w =
+      subst (λ (s : Shape). HoldsAt s (word_in_file bytes) scope r w) (sym served_shape)
+      (subst (λ (word : ImageWords). HoldsAt f.shape word scope r w) (sym served_spelled)
+      (rules_hold f.shape (slice_index f.words) scope f.sound.follows f.stage r w))
 
   pub no_fault : (fault : ImageFault) → HasFaultIn scope bytes fault → fault ≡ NoMemory
   no_fault Length (inl short) = absurd (long_enough short)
@@ -125,7 +129,7 @@ module _ (scope : Scope) (bytes : List ℕ) (f : IsFileIn scope bytes) where
   no_fault Magic h = absurd (h.1 served_magic)
   no_fault Format h = absurd (h.2 served_format)
   no_fault Geometry front = absurd (front.says served_in_range)
-  no_fault (Unsound rule word) h = absurd (h.1.least.broken (served_holds rule word))
+  no_fault (Unsound r word) h = absurd (h.1.least.broken (served_holds r word))
   no_fault NoMemory h = refl
 
 -- nor has the file of an image that the program serves

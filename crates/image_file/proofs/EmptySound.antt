@@ -3,7 +3,8 @@ use Rattle.std.proofs.Common.{◌≡◌, ℕ, ◌+◌, ◌/◌, ◌%◌, ◌^◌
 use Rattle.std.specs.Prelude.{slice_index}
 use Rattle.std.proofs.lemmas.Bool.{cases_lt}
 use Rattle.std.proofs.Math.Nat.{zero-div, zero-mod}
-use Rattle.bucket_meta.specs.Bucket.{bits, lock_of, allocated, note_used, overflow_count}
+use Rattle.bucket_meta.specs.Bucket.{lock_of, allocated, note_used, overflow_count}
+use Rattle.word_bits.specs.Bits.{bits}
 use Rattle.segment_head.specs.HeadWord.{version_in, state_in, depth_in, pattern_in, normal}
 use Rattle.image_layout.specs.Places.{Shape, IsShape, entry_at, head_at, bucket_at}
 use Rattle.sound_image.specs.Segments.{ImageWords, Frame, frame_of, image_version, IsClean, state_at, IsLive}
@@ -12,10 +13,10 @@ use Rattle.sound_image.specs.Records.{word_in, HasRecord, HasPair, HasExactNotes
 use Rattle.sound_image.specs.Rules.{FollowsRules}
 use Rattle.sound_image.specs.Image.{IsSoundImage}
 use Rattle.image_file.specs.Formatted.{IsFormatted}
-use Rattle.image_file.specs.Stage.{PassesRule8, MayBePlayed}
-use Rattle.image_file.proofs.Unnoted.{HasNote}
-use Rattle.image_file.proofs.OneLive.{IsOneLive, has_owners, shares_well, entry_leads}
-use Rattle.image_file.proofs.NoNotes.{unnoted-exact}
+use Rattle.image_rules.specs.Stage.{PassesRule8, MayBePlayed}
+use Rattle.sound_image.proofs.Unnoted.{HasNote}
+use Rattle.sound_image.proofs.OneLive.{IsOneLive, has_owners, shares_well, entry_leads}
+use Rattle.sound_image.proofs.NoNotes.{unnoted-exact}
 
 bits_of_zero : (low count : ℕ) → bits low count 0 ≡ 0
 bits_of_zero low count = ap (λ x. x % 2 ^ count) (zero-div (2 ^ low)) ∙ zero-mod (2 ^ count)

@@ -41,7 +41,8 @@ first_word : (bytes : List ℕ) (w : ℕ) → 8 ≤ length bytes → ((k : ℕ) 
 first_word bytes w long fits is =
     let front = take 8 bytes in
     let same : from_le_bytes w64 front ≡ little_number 8 front = omega arith in
-    sym (le_bytes_8 front w (length-take-le 8 bytes long) (λ k. front_fits bytes k long fits) (is ∙ sym (little_from-take 0 8 8 bytes (omega arith)) ∙ sym same))
+    sym (le_bytes_8 front w (length-take-le 8 bytes long) (λ k. front_fits bytes k long fits)
+    (is ∙ sym (little_from-take 0 8 8 bytes (omega arith)) ∙ sym same))
 
 -- a word more of a piece that is added
 pub word_more : (words old piece : List ℕ) (i w : ℕ) → 8 * i + 8 ≤ length piece → ((k : ℕ) → slice_index piece k < 256) → w ≡ word_in_file piece i
@@ -49,7 +50,8 @@ pub word_more : (words old piece : List ℕ) (i w : ℕ) → 8 * i + 8 ≤ lengt
 word_more words old piece i w long fits is before =
     let rest = drop (8 * i) piece in
     let there : 8 ≤ length rest = omega (arith, long, length-drop (8 * i) piece) in
-    let front : take 8 rest ≡ little_bytes 8 w = first_word rest w there (λ k. subst (λ n. n < 256) (sym (get_or-drop (8 * i) piece k 0)) (fits (8 * i + k))) is in
+    let front : take 8 rest ≡ little_bytes 8 w = first_word rest w there (λ k. subst (λ n. n < 256) (sym (get_or-drop (8 * i) piece k 0)) (fits (8 * i + k)))
+    is in
     let further : 8 * i + 8 ≡ 8 * (i + 1) = omega arith in
     flat_map-append (little_bytes 8) words (w ∷ [])
     ∙ ap (λ bs. bs ++ little_bytes 8 w) before

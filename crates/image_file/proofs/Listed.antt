@@ -13,32 +13,33 @@ use Rattle.std.proofs.lemmas.Bool.{cases_lt, cases_eq}
 use Rattle.std.proofs.lemmas.Bool.Decides.{nat_tests}
 use Rattle.std.proofs.lemmas.List.{map-append, get_or-map, length-map}
 use Rattle.std.proofs.lemmas.List.Elements.{All-map, All-contains_itself, Contains-append_left, Contains-push, Contains-push_cases, filter-append}
-use Rattle.segment_head.specs.HeadWord.{state_in, normal, splitting}
+use Rattle.segment_head.specs.HeadWord.{is_live}
 use Rattle.bucket_meta.specs.Notes.{numbers_below}
 use Rattle.hash_word.specs.Hash.{top}
 use Rattle.image_layout.specs.Places.{Shape, key_at}
 use Rattle.sound_image.specs.Segments.{ImageWords, Frame, frame_of, depth_at, pattern_at, Owns}
 use Rattle.sound_image.specs.Records.{key_hash, slot_key, slot_value, slot_hash, HasRecord, HasPair}
 use Rattle.sound_image.specs.Rules.{KeysHaveOneValue}
-use Rattle.image_file.specs.declared.place.Place.{Place}
+use Rattle.image_rules.specs.declared.place.Place.{Place}
 use Rattle.sound_image.specs.Image.{IsSoundImage}
-use Rattle.image_file.specs.Divided.{IsDivided}
-use Rattle.image_file.specs.Slots.{IsPlace, IsTaken, IsStanding}
-use Rattle.image_file.specs.Pairs.{is_live, live_slots, keys_of, ArePairs, place_at, pair_at, IsOwnAt, IsFirstAt, HasPairBelow, ArePairsBelow}
-use Rattle.image_file.proofs.Owners.{shares}
+use Rattle.image_rules.specs.Divided.{IsDivided}
+use Rattle.image_rules.specs.Slots.{IsPlace, IsTaken, IsStanding}
+use Rattle.image_rules.specs.Own.{place_at, pair_at, IsOwnAt, IsFirstAt}
+use Rattle.image_file.specs.Pairs.{live_slots, keys_of, ArePairs, HasPairBelow, ArePairsBelow}
+use Rattle.image_rules.proofs.covered.Owners.{shares}
 
 -- ONE LIVE SLOT MORE
-pub live_more : (frame : Frame) (n : ℕ) → is_live frame n ≡ true → length (live_slots frame (n + 1)) ≡ length (live_slots frame n) + 1
+pub live_more : (frame : Frame) (n : ℕ) → is_live (frame.header n) ≡ true → length (live_slots frame (n + 1)) ≡ length (live_slots frame n) + 1
 live_more frame n holds =
     ap (λ m. length (live_slots frame m)) (add-one n)
-    ∙ ap length (filter-append (is_live frame) (numbers_below n) (n ∷ []))
+    ∙ ap length (filter-append (λ s. is_live (frame.header s)) (numbers_below n) (n ∷ []))
     ∙ length-append (live_slots frame n) _
     ∙ ap (λ b. length (live_slots frame n) + length (if b then n ∷ [] else [])) holds
 
-pub live_same : (frame : Frame) (n : ℕ) → is_live frame n ≡ false → length (live_slots frame (n + 1)) ≡ length (live_slots frame n)
+pub live_same : (frame : Frame) (n : ℕ) → is_live (frame.header n) ≡ false → length (live_slots frame (n + 1)) ≡ length (live_slots frame n)
 live_same frame n fails =
     ap (λ m. length (live_slots frame m)) (add-one n)
-    ∙ ap length (filter-append (is_live frame) (numbers_below n) (n ∷ []))
+    ∙ ap length (filter-append (λ s. is_live (frame.header s)) (numbers_below n) (n ∷ []))
     ∙ length-append (live_slots frame n) _
     ∙ ap (λ b. length (live_slots frame n) + length (if b then n ∷ [] else [])) fails
     ∙ omega arith
@@ -294,14 +295,6 @@ rising pairs once sorted = IsStrictlyIncreasing-from_distinct (keys_of pairs) ke
         let first : i < length pairs = omega (arith, h, long) in
         omega (arith, key_at_place i d first, key_at_place j d long, sorted i j (0, 0) h long)
 
--- THE STATE of a header word, as a test
-pub live_test : (x y : ℕ) → x ≡ y → (x / 256 % 256 ≡ 1) ⊎ (x / 256 % 256 ≡ 2) → ((state_in y == normal) || (state_in y == splitting)) ≡ true
-live_test x y same live = subst (λ z. ((state_in z == normal) || (state_in z == splitting)) ≡ true) same (grind (arith, nat_tests))
-
-pub dead_test : (x y : ℕ) → x ≡ y → x / 256 % 256 ≢ 1 → x / 256 % 256 ≢ 2 → ((state_in y == normal) || (state_in y == splitting)) ≡ false
-dead_test x y same one two = subst (λ z. ((state_in z == normal) || (state_in z == splitting)) ≡ false) same (grind (arith, nat_tests))
-
--- A SOUND IMAGE follows the rules that its pairs need
 pub sound-IsStanding : (shape : Shape) (words lent : List ℕ) → lent ≡ words → IsSoundImage shape words → IsStanding shape (slice_index lent)
 sound-IsStanding shape words lent same sound =
     subst (λ (ws : List ℕ). IsStanding shape (slice_index ws)) (sym same)

@@ -6,10 +6,11 @@ use Rattle.sound_image.specs.Segments.{ImageWords}
 use Rattle.sound_image.specs.Image.{image_bytes, magic, IsSoundImage}
 use Rattle.image_file.specs.declared.fault.ImageFault.{ImageFault}
 use Rattle.image_file.specs.declared.fault.ImageFault.TheVariants.{Length, Magic, Format, Geometry, Unsound, NoMemory}
-use Rattle.image_file.specs.Stage.{PassesRule8, IsUntouched}
-use Rattle.image_file.specs.declared.breach.Scope.{Scope}
-use Rattle.image_file.specs.declared.breach.Scope.TheVariants.{Served, Sound}
-use Rattle.image_file.specs.Breach.{IsLeast, StageHoldsAt, IsFirstBreach}
+use Rattle.image_rules.specs.Stage.{PassesRule8, IsUntouched}
+use Rattle.image_rules.specs.declared.breach.Rule.TheVariants as rule
+use Rattle.image_rules.specs.declared.breach.Scope.{Scope}
+use Rattle.image_rules.specs.declared.breach.Scope.TheVariants.{Served, Sound}
+use Rattle.image_rules.specs.Breach.{IsLeast, StageHoldsAt, IsFirstBreach}
 
 -- the words that bytes spell, eight bytes each, the lowest first
 abbrev pub word_in_file : List ℕ → ImageWords
@@ -49,8 +50,8 @@ HasFaultIn scope bytes Length = (length bytes < 256) ⊎ HasFront bytes (λ shap
 HasFaultIn scope bytes Magic = (256 ≤ length bytes) × (HasMagic (word_in_file bytes) → ⊥)
 HasFaultIn scope bytes Format = (256 ≤ length bytes) × HasMagic (word_in_file bytes) × (HasFormat (word_in_file bytes) → ⊥)
 HasFaultIn scope bytes Geometry = HasFront bytes (λ shape. IsShape shape → ⊥)
-HasFaultIn scope bytes (Unsound rule word) =
-    IsFramed bytes × IsFirstBreach (shape_in (word_in_file bytes)) (word_in_file bytes) scope rule word
+HasFaultIn scope bytes (Unsound broken word) =
+    IsFramed bytes × IsFirstBreach (shape_in (word_in_file bytes)) (word_in_file bytes) scope broken word
 HasFaultIn scope bytes NoMemory = ⊤
 
 -- the bytes have this fault, whichever rules are looked at
@@ -94,5 +95,5 @@ IsPlayFault shape word Length = ⊥
 IsPlayFault shape word Magic = ⊥
 IsPlayFault shape word Format = ⊥
 IsPlayFault shape word Geometry = ⊥
-IsPlayFault shape word (Unsound rule w) = (rule ≡ 8) × IsLeast (IsUntouched shape word) w
+IsPlayFault shape word (Unsound broken w) = (broken ≡ rule.Served) × IsLeast (IsUntouched shape word) w
 IsPlayFault shape word NoMemory = ⊥

@@ -1,13 +1,4 @@
-pub mod Lending
 pub mod Formatted
-pub mod Stage
-pub mod Divided
-pub mod Leaves
-pub mod Steps
-pub mod Slots
-pub mod Noted
-pub mod Repairs
-pub mod Breach
 pub mod Fault
 pub mod Front
 pub mod Pairs

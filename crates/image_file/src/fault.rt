@@ -1,5 +1,6 @@
 //! Why bytes are no image.
 
+use image_rules::Rule;
 use std::error::Error;
 use std::fmt;
 
@@ -18,8 +19,8 @@ pub enum ImageFault {
     /// A rule is broken: the first one in the order 1, 8, 2, 3, 4, 5, 6, 7, and the least word at which it is. Rule 8 is
     /// looked at only where the image is to be served.
     Unsound {
-        /// The number of the rule.
-        rule: u8,
+        /// The rule, told by its number.
+        rule: Rule,
         /// The number of the word.
         word: u64,
     },

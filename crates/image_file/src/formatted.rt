@@ -4,12 +4,14 @@ ghost use Rattle.std.specs.Prelude.{◌≡◌, ℕ, IfOk, slice_index};
 ghost use Rattle.sound_image.specs.Records.{HasPair};
 ghost use Rattle.sound_image.specs.Image.{IsSoundImage};
 ghost use Rattle.image_file.specs.Formatted.{IsFormatted};
-ghost use Rattle.image_file.specs.Stage.{PassesRule8, MayBePlayed};
+ghost use Rattle.image_rules.specs.Stage.{PassesRule8, MayBePlayed};
 
-use crate::medium::{Medium, shape_in_range};
+use crate::medium::Medium;
 use crate::words::Words;
-use image_layout::Geometry;
+use image_layout::{Geometry, STATE_WORD, state};
+use image_rules::shape_in_range;
 use map_model::NoMemory;
+use segment_head::{Head, State};
 use std::alloc::Global;
 
 /// The first word of an image: its bytes are the text `DASHEH01`.
@@ -19,16 +21,27 @@ pub(crate) const MAGIC: u64 = 0x3130_4845_4853_4144;
 pub(crate) const FORMAT: u64 = 1;
 
 /// The version of a new image and of its first segment.
-const FIRST_VERSION: u64 = 1;
+const FIRST_VERSION: u8 = 1;
 
-/// The clean marker, in the word of the image's version.
-const CLEAN: u64 = 0x100;
+/// The state word of a new image: of that version, and marked clean.
+fn first_state() -> u64
+    ensures { result ≡ 257 }
+{
+    state::with_marker(u64::from(FIRST_VERSION))
+}
 
-/// The state of a segment that is in use and not splitting, in its header word.
-const NORMAL: u64 = 0x100;
-
-/// The word of the image's version and of the clean marker.
-pub(crate) const STATE_WORD: usize = 16;
+/// The header word of its first segment: of that version, and covering every hash.
+fn first_header() -> u64
+    ensures { result ≡ 257 }
+{
+    let head = Head {
+        version: FIRST_VERSION,
+        state: State::Normal,
+        depth: 0,
+        pattern: 0,
+    };
+    head.write()
+}
 
 /// The words of the image of an empty table.
 fn empty_words(alloc: Global, geometry: &Geometry) -> Result<Words, NoMemory>
@@ -39,8 +52,8 @@ fn empty_words(alloc: Global, geometry: &Geometry) -> Result<Words, NoMemory>
     words[1] = FORMAT + (geometry.kind() << 32);
     words[2] = geometry.segments();
     words[3] = geometry.depth();
-    words[STATE_WORD] = FIRST_VERSION | CLEAN;
-    words[geometry.head_at(0) as usize + 1] = FIRST_VERSION | NORMAL;
+    words[STATE_WORD as usize] = first_state();
+    words[geometry.head_at(0) as usize + 1] = first_header();
     Ok(Words::new(words))
 }
 

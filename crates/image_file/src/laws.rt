@@ -2,7 +2,7 @@
 
 ghost use Rattle.std.specs.Prelude.{◌≡◌, slice_index, IfOk, IfErr};
 ghost use Rattle.sound_image.specs.Image.{IsSoundImage};
-ghost use Rattle.image_file.specs.Stage.{PassesRule8};
+ghost use Rattle.image_rules.specs.Stage.{PassesRule8};
 
 use crate::fault::ImageFault;
 use crate::medium::{Medium, to_bytes};

@@ -4,21 +4,11 @@
 //! holds.
 #![tactic(auto)]
 
-mod breach;
-mod directory;
 mod fault;
 mod formatted;
-mod heads;
 mod laws;
-mod leaves;
 mod medium;
-mod notes;
-mod place;
 mod read;
-mod records;
-mod repaired;
-mod rules;
-mod sound_segments;
 mod summary;
 mod untouched;
 mod words;

@@ -1,7 +1,7 @@
 //! An image in memory, and its file.
 
 ghost use Rattle.std.specs.Prelude.{◌≡◌, ◌*◌, IfOk, length};
-ghost use Rattle.image_layout.specs.Places.{IsShape, words_of};
+ghost use Rattle.image_layout.specs.Places.{words_of};
 ghost use Rattle.sound_image.specs.Image.{image_bytes};
 
 use crate::words::{WORD_BYTES, Words};
@@ -17,15 +17,6 @@ pub struct Medium {
     pub geometry: Geometry,
     /// All words, the first four of which say the geometry.
     pub words: Words,
-}
-
-/// A geometry's three numbers are in their ranges.
-pub(crate) fn shape_in_range(geometry: &Geometry)
-    ensures { IsShape geometry.now }
-{
-    let _ = geometry.segments();
-    let _ = geometry.depth();
-    let _ = geometry.kind();
 }
 
 /// The file of an image.

@@ -2,17 +2,17 @@
 
 ghost use Rattle.std.specs.Prelude.{List, ◌≡◌, ℕ, ◌+◌, ◌*◌, ◌%◌, ◌<◌, ◌≤◌, length, slice_index, IfOk, IfErr, Err};
 ghost use Rattle.sound_image.specs.Image.{image_bytes, IsSoundImage};
-ghost use Rattle.image_file.specs.Stage.{PassesRule8};
-ghost use Rattle.image_file.specs.Breach.{StageHoldsAt};
+ghost use Rattle.image_rules.specs.Stage.{PassesRule8};
+ghost use Rattle.image_rules.specs.Breach.{StageHoldsAt};
 ghost use Rattle.image_file.specs.Front.{BeginsWith};
 ghost use Rattle.image_file.specs.Fault.{word_in_file, shape_in, IsFramed, HasFront, HasFaultIn, HasFaultAnyway, HasFault, HasSoundFault, IsFileIn, IsServedFile, IsSoundFile};
 
-use crate::breach::{Scope, first_breach};
 use crate::fault::ImageFault;
 use crate::formatted::{FORMAT, MAGIC};
 use crate::medium::Medium;
-use crate::words::{WORD_BYTES, Words, each_fits, word_at};
+use crate::words::{WORD_BYTES, Words, word_at};
 use image_layout::Geometry;
+use image_rules::{Scope, each_fits, first_breach};
 use map_model::NoMemory;
 use std::alloc::Global;
 

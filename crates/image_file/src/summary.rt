@@ -1,28 +1,21 @@
 //! What an image holds.
 
-ghost use Rattle.std.specs.Prelude.{◌≡◌, ℕ, ◌/◌, ◌%◌, ◌^◌, ◌*◌, ◌<◌, ◌↔◌, List, length, slice_index, IfOk, IfSome, IfNone, IsTrue};
+ghost use Rattle.std.specs.Prelude.{◌≡◌, ℕ, ◌*◌, ◌<◌, ◌↔◌, List, length, slice_index, IfOk, IsTrue};
+ghost use Rattle.image_rules.specs.Own.{segment_slots};
 ghost use Rattle.std.specs.List.Sorted.{IsStrictlyIncreasing};
 ghost use Rattle.image_layout.specs.Places.{words_of};
 ghost use Rattle.sound_image.specs.Segments.{frame_of, image_version, IsClean};
 ghost use Rattle.sound_image.specs.Image.{IsSoundImage};
 ghost use Rattle.sound_image.specs.Rules.{KeysHaveOneValue};
-ghost use Rattle.image_file.specs.Slots.{IsStanding};
-ghost use Rattle.image_file.specs.Pairs.{live_slots, keys_of, ArePairs, place_at, pair_at, IsFirstAt, ArePairsBelow};
+ghost use Rattle.image_rules.specs.Slots.{IsStanding};
+ghost use Rattle.image_file.specs.Pairs.{live_slots, keys_of, ArePairs, ArePairsBelow};
 
-use crate::formatted::STATE_WORD;
 use crate::medium::Medium;
-use crate::place::{Place, is_taken, key_in, value_in};
-use crate::records::{RecordRule, is_own};
-use crate::rules::ROOT_WORD;
-use image_layout::Geometry;
+use image_layout::{Geometry, ROOT_WORD, STATE_WORD, state};
+use image_rules::{RECORD_SLOTS, pair_in};
 use map_model::NoMemory;
+use segment_head::word::is_live;
 use std::alloc::Global;
-
-/// How many record slots a segment has: 14 in each of 66 buckets.
-const RECORD_SLOTS: u64 = 924;
-
-/// How many record slots a bucket has.
-const BUCKET_SLOTS: u64 = 14;
 
 /// An image in numbers.
 #[derive(Clone, Copy, Debug, PartialEq, Eq)]
@@ -46,54 +39,11 @@ fn count_live(geometry: &Geometry, words: &[u64]) -> u64
 {
     let mut live = 0;
     for slot in 0..geometry.segments() {
-        let state = (words[geometry.head_at(slot) as usize + 1] >> 8) % 256;
-        if state == 1 || state == 2 {
+        if is_live(words[geometry.head_at(slot) as usize + 1]) {
             live += 1;
         }
     }
     live
-}
-
-/// Whether the word of the image's version has the clean marker.
-fn is_clean(status: u64) -> bool
-    ensures { IsTrue result ↔ (status / 2 ^ 8 % 2 ≡ 1) }
-{
-    (status >> 8) % 2 == 1
-}
-
-/// Record slot `n` of an image, of the 924 of each segment, bucket by bucket.
-fn place_of(n: u64) -> Place
-    requires { n < 15138816 }
-    ensures { result ≡ place_at n }
-{
-    Place {
-        segment: n / RECORD_SLOTS,
-        bucket: (n % RECORD_SLOTS / BUCKET_SLOTS) as u8,
-        slot: (n % BUCKET_SLOTS) as u8,
-    }
-}
-
-/// The pair in record slot `n`, if it has a record that is its segment's own and the first of its key there.
-fn pair_in(geometry: &Geometry, words: &[u64], n: u64) -> Option<(u64, u64)>
-    requires whole { length words.now ≡ words_of geometry.now }
-    requires standing { IsStanding geometry.now (slice_index words.now) }
-    requires slot { n < 924 * geometry.now.segments }
-    ensures some { IfSome result (λ pair. IsFirstAt geometry.now (slice_index words.now) n × (pair ≡ pair_at geometry.now (slice_index words.now) n)) }
-    ensures none { IfNone result (IsFirstAt geometry.now (slice_index words.now) n → ⊥) }
-{
-    let _ = geometry.segments();
-    let place = place_of(n);
-    if is_taken(geometry, words, place)
-        && is_own(geometry, words, place)
-        && RecordRule::Once.agree_before(geometry, words, place)
-    {
-        Some((
-            key_in(geometry, words, place),
-            value_in(geometry, words, place),
-        ))
-    } else {
-        None
-    }
 }
 
 /// How many pairs an image has.
@@ -101,7 +51,7 @@ fn count_pairs(geometry: &Geometry, words: &[u64]) -> u64
     requires whole { length words.now ≡ words_of geometry.now }
     requires standing { IsStanding geometry.now (slice_index words.now) }
     requires values { (w : ℕ) → KeysHaveOneValue geometry.now (slice_index words.now) w }
-    ensures { (pairs : List (ℕ × ℕ)) × ArePairsBelow geometry.now (slice_index words.now) (924 * geometry.now.segments) pairs × (result ≡ length pairs) }
+    ensures { (pairs : List (ℕ × ℕ)) × ArePairsBelow geometry.now (slice_index words.now) (segment_slots * geometry.now.segments) pairs × (result ≡ length pairs) }
 {
     let mut count = 0;
     for n in 0..RECORD_SLOTS * geometry.segments() {
@@ -117,7 +67,7 @@ fn all_pairs(alloc: Global, geometry: &Geometry, words: &[u64]) -> Result<Vec<(u
     requires whole { length words.now ≡ words_of geometry.now }
     requires standing { IsStanding geometry.now (slice_index words.now) }
     requires values { (w : ℕ) → KeysHaveOneValue geometry.now (slice_index words.now) w }
-    ensures { IfOk result (λ pairs. ArePairsBelow geometry.now (slice_index words.now) (924 * geometry.now.segments) pairs.items) }
+    ensures { IfOk result (λ pairs. ArePairsBelow geometry.now (slice_index words.now) (segment_slots * geometry.now.segments) pairs.items) }
 {
     let mut pairs = Vec::new(alloc);
     for n in 0..RECORD_SLOTS * geometry.segments() {
@@ -141,12 +91,13 @@ pub fn check(medium: &Medium) -> Summary
     ensures clean { IsTrue result.clean ↔ IsClean (frame_of medium.now.geometry (slice_index medium.now.words)) }
 {
     let words = medium.words.as_slice();
+    let status = words[STATE_WORD as usize];
     Summary {
-        version: (words[STATE_WORD] % 256) as u8,
-        depth: words[ROOT_WORD] as u8,
+        version: state::version_of(status),
+        depth: words[ROOT_WORD as usize] as u8,
         live: count_live(&medium.geometry, words),
         pairs: count_pairs(&medium.geometry, words),
-        clean: is_clean(words[STATE_WORD]),
+        clean: state::is_marked(status),
     }
 }
 

@@ -1,12 +1,11 @@
 //! The words of an image.
 
 ghost use Rattle.std.specs.Prelude.{◌≡◌, ℕ, ◌+◌, ◌*◌, ◌/◌, ◌%◌, ◌<◌, ◌≤◌, ◌^◌, ◌++◌, [], length, slice_index, IfOk, OnOk, OnErr, vec_len, vec_capacity};
-ghost use Rattle.std.specs.Borrow.{sem};
 ghost use Rattle.sound_image.specs.Image.{image_bytes};
 ghost use Rattle.image_file.specs.Fault.{word_in_file};
-ghost use Rattle.image_file.specs.Lending.{LendsWords};
 
 use byteorder::{ByteOrder, LittleEndian};
+use image_rules::each_fits;
 use map_model::NoMemory;
 use std::alloc::Global;
 use std::marker::Model;
@@ -39,13 +38,6 @@ fn push_words(words: &mut Vec<u64>, piece: &[u8])
     for index in 0..piece.len() / WORD_BYTES {
         words.push_reserved(word_at(piece, index));
     }
-}
-
-// Each of these words is of 64 bits.
-pub(crate) fn each_fits(words: &[u64])
-    ensures { (i : ℕ) → slice_index words.now i < 2 ^ 64 }
-{
-    let _ = words;
 }
 
 /// The words of an image, of 64 bits each. A contract sees their list.
@@ -105,13 +97,5 @@ impl Words {
         let words = self.words.as_slice();
         each_fits(words);
         words
-    }
-
-    /// The words, to be read and written.
-    pub fn as_mut_slice(&mut self) -> &mut [u64]
-        ensures* writes_back { sem 𝓛 (LendsWords self.entry result) }
-        ensures value { result.now ≡ self.old }
-    {
-        self.words.as_mut_slice()
     }
 }

@@ -2,8 +2,8 @@
 use Rattle.std.proofs.Common.{ℕ, List, subst}
 use Rattle.sound_image.specs.Image.{image_bytes}
 use Rattle.image_file.specs.Fault.{HasFaultIn, IsFileIn, IsSoundFile}
-use Rattle.image_file.specs.declared.breach.Scope.TheVariants.{Sound}
-use Rattle.image_file.proofs.Answered.{if_err}
+use Rattle.image_rules.specs.declared.breach.Scope.TheVariants.{Sound}
+use Rattle.image_rules.proofs.Answered.{if_err}
 use Rattle.image_file.proofs.Accepted.{no_fault}
 use Rattle.image_file.proofs.read.sound_from_words.Goals as goal
 

@@ -1,6 +1,7 @@
 -- A record slot more adds its pair, if it is the first of its key.
 use Rattle.std.proofs.Common.{◌≡◌, ℕ, ◌+◌, ◌*◌, ◌<◌, ◌++◌, ◌∷◌, [], List, ◌∙◌, sym, ap, subst, arith, slice_index, Vec, Global}
-use Rattle.image_file.specs.Pairs.{pair_at, ArePairsBelow}
+use Rattle.image_rules.specs.Own.{pair_at}
+use Rattle.image_file.specs.Pairs.{ArePairsBelow}
 use Rattle.image_file.proofs.Listed.{none_below, one_added, one_skipped}
 use Rattle.image_file.proofs.summary.all_pairs.Goals as goal
 use Rattle.image_file.proofs.summary.all_pairs.Goals.{in-Some+in_ok-push-in-Some, in-None}

@@ -5,8 +5,8 @@ use Rattle.image_file.specs.Pairs.{live_slots, ArePairs}
 use Rattle.image_file.proofs.Listed.{all-ArePairs, sound-IsStanding, sound-values}
 use Rattle.image_file.proofs.summary.check.Goals as goal
 
-pub overflow_cast-result-2 : goal.overflow_cast-result-2
-overflow_cast-result-2 c =
+pub overflow_cast-result : goal.overflow_cast-result
+overflow_cast-result c =
     let root : slice_index c.args.medium.now.words 8 ≤ c.args.medium.now.geometry.depth = ((c.requires.sound.follows 1 8).one refl).root refl in
     let same : slice_index c.as_slice-words.result.now 8 ≡ slice_index c.args.medium.now.words 8 =
     ap (λ (words : List ℕ). slice_index words 8) c.as_slice-words.ensures.value in
@@ -24,7 +24,8 @@ count_pairs-requires-clause-values c =
 pub returns-clause-live : goal.returns-clause-live
 returns-clause-live c =
     c.count_live.ensures
-    ∙ ap (λ (words : List ℕ). length (live_slots (frame_of c.args.medium.now.geometry (slice_index words)) c.args.medium.now.geometry.segments)) c.as_slice-words.ensures.value
+    ∙ ap (λ (words : List ℕ). length (live_slots (frame_of c.args.medium.now.geometry (slice_index words)) c.args.medium.now.geometry.segments))
+    c.as_slice-words.ensures.value
 
 pub returns-clause-pairs : goal.returns-clause-pairs
 returns-clause-pairs c =
@@ -37,4 +38,4 @@ returns-clause-pairs c =
 
 pub returns-clause-clean : goal.returns-clause-clean
 returns-clause-clean c =
-    subst (λ (words : List ℕ). IsTrue c.is_clean.result ↔ (slice_index words 16 / 2 ^ 8 % 2 ≡ 1)) c.as_slice-words.ensures.value c.is_clean.ensures
+    subst (λ (words : List ℕ). IsTrue c.is_marked.result ↔ (slice_index words 16 / 2 ^ 8 % 2 ≡ 1)) c.as_slice-words.ensures.value c.is_marked.ensures

@@ -1,6 +1,6 @@
 -- A record slot more counts one, if it is the first of its key.
 use Rattle.std.proofs.Common.{◌*◌, ◌<◌, ◌++◌, ◌∷◌, [], refl, arith, length-append, slice_index}
-use Rattle.image_file.specs.Pairs.{pair_at}
+use Rattle.image_rules.specs.Own.{pair_at}
 use Rattle.image_file.proofs.Listed.{none_below, one_added, one_skipped}
 use Rattle.image_file.proofs.summary.count_pairs.Goals as goal
 use Rattle.image_file.proofs.summary.count_pairs.Goals.{in-Some, in_default}

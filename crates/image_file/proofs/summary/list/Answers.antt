@@ -23,6 +23,7 @@ returns-clause-pairs c =
 pub returns-clause-rising : goal.returns-clause-rising
 returns-clause-rising c =
     let shape = c.args.medium.now.geometry in
-    let are = sorted-ArePairs shape (slice_index c.as_slice.result.now) c.in_ok-pairs.pairs.items c.sort_by_key.new.self.items c.in_ok-sort_by_key.ensures.permutation
+    let are = sorted-ArePairs shape (slice_index c.as_slice.result.now) c.in_ok-pairs.pairs.items c.sort_by_key.new.self.items
+    c.in_ok-sort_by_key.ensures.permutation
     (all-ArePairs shape (slice_index c.as_slice.result.now) c.in_ok-pairs.pairs.items c.in_ok-pairs.ensures) in
     rising _ are.once (IsNonDecreasingBy-from_sort_by_key (λ (pair : ℕ × ℕ). pair.0) _ c.in_ok-sort_by_key.ensures.sorted (λ a r q k. search rules))

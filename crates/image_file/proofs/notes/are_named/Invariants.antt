@@ -1,6 +1,0 @@
-use Rattle.std.proofs.Common.{slice_index}
-use Rattle.image_file.specs.Noted.{AreNamed}
-use Rattle.image_file.proofs.notes.are_named.Given as goal
-
-abbrev pub invariant-loop-place : goal.invariant-loop-place
-invariant-loop-place l = AreNamed l.geometry (slice_index l.words) l.s l.b l.c l.side l.place

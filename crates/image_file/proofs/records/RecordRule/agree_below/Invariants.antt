@@ -1,6 +1,0 @@
-use Rattle.std.proofs.Common.{slice_index}
-use Rattle.image_file.specs.Slots.{AgreeBelow}
-use Rattle.image_file.proofs.records.RecordRule.agree_below.Given as goal
-
-abbrev pub invariant-loop-slot : goal.invariant-loop-slot
-invariant-loop-slot l = AgreeBelow l.geometry (slice_index l.words) l.self l.place l.c l.slot

@@ -1,6 +1,0 @@
-use Rattle.std.proofs.Common.{slice_index}
-use Rattle.image_file.specs.Slots.{FollowBelow}
-use Rattle.image_file.proofs.records.RecordRule.first_broken.Given as goal
-
-abbrev pub invariant-loop-slot : goal.invariant-loop-slot
-invariant-loop-slot l = FollowBelow l.geometry (slice_index l.words) l.self l.s l.b l.slot

@@ -1,6 +1,0 @@
-use Rattle.std.proofs.Common.{slice_index}
-use Rattle.image_file.specs.Repairs.{SegmentsRepaired}
-use Rattle.image_file.proofs.repaired.rule_seven.Given as goal
-
-abbrev pub invariant-loop-s : goal.invariant-loop-s
-invariant-loop-s l = SegmentsRepaired l.geometry (slice_index l.words) l.s

@@ -1,6 +1,0 @@
-use Rattle.std.proofs.Common.{slice_index}
-use Rattle.image_file.specs.Slots.{AreRepaired}
-use Rattle.image_file.proofs.repaired.segment_breach.Given as goal
-
-abbrev pub invariant-loop-b : goal.invariant-loop-b
-invariant-loop-b l = AreRepaired l.geometry (slice_index l.words) l.s l.b

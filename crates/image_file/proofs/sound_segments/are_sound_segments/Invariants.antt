@@ -1,6 +1,0 @@
-use Rattle.std.proofs.Common.{slice_index}
-use Rattle.image_file.specs.Repairs.{AreSoundSegments}
-use Rattle.image_file.proofs.sound_segments.are_sound_segments.Given as goal
-
-abbrev pub invariant-loop-s : goal.invariant-loop-s
-invariant-loop-s l = AreSoundSegments l.geometry (slice_index l.words) l.s

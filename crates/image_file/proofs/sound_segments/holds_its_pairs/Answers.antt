@@ -1,9 +1,0 @@
--- Where a segment is repaired no key of it stands twice.
-use Rattle.std.proofs.Common.{refl, slice_index}
-use Rattle.image_file.proofs.SoundSegments.{repaired_values}
-use Rattle.image_file.proofs.sound_segments.holds_its_pairs.Goals as goal
-
-pub returns-then-is_clean_and_current : goal.returns-then-is_clean_and_current
-returns-then-is_clean_and_current c _ =
-    let repaired = c.in_default.ensures.none (c.if-is_clean_and_current.ensures.0 refl) in
-    record { values = repaired_values c.args.geometry.now (slice_index c.args.words.now) c.args.s repaired; repaired = λ _. repaired }

@@ -1,0 +1,5 @@
+pub mod Answered
+pub mod covered
+pub mod stashed
+pub mod standing
+pub mod Breaches

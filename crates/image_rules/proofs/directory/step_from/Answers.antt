@@ -1,0 +1,29 @@
+-- What a segment covers and does not give away is its own.
+use Rattle.std.proofs.Common.{◌^◌, ◌<◌, refl, arith, slice_index}
+use Rattle.sound_image.specs.Segments.{frame_of}
+use Rattle.image_rules.proofs.Answered.{never}
+use Rattle.image_rules.proofs.covered.Owners.{kept-Owns, prefix-covers, side-prefix}
+use Rattle.image_rules.proofs.directory.step_from.Goals as goal
+
+pub returns-then-not-in_one_side : goal.returns-then-not-in_one_side
+returns-then-not-in_one_side c =
+    let shape = c.args.geometry.now in
+    let word = slice_index c.args.words.now in
+    let slot : c.args.s < shape.segments = omega (arith, c.if-s-segments.false, c.segments.ensures.is) in
+    let fits : c.args.hash < 2 ^ 64 = omega arith in
+    let covers = prefix-covers (frame_of shape word) c.args.s c.prefix_of-prefix.result c.prefix_of-prefix.ensures.is c.args.hash
+    (c.if-not-covers.ensures.0 refl) in
+    kept-Owns shape word c.requires.divided c.args.s c.args.hash slot fits (c.if-not-is_live.ensures.0 refl) covers
+    (λ gives. never c.in_one_side.result c.in_one_side.ensures c.if-not-in_one_side.true
+    (side-prefix (frame_of shape word) c.args.s c.prefix_of-prefix.result c.prefix_of-prefix.ensures.is c.args.hash gives.in_side))
+
+pub returns-in-None : goal.returns-in-None
+returns-in-None c =
+    let shape = c.args.geometry.now in
+    let word = slice_index c.args.words.now in
+    let slot : c.args.s < shape.segments = omega (arith, c.if-s-segments.false, c.segments.ensures.is) in
+    let fits : c.args.hash < 2 ^ 64 = omega arith in
+    let covers = prefix-covers (frame_of shape word) c.args.s c.prefix_of-prefix.result c.prefix_of-prefix.ensures.is c.args.hash
+    (c.if-not-covers.ensures.0 refl) in
+    kept-Owns shape word c.requires.divided c.args.s c.args.hash slot fits (c.if-not-is_live.ensures.0 refl) covers
+    (λ gives. c.in-None.ensures.none gives.ready)

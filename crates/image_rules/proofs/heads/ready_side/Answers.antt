@@ -1,0 +1,5 @@
+-- Where the link names no slot, there is no ready side.
+use Rattle.image_rules.proofs.heads.ready_side.Goals as goal
+
+pub returns-in_default-clause-none : goal.returns-in_default-clause-none
+returns-in_default-clause-none c side = c.in_default.ensures.none side.0 (record { named = side.1.named; slot = side.1.slot })

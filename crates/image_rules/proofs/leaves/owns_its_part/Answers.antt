@@ -1,0 +1,96 @@
+-- A segment owns its part exactly where the leaves of that part have its depth.
+use Rattle.std.proofs.Common.{◌≡◌, ℕ, ◌+◌, ◌*◌, ◌^◌, ◌<◌, ◌≤◌, ◌∙◌, refl, sym, subst, arith, true, false, slice_index}
+use Rattle.image_layout.proofs.Areas.{power_double}
+use Rattle.sound_image.specs.Segments.{frame_of, HasReadySide}
+use Rattle.image_rules.specs.declared.heads.Prefix.{Prefix}
+use Rattle.image_rules.specs.Leaves.{AreDeepest}
+use Rattle.image_rules.proofs.covered.Owners.{side_depth}
+use Rattle.image_rules.proofs.covered.Parts.{whole-part, part-whole, sides-part, part-zeros, part-ones}
+use Rattle.image_rules.proofs.leaves.owns_its_part.Goals as goal
+
+pub returns-in_default : goal.returns-in_default
+returns-in_default c =
+    let frame = frame_of c.args.geometry.now (slice_index c.args.words.now) in
+    let prefix = c.prefix_of-prefix.result in
+    let greatest = c.depth-greatest.result in
+    let are = subst (λ (g : ℕ). AreDeepest frame g c.args.geometry.now.segments c.args.leaves.now) (sym c.depth-greatest.ensures.is) c.requires.deepest in
+    let deep : prefix.depth ≤ greatest = omega (arith, c.depth-greatest.ensures.is, c.prefix_of-prefix.ensures.depth) in (
+      (λ all. whole-part frame greatest c.depth-greatest.ensures.most c.args.leaves.now are c.args.s prefix c.requires.slot c.requires.live
+          c.prefix_of-prefix.ensures.is deep c.prefix_of-prefix.ensures.pattern c.in_default.ensures.none (c.all_have.ensures.0 all)),
+      (λ part. c.all_have.ensures.1
+          (part-whole frame greatest c.depth-greatest.ensures.most c.args.leaves.now are c.args.s prefix c.requires.slot c.requires.live
+          c.prefix_of-prefix.ensures.is deep c.prefix_of-prefix.ensures.pattern c.in_default.ensures.none part)),
+    )
+
+pub all_have-requires-2-clause-depth : goal.all_have-requires-2-clause-depth
+all_have-requires-2-clause-depth c =
+    omega (
+      arith,
+      c.depth-greatest.ensures.is,
+      c.prefix_of-prefix.ensures.is.depth,
+      side_depth c.args.geometry.now (slice_index c.args.words.now) c.requires.numbered c.args.s c.in-Some.field-0 c.in-Some.ensures.some,
+    )
+
+pub none_has-requires-clause-depth : goal.none_has-requires-clause-depth
+none_has-requires-clause-depth c =
+    omega (
+      arith,
+      c.depth-greatest.ensures.is,
+      c.prefix_of-prefix.ensures.is.depth,
+      side_depth c.args.geometry.now (slice_index c.args.words.now) c.requires.numbered c.args.s c.in-Some.field-0 c.in-Some.ensures.some,
+    )
+
+pub returns-then-all_have : goal.returns-then-all_have
+returns-then-all_have c =
+    let frame = frame_of c.args.geometry.now (slice_index c.args.words.now) in
+    let prefix = c.prefix_of-prefix.result in
+    let greatest = c.depth-greatest.result in
+    let are = subst (λ (g : ℕ). AreDeepest frame g c.args.geometry.now.segments c.args.leaves.now) (sym c.depth-greatest.ensures.is) c.requires.deepest in
+    let deep : prefix.depth ≤ greatest = omega (arith, c.depth-greatest.ensures.is, c.prefix_of-prefix.ensures.depth) in
+    let ready : HasReadySide frame c.args.s = (c.in-Some.field-0, c.in-Some.ensures.some) in
+    let further : prefix.depth + 1 ≤ greatest =
+    omega (
+      arith,
+      c.depth-greatest.ensures.is,
+      c.prefix_of-prefix.ensures.is.depth,
+      side_depth c.args.geometry.now (slice_index c.args.words.now) c.requires.numbered c.args.s c.in-Some.field-0 c.in-Some.ensures.some,
+    ) in
+    let zeros_fit : 2 * prefix.pattern < 2 ^ (prefix.depth + 1) = omega (arith, power_double prefix.depth, c.prefix_of-prefix.ensures.pattern) in
+    let ones_fit : 2 * prefix.pattern + 1 < 2 ^ (prefix.depth + 1) = omega (arith, power_double prefix.depth, c.prefix_of-prefix.ensures.pattern) in
+    let zeros : Prefix = record { depth = prefix.depth + 1; pattern = 2 * prefix.pattern } in
+    let ones : Prefix = record { depth = prefix.depth + 1; pattern = 2 * prefix.pattern + 1 } in (
+      (λ none. sides-part frame greatest c.depth-greatest.ensures.most c.args.leaves.now are c.args.s prefix c.requires.slot c.requires.live
+          c.prefix_of-prefix.ensures.is deep c.prefix_of-prefix.ensures.pattern ready zeros ones refl refl refl refl further zeros_fit ones_fit
+          (c.if-all_have.ensures.0 refl) (c.none_has.ensures.0 none)),
+      (λ part. c.none_has.ensures.1
+          (part-ones frame greatest c.depth-greatest.ensures.most c.args.leaves.now are c.args.s prefix c.requires.slot c.requires.live
+          c.prefix_of-prefix.ensures.is deep c.prefix_of-prefix.ensures.pattern ready zeros ones refl refl refl refl further zeros_fit ones_fit part)),
+    )
+
+pub returns-else-all_have : goal.returns-else-all_have
+returns-else-all_have c =
+    let frame = frame_of c.args.geometry.now (slice_index c.args.words.now) in
+    let prefix = c.prefix_of-prefix.result in
+    let greatest = c.depth-greatest.result in
+    let are = subst (λ (g : ℕ). AreDeepest frame g c.args.geometry.now.segments c.args.leaves.now) (sym c.depth-greatest.ensures.is) c.requires.deepest in
+    let deep : prefix.depth ≤ greatest = omega (arith, c.depth-greatest.ensures.is, c.prefix_of-prefix.ensures.depth) in
+    let ready : HasReadySide frame c.args.s = (c.in-Some.field-0, c.in-Some.ensures.some) in
+    let further : prefix.depth + 1 ≤ greatest =
+    omega (
+      arith,
+      c.depth-greatest.ensures.is,
+      c.prefix_of-prefix.ensures.is.depth,
+      side_depth c.args.geometry.now (slice_index c.args.words.now) c.requires.numbered c.args.s c.in-Some.field-0 c.in-Some.ensures.some,
+    ) in
+    let zeros_fit : 2 * prefix.pattern < 2 ^ (prefix.depth + 1) = omega (arith, power_double prefix.depth, c.prefix_of-prefix.ensures.pattern) in
+    let ones_fit : 2 * prefix.pattern + 1 < 2 ^ (prefix.depth + 1) = omega (arith, power_double prefix.depth, c.prefix_of-prefix.ensures.pattern) in
+    let zeros : Prefix = record { depth = prefix.depth + 1; pattern = 2 * prefix.pattern } in
+    let ones : Prefix = record { depth = prefix.depth + 1; pattern = 2 * prefix.pattern + 1 } in (
+      (λ all. absurd (false-true (sym c.if-all_have.false ∙ all))),
+      (λ part. c.all_have-2.ensures.1
+          (part-zeros frame greatest c.depth-greatest.ensures.most c.args.leaves.now are c.args.s prefix c.requires.slot c.requires.live
+          c.prefix_of-prefix.ensures.is deep c.prefix_of-prefix.ensures.pattern ready zeros ones refl refl refl refl further zeros_fit ones_fit part)),
+    )
+  where
+    false-true : false ≡ true → ⊥
+    false-true e = cc

@@ -1,0 +1,6 @@
+-- One segment more.
+use Rattle.std.proofs.Common.{below_more}
+use Rattle.image_rules.proofs.records.RecordRule.first_of_all.Goals as goal
+
+pub loop-s-preserved : goal.loop-s-preserved
+loop-s-preserved c = below_more _ _ c.loop-s.invariant c.in_default.ensures.none

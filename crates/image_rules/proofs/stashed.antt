@@ -1,0 +1,2 @@
+-- Notes of home buckets, and records in the stash.
+pub mod Counts
