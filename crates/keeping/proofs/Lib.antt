@@ -1,0 +1,4 @@
+pub mod Events
+pub mod Pictures
+pub mod Reopened
+pub mod Marking

@@ -1,0 +1,85 @@
+-- The image of a memory, word by word; and what a trace says of a memory of which caller 0 waits for nothing.
+use Rattle.std.proofs.Common.{◌≡◌, ℕ, ◌<◌, ◌≤◌, inl, inr, List, [], ◌∷◌, length, refl, sym, ap, subst, ◌∙◌, arith}
+use Rattle.std.specs.Prelude.{slice_index, Contains, Any}
+use Rattle.std.proofs.lemmas.Bool.{eq-eqb, cases_lt}
+use Rattle.std.proofs.lemmas.List.{get_or_past, ext_get_or}
+use Rattle.std.proofs.lemmas.List.FromFn.{length-map-range_with_len, get_or-map-range_with_len}
+use Rattle.trace.specs.Events.{Words, Trace}
+use Rattle.trace.specs.Progress.{pending}
+use Rattle.trace.specs.Steps.{HadSinceSettled}
+use Rattle.trace.proofs.Listed.{contains_of_has}
+use Rattle.trace.specs.Listed.{Has}
+use Rattle.trace.proofs.Media.{settled_may}
+use Rattle.trace.proofs.SettledValues.{is_settled}
+use Rattle.image_layout.specs.Places.{Shape, state_word, words_of}
+use Rattle.std.specs.FinMap.{get}
+use Rattle.map_model.specs.Map.{Map}
+use Rattle.sound_image.specs.Left.{HasPairsOf}
+use Rattle.restart_op.proofs.Same.{AgreeButForState, has_there}
+use Rattle.pm_trace.specs.declared.flushes.Flush.{Flush}
+use Rattle.pm_trace.specs.Memory.{Memory, flushes_of, unfenced}
+use Rattle.pm_trace.specs.TraceOf.{IsTraceOf}
+use Rattle.pm_trace.proofs.Elements.{has_of_any, has_filter}
+use Rattle.keeping.specs.Kept.{image_of, IsSettled}
+
+-- ---- the image
+pub image_word : (m : Memory) (i : ℕ) → i < words_of m.shape → slice_index (image_of m) i ≡ slice_index m.newest i
+image_word m i within = get_or-map-range_with_len (slice_index m.newest) 0 (words_of m.shape) i i 0 within (omega arith)
+
+pub image_whole : (m : Memory) → length (image_of m) ≡ words_of m.shape
+image_whole m = length-map-range_with_len (slice_index m.newest) 0 (words_of m.shape)
+
+pub image_past : (m : Memory) (i : ℕ) → words_of m.shape ≤ i → slice_index (image_of m) i ≡ 0
+image_past m i past = let whole = image_whole m in get_or_past (image_of m) i 0 (omega (arith, whole, past))
+
+-- memories that differ in the state word alone have images that do
+pub images_agree : (old new : Memory) → new.shape ≡ old.shape
+    → ((i : ℕ) → (i ≡ state_word → ⊥) → slice_index new.newest i ≡ slice_index old.newest i)
+    → AgreeButForState (slice_index (image_of old)) (slice_index (image_of new))
+images_agree old new shape others i other =
+    let width : words_of new.shape ≡ words_of old.shape = ap (λ (s : Shape). words_of s) shape in
+    elim (cases_lt i (words_of old.shape)) [
+      | inl within ↦ image_word old i within ∙ sym (others i other) ∙ sym (image_word new i (subst (λ (n : ℕ). i < n) (sym width) within))
+      | inr past ↦ image_past old i past ∙ sym (image_past new i (subst (λ (n : ℕ). n ≤ i) (sym width) past))
+    ]
+
+pub pairs_kept : (old new : Memory) → new.shape ≡ old.shape
+    → ((i : ℕ) → (i ≡ state_word → ⊥) → slice_index new.newest i ≡ slice_index old.newest i) → (m : Map)
+    → HasPairsOf old.shape (slice_index (image_of old)) m → HasPairsOf new.shape (slice_index (image_of new)) m
+pairs_kept old new shape others m has =
+    subst (λ (s : Shape). HasPairsOf s (slice_index (image_of new)) m) (sym shape)
+    (λ k. has_there old.shape (slice_index (image_of old)) (slice_index (image_of new)) (images_agree old new shape others) k (get m k) (has k))
+
+-- ---- what is pending
+none_has : {X : Type 0} (x : X) (xs : List X) → length xs ≡ 0 → Has x xs → ⊥
+none_has x [] none h = h
+none_has x (y ∷ ys) none h = omega (arith, none)
+
+none_at_all : (ps : List (ℕ × ℕ)) → ((l t : ℕ) → Contains ps (l, t) → ⊥) → ps ≡ []
+none_at_all [] none = refl
+none_at_all (p ∷ ps) none = absurd (none p.0 p.1 (contains_of_has (p.0, p.1) (p ∷ ps) (inl refl)))
+
+no_flush : (flushes : List Flush) (l : ℕ) → length (flushes_of 0 flushes) ≡ 0 → Any (λ (f : Flush). (f.caller ≡ 0) × (f.line ≡ l)) flushes → ⊥
+no_flush flushes l none any =
+    let found = has_of_any (λ (f : Flush). (f.caller ≡ 0) × (f.line ≡ l)) flushes any in
+    none_has found.0 (flushes_of 0 flushes) none (has_filter _ found.0 flushes found.1 (eq-eqb found.0.caller 0 found.2.0))
+
+pub none_pending : (m : Memory) (start : Words) (es : Trace) → IsTraceOf start es m → unfenced 0 m ≡ 0 → pending 0 es ≡ []
+none_pending m start es traced none = none_at_all (pending 0 es) (λ l t there. no_flush m.flushes l none (traced.whole 0 l t there))
+
+-- ---- what has settled
+pub settled_had : (m : Memory) (start : Words) (es : Trace) (w : ℕ) → IsTraceOf start es m → HadSinceSettled start es w (slice_index m.settled w)
+settled_had m start es w traced =
+    subst (λ (x : ℕ). HadSinceSettled start es w x) (sym (is_settled start es w (slice_index m.settled w) (traced.settled w))) (settled_may start es w)
+
+-- ---- a memory when the power comes on
+module _ (m : Memory) (words : List ℕ) (t : IsTraceOf (slice_index words) [] m) where
+  pub first_settled : IsSettled m
+  first_settled w within = is_settled (slice_index words) [] w (slice_index m.settled w) (t.settled w) ∙ sym (t.newest w)
+
+  pub first_waits : unfenced 0 m ≡ 0
+  first_waits = let once = t.once 0 in omega (arith, once)
+
+  pub first_image : length words ≡ words_of m.shape → image_of m ≡ words
+  first_image whole = ext_get_or 0 (image_of m) words (image_whole m ∙ sym whole)
+      (λ i within. image_word m i (subst (λ (n : ℕ). i < n) (image_whole m) within) ∙ t.newest i)
