@@ -1,0 +1,70 @@
+//! The texts that lines give: the numbers and the bytes that cannot be written plainly.
+
+use crate::line::Lines;
+use anyhow::{Result, bail};
+
+/// The number that stands for what is between braces: the number of the range itself, or that plus a number.
+fn filled(number: u64, inside: &str) -> Option<u64> {
+    if inside.is_empty() {
+        return Some(number);
+    }
+    let added = inside.strip_prefix('+')?.parse::<u64>().ok()?;
+    number.checked_add(added)
+}
+
+/// The byte that is written as a backslash and this letter, and what stands behind the letter.
+fn escaped(piece: &str) -> Option<(char, &str)> {
+    if let Some(rest) = piece.strip_prefix('n') {
+        return Some(('\n', rest));
+    }
+    if let Some(rest) = piece.strip_prefix('r') {
+        return Some(('\r', rest));
+    }
+    Some(('\t', piece.strip_prefix('t')?))
+}
+
+/// Appends a piece without braces.
+fn push_piece(text: &mut String, piece: &str) -> Result<()> {
+    for (place, part) in piece.split('\\').enumerate() {
+        if place == 0 {
+            text.push_str(part)?;
+            continue;
+        }
+        let Some((byte, rest)) = escaped(part) else {
+            bail!("a backslash without n, r or t behind it");
+        };
+        text.push(byte)?;
+        text.push_str(rest)?;
+    }
+    Ok(())
+}
+
+/// Appends the text for one number.
+fn push_one(text: &mut String, template: &str, number: u64) -> Result<()> {
+    for (place, piece) in template.split('{').enumerate() {
+        if place == 0 {
+            push_piece(text, piece)?;
+            continue;
+        }
+        let Some((inside, rest)) = piece.split_once('}') else {
+            bail!("a brace that is not closed");
+        };
+        let Some(number) = filled(number, inside) else {
+            bail!("no number is in the braces");
+        };
+        write!(text, "{number}")?;
+        push_piece(text, rest)?;
+    }
+    Ok(())
+}
+
+/// Appends the text once for each number of its range.
+pub fn push_lines(text: &mut String, lines: &Lines) -> Result<()> {
+    for number in lines.first..=lines.last {
+        push_one(text, lines.text, number)?;
+        if lines.ended {
+            text.push('\n')?;
+        }
+    }
+    Ok(())
+}
