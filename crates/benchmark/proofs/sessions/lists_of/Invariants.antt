@@ -1,6 +1,6 @@
 use Rattle.std.proofs.Common.{◌-◌}
-use Rattle.script_bench.proofs.OneList.{HasRoom}
-use Rattle.script_bench.proofs.sessions.lists_of.Given as goal
+use Rattle.benchmark.proofs.OneList.{HasRoom}
+use Rattle.benchmark.proofs.sessions.lists_of.Given as goal
 
 abbrev pub invariant-loop-line : goal.invariant-loop-line
 invariant-loop-line l = HasRoom (l.lines - l.line) l.lists

@@ -1,5 +1,6 @@
 //! The time that the texts take.
 
+use crate::faults::{invalid, no_data, no_memory};
 use crate::sessions::{script_of, session_of};
 use reply_text::transcript;
 use script_text::{Mode, parse};
@@ -16,38 +17,34 @@ fn sum(bytes: &[u8]) -> u64 {
     sum
 }
 
-fn no_memory() -> io::Error {
-    io::Error::from(io::ErrorKind::OutOfMemory)
-}
-
 /// Prints how many bytes a text has, and how long it took.
 fn print_figures(rt: &impl Print, bytes: usize, time: Duration) -> io::Result<()> {
     println!(rt; "{bytes} {}", time.as_nanos())
 }
 
 /// Makes a script, and does no more.
-pub(crate) fn print_script(alloc: Global, rt: &(impl Print + Clock), lines: u32) -> io::Result<()> {
+fn print_script(alloc: Global, rt: &(impl Print + Clock), lines: u32) -> io::Result<()> {
     let start = Instant::now(rt)?;
     let script = script_of(alloc, lines)?;
     print_figures(rt, script.len(), start.elapsed(rt)?)
 }
 
 /// Reads a script.
-pub(crate) fn print_parse(alloc: Global, rt: &(impl Print + Clock), lines: u32) -> io::Result<()> {
+fn print_parse(alloc: Global, rt: &(impl Print + Clock), lines: u32) -> io::Result<()> {
     let script = script_of(alloc, lines)?;
     let start = Instant::now(rt)?;
     let Ok(read) = parse(alloc, Mode::Play, script.as_bytes()) else {
-        return Err(io::Error::from(io::ErrorKind::InvalidData));
+        return Err(no_data());
     };
     let time = start.elapsed(rt)?;
     if read.len() != u64::from(lines) {
-        return Err(io::Error::from(io::ErrorKind::InvalidData));
+        return Err(no_data());
     }
     print_figures(rt, script.len(), time)
 }
 
 /// Makes a session, and does no more.
-pub(crate) fn print_session(
+fn print_session(
     alloc: Global,
     rt: &(impl Print + Clock),
     lines: u32,
@@ -62,7 +59,7 @@ pub(crate) fn print_session(
 }
 
 /// Writes the transcript of a session.
-pub(crate) fn print_transcript(
+fn print_transcript(
     alloc: Global,
     rt: &(impl Print + Clock),
     lines: u32,
@@ -77,6 +74,24 @@ pub(crate) fn print_transcript(
     };
     let time = start.elapsed(rt)?;
     print_figures(rt, text.len(), time)
+}
+
+/// Makes a text, reads or writes it, as the part says, and prints how many bytes it has, and how long it took.
+pub(crate) fn print_part(
+    alloc: Global,
+    rt: &(impl Print + Clock),
+    part: &str,
+    lines: u32,
+) -> io::Result<()> {
+    match part {
+        "script" => print_script(alloc, rt, lines),
+        "parse" => print_parse(alloc, rt, lines),
+        "session" => print_session(alloc, rt, lines, false),
+        "longest-session" => print_session(alloc, rt, lines, true),
+        "transcript" => print_transcript(alloc, rt, lines, false),
+        "longest" => print_transcript(alloc, rt, lines, true),
+        _ => Err(invalid()),
+    }
 }
 
 /// Prints the checksum of the transcript of a session.

@@ -1,7 +1,7 @@
 //! Both scans over the same buckets, and the time that they take.
 
 use finger_scan::{scan, scan_plain};
-use std::alloc::{AllocError, Allocator};
+use std::alloc::{AllocError, Global};
 use std::io::{self, Print};
 use std::num::nearest_usize_to_f64;
 use std::time::{Clock, Duration, Instant};
@@ -9,15 +9,15 @@ use std::time::{Clock, Duration, Instant};
 /// The fingerprints of a bucket.
 type Fingerprints = [u8; 14];
 
+/// How many buckets are scanned in one round.
+const BUCKETS: usize = 4096;
+
 /// Buckets of fingerprints that a multiplication mixes, the same at each call. Fingerprints are below
 /// 32, so that a scan often finds some.
-pub(crate) fn buckets<A: Allocator>(
-    alloc: A,
-    count: usize,
-) -> Result<Vec<Fingerprints, A>, AllocError> {
+pub(crate) fn buckets(alloc: Global) -> Result<Vec<Fingerprints>, AllocError> {
     let mut buckets = Vec::new(alloc);
     let mut state = 1;
-    for _ in 0..count {
+    for _ in 0..BUCKETS {
         let mut fps = [0; 14];
         for finger in fps.iter_mut() {
             state = next(state);

@@ -1,5 +1,5 @@
 use Rattle.std.proofs.Common.{◌≤◌, length}
-use Rattle.image_bench.proofs.measure.fill.Given as goal
+use Rattle.benchmark.proofs.images.fill.Given as goal
 
 abbrev pub invariant-loop : goal.invariant-loop
 invariant-loop g l = l.filled ≤ length l.buffer

@@ -3,6 +3,7 @@
 ghost use Rattle.std.specs.Prelude.{◌≤◌, length, IfOk};
 ghost use Rattle.sound_image.specs.Image.{IsSoundImage};
 
+use crate::faults::{no_data, no_memory};
 use image_file::{
     Medium, Words, check, format, list, sound_from_bytes, sound_from_words, to_bytes,
 };
@@ -15,18 +16,10 @@ use std::time::{Clock, Instant};
 /// How many bytes of a file are read at a time.
 const PIECE: usize = 1 << 20;
 
-fn no_memory() -> io::Error {
-    io::Error::from(io::ErrorKind::OutOfMemory)
-}
-
-fn no_image() -> io::Error {
-    io::Error::from(io::ErrorKind::InvalidData)
-}
-
 /// Makes the file of a new image of three slots for segments, reads it, and prints what it holds.
 pub(crate) fn print_small(alloc: Global, rt: &impl Print) -> io::Result<()> {
     let Ok(geometry) = Geometry::new(3, 2, 1) else {
-        return Err(no_image());
+        return Err(no_data());
     };
     let Ok(medium) = format(alloc, geometry) else {
         return Err(no_memory());
@@ -35,7 +28,7 @@ pub(crate) fn print_small(alloc: Global, rt: &impl Print) -> io::Result<()> {
         return Err(no_memory());
     };
     let Ok(medium) = sound_from_bytes(alloc, &bytes) else {
-        return Err(no_image());
+        return Err(no_data());
     };
     let summary = check(&medium);
     println!(rt; "bytes {}", bytes.len())?;
@@ -61,7 +54,7 @@ fn fill<F: Read>(file: &mut F, buffer: &mut [u8]) -> io::Result<usize>
 }
 
 /// The words of a file, read piece by piece into room that its length tells, so that its bytes are not kept beside them.
-fn read_words<R: Files + Alloc<A = Global>>(rt: &R, path: &str) -> io::Result<Words> {
+fn read_words<R: Files + AllocGlobal>(rt: &R, path: &str) -> io::Result<Words> {
     let mut file = fs::open(rt, path)?;
     let length = file.metadata()?.len();
     let Ok(mut words) = Words::with_room(rt.alloc(), (length / 8) as usize) else {
@@ -71,7 +64,7 @@ fn read_words<R: Files + Alloc<A = Global>>(rt: &R, path: &str) -> io::Result<Wo
     for _ in 0..=length / PIECE as u64 {
         let count = fill(&mut file, &mut buffer)?;
         if count % 8 != 0 {
-            return Err(no_image());
+            return Err(no_data());
         }
         if words.push_bytes(&buffer[..count]).is_err() {
             return Err(no_memory());
@@ -81,10 +74,7 @@ fn read_words<R: Files + Alloc<A = Global>>(rt: &R, path: &str) -> io::Result<Wo
 }
 
 /// Reads the image of a file.
-fn print_load<R: Files + Alloc<A = Global> + Print + Clock>(
-    rt: &R,
-    path: &str,
-) -> io::Result<Medium>
+fn print_load<R: Files + AllocGlobal + Print + Clock>(rt: &R, path: &str) -> io::Result<Medium>
     ensures { IfOk result (λ medium. IsSoundImage medium.geometry medium.words) }
 {
     let start = Instant::now(rt)?;
@@ -92,14 +82,14 @@ fn print_load<R: Files + Alloc<A = Global> + Print + Clock>(
     println!(rt; "read {}", start.elapsed(rt)?.as_nanos())?;
     let start = Instant::now(rt)?;
     let Ok(medium) = sound_from_words(rt.alloc(), words) else {
-        return Err(no_image());
+        return Err(no_data());
     };
     println!(rt; "load {}", start.elapsed(rt)?.as_nanos())?;
     Ok(medium)
 }
 
 /// Tells what an image holds.
-fn print_held<R: Alloc<A = Global> + Print + Clock>(rt: &R, medium: &Medium) -> io::Result<()>
+fn print_held<R: AllocGlobal + Print + Clock>(rt: &R, medium: &Medium) -> io::Result<()>
     requires { IsSoundImage medium.now.geometry medium.now.words }
 {
     let start = Instant::now(rt)?;
@@ -113,7 +103,7 @@ fn print_held<R: Alloc<A = Global> + Print + Clock>(rt: &R, medium: &Medium) -> 
 }
 
 /// Writes an image to a file.
-fn print_store<R: Files + Alloc<A = Global> + Print + Clock>(
+fn print_store<R: Files + AllocGlobal + Print + Clock>(
     rt: &R,
     medium: &Medium,
     path: &str,
@@ -131,7 +121,7 @@ fn print_store<R: Files + Alloc<A = Global> + Print + Clock>(
 }
 
 /// Reads the image at one path, tells what it holds, and writes it to the other, and prints what each step took.
-pub(crate) fn print_times<R: Files + Alloc<A = Global> + Print + Clock>(
+pub(crate) fn print_times<R: Files + AllocGlobal + Print + Clock>(
     rt: &R,
     image: &str,
     copy: &str,
