@@ -1,12 +1,11 @@
 //! The bucket that takes a new record.
 
 ghost use Rattle.std.specs.Prelude.{◌≡◌, ◌<◌, ◌≤◌, ◌↔◌, count_ones};
+ghost use Rattle.bucket_meta.specs.Bucket.{record_slots};
 ghost use Rattle.bucket_meta.specs.Slots.{IsFull};
 
 use bucket_meta::Meta;
-
-/// How many record slots a bucket has.
-const SLOTS: u8 = 14;
+use bucket_meta::words::SLOTS;
 
 /// The bucket that an insert goes to.
 #[derive(Clone, Copy, Debug, PartialEq, Eq)]
@@ -22,7 +21,7 @@ pub enum Choice {
 /// The bucket with fewer records: `home` where both have as many, and neither where both are full.
 pub fn choose(home: &Meta, probe: &Meta) -> Choice
     ensures home { (result ≡ Choice.Home)
-        ↔ ((count_ones home.now.alloc < 14) × (count_ones home.now.alloc ≤ count_ones probe.now.alloc)) }
+        ↔ ((count_ones home.now.alloc < record_slots) × (count_ones home.now.alloc ≤ count_ones probe.now.alloc)) }
     ensures probe { (result ≡ Choice.Probe)
         ↔ (count_ones probe.now.alloc < count_ones home.now.alloc) }
     ensures neither { (result ≡ Choice.Neither)

@@ -5,7 +5,7 @@ use Rattle.std.proofs.lemmas.Nat.{ones-le}
 use Rattle.std.proofs.lemmas.Nat.Bits.{bit_at_lowest, bit_at-suc, bit_at_ones, bit_at-trailing_ones, same_from_bits_below}
 use Rattle.std.specs.Int.{w16, trailing_ones}
 use Rattle.std.specs.Int.Count.{ones_step, ones-ones}
-use Rattle.bucket_meta.specs.Bucket.{bit}
+use Rattle.word_bits.specs.Bits.{bit}
 use Rattle.bucket_meta.specs.Slots.{IsFull}
 
 -- the place of the lowest 0 of a set of slots

@@ -1,4 +1,9 @@
 pub mod Each
 pub mod FullSets
 pub mod OneToOne
-pub mod Words
+pub mod FieldBits
+pub mod Search
+pub mod Found
+pub mod Marks
+pub mod Fingers
+pub mod ZeroBits

@@ -4,7 +4,7 @@ use borrow.Author.Count.{below_none}
 use Rattle.std.proofs.Props.{props}
 use Rattle.std.proofs.lemmas.Grind.{same_number_lists}
 use Rattle.bucket_meta.specs.declared.metadata.Meta.{Meta}
-use Rattle.bucket_meta.specs.Bucket.{bits}
+use Rattle.word_bits.specs.Bits.{bits}
 use Rattle.bucket_meta.specs.MetaWords.{IsMetaOf, AreMetaWords, WordsGiveMeta, MetaGivesWords}
 
 -- ---- the fields of given words

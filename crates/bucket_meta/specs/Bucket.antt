@@ -1,13 +1,14 @@
 -- The fields of a bucket's words. Word 0 is the lock word and words 1 to 3 are the metadata, here w0 to w3; record slot s has its key in word 4 + 2s and its value in word 5 + 2s. Bits are counted from 0, the lowest.
-use Rattle.std.specs.Prelude.{ℕ, ◌+◌, ◌-◌, ◌*◌, ◌/◌, ◌%◌, ◌^◌, nat_lt, if◌then◌else◌}
+use Rattle.std.specs.Prelude.{ℕ, ◌+◌, ◌-◌, ◌*◌, ◌/◌, nat_lt, if◌then◌else◌}
+use Rattle.word_bits.specs.Bits.{bits, bit}
 
--- the number that so many bits of a word make, from bit low upwards
-abbrev pub bits : ℕ → ℕ → ℕ → ℕ
-bits low count w = w / 2 ^ low % 2 ^ count
+-- how many record slots a bucket has
+abbrev pub record_slots : ℕ
+record_slots = 14
 
--- bit i of a word, 0 or 1
-abbrev pub bit : ℕ → ℕ → ℕ
-bit i w = bits i 1 w
+-- how many overflow places it has
+abbrev pub overflow_places : ℕ
+overflow_places = 4
 
 -- 1 where the bucket is locked
 abbrev pub lock_of : ℕ → ℕ

@@ -1,7 +1,8 @@
 -- What the fields of a `Meta` say of the words that it was read from or written to.
 use Rattle.std.specs.Prelude.{◌≡◌, ℕ, ◌<◌, ◌^◌, slice_index}
 use Rattle.bucket_meta.specs.declared.metadata.Meta.{Meta}
-use Rattle.bucket_meta.specs.Bucket.{bits, finger, note_finger}
+use Rattle.bucket_meta.specs.Bucket.{finger, note_finger, record_slots, overflow_places}
+use Rattle.word_bits.specs.Bits.{bits}
 
 -- the fields are those of words 1 to 3 of a bucket
 pub record IsMetaOf (m : Meta) (w1 w2 w3 : ℕ) : Type 0 where
@@ -11,8 +12,8 @@ pub record IsMetaOf (m : Meta) (w1 w2 w3 : ℕ) : Type 0 where
   pub omember : m.omember ≡ bits 32 4 w1
   pub oindex : m.oindex ≡ bits 36 4 w1
   pub ocount : m.ocount ≡ bits 40 5 w1
-  pub fps : (s : ℕ) → s < 14 → slice_index m.fps s ≡ finger s w2 w3
-  pub ofps : (i : ℕ) → i < 4 → slice_index m.ofps i ≡ note_finger i w1 w3
+  pub fps : (s : ℕ) → s < record_slots → slice_index m.fps s ≡ finger s w2 w3
+  pub ofps : (i : ℕ) → i < overflow_places → slice_index m.ofps i ≡ note_finger i w1 w3
 
 -- words of 64 bits, where bits 61 to 63 of the first are 0
 pub record AreMetaWords (w1 w2 w3 : ℕ) : Type 0 where

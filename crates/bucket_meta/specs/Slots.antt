@@ -1,11 +1,12 @@
 -- Sets of record slots, as numbers whose bit s is of slot s, and what a change of a slot leaves.
 use Rattle.std.specs.Prelude.{◌≡◌, ◌≢◌, ℕ, ◌<◌}
 use Rattle.bucket_meta.specs.declared.metadata.Meta.{Meta}
-use Rattle.bucket_meta.specs.Bucket.{bit}
+use Rattle.word_bits.specs.Bits.{bit}
+use Rattle.bucket_meta.specs.Bucket.{record_slots}
 
--- each of the 14 slots is in the set
+-- each record slot is in the set
 abbrev pub IsFull : ℕ → Type 0
-IsFull slots = (s : ℕ) → s < 14 → bit s slots ≡ 1
+IsFull slots = (s : ℕ) → s < record_slots → bit s slots ≡ 1
 
 -- each slot but this one is in the new set if it is in the old one
 abbrev pub SameElsewhere : ℕ → ℕ → ℕ → Type 0

@@ -1,8 +1,10 @@
-//! Words and fields determine each other.
+//! Words and fields determine each other, and the words that are stored of one slot leave the others.
 
-ghost use Rattle.std.specs.Prelude.{◌≡◌, slice_index};
-ghost use Rattle.bucket_meta.specs.Bucket.{bits};
+ghost use Rattle.std.specs.Prelude.{◌≡◌, ℕ, ◌<◌, ◌≤◌, slice_index};
+ghost use Rattle.word_bits.specs.Bits.{bits};
 ghost use Rattle.bucket_meta.specs.MetaWords.{WordsGiveMeta, MetaGivesWords};
+ghost use Rattle.bucket_meta.specs.Marks.{inserted_mark, removed_mark, with_finger, TakesSlot, FreesSlot, SetsFinger, SameNotes};
+ghost use Rattle.bucket_meta.specs.Bucket.{record_slots};
 
 use crate::Meta;
 
@@ -30,3 +32,22 @@ pub fn written_of_read(words: [u64; 3]) -> [u64; 3]
 {
     Meta::read(words).write()
 }
+
+/// The metadata word of an insert has its slot taken, and the one of a remove has it free; all that they say of the other
+/// slots is as it was.
+pub fn marks_change_one_slot()
+    ensures inserted { (w1 slot : ℕ) → slot < record_slots → TakesSlot w1 slot }
+    ensures removed { (w1 slot : ℕ) → slot < record_slots → FreesSlot w1 slot }
+{}
+
+/// Neither of them changes a note of the stash.
+pub fn marks_keep_notes()
+    ensures inserted { (w1 slot : ℕ) → slot < record_slots → SameNotes w1 (inserted_mark w1 slot) }
+    ensures removed { (w1 slot : ℕ) → slot < record_slots → SameNotes w1 (removed_mark w1 slot) }
+{}
+
+/// A word of fingerprints with a slot's changed has that one there, and those of the other slots as they were.
+pub fn fingers_change_one_slot()
+    ensures low { (w2 w3 slot f : ℕ) → slot < 8 → f < 256 → SetsFinger w2 w3 (with_finger w2 slot f) w3 slot f }
+    ensures high { (w2 w3 slot f : ℕ) → 8 ≤ slot → slot < record_slots → f < 256 → SetsFinger w2 w3 w2 (with_finger w3 slot f) slot f }
+{}

@@ -5,8 +5,12 @@
 
 mod laws;
 mod metadata;
+pub mod words;
 
-pub use laws::{meta_gives_words, read_of_written, words_give_meta, written_of_read};
+pub use laws::{
+    fingers_change_one_slot, marks_change_one_slot, marks_keep_notes, meta_gives_words,
+    read_of_written, words_give_meta, written_of_read,
+};
 pub use metadata::Meta;
 
 #[cfg(test)]

@@ -1,10 +1,10 @@
 //! A bucket's metadata, field by field.
 
 ghost use Rattle.std.specs.Prelude.{◌≡◌, ◌≢◌, ℕ, ◌+◌, ◌*◌, ◌^◌, ◌<◌, ◌≤◌, ◌↔◌, IfSome, IsNone, length, slice_index, slice_set, count_ones, if◌then◌else◌};
-ghost use Rattle.bucket_meta.specs.Bucket.{bits, bit};
+ghost use Rattle.word_bits.specs.Bits.{bits, bit};
 
-/// How many record slots a bucket has.
-const SLOTS: u32 = 14;
+use crate::words::SLOTS;
+use word_bits::{bits_of, with_bits};
 
 /// What the three words of metadata of a bucket say.
 ///
@@ -36,26 +36,6 @@ pub struct Meta {
     pub ghost ocount_fits: { ocount < 2 ^ 5 },
     pub ghost fourteen: { length fps ≡ 14 },
     pub ghost four: { length ofps ≡ 4 },
-}
-
-/// The number that `count` bits of a word make, from bit `low` upwards.
-fn bits_of(word: u64, low: u32, count: u32) -> u64
-    requires place { low < 64 }
-    requires some { count < 64 }
-    ensures value { result ≡ bits low count word }
-    ensures below { result < 2 ^ count }
-{
-    (word >> low) & ((1 << count) - 1)
-}
-
-/// A word with the bits of `value` put above the `low` bits that it has.
-fn with_bits(word: u64, low: u32, value: u64) -> u64
-    requires place { low < 64 }
-    requires free { word < 2 ^ low }
-    requires fits { value * 2 ^ low < 2 ^ 64 }
-    ensures { result ≡ word + 2 ^ low * value }
-{
-    word | (value << low)
 }
 
 /// The word that eight bytes make, the first one lowest.
@@ -139,7 +119,11 @@ impl Meta {
         ensures filled { IsNone result ↔ (count_ones self.now.alloc ≡ 14) }
     {
         let slot = self.alloc.trailing_ones();
-        if slot < SLOTS { Some(slot as u8) } else { None }
+        if slot < u32::from(SLOTS) {
+            Some(slot as u8)
+        } else {
+            None
+        }
     }
 
     /// How many slots have a record, at most 14.

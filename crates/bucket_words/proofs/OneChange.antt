@@ -1,7 +1,7 @@
 -- The changes of one word: stores that keep a table, and those by which a record appears, has another value, or vanishes.
 use Rattle.std.proofs.Common.{◌≡◌, ◌≢◌, ℕ, ◌+◌, ◌*◌, ◌<◌, ◌≤◌, None, Some, cond, refl, ap, subst, sym, ◌∙◌, arith}
 use Rattle.hash_word.specs.Hash.{home_of, finger_of}
-use Rattle.bucket_meta.specs.Bucket.{allocated, member, finger}
+use Rattle.bucket_meta.specs.Bucket.{allocated, member, finger, record_slots}
 use Rattle.trace.specs.Events.{Words, with_word}
 use Rattle.trace.proofs.Replaced.{cases_at}
 use Rattle.image_layout.specs.Places.{Shape, bucket_at}
@@ -9,7 +9,8 @@ use Rattle.sound_image.specs.Records.{key_hash}
 use Rattle.bucket_words.specs.Buckets.{IsTaken, key_in, value_in, finger_in, IsHomeBucket}
 use Rattle.bucket_words.specs.Tables.{IsHomeTable}
 use Rattle.bucket_words.specs.Core.{core_of, core}
-use Rattle.bucket_words.specs.Changes.{KeepsTable, ChangesKey, SameButSlot, IsReady, Stands}
+use Rattle.bucket_words.specs.Changes.{KeepsTable, ChangesKey, IsReady, Stands}
+use Rattle.bucket_meta.specs.Marks.{SameButSlot}
 use Rattle.bucket_words.proofs.Slots.{SameSlot, SameSlots}
 use Rattle.bucket_words.proofs.Finding.{Hits}
 use Rattle.bucket_words.proofs.SameCores.{find_of_cores, table_of_cores}
@@ -38,7 +39,7 @@ module _ (shape : Shape) (front word : Words) (table : IsHomeTable shape front w
   at = bucket_at shape 0 b
 
   -- A FREE SLOT'S KEY OR VALUE
-  module _ (r x : ℕ) (slot : r < 14) (free : allocated r (word (at + 1)) ≡ 0) where
+  module _ (r x : ℕ) (slot : r < record_slots) (free : allocated r (word (at + 1)) ≡ 0) where
     not_this : (t : ℕ) → IsTaken word at t → t ≢ r
     not_this t taken e = not_both _ taken (ap (λ t. allocated t (word (at + 1))) e ∙ free)
 
@@ -82,7 +83,7 @@ module _ (shape : Shape) (front word : Words) (table : IsHomeTable shape front w
     low_kept : (m j : ℕ) → j ≡ at + m → m ≢ 2 → by_low j ≡ word j
     low_kept m j place apart = other_word shape front word table b 2 x (at + 2) (omega arith) refl m j place apart
 
-    pub low_keeps : ((t : ℕ) → t < 14 → IsTaken word at t → finger t x (word (at + 3)) ≡ finger t (word (at + 2)) (word (at + 3)))
+    pub low_keeps : ((t : ℕ) → t < record_slots → IsTaken word at t → finger t x (word (at + 3)) ≡ finger t (word (at + 2)) (word (at + 3)))
         → KeepsTable shape front word by_low
     low_keeps same =
         keeps shape front word by_low table
@@ -100,7 +101,7 @@ module _ (shape : Shape) (front word : Words) (table : IsHomeTable shape front w
     high_kept : (m j : ℕ) → j ≡ at + m → m ≢ 3 → by_high j ≡ word j
     high_kept m j place apart = other_word shape front word table b 3 x (at + 3) (omega arith) refl m j place apart
 
-    pub high_keeps : ((t : ℕ) → t < 14 → IsTaken word at t → finger t (word (at + 2)) x ≡ finger t (word (at + 2)) (word (at + 3)))
+    pub high_keeps : ((t : ℕ) → t < record_slots → IsTaken word at t → finger t (word (at + 2)) x ≡ finger t (word (at + 2)) (word (at + 3)))
         → KeepsTable shape front word by_high
     high_keeps same =
         keeps shape front word by_high table
@@ -120,7 +121,7 @@ module _ (shape : Shape) (front word : Words) (table : IsHomeTable shape front w
     at_home : home_of (key_hash shape k) ≡ b
     at_home = ap (λ n. home_of (key_hash shape n)) (sym stands.has_key) ∙ home.at_home r stands.slot stands.taken
 
-    alone : (t : ℕ) → t < 14 → t ≢ r → Hits word at k t → ⊥
+    alone : (t : ℕ) → t < record_slots → t ≢ r → Hits word at k t → ⊥
     alone t slot apart hit = apart (home.once t r slot stands.slot hit.taken stands.taken (hit.key ∙ sym stands.has_key))
 
     -- its value is another
@@ -196,7 +197,7 @@ module _ (shape : Shape) (front word : Words) (table : IsHomeTable shape front w
     told_finger : (t : ℕ) → finger_in told at t ≡ finger_in word at t
     told_finger t = finger_of_words t _ _ _ _ (told_kept 2 (at + 2) refl (omega arith)) (told_kept 3 (at + 3) refl (omega arith))
 
-    told_others : (t : ℕ) → t < 14 → t ≢ r → SameSlot word told at t
+    told_others : (t : ℕ) → t < record_slots → t ≢ r → SameSlot word told at t
     told_others t slot apart = record {
       taken = ap (allocated t) told_meta ∙ same.taken t slot apart;
       membership = λ _. ap (member t) told_meta ∙ same.members t slot apart;

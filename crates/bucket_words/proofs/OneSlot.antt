@@ -2,9 +2,9 @@
 use Rattle.std.proofs.Common.{◌≡◌, ◌≢◌, ℕ, ◌+◌, ◌<◌, None, Some, ap, subst, sym, ◌∙◌, inl, inr}
 use Rattle.std.proofs.lemmas.Bool.{cases_eq}
 use Rattle.hash_word.specs.Hash.{home_of, finger_of}
-use Rattle.bucket_meta.specs.Bucket.{member}
+use Rattle.bucket_meta.specs.Bucket.{member, record_slots}
 use Rattle.trace.specs.Events.{Words}
-use Rattle.image_layout.specs.Places.{Shape, bucket_at}
+use Rattle.image_layout.specs.Places.{Shape, bucket_at, buckets}
 use Rattle.sound_image.specs.Records.{key_hash}
 use Rattle.bucket_words.specs.Buckets.{IsTaken, key_in, value_in, finger_in, find_below, IsHomeBucket}
 use Rattle.bucket_words.specs.Tables.{IsHomeTable, home_at, find}
@@ -20,11 +20,11 @@ pub record IsPlaced (shape : Shape) (word : Words) (at r k : ℕ) : Type 0 where
 
 -- only slot r of bucket b is another, and only key k takes it
 pub record ChangesSlot (shape : Shape) (word other : Words) (b r k : ℕ) : Type 0 where
-  pub bucket : b < 66
-  pub slot : r < 14
+  pub bucket : b < buckets
+  pub slot : r < record_slots
   pub home : home_of (key_hash shape k) ≡ b
-  pub others : (t : ℕ) → t < 14 → t ≢ r → SameSlot word other (bucket_at shape 0 b) t
-  pub alone : (t : ℕ) → t < 14 → t ≢ r → Hits word (bucket_at shape 0 b) k t → ⊥
+  pub others : (t : ℕ) → t < record_slots → t ≢ r → SameSlot word other (bucket_at shape 0 b) t
+  pub alone : (t : ℕ) → t < record_slots → t ≢ r → Hits word (bucket_at shape 0 b) k t → ⊥
   pub was : IsTaken word (bucket_at shape 0 b) r → key_in word (bucket_at shape 0 b) r ≡ k
   pub placed : IsTaken other (bucket_at shape 0 b) r → IsPlaced shape other (bucket_at shape 0 b) r k
 
@@ -55,13 +55,13 @@ module _ (shape : Shape) (front word other : Words) (table : IsHomeTable shape f
     each_slot : (P : ℕ → Type 0) → P r → ((t : ℕ) → t ≢ r → P t) → (t : ℕ) → P t
     each_slot P here others t = elim (cases_eq t r) [ inl e ↦ subst P (sym e) here | inr apart ↦ others t apart ]
 
-    taken_before : (t : ℕ) → t < 14 → t ≢ r → IsTaken other at t → IsTaken word at t
+    taken_before : (t : ℕ) → t < record_slots → t ≢ r → IsTaken other at t → IsTaken word at t
     taken_before t slot apart taken = sym (change.others t slot apart).taken ∙ taken
 
-    other_key : (t : ℕ) → t < 14 → t ≢ r → IsTaken other at t → key_in other at t ≡ key_in word at t
+    other_key : (t : ℕ) → t < record_slots → t ≢ r → IsTaken other at t → key_in other at t ≡ key_in word at t
     other_key t slot apart taken = (change.others t slot apart).key (taken_before t slot apart taken)
 
-    alone_now : (t : ℕ) → t < 14 → t ≢ r → Hits other at k t → ⊥
+    alone_now : (t : ℕ) → t < record_slots → t ≢ r → Hits other at k t → ⊥
     alone_now t slot apart hit =
         change.alone t slot apart
         (record { taken = taken_before t slot apart hit.taken; key = sym (other_key t slot apart hit.taken) ∙ hit.key })
@@ -70,7 +70,7 @@ module _ (shape : Shape) (front word other : Words) (table : IsHomeTable shape f
     hit_of : (t : ℕ) → IsTaken other at t → IsTaken other at r → key_in other at t ≡ key_in other at r → Hits other at k t
     hit_of t taken taken_r e = record { taken = taken; key = e ∙ (change.placed taken_r).key }
 
-    once_now : (t u : ℕ) → t < 14 → u < 14 → IsTaken other at t → IsTaken other at u → key_in other at t ≡ key_in other at u → t ≡ u
+    once_now : (t u : ℕ) → t < record_slots → u < record_slots → IsTaken other at t → IsTaken other at u → key_in other at t ≡ key_in other at u → t ≡ u
     once_now t u slot_t slot_u taken_t taken_u e = elim (cases_eq t r) [
       | inl t_is ↦ elim (cases_eq u r) [
         | inl u_is ↦ t_is ∙ sym u_is
@@ -115,7 +115,7 @@ module _ (shape : Shape) (front word other : Words) (table : IsHomeTable shape f
     }
 
     -- WHAT OTHER KEYS HAVE
-    other_hits : (l : ℕ) → l ≢ k → (t : ℕ) → t < 14 → SameHits word other at l t
+    other_hits : (l : ℕ) → l ≢ k → (t : ℕ) → t < record_slots → SameHits word other at l t
     other_hits l apart_l = each_slot _
         (λ slot. record {
           there = λ h. absurd (apart_l (sym h.key ∙ change.was h.taken));

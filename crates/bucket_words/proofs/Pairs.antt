@@ -1,65 +1,48 @@
 -- What a table has at a key is what `find` gives.
 use Rattle.std.proofs.Common.{◌≡◌, ℕ, ◌*◌, ◌/◌, ◌%◌, ◌^◌, ◌<◌, Bool, true, false, Option, None, Some, refl, sym, ap, subst, ◌∙◌, arith, inl, inr}
 use Rattle.std.specs.Prelude.{◌==◌, if◌then◌else◌}
-use Rattle.std.proofs.lemmas.Nat.{xor_lt, shr_le}
-use Rattle.hash_word.specs.Hash.{folded, mixed, home_of}
+use Rattle.hash_word.specs.Hash.{home_of}
+use Rattle.bucket_meta.specs.Bucket.{record_slots}
 use Rattle.trace.specs.Events.{Words}
 use Rattle.image_layout.specs.Places.{Shape, bucket_at}
+use Rattle.sound_image.specs.Segments.{frame_of}
 use Rattle.sound_image.specs.Records.{key_hash, slot_key, slot_value, HasRecord, HasPair, HasAt}
+use Rattle.sound_image.proofs.Hashes.{key_hash-fits, home_of-below}
+use Rattle.sound_image.proofs.OneLive.{owns_each}
 use Rattle.bucket_words.specs.Buckets.{value_in}
 use Rattle.bucket_words.specs.Tables.{IsOpenFront, IsHomeTable, home_at, find}
-use Rattle.bucket_words.proofs.OneSegment.{owns_each, own_front}
+use Rattle.bucket_words.proofs.OneSegment.{own_front, one_live}
 use Rattle.bucket_words.proofs.Finding.{Hits, find_none, find_hit, cases_found}
-use Rattle.bucket_words.proofs.SameCores.{home_lt}
-
--- THE HASH of a key of 64 bits has 64 bits
-folded-fits : (shift z : ℕ) → z < 2 ^ 64 → folded shift z < 2 ^ 64
-folded-fits shift z fits =
-    let part : z / 2 ^ shift < 2 ^ 64 = omega (arith, shr_le z shift) in
-    xor_lt 64 z (z / 2 ^ shift) fits part
-
-below : (n : ℕ) → n % 2 ^ 64 < 2 ^ 64
-below n = omega arith
-
-mixed-fits : (z : ℕ) → mixed z < 2 ^ 64
-mixed-fits z = folded-fits 31 _ (below (folded 27 (folded 30 z * 0xBF58476D1CE4E5B9 % 2 ^ 64) * 0x94D049BB133111EB))
-
-one_of : (b : Bool) (x y n : ℕ) → x < n → y < n → (if b then x else y) < n
-one_of true x y n h k = h
-one_of false x y n h k = k
-
-pub key_hash-fits : (shape : Shape) (key : ℕ) → key < 2 ^ 64 → key_hash shape key < 2 ^ 64
-key_hash-fits shape key fits = one_of (shape.kind == 0) key (mixed key) (2 ^ 64) fits (mixed-fits key)
 
 -- in a table a key's home bucket has it once
-pub hits_once : (shape : Shape) (front word : Words) → IsHomeTable shape front word → (k r t : ℕ) → r < 14 → t < 14
+pub hits_once : (shape : Shape) (front word : Words) → IsHomeTable shape front word → (k r t : ℕ) → r < record_slots → t < record_slots
     → Hits word (home_at shape k) k r → Hits word (home_at shape k) k t → t ≡ r
 hits_once shape front word table k r t slot_r slot_t hit_r hit_t =
-    (table.buckets (home_of (key_hash shape k)) (omega (arith, home_lt (key_hash shape k)))).once t r slot_t slot_r hit_t.taken hit_r.taken (hit_t.key ∙ sym hit_r.key)
+    (table.buckets (home_of (key_hash shape k)) (omega (arith, home_of-below (key_hash shape k)))).once t r slot_t slot_r hit_t.taken hit_r.taken (hit_t.key ∙ sym hit_r.key)
 
-pub find_hit_of_table : (shape : Shape) (front word : Words) → IsHomeTable shape front word → (k r : ℕ) → r < 14
+pub find_hit_of_table : (shape : Shape) (front word : Words) → IsHomeTable shape front word → (k r : ℕ) → r < record_slots
     → Hits word (home_at shape k) k r → find shape word k ≡ Some (value_in word (home_at shape k) r)
 find_hit_of_table shape front word table k r slot hit =
     find_hit word (home_at shape k) k 14 r slot hit (λ t slot_t other hit_t. other (hits_once shape front word table k r t slot slot_t hit hit_t))
 
 module _ (shape : Shape) (front word : Words) (opened : IsOpenFront shape front) (table : IsHomeTable shape front word) (fits : (i : ℕ) → word i < 2 ^ 64) where
-  pair_of_hit : (k r : ℕ) → r < 14 → Hits word (home_at shape k) k r → HasPair shape word k (value_in word (home_at shape k) r)
+  pair_of_hit : (k r : ℕ) → r < record_slots → Hits word (home_at shape k) k r → HasPair shape word k (value_in word (home_at shape k) r)
   pair_of_hit k r slot hit =
       let home = home_of (key_hash shape k) in
       let there : HasRecord shape word 0 home r =
-      record { segment = omega (arith, opened.one_segment); bucket = omega (arith, home_lt (key_hash shape k)); slot = slot; is_allocated = hit.taken } in
+      record { segment = omega (arith, opened.one_segment); bucket = omega (arith, home_of-below (key_hash shape k)); slot = slot; is_allocated = hit.taken } in
       record {
         s = 0;
         b = home;
         r = r;
-        own = record { record_there = there; owned = owns_each shape word (own_front shape front word opened table) _ (key_hash-fits shape _ (fits _)) };
+        own = record { record_there = there; owned = owns_each (frame_of shape word) (one_live shape word (own_front shape front word opened table)) _ (key_hash-fits shape _ (fits _)) };
         key_is = hit.key;
         value_is = refl;
       }
 
   -- a record of the key stands in its home bucket
   abbrev HasHit : ℕ → ℕ → Type 0
-  HasHit k v = (r : ℕ) × (r < 14) × Hits word (home_at shape k) k r × (value_in word (home_at shape k) r ≡ v)
+  HasHit k v = (r : ℕ) × (r < record_slots) × Hits word (home_at shape k) k r × (value_in word (home_at shape k) r ≡ v)
 
   hit_at : (b k v r : ℕ) → HasRecord shape word 0 b r → slot_key shape word 0 b r ≡ k → slot_value shape word 0 b r ≡ v → HasHit k v
   hit_at b k v r there key value =

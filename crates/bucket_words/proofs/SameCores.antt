@@ -2,8 +2,9 @@
 use Rattle.std.proofs.Common.{◌≡◌, ℕ, ◌+◌, ◌*◌, ◌%◌, ◌^◌, ◌<◌, ◌≤◌, ap, sym, ◌∙◌, arith}
 use Rattle.hash_word.specs.Hash.{home_of}
 use Rattle.trace.specs.Events.{Words}
-use Rattle.image_layout.specs.Places.{Shape, bucket_at}
+use Rattle.image_layout.specs.Places.{Shape, bucket_at, homes, buckets}
 use Rattle.sound_image.specs.Records.{key_hash}
+use Rattle.sound_image.proofs.Hashes.{home_of-below}
 use Rattle.sound_image.proofs.LowBits.{same_allocated, same_member, same_finger}
 use Rattle.bucket_words.specs.Tables.{IsHomeTable, home_at, find}
 use Rattle.bucket_words.specs.Core.{core_in_bucket, core}
@@ -11,12 +12,9 @@ use Rattle.bucket_words.proofs.WordCores.{record_is_whole, core_before, core_in}
 use Rattle.bucket_words.proofs.Slots.{SameSlots, kept_bucket}
 use Rattle.bucket_words.proofs.Finding.{find_by_slots}
 
-pub home_lt : (h : ℕ) → home_of h < 64
-home_lt h = omega arith
-
 module _ (shape : Shape) (some : 1 ≤ shape.segments) (word other : Words) where
   -- the cores of bucket b
-  module _ (b : ℕ) (bucket : b < 66) (same : (n : ℕ) → n < 32 → core shape word (bucket_at shape 0 b + n) ≡ core shape other (bucket_at shape 0 b + n)) where
+  module _ (b : ℕ) (bucket : b < buckets) (same : (n : ℕ) → n < 32 → core shape word (bucket_at shape 0 b + n) ≡ core shape other (bucket_at shape 0 b + n)) where
     in_bucket : (n : ℕ) → n < 32 → core_in_bucket n (other (bucket_at shape 0 b + n)) ≡ core_in_bucket n (word (bucket_at shape 0 b + n))
     in_bucket n inside = sym (core_in shape some b n _ bucket inside) ∙ sym (same n inside) ∙ core_in shape some b n _ bucket inside
 
@@ -45,7 +43,7 @@ module _ (shape : Shape) (some : 1 ≤ shape.segments) (word other : Words) wher
   pub find_of_home : (k : ℕ) → ((n : ℕ) → n < 32 → core shape word (home_at shape k + n) ≡ core shape other (home_at shape k + n))
       → find shape other k ≡ find shape word k
   find_of_home k same =
-      find_by_slots word other (home_at shape k) k (slots_of_cores (home_of (key_hash shape k)) (omega (arith, home_lt (key_hash shape k))) same)
+      find_by_slots word other (home_at shape k) k (slots_of_cores (home_of (key_hash shape k)) (omega (arith, home_of-below (key_hash shape k))) same)
 
   pub find_of_cores : ((i : ℕ) → core shape word i ≡ core shape other i) → (k : ℕ) → find shape other k ≡ find shape word k
   find_of_cores same k = find_of_home k (λ n _. same (home_at shape k + n))

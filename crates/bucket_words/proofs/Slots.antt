@@ -1,7 +1,7 @@
 -- A bucket whose taken slots another image has alike is a home bucket there too.
 use Rattle.std.proofs.Common.{◌≡◌, ℕ, ◌+◌, ◌*◌, ◌<◌, ap, sym, ◌∙◌, arith}
 use Rattle.hash_word.specs.Hash.{home_of, finger_of}
-use Rattle.bucket_meta.specs.Bucket.{allocated, member, finger}
+use Rattle.bucket_meta.specs.Bucket.{allocated, member, finger, record_slots}
 use Rattle.trace.specs.Events.{Words}
 use Rattle.image_layout.specs.Places.{Shape, bucket_at}
 use Rattle.sound_image.specs.Records.{key_hash}
@@ -17,7 +17,7 @@ module _ (word other : Words) (at : ℕ) where
     pub fingerprint : IsTaken word at t → finger_in other at t ≡ finger_in word at t
 
   abbrev pub SameSlots : Type 0
-  SameSlots = (t : ℕ) → t < 14 → SameSlot t
+  SameSlots = (t : ℕ) → t < record_slots → SameSlot t
 
   -- a bucket of the same words
   pub same_words : ((n : ℕ) → n < 32 → other (at + n) ≡ word (at + n)) → SameSlots
@@ -48,5 +48,5 @@ kept_bucket shape word other b same bucket = record {
       bucket.once r t slot_r slot_t was_r was_t (sym ((same r slot_r).key was_r) ∙ e ∙ (same t slot_t).key was_t);
 }
   where
-    was_taken : (r : ℕ) → r < 14 → IsTaken other (bucket_at shape 0 b) r → IsTaken word (bucket_at shape 0 b) r
+    was_taken : (r : ℕ) → r < record_slots → IsTaken other (bucket_at shape 0 b) r → IsTaken word (bucket_at shape 0 b) r
     was_taken r slot taken = sym (same r slot).taken ∙ taken

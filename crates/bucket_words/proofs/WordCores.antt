@@ -2,7 +2,7 @@
 use Rattle.std.proofs.Common.{◌≡◌, ℕ, zero, suc, ◌+◌, ◌-◌, ◌*◌, ◌/◌, ◌%◌, ◌<◌, ◌≤◌, refl, ap, ◌∙◌, arith, inl, inr, Bool, true, false}
 use Rattle.std.specs.Prelude.{◌||◌, if◌then◌else◌}
 use Rattle.std.proofs.lemmas.Bool.{cases_lt, lt-ltb, le-ltb, eq-eqb, ne_eqb}
-use Rattle.image_layout.specs.Places.{Shape, first_segment, bucket_at, words_of}
+use Rattle.image_layout.specs.Places.{Shape, first_segment, bucket_at, words_of, buckets}
 use Rattle.bucket_words.specs.Core.{core_in_bucket, group_of, core_of}
 
 by_first : (a b c : Bool) (x y : ℕ) → a ≡ true → (if a || b || c then x else y) ≡ x
@@ -19,13 +19,13 @@ by_none a b c x y e f g = rw (e, f, g) refl
 in_header : (f i : ℕ) → f ≤ i → i < f + 32 → (i - f) / 32 % 67 ≡ 0
 in_header f i above below = omega arith
 
-not_in_header : (f b n : ℕ) → b < 66 → n < 32 → (f + 2144 * 0 + 32 + 32 * b + n - f) / 32 % 67 ≡ 0 → ⊥
+not_in_header : (f b n : ℕ) → b < buckets → n < 32 → (f + 2144 * 0 + 32 + 32 * b + n - f) / 32 % 67 ≡ 0 → ⊥
 not_in_header f b n bucket inside e = omega arith
 
 in_place : (f b n : ℕ) → n < 32 → (f + 2144 * 0 + 32 + 32 * b + n - f) % 32 ≡ n
 in_place f b n inside = omega arith
 
-before_end : (f s b n : ℕ) → 1 ≤ s → b < 66 → n < 32 → f + 2144 * 0 + 32 + 32 * b + n ≤ f + 2144 * s - 1
+before_end : (f s b n : ℕ) → 1 ≤ s → b < buckets → n < 32 → f + 2144 * 0 + 32 + 32 * b + n ≤ f + 2144 * s - 1
 before_end f s b n some bucket inside = omega arith
 
 -- IN A BUCKET
@@ -46,7 +46,7 @@ module _ (shape : Shape) where
     | inr above ↦ by_second _ _ _ _ _ (eq-eqb (group_of shape i) 0 (in_header (first_segment shape) i above (omega arith)))
   ]
 
-  pub core_in : 1 ≤ shape.segments → (b n x : ℕ) → b < 66 → n < 32 → core_of shape (bucket_at shape 0 b + n) x ≡ core_in_bucket n x
+  pub core_in : 1 ≤ shape.segments → (b n x : ℕ) → b < buckets → n < 32 → core_of shape (bucket_at shape 0 b + n) x ≡ core_in_bucket n x
   core_in some b n x bucket inside =
       by_none _ _ _ _ _
       (le-ltb (bucket_at shape 0 b + n) (first_segment shape) (omega arith))

@@ -10,7 +10,8 @@ use Rattle.image_layout.specs.Places.{Shape, bucket_at}
 use Rattle.bucket_words.specs.Buckets.{IsTaken, find_below}
 use Rattle.bucket_words.specs.Tables.{IsOpenFront, IsHomeTable, find}
 use Rattle.bucket_words.specs.Core.{core}
-use Rattle.bucket_words.specs.Changes.{ChangesKey, SameButSlot}
+use Rattle.bucket_words.specs.Changes.{ChangesKey}
+use Rattle.bucket_meta.specs.Marks.{SameButSlot}
 use Rattle.bucket_words.proofs.OneChange.{key_keeps, value_keeps, low_keeps, insert_key}
 
 -- one segment, depth 0, and keys that are their own hashes: bucket 0 begins at word 96 and bucket 1 at word 128

@@ -1,8 +1,8 @@
 -- What one word's change does to a table: nothing, or one key has another value.
 use Rattle.std.specs.Prelude.{◌≡◌, ◌≢◌, ℕ, ◌+◌, ◌<◌, Option}
-use Rattle.bucket_meta.specs.Bucket.{allocated, member}
+use Rattle.bucket_meta.specs.Bucket.{allocated, record_slots}
 use Rattle.trace.specs.Events.{Words}
-use Rattle.image_layout.specs.Places.{Shape, bucket_at}
+use Rattle.image_layout.specs.Places.{Shape, bucket_at, buckets}
 use Rattle.sound_image.specs.Records.{key_hash}
 use Rattle.hash_word.specs.Hash.{home_of, finger_of}
 use Rattle.bucket_words.specs.Buckets.{IsTaken, key_in, finger_in}
@@ -20,24 +20,19 @@ module _ (shape : Shape) (front : Words) where
     pub here : find shape other k ≡ a
     pub elsewhere : (l : ℕ) → l ≢ k → find shape other l ≡ find shape word l
 
--- metadata word x says of every slot but r what w says
-pub record SameButSlot (r w x : ℕ) : Type 0 where
-  pub taken : (t : ℕ) → t < 14 → t ≢ r → allocated t x ≡ allocated t w
-  pub members : (t : ℕ) → t < 14 → t ≢ r → member t x ≡ member t w
-
 -- a record of key k stands ready in slot r of bucket b, which is free: all but its allocation bit
 pub record IsReady (shape : Shape) (word : Words) (b r k : ℕ) : Type 0 where
-  pub bucket : b < 66
-  pub slot : r < 14
+  pub bucket : b < buckets
+  pub slot : r < record_slots
   pub is_free : allocated r (word (bucket_at shape 0 b + 1)) ≡ 0
   pub home : home_of (key_hash shape k) ≡ b
   pub has_key : key_in word (bucket_at shape 0 b) r ≡ k
   pub has_finger : finger_in word (bucket_at shape 0 b) r ≡ finger_of (key_hash shape k)
-  pub no_other : (t : ℕ) → t < 14 → IsTaken word (bucket_at shape 0 b) t → key_in word (bucket_at shape 0 b) t ≢ k
+  pub no_other : (t : ℕ) → t < record_slots → IsTaken word (bucket_at shape 0 b) t → key_in word (bucket_at shape 0 b) t ≢ k
 
 -- slot r of bucket b is taken by key k
 pub record Stands (shape : Shape) (word : Words) (b r k : ℕ) : Type 0 where
-  pub bucket : b < 66
-  pub slot : r < 14
+  pub bucket : b < buckets
+  pub slot : r < record_slots
   pub taken : IsTaken word (bucket_at shape 0 b) r
   pub has_key : key_in word (bucket_at shape 0 b) r ≡ k

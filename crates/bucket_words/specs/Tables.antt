@@ -4,7 +4,7 @@ use Rattle.std.specs.Prelude.{◌≡◌, ℕ, ◌+◌, ◌%◌, ◌^◌, ◌/◌
 use Rattle.hash_word.specs.Hash.{home_of}
 use Rattle.segment_head.specs.HeadWord.{version_in, state_in, depth_in, pattern_in, normal}
 use Rattle.trace.specs.Events.{Words}
-use Rattle.image_layout.specs.Places.{Shape, root_word, state_word, head_at, bucket_at}
+use Rattle.image_layout.specs.Places.{Shape, root_word, state_word, head_at, bucket_at, buckets}
 use Rattle.sound_image.specs.Records.{key_hash}
 use Rattle.bucket_words.specs.Buckets.{IsHomeBucket, find_below}
 
@@ -27,7 +27,7 @@ module _ (shape : Shape) where
   -- alone: so those of the stash hold none
   pub record IsHomeTable (front word : Words) : Type 0 where
     pub same_front : (i : ℕ) → i < bucket_at shape 0 0 → word i ≡ front i
-    pub buckets : (b : ℕ) → b < 66 → IsHomeBucket shape word b
+    pub buckets : (b : ℕ) → b < buckets → IsHomeBucket shape word b
 
   -- where a key's home bucket begins
   abbrev pub home_at : ℕ → ℕ

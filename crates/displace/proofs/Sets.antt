@@ -3,7 +3,7 @@ use Rattle.std.proofs.Common.{◌≡◌, ℕ, ◌-◌, ◌^◌, ◌<◌, sym, �
 use Rattle.std.proofs.lemmas.Bool.{cases_lt}
 use Rattle.std.proofs.lemmas.Nat.Bits.{bit_at-trailing_zeros, bit_at_above, bit_at-zero, bit_at_and, bit_at_not, bit_at-lt, same_from_bits_below}
 use Rattle.std.specs.Int.{w16, trailing_zeros}
-use Rattle.bucket_meta.specs.Bucket.{bit}
+use Rattle.word_bits.specs.Bits.{bit}
 
 -- a slot of a set of 14 is one of the 14
 within : (slots s : ℕ) → slots < 2 ^ 14 → bit s slots ≡ 1 → s < 14

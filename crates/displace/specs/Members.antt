@@ -1,7 +1,7 @@
 -- Whose the records of a bucket are: its own, or its members, which stand in it as their probing bucket.
 use Rattle.std.specs.Prelude.{◌≡◌, ℕ, ◌<◌}
 use Rattle.bucket_meta.specs.declared.metadata.Meta.{Meta}
-use Rattle.bucket_meta.specs.Bucket.{bit}
+use Rattle.word_bits.specs.Bits.{bit}
 
 -- each record in the slots below n is a member
 abbrev pub OnlyMembersBelow : ℕ → Meta → Type 0

@@ -5,7 +5,7 @@
 #![tactic(auto)]
 
 ghost use Rattle.std.specs.Prelude.{◌≡◌, ◌<◌, ◌≤◌, ◌^◌, ◌↔◌, IsTrue};
-ghost use Rattle.hash_word.specs.Hash.{hash_of, home_of, finger_of, index_of, Covers};
+ghost use Rattle.hash_word.specs.Hash.{hash_of, home_of, probing_of, finger_of, index_of, Covers};
 
 /// How a key is hashed.
 #[derive(Clone, Copy, Debug, PartialEq, Eq)]
@@ -36,6 +36,15 @@ pub fn home(h: u64) -> u8
     ensures range { result < 64 }
 {
     (h >> 8 & 63) as u8
+}
+
+/// The number of the probing bucket of a home bucket: the next one, and the first after the last.
+pub fn probing(home: u8) -> u8
+    requires { home < 64 }
+    ensures of { result ≡ probing_of home }
+    ensures range { result < 64 }
+{
+    (home + 1) % 64
 }
 
 /// The fingerprint of a record with this hash: its lowest byte.

@@ -8,6 +8,8 @@ fn splitmix_vectors(rt: HostRuntime) {
     assert_eq!(rt; hash(Kind::Identity, 77), 77);
     assert_eq!(rt; finger(0xE220A8397B1DCDAF), 0xAF);
     assert_eq!(rt; home(0xE220A8397B1DCDAF), 13);
+    assert_eq!(rt; probing(13), 14);
+    assert_eq!(rt; probing(63), 0);
     assert_eq!(rt; dir_index(0xE220A8397B1DCDAF, 4), 14);
     assert_eq!(rt; dir_index(0xE220A8397B1DCDAF, 0), 0);
     assert!(rt; covers(4, 14, 0xE220A8397B1DCDAF));

@@ -1,6 +1,36 @@
 -- Where the parts of an image stand, by word number. An image is a list of 64-bit words.
 use Rattle.std.specs.Prelude.{ℕ, ◌+◌, ◌-◌, ◌*◌, ◌/◌, ◌^◌, ◌≤◌}
 
+-- how many slots for segments an image may have at most, and how deep its directory may be
+abbrev pub most_segments : ℕ
+most_segments = 16384
+
+abbrev pub most_depth : ℕ
+most_depth = 16
+
+-- how many words the front of an image has, a header and a bucket
+abbrev pub block : ℕ
+block = 32
+
+-- how many buckets of a segment are homes, and how many stash buckets stand behind them
+abbrev pub homes : ℕ
+homes = 64
+
+abbrev pub stash_buckets : ℕ
+stash_buckets = 2
+
+-- how many buckets a segment has
+abbrev pub buckets : ℕ
+buckets = homes + stash_buckets
+
+-- how many words a segment has: a header and its buckets
+abbrev pub segment_words : ℕ
+segment_words = block * (1 + buckets)
+
+-- how many words an image has at most
+abbrev pub most_words : ℕ
+most_words = 35258400
+
 -- the three numbers that say how an image is laid out
 pub record Shape : Type 0 where
   -- how many slots for segments there are
@@ -12,8 +42,8 @@ pub record Shape : Type 0 where
 
 pub record IsShape (shape : Shape) : Type 0 where
   pub some : 1 ≤ shape.segments
-  pub segments : shape.segments ≤ 16384
-  pub depth : shape.depth ≤ 16
+  pub segments : shape.segments ≤ most_segments
+  pub depth : shape.depth ≤ most_depth
   pub kind : shape.kind ≤ 1
 
 -- the word of the root depth g
@@ -32,17 +62,17 @@ entry_at e i = 32 + 2 ^ e - 1 + i
 abbrev pub first_segment : Shape → ℕ
 first_segment shape = (32 + 2 ^ (shape.depth + 1) - 1 + 31) / 32 * 32
 
--- a segment is a header and 66 buckets, of 32 words each
+-- the first word of the header of the segment in slot s
 abbrev pub head_at : Shape → ℕ → ℕ
-head_at shape s = first_segment shape + 2144 * s
+head_at shape s = first_segment shape + segment_words * s
 
 -- how many words the image has
 abbrev pub words_of : Shape → ℕ
 words_of shape = head_at shape shape.segments
 
--- bucket b of segment s; 64 and 65 are the stash buckets
+-- the first word of bucket b of segment s; the stash buckets stand behind the homes
 abbrev pub bucket_at : Shape → ℕ → ℕ → ℕ
-bucket_at shape s b = head_at shape s + 32 + 32 * b
+bucket_at shape s b = head_at shape s + block + block * b
 
 -- the key and the value of record slot r in a bucket
 abbrev pub key_at : Shape → ℕ → ℕ → ℕ → ℕ

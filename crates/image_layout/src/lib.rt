@@ -1,14 +1,15 @@
 //! Where the parts of an image stand.
 //! An image is a list of 64-bit words: 32 words about the whole, an area of the directory for each depth, and
 //! then the segments, of a header and 66 buckets. [`Geometry`] gives the word number of each part;
-//! `specs/Places.antt` says what that number is.
+//! `specs/Places.antt` says what that number is. [`state`] has the functions of the state word.
 #![tactic(auto)]
 
 mod laws;
 mod shape;
+pub mod state;
 
 pub use laws::{parts_apart, parts_within};
-pub use shape::{GeoFault, Geometry};
+pub use shape::{BLOCK, BUCKETS, GeoFault, Geometry, HOMES, ROOT_WORD, STASH_BUCKETS, STATE_WORD};
 
 #[cfg(test)]
 mod tests;

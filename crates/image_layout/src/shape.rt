@@ -1,19 +1,30 @@
 //! How an image is laid out.
 
 ghost use Rattle.std.specs.Prelude.{◌≡◌, ◌<◌, ◌≤◌, ◌+◌, ◌*◌, ◌%◌, ◌^◌, IfOk, IfErr};
-ghost use Rattle.image_layout.specs.Places.{IsShape, first_segment, words_of, entry_at, head_at, bucket_at};
+ghost use Rattle.image_layout.specs.Volatile.{counter_word, power_word};
+ghost use Rattle.image_layout.specs.Places.{IsShape, first_segment, words_of, entry_at, head_at, bucket_at, block, homes, stash_buckets, buckets, segment_words, most_words};
 
 use std::error::Error;
 use std::fmt;
 use std::marker::Model;
 
+/// The word of the root depth, with which the directory is read.
+pub const ROOT_WORD: u64 = 8;
+/// The word of the image's version and of the clean marker.
+pub const STATE_WORD: u64 = 16;
+/// How many words the front of an image, a header and a bucket have.
+pub const BLOCK: u64 = 32;
+/// How many buckets of a segment are homes.
+pub const HOMES: u8 = 64;
+/// How many stash buckets a segment has, behind its homes.
+pub const STASH_BUCKETS: u8 = 2;
+/// How many buckets a segment has.
+pub const BUCKETS: u8 = HOMES + STASH_BUCKETS;
 /// The most slots for segments that an image may have.
 const MOST_SEGMENTS: u64 = 16384;
 /// The greatest depth that a directory may have.
 const MOST_DEPTH: u64 = 16;
-/// How many words a header and a bucket have.
-const BLOCK: u64 = 32;
-/// How many words a segment has: a header, 64 buckets and two stash buckets.
+/// How many words a segment has: a header and its buckets.
 const SEGMENT: u64 = 2144;
 
 /// The first of the three numbers that is out of range.
@@ -130,7 +141,7 @@ impl Geometry {
     pub fn words(&self) -> u64
         ensures is { result ≡ words_of self.now }
         ensures shape { IsShape self.now }
-        ensures most { result ≤ 35258400 }
+        ensures most { result ≤ most_words }
     {
         self.first_segment() + SEGMENT * self.segments
     }
@@ -148,7 +159,7 @@ impl Geometry {
         requires depth { e ≤ self.now.depth }
         requires index { i < 2 ^ e }
         ensures is { result ≡ entry_at e i }
-        ensures from { 32 ≤ result }
+        ensures from { block ≤ result }
         ensures within { result < first_segment self.now }
         ensures below { result < words_of self.now }
         ensures most { result < 131104 }
@@ -161,47 +172,51 @@ impl Geometry {
     pub fn head_at(&self, slot: u64) -> u64
         requires { slot < self.now.segments }
         ensures is { result ≡ head_at self.now slot }
-        ensures aligned { result % 32 ≡ 0 }
-        ensures within { result + 2144 ≤ words_of self.now }
-        ensures most { result + 2144 ≤ 35258400 }
+        ensures aligned { result % block ≡ 0 }
+        ensures within { result + segment_words ≤ words_of self.now }
+        ensures most { result + segment_words ≤ most_words }
     {
         let _ = &self.segments;
         self.first_segment() + SEGMENT * slot
     }
 
-    /// The first of the 32 words of bucket `b`, 0 to 63, of the segment in this slot.
+    /// The first of the 32 words of bucket `b`, 0 to 65 with the stash buckets, of the segment in this slot.
     pub fn bucket_at(&self, slot: u64, b: u8) -> u64
         requires slot { slot < self.now.segments }
-        requires bucket { b < 64 }
+        requires bucket { b < buckets }
         ensures is { result ≡ bucket_at self.now slot b }
-        ensures aligned { result % 32 ≡ 0 }
-        ensures within { result + 32 ≤ words_of self.now }
-        ensures most { result + 32 ≤ 35258400 }
+        ensures aligned { result % block ≡ 0 }
+        ensures within { result + block ≤ words_of self.now }
+        ensures most { result + block ≤ most_words }
     {
-        self.block_at(slot, b)
+        self.head_at(slot) + BLOCK + BLOCK * u64::from(b)
     }
 
     /// The first of the 32 words of stash bucket `k`, 0 or 1, of the segment in this slot.
     pub fn stash_at(&self, slot: u64, k: u8) -> u64
         requires slot { slot < self.now.segments }
-        requires stash { k < 2 }
-        ensures is { result ≡ bucket_at self.now slot (64 + k) }
-        ensures aligned { result % 32 ≡ 0 }
-        ensures within { result + 32 ≤ words_of self.now }
-        ensures most { result + 32 ≤ 35258400 }
+        requires stash { k < stash_buckets }
+        ensures is { result ≡ bucket_at self.now slot (homes + k) }
+        ensures aligned { result % block ≡ 0 }
+        ensures within { result + block ≤ words_of self.now }
+        ensures most { result + block ≤ most_words }
     {
-        self.block_at(slot, 64 + k)
+        self.bucket_at(slot, HOMES + k)
     }
 
-    /// The first word of bucket `b`, 0 to 65 with the stash buckets, of the segment in this slot.
-    fn block_at(&self, slot: u64, b: u8) -> u64
-        requires slot { slot < self.now.segments }
-        requires bucket { b < 66 }
-        ensures is { result ≡ bucket_at self.now slot b }
-        ensures aligned { result % 32 ≡ 0 }
-        ensures within { result + 32 ≤ words_of self.now }
-        ensures most { result + 32 ≤ 35258400 }
+    /// The word of the commit counter, the first behind those of the image.
+    pub fn counter_word(&self) -> u64
+        ensures is { result ≡ counter_word self.now }
+        ensures most { result ≤ most_words }
     {
-        self.head_at(slot) + BLOCK + BLOCK * u64::from(b)
+        self.words()
+    }
+
+    /// The power word, which says whether the power is off.
+    pub fn power_word(&self) -> u64
+        ensures is { result ≡ power_word self.now }
+        ensures most { result ≤ most_words + 1 }
+    {
+        self.words() + 1
     }
 }

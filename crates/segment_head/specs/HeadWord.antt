@@ -1,5 +1,5 @@
 -- The fields of the header word of a segment.
-use Rattle.std.specs.Prelude.{ℕ, ◌/◌, ◌%◌, ◌^◌}
+use Rattle.std.specs.Prelude.{◌≡◌, ◌⊎◌, ℕ, Bool, ◌==◌, ◌||◌, ◌/◌, ◌%◌, ◌^◌}
 
 -- bits 0 to 7: the version of the image when the segment was last current
 abbrev pub version_in : ℕ → ℕ
@@ -29,3 +29,10 @@ splitting = 2
 
 abbrev pub fresh : ℕ
 fresh = 3
+
+-- a live segment is normal or splitting
+abbrev pub is_live : ℕ → Bool
+is_live h1 = (state_in h1 == normal) || (state_in h1 == splitting)
+
+abbrev pub HasLiveState : ℕ → Type 0
+HasLiveState h1 = (state_in h1 ≡ normal) ⊎ (state_in h1 ≡ splitting)

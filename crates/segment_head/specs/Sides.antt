@@ -1,18 +1,15 @@
 -- Which hashes a header covers, and its 1-side.
 use Rattle.std.specs.Prelude.{◌≡◌, ℕ, ◌+◌, ◌-◌, ◌*◌, ◌/◌, ◌%◌, ◌^◌, ◌<◌, ◌↔◌}
+use Rattle.hash_word.specs.Hash.{top, Covers}
 use Rattle.segment_head.specs.declared.Head.{Head}
-
--- the top d of the 64 bits of a hash
-abbrev pub top_bits : ℕ → ℕ → ℕ
-top_bits d h = h / 2 ^ (64 - d)
 
 -- the bit of a hash that follows its top d bits
 abbrev pub next_bit : ℕ → ℕ → ℕ
-next_bit d h = top_bits (d + 1) h % 2
+next_bit d h = top (d + 1) h % 2
 
 -- a header covers a hash whose top bits, as many as its depth, are its pattern
 abbrev pub CoversHash : Head → ℕ → Type 0
-CoversHash head h = top_bits head.depth h ≡ head.pattern
+CoversHash head h = Covers head.depth head.pattern h
 
 -- the side is one bit deeper, its pattern has a 1 behind the head's, and all else is the head's
 pub record IsOneSideOf (head side : Head) : Type 0 where

@@ -1,6 +1,7 @@
 //! The header of a segment: its version, its state, and which hashes it covers.
 //! A [`Head`] is read from one word of the image, and written back; [`Head::sibling`] is the header of the
-//! segment that a split fills. `specs/HeadWord.antt` says what each bit of the word means.
+//! segment that a split fills; [`word`] has the functions of those who hold the word as it is. `specs/HeadWord.antt` says
+//! what each bit of the word means.
 #![tactic(auto)]
 
 ghost use Rattle.std.specs.Prelude.{◌≡◌, ◌<◌, ◌+◌, ◌*◌, IfSome, IfNone, IsNone, ◌^◌};
@@ -10,8 +11,11 @@ ghost use Rattle.segment_head.specs.Sides.{IsOneSideOf, CoversOnes};
 ghost use Rattle.segment_head.specs.Written.{spare_in};
 
 mod laws;
+pub mod word;
 
+use crate::word::{FREE, FRESH, NORMAL, SPLITTING, depth_of, pattern_of, state_of, version_of};
 pub use laws::{head_gives_word, read_of_written, word_gives_head, written_of_read};
+use word_bits::with_bits;
 
 /// What a segment is in the middle of.
 #[derive(Clone, Copy, Debug, PartialEq, Eq)]
@@ -45,21 +49,11 @@ fn state_number(state: State) -> u64
     ensures range { result < 4 }
 {
     match state {
-        State::Free => 0,
-        State::Normal => 1,
-        State::Splitting => 2,
-        State::Fresh => 3,
+        State::Free => u64::from(FREE),
+        State::Normal => u64::from(NORMAL),
+        State::Splitting => u64::from(SPLITTING),
+        State::Fresh => u64::from(FRESH),
     }
-}
-
-/// A word with the bits of `value` put above the `low` bits that it has.
-fn with_bits(word: u64, low: u32, value: u64) -> u64
-    requires place { low < 64 }
-    requires free { word < 2 ^ low }
-    requires fits { value * 2 ^ low < 2 ^ 64 }
-    ensures { result ≡ word + 2 ^ low * value }
-{
-    word | (value << low)
 }
 
 impl Head {
@@ -69,18 +63,18 @@ impl Head {
         ensures none { IfNone result (3 < state_in h1) }
         ensures refused { 3 < state_in h1 → IsNone result }
     {
-        let state = match (h1 >> 8) & 0xFF {
-            0 => State::Free,
-            1 => State::Normal,
-            2 => State::Splitting,
-            3 => State::Fresh,
+        let state = match state_of(h1) {
+            FREE => State::Free,
+            NORMAL => State::Normal,
+            SPLITTING => State::Splitting,
+            FRESH => State::Fresh,
             _ => return None,
         };
         Some(Head {
-            version: (h1 & 0xFF) as u8,
+            version: version_of(h1),
             state,
-            depth: ((h1 >> 16) & 0xFF) as u8,
-            pattern: (h1 >> 32) as u32,
+            depth: depth_of(h1),
+            pattern: pattern_of(h1),
         })
     }
 

@@ -4,8 +4,8 @@ use Rattle.std.specs.List.{flat_map}
 use Rattle.hash_word.specs.declared.Kind.TheVariants.{Identity, Mix}
 use Rattle.hash_word.specs.Hash.{hash_of, home_of, finger_of, probing_of}
 use Rattle.bucket_meta.specs.Notes.{Note, numbers_below, notes_on, AreExact}
-use Rattle.bucket_meta.specs.Bucket.{allocated, note_used, note_member, note_index, note_finger, overflow_count}
-use Rattle.image_layout.specs.Places.{Shape, bucket_at, key_at, value_at}
+use Rattle.bucket_meta.specs.Bucket.{allocated, note_used, note_member, note_index, note_finger, overflow_count, record_slots}
+use Rattle.image_layout.specs.Places.{Shape, homes, buckets, bucket_at, key_at, value_at}
 use Rattle.sound_image.specs.Segments.{ImageWords, frame_of, Owns}
 
 -- the hash of a key in an image of this kind
@@ -30,8 +30,8 @@ module _ (shape : Shape) (word : ImageWords) where
   -- a record stands where the slot is allocated
   pub record HasRecord (s b r : ℕ) : Type 0 where
     pub segment : s < shape.segments
-    pub bucket : b < 66
-    pub slot : r < 14
+    pub bucket : b < buckets
+    pub slot : r < record_slots
     pub is_allocated : allocated r (word_in s b 1) ≡ 1
 
   -- a record in the segment that owns its key's hash
@@ -67,10 +67,10 @@ module _ (shape : Shape) (word : ImageWords) where
   abbrev pub stashed_in : ℕ → ℕ → ℕ → List Note
   stashed_in s b k =
       flat_map
-      (λ r. if (allocated r (word_in s (64 + k) 1) == 1) && (home_of (slot_hash s (64 + k) r) == b)
-      then (finger_of (slot_hash s (64 + k) r), k) ∷ []
+      (λ r. if (allocated r (word_in s (homes + k) 1) == 1) && (home_of (slot_hash s (homes + k) r) == b)
+      then (finger_of (slot_hash s (homes + k) r), k) ∷ []
       else [])
-      (numbers_below 14)
+      (numbers_below record_slots)
 
   abbrev pub stashed_of : ℕ → ℕ → List Note
   stashed_of s b = stashed_in s b 0 ++ stashed_in s b 1

@@ -4,7 +4,7 @@ use Rattle.std.specs.Prelude.{◌≡◌, ◌≢◌, ℕ, ◌+◌, ◌^◌, ◌<�
 use Rattle.hash_word.specs.Hash.{home_of, finger_of, probing_of}
 use Rattle.bucket_meta.specs.Bucket.{lock_of, member, finger}
 use Rattle.segment_head.specs.HeadWord.{version_in, normal}
-use Rattle.image_layout.specs.Places.{Shape, root_word, state_word, entry_at, head_at, bucket_at, key_at}
+use Rattle.image_layout.specs.Places.{Shape, homes, buckets, root_word, state_word, entry_at, head_at, bucket_at, key_at}
 use Rattle.sound_image.specs.Segments.{ImageWords, Frame, frame_of, image_version, IsClean, state_at, IsLive, Owns}
 use Rattle.sound_image.specs.Directory.{RootInRange, VersionInRange, HeadInRange, LinkInRange, HasOwners, SharesWell, EntryLeads, VersionIsPast}
 use Rattle.sound_image.specs.Records.{word_in, slot_key, slot_value, slot_hash, HasRecord, HasOwnRecord, HasExactNotes}
@@ -18,7 +18,7 @@ module _ (shape : Shape) (word : ImageWords) where
   InItsBucket s b r =
       ((b ≡ home_of (slot_hash shape word s b r)) × (member r (word_in shape word s b 1) ≡ 0))
       ⊎ ((b ≡ probing_of (home_of (slot_hash shape word s b r))) × (member r (word_in shape word s b 1) ≡ 1))
-      ⊎ (64 ≤ b)
+      ⊎ (homes ≤ b)
 
   pub record StandsRight (s b r : ℕ) : Type 0 where
     pub bucket : InItsBucket s b r
@@ -74,10 +74,10 @@ module _ (shape : Shape) (word : ImageWords) where
   -- and each key once, and has exact overflow notes
   pub record CleanMeansRepaired (w : ℕ) : Type 0 where
     pub head : (s : ℕ) → IsCleanAndCurrent s → w ≡ head_at shape s + 1 → state_at frame s ≡ normal
-    pub lock : (s b : ℕ) → IsCleanAndCurrent s → b < 66 → w ≡ bucket_at shape s b → lock_of (word w) ≡ 0
+    pub lock : (s b : ℕ) → IsCleanAndCurrent s → b < buckets → w ≡ bucket_at shape s b → lock_of (word w) ≡ 0
     pub own : (s b r : ℕ) → IsCleanAndCurrent s → HasRecord shape word s b r → w ≡ key_at shape s b r → Owns frame s (slot_hash shape word s b r)
     pub once : (s b r : ℕ) → IsCleanAndCurrent s → HasRecord shape word s b r → w ≡ key_at shape s b r → NotBefore s b r
-    pub notes : (s b : ℕ) → IsCleanAndCurrent s → b < 64 → w ≡ bucket_at shape s b + 1 → HasExactNotes shape word s b
+    pub notes : (s b : ℕ) → IsCleanAndCurrent s → b < homes → w ≡ bucket_at shape s b + 1 → HasExactNotes shape word s b
 
   -- the rules by their numbers, in the order in which they are looked at
   pub record Rule (n w : ℕ) : Type 0 where

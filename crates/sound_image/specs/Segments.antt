@@ -1,8 +1,9 @@
 -- Live segments, owners and ready sides, read from the headers and the directory of an image.
-use Rattle.std.specs.Prelude.{◌≡◌, ℕ, suc, ◌+◌, ◌-◌, ◌*◌, ◌/◌, ◌%◌, ◌^◌, ◌<◌, ◌≤◌, ◌⊎◌}
+use Rattle.std.specs.Prelude.{◌≡◌, ℕ, suc, ◌+◌, ◌-◌, ◌*◌, ◌^◌, ◌<◌, ◌≤◌}
 use Rattle.hash_word.specs.Hash.{Covers}
 use Rattle.image_layout.specs.Places.{Shape, root_word, state_word, entry_at, head_at}
-use Rattle.segment_head.specs.HeadWord.{state_in, depth_in, pattern_in, normal, splitting}
+use Rattle.image_layout.specs.StateWord.{image_version_in, IsMarked}
+use Rattle.segment_head.specs.HeadWord.{state_in, depth_in, pattern_in, splitting, HasLiveState}
 
 -- the words of an image, by their numbers
 abbrev pub ImageWords : Type 0
@@ -30,13 +31,13 @@ frame_of shape word =
     }
 
 module _ (frame : Frame) where
-  -- V, the version of the image: bits 0 to 7 of the state word
+  -- V, the version of the image
   abbrev pub image_version : ℕ
-  image_version = frame.status % 2 ^ 8
+  image_version = image_version_in frame.status
 
-  -- the clean marker is set: bit 8 of the state word
+  -- the clean marker is set
   abbrev pub IsClean : Type 0
-  IsClean = frame.status / 2 ^ 8 % 2 ≡ 1
+  IsClean = IsMarked frame.status
 
   abbrev pub state_at : ℕ → ℕ
   state_at s = state_in (frame.header s)
@@ -49,7 +50,7 @@ module _ (frame : Frame) where
 
   -- a live segment is normal or splitting
   abbrev pub IsLive : ℕ → Type 0
-  IsLive s = (state_at s ≡ normal) ⊎ (state_at s ≡ splitting)
+  IsLive s = HasLiveState (frame.header s)
 
   abbrev pub CoversHash : ℕ → ℕ → Type 0
   CoversHash s h = Covers (depth_at s) (pattern_at s) h

@@ -4,7 +4,7 @@ use Rattle.std.proofs.lemmas.Bool.{cases_lt}
 use Rattle.std.proofs.lemmas.Nat.{one_shl, or_lt, and_le_l, pow_below}
 use Rattle.std.proofs.lemmas.Nat.Bits.{bit_at_set_same, bit_at_set_other, bit_at_clear_same, bit_at_clear_other, bit_at_above}
 use Rattle.std.specs.Int.{w8}
-use Rattle.bucket_meta.specs.Bucket.{bit}
+use Rattle.word_bits.specs.Bits.{bit}
 
 pub set_same : (bits k : ℕ) → k < 8 → bit k (bit_or bits (1 * 2 ^ k % 256)) ≡ 1
 set_same bits k within = bit_at_set_same w8 bits k within

@@ -6,12 +6,13 @@ use Rattle.std.proofs.lemmas.List.{get_or-set_same, get_or-set_other, map-append
 use Rattle.std.proofs.lemmas.List.Elements.{filter-append}
 use Rattle.std.proofs.lemmas.Nat.Bits.{bit_at-zero}
 use Rattle.bucket_meta.specs.declared.metadata.Meta.{Meta}
-use Rattle.bucket_meta.specs.Bucket.{bit}
+use Rattle.word_bits.specs.Bits.{bit}
 use Rattle.bucket_meta.specs.Notes.{Note, AreExact}
 use Rattle.stash.specs.Exact.{notes_at, notes_of, IsExactFor}
 use Rattle.stash.specs.Noted.{IsNotedIn, IsNotedInSegment, AreNotedInOrder}
 use Rattle.stash.specs.Places.{place_at, IsBare}
-use Rattle.stash.specs.Segment.{Stashed, of_home, probing_of, bucket, IsExactSegment}
+use Rattle.stash.specs.Segment.{Stashed, of_home, bucket, IsExactSegment}
+use Rattle.hash_word.specs.Hash.{probing_of}
 use Rattle.stash.proofs.Counts.{same_pieces}
 use Rattle.stash.proofs.ExactNotes.{exact_moves}
 use Rattle.stash.proofs.Pieces.{piece, piece_of_unused}

@@ -4,7 +4,7 @@ use borrow.Author.Count.{below_none}
 use Rattle.std.proofs.Math.Nat.{eq-zero-or-pos}
 use Rattle.std.specs.Prelude.{slice_index_or}
 use Rattle.bucket_meta.specs.declared.metadata.Meta.{Meta}
-use Rattle.bucket_meta.specs.Bucket.{bit}
+use Rattle.word_bits.specs.Bits.{bit}
 use Rattle.bucket_meta.specs.Notes.{Note, how_often}
 use Rattle.stash.specs.Exact.{notes_at}
 use Rattle.stash.specs.Places.{IsNoteAt, IsLowest, HoldsNowhere}

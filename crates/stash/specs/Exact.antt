@@ -1,12 +1,8 @@
 -- Exact overflow data: what a home bucket and its probing bucket say of the records of that home in the stash.
 use Rattle.std.specs.Prelude.{ℕ, ◌+◌, ◌<◌, List, ◌++◌, slice_index}
 use Rattle.bucket_meta.specs.declared.metadata.Meta.{Meta}
-use Rattle.bucket_meta.specs.Bucket.{bit}
+use Rattle.word_bits.specs.Bits.{bit}
 use Rattle.bucket_meta.specs.Notes.{Note, how_often, notes_on, AreExact}
-
--- how many stash buckets a segment has
-abbrev pub stash_buckets : ℕ
-stash_buckets = 2
 
 -- the greatest number that a bucket's count can hold
 abbrev pub greatest_count : ℕ

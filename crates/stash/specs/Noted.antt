@@ -3,7 +3,9 @@ use Rattle.std.specs.Prelude.{◌≡◌, ◌≢◌, ℕ, ◌+◌, ◌<◌, List,
 use Rattle.bucket_meta.specs.declared.metadata.Meta.{Meta}
 use Rattle.bucket_meta.specs.Notes.{Note}
 use Rattle.stash.specs.Places.{IsUnused, IsLowest, HoldsNowhere, PlaceBecomes, CountBecomes, note_place, IsBare}
-use Rattle.stash.specs.Segment.{Stashed, probing_of, bucket, SameSlotsInAll}
+use Rattle.stash.specs.Segment.{Stashed, bucket, SameSlotsInAll}
+use Rattle.hash_word.specs.Hash.{probing_of}
+use Rattle.image_layout.specs.Places.{homes}
 
 -- a home bucket and its probing bucket before and after a record is noted: the note takes the lowest unused place of
 -- the home bucket, else that of the probing bucket, else the home's count is one more
@@ -16,7 +18,7 @@ pub record IsNotedIn (home probe home_after probe_after : Meta) (note : Note) : 
 pub record IsNotedInSegment (old new : List Meta) (entry : Stashed) : Type 0 where
   pub in_two : (d : Meta)
       → IsNotedIn (bucket old entry.0 d) (bucket old (probing_of entry.0) d) (bucket new entry.0 d) (bucket new (probing_of entry.0) d) (entry.1, entry.2)
-  pub others : (b : ℕ) (d : Meta) → b < 64 → b ≢ entry.0 → b ≢ probing_of entry.0 → bucket new b d ≡ bucket old b d
+  pub others : (b : ℕ) (d : Meta) → b < homes → b ≢ entry.0 → b ≢ probing_of entry.0 → bucket new b d ≡ bucket old b d
 
 -- the 64 buckets before and after each of the records is noted, in the order of the list
 abbrev pub AreNotedInOrder : List Stashed → (old new : List Meta) → Type 0
@@ -25,7 +27,7 @@ AreNotedInOrder (entry ∷ records) old new = (between : List Meta) × IsNotedIn
 
 -- all that the 64 buckets say of the stash was made 0
 pub record IsCleared (old new : List Meta) : Type 0 where
-  pub bare : (b : ℕ) (d : Meta) → b < 64 → IsBare (bucket new b d)
+  pub bare : (b : ℕ) (d : Meta) → b < homes → IsBare (bucket new b d)
   pub slots : SameSlotsInAll old new
 
 -- all that the 64 buckets say of the stash was made 0, and then each of the records was noted in turn

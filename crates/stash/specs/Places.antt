@@ -1,7 +1,7 @@
 -- The overflow places of a bucket, and what a change of one of them leaves as it was.
 use Rattle.std.specs.Prelude.{◌≡◌, ◌≢◌, ℕ, ◌<◌, [], ◌∷◌, slice_index}
 use Rattle.bucket_meta.specs.declared.metadata.Meta.{Meta}
-use Rattle.bucket_meta.specs.Bucket.{bit}
+use Rattle.word_bits.specs.Bits.{bit}
 use Rattle.bucket_meta.specs.Notes.{Note}
 
 -- what an overflow place holds: whether it is used, on which side its note is (0: of a record of this home, 1: of a

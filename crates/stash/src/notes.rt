@@ -1,9 +1,10 @@
 //! The notes and the count of one home.
 
 ghost use Rattle.std.specs.Prelude.{◌≡◌, ◌≢◌, ℕ, ◌+◌, ◌-◌, ◌^◌, ◌<◌, ◌↔◌, IsTrue, List, ◌∷◌, Contains};
-ghost use Rattle.bucket_meta.specs.Bucket.{bit};
+ghost use Rattle.word_bits.specs.Bits.{bit};
 ghost use Rattle.bucket_meta.specs.Notes.{Note, how_often};
-ghost use Rattle.stash.specs.Exact.{stash_buckets, greatest_count, notes_at, notes_of, IsExactFor, IsNamed, IsNotedOrCounted};
+ghost use Rattle.stash.specs.Exact.{greatest_count, notes_at, notes_of, IsExactFor, IsNamed, IsNotedOrCounted};
+ghost use Rattle.image_layout.specs.Places.{stash_buckets};
 ghost use Rattle.stash.specs.Places.{IsUnused, IsNoteAt, IsLowest, HoldsNowhere, SameSlots, PlaceBecomes, CountBecomes, note_place, freed_place};
 
 use crate::places::{fill, free, place_of, unused_place};

@@ -1,8 +1,8 @@
 //! The four overflow places of one bucket.
 
 ghost use Rattle.std.specs.Prelude.{◌≡◌, ◌≢◌, ℕ, ◌^◌, ◌<◌, ◌↔◌, IsTrue, MatchOption};
-ghost use Rattle.bucket_meta.specs.Bucket.{bit};
-ghost use Rattle.stash.specs.Exact.{stash_buckets};
+ghost use Rattle.word_bits.specs.Bits.{bit};
+ghost use Rattle.image_layout.specs.Places.{stash_buckets};
 ghost use Rattle.stash.specs.Places.{IsUnused, IsNoteAt, IsLowest, HoldsNowhere, PlaceBecomes, note_place, freed_place};
 
 use bucket_meta::Meta;

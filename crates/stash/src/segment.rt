@@ -2,16 +2,16 @@
 
 ghost use Rattle.std.specs.Prelude.{◌≡◌, ℕ, ◌+◌, ◌*◌, ◌<◌, ◌≤◌, List, [], ◌∷◌, ◌++◌, length, All};
 ghost use Rattle.bucket_meta.specs.declared.metadata.Meta.{Meta as MetaValue};
-ghost use Rattle.stash.specs.Exact.{stash_buckets, greatest_count};
+ghost use Rattle.stash.specs.Exact.{greatest_count};
+ghost use Rattle.image_layout.specs.Places.{homes, stash_buckets};
+ghost use Rattle.bucket_meta.specs.Bucket.{record_slots};
 ghost use Rattle.stash.specs.Noted.{IsNotedInSegment, IsCleared, IsRebuilt};
 ghost use Rattle.stash.specs.Places.{SameSlots, IsBare};
 ghost use Rattle.stash.specs.Segment.{Stashed, IsStashed, IsExactSegment, SameSlotsInAll, bucket};
 
 use crate::notes::note;
 use bucket_meta::Meta;
-
-/// How many buckets a segment has, without the stash.
-const BUCKETS: usize = 64;
+use hash_word::probing;
 
 /// Makes all that a bucket says of the stash 0.
 fn clear_notes(meta: &mut Meta)
@@ -36,7 +36,7 @@ fn clear_all(metas: &mut [Meta; 64])
 
 /// Notes a record of one home that stands in stash bucket `index`.
 fn note_in(metas: &mut [Meta; 64], home: u8, finger: u8, index: u8)
-    requires home { home < 64 }
+    requires home { home < homes }
     requires stash { index < stash_buckets }
     requires room { (d : MetaValue) → (bucket metas.old home d).ocount < greatest_count }
     ensures noted { IsNotedInSegment metas.old metas.new (home, finger, index) }
@@ -44,8 +44,8 @@ fn note_in(metas: &mut [Meta; 64], home: u8, finger: u8, index: u8)
         → IsExactSegment metas.new (records ++ (home, finger, index) ∷ []) }
     ensures slots { SameSlotsInAll metas.old metas.new }
 {
+    let next = usize::from(probing(home));
     let home = usize::from(home);
-    let next = (home + 1) % BUCKETS;
     let mut own = metas[home];
     let mut probe = metas[next];
     note(&mut own, &mut probe, finger, index);
@@ -60,7 +60,7 @@ fn note_in(metas: &mut [Meta; 64], home: u8, finger: u8, index: u8)
 /// for 28 records.
 pub fn rebuild(metas: &mut [Meta; 64], stashed: &[(u8, u8, u8)])
     requires within { All IsStashed stashed.now }
-    requires room { length stashed.now ≤ 14 * stash_buckets }
+    requires room { length stashed.now ≤ record_slots * stash_buckets }
     ensures rebuilt { IsRebuilt metas.old metas.new stashed.now }
     ensures exact { IsExactSegment metas.new stashed.now }
     ensures slots { SameSlotsInAll metas.old metas.new }

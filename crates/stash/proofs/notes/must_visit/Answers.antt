@@ -1,6 +1,6 @@
 -- Each bit is the answer for its stash bucket, and where no record is without a note, each is named.
 use Rattle.std.proofs.Common.{◌≡◌, refl, arith}
-use Rattle.bucket_meta.specs.Bucket.{bit}
+use Rattle.word_bits.specs.Bits.{bit}
 use Rattle.stash.specs.Exact.{IsNamed, notes_of}
 use Rattle.stash.proofs.ExactNotes.{each_is_named}
 use Rattle.stash.proofs.Visits.{each_stash, set_of_two, often_contained}

@@ -2,7 +2,7 @@
 use Rattle.std.proofs.Common.{◌≡◌, ℕ, ◌^◌, ◌<◌, sym, subst, arith}
 use Rattle.std.proofs.lemmas.Nat.Bits.{bit_at-trailing_ones}
 use Rattle.std.specs.Int.{w8, trailing_ones}
-use Rattle.bucket_meta.specs.Bucket.{bit}
+use Rattle.word_bits.specs.Bits.{bit}
 use Rattle.stash.proofs.places.unused_place.Goals as goal
 
 lowest_clear : (used t : ℕ) → used < 2 ^ 4 → t ≡ trailing_ones w8 used → (bit t used ≡ 0) × ((i : ℕ) → i < t → bit i used ≡ 1)

@@ -1,22 +1,17 @@
 -- The words say of each slot and overflow place what the bits of the fields say, before and after a change of one slot, and a bit of a field is set or cleared alone.
-use Rattle.std.proofs.Common.{◌≡◌, ◌≢◌, ℕ, ◌+◌, ◌-◌, ◌*◌, ◌/◌, ◌%◌, ◌^◌, ◌<◌, List, ap, sym, ◌∙◌, inl, inr, zero-add, arith, length, length-set, bit_and, bit_or}
+use Rattle.std.proofs.Common.{◌≡◌, ◌≢◌, ℕ, ◌-◌, ◌*◌, ◌%◌, ◌^◌, ◌<◌, List, ap, sym, ◌∙◌, inl, inr, zero-add, arith, length, length-set, bit_and, bit_or}
 use Rattle.std.specs.Prelude.{slice_index, slice_set}
 use Rattle.std.proofs.lemmas.List.{get_or-set_same, get_or-set_other}
 use Rattle.std.proofs.lemmas.Bool.{cases_lt}
-use Rattle.std.proofs.lemmas.Nat.{shr_split, shr-shr, one_shl, or_lt, and_le_l, pow_below}
-use Rattle.std.proofs.lemmas.Nat.Bits.{bit_at_cat_low, bit_at_set_same, bit_at_set_other, bit_at_clear_same, bit_at_clear_other, bit_at_above}
-use Rattle.std.specs.Int.{bit_at, w16}
+use Rattle.std.proofs.lemmas.Nat.{one_shl, or_lt, and_le_l, pow_below}
+use Rattle.std.proofs.lemmas.Nat.Bits.{bit_at_set_same, bit_at_set_other, bit_at_clear_same, bit_at_clear_other, bit_at_above}
+use Rattle.std.specs.Int.{w16}
 use Rattle.bucket_meta.specs.declared.metadata.Meta.{Meta}
-use Rattle.bucket_meta.specs.Bucket.{bits, bit, allocated, member, note_used, note_member, note_index, finger, note_finger, overflow_count}
+use Rattle.bucket_meta.specs.Bucket.{allocated, member, note_used, note_member, note_index, finger, note_finger, overflow_count}
+use Rattle.word_bits.specs.Bits.{bit}
+use Rattle.word_bits.proofs.OneBit.{bit_of_bits}
 use Rattle.bucket_meta.specs.MetaWords.{IsMetaOf}
 use Rattle.bucket_meta.specs.Slots.{SameElsewhere, SameOverflow}
-
--- a bit of a field is a bit of the word
-pub bit_of_bits : (low count i w : ℕ) → i < count → bit i (bits low count w) ≡ bit (low + i) w
-bit_of_bits low count i w within =
-    sym (bit_at_cat_low (w / 2 ^ low / 2 ^ count) count (w / 2 ^ low % 2 ^ count) i within)
-    ∙ ap (λ n. bit_at n i) (shr_split (w / 2 ^ low) count)
-    ∙ ap (λ n. n % 2) (shr-shr w low i)
 
 pub allocated_is : (m : Meta) (w1 w2 w3 s : ℕ) → IsMetaOf m w1 w2 w3 → s < 14 → allocated s w1 ≡ bit s m.alloc
 allocated_is m w1 w2 w3 s is within =

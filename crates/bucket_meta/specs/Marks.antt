@@ -1,0 +1,48 @@
+-- What is stored of a slot that is taken or freed: the metadata word, and the word of its fingerprint; and what each of them leaves.
+use Rattle.std.specs.Prelude.{◌≡◌, ◌≢◌, ℕ, ◌+◌, ◌%◌, ◌<◌, nat_lt, slice_set, if◌then◌else◌, bit_or, bit_and}
+use Rattle.std.specs.Int.{bit_not, w64, to_le_bytes, from_le_bytes}
+use Rattle.word_bits.specs.Bits.{mask}
+use Rattle.bucket_meta.specs.Bucket.{allocated, member, finger, note_used, overflow_count, record_slots, overflow_places}
+
+-- the metadata word where the slot has a record that is at home: its allocation bit set, its membership bit not
+abbrev pub inserted_mark : ℕ → ℕ → ℕ
+inserted_mark w1 slot = bit_and (bit_or w1 (mask slot)) (bit_not w64 (mask (14 + slot)))
+
+-- the metadata word where the slot has no record: both bits not set
+abbrev pub removed_mark : ℕ → ℕ → ℕ
+removed_mark w1 slot = bit_and (bit_and w1 (bit_not w64 (mask slot))) (bit_not w64 (mask (14 + slot)))
+
+-- fingerprints 0 to 7 stand in word 2, the others in word 3
+abbrev pub finger_place : ℕ → ℕ
+finger_place slot = if nat_lt slot 8 then 2 else 3
+
+-- a word of fingerprints, a byte each, with the slot's changed
+abbrev pub with_finger : ℕ → ℕ → ℕ → ℕ
+with_finger word slot number = from_le_bytes w64 (slice_set (to_le_bytes w64 word) (slot % 8) number)
+
+-- metadata word x says of every slot but r what w says
+pub record SameButSlot (r w x : ℕ) : Type 0 where
+  pub taken : (t : ℕ) → t < record_slots → t ≢ r → allocated t x ≡ allocated t w
+  pub members : (t : ℕ) → t < record_slots → t ≢ r → member t x ≡ member t w
+
+-- metadata word x says of the stash what w1 says: which overflow places hold a note, and how many records have none
+pub record SameNotes (w1 x : ℕ) : Type 0 where
+  pub notes : (i : ℕ) → i < overflow_places → note_used i x ≡ note_used i w1
+  pub count : overflow_count x ≡ overflow_count w1
+
+-- an insert's metadata word has its slot taken by a record that is at home, and says of the others what was said before
+pub record TakesSlot (w1 slot : ℕ) : Type 0 where
+  pub taken : allocated slot (inserted_mark w1 slot) ≡ 1
+  pub at_home : member slot (inserted_mark w1 slot) ≡ 0
+  pub others : SameButSlot slot w1 (inserted_mark w1 slot)
+
+-- a remove's metadata word has its slot free, and says of the others what was said before
+pub record FreesSlot (w1 slot : ℕ) : Type 0 where
+  pub is_free : allocated slot (removed_mark w1 slot) ≡ 0
+  pub no_member : member slot (removed_mark w1 slot) ≡ 0
+  pub others : SameButSlot slot w1 (removed_mark w1 slot)
+
+-- words of fingerprints x2 and x3 have the slot's fingerprint, and those of the others as words w2 and w3
+pub record SetsFinger (w2 w3 x2 x3 slot f : ℕ) : Type 0 where
+  pub here : finger slot x2 x3 ≡ f
+  pub others : (t : ℕ) → t < record_slots → t ≢ slot → finger t x2 x3 ≡ finger t w2 w3

@@ -1,0 +1,18 @@
+-- The state word of an image: its version and the clean marker.
+use Rattle.std.specs.Prelude.{◌≡◌, ℕ, ◌+◌, ◌/◌, ◌%◌, ◌^◌, ◌==◌, if◌then◌else◌}
+
+-- bits 0 to 7: the version of the image
+abbrev pub image_version_in : ℕ → ℕ
+image_version_in state = state % 2 ^ 8
+
+-- bit 8: 1 where the image is marked clean
+abbrev pub marker_in : ℕ → ℕ
+marker_in state = state / 2 ^ 8 % 2
+
+-- the image is marked clean
+abbrev pub IsMarked : ℕ → Type 0
+IsMarked state = marker_in state ≡ 1
+
+-- the state word with the marker set
+abbrev pub with_marker : ℕ → ℕ
+with_marker state = if marker_in state == 1 then state else state + 2 ^ 8

@@ -1,0 +1,32 @@
+//! The state word of an image: its version, and whether it is marked clean.
+
+ghost use Rattle.std.specs.Prelude.{◌≡◌, ◌↔◌, IsTrue};
+ghost use Rattle.image_layout.specs.StateWord.{image_version_in, with_marker, IsMarked};
+
+/// The clean marker, bit 8 of the state word.
+pub const MARKER: u64 = 0x100;
+
+/// The version of the image, 1 to 255 in a sound one.
+pub fn version_of(state: u64) -> u8
+    ensures { result ≡ image_version_in state }
+{
+    (state & 0xFF) as u8
+}
+
+/// Whether the image is marked clean.
+pub fn is_marked(state: u64) -> bool
+    ensures { IsTrue result ↔ IsMarked state }
+{
+    state / MARKER % 2 == 1
+}
+
+/// The state word with the marker set.
+pub fn with_marker(state: u64) -> u64
+    ensures { result ≡ with_marker state }
+{
+    if is_marked(state) {
+        state
+    } else {
+        state + MARKER
+    }
+}

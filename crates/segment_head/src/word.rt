@@ -1,0 +1,51 @@
+//! The header word of a segment, field by field, for those who hold the word itself. It may have bits that no field has,
+//! and a state byte that is none of the four.
+
+ghost use Rattle.std.specs.Prelude.{◌≡◌, ◌↔◌, ◌⊎◌, IsTrue};
+ghost use Rattle.segment_head.specs.HeadWord.{version_in, state_in, depth_in, pattern_in, is_live, HasLiveState};
+
+/// The state byte of a segment that holds nothing, and may be taken by a split.
+pub const FREE: u8 = 0;
+/// That of a segment that holds the records of the hashes that it covers.
+pub const NORMAL: u8 = 1;
+/// That of a segment that gives the records of its 1-side away.
+pub const SPLITTING: u8 = 2;
+/// That of a segment that takes records from a splitting one, and is not looked at yet.
+pub const FRESH: u8 = 3;
+
+/// The version of the image when the segment was last current.
+pub fn version_of(h1: u64) -> u8
+    ensures { result ≡ version_in h1 }
+{
+    (h1 & 0xFF) as u8
+}
+
+/// The state byte: one of the four states, or a number above 3.
+pub fn state_of(h1: u64) -> u8
+    ensures { result ≡ state_in h1 }
+{
+    ((h1 >> 8) & 0xFF) as u8
+}
+
+/// How many top bits of a hash the pattern is compared with.
+pub fn depth_of(h1: u64) -> u8
+    ensures { result ≡ depth_in h1 }
+{
+    ((h1 >> 16) & 0xFF) as u8
+}
+
+/// What these bits are in the hashes that the segment covers.
+pub fn pattern_of(h1: u64) -> u32
+    ensures { result ≡ pattern_in h1 }
+{
+    (h1 >> 32) as u32
+}
+
+/// Whether the segment is live: normal or splitting.
+pub fn is_live(h1: u64) -> bool
+    ensures is { result ≡ is_live h1 }
+    ensures live { IsTrue result ↔ HasLiveState h1 }
+{
+    let state = state_of(h1);
+    state == NORMAL || state == SPLITTING
+}
