@@ -18,6 +18,13 @@ key_of (Insert k v) = k
 key_of (Update k v) = k
 key_of (Remove k) = k
 
+-- the value that a call brings, and 0 where it brings none
+abbrev pub value_of : Call → ℕ
+value_of (Get k) = 0
+value_of (Insert k v) = v
+value_of (Update k v) = v
+value_of (Remove k) = 0
+
 -- the answer to a look at what is there
 abbrev pub shown : Option ℕ → Reply
 shown None = Absent

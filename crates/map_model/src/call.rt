@@ -1,5 +1,8 @@
 // The calls.
 
+ghost use Rattle.std.specs.Prelude.{◌≡◌};
+ghost use Rattle.map_model.specs.Map.{key_of, value_of};
+
 /// A call on the table.
 #[derive(Clone, Copy, Debug, PartialEq, Eq)]
 pub enum Call {
@@ -11,4 +14,25 @@ pub enum Call {
     Update(u64, u64),
     /// Takes a present key away.
     Remove(u64),
+}
+
+impl Call {
+    /// The key that the call speaks of.
+    pub fn key(self) -> u64
+        ensures { result ≡ key_of self }
+    {
+        match self {
+            Call::Get(key) | Call::Insert(key, _) | Call::Update(key, _) | Call::Remove(key) => key,
+        }
+    }
+
+    /// The value that the call brings, and 0 where it brings none.
+    pub fn value(self) -> u64
+        ensures { result ≡ value_of self }
+    {
+        match self {
+            Call::Insert(_, value) | Call::Update(_, value) => value,
+            Call::Get(_) | Call::Remove(_) => 0,
+        }
+    }
 }

@@ -8,7 +8,8 @@ use Rattle.trace.specs.Events.Event.{fenced}
 use Rattle.trace.specs.Progress.{pending, latest_of, settled_moment}
 use Rattle.trace.specs.Steps.{settled_value}
 use Rattle.trace.specs.Settling.{IsSettledValue}
-use Rattle.trace.proofs.Listed.{Has, has_of_contains, contains_of_has}
+use Rattle.trace.proofs.Listed.{has_of_contains, contains_of_has}
+use Rattle.trace.specs.Listed.{Has}
 use Rattle.trace.proofs.Moments.{value_at_more}
 use Rattle.trace.proofs.Flushes.{latest_is, pending_fence_own, pending_fence_other, settled_before, latest_before}
 use Rattle.trace.proofs.SettledValues.{is_settled, settled_here, settled_value_fence, settled_value_earlier}

@@ -9,7 +9,8 @@ use Rattle.std.proofs.lemmas.List.Quantifiers.{all_pairs_push}
 use Rattle.trace.specs.Events.{Words, line_of, Trace, value_at}
 use Rattle.trace.specs.Events.Event.{flushed, fenced}
 use Rattle.trace.specs.Progress.{pending, latest_of, settled_moment}
-use Rattle.trace.proofs.Listed.{Has, has_of_contains, contains_of_has}
+use Rattle.trace.proofs.Listed.{has_of_contains, contains_of_has}
+use Rattle.trace.specs.Listed.{Has}
 use Rattle.trace.proofs.Moments.{value_at_more, value_at_now}
 use Rattle.trace.proofs.Flushes.{flush_pending, pending_more, pending_flush_own, pending_flush_other, settled_before, latest_before}
 use Rattle.trace.proofs.SettledValues.{settled_here, settled_value_fence}

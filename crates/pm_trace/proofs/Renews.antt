@@ -5,7 +5,7 @@ use Rattle.std.proofs.Math.Seq.{drop-cons, take-append_seam, drop-append_seam}
 use Rattle.std.proofs.lemmas.List.{get_or-drop, take_more, length-append, length-map, length-take-le}
 use Rattle.std.proofs.lemmas.Bool.{cases_Bool, cases_eq, eq-eqb, ne_eqb}
 use Rattle.std.proofs.lemmas.List.Kept.{AllPairs-cons}
-use Rattle.trace.proofs.Listed.{Has}
+use Rattle.trace.specs.Listed.{Has}
 use Rattle.pm_trace.specs.declared.flushes.Flush.{Flush}
 use Rattle.pm_trace.specs.FlushLists.{is_of, last_words, renewed_by, renewed}
 use Rattle.pm_trace.specs.Memory.{flushes_of}

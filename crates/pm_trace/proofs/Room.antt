@@ -1,7 +1,7 @@
 -- Callers 0 to n - 1 with 8 flushes each at most have 8 n at most.
 use Rattle.std.proofs.Common.{◌≡◌, ℕ, zero, suc, ◌+◌, ◌*◌, ◌<◌, ◌≤◌, inl, true, not, List, [], ◌∷◌, length, refl, arith, filter, eqb}
 use Rattle.std.proofs.lemmas.List.Filters.{length-filter_both}
-use Rattle.trace.proofs.Listed.{Has}
+use Rattle.trace.specs.Listed.{Has}
 use Rattle.pm_trace.specs.declared.flushes.Flush.{Flush}
 use Rattle.pm_trace.specs.Memory.{flushes_of}
 use Rattle.pm_trace.proofs.Elements.{filter_has, filter_fewer, not_true}

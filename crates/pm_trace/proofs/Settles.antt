@@ -4,7 +4,7 @@ use Rattle.std.specs.Prelude.{slice_index}
 use Rattle.std.proofs.lemmas.Bool.{cases_Bool, cases_eq, cases_lt, eqb-true, eqb-false}
 use Rattle.std.proofs.lemmas.List.{get_or_append_left, get_or-append_right, get_or-take, get_or-drop, length-take-le, length-append, length-drop}
 use Rattle.trace.specs.Events.{line_of}
-use Rattle.trace.proofs.Listed.{Has}
+use Rattle.trace.specs.Listed.{Has}
 use Rattle.pm_trace.specs.declared.flushes.Flush.{Flush}
 use Rattle.pm_trace.specs.FlushLists.{with_line, settled_by}
 

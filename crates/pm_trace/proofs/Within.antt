@@ -6,7 +6,7 @@ use Rattle.std.proofs.lemmas.Bool.{cases_eq, eq-eqb, ne_eqb}
 use Rattle.std.proofs.lemmas.List.{length-append}
 use Rattle.std.proofs.lemmas.List.Elements.{All-append, All-filter, filter-append}
 use Rattle.image_layout.specs.Places.{Shape}
-use Rattle.trace.proofs.Listed.{Has}
+use Rattle.trace.specs.Listed.{Has}
 use Rattle.pm_trace.specs.declared.flushes.Flush.{Flush}
 use Rattle.pm_trace.specs.Memory.{IsLine, flushes_of}
 use Rattle.pm_trace.specs.FlushLists.{is_of, added, renewed_by, left_by, IsFlush}

@@ -7,7 +7,8 @@ use Rattle.trace.specs.Events.Event.{loaded, stored, exchanged, drawn, flushed, 
 use Rattle.trace.specs.Settling.{IsFencedFlush, IsSettledMoment}
 use Rattle.trace.specs.Progress.{pending, latest_of, settled_moment}
 use Rattle.trace.proofs.Replaced.{cases_at}
-use Rattle.trace.proofs.Listed.{Has, has_of_contains, contains_of_has}
+use Rattle.trace.proofs.Listed.{has_of_contains, contains_of_has}
+use Rattle.trace.specs.Listed.{Has}
 use Rattle.trace.proofs.Flushes.{latest_has, latest_is, settled_step}
 
 -- ---- a pending flush is one in the trace

@@ -6,7 +6,7 @@ use Rattle.trace.specs.Events.{Event, Trace}
 use Rattle.trace.specs.Events.Event.{loaded, stored, exchanged, drawn, flushed, fenced}
 use Rattle.trace.specs.Progress.{pending, latest_of, settled_moment}
 use Rattle.trace.proofs.Replaced.{cases_at}
-use Rattle.trace.proofs.Listed.{Has}
+use Rattle.trace.specs.Listed.{Has}
 
 -- ---- what is pending
 

@@ -1,11 +1,7 @@
 -- Membership of a list by its first element and the rest, and that it is the library's.
 use Rattle.std.proofs.Common.{◌≡◌, ℕ, zero, suc, ◌<◌, ◌⊎◌, inl, inr, List, [], ◌∷◌, length, get_or, sym, arith}
 use Rattle.std.specs.Prelude.{Contains}
-
--- x is the first element, or one of the rest
-abbrev pub Has : {X : Type 0} → X → List X → Type 0
-Has x [] = ⊥
-Has x (y ∷ ys) = (x ≡ y) ⊎ Has x ys
+use Rattle.trace.specs.Listed.{Has}
 
 at_index : {X : Type 0} (x : X) (xs : List X) (k : ℕ) → k < length xs → get_or xs k x ≡ x → Has x xs
 at_index x [] k h e = absurd (omega arith)

@@ -10,7 +10,7 @@ use Rattle.trace.specs.Media.{MayHold, IsPossible}
 use Rattle.trace.specs.Progress.{pending, latest_of, settled_moment, HadSince}
 use Rattle.trace.specs.Steps.{Writes, HadSinceSettled, settled_value, IsReplaced}
 use Rattle.trace.proofs.Replaced.{cases_at, replaced_back}
-use Rattle.trace.proofs.Listed.{Has}
+use Rattle.trace.specs.Listed.{Has}
 use Rattle.trace.proofs.Moments.{newest_is, since_earlier, since_more, only_newest, had_at, had_moment}
 use Rattle.trace.proofs.Flushes.{latest_has, settled_step, settled_before}
 use Rattle.trace.proofs.Fenced.{settled_is, settled_only}

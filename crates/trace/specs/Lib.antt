@@ -3,3 +3,4 @@ pub mod Settling
 pub mod Media
 pub mod Progress
 pub mod Steps
+pub mod Listed

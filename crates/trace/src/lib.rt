@@ -5,8 +5,10 @@
 #![tactic(auto)]
 
 mod laws;
+mod lines;
 
 pub use laws::{
     events_add, fences_settle, media_by_events, media_by_progress, settled_by_progress,
     settled_values,
 };
+pub use lines::{LINE, line_of};

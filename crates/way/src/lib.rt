@@ -6,15 +6,13 @@
 #![tactic(auto)]
 
 ghost use Rattle.std.specs.Prelude.{◌≡◌, ◌<◌, ◌≤◌, ◌^◌, ◌+◌};
-ghost use Rattle.image_layout.specs.Places.{words_of, root_word};
+ghost use Rattle.image_layout.specs.Places.{words_of, root_word, buckets, most_words};
 ghost use Rattle.sound_image.specs.Records.{key_hash};
 ghost use Rattle.way.specs.Ways.{entry_word, head_word, bucket_word};
 
 use hash_word::{Kind, dir_index, hash};
-use image_layout::Geometry;
-
-/// The word of the root depth.
-pub const ROOT_WORD: u64 = 8;
+use image_layout::{Geometry, ROOT_WORD};
+use segment_head::word::{depth_of, pattern_of};
 
 /// The hash of a key in an image that is laid out so.
 pub fn key_hash(geometry: &Geometry, key: u64) -> u64
@@ -52,9 +50,9 @@ pub fn head_word(geometry: &Geometry, segment: u64) -> u64
 
 /// The first word of a bucket of the segment in a slot, its lock word; that of the root where there is no such slot.
 pub fn bucket_word(geometry: &Geometry, segment: u64, bucket: u8) -> u64
-    requires { bucket < 64 }
+    requires { bucket < buckets }
     ensures is { result ≡ bucket_word geometry.now segment bucket }
-    ensures most { result ≤ 35258400 }
+    ensures most { result ≤ most_words }
 {
     if segment < geometry.segments() {
         geometry.bucket_at(segment, bucket)
@@ -67,8 +65,8 @@ pub fn bucket_word(geometry: &Geometry, segment: u64, bucket: u8) -> u64
 pub fn is_covering(head: u64, hash: u64) -> bool
     ensures { result ≡ Rattle.way.specs.Ways.is_covering head hash }
 {
-    let depth = (head >> 16 & 255) as u8;
-    depth <= 64 && dir_index(hash, depth) == head >> 32
+    let depth = depth_of(head);
+    depth <= 64 && dir_index(hash, depth) == u64::from(pattern_of(head))
 }
 
 #[cfg(test)]

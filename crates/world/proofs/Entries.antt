@@ -1,14 +1,18 @@
 -- One reply more: the replies of a caller stay in order, and how many of them drew a place.
 use Rattle.std.proofs.Common.{◌≡◌, ℕ, suc, ◌+◌, ◌≤◌, Bool, true, false, cond, ◌&&◌, eqb, List, [], ◌∷◌, ◌++◌, length, Option, None, Some, inl, inr, refl, sym, ap, ◌∙◌, subst, arith}
 use Rattle.std.proofs.lemmas.Bool.{ne_eqb, le-leb, lt-leb}
-use Rattle.std.specs.Prelude.{filter}
+use Rattle.std.specs.Prelude.{filter, is_some}
+use Rattle.map_model.specs.declared.entry.Reply.{Reply}
+use Rattle.map_model.specs.declared.entry.Reply.TheVariants.{Full, Deep}
+use Rattle.image_layout.specs.Places.{Shape}
+use Rattle.map_model.specs.declared.call.Call.{Call}
 use Rattle.map_model.specs.declared.call.Call.TheVariants.{Get}
 use Rattle.map_model.specs.declared.entry.Entry.{Entry}
 use Rattle.map_model.specs.Map.{is_change, shown}
 use Rattle.map_model.specs.Weave.{drew_at}
 use Rattle.map_model.specs.Legal.{InOrder, seen_of, seen_after}
 use Rattle.world.specs.Views.{View, Has, At}
-use Rattle.world.specs.History.{Change, Log, map_now, map_when, MayReply, IsRight}
+use Rattle.world.specs.History.{Change, Log, map_now, map_when, MayReply, HasFullKeys, HasRoomCause, IsRight}
 use Rattle.world.specs.Invariant.{total}
 
 -- ---- replies in order
@@ -53,21 +57,31 @@ map_when_now : (start : ℕ → Option ℕ) (log : Log) (n k : ℕ) → n ≡ le
 map_when_now start [] n k e = refl
 map_when_now start (c ∷ log) n k e = ap (λ b. cond b (map_when start log n k) (map_now start (c ∷ log) k)) (lt-leb n (length log) (omega (arith, e)))
 
+keys_alike : (m l : ℕ → Option ℕ) (Passes : ℕ → Type 0) → ((k : ℕ) → m k ≡ l k) → HasFullKeys Passes m → HasFullKeys Passes l
+keys_alike m l Passes same c = record { key = c.key; differ = c.differ; there = λ r low. ap is_some (sym (same (c.key r))) ∙ c.there r low; pass = c.pass }
+
+pub cause_alike : (shape : Shape) (m l : ℕ → Option ℕ) (call : Call) (r : Reply) → ((k : ℕ) → m k ≡ l k) → HasRoomCause shape m call r → HasRoomCause shape l call r
+cause_alike shape m l call Full same c = keys_alike m l _ same c
+cause_alike shape m l call Deep same c = keys_alike m l _ same c
+cause_alike shape m l call r same c = tt
+
 pub when_now : (start : ℕ → Option ℕ) (log : Log) (n k : ℕ) → n ≡ length log → map_when start log n k ≡ map_now start log k
 when_now start log n k e = map_when_now start log n k e
+
+-- the place of an entry is not past what its caller has seen then
+pub place_le : (b : Bool) (place n : ℕ) → cond b (suc place) place ≤ n → place ≤ n
+place_le true place n le = omega (arith, le)
+place_le false place n le = le
 
 module _ (start : ℕ → Option ℕ) (log : Log) (c : Change) where
   pub when_more : (n k : ℕ) → n ≤ length log → map_when start (c ∷ log) n k ≡ map_when start log n k
   when_more n k le = ap (λ b. cond b (map_when start log n k) (map_now start (c ∷ log) k)) (le-leb n (length log) le)
 
-  place_le : (b : Bool) (place n : ℕ) → cond b (suc place) place ≤ n → place ≤ n
-  place_le true place n le = omega (arith, le)
-  place_le false place n le = le
-
-  pub right_more : (e : Entry) → IsRight start log e → IsRight start (c ∷ log) e
-  right_more e r = record {
+  pub right_more : (shape : Shape) (e : Entry) → IsRight shape start log e → IsRight shape start (c ∷ log) e
+  right_more shape e r = record {
     within = (let w = r.within in omega (arith, w));
     reply = subst (λ (a : Option ℕ). MayReply a e.call e.reply) (sym (when_more e.place _ (place_le e.drew e.place (length log) r.within))) r.reply;
+    cause = cause_alike shape _ _ e.call e.reply (λ k. sym (when_more e.place k (place_le e.drew e.place (length log) r.within))) r.cause;
     drew = λ d. inr (r.drew d);
   }
 
@@ -79,3 +93,7 @@ shown_may (Some v) k = refl
 pub shown_keeps : (a : Option ℕ) → is_change (shown a) ≡ false
 shown_keeps None = refl
 shown_keeps (Some v) = refl
+
+pub shown_cause : (shape : Shape) (a : Option ℕ) (m : ℕ → Option ℕ) (call : Call) → HasRoomCause shape m call (shown a)
+shown_cause shape None m call = tt
+shown_cause shape (Some v) m call = tt

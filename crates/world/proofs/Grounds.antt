@@ -2,7 +2,7 @@
 use Rattle.std.proofs.Common.{◌≡◌, ℕ, ◌+◌, ◌-◌, ◌/◌, ◌%◌, ◌^◌, ◌<◌, ◌≤◌, cond, ◌||◌, false, refl, ap, ◌∙◌, arith, eqb}
 use Rattle.std.proofs.lemmas.Bool.{ne_eqb, le-ltb}
 use Rattle.std.specs.Prelude.{nat_lt}
-use Rattle.image_layout.specs.Places.{Shape, first_segment, words_of}
+use Rattle.image_layout.specs.Places.{Shape, first_segment, words_of, buckets}
 use Rattle.sound_image.specs.Records.{key_hash}
 use Rattle.hash_word.specs.Hash.{home_of}
 use Rattle.bucket_words.specs.Core.{core_in_bucket, group_of, core_of}
@@ -19,7 +19,7 @@ module _ (shape : Shape) where
   lock_apart lock other (b, near, is) (c, near', is') (u0, u1) = omega (arith, is, is', u0, u1)
 
   pub home_is_lock : (k : ℕ) → IsLockWord shape (home_at shape k)
-  home_is_lock k = (home_of (key_hash shape k), (let h = key_hash shape k in let r : h / 2 ^ 8 % 2 ^ 6 < 66 = omega arith in r), refl)
+  home_is_lock k = (home_of (key_hash shape k), (let h = key_hash shape k in let r : h / 2 ^ 8 % 2 ^ 6 < buckets = omega arith in r), refl)
 
   -- with one segment, a bucket lies within the image
   pub lock_within : (lock : ℕ) → IsLockWord shape lock → shape.segments ≡ 1 → lock + 32 ≤ words_of shape

@@ -1,5 +1,5 @@
 -- A history in log form makes the replies of all callers one legal history of a plain map, and its map is that map's.
-use Rattle.std.proofs.Common.{◌≡◌, ℕ, zero, suc, ◌+◌, ◌<◌, ◌≤◌, Bool, true, false, cond, eqb, List, [], ◌∷◌, ◌++◌, length, map, Option, None, Some, inl, inr, refl, sym, ap, ◌∙◌, subst, arith, length-append}
+use Rattle.std.proofs.Common.{◌≡◌, ℕ, zero, suc, ◌+◌, ◌<◌, ◌≤◌, Bool, true, cond, eqb, List, [], ◌∷◌, ◌++◌, length, map, Option, None, Some, inl, inr, refl, sym, ap, ◌∙◌, subst, arith, length-append}
 use Rattle.std.proofs.lemmas.Bool.{eqb-true, le-leb, lt-leb}
 use Rattle.std.proofs.lemmas.List.Elements.{filter-append}
 use Rattle.std.specs.Prelude.{filter}
@@ -25,10 +25,10 @@ use Rattle.world.specs.Views.{View, Has, At}
 use Rattle.world.specs.History.{Change, Log, map_now, map_when, Drew, result_of, change_of, reply_by, MayReply, IsRight}
 use Rattle.world.specs.Invariant.{total, History}
 use Rattle.world.specs.Laws.{EntriesAreLegal}
-use Rattle.world.proofs.Entries.{when_now}
+use Rattle.world.proofs.Entries.{when_now, place_le}
 
 -- ---- a reply in the map and by what the key has
-same_reply : (m : Map) (call : Call) → reply_by (get m (key_of call)) call ≡ reply_of m call
+pub same_reply : (m : Map) (call : Call) → reply_by (get m (key_of call)) call ≡ reply_of m call
 same_reply m (Get k) = refl
 same_reply m (Insert k v) = refl
 same_reply m (Update k v) = refl
@@ -43,7 +43,7 @@ reply_is m call Full may = may
 reply_is m call Deep may = may
 reply_is m call Spent may = may
 
-not_shown : (a : Option ℕ) → Done ≡ shown a → ⊥
+pub not_shown : (a : Option ℕ) → Done ≡ shown a → ⊥
 not_shown None e = cc
 not_shown (Some v) e = cc
 
@@ -94,7 +94,7 @@ count_all p [] = refl
 count_all p (v ∷ views) = ap length (filter-append p v.own (all_of (map own_of views))) ∙ (length-append (filter p v.own) (filter p (all_of (map own_of views)))
     ∙ ap (λ n. length (filter p v.own) + n) (count_all p views))
 
-turned : (es : List Entry) (e : Entry) → IsIn es e → Has e es
+pub turned : (es : List Entry) (e : Entry) → IsIn es e → Has e es
 turned [] e h = absurd h
 turned (x ∷ es) e h = elim h [ inl q ↦ inl (sym q) | inr r ↦ inr (turned es e r) ]
 
@@ -125,7 +125,7 @@ module _ (site : Site) (words : Words) (views : List View) (log : Log) (o : Hist
   count : draws all ≡ length log
   count = count_all (λ (e : Entry). e.drew) views ∙ o.drawn
 
-  right : (e : Entry) → IsIn all e → IsRight site.start log e
+  right : (e : Entry) → IsIn all e → IsRight site.shape site.start log e
   right e h = let w = whose views e h in o.right w.0 w.1 e w.2 w.3
 
   drew_for_change : (e : Entry) → IsIn all e → e.drew ≡ is_change e.reply
@@ -154,10 +154,6 @@ module _ (site : Site) (words : Words) (views : List View) (log : Log) (o : Hist
   pub map_is : (n : ℕ) → n ≤ length log → (k : ℕ) → get (map_at start all n) k ≡ map_when site.start log n k
   map_is zero le k = same k ∙ sym (when_zero site.start log k)
   map_is (suc n) le k = next n k (λ q. map_is n (omega (arith, le)) q) (omega (arith, le))
-
-  place_le : (b : Bool) (place n : ℕ) → cond b (suc place) place ≤ n → place ≤ n
-  place_le true place n le = omega (arith, le)
-  place_le false place n le = le
 
   legal : IsLegal start (map own_of views)
   legal = from_places start (map own_of views) (record {

@@ -2,8 +2,8 @@
 use Rattle.std.proofs.Common.{◌≡◌, ℕ, zero, suc, ◌+◌, ◌<◌, ◌≤◌, refl, cond, sym, ap, ◌∙◌, subst, arith}
 use Rattle.trace.specs.Events.{Words, with_word}
 use Rattle.trace.proofs.Replaced.{cases_at, replaced_other}
-use Rattle.image_layout.specs.Places.{words_of, bucket_at}
-use Rattle.image_layout.specs.Volatile.{counter_word}
+use Rattle.image_layout.specs.Places.{words_of, bucket_at, buckets}
+use Rattle.image_layout.specs.Volatile.{counter_word, power_word}
 use Rattle.bucket_words.proofs.WordCores.{core_before}
 use Rattle.bucket_words.proofs.Slots.{kept_bucket}
 use Rattle.bucket_words.proofs.SameCores.{slots_of_cores, table_of_cores, find_of_home}
@@ -55,6 +55,9 @@ module _ (site : Site) (is : IsSite site) where
   pub counter_cores : (words : Words) (x n : ℕ) → n < words_of site.shape → core site.shape (with_word words (counter_word site.shape) x) n ≡ core site.shape words n
   counter_cores words x n within = ap (core_of site.shape n) (replaced_other words (counter_word site.shape) x n (λ e. omega (arith, within, e)))
 
+  pub power_cores : (words : Words) (x n : ℕ) → n < words_of site.shape → core site.shape (with_word words (power_word site.shape) x) n ≡ core site.shape words n
+  power_cores words x n within = ap (core_of site.shape n) (replaced_other words (power_word site.shape) x n (λ e. omega (arith, within, e)))
+
   -- whether words are a table depends on the cores of the image's words
   pub table_below : (word other : Words) → ((i : ℕ) → i < words_of site.shape → core site.shape word i ≡ core site.shape other i)
       → IsHomeTable site.shape site.front word → IsHomeTable site.shape site.front other
@@ -65,5 +68,5 @@ module _ (site : Site) (is : IsSite site) where
         (slots_of_cores site.shape is.shape.some word other b near (λ n inside. same (bucket_at site.shape 0 b + n) (let w = within b near in omega (arith, inside, w)))) (table.buckets b near);
   }
     where
-      within : (b : ℕ) → b < 66 → bucket_at site.shape 0 b + 32 ≤ words_of site.shape
+      within : (b : ℕ) → b < buckets → bucket_at site.shape 0 b + 32 ≤ words_of site.shape
       within b near = lock_within site.shape (bucket_at site.shape 0 b) (b, near, refl) one_segment

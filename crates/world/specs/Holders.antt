@@ -1,7 +1,7 @@
 -- What the holder of a lock has to know of a bucket to make a store there, to refuse a call, or to answer a get: said over
 -- the words that it knows, as the conditions of the kinds of step ask it.
 use Rattle.std.specs.Prelude.{◌≡◌, ℕ, ◌+◌, ◌*◌, ◌<◌}
-use Rattle.bucket_meta.specs.Bucket.{allocated, member, finger}
+use Rattle.bucket_meta.specs.Bucket.{allocated, member, finger, record_slots}
 use Rattle.hash_word.specs.Hash.{home_of}
 use Rattle.trace.specs.Events.{Words}
 use Rattle.image_layout.specs.Places.{Shape, bucket_at}
@@ -13,7 +13,8 @@ use Rattle.map_model.specs.Map.{key_of}
 use Rattle.bucket_words.specs.Buckets.{value_in}
 use Rattle.bucket_words.specs.Tables.{home_at, find}
 use Rattle.bucket_words.specs.Core.{core_of}
-use Rattle.bucket_words.specs.Changes.{SameButSlot, IsReady, Stands}
+use Rattle.bucket_words.specs.Changes.{IsReady, Stands}
+use Rattle.bucket_meta.specs.Marks.{SameButSlot}
 use Rattle.world.specs.Site.{Site, IsUnder}
 use Rattle.world.specs.Views.{Note, View, Has, HasLock, IsLoose}
 use Rattle.world.specs.History.{MayReply}
@@ -31,16 +32,16 @@ KnowsBucket shape v b word = (i : ℕ) → IsUnder (bucket_at shape 0 b) i → K
 -- the stores that change no pair
 pub record MayPrepare (site : Site) (v : View) : Type 0 where
   -- to the key or the value of a slot that is free
-  pub key : (b r w1 x : ℕ) → r < 14 → KnowsWord v (bucket_at site.shape 0 b + 1) w1 → allocated r w1 ≡ 0
+  pub key : (b r w1 x : ℕ) → r < record_slots → KnowsWord v (bucket_at site.shape 0 b + 1) w1 → allocated r w1 ≡ 0
       → IsHarmless site v (bucket_at site.shape 0 b + 4 + 2 * r) x
-  pub value : (b r w1 x : ℕ) → r < 14 → KnowsWord v (bucket_at site.shape 0 b + 1) w1 → allocated r w1 ≡ 0
+  pub value : (b r w1 x : ℕ) → r < record_slots → KnowsWord v (bucket_at site.shape 0 b + 1) w1 → allocated r w1 ≡ 0
       → IsHarmless site v (bucket_at site.shape 0 b + 5 + 2 * r) x
   -- of fingerprints that keep those of all taken slots
   pub low_fingers : (b w1 w2 w3 x : ℕ) → KnowsWord v (bucket_at site.shape 0 b + 1) w1 → KnowsWord v (bucket_at site.shape 0 b + 2) w2
-      → KnowsWord v (bucket_at site.shape 0 b + 3) w3 → ((t : ℕ) → t < 14 → allocated t w1 ≡ 1 → finger t x w3 ≡ finger t w2 w3)
+      → KnowsWord v (bucket_at site.shape 0 b + 3) w3 → ((t : ℕ) → t < record_slots → allocated t w1 ≡ 1 → finger t x w3 ≡ finger t w2 w3)
       → IsHarmless site v (bucket_at site.shape 0 b + 2) x
   pub high_fingers : (b w1 w2 w3 x : ℕ) → KnowsWord v (bucket_at site.shape 0 b + 1) w1 → KnowsWord v (bucket_at site.shape 0 b + 2) w2
-      → KnowsWord v (bucket_at site.shape 0 b + 3) w3 → ((t : ℕ) → t < 14 → allocated t w1 ≡ 1 → finger t w2 x ≡ finger t w2 w3)
+      → KnowsWord v (bucket_at site.shape 0 b + 3) w3 → ((t : ℕ) → t < record_slots → allocated t w1 ≡ 1 → finger t w2 x ≡ finger t w2 w3)
       → IsHarmless site v (bucket_at site.shape 0 b + 3) x
   -- that keep the core of a word
   pub same_core : (i x y : ℕ) → KnowsWord v i y → core_of site.shape i x ≡ core_of site.shape i y → IsHarmless site v i x

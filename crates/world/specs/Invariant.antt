@@ -1,16 +1,16 @@
 -- What holds of the newest words and of all views between any two events, from the end of a restart to the close. It is
--- said object by object: locks, words, planned changes, history, media, notes, room.
-use Rattle.std.specs.Prelude.{◌≡◌, ℕ, ◌+◌, ◌%◌, ◌^◌, ◌<◌, ◌≤◌, true, Some, List, [], ◌∷◌, ◌⊎◌, length, filter}
+-- said object by object: locks, words, planned changes, history, media, notes, room, spent numbers, power.
+use Rattle.std.specs.Prelude.{◌≡◌, ◌≢◌, ℕ, ◌+◌, ◌%◌, ◌^◌, ◌<◌, ◌≤◌, true, Some, List, [], ◌∷◌, ◌⊎◌, length, filter}
 use Rattle.trace.specs.Events.{Words}
-use Rattle.image_layout.specs.Volatile.{counter_word}
+use Rattle.image_layout.specs.Volatile.{counter_word, power_word}
 use Rattle.map_model.specs.declared.call.Call.{Call}
-use Rattle.map_model.specs.declared.entry.Reply.TheVariants.{Done}
+use Rattle.map_model.specs.declared.entry.Reply.TheVariants.{Done, Spent}
 use Rattle.map_model.specs.declared.entry.Entry.{Entry}
 use Rattle.map_model.specs.Map.{key_of}
 use Rattle.map_model.specs.Weave.{draws, drew_at}
 use Rattle.map_model.specs.Legal.{InOrder, seen_of}
 use Rattle.bucket_words.specs.Tables.{IsHomeTable, home_at, find}
-use Rattle.world.specs.Site.{Site, IsSite, IsLockWord, IsUnder}
+use Rattle.world.specs.Site.{Site, IsSite, IsLockWord, IsSpentLock, HasSpentLock, IsUnder}
 use Rattle.world.specs.Views.{Note, Answer, View, Has, At, HasLock, IsGuarded, IsLoose}
 use Rattle.world.specs.History.{Log, map_now, map_when, result_of, reply_by, IsRight}
 use Rattle.world.specs.Media.{IsPossible, Stands}
@@ -42,7 +42,7 @@ pub record Plans (site : Site) (words : Words) (views : List View) (log : Log) :
 -- one, none at a place below what its caller had seen; and nobody has seen more changes than there are
 pub record History (site : Site) (words : Words) (views : List View) (log : Log) : Type 0 where
   pub counter : words (counter_word site.shape) ≡ length log
-  pub right : (j : ℕ) (v : View) (e : Entry) → At views j v → Has e v.own → IsRight site.start log e
+  pub right : (j : ℕ) (v : View) (e : Entry) → At views j v → Has e v.own → IsRight site.shape site.start log e
   pub in_order : (j : ℕ) (v : View) → At views j v → InOrder 1 0 v.own
   pub after_own : (j : ℕ) (v : View) → At views j v → seen_of 0 v.own ≤ v.seen
   pub within : (j : ℕ) (v : View) → At views j v → v.seen ≤ length log
@@ -85,6 +85,16 @@ pub record Room (site : Site) (views : List View) (log : Log) : Type 0 where
   pub each : (j : ℕ) (v : View) → At views j v → v.room ≤ v.callers
   pub few : length log + total (λ v. v.room) views ≤ 2 ^ 63 + site.callers
 
+-- SPENT NUMBERS: a lock word that a view found free with the last version is so still; and where a reply says that a number is
+-- spent, 2 ^ 63 changes are drawn, or some lock word is free with the last version
+pub record Spending (site : Site) (words : Words) (views : List View) (log : Log) : Type 0 where
+  pub met : (j : ℕ) (v : View) (lock : ℕ) → At views j v → Has lock v.spent_locks → IsSpentLock site.shape words lock
+  pub told : (j : ℕ) (v : View) (e : Entry) → At views j v → Has e v.own → e.reply ≡ Spent → (2 ^ 63 ≤ length log) ⊎ HasSpentLock site.shape words
+
+-- POWER: it is off only where some view stored the power word
+abbrev pub Powered : Site → Words → List View → Type 0
+Powered site words views = words (power_word site.shape) ≢ 0 → (j : ℕ) × (v : View) × At views j v × (v.stored_power ≡ true)
+
 -- the invariant
 pub record Holds (site : Site) (words : Words) (views : List View) : Type 0 where
   pub site_is : IsSite site
@@ -97,3 +107,5 @@ pub record Holds (site : Site) (words : Words) (views : List View) : Type 0 wher
   pub media : Media site words views log
   pub notes : Notes site words views log
   pub room : Room site views log
+  pub spending : Spending site words views log
+  pub powered : Powered site words views

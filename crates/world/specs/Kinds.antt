@@ -1,11 +1,11 @@
 -- The kinds of step: why an event is made, with its numbers. For each: which event it is, what the stepping view becomes,
 -- and what it asks of that view alone.
-use Rattle.std.specs.Prelude.{◌≡◌, ◌==◌, ◌&&◌, ℕ, suc, ◌+◌, ◌%◌, ◌^◌, ◌<◌, nat_lt, Bool, true, false, ⊤, Option, None, Some, List, [], ◌∷◌, ◌++◌, ◌⊎◌, length, if◌then◌else◌}
+use Rattle.std.specs.Prelude.{◌≡◌, ◌≢◌, ◌-◌, ◌==◌, ◌&&◌, ℕ, suc, ◌+◌, ◌%◌, ◌^◌, ◌<◌, nat_lt, Bool, true, false, ⊤, Option, None, Some, List, [], ◌∷◌, ◌++◌, ◌⊎◌, length, if◌then◌else◌}
 use Rattle.op_core.specs.declared.want.Want.{Want}
 use Rattle.op_core.specs.declared.want.Want.TheVariants.{Load, Store, Exchange, Flush, Fence, Draw, Power}
 use Rattle.trace.specs.Events.{Words, line_of, with_word}
 use Rattle.image_layout.specs.Places.{Shape}
-use Rattle.image_layout.specs.Volatile.{counter_word}
+use Rattle.image_layout.specs.Volatile.{counter_word, power_word}
 use Rattle.map_model.specs.declared.call.Call.{Call}
 use Rattle.map_model.specs.declared.call.Call.TheVariants.{Get}
 use Rattle.map_model.specs.declared.entry.Reply.{Reply}
@@ -18,7 +18,7 @@ use Rattle.bucket_words.specs.Core.{core_of}
 use Rattle.bucket_words.specs.Changes.{KeepsTable, ChangesKey}
 use Rattle.world.specs.Site.{Site, IsLockWord, IsUnder}
 use Rattle.world.specs.Views.{Note, Answer, View, Has, HasLock, IsGuarded, IsLoose, IsFirm}
-use Rattle.world.specs.History.{Log, change_of, result_of, reply_by, MayReply}
+use Rattle.world.specs.History.{Log, change_of, result_of, reply_by, MayReply, HasRoomCause}
 
 pub data Kind : Type 0 where
   -- a load of any word, of which nothing is kept
@@ -40,6 +40,8 @@ pub data Kind : Type 0 where
   validates : (lock : ℕ) → Kind
   -- a load of a word under one's own lock
   learns : (word : ℕ) → Kind
+  -- a load of a lock word by who wants the lock: one that is free with the last version is remembered
+  meets_lock : (lock : ℕ) → Kind
   -- an exchange of a lock word from a free value to the locked one
   tries : (lock free : ℕ) → Kind
   -- a store under one's own lock that changes no pair
@@ -52,6 +54,8 @@ pub data Kind : Type 0 where
   draws_place : (call : Call) → Kind
   -- a store that frees a lock
   unlocks : (lock next : ℕ) → Kind
+  -- a store of the power word, by a caller whose power is cut
+  cuts_power : Kind
 
 -- what is wanted of the memory
 abbrev pub wanted : Shape → Kind → Want
@@ -64,6 +68,7 @@ wanted shape (looks lock) = Load lock
 wanted shape (notes_word lock i) = Load i
 wanted shape (validates lock) = Load lock
 wanted shape (learns i) = Load i
+wanted shape (meets_lock lock) = Load lock
 wanted shape (tries lock free) = Exchange lock free (free + 1)
 wanted shape (stores i x) = Store i x
 wanted shape (publishes i x call) = Store i x
@@ -71,6 +76,7 @@ wanted shape (flushes l) = Flush l
 wanted shape fences = Fence
 wanted shape (draws_place call) = Draw
 wanted shape (unlocks lock next) = Store lock next
+wanted shape cuts_power = Store (power_word shape) 1
 
 -- ---- what becomes of the lists of a view
 -- the pairs of other words
@@ -153,6 +159,11 @@ abbrev pub with_count : Bool → Call → ℕ → View → View
 with_count true call n v = record v { room = v.callers }
 with_count false call n v = with_reply v (next_entry v call Spent n false)
 
+-- the spent locks with one more, where its word was found so, or not
+abbrev pub with_spent : Bool → ℕ → List ℕ → List ℕ
+with_spent true lock locks = lock ∷ locks
+with_spent false lock locks = locks
+
 -- a view that won a lock, or not
 abbrev pub with_lock : Bool → ℕ → ℕ → View → View
 with_lock true lock free v = record v { held = (lock, free + 1) ∷ v.held }
@@ -180,6 +191,7 @@ view_after shape (looks lock) n v = with_look (n % 2 == 0) lock n v
 view_after shape (notes_word lock i) n v = record v { notes = with_noted lock i n v.notes }
 view_after shape (validates lock) n v = validated (record v { notes = marked lock n v.notes })
 view_after shape (learns i) n v = record v { known = (i, n) ∷ v.known }
+view_after shape (meets_lock lock) n v = record v { spent_locks = with_spent (n == 2 ^ 64 - 2) lock v.spent_locks }
 view_after shape (tries lock free) n v = with_lock (n == free) lock free v
 view_after shape (stores i x) n v = with_store shape i n x v
 view_after shape (publishes i x call) n v = record v { known = (i, x) ∷ without i v.known; dirty = loosened shape i n x v.dirty; planned = call ∷ v.planned }
@@ -187,6 +199,7 @@ view_after shape (flushes l) n v = record v { dirty = off_line l v.dirty; flushe
 view_after shape fences n v = record v { flushed = [] }
 view_after shape (draws_place call) n v = with_draw call n v
 view_after shape (unlocks lock next) n v = record v { held = without lock v.held; known = not_under lock v.known }
+view_after shape cuts_power n v = record v { stored_power = true }
 
 -- the history after: a draw adds a change
 abbrev pub log_after : Kind → Log → Log
@@ -225,18 +238,29 @@ module _ (site : Site) where
       ⊎ (HasLock v.held (home_at site.shape (key_of call)) × IsUnplanned v (key_of call)
       × ((medium : Words) → IsHomeTable site.shape site.front medium → Agrees v medium → MayReply (find site.shape medium (key_of call)) call reply))
 
+  -- a reply for want of room has its cause in whatever map has, for the keys of which the view holds the lock, what the view
+  -- knows that they have
+  abbrev pub IsKnownCause : View → Call → Reply → Type 0
+  IsKnownCause v call reply = (m : ℕ → Option ℕ) (medium : Words) → IsHomeTable site.shape site.front medium → Agrees v medium
+      → ((k : ℕ) → HasLock v.held (home_at site.shape k) → IsUnplanned v k → m k ≡ find site.shape medium k) → HasRoomCause site.shape m call reply
+
+  -- a reply that a number is spent comes from who found a lock word of the last version
+  abbrev pub IsKnownSpent : View → Reply → Type 0
+  IsKnownSpent v reply = reply ≡ Spent → (lock : ℕ) × Has lock v.spent_locks
+
   abbrev pub May : Kind → View → Type 0
   May (peeks i) v = ⊤
   May asks_power v = ⊤
   May (finds_room call) v = IsChange call × (0 < v.callers)
-  May (refuses call reply) v = (is_change reply ≡ false) × IsKnownReply v call reply
+  May (refuses call reply) v = (is_change reply ≡ false) × IsKnownReply v call reply × IsKnownCause v call reply × IsKnownSpent v reply
   May (places k a) v = ((note : Note) × Has note v.notes × (note.lock ≡ home_at site.shape k))
       × ((words : Words) → IsHomeTable site.shape site.front words → AgreesWithNotes v.notes words → find site.shape words k ≡ a)
   May (looks lock) v = IsLockWord site.shape lock
   May (notes_word lock i) v = IsUnder lock i
   May (validates lock) v = ⊤
   May (learns i) v = IsGuarded v.held i
-  May (tries lock free) v = IsLockWord site.shape lock × (free % 2 ≡ 0)
+  May (meets_lock lock) v = IsLockWord site.shape lock
+  May (tries lock free) v = IsLockWord site.shape lock × (free % 2 ≡ 0) × (free ≢ 2 ^ 64 - 2)
   May (stores i x) v = IsGuarded v.held i × IsHarmless v i x
   May (publishes i x call) v = IsGuarded v.held i × HasLock v.held (home_at site.shape (key_of call)) × IsUnplanned v (key_of call) × IsPublishing v call i x
   May (flushes l) v = ⊤
@@ -244,3 +268,4 @@ module _ (site : Site) where
   May (draws_place call) v = Has call v.planned × IsFirm v (home_at site.shape (key_of call)) × (0 < v.room)
   May (unlocks lock next) v = (x : ℕ) × Has (lock, x) v.held × IsFirm v lock
       × ((call : Call) → Has call v.planned → home_at site.shape (key_of call) ≡ lock → ⊥) × (next ≡ x + 1)
+  May cuts_power v = ⊤

@@ -8,13 +8,15 @@ use Rattle.trace.specs.Events.{Words, with_word, value}
 use Rattle.trace.specs.Media.{IsPossible as DevicePossible}
 use Rattle.op_core.specs.declared.want.Want.{Want}
 use Rattle.image_layout.specs.Places.{Shape, words_of}
+use Rattle.image_layout.specs.Volatile.{power_word}
 use Rattle.sound_image.specs.Rules.{FollowsRules}
 use Rattle.bucket_words.specs.Tables.{IsHomeTable, find}
 use Rattle.world.specs.Site.{Site}
 use Rattle.world.specs.Views.{View, At}
 use Rattle.world.specs.History.{Log, map_now}
 use Rattle.world.specs.Wants.{word_of, left_by, words_after}
-use Rattle.world.specs.Kinds.{Kind, wanted, view_after, May}
+use Rattle.world.specs.Kinds.{Kind, cuts_power, wanted, view_after, May}
+use Rattle.world.specs.Entering.{Enters}
 use Rattle.world.specs.Media.{IsPossible, Stands}
 use Rattle.world.specs.Invariant.{History, Holds}
 use Rattle.world.specs.World.{World, step, IsWell, Begins}
@@ -60,6 +62,19 @@ EntriesAreLegal = (site : Site) (words : Words) (views : List View) (log : Log) 
 abbrev pub ChangesOneWord : Type 0
 ChangesOneWord = (shape : Shape) (want : Want) (c : ℕ) (words : Words)
     → words_after shape want c words ≡ with_word words (word_of shape want) (left_by shape want (words (word_of shape want)))
+
+-- a step adds one entry at the most to what its caller has replied
+abbrev pub StepsEnter : Type 0
+StepsEnter = (shape : Shape) (kind : Kind) (n : ℕ) (v : View) → Enters kind n v (view_after shape kind n v).own
+
+-- and leaves the view for as many callers
+abbrev pub CallersStay : Type 0
+CallersStay = (shape : Shape) (kind : Kind) (n : ℕ) (v : View) → (view_after shape kind n v).callers ≡ v.callers
+
+-- no step but its own store changes the power word
+abbrev pub PowerStays : Type 0
+PowerStays = (site : Site) (words : Words) (views : List View) (j : ℕ) (v : View) (kind : Kind) (c : ℕ) → Holds site words views → At views j v → (kind ≡ cuts_power → ⊥) → May site kind v
+    → words_after site.shape (wanted site.shape kind) c words (power_word site.shape) ≡ words (power_word site.shape)
 
 -- A STEP DOES WHAT ITS EVENT SAYS: the words after it are those that the events make
 abbrev pub DoesItsEvent : Type 0

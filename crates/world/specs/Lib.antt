@@ -3,6 +3,8 @@ pub mod Views
 pub mod History
 pub mod Wants
 pub mod Kinds
+pub mod Entering
+pub mod Attempts
 pub mod Media
 pub mod Invariant
 pub mod Tied
@@ -11,3 +13,5 @@ pub mod Holders
 pub mod Seats
 pub mod Laws
 pub mod Pairs
+pub mod Later
+pub mod Spent

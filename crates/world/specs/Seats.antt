@@ -28,6 +28,7 @@ joined v w = record v {
   seen = max v.seen w.seen;
   callers = v.callers + w.callers;
   room = v.room + w.room;
+  spent_locks = v.spent_locks ++ w.spent_locks;
   stored_power = v.stored_power || w.stored_power;
 }
 

@@ -1,8 +1,8 @@
 -- What is fixed from the end of a restart to the close: how the image is laid out, the words in front of its first
 -- bucket, what each key had at the start, and how many callers there are.
-use Rattle.std.specs.Prelude.{◌≡◌, ℕ, ◌+◌, ◌^◌, ◌<◌, Option}
+use Rattle.std.specs.Prelude.{◌≡◌, ℕ, ◌+◌, ◌-◌, ◌^◌, ◌<◌, Option}
 use Rattle.trace.specs.Events.{Words}
-use Rattle.image_layout.specs.Places.{Shape, IsShape, bucket_at}
+use Rattle.image_layout.specs.Places.{Shape, IsShape, bucket_at, buckets}
 use Rattle.bucket_words.specs.Tables.{IsOpenFront}
 
 pub record Site : Type 0 where
@@ -21,7 +21,15 @@ pub record IsSite (site : Site) : Type 0 where
 
 -- a word is the lock word of a bucket
 abbrev pub IsLockWord : Shape → ℕ → Type 0
-IsLockWord shape lock = (b : ℕ) × (b < 66) × (lock ≡ bucket_at shape 0 b)
+IsLockWord shape lock = (b : ℕ) × (b < buckets) × (lock ≡ bucket_at shape 0 b)
+
+-- a lock word is free with the last version, so that nobody takes the lock any more
+abbrev pub IsSpentLock : Shape → Words → ℕ → Type 0
+IsSpentLock shape words lock = IsLockWord shape lock × (words lock ≡ 2 ^ 64 - 2)
+
+-- some lock word is
+abbrev pub HasSpentLock : Shape → Words → Type 0
+HasSpentLock shape words = (lock : ℕ) × IsSpentLock shape words lock
 
 -- word i is one of the 31 words behind a lock word, which the lock guards
 abbrev pub IsUnder : ℕ → ℕ → Type 0

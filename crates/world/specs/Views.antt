@@ -1,10 +1,11 @@
 -- What a caller knows of the memory, holds in it and owes to it, as plain data.
-use Rattle.std.specs.Prelude.{◌≡◌, ℕ, Bool, Option, List, [], ◌∷◌, ◌⊎◌}
+use Rattle.std.specs.Prelude.{◌≡◌, ℕ, Bool, Option, List, ◌⊎◌}
 use mathlib.Core.Option.{some}
 use lib.ListN.{get_elem?}
 use Rattle.map_model.specs.declared.call.Call.{Call}
 use Rattle.map_model.specs.declared.entry.Entry.{Entry}
 use Rattle.world.specs.Site.{IsUnder}
+pub use Rattle.trace.specs.Listed.{Has}
 
 -- what a reader noted of a bucket whose lock it found free
 pub record Note : Type 0 where
@@ -43,13 +44,10 @@ pub record View : Type 0 where
   pub callers : ℕ
   -- how many places it may still draw before it looks at the commit counter again
   pub room : ℕ
-  -- whether it stored the power word
+  -- the lock words that it found free with the last version
+  pub spent_locks : List ℕ
+  -- whether it stored the power word: no machine does so far, and the caller that turns the power off will
   pub stored_power : Bool
-
--- x is the first of a list, or one of the rest
-abbrev pub Has : {X : Type 0} → X → List X → Type 0
-Has x [] = ⊥
-Has x (y ∷ ys) = (x ≡ y) ⊎ Has x ys
 
 -- the view of seat j
 abbrev pub At : List View → ℕ → View → Type 0

@@ -3,7 +3,7 @@ use Rattle.std.specs.Prelude.{◌≡◌, ℕ, zero, suc, ◌<◌, ◌%◌, List,
 use Rattle.trace.specs.Events.{Words, Trace, value}
 use Rattle.trace.specs.Steps.{HadSinceSettled}
 use Rattle.image_layout.specs.Places.{Shape, words_of}
-use Rattle.image_layout.specs.Volatile.{counter_word}
+use Rattle.image_layout.specs.Volatile.{counter_word, power_word}
 use Rattle.bucket_words.specs.Tables.{IsHomeTable, find}
 use Rattle.world.specs.Site.{Site, IsSite, IsLockWord}
 use Rattle.world.specs.Views.{View, At}
@@ -53,11 +53,12 @@ fresh_view callers = record {
   seen = 0;
   callers = callers;
   room = 0;
+  spent_locks = [];
   stored_power = false;
 }
 
--- the world as a restart leaves it: a table, with all its words settled, no lock taken, the commit counter 0, and nobody has
--- done anything
+-- the world as a restart leaves it: a table, with all its words settled, no lock taken, the commit counter 0, the power on, and
+-- nobody has done anything
 pub record Begins (site : Site) (start : Words) (world : World) : Type 0 where
   pub site_is : IsSite site
   pub words_are : world.words ≡ value start world.trace
@@ -66,5 +67,6 @@ pub record Begins (site : Site) (start : Words) (world : World) : Type 0 where
   pub pairs : (k : ℕ) → find site.shape world.words k ≡ site.start k
   pub free : (lock : ℕ) → IsLockWord site.shape lock → world.words lock % 2 ≡ 0
   pub counter : world.words (counter_word site.shape) ≡ 0
+  pub power : world.words (power_word site.shape) ≡ 0
   pub fresh : (j : ℕ) (v : View) → At world.views j v → v ≡ fresh_view v.callers
   pub callers : total (λ v. v.callers) world.views ≡ site.callers

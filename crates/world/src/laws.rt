@@ -6,7 +6,9 @@ ghost use Rattle.world.specs.Kinds.{Kind};
 ghost use Rattle.world.specs.Holders.{MayPrepare, MayPublish, MayTell};
 ghost use Rattle.world.specs.Pairs.{OtherStepsKeepPairs};
 ghost use Rattle.world.specs.Seats.{CutsKeep, JoinsKeep};
-ghost use Rattle.world.specs.Laws.{Keeps, MediaStand, EntriesAreLegal, ChangesOneWord, DoesItsEvent, KeepsWell, BeginsWell, DeviceLeaves};
+ghost use Rattle.world.specs.Later.{RepliesComeLater};
+ghost use Rattle.world.specs.Spent.{SpentLocksStay};
+ghost use Rattle.world.specs.Laws.{Keeps, MediaStand, EntriesAreLegal, ChangesOneWord, StepsEnter, CallersStay, PowerStays, DoesItsEvent, KeepsWell, BeginsWell, DeviceLeaves};
 
 /// Each kind of step keeps the invariant, for any number of callers, by a condition on the stepping caller's view alone.
 pub fn each_step_keeps()
@@ -27,6 +29,18 @@ pub fn entries_are_legal()
 pub fn steps_do_events()
     ensures words { DoesItsEvent }
     ensures one { ChangesOneWord }
+{}
+
+/// A step adds one entry at the most to what its caller has replied, which says why the step is made, and leaves its view for
+/// as many callers.
+pub fn steps_add_one_reply()
+    ensures entries { StepsEnter }
+    ensures callers { CallersStay }
+{}
+
+/// No step of a caller but the one that stores it changes the power word.
+pub fn steps_keep_the_power_word()
+    ensures { PowerStays }
 {}
 
 /// A restart leaves the world well, and each step keeps it so: words, views and the events of the device.
@@ -56,4 +70,14 @@ pub fn seats_keep()
 /// A step of any kind but the one that makes a change leaves what every key has as it was.
 pub fn other_steps_keep_pairs()
     ensures { OtherStepsKeepPairs }
+{}
+
+/// No step takes back what its caller has seen, and a reply comes at a place not before that.
+pub fn replies_come_later()
+    ensures { RepliesComeLater }
+{}
+
+/// A lock word that is free with the last version stays so, whatever anybody does.
+pub fn spent_lock_words_stay()
+    ensures { SpentLocksStay }
 {}

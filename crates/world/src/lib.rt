@@ -10,6 +10,7 @@ pub mod site;
 
 pub use laws::{
     device_leaves_what_views_say, each_step_keeps, entries_are_legal, holders_may, media_stand,
-    other_steps_keep_pairs, seats_keep, steps_do_events, worlds_stay_well,
+    other_steps_keep_pairs, replies_come_later, seats_keep, spent_lock_words_stay,
+    steps_add_one_reply, steps_do_events, steps_keep_the_power_word, worlds_stay_well,
 };
 pub use site::Site;

@@ -1,4 +1,4 @@
-use Rattle.world.proofs.Keeps.{keeps_all}
+use Rattle.world.proofs.invariant.Keeps.{keeps_all}
 use Rattle.world.proofs.laws.each_step_keeps.Goals as goal
 
 pub returns : goal.returns

@@ -1,4 +1,4 @@
-use Rattle.world.proofs.Holders.{may_prepare, may_publish, may_tell}
+use Rattle.world.proofs.stepping.Holders.{may_prepare, may_publish, may_tell}
 use Rattle.world.proofs.laws.holders_may.Goals as goal
 
 pub returns-clause-prepare : goal.returns-clause-prepare

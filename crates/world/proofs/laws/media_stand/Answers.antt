@@ -1,4 +1,4 @@
-use Rattle.world.proofs.Good.{media_good}
+use Rattle.world.proofs.device.Good.{media_good}
 use Rattle.world.proofs.laws.media_stand.Goals as goal
 
 pub returns : goal.returns

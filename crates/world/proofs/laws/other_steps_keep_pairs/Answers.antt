@@ -1,4 +1,4 @@
-use Rattle.world.proofs.Pairs.{keeps_pairs}
+use Rattle.world.proofs.stepping.Pairs.{keeps_pairs}
 use Rattle.world.proofs.laws.other_steps_keep_pairs.Goals as goal
 
 pub returns : goal.returns

@@ -1,4 +1,4 @@
-use Rattle.world.proofs.Reseated.{cuts_keep, joins_keep}
+use Rattle.world.proofs.stepping.Reseated.{cuts_keep, joins_keep}
 use Rattle.world.proofs.laws.seats_keep.Goals as goal
 
 pub returns-clause-cuts : goal.returns-clause-cuts

@@ -1,4 +1,4 @@
-use Rattle.world.proofs.Worlds.{begins_well, keeps_well}
+use Rattle.world.proofs.device.Worlds.{begins_well, keeps_well}
 use Rattle.world.proofs.laws.worlds_stay_well.Goals as goal
 
 pub returns-clause-begins : goal.returns-clause-begins

@@ -3,7 +3,7 @@ use Rattle.std.proofs.Common.{◌≡◌, ℕ, List, ◌∷◌, ◌++◌, ◌≤�
 use Rattle.std.specs.Prelude.{All}
 use Rattle.image_layout.specs.Places.{Shape}
 use Rattle.trace.specs.Events.Event.{fenced}
-use Rattle.trace.proofs.Listed.{Has}
+use Rattle.trace.specs.Listed.{Has}
 use Rattle.pm_trace.specs.contracts.device.Device.{the_view}
 use Rattle.pm_trace.specs.declared.flushes.Flush.{Flush}
 use Rattle.image_layout.specs.Volatile.{all_words_of}

@@ -9,7 +9,7 @@ use Rattle.world.specs.Site.{Site}
 use Rattle.world.specs.Views.{Answer, View, At}
 use Rattle.world.specs.History.{Log}
 use Rattle.world.specs.Invariant.{total, Room, Holds}
-use Rattle.world.specs.Kinds.{Kind, peeks, asks_power, finds_room, refuses, places, looks, notes_word, validates, learns, tries, stores, publishes, flushes, fences, draws_place, unlocks, marked, all_again, with_answer, with_look, with_count, with_lock, with_draw, log_after, May}
+use Rattle.world.specs.Kinds.{Kind, peeks, asks_power, finds_room, refuses, places, looks, notes_word, validates, learns, meets_lock, tries, stores, publishes, flushes, fences, draws_place, unlocks, cuts_power, marked, all_again, with_answer, with_look, with_count, with_lock, with_draw, log_after, May}
 use Rattle.world.specs.Laws.{views_by}
 use Rattle.world.proofs.Lists.{total_set, total_most}
 use Rattle.world.proofs.Seats.{each}
@@ -69,6 +69,7 @@ module _ (site : Site) (words : Words) (views : List View) (j : ℕ) (v : View) 
   keep_room (notes_word lock i) may = calm _ refl refl
   keep_room (validates lock) may = answered (record v { notes = marked lock (words lock) v.notes }) refl refl (all_again (marked lock (words lock) v.notes)) v.answer
   keep_room (learns i) may = calm _ refl refl
+  keep_room (meets_lock lock) may = calm _ refl refl
   keep_room (tries lock free) may = tried lock free (eqb (words lock) free)
   keep_room (stores i x) may = calm _ refl refl
   keep_room (publishes i x call) may = calm _ refl refl
@@ -77,3 +78,4 @@ module _ (site : Site) (words : Words) (views : List View) (j : ℕ) (v : View) 
   keep_room (draws_place call) may = let r = h.room.few in let some = may.2 in
       room_law site views j v (with_draw call (words (counter_word site.shape)) v) h.log _ at h.room refl (omega arith) (omega (arith, r, some))
   keep_room (unlocks lock next) may = calm _ refl refl
+  keep_room cuts_power may = calm _ refl refl

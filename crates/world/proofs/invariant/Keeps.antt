@@ -2,13 +2,15 @@
 use Rattle.world.specs.Site.{Site}
 use Rattle.world.specs.Kinds.{Kind, log_after}
 use Rattle.world.specs.Laws.{Keeps}
-use Rattle.world.proofs.KeepLocks.{keep_locks}
-use Rattle.world.proofs.KeepKnown.{keep_known}
-use Rattle.world.proofs.KeepPlans.{keep_plans}
-use Rattle.world.proofs.KeepHistory.{keep_history}
-use Rattle.world.proofs.KeepMedia.{keep_media}
-use Rattle.world.proofs.KeepNotes.{keep_notes}
-use Rattle.world.proofs.KeepRoom.{keep_room}
+use Rattle.world.proofs.invariant.KeepLocks.{keep_locks}
+use Rattle.world.proofs.invariant.KeepKnown.{keep_known}
+use Rattle.world.proofs.invariant.KeepPlans.{keep_plans}
+use Rattle.world.proofs.invariant.KeepHistory.{keep_history}
+use Rattle.world.proofs.invariant.KeepMedia.{keep_media}
+use Rattle.world.proofs.invariant.KeepNotes.{keep_notes}
+use Rattle.world.proofs.invariant.KeepRoom.{keep_room}
+use Rattle.world.proofs.invariant.KeepSpending.{keep_spending}
+use Rattle.world.proofs.invariant.KeepPowered.{keep_powered}
 
 pub keeps_all : (site : Site) (kind : Kind) → Keeps site kind
 keeps_all site kind words views j v h at may = record {
@@ -21,4 +23,6 @@ keeps_all site kind words views j v h at may = record {
   media = keep_media site words views j v h at kind may;
   notes = keep_notes site words views j v h at kind may;
   room = keep_room site words views j v h at kind may;
+  spending = keep_spending site words views j v h at kind may;
+  powered = keep_powered site words views j v h at kind may;
 }

@@ -1,5 +1,5 @@
 -- Views that are cut in two or joined: all that a new view has comes from an old one, whose locks the new one has.
-use Rattle.std.proofs.Common.{◌≡◌, ◌≢◌, ◌⊎◌, ℕ, zero, suc, ◌+◌, ◌≤◌, max, cond, eqb, List, [], ◌∷◌, ◌++◌, length, set, None, inl, inr, refl, sym, ap, ◌∙◌, subst, arith}
+use Rattle.std.proofs.Common.{◌≡◌, ◌≢◌, ◌⊎◌, ℕ, zero, suc, ◌+◌, ◌≤◌, max, Bool, true, false, cond, ◌||◌, eqb, List, [], ◌∷◌, ◌++◌, length, set, None, inl, inr, refl, sym, ap, ◌∙◌, subst, arith}
 use Rattle.std.proofs.lemmas.Bool.{cases_lt, eq-eqb, ne_eqb}
 use Rattle.std.proofs.Math.Nat.{le-max_left, max-eq_left, max-eq_right}
 use Rattle.std.specs.Prelude.{filter}
@@ -52,6 +52,8 @@ pub record Reseats (views views' : List View) : Type 0 where
   pub callers : total (λ v. v.callers) views' ≡ total (λ v. v.callers) views
   pub each : (i : ℕ) (u : View) → At views' i u → u.room ≤ u.callers
   pub few : total (λ v. v.room) views' ≤ total (λ v. v.room) views
+  pub spent_locks : (i : ℕ) (u : View) (lock : ℕ) → At views' i u → Has lock u.spent_locks → (j : ℕ) × (o : View) × At views j o × Has lock o.spent_locks
+  pub power_stays : (j : ℕ) (o : View) → At views j o → o.stored_power ≡ true → (i : ℕ) × (u : View) × At views' i u × (u.stored_power ≡ true)
 
 module _ (site : Site) (words : Words) (views views' : List View) (h : Holds site words views) (r : Reseats views views') where
   guarded : (u o : View) (n : ℕ) → ((p : ℕ × ℕ) → Has p o.held → Has p u.held) → IsGuarded o.held n → IsGuarded u.held n
@@ -123,6 +125,14 @@ module _ (site : Site) (words : Words) (views views' : List View) (h : Holds sit
       each = r.each;
       few = (let a = r.few in let b = h.room.few in omega (arith, a, b));
     };
+    spending = record {
+      met = λ j v lock at q. (let s = r.spent_locks j v lock at q in h.spending.met s.0 s.1 lock s.2 s.3);
+      told = λ j v e at q. elim (r.own j v at) [
+        | inl none ↦ absurd (subst (λ (es : List Entry). Has e es) none q)
+        | inr s ↦ h.spending.told s.0 s.1 e s.2 (subst (λ (es : List Entry). Has e es) s.3 q)
+      ];
+    };
+    powered = λ off. (let o = h.powered off in r.power_stays o.0 o.1 o.2 o.3);
   }
 
 -- ---- a view cut in two
@@ -190,6 +200,9 @@ module _ (views : List View) (j : ℕ) (v : View) (n : ℕ) (at : At views j v) 
     callers = same_total (λ v. v.callers) (omega (arith, fits));
     each = new_views (λ i u. u.room ≤ u.callers) (omega arith) (λ i u ne a. room i u a) (λ i. omega arith);
     few = (let a = total_set (λ v. v.room) views j v (left_of v n) at in let b = total_end (λ v. v.room) (set views j (left_of v n)) (cut_off v n) in omega (arith, a, b));
+    spent_locks = λ i u lock a q. new_views (λ i u. Has lock u.spent_locks → (j : ℕ) × (o : View) × At views j o × Has lock o.spent_locks)
+        (λ q. (j, v, at, q)) (λ i u ne a q. (i, u, a, q)) (λ i q. absurd q) i u a q;
+    power_stays = λ i o a q. (let s = still (λ z. z.stored_power ≡ true) (λ q. q) i o a q in (i, s.0, s.1, s.2));
   }
 
 pub cuts_keep : CutsKeep
@@ -204,6 +217,14 @@ module _ {X : Type 0} where
   behind : (xs ys : List X) (x : X) → Has x ys → Has x (xs ++ ys)
   behind [] ys x h = h
   behind (z ∷ xs) ys x h = inr (behind xs ys x h)
+
+or_left : (a b : Bool) → a ≡ true → (a || b) ≡ true
+or_left true b is = refl
+or_left false b is = absurd (cc)
+
+or_right : (a b : Bool) → b ≡ true → (a || b) ≡ true
+or_right true b is = refl
+or_right false b is = is
 
 max_is : (a b : ℕ) → (max a b ≡ a) ⊎ (max a b ≡ b)
 max_is a b = elim (cases_lt a b) [ inl below ↦ inr (max-eq_right (omega (arith, below))) | inr above ↦ inl (max-eq_left above) ]
@@ -289,6 +310,10 @@ module _ (views : List View) (j i : ℕ) (v w : View) (at : At views j v) (at' :
     callers = joint_total (λ v. v.callers) (omega arith);
     each = joint_views (λ n u. u.room ≤ u.callers) (let a = room j v at in let b = room i w at' in omega (arith, a, b)) (omega arith) (λ n u ne ne' a. room n u a);
     few = (let e = joint_total (λ v. v.room) (omega arith) in omega (arith, e));
+    spent_locks = λ n u lock a q. joint_views (λ n u. Has lock u.spent_locks → (j : ℕ) × (o : View) × At views j o × Has lock o.spent_locks)
+        (λ q. elim (has_joined v.spent_locks w.spent_locks lock q) [ inl l ↦ (j, v, at, l) | inr l ↦ (i, w, at', l) ])
+        (λ q. (i, w, at', q)) (λ n u ne ne' a q. (n, u, a, q)) n u a q;
+    power_stays = λ n o a q. (let s = stays (λ z. z.stored_power ≡ true) (or_left v.stored_power w.stored_power) (or_right v.stored_power w.stored_power) n o a q in (goes n, s.0, s.1, s.2));
   }
 
 pub joins_keep : JoinsKeep

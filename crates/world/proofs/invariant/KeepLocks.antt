@@ -7,12 +7,12 @@ use native.Mathlib.Decide.{ℕ_discrete}
 use Rattle.trace.specs.Events.{Words, with_word, after}
 use Rattle.trace.specs.Events.Event.{loaded, exchanged}
 use Rattle.trace.proofs.Replaced.{replaced_same, replaced_other}
-use Rattle.image_layout.specs.Volatile.{counter_word}
+use Rattle.image_layout.specs.Volatile.{counter_word, power_word}
 use Rattle.world.specs.Site.{Site, IsLockWord}
 use Rattle.world.specs.Views.{Answer, View, Has, At, HasLock, IsGuarded}
 use Rattle.world.specs.Invariant.{Locks, Holds}
 use Rattle.map_model.specs.declared.call.Call.{Call}
-use Rattle.world.specs.Kinds.{Kind, peeks, asks_power, finds_room, refuses, places, looks, notes_word, validates, learns, tries, stores, publishes, flushes, fences, draws_place, unlocks, without, marked, all_again, with_answer, with_look, with_count, with_lock, May}
+use Rattle.world.specs.Kinds.{Kind, peeks, asks_power, finds_room, refuses, places, looks, notes_word, validates, learns, meets_lock, tries, stores, publishes, flushes, fences, draws_place, unlocks, cuts_power, without, marked, all_again, with_answer, with_look, with_count, with_lock, May}
 use Rattle.world.specs.Laws.{words_by, views_by}
 use Rattle.world.proofs.Grounds.{lock_within}
 use Rattle.world.proofs.Lists.{set_here}
@@ -135,6 +135,7 @@ module _ (site : Site) (words : Words) (views : List View) (j : ℕ) (v : View) 
   keep_locks (notes_word lock i) may = calm _ refl
   keep_locks (validates lock) may = calm _ (answer_held (all_again (marked lock (words lock) v.notes)) v.answer (record v { notes = marked lock (words lock) v.notes }))
   keep_locks (learns i) may = calm _ refl
+  keep_locks (meets_lock lock) may = calm _ refl
   keep_locks (tries lock free) may = tried lock free may.0 may.1 (eqb (words lock) free) refl
   keep_locks (stores i x) may = stored i x _ refl may.0
   keep_locks (publishes i x call) may = stored i x _ refl may.0
@@ -142,3 +143,5 @@ module _ (site : Site) (words : Words) (views : List View) (j : ℕ) (v : View) 
   keep_locks fences may = calm _ refl
   keep_locks (draws_place call) may = drawn _ refl _
   keep_locks (unlocks lock next) may = locks_freed site words views j v _ at h.locks lock may.0 next may.1 may.4 refl
+  keep_locks cuts_power may = locks_same site words (with_word words (power_word site.shape) 1) views j v _ at h.locks refl
+      (λ lock is. replaced_other words (power_word site.shape) 1 lock (λ e. let near = lock_within site.shape lock is h.site_is.front.one_segment in omega (arith, near, e)))

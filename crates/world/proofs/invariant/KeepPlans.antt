@@ -5,7 +5,7 @@ use Rattle.std.specs.Prelude.{nat_lt}
 use Rattle.trace.specs.Events.{Words, with_word, after}
 use Rattle.trace.specs.Events.Event.{loaded, exchanged}
 use Rattle.image_layout.specs.Places.{words_of}
-use Rattle.image_layout.specs.Volatile.{counter_word}
+use Rattle.image_layout.specs.Volatile.{counter_word, power_word}
 use Rattle.map_model.specs.declared.call.Call.{Call}
 use Rattle.map_model.specs.declared.entry.Reply.TheVariants.{Done}
 use Rattle.map_model.specs.Map.{key_of}
@@ -15,12 +15,12 @@ use Rattle.world.specs.Site.{Site, IsLockWord}
 use Rattle.world.specs.Views.{View, Has, At, HasLock}
 use Rattle.world.specs.History.{Log, map_now, result_of, reply_by, change_of}
 use Rattle.world.specs.Invariant.{Plans, Holds}
-use Rattle.world.specs.Kinds.{Kind, peeks, asks_power, finds_room, refuses, places, looks, notes_word, validates, learns, tries, stores, publishes, flushes, fences, draws_place, unlocks, marked, all_again, with_lock, with_draw, log_after, IsHarmless, IsPublishing, IsUnplanned, May}
+use Rattle.world.specs.Kinds.{Kind, peeks, asks_power, finds_room, refuses, places, looks, notes_word, validates, learns, meets_lock, tries, stores, publishes, flushes, fences, draws_place, unlocks, cuts_power, marked, all_again, with_lock, with_draw, log_after, IsHarmless, IsPublishing, IsUnplanned, May}
 use Rattle.world.specs.Laws.{words_by, views_by}
-use Rattle.world.proofs.Tables.{same_find, lock_cores, counter_cores}
+use Rattle.world.proofs.Tables.{same_find, lock_cores, counter_cores, power_cores}
 use Rattle.world.proofs.Seats.{each, without_stays, of_other_keys_has}
-use Rattle.world.proofs.KeepLocks.{look_held, count_held, answer_held}
-use Rattle.world.proofs.KeepMedia.{newest, newest_agrees, held_is_map, look_quiet, count_quiet, answer_quiet, storer}
+use Rattle.world.proofs.invariant.KeepLocks.{look_held, count_held, answer_held}
+use Rattle.world.proofs.invariant.KeepMedia.{newest, newest_agrees, held_is_map, look_quiet, count_quiet, answer_quiet, storer}
 
 -- what is said of one planned change
 abbrev pub IsKept : Site → Words → View → Log → Call → Type 0
@@ -102,6 +102,7 @@ module _ (site : Site) (words : Words) (views : List View) (j : ℕ) (v : View) 
   keep_plans (notes_word lock i) may = calm _ refl refl
   keep_plans (validates lock) may = let o = record v { notes = marked lock (words lock) v.notes } in let t = all_again (marked lock (words lock) v.notes) in calm _ (answer_quiet t v.answer o).1 (answer_held t v.answer o)
   keep_plans (learns i) may = calm _ refl refl
+  keep_plans (meets_lock lock) may = calm _ refl refl
   keep_plans (tries lock free) may = tried lock free may.0 (eqb (words lock) free)
   keep_plans (stores i x) may = harmless i x may.1
   keep_plans (publishes i x call) may = published i x call may.1 may.2 may.3
@@ -111,3 +112,4 @@ module _ (site : Site) (words : Words) (views : List View) (j : ℕ) (v : View) 
   keep_plans (unlocks lock next) may = let is = (h.locks.locked j v lock may.0 at may.1).0 in
       quiet (with_word words lock next) _ (λ n _. lock_cores site h.site_is words lock next is n) refl
       (λ c has l. (l.0, without_stays lock (home_at site.shape (key_of c)) l.0 v.held (may.3 c has) l.1))
+  keep_plans cuts_power may = quiet (with_word words (power_word site.shape) 1) _ (λ n within. power_cores site h.site_is words 1 n within) refl (λ c has l. l)

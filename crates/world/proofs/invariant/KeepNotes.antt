@@ -7,20 +7,20 @@ use native.Mathlib.Decide.{ℕ_discrete}
 use Rattle.trace.specs.Events.{Words, with_word, after}
 use Rattle.trace.specs.Events.Event.{loaded, exchanged}
 use Rattle.trace.proofs.Replaced.{replaced_same, replaced_other}
-use Rattle.image_layout.specs.Volatile.{counter_word}
+use Rattle.image_layout.specs.Volatile.{counter_word, power_word}
 use Rattle.map_model.specs.declared.call.Call.{Call}
 use Rattle.bucket_words.specs.Tables.{home_at}
 use Rattle.world.specs.Site.{Site, IsLockWord, IsUnder}
 use Rattle.world.specs.Views.{Note, Answer, View, Has, At, IsGuarded}
 use Rattle.world.specs.History.{Log, Change, change_of}
 use Rattle.world.specs.Invariant.{IsNote, IsUnmoved, IsAnswer, Notes, Holds}
-use Rattle.world.specs.Kinds.{Kind, peeks, asks_power, finds_room, refuses, places, looks, notes_word, validates, learns, tries, stores, publishes, flushes, fences, draws_place, unlocks, with_noted, unmarked, marked, all_again, next_entry, with_reply, with_answer, with_look, with_count, with_lock, with_draw, log_after, May}
+use Rattle.world.specs.Kinds.{Kind, peeks, asks_power, finds_room, refuses, places, looks, notes_word, validates, learns, meets_lock, tries, stores, publishes, flushes, fences, draws_place, unlocks, cuts_power, with_noted, unmarked, marked, all_again, next_entry, with_reply, with_answer, with_look, with_count, with_lock, with_draw, log_after, May}
 use Rattle.world.specs.Laws.{words_by, views_by}
 use Rattle.world.proofs.Grounds.{one_lock, lock_apart, lock_within}
 use Rattle.world.proofs.Seats.{each, guarded_no_lock}
 use Rattle.world.proofs.Entries.{when_now, when_more}
 use Rattle.world.proofs.NotedLists.{noted_from, noted_to, marked_from, marked_to, unmarked_from, unmarked_to}
-use Rattle.world.proofs.KeepMedia.{newest, free_is_map}
+use Rattle.world.proofs.invariant.KeepMedia.{newest, free_is_map}
 
 -- what words may become of a noted bucket: its lock word does not fall, and while it is the free value nothing changed
 abbrev pub Rises : Words → Words → Note → Type 0
@@ -225,6 +225,7 @@ module _ (site : Site) (words : Words) (views : List View) (j : ℕ) (v : View) 
   keep_notes (notes_word lock i) may = calm _ (noted lock i may)
   keep_notes (validates lock) may = validated lock (all_again (marked lock (words lock) v.notes)) v.answer refl
   keep_notes (learns i) may = calm _ mine
+  keep_notes (meets_lock lock) may = calm _ mine
   keep_notes (tries lock free) may = tried lock free may.0 (eqb (words lock) free) refl
   keep_notes (stores i x) may = moved _ _ refl refl refl (stored i x may.0)
   keep_notes (publishes i x call) may = moved _ _ refl refl refl (stored i x may.0)
@@ -233,3 +234,7 @@ module _ (site : Site) (words : Words) (views : List View) (j : ℕ) (v : View) 
   keep_notes (draws_place call) may = drawn call _ _
   keep_notes (unlocks lock next) may = let l = h.locks.locked j v lock may.0 at may.1 in let e = may.4 in let now = l.1 in
       moved _ _ refl refl refl (relocked lock next l.0 (omega (arith, now, e)))
+  keep_notes cuts_power may = moved _ _ refl refl refl
+      (λ n f. let near = lock_within site.shape n.lock f.lock h.site_is.front.one_segment in
+      let same : with_word words (power_word site.shape) 1 n.lock ≡ words n.lock = replaced_other words (power_word site.shape) 1 n.lock (λ e. omega (arith, near, e)) in
+      (omega (arith, same), (λ e. (sym same ∙ e, (λ m q. replaced_other words (power_word site.shape) 1 m (λ s. let u = q.1 in omega (arith, near, u, s)))))))

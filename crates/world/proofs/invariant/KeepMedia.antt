@@ -8,7 +8,7 @@ use Rattle.trace.specs.Events.{Words, with_word, after}
 use Rattle.trace.specs.Events.Event.{loaded, exchanged}
 use Rattle.trace.proofs.Replaced.{cases_at, replaced_same, replaced_other}
 use Rattle.image_layout.specs.Places.{words_of}
-use Rattle.image_layout.specs.Volatile.{counter_word}
+use Rattle.image_layout.specs.Volatile.{counter_word, power_word}
 use Rattle.map_model.specs.declared.call.Call.{Call}
 use Rattle.map_model.specs.Map.{key_of}
 use Rattle.bucket_words.specs.Core.{core_of, core}
@@ -18,9 +18,9 @@ use Rattle.world.specs.Views.{Answer, View, Has, At, HasLock, IsGuarded, IsLoose
 use Rattle.world.specs.History.{Log, map_now, result_of, change_of}
 use Rattle.world.specs.Media.{MayLeave, IsPossible, IsPlanned, Stands}
 use Rattle.world.specs.Invariant.{Media, Holds}
-use Rattle.world.specs.Kinds.{Kind, peeks, asks_power, finds_room, refuses, places, looks, notes_word, validates, learns, tries, stores, publishes, flushes, fences, draws_place, unlocks, without, loosened, marked, all_again, with_answer, with_look, with_count, with_lock, with_draw, log_after, Agrees, IsHarmless, IsPublishing, IsUnplanned, May}
+use Rattle.world.specs.Kinds.{Kind, peeks, asks_power, finds_room, refuses, places, looks, notes_word, validates, learns, meets_lock, tries, stores, publishes, flushes, fences, draws_place, unlocks, cuts_power, without, loosened, marked, all_again, with_answer, with_look, with_count, with_lock, with_draw, log_after, Agrees, IsHarmless, IsPublishing, IsUnplanned, May}
 use Rattle.world.specs.Laws.{words_by, views_by}
-use Rattle.world.proofs.Tables.{same_table, same_find, find_under, cores_with, lock_cores, counter_cores}
+use Rattle.world.proofs.Tables.{same_table, same_find, find_under, cores_with, lock_cores, counter_cores, power_cores}
 use Rattle.world.proofs.Lists.{set_here}
 use Rattle.world.proofs.Seats.{each, is_v, carry, one_guard, guarded_within, lock_of, loosened_has, flush_loose, of_other_keys_stays}
 use Rattle.world.proofs.Grounds.{under_within}
@@ -272,6 +272,7 @@ module _ (site : Site) (words : Words) (views : List View) (j : ℕ) (v : View) 
   keep_media (notes_word lock i) may = calm _ ((λ p l. l), refl)
   keep_media (validates lock) may = calm _ (answer_quiet (all_again (marked lock (words lock) v.notes)) v.answer (record v { notes = marked lock (words lock) v.notes }))
   keep_media (learns i) may = calm _ ((λ p l. l), refl)
+  keep_media (meets_lock lock) may = calm _ ((λ p l. l), refl)
   keep_media (tries lock free) may = tried lock free may.0 (eqb (words lock) free)
   keep_media (stores i x) may = harmless i x may.0 may.1
   keep_media (publishes i x call) may = published i x call may.0 may.3
@@ -279,3 +280,4 @@ module _ (site : Site) (words : Words) (views : List View) (j : ℕ) (v : View) 
   keep_media fences may = calm (record v { flushed = [] }) ((λ p q. elim q [ inl d ↦ inl d | inr f ↦ absurd f ]), refl)
   keep_media (draws_place call) may = drawn call _ _ may.0 may.1
   keep_media (unlocks lock next) may = relocked lock next _ (h.locks.locked j v lock may.0 at may.1).0 ((λ p l. l), refl)
+  keep_media cuts_power may = media_fewer site words (with_word words (power_word site.shape) 1) views j v _ at (λ n within. power_cores site h.site_is words 1 n within) (λ p l. l) h.log h.media (λ call has. has)

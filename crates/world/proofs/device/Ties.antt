@@ -14,20 +14,20 @@ use Rattle.trace.proofs.Moments.{since_more}
 use Rattle.trace.proofs.Flushes.{flush_pending, pending_more, pending_fence_other}
 use Rattle.trace.proofs.Media.{may_more, flush_since, fence_since}
 use Rattle.image_layout.specs.Places.{words_of}
-use Rattle.image_layout.specs.Volatile.{counter_word}
+use Rattle.image_layout.specs.Volatile.{counter_word, power_word}
 use Rattle.map_model.specs.declared.call.Call.{Call}
 use Rattle.bucket_words.specs.Core.{core_of}
 use Rattle.world.specs.Site.{Site, IsLockWord}
 use Rattle.world.specs.Views.{Answer, View, Has, At, IsGuarded, IsLoose}
 use Rattle.world.specs.Media.{MayLeave}
 use Rattle.world.specs.Invariant.{Holds}
-use Rattle.world.specs.Kinds.{Kind, peeks, asks_power, finds_room, refuses, places, looks, notes_word, validates, learns, tries, stores, publishes, flushes, fences, draws_place, unlocks, wanted, on_line, off_line, loosened, marked, all_again, with_answer, with_look, with_count, with_lock, with_draw, May}
+use Rattle.world.specs.Kinds.{Kind, peeks, asks_power, finds_room, refuses, places, looks, notes_word, validates, learns, meets_lock, tries, stores, publishes, flushes, fences, draws_place, unlocks, cuts_power, wanted, on_line, off_line, loosened, marked, all_again, with_answer, with_look, with_count, with_lock, with_draw, May}
 use Rattle.world.specs.Wants.{event_of}
 use Rattle.world.specs.Tied.{IsFlushed, Tied}
 use Rattle.world.specs.Laws.{found_by, views_by}
 use Rattle.world.proofs.Grounds.{lock_core}
 use Rattle.world.proofs.Lists.{set_here, set_there, has_joined}
-use Rattle.world.proofs.Seats.{each, is_v, carry, one_guard, guarded_within, guarded_no_lock, guarded_no_counter}
+use Rattle.world.proofs.Seats.{each, is_v, carry, one_guard, guarded_within, guarded_no_lock, guarded_no_counter, guarded_within}
 
 -- ---- lists of a view
 has_left : (xs ys : List (ℕ × ℕ)) (p : ℕ × ℕ) → Has p xs → Has p (xs ++ ys)
@@ -333,6 +333,7 @@ module _ (site : Site) (start : Words) (es : Trace) (views : List View) (j : ℕ
   keep_tied (notes_word lock i) may = calm _ _ (refl, refl)
   keep_tied (validates lock) may = calm _ _ (answer_loose (all_again (marked lock (words lock) v.notes)) v.answer (record v { notes = marked lock (words lock) v.notes }))
   keep_tied (learns i) may = calm _ _ (refl, refl)
+  keep_tied (meets_lock lock) may = calm _ _ (refl, refl)
   keep_tied (tries lock free) may = tied_try lock free may.0 (eqb (words lock) free)
   keep_tied (stores i x) may = tied_store i x _ refl refl may.0
   keep_tied (publishes i x call) may = tied_store i x _ refl refl may.0
@@ -340,3 +341,6 @@ module _ (site : Site) (start : Words) (es : Trace) (views : List View) (j : ℕ
   keep_tied fences may = tied_fence site start es views j v at o
   keep_tied (draws_place call) may = tied_draw call _
   keep_tied (unlocks lock next) may = tied_lock (stored j lock next) lock next _ (λ n y q. q) refl (λ c e. absurd (cc)) (h.locks.locked j v lock may.0 at may.1).0 (refl, refl)
+  keep_tied cuts_power may = tied_write site start es views j v _ at o (stored j (power_word site.shape) 1) (power_word site.shape) 1
+      (λ n y q. q) refl (λ c e. absurd (cc)) refl (λ p d. d) (λ within. absurd (omega (arith, within))) inside
+      (λ c u y ne a has. let w = guarded_within site h.site_is words views h.locks c u (power_word site.shape) a (guarded c u (power_word site.shape) y a has) in omega (arith, w))

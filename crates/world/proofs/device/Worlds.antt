@@ -22,8 +22,8 @@ use Rattle.world.specs.World.{World, changed_at, IsWell, fresh_view, Begins}
 use Rattle.world.specs.Laws.{found_by, words_by, views_by, ChangesOneWord, DoesItsEvent, KeepsWell, BeginsWell, DeviceLeaves}
 use Rattle.world.proofs.Tables.{table_below, same_find}
 use Rattle.world.proofs.Entries.{total_none}
-use Rattle.world.proofs.Keeps.{keeps_all}
-use Rattle.world.proofs.Ties.{keep_tied}
+use Rattle.world.proofs.invariant.Keeps.{keeps_all}
+use Rattle.world.proofs.device.Ties.{keep_tied}
 
 -- ---- what an event does
 pub one_word : ChangesOneWord
@@ -126,6 +126,11 @@ module _ (site : Site) (start : Words) (world : World) (b : Begins site start wo
       each = is_fresh (λ v. v.room ≤ v.callers) (λ n. omega arith);
       few = (let z = total_none (λ v. v.room) world.views (is_fresh (λ v. v.room ≡ 0) (λ n. refl)) in omega (arith, z));
     };
+    spending = record {
+      met = λ j v lock at h. absurd (none (λ v. v.spent_locks) (λ _. refl) j v lock at h);
+      told = λ j v e at h. absurd (none (λ v. v.own) (λ _. refl) j v e at h);
+    };
+    powered = λ off. absurd (off b.power);
   }
 
   begins_well_here : IsWell site start world

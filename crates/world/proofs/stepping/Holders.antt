@@ -1,6 +1,6 @@
 -- What the holder of a lock has to know of a bucket for its stores, refusals and answers.
 use Rattle.std.proofs.Common.{◌≡◌, ℕ, ◌+◌, ◌*◌, ◌<◌, None, Some, inr, sym, ap, ◌∙◌, subst, arith}
-use Rattle.bucket_meta.specs.Bucket.{allocated, finger}
+use Rattle.bucket_meta.specs.Bucket.{allocated, finger, record_slots}
 use Rattle.hash_word.specs.Hash.{home_of}
 use Rattle.trace.specs.Events.{Words, with_word}
 use Rattle.image_layout.specs.Places.{bucket_at}
@@ -10,7 +10,8 @@ use Rattle.map_model.specs.Map.{key_of}
 use Rattle.bucket_words.specs.Buckets.{key_in, value_in, finger_in}
 use Rattle.bucket_words.specs.Tables.{IsHomeTable, home_at, find}
 use Rattle.bucket_words.specs.Core.{core_of}
-use Rattle.bucket_words.specs.Changes.{ChangesKey, SameButSlot, IsReady, Stands}
+use Rattle.bucket_words.specs.Changes.{ChangesKey, IsReady, Stands}
+use Rattle.bucket_meta.specs.Marks.{SameButSlot}
 use Rattle.bucket_words.proofs.Finding.{Hits, find_none}
 use Rattle.bucket_words.proofs.Pairs.{find_hit_of_table}
 use Rattle.bucket_words.proofs.OneChange.{key_keeps, value_keeps, low_keeps, high_keeps, core_keeps, insert_key, update_key, remove_key}
@@ -51,10 +52,10 @@ module _ (site : Site) (is : IsSite site) (v : View) where
     meta : m (at b + 1) ≡ word (at b + 1)
     meta = same (at b + 1) (omega arith, omega arith)
 
-    same_key : (t : ℕ) → t < 14 → key_in m (at b) t ≡ key_in word (at b) t
+    same_key : (t : ℕ) → t < record_slots → key_in m (at b) t ≡ key_in word (at b) t
     same_key t slot = same (at b + 4 + 2 * t) (omega arith, omega (arith, slot))
 
-    same_value : (t : ℕ) → t < 14 → value_in m (at b) t ≡ value_in word (at b) t
+    same_value : (t : ℕ) → t < record_slots → value_in m (at b) t ≡ value_in word (at b) t
     same_value t slot = same (at b + 5 + 2 * t) (omega arith, omega (arith, slot))
 
     same_finger : (t : ℕ) → finger_in m (at b) t ≡ finger_in word (at b) t

@@ -1,17 +1,17 @@
 -- Known words are the newest, and known and loose words lie under the view's locks, at each kind of step.
-use Rattle.std.proofs.Common.{◌≡◌, ◌≢◌, ℕ, ◌+◌, ◌%◌, ◌^◌, List, ◌∷◌, set, cond, eqb, Bool, true, false, Option, None, Some, inl, inr, refl, sym, ap, ◌∙◌, subst}
+use Rattle.std.proofs.Common.{◌≡◌, ◌≢◌, ℕ, ◌+◌, ◌%◌, ◌^◌, List, ◌∷◌, set, cond, eqb, Bool, true, false, Option, None, Some, inl, inr, refl, sym, ap, ◌∙◌, subst, arith}
 use Rattle.std.specs.Prelude.{nat_lt}
 use Rattle.trace.specs.Events.{Words, with_word, after}
 use Rattle.trace.specs.Events.Event.{loaded, exchanged}
 use Rattle.trace.proofs.Replaced.{replaced_same, replaced_other}
-use Rattle.image_layout.specs.Volatile.{counter_word}
+use Rattle.image_layout.specs.Volatile.{counter_word, power_word}
 use Rattle.map_model.specs.declared.call.Call.{Call}
 use Rattle.world.specs.Site.{Site, IsLockWord, IsUnder}
 use Rattle.world.specs.Views.{Answer, View, Has, At, IsGuarded, IsLoose}
 use Rattle.world.specs.Invariant.{KnownWords, Holds}
-use Rattle.world.specs.Kinds.{Kind, peeks, asks_power, finds_room, refuses, places, looks, notes_word, validates, learns, tries, stores, publishes, flushes, fences, draws_place, unlocks, without, loosened, marked, all_again, with_answer, with_look, with_count, with_lock, with_draw, May}
+use Rattle.world.specs.Kinds.{Kind, peeks, asks_power, finds_room, refuses, places, looks, notes_word, validates, learns, meets_lock, tries, stores, publishes, flushes, fences, draws_place, unlocks, cuts_power, without, loosened, marked, all_again, with_answer, with_look, with_count, with_lock, with_draw, May}
 use Rattle.world.specs.Laws.{words_by, views_by}
-use Rattle.world.proofs.Seats.{each, one_guard, guarded_no_lock, guarded_no_counter, has_first, without_has, without_stays, not_under_has, loosened_has, flush_loose}
+use Rattle.world.proofs.Seats.{each, one_guard, guarded_no_lock, guarded_no_counter, guarded_within, has_first, without_has, without_stays, not_under_has, loosened_has, flush_loose}
 
 -- what is known and loose in a view
 abbrev pub Fits : Words → View → Type 0
@@ -113,6 +113,7 @@ module _ (site : Site) (words : Words) (views : List View) (j : ℕ) (v : View) 
     ]),
     mine.1,
   )
+  keep_known (meets_lock lock) may = calm _ mine
   keep_known (tries lock free) may = tried lock free may.0 (eqb (words lock) free)
   keep_known (stores i x) may = stored i x v.planned may.0
   keep_known (publishes i x call) may = stored i x (call ∷ v.planned) may.0
@@ -120,3 +121,9 @@ module _ (site : Site) (words : Words) (views : List View) (j : ℕ) (v : View) 
   keep_known fences may = calm _ (mine.0, (λ n y q. elim q [ inl d ↦ mine.1 n y (inl d) | inr f ↦ absurd f ]))
   keep_known (draws_place call) may = drawn call _ _
   keep_known (unlocks lock next) may = freed lock next may.0 may.1 may.2 (h.locks.locked j v lock may.0 at may.1).0
+  keep_known cuts_power may = known_law words _ views j v _ at h.known
+      (λ i u ne a m g. replaced_other words (power_word site.shape) 1 m (λ e. let w = guarded_within site h.site_is words views h.locks i u m a g in omega (arith, w, e))) (
+        (λ i y q. (let t = mine.0 i y q in
+            (replaced_other words (power_word site.shape) 1 i (λ e. let w = guarded_within site h.site_is words views h.locks j v i at t.1 in omega (arith, w, e)) ∙ t.0, t.1))),
+        mine.1,
+      )
