@@ -34,8 +34,8 @@ use Rattle.core_run.specs.Ends.{most_of, IsRun, RestartedStays, LineStays, Lines
 use Rattle.core_run.specs.Sessions.{end_state}
 use Rattle.core_run.specs.Wells.{start_state}
 use Rattle.core_run.specs.Moments.{ActsAreSingle, IsOneMore, Act, event_by, begins_close, after_event, after_beginning, after_act, after_acts, MomentsOfRuns, IsRunOf, EveryMomentIsGood}
-use Rattle.core_run.proofs.Seeing.{either}
-use Rattle.core_run.proofs.Driving.{has_none}
+use Rattle.core_run.proofs.ends.Choices.{either}
+use Rattle.core_run.proofs.ends.Driving.{has_none}
 
 -- ---- an act does one event at the most
 restarting_trace : (shape : Shape) (op : RestartOp) (w : Want) (core : Core) → (restarting shape op w core).core.trace ≡ core.trace
@@ -99,20 +99,20 @@ engine_rests site c v None here does none = here
 engine_rests site c v (Some e) here does none = absurd (none-some does.call (sym none ∙ does.is_current))
 
 -- where no call is left, each caller has none
-no_call_here : (shape : Shape) (c : Caller) (cs : List Caller) → has_calls shape 0 (c ∷ cs) ≡ false → (current c ≡ None) × (has_calls shape 0 cs ≡ false)
-no_call_here shape c cs none = by (current c) refl none
+no_call_here : (shape : Shape) (n : ℕ) (c : Caller) (cs : List Caller) → has_calls shape n (c ∷ cs) ≡ false → (current c ≡ None) × (has_calls shape n cs ≡ false)
+no_call_here shape n c cs none = by (current c) refl none
   where
-    by : (o : Option Call) → current c ≡ o → (if has_call shape 0 o then true else has_calls shape 0 cs) ≡ false → (current c ≡ None) × (has_calls shape 0 cs ≡ false)
+    by : (o : Option Call) → current c ≡ o → (if has_call shape n o then true else has_calls shape n cs) ≡ false → (current c ≡ None) × (has_calls shape n cs ≡ false)
     by None is none = (is, none)
     by (Some call) is none = absurd (let z : true ≡ false = none in cc)
 
-all_rest : (shape : Shape) (site : Site) (cs : List Caller) (vs : List View) → AllZip (CallerFits site) cs vs → has_calls shape 0 cs ≡ false
+pub all_rest : (shape : Shape) (n : ℕ) (site : Site) (cs : List Caller) (vs : List View) → AllZip (CallerFits site) cs vs → has_calls shape n cs ≡ false
     → AllByRecursion (λ (c : Caller). c.engine ≡ None) cs
-all_rest shape site [] vs fits none = tt
-all_rest shape site (c ∷ cs) [] fits none = absurd fits
-all_rest shape site (c ∷ cs) (v ∷ vs) fits none =
-    let left = no_call_here shape c cs none in
-    (engine_rests site c v c.engine refl fits.0.does left.0, all_rest shape site cs vs fits.1 left.1)
+all_rest shape n site [] vs fits none = tt
+all_rest shape n site (c ∷ cs) [] fits none = absurd fits
+all_rest shape n site (c ∷ cs) (v ∷ vs) fits none =
+    let left = no_call_here shape n c cs none in
+    (engine_rests site c v c.engine refl fits.0.does left.0, all_rest shape n site cs vs fits.1 left.1)
 
 module _ (wells : DeedsAreWell) (may : CloseMayBegin) (t : Task) (is : IsTask t) where
   event_keeps : (c : ℕ) (s : State) → IsRunning t s → (o : Option Deed) → deed t.shape c s ≡ o → IsRunning t (after_event o s)
@@ -126,12 +126,12 @@ module _ (wells : DeedsAreWell) (may : CloseMayBegin) (t : Task) (is : IsTask t)
       by true some = run
       by false none =
           let o = subst (λ k. IsRunningBy t k s.core) here run in
-          may t s.core is o (all_rest t.shape (site_in t) s.core.callers o.holds.views o.holds.each none)
+          may t s.core is o (all_rest t.shape 0 (site_in t) s.core.callers o.holds.views o.holds.each none)
   beginning_keeps (Restarting op) s here run = run
   beginning_keeps (Closing op) s here run = run
   beginning_keeps Closed s here run = run
 
-  act_keeps : (a : Act) (s : State) → IsRunning t s → IsRunning t (after_act t.shape a s)
+  pub act_keeps : (a : Act) (s : State) → IsRunning t s → IsRunning t (after_act t.shape a s)
   act_keeps (event_by c) s run = event_keeps c s run (deed t.shape c s) refl
   act_keeps begins_close s run = beginning_keeps s.keeper s refl run
 

@@ -26,8 +26,8 @@ use Rattle.core_run.specs.declared.keeper.Keeper.{Keeper}
 use Rattle.core_run.specs.declared.keeper.Keeper.TheVariants.{Closed}
 use Rattle.core_run.specs.Running.{Task, IsTask, site_in, start_of, HasToldInOrder, AllTold, IsClosing, IsRunningBy}
 use Rattle.core_run.specs.States.{last_words, IsClosedWell, ClosedIsClosed}
-use Rattle.core_run.proofs.Closes.{same_core}
-use Rattle.core_run.proofs.Newest.{close_newest}
+use Rattle.core_run.proofs.events.Closes.{same_core}
+use Rattle.core_run.proofs.events.Newest.{close_newest}
 use Rattle.core_run.proofs.Leaving.{words_listed, newest_length}
 use Rattle.core_run.proofs.Goods.{quiet_before, kept_at, pairs_at}
 

@@ -16,7 +16,7 @@ use Rattle.core_run.specs.declared.keeper.Keeper.TheVariants.{Restarting, Open, 
 use Rattle.core_run.specs.State.{waiting_from}
 use Rattle.core_run.specs.Running.{Task, site_in, HasToldInOrder, AllTold, IsOpen, IsRunningBy}
 use Rattle.core_run.specs.States.{ToldsFollow}
-use Rattle.core_run.proofs.Told.{entries_more}
+use Rattle.core_run.proofs.events.Told.{entries_more}
 
 -- ---- a caller
 -- a call that has begun is one of the caller's

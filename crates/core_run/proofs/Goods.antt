@@ -24,9 +24,9 @@ use Rattle.core_run.specs.declared.keeper.Keeper.TheVariants.{Restarting, Open, 
 use Rattle.core_run.specs.State.{State, waiting_from}
 use Rattle.core_run.specs.Running.{Task, IsTask, site_in, start_of, IsOpen, IsRestarting, IsClosing, IsRunningBy}
 use Rattle.core_run.specs.States.{entries_of, HadNoRooms, WereSpent, IsGoodMoment, MomentsAreGood}
-use Rattle.core_run.proofs.Opened.{same_core as same_restart}
-use Rattle.core_run.proofs.Closes.{same_core as same_close}
-use Rattle.core_run.proofs.Locks.{were_spent}
+use Rattle.core_run.proofs.events.Opened.{same_core as same_restart}
+use Rattle.core_run.proofs.events.Closes.{same_core as same_close}
+use Rattle.core_run.proofs.events.Locks.{were_spent}
 
 -- ---- nothing is told
 abbrev waiting_histories : Shape → ℕ → List (List Call) → List (List Entry)

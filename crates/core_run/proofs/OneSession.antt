@@ -2,7 +2,7 @@
 use Rattle.std.proofs.Common.{◌≡◌, ℕ, zero, suc, ◌+◌, ◌*◌, ◌^◌, ◌<◌, ◌≤◌, ◌⊎◌, true, List, [], ◌∷◌, Option, None, Some, refl, sym, ap, ◌∙◌, subst, inl, inr, arith}
 use Rattle.std.specs.Prelude.{Contains, not, is_some}
 use Rattle.std.specs.List.{AllByRecursion}
-use Rattle.image_layout.specs.Places.{bucket_at}
+use Rattle.image_layout.specs.Places.{bucket_at, buckets}
 use Rattle.bucket_meta.specs.Bucket.{version_of}
 use Rattle.map_model.specs.declared.entry.Entry.{Entry}
 use Rattle.map_model.specs.declared.entry.Reply.TheVariants.{Spent}
@@ -13,8 +13,8 @@ use Rattle.sound_image.specs.Image.{IsSoundImage}
 use Rattle.sound_image.specs.Left.{HasPairsOf}
 use Rattle.session.specs.Transcript.{transcript_of}
 use Rattle.session.specs.Session.{IsSession, IsClosed, HasSpentBucket}
+use Rattle.world.specs.Site.{HasSpentLock}
 use Rattle.engine.specs.Core.{tolds_of, histories}
-use Rattle.engine.specs.Good.{HasSpentLock}
 use Rattle.core_run.specs.declared.keeper.Keeper.TheVariants.{Closed}
 use Rattle.core_run.specs.State.{State}
 use Rattle.core_run.specs.Run.{cut_of, medium_words}
@@ -24,7 +24,7 @@ use Rattle.core_run.specs.Ends.{RunsAreWell}
 use Rattle.core_run.specs.Opening.{opening_of}
 use Rattle.core_run.specs.Sessions.{end_state, RunsAreSessions}
 use Rattle.core_run.proofs.Opening.{first_is_live, one_segment, opening-HasPairsOf}
-use Rattle.core_run.proofs.Newest.{IsNewest, is_newest}
+use Rattle.core_run.proofs.events.Newest.{IsNewest, is_newest}
 use Rattle.core_run.proofs.Leaving.{words_listed, newest_length, cut_length, cut_is_possible}
 
 -- ---- what is left
@@ -60,11 +60,11 @@ module _ (moments : MomentsAreGood) (closed : ClosedIsClosed) (follow : ToldsFol
   after_close (Some choice) at_none q = absurd (let z = q in cc)
 
   -- a lock that is spent is that of a bucket of the one segment, which is live
-  lock_within : (first b n : ℕ) → n ≡ 1 → b < 66 → first + 2144 * 0 + 32 + 32 * b < first + 2144 * n
+  lock_within : (first b n : ℕ) → n ≡ 1 → b < buckets → first + 2144 * 0 + 32 + 32 * b < first + 2144 * n
   lock_within first b n q h = omega (arith, q, h)
 
   spent_bucket : IsSoundImage t.shape (left_by None) → HasSpentLock t.shape s.core.words → HasSpentBucket t.shape (left_by None)
-  spent_bucket sound (lock, (b, within, at), is_last) =
+  spent_bucket sound (lock, ((b, within, at), is_last)) =
       let single = one_segment t.shape t.first is.served in
       record {
         s = 0;

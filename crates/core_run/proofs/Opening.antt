@@ -12,10 +12,10 @@ use Rattle.std.proofs.lemmas.Bool.Decides.{nat_tests}
 use Rattle.bucket_meta.specs.Bucket.{allocated}
 use Rattle.image_layout.specs.Places.{Shape}
 use Rattle.map_model.specs.Map.{Map}
-use Rattle.bucket_words.proofs.Pairs.{key_hash-fits}
+use Rattle.sound_image.proofs.Hashes.{key_hash-fits}
 use Rattle.hash_word.specs.Hash.{index_of}
 use Rattle.image_layout.specs.Places.{root_word, entry_at}
-use Rattle.image_file.specs.Stage.{segments_word}
+use Rattle.image_rules.specs.Stage.{segments_word}
 use Rattle.restart_op.specs.Restarted.{IsPlayableImage}
 use Rattle.sound_image.specs.Image.{IsSoundImage}
 use Rattle.sound_image.specs.Segments.{ImageWords, Frame, frame_of, depth_at, IsLive, IsLiveFor, Owns}

@@ -2,9 +2,12 @@ pub mod State
 pub mod Run
 pub mod Running
 pub mod Alone
+pub mod Rounds
+pub mod Measure
 pub mod States
 pub mod Ends
 pub mod Opening
 pub mod Sessions
 pub mod Wells
 pub mod Moments
+pub mod WorkedRun

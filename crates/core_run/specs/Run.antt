@@ -13,15 +13,11 @@ use Rattle.script_text.specs.declared.line.Event.{Event}
 use Rattle.script_text.specs.declared.line.Event.TheVariants as event
 use Rattle.script_text.specs.declared.line.Line.{Line}
 use Rattle.script_text.specs.declared.line.Line.TheVariants as line
-use Rattle.read_op.specs.declared.step.ReadEnd.{ReadEnd}
-use Rattle.read_op.specs.declared.step.ReadEnd.TheVariants as read_end
-use Rattle.write_op.specs.declared.control.WriteEnd.{WriteEnd}
-use Rattle.write_op.specs.declared.control.WriteEnd.TheVariants as write_end
 use Rattle.restart_op.specs.Close.{begun as close_begun}
 use Rattle.engine.specs.declared.engine.End.{End}
-use Rattle.engine.specs.declared.engine.End.TheVariants as ends
-use Rattle.engine.specs.Engine.{reply_of_end}
+use Rattle.engine.specs.Engine.{reply_of_end, is_again}
 use Rattle.engine.specs.Core.{Caller, current, Core}
+use Rattle.engine.specs.Left.{most_events as most_of_attempt}
 use Rattle.pm_trace.specs.Choice.{chosen}
 use Rattle.core_run.specs.declared.keeper.Keeper.{Keeper}
 use Rattle.core_run.specs.declared.keeper.Keeper.TheVariants.{Restarting, Open, Closing}
@@ -77,18 +73,6 @@ counts (Kind e) d = is_of_kind e d
 counts (StoreTo word) d = is_store_to word d.want
 
 -- an attempt ended in Again
-abbrev pub is_read_again : ReadEnd → Bool
-is_read_again (read_end.Again why) = true
-is_read_again end = false
-
-abbrev pub is_write_again : WriteEnd → Bool
-is_write_again (write_end.Again why) = true
-is_write_again end = false
-
-abbrev pub is_again : End → Bool
-is_again (ends.Read end) = is_read_again end
-is_again (ends.Write end) = is_write_again end
-
 abbrev pub ends_in_again : Option End → Bool
 ends_in_again None = false
 ends_in_again (Some end) = is_again end
@@ -175,8 +159,15 @@ abbrev pub all_calls : List (List Call) → ℕ
 all_calls [] = 0
 all_calls (calls ∷ scripts) = length calls + all_calls scripts
 
+-- for each call the events of an attempt, and one; for the close as many, and two for each word
+abbrev pub events_of_call : ℕ
+events_of_call = most_of_attempt + 1
+
+abbrev pub most_with : Shape → ℕ → ℕ
+most_with shape calls = 2 * words_of shape + events_of_call * (calls + 1)
+
 abbrev pub most_events : Shape → List (List Call) → ℕ
-most_events shape scripts = 2 * words_of shape + 64 * all_calls scripts + 64
+most_events shape scripts = most_with shape (all_calls scripts)
 
 abbrev pub state_at_end : Shape → ℕ → List Line → Option ℕ → State → State
 state_at_end shape most lines None s = closed shape most (lines_done shape most lines s)

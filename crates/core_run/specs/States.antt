@@ -17,8 +17,8 @@ use Rattle.sound_image.specs.Left.{HasPairsOf, IsLeft}
 use Rattle.session.specs.Callers.{FollowsScript, IsAnswered, undrawn}
 use Rattle.session.specs.Session.{HadNoRoom}
 use Rattle.restart_op.specs.Close.{begun as close_begun}
+use Rattle.world.specs.Site.{HasSpentLock}
 use Rattle.engine.specs.Core.{Core, tolds_of, histories}
-use Rattle.engine.specs.Good.{HasSpentLock}
 use Rattle.engine.specs.Laws.{NoneRuns}
 use Rattle.core_run.specs.declared.keeper.Keeper.TheVariants.{Closing, Closed}
 use Rattle.core_run.specs.State.{State, beginning}

@@ -14,9 +14,9 @@ pub fn alone_stays()
     ensures replies { AloneReplies }
     ensures never_again { NeverAgain }
 {
-    engine::fits_the_world();
+    engine::ends_have_causes();
+    engine::never_again_alone();
     engine::attempts_end();
-    restart_op::restart_begins();
     restart_op::close_ends();
 }
 
@@ -32,9 +32,9 @@ pub fn runs_stay_well()
     ensures lines { LinesStay }
     ensures closed { ClosedStays }
 {
-    engine::fits_the_world();
+    engine::ends_have_causes();
+    engine::never_again_alone();
     engine::attempts_end();
-    restart_op::restart_begins();
     restart_op::close_ends();
     states::deeds_are_well();
     states::close_may_begin();
@@ -52,9 +52,9 @@ pub fn calls_run_out()
     ensures run_out { RunOutEnds }
     ensures closed { ClosedEnds }
 {
-    engine::fits_the_world();
+    engine::ends_have_causes();
+    engine::never_again_alone();
     engine::attempts_end();
-    restart_op::restart_begins();
     restart_op::close_ends();
     states::deeds_are_well();
     states::close_may_begin();
@@ -65,9 +65,9 @@ pub fn calls_run_out()
 pub fn drives_are_enough()
     ensures { DrivesAreEnough }
 {
-    engine::fits_the_world();
+    engine::ends_have_causes();
+    engine::never_again_alone();
     engine::attempts_end();
-    restart_op::restart_begins();
     restart_op::close_ends();
     states::deeds_are_well();
     states::close_may_begin();
@@ -78,9 +78,9 @@ pub fn drives_are_enough()
 pub fn runs_are_well()
     ensures { RunsAreWell }
 {
-    engine::fits_the_world();
+    engine::ends_have_causes();
+    engine::never_again_alone();
     engine::attempts_end();
-    restart_op::restart_begins();
     restart_op::close_ends();
     states::run_begins();
     states::deeds_are_well();

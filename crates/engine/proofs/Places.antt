@@ -1,5 +1,5 @@
 -- Callers and views place by place, where one of each is changed.
-use Rattle.std.proofs.Common.{◌≡◌, ℕ, zero, suc, List, [], ◌∷◌, ◌++◌, length, slice_get, slice_set, Some, sym, subst, arith, refl, length-append}
+use Rattle.std.proofs.Common.{◌≡◌, ℕ, zero, suc, List, [], ◌∷◌, ◌++◌, length, slice_get, slice_set, Some, inl, inr, ◌⊎◌, ap, sym, subst, arith, refl, length-append}
 use Rattle.std.specs.List.{AllZip}
 use Rattle.std.proofs.lemmas.Option.{none-some, same_Some}
 use mathlib.Core.Option.{some-injective}
@@ -23,3 +23,11 @@ module _ {A : Type 0} (R : A → View → Type 0) where
 
 pub one_more : {A : Type 0} (xs : List A) (x : A) → length (xs ++ x ∷ []) ≡ suc (length xs)
 one_more xs x = let l = length-append xs (x ∷ []) in omega (arith, l)
+
+-- the caller at a place after one was changed: the changed one, or the one that was there
+pub set_cases : {A : Type 0} (xs : List A) (j i : ℕ) (x y : A) → slice_get (slice_set xs j x) i ≡ Some y → ((i ≡ j) × (x ≡ y)) ⊎ (slice_get xs i ≡ Some y)
+set_cases [] j i x y is = inr is
+set_cases (z ∷ xs) zero zero x y is = inl (refl, same_Some x y is)
+set_cases (z ∷ xs) zero (suc i) x y is = inr is
+set_cases (z ∷ xs) (suc j) zero x y is = inr is
+set_cases (z ∷ xs) (suc j) (suc i) x y is = elim (set_cases xs j i x y is) [ inl p ↦ inl (ap suc p.0, p.1) | inr r ↦ inr r ]

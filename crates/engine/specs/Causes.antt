@@ -5,6 +5,7 @@ use Rattle.op_core.specs.declared.want.Want.TheVariants as want
 use Rattle.op_core.specs.declared.want.Ans.{Ans}
 use Rattle.op_core.specs.declared.why.Why.{Why}
 use Rattle.op_core.specs.declared.why.Why.TheVariants.{Busy, Moved}
+use Rattle.op_core.specs.Answers.{Finds, load_of, change_of}
 use Rattle.hash_word.specs.Hash.{home_of, probing_of}
 use Rattle.bucket_meta.specs.Bucket.{allocated}
 use Rattle.trace.specs.Events.{Words}
@@ -28,8 +29,8 @@ use Rattle.write_op.specs.declared.control.WriteEnd.{WriteEnd}
 use Rattle.write_op.specs.declared.control.WriteEnd.TheVariants as write_end
 use Rattle.way.specs.Ways.{entry_word, head_word, bucket_word}
 use Rattle.write_op.specs.Ways.{bucket_of}
-use Rattle.write_op.specs.Wanted.{key_for}
-use Rattle.write_op.specs.Causes.{Finds, load_of, change_of, IsDecided as IsChangeDecided}
+use Rattle.write_op.specs.Causes.{IsDecided as IsChangeDecided}
+use Rattle.map_model.specs.Map.{key_of}
 use Rattle.restart_op.specs.Restarted.{IsPlayableImage}
 use Rattle.engine.specs.declared.engine.Op.{Op}
 use Rattle.engine.specs.declared.engine.Op.TheVariants.{Read, Write}
@@ -128,11 +129,11 @@ EndsAreDecided = (e : Engine) → wanted e ≡ want.Done → IsDecided e.op (end
 -- ---- causes, in the newest words, and in what the attempt did
 module _ (shape : Shape) (words : Words) (did : Doings) (call : Call) where
   abbrev pub hash_for : ℕ
-  hash_for = key_hash shape (key_for call)
+  hash_for = key_hash shape (key_of call)
 
   -- the lock word of the home bucket of the call's key, or of the bucket after it
   abbrev pub IsOwnLock : ℕ → Type 0
-  IsOwnLock word = (word ≡ home_at shape (key_for call)) ⊎ (word ≡ bucket_at shape 0 (probing_of (home_of hash_for)))
+  IsOwnLock word = (word ≡ home_at shape (key_of call)) ⊎ (word ≡ bucket_at shape 0 (probing_of (home_of hash_for)))
 
   -- one of the two is taken, and not by this attempt
   pub record IsTaken (word value : ℕ) : Type 0 where
@@ -178,9 +179,9 @@ module _ (shape : Shape) (words : Words) (did : Doings) (call : Call) where
   pub record FindsNoRoom : Type 0 where
     pub insert : IsInsert call
     pub meta : ℕ
-    pub loaded : Has (home_at shape (key_for call) + 1, meta) did.loads
+    pub loaded : Has (home_at shape (key_of call) + 1, meta) did.loads
     pub taken : (slot : ℕ) → slot < 14 → allocated slot meta ≡ 1
-    pub others : (slot : ℕ) → slot < 14 → (key : ℕ) × Has (home_at shape (key_for call) + (4 + 2 * slot), key) did.loads × (key ≢ key_for call)
+    pub others : (slot : ℕ) → slot < 14 → (key : ℕ) × Has (home_at shape (key_of call) + (4 + 2 * slot), key) did.loads × (key ≢ key_of call)
 
   -- the attempt loaded the header word of the segment in a slot, with this value
   abbrev pub WasHead : ℕ → ℕ → Type 0

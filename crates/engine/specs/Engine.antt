@@ -1,5 +1,5 @@
 -- The engine of one caller: the machine of its call, one event after another.
-use Rattle.std.specs.Prelude.{ℕ, Option, None, Some}
+use Rattle.std.specs.Prelude.{ℕ, Bool, true, false, Option, None, Some}
 use Rattle.op_core.specs.declared.want.Want.{Want}
 use Rattle.op_core.specs.declared.want.Ans.{Ans}
 use Rattle.map_model.specs.declared.call.Call.{Call}
@@ -91,6 +91,19 @@ write_reply end = None
 abbrev pub reply_of_end : End → Option (Reply × ℕ)
 reply_of_end (ends.Read end) = read_reply end
 reply_of_end (ends.Write end) = write_reply end
+
+-- an end that says that the attempt is to be made again
+abbrev pub is_read_again : ReadEnd → Bool
+is_read_again (read_end.Again why) = true
+is_read_again end = false
+
+abbrev pub is_write_again : WriteEnd → Bool
+is_write_again (write_end.Again why) = true
+is_write_again end = false
+
+abbrev pub is_again : End → Bool
+is_again (ends.Read end) = is_read_again end
+is_again (ends.Write end) = is_write_again end
 
 -- the kind of its next event in the world of many callers, by the value that the event finds
 abbrev pub kind_of_op : Op → ℕ → Kind

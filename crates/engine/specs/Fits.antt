@@ -1,36 +1,24 @@
 -- How an engine fits the world of many callers: the view of its caller in the midst of a call, and at the end of it.
-use Rattle.std.specs.Prelude.{◌≡◌, ◌≢◌, ℕ, ◌^◌, ◌<◌, Option, None, Some, List, [], ◌∷◌, ◌++◌}
+use Rattle.std.specs.Prelude.{◌≡◌, ◌≢◌, ℕ, ◌^◌, ◌<◌, List, []}
 use Rattle.op_core.specs.declared.want.Want.TheVariants.{Done}
 use Rattle.trace.specs.Events.{Words}
 use Rattle.map_model.specs.declared.call.Call.{Call}
 use Rattle.map_model.specs.declared.call.Call.TheVariants.{Get}
-use Rattle.map_model.specs.declared.entry.Reply.{Reply}
-use Rattle.map_model.specs.Map.{is_change}
-use Rattle.map_model.specs.Legal.{seen_after}
+use Rattle.map_model.specs.Map.{key_of, value_of}
 use Rattle.world.specs.declared.site.Site.{Site as Here}
 use Rattle.world.specs.Site.{Site, IsSite}
 use Rattle.world.specs.Views.{View, At}
 use Rattle.world.specs.Wants.{answer_to, word_of}
-use Rattle.world.specs.Kinds.{wanted as wanted_by, view_after, next_entry, May}
+use Rattle.world.specs.Kinds.{wanted as wanted_by, view_after, May}
 use Rattle.world.specs.Invariant.{Holds}
+use Rattle.world.specs.Attempts.{HoldsOnly, HasNoMore, EntersReply}
 use Rattle.read_op.specs.Fits.{IsIn as ReadIsIn, Suits as ReadSuits}
-use Rattle.write_op.specs.Suits.{IsIn as WriteIsIn, Suits as WriteSuits, HoldsOnly}
-use Rattle.write_op.specs.Wanted.{key_for, value_for}
+use Rattle.write_op.specs.Suits.{IsIn as WriteIsIn, Suits as WriteSuits}
 use Rattle.write_op.specs.Numbers.{HasWords}
 use Rattle.engine.specs.declared.engine.Op.{Op}
 use Rattle.engine.specs.declared.engine.Op.TheVariants.{Read, Write}
 use Rattle.engine.specs.declared.engine.Engine.{Engine}
 use Rattle.engine.specs.Engine.{begun, wanted, taken, end_of, reply_of_end, kind_of}
-
--- a view that has the replies of another, and has seen as much
-pub record HasNoMore (before v : View) : Type 0 where
-  pub own : v.own ≡ before.own
-  pub seen : v.seen ≡ before.seen
-
--- a view with this reply more
-pub record HasOneMore (call : Call) (reply : Reply) (place : ℕ) (before v : View) : Type 0 where
-  pub own : v.own ≡ before.own ++ next_entry before call reply place (is_change reply) ∷ []
-  pub seen : v.seen ≡ seen_after (next_entry before call reply place (is_change reply))
 
 -- THE VIEW suits the machine in the midst of a call, whose attempt began with the view `before`
 abbrev pub SuitsOp : Site → Here → Call → Op → View → View → Type 0
@@ -44,11 +32,6 @@ pub record Suits (site : Site) (here : Here) (call : Call) (e : Engine) (before 
   pub suits : SuitsOp site here call e.op before v
   pub callers : 0 < v.callers
 
--- what the view has after an attempt: the reply of its end more, or no more than before
-abbrev pub EntersReply : Call → Option (Reply × ℕ) → View → View → Type 0
-EntersReply call None before v = HasNoMore before v
-EntersReply call (Some r) before v = HasOneMore call r.0 r.1 before v
-
 -- AN ATTEMPT HAS ENDED: the caller holds and owes nothing, and has its reply, if there is one, as its next entry
 pub record HasEnded (call : Call) (e : Engine) (before v : View) : Type 0 where
   pub nothing : HoldsOnly [] v
@@ -58,7 +41,7 @@ pub record HasEnded (call : Call) (e : Engine) (before v : View) : Type 0 where
 -- ---- the laws
 -- the key and the value of a call are words
 abbrev pub IsWordCall : Call → Type 0
-IsWordCall call = (key_for call < 2 ^ 64) × (value_for call < 2 ^ 64)
+IsWordCall call = (key_of call < 2 ^ 64) × (value_of call < 2 ^ 64)
 
 -- a call begins with any view that holds and owes nothing
 abbrev pub BeginsSuited : Type 0

@@ -1,6 +1,6 @@
 -- When the core is good: the replies of all callers are one legal history, and whatever a power cut may leave is sound and
 -- holds that history's map, open calls whole or absent.
-use Rattle.std.specs.Prelude.{◌≤◌, ◌⊎◌, ◌-◌, ◌^◌, ◌≡◌, ℕ, List, length, map, slice_index}
+use Rattle.std.specs.Prelude.{◌≤◌, ◌⊎◌, ◌^◌, ◌≡◌, ℕ, List, length, map, slice_index}
 use Rattle.std.specs.List.{AllByRecursion, AllZip}
 use Rattle.trace.specs.Events.{Words}
 use Rattle.trace.specs.Media.{IsPossible}
@@ -14,12 +14,8 @@ use Rattle.image_layout.specs.Places.{Shape, words_of}
 use Rattle.sound_image.specs.Image.{IsSoundImage}
 use Rattle.sound_image.specs.Left.{IsLeft}
 use Rattle.session.specs.Callers.{FollowsScript, undrawn}
-use Rattle.world.specs.Site.{IsLockWord}
+use Rattle.world.specs.Site.{HasSpentLock}
 use Rattle.engine.specs.Core.{Core, tolds_of, histories}
-
--- some lock word is free with the last version
-abbrev pub HasSpentLock : Shape → Words → Type 0
-HasSpentLock shape words = (lock : ℕ) × IsLockWord shape lock × (words lock ≡ 2 ^ 64 - 2)
 
 -- every list of words that a power cut may leave now is a sound image, and holds the map of the history so far, each open
 -- call whole or absent

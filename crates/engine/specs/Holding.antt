@@ -1,5 +1,5 @@
 -- What holds of the core between any two turns: the world is well, and the view of each caller fits what it runs and what it was told.
-use Rattle.std.specs.Prelude.{slice_get, ◌^◌, ⊤, map, take, ◌≤◌, ◌≡◌, ℕ, ◌<◌, false, Option, None, Some, List, [], ◌∷◌, ◌++◌, ◌⊎◌, length, replicate}
+use Rattle.std.specs.Prelude.{◌^◌, map, take, ◌≤◌, ◌≡◌, ℕ, ◌<◌, false, Option, None, Some, List, [], ◌∷◌, ◌++◌, ◌⊎◌, length, replicate}
 use Rattle.std.specs.List.{AllByRecursion, AllZip}
 use Rattle.std.specs.FinMap.{get}
 use Rattle.restart_op.specs.Notes.{HasNoNotes}
@@ -14,18 +14,14 @@ use Rattle.map_model.specs.Weave.{all_of, draws}
 use Rattle.map_model.specs.declared.entry.Reply.TheVariants.{Spent}
 use Rattle.map_model.specs.ByPlaces.{map_at}
 use Rattle.session.specs.Session.{HadNoRoom}
-use Rattle.world.specs.Site.{Site}
+use Rattle.world.specs.Site.{Site, HasSpentLock}
 use Rattle.world.specs.Views.{View, At, Has}
 use Rattle.world.specs.World.{World, IsWell, fresh_view}
-use Rattle.write_op.specs.Suits.{HoldsOnly}
-use Rattle.write_op.specs.declared.control.Step.{Step}
-use Rattle.write_op.specs.declared.control.Step.TheVariants.{CountSpent}
-use Rattle.engine.specs.declared.engine.Op.{Op}
-use Rattle.engine.specs.declared.engine.Op.TheVariants.{Read, Write}
+use Rattle.world.specs.Attempts.{HoldsOnly}
 use Rattle.engine.specs.declared.engine.Engine.{Engine}
 use Rattle.engine.specs.Fits.{Suits, IsWordCall}
 use Rattle.engine.specs.Core.{Caller, Core, call_at, current, turn, run, callers_from}
-use Rattle.engine.specs.Good.{HasSpentLock, IsGood}
+use Rattle.engine.specs.Good.{IsGood}
 
 -- ---- a caller and its view
 -- the replies that the caller was told, and one more at the most, which drew no place and is not told yet
@@ -87,15 +83,6 @@ abbrev pub FullHad : Site → List View → Type 0
 FullHad site views = (opening : Map) → ((k : ℕ) → get opening k ≡ site.start k) → (j : ℕ) (v : View) (e : Entry) → At views j v → Has e v.own
     → HadNoRoom site.shape (map_at opening (all_own views) e.place) e
 
--- a change is to say that a number is spent, since it found a lock word of the last version
-abbrev pub IsSpentStep : Step → Type 0
-IsSpentStep (CountSpent side) = ⊤
-IsSpentStep step = ⊥
-
-abbrev pub IsAtSpent : Op → Type 0
-IsAtSpent (Read op) = ⊥
-IsAtSpent (Write op) = IsSpentStep op.step
-
 -- each reply that a number is spent has its cause: 2 ^ 63 changes are drawn, or some lock word has the last version
 abbrev pub HadSpent : Shape → Words → List View → Type 0
 HadSpent shape words views = (j : ℕ) (v : View) (e : Entry) → At views j v → Has e v.own → e.reply ≡ Spent → (2 ^ 63 ≤ draws (all_own views)) ⊎ HasSpentLock shape words
@@ -110,10 +97,6 @@ pub record CoreHolds (site : Site) (start : Words) (core : Core) : Type 0 where
   -- caller 0 has nothing flushed that it has not fenced
   pub fenced : pending 0 core.trace ≡ []
   pub each : AllZip (CallerFits site) core.callers views
-  pub full : FullHad site (fresh_view 0 ∷ views)
-  pub spent : HadSpent site.shape core.words (fresh_view 0 ∷ views)
-  -- and where a change is to give that reply, there is such a lock word
-  pub at_spent : (j : ℕ) (c : Caller) (e : Engine) → slice_get core.callers j ≡ Some c → c.engine ≡ Some e → IsAtSpent e.op → HasSpentLock site.shape core.words
 
 -- ---- the laws
 -- A TURN of any caller, and of a number that is nobody's, keeps the core

@@ -9,3 +9,4 @@ pub mod Laws
 pub mod Sessions
 pub mod Pairs
 pub mod Causes
+pub mod Alone

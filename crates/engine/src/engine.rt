@@ -2,7 +2,7 @@
 
 ghost use Rattle.std.specs.Prelude.{◌≡◌};
 ghost use Rattle.op_core.specs.declared.want.Want.TheVariants as want;
-ghost use Rattle.engine.specs.Engine.{running, begun, go_on, wanted, taken, end_of, reply_of_end};
+ghost use Rattle.engine.specs.Engine.{running, begun, go_on, wanted, taken, end_of, reply_of_end, is_again};
 
 use map_model::{Call, Reply};
 use op_core::{Ans, Machine, Want};
@@ -38,6 +38,16 @@ impl End {
             End::Read(ReadEnd::Absent(place)) => Some((Reply::Absent, place)),
             End::Write(WriteEnd::Replied(reply, place)) => Some((reply, place)),
             End::Read(_) | End::Write(_) => None,
+        }
+    }
+
+    /// Whether the attempt is to be made again.
+    pub fn is_again(self) -> bool
+        ensures { result ≡ is_again self }
+    {
+        match self {
+            End::Read(end) => matches!(end, ReadEnd::Again(_)),
+            End::Write(end) => matches!(end, WriteEnd::Again(_)),
         }
     }
 }

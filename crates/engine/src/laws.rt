@@ -5,13 +5,13 @@ ghost use Rattle.op_core.specs.declared.want.Want.TheVariants.{Flush, Fence, Don
 ghost use Rattle.op_core.specs.declared.want.Ans.{Ans};
 ghost use Rattle.map_model.specs.declared.call.Call.{Call};
 ghost use Rattle.world.specs.declared.site.Site.{Site};
-ghost use Rattle.write_op.specs.Left.{IsAnswer};
+ghost use Rattle.op_core.specs.Answers.{IsAnswer};
 ghost use Rattle.engine.specs.declared.engine.Engine.{Engine};
 ghost use Rattle.engine.specs.Engine.{begun, wanted, taken};
 ghost use Rattle.engine.specs.Fits.{BeginsSuited, KeepsSuits};
-ghost use Rattle.engine.specs.Left.{left, waiting};
+ghost use Rattle.engine.specs.Left.{most_events, left, waiting};
 ghost use Rattle.engine.specs.Pairs.{LeavesOrMakes, BeginsUnmade, StaysMade, EndsAsDone, TurnLeavesOrMakes};
-ghost use Rattle.engine.specs.Asks.{AsksWithin, AsksWords, KeepsNotes, KeepsSpent, FullIsKnown};
+ghost use Rattle.engine.specs.Asks.{AsksWithin, AsksWords, KeepsNotes};
 
 /// An engine fits the world of many callers: at the beginning of a call it suits the view of a caller that holds, knows and owes
 /// nothing; each event is one of a kind that the view may take, and leaves a view that suits the engine; or the attempt has
@@ -32,11 +32,14 @@ pub fn asks_within()
     write_op::words_are_inside();
 }
 
-/// An attempt ends: each answer of the kind that was asked for leaves fewer events, of at most 55 at its beginning.
+/// An attempt ends: each answer of the kind that was asked for leaves fewer events, of at most `most_events`.
 pub fn attempts_end()
     ensures falls { (e : Engine) (ans : Ans) → IsAnswer (wanted e) ans → left (taken e ans) < left e }
-    ensures begins { (site : Site) (call : Call) → left (begun site call) ≤ 55 }
-{}
+    ensures most { (e : Engine) → left e ≤ most_events }
+{
+    read_op::ends_in_time();
+    write_op::attempt_ends();
+}
 
 /// What an engine stores, or puts in place of another value, is a word.
 pub fn stores_are_words()
@@ -52,13 +55,6 @@ pub fn stores_keep_notes()
     write_op::stores_keep_notes();
 }
 
-/// A lock word that is free with its last version stays: an engine neither stores it nor asks to exchange it.
-pub fn spent_locks_stay()
-    ensures { KeepsSpent }
-{
-    write_op::spent_locks_stay();
-}
-
 /// At most two lines are flushed and not fenced: the number that bounds them is 0 at both ends and never above 2, each flush
 /// raises it, and no event but a fence lowers it.
 pub fn flushes_are_few()
@@ -70,11 +66,6 @@ pub fn flushes_are_few()
 {
     write_op::flushes_are_few();
 }
-
-/// Where an engine is to refuse an insert for want of room, its caller knows that the key's home bucket is full.
-pub fn no_room_is_full()
-    ensures { FullIsKnown }
-{}
 
 /// An attempt that does not end as done left the pairs as they were, beside any other callers: each event leaves what every key
 /// has, or else is the one by which the attempt makes its change, not made before it and made after; an attempt begins without,

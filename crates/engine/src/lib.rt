@@ -8,14 +8,16 @@
 mod causes;
 mod engine;
 mod laws;
+mod single;
 mod turns;
 
 pub use causes::ends_have_causes;
 pub use engine::{End, Engine, Op};
 pub use laws::{
-    asks_within, attempts_end, fits_the_world, flushes_are_few, no_room_is_full,
-    refusals_leave_pairs, spent_locks_stay, stores_are_words, stores_keep_notes,
+    asks_within, attempts_end, fits_the_world, flushes_are_few, refusals_leave_pairs,
+    stores_are_words, stores_keep_notes,
 };
+pub use single::never_again_alone;
 pub use turns::{
     close_is_session, core_begins, cut_is_session, holding_is_good, opened_holds, through_is_quiet,
     turn_keeps, turns_alone, turns_keep,

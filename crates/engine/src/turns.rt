@@ -17,8 +17,6 @@ pub fn turn_keeps()
     laws::fits_the_world();
     laws::stores_are_words();
     laws::stores_keep_notes();
-    laws::no_room_is_full();
-    laws::spent_locks_stay();
 }
 
 /// A core that holds is good: the replies are one legal history, and whatever a power cut may leave holds its map.

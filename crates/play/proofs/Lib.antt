@@ -1,18 +1,5 @@
-pub mod Events
-pub mod Devices
+mod driven
 pub mod Mapped
-pub mod Seats
-pub mod TableParts
-pub mod Pictures
-pub mod Reopened
-pub mod Marking
-pub mod Doing
-pub mod Drives
-pub mod Rounds
-pub mod Media
+mod ended
 pub mod Beginning
-pub mod Whole
-pub mod Answering
-pub mod AtRest
-pub mod ToldsOfRun
 pub mod Printed

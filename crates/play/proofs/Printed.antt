@@ -9,8 +9,8 @@ use Rattle.reply_text.specs.declared.left.Session.{Session}
 use Rattle.reply_text.specs.Told.{tolds_of}
 use Rattle.engine.specs.Core.{tolds_of as tolds_of_core}
 use Rattle.play.specs.Played.{scripts_of, end_of_run, IsOfRun}
-use Rattle.play.proofs.AtRest.{rest_in_run}
-use Rattle.play.proofs.ToldsOfRun.{same_tolds}
+use Rattle.play.proofs.ended.AtRest.{rest_in_run}
+use Rattle.play.proofs.ended.ToldsOfRun.{same_tolds}
 
 pub printed_by_run : (shape : Shape) (first : List ℕ) (lines : List Line) (left : Session) → IsOfRun shape first lines left
     → transcript_of (tolds_of (lists_of left.lists) left.stops) ≡ transcript_of (tolds_of_core (end_of_run shape first lines).core)

@@ -2,4 +2,3 @@ pub mod Runners
 pub mod Tables
 pub mod Played
 pub mod Deeds
-pub mod Kept

@@ -16,19 +16,6 @@ use Rattle.core_run.specs.Running.{Task, IsTask, IsRunning, start_of}
 use Rattle.play.specs.declared.table.Table.{Table}
 use Rattle.play.specs.Runners.{callers_of, HaveRoom}
 
--- the value that an event finds
-abbrev pub found_by : Want → Memory → ℕ
-found_by w memory = slice_index memory.newest (word_of memory.shape w)
-
--- a memory can do the event: its word is one of the memory, its line one of the image, and the caller has fewer than eight
--- lines flushed and not fenced
-pub record MayBeAsked (caller : ℕ) (w : Want) (memory : Memory) : Type 0 where
-  pub caller_is : caller ≤ memory.callers
-  pub word : word_of memory.shape w < all_words_of memory.shape
-  pub line : (l : ℕ) → w ≡ Flush l → 8 * l + 8 ≤ words_of memory.shape
-  pub few : (l : ℕ) → w ≡ Flush l → unfenced caller memory < 8
-  pub some : w ≡ Done → ⊥
-
 -- THE TABLE is in this state: its memory came from the state's events, and its runners are the state's callers
 pub record IsOf (t : Task) (table : Table) (s : State) : Type 0 where
   pub shape : table.device.shape ≡ t.shape

@@ -2,14 +2,12 @@
 
 ghost use Rattle.std.specs.Prelude.{◌≡◌};
 ghost use Rattle.core_run.specs.State.{Deed as SaidDeed};
-ghost use Rattle.core_run.specs.Run.{is_of_kind, is_store_to, counts, ends_call, is_again, ends_in_again};
+ghost use Rattle.core_run.specs.Run.{is_of_kind, is_store_to, counts, ends_call, ends_in_again};
 
 use core_run::{Deed, Goal};
 use engine::End;
 use op_core::Want;
-use read_op::ReadEnd;
 use script_text::Event;
-use write_op::WriteEnd;
 
 /// Whether an attempt ended with the reply to its call.
 fn ends_call(end: Option<End>) -> bool
@@ -56,22 +54,12 @@ pub(crate) fn counts(goal: Goal, deed: Deed) -> bool
     }
 }
 
-/// Whether an attempt ended and is to be made again.
-fn is_again(end: End) -> bool
-    ensures { result ≡ is_again end }
-{
-    match end {
-        End::Read(end) => matches!(end, ReadEnd::Again(_)),
-        End::Write(end) => matches!(end, WriteEnd::Again(_)),
-    }
-}
-
 /// Whether an attempt ended with this event and is to be made again.
 pub(crate) fn ends_in_again(end: Option<End>) -> bool
     ensures { result ≡ ends_in_again end }
 {
     match end {
-        Some(end) => is_again(end),
+        Some(end) => end.is_again(),
         None => false,
     }
 }

@@ -8,13 +8,14 @@ ghost use Rattle.restart_op.specs.Close.{wanted as close_wanted};
 ghost use Rattle.core_run.specs.Running.{Task};
 ghost use Rattle.core_run.specs.State.{State, awake, restart_deed, close_deed, keeper_deed, engine_deed, open_deed, deed};
 ghost use Rattle.play.specs.Runners.{awoken};
-ghost use Rattle.play.specs.Tables.{MayBeAsked, IsOf, Stands, StandsSomewhere, IsAfter, HasDone};
+ghost use Rattle.keeping.specs.Asked.{MayBeAsked};
+ghost use Rattle.play.specs.Tables.{IsOf, Stands, StandsSomewhere, IsAfter, HasDone};
 ghost use Rattle.play.specs.Deeds.{MayGo, FollowsRestart, FollowsClose, FollowsCall, FollowsDeed, running_in, restarting_keeper, restarting_runners, closing_keeper};
 
-use crate::event::event;
 use crate::runner::{Runner, RunningCall};
 use crate::table::Table;
 use core_run::{Deed, Keeper};
+use keeping::event;
 use map_model::Call;
 use op_core::{Machine, Want};
 use restart_op::{CloseOp, RestartOp};

@@ -4,7 +4,7 @@ ghost use Rattle.std.specs.Prelude.{◌≡◌, ℕ, ◌≤◌, ◌+◌, ◌*◌,
 ghost use Rattle.script_text.specs.Calls.{IsLineSoFar};
 ghost use Rattle.restart_op.specs.Restarted.{IsPlayableImage};
 ghost use Rattle.image_layout.specs.Places.{words_of};
-ghost use Rattle.core_run.specs.Run.{cut_of, most_events};
+ghost use Rattle.core_run.specs.Run.{cut_of, most_with, most_events};
 ghost use Rattle.core_run.specs.State.{waiting};
 ghost use Rattle.core_run.specs.Wells.{start_state};
 ghost use Rattle.play.specs.Runners.{caller_of};
@@ -28,6 +28,9 @@ use world::Site;
 /// The greatest number of a caller.
 const CALLERS: u8 = 64;
 
+/// For each call the events that an attempt makes at most, and one.
+const EVENTS_OF_CALL: u64 = 56;
+
 /// The choice of the power cut with which a script ends, if it does.
 fn cut_of(lines: &[Line]) -> Option<u64>
     ensures { result ≡ cut_of lines.now }
@@ -43,9 +46,9 @@ fn cut_of(lines: &[Line]) -> Option<u64>
 /// At most so many events does any line make.
 fn most_events(geometry: &Geometry, calls: usize) -> u64
     requires { calls ≤ 1000000 }
-    ensures { result ≡ 2 * words_of geometry.now + 64 * calls + 64 }
+    ensures { result ≡ most_with geometry.now calls }
 {
-    2 * geometry.words() + 64 * calls as u64 + 64
+    2 * geometry.words() + EVENTS_OF_CALL * (calls as u64 + 1)
 }
 
 /// Caller 1, before the restart has ended.

@@ -3,7 +3,8 @@ use Rattle.std.proofs.Common.{◌≡◌, ◌≢◌, ℕ, ◌+◌, ◌%◌, inl, 
 use Rattle.std.specs.Prelude.{◌==◌, ◌&&◌, nat_lt, nat_le, not, replicate, slice_set, ⊤}
 use Rattle.std.proofs.lemmas.Bool.{eqb-true, eqb-false, ltb-false, leb-false, false≢true}
 use Rattle.op_core.specs.declared.want.Want.TheVariants.{Done}
-use Rattle.segment_head.specs.HeadWord.{version_in}
+use Rattle.op_core.specs.Answers.{IsReading, IsLoad}
+use Rattle.segment_head.specs.HeadWord.{version_in, is_live}
 use Rattle.image_layout.specs.Places.{root_word}
 use Rattle.read_op.specs.declared.step.ReadEnd.TheVariants as ends
 use Rattle.read_op.specs.declared.step.Found.{Found}
@@ -13,8 +14,9 @@ use Rattle.read_op.specs.declared.step.ReadStep.{ReadStep}
 use Rattle.read_op.specs.declared.step.ReadStep.TheVariants.{Power, Root, Entry, Head, Lock, Fill, Count, Check, Ended}
 use Rattle.read_op.specs.declared.op.ReadOp.{ReadOp}
 use Rattle.way.specs.Ways.{entry_word, head_word, is_covering}
-use Rattle.read_op.specs.Steps.{wanted_in, wanted_again, next_in, checked, value_of, moved, busy, end_by, end_of, lock_word, is_live}
-use Rattle.read_op.specs.Causes.{ReadsAlone, IsReading, IsDepth, IsNamed, CausedIn, EndsByCause}
+use Rattle.read_op.specs.Steps.{wanted, wanted_in, wanted_again, next_in, checked, value_of, moved, busy, end_by, end_of, lock_word}
+use Rattle.read_op.specs.Causes.{ReadsAlone, IsDepth, IsNamed, CausedIn, EndsByCause}
+use Rattle.world.proofs.stepping.Answers.{load_asked}
 
 -- if it is an end, it has its cause
 abbrev pub CausedIf : ReadOp → ReadStep → ℕ → ReadStep → Type 0
@@ -137,3 +139,7 @@ reads_in op (Ended end) = tt
 
 pub reads_alone : ReadsAlone
 reads_alone op = reads_in op op.step
+
+-- where something is wanted it is a load
+pub loads_alone : (op : ReadOp) → wanted op ≢ Done → IsLoad (wanted op)
+loads_alone op asks = load_asked (wanted op) (reads_alone op) asks

@@ -2,7 +2,7 @@
 use Rattle.std.proofs.Common.{◌≡◌, ◌≢◌, ℕ, ◌+◌, ◌-◌, ◌<◌, ◌≤◌, Bool, true, false, List, [], ◌∷◌, length, refl, arith}
 use Rattle.std.specs.Prelude.{if◌then◌else◌, nat_lt, nat_le, ◌==◌, ◌&&◌, ◌%◌, not, replicate}
 use Rattle.std.proofs.lemmas.Bool.{ltb-true, ltb-false}
-use Rattle.segment_head.specs.HeadWord.{version_in}
+use Rattle.segment_head.specs.HeadWord.{version_in, is_live}
 use Rattle.image_layout.specs.Places.{root_word}
 use Rattle.read_op.specs.declared.step.ReadEnd.TheVariants as ends
 use Rattle.op_core.specs.declared.want.Want.TheVariants.{Done}
@@ -15,8 +15,8 @@ use Rattle.read_op.specs.declared.step.ReadStep.{ReadStep}
 use Rattle.read_op.specs.declared.step.ReadStep.TheVariants.{Power, Root, Entry, Head, Lock, Fill, Count, Check, Ended}
 use Rattle.read_op.specs.declared.op.ReadOp.{ReadOp}
 use Rattle.way.specs.Ways.{entry_word, head_word, is_covering}
-use Rattle.read_op.specs.Steps.{begun, wanted, taken, wanted_in, next_in, checked, value_of, moved, busy, end_of, lock_word, is_live}
-use Rattle.read_op.specs.Budget.{left, left_again, Falls, EndsInTime, after_all}
+use Rattle.read_op.specs.Steps.{begun, wanted, taken, wanted_in, next_in, checked, value_of, moved, busy, end_of, lock_word}
+use Rattle.read_op.specs.Budget.{most_events, left, left_again, Falls, EndsInTime, after_all}
 
 both_most : (n : ℕ) (b : Bool) (s t : ReadStep) → left s ≤ n → left t ≤ n → left (if b then s else t) ≤ n
 both_most n true s t p q = p
@@ -56,6 +56,27 @@ lowers op (Fill path free words next) seen = filled_lowers op path free _ next (
 lowers op (Count found) seen = omega arith
 lowers op (Check found place at) seen = checked_lowers op found place at seen
 lowers op (Ended end) seen = omega arith
+
+-- no get has more left than at its beginning
+most_again : (at : Second) → left_again at ≤ 4
+most_again again.Root = omega arith
+most_again again.Entry = omega arith
+most_again again.Head = omega arith
+most_again again.Lock = omega arith
+
+most_in : (s : ReadStep) → left s ≤ most_events
+most_in Power = omega arith
+most_in Root = omega arith
+most_in (Entry root) = omega arith
+most_in (Head root segment) = omega arith
+most_in (Lock path) = omega arith
+most_in (Fill path free words next) = omega arith
+most_in (Count found) = omega arith
+most_in (Check found place at) = let a = most_again at in omega (arith, a)
+most_in (Ended end) = omega arith
+
+pub most : (op : ReadOp) → left op.step ≤ most_events
+most op = most_in op.step
 
 some_again : (at : Second) → 0 < left_again at
 some_again again.Root = omega arith

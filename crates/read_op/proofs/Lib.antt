@@ -5,4 +5,5 @@ pub mod Fitting
 pub mod Stepping
 pub mod Loading
 pub mod Causing
+pub mod Ending
 pub mod Sounding

@@ -1,7 +1,7 @@
 -- What a get keeps was loaded by its events, in that order.
 use Rattle.std.proofs.Common.{ℕ, inl, inr, Bool, true, false, cond, List, [], ◌∷◌, refl}
 use Rattle.std.specs.Prelude.{◌==◌, ◌&&◌, ◌%◌, nat_lt, nat_le, not, replicate, slice_set, ◌+◌}
-use Rattle.segment_head.specs.HeadWord.{version_in}
+use Rattle.segment_head.specs.HeadWord.{version_in, is_live}
 use Rattle.op_core.specs.declared.want.Ans.TheVariants.{Value}
 use Rattle.image_layout.specs.Places.{root_word}
 use Rattle.world.specs.Wants.{word_of}
@@ -13,7 +13,7 @@ use Rattle.read_op.specs.declared.step.ReadStep.{ReadStep}
 use Rattle.read_op.specs.declared.step.ReadStep.TheVariants.{Power, Root, Entry, Head, Lock, Fill, Count, Check, Ended}
 use Rattle.read_op.specs.declared.op.ReadOp.{ReadOp}
 use Rattle.way.specs.Ways.{entry_word, head_word, is_covering}
-use Rattle.read_op.specs.Steps.{begun, wanted_in, wanted_again, taken, next_in, checked, value_of, moved, busy, end_of, lock_word, is_live}
+use Rattle.read_op.specs.Steps.{begun, wanted_in, wanted_again, taken, next_in, checked, value_of, moved, busy, end_of, lock_word}
 use Rattle.read_op.specs.Budget.{after_all}
 use Rattle.read_op.specs.Causes.{kept_in, kept, loads_of, IsWithin, KeepsLoads}
 

@@ -3,7 +3,7 @@ use Rattle.std.proofs.Common.{◌≡◌, ◌≢◌, ℕ, ◌+◌, ◌%◌, ◌^�
 use Rattle.std.specs.Prelude.{◌==◌, ◌&&◌, ◌||◌, nat_lt, nat_le}
 use Rattle.std.proofs.lemmas.Bool.{cases_lt, eq-eqb, lt-ltb, le-ltb, false≢true}
 use Rattle.hash_word.specs.Hash.{home_of, index_of}
-use Rattle.segment_head.specs.HeadWord.{version_in, state_in, pattern_in, normal, splitting}
+use Rattle.segment_head.specs.HeadWord.{version_in, state_in, pattern_in, normal, splitting, is_live}
 use Rattle.op_core.specs.declared.want.Want.TheVariants.{Load, Done}
 use Rattle.op_core.specs.declared.why.Why.TheVariants.{Busy, Moved}
 use Rattle.trace.specs.Events.{Words}
@@ -22,7 +22,7 @@ use Rattle.read_op.specs.declared.step.ReadStep.{ReadStep}
 use Rattle.read_op.specs.declared.step.ReadStep.TheVariants.{Power, Root, Entry, Head, Lock, Fill, Count, Check, Ended}
 use Rattle.read_op.specs.declared.op.ReadOp.{ReadOp}
 use Rattle.way.specs.Ways.{is_covering, head_word}
-use Rattle.read_op.specs.Steps.{wanted, is_live, lock_word}
+use Rattle.read_op.specs.Steps.{wanted, lock_word}
 use Rattle.read_op.specs.Fits.{IsIn, Suits, suits_in, kind_in, finds}
 use Rattle.read_op.specs.Causes.{IsWatched, IsAmiss, EndsSo, IsAnothers, IsSoundEnd, EndsSoundly, NeverStale, NeverBusy}
 use Rattle.read_op.proofs.Fitting.{home_lock, wants_in}

@@ -4,7 +4,7 @@ use Rattle.std.specs.Prelude.{◌==◌, ◌&&◌, nat_lt, nat_le, not, replicate
 use Rattle.std.proofs.lemmas.Bool.{cases_eq, eq-eqb, ne_eqb, le-leb, ltb-true, ltb-false}
 use Rattle.hash_word.specs.Hash.{index_of}
 use Rattle.bucket_meta.specs.Bucket.{allocated}
-use Rattle.segment_head.specs.HeadWord.{version_in}
+use Rattle.segment_head.specs.HeadWord.{version_in, is_live}
 use Rattle.trace.specs.Events.{Words}
 use Rattle.image_layout.specs.Places.{root_word, entry_at}
 use Rattle.bucket_words.specs.Buckets.{find_below}
@@ -18,6 +18,7 @@ use Rattle.map_model.specs.Map.{shown}
 use Rattle.world.specs.Kinds.{next_entry, with_reply, view_after, with_look, with_noted, with_answer, marked, all_again, unmarked}
 use Rattle.world.specs.Invariant.{Holds}
 use Rattle.world.specs.Laws.{found_by}
+use Rattle.world.specs.Attempts.{HasNoMore}
 use Rattle.read_op.specs.declared.step.Path.{Path}
 use Rattle.read_op.specs.declared.step.Found.{Found}
 use Rattle.read_op.specs.declared.step.ReadEnd.TheVariants as ends
@@ -27,8 +28,8 @@ use Rattle.read_op.specs.declared.step.ReadStep.{ReadStep}
 use Rattle.read_op.specs.declared.step.ReadStep.TheVariants.{Power, Root, Entry, Head, Lock, Fill, Count, Check, Ended}
 use Rattle.read_op.specs.declared.op.ReadOp.{ReadOp}
 use Rattle.way.specs.Ways.{entry_word, head_word, is_covering}
-use Rattle.read_op.specs.Steps.{wanted_in, next_in, checked, lock_word, is_live, value_of, moved, busy, end_by}
-use Rattle.read_op.specs.Fits.{IsIn, kind_in, kind_again, note_of, IsBare, IsFilling, IsChecking, suits_in, OwesTheSame, HasNotReplied, EntersAnswer, KeepsSuits}
+use Rattle.read_op.specs.Steps.{wanted_in, next_in, checked, lock_word, value_of, moved, busy, end_by}
+use Rattle.read_op.specs.Fits.{IsIn, kind_in, kind_again, note_of, IsBare, IsFilling, IsChecking, suits_in, OwesTheSame, EntersAnswer, KeepsSuits}
 use Rattle.read_op.proofs.Fitting.{home_lock}
 
 -- ---- the words of a bucket, in a list
@@ -67,7 +68,7 @@ module _ (site : Site) (op : ReadOp) (is : IsIn site op) (words : Words) (views 
   same_v : OwesTheSame v v
   same_v = record { held = refl; known = refl; dirty = refl; flushed = refl; planned = refl }
 
-  quiet_v : HasNotReplied v v
+  quiet_v : HasNoMore v v
   quiet_v = record { own = refl; seen = refl }
 
   -- an attempt that is to be made again, or that found a segment stale

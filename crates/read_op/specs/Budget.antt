@@ -13,6 +13,10 @@ use Rattle.read_op.specs.declared.step.ReadStep.TheVariants.{Power, Root, Entry,
 use Rattle.read_op.specs.declared.op.ReadOp.{ReadOp}
 use Rattle.read_op.specs.Steps.{begun, wanted, taken}
 
+-- a get makes at most so many events
+abbrev pub most_events : ℕ
+most_events = 41
+
 abbrev pub left_again : Second → ℕ
 left_again again.Root = 4
 left_again again.Entry = 3
@@ -21,7 +25,7 @@ left_again again.Lock = 1
 
 -- at most so many events are left
 abbrev pub left : ReadStep → ℕ
-left Power = 41
+left Power = most_events
 left Root = 40
 left (Entry root) = 39
 left (Head root segment) = 38
@@ -40,9 +44,9 @@ abbrev pub after_all : ReadOp → List ℕ → ReadOp
 after_all op [] = op
 after_all op (seen ∷ rest) = after_all (taken op (Value seen)) rest
 
--- whatever values 41 events find, a get wants nothing more after them
+-- whatever values that many events find, a get wants nothing more after them
 abbrev pub EndsInTime : Type 0
-EndsInTime = (key : ℕ) (site : Site) (seen : List ℕ) → 41 ≤ length seen → wanted (after_all (begun key site) seen) ≡ Done
+EndsInTime = (key : ℕ) (site : Site) (seen : List ℕ) → most_events ≤ length seen → wanted (after_all (begun key site) seen) ≡ Done
 
 -- in any state a get asks for a word of the image or one behind it alone
 abbrev pub AsksWithin : Type 0

@@ -1,10 +1,10 @@
 -- By what each end of a get comes: what its last event loaded and found, and what the events before it had found.
 use Rattle.std.specs.Prelude.{◌≡◌, ◌≢◌, ℕ, ◌%◌, ◌^◌, ◌<◌, ◌≤◌, ⊤, true, false, Option, Some, None, List, [], ◌∷◌, ◌⊎◌}
-use Rattle.op_core.specs.declared.want.Want.{Want}
 use Rattle.op_core.specs.declared.want.Want.TheVariants.{Load, Power as LoadPower, Done}
 use Rattle.op_core.specs.declared.want.Ans.TheVariants.{Value}
 use Rattle.op_core.specs.declared.why.Why.TheVariants.{Busy, Moved}
-use Rattle.segment_head.specs.HeadWord.{version_in}
+use Rattle.op_core.specs.Answers.{IsReading}
+use Rattle.segment_head.specs.HeadWord.{version_in, is_live}
 use Rattle.trace.specs.Events.{Words}
 use Rattle.image_layout.specs.Places.{root_word, state_word}
 use Rattle.image_layout.specs.Volatile.{counter_word}
@@ -23,18 +23,11 @@ use Rattle.read_op.specs.declared.step.ReadStep.TheVariants.{Power, Root, Entry,
 use Rattle.read_op.specs.declared.step.Found.{Found}
 use Rattle.read_op.specs.declared.op.ReadOp.{ReadOp}
 use Rattle.way.specs.Ways.{is_covering, entry_word, head_word}
-use Rattle.read_op.specs.Steps.{begun, wanted, taken, wanted_in, is_live, lock_word}
+use Rattle.read_op.specs.Steps.{begun, wanted, taken, wanted_in, lock_word}
 use Rattle.read_op.specs.Budget.{after_all}
 use Rattle.read_op.specs.Fits.{IsIn, Suits, next_op}
 
 -- ---- what a get wants
--- an event that changes no word: a load, a look at the power word, or none
-abbrev pub IsReading : Want → Type 0
-IsReading (Load word) = ⊤
-IsReading LoadPower = ⊤
-IsReading Done = ⊤
-IsReading want = ⊥
-
 -- A GET ONLY READS, in any state: it stores to no word and tries no exchange
 abbrev pub ReadsAlone : Type 0
 ReadsAlone = (op : ReadOp) → IsReading (wanted op)

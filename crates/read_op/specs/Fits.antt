@@ -1,22 +1,22 @@
 -- How a get fits the world: the kind of each of its events, the view that its caller has in each step, and what each
 -- event does to that view.
-use Rattle.std.specs.Prelude.{◌≡◌, ◌≢◌, ℕ, ◌+◌, ◌%◌, ◌^◌, ◌<◌, ◌≤◌, ⊤, None, Some, List, [], ◌∷◌, ◌++◌, length, slice_index, false}
+use Rattle.std.specs.Prelude.{◌≡◌, ◌≢◌, ℕ, ◌+◌, ◌%◌, ◌^◌, ◌<◌, ◌≤◌, ⊤, None, Some, List, [], ◌∷◌, length, slice_index, false}
 use Rattle.op_core.specs.declared.want.Want.TheVariants.{Done}
 use Rattle.op_core.specs.declared.want.Ans.TheVariants.{Value}
 use Rattle.trace.specs.Events.{Words}
 use Rattle.image_layout.specs.Places.{root_word}
 use Rattle.image_layout.specs.Volatile.{counter_word}
 use Rattle.map_model.specs.declared.call.Call.TheVariants.{Get}
-use Rattle.map_model.specs.declared.entry.Reply.{Reply}
 use Rattle.map_model.specs.declared.entry.Reply.TheVariants as reply
 use Rattle.sound_image.specs.Records.{key_hash}
 use Rattle.bucket_words.specs.Tables.{find}
 use Rattle.world.specs.declared.site.Site.{Site as Here}
 use Rattle.world.specs.Site.{Site, IsSite}
 use Rattle.world.specs.Views.{Note, View, Has, At}
-use Rattle.world.specs.Kinds.{Kind, peeks, asks_power, looks, notes_word, places, validates, wanted as wanted_by, view_after, next_entry, AgreesWithNotes, May}
+use Rattle.world.specs.Kinds.{Kind, peeks, asks_power, looks, notes_word, places, validates, wanted as wanted_by, view_after, AgreesWithNotes, May}
 use Rattle.world.specs.Invariant.{Holds}
 use Rattle.world.specs.Laws.{found_by}
+use Rattle.world.specs.Attempts.{HasNoMore, HasOneMore}
 use Rattle.read_op.specs.declared.step.Path.{Path}
 use Rattle.read_op.specs.declared.step.Found.{Found}
 use Rattle.read_op.specs.declared.step.ReadEnd.TheVariants as ends
@@ -139,21 +139,11 @@ pub record OwesTheSame (v after : View) : Type 0 where
   pub flushed : after.flushed ≡ v.flushed
   pub planned : after.planned ≡ v.planned
 
--- the view has one entry more: the reply to the get of a key, at a place that it has seen by then
-pub record HasReplied (v after : View) (key : ℕ) (r : Reply) (place : ℕ) : Type 0 where
-  pub own : after.own ≡ v.own ++ next_entry v (Get key) r place false ∷ []
-  pub seen : after.seen ≡ place
-
--- the view has the same entries
-pub record HasNotReplied (v after : View) : Type 0 where
-  pub own : after.own ≡ v.own
-  pub seen : after.seen ≡ v.seen
-
 -- WHAT IS ANSWERED is entered by the last event, and by that alone
 abbrev pub EntersAnswer : ℕ → ReadStep → View → View → Type 0
-EntersAnswer key (Ended (ends.Found x place)) v after = HasReplied v after key (reply.Found x) place
-EntersAnswer key (Ended (ends.Absent place)) v after = HasReplied v after key reply.Absent place
-EntersAnswer key s v after = HasNotReplied v after
+EntersAnswer key (Ended (ends.Found x place)) v after = HasOneMore (Get key) (reply.Found x) place v after
+EntersAnswer key (Ended (ends.Absent place)) v after = HasOneMore (Get key) reply.Absent place v after
+EntersAnswer key s v after = HasNoMore v after
 
 module _ (site : Site) (op : ReadOp) (words : Words) where
   -- the value that the next event finds, the get after it, and the view

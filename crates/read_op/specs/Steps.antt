@@ -1,7 +1,8 @@
 -- What a get wants in each step, and what an answer makes of it.
-use Rattle.std.specs.Prelude.{◌==◌, ◌&&◌, ◌||◌, ℕ, ◌+◌, ◌%◌, nat_le, nat_lt, not, Bool, if◌then◌else◌, Option, Some, None, List, slice_index, slice_set, replicate}
+use Rattle.std.specs.Prelude.{◌==◌, ◌&&◌, ℕ, ◌+◌, ◌%◌, nat_le, nat_lt, not, Bool, if◌then◌else◌, Option, Some, None, List, slice_index, slice_set, replicate}
 use Rattle.hash_word.specs.Hash.{home_of}
-use Rattle.segment_head.specs.HeadWord.{version_in, state_in, normal, splitting}
+use Rattle.segment_head.specs.HeadWord.{version_in, is_live}
+use Rattle.bucket_meta.specs.Bucket.{record_slots}
 use Rattle.image_layout.specs.Places.{root_word}
 use Rattle.image_layout.specs.Volatile.{counter_word}
 use Rattle.sound_image.specs.Records.{key_hash}
@@ -28,13 +29,9 @@ abbrev pub lock_word : Site → ℕ → ℕ → ℕ
 lock_word site hash segment = bucket_word site.geometry segment (home_of hash)
 
 -- ---- what it makes of the words
--- a header of a live segment
-abbrev pub is_live : ℕ → Bool
-is_live head = (state_in head == normal) || (state_in head == splitting)
-
 -- what a key has in a bucket of these words
 abbrev pub value_of : List ℕ → ℕ → Option ℕ
-value_of words key = find_below (λ i. slice_index words i) 0 key 14
+value_of words key = find_below (λ i. slice_index words i) 0 key record_slots
 
 -- ---- ends
 abbrev pub moved : ℕ → ℕ → ℕ → ReadStep

@@ -1,19 +1,17 @@
 //! The laws of a get. The functions do nothing: each stands for the law that its contract says.
 
 ghost use Rattle.std.specs.Prelude.{ℕ, ◌≤◌};
-ghost use Rattle.world.specs.declared.site.Site.{Site};
-ghost use Rattle.read_op.specs.Steps.{begun};
 ghost use Rattle.world.specs.Site.{Site as Image};
 ghost use Rattle.world.specs.Views.{View};
 ghost use Rattle.read_op.specs.declared.op.ReadOp.{ReadOp};
 ghost use Rattle.read_op.specs.Fits.{BeginsSuited, WantsByKind, MayStep, KeepsSuits};
-ghost use Rattle.read_op.specs.Budget.{left, Falls, EndsInTime, AsksWithin};
+ghost use Rattle.read_op.specs.Budget.{most_events, left, Falls, EndsInTime, AsksWithin};
 ghost use Rattle.read_op.specs.Causes.{ReadsAlone, EndsByCause, KeepsLoads, EndsSoundly, NeverStale, NeverBusy};
 
-/// Each event leaves fewer to do, so that a get ends within 41 events.
+/// Each event leaves fewer to do, of at most `most_events`, so that a get ends after that many.
 pub fn ends_in_time()
     ensures falls { Falls }
-    ensures most { (key : ℕ) (site : Site) → left (begun key site).step ≤ 150 }
+    ensures most { (op : ReadOp) → left op.step ≤ most_events }
     ensures ends { EndsInTime }
 {}
 

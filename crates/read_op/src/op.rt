@@ -1,16 +1,18 @@
 //! The machine.
 
 ghost use Rattle.std.specs.Prelude.{◌≡◌, ℕ, ◌==◌, ◌||◌, ◌&&◌, ◌<◌, ◌^◌, nat_le};
-ghost use Rattle.segment_head.specs.HeadWord.{version_in};
 ghost use Rattle.op_core.specs.declared.want.Want.TheVariants as want;
 ghost use Rattle.read_op.specs.declared.step.ReadStep.TheVariants.{Ended};
-ghost use Rattle.read_op.specs.Steps.{begun, wanted, taken, wanted_again, is_live, moved, busy, head_taken, filled, checked, lock_checked, end_of, next_of};
+ghost use Rattle.read_op.specs.Steps.{begun, wanted, taken, wanted_again, moved, busy, head_taken, filled, checked, lock_checked, end_of, next_of};
 
-use crate::slots::{value_of, with_word};
+use crate::slots::value_of;
 use crate::step::{Found, Path, ReadEnd, ReadStep, Second};
 use crate::words::lock_word;
+use bucket_meta::words::with_word;
+use image_layout::ROOT_WORD;
 use op_core::{Ans, Machine, Want, Why};
-use way::{ROOT_WORD, entry_word, head_word, is_covering, key_hash};
+use segment_head::word::{is_live, version_of};
+use way::{entry_word, head_word, is_covering, key_hash};
 use world::Site;
 
 /// A get over the home bucket alone, one attempt.
@@ -42,21 +44,6 @@ fn busy(word: u64, seen: u64) -> ReadStep
     ensures { result ≡ busy word seen }
 {
     ReadStep::Ended(ReadEnd::Again(Why::Busy { word, seen }))
-}
-
-/// Whether a header is that of a live segment: a normal or a splitting one.
-fn is_live(head: u64) -> bool
-    ensures { result ≡ is_live head }
-{
-    let state = (head >> 8) & 0xFF;
-    state == 1 || state == 2
-}
-
-/// The version byte of a header.
-fn version_in(head: u64) -> u8
-    ensures { result ≡ version_in head }
-{
-    (head & 0xFF) as u8
 }
 
 /// What a get ends with if all words were found the same.
@@ -110,7 +97,7 @@ impl ReadOp {
     fn after_head(&self, root: u64, segment: u64, head: u64) -> ReadStep
         ensures { result ≡ head_taken self.now root segment head }
     {
-        let version = version_in(head);
+        let version = version_of(head);
         if is_live(head) && version != self.site.version {
             ReadStep::Ended(ReadEnd::Stale(segment, version))
         } else if is_live(head) && is_covering(head, self.hash) {
@@ -215,7 +202,7 @@ impl ReadOp {
                 free,
                 words,
                 next,
-            } => { self.after_word(path, free, with_word(words, next, value), next) }
+            } => { self.after_word(path, free, with_word(&words, next, value), next) }
             ReadStep::Count { found } => ReadStep::Check {
                 found,
                 place: value,
@@ -246,7 +233,7 @@ impl Machine for ReadOp {
             ReadStep::Fill { path, next, .. } => {
                 Want::Load(lock_word(&self.site, self.hash, path.segment) + u64::from(next % 32))
             }
-            ReadStep::Count { .. } => Want::Load(self.site.geometry.words()),
+            ReadStep::Count { .. } => Want::Load(self.site.geometry.counter_word()),
             ReadStep::Check { found, at, .. } => Want::Load(self.word_again(found, *at)),
             ReadStep::Ended(_) => Want::Done,
         }

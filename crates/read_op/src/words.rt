@@ -1,6 +1,7 @@
 //! The lock word that a get asks for.
 
 ghost use Rattle.std.specs.Prelude.{◌≡◌, ◌≤◌};
+ghost use Rattle.image_layout.specs.Places.{most_words};
 ghost use Rattle.read_op.specs.Steps.{lock_word};
 
 use hash_word::home;
@@ -10,7 +11,7 @@ use world::Site;
 /// The lock word of the home bucket of a hash in the segment in this slot; the root's word where there is no such slot.
 pub fn lock_word(site: &Site, hash: u64, segment: u64) -> u64
     ensures is { result ≡ lock_word site.now hash segment }
-    ensures most { result ≤ 35258400 }
+    ensures most { result ≤ most_words }
 {
     bucket_word(&site.geometry, segment, home(hash))
 }

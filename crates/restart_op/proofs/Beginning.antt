@@ -1,5 +1,5 @@
 -- The world at the end of a restart: settled, a table with the image's pairs, unlocked, and nobody has done anything.
-use Rattle.std.proofs.Common.{◌≡◌, ℕ, zero, suc, ◌+◌, ◌%◌, ◌^◌, ◌<◌, List, [], ◌∷◌, inl, inr, refl, sym, ap, subst, ◌∙◌, arith}
+use Rattle.std.proofs.Common.{◌≡◌, ◌≤◌, ℕ, zero, suc, ◌+◌, ◌%◌, ◌^◌, ◌<◌, List, [], ◌∷◌, inl, inr, refl, sym, ap, subst, ◌∙◌, arith}
 use Rattle.std.specs.Prelude.{slice_index, replicate}
 use Rattle.std.proofs.lemmas.Bool.{cases_eq}
 use Rattle.std.proofs.lemmas.List.{get_or_past}
@@ -13,6 +13,7 @@ use Rattle.trace.proofs.Media.{fence_since, flush_since}
 use Rattle.image_layout.specs.Places.{Shape, state_word, head_at, words_of}
 use Rattle.sound_image.specs.Records.{HasAt}
 use Rattle.bucket_words.proofs.Pairs.{found_of_has, has_of_found}
+use Rattle.image_layout.specs.Volatile.{power_word}
 use Rattle.world.specs.Views.{View, At}
 use Rattle.world.specs.Invariant.{total}
 use Rattle.world.specs.World.{fresh_view}
@@ -83,8 +84,9 @@ module _ (shape : Shape) (words : List ℕ) (image : IsPlayableImage shape words
     | inr other ↦ elim (had shape word 4 i y h) [ inl same ↦ same ∙ elsewhere i other | inr here ↦ absurd (other here.0) ]
   ]
 
-  counter : at_end (words_of shape) ≡ 0
-  counter = sym (elsewhere (words_of shape) (λ at. omega (arith, at))) ∙ get_or_past words (words_of shape) 0 (let w = image.sound.whole in omega (arith, w))
+  -- the words behind the image are 0: the commit counter, and the power word
+  behind : (n : ℕ) → words_of shape ≤ n → at_end n ≡ 0
+  behind n past = sym (elsewhere n (λ at. omega (arith, at, past))) ∙ get_or_past words n 0 (let w = image.sound.whole in omega (arith, w, past))
 
 pub restart_begins : RestartBegins
 restart_begins shape words callers image few = record {
@@ -96,7 +98,8 @@ restart_begins shape words callers image few = record {
   free = λ lock is.
       subst (λ n. words_at_end shape words n % 2 ≡ 0) (sym is.2)
       (opened_free shape _ _ (t shape words image) (fits shape words image) (elsewhere shape words image) refl is.0 is.1);
-  counter = counter shape words image;
+  counter = behind shape words image (words_of shape) (omega arith);
+  power = behind shape words image (power_word shape) (omega arith);
   fresh = each_fresh callers;
   callers = (let all = count_fresh callers in omega (arith, all));
 }

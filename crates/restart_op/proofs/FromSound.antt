@@ -4,17 +4,16 @@ use Rattle.std.proofs.Common.{◌≡◌, ℕ, ◌+◌, ◌%◌, ◌^◌, ◌<◌
 use Rattle.std.proofs.lemmas.Bool.{cases_lt}
 use Rattle.std.proofs.Math.Nat.{div-eq_of_lt}
 use Rattle.hash_word.specs.Hash.{probing_of, top}
-use Rattle.bucket_meta.specs.Bucket.{lock_of, note_used, note_member}
-use Rattle.image_layout.specs.Places.{Shape, head_at, bucket_at, key_at, entry_at}
+use Rattle.bucket_meta.specs.Bucket.{lock_of, note_used, note_member, record_slots}
+use Rattle.image_layout.specs.Places.{Shape, head_at, bucket_at, key_at, entry_at, homes, buckets}
 use Rattle.sound_image.specs.Segments.{ImageWords, Frame, frame_of, image_version, depth_at, pattern_at, IsLiveFor, LeadsToOwner, arrived, on}
 use Rattle.sound_image.specs.Directory.{HeadInRange}
 use Rattle.sound_image.specs.Records.{word_in, slot_key, slot_hash, HasRecord, HasOwnRecord}
 use Rattle.sound_image.specs.Rules.{StandsRight, IsCleanAndCurrent, CleanMeansRepaired}
-use Rattle.image_file.proofs.Unnoted.{IsUnnoted, IsUnstashed}
-use Rattle.image_file.proofs.NoNotes.{exact-unnoted}
+use Rattle.sound_image.proofs.Hashes.{key_hash-fits, home_of-below}
+use Rattle.sound_image.proofs.Unnoted.{IsUnnoted, IsUnstashed}
+use Rattle.sound_image.proofs.NoNotes.{exact-unnoted}
 use Rattle.bucket_words.specs.Buckets.{IsTaken, IsHomeBucket}
-use Rattle.bucket_words.proofs.SameCores.{home_lt}
-use Rattle.bucket_words.proofs.Pairs.{key_hash-fits}
 use Rattle.restart_op.specs.Notes.{HasNoNotes}
 use Rattle.restart_op.proofs.Facts.{IsCleanTable}
 
@@ -84,7 +83,7 @@ module _ (shape : Shape) (word : ImageWords) (t : IsCleanTable shape word) (fits
   repaired w = (t.follows 7 w).seven refl
 
   -- a record that stands at home has no membership bit
-  no_member : (b r home n : ℕ) → b ≡ home → home < 64 → ((b ≡ home) × (n ≡ 0)) ⊎ ((b ≡ probing_of home) × (n ≡ 1)) ⊎ (64 ≤ b) → n ≡ 0
+  no_member : (b r home n : ℕ) → b ≡ home → home < homes → ((b ≡ home) × (n ≡ 0)) ⊎ ((b ≡ probing_of home) × (n ≡ 1)) ⊎ (64 ≤ b) → n ≡ 0
   no_member b r home n at low (inl here) = here.1
   no_member b r home n at low (inr (inl beside)) = let there : b ≡ (home + 1) % 64 = beside.0 in absurd (omega (arith, there))
   no_member b r home n at low (inr (inr stash)) = absurd (omega (arith, stash))
@@ -105,16 +104,16 @@ module _ (shape : Shape) (word : ImageWords) (t : IsCleanTable shape word) (fits
   unstashed : (b : ℕ) → IsUnstashed shape word 0 b
   unstashed b k r two slot taken home =
       let there : HasRecord shape word 0 (64 + k) r = record { segment = some; bucket = omega arith; slot = slot; is_allocated = taken } in
-      never _ (t.home (64 + k) r there) (home_lt (slot_hash shape word 0 (64 + k) r))
+      never _ (t.home (64 + k) r there) (home_of-below (slot_hash shape word 0 (64 + k) r))
     where
       never : (n : ℕ) → 64 + k ≡ n → n < 64 → ⊥
       never n e low = omega arith
 
-  unnoted : (b : ℕ) → b < 64 → IsUnnoted shape word 0 b
+  unnoted : (b : ℕ) → b < homes → IsUnnoted shape word 0 b
   unnoted b low = exact-unnoted shape word 0 b (unstashed b) ((repaired (bucket_at shape 0 b + 1)).notes 0 b is_current low refl)
 
   -- bucket b is the probing bucket of the one before it
-  none_on_side : (b i side : ℕ) → b < 64 → i < 4 → (side ≡ 0) ⊎ (side ≡ 1) → note_used i (word_in shape word 0 b 1) ≡ 1 → note_member i (word_in shape word 0 b 1) ≡ side → ⊥
+  none_on_side : (b i side : ℕ) → b < homes → i < 4 → (side ≡ 0) ⊎ (side ≡ 1) → note_used i (word_in shape word 0 b 1) ≡ 1 → note_member i (word_in shape word 0 b 1) ≡ side → ⊥
   none_on_side b i side low within (inl own) used at =
       (unnoted b low).none_here (record { place = i; within = within; used = used; on_side = at ∙ own })
   none_on_side b i side low within (inr beside) used at =
@@ -123,7 +122,7 @@ module _ (shape : Shape) (word : ImageWords) (t : IsCleanTable shape word) (fits
       (λ used at. (unnoted ((b + 63) % 64) (omega arith)).none_beside (record { place = i; within = within; used = used; on_side = at }))
       used (at ∙ beside)
 
-  no_note : (b i : ℕ) → b < 64 → i < 4 → note_used i (word_in shape word 0 b 1) ≡ 0
+  no_note : (b i : ℕ) → b < homes → i < 4 → note_used i (word_in shape word 0 b 1) ≡ 0
   no_note b i low within =
       ⊎_elim (λ free. free)
       (λ used. absurd (none_on_side b i (note_member i (word_in shape word 0 b 1)) low within (bit_cases _) used refl))
@@ -133,11 +132,11 @@ module _ (shape : Shape) (word : ImageWords) (t : IsCleanTable shape word) (fits
   no_notes b low = (λ i within. no_note b i low within, (unnoted b low).no_count)
 
   -- THE BUCKETS
-  module _ (b : ℕ) (within : b < 66) where
-    there : (r : ℕ) → r < 14 → IsTaken word (bucket_at shape 0 b) r → HasRecord shape word 0 b r
+  module _ (b : ℕ) (within : b < buckets) where
+    there : (r : ℕ) → r < record_slots → IsTaken word (bucket_at shape 0 b) r → HasRecord shape word 0 b r
     there r slot taken = record { segment = some; bucket = within; slot = slot; is_allocated = taken }
 
-    right : (r : ℕ) → r < 14 → IsTaken word (bucket_at shape 0 b) r → StandsRight shape word 0 b r
+    right : (r : ℕ) → r < record_slots → IsTaken word (bucket_at shape 0 b) r → StandsRight shape word 0 b r
     right r slot taken = (t.follows 4 (key_at shape 0 b r)).four refl 0 b r (own_record b r (there r slot taken)) refl
 
     pub unlocked : lock_of (word (bucket_at shape 0 b)) ≡ 0
@@ -145,7 +144,7 @@ module _ (shape : Shape) (word : ImageWords) (t : IsCleanTable shape word) (fits
 
     pub home_bucket : IsHomeBucket shape word b
     home_bucket = record {
-      no_members = λ r slot taken. no_member b r _ _ (t.home b r (there r slot taken)) (home_lt (slot_hash shape word 0 b r)) (right r slot taken).bucket;
+      no_members = λ r slot taken. no_member b r _ _ (t.home b r (there r slot taken)) (home_of-below (slot_hash shape word 0 b r)) (right r slot taken).bucket;
       at_home = λ r slot taken. sym (t.home b r (there r slot taken));
       by_finger = λ r slot taken. (right r slot taken).fingerprint;
       once = λ r s r_slot s_slot r_taken s_taken same. one_slot b r s (there r r_slot r_taken) (there s s_slot s_taken) same;

@@ -4,12 +4,5 @@ pub mod Opened
 pub mod Same
 pub mod Cuts
 pub mod Beginning
-pub mod CloseAlong
-pub mod CloseLines
-pub mod CloseEnding
-pub mod MarkedFront
-pub mod NoNotes
-pub mod MarkedTable
-pub mod ClosePhases
-pub mod CloseKeeping
+pub mod closes
 pub mod Quiet

@@ -2,7 +2,7 @@
 use Rattle.std.proofs.Common.{◌≡◌, ℕ, ◌+◌, ◌*◌, ◌%◌, ◌^◌, ◌<◌, ◌≤◌, refl, sym, ap, subst, ◌∙◌, arith}
 use Rattle.segment_head.specs.HeadWord.{version_in, state_in, depth_in, pattern_in}
 use Rattle.bucket_meta.specs.Bucket.{note_used, overflow_count}
-use Rattle.image_layout.specs.Places.{Shape, state_word, head_at, bucket_at}
+use Rattle.image_layout.specs.Places.{Shape, state_word, head_at, bucket_at, buckets}
 use Rattle.sound_image.specs.Segments.{ImageWords}
 use Rattle.bucket_words.specs.Tables.{IsOpenFront, IsHomeTable}
 use Rattle.bucket_words.proofs.Slots.{same_words, kept_bucket}
@@ -53,7 +53,7 @@ module _ (shape : Shape) (word other : ImageWords) (t : IsCleanTable shape word)
       (λ i within. ap (note_used i) (sym same) ∙ none.0 i within, ap overflow_count (sym same) ∙ none.1)
 
   -- every lock is free
-  pub opened_free : (b : ℕ) → b < 66 → other (bucket_at shape 0 b) % 2 ≡ 0
+  pub opened_free : (b : ℕ) → b < buckets → other (bucket_at shape 0 b) % 2 ≡ 0
   opened_free b within =
       let free = unlocked shape word t fits b within in
       let same = same_part 0 (32 + 32 * b) (bucket_at shape 0 b) (omega arith) in

@@ -8,7 +8,7 @@ use Rattle.trace.proofs.Moments.{value_at_more, value_at_now, newest_is, only_ne
 use Rattle.image_layout.specs.Places.{Shape, state_word}
 use Rattle.world.specs.Views.{View}
 use Rattle.world.specs.World.{fresh_view}
-use Rattle.world.proofs.Worlds.{begins_well}
+use Rattle.world.proofs.device.Worlds.{begins_well}
 use Rattle.restart_op.specs.Restarted.{IsPlayableImage, restarted, site_of, world_of}
 use Rattle.restart_op.specs.Closing.{OwesNothing, HaveFit, FitsByEvents, QuietAfterRestart}
 use Rattle.restart_op.proofs.Beginning.{restart_begins, ends_unnoted}

@@ -5,7 +5,7 @@ use Rattle.image_layout.specs.Places.{state_word}
 use Rattle.op_core.specs.declared.want.Want.{Want}
 use Rattle.op_core.specs.declared.want.Want.TheVariants as want
 use Rattle.op_core.specs.declared.want.Ans.{Ans}
-use Rattle.op_core.specs.declared.want.Ans.TheVariants as ans
+use Rattle.op_core.specs.Answers.{IsAnswer}
 use Rattle.restart_op.specs.declared.restart.RestartStep.{RestartStep}
 use Rattle.restart_op.specs.declared.restart.RestartStep.TheVariants.{Load, Store, Flush, Fence, Ended}
 use Rattle.restart_op.specs.declared.restart.RestartOp.{RestartOp}
@@ -18,14 +18,6 @@ left (Store version) = 3
 left (Flush version) = 2
 left (Fence version) = 1
 left (Ended started) = 0
-
--- an answer of the kind that a restart may ask for
-abbrev pub IsAnswer : Want → Ans → Type 0
-IsAnswer (want.Load i) (ans.Value x) = ⊤
-IsAnswer (want.Store i x) ans.Passed = ⊤
-IsAnswer (want.Flush l) ans.Passed = ⊤
-IsAnswer want.Fence ans.Passed = ⊤
-IsAnswer w a = ⊥
 
 -- each answer of the kind that was asked for leaves one event fewer
 abbrev pub Falls : Type 0

@@ -1,25 +1,23 @@
 -- What a close wants in each step, and what an answer makes of it.
-use Rattle.std.specs.Prelude.{◌==◌, ℕ, ◌+◌, ◌-◌, ◌/◌, ◌%◌, ◌^◌, nat_lt, if◌then◌else◌}
+use Rattle.std.specs.Prelude.{ℕ, ◌+◌, ◌-◌, nat_lt, if◌then◌else◌}
 use Rattle.op_core.specs.declared.want.Want.{Want}
 use Rattle.op_core.specs.declared.want.Want.TheVariants as want
 use Rattle.op_core.specs.declared.want.Ans.{Ans}
 use Rattle.op_core.specs.declared.want.Ans.TheVariants.{Value, Won, Lost, Drawn, Passed}
+use Rattle.trace.specs.Events.{line_of}
 use Rattle.image_layout.specs.Places.{Shape, state_word, words_of}
+use Rattle.image_layout.specs.StateWord.{with_marker}
 use Rattle.restart_op.specs.declared.close.CloseStep.{CloseStep}
 use Rattle.restart_op.specs.declared.close.CloseStep.TheVariants.{Flush, Fence, Load, Store, FlushState, FenceState, Ended}
 use Rattle.restart_op.specs.declared.close.CloseOp.{CloseOp}
 
--- a line is eight words
+-- how many lines an image has
 abbrev pub lines_of : Shape → ℕ
-lines_of shape = words_of shape / 8
+lines_of shape = line_of (words_of shape)
 
 -- the line of the state word
 abbrev pub state_line : ℕ
-state_line = 2
-
--- a state word with the clean marker, bit 8, set
-abbrev pub with_marker : ℕ → ℕ
-with_marker state = if state / 2 ^ 8 % 2 == 1 then state else state + 2 ^ 8
+state_line = line_of state_word
 
 -- a close that has done nothing yet
 abbrev pub begun : Shape → CloseOp

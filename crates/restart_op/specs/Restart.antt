@@ -1,7 +1,8 @@
 -- What a restart wants in each step, and what an answer makes of it.
-use Rattle.std.specs.Prelude.{ℕ, ◌%◌, ◌^◌, false}
+use Rattle.std.specs.Prelude.{ℕ, false}
 use Rattle.trace.specs.Events.{line_of}
 use Rattle.image_layout.specs.Places.{Shape, state_word}
+use Rattle.image_layout.specs.StateWord.{image_version_in}
 use Rattle.op_core.specs.declared.want.Want.{Want}
 use Rattle.op_core.specs.declared.want.Want.TheVariants as want
 use Rattle.op_core.specs.declared.want.Ans.{Ans}
@@ -29,7 +30,7 @@ wanted_in (Ended started) = want.Done
 
 -- the step after an answer; one of another kind than was asked leaves the step as it is
 abbrev pub next_in : RestartStep → Ans → RestartStep
-next_in Load (Value state) = Store (state % 2 ^ 8)
+next_in Load (Value state) = Store (image_version_in state)
 next_in (Store version) Passed = Flush version
 next_in (Flush version) Passed = Fence version
 next_in (Fence version) Passed = Ended (started_with version)

@@ -8,7 +8,7 @@ use Rattle.image_layout.specs.Places.{Shape, state_word, head_at, words_of}
 use Rattle.map_model.specs.Map.{Map}
 use Rattle.sound_image.specs.Image.{IsSoundImage}
 use Rattle.sound_image.specs.Left.{HasPairsOf}
-use Rattle.image_file.specs.Stage.{PassesRule8, MayBePlayed}
+use Rattle.image_rules.specs.Stage.{PassesRule8, MayBePlayed}
 use Rattle.bucket_words.specs.Tables.{find}
 use Rattle.op_core.specs.declared.want.Want.TheVariants.{Done}
 use Rattle.world.specs.Site.{Site}

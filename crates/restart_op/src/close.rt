@@ -1,21 +1,16 @@
 //! The close, as a machine.
 
 ghost use Rattle.std.specs.Prelude.{◌≡◌, ◌<◌, ◌≤◌, ◌+◌};
+ghost use Rattle.trace.specs.Events.{line_of};
+ghost use Rattle.image_layout.specs.Places.{most_words};
 ghost use Rattle.op_core.specs.declared.want.Want.TheVariants as want;
 ghost use Rattle.restart_op.specs.declared.close.CloseStep.TheVariants.{Ended};
-ghost use Rattle.restart_op.specs.Close.{lines_of, with_marker, begun, wanted, taken, flushed, fenced, next_of};
+ghost use Rattle.restart_op.specs.Close.{lines_of, begun, wanted, taken, flushed, fenced, next_of};
 
-use image_layout::Geometry;
+use image_layout::state::with_marker;
+use image_layout::{Geometry, STATE_WORD};
 use op_core::{Ans, Machine, Want};
-
-/// The word of the version and the clean marker.
-const STATE: u64 = 16;
-/// The line of that word.
-const STATE_LINE: u64 = 2;
-/// The clean marker in it.
-const MARKER: u64 = 256;
-/// How many words a line has.
-const LINE: u64 = 8;
+use trace::line_of;
 
 /// What a close leaves: a clean image.
 #[derive(Clone, Copy, Debug, PartialEq, Eq)]
@@ -60,17 +55,6 @@ pub struct CloseOp {
     pub step: CloseStep,
 }
 
-/// A state word with the marker set.
-fn with_marker(state: u64) -> u64
-    ensures { result ≡ with_marker state }
-{
-    if state / MARKER % 2 == 1 {
-        state
-    } else {
-        state + MARKER
-    }
-}
-
 impl CloseOp {
     /// A close that has done nothing yet.
     pub fn new(geometry: Geometry) -> CloseOp
@@ -96,9 +80,9 @@ impl CloseOp {
     /// How many lines the image has.
     fn lines(&self) -> u64
         ensures is { result ≡ lines_of self.now.geometry }
-        ensures most { result ≤ 4407300 }
+        ensures most { result ≤ line_of most_words }
     {
-        self.geometry.words() / LINE
+        line_of(self.geometry.words())
     }
 
     /// The step after a flush.
@@ -153,9 +137,9 @@ impl Machine for CloseOp {
         match self.step {
             CloseStep::Flush { line, .. } => Want::Flush(line),
             CloseStep::Fence { .. } => Want::Fence,
-            CloseStep::Load => Want::Load(STATE),
-            CloseStep::Store { state } => Want::Store(STATE, state),
-            CloseStep::FlushState => Want::Flush(STATE_LINE),
+            CloseStep::Load => Want::Load(STATE_WORD),
+            CloseStep::Store { state } => Want::Store(STATE_WORD, state),
+            CloseStep::FlushState => Want::Flush(line_of(STATE_WORD)),
             CloseStep::FenceState => Want::Fence,
             CloseStep::Ended => Want::Done,
         }

@@ -5,14 +5,9 @@ ghost use Rattle.op_core.specs.declared.want.Want.TheVariants as want;
 ghost use Rattle.restart_op.specs.declared.restart.RestartStep.TheVariants.{Ended};
 ghost use Rattle.restart_op.specs.Restart.{begun, wanted, taken, next_of};
 
-use image_layout::Geometry;
+use image_layout::{Geometry, STATE_WORD, state};
 use op_core::{Ans, Machine, Want};
-
-/// The number of the state word: the image's version in bits 0 to 7, and the clean marker in bit 8.
-const STATE: u64 = 16;
-
-/// How many words a line has.
-const LINE: u64 = 8;
+use trace::line_of;
 
 /// What a restart leaves to those who run on the image.
 #[derive(Clone, Copy, Debug, PartialEq, Eq)]
@@ -84,8 +79,8 @@ impl RestartOp {
         ensures { result ≡ next_of self.now ans }
     {
         match (self.step, ans) {
-            (RestartStep::Load, Ans::Value(state)) => RestartStep::Store {
-                version: (state & 0xFF) as u8,
+            (RestartStep::Load, Ans::Value(seen)) => RestartStep::Store {
+                version: state::version_of(seen),
             },
             (RestartStep::Store { version }, Ans::Passed) => RestartStep::Flush { version },
             (RestartStep::Flush { version }, Ans::Passed) => RestartStep::Fence { version },
@@ -105,9 +100,9 @@ impl Machine for RestartOp {
 
     fn want(&self) -> Want {
         match self.step {
-            RestartStep::Load => Want::Load(STATE),
-            RestartStep::Store { version } => Want::Store(STATE, u64::from(version)),
-            RestartStep::Flush { .. } => Want::Flush(STATE / LINE),
+            RestartStep::Load => Want::Load(STATE_WORD),
+            RestartStep::Store { version } => Want::Store(STATE_WORD, u64::from(version)),
+            RestartStep::Flush { .. } => Want::Flush(line_of(STATE_WORD)),
             RestartStep::Fence { .. } => Want::Fence,
             RestartStep::Ended(_) => Want::Done,
         }

@@ -11,9 +11,9 @@ use Rattle.map_model.specs.Weave.{all_of, draws, weave}
 use Rattle.map_model.specs.Legal.{IsLegal, replay}
 use Rattle.map_model.specs.ByPlaces.{map_at}
 use Rattle.hash_word.specs.Hash.{top}
-use Rattle.bucket_meta.specs.Bucket.{version_of}
+use Rattle.bucket_meta.specs.Bucket.{version_of, record_slots}
 use Rattle.segment_head.specs.HeadWord.{free}
-use Rattle.image_layout.specs.Places.{Shape, bucket_at}
+use Rattle.image_layout.specs.Places.{Shape, bucket_at, buckets}
 use Rattle.sound_image.specs.Segments.{frame_of, IsClean, IsLive, state_at}
 use Rattle.sound_image.specs.Records.{key_hash}
 use Rattle.sound_image.specs.Image.{IsSoundImage}
@@ -36,7 +36,7 @@ pub record HasAtLeast (n : ℕ) (Passes : ℕ → Type 0) (m : Map) : Type 0 whe
 
 -- how many pairs there are at the least where a call finds no room: those of its home bucket
 abbrev pub least_full : ℕ
-least_full = 14
+least_full = record_slots
 
 -- Full stands where the map has at least so many pairs; Deep where it has so many whose hashes have the same top
 -- bits as the call's, so many bits as the image's greatest depth
@@ -50,7 +50,7 @@ pub record HasSpentBucket (shape : Shape) (words : List ℕ) : Type 0 where
   pub s : ℕ
   pub b : ℕ
   pub slot : s < shape.segments
-  pub bucket : b < 66
+  pub bucket : b < buckets
   pub live : IsLive (frame_of shape (slice_index words)) s
   pub spent : version_of (slice_index words (bucket_at shape s b)) ≡ 2 ^ 63 - 1
 

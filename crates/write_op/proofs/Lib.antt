@@ -1,27 +1,6 @@
-mod Search
-mod Falls
-mod Marks
-mod Fitting
-mod Insides
-mod Chosen
-mod Hashes
-mod Fingers
-mod Beginning
+mod points
+pub mod Ending
+pub mod Near
+mod suiting
 mod Searching
-mod Locked
-mod Stores
-mod Publishing
-mod Mays
-mod Leavings
-mod Going
-mod Counted
-mod Making
-mod Keeping
-mod Recalling
-mod Caused
-mod Others
-mod Sound
-mod Numbers
-mod Spared
-mod Waiting
-mod Pairs
+mod causing

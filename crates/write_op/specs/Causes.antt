@@ -1,15 +1,15 @@
 -- By what each end of a change comes: what the event that decided it loaded or tried and found, and what the events of the
 -- attempt before it had loaded.
 use Rattle.std.specs.Prelude.{◌≡◌, ◌≢◌, ℕ, ◌+◌, ◌-◌, ◌%◌, ◌^◌, ◌<◌, ◌≤◌, ⊤, List, [], ◌∷◌, ◌++◌, ◌⊎◌, length, slice_index}
-use Rattle.op_core.specs.declared.want.Want.{Want}
 use Rattle.op_core.specs.declared.want.Want.TheVariants as want
 use Rattle.op_core.specs.declared.want.Ans.{Ans}
-use Rattle.op_core.specs.declared.want.Ans.TheVariants.{Value, Won, Lost, Drawn}
+use Rattle.op_core.specs.declared.want.Ans.TheVariants.{Value, Drawn}
 use Rattle.op_core.specs.declared.why.Why.{Why}
 use Rattle.op_core.specs.declared.why.Why.TheVariants.{Busy, Moved}
+use Rattle.op_core.specs.Answers.{IsHonest, Finds, load_of, change_of}
 use Rattle.hash_word.specs.Hash.{home_of, probing_of}
 use Rattle.segment_head.specs.HeadWord.{version_in, state_in, depth_in, free}
-use Rattle.bucket_meta.specs.Bucket.{allocated}
+use Rattle.bucket_meta.specs.Bucket.{allocated, record_slots}
 use Rattle.trace.specs.Events.{Words}
 use Rattle.image_layout.specs.Places.{IsShape, root_word, state_word, head_at, bucket_at}
 use Rattle.image_layout.specs.Volatile.{counter_word}
@@ -36,22 +36,13 @@ use Rattle.write_op.specs.declared.control.Task.{Task}
 use Rattle.write_op.specs.declared.machine.WriteOp.{WriteOp}
 use Rattle.way.specs.Ways.{entry_word, head_word}
 use Rattle.write_op.specs.Ways.{lock_word, sight_of}
-use Rattle.write_op.specs.Wanted.{key_for, home_word, free_of, wanted_of}
+use Rattle.write_op.specs.Wanted.{home_word, free_of, wanted_of}
+use Rattle.map_model.specs.Map.{key_of}
 use Rattle.write_op.specs.Taken.{begun, wanted, taken, refused}
-use Rattle.write_op.specs.Suits.{IsIn, IsThere, Suits, next_op}
+use Rattle.write_op.specs.Suits.{IsIn, Suits, next_op}
+use Rattle.bucket_meta.specs.Search.{IsThere}
 
 -- ---- what the events of an attempt loaded
--- an event with this answer loaded this word, or tried to exchange it in vain, and found this value
-abbrev pub Finds : Want → Ans → ℕ → ℕ → Type 0
-Finds (want.Load i) (Value n) word seen = (i ≡ word) × (n ≡ seen)
-Finds (want.Exchange i x y) (Lost n) word seen = (i ≡ word) × (n ≡ seen)
-Finds w a word seen = ⊥
-
--- the word that an event loaded, with its value
-abbrev pub load_of : Want → Ans → List (ℕ × ℕ)
-load_of (want.Load i) (Value n) = (i, n) ∷ []
-load_of w a = []
-
 -- the change after events with these answers
 abbrev pub after_all : WriteOp → List Ans → WriteOp
 after_all op [] = op
@@ -61,12 +52,6 @@ after_all op (a ∷ rest) = after_all (taken op a) rest
 abbrev pub loads_of : WriteOp → List Ans → List (ℕ × ℕ) → List (ℕ × ℕ)
 loads_of op [] before = before
 loads_of op (a ∷ rest) before = loads_of (taken op a) rest (load_of (wanted op) a ++ before)
-
--- the words that an event changed: a store's, and that of an exchange that was won
-abbrev pub change_of : Want → Ans → List ℕ
-change_of (want.Store i x) a = i ∷ []
-change_of (want.Exchange i x y) Won = i ∷ []
-change_of w a = []
 
 -- the words that those events changed, the newest first and then those before
 abbrev pub changed_of : WriteOp → List Ans → List ℕ → List ℕ
@@ -120,18 +105,18 @@ module _ (t : Task) (k : Kept) where
   -- by the words that are kept, all of which were loaded: the key is in a slot, or in none, or in none and none is free
   pub record FindsKey (loads : List (ℕ × ℕ)) : Type 0 where
     pub slot : ℕ
-    pub within : slot < 14
-    pub there : IsThere k.words (key_for t.call) slot
+    pub within : slot < record_slots
+    pub there : IsThere k.words (key_of t.call) slot
     pub loaded : KeepsBelow 32 loads
 
   pub record FindsNoKey (loads : List (ℕ × ℕ)) : Type 0 where
-    pub nowhere : (slot : ℕ) → slot < 14 → IsThere k.words (key_for t.call) slot → ⊥
+    pub nowhere : (slot : ℕ) → slot < record_slots → IsThere k.words (key_of t.call) slot → ⊥
     pub loaded : KeepsBelow 32 loads
 
   pub record FindsNoRoom (loads : List (ℕ × ℕ)) : Type 0 where
     pub inserts : IsInsert t.call
     pub absent : FindsNoKey loads
-    pub full : (slot : ℕ) → slot < 14 → allocated slot (slice_index k.words 1) ≡ 1
+    pub full : (slot : ℕ) → slot < record_slots → allocated slot (slice_index k.words 1) ≡ 1
 
   -- what else is so at a control point, by those loads; no lock is given back where no slot was found
   abbrev pub KnowsIn : Step → List (ℕ × ℕ) → Type 0
@@ -256,11 +241,6 @@ IsDecided (GiveBack held end) e = end ≡ e
 IsDecided (Ended end) e = end ≡ e
 IsDecided s e = ⊥
 
--- an exchange that is lost found another value than it expected
-abbrev pub IsHonest : Want → Ans → Type 0
-IsHonest (want.Exchange i x y) (Lost n) = x ≢ n
-IsHonest w a = ⊤
-
 -- EACH END HAS ITS CAUSE, at the event that decides it, whatever words there are
 abbrev pub EndsByCause : Type 0
 EndsByCause = (op : WriteOp) (a : Ans) (loads : List (ℕ × ℕ)) (end : WriteEnd) → IsChange op.task.call → Remembers op loads → IsHonest (wanted op) a
@@ -274,7 +254,7 @@ told_word (Moved word before after) = word
 -- WHAT MOVED, OR WAS TAKEN, IS ANOTHER'S DOING: whatever answers its events bring, an attempt that is told to try again has
 -- not changed the word that it is told
 abbrev pub AgainByOthers : Type 0
-AgainByOthers = (call : Call) (site : Here) (answers : List Ans) (a : Ans) (why : Why) → IsShape site.geometry → key_for call < 2 ^ 64
+AgainByOthers = (call : Call) (site : Here) (answers : List Ans) (a : Ans) (why : Why) → IsShape site.geometry → key_of call < 2 ^ 64
     → ((e : WriteEnd) → IsDecided (after_all (begun call site) answers).step e → ⊥) → IsDecided (taken (after_all (begun call site) answers) a).step (Again why)
     → Has (told_word why) (changed_of (begun call site) answers []) → ⊥
 
@@ -294,8 +274,8 @@ module _ (site : Site) (op : WriteOp) (words : Words) (loads : List (ℕ × ℕ)
 
   -- the lock word of the key's home bucket, or of the bucket after it
   abbrev pub IsOwnLock : ℕ → Type 0
-  IsOwnLock word = (word ≡ home_at site.shape (key_for op.task.call))
-      ⊎ (word ≡ bucket_at site.shape 0 (probing_of (home_of (key_hash site.shape (key_for op.task.call)))))
+  IsOwnLock word = (word ≡ home_at site.shape (key_of op.task.call))
+      ⊎ (word ≡ bucket_at site.shape 0 (probing_of (home_of (key_hash site.shape (key_of op.task.call)))))
 
   -- the header word of the segment in a slot was loaded, with this value
   abbrev pub WasHead : ℕ → ℕ → Type 0

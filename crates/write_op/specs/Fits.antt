@@ -1,7 +1,5 @@
 -- How a change stands in the world of many callers: of which kind each of its events is, and which numbers it has.
 use Rattle.std.specs.Prelude.{◌≡◌, ℕ, ◌+◌, ◌-◌, ◌*◌, ◌%◌, ◌^◌, ◌<◌, ◌≤◌, nat_le, Option, None, Some, List, slice_index, if◌then◌else◌, ⊤}
-use Rattle.op_core.specs.declared.want.Ans.{Ans}
-use Rattle.op_core.specs.declared.want.Ans.TheVariants.{Value}
 use Rattle.map_model.specs.declared.call.Call.{Call}
 use Rattle.map_model.specs.declared.call.Call.TheVariants.{Get, Insert, Update, Remove}
 use Rattle.map_model.specs.declared.entry.Reply.TheVariants.{Absent, Exists, Spent}
@@ -9,7 +7,7 @@ use Rattle.trace.specs.Events.{line_of}
 use Rattle.image_layout.specs.Places.{root_word}
 use Rattle.hash_word.specs.Hash.{finger_of}
 use Rattle.world.specs.Kinds.{Kind}
-use Rattle.world.specs.Kinds.Kind.{peeks, asks_power, finds_room, refuses, learns, tries, stores, publishes, flushes, fences, draws_place, unlocks}
+use Rattle.world.specs.Kinds.Kind.{peeks, asks_power, finds_room, refuses, learns, meets_lock, tries, stores, publishes, flushes, fences, draws_place, unlocks}
 use Rattle.write_op.specs.declared.control.Side.TheVariants.{Home, Probing}
 use Rattle.write_op.specs.declared.control.Held.TheVariants.{OnlyHome, OnlyProbing, Both}
 use Rattle.write_op.specs.declared.control.Point.{Point}
@@ -19,10 +17,12 @@ use Rattle.write_op.specs.declared.control.Step.TheVariants.{AskPower, LoadRoot,
 use Rattle.write_op.specs.declared.control.Kept.{Kept}
 use Rattle.write_op.specs.declared.control.Task.{Task}
 use Rattle.write_op.specs.declared.machine.WriteOp.{WriteOp}
-use Rattle.write_op.specs.Slots.{slot_with, finger_place, with_finger}
+use Rattle.bucket_meta.specs.Marks.{finger_place, with_finger}
+use Rattle.bucket_meta.specs.Search.{lowest_with}
 use Rattle.way.specs.Ways.{entry_word, head_word}
 use Rattle.write_op.specs.Ways.{lock_word}
-use Rattle.write_op.specs.Wanted.{key_for, value_for, home_word, published_word, published_value, free_of}
+use Rattle.write_op.specs.Wanted.{home_word, published_word, published_value, free_of}
+use Rattle.map_model.specs.Map.{key_of, value_of}
 use Rattle.write_op.specs.Taken.{no_room}
 
 -- the load of the commit counter under both locks, by where the key stands: it answers a refusal, or finds room
@@ -36,13 +36,13 @@ count_changing call None = refuses call Absent
 
 abbrev pub count_kind : Call → List ℕ → Kind
 count_kind (Get key) words = finds_room (Get key)
-count_kind (Insert key value) words = count_inserting (Insert key value) (slot_with words key 0 14)
-count_kind (Update key value) words = count_changing (Update key value) (slot_with words key 0 14)
-count_kind (Remove key) words = count_changing (Remove key) (slot_with words key 0 14)
+count_kind (Insert key value) words = count_inserting (Insert key value) (lowest_with words key)
+count_kind (Update key value) words = count_changing (Update key value) (lowest_with words key)
+count_kind (Remove key) words = count_changing (Remove key) (lowest_with words key)
 
 abbrev pub made_kind : Task → Kept → Point → Kind
-made_kind t k StoreKey = stores (home_word t k (4 + 2 * k.slot)) (key_for t.call)
-made_kind t k StoreValue = stores (home_word t k (5 + 2 * k.slot)) (value_for t.call)
+made_kind t k StoreKey = stores (home_word t k (4 + 2 * k.slot)) (key_of t.call)
+made_kind t k StoreValue = stores (home_word t k (5 + 2 * k.slot)) (value_of t.call)
 made_kind t k StoreFinger =
     stores (home_word t k (finger_place k.slot)) (with_finger (slice_index k.words (finger_place k.slot)) k.slot (finger_of t.hash))
 made_kind t k FlushFinger = flushes (line_of (home_word t k (finger_place k.slot)))
@@ -60,7 +60,7 @@ kind_at t k AskPower n = asks_power
 kind_at t k LoadRoot n = peeks root_word
 kind_at t k LoadEntry n = peeks (entry_word t.site.geometry t.hash k.root)
 kind_at t k LoadHead n = peeks (head_word t.site.geometry k.segment)
-kind_at t k (LookAt side) n = peeks (lock_word t k side)
+kind_at t k (LookAt side) n = meets_lock (lock_word t k side)
 kind_at t k (TryLock side) n = tries (lock_word t k side) (free_of k side)
 kind_at t k RootAgain n = peeks root_word
 kind_at t k EntryAgain n = peeks (entry_word t.site.geometry t.hash k.root)
@@ -92,8 +92,3 @@ StepFits k s = ⊤
 -- a lock that is taken for spent is free with its last version
 abbrev pub Fits : WriteOp → Type 0
 Fits op = StepFits op.kept op.step
-
--- a value in an answer is a word
-abbrev pub IsWord : Ans → Type 0
-IsWord (Value v) = v < 2 ^ 64
-IsWord a = ⊤

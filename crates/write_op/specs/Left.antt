@@ -1,11 +1,10 @@
 -- How many events a change still makes at most.
 use Rattle.std.specs.Prelude.{◌≡◌, ℕ, ◌+◌, ◌-◌, ⊤}
-use Rattle.op_core.specs.declared.want.Want.{Want}
 use Rattle.op_core.specs.declared.want.Want.TheVariants as want
-use Rattle.op_core.specs.declared.want.Ans.{Ans}
-use Rattle.op_core.specs.declared.want.Ans.TheVariants as ans
 use Rattle.write_op.specs.declared.control.Side.TheVariants.{Home, Probing}
 use Rattle.write_op.specs.declared.control.Held.TheVariants.{OnlyHome, OnlyProbing, Both}
+use Rattle.write_op.specs.declared.control.WriteEnd.{WriteEnd}
+use Rattle.write_op.specs.declared.control.WriteEnd.TheVariants.{NoSlot}
 use Rattle.write_op.specs.declared.control.Point.{Point}
 use Rattle.write_op.specs.declared.control.Point.TheVariants.{StoreKey, StoreValue, StoreFinger, FlushFinger, FlushRecord, FenceRecord, Publish, FlushPublished, FencePublished, DrawPlace}
 use Rattle.write_op.specs.declared.control.Step.{Step}
@@ -13,17 +12,14 @@ use Rattle.write_op.specs.declared.control.Step.TheVariants.{AskPower, LoadRoot,
 use Rattle.write_op.specs.declared.machine.WriteOp.{WriteOp}
 use Rattle.write_op.specs.Taken.{wanted, end_of}
 
--- an answer of the kind that was asked for
-abbrev pub IsAnswer : Want → Ans → Type 0
-IsAnswer (want.Load w) (ans.Value v) = ⊤
-IsAnswer (want.Store w v) ans.Passed = ⊤
-IsAnswer (want.Exchange w x y) ans.Won = ⊤
-IsAnswer (want.Exchange w x y) (ans.Lost v) = ⊤
-IsAnswer (want.Flush l) ans.Passed = ⊤
-IsAnswer want.Fence ans.Passed = ⊤
-IsAnswer want.Draw (ans.Drawn n) = ⊤
-IsAnswer want.Power (ans.Value v) = ⊤
-IsAnswer w a = ⊥
+-- an attempt makes at most so many events, with those of the refusal to which an insert may go on that found no slot
+abbrev pub most_events : ℕ
+most_events = 55
+
+-- a refusal, of three events, may follow where no slot was found
+abbrev pub left_after : WriteEnd → ℕ
+left_after NoSlot = 3
+left_after end = 0
 
 abbrev pub left_at : Point → ℕ
 left_at StoreKey = 12
@@ -38,7 +34,7 @@ left_at FencePublished = 4
 left_at DrawPlace = 3
 
 abbrev pub left_in : Step → ℕ
-left_in AskPower = 55
+left_in AskPower = most_events
 left_in LoadRoot = 54
 left_in LoadEntry = 53
 left_in LoadHead = 52
@@ -55,10 +51,10 @@ left_in (Make point) = left_at point
 left_in (CountSpent Home) = 1
 left_in (CountSpent Probing) = 2
 left_in CountFull = 3
-left_in (GiveBack OnlyHome end) = 1
-left_in (GiveBack OnlyProbing end) = 1
-left_in (GiveBack Both end) = 2
-left_in (Ended end) = 0
+left_in (GiveBack OnlyHome end) = 1 + left_after end
+left_in (GiveBack OnlyProbing end) = 1 + left_after end
+left_in (GiveBack Both end) = 2 + left_after end
+left_in (Ended end) = left_after end
 
 -- at most so many events are left
 abbrev pub left : WriteOp → ℕ

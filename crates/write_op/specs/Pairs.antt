@@ -3,6 +3,7 @@
 use Rattle.std.specs.Prelude.{◌≡◌, ◌≢◌, ℕ, ⊤, List, ◌⊎◌}
 use Rattle.op_core.specs.declared.want.Want.TheVariants as want
 use Rattle.op_core.specs.declared.want.Ans.{Ans}
+use Rattle.op_core.specs.Answers.{IsAnswer}
 use Rattle.trace.specs.Events.{Words}
 use Rattle.map_model.specs.declared.call.Call.{Call}
 use Rattle.map_model.specs.declared.entry.Reply.TheVariants as reply
@@ -20,7 +21,7 @@ use Rattle.write_op.specs.declared.control.Step.{Step}
 use Rattle.write_op.specs.declared.control.Step.TheVariants.{Make, GiveBack, Ended}
 use Rattle.write_op.specs.declared.machine.WriteOp.{WriteOp}
 use Rattle.write_op.specs.Taken.{begun, wanted, taken, refused}
-use Rattle.write_op.specs.Left.{IsAnswer}
+use Rattle.write_op.specs.Numbers.{HasWords}
 use Rattle.write_op.specs.Suits.{IsIn, Suits}
 
 -- the next event is the store that makes the change
@@ -50,7 +51,7 @@ IsMade step = ⊥
 -- EACH EVENT BUT THAT STORE leaves what every key has as it was, beside any other callers, whatever word it finds
 abbrev pub LeavesPairs : Type 0
 LeavesPairs = (site : Site) (op : WriteOp) (words : Words) (views : List View) (j : ℕ) (before v : View) (number : ℕ) → Holds site words views → At views j v
-    → IsIn site op → Suits before op v → wanted op ≢ want.Done → (IsPublish op.step → ⊥)
+    → IsIn site op → HasWords op → Suits before op v → wanted op ≢ want.Done → (IsPublish op.step → ⊥)
     → (k : ℕ) → find site.shape (words_after site.shape (wanted op) number words) k ≡ find site.shape words k
 
 -- nothing is made at the beginning

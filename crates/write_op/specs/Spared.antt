@@ -2,9 +2,9 @@
 -- last version.
 use Rattle.std.specs.Prelude.{◌≡◌, ℕ, ◌+◌, ◌-◌, ◌^◌, ◌<◌, List}
 use Rattle.op_core.specs.declared.want.Want.TheVariants.{Store, Exchange}
-use Rattle.bucket_meta.specs.Bucket.{note_used, overflow_count}
+use Rattle.bucket_meta.specs.Marks.{SameNotes}
 use Rattle.trace.specs.Events.{Words}
-use Rattle.image_layout.specs.Places.{bucket_at}
+use Rattle.image_layout.specs.Places.{bucket_at, buckets}
 use Rattle.world.specs.Site.{Site, IsSite, IsLockWord}
 use Rattle.world.specs.Views.{View, Has, At}
 use Rattle.world.specs.Invariant.{Holds}
@@ -12,14 +12,9 @@ use Rattle.write_op.specs.declared.machine.WriteOp.{WriteOp}
 use Rattle.write_op.specs.Taken.{wanted}
 use Rattle.write_op.specs.Suits.{IsIn, Suits}
 
--- metadata word x says of the stash what w1 says: which overflow places hold a note, and how many records have none
-pub record SameNotes (w1 x : ℕ) : Type 0 where
-  pub notes : (i : ℕ) → i < 4 → note_used i x ≡ note_used i w1
-  pub count : overflow_count x ≡ overflow_count w1
-
 -- a metadata word that is stored has the notes of the one before, which the caller knows
 abbrev pub KeepsNotes : Type 0
-KeepsNotes = (site : Site) (op : WriteOp) (before v : View) (b x : ℕ) → IsSite site → IsIn site op → Suits before op v → b < 66
+KeepsNotes = (site : Site) (op : WriteOp) (before v : View) (b x : ℕ) → IsSite site → IsIn site op → Suits before op v → b < buckets
     → wanted op ≡ Store (bucket_at site.shape 0 b + 1) x → (y : ℕ) × Has (bucket_at site.shape 0 b + 1, y) v.known × SameNotes y x
 
 -- a lock word that is free with its last version is not stored, and no exchange expects its value

@@ -2,21 +2,22 @@
 use Rattle.std.specs.Prelude.{◌≡◌, ◌≢◌, ℕ, ◌+◌, ◌*◌, ◌^◌, ◌<◌, ◌≤◌, ⊤, None, List, [], ◌∷◌, ◌++◌, ◌⊎◌, length, slice_index, slice_set}
 use Rattle.op_core.specs.declared.want.Want.TheVariants as want
 use Rattle.segment_head.specs.HeadWord.{state_in, depth_in, normal}
-use Rattle.bucket_meta.specs.Bucket.{allocated}
+use Rattle.bucket_meta.specs.Bucket.{allocated, record_slots}
 use Rattle.trace.specs.Events.{Words}
 use Rattle.hash_word.specs.Hash.{finger_of}
 use Rattle.sound_image.specs.Records.{key_hash}
 use Rattle.map_model.specs.declared.call.Call.{Call}
 use Rattle.map_model.specs.declared.call.Call.TheVariants.{Get, Insert, Update, Remove}
 use Rattle.map_model.specs.declared.entry.Reply.{Reply}
-use Rattle.map_model.specs.Map.{is_change}
+use Rattle.map_model.specs.Map.{is_change, key_of, value_of}
 use Rattle.map_model.specs.Legal.{IsInsert, IsChange, seen_after}
 use Rattle.world.specs.declared.site.Site.{Site as Here}
 use Rattle.world.specs.Site.{Site, IsSite, IsUnder}
 use Rattle.world.specs.Views.{View, Has, At}
 use Rattle.world.specs.Wants.{answer_to, word_of}
-use Rattle.world.specs.Kinds.{next_entry, wanted as wanted_by, view_after, May}
+use Rattle.world.specs.Kinds.{wanted as wanted_by, view_after, May}
 use Rattle.world.specs.Invariant.{Holds}
+use Rattle.world.specs.Attempts.{HoldsOnly, HasNoMore, HasOneMore}
 use Rattle.write_op.specs.declared.control.Side.{Side}
 use Rattle.write_op.specs.declared.control.Side.TheVariants.{Home, Probing}
 use Rattle.write_op.specs.declared.control.Held.{Held}
@@ -30,51 +31,35 @@ use Rattle.write_op.specs.declared.control.Step.TheVariants.{AskPower, LoadRoot,
 use Rattle.write_op.specs.declared.control.Kept.{Kept}
 use Rattle.write_op.specs.declared.control.Task.{Task}
 use Rattle.write_op.specs.declared.machine.WriteOp.{WriteOp}
-use Rattle.write_op.specs.Slots.{slot_with, slot_free, finger_place, with_finger}
+use Rattle.bucket_meta.specs.Marks.{finger_place, with_finger}
+use Rattle.bucket_meta.specs.Search.{IsThere, lowest_with, lowest_free}
 use Rattle.write_op.specs.Ways.{lock_word}
-use Rattle.write_op.specs.Wanted.{key_for, value_for, home_word, published_word, free_of}
+use Rattle.write_op.specs.Wanted.{home_word, published_word, free_of}
 use Rattle.write_op.specs.Fits.{kind_of}
 use Rattle.write_op.specs.Inside.{IsInside}
+use Rattle.write_op.specs.Numbers.{HasWords}
 use Rattle.write_op.specs.Taken.{begun, wanted, taken, refused}
 
 -- the change runs in this image, its hash is its key's, its numbers are in range, and it has room for a bucket's words
 pub record IsIn (site : Site) (op : WriteOp) : Type 0 where
   pub shape : op.task.site.geometry ≡ site.shape
-  pub hash : op.task.hash ≡ key_hash site.shape (key_for op.task.call)
+  pub hash : op.task.hash ≡ key_hash site.shape (key_of op.task.call)
   pub inside : IsInside op
   pub change : IsChange op.task.call
   pub whole : length op.kept.words ≡ 32
 
 -- ---- what the view has replied
--- no more than before the attempt
-pub record HasNotReplied (before v : View) : Type 0 where
-  pub own : v.own ≡ before.own
-  pub seen : v.seen ≡ before.seen
-
--- this reply more than before the attempt
-pub record HasReplied (call : Call) (reply : Reply) (place : ℕ) (before v : View) : Type 0 where
-  pub own : v.own ≡ before.own ++ next_entry before call reply place (is_change reply) ∷ []
-  pub seen : v.seen ≡ seen_after (next_entry before call reply place (is_change reply))
-
 -- an end that replies stands for one entry more, and each other end for none
 abbrev pub EntersEnd : Call → WriteEnd → View → View → Type 0
-EntersEnd call (Replied reply place) before v = HasReplied call reply place before v
-EntersEnd call end before v = HasNotReplied before v
+EntersEnd call (Replied reply place) before v = HasOneMore call reply place before v
+EntersEnd call end before v = HasNoMore before v
 
 abbrev pub Enters : Call → Step → View → View → Type 0
 Enters call (GiveBack held end) before v = EntersEnd call end before v
 Enters call (Ended end) before v = EntersEnd call end before v
-Enters call s before v = HasNotReplied before v
+Enters call s before v = HasNoMore before v
 
 -- ---- what the view holds, knows and owes
--- these locks, and nothing else
-pub record HoldsOnly (locks : List (ℕ × ℕ)) (v : View) : Type 0 where
-  pub held : v.held ≡ locks
-  pub known : v.known ≡ []
-  pub dirty : v.dirty ≡ []
-  pub flushed : v.flushed ≡ []
-  pub planned : v.planned ≡ []
-
 -- no word unsettled, and no change planned
 pub record IsQuiet (v : View) : Type 0 where
   pub dirty : v.dirty ≡ []
@@ -87,15 +72,10 @@ pub record IsFirst (segment head : ℕ) : Type 0 where
   pub is_normal : state_in head ≡ normal
   pub no_depth : depth_in head ≡ 0
 
--- slot s is taken by the key, among a bucket's words
-pub record IsThere (words : List ℕ) (key s : ℕ) : Type 0 where
-  pub taken : allocated s (slice_index words 1) ≡ 1
-  pub has_key : slice_index words (4 + 2 * s) ≡ key
-
 -- the slot is one that the call may change: an insert a free one of a bucket without the key, the others one with the key
 abbrev pub IsChosen : Call → List ℕ → ℕ → Type 0
 IsChosen (Get key) words slot = ⊤
-IsChosen (Insert key value) words slot = (allocated slot (slice_index words 1) ≡ 0) × ((s : ℕ) → s < 14 → IsThere words key s → ⊥)
+IsChosen (Insert key value) words slot = (allocated slot (slice_index words 1) ≡ 0) × ((s : ℕ) → s < record_slots → IsThere words key s → ⊥)
 IsChosen (Update key value) words slot = IsThere words key slot
 IsChosen (Remove key) words slot = IsThere words key slot
 
@@ -132,10 +112,10 @@ module _ (t : Task) (k : Kept) where
 
   -- the home bucket's words with an insert's key, its value and its fingerprint
   abbrev pub with_key : List ℕ
-  with_key = slice_set k.words (4 + 2 * k.slot) (key_for t.call)
+  with_key = slice_set k.words (4 + 2 * k.slot) (key_of t.call)
 
   abbrev pub with_value : List ℕ
-  with_value = slice_set with_key (5 + 2 * k.slot) (value_for t.call)
+  with_value = slice_set with_key (5 + 2 * k.slot) (value_of t.call)
 
   abbrev pub with_fingers : List ℕ
   with_fingers = slice_set with_value (finger_place k.slot) (with_finger (slice_index k.words (finger_place k.slot)) k.slot (finger_of t.hash))
@@ -207,7 +187,7 @@ module _ (t : Task) (k : Kept) where
 
   -- an insert, whose key is absent and whose home bucket is full, has both locks
   abbrev pub FindsNoSlot : View → Type 0
-  FindsNoSlot v = HasBoth v × IsQuiet v × KnowsBelow k.words 32 v × (slot_with k.words (key_for t.call) 0 14 ≡ None) × (slot_free k.words 0 14 ≡ None) × IsInsert t.call
+  FindsNoSlot v = HasBoth v × IsQuiet v × KnowsBelow k.words 32 v × (lowest_with k.words (key_of t.call) ≡ None) × (lowest_free (slice_index k.words 1) ≡ None) × IsInsert t.call
 
   -- at the ends: both locks are kept where no slot is free, and else all is as at the beginning
   abbrev pub SuitsEnd : WriteEnd → View → Type 0
@@ -222,7 +202,7 @@ module _ (t : Task) (k : Kept) where
   SuitsStep LoadHead v = HoldsOnly [] v × (k.segment ≡ 0)
   SuitsStep (LookAt side) v = SuitsLooking side v
   SuitsStep (TryLock side) v = SuitsLooking side v
-  SuitsStep (CountSpent side) v = SuitsLooking side v
+  SuitsStep (CountSpent side) v = SuitsLooking side v × Has (lock_word t k side) v.spent_locks
   SuitsStep CountFull v = FindsNoSlot v
   SuitsStep RootAgain v = HasBoth v × IsQuiet v
   SuitsStep EntryAgain v = HasBoth v × IsQuiet v
@@ -242,12 +222,12 @@ pub record Suits (before : View) (op : WriteOp) (v : View) : Type 0 where
 -- ---- the laws
 -- a change of a key that is a word, by a caller that holds, knows and owes nothing
 abbrev pub BeginsSuited : Type 0
-BeginsSuited = (site : Site) (here : Here) (call : Call) (v : View) → IsSite site → here.geometry ≡ site.shape → key_for call < 2 ^ 64 → IsChange call
+BeginsSuited = (site : Site) (here : Here) (call : Call) (v : View) → IsSite site → here.geometry ≡ site.shape → key_of call < 2 ^ 64 → IsChange call
     → HoldsOnly [] v → 0 < v.callers → IsIn site (begun call here) × Suits v (begun call here) v
 
--- a view that suits may take the step, whatever value it finds
+-- a view that suits may take the step, whatever value it finds, where the words that the change was answered are words
 abbrev pub MayStep : Type 0
-MayStep = (site : Site) (op : WriteOp) (before v : View) (n : ℕ) → IsSite site → IsIn site op → Suits before op v → May site (kind_of op n) v
+MayStep = (site : Site) (op : WriteOp) (before v : View) (n : ℕ) → IsSite site → IsIn site op → HasWords op → Suits before op v → May site (kind_of op n) v
 
 -- where a change has ended, its caller's own entries are more by its reply or as they were, and its locks are given back, and
 -- nothing is known, unsettled or planned; where no slot was free both locks are kept, and the bucket's words are known

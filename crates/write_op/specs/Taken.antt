@@ -1,5 +1,5 @@
 -- What an answer makes of a change, by its control points.
-use Rattle.std.specs.Prelude.{ℕ, ◌+◌, ◌-◌, ◌%◌, ◌^◌, nat_le, nat_lt, ◌==◌, Option, None, Some, List, slice_set, if◌then◌else◌, replicate}
+use Rattle.std.specs.Prelude.{ℕ, ◌+◌, ◌-◌, ◌%◌, ◌^◌, nat_le, nat_lt, ◌==◌, Option, None, Some, List, slice_index, slice_set, if◌then◌else◌, replicate}
 use Rattle.op_core.specs.declared.want.Want.{Want}
 use Rattle.op_core.specs.declared.want.Ans.{Ans}
 use Rattle.op_core.specs.declared.want.Ans.TheVariants.{Value, Won, Lost, Drawn, Passed}
@@ -26,10 +26,11 @@ use Rattle.write_op.specs.declared.control.Step.TheVariants.{AskPower, LoadRoot,
 use Rattle.write_op.specs.declared.control.Kept.{Kept}
 use Rattle.write_op.specs.declared.control.Task.{Task}
 use Rattle.write_op.specs.declared.machine.WriteOp.{WriteOp}
-use Rattle.write_op.specs.Slots.{slot_with, slot_free}
+use Rattle.bucket_meta.specs.Search.{lowest_with, lowest_free}
 use Rattle.way.specs.Ways.{entry_word, head_word}
 use Rattle.write_op.specs.Ways.{lock_word, sight_of}
-use Rattle.write_op.specs.Wanted.{key_for, free_of, wanted_of}
+use Rattle.write_op.specs.Wanted.{free_of, wanted_of}
+use Rattle.map_model.specs.Map.{key_of}
 
 -- another value at the second look at a word
 abbrev pub moved : ℕ → ℕ → ℕ → WriteEnd
@@ -65,10 +66,10 @@ again same word before after = if before == after then same else GiveBack Both (
 
 -- the slot that a call changes: an insert the lowest free one, the others the lowest with the key
 abbrev pub chosen : Call → List ℕ → Option ℕ
-chosen (Get key) words = slot_with words key 0 14
-chosen (Insert key value) words = slot_free words 0 14
-chosen (Update key value) words = slot_with words key 0 14
-chosen (Remove key) words = slot_with words key 0 14
+chosen (Get key) words = lowest_with words key
+chosen (Insert key value) words = lowest_free (slice_index words 1)
+chosen (Update key value) words = lowest_with words key
+chosen (Remove key) words = lowest_with words key
 
 -- an insert, by where its key stands and where a slot is free
 abbrev pub inserting : ℕ → Option ℕ → Option ℕ → Step
@@ -83,9 +84,9 @@ changing count None = GiveBack Both (Replied Absent count)
 
 abbrev pub decided : Call → List ℕ → ℕ → Step
 decided (Get key) words count = GiveBack Both Off
-decided (Insert key value) words count = inserting count (slot_with words key 0 14) (slot_free words 0 14)
-decided (Update key value) words count = changing count (slot_with words key 0 14)
-decided (Remove key) words count = changing count (slot_with words key 0 14)
+decided (Insert key value) words count = inserting count (lowest_with words key) (lowest_free (slice_index words 1))
+decided (Update key value) words count = changing count (lowest_with words key)
+decided (Remove key) words count = changing count (lowest_with words key)
 
 -- the commit counter gives no place from 2^63 on
 abbrev pub after_count : Call → List ℕ → ℕ → Step
@@ -171,7 +172,7 @@ first_step (Update key value) = AskPower
 first_step (Remove key) = AskPower
 
 abbrev pub begun : Call → Site → WriteOp
-begun call site = record { task = record { site = site; call = call; hash = key_hash site.geometry (key_for call) }; kept = nothing; step = first_step call }
+begun call site = record { task = record { site = site; call = call; hash = key_hash site.geometry (key_of call) }; kept = nothing; step = first_step call }
 
 -- how a change ended; one that has not ended counts as one with the power off
 abbrev pub end_at : Step → WriteEnd

@@ -4,6 +4,7 @@ use Rattle.op_core.specs.declared.want.Want.{Want}
 use Rattle.op_core.specs.declared.want.Want.TheVariants as want
 use Rattle.map_model.specs.declared.call.Call.{Call}
 use Rattle.map_model.specs.declared.call.Call.TheVariants.{Get, Insert, Update, Remove}
+use Rattle.map_model.specs.Map.{key_of, value_of}
 use Rattle.trace.specs.Events.{line_of}
 use Rattle.image_layout.specs.Places.{root_word}
 use Rattle.image_layout.specs.Volatile.{counter_word}
@@ -17,22 +18,9 @@ use Rattle.write_op.specs.declared.control.Step.{Step}
 use Rattle.write_op.specs.declared.control.Step.TheVariants.{AskPower, LoadRoot, LoadEntry, LoadHead, LookAt, TryLock, RootAgain, EntryAgain, HeadAgain, LoadWord, LoadCount, Make, CountSpent, CountFull, GiveBack, Ended}
 use Rattle.write_op.specs.declared.control.Kept.{Kept}
 use Rattle.write_op.specs.declared.control.Task.{Task}
-use Rattle.write_op.specs.Slots.{inserted_mark, removed_mark, finger_place, with_finger}
+use Rattle.bucket_meta.specs.Marks.{inserted_mark, removed_mark, finger_place, with_finger}
 use Rattle.way.specs.Ways.{entry_word, head_word}
 use Rattle.write_op.specs.Ways.{lock_word}
-
-abbrev pub key_for : Call → ℕ
-key_for (Get key) = key
-key_for (Insert key value) = key
-key_for (Update key value) = key
-key_for (Remove key) = key
-
--- the value that a call brings, and 0 where it brings none
-abbrev pub value_for : Call → ℕ
-value_for (Get key) = 0
-value_for (Insert key value) = value
-value_for (Update key value) = value
-value_for (Remove key) = 0
 
 -- a word of the home bucket
 abbrev pub home_word : Task → Kept → ℕ → ℕ
@@ -52,8 +40,8 @@ published_value (Update key value) k = value
 published_value (Remove key) k = removed_mark (slice_index k.words 1) k.slot
 
 abbrev pub wanted_at : Task → Kept → Point → Want
-wanted_at t k StoreKey = want.Store (home_word t k (4 + 2 * k.slot)) (key_for t.call)
-wanted_at t k StoreValue = want.Store (home_word t k (5 + 2 * k.slot)) (value_for t.call)
+wanted_at t k StoreKey = want.Store (home_word t k (4 + 2 * k.slot)) (key_of t.call)
+wanted_at t k StoreValue = want.Store (home_word t k (5 + 2 * k.slot)) (value_of t.call)
 wanted_at t k StoreFinger =
     want.Store (home_word t k (finger_place k.slot)) (with_finger (slice_index k.words (finger_place k.slot)) k.slot (finger_of t.hash))
 wanted_at t k FlushFinger = want.Flush (line_of (home_word t k (finger_place k.slot)))

@@ -1,8 +1,8 @@
 -- The two buckets of a hash and their lock words, and what the header of their segment has to be.
-use Rattle.std.specs.Prelude.{ℕ, ◌==◌, ◌&&◌, ◌||◌, not, if◌then◌else◌}
+use Rattle.std.specs.Prelude.{ℕ, ◌==◌, ◌&&◌, not, if◌then◌else◌}
 use Rattle.way.specs.Ways.{bucket_word, is_covering}
 use Rattle.hash_word.specs.Hash.{home_of, probing_of}
-use Rattle.segment_head.specs.HeadWord.{version_in, state_in, normal, splitting}
+use Rattle.segment_head.specs.HeadWord.{version_in, state_in, normal, is_live}
 use Rattle.write_op.specs.declared.control.Side.{Side}
 use Rattle.write_op.specs.declared.control.Side.TheVariants.{Home, Probing}
 use Rattle.write_op.specs.declared.control.Kept.{Kept}
@@ -22,6 +22,6 @@ lock_word t k side = bucket_word t.site.geometry k.segment (bucket_of side t.has
 -- what a header says to a change: a live segment of another version is late; a good one is normal and covers the hash
 abbrev pub sight_of : ℕ → ℕ → ℕ → Sight
 sight_of version hash h1 =
-    if not (version_in h1 == version) && ((state_in h1 == normal) || (state_in h1 == splitting)) then Late (version_in h1)
+    if not (version_in h1 == version) && is_live h1 then Late (version_in h1)
     else if (version_in h1 == version) && ((state_in h1 == normal) && is_covering h1 hash) then Good
     else Other

@@ -1,34 +1,17 @@
 //! What a change wants at each of its control points.
 
 ghost use Rattle.std.specs.Prelude.{◌≡◌, ◌≤◌};
-ghost use Rattle.write_op.specs.Wanted.{key_for, value_for, home_word, published_word, published_value, wanted_at, free_of, unlock, wanted_of};
+ghost use Rattle.write_op.specs.Wanted.{home_word, published_word, published_value, wanted_at, free_of, unlock, wanted_of};
 
-use crate::bucket::{finger_place, inserted_mark, removed_mark, with_finger};
 use crate::control::{Held, Kept, Point, Side, Step, Task};
-use crate::path::{counter, lock_word};
+use crate::path::lock_word;
+use bucket_meta::words::{finger_place, inserted_mark, removed_mark, with_finger};
 use hash_word::finger;
+use image_layout::ROOT_WORD;
 use map_model::Call;
 use op_core::Want;
-use way::{ROOT_WORD, entry_word, head_word};
-
-/// The key of a call.
-pub fn key_for(call: Call) -> u64
-    ensures { result ≡ key_for call }
-{
-    match call {
-        Call::Get(key) | Call::Insert(key, _) | Call::Update(key, _) | Call::Remove(key) => key,
-    }
-}
-
-/// The value that a call brings, and 0 where it brings none.
-fn value_for(call: Call) -> u64
-    ensures { result ≡ value_for call }
-{
-    match call {
-        Call::Insert(_, value) | Call::Update(_, value) => value,
-        Call::Get(_) | Call::Remove(_) => 0,
-    }
-}
+use trace::line_of;
+use way::{entry_word, head_word};
 
 /// A word of the home bucket.
 fn home_word(task: &Task, kept: &Kept, at: u64) -> u64
@@ -69,20 +52,20 @@ fn want_at(task: &Task, kept: &Kept, point: Point) -> Want
     let fingers = finger_place(kept.slot);
     let published = published_word(task.call, kept.slot);
     match point {
-        Point::StoreKey => Want::Store(home_word(task, kept, key_at), key_for(task.call)),
-        Point::StoreValue => Want::Store(home_word(task, kept, key_at + 1), value_for(task.call)),
+        Point::StoreKey => Want::Store(home_word(task, kept, key_at), task.call.key()),
+        Point::StoreValue => Want::Store(home_word(task, kept, key_at + 1), task.call.value()),
         Point::StoreFinger => Want::Store(
             home_word(task, kept, fingers as u64),
             with_finger(kept.words[fingers], kept.slot, finger(task.hash)),
         ),
-        Point::FlushFinger => Want::Flush(home_word(task, kept, fingers as u64) / 8),
-        Point::FlushRecord => Want::Flush(home_word(task, kept, key_at) / 8),
+        Point::FlushFinger => Want::Flush(line_of(home_word(task, kept, fingers as u64))),
+        Point::FlushRecord => Want::Flush(line_of(home_word(task, kept, key_at))),
         Point::FenceRecord | Point::FencePublished => Want::Fence,
         Point::Publish => Want::Store(
             home_word(task, kept, published),
             published_value(task.call, kept),
         ),
-        Point::FlushPublished => Want::Flush(home_word(task, kept, published) / 8),
+        Point::FlushPublished => Want::Flush(line_of(home_word(task, kept, published))),
         Point::DrawPlace => Want::Draw,
     }
 }
@@ -125,7 +108,9 @@ pub fn want_of(task: &Task, kept: &Kept, step: Step) -> Want
             Want::Exchange(lock_word(task, kept, side), free, free.wrapping_add(1))
         }
         Step::LoadWord(at) => Want::Load(home_word(task, kept, u64::from(at))),
-        Step::LoadCount | Step::CountSpent(_) | Step::CountFull => Want::Load(counter(geometry)),
+        Step::LoadCount | Step::CountSpent(_) | Step::CountFull => Want::Load(
+            geometry.counter_word(),
+        ),
         Step::Make(point) => want_at(task, kept, point),
         Step::GiveBack(Held::OnlyHome | Held::Both, _) => unlock(task, kept, Side::Home),
         Step::GiveBack(Held::OnlyProbing, _) => unlock(task, kept, Side::Probing),

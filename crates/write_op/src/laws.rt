@@ -3,45 +3,33 @@
 ghost use Rattle.std.specs.Prelude.{◌≡◌, ◌≢◌, ℕ, ◌+◌, ◌<◌, ◌≤◌, ◌^◌};
 ghost use Rattle.op_core.specs.declared.want.Want.TheVariants.{Flush, Fence, Done};
 ghost use Rattle.world.specs.Kinds.{wanted as wanted_by};
-ghost use Rattle.write_op.specs.Fits.{Fits, IsWord, kind_of};
+ghost use Rattle.write_op.specs.Fits.{Fits, kind_of};
+ghost use Rattle.op_core.specs.Answers.{IsWord, IsAnswer};
 ghost use Rattle.op_core.specs.declared.want.Ans.{Ans};
 ghost use Rattle.map_model.specs.declared.call.Call.{Call};
 ghost use Rattle.world.specs.declared.site.Site.{Site};
 ghost use Rattle.write_op.specs.declared.machine.WriteOp.{WriteOp};
 ghost use Rattle.write_op.specs.Taken.{begun, wanted, taken, refused};
-ghost use Rattle.write_op.specs.Left.{IsAnswer, left, EndsAsSaid};
+ghost use Rattle.write_op.specs.Left.{most_events, left, EndsAsSaid};
+ghost use Rattle.write_op.specs.declared.control.WriteEnd.TheVariants.{NoSlot};
+ghost use Rattle.write_op.specs.declared.control.Step.TheVariants.{Ended};
 ghost use Rattle.write_op.specs.Inside.{IsInside, AsksInside};
-ghost use Rattle.write_op.specs.Stored.{TakesSlot, FreesSlot, SetsFinger};
-ghost use Rattle.write_op.specs.Slots.{with_finger};
 ghost use Rattle.write_op.specs.Suits.{BeginsSuited, MayStep, KeepsSuits, EndsWell, RefusesWell};
-ghost use Rattle.write_op.specs.Wanted.{key_for, value_for};
+ghost use Rattle.map_model.specs.Map.{key_of, value_of};
 ghost use Rattle.write_op.specs.Numbers.{HasWords, AsksWords};
 ghost use Rattle.write_op.specs.Spared.{KeepsNotes, KeepsSpent};
 ghost use Rattle.write_op.specs.Waiting.{waiting};
 ghost use Rattle.write_op.specs.Pairs.{LeavesPairs, BeginsUnmade, MakesIt, StaysMade, MadeOnlySo, EndsAsDone, RefusesUnmade};
 ghost use Rattle.image_layout.specs.Places.{IsShape};
 
-/// An attempt ends: each answer of the kind that was asked for leaves fewer events, of at most 55 at its beginning, and of at
-/// most 3 where an insert that found no slot goes on to its refusal; and where nothing more is wanted, it has ended as it says.
+/// An attempt ends: each answer of the kind that was asked for leaves fewer events, of at most `most_events`, and an insert that
+/// found no slot has no more of them left where it goes on to its refusal; and where nothing more is wanted, it has ended as it
+/// says.
 pub fn attempt_ends()
     ensures falls { (op : WriteOp) (ans : Ans) → IsAnswer (wanted op) ans → left (taken op ans) < left op }
-    ensures tight { (call : Call) (site : Site) → left (begun call site) ≤ 55 }
-    ensures bound { (call : Call) (site : Site) → left (begun call site) ≤ 700 }
-    ensures refuses { (op : WriteOp) → left (refused op) ≤ 3 }
+    ensures most { (op : WriteOp) → left op ≤ most_events }
+    ensures refuses { (op : WriteOp) → op.step ≡ Ended NoSlot → left (refused op) ≤ left op }
     ensures ends { EndsAsSaid }
-{}
-
-/// The metadata word that an insert stores has its slot taken, and the one that a remove stores has it free; all that they
-/// say of the other slots is as it was.
-pub fn marks_change_one_slot()
-    ensures inserted { (w1 slot : ℕ) → slot < 14 → TakesSlot w1 slot }
-    ensures removed { (w1 slot : ℕ) → slot < 14 → FreesSlot w1 slot }
-{}
-
-/// The word of fingerprints that an insert stores has its slot's fingerprint, and those of the other slots as they were.
-pub fn fingers_change_one_slot()
-    ensures low { (w2 w3 slot f : ℕ) → slot < 8 → f < 256 → SetsFinger w2 w3 (with_finger w2 slot f) w3 slot f }
-    ensures high { (w2 w3 slot f : ℕ) → 8 ≤ slot → slot < 14 → f < 256 → SetsFinger w2 w3 w2 (with_finger w3 slot f) slot f }
 {}
 
 /// Each event that a change wants is the event of its kind in the world of many callers.
@@ -60,7 +48,7 @@ pub fn numbers_stay_in_range()
 /// The word that a change asks for is one of the image, or one of the volatile ones behind it, where its numbers are in
 /// range, and whatever words the answers bring, they stay so.
 pub fn words_are_inside()
-    ensures begins { (call : Call) (site : Site) → IsShape site.geometry → key_for call < 2 ^ 64 → IsInside (begun call site) }
+    ensures begins { (call : Call) (site : Site) → IsShape site.geometry → key_of call < 2 ^ 64 → IsInside (begun call site) }
     ensures asks { (op : WriteOp) → IsInside op → AsksInside op }
     ensures keeps { (op : WriteOp) (ans : Ans) → IsWord ans → IsInside op → IsInside (taken op ans) }
     ensures refuses { (op : WriteOp) → IsInside op → IsInside (refused op) }
@@ -81,7 +69,7 @@ pub fn fits_the_world()
 /// What a change stores, or puts in place of another value, is a word, where its key, its value and the words that it was
 /// answered are words.
 pub fn stores_are_words()
-    ensures begins { (call : Call) (site : Site) → key_for call < 2 ^ 64 → value_for call < 2 ^ 64 → HasWords (begun call site) }
+    ensures begins { (call : Call) (site : Site) → key_of call < 2 ^ 64 → value_of call < 2 ^ 64 → HasWords (begun call site) }
     ensures keeps { (op : WriteOp) (ans : Ans) → IsWord ans → HasWords op → HasWords (taken op ans) }
     ensures refuses { (op : WriteOp) → HasWords op → HasWords (refused op) }
     ensures asks { (op : WriteOp) → HasWords op → AsksWords op }

@@ -7,7 +7,7 @@ ghost use Rattle.write_op.specs.declared.control.WriteEnd.TheVariants.{NoSlot};
 ghost use Rattle.write_op.specs.Taken.{begun, end_of, first_step, refused};
 ghost use Rattle.write_op.specs.Left.{left};
 
-use crate::asking::{key_for, want_of};
+use crate::asking::want_of;
 use crate::control::{Kept, Step, Task, WriteEnd};
 use crate::taking::{kept_after, step_after};
 use map_model::Call;
@@ -39,7 +39,7 @@ impl WriteOp {
         requires change { IsChange call }
         ensures { result ≡ begun call site }
     {
-        let hash = key_hash(&site.geometry, key_for(call));
+        let hash = key_hash(&site.geometry, call.key());
         WriteOp {
             task: Task { site, call, hash },
             kept: Kept {

@@ -1,42 +1,35 @@
 //! The two buckets of a hash, their lock words, and whether a header is good.
 
 ghost use Rattle.std.specs.Prelude.{◌≡◌, ◌<◌, ◌≤◌};
-ghost use Rattle.image_layout.specs.Volatile.{counter_word};
+ghost use Rattle.image_layout.specs.Places.{homes, most_words};
 ghost use Rattle.write_op.specs.Ways.{bucket_of, lock_word, sight_of};
 
 use crate::control::{Kept, Side, Task};
-use hash_word::home;
-use image_layout::Geometry;
+use hash_word::{home, probing};
+use segment_head::word::{NORMAL, is_live, state_of, version_of};
 use way::{bucket_word, is_covering};
 
 /// The number of one of the two buckets of a hash.
 fn bucket_of(side: Side, hash: u64) -> u8
     ensures is { result ≡ bucket_of side hash }
-    ensures range { result < 64 }
+    ensures range { result < homes }
 {
     match side {
         Side::Home => home(hash),
-        Side::Probing => (home(hash) + 1) % 64,
+        Side::Probing => probing(home(hash)),
     }
 }
 
 /// The lock word of a bucket, with which it begins.
 pub fn lock_word(task: &Task, kept: &Kept, side: Side) -> u64
     ensures is { result ≡ lock_word task.now kept.now side }
-    ensures most { result ≤ 35258400 }
+    ensures most { result ≤ most_words }
 {
     bucket_word(
         &task.site.geometry,
         kept.segment,
         bucket_of(side, task.hash),
     )
-}
-
-/// The commit counter.
-pub fn counter(geometry: &Geometry) -> u64
-    ensures { result ≡ counter_word geometry.now }
-{
-    geometry.words()
 }
 
 /// What a first look at a header says.
@@ -54,11 +47,10 @@ pub enum Sight {
 pub fn look_at_head(version: u8, hash: u64, head: u64) -> Sight
     ensures { result ≡ sight_of version hash head }
 {
-    let byte = (head & 255) as u8;
-    let state = head >> 8 & 255;
-    if byte != version && (state == 1 || state == 2) {
+    let byte = version_of(head);
+    if byte != version && is_live(head) {
         Sight::Late(byte)
-    } else if byte == version && state == 1 && is_covering(head, hash) {
+    } else if byte == version && state_of(head) == NORMAL && is_covering(head, hash) {
         Sight::Good
     } else {
         Sight::Other

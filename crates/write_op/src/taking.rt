@@ -3,13 +3,14 @@
 ghost use Rattle.std.specs.Prelude.{◌≡◌};
 ghost use Rattle.write_op.specs.Taken.{moved, seen_at, give_up, after_head, after_look, after_loss, again, chosen, decided, after_count, no_room, made, gave_back, kept_after, step_after};
 
-use crate::asking::{free_of, key_for};
-use crate::bucket::{lowest_free, lowest_with, with_word};
+use crate::asking::free_of;
 use crate::control::{Held, Kept, Point, Side, Step, Task, WriteEnd};
 use crate::path::{Sight, lock_word, look_at_head};
+use bucket_meta::words::{lowest_free, lowest_with, with_word};
+use image_layout::ROOT_WORD;
 use map_model::{Call, Reply};
 use op_core::{Ans, Why};
-use way::{ROOT_WORD, entry_word, head_word};
+use way::{entry_word, head_word};
 use world::Site;
 
 /// From this many changes on, the commit counter gives no place.
@@ -98,7 +99,7 @@ fn chosen(call: Call, words: &[u64; 32]) -> Option<u8>
     ensures { result ≡ chosen call words.now }
 {
     match call {
-        Call::Insert(..) => lowest_free(words),
+        Call::Insert(..) => lowest_free(words[1]),
         Call::Get(key) | Call::Update(key, _) | Call::Remove(key) => lowest_with(words, key),
     }
 }
@@ -107,7 +108,7 @@ fn chosen(call: Call, words: &[u64; 32]) -> Option<u8>
 fn decided(call: Call, words: &[u64; 32], count: u64) -> Step
     ensures { result ≡ decided call words.now count }
 {
-    let reply = match (call, lowest_with(words, key_for(call)), chosen(call, words)) {
+    let reply = match (call, lowest_with(words, call.key()), chosen(call, words)) {
         (Call::Get(_), _, _) => return Step::GiveBack(Held::Both, WriteEnd::Off),
         (Call::Insert(..), Some(_), _) => Reply::Exists,
         (Call::Insert(..), None, Some(_)) => return Step::Make(Point::StoreKey),

@@ -1,5 +1,5 @@
 -- Line by line.
-use Rattle.core_run.proofs.Lines.{lines_are_well}
+use Rattle.core_run.proofs.ends.Lines.{lines_are_well}
 use Rattle.core_run.proofs.alone.lines_are_well.Goals as goal
 
 pub returns : goal.returns

@@ -1,5 +1,5 @@
 -- By who does the event.
-use Rattle.core_run.proofs.Deeds.{deeds_are_well}
+use Rattle.core_run.proofs.events.Deeds.{deeds_are_well}
 use Rattle.core_run.proofs.states.deeds_are_well.Goals as goal
 
 pub returns : goal.returns

@@ -1,5 +1,5 @@
 -- The one slot is normal.
-use Rattle.core_run.proofs.FirstSlot.{no_slot_is_free}
+use Rattle.core_run.proofs.events.FirstSlot.{no_slot_is_free}
 use Rattle.core_run.proofs.states.no_slot_is_free.Goals as goal
 
 pub returns : goal.returns

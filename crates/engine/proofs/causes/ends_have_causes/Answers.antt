@@ -1,7 +1,8 @@
 -- What each attempt did is remembered by its engine, and each end has its cause in the world that holds.
-use Rattle.engine.proofs.Decisions.{begins_undecided, decided_stays, ends_are_decided}
-use Rattle.engine.proofs.Doing.{watching}
-use Rattle.engine.proofs.Deciding.{ends_have_causes}
+use Rattle.engine.proofs.attempts.Decisions.{begins_undecided, decided_stays, ends_are_decided}
+use Rattle.engine.proofs.attempts.Doing.{watching}
+use Rattle.engine.proofs.attempts.Deciding.{ends_have_causes}
+use Rattle.engine.proofs.lonely.Others.{busy_others}
 use Rattle.engine.proofs.causes.ends_have_causes.Goals as goal
 
 pub returns-clause-begins : goal.returns-clause-begins
@@ -26,3 +27,14 @@ returns-clause-causes c = ends_have_causes (record {
   in_world = c.ends_have_causes.ensures.in_world;
   current = c.ends_have_causes.ensures.current;
 }) c.opened_holds.ensures c.fits_the_world.ensures.steps c.turn_keeps.ensures.one c.restart_begins.ensures.started
+
+pub returns-clause-busy : goal.returns-clause-busy
+returns-clause-busy c = busy_others (record {
+  keeps = c.ends_have_causes.ensures.loads;
+  refuses = c.ends_have_causes.ensures.refuses;
+  stays = c.ends_have_causes.ensures.stays;
+  causes = c.ends_have_causes.ensures.causes;
+  others = c.ends_have_causes.ensures.others;
+  in_world = c.ends_have_causes.ensures.in_world;
+  current = c.ends_have_causes.ensures.current;
+}) c.opened_holds.ensures c.fits_the_world.ensures.steps c.turn_keeps.ensures.one c.restart_begins.ensures.started (returns-clause-causes c)

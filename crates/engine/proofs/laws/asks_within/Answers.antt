@@ -1,5 +1,5 @@
 -- For a get and for a change.
-use Rattle.engine.proofs.Within.{asks_within}
+use Rattle.engine.proofs.machines.Within.{asks_within}
 use Rattle.engine.proofs.laws.asks_within.Goals as goal
 
 pub returns : goal.returns

@@ -1,5 +1,5 @@
 -- For a get and for a change.
-use Rattle.engine.proofs.Fitting.{begins_suited, keeps_suits}
+use Rattle.engine.proofs.machines.Fitting.{begins_suited, keeps_suits}
 use Rattle.engine.proofs.laws.fits_the_world.Goals as goal
 
 pub returns-clause-begins : goal.returns-clause-begins

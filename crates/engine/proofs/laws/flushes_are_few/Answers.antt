@@ -1,5 +1,5 @@
 -- A get flushes nothing, and a refusal neither.
-use Rattle.engine.proofs.Waits.{begins_waiting, most_waiting, flush_adds, stays_waiting, ends_waiting}
+use Rattle.engine.proofs.machines.Waits.{begins_waiting, most_waiting, flush_adds, stays_waiting, ends_waiting}
 use Rattle.engine.proofs.laws.flushes_are_few.Goals as goal
 
 pub returns-clause-begins : goal.returns-clause-begins

@@ -1,5 +1,5 @@
 -- For a get and for a change.
-use Rattle.engine.proofs.Pairs.{leaves_or_makes, begins_unmade, stays_made, ends_as_done, turn_leaves_or_makes}
+use Rattle.engine.proofs.machines.Pairs.{leaves_or_makes, begins_unmade, stays_made, ends_as_done, turn_leaves_or_makes}
 use Rattle.engine.proofs.laws.refusals_leave_pairs.Goals as goal
 
 pub returns-clause-leaves : goal.returns-clause-leaves

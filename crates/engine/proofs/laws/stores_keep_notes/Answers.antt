@@ -1,5 +1,5 @@
 -- A get stores nothing.
-use Rattle.engine.proofs.Sparing.{keeps_notes}
+use Rattle.engine.proofs.machines.Sparing.{keeps_notes}
 use Rattle.engine.proofs.laws.stores_keep_notes.Goals as goal
 
 pub returns : goal.returns

@@ -1,5 +1,5 @@
 -- By the law of all turns, and those of a close.
-use Rattle.engine.proofs.CloseSession.{close_is_session}
+use Rattle.engine.proofs.sessions.CloseSession.{close_is_session}
 use Rattle.engine.proofs.turns.close_is_session.Goals as goal
 
 pub returns : goal.returns

@@ -1,5 +1,5 @@
 -- By the beginning of a call.
-use Rattle.engine.proofs.Beginnings.{core_begins}
+use Rattle.engine.proofs.holding.Beginnings.{core_begins}
 use Rattle.engine.proofs.turns.core_begins.Goals as goal
 
 pub returns : goal.returns

@@ -1,5 +1,5 @@
 -- By the law of all turns.
-use Rattle.engine.proofs.CutSession.{cut_is_session}
+use Rattle.engine.proofs.sessions.CutSession.{cut_is_session}
 use Rattle.engine.proofs.turns.cut_is_session.Goals as goal
 
 pub returns : goal.returns

@@ -1,5 +1,5 @@
 -- By the laws of the world and of tables.
-use Rattle.engine.proofs.Goodness.{holding_is_good}
+use Rattle.engine.proofs.sessions.Goodness.{holding_is_good}
 use Rattle.engine.proofs.turns.holding_is_good.Goals as goal
 
 pub returns : goal.returns

@@ -1,5 +1,5 @@
 -- By the end of a restart.
-use Rattle.engine.proofs.Opening.{opened_holds}
+use Rattle.engine.proofs.holding.Opening.{opened_holds}
 use Rattle.engine.proofs.turns.opened_holds.Goals as goal
 
 pub returns : goal.returns

@@ -1,5 +1,5 @@
 -- By the views of callers that are through.
-use Rattle.engine.proofs.Quiet.{through_is_quiet, through_has_map}
+use Rattle.engine.proofs.holding.Quiet.{through_is_quiet, through_has_map}
 use Rattle.engine.proofs.turns.through_is_quiet.Goals as goal
 
 pub returns-clause-quiet : goal.returns-clause-quiet

@@ -1,5 +1,5 @@
 -- The weave of one list in order is that list.
-use Rattle.engine.proofs.Alone.{turns_alone}
+use Rattle.engine.proofs.sessions.Alone.{turns_alone}
 use Rattle.engine.proofs.turns.turns_alone.Goals as goal
 
 pub returns : goal.returns

@@ -1,5 +1,5 @@
 -- Turn by turn, from the end of a restart on.
-use Rattle.engine.proofs.Opening.{turns_keep, calls_are_scripts}
+use Rattle.engine.proofs.holding.Opening.{turns_keep, calls_are_scripts}
 use Rattle.engine.proofs.turns.turns_keep.Goals as goal
 
 pub returns-clause-good : goal.returns-clause-good

@@ -5,6 +5,7 @@ use Rattle.play.proofs.deeds.awake.Goals as goal
 
 pub loop-place-preserved : goal.loop-place-preserved
 loop-place-preserved c = record {
-  so_far = rw (add-one, c.awake.ensures) (map_step (awoken c.args.version) c.loop-place.callers c.loop-place.place c.index-callers-place.result (omega arith) ∙ c.loop-place.invariant.so_far);
+  so_far = rw (add-one, c.awake.ensures) (map_step (awoken c.args.version) c.loop-place.callers c.loop-place.place c.index-callers-place.result (omega arith)
+      ∙ c.loop-place.invariant.so_far);
   long = simp length-set c.loop-place.invariant.long;
 }

@@ -17,5 +17,6 @@ returns-clause-is_of c =
       words = refl;
       keeper = ap Restarting c.new-3.ensures;
       runners = one_runner c.args.medium.geometry c.args.calls.items runners c.in_ok-lists.lists c.runner.result c.len.result are kept c.runner.ensures.caller;
-      room = one_room c.args.medium.geometry c.args.calls.items runners c.in_ok-lists.lists c.runner.result c.len.result are kept c.runner.ensures.caller c.runner.ensures.ended many;
+      room = one_room c.args.medium.geometry c.args.calls.items runners c.in_ok-lists.lists c.runner.result c.len.result are kept c.runner.ensures.caller
+          c.runner.ensures.ended many;
     }

@@ -8,9 +8,9 @@ use Rattle.core_run.specs.Ends.{most_of}
 use Rattle.core_run.specs.Wells.{start_state, RunsThrough, RunsOut}
 use Rattle.play.specs.Tables.{Stands, end_state}
 use Rattle.play.specs.Played.{task_of, IsOfRun, IsPlay}
-use Rattle.play.proofs.Doing.{runners_many}
-use Rattle.play.proofs.Seats.{lists_many}
-use Rattle.play.proofs.Whole.{play_is, play_stands, most_is, few_calls, is_task, is_play}
+use Rattle.play.proofs.driven.Doing.{runners_many}
+use Rattle.play.proofs.driven.Seats.{lists_many}
+use Rattle.play.proofs.ended.Whole.{play_is, play_stands, most_is, few_calls, is_task, is_play}
 use Rattle.play.proofs.playing.play.Goals as goal
 
 pub most_events-most-requires : goal.most_events-most-requires
@@ -28,9 +28,11 @@ lines_done-requires c =
     let lines : List Line = c.as_slice-lines.result.now in
     let shape = c.args.medium.geometry in let first = c.args.medium.words in let calls = c.in_ok-calls.calls.items in
     let t : Task = task_of shape first calls in
-    let is : IsTask t = is_task shape first lines calls c.requires.served (subst (λ ls. All IsLineSoFar ls) (sym c.as_slice-lines.ensures) c.requires.so_far) c.in_ok-calls.ensures in
+    let is : IsTask t = is_task shape first lines calls c.requires.served
+    (subst (λ ls. All IsLineSoFar ls) (sym c.as_slice-lines.ensures) c.requires.so_far) c.in_ok-calls.ensures in
     let is_len = c.in_ok-calls.calls.ok.0 in
-    let many : c.most_events-most.result ≡ most_of t = most_is shape first calls c.len.result c.most_events-most.result (omega arith) c.most_events-most.ensures in (
+    let many : c.most_events-most.result ≡ most_of t = most_is shape first calls c.len.result c.most_events-most.result
+    (omega arith) c.most_events-most.ensures in (
       t,
       start_state t,
       record { task = is; is_of = c.in_ok-table.ensures.is_of; running = c.run_begins.ensures t is },
@@ -42,12 +44,17 @@ ended-requires c =
     let lines : List Line = c.as_slice-lines.result.now in
     let shape = c.args.medium.geometry in let first = c.args.medium.words in let calls = c.in_ok-calls.calls.items in
     let t : Task = task_of shape first calls in
-    let is : IsTask t = is_task shape first lines calls c.requires.served (subst (λ ls. All IsLineSoFar ls) (sym c.as_slice-lines.ensures) c.requires.so_far) c.in_ok-calls.ensures in
+    let is : IsTask t = is_task shape first lines calls c.requires.served
+    (subst (λ ls. All IsLineSoFar ls) (sym c.as_slice-lines.ensures) c.requires.so_far) c.in_ok-calls.ensures in
     let is_len = c.in_ok-calls.calls.ok.0 in
     let most : ℕ = c.most_events-most.result in
     let many : most ≡ most_of t = most_is shape first calls c.len.result most (omega arith) c.most_events-most.ensures in
     let well = c.lines_are_well.ensures t lines (record { task = is; one = refl }) in
-    let begins : Stands t (start_state t) c.in_ok-table.table = record { task = is; is_of = c.in_ok-table.ensures.is_of; running = c.run_begins.ensures t is } in (
+    let begins : Stands t (start_state t) c.in_ok-table.table = record {
+      task = is;
+      is_of = c.in_ok-table.ensures.is_of;
+      running = c.run_begins.ensures t is;
+    } in (
       t,
       lines_done shape most lines (start_state t),
       c.lines_done.ensures t (start_state t) begins (subst (λ (m : ℕ). RunsThrough t m lines (start_state t)) (sym many) well.through),
@@ -60,11 +67,16 @@ left-requires c =
     let lines : List Line = c.as_slice-lines.result.now in
     let shape = c.args.medium.geometry in let first = c.args.medium.words in let calls = c.in_ok-calls.calls.items in
     let t : Task = task_of shape first calls in
-    let is : IsTask t = is_task shape first lines calls c.requires.served (subst (λ ls. All IsLineSoFar ls) (sym c.as_slice-lines.ensures) c.requires.so_far) c.in_ok-calls.ensures in
+    let is : IsTask t = is_task shape first lines calls c.requires.served
+    (subst (λ ls. All IsLineSoFar ls) (sym c.as_slice-lines.ensures) c.requires.so_far) c.in_ok-calls.ensures in
     let is_len = c.in_ok-calls.calls.ok.0 in
     let most : ℕ = c.most_events-most.result in
     let many : most ≡ most_of t = most_is shape first calls c.len.result most (omega arith) c.most_events-most.ensures in
-    let begins : Stands t (start_state t) c.in_ok-table.table = record { task = is; is_of = c.in_ok-table.ensures.is_of; running = c.run_begins.ensures t is } in
+    let begins : Stands t (start_state t) c.in_ok-table.table = record {
+      task = is;
+      is_of = c.in_ok-table.ensures.is_of;
+      running = c.run_begins.ensures t is;
+    } in
     let ends = play_stands t lines most c.cut_of-cut.result c.in_ok-table.table c.lines_done.new.self c.ended.new.self begins
     (c.lines_are_well.ensures t lines (record { task = is; one = refl })) many c.cut_of-cut.ensures c.lines_done.ensures c.ended.ensures in
     runners_many t (end_state shape most c.cut_of-cut.result (lines_done shape most lines (start_state t))) c.ended.new.self ends
@@ -74,11 +86,16 @@ returns-clause-played c =
     let lines : List Line = c.as_slice-lines.result.now in
     let shape = c.args.medium.geometry in let first = c.args.medium.words in let calls = c.in_ok-calls.calls.items in
     let t : Task = task_of shape first calls in
-    let is : IsTask t = is_task shape first lines calls c.requires.served (subst (λ ls. All IsLineSoFar ls) (sym c.as_slice-lines.ensures) c.requires.so_far) c.in_ok-calls.ensures in
+    let is : IsTask t = is_task shape first lines calls c.requires.served
+    (subst (λ ls. All IsLineSoFar ls) (sym c.as_slice-lines.ensures) c.requires.so_far) c.in_ok-calls.ensures in
     let is_len = c.in_ok-calls.calls.ok.0 in
     let most : ℕ = c.most_events-most.result in
     let many : most ≡ most_of t = most_is shape first calls c.len.result most (omega arith) c.most_events-most.ensures in
-    let begins : Stands t (start_state t) c.in_ok-table.table = record { task = is; is_of = c.in_ok-table.ensures.is_of; running = c.run_begins.ensures t is } in
+    let begins : Stands t (start_state t) c.in_ok-table.table = record {
+      task = is;
+      is_of = c.in_ok-table.ensures.is_of;
+      running = c.run_begins.ensures t is;
+    } in
     let ends = play_stands t lines most c.cut_of-cut.result c.in_ok-table.table c.lines_done.new.self c.ended.new.self begins
     (c.lines_are_well.ensures t lines (record { task = is; one = refl })) many c.cut_of-cut.ensures c.lines_done.ensures c.ended.ensures in
     let run : IsOfRun shape first lines c.left.result =
@@ -93,11 +110,16 @@ returns-clause-one_list c =
     let lines : List Line = c.as_slice-lines.result.now in
     let shape = c.args.medium.geometry in let first = c.args.medium.words in let calls = c.in_ok-calls.calls.items in
     let t : Task = task_of shape first calls in
-    let is : IsTask t = is_task shape first lines calls c.requires.served (subst (λ ls. All IsLineSoFar ls) (sym c.as_slice-lines.ensures) c.requires.so_far) c.in_ok-calls.ensures in
+    let is : IsTask t = is_task shape first lines calls c.requires.served
+    (subst (λ ls. All IsLineSoFar ls) (sym c.as_slice-lines.ensures) c.requires.so_far) c.in_ok-calls.ensures in
     let is_len = c.in_ok-calls.calls.ok.0 in
     let most : ℕ = c.most_events-most.result in
     let many : most ≡ most_of t = most_is shape first calls c.len.result most (omega arith) c.most_events-most.ensures in
-    let begins : Stands t (start_state t) c.in_ok-table.table = record { task = is; is_of = c.in_ok-table.ensures.is_of; running = c.run_begins.ensures t is } in
+    let begins : Stands t (start_state t) c.in_ok-table.table = record {
+      task = is;
+      is_of = c.in_ok-table.ensures.is_of;
+      running = c.run_begins.ensures t is;
+    } in
     let ends = play_stands t lines most c.cut_of-cut.result c.in_ok-table.table c.lines_done.new.self c.ended.new.self begins
     (c.lines_are_well.ensures t lines (record { task = is; one = refl })) many c.cut_of-cut.ensures c.lines_done.ensures c.ended.ensures in
     c.left.ensures.lists ∙ lists_many c.ended.new.self.callers.items c.ended.new.self.lists ends.is_of.room

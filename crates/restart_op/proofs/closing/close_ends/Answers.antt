@@ -1,4 +1,4 @@
-use Rattle.restart_op.proofs.CloseEnding.{falls, most, ends_in_time, few_wait}
+use Rattle.restart_op.proofs.closes.CloseEnding.{falls, most, ends_in_time, few_wait}
 use Rattle.restart_op.proofs.closing.close_ends.Goals as goal
 
 pub returns-clause-falls : goal.returns-clause-falls

@@ -1,4 +1,4 @@
-use Rattle.restart_op.proofs.CloseKeeping.{close_keeps, close_settles, close_marks}
+use Rattle.restart_op.proofs.closes.CloseKeeping.{close_keeps, close_settles, close_marks}
 use Rattle.restart_op.proofs.closing.close_keeps.Goals as goal
 
 pub returns-clause-cuts : goal.returns-clause-cuts

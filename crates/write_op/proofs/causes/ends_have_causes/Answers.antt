@@ -1,7 +1,7 @@
-use Rattle.write_op.proofs.Recalling.{keeps_loads, refusal_remembers}
-use Rattle.write_op.proofs.Caused.{ends_by_cause, ends_stay, begins_open}
-use Rattle.write_op.proofs.Others.{again_by_others}
-use Rattle.write_op.proofs.Sound.{ends_soundly, never_stale, never_busy}
+use Rattle.write_op.proofs.causing.Recalling.{keeps_loads, refusal_remembers}
+use Rattle.write_op.proofs.causing.Caused.{ends_by_cause, ends_stay, begins_open}
+use Rattle.write_op.proofs.causing.Others.{again_by_others}
+use Rattle.write_op.proofs.causing.Sound.{ends_soundly, never_stale, never_busy}
 use Rattle.write_op.proofs.causes.ends_have_causes.Goals as goal
 
 pub returns-clause-begins : goal.returns-clause-begins

@@ -1,5 +1,5 @@
 -- By the control points.
-use Rattle.write_op.proofs.Fitting.{wants_of_kinds}
+use Rattle.write_op.proofs.points.Fitting.{wants_of_kinds}
 use Rattle.write_op.proofs.laws.events_have_kinds.Goals as goal
 
 pub returns : goal.returns

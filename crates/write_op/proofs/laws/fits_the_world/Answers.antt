@@ -1,7 +1,7 @@
 -- By the control points.
-use Rattle.write_op.proofs.Beginning.{begins_suited, ends_well, refuses_well}
-use Rattle.write_op.proofs.Mays.{may_step}
-use Rattle.write_op.proofs.Keeping.{keeps_suits}
+use Rattle.write_op.proofs.suiting.Beginning.{begins_suited, ends_well, refuses_well}
+use Rattle.write_op.proofs.suiting.Mays.{may_step}
+use Rattle.write_op.proofs.suiting.Keeping.{keeps_suits}
 use Rattle.write_op.proofs.laws.fits_the_world.Goals as goal
 
 pub returns-clause-begins : goal.returns-clause-begins

@@ -1,6 +1,6 @@
 -- By the control points.
 use Rattle.std.proofs.Common.{refl}
-use Rattle.write_op.proofs.Waiting.{begins_waiting, most_waiting, flush_adds, stays_waiting, ends_waiting}
+use Rattle.write_op.proofs.points.Waiting.{begins_waiting, most_waiting, flush_adds, stays_waiting, ends_waiting}
 use Rattle.write_op.proofs.laws.flushes_are_few.Goals as goal
 
 pub returns-clause-begins : goal.returns-clause-begins

@@ -1,5 +1,5 @@
 -- By the control points.
-use Rattle.write_op.proofs.Fitting.{fits_begins, fits_stays}
+use Rattle.write_op.proofs.points.Fitting.{fits_begins, fits_stays}
 use Rattle.write_op.proofs.laws.numbers_stay_in_range.Goals as goal
 
 pub returns-clause-begins : goal.returns-clause-begins

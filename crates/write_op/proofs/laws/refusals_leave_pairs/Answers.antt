@@ -1,5 +1,5 @@
 -- By the control points.
-use Rattle.write_op.proofs.Pairs.{leaves_pairs, begins_unmade, makes_it, stays_made, made_only_so, ends_as_done}
+use Rattle.write_op.proofs.points.Pairs.{leaves_pairs, begins_unmade, makes_it, stays_made, made_only_so, ends_as_done}
 use Rattle.write_op.proofs.laws.refusals_leave_pairs.Goals as goal
 
 pub returns-clause-leaves : goal.returns-clause-leaves

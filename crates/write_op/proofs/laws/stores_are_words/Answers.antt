@@ -1,5 +1,5 @@
 -- By the control points.
-use Rattle.write_op.proofs.Numbers.{begins_words, words_kept, refused_words, asks_words}
+use Rattle.write_op.proofs.points.Numbers.{begins_words, words_kept, refused_words, asks_words}
 use Rattle.write_op.proofs.laws.stores_are_words.Goals as goal
 
 pub returns-clause-begins : goal.returns-clause-begins

@@ -1,7 +1,7 @@
 -- By the control points.
-use Rattle.write_op.proofs.Insides.{asks_inside}
-use Rattle.write_op.proofs.Chosen.{stays_inside, refused_inside}
-use Rattle.write_op.proofs.Hashes.{begins_inside}
+use Rattle.write_op.proofs.points.Insides.{asks_inside}
+use Rattle.write_op.proofs.points.Chosen.{stays_inside, refused_inside}
+use Rattle.write_op.proofs.points.Hashes.{begins_inside}
 use Rattle.write_op.proofs.laws.words_are_inside.Goals as goal
 
 pub returns-clause-asks : goal.returns-clause-asks

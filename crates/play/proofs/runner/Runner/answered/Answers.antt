@@ -4,7 +4,7 @@ use Rattle.engine.specs.Engine.{wanted, taken, reply_of_end}
 use Rattle.engine.specs.Core.{drawn_by, ended}
 use Rattle.play.specs.declared.runner.Runner.{Runner}
 use Rattle.play.specs.Runners.{caller_of, taken_to}
-use Rattle.play.proofs.Answering.{current_stays, ended_settles}
+use Rattle.play.proofs.driven.Answering.{current_stays, ended_settles}
 use Rattle.play.proofs.runner.Runner.answered.Goals as goal
 
 pub end_attempt-entry-requires : goal.end_attempt-entry-requires

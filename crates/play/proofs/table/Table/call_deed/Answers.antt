@@ -6,8 +6,8 @@ use Rattle.std.proofs.lemmas.Option.{slice_get_within, slice_get_read}
 use Rattle.map_model.specs.Kept.{Kept, with_entry}
 use Rattle.play.specs.declared.runner.Runner.{Runner}
 use Rattle.play.specs.Deeds.{lists_with}
-use Rattle.play.proofs.Seats.{seat_at, lists_many, room_left}
-use Rattle.play.proofs.TableParts.{call_left}
+use Rattle.play.proofs.driven.Seats.{seat_at, lists_many, room_left}
+use Rattle.play.proofs.driven.TableParts.{call_left}
 use Rattle.play.proofs.table.Table.call_deed.Goals as goal
 
 pub push-requires-clause-is_caller : goal.push-requires-clause-is_caller
@@ -37,11 +37,22 @@ returns-in-Some c runs t s caller is opened there =
     call_left t c.args.self.now _ s c.args.place (c.args.place + 1) c.args.call runs.engine caller r c.answered-answered.new.self c.args.want
     c.event-ans.result c.answered-answered.result.end c.answered-answered.result.entry is opened there its
     (subst (λ (q : Runner). slice_get q.calls.items q.ended ≡ Some c.args.call) same runs.is_current) (add-one c.args.place)
-    (record { answer = c.event-ans.ensures.answer; follows = c.event-ans.ensures.follows; shape = c.event-ans.ensures.shape; callers = c.event-ans.ensures.callers })
+    (record {
+      answer = c.event-ans.ensures.answer;
+      follows = c.event-ans.ensures.follows;
+      shape = c.event-ans.ensures.shape;
+      callers = c.event-ans.ensures.callers;
+    })
     (sym runs.wants)
-    (record { caller = c.answered-answered.ensures.caller runs.engine its_engine; count = c.answered-answered.ensures.count; calls = c.answered-answered.ensures.calls; end_is = c.answered-answered.ensures.end runs.engine its_engine })
+    (record {
+      caller = c.answered-answered.ensures.caller runs.engine its_engine;
+      count = c.answered-answered.ensures.count;
+      calls = c.answered-answered.ensures.calls;
+      end_is = c.answered-answered.ensures.end runs.engine its_engine;
+    })
     refl refl
-    (c.push.ensures ∙ ap (λ (n : ℕ). with_entry c.args.self.now.lists n c.in-Some.entry) here ∙ ap (λ o. lists_with c.args.self.now.lists c.args.place o) (sym c.in-Some.is))
+    (c.push.ensures ∙ ap (λ (n : ℕ). with_entry c.args.self.now.lists n c.in-Some.entry) here
+    ∙ ap (λ o. lists_with c.args.self.now.lists c.args.place o) (sym c.in-Some.is))
 
 pub returns-in_default : goal.returns-in_default
 returns-in_default c runs t s caller is opened there =
@@ -54,8 +65,18 @@ returns-in_default c runs t s caller is opened there =
     call_left t c.args.self.now _ s c.args.place (c.args.place + 1) c.args.call runs.engine caller r c.answered-answered.new.self c.args.want
     c.event-ans.result c.answered-answered.result.end c.answered-answered.result.entry is opened there its
     (subst (λ (q : Runner). slice_get q.calls.items q.ended ≡ Some c.args.call) same runs.is_current) (add-one c.args.place)
-    (record { answer = c.event-ans.ensures.answer; follows = c.event-ans.ensures.follows; shape = c.event-ans.ensures.shape; callers = c.event-ans.ensures.callers })
+    (record {
+      answer = c.event-ans.ensures.answer;
+      follows = c.event-ans.ensures.follows;
+      shape = c.event-ans.ensures.shape;
+      callers = c.event-ans.ensures.callers;
+    })
     (sym runs.wants)
-    (record { caller = c.answered-answered.ensures.caller runs.engine its_engine; count = c.answered-answered.ensures.count; calls = c.answered-answered.ensures.calls; end_is = c.answered-answered.ensures.end runs.engine its_engine })
+    (record {
+      caller = c.answered-answered.ensures.caller runs.engine its_engine;
+      count = c.answered-answered.ensures.count;
+      calls = c.answered-answered.ensures.calls;
+      end_is = c.answered-answered.ensures.end runs.engine its_engine;
+    })
     refl refl
     (ap (λ o. lists_with c.args.self.now.lists c.args.place o) (sym c.in_default.is))

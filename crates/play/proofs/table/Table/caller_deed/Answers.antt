@@ -1,9 +1,10 @@
 -- The caller at a place does the event that its engine wants, where it runs a call.
 use Rattle.std.proofs.Common.{ℕ, suc, None, Some, arith, add-one, sym, subst}
 use Rattle.core_run.specs.State.{deed, engine_deed}
-use Rattle.play.specs.Tables.{MayBeAsked, HasDone}
+use Rattle.keeping.specs.Asked.{MayBeAsked}
+use Rattle.play.specs.Tables.{HasDone}
 use Rattle.op_core.specs.declared.want.Want.{Want}
-use Rattle.play.proofs.Doing.{deed_may, has_done, has_none, may_go, is_open, no_deed, has_event, place_few, keeper_is}
+use Rattle.play.proofs.driven.Doing.{deed_may, has_done, has_none, may_go, is_open, no_deed, has_event, place_few, keeper_is}
 use Rattle.core_run.specs.declared.keeper.Keeper.TheVariants.{Open}
 use Rattle.play.proofs.table.Table.caller_deed.Goals as goal
 
@@ -23,7 +24,9 @@ call_deed-requires-clause-may c =
     let few = place_few t s c.args.self.now place may.runner st may.is_there in
     let has = has_event t s c.args.self.now place run.call run.want st.is_of (is_open c.args.self.now place run (sym c.in-Some.ensures)) may in
     subst (λ (n : ℕ). MayBeAsked n run.want c.args.self.now.device) (sym (add-one place))
-    (subst (λ (w : Want). MayBeAsked (suc place) w c.args.self.now.device) may.wants (deed_may c.deeds_are_well.ensures t s c.args.self.now (suc place) (engine_deed t.shape place s.core has.caller run.call may.engine) st (omega arith) has.its_deed))
+    (subst (λ (w : Want). MayBeAsked (suc place) w c.args.self.now.device) may.wants
+    (deed_may c.deeds_are_well.ensures t s c.args.self.now (suc place) (engine_deed t.shape place s.core has.caller run.call may.engine) st
+    (omega arith) has.its_deed))
 
 pub returns-in-Some : goal.returns-in-Some
 returns-in-Some c t s st =

@@ -1,5 +1,5 @@
 use Rattle.std.proofs.Common.{refl}
-use Rattle.play.proofs.TableParts.{close_left}
+use Rattle.play.proofs.driven.TableParts.{close_left}
 use Rattle.play.proofs.table.Table.close.Goals as goal
 
 pub returns : goal.returns

@@ -1,5 +1,5 @@
 use Rattle.std.proofs.Common.{arith}
-use Rattle.play.proofs.Drives.{drive_begins, drive_goes, drive_stops, drive_ends}
+use Rattle.play.proofs.driven.Drives.{drive_begins, drive_goes, drive_stops, drive_ends}
 use Rattle.play.proofs.table.Table.drive.Goals as goal
 
 pub loop-event-init : goal.loop-event-init
@@ -13,7 +13,8 @@ turn-requires c =
 pub loop-event-preserved : goal.loop-event-preserved
 loop-event-preserved c t s st =
     let driven = c.loop-event.invariant t s st in
-    drive_goes t s c.args.most c.args.seat c.args.goal c.args.n c.loop-event._event c.loop-event.left c.in-Some.more c.loop-event.self c.turn.new.self (omega arith)
+    drive_goes t s c.args.most c.args.seat c.args.goal c.args.n c.loop-event._event c.loop-event.left c.in-Some.more c.loop-event.self c.turn.new.self
+    (omega arith)
     driven (c.in-Some.ensures t driven.now driven.stands)
 
 pub returns-in-None : goal.returns-in-None
@@ -24,4 +25,5 @@ returns-in-None c t s st =
 
 pub returns : goal.returns
 returns c t s st =
-    drive_ends t s c.args.most c.args.seat c.args.goal c.args.n c.loop-event._event c.loop-event.left c.loop-event.self (omega arith) (c.loop-event.invariant t s st)
+    drive_ends t s c.args.most c.args.seat c.args.goal c.args.n c.loop-event._event c.loop-event.left c.loop-event.self (omega arith)
+    (c.loop-event.invariant t s st)

@@ -2,7 +2,7 @@
 use Rattle.core_run.specs.Running.{Task}
 use Rattle.core_run.specs.State.{State}
 use Rattle.play.specs.Tables.{Stands}
-use Rattle.play.proofs.Drives.{IsDriven}
+use Rattle.play.proofs.driven.Drives.{IsDriven}
 use Rattle.play.proofs.table.Table.drive.Given as goal
 
 abbrev pub invariant-loop-event : goal.invariant-loop-event

@@ -2,7 +2,7 @@
 use Rattle.std.proofs.Common.{lit≤}
 use Rattle.core_run.specs.declared.keeper.Keeper.TheVariants.{Restarting, Closing}
 use Rattle.core_run.specs.State.{restart_deed, close_deed}
-use Rattle.play.proofs.Doing.{deed_may, has_done, deed_of_keeper, none_told_yet}
+use Rattle.play.proofs.driven.Doing.{deed_may, has_done, deed_of_keeper, none_told_yet}
 use Rattle.play.proofs.table.Table.keeper_deed.Goals as goal
 
 pub restart-requires : goal.restart-requires

@@ -1,7 +1,7 @@
 use Rattle.std.proofs.Common.{arith}
 use Rattle.map_model.specs.declared.call.Call.TheVariants.{Get}
 use Rattle.script_text.specs.declared.line.Line.TheVariants.{Call as CallLine}
-use Rattle.play.proofs.Rounds.{line_running, lines_begin, lines_go, lines_end}
+use Rattle.play.proofs.driven.Rounds.{line_running, lines_begin, lines_go, lines_end}
 use Rattle.play.proofs.table.Table.lines_done.Goals as goal
 
 pub loop-line-init : goal.loop-line-init
@@ -17,7 +17,8 @@ loop-line-preserved c t s st well =
     let within = c.loop-line.invariant t s st well in
     let d = CallLine 0 (Get 0) in
     lines_go t s c.args.most c.args.lines.now c.loop-line.line-index d c.loop-line.self c.line_done.new.self (omega arith) within
-    (c.line_done.ensures t within.now within.stands (line_running t s c.args.most c.args.lines.now c.loop-line.line-index d c.loop-line.self (omega arith) within))
+    (c.line_done.ensures t within.now within.stands (line_running t s c.args.most c.args.lines.now c.loop-line.line-index d c.loop-line.self
+    (omega arith) within))
 
 pub returns : goal.returns
 returns c t s st well = lines_end t s c.args.most c.args.lines.now c.loop-line.line-index c.loop-line.self (omega arith) (c.loop-line.invariant t s st well)

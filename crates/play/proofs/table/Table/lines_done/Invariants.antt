@@ -3,7 +3,7 @@ use Rattle.core_run.specs.Running.{Task}
 use Rattle.core_run.specs.State.{State}
 use Rattle.core_run.specs.Wells.{RunsThrough}
 use Rattle.play.specs.Tables.{Stands}
-use Rattle.play.proofs.Rounds.{IsInLines}
+use Rattle.play.proofs.driven.Rounds.{IsInLines}
 use Rattle.play.proofs.table.Table.lines_done.Given as goal
 
 abbrev pub invariant-loop-line : goal.invariant-loop-line

@@ -1,4 +1,4 @@
-use Rattle.play.proofs.TableParts.{restart_left}
+use Rattle.play.proofs.driven.TableParts.{restart_left}
 use Rattle.play.proofs.table.Table.restart.Goals as goal
 
 pub returns : goal.returns

@@ -1,6 +1,6 @@
 use Rattle.std.proofs.Common.{arith}
-use Rattle.play.proofs.Doing.{runners_many}
-use Rattle.play.proofs.Rounds.{many, round_begins, round_goes, round_ends}
+use Rattle.play.proofs.driven.Doing.{runners_many}
+use Rattle.play.proofs.driven.Rounds.{many, round_begins, round_goes, round_ends}
 use Rattle.play.proofs.table.Table.round.Goals as goal
 
 pub overflow_cast-place : goal.overflow_cast-place

@@ -2,7 +2,7 @@
 use Rattle.core_run.specs.Running.{Task}
 use Rattle.core_run.specs.State.{State}
 use Rattle.play.specs.Tables.{Stands}
-use Rattle.play.proofs.Rounds.{IsInRound}
+use Rattle.play.proofs.driven.Rounds.{IsInRound}
 use Rattle.play.proofs.table.Table.round.Given as goal
 
 abbrev pub invariant-loop-place : goal.invariant-loop-place

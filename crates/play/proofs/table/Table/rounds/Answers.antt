@@ -1,5 +1,5 @@
 use Rattle.std.proofs.Common.{sym, arith}
-use Rattle.play.proofs.Rounds.{rounds_begin, rounds_go, rounds_stop, rounds_end}
+use Rattle.play.proofs.driven.Rounds.{rounds_begin, rounds_go, rounds_stop, rounds_end}
 use Rattle.play.proofs.table.Table.rounds.Goals as goal
 
 pub loop-round-init : goal.loop-round-init

@@ -2,7 +2,7 @@
 use Rattle.core_run.specs.Running.{Task}
 use Rattle.core_run.specs.State.{State}
 use Rattle.play.specs.Tables.{Stands}
-use Rattle.play.proofs.Rounds.{IsInRounds}
+use Rattle.play.proofs.driven.Rounds.{IsInRounds}
 use Rattle.play.proofs.table.Table.rounds.Given as goal
 
 abbrev pub invariant-loop-round : goal.invariant-loop-round

@@ -1,6 +1,6 @@
 use Rattle.std.proofs.Common.{◌≡◌, ◌-◌, true, false, arith, sym, refl}
 use Rattle.core_run.specs.Run.{ends_in_again}
-use Rattle.play.proofs.Drives.{turn_again, turn_goes}
+use Rattle.play.proofs.driven.Drives.{turn_again, turn_goes}
 use Rattle.play.proofs.table.Table.turn.Goals as goal
 
 pub returns-then-ends_in_again : goal.returns-then-ends_in_again

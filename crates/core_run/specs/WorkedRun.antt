@@ -1,0 +1,133 @@
+-- A worked run: the events of an insert into a new image, written out, and after which of them each kind of line stops.
+use Rattle.std.specs.Prelude.{◌≡◌, ℕ, ◌==◌, true, None, Some, List, [], ◌∷◌, ◌++◌, map, replicate, reverse, take, if◌then◌else◌}
+use Rattle.std.specs.List.{AllByRecursion, range_with_len}
+use Rattle.trace.specs.Events.{Words, with_word, Event, Trace, loaded, stored, exchanged, drawn, flushed, fenced}
+use Rattle.image_layout.specs.Places.{Shape}
+use Rattle.map_model.specs.declared.call.Call.{Call}
+use Rattle.map_model.specs.declared.call.Call.TheVariants.{Insert}
+use Rattle.script_text.specs.declared.line.Event.TheVariants.{Store, Exchange, Flush, Fence, Draw, End}
+use Rattle.script_text.specs.declared.line.Line.{Line}
+use Rattle.script_text.specs.declared.line.Line.TheVariants.{Step, Until, At}
+use Rattle.write_op.specs.declared.control.Step.{Step as WriteStep}
+use Rattle.write_op.specs.declared.control.Step.TheVariants.{LoadWord, LoadCount, Make}
+use Rattle.write_op.specs.declared.control.Point.TheVariants.{StoreKey}
+use Rattle.engine.specs.declared.engine.Op.TheVariants.{Write}
+use Rattle.engine.specs.Core.{Caller}
+use Rattle.core_run.specs.declared.keeper.Keeper.TheVariants.{Open}
+use Rattle.core_run.specs.State.{State, beginning}
+use Rattle.core_run.specs.Run.{line_done, most_events}
+
+-- a new image of one segment, of depth 0 and with the keys as their hashes, as far as the run looks at its words
+abbrev pub small : Shape
+small = record { segments = 1; depth = 0; kind = 0 }
+
+abbrev pub new_word : Words
+new_word word = if word == 16 then 257 else if word == 65 then 257 else 0
+
+-- one caller with one call
+abbrev pub one_insert : List (List Call)
+one_insert = (Insert 5 7 ∷ []) ∷ []
+
+abbrev pub at_first : State
+at_first = beginning small new_word one_insert
+
+-- THE RESTART, by caller 0
+abbrev pub restart_events : List Event
+restart_events = loaded 0 16 ∷ stored 0 16 1 ∷ flushed 0 2 ∷ fenced 0 ∷ []
+
+-- THE INSERT. Events 1 to 11: the power word, root, entry and header, two lock words that are locked, and root, entry and
+-- header again
+abbrev pub way_events : List Event
+way_events =
+    loaded 1 2209 ∷ loaded 1 8 ∷ loaded 1 32 ∷ loaded 1 65 ∷ loaded 1 96 ∷ exchanged 1 96 1 ∷ loaded 1 128 ∷ exchanged 1 128 1 ∷ loaded 1 8
+    ∷ loaded 1 32 ∷ loaded 1 65 ∷ []
+
+-- events 12 to 42: the other words of the bucket
+abbrev pub bucket_events : List Event
+bucket_events = map (loaded 1) (range_with_len 97 31)
+
+-- events 43 to 54: the counter; key, value and fingerprint, flushed and fenced; the word that makes the record count, flushed
+-- and fenced; the draw; the locks back
+abbrev pub change_events : List Event
+change_events =
+    loaded 1 2208 ∷ stored 1 100 5 ∷ stored 1 101 7 ∷ stored 1 98 5 ∷ flushed 1 12 ∷ fenced 1 ∷ stored 1 97 1 ∷ flushed 1 12 ∷ fenced 1
+    ∷ drawn 1 2208 ∷ stored 1 96 2 ∷ stored 1 128 2 ∷ []
+
+abbrev pub insert_events : List Event
+insert_events = way_events ++ (bucket_events ++ change_events)
+
+-- the trace when the restart and the first so many events of the insert are done
+abbrev pub done_of_insert : ℕ → Trace
+done_of_insert n = reverse (restart_events ++ take n insert_events)
+
+-- A LINE leaves this state
+abbrev pub after_line : Line → State → State
+after_line l s = line_done small (most_events small one_insert) l s
+
+-- FROM THE BEGINNING a line of caller 0 stops after so many events of the restart
+abbrev pub StopsInRestart : Line × ℕ → Type 0
+StopsInRestart row = (after_line row.0 at_first).core.trace ≡ reverse (take row.1 restart_events)
+
+abbrev pub restart_rows : List (Line × ℕ)
+restart_rows =
+    (Step 0 1, 1) ∷ (Until 0 Store 1, 2) ∷ (At 0 16, 2) ∷ (Until 0 Flush 1, 3) ∷ (Until 0 Fence 1, 4) ∷ (Until 0 Exchange 1, 4) ∷ []
+
+-- and one of caller 1 after so many of the insert
+abbrev pub StopsOnTheWay : Line × ℕ → Type 0
+StopsOnTheWay row = (after_line row.0 at_first).core.trace ≡ done_of_insert row.1
+
+abbrev pub way_rows : List (Line × ℕ)
+way_rows = (Step 1 7, 7) ∷ (Until 1 Exchange 1, 6) ∷ (Until 1 Exchange 2, 8) ∷ []
+
+-- THE BUCKET is loaded by lines that count each event, which lead to the state before the change. In between the insert
+-- holds both locks, and stands at this step
+abbrev pub locked_word : Words
+locked_word = with_word (with_word (with_word new_word 16 1) 96 1) 128 1
+
+abbrev pub caller_at : WriteStep → Caller
+caller_at step = record {
+  site = record { geometry = small; version = 1; caller = 1 };
+  calls = Insert 5 7 ∷ [];
+  entries = [];
+  engine =
+      Some
+      (record {
+        op =
+            Write
+            (record {
+              task = record { site = record { geometry = small; version = 1; caller = 1 }; call = Insert 5 7; hash = 5 };
+              kept = record { root = 0; segment = 0; head = 257; home_free = 0; probing_free = 0; words = replicate 32 0; slot = 0 };
+              step = step;
+            });
+      });
+  begun = true;
+  drew = None;
+}
+
+abbrev pub standing : ℕ → WriteStep → State
+standing n step =
+    record { keeper = Open; core = record { words = locked_word; trace = done_of_insert n; callers = caller_at step ∷ [] } }
+
+abbrev pub before_change : State
+before_change = standing 43 (Make StoreKey)
+
+-- FROM THERE a line stops after so many events of the insert
+abbrev pub StopsInChange : Line × ℕ → Type 0
+StopsInChange row = (after_line row.0 before_change).core.trace ≡ done_of_insert row.1
+
+abbrev pub change_rows : List (Line × ℕ)
+change_rows =
+    (Step 1 3, 46) ∷ (Until 1 Store 1, 44) ∷ (Until 1 Store 4, 49) ∷ (Until 1 Flush 1, 47) ∷ (Until 1 Flush 2, 50) ∷ (Until 1 Fence 1, 48)
+    ∷ (Until 1 Fence 2, 51) ∷ (Until 1 Draw 1, 52) ∷ (Until 1 End 1, 54) ∷ (Until 1 Exchange 1, 54) ∷ (At 1 97, 49) ∷ (At 1 96, 53)
+    ∷ (At 1 99, 54) ∷ []
+
+-- EACH LINE STOPS where its row says
+pub record LinesStop : Type 0 where
+  pub in_restart : AllByRecursion StopsInRestart restart_rows
+  pub on_the_way : AllByRecursion StopsOnTheWay way_rows
+  pub locked : after_line (Step 1 11) at_first ≡ standing 11 (LoadWord 1)
+  pub loaded_ten : after_line (Step 1 10) (standing 11 (LoadWord 1)) ≡ standing 21 (LoadWord 11)
+  pub loaded_twenty : after_line (Step 1 10) (standing 21 (LoadWord 11)) ≡ standing 31 (LoadWord 21)
+  pub loaded_all : after_line (Step 1 11) (standing 31 (LoadWord 21)) ≡ standing 42 LoadCount
+  pub counted : after_line (Step 1 1) (standing 42 LoadCount) ≡ before_change
+  pub in_change : AllByRecursion StopsInChange change_rows

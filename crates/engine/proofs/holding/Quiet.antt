@@ -1,0 +1,50 @@
+-- Where no engine runs, nobody holds or owes anything, and the newest words have the map of the history.
+use Rattle.std.proofs.Common.{◌≡◌, ℕ, zero, suc, List, [], ◌∷◌, slice_get, None, Some, inl, inr, refl, sym, ◌∙◌, subst}
+use mathlib.Core.Option.{some-injective}
+use Rattle.std.specs.List.{AllByRecursion}
+use Rattle.std.proofs.lemmas.Option.{none-some, same_Some}
+use Rattle.trace.specs.Events.{Words}
+use Rattle.world.specs.Site.{Site}
+use Rattle.world.specs.Views.{View, At}
+use Rattle.world.specs.World.{fresh_view}
+use Rattle.world.specs.Laws.{EntriesAreLegal}
+use Rattle.restart_op.specs.Closing.{OwesNothing}
+use Rattle.engine.specs.Core.{Caller, Core}
+use Rattle.engine.specs.Holding.{DoesCall, CallerFits, CoreHolds}
+use Rattle.engine.specs.Laws.{NoneRuns, ThroughIsQuiet, ThroughHasMap}
+use Rattle.engine.proofs.holding.Planned.{none_has}
+use Rattle.engine.proofs.sessions.Cut.{told_legal}
+use Rattle.engine.proofs.sessions.Goodness.{caller_at}
+
+none_at : (callers : List Caller) → AllByRecursion (λ c. c.engine ≡ None) callers → (j : ℕ) (c : Caller) → slice_get callers j ≡ Some c → c.engine ≡ None
+none_at [] all j c is = absurd (none-some c is)
+none_at (x ∷ callers) all zero c is = subst (λ (z : Caller). z.engine ≡ None) (same_Some x c is) all.0
+none_at (x ∷ callers) all (suc j) c is = none_at callers all.1 j c is
+
+module _ (site : Site) (start : Words) (core : Core) (h : CoreHolds site start core) (none : NoneRuns core) where
+  idle_owes : (c : Caller) (v : View) → CallerFits site c v → c.engine ≡ None → OwesNothing v
+  idle_owes c v fits is =
+      let d = subst (λ o. DoesCall site c o v) is fits.does in
+      record { held = d.nothing.held; dirty = d.nothing.dirty; flushed = d.nothing.flushed; planned = d.nothing.planned }
+
+  owes : (j : ℕ) (v : View) → At (fresh_view 0 ∷ h.views) j v → OwesNothing v
+  owes zero v at = subst OwesNothing (some-injective (fresh_view 0) v at) (record { held = refl; dirty = refl; flushed = refl; planned = refl })
+  owes (suc j) v at = let c = caller_at site core.callers h.views j v h.each at in idle_owes c.0 v c.2 (none_at core.callers none j c.0 c.1)
+
+pub through_is_quiet : ThroughIsQuiet
+through_is_quiet site start core h none = record {
+  well = h.well;
+  nothing = owes site start core h none;
+  fits = h.fits;
+  says = h.says;
+  no_notes = h.no_notes;
+  fenced = h.fenced;
+}
+
+pub through_has_map : EntriesAreLegal → ThroughHasMap
+through_has_map legal site start core opening h same none k =
+    let told = told_legal legal site core.words core h.views h.well.holds.log h.each h.well.holds.history opening same in
+    elim (h.well.holds.media.stands core.words (λ i within. inl refl) k) [
+      | inl is ↦ told.1 k ∙ sym is
+      | inr p ↦ absurd (none_has p.1.planned p.2 (owes site start core h none p.0 p.1 p.3).planned p.4)
+    ]

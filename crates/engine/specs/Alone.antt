@@ -1,0 +1,130 @@
+-- One caller steps while all others stand between two attempts: nothing moves for it, and no attempt of it ends in Again.
+use Rattle.std.specs.Prelude.{◌≡◌, ◌≢◌, ℕ, suc, ⊤, Option, None, Some, List, ◌⊎◌, slice_get}
+use Rattle.op_core.specs.declared.want.Want.TheVariants as want
+use Rattle.op_core.specs.declared.why.Why.{Why}
+use Rattle.op_core.specs.declared.why.Why.TheVariants.{Busy}
+use Rattle.trace.specs.Events.{Words}
+use Rattle.image_layout.specs.Places.{Shape}
+use Rattle.image_layout.specs.Volatile.{counter_word}
+use Rattle.map_model.specs.declared.call.Call.{Call}
+use Rattle.map_model.specs.declared.entry.Reply.{Reply}
+use Rattle.world.specs.Views.{Has}
+use Rattle.read_op.specs.declared.step.ReadEnd.TheVariants as read_end
+use Rattle.write_op.specs.declared.control.WriteEnd.TheVariants as write_end
+use Rattle.restart_op.specs.Restarted.{IsPlayableImage}
+use Rattle.engine.specs.declared.engine.End.{End}
+use Rattle.engine.specs.declared.engine.End.TheVariants as ends
+use Rattle.engine.specs.declared.engine.Engine.{Engine}
+use Rattle.engine.specs.Engine.{begun, wanted, reply_of_end}
+use Rattle.engine.specs.Core.{Caller, Core, current}
+use Rattle.engine.specs.Laws.{opened, AreScripts}
+use Rattle.engine.specs.Causes.{Doings, nothing_done, Watched, watched, engine_next, watched_turn, watched_run, IsDecided, Decides}
+
+-- ---- ends
+-- an end that is to be told: a reply, and none that says to try again
+abbrev pub IsReply : Option (Reply × ℕ) → Type 0
+IsReply None = ⊥
+IsReply (Some r) = ⊤
+
+abbrev pub EndsCall : End → Type 0
+EndsCall end = IsReply (reply_of_end end)
+
+-- it says to try again, and why
+abbrev pub SaysAgain : End → Why → Type 0
+SaysAgain end why = (end ≡ ends.Read (read_end.Again why)) ⊎ (end ≡ ends.Write (write_end.Again why))
+
+-- it is one of the two
+abbrev pub IsTold : End → Type 0
+IsTold end = EndsCall end ⊎ ((why : Why) × SaysAgain end why)
+
+-- ---- a caller between two attempts
+-- no engine of it runs, or one that has done nothing yet
+abbrev pub IsBetween : Caller → Type 0
+IsBetween c = (c.engine ≡ None) ⊎ ((call : Call) × (c.engine ≡ Some (begun c.site call)))
+
+-- and its attempt is accounted for as one that has done nothing
+abbrev pub IsRestingBy : Caller → Doings → Type 0
+IsRestingBy c did = (c.engine ≡ None) ⊎ ((call : Call) × (c.engine ≡ Some (begun c.site call)) × (did ≡ nothing_done))
+
+abbrev pub IsResting : Watched → ℕ → Type 0
+IsResting w j = (c : Caller) → slice_get w.core.callers j ≡ Some c → IsRestingBy c (w.doings j)
+
+-- ---- a caller alone
+-- what an attempt loaded is still so, or it changed that itself; but for the commit counter, from which it draws
+abbrev pub IsStill : Shape → Words → Doings → Type 0
+IsStill shape words did = (word value : ℕ) → Has (word, value) did.loads → word ≢ counter_word shape → (words word ≡ value) ⊎ Has word did.changed
+
+-- THE CALLER AT PLACE j IS ALONE: all others are between two attempts, what its attempt loaded is still so, and if its end is
+-- decided it does not say to try again
+pub record IsAlone (shape : Shape) (j : ℕ) (w : Watched) : Type 0 where
+  pub others : (i : ℕ) (c : Caller) → i ≢ j → slice_get w.core.callers i ≡ Some c → IsBetween c
+  pub still : IsStill shape w.core.words (w.doings j)
+  pub calm : (c : Caller) (e : Engine) (end : End) (why : Why) → slice_get w.core.callers j ≡ Some c → c.engine ≡ Some e → IsDecided e.op end → SaysAgain end why → ⊥
+
+-- ---- the laws, along all turns from an image that may be played
+module _ (shape : Shape) (words : List ℕ) (scripts : List (List Call)) where
+  abbrev pub at_start : Watched
+  at_start = watched (opened shape words scripts)
+
+  -- after these turns
+  abbrev pub along : List ℕ → Watched
+  along turns = watched_run shape turns at_start
+
+abbrev pub AlongTurns : (Shape → List ℕ → List (List Call) → List ℕ → Type 0) → Type 0
+AlongTurns P = (shape : Shape) (words : List ℕ) → IsPlayableImage shape words → (scripts : List (List Call)) → AreScripts scripts → (turns : List ℕ) → P shape words scripts turns
+
+-- WHO FINDS A LOCK TAKEN is told so by another caller's, that is in the midst of an attempt
+pub record IsOthers (core : Core) (j : ℕ) : Type 0 where
+  pub place : ℕ
+  pub elsewhere : place ≢ j
+  pub caller : Caller
+  pub there : slice_get core.callers place ≡ Some caller
+  pub midst : IsBetween caller → ⊥
+
+abbrev pub BusyIsOthers : Type 0
+BusyIsOthers = AlongTurns (λ shape words scripts turns. (j : ℕ) (c : Caller) (call : Call) (e : Engine) (end : End) (word value : ℕ)
+    → slice_get (along shape words scripts turns).core.callers j ≡ Some c → current c ≡ Some call → c.engine ≡ Some e
+    → Decides shape (along shape words scripts turns).core.words e end → SaysAgain end (Busy word value) → IsOthers (along shape words scripts turns).core j)
+
+-- AT THE BEGINNING all callers rest, and each is alone
+abbrev pub AllRestAtStart : Type 0
+AllRestAtStart = (shape : Shape) (words : List ℕ) (scripts : List (List Call)) (j : ℕ) → IsResting (at_start shape words scripts) j
+
+abbrev pub AloneAtStart : Type 0
+AloneAtStart = (shape : Shape) (words : List ℕ) (scripts : List (List Call)) (j : ℕ) → IsAlone shape j (at_start shape words scripts)
+
+-- WHERE ALL REST, each that has an engine is alone
+abbrev pub RestingIsAlone : Type 0
+RestingIsAlone = (shape : Shape) (w : Watched) (j : ℕ) (c : Caller) (e : Engine) → ((i : ℕ) → IsResting w i) → slice_get w.core.callers j ≡ Some c → c.engine ≡ Some e
+    → IsAlone shape j w
+
+-- ITS OWN TURN leaves it alone
+abbrev pub OwnTurnsStayAlone : Type 0
+OwnTurnsStayAlone = AlongTurns (λ shape words scripts turns. (j : ℕ) → IsAlone shape j (along shape words scripts turns)
+    → IsAlone shape j (watched_turn shape (suc j) (along shape words scripts turns)))
+
+-- the caller at place j has its turn next, whose event is of this engine
+pub record IsNext (w : Watched) (j : ℕ) (e : Engine) : Type 0 where
+  pub caller : Caller
+  pub there : slice_get w.core.callers j ≡ Some caller
+  pub call : Call
+  pub calls : current caller ≡ Some call
+  pub runs : caller.engine ≡ Some e
+
+-- AN ATTEMPT OF A CALLER ALONE never ends in Again
+abbrev pub AloneNeverAgain : Type 0
+AloneNeverAgain = AlongTurns (λ shape words scripts turns. (j : ℕ) (e : Engine) → IsAlone shape j (along shape words scripts turns) → IsNext (along shape words scripts turns) j e
+    → (end : End) (why : Why) → IsDecided (engine_next shape (along shape words scripts turns).core.words e).op end → SaysAgain end why → ⊥)
+
+-- and whoever has its turn, its attempt ends with a reply or in Again
+abbrev pub EndsAreTold : Type 0
+EndsAreTold = AlongTurns (λ shape words scripts turns. (j : ℕ) (e : Engine) → IsNext (along shape words scripts turns) j e
+    → (end : End) → IsDecided (engine_next shape (along shape words scripts turns).core.words e).op end → IsTold end)
+
+-- AN ATTEMPT THAT ENDED leaves its caller at rest, and a turn of another caller leaves it so
+abbrev pub EndedRests : Type 0
+EndedRests = (shape : Shape) (w : Watched) (j : ℕ) (e : Engine) → IsNext w j e → wanted (engine_next shape w.core.words e) ≡ want.Done
+    → IsResting (watched_turn shape (suc j) w) j
+
+abbrev pub OthersStayResting : Type 0
+OthersStayResting = (shape : Shape) (w : Watched) (i j : ℕ) → i ≢ j → IsResting w i → IsResting (watched_turn shape (suc j) w) i

@@ -1,0 +1,8 @@
+-- A table does its events, one after another, line by line.
+pub mod Devices
+pub mod Seats
+pub mod TableParts
+pub mod Doing
+pub mod Drives
+pub mod Rounds
+pub mod Answering

@@ -1,9 +1,0 @@
-use Rattle.restart_op.specs.Closing.{left}
-use Rattle.play.proofs.Marking.{ClosesOn}
-use Rattle.play.proofs.keeping.close.Given as goal
-
-abbrev pub invariant-loop-want : goal.invariant-loop-want
-invariant-loop-want l = ClosesOn l.fn.device l.device l.op
-
-abbrev pub decreases-loop-want : goal.decreases-loop-want
-decreases-loop-want l = left l.op

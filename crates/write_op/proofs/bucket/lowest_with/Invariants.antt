@@ -1,7 +1,0 @@
--- The search from the slot that is looked at gives what the whole search gives.
-use Rattle.std.proofs.Common.{◌≡◌, ◌-◌}
-use Rattle.write_op.specs.Slots.{slot_with}
-use Rattle.write_op.proofs.bucket.lowest_with.Given as goal
-
-abbrev pub invariant-loop-slot : goal.invariant-loop-slot
-invariant-loop-slot l = slot_with l.words l.key 0 14 ≡ slot_with l.words l.key l.slot (14 - l.slot)

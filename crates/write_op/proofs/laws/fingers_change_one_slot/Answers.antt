@@ -1,9 +1,0 @@
--- Byte by byte.
-use Rattle.write_op.proofs.Fingers.{sets_low, sets_high}
-use Rattle.write_op.proofs.laws.fingers_change_one_slot.Goals as goal
-
-pub returns-clause-low : goal.returns-clause-low
-returns-clause-low c = sets_low
-
-pub returns-clause-high : goal.returns-clause-high
-returns-clause-high c = sets_high
