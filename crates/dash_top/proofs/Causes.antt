@@ -1,29 +1,40 @@
 -- Why a part of a command stopped is why the command did.
-use Rattle.std.proofs.Common.{◌≡◌, ◌⊎◌, inl, inr, ℕ, List, Result, Ok, Err, sym, subst}
+use Rattle.std.proofs.Common.{◌≡◌, ℕ, List, Result, Ok, Err, sym, subst}
 use Rattle.std.specs.Prelude.{IfErr, IsErrAnd}
-use Rattle.image_file.specs.declared.fault.ImageFault.{ImageFault}
+use Rattle.image_layout.specs.Places.{Shape}
 use Rattle.dash_top.specs.declared.work.Stop.{Stop}
 use Rattle.dash_top.specs.declared.work.Stop.TheVariants.{Words, Script, Image, Source, Store, NoMemory}
-use Rattle.dash_top.specs.Commands.{play_words}
-use Rattle.dash_top.specs.Commands.ReadsImage.{for_play}
-use Rattle.dash_top.specs.Told.{Told, RefusesImage, RefusesPlay}
-use Rattle.dash_top.specs.Work.{IsRefused, HasCause, HasPlayCause}
-use Rattle.dash_top.specs.Work.IsRefused.{in_reading, in_playing}
+use Rattle.dash_top.specs.Commands.{SaysFormat, ReadsImage, play_words}
+use Rattle.dash_top.specs.Told.{Told, KeepsStore}
+use Rattle.dash_top.specs.Reading.{HasImageCause}
+use Rattle.dash_top.specs.Work.{HasCause, HasFormatCause, FindsScriptGood, IsRefused, StoreFailed}
 
 module _ (t : Told) (words : List (List ℕ)) (source_old source_new store_old store_new : ℕ) where
-  refused : (fault : ImageFault) → words ≡ play_words → RefusesImage t.store_old fault ⊎ RefusesPlay t.store_old fault → IsRefused t words fault
-  refused fault form (inl h) = in_reading (for_play form) h
-  refused fault form (inr h) = in_playing form h
+  -- of a command that reads the image
+  pub cause_of_reading : (stop : Stop) → ReadsImage words → FindsScriptGood t words → KeepsStore t → HasImageCause t.store_old store_old store_new stop
+      → HasCause t words source_old source_new store_old store_new stop
+  cause_of_reading Words reads good keeps h = absurd h
+  cause_of_reading (Script fault) reads good keeps h = absurd h
+  cause_of_reading (Image fault) reads good keeps h = (IsRefused.in_reading reads good h, keeps)
+  cause_of_reading Source reads good keeps h = absurd h
+  cause_of_reading Store reads good keeps h = (h, StoreFailed.in_reading reads good keeps)
+  cause_of_reading NoMemory reads good keeps h = keeps
+
+  -- of a new image
+  pub cause_of_format : {shape : Shape} (stop : Stop) → SaysFormat words shape
+      → HasFormatCause t.store_old t.store_new t.writes_old t.writes_new t.lost store_old store_new stop
+      → HasCause t words source_old source_new store_old store_new stop
+  cause_of_format Words says h = absurd h
+  cause_of_format (Script fault) says h = absurd h
+  cause_of_format (Image fault) says h = absurd h
+  cause_of_format Source says h = absurd h
+  cause_of_format Store says h = (h.0, StoreFailed.in_formatting says h.1)
+  cause_of_format NoMemory says h = record { same = h.0; unwritten = h.1 }
 
   -- of a play
-  pub cause_of_play : (stop : Stop) → words ≡ play_words → HasPlayCause t source_old source_new store_old store_new stop
+  pub cause_of_play : (stop : Stop) → words ≡ play_words → HasCause t play_words source_old source_new store_old store_new stop
       → HasCause t words source_old source_new store_old store_new stop
-  cause_of_play Words form h = absurd h
-  cause_of_play (Script fault) form h = (form, h.0, h.1)
-  cause_of_play (Image fault) form h = (refused fault form h.0, h.1)
-  cause_of_play Source form h = (form, h.0, h.1)
-  cause_of_play Store form h = h
-  cause_of_play NoMemory form h = h
+  cause_of_play stop form h = subst (λ w. HasCause t w source_old source_new store_old store_new stop) (sym form) h
 
 -- what holds of the error with which a result was made holds of its error
 pub err_of : {T E : Type 0} (P : E → Type 0) (result : Result T E) (e : E) → IsErrAnd result (λ f. f ≡ e) → P e → IfErr result P

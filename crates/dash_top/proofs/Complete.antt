@@ -11,7 +11,7 @@ use Rattle.image_file.specs.declared.fault.ImageFault.TheVariants.{Length, Magic
 use Rattle.image_layout.specs.Places.{Shape}
 use Rattle.sound_image.specs.Segments.{ImageWords}
 use Rattle.sound_image.specs.Image.{image_bytes}
-use Rattle.image_file.specs.Stage.{MayBePlayed}
+use Rattle.image_rules.specs.Stage.{MayBePlayed}
 use Rattle.image_file.specs.Fault.{HasFault, IsPlayFault}
 use Rattle.image_file.proofs.RoundTrip.{same_words, same_shape}
 use Rattle.script_text.specs.declared.line.Mode.TheVariants.{Play}
@@ -85,7 +85,7 @@ good_image_is_played t fault refused playable =
 check_is_no_list : (words : List (List ℕ)) → words ≡ check_words → words ≡ list_words → ⊥
 check_is_no_list words h k = cc
 
-check_is_no_play : (words : List (List ℕ)) → words ≡ check_words → words ≡ play_words → ⊥
+pub check_is_no_play : (words : List (List ℕ)) → words ≡ check_words → words ≡ play_words → ⊥
 check_is_no_play words h k = cc
 
 not_both : (b : Bool) → b ≡ false → b ≡ true → ⊥
@@ -94,7 +94,7 @@ not_both b h k = cc
 only_word : (a b : List ℕ) → a ∷ [] ≡ b ∷ [] → a ≡ b
 only_word a b h = cc
 
-list_is_no_play : (words : List (List ℕ)) → words ≡ list_words → words ≡ play_words → ⊥
+pub list_is_no_play : (words : List (List ℕ)) → words ≡ list_words → words ≡ play_words → ⊥
 list_is_no_play words h k =
     not_both (bytes_eq (codes "list") (codes "play")) refl ((bytes_eq-Decides (codes "list") (codes "play")).1 (only_word (codes "list") (codes "play") (sym h ∙ k)))
 
@@ -129,15 +129,15 @@ good_words t words none (good_play k image script) = none.no_play k
 
 -- SO a good command meets no refusal
 pub good_image : (t : Told) (words : List (List ℕ)) (fault : ImageFault) → IsRefused t words fault → IsGoodCommand t words → ⊥
-good_image t words fault (in_reading reads refused) good = good_image_is_taken t fault refused (image_of_good t words reads good)
-good_image t words fault (in_playing form refused) good = good_image_is_played t fault refused (playable_of_good t words form good)
+good_image t words fault (in_reading reads script refused) good = good_image_is_taken t fault refused (image_of_good t words reads good)
+good_image t words fault (in_playing form script refused) good = good_image_is_played t fault refused (playable_of_good t words form good)
 
 pub good_script : (t : Told) (words : List (List ℕ)) (fault : ScriptFault) → words ≡ play_words → RefusesScript t.source_old t.source_new fault → IsGoodCommand t words → ⊥
 good_script t words fault reads refused good = good_script_is_taken t fault refused (script_of_good t words reads good)
 
 -- what is done at the words of `play` is a play
 pub play_of_done : (t : Told) (words : List (List ℕ)) (text : List ℕ) → words ≡ play_words → IsDone t words text → Plays t text
-play_of_done t words text h (by_format f stores) = absurd (one_is_not_four words _ _ f.segments f.depth f.kind h f.says)
+play_of_done t words text h (by_format f stores once) = absurd (one_is_not_four words _ _ f.segments f.depth f.kind h f.says)
 play_of_done t words text h (by_check k checks keeps) = absurd (check_is_no_play words k h)
 play_of_done t words text h (by_list k lists keeps) = absurd (list_is_no_play words k h)
-play_of_done t words text h (by_play k plays) = plays
+play_of_done t words text h (by_play k plays once) = plays

@@ -4,6 +4,7 @@ use Rattle.std.specs.List.{flat_map}
 use Rattle.std.specs.Fmt.{decimal}
 use Rattle.script_text.specs.declared.fault.ScriptFault.{ScriptFault}
 use Rattle.script_text.specs.declared.fault.ScriptFault.TheVariants.{Word, Number, Caller, Order, TooLong, NoMemory as NoMemoryForScript}
+use Rattle.image_rules.specs.Breach.{number_of}
 use Rattle.image_file.specs.declared.fault.ImageFault.{ImageFault}
 use Rattle.image_file.specs.declared.fault.ImageFault.TheVariants.{Length, Magic, Format, Geometry, Unsound, NoMemory as NoMemoryForImage}
 use Rattle.image_file.specs.declared.summary.Summary.{Summary}
@@ -40,7 +41,7 @@ image_fault_text Length = codes "fault image length" ++ 10 ∷ []
 image_fault_text Magic = codes "fault image magic" ++ 10 ∷ []
 image_fault_text Format = codes "fault image format" ++ 10 ∷ []
 image_fault_text Geometry = codes "fault image geometry" ++ 10 ∷ []
-image_fault_text (Unsound rule word) = codes "fault image rule " ++ (decimal rule ++ (codes " word " ++ (decimal word ++ 10 ∷ [])))
+image_fault_text (Unsound rule word) = codes "fault image rule " ++ (decimal (number_of rule) ++ (codes " word " ++ (decimal word ++ 10 ∷ [])))
 image_fault_text NoMemoryForImage = []
 
 abbrev pub usage_text : List ℕ

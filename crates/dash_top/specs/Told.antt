@@ -1,29 +1,40 @@
 -- What the store and the source tell before a call and after it, and what was read of them.
-use Rattle.std.specs.Prelude.{◌≡◌, ◌≢◌, ℕ, ◌≤◌, List, length, slice_index, Option}
+use Rattle.std.specs.Prelude.{◌≡◌, ◌≢◌, ℕ, ◌+◌, ◌≤◌, Bool, true, List, length, slice_index, Option}
 use Rattle.std.specs.Io.KnownBytes.{Consumes, IsAtEnd}
 use Rattle.outside.specs.Causes.{Rose}
 use Rattle.outside.specs.Storing.{IsFront}
 use Rattle.image_layout.specs.Places.{Shape}
 use Rattle.sound_image.specs.Image.{image_bytes, IsSoundImage}
-use Rattle.image_file.specs.Stage.{PassesRule8}
+use Rattle.image_rules.specs.Stage.{PassesRule8, MayBePlayed}
 use Rattle.image_file.specs.Fault.{HasFault, IsPlayFault}
 use Rattle.image_file.specs.declared.fault.ImageFault.{ImageFault}
 use Rattle.image_file.specs.declared.fault.ImageFault.TheVariants.{NoMemory as NoMemoryForImage}
 use Rattle.script_text.specs.declared.line.Mode.TheVariants.{Play}
 use Rattle.script_text.specs.declared.fault.ScriptFault.{ScriptFault}
 use Rattle.script_text.specs.declared.fault.ScriptFault.TheVariants.{NoMemory as NoMemoryForScript}
-use Rattle.script_text.specs.Script.{HasFault as HasScriptFault}
+use Rattle.script_text.specs.declared.line.Line.{Line}
+use Rattle.script_text.specs.Script.{IsScript, HasFault as HasScriptFault}
 
--- the bytes of the store, and those that the source has left
+-- the bytes of the store, how often it was written, whether its last write failed, and the bytes that the source has left
 pub record Told : Type 0 where
   pub store_old : Option (List ℕ)
   pub store_new : Option (List ℕ)
+  pub writes_old : ℕ
+  pub writes_new : ℕ
+  pub lost : Bool
   pub source_old : Option (List ℕ)
   pub source_new : Option (List ℕ)
 
-abbrev pub told : Option (List ℕ) → Option (List ℕ) → Option (List ℕ) → Option (List ℕ) → Told
-told store_old store_new source_old source_new =
-    record { store_old = store_old; store_new = store_new; source_old = source_old; source_new = source_new }
+abbrev pub told : Option (List ℕ) → Option (List ℕ) → ℕ → ℕ → Bool → Option (List ℕ) → Option (List ℕ) → Told
+told store_old store_new writes_old writes_new lost source_old source_new = record {
+  store_old = store_old;
+  store_new = store_new;
+  writes_old = writes_old;
+  writes_new = writes_new;
+  lost = lost;
+  source_old = source_old;
+  source_new = source_new;
+}
 
 -- the most bytes that an image can have, and a script
 abbrev pub image_limit : ℕ
@@ -32,15 +43,31 @@ image_limit = 282067200
 abbrev pub script_limit : ℕ
 script_limit = 16777216
 
--- the store is as it was
-abbrev pub KeepsStore : Told → Type 0
-KeepsStore t = t.store_new ≡ t.store_old
+-- the store is as it was, and was not written
+pub record KeepsStore (t : Told) : Type 0 where
+  pub same : t.store_new ≡ t.store_old
+  pub unwritten : t.writes_new ≡ t.writes_old
+
+-- the store was written once
+abbrev pub WritesOnce : Told → Type 0
+WritesOnce t = t.writes_new ≡ t.writes_old + 1
+
+-- it was written once, and that failed
+abbrev pub LosesWrite : Told → Type 0
+LosesWrite t = WritesOnce t × (t.lost ≡ true)
 
 -- THE SCRIPT
 -- a script was read: all that was left, or a byte more than may be
 pub record ReadsScript (source_old source_new : Option (List ℕ)) (script : List ℕ) : Type 0 where
   pub taken : Consumes source_old source_new script
   pub to_its_end : length script ≤ script_limit → IsAtEnd source_new
+
+-- and it is one of the grammar
+pub record ReadsGoodScript (source_old source_new : Option (List ℕ)) : Type 0 where
+  pub script : List ℕ
+  pub reads : ReadsScript source_old source_new script
+  pub lines : List Line
+  pub good : IsScript Play script lines
 
 -- the script that was read has this fault, which is not want of memory
 pub record RefusesScript (source_old source_new : Option (List ℕ)) (fault : ScriptFault) : Type 0 where
@@ -55,6 +82,14 @@ pub record ReadsSound (store : Option (List ℕ)) (shape : Shape) (words : List 
   pub front : IsFront store image_limit (image_bytes words)
   pub all : length (image_bytes words) ≤ image_limit
   pub sound : IsSoundImage shape words
+
+-- and it is one that may be played
+pub record ReadsPlayable (store : Option (List ℕ)) : Type 0 where
+  pub shape : Shape
+  pub words : List ℕ
+  pub reads : ReadsSound store shape words
+  pub served : PassesRule8 shape (slice_index words)
+  pub untouched : MayBePlayed shape (slice_index words)
 
 -- what was read, all of the store or a byte more than an image can have, has this fault, which is not want of memory
 pub record RefusesImage (store : Option (List ℕ)) (fault : ImageFault) : Type 0 where

@@ -6,12 +6,12 @@ use Rattle.script_text.specs.declared.line.Mode.TheVariants.{Play}
 use Rattle.script_text.specs.declared.fault.ScriptFault.{ScriptFault}
 use Rattle.script_text.specs.Script.{IsScript}
 use Rattle.image_file.specs.declared.fault.ImageFault.{ImageFault}
-use Rattle.image_file.specs.Stage.{MayBePlayed}
+use Rattle.image_rules.specs.Stage.{MayBePlayed}
 use Rattle.image_file.specs.Fault.{IsServedFile}
 use Rattle.dash_top.specs.Commands.{check_words, list_words, play_words, SaysFormat, IsNoCommand}
 use Rattle.dash_top.specs.Texts.{usage_text, script_fault_text, image_fault_text}
 use Rattle.dash_top.specs.Played.{IsPlayed}
-use Rattle.dash_top.specs.Told.{Told, RefusesScript}
+use Rattle.dash_top.specs.Told.{Told, KeepsStore, RefusesScript}
 use Rattle.dash_top.specs.Work.{IsDone, IsRefused}
 
 -- THE HEADLINE: wherever store, source and sink tell their bytes, the script is all that the source had left, and
@@ -21,12 +21,13 @@ Headline t sink_old sink_new =
     (start script before : List ℕ) → t.store_old ≡ Some start → t.source_old ≡ Some script → sink_old ≡ Some before
     → (transcript ending : List ℕ) × (sink_new ≡ Some (before ++ transcript)) × (t.store_new ≡ Some ending) × IsPlayed start script transcript ending
 
--- WHAT WAS TO BE WRITTEN: the text of each outcome that writes one
+-- WHAT WAS TO BE WRITTEN: the text of each outcome that writes one; a refusal has left the store as it was
 pub data IsText (t : Told) (words : List (List ℕ)) : List ℕ → Type 0 where
   of_done : {text : List ℕ} → IsDone t words text → IsText t words text
-  of_bad_words : IsNoCommand words → IsText t words usage_text
-  of_bad_script : {fault : ScriptFault} → words ≡ play_words → RefusesScript t.source_old t.source_new fault → IsText t words (script_fault_text fault)
-  of_bad_image : {fault : ImageFault} → IsRefused t words fault → IsText t words (image_fault_text fault)
+  of_bad_words : IsNoCommand words → KeepsStore t → IsText t words usage_text
+  of_bad_script : {fault : ScriptFault} → words ≡ play_words → RefusesScript t.source_old t.source_new fault → KeepsStore t
+      → IsText t words (script_fault_text fault)
+  of_bad_image : {fault : ImageFault} → IsRefused t words fault → KeepsStore t → IsText t words (image_fault_text fault)
 
 -- COMPLETE: a good command meets no refusal; so it is done, or memory was wanting
 -- the store tells the file of a sound image that the program serves

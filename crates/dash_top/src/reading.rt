@@ -5,7 +5,7 @@ ghost use Rattle.script_text.specs.declared.line.Line.{Line};
 ghost use Rattle.script_text.specs.declared.line.Mode.TheVariants.{Play as PlayMode};
 ghost use Rattle.script_text.specs.Script.{IsScript};
 ghost use Rattle.script_text.specs.Calls.{IsLineSoFar};
-ghost use Rattle.image_file.specs.Stage.{PassesRule8};
+ghost use Rattle.image_rules.specs.Stage.{PassesRule8};
 ghost use Rattle.dash_top.specs.Told.{ReadsScript, ReadsSound};
 ghost use Rattle.dash_top.specs.Reading.{HasScriptCause, HasImageCause};
 
@@ -44,6 +44,7 @@ pub fn read_image<I: Store>(alloc: Global, image: &mut I) -> Result<Medium, Stop
     ensures err { IfErr result (HasImageCause (I.contents image.old) (I.faults image.old) (I.faults image.new)) }
     ensures later { I.faults image.old ≤ I.faults image.new }
     ensures keeps { I.contents image.new ≡ I.contents image.old }
+    ensures unwritten { I.writes image.new ≡ I.writes image.old }
 {
     let start = match image.read_all(alloc, MOST_IMAGE_BYTES) {
         Ok(start) => start,

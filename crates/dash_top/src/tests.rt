@@ -1,8 +1,5 @@
-// Runs of the whole program over the outside in memory, with what they write and store, literally.
-mod cuts;
-mod done;
+// Runs of the whole program over the outside in memory in which the outside fails. The other runs are rows of `rows`.
 mod failing;
-mod refused;
 
 use crate::dash_run;
 use outside::{Fuses, MemSink, MemSource, MemStore};
@@ -35,6 +32,9 @@ pub struct Fails {
     pub sink: &'static [u64],
 }
 
+/// The first push of the sink fails.
+pub const DEAF: Fails = Fails { sink: &[1], ..NONE };
+
 /// No call of the outside fails.
 pub const NONE: Fails = Fails {
     store: &[],
@@ -42,11 +42,14 @@ pub const NONE: Fails = Fails {
     sink: &[],
 };
 
-/// What a run left.
+/// What a run left: its status, what is stored and how often it was written, how many bytes of the script were taken, and
+/// what came out.
 #[derive(Drop)]
 pub struct Left {
     pub status: u8,
     pub stored: Vec<u8>,
+    pub writes: u64,
+    pub pulled: usize,
     pub written: Vec<u8>,
 }
 
@@ -79,6 +82,8 @@ pub fn run<R: Threads + Wait + Sync>(
     Ok(Left {
         status,
         stored: store.bytes,
+        writes: store.writes,
+        pulled: source.inner.at,
         written: sink.bytes,
     })
 }

@@ -71,7 +71,8 @@ pub fn image_fault(alloc: Global, fault: ImageFault) -> Result<String, AllocErro
         ImageFault::Format => String::from_str(alloc, "fault image format\n"),
         ImageFault::Geometry => String::from_str(alloc, "fault image geometry\n"),
         ImageFault::Unsound { rule, word } => {
-            format!(in alloc; "fault image rule {rule} word {word}\n")
+            let number = rule.number();
+            format!(in alloc; "fault image rule {number} word {word}\n")
         }
         ImageFault::NoMemory => Ok(String::new(alloc)),
     }

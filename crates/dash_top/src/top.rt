@@ -1,14 +1,15 @@
 // The top call.
-ghost use Rattle.std.specs.Prelude.{◌≡◌, ◌≢◌, ℕ, ◌<◌, ◌≤◌, ◌⊎◌, List, map, string_bytes};
+ghost use Rattle.std.specs.Prelude.{◌≡◌, ◌≢◌, ℕ, ◌+◌, ◌<◌, ◌≤◌, ◌⊎◌, List, map, string_bytes};
 ghost use Rattle.std.specs.Io.KnownBytes.{Appends};
 ghost use Rattle.outside.specs.Causes.{Rose, AppendsFront};
+ghost use Rattle.outside.specs.Storing.{most_writes};
 ghost use Rattle.outside.specs.declared.gates.Place.TheVariants.{Unmade};
 ghost use Rattle.script_text.specs.declared.fault.ScriptFault.{ScriptFault};
 ghost use Rattle.image_file.specs.declared.fault.ImageFault.{ImageFault};
 ghost use Rattle.dash_top.specs.Commands.{check_words, list_words, play_words, IsNoCommand};
 ghost use Rattle.dash_top.specs.Texts.{usage_text, script_fault_text, image_fault_text};
-ghost use Rattle.dash_top.specs.Told.{told, counts, NoneRose, RefusesScript};
-ghost use Rattle.dash_top.specs.Work.{IsDone, IsRefused};
+ghost use Rattle.dash_top.specs.Told.{told, counts, NoneRose, KeepsStore, RefusesScript};
+ghost use Rattle.dash_top.specs.Work.{IsDone, IsRefused, StoreFailed};
 ghost use Rattle.dash_top.specs.Top.{IsText, Headline, IsGoodCommand};
 
 use crate::status::{
@@ -49,43 +50,54 @@ pub fn dash_run<R: Threads + Wait + Sync, I: Store, S: Source, K: Sink, M: Gates
     out: &mut K,
     _gates: &mut M,
 ) -> u8
-    requires { (caller : ℕ) → 1 ≤ caller → caller ≤ 64 → M.place _gates.old caller ≡ Unmade }
+    requires unmade { (caller : ℕ) → 1 ≤ caller → caller ≤ 64 → M.place _gates.old caller ≡ Unmade }
+    requires countable { I.writes image.old < most_writes }
 
     ensures range { result ≤ NO_MEMORY }
 
     // Done: what the words ask for, and its text was written.
     ensures done { result ≡ DONE → (text : List ℕ) × Appends (K.taken out.old) (K.taken out.new) text
-        × IsDone (told (I.contents image.old) (I.contents image.new) (S.left input.old) (S.left input.new)) (map string_bytes words.now) text }
+        × IsDone (told (I.contents image.old) (I.contents image.new) (I.writes image.old) (I.writes image.new) (I.lost image.new) (S.left input.old) (S.left input.new)) (map string_bytes words.now) text }
 
     // The headline: wherever all three tell their bytes, these are what the run of the script leaves, and a session,
     // whose calls, woven by their places, are one legal history of a plain map that starts with the image's pairs.
     ensures headline { result ≡ DONE → map string_bytes words.now ≡ play_words
-        → Headline (told (I.contents image.old) (I.contents image.new) (S.left input.old) (S.left input.new))
+        → Headline (told (I.contents image.old) (I.contents image.new) (I.writes image.old) (I.writes image.new) (I.lost image.new) (S.left input.old) (S.left input.new))
         (K.taken out.old) (K.taken out.new) }
 
-    // The refusals, each with its cause and its line.
+    // The refusals, each with its cause and its line; an image is refused only after the script, where there is one, was
+    // found good.
     ensures bad_words { result ≡ BAD_WORDS → IsNoCommand (map string_bytes words.now) × Appends (K.taken out.old) (K.taken out.new) usage_text }
     ensures bad_script { result ≡ BAD_SCRIPT → (map string_bytes words.now ≡ play_words) × ((fault : ScriptFault)
         × RefusesScript (S.left input.old) (S.left input.new) fault
         × Appends (K.taken out.old) (K.taken out.new) (script_fault_text fault)) }
     ensures bad_image { result ≡ BAD_IMAGE → ((fault : ImageFault)
-        × IsRefused (told (I.contents image.old) (I.contents image.new) (S.left input.old) (S.left input.new)) (map string_bytes words.now) fault
+        × IsRefused (told (I.contents image.old) (I.contents image.new) (I.writes image.old) (I.writes image.new) (I.lost image.new) (S.left input.old) (S.left input.new)) (map string_bytes words.now) fault
         × Appends (K.taken out.old) (K.taken out.new) (image_fault_text fault)) }
-    ensures source_failed { result ≡ SOURCE_FAILED → Rose (S.faults input.old) (S.faults input.new) }
-    ensures sink_failed { result ≡ SINK_FAILED → Rose (K.faults out.old) (K.faults out.new) }
-    ensures store_failed { result ≡ STORE_FAILED → Rose (I.faults image.old) (I.faults image.new) }
 
-    // What is unchanged: the store where nothing was done, and by `check` and `list`; and the sink where nothing is to
-    // be written. Where the sink failed, it has taken a front of what was to be written.
-    ensures store_kept { result ≢ DONE → result ≢ SINK_FAILED → result ≢ STORE_FAILED → I.contents image.new ≡ I.contents image.old }
-    ensures readers_keep { (map string_bytes words.now ≡ check_words) ⊎ (map string_bytes words.now ≡ list_words) → I.contents image.new ≡ I.contents image.old }
+    // The outside failed. Where the store failed in a read, it is as it was; only a `format`, or a `play` that had found
+    // script and image good, may have failed in a write, its first.
+    ensures source_failed { result ≡ SOURCE_FAILED → (map string_bytes words.now ≡ play_words) × Rose (S.faults input.old) (S.faults input.new) }
+    ensures sink_failed { result ≡ SINK_FAILED → Rose (K.faults out.old) (K.faults out.new) }
+    ensures store_failed { result ≡ STORE_FAILED → Rose (I.faults image.old) (I.faults image.new)
+        × StoreFailed (told (I.contents image.old) (I.contents image.new) (I.writes image.old) (I.writes image.new) (I.lost image.new) (S.left input.old) (S.left input.new)) (map string_bytes words.now) }
+
+    // What is unchanged: the store where nothing was done, and by `check` and `list`; the source but by `play`; and the
+    // sink where nothing is to be written. A store that is as it was was not written, and none is written twice. Where
+    // the sink failed, it has taken a front of what was to be written.
+    ensures store_kept { result ≢ DONE → result ≢ SINK_FAILED → result ≢ STORE_FAILED
+        → KeepsStore (told (I.contents image.old) (I.contents image.new) (I.writes image.old) (I.writes image.new) (I.lost image.new) (S.left input.old) (S.left input.new)) }
+    ensures readers_keep { (map string_bytes words.now ≡ check_words) ⊎ (map string_bytes words.now ≡ list_words)
+        → KeepsStore (told (I.contents image.old) (I.contents image.new) (I.writes image.old) (I.writes image.new) (I.lost image.new) (S.left input.old) (S.left input.new)) }
+    ensures no_second_write { I.writes image.new ≤ I.writes image.old + 1 }
+    ensures source_kept { map string_bytes words.now ≢ play_words → (S.left input.new ≡ S.left input.old) × (S.faults input.new ≡ S.faults input.old) }
     ensures sink_kept { (result ≡ SOURCE_FAILED) ⊎ ((result ≡ STORE_FAILED) ⊎ (result ≡ NO_MEMORY)) → K.taken out.new ≡ K.taken out.old }
     ensures sink_front { result ≡ SINK_FAILED → (text : List ℕ) × AppendsFront (K.taken out.old) (K.taken out.new) text
-        × IsText (told (I.contents image.old) (I.contents image.new) (S.left input.old) (S.left input.new)) (map string_bytes words.now) text }
+        × IsText (told (I.contents image.old) (I.contents image.new) (I.writes image.old) (I.writes image.new) (I.lost image.new) (S.left input.old) (S.left input.new)) (map string_bytes words.now) text }
     ensures gates_kept { (caller : ℕ) → M.place _gates.new caller ≡ M.place _gates.old caller }
 
     // A good command on a good image and script is done, or memory was wanting.
-    ensures complete { IsGoodCommand (told (I.contents image.old) (I.contents image.new) (S.left input.old) (S.left input.new)) (map string_bytes words.now)
+    ensures complete { IsGoodCommand (told (I.contents image.old) (I.contents image.new) (I.writes image.old) (I.writes image.new) (I.lost image.new) (S.left input.old) (S.left input.new)) (map string_bytes words.now)
         → NoneRose (counts (S.faults input.old) (S.faults input.new) (K.faults out.old) (K.faults out.new) (I.faults image.old) (I.faults image.new))
         → (result ≡ DONE) ⊎ (result ≡ NO_MEMORY) }
 {

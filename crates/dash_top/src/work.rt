@@ -1,9 +1,10 @@
 // What each command does between the outside's bytes.
-ghost use Rattle.std.specs.Prelude.{◌≡◌, ◌⊎◌, ℕ, List, OnOk, IfOk, IfErr, map, string_bytes};
-ghost use Rattle.dash_top.specs.Commands.{check_words, list_words};
+ghost use Rattle.std.specs.Prelude.{◌≡◌, ◌≢◌, ◌⊎◌, ◌+◌, ◌<◌, ◌≤◌, ℕ, List, OnOk, IfOk, IfErr, map, string_bytes};
+ghost use Rattle.outside.specs.Storing.{most_writes};
+ghost use Rattle.dash_top.specs.Commands.{check_words, list_words, play_words};
 ghost use Rattle.dash_top.specs.Told.{told};
 ghost use Rattle.dash_top.specs.Reading.{HasImageCause};
-ghost use Rattle.dash_top.specs.Work.{StoresNew, Checks, ListsPairs, Plays, IsDone, HasCause, HasFormatCause, HasPlayCause, output_bytes};
+ghost use Rattle.dash_top.specs.Work.{StoresNew, Checks, ListsPairs, Plays, IsDone, HasCause, HasFormatCause, output_bytes};
 
 use crate::command::{Command, command_of};
 use crate::reading::{read_image, read_script};
@@ -82,8 +83,11 @@ impl Output {
 
 // Stores the image of an empty table.
 fn format_image<I: Store>(alloc: Global, image: &mut I, geometry: Geometry) -> Result<(), Stop>
+    requires { I.writes image.old < most_writes }
     ensures ok { OnOk result (StoresNew (I.contents image.old) (I.contents image.new) geometry) }
-    ensures err { IfErr result (HasFormatCause (I.contents image.old) (I.contents image.new) (I.faults image.old) (I.faults image.new)) }
+    ensures once { OnOk result (I.writes image.new ≡ I.writes image.old + 1) }
+    ensures err { IfErr result (HasFormatCause (I.contents image.old) (I.contents image.new) (I.writes image.old) (I.writes image.new) (I.lost image.new)
+        (I.faults image.old) (I.faults image.new)) }
 {
     let medium = format(alloc, geometry)?;
     let bytes = to_bytes(alloc, &medium)?;
@@ -98,6 +102,7 @@ fn check_image<I: Store>(alloc: Global, image: &mut I) -> Result<String, Stop>
     ensures ok { IfOk result (λ text. Checks (I.contents image.old) (string_bytes text)) }
     ensures err { IfErr result (HasImageCause (I.contents image.old) (I.faults image.old) (I.faults image.new)) }
     ensures keeps { I.contents image.new ≡ I.contents image.old }
+    ensures unwritten { I.writes image.new ≡ I.writes image.old }
 {
     let medium = read_image(alloc, image)?;
     let text = check_line(alloc, &check(&medium))?;
@@ -109,6 +114,7 @@ fn list_image<I: Store>(alloc: Global, image: &mut I) -> Result<String, Stop>
     ensures ok { IfOk result (λ text. ListsPairs (I.contents image.old) (string_bytes text)) }
     ensures err { IfErr result (HasImageCause (I.contents image.old) (I.faults image.old) (I.faults image.new)) }
     ensures keeps { I.contents image.new ≡ I.contents image.old }
+    ensures unwritten { I.writes image.new ≡ I.writes image.old }
 {
     let medium = read_image(alloc, image)?;
     let pairs = list(alloc, &medium)?;
@@ -122,9 +128,11 @@ fn play_script<I: Store, S: Source>(
     image: &mut I,
     input: &mut S,
 ) -> Result<Vec<u8>, Stop>
-    ensures ok { IfOk result (λ lines. Plays (told (I.contents image.old) (I.contents image.new) (S.left input.old) (S.left input.new)) lines.items) }
-    ensures err { IfErr result (HasPlayCause (told (I.contents image.old) (I.contents image.new) (S.left input.old) (S.left input.new))
-        (S.faults input.old) (S.faults input.new) (I.faults image.old) (I.faults image.new)) }
+    requires { I.writes image.old < most_writes }
+    ensures ok { IfOk result (λ lines. Plays (told (I.contents image.old) (I.contents image.new) (I.writes image.old) (I.writes image.new) (I.lost image.new) (S.left input.old) (S.left input.new)) lines.items) }
+    ensures once { IfOk result (λ lines. I.writes image.new ≡ I.writes image.old + 1) }
+    ensures err { IfErr result (HasCause (told (I.contents image.old) (I.contents image.new) (I.writes image.old) (I.writes image.new) (I.lost image.new) (S.left input.old) (S.left input.new))
+        play_words (S.faults input.old) (S.faults input.new) (I.faults image.old) (I.faults image.new)) }
 {
     let script = read_script(alloc, input)?;
     let medium = read_image(alloc, image)?;
@@ -140,18 +148,24 @@ fn play_script<I: Store, S: Source>(
     }
 }
 
-/// Does what the words ask for, and answers what is to be written. `check` and `list` leave the store as it is.
+/// Does what the words ask for, and answers what is to be written. `check` and `list` leave the store as it is, and only
+/// `play` reads the source.
 pub fn perform<I: Store, S: Source>(
     alloc: Global,
     words: &[String],
     image: &mut I,
     input: &mut S,
 ) -> Result<Output, Stop>
-    ensures ok { IfOk result (λ output. IsDone (told (I.contents image.old) (I.contents image.new) (S.left input.old) (S.left input.new))
+    requires { I.writes image.old < most_writes }
+    ensures ok { IfOk result (λ output. IsDone (told (I.contents image.old) (I.contents image.new) (I.writes image.old) (I.writes image.new) (I.lost image.new) (S.left input.old) (S.left input.new))
         (map string_bytes words.now) (output_bytes output)) }
-    ensures err { IfErr result (HasCause (told (I.contents image.old) (I.contents image.new) (S.left input.old) (S.left input.new))
+    ensures err { IfErr result (HasCause (told (I.contents image.old) (I.contents image.new) (I.writes image.old) (I.writes image.new) (I.lost image.new) (S.left input.old) (S.left input.new))
         (map string_bytes words.now) (S.faults input.old) (S.faults input.new) (I.faults image.old) (I.faults image.new)) }
     ensures readers_keep { (map string_bytes words.now ≡ check_words) ⊎ (map string_bytes words.now ≡ list_words) → I.contents image.new ≡ I.contents image.old }
+    ensures readers_write_nothing { (map string_bytes words.now ≡ check_words) ⊎ (map string_bytes words.now ≡ list_words) → I.writes image.new ≡ I.writes image.old }
+    ensures no_second_write { I.writes image.new ≤ I.writes image.old + 1 }
+    ensures source_left { map string_bytes words.now ≢ play_words → S.left input.new ≡ S.left input.old }
+    ensures source_still { map string_bytes words.now ≢ play_words → S.faults input.new ≡ S.faults input.old }
 {
     match command_of(words) {
         Command::Format(geometry) => {

@@ -23,4 +23,5 @@ returns g c = record {
   };
   later = c.in-Ok.ensures.cause.later;
   keeps = c.in-Ok.ensures.same;
+  unwritten = c.in-Ok.ensures.unwritten;
 }

@@ -32,7 +32,7 @@ pub returns-in-Err-Words-clause-sink_front : goal.returns-in-Err-Words-clause-si
 returns-in-Err-Words-clause-sink_front g c = λ e. (
   usage_text,
   subst (λ (x : List ℕ). AppendsFront (g.K.Sink.taken c.args.out.now) (g.K.Sink.taken c.finish-in-Err-Words.new.out) x) c.as_bytes-in-Err-Words.ensures.value (c.finish-in-Err-Words.ensures.front e),
-  of_bad_words (rw c.in-Err-Words.field-0-is at c.in-Err-Words.ensures.err).0,
+  of_bad_words (rw c.in-Err-Words.field-0-is at c.in-Err-Words.ensures.err).0 (rw c.in-Err-Words.field-0-is at c.in-Err-Words.ensures.err).1,
 )
 
 pub returns-in-Err-Words-clause-complete : goal.returns-in-Err-Words-clause-complete
@@ -44,7 +44,8 @@ returns-in-Ok-script_fault-clause-sink_front g c = λ e. (
   script_fault_text c.in-Err-Script.fault,
   subst (λ (x : List ℕ). AppendsFront (g.K.Sink.taken c.args.out.now) (g.K.Sink.taken c.finish-in-Ok-script_fault.new.out) x)
       (c.as_bytes-in-Ok-script_fault.ensures.value ∙ c.in-Ok-script_fault.ensures) (c.finish-in-Ok-script_fault.ensures.front e),
-  of_bad_script (rw c.in-Err-Script.field-0-is at c.in-Err-Script.ensures.err).0 (rw c.in-Err-Script.field-0-is at c.in-Err-Script.ensures.err).1,
+  of_bad_script (rw c.in-Err-Script.field-0-is at c.in-Err-Script.ensures.err).0 (rw c.in-Err-Script.field-0-is at c.in-Err-Script.ensures.err).1
+      (rw c.in-Err-Script.field-0-is at c.in-Err-Script.ensures.err).2,
 )
 
 pub returns-in-Ok-script_fault-clause-complete : goal.returns-in-Ok-script_fault-clause-complete
@@ -57,7 +58,7 @@ returns-in-Ok-image_fault-clause-sink_front g c = λ e. (
   image_fault_text c.in-Err-Image.fault,
   subst (λ (x : List ℕ). AppendsFront (g.K.Sink.taken c.args.out.now) (g.K.Sink.taken c.finish-in-Ok-image_fault.new.out) x)
       (c.as_bytes-in-Ok-image_fault.ensures.value ∙ c.in-Ok-image_fault.ensures) (c.finish-in-Ok-image_fault.ensures.front e),
-  of_bad_image (rw c.in-Err-Image.field-0-is at c.in-Err-Image.ensures.err).0,
+  of_bad_image (rw c.in-Err-Image.field-0-is at c.in-Err-Image.ensures.err).0 (rw c.in-Err-Image.field-0-is at c.in-Err-Image.ensures.err).1,
 )
 
 pub returns-in-Ok-image_fault-clause-complete : goal.returns-in-Ok-image_fault-clause-complete

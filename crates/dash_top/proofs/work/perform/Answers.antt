@@ -1,18 +1,46 @@
+use Rattle.dash_top.specs.Commands.ReadsImage.{for_check, for_list}
+use Rattle.dash_top.specs.Told.{KeepsStore}
 use Rattle.dash_top.specs.Work.{by_format, by_check, by_list, by_play}
-use Rattle.dash_top.proofs.Causes.{cause_of_play, err_of}
+use Rattle.dash_top.proofs.Causes.{cause_of_reading, cause_of_format, cause_of_play, err_of}
+use Rattle.dash_top.proofs.Complete.{check_is_no_play, list_is_no_play}
 use Rattle.dash_top.proofs.work.perform.Goals as goal
 
+-- FORMAT
 pub returns-in_ok-format_image-in-Format-clause-ok : goal.returns-in_ok-format_image-in-Format-clause-ok
-returns-in_ok-format_image-in-Format-clause-ok g c = by_format c.in-Format.ensures c.in_ok-format_image-in-Format.ensures.ok
+returns-in_ok-format_image-in-Format-clause-ok g c = by_format c.in-Format.ensures c.in_ok-format_image-in-Format.ensures.ok c.in_ok-format_image-in-Format.ensures.once
 
+pub returns-in_err-format_image-in-Format-clause-err : goal.returns-in_err-format_image-in-Format-clause-err
+returns-in_err-format_image-in-Format-clause-err g c =
+    err_of _ c.from_residual.result c.in_err-format_image-in-Format.field-0.0 c.from_residual.ensures.1
+    (cause_of_format _ _ _ _ _ _ _ c.in-Format.ensures c.in_err-format_image-in-Format.ensures.err)
+
+-- CHECK
 pub returns-in_ok-text-in-Check-clause-ok : goal.returns-in_ok-text-in-Check-clause-ok
-returns-in_ok-text-in-Check-clause-ok g c = by_check c.in-Check.ensures c.in_ok-text-in-Check.ensures.ok c.in_ok-text-in-Check.ensures.keeps
+returns-in_ok-text-in-Check-clause-ok g c =
+    by_check c.in-Check.ensures c.in_ok-text-in-Check.ensures.ok
+    (record { same = c.in_ok-text-in-Check.ensures.keeps; unwritten = c.in_ok-text-in-Check.ensures.unwritten })
 
+pub returns-in_err-text-in-Check-clause-err : goal.returns-in_err-text-in-Check-clause-err
+returns-in_err-text-in-Check-clause-err g c =
+    err_of _ c.from_residual-in_err-text-in-Check.result c.in_err-text-in-Check.field-0.0 c.from_residual-in_err-text-in-Check.ensures.1
+    (cause_of_reading _ _ _ _ _ _ _ (for_check c.in-Check.ensures) (λ form. absurd (check_is_no_play _ c.in-Check.ensures form))
+    (record { same = c.in_err-text-in-Check.ensures.keeps; unwritten = c.in_err-text-in-Check.ensures.unwritten }) c.in_err-text-in-Check.ensures.err)
+
+-- LIST
 pub returns-in_ok-text-in-List-clause-ok : goal.returns-in_ok-text-in-List-clause-ok
-returns-in_ok-text-in-List-clause-ok g c = by_list c.in-List.ensures c.in_ok-text-in-List.ensures.ok c.in_ok-text-in-List.ensures.keeps
+returns-in_ok-text-in-List-clause-ok g c =
+    by_list c.in-List.ensures c.in_ok-text-in-List.ensures.ok
+    (record { same = c.in_ok-text-in-List.ensures.keeps; unwritten = c.in_ok-text-in-List.ensures.unwritten })
 
+pub returns-in_err-text-in-List-clause-err : goal.returns-in_err-text-in-List-clause-err
+returns-in_err-text-in-List-clause-err g c =
+    err_of _ c.from_residual-in_err-text-in-List.result c.in_err-text-in-List.field-0.0 c.from_residual-in_err-text-in-List.ensures.1
+    (cause_of_reading _ _ _ _ _ _ _ (for_list c.in-List.ensures) (λ form. absurd (list_is_no_play _ c.in-List.ensures form))
+    (record { same = c.in_err-text-in-List.ensures.keeps; unwritten = c.in_err-text-in-List.ensures.unwritten }) c.in_err-text-in-List.ensures.err)
+
+-- PLAY
 pub returns-in_ok-lines-in-Play-clause-ok : goal.returns-in_ok-lines-in-Play-clause-ok
-returns-in_ok-lines-in-Play-clause-ok g c = by_play c.in-Play.ensures c.in_ok-lines-in-Play.ensures.ok
+returns-in_ok-lines-in-Play-clause-ok g c = by_play c.in-Play.ensures c.in_ok-lines-in-Play.ensures.ok c.in_ok-lines-in-Play.ensures.once
 
 pub returns-in_err-lines-in-Play-clause-err : goal.returns-in_err-lines-in-Play-clause-err
 returns-in_err-lines-in-Play-clause-err g c =

@@ -1,12 +1,24 @@
-use Rattle.std.proofs.Common.{inr, List, ℕ, subst, refl, sym, ◌∙◌}
+use Rattle.std.proofs.Common.{List, ℕ, ◌+◌, subst, refl, sym, ap, ◌∙◌, Option, []}
 use Rattle.outside.specs.Storing.{Holds}
 use Rattle.session.specs.Session.{IsSession}
 use Rattle.core_run.specs.Sessions.{ending_of}
 use Rattle.play.specs.Played.{IsPlay, scripts_of}
+use Rattle.script_text.specs.declared.line.Line.{Line}
+use Rattle.script_text.specs.declared.line.Mode.TheVariants.{Play}
+use Rattle.script_text.specs.Script.{IsScript}
+use Rattle.dash_top.specs.Commands.ReadsImage.{for_play}
+use Rattle.dash_top.specs.Told.{ReadsScript, ReadsGoodScript}
+use Rattle.dash_top.specs.Work.{IsRefused, StoreFailed}
+use Rattle.dash_top.proofs.Causes.{cause_of_reading, err_of}
 use Rattle.dash_top.proofs.Counting.{rose_before}
 use Rattle.play.proofs.Printed.{printed_by_run}
 use Rattle.dash_top.proofs.work.play_script.Goals as goal
 
+good_script : {source_old source_new : Option (List ℕ)} (lines : List Line) → ((script : List ℕ) × ReadsScript source_old source_new script × IsScript Play script lines)
+    → ReadsGoodScript source_old source_new
+good_script lines read = record { script = read.0; reads = read.1; lines = lines; good = read.2 }
+
+-- DONE
 pub returns-in-Ok-clause-ok : goal.returns-in-Ok-clause-ok
 returns-in-Ok-clause-ok g c =
     let read = c.in_ok-script.ensures.ok in
@@ -37,12 +49,18 @@ returns-in-Ok-clause-ok g c =
       };
     }
 
-pub returns-clause-err : goal.returns-clause-err
-returns-clause-err g c = rose_before _ _ _ c.in_ok-medium.ensures.later c.in-Err-write_all.ensures.cause.failed
+-- STOPPED
+-- the image was not read
+pub returns-in_err-medium-clause-err : goal.returns-in_err-medium-clause-err
+returns-in_err-medium-clause-err g c =
+    err_of _ c.from_residual-in_err-medium.result c.in_err-medium.field-0.0 c.from_residual-in_err-medium.ensures.1
+    (cause_of_reading _ _ _ _ _ _ _ (for_play refl) (λ form. good_script c.in_ok-script.script c.in_ok-script.ensures.ok)
+    (record { same = c.in_err-medium.ensures.keeps; unwritten = c.in_err-medium.ensures.unwritten }) c.in_err-medium.ensures.err)
 
+-- the image may not be played
 pub returns-in-Err-clause-err : goal.returns-in-Err-clause-err
 returns-in-Err-clause-err g c = (
-  inr
+  IsRefused.in_playing refl (λ form. good_script c.in_ok-script.script c.in_ok-script.ensures.ok)
       (record {
         shape = c.in_ok-medium.medium.geometry;
         words = c.in_ok-medium.medium.words;
@@ -50,5 +68,20 @@ returns-in-Err-clause-err g c = (
         served = c.in_ok-medium.ensures.served;
         has_fault = c.in-Err.ensures.err;
       }),
-  c.in_ok-medium.ensures.keeps,
+  record { same = c.in_ok-medium.ensures.keeps; unwritten = c.in_ok-medium.ensures.unwritten },
+)
+
+-- the write failed
+pub returns-clause-err : goal.returns-clause-err
+returns-clause-err g c = (
+  rose_before _ _ _ c.in_ok-medium.ensures.later c.in-Err-write_all.ensures.cause.failed,
+  StoreFailed.in_playing refl (λ form. good_script c.in_ok-script.script c.in_ok-script.ensures.ok)
+      (record {
+        shape = c.in_ok-medium.medium.geometry;
+        words = c.in_ok-medium.medium.words;
+        reads = c.in_ok-medium.ensures.ok;
+        served = c.in_ok-medium.ensures.served;
+        untouched = c.in_default.ensures.ok;
+      })
+      (c.in-Err-write_all.ensures.once ∙ ap (λ (n : ℕ). n + 1) c.in_ok-medium.ensures.unwritten, c.in-Err-write_all.ensures.failed),
 )
