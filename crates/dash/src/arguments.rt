@@ -1,6 +1,9 @@
 // What the program is called with: its name, the image's path, and the words.
-ghost use Rattle.std.specs.Prelude.{◌≡◌, MatchOption, [], drop, slice_get, string_bytes};
+ghost use Rattle.std.specs.Prelude.{◌≡◌, ◌↔◌, ◌⊎◌, MatchOption, [], drop, map, slice_get, string_bytes};
+ghost use Rattle.outside.specs.declared.file.Purpose.TheVariants.{Reading};
+ghost use Rattle.dash_top.specs.Commands.{check_words, list_words};
 
+use outside::Purpose;
 use std::alloc::{AllocError, Global};
 use std::env;
 use std::env::Env;
@@ -28,5 +31,26 @@ pub fn parted<'a>(arguments: &'a [String]) -> (&'a str, &'a [String])
     match arguments {
         [_, path, words @ ..] => (path.as_str(), words),
         _ => ("", &[]),
+    }
+}
+
+/// The name by which the program was called, for its messages.
+pub fn program_of(arguments: &[String]) -> &str {
+    match arguments {
+        [program, ..] => program.as_str(),
+        [] => "dash",
+    }
+}
+
+/// What the image's file is for: `check` and `list` read it, and every other command writes it.
+pub fn purpose_of(words: &[String]) -> Purpose
+    ensures { (result ≡ Reading) ↔ ((map string_bytes words.now ≡ check_words) ⊎ (map string_bytes words.now ≡ list_words)) }
+{
+    match words {
+        [only] => match only.as_str() {
+            "check" | "list" => Purpose::Reading,
+            _ => Purpose::Writing,
+        },
+        _ => Purpose::Writing,
     }
 }

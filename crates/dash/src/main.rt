@@ -1,25 +1,35 @@
 //! The program `dash IMAGE WORDS..`: the top call over the image's file, standard input, standard output and the
 //! fuses of its callers. It ends with the top call's status. What is proved of it is what the top call's contract says.
+//! Where that status is not 0, a line on standard error says what to do about it.
 #![tactic(auto)]
 
 mod arguments;
+mod heard;
+mod image_words;
+mod number;
+mod refusal;
+mod script_words;
 
-use arguments::{parted, received};
-use dash_top::{NO_MEMORY, dash_run};
+use arguments::{parted, program_of, purpose_of, received};
+use dash_top::{DONE, NO_MEMORY, dash_run};
+use heard::Heard;
 use outside::{FileStore, Fuses, StdSink, StdSource};
+use refusal::Refusal;
 use std::process::ExitCode;
 
 fn main(rt: HostRuntime) -> ExitCode {
     let Ok(arguments) = received(&rt) else {
+        let _ = rt.eprintln("dash: memory was wanting for its words");
         return ExitCode::from(NO_MEMORY);
     };
     let (path, words) = parted(&arguments);
-    let Ok(second) = format!(in rt.alloc(); "{path}.new") else {
+    let purpose = purpose_of(words);
+    let Ok(mut image) = FileStore::new(&rt, rt.alloc(), path, purpose, number::drawn(&rt)) else {
+        let _ = rt.eprintln("dash: memory was wanting for the image's path");
         return ExitCode::from(NO_MEMORY);
     };
-    let mut image = FileStore::new(&rt, path, second.as_str());
     let mut input = StdSource::new(rt.stdin());
-    let mut out = StdSink::new(rt.stdout());
+    let mut out = Heard::new(StdSink::new(rt.stdout()));
     let mut gates = Fuses::new();
     let status = dash_run(
         &rt,
@@ -30,5 +40,16 @@ fn main(rt: HostRuntime) -> ExitCode {
         &mut out,
         &mut gates,
     );
+    if status != DONE {
+        let _ = rt.eprintln(Refusal {
+            status,
+            program: program_of(&arguments),
+            path: path,
+            line: out.line(),
+            image: image.trouble(),
+            input: input.trouble,
+            out: out.inner.trouble,
+        });
+    }
     ExitCode::from(status)
 }

@@ -3,16 +3,18 @@
 //! the traits stand fakes in memory, which tell all, and edges to the real outside, which tell nothing.
 #![tactic(auto)]
 
-pub mod edges;
+pub mod file;
 pub mod gates;
 pub mod memory;
 pub mod parts;
+pub mod streams;
 #[cfg(test)]
 mod tests;
 pub mod whole;
 
-pub use edges::{FileStore, StdSink, StdSource};
+pub use file::{FileStore, Purpose, Trouble};
 pub use gates::{Gate, Gates, Place, Power};
 pub use memory::{Fuse, Fuses, MemSink, MemSource, MemStore, SureSource};
 pub use parts::{Failed, Sink, Source, Store, StoreFault};
+pub use streams::{StdSink, StdSource};
 pub use whole::{put_all, take_all};

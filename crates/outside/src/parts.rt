@@ -1,9 +1,9 @@
-// A store, a source and a sink. Each tells what it holds or nothing, and counts its faults.
-ghost use Rattle.std.specs.Prelude.{◌≡◌, ℕ, ◌+◌, ◌≤◌, List, Option, length, OnOk, IfOk};
+// A store, a source and a sink. Each tells what it holds or nothing, and counts its faults; a store counts its writes.
+ghost use Rattle.std.specs.Prelude.{◌≡◌, ℕ, ◌+◌, ◌<◌, ◌≤◌, List, Option, length, OnOk, IfOk, Bool, true, false, OnErr};
 ghost use Rattle.std.specs.Io.{ReadsAtMost, WritesAtMost};
 ghost use Rattle.std.specs.Io.KnownBytes.{ReadConsumes, WriteAppends};
 ghost use Rattle.outside.specs.Causes.{HasCause, Rose, TakesSome, count_after};
-ghost use Rattle.outside.specs.Storing.{HasReadCause, IsFront, Holds};
+ghost use Rattle.outside.specs.Storing.{HasReadCause, IsFront, Holds, most_writes};
 
 use std::alloc::{AllocError, Global};
 use std::error::Error;
@@ -87,18 +87,28 @@ pub trait Store {
     ghost contents: { Self → Option (List ℕ) };
     /// How often a call has failed.
     ghost faults: { Self → ℕ };
+    /// How often it was written, by calls that failed too. The number is exact, also where no bytes are told.
+    ghost writes: { Self → ℕ };
+    /// Whether the last write failed. A read leaves it.
+    ghost lost: { Self → Bool };
 
     /// All of the bytes, or the first `limit + 1` where there are more. `NoMemory` may come at any time.
     fn read_all(&mut self, alloc: Global, limit: u64) -> Result<Vec<u8>, StoreFault>
         ensures bound { IfOk result (λ bytes. length bytes.items ≤ limit + 1) }
         ensures bytes { IfOk result (λ bytes. IsFront (contents self.old) limit bytes.items) }
         ensures same { contents self.new ≡ contents self.old }
-        ensures cause { HasReadCause (faults self.old) (faults self.new) result };
+        ensures cause { HasReadCause (faults self.old) (faults self.new) result }
+        ensures unwritten { writes self.new ≡ writes self.old }
+        ensures still { lost self.new ≡ lost self.old };
 
     /// Puts these bytes in the place of all that is held. After a failure nothing is known of what is held.
     fn write_all(&mut self, bytes: &[u8]) -> Result<(), Failed>
+        requires { writes self.old < most_writes }
         ensures written { OnOk result (Holds (contents self.old) (contents self.new) bytes.now) }
-        ensures cause { HasCause (faults self.old) (faults self.new) result };
+        ensures cause { HasCause (faults self.old) (faults self.new) result }
+        ensures once { writes self.new ≡ writes self.old + 1 }
+        ensures kept { OnOk result (lost self.new ≡ false) }
+        ensures failed { OnErr result (lost self.new ≡ true) };
 }
 
 /// Bytes that come in.

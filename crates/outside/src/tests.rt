@@ -1,9 +1,11 @@
 // Each fake on its happy path and at a failing call, pieces of any length, and each edge on a real file or reader.
+mod files;
+
 use crate::{
-    Failed, FileStore, Fuse, Fuses, Gate, Gates, MemSink, MemSource, MemStore, Place, Power, Sink,
-    Source, StdSink, StdSource, Store, StoreFault, put_all, take_all,
+    Failed, Fuse, Fuses, Gate, Gates, MemSink, MemSource, MemStore, Place, Power, Sink, Source,
+    StdSink, StdSource, Store, StoreFault, put_all, take_all,
 };
-use std::io::{BufWriter, Read};
+use std::io::{BufWriter, ErrorKind, Read, Write};
 use std::test::Fail;
 use std::{fs, io};
 
@@ -19,6 +21,7 @@ fn store_in_memory(rt: HostRuntime) -> Result<(), Fail> {
     assert_eq!(rt; store.write_all(b"hijkl"), Err(Failed));
     assert_eq!(rt; store.bytes.as_slice(), b"defg".as_slice());
     assert_eq!(rt; store.faults, 3);
+    assert_eq!(rt; store.writes, 3);
     Ok(())
 }
 
@@ -85,43 +88,19 @@ fn fuses_are_made_and_come_back(rt: HostRuntime) -> Result<(), Fail> {
     Ok(())
 }
 
-#[test]
-fn file_is_replaced(rt: HostRuntime) -> Result<(), Fail> {
-    let alloc = rt.alloc();
-    let mut bytes = Vec::new(alloc);
-    for number in 0..200_000u32 {
-        bytes.push((number % 251) as u8)?;
-    }
-    let mut store = FileStore::new(&rt, "edge.img", "edge.img.new");
-    assert_eq!(rt; store.write_all(b"the old bytes"), Ok(()));
-    assert_eq!(rt; store.write_all(&bytes), Ok(()));
-    assert!(rt; !fs::exists(&rt, "edge.img.new")?);
-    assert!(rt; store.read_all(alloc, 200_000)?.as_slice() == bytes.as_slice());
-    assert_eq!(rt; store.read_all(alloc, 99_999)?.len(), 100_000);
-    assert_eq!(rt; store.faults, 0);
-    fs::remove_file(&rt, "edge.img")?;
-    Ok(())
-}
-
-#[test]
-fn missing_file_is_a_fault(rt: HostRuntime) -> Result<(), Fail> {
-    let alloc = rt.alloc();
-    let mut store = FileStore::new(&rt, "nowhere/edge.img", "nowhere/edge.img.new");
-    assert!(rt; matches!(store.read_all(alloc, 9), Err(StoreFault::Failed)));
-    assert_eq!(rt; store.faults, 1);
-    assert_eq!(rt; store.write_all(b"new"), Err(Failed));
-    assert_eq!(rt; store.faults, 2);
-    Ok(())
-}
-
-// A reader that gives three bytes at a time, and fails where it meets an exclamation mark.
+// A reader that gives three bytes at a time, is interrupted before each, and fails where it meets an exclamation mark.
 #[derive(Drop)]
 struct Drip<'a> {
     rest: &'a [u8],
+    interrupted: bool,
 }
 
 impl<'a> Read for Drip<'a> {
     fn read(&mut self, buf: &mut [u8]) -> io::Result<usize> {
+        self.interrupted = !self.interrupted;
+        if self.interrupted {
+            return Err(io::Error::from(ErrorKind::Interrupted));
+        }
         let rest: &[u8] = self.rest;
         if rest.first() == Some(&b'!') {
             return Err(io::Error::other("an exclamation mark"));
@@ -133,18 +112,70 @@ impl<'a> Read for Drip<'a> {
     }
 }
 
+fn dripping(rest: &[u8]) -> Drip<'_> {
+    Drip {
+        rest,
+        interrupted: false,
+    }
+}
+
 #[test]
 fn source_over_a_reader(rt: HostRuntime) -> Result<(), Fail> {
     let alloc = rt.alloc();
-    let mut source = StdSource::new(Drip { rest: b"1 get 5\n" });
+    let mut source = StdSource::new(dripping(b"1 get 5\n"));
     assert_eq!(rt;
         take_all(alloc, &mut source, 99)?.as_slice(),
         b"1 get 5\n".as_slice()
     );
     assert_eq!(rt; source.faults, 0);
-    let mut source = StdSource::new(Drip { rest: b"1 get !" });
+    let mut source = StdSource::new(dripping(b"1 get !"));
     assert!(rt; matches!(take_all(alloc, &mut source, 99), Err(StoreFault::Failed)));
     assert_eq!(rt; source.faults, 1);
+    let reason = source.trouble.ok_or("no reason is kept")?;
+    assert_eq!(rt; reason.kind(), ErrorKind::Other);
+    Ok(())
+}
+
+// A writer that takes two bytes at a time, and is interrupted before each, and once in each flush.
+#[derive(Drop)]
+struct Slow {
+    taken: Vec<u8>,
+    interrupted: bool,
+}
+
+impl Slow {
+    fn interrupt(&mut self) -> io::Result<()> {
+        self.interrupted = !self.interrupted;
+        if self.interrupted {
+            Err(io::Error::from(ErrorKind::Interrupted))
+        } else {
+            Ok(())
+        }
+    }
+}
+
+impl Write for Slow {
+    fn write(&mut self, buf: &[u8]) -> io::Result<usize> {
+        self.interrupt()?;
+        let count = buf.len().min(2);
+        self.taken.extend_from_slice(&buf[..count])?;
+        Ok(count)
+    }
+
+    fn flush(&mut self) -> io::Result<()> {
+        self.interrupt()
+    }
+}
+
+#[test]
+fn interrupted_writes_are_made_again(rt: HostRuntime) -> Result<(), Fail> {
+    let mut sink = StdSink::new(Slow {
+        taken: Vec::new(rt.alloc()),
+        interrupted: false,
+    });
+    assert_eq!(rt; put_all(&mut sink, b"1 1 ABSENT @0\n"), Ok(()));
+    assert_eq!(rt; sink.inner.taken.as_slice(), b"1 1 ABSENT @0\n".as_slice());
+    assert_eq!(rt; sink.faults, 0);
     Ok(())
 }
 

@@ -7,8 +7,8 @@ ghost use Rattle.outside.specs.Storing.{HasReadCause};
 use crate::{Failed, Sink, Source, StoreFault};
 use std::alloc::Global;
 
-// How many bytes are pulled at a time, at most.
-const PIECE: usize = 65536;
+// How many bytes are pulled at a time, at most. They are on the stack, which may be small.
+const PIECE: usize = 8192;
 
 /// Takes all that is left, or the first `limit + 1` bytes where there are more: so a longer input shows by its
 /// length. A source may give its bytes in pieces of any length.

@@ -1,8 +1,8 @@
 // A store in memory.
-ghost use Rattle.std.specs.Prelude.{◌≡◌, ◌≤◌, ◌+◌, ◌↔◌, length, take, vec_capacity, IfOk, OnOk, OnErr, IsErr, IsErrOf, Some};
+ghost use Rattle.std.specs.Prelude.{true, false, ◌≡◌, ◌<◌, ◌≤◌, ◌+◌, ◌↔◌, length, take, vec_capacity, IfOk, OnOk, OnErr, IsErr, IsErrOf, Some};
 ghost use Rattle.outside.specs.Causes.{HasCause, count_after};
 ghost use Rattle.outside.specs.Memory.{IsToFail, IsRefused};
-ghost use Rattle.outside.specs.Storing.{HasReadCause};
+ghost use Rattle.outside.specs.Storing.{HasReadCause, most_writes};
 
 use crate::memory::is_failing;
 use crate::parts::count_one;
@@ -22,6 +22,10 @@ pub struct MemStore {
     pub calls: u64,
     /// How many of them failed.
     pub faults: u64,
+    /// How many of them were writes.
+    pub writes: u64,
+    /// Whether the last of these failed.
+    pub lost: bool,
     ghost reserved: { room ≤ vec_capacity bytes },
 }
 
@@ -33,6 +37,8 @@ impl MemStore {
         ensures fails { IfOk result (λ store. store.fails.items ≡ fails.now) }
         ensures calls { IfOk result (λ store. store.calls ≡ 0) }
         ensures faults { IfOk result (λ store. store.faults ≡ 0) }
+        ensures writes { IfOk result (λ store. store.writes ≡ 0) }
+        ensures lost { IfOk result (λ store. store.lost ≡ false) }
     {
         let mut held = Vec::with_capacity(alloc, room)?;
         held.extend_from_slice(bytes)?;
@@ -42,6 +48,8 @@ impl MemStore {
             fails: fails.to_vec(alloc)?,
             calls: 0,
             faults: 0,
+            writes: 0,
+            lost: false,
         })
     }
 }
@@ -51,11 +59,17 @@ impl Store for MemStore {
 
     ghost faults = { λ s. s.faults };
 
+    ghost writes = { λ s. s.writes };
+
+    ghost lost = { λ s. s.lost };
+
     fn read_all(&mut self, alloc: Global, limit: u64) -> Result<Vec<u8>, StoreFault>
         ensures bound { IfOk result (λ bytes. length bytes.items ≤ limit + 1) }
         ensures bytes { IfOk result (λ bytes. bytes.items ≡ take (limit + 1) self.old.bytes.items) }
         ensures same { self.new.bytes.items ≡ self.old.bytes.items }
         ensures cause { HasReadCause self.old.faults self.new.faults result }
+        ensures unwritten { self.new.writes ≡ self.old.writes }
+        ensures still { self.new.lost ≡ self.old.lost }
 
         // It fails at the calls of its list and at no other.
         ensures failed { IsErrOf result StoreFault.Failed ↔ IsToFail self.old.fails.items self.old.calls }
@@ -75,8 +89,12 @@ impl Store for MemStore {
     }
 
     fn write_all(&mut self, bytes: &[u8]) -> Result<(), Failed>
+        requires { self.old.writes < most_writes }
         ensures written { OnOk result (self.new.bytes.items ≡ bytes.now) }
         ensures cause { HasCause self.old.faults self.new.faults result }
+        ensures once { self.new.writes ≡ self.old.writes + 1 }
+        ensures kept { OnOk result (self.new.lost ≡ false) }
+        ensures failed { OnErr result (self.new.lost ≡ true) }
 
         // It fails at the calls of its list and past the room, and then holds what it held.
         ensures err { IsErr result ↔
@@ -86,6 +104,8 @@ impl Store for MemStore {
         ensures fails { self.new.fails.items ≡ self.old.fails.items }
         ensures room { self.new.room ≡ self.old.room }
     {
+        self.writes += 1;
+        self.lost = true;
         if is_failing(&mut self.calls, &self.fails) || bytes.len() > self.room {
             count_one(&mut self.faults);
             return Err(Failed);
@@ -95,6 +115,7 @@ impl Store for MemStore {
             count_one(&mut self.faults);
             return Err(Failed);
         }
+        self.lost = false;
         Ok(())
     }
 }

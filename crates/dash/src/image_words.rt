@@ -1,0 +1,90 @@
+// What is wrong with an image, in words.
+
+/// What the kind of an image's fault, or the number of the rule that it breaks, means, and what to do.
+pub fn image_words(fault: &str) -> &'static str {
+    match fault {
+        "length" => {
+            "its length is not that of an image: it is none, or a part of one; give the path of a whole image"
+        }
+        "magic" => "it does not begin with DASHEH01, so it is no image: give the path of an image",
+        "format" => {
+            "its format is none that this version knows (format 1, hash 0 or 1): give the path of another image"
+        }
+        "geometry" => {
+            "its shape is out of range (1 to 16384 segments, depth 0 to 16), so it is damaged: take a copy of it from before"
+        }
+        _ => rule_words(fault),
+    }
+}
+
+// The same of the text `rule R word W`.
+fn rule_words(fault: &str) -> &'static str {
+    match fault.as_bytes() {
+        [
+            b'r',
+            b'u',
+            b'l',
+            b'e',
+            b' ',
+            rule,
+            b' ',
+            b'w',
+            b'o',
+            b'r',
+            b'd',
+            b' ',
+            word @ ..,
+        ] => {
+            match *rule {
+                b'8' => limit_words(word),
+                digit => broken_words(digit),
+            }
+        }
+        _ => "it is refused: docs/FORMAT.md says what an image is",
+    }
+}
+
+// An image that is refused by what this version does not do yet.
+fn limit_words(word: &[u8]) -> &'static str {
+    match word {
+        b"2" => {
+            "it has more than one slot for segments, which this version cannot read yet, and a later one will: until then make images by `format 1 DEPTH KIND`"
+        }
+        b"8" => {
+            "its directory is deeper than 0, which this version cannot read yet, and a later one will"
+        }
+        b"16" => {
+            "it was left by a power cut, which check and list take, but this version cannot play yet, and a later one will"
+        }
+        _ => {
+            "it has a record outside its home bucket, or a segment that is split or to be repaired, which this version cannot take yet, and a later one will"
+        }
+    }
+}
+
+// An image that is not sound. No version takes it.
+fn broken_words(rule: u8) -> &'static str {
+    match rule {
+        b'1' => {
+            "a number in its head or in a segment's header is out of range, so it is damaged: take a copy of it from before"
+        }
+        b'2' => {
+            "some keys belong to no segment, or to two, so it is damaged: take a copy of it from before"
+        }
+        b'3' => {
+            "an entry of its directory does not lead to the segment of its keys, so it is damaged: take a copy of it from before"
+        }
+        b'4' => {
+            "a record stands in a bucket that is not its key's, or its fingerprint is another, so it is damaged: take a copy of it from before"
+        }
+        b'5' => {
+            "a key stands in it twice, with two values, so it is damaged: take a copy of it from before"
+        }
+        b'6' => {
+            "a segment has a later version than the image, so it is damaged: take a copy of it from before"
+        }
+        _ => {
+            "it is marked as closed, and is not as a close leaves it, so it is damaged: take a copy of it from before"
+        }
+    }
+}

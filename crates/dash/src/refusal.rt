@@ -1,0 +1,108 @@
+// What is told on standard error where a call was not done: one line, which says what to do. It carries no promise.
+use crate::image_words::image_words;
+use crate::script_words::script_words;
+use dash_top::{BAD_IMAGE, BAD_SCRIPT, BAD_WORDS, SINK_FAILED, SOURCE_FAILED, STORE_FAILED};
+use outside::Trouble;
+use std::{fmt, io};
+
+/// A call that was not done, with all that is known of it.
+#[derive(Drop)]
+pub struct Refusal<'a> {
+    /// The status, which is not 0.
+    pub status: u8,
+    /// The name by which the program was called.
+    pub program: &'a str,
+    /// The image's path.
+    pub path: &'a str,
+    /// The line on standard output.
+    pub line: &'a str,
+    /// Why the image's file failed, if it did.
+    pub image: Option<Trouble>,
+    /// Why standard input failed, if it did.
+    pub input: Option<io::Error>,
+    /// Why standard output failed, if it did.
+    pub out: Option<io::Error>,
+}
+
+impl<'a> Refusal<'a> {
+    // The forms of the words, with their ranges.
+    fn forms<W: fmt::Write>(&self, f: &mut fmt::Formatter<W>) -> fmt::Result {
+        let program = self.program;
+        write!(
+            f,
+            "dash: these words are none of: {program} IMAGE format SEGMENTS DEPTH KIND (1 to 16384, 0 to 16, 0 or 1), {program} IMAGE play (with a script as standard input), {program} IMAGE check, {program} IMAGE list"
+        )
+    }
+
+    // A bad script: which line, and what is wrong with it.
+    fn script<W: fmt::Write>(&self, f: &mut fmt::Formatter<W>) -> fmt::Result {
+        let path = self.path;
+        let fault = self.line.strip_prefix("fault script ").unwrap_or("");
+        let (kind, place) = fault.split_once(' ').unwrap_or((fault, ""));
+        let words = script_words(kind);
+        write!(f, "dash: {path} is as it was; the script, {place}: {words}")
+    }
+
+    fn image<W: fmt::Write>(&self, f: &mut fmt::Formatter<W>) -> fmt::Result {
+        let path = self.path;
+        let words = image_words(self.line.strip_prefix("fault image ").unwrap_or(""));
+        write!(f, "dash: {path}: {words}")
+    }
+
+    // What the system refused, and its reason where it gave one.
+    fn stream<W: fmt::Write>(
+        &self,
+        what: &str,
+        reason: Option<io::Error>,
+        then: &str,
+        f: &mut fmt::Formatter<W>,
+    ) -> fmt::Result {
+        let path = self.path;
+        match reason {
+            Some(reason) => write!(f, "dash: {path}: {what}: {reason}; {then}"),
+            None => write!(f, "dash: {path}: {what}; {then}"),
+        }
+    }
+
+    fn store<W: fmt::Write>(&self, f: &mut fmt::Formatter<W>) -> fmt::Result {
+        let (program, path) = (self.program, self.path);
+        match self.image {
+            Some(Trouble::Missing) => write!(
+                f,
+                "dash: {path}: there is no such file: make an image first, by {program} {path} format 1 0 0"
+            ),
+            Some(trouble) => write!(f, "dash: {path}: {trouble}"),
+            None => write!(f, "dash: {path}: its file failed"),
+        }
+    }
+}
+
+impl<'a> fmt::Display for Refusal<'a> {
+    fn fmt<W: fmt::Write>(&self, f: &mut fmt::Formatter<W>) -> fmt::Result {
+        match self.status {
+            BAD_WORDS => self.forms(f),
+            BAD_SCRIPT => self.script(f),
+            BAD_IMAGE => self.image(f),
+            SOURCE_FAILED => self.stream(
+                "standard input could not be read",
+                self.input,
+                "the image is as it was: give a script, as by <FILE",
+                f,
+            ),
+            SINK_FAILED => self.stream(
+                "standard output could not be written",
+                self.out,
+                "a play that was done has stored its image all the same, and what was refused has changed nothing",
+                f,
+            ),
+            STORE_FAILED => self.store(f),
+            _ => {
+                let path = self.path;
+                write!(
+                    f,
+                    "dash: {path}: memory was wanting, and the image is as it was: let the process have more (ulimit -v), or play a shorter script"
+                )
+            }
+        }
+    }
+}

@@ -1,0 +1,7 @@
+-- A read that was interrupted consumed nothing, and the buffer keeps its length.
+use Rattle.std.proofs.Common.{◌≡◌, length}
+use Rattle.std.specs.Io.KnownBytes.{Keeps}
+use Rattle.outside.proofs.streams.read_through.Given as goal
+
+abbrev pub invariant-tries : goal.invariant-tries
+invariant-tries g l = (length l.buf ≡ length l.initial.buf) × Keeps (g.R.Read.remaining l.initial.reader) (g.R.Read.remaining l.reader)
