@@ -1,6 +1,6 @@
 //! The machine.
 
-ghost use Rattle.std.specs.Prelude.{◌≡◌, ◌≤◌};
+ghost use Rattle.std.specs.Prelude.{◌≡◌, ◌≤◌, ◌↔◌, IsTrue};
 ghost use Rattle.op_core.specs.declared.want.Want.TheVariants.{Done};
 ghost use Rattle.map_model.specs.Legal.{IsChange};
 ghost use Rattle.write_op.specs.declared.control.WriteEnd.TheVariants.{NoSlot};
@@ -9,7 +9,7 @@ ghost use Rattle.write_op.specs.Left.{left};
 
 use crate::asking::want_of;
 use crate::control::{Kept, Step, Task, WriteEnd};
-use crate::taking::{kept_after, step_after};
+use crate::taking::{keep, step_after};
 use map_model::Call;
 use op_core::{Ans, Machine, Want};
 use way::key_hash;
@@ -55,6 +55,20 @@ impl WriteOp {
         }
     }
 
+    /// Whether it wants nothing more.
+    pub fn is_done(&self) -> bool
+        ensures { IsTrue result ↔ (Rattle.write_op.specs.Taken.wanted self.now ≡ Done) }
+    {
+        matches!(self.step, Step::Ended(_))
+    }
+
+    /// Whether it has ended without a slot, so that its refusal goes on.
+    pub fn hands_on(&self) -> bool
+        ensures { IsTrue result ↔ ((Rattle.write_op.specs.Taken.wanted self.now ≡ Done) × (end_of self.now ≡ NoSlot)) }
+    {
+        matches!(self.step, Step::Ended(WriteEnd::NoSlot))
+    }
+
     /// How the change ended. It has to want nothing more.
     pub fn end(self) -> WriteEnd
         requires { Rattle.write_op.specs.Taken.wanted self ≡ Done }
@@ -92,8 +106,8 @@ impl Machine for WriteOp {
     }
 
     fn take(&mut self, ans: Ans) {
-        let kept = kept_after(&self.task, &self.kept, self.step, ans);
-        self.step = step_after(&self.task, &self.kept, self.step, ans);
-        self.kept = kept;
+        let next = step_after(&self.task, &self.kept, self.step, ans);
+        keep(&self.task, &mut self.kept, self.step, ans);
+        self.step = next;
     }
 }
