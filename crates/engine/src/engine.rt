@@ -1,6 +1,6 @@
 //! The engine.
 
-ghost use Rattle.std.specs.Prelude.{◌≡◌};
+ghost use Rattle.std.specs.Prelude.{◌≡◌, ◌↔◌, IsTrue};
 ghost use Rattle.op_core.specs.declared.want.Want.TheVariants as want;
 ghost use Rattle.engine.specs.Engine.{running, begun, go_on, wanted, taken, end_of, reply_of_end, is_again};
 
@@ -58,14 +58,12 @@ pub struct Engine {
     op: Op,
 }
 
-/// A change goes on: an insert that found no slot is refused.
-fn go_on(op: WriteOp) -> WriteOp
-    ensures { result ≡ go_on op }
+/// A change goes on, where it stands: an insert that found no slot is refused.
+fn go_on(op: &mut WriteOp)
+    ensures { op.new ≡ go_on op.old }
 {
-    if op.want() == Want::Done && op.end() == WriteEnd::NoSlot {
-        op.refuse()
-    } else {
-        op
+    if op.hands_on() {
+        *op = op.refuse();
     }
 }
 
@@ -107,8 +105,18 @@ impl Engine {
             Op::Read(op) => op.take(ans),
             Op::Write(op) => {
                 op.take(ans);
-                *op = go_on(*op);
+                go_on(op);
             }
+        }
+    }
+
+    /// Whether it wants nothing more.
+    pub fn is_done(&self) -> bool
+        ensures { IsTrue result ↔ (wanted self.now ≡ want.Done) }
+    {
+        match &self.op {
+            Op::Read(op) => op.is_done(),
+            Op::Write(op) => op.is_done(),
         }
     }
 
