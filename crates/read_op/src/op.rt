@@ -217,7 +217,10 @@ impl ReadOp {
     {
         match self.step {
             ReadStep::Fill {
-                path, free, next, ..
+                path,
+                free,
+                next,
+                ..
             } => {
                 if let ReadStep::Fill { words, .. } = &mut self.step {
                     set_word(words, next, value);
