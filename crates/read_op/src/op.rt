@@ -212,7 +212,7 @@ impl ReadOp {
     }
 
     /// A value was loaded. A word of the bucket is put among the others where they stand.
-    fn go_on(&mut self, value: u64)
+    fn take_value(&mut self, value: u64)
         ensures { self.new ≡ taken self.old (Value value) }
     {
         match self.step {
@@ -259,7 +259,7 @@ impl Machine for ReadOp {
 
     fn take(&mut self, ans: Ans) {
         if let Ans::Value(value) = ans {
-            self.go_on(value);
+            self.take_value(value);
         }
     }
 }
