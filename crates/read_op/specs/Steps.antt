@@ -1,5 +1,5 @@
 -- What a get wants in each step, and what an answer makes of it.
-use Rattle.std.specs.Prelude.{◌==◌, ◌&&◌, ℕ, ◌+◌, ◌%◌, nat_le, nat_lt, not, Bool, if◌then◌else◌, Option, Some, None, List, slice_index, slice_set, replicate}
+use Rattle.std.specs.Prelude.{◌==◌, ◌&&◌, ℕ, ◌+◌, ◌%◌, nat_le, nat_lt, not, if◌then◌else◌, Option, Some, None, List, slice_index, slice_set, replicate}
 use Rattle.hash_word.specs.Hash.{home_of}
 use Rattle.segment_head.specs.HeadWord.{version_in, is_live}
 use Rattle.bucket_meta.specs.Bucket.{record_slots}

@@ -4,6 +4,8 @@ ghost use Rattle.std.specs.Prelude.{ℕ, ◌≤◌};
 ghost use Rattle.world.specs.Site.{Site as Image};
 ghost use Rattle.world.specs.Views.{View};
 ghost use Rattle.read_op.specs.declared.op.ReadOp.{ReadOp};
+ghost use Rattle.part.specs.Part.{IsPart};
+ghost use Rattle.read_op.specs.GetPart.{get_part};
 ghost use Rattle.read_op.specs.Fits.{BeginsSuited, WantsByKind, MayStep, KeepsSuits};
 ghost use Rattle.read_op.specs.Budget.{most_events, left, Falls, EndsInTime, AsksWithin};
 ghost use Rattle.read_op.specs.Causes.{ReadsAlone, EndsByCause, KeepsLoads, EndsSoundly, NeverStale, NeverBusy};
@@ -27,6 +29,16 @@ pub fn fits_the_world()
     ensures may { (site : Image) (op : ReadOp) (v : View) → MayStep site op v }
     ensures keeps { KeepsSuits }
 {}
+
+/// A get is a part of a call: it fits the world, ends in time, asks for words of the image alone, and stores nothing.
+pub fn gets_are_parts()
+    ensures { IsPart get_part }
+{
+    ends_in_time();
+    asks_within();
+    fits_the_world();
+    ends_have_causes();
+}
 
 /// Each end of a get has its cause: what the event by which it comes loaded and found, and what was loaded before it. A get
 /// only reads, so the change that it finds between two looks at a word is not its own.

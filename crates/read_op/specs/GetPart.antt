@@ -1,0 +1,61 @@
+-- A get as a part of a call.
+use Rattle.std.specs.Prelude.{◌≡◌, ℕ, false, Option, None, Some, []}
+use Rattle.map_model.specs.declared.call.Call.{Call}
+use Rattle.map_model.specs.declared.call.Call.TheVariants.{Get}
+use Rattle.map_model.specs.declared.entry.Reply.TheVariants as reply
+use Rattle.world.specs.declared.site.Site.{Site as Here}
+use Rattle.world.specs.Site.{Site}
+use Rattle.world.specs.Views.{View, Has}
+use Rattle.world.specs.Attempts.{HoldsOnly}
+use Rattle.part.specs.Doings.{Doings}
+use Rattle.part.specs.Outcomes.{Outcome, replied, again, stale, off}
+use Rattle.part.specs.Part.{Part}
+use Rattle.read_op.specs.declared.step.ReadEnd.{ReadEnd}
+use Rattle.read_op.specs.declared.step.ReadEnd.TheVariants as ends
+use Rattle.read_op.specs.declared.step.ReadStep.{ReadStep}
+use Rattle.read_op.specs.declared.step.ReadStep.TheVariants.{Ended}
+use Rattle.read_op.specs.declared.op.ReadOp.{ReadOp}
+use Rattle.read_op.specs.Steps.{wanted, taken}
+use Rattle.read_op.specs.Budget.{most_events, left}
+use Rattle.read_op.specs.Fits.{IsIn, Suits, kind_of}
+use Rattle.read_op.specs.Causes.{kept}
+
+abbrev pub outcome_of : ReadEnd → Outcome
+outcome_of (ends.Found value place) = replied (reply.Found value) place
+outcome_of (ends.Absent place) = replied reply.Absent place
+outcome_of (ends.Again why) = again why
+outcome_of (ends.Stale segment byte) = stale segment byte
+outcome_of ends.Off = off
+
+abbrev pub outcome_in : ReadStep → Option Outcome
+outcome_in (Ended end) = Some (outcome_of end)
+outcome_in step = None
+
+-- it gets the call's key, in this image, and its caller holds and owes nothing
+pub record Stands (site : Site) (here : Here) (call : Call) (op : ReadOp) (v : View) : Type 0 where
+  pub same : call ≡ Get op.key
+  pub at : op.site ≡ here
+  pub is_in : IsIn site op
+  pub suits : Suits site op v
+  pub nothing : HoldsOnly [] v
+
+-- all that it keeps was loaded, and it changed nothing
+pub record Remembers (site : Site) (op : ReadOp) (did : Doings) : Type 0 where
+  pub loaded : (word value : ℕ) → Has (word, value) (kept op) → Has (word, value) did.loads
+  pub none : did.changed ≡ []
+
+abbrev pub get_part : Part ReadOp
+get_part = record {
+  wanted = wanted;
+  taken = taken;
+  kind = λ op n. kind_of op;
+  Stands = Stands;
+  outcome = λ op. outcome_in op.step;
+  Remembers = Remembers;
+  HasMade = λ op. ⊥;
+  left = λ op. left op.step;
+  most_events = most_events;
+  waiting = λ op. 0;
+  most_waiting = 0;
+  hands_on = λ op. false;
+}
