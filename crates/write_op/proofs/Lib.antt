@@ -4,3 +4,6 @@ pub mod Near
 mod suiting
 mod Searching
 mod causing
+mod ChangeAsks
+mod ChangeIsPart
+mod WholeChange

@@ -1,0 +1,23 @@
+-- By the laws of a change.
+use Rattle.write_op.proofs.ChangeIsPart.{change_is_part}
+use Rattle.write_op.proofs.laws.changes_are_parts.Goals as goal
+
+pub returns : goal.returns
+returns c = change_is_part (record {
+  may = c.fits_the_world.ensures.may;
+  keeps = c.fits_the_world.ensures.keeps;
+  has = c.stores_are_words.ensures.keeps;
+  puts = c.stores_are_words.ensures.asks;
+  inside = c.words_are_inside.ensures.asks;
+  notes = c.stores_keep_notes.ensures;
+  ends = c.attempt_ends.ensures.ends;
+  falls = c.attempt_ends.ensures.falls;
+  most = c.attempt_ends.ensures.most;
+  few = c.flushes_are_few.ensures.most;
+  flushes = c.flushes_are_few.ensures.flushes;
+  waits = c.flushes_are_few.ensures.keeps;
+  none_waits = c.flushes_are_few.ensures.ends;
+  makes = c.refusals_leave_pairs.ensures.makes;
+  stays = c.refusals_leave_pairs.ensures.stays;
+  done = c.refusals_leave_pairs.ensures.ends;
+})
