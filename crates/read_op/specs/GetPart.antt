@@ -1,24 +1,25 @@
 -- A get as a part of a call.
-use Rattle.std.specs.Prelude.{◌≡◌, ℕ, false, Option, None, Some, []}
+use Rattle.std.specs.Prelude.{◌≡◌, ℕ, ◌%◌, ◌≤◌, ⊤, false, Option, None, Some, []}
 use Rattle.map_model.specs.declared.call.Call.{Call}
 use Rattle.map_model.specs.declared.call.Call.TheVariants.{Get}
 use Rattle.map_model.specs.declared.entry.Reply.TheVariants as reply
 use Rattle.world.specs.declared.site.Site.{Site as Here}
 use Rattle.world.specs.Site.{Site}
-use Rattle.world.specs.Views.{View, Has}
+use Rattle.world.specs.Views.{View}
 use Rattle.world.specs.Attempts.{HoldsOnly}
 use Rattle.part.specs.Doings.{Doings}
 use Rattle.part.specs.Outcomes.{Outcome, replied, again, stale, off}
 use Rattle.part.specs.Part.{Part}
+use Rattle.read_op.specs.declared.step.Path.{Path}
 use Rattle.read_op.specs.declared.step.ReadEnd.{ReadEnd}
 use Rattle.read_op.specs.declared.step.ReadEnd.TheVariants as ends
 use Rattle.read_op.specs.declared.step.ReadStep.{ReadStep}
-use Rattle.read_op.specs.declared.step.ReadStep.TheVariants.{Ended}
+use Rattle.read_op.specs.declared.step.ReadStep.TheVariants.{Entry, Head, Lock, Fill, Count, Check, Ended}
 use Rattle.read_op.specs.declared.op.ReadOp.{ReadOp}
 use Rattle.read_op.specs.Steps.{wanted, taken}
 use Rattle.read_op.specs.Budget.{most_events, left}
 use Rattle.read_op.specs.Fits.{IsIn, Suits, kind_of}
-use Rattle.read_op.specs.Causes.{kept}
+use Rattle.read_op.specs.Causes.{IsWithin, kept}
 
 abbrev pub outcome_of : ReadEnd → Outcome
 outcome_of (ends.Found value place) = replied (reply.Found value) place
@@ -39,9 +40,23 @@ pub record Stands (site : Site) (here : Here) (call : Call) (op : ReadOp) (v : V
   pub suits : Suits site op v
   pub nothing : HoldsOnly [] v
 
--- all that it keeps was loaded, and it changed nothing
+-- what it keeps is in range: the root depth is not above the greatest, and the value of the lock word is free
+abbrev pub IsKeptWell : ReadOp → Path → ℕ → Type 0
+IsKeptWell op path free = (path.root ≤ op.site.geometry.depth) × (free % 2 ≡ 0)
+
+abbrev pub InRange : ReadOp → ReadStep → Type 0
+InRange op (Entry root) = root ≤ op.site.geometry.depth
+InRange op (Head root segment) = root ≤ op.site.geometry.depth
+InRange op (Lock path) = path.root ≤ op.site.geometry.depth
+InRange op (Fill path free words next) = IsKeptWell op path free
+InRange op (Count found) = IsKeptWell op found.path found.free
+InRange op (Check found place at) = IsKeptWell op found.path found.free
+InRange op s = ⊤
+
+-- all that it keeps was loaded and is in range, and it changed nothing
 pub record Remembers (site : Site) (op : ReadOp) (did : Doings) : Type 0 where
-  pub loaded : (word value : ℕ) → Has (word, value) (kept op) → Has (word, value) did.loads
+  pub within : IsWithin (kept op) did.loads
+  pub in_range : InRange op op.step
   pub none : did.changed ≡ []
 
 abbrev pub get_part : Part ReadOp

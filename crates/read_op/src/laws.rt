@@ -5,6 +5,7 @@ ghost use Rattle.world.specs.Site.{Site as Image};
 ghost use Rattle.world.specs.Views.{View};
 ghost use Rattle.read_op.specs.declared.op.ReadOp.{ReadOp};
 ghost use Rattle.part.specs.Part.{IsPart};
+ghost use Rattle.part.specs.Causes.{EndsByCause as HasOutcomesByCause};
 ghost use Rattle.read_op.specs.GetPart.{get_part};
 ghost use Rattle.read_op.specs.Fits.{BeginsSuited, WantsByKind, MayStep, KeepsSuits};
 ghost use Rattle.read_op.specs.Budget.{most_events, left, Falls, EndsInTime, AsksWithin};
@@ -30,9 +31,11 @@ pub fn fits_the_world()
     ensures keeps { KeepsSuits }
 {}
 
-/// A get is a part of a call: it fits the world, ends in time, asks for words of the image alone, and stores nothing.
+/// A get is a part of a call: it fits the world, ends in time, asks for words of the image alone, and stores nothing; and each of
+/// its outcomes has its cause, in what its attempt did.
 pub fn gets_are_parts()
-    ensures { IsPart get_part }
+    ensures part { IsPart get_part }
+    ensures causes { HasOutcomesByCause get_part }
 {
     ends_in_time();
     asks_within();

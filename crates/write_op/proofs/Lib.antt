@@ -4,6 +4,4 @@ pub mod Near
 mod suiting
 mod Searching
 mod causing
-mod ChangeAsks
-mod ChangeIsPart
-mod WholeChange
+mod parts

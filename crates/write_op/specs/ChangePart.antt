@@ -1,5 +1,6 @@
 -- A change as a part of a call: where an insert finds no slot it keeps its locks, and another part goes on.
-use Rattle.std.specs.Prelude.{◌≡◌, ⊤, Bool, true, false, Option, None, Some}
+use Rattle.std.specs.Prelude.{◌≡◌, ℕ, ◌<◌, ◌≤◌, ◌⊎◌, ⊤, Bool, true, false, Option, None, Some, List, [], ◌∷◌}
+use Rattle.op_core.specs.declared.why.Why.{Why}
 use Rattle.map_model.specs.declared.call.Call.{Call}
 use Rattle.world.specs.declared.site.Site.{Site as Here}
 use Rattle.world.specs.Site.{Site}
@@ -7,11 +8,14 @@ use Rattle.world.specs.Views.{View}
 use Rattle.part.specs.Doings.{Doings}
 use Rattle.part.specs.Outcomes.{Outcome, replied, again, stale, off}
 use Rattle.part.specs.Part.{Part}
-use Rattle.part.specs.Then.{Then, then_part}
+use Rattle.part.specs.Onward.{onward_part}
 use Rattle.write_op.specs.declared.control.WriteEnd.{WriteEnd}
 use Rattle.write_op.specs.declared.control.WriteEnd.TheVariants.{Replied, NoSlot, Again, Stale, Off}
 use Rattle.write_op.specs.declared.control.Step.{Step}
-use Rattle.write_op.specs.declared.control.Step.TheVariants.{CountFull, GiveBack, Ended}
+use Rattle.write_op.specs.declared.control.Step.TheVariants.{AskPower, LoadRoot, LoadEntry, LoadHead, LookAt, TryLock, RootAgain, EntryAgain, HeadAgain, GiveBack, Ended}
+use Rattle.write_op.specs.declared.control.Side.TheVariants.{Home, Probing}
+use Rattle.write_op.specs.declared.control.Kept.{Kept}
+use Rattle.write_op.specs.declared.control.Task.{Task}
 use Rattle.write_op.specs.declared.machine.WriteOp.{WriteOp}
 use Rattle.write_op.specs.Taken.{wanted, taken, refused}
 use Rattle.write_op.specs.Left.{most_events, left}
@@ -19,7 +23,8 @@ use Rattle.write_op.specs.Waiting.{waiting}
 use Rattle.write_op.specs.Fits.{kind_of}
 use Rattle.write_op.specs.Numbers.{HasWords}
 use Rattle.write_op.specs.Suits.{IsIn, SuitsStep}
-use Rattle.write_op.specs.Causes.{Remembers as RemembersLoads}
+use Rattle.write_op.specs.Ways.{lock_word}
+use Rattle.write_op.specs.Causes.{IsDecided, Remembers as RemembersLoads}
 use Rattle.write_op.specs.Pairs.{IsMade}
 
 -- where no slot was found nothing is decided
@@ -48,9 +53,34 @@ pub record Stands (site : Site) (here : Here) (call : Call) (op : WriteOp) (v : 
   pub has : HasWords op
   pub view : SuitsStep op.task op.kept op.step v
 
--- what it keeps was loaded
-abbrev pub Remembers : Site → WriteOp → Doings → Type 0
-Remembers site op did = RemembersLoads op did.loads
+-- ---- what an attempt changed, and which numbers it keeps, at each control point before the stores
+module _ (t : Task) (k : Kept) where
+  abbrev pub InRange : Type 0
+  InRange = (k.root ≤ t.site.geometry.depth) × (k.segment < t.site.geometry.segments)
+
+  abbrev pub Owns : Step → List ℕ → Type 0
+  Owns AskPower ws = ws ≡ []
+  Owns LoadRoot ws = ws ≡ []
+  Owns LoadEntry ws = (ws ≡ []) × (k.root ≤ t.site.geometry.depth)
+  Owns LoadHead ws = (ws ≡ []) × InRange
+  Owns (LookAt Home) ws = (ws ≡ []) × InRange
+  Owns (TryLock Home) ws = (ws ≡ []) × InRange
+  Owns (LookAt Probing) ws = (ws ≡ lock_word t k Home ∷ []) × InRange
+  Owns (TryLock Probing) ws = (ws ≡ lock_word t k Home ∷ []) × InRange
+  Owns RootAgain ws = (ws ≡ lock_word t k Probing ∷ lock_word t k Home ∷ []) × InRange
+  Owns EntryAgain ws = (ws ≡ lock_word t k Probing ∷ lock_word t k Home ∷ []) × InRange
+  Owns HeadAgain ws = (ws ≡ lock_word t k Probing ∷ lock_word t k Home ∷ []) × InRange
+  Owns s ws = ⊤
+
+-- the root depth that it keeps is not above the greatest, or it is told to try again
+abbrev pub HasDepthOrTold : WriteOp → Type 0
+HasDepthOrTold op = (op.kept.root ≤ op.task.site.geometry.depth) ⊎ ((why : Why) × IsDecided op.step (Again why))
+
+-- what it keeps was loaded and is in range, and before the stores it changed its locks alone
+pub record Remembers (site : Site) (op : WriteOp) (did : Doings) : Type 0 where
+  pub loads : RemembersLoads op did.loads
+  pub owns : Owns op.task op.kept op.step did.changed
+  pub depth : HasDepthOrTold op
 
 abbrev pub change_part : Part WriteOp
 change_part = record {
@@ -68,21 +98,6 @@ change_part = record {
   hands_on = λ op. is_without_slot op.step;
 }
 
--- ---- an insert that found no slot goes on to its refusal, by the same machine
--- it loads the commit counter, gives its locks back, and ends with a reply
-abbrev pub IsRefusing : Step → Type 0
-IsRefusing CountFull = ⊤
-IsRefusing (GiveBack held (Replied reply place)) = ⊤
-IsRefusing (Ended (Replied reply place)) = ⊤
-IsRefusing step = ⊥
-
-pub record StandsRefused (site : Site) (here : Here) (call : Call) (op : WriteOp) (v : View) : Type 0 where
-  pub stands : Stands site here call op v
-  pub refusing : IsRefusing op.step
-
-abbrev pub refusal_part : Part WriteOp
-refusal_part = record change_part { Stands = StandsRefused; hands_on = λ op. false }
-
--- a change, and where it finds no slot its refusal, of three events
-abbrev pub whole_change : Part (Then WriteOp WriteOp)
-whole_change = then_part change_part refusal_part refused 3
+-- A CHANGE, AND WHERE IT FINDS NO SLOT ITS REFUSAL, which is by the same machine
+abbrev pub whole_change : Part WriteOp
+whole_change = onward_part change_part refused

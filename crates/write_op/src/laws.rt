@@ -4,6 +4,7 @@ ghost use Rattle.std.specs.Prelude.{◌≡◌, ◌≢◌, ℕ, ◌+◌, ◌<◌,
 ghost use Rattle.op_core.specs.declared.want.Want.TheVariants.{Flush, Fence, Done};
 ghost use Rattle.world.specs.Kinds.{wanted as wanted_by};
 ghost use Rattle.part.specs.Part.{IsPart};
+ghost use Rattle.part.specs.Causes.{EndsByCause as HasOutcomesByCause};
 ghost use Rattle.write_op.specs.ChangePart.{change_part, whole_change};
 ghost use Rattle.write_op.specs.Fits.{Fits, kind_of};
 ghost use Rattle.op_core.specs.Answers.{IsWord, IsAnswer};
@@ -115,9 +116,11 @@ pub fn refusals_leave_pairs()
     world::other_steps_keep_pairs();
 }
 
-/// A change is a part of a call, which hands on where an insert finds no slot.
+/// A change is a part of a call, which hands on where an insert finds no slot; and each of its outcomes has its cause, in what its
+/// attempt did.
 pub fn changes_are_parts()
-    ensures { IsPart change_part }
+    ensures part { IsPart change_part }
+    ensures causes { HasOutcomesByCause change_part }
 {
     attempt_ends();
     words_are_inside();
@@ -128,11 +131,13 @@ pub fn changes_are_parts()
     refusals_leave_pairs();
 }
 
-/// So is a change that goes on to its refusal where no slot is free: by the law of one part after another.
+/// So is a change that goes on to its refusal where no slot is free: by the law of a part that goes on by itself.
 pub fn whole_changes_are_parts()
-    ensures { IsPart whole_change }
+    ensures part { IsPart whole_change }
+    ensures causes { HasOutcomesByCause whole_change }
 {
     world::steps_add_one_reply();
+    attempt_ends();
     fits_the_world();
     stores_are_words();
     crate::causes::ends_have_causes();

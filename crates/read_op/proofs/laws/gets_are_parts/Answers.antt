@@ -1,8 +1,12 @@
 -- By the laws of a get.
-use Rattle.read_op.proofs.GetIsPart.{get_is_part}
+use Rattle.read_op.proofs.parts.GetIsPart.{get_is_part}
+use Rattle.read_op.proofs.parts.Deciding.{get_ends_by_cause}
 use Rattle.read_op.proofs.laws.gets_are_parts.Goals as goal
 
-pub returns : goal.returns
-returns c =
+pub returns-clause-part : goal.returns-clause-part
+returns-clause-part c =
     get_is_part c.ends_have_causes.ensures.reads c.fits_the_world.ensures.wants c.fits_the_world.ensures.may c.fits_the_world.ensures.keeps c.ends_in_time.ensures.falls
     c.ends_in_time.ensures.most c.asks_within.ensures
+
+pub returns-clause-causes : goal.returns-clause-causes
+returns-clause-causes c = get_ends_by_cause

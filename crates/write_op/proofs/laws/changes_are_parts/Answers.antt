@@ -1,9 +1,10 @@
 -- By the laws of a change.
-use Rattle.write_op.proofs.ChangeIsPart.{change_is_part}
+use Rattle.write_op.proofs.parts.ChangeIsPart.{change_is_part}
+use Rattle.write_op.proofs.parts.Deciding.{change_ends_by_cause}
 use Rattle.write_op.proofs.laws.changes_are_parts.Goals as goal
 
-pub returns : goal.returns
-returns c = change_is_part (record {
+pub returns-clause-part : goal.returns-clause-part
+returns-clause-part c = change_is_part (record {
   may = c.fits_the_world.ensures.may;
   keeps = c.fits_the_world.ensures.keeps;
   has = c.stores_are_words.ensures.keeps;
@@ -21,3 +22,6 @@ returns c = change_is_part (record {
   stays = c.refusals_leave_pairs.ensures.stays;
   done = c.refusals_leave_pairs.ensures.ends;
 })
+
+pub returns-clause-causes : goal.returns-clause-causes
+returns-clause-causes c = change_ends_by_cause c.attempt_ends.ensures.ends

@@ -1,8 +1,13 @@
--- By what a change and its refusal owe each other.
-use Rattle.write_op.proofs.WholeChange.{whole_is_part}
+-- By what a refusal is owed.
+use Rattle.write_op.proofs.parts.WholeChange.{whole_is_part, whole_ends_by_cause}
 use Rattle.write_op.proofs.laws.whole_changes_are_parts.Goals as goal
 
-pub returns : goal.returns
-returns c =
-    whole_is_part c.fits_the_world.ensures.refuses c.stores_are_words.ensures.refuses c.ends_have_causes.ensures.refuses c.steps_add_one_reply.ensures.callers
-    c.changes_are_parts.ensures
+pub returns-clause-part : goal.returns-clause-part
+returns-clause-part c =
+    whole_is_part c.fits_the_world.ensures.refuses c.stores_are_words.ensures.refuses c.attempt_ends.ensures.refuses c.ends_have_causes.ensures.refuses
+    c.steps_add_one_reply.ensures.callers c.changes_are_parts.ensures.part
+
+pub returns-clause-causes : goal.returns-clause-causes
+returns-clause-causes c =
+    whole_ends_by_cause c.fits_the_world.ensures.refuses c.stores_are_words.ensures.refuses c.attempt_ends.ensures.refuses c.ends_have_causes.ensures.refuses
+    c.changes_are_parts.ensures.causes

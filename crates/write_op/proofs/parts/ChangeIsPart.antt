@@ -1,9 +1,7 @@
 -- A change is a part of a call.
 use Rattle.std.proofs.Common.{◌≡◌, ◌≢◌, ℕ, ◌+◌, ◌*◌, ◌==◌, ◌^◌, ◌<◌, ◌≤◌, Bool, true, false, cond, [], refl, sym, ap, subst}
-use Rattle.op_core.specs.declared.want.Want.{Want}
 use Rattle.op_core.specs.declared.want.Want.TheVariants as want
 use Rattle.op_core.specs.declared.want.Ans.{Ans}
-use Rattle.op_core.specs.declared.want.Ans.TheVariants.{Won, Lost}
 use Rattle.op_core.specs.Answers.{IsAnswer, IsWord}
 use Rattle.image_layout.specs.Places.{bucket_at, words_of}
 use Rattle.image_layout.specs.Volatile.{all_words_of}
@@ -14,6 +12,7 @@ use Rattle.world.specs.Views.{View}
 use Rattle.world.specs.Wants.{answer_to, word_of}
 use Rattle.world.specs.Kinds.{wanted as wanted_by, view_after}
 use Rattle.world.specs.Attempts.{HoldsOnly, EntersReply}
+use Rattle.world.proofs.stepping.Answers.{is_answer, is_word}
 use Rattle.part.specs.Outcomes.{reply_of}
 use Rattle.part.specs.Part.{Suits as SuitsPart, KeepsSuits as KeepsPartSuits, EndsBare, IsPart}
 use Rattle.write_op.specs.declared.control.WriteEnd.{WriteEnd}
@@ -33,7 +32,7 @@ use Rattle.write_op.specs.Spared.{KeepsNotes}
 use Rattle.write_op.specs.Suits.{Enters, EntersEnd, Suits, SuitsEnd, SuitsStep, MayStep, KeepsSuits}
 use Rattle.write_op.specs.Pairs.{IsPublish, IsMade, MakesIt, StaysMade, EndsAsDone}
 use Rattle.write_op.specs.ChangePart.{outcome_of, outcome_in, is_without_slot, Stands, change_part}
-use Rattle.write_op.proofs.ChangeAsks.{HasLine, step_line, IsOff, step_off, IsOf, makes_by, step_kind}
+use Rattle.write_op.proofs.parts.ChangeAsks.{HasLine, step_line, IsOff, step_off, IsOf, makes_by, step_kind}
 
 -- what the laws of a change say of it
 pub record ChangeLaws : Type 0 where
@@ -74,35 +73,6 @@ module _ (call : Call) (before v : View) where
   here_is (Ended end) e = end_here end e
   here_is s e = record { own = e.own; seen = e.seen }
 
--- ---- what is answered
-either_word : (b : Bool) (n : ℕ) → IsWord (cond b Won (Lost n))
-either_word true n = tt
-either_word false n = tt
-
-is_word : (w : Want) (n : ℕ) → n < 2 ^ 64 → IsWord (answer_to w n)
-is_word (want.Load i) n small = small
-is_word (want.Exchange i a b) n small = either_word (n == a) n
-is_word want.Power n small = small
-is_word want.Draw n small = tt
-is_word (want.Store i x) n small = tt
-is_word (want.Flush l) n small = tt
-is_word want.Fence n small = tt
-is_word want.Done n small = tt
-
-either_answer : (b : Bool) (i x y n : ℕ) → IsAnswer (want.Exchange i x y) (cond b Won (Lost n))
-either_answer true i x y n = tt
-either_answer false i x y n = tt
-
-is_answer : (w : Want) (n : ℕ) → w ≢ want.Done → IsAnswer w (answer_to w n)
-is_answer (want.Load i) n asks = tt
-is_answer (want.Exchange i a b) n asks = either_answer (n == a) i a b n
-is_answer want.Power n asks = tt
-is_answer want.Draw n asks = tt
-is_answer (want.Store i x) n asks = tt
-is_answer (want.Flush l) n asks = tt
-is_answer want.Fence n asks = tt
-is_answer want.Done n asks = absurd (asks refl)
-
 -- ---- ends, and the store that makes the change
 ended : (end : WriteEnd) (op : WriteOp) (v : View) → is_without_slot (Ended end) ≡ false → SuitsEnd op.task op.kept end v → HoldsOnly [] v
 ended NoSlot op v closed s = absurd (let z = closed in cc)
@@ -119,14 +89,14 @@ publish_unmade : (s : Step) → IsPublish s → IsMade s → ⊥
 publish_unmade (Make point) p m = point_unmade point p m
 publish_unmade s p m = p
 
-module _ (laws : ChangeLaws) where
-  suits_there : (site : Site) (here : Here) (call : Call) (op : WriteOp) (before v : View) → SuitsPart change_part site here call op before v → Suits before op v
-  suits_there site here call op before v s = record {
-    enters = there op.task.call before v op.step (subst (λ c. EntersReply c (reply_of (outcome_in op.step)) before v) (sym s.stands.same) s.enters);
-    view = s.stands.view;
-    callers = s.callers;
-  }
+pub suits_there : (site : Site) (here : Here) (call : Call) (op : WriteOp) (before v : View) → SuitsPart change_part site here call op before v → Suits before op v
+suits_there site here call op before v s = record {
+  enters = there op.task.call before v op.step (subst (λ c. EntersReply c (reply_of (outcome_in op.step)) before v) (sym s.stands.same) s.enters);
+  view = s.stands.view;
+  callers = s.callers;
+}
 
+module _ (laws : ChangeLaws) where
   steps : KeepsPartSuits change_part
   steps site here call words views j op before v h at s asks small =
       let st : Stands site here call op v = s.stands in

@@ -1,6 +1,5 @@
 -- A get is a part of a call.
 use Rattle.std.proofs.Common.{◌≡◌, ◌≢◌, ℕ, suc, ◌<◌, ◌≤◌, false, List, [], ◌∷◌, ◌++◌, length, None, refl, sym, ◌∙◌, ap, subst, arith}
-use Rattle.op_core.specs.declared.want.Want.{Want}
 use Rattle.op_core.specs.declared.want.Want.TheVariants as want
 use Rattle.op_core.specs.declared.want.Ans.{Ans}
 use Rattle.op_core.specs.declared.want.Ans.TheVariants.{Value}
@@ -16,11 +15,12 @@ use Rattle.map_model.specs.Map.{is_change}
 use Rattle.world.specs.declared.site.Site.{Site as Here}
 use Rattle.world.specs.Site.{Site}
 use Rattle.world.specs.Views.{View, At}
-use Rattle.world.specs.Wants.{answer_to, word_of}
+use Rattle.world.specs.Wants.{word_of}
 use Rattle.world.specs.Kinds.{cuts_power, wanted as wanted_by, next_entry, view_after}
 use Rattle.world.specs.Invariant.{Holds}
 use Rattle.world.specs.Pairs.{IsPublishingKind}
 use Rattle.world.specs.Attempts.{HoldsOnly, HasNoMore, HasOneMore, EntersReply}
+use Rattle.world.proofs.stepping.Answers.{load_asked, load_value, load_answer}
 use Rattle.part.specs.Outcomes.{reply_of}
 use Rattle.part.specs.Part.{Suits, StepsWell, IsPart}
 use Rattle.read_op.specs.declared.step.Second.TheVariants as again
@@ -34,22 +34,7 @@ use Rattle.read_op.specs.Fits.{kind_in, kind_of, EntersAnswer, OwesTheSame, Want
 use Rattle.read_op.specs.Causes.{ReadsAlone}
 use Rattle.read_op.specs.GetPart.{outcome_in, Stands, get_part}
 
--- ---- a get only reads, so it is answered by a value
-reading_value : (w : Want) (n : ℕ) → IsReading w → w ≢ want.Done → answer_to w n ≡ Value n
-reading_value (want.Load i) n r asks = refl
-reading_value want.Power n r asks = refl
-reading_value want.Done n r asks = absurd (asks refl)
-reading_value w n r asks = absurd r
-
-value_of : (w : Want) (a : Ans) → IsReading w → IsAnswer w a → (n : ℕ) × (a ≡ Value n)
-value_of (want.Load i) (Value n) r is = (n, refl)
-value_of (want.Load i) a r is = absurd is
-value_of want.Power (Value n) r is = (n, refl)
-value_of want.Power a r is = absurd is
-value_of want.Done a r is = absurd is
-value_of w a r is = absurd r
-
--- and none that wants something has replied
+-- ---- a get that wants something has not replied
 open_still : (op : ReadOp) (s : ReadStep) → wanted_in op s ≢ want.Done → outcome_in s ≡ None
 open_still op (Ended end) asks = absurd (asks refl)
 open_still op s asks = refl
@@ -119,13 +104,14 @@ module _ (reads : ReadsAlone) (wants : (site : Site) (op : ReadOp) → WantsByKi
         entered op.key call st.same before v _ more (taken op (Value n)).step well.answers,
       ) in
       let two = subst (λ m. Goal (taken op (Value m)) m) same one in
-      let three = subst (λ a. Goal (taken op a) found) (sym (reading_value (wanted op) found (reads op) asks)) two in
+      let three = subst (λ a. Goal (taken op a) found) (sym (load_value (wanted op) found (load_asked (wanted op) (reads op) asks))) two in
       record { wants = is; may = may site op v h.site_is st.is_in st.suits; stands = three.0; enters = three.1; makes = λ change. absurd (made_in op op.step change) }
 
   falls : (op : ReadOp) (a : Ans) → IsAnswer (wanted op) a → left (taken op a).step < left op.step
   falls op a i =
-      let is = value_of (wanted op) a (reads op) i in
-      subst (λ b. left (taken op b).step < left op.step) (sym is.1) (time op is.0 (λ e. absurd (subst (λ u. IsAnswer u a) e i)))
+      let asks : wanted op ≢ want.Done = λ e. absurd (subst (λ u. IsAnswer u a) e i) in
+      let is = load_answer (wanted op) a (load_asked (wanted op) (reads op) asks) i in
+      subst (λ b. left (taken op b).step < left op.step) (sym is.1) (time op is.0 asks)
 
   -- it asks for words of the image, and puts none there
   no_flush : (op : ReadOp) (l : ℕ) → wanted op ≢ want.Flush l

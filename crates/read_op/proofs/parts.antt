@@ -1,0 +1,4 @@
+-- A get is a part of a call, and each of its outcomes has its cause.
+pub mod GetIsPart
+pub mod Remembering
+pub mod Deciding
