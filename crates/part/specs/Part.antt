@@ -11,7 +11,7 @@ use Rattle.map_model.specs.declared.call.Call.{Call}
 use Rattle.map_model.specs.declared.entry.Reply.TheVariants as reply
 use Rattle.world.specs.declared.site.Site.{Site as Here}
 use Rattle.world.specs.Site.{Site, IsSite}
-use Rattle.world.specs.Views.{View, At}
+use Rattle.world.specs.Views.{View, Has, At}
 use Rattle.world.specs.Wants.{answer_to, word_of}
 use Rattle.world.specs.Kinds.{Kind, cuts_power, wanted as wanted_by, view_after, May}
 use Rattle.world.specs.Invariant.{Holds}
@@ -110,6 +110,11 @@ module _ {M : Type 0} (p : Part M) where
     pub stays : (op : M) (a : Ans) → IsAnswer (p.wanted op) a → p.HasMade op → p.HasMade (p.taken op a)
     pub done : (op : M) → p.HasMade op → p.wanted op ≡ Done → (place : ℕ) × (p.outcome op ≡ Some (replied reply.Done place))
 
+  -- what its caller has planned is the call's change, and then no reply is entered yet
+  abbrev pub PlansItsCall : Type 0
+  PlansItsCall = (site : Site) (here : Here) (call : Call) (op : M) (before v : View) (planned : Call) → Suits site here call op before v → Has planned v.planned
+      → (planned ≡ call) × (v.own ≡ before.own)
+
   -- it never cuts the power
   abbrev pub KeepsPower : Type 0
   KeepsPower = (op : M) (n : ℕ) → p.kind op n ≢ cuts_power
@@ -124,4 +129,5 @@ module _ {M : Type 0} (p : Part M) where
     pub notes : KeepsNotes
     pub flushes : FlushesFew
     pub made : EndsAsDone
+    pub plans : PlansItsCall
     pub power : KeepsPower

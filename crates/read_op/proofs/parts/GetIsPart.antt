@@ -14,7 +14,7 @@ use Rattle.map_model.specs.declared.entry.Reply.TheVariants as reply
 use Rattle.map_model.specs.Map.{is_change}
 use Rattle.world.specs.declared.site.Site.{Site as Here}
 use Rattle.world.specs.Site.{Site}
-use Rattle.world.specs.Views.{View, At}
+use Rattle.world.specs.Views.{View, Has, At}
 use Rattle.world.specs.Wants.{word_of}
 use Rattle.world.specs.Kinds.{cuts_power, wanted as wanted_by, next_entry, view_after}
 use Rattle.world.specs.Invariant.{Holds}
@@ -136,5 +136,6 @@ module _ (reads : ReadsAlone) (wants : (site : Site) (op : ReadOp) → WantsByKi
     notes = λ site here call op before v b is s near. record { stores = λ x e. absurd (no_store op _ x e); exchanges = λ x y e. absurd (no_exchange op _ x y e) };
     flushes = record { most = λ op. omega arith; flushes = λ op a l i e. absurd (no_flush op l e); keeps = λ op a i e. omega arith; ends = λ op e. refl };
     made = record { stays = λ op a i made. made; done = λ op made e. absurd made };
+    plans = λ site here call op before v planned s has. absurd (subst (λ calls. Has planned calls) s.stands.nothing.planned has);
     power = λ op n. cuts_in op op.step;
   }

@@ -1,5 +1,5 @@
 -- A change is a part of a call.
-use Rattle.std.proofs.Common.{◌≡◌, ◌≢◌, ℕ, ◌+◌, ◌*◌, ◌==◌, ◌^◌, ◌<◌, ◌≤◌, Bool, true, false, cond, [], refl, sym, ap, subst}
+use Rattle.std.proofs.Common.{◌≡◌, ◌≢◌, ℕ, ◌+◌, ◌*◌, ◌^◌, ◌<◌, ◌≤◌, false, [], refl, sym, ◌∙◌, ap, subst}
 use Rattle.op_core.specs.declared.want.Want.TheVariants as want
 use Rattle.op_core.specs.declared.want.Ans.{Ans}
 use Rattle.op_core.specs.Answers.{IsAnswer, IsWord}
@@ -32,6 +32,7 @@ use Rattle.write_op.specs.Spared.{KeepsNotes}
 use Rattle.write_op.specs.Suits.{Enters, EntersEnd, Suits, SuitsEnd, SuitsStep, MayStep, KeepsSuits}
 use Rattle.write_op.specs.Pairs.{IsPublish, IsMade, MakesIt, StaysMade, EndsAsDone}
 use Rattle.write_op.specs.ChangePart.{outcome_of, outcome_in, is_without_slot, Stands, change_part}
+use Rattle.write_op.proofs.parts.Planning.{in_step}
 use Rattle.write_op.proofs.parts.ChangeAsks.{HasLine, step_line, IsOff, step_off, IsOf, makes_by, step_kind}
 
 -- what the laws of a change say of it
@@ -145,5 +146,8 @@ module _ (laws : ChangeLaws) where
     };
     flushes = record { most = laws.few; flushes = laws.flushes; keeps = laws.waits; ends = laws.none_waits };
     made = record { stays = laws.stays; done = λ op made done. let d = laws.done op made done in (d.0, ap (λ (s : Step). outcome_in s) d.1) };
+    plans = λ site here call op before v planned s has.
+        let r = in_step op.task op.kept before v op.step planned (suits_there site here call op before v s).enters s.stands.view has in
+        (r.0 ∙ s.stands.same, r.1);
     power = λ op n cut. subst (λ k. IsOf op.step k) cut (step_kind op.task op.kept n op.step);
   }
