@@ -50,13 +50,19 @@ module _ {M : Type 0} (callers : CallersStay) (p : Part M) (next : M → M) (is 
 
   -- ---- the laws
   steps : KeepsSuits (onward_part p next)
-  steps site here call words views j op before v h at s asks small =
-      let w = is.steps site here call words views j op before v h at (suits_one p next site here call op before v s) asks small in
+  steps site here call words views j op before v h at s asks =
+      let w = is.steps site here call words views j op before v h at (suits_one p next site here call op before v s) asks in
       let found : ℕ = words (word_of site.shape (p.wanted op)) in
       let after : M = p.taken op (answer_to (p.wanted op) found) in
       let some : 0 < (view_after site.shape (p.kind op found) found v).callers = subst (λ n. 0 < n) (sym (callers site.shape (p.kind op found) found v)) s.callers in
-      let both = stands_on site here call before (view_after site.shape (p.kind op found) found v) after some (p.hands_on after) refl w.stands w.enters in
-      record { wants = w.wants; may = w.may; stands = both.0; enters = both.1; makes = λ change. ((w.makes change).0, made_on after (w.makes change).1 (p.hands_on after) refl) }
+      let both = λ (small : found < 2 ^ 64). stands_on site here call before (view_after site.shape (p.kind op found) found v) after some (p.hands_on after) refl (w.stands small) (w.enters small) in
+      record {
+        wants = w.wants;
+        may = w.may;
+        stands = λ small. (both small).0;
+        enters = λ small. (both small).1;
+        makes = λ change. ((w.makes change).0, made_on after (w.makes change).1 (p.hands_on after) refl);
+      }
 
   pub onward_is_part : IsPart (onward_part p next)
   onward_is_part = record {

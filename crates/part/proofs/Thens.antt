@@ -56,15 +56,21 @@ module _ {A B : Type 0} (callers : CallersStay) (a : Part A) (b : Part B) (next 
 
   -- ---- the laws
   steps : KeepsSuits (then_part a b next most)
-  steps site here call words views j (first x) before v h at s asks small =
-      let w = is_a.steps site here call words views j x before v h at (suits_first a b next most site here call x before v s) asks small in
+  steps site here call words views j (first x) before v h at s asks =
+      let w = is_a.steps site here call words views j x before v h at (suits_first a b next most site here call x before v s) asks in
       let found : ℕ = words (word_of site.shape (a.wanted x)) in
       let y : A = a.taken x (answer_to (a.wanted x) found) in
       let some : 0 < (view_after site.shape (a.kind x found) found v).callers = subst (λ n. 0 < n) (sym (callers site.shape (a.kind x found) found v)) s.callers in
-      let p = stands_on site here call before (view_after site.shape (a.kind x found) found v) y some (a.hands_on y) refl w.stands w.enters in
-      record { wants = w.wants; may = w.may; stands = p.0; enters = p.1; makes = λ change. ((w.makes change).0, made_on y (w.makes change).1 (a.hands_on y) refl) }
-  steps site here call words views j (second y) before v h at s asks small =
-      let w = is_b.steps site here call words views j y before v h at (suits_second a b next most site here call y before v s) asks small in
+      let p = λ (small : found < 2 ^ 64). stands_on site here call before (view_after site.shape (a.kind x found) found v) y some (a.hands_on y) refl (w.stands small) (w.enters small) in
+      record {
+        wants = w.wants;
+        may = w.may;
+        stands = λ small. (p small).0;
+        enters = λ small. (p small).1;
+        makes = λ change. ((w.makes change).0, made_on y (w.makes change).1 (a.hands_on y) refl);
+      }
+  steps site here call words views j (second y) before v h at s asks =
+      let w = is_b.steps site here call words views j y before v h at (suits_second a b next most site here call y before v s) asks in
       record { wants = w.wants; may = w.may; stands = w.stands; enters = w.enters; makes = w.makes }
 
   ends : EndsBare (then_part a b next most)

@@ -9,7 +9,7 @@ use Rattle.world.specs.Site.{Site, IsSite}
 use Rattle.world.specs.Views.{View}
 use Rattle.world.specs.Attempts.{HoldsOnly}
 use Rattle.part.specs.Doings.{Doings, nothing_done}
-use Rattle.part.specs.Outcomes.{Outcome, replied, again, stale, off}
+use Rattle.part.specs.Outcomes.{Outcome, replied, again, stale, off, finished}
 use Rattle.part.specs.Part.{Part}
 use Rattle.read_op.specs.declared.step.Path.{Path}
 use Rattle.read_op.specs.declared.step.ReadEnd.{ReadEnd}
@@ -89,3 +89,7 @@ BeginsRemembering = (site : Site) (here : Here) (key : ℕ) → Remembers site (
 -- and at its end it tells its outcome
 abbrev pub EndsAsSaid : Type 0
 EndsAsSaid = (op : ReadOp) → wanted op ≡ Done → (end : ReadEnd) × (op.step ≡ Ended end)
+
+-- it never ends but with a reply, or to be made again, stale or off
+abbrev pub NeverFinished : Type 0
+NeverFinished = (op : ReadOp) → outcome_in op.step ≡ Some finished → ⊥

@@ -6,7 +6,7 @@ ghost use Rattle.world.specs.Views.{View};
 ghost use Rattle.read_op.specs.declared.op.ReadOp.{ReadOp};
 ghost use Rattle.part.specs.Part.{IsPart};
 ghost use Rattle.part.specs.Causes.{EndsByCause as HasOutcomesByCause};
-ghost use Rattle.read_op.specs.GetPart.{get_part, BeginsAsPart, BeginsRemembering, EndsAsSaid};
+ghost use Rattle.read_op.specs.GetPart.{get_part, BeginsAsPart, BeginsRemembering, EndsAsSaid, NeverFinished};
 ghost use Rattle.read_op.specs.Fits.{BeginsSuited, WantsByKind, MayStep, KeepsSuits};
 ghost use Rattle.read_op.specs.Budget.{most_events, left, Falls, EndsInTime, AsksWithin};
 ghost use Rattle.read_op.specs.Causes.{ReadsAlone, EndsByCause, KeepsLoads, EndsSoundly, NeverStale, NeverBusy};
@@ -39,6 +39,7 @@ pub fn gets_are_parts()
     ensures begins { BeginsAsPart }
     ensures remembers { BeginsRemembering }
     ensures ends { EndsAsSaid }
+    ensures finished { NeverFinished }
 {
     ends_in_time();
     asks_within();

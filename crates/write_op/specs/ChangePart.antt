@@ -9,7 +9,7 @@ use Rattle.world.specs.Attempts.{HoldsOnly}
 use Rattle.map_model.specs.Map.{key_of, value_of}
 use Rattle.map_model.specs.Legal.{IsChange}
 use Rattle.part.specs.Doings.{Doings, nothing_done}
-use Rattle.part.specs.Outcomes.{Outcome, replied, again, stale, off}
+use Rattle.part.specs.Outcomes.{Outcome, replied, again, stale, off, finished}
 use Rattle.part.specs.Part.{Part}
 use Rattle.part.specs.Onward.{Stands as StandsOnward, onward_part}
 use Rattle.write_op.specs.declared.control.WriteEnd.{WriteEnd}
@@ -118,3 +118,7 @@ BeginsRemembering = (site : Site) (here : Here) (call : Call) → IsChange call 
 -- and holds nothing
 abbrev pub BeginsBare : Type 0
 BeginsBare = (site : Site) (here : Here) (call other : Call) (v : View) → IsChange other → Stands site here call (begun other here) v → v.held ≡ []
+
+-- it never ends but with a reply, or to be made again, stale or off
+abbrev pub NeverFinished : Type 0
+NeverFinished = (op : WriteOp) → outcome_in op.step ≡ Some finished → ⊥

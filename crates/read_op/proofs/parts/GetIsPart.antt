@@ -105,7 +105,7 @@ module _ (reads : ReadsAlone) (wants : (site : Site) (op : ReadOp) → WantsByKi
       ) in
       let two = subst (λ m. Goal (taken op (Value m)) m) same one in
       let three = subst (λ a. Goal (taken op a) found) (sym (load_value (wanted op) found (load_asked (wanted op) (reads op) asks))) two in
-      record { wants = is; may = may site op v h.site_is st.is_in st.suits; stands = three.0; enters = three.1; makes = λ change. absurd (made_in op op.step change) }
+      record { wants = is; may = may site op v h.site_is st.is_in st.suits; stands = λ small. three.0; enters = λ small. three.1; makes = λ change. absurd (made_in op op.step change) }
 
   falls : (op : ReadOp) (a : Ans) → IsAnswer (wanted op) a → left (taken op a).step < left op.step
   falls op a i =
@@ -125,7 +125,7 @@ module _ (reads : ReadsAlone) (wants : (site : Site) (op : ReadOp) → WantsByKi
 
   pub get_is_part : IsPart get_part
   get_is_part = record {
-    steps = λ site here call words views j op before v h at s asks small. steps site here call words views j op before v h at s asks;
+    steps = λ site here call words views j op before v h at s asks. steps site here call words views j op before v h at s asks;
     ends = λ site here call op v s done closed. s.nothing;
     time = record { falls = falls; most = most };
     within = λ site here call op before v is s. record {

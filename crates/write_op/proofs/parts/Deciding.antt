@@ -28,7 +28,7 @@ use Rattle.world.specs.Wants.{answer_to, word_of}
 use Rattle.world.specs.Invariant.{Holds}
 use Rattle.world.proofs.stepping.Answers.{is_honest, finds_newest}
 use Rattle.part.specs.Doings.{Doings, with_event_of}
-use Rattle.part.specs.Outcomes.{Outcome, replied, again, stale, off}
+use Rattle.part.specs.Outcomes.{Outcome, replied, again, stale, off, finished}
 use Rattle.part.specs.Part.{Suits as SuitsPart}
 use Rattle.part.specs.Causes.{IsNamed, IsWatched, IsOwnLock, FindsNoRoom, HasReplyCause, Looked, HasAgainCause, IsStale, IsOff, HasCause, EndsByCause}
 use Rattle.write_op.specs.declared.control.Side.{Side}
@@ -48,7 +48,7 @@ use Rattle.write_op.specs.Taken.{wanted, taken, seen_at, step_after, kept_after,
 use Rattle.write_op.specs.Left.{EndsAsSaid}
 use Rattle.write_op.specs.Suits.{GivesBack, SuitsStep}
 use Rattle.write_op.specs.Causes.{AreAmong, kept_in, IsDecided, Caused, Answers, FindsStale, FindsOff, IsRunning, IsSoundEnd, told_word, FindsNoRoom as ChangeFindsNoRoom, IsOwnLock as IsOwnLockOf}
-use Rattle.write_op.specs.ChangePart.{outcome_of, outcome_in, is_without_slot, Stands, HasDepthOrTold, Remembers, change_part}
+use Rattle.write_op.specs.ChangePart.{outcome_of, outcome_in, is_without_slot, Stands, HasDepthOrTold, Remembers, NeverFinished, change_part}
 use Rattle.write_op.proofs.causing.Recalling.{recalls, step_recalls}
 use Rattle.write_op.proofs.causing.Caused.{ends_by_cause, stays_in}
 use Rattle.write_op.proofs.causing.Others.{step_owns, others_in, told_new}
@@ -348,3 +348,14 @@ change_ends_by_cause said = record {
       let e = ended_outcome (end_of op) (subst (λ s. is_without_slot s ≡ false) is closed) in
       (e.0, ap outcome_in is ∙ e.1);
 }
+
+-- no end of it is that it has finished
+finishes : (end : WriteEnd) → outcome_of end ≡ Some finished → ⊥
+finishes (Replied r place) is = absurd (let same = same_Some (replied r place) finished is in cc)
+finishes NoSlot is = none-some finished is
+finishes (Again why) is = absurd (let same = same_Some (again why) finished is in cc)
+finishes (Stale segment byte) is = absurd (let same = same_Some (stale segment byte) finished is in cc)
+finishes Off is = absurd (let same = same_Some off finished is in cc)
+
+pub never_finished : NeverFinished
+never_finished op some = let d = decided_so op.step finished some in finishes d.0 d.2

@@ -1,7 +1,7 @@
 -- By the laws of a get.
 use Rattle.read_op.proofs.parts.GetIsPart.{get_is_part}
 use Rattle.read_op.proofs.parts.Deciding.{get_ends_by_cause}
-use Rattle.read_op.proofs.parts.Beginning.{begins_as_part, begins_remembering}
+use Rattle.read_op.proofs.parts.Beginning.{begins_as_part, begins_remembering, never_finished}
 use Rattle.read_op.proofs.Ending.{has_ended}
 use Rattle.read_op.proofs.laws.gets_are_parts.Goals as goal
 
@@ -21,3 +21,6 @@ returns-clause-remembers c = begins_remembering
 
 pub returns-clause-ends : goal.returns-clause-ends
 returns-clause-ends c = λ op done. has_ended op op.step done
+
+pub returns-clause-finished : goal.returns-clause-finished
+returns-clause-finished c = never_finished

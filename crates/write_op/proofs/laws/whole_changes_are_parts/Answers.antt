@@ -1,6 +1,7 @@
 -- By what a refusal is owed.
 use Rattle.write_op.proofs.parts.WholeChange.{whole_is_part, whole_ends_by_cause}
 use Rattle.write_op.proofs.parts.Beginning.{begins_as_part, begins_remembering, begins_bare}
+use Rattle.write_op.proofs.parts.Deciding.{never_finished}
 use Rattle.write_op.proofs.laws.whole_changes_are_parts.Goals as goal
 
 pub returns-clause-part : goal.returns-clause-part
@@ -21,3 +22,6 @@ returns-clause-remembers c = begins_remembering
 
 pub returns-clause-bare : goal.returns-clause-bare
 returns-clause-bare c = begins_bare
+
+pub returns-clause-finished : goal.returns-clause-finished
+returns-clause-finished c = never_finished
