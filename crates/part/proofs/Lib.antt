@@ -1,4 +1,5 @@
 pub mod Thens
+pub mod Onwards
 pub mod Turning
 pub mod Still
 mod Counting

@@ -1,5 +1,5 @@
 -- What an attempt loaded is still so where nobody else steps, whatever machine asks; so nothing moves for a caller alone.
-use Rattle.std.proofs.Common.{◌≡◌, ◌≢◌, ℕ, ◌+◌, ◌^◌, ◌<◌, ◌==◌, Bool, true, false, cond, ◌∷◌, inl, inr, ◌⊎◌, refl, sym, ◌∙◌, ap, subst, arith}
+use Rattle.std.proofs.Common.{◌≡◌, ◌≢◌, ℕ, ◌+◌, ◌^◌, ◌<◌, ◌==◌, Bool, true, false, cond, List, ◌∷◌, inl, inr, ◌⊎◌, refl, sym, ◌∙◌, ap, subst, arith}
 use Rattle.std.specs.Prelude.{nat_le, nat_lt, if◌then◌else◌}
 use Rattle.std.proofs.lemmas.Bool.{cases_eq, ltb-true, leb-true}
 use Rattle.op_core.specs.declared.want.Want.{Want}
@@ -84,26 +84,23 @@ module _ (shape : Shape) (is : IsShape shape) (hash : ℕ) (fits : hash < 2 ^ 64
   lock_by segment bucket close true low = let under = ltb-true segment shape.segments low in omega (arith, under, close)
   lock_by segment bucket close false low = first_within
 
-module _ (shape : Shape) (is : IsShape shape) (words : Words) (did : Doings) (call : Call) (fits : key_hash shape (key_of call) < 2 ^ 64) where
-  abbrev hash : ℕ
-  hash = key_hash shape (key_of call)
-
-  on_way : (word : ℕ) → IsOnWay shape words did call word → word < words_of shape
+module _ (shape : Shape) (is : IsShape shape) (hash : ℕ) (fits : hash < 2 ^ 64) (loads : List (ℕ × ℕ)) where
+  on_way : (word : ℕ) → IsOnWay shape hash loads word → word < words_of shape
   on_way word (inl root) = subst (λ n. n < words_of shape) (sym root) (first_within shape is hash fits)
   on_way word (inr (inl p)) = subst (λ n. n < words_of shape) (sym p.2) (entry_by shape is hash fits p.0 _ refl)
   on_way word (inr (inr p)) = subst (λ n. n < words_of shape) (sym p.2) (head_by shape is hash fits p.0 _ refl)
 
-  lock_there : (word : ℕ) → IsLockThere shape words did call word → word < words_of shape
+  lock_there : (word : ℕ) → IsLockThere shape hash loads word → word < words_of shape
   lock_there word p = subst (λ n. n < words_of shape) (sym p.4) (lock_by shape is hash fits p.0 p.2 (near shape is hash fits p.2 p.3) _ refl)
 
-  watched_within : (word before after : ℕ) → IsWatched shape words did call word before after → word < words_of shape
+  watched_within : (word before after : ℕ) → IsWatched shape hash loads word before after → word < words_of shape
   watched_within word before after (inl way) = on_way word way
   watched_within word before after (inr lock) = lock_there word lock.0
 
 pub alone_nothing_moves : AloneNothingMoves
 alone_nothing_moves shape words did call word before after is small still m =
     let fits = key_hash-fits shape (key_of call) small in
-    elim (still word before m.loaded (let low = watched_within shape is words did call fits word before after m.watched in λ same. omega (arith, low, same))) [
+    elim (still word before m.loaded (let low = watched_within shape is (key_hash shape (key_of call)) fits did.loads word before after m.watched in λ same. omega (arith, low, same))) [
       | inl same ↦ m.differ (sym same ∙ m.newest)
       | inr own ↦ m.by_others own
     ]

@@ -5,7 +5,7 @@ use Rattle.op_core.specs.declared.want.Want.TheVariants.{Power, Done}
 use Rattle.op_core.specs.declared.want.Ans.{Ans}
 use Rattle.op_core.specs.declared.why.Why.{Why}
 use Rattle.op_core.specs.declared.why.Why.TheVariants.{Busy, Moved}
-use Rattle.op_core.specs.Answers.{IsAnswer, Finds}
+use Rattle.op_core.specs.Answers.{Finds}
 use Rattle.hash_word.specs.Hash.{home_of, probing_of}
 use Rattle.bucket_meta.specs.Bucket.{allocated}
 use Rattle.trace.specs.Events.{Words}
@@ -22,7 +22,7 @@ use Rattle.map_model.specs.Legal.{IsInsert}
 use Rattle.bucket_words.specs.Tables.{home_at}
 use Rattle.world.specs.declared.site.Site.{Site as Here}
 use Rattle.world.specs.Site.{Site}
-use Rattle.world.specs.Views.{View, At, Has}
+use Rattle.world.specs.Views.{View, At, Has, HasLock}
 use Rattle.world.specs.Invariant.{Holds}
 use Rattle.world.specs.Wants.{answer_to, word_of}
 use Rattle.part.specs.Doings.{Doings, with_event_of, IsStill}
@@ -33,6 +33,33 @@ use Rattle.part.specs.Part.{Part, Suits, finds, next}
 abbrev pub IsBucketOf : ℕ → ℕ → Type 0
 IsBucketOf hash b = (b ≡ home_of hash) ⊎ (b ≡ probing_of (home_of hash))
 
+-- ---- words by which an attempt finds its bucket, by its key's hash and what it loaded
+module _ (shape : Shape) (hash : ℕ) (loads : List (ℕ × ℕ)) where
+  -- a root depth that was loaded, and that the image may have
+  abbrev pub IsDepth : ℕ → Type 0
+  IsDepth root = Has (root_word, root) loads × (root ≤ shape.depth)
+
+  -- a segment that the directory entry of the key's hash, at such a root depth, named when it was loaded
+  abbrev pub IsNamed : ℕ → Type 0
+  IsNamed segment = (root : ℕ) × IsDepth root × Has (entry_word shape hash root, segment) loads
+
+  -- a word by which the attempt found its segment: the root's, the directory entry at the root depth that was loaded, or the
+  -- header word of a segment that was named
+  abbrev pub IsOnWay : ℕ → Type 0
+  IsOnWay word = (word ≡ root_word)
+      ⊎ (((root : ℕ) × IsDepth root × (word ≡ entry_word shape hash root))
+      ⊎ ((segment : ℕ) × IsNamed segment × (word ≡ head_word shape segment)))
+
+  -- the lock word of one of the two buckets of the key's hash, in a segment that was named
+  abbrev pub IsLockThere : ℕ → Type 0
+  IsLockThere word = (segment : ℕ) × IsNamed segment × (b : ℕ) × IsBucketOf hash b × (word ≡ bucket_word shape segment b)
+
+  -- a word that may be told with these two values: one on the way, or such a lock word, which has them as free, so that two
+  -- such values are of two versions
+  abbrev pub IsWatched : ℕ → ℕ → ℕ → Type 0
+  IsWatched word before after = IsOnWay word ⊎ (IsLockThere word × (before % 2 ≡ 0) × (after % 2 ≡ 0))
+
+-- ---- causes
 module _ (shape : Shape) (words : Words) (did : Doings) (call : Call) where
   abbrev pub hash_for : ℕ
   hash_for = key_hash shape (key_of call)
@@ -50,33 +77,9 @@ module _ (shape : Shape) (words : Words) (did : Doings) (call : Call) where
     pub by_others : Has word did.changed → ⊥
 
   -- ---- moved
-  -- a root depth that was loaded, and that the image may have
-  abbrev pub IsDepth : ℕ → Type 0
-  IsDepth root = Has (root_word, root) did.loads × (root ≤ shape.depth)
-
-  -- a segment that the directory entry of the key's hash, at such a root depth, named when it was loaded
-  abbrev pub IsNamed : ℕ → Type 0
-  IsNamed segment = (root : ℕ) × IsDepth root × Has (entry_word shape hash_for root, segment) did.loads
-
-  -- a word by which the attempt found its segment: the root's, the directory entry at the root depth that was loaded, or the
-  -- header word of a segment that was named
-  abbrev pub IsOnWay : ℕ → Type 0
-  IsOnWay word = (word ≡ root_word)
-      ⊎ (((root : ℕ) × IsDepth root × (word ≡ entry_word shape hash_for root))
-      ⊎ ((segment : ℕ) × IsNamed segment × (word ≡ head_word shape segment)))
-
-  -- the lock word of one of the two buckets of the key's hash, in a segment that was named
-  abbrev pub IsLockThere : ℕ → Type 0
-  IsLockThere word = (segment : ℕ) × IsNamed segment × (b : ℕ) × IsBucketOf hash_for b × (word ≡ bucket_word shape segment b)
-
-  -- a word that may be told with these two values: one on the way, or such a lock word, which has them as free, so that two
-  -- such values are of two versions
-  abbrev pub IsWatched : ℕ → ℕ → ℕ → Type 0
-  IsWatched word before after = IsOnWay word ⊎ (IsLockThere word × (before % 2 ≡ 0) × (after % 2 ≡ 0))
-
   -- such a word has another value than the attempt loaded, and not by this attempt
   pub record HasMoved (word before after : ℕ) : Type 0 where
-    pub watched : IsWatched word before after
+    pub watched : IsWatched shape hash_for did.loads word before after
     pub loaded : Has (word, before) did.loads
     pub newest : words word ≡ after
     pub differ : before ≢ after
@@ -98,7 +101,7 @@ module _ (shape : Shape) (words : Words) (did : Doings) (call : Call) where
 
   -- the header that it loaded of its segment, one of the image that was named, has such a depth
   abbrev pub HasDepth : (ℕ → Type 0) → Type 0
-  HasDepth Passes = (segment : ℕ) × IsNamed segment × (segment < shape.segments) × (head : ℕ) × WasHead segment head × Passes (depth_in head)
+  HasDepth Passes = (segment : ℕ) × IsNamed shape hash_for did.loads segment × (segment < shape.segments) × (head : ℕ) × WasHead segment head × Passes (depth_in head)
 
   -- it loaded the header of each slot, and found none free
   abbrev pub NoSlotIsFree : Type 0
@@ -130,7 +133,7 @@ module _ (shape : Shape) (words : Words) (did : Doings) (call : Call) where
     -- of being told that a segment is stale, where the image has this version: the event loaded the header of a segment that was
     -- named, which is live by it, and found this other version there
     pub record IsStale (version segment byte : ℕ) : Type 0 where
-      pub named : IsNamed segment
+      pub named : IsNamed shape hash_for did.loads segment
       pub head : ℕ
       pub looked : Looked (head_word shape segment) head
       pub live : is_live head ≡ true
@@ -152,18 +155,19 @@ module _ (shape : Shape) (words : Words) (did : Doings) (call : Call) where
 -- ---- the causes of a part's outcomes
 module _ {M : Type 0} (p : Part M) where
   -- what a machine has remembered it remembers after its next event, with what that did; and where the event decides the outcome, the
-  -- cause is there
-  pub record StepsByCause (site : Site) (here : Here) (call : Call) (words : Words) (op : M) (did : Doings) : Type 0 where
+  -- cause is there; and who is told that a lock is taken does not hold it
+  pub record StepsByCause (site : Site) (here : Here) (call : Call) (words : Words) (op : M) (v : View) (did : Doings) : Type 0 where
     pub remembers : p.Remembers site (next p site words op) (with_event_of (p.wanted op) (answer_to (p.wanted op) (finds p site words op)) did)
     pub caused : (outcome : Outcome) → p.outcome op ≡ None → p.outcome (next p site words op) ≡ Some outcome → HasCause site.shape words did call (p.wanted op) here outcome
+    pub not_own : (word value : ℕ) → p.outcome op ≡ None → p.outcome (next p site words op) ≡ Some (again (Busy word value)) → HasLock v.held word → ⊥
 
   -- EACH OUTCOME HAS ITS CAUSE, beside any other callers; it stays as it was decided; and where a machine wants nothing more, and does
   -- not hand on, it is decided
   pub record EndsByCause : Type 0 where
     pub steps : (site : Site) (here : Here) (call : Call) (words : Words) (views : List View) (j : ℕ) (op : M) (before v : View) (did : Doings)
         → Holds site words views → At views j v → Suits p site here call op before v → p.wanted op ≢ Done → finds p site words op < 2 ^ 64 → p.Remembers site op did
-        → StepsByCause site here call words op did
-    pub stays : (op : M) (a : Ans) (outcome : Outcome) → IsAnswer (p.wanted op) a → p.outcome op ≡ Some outcome → p.outcome (p.taken op a) ≡ Some outcome
+        → StepsByCause site here call words op v did
+    pub stays : (op : M) (a : Ans) (outcome : Outcome) → p.outcome op ≡ Some outcome → p.outcome (p.taken op a) ≡ Some outcome
     pub decided : (site : Site) (here : Here) (call : Call) (op : M) (v : View) → p.Stands site here call op v → p.wanted op ≡ Done → p.hands_on op ≡ false
         → (outcome : Outcome) × (p.outcome op ≡ Some outcome)
 

@@ -3,6 +3,7 @@ pub mod Doings
 pub mod Outcomes
 pub mod Part
 pub mod Then
+pub mod Onward
 pub mod Turns
 pub mod Causes
 pub mod Count

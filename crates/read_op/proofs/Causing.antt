@@ -97,7 +97,7 @@ caused_in op (Head root segment) seen wants =
     let fits = is_live seen && is_covering seen op.hash in
     by op (Head root segment) seen (is_live seen && not (version_in seen == op.site.version)) (Ended (ends.Stale segment (version_in seen))) (cond fits next ill)
     (λ is. let b = both_true (is_live seen) (version_in seen == op.site.version) is in
-    record { loads = refl; named = (root, inr (inl refl), inl refl); live = b.0; version = refl; other = eqb-false (version_in seen) op.site.version b.1 })
+    record { loads = refl; first_look = (root, refl); named = (root, inr (inl refl), inl refl); live = b.0; version = refl; other = eqb-false (version_in seen) op.site.version b.1 })
     (λ is. by op (Head root segment) seen fits next ill (λ _. tt)
     (λ bad. inr (record { loads = refl; watched = inr (inr (segment, (root, inr (inl refl), inl refl), inl refl)); before_is = refl; after_is = refl; amiss = both_false (is_live seen) (is_covering seen op.hash) bad })))
 caused_in op (Lock path) seen wants =

@@ -7,3 +7,4 @@ pub mod Loading
 pub mod Causing
 pub mod Ending
 pub mod Sounding
+mod parts

@@ -126,6 +126,7 @@ module _ (op : ReadOp) (step : ReadStep) (seen : ℕ) where
   -- the event loaded the header of a segment that was named, which is live by it, and found another version there
   pub record FindsStale (segment byte : ℕ) : Type 0 where
     pub loads : wanted_in op step ≡ Load (head_word op.site.geometry segment)
+    pub first_look : (root : ℕ) × (step ≡ Head root segment)
     pub named : IsNamed op step segment
     pub live : is_live seen ≡ true
     pub version : version_in seen ≡ byte

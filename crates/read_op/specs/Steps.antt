@@ -1,5 +1,5 @@
 -- What a get wants in each step, and what an answer makes of it.
-use Rattle.std.specs.Prelude.{◌==◌, ◌&&◌, ℕ, ◌+◌, ◌%◌, nat_le, nat_lt, not, Bool, if◌then◌else◌, Option, Some, None, List, slice_index, slice_set, replicate}
+use Rattle.std.specs.Prelude.{◌==◌, ◌&&◌, ℕ, ◌+◌, ◌%◌, nat_le, nat_lt, not, if◌then◌else◌, Bool, true, false, Option, Some, None, List, slice_index, slice_set, replicate}
 use Rattle.hash_word.specs.Hash.{home_of}
 use Rattle.segment_head.specs.HeadWord.{version_in, is_live}
 use Rattle.bucket_meta.specs.Bucket.{record_slots}
@@ -116,6 +116,11 @@ module _ (op : ReadOp) where
   next_in (Count found) seen = Check found seen again.Root
   next_in (Check found place at) seen = checked found place at seen
   next_in (Ended end) seen = Ended end
+
+-- whether the words of the bucket are being loaded
+abbrev pub is_filling : ReadStep → Bool
+is_filling (Fill path free words next) = true
+is_filling step = false
 
 abbrev pub next_of : ReadOp → ℕ → ReadStep
 next_of op seen = next_in op op.step seen

@@ -10,7 +10,7 @@ mod slots;
 mod step;
 mod words;
 
-pub use laws::{asks_within, ends_have_causes, ends_in_time, fits_the_world};
+pub use laws::{asks_within, ends_have_causes, ends_in_time, fits_the_world, gets_are_parts};
 pub use op::ReadOp;
 pub use step::{Found, Path, ReadEnd, ReadStep, Second};
 

@@ -1,14 +1,14 @@
 //! The machine.
 
-ghost use Rattle.std.specs.Prelude.{◌≡◌, ℕ, ◌==◌, ◌||◌, ◌&&◌, ◌<◌, ◌^◌, nat_le};
+ghost use Rattle.std.specs.Prelude.{◌≡◌, ◌↔◌, IsTrue, false, List, ℕ, ◌==◌, ◌||◌, ◌&&◌, ◌<◌, ◌^◌, nat_le};
 ghost use Rattle.op_core.specs.declared.want.Want.TheVariants as want;
-ghost use Rattle.read_op.specs.declared.step.ReadStep.TheVariants.{Ended};
-ghost use Rattle.read_op.specs.Steps.{begun, wanted, taken, wanted_again, moved, busy, head_taken, filled, checked, lock_checked, end_of, next_of};
+ghost use Rattle.op_core.specs.declared.want.Ans.TheVariants.{Value};
+ghost use Rattle.read_op.specs.declared.step.ReadStep.TheVariants.{Ended, Fill};
+ghost use Rattle.read_op.specs.Steps.{begun, wanted, taken, wanted_again, moved, busy, head_taken, filled, checked, lock_checked, end_of, is_filling, next_of};
 
-use crate::slots::value_of;
+use crate::slots::{set_word, value_of};
 use crate::step::{Found, Path, ReadEnd, ReadStep, Second};
 use crate::words::lock_word;
-use bucket_meta::words::with_word;
 use image_layout::ROOT_WORD;
 use op_core::{Ans, Machine, Want, Why};
 use segment_head::word::{is_live, version_of};
@@ -70,6 +70,13 @@ impl ReadOp {
         }
     }
 
+    /// Whether it wants nothing more.
+    pub fn is_done(&self) -> bool
+        ensures { IsTrue result ↔ (wanted self.now ≡ want.Done) }
+    {
+        matches!(self.step, ReadStep::Ended(_))
+    }
+
     /// How it ended, once it wants nothing more.
     pub fn end(self) -> ReadEnd
         requires { wanted self ≡ want.Done }
@@ -113,28 +120,6 @@ impl ReadOp {
         }
     }
 
-    /// The step after a word of the bucket.
-    fn after_word(&self, path: Path, free: u64, words: [u64; 32], next: u8) -> ReadStep
-        ensures { result ≡ filled self.now path free words next }
-    {
-        if next < 31 {
-            ReadStep::Fill {
-                path,
-                free,
-                words,
-                next: next + 1,
-            }
-        } else {
-            ReadStep::Count {
-                found: Found {
-                    path,
-                    free,
-                    value: value_of(&words, self.key),
-                },
-            }
-        }
-    }
-
     /// The step after the last look at the lock word.
     fn after_lock(&self, found: Found, place: u64, seen: u64) -> ReadStep
         ensures { result ≡ lock_checked self.now found place seen }
@@ -170,8 +155,9 @@ impl ReadOp {
         }
     }
 
-    /// The step after a value was loaded.
+    /// The step after a value was loaded that is no word of the bucket.
     fn after(&self, value: u64) -> ReadStep
+        requires { is_filling self.now.step ≡ false }
         ensures { result ≡ next_of self.now value }
     {
         let geometry = &self.site.geometry;
@@ -197,12 +183,7 @@ impl ReadOp {
                 next: 1,
             },
             ReadStep::Lock { path } => busy(lock_word(&self.site, self.hash, path.segment), value),
-            ReadStep::Fill {
-                path,
-                free,
-                words,
-                next,
-            } => { self.after_word(path, free, with_word(&words, next, value), next) }
+            ReadStep::Fill { .. } => unreachable!(),
             ReadStep::Count { found } => ReadStep::Check {
                 found,
                 place: value,
@@ -210,6 +191,43 @@ impl ReadOp {
             },
             ReadStep::Check { found, place, at } => self.after_again(found, place, at, value),
             ReadStep::Ended(_) => self.step,
+        }
+    }
+
+    /// After a word of the bucket: the next one is to be loaded, or all are there.
+    fn after_word(&mut self, path: Path, free: u64, next: u8)
+        ensures { (words : List ℕ) → self.old.step ≡ Fill path free words next
+            → self.new ≡ record self.old { step = filled self.old path free words next } }
+    {
+        if next < 31 {
+            if let ReadStep::Fill { next: at, .. } = &mut self.step {
+                *at = next + 1;
+            }
+        } else if let ReadStep::Fill { words, .. } = &self.step {
+            let value = value_of(words, self.key);
+            self.step = ReadStep::Count {
+                found: Found { path, free, value },
+            };
+        }
+    }
+
+    /// A value was loaded. A word of the bucket is put among the others where they stand.
+    fn take_value(&mut self, value: u64)
+        ensures { self.new ≡ taken self.old (Value value) }
+    {
+        match self.step {
+            ReadStep::Fill {
+                path,
+                free,
+                next,
+                ..
+            } => {
+                if let ReadStep::Fill { words, .. } = &mut self.step {
+                    set_word(words, next, value);
+                }
+                self.after_word(path, free, next);
+            }
+            _ => self.step = self.after(value),
         }
     }
 }
@@ -241,7 +259,7 @@ impl Machine for ReadOp {
 
     fn take(&mut self, ans: Ans) {
         if let Ans::Value(value) = ans {
-            self.step = self.after(value);
+            self.take_value(value);
         }
     }
 }

@@ -4,3 +4,4 @@ pub mod Near
 mod suiting
 mod Searching
 mod causing
+mod parts

@@ -1,6 +1,6 @@
 -- By what each end of a change comes: what the event that decided it loaded or tried and found, and what the events of the
 -- attempt before it had loaded.
-use Rattle.std.specs.Prelude.{◌≡◌, ◌≢◌, ℕ, ◌+◌, ◌-◌, ◌%◌, ◌^◌, ◌<◌, ◌≤◌, ⊤, List, [], ◌∷◌, ◌++◌, ◌⊎◌, length, slice_index}
+use Rattle.std.specs.Prelude.{◌≡◌, ◌≢◌, ℕ, ◌+◌, ◌-◌, ◌%◌, ◌^◌, ◌<◌, ◌≤◌, ⊤, true, List, [], ◌∷◌, ◌++◌, ◌⊎◌, length, slice_index}
 use Rattle.op_core.specs.declared.want.Want.TheVariants as want
 use Rattle.op_core.specs.declared.want.Ans.{Ans}
 use Rattle.op_core.specs.declared.want.Ans.TheVariants.{Value, Drawn}
@@ -8,7 +8,7 @@ use Rattle.op_core.specs.declared.why.Why.{Why}
 use Rattle.op_core.specs.declared.why.Why.TheVariants.{Busy, Moved}
 use Rattle.op_core.specs.Answers.{IsHonest, Finds, load_of, change_of}
 use Rattle.hash_word.specs.Hash.{home_of, probing_of}
-use Rattle.segment_head.specs.HeadWord.{version_in, state_in, depth_in, free}
+use Rattle.segment_head.specs.HeadWord.{version_in, state_in, depth_in, is_live, free}
 use Rattle.bucket_meta.specs.Bucket.{allocated, record_slots}
 use Rattle.trace.specs.Events.{Words}
 use Rattle.image_layout.specs.Places.{IsShape, root_word, state_word, head_at, bucket_at}
@@ -193,11 +193,13 @@ module _ (t : Task) (k : Kept) (s : Step) (a : Ans) (loads : List (ℕ × ℕ)) 
 
   -- the event loaded the header of the segment that was named, which is live by it, and found another version there
   pub record FindsStale (segment byte : ℕ) : Type 0 where
+    pub first_look : s ≡ LoadHead
     pub head : ℕ
     pub finds : Found (head_word t.site.geometry segment) head
     pub segment_is : segment ≡ k.segment
     pub named : IsNamed
     pub sight : sight_of t.site.version t.hash head ≡ Late byte
+    pub live : is_live head ≡ true
     pub version : version_in head ≡ byte
     pub other : byte ≢ t.site.version
 

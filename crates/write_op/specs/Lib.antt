@@ -10,3 +10,4 @@ pub mod Numbers
 pub mod Spared
 pub mod Waiting
 pub mod Pairs
+pub mod ChangePart

@@ -3,6 +3,9 @@
 ghost use Rattle.std.specs.Prelude.{◌≡◌, ◌≢◌, ℕ, ◌+◌, ◌<◌, ◌≤◌, ◌^◌};
 ghost use Rattle.op_core.specs.declared.want.Want.TheVariants.{Flush, Fence, Done};
 ghost use Rattle.world.specs.Kinds.{wanted as wanted_by};
+ghost use Rattle.part.specs.Part.{IsPart};
+ghost use Rattle.part.specs.Causes.{EndsByCause as HasOutcomesByCause};
+ghost use Rattle.write_op.specs.ChangePart.{change_part, whole_change, BeginsAsPart, BeginsRemembering, BeginsBare, NeverFinished};
 ghost use Rattle.write_op.specs.Fits.{Fits, kind_of};
 ghost use Rattle.op_core.specs.Answers.{IsWord, IsAnswer};
 ghost use Rattle.op_core.specs.declared.want.Ans.{Ans};
@@ -111,4 +114,38 @@ pub fn refusals_leave_pairs()
     ensures refuses { RefusesUnmade }
 {
     world::other_steps_keep_pairs();
+}
+
+/// A change is a part of a call, which hands on where an insert finds no slot; and each of its outcomes has its cause, in what its
+/// attempt did.
+pub fn changes_are_parts()
+    ensures part { IsPart change_part }
+    ensures causes { HasOutcomesByCause change_part }
+{
+    attempt_ends();
+    events_have_kinds();
+    words_are_inside();
+    fits_the_world();
+    stores_are_words();
+    stores_keep_notes();
+    flushes_are_few();
+    refusals_leave_pairs();
+}
+
+/// So is a change that goes on to its refusal where no slot is free: by the law of a part that goes on by itself. It
+/// begins with a view that suits it, having done and holding nothing.
+pub fn whole_changes_are_parts()
+    ensures part { IsPart whole_change }
+    ensures causes { HasOutcomesByCause whole_change }
+    ensures begins { BeginsAsPart }
+    ensures remembers { BeginsRemembering }
+    ensures bare { BeginsBare }
+    ensures finished { NeverFinished }
+{
+    world::steps_add_one_reply();
+    attempt_ends();
+    fits_the_world();
+    stores_are_words();
+    crate::causes::ends_have_causes();
+    changes_are_parts();
 }

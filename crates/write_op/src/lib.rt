@@ -17,8 +17,9 @@ mod taking;
 pub use causes::ends_have_causes;
 pub use control::WriteEnd;
 pub use laws::{
-    attempt_ends, events_have_kinds, fits_the_world, flushes_are_few, numbers_stay_in_range,
-    refusals_leave_pairs, spent_locks_stay, stores_are_words, stores_keep_notes, words_are_inside,
+    attempt_ends, changes_are_parts, events_have_kinds, fits_the_world, flushes_are_few,
+    numbers_stay_in_range, refusals_leave_pairs, spent_locks_stay, stores_are_words,
+    stores_keep_notes, whole_changes_are_parts, words_are_inside,
 };
 pub use machine::WriteOp;
 

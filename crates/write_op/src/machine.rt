@@ -1,15 +1,16 @@
 //! The machine.
 
-ghost use Rattle.std.specs.Prelude.{◌≡◌, ◌≤◌};
+ghost use Rattle.std.specs.Prelude.{◌≡◌, ◌≤◌, ◌↔◌, IsTrue, true};
 ghost use Rattle.op_core.specs.declared.want.Want.TheVariants.{Done};
 ghost use Rattle.map_model.specs.Legal.{IsChange};
 ghost use Rattle.write_op.specs.declared.control.WriteEnd.TheVariants.{NoSlot};
 ghost use Rattle.write_op.specs.Taken.{begun, end_of, first_step, refused};
 ghost use Rattle.write_op.specs.Left.{left};
+ghost use Rattle.write_op.specs.ChangePart.{is_without_slot};
 
 use crate::asking::want_of;
 use crate::control::{Kept, Step, Task, WriteEnd};
-use crate::taking::{kept_after, step_after};
+use crate::taking::{keep, step_after};
 use map_model::Call;
 use op_core::{Ans, Machine, Want};
 use way::key_hash;
@@ -55,6 +56,13 @@ impl WriteOp {
         }
     }
 
+    /// Whether it wants nothing more.
+    pub fn is_done(&self) -> bool
+        ensures { IsTrue result ↔ (Rattle.write_op.specs.Taken.wanted self.now ≡ Done) }
+    {
+        matches!(self.step, Step::Ended(_))
+    }
+
     /// How the change ended. It has to want nothing more.
     pub fn end(self) -> WriteEnd
         requires { Rattle.write_op.specs.Taken.wanted self ≡ Done }
@@ -64,6 +72,15 @@ impl WriteOp {
             Step::Ended(end) => end,
             _ => WriteEnd::Off,
         }
+    }
+
+    /// Whether an insert found no slot and keeps its locks: another part goes on.
+    pub fn hands_on(&self) -> bool
+        ensures is { result ≡ is_without_slot self.now.step }
+        ensures no_more { result ≡ true → Rattle.write_op.specs.Taken.wanted self.now ≡ Done }
+        ensures no_slot { result ≡ true → end_of self.now ≡ NoSlot }
+    {
+        matches!(self.step, Step::Ended(WriteEnd::NoSlot))
     }
 
     /// Goes on with an insert that found no slot: it is refused, and its locks are given back.
@@ -92,8 +109,8 @@ impl Machine for WriteOp {
     }
 
     fn take(&mut self, ans: Ans) {
-        let kept = kept_after(&self.task, &self.kept, self.step, ans);
-        self.step = step_after(&self.task, &self.kept, self.step, ans);
-        self.kept = kept;
+        let next = step_after(&self.task, &self.kept, self.step, ans);
+        keep(&self.task, &mut self.kept, self.step, ans);
+        self.step = next;
     }
 }

@@ -1,12 +1,12 @@
 //! What an answer makes of a change.
 
-ghost use Rattle.std.specs.Prelude.{◌≡◌};
+ghost use Rattle.std.specs.Prelude.{◌≡◌, slice_set};
 ghost use Rattle.write_op.specs.Taken.{moved, seen_at, give_up, after_head, after_look, after_loss, again, chosen, decided, after_count, no_room, made, gave_back, kept_after, step_after};
 
 use crate::asking::free_of;
 use crate::control::{Held, Kept, Point, Side, Step, Task, WriteEnd};
 use crate::path::{Sight, lock_word, look_at_head};
-use bucket_meta::words::{lowest_free, lowest_with, with_word};
+use bucket_meta::words::{lowest_free, lowest_with};
 use image_layout::ROOT_WORD;
 use map_model::{Call, Reply};
 use op_core::{Ans, Why};
@@ -174,28 +174,32 @@ fn gave_back(held: Held, end: WriteEnd) -> Step
     }
 }
 
-/// What is kept after an answer.
-pub fn kept_after(task: &Task, kept: &Kept, step: Step, ans: Ans) -> Kept
-    ensures { result ≡ kept_after task.now kept.now step ans }
+/// A word of a bucket is put among its words, where they stand; a number past them changes none.
+fn set_word(words: &mut [u64; 32], at: u8, value: u64)
+    ensures { words.new ≡ slice_set words.old at value }
+{
+    if at < 32 {
+        words[usize::from(at)] = value;
+    }
+}
+
+/// What is kept after an answer, where it stands.
+pub fn keep(task: &Task, kept: &mut Kept, step: Step, ans: Ans)
+    ensures { kept.new ≡ kept_after task.now kept.old step ans }
 {
     match (step, ans) {
-        (Step::LoadRoot, Ans::Value(root)) => Kept { root, ..*kept },
-        (Step::LoadEntry, Ans::Value(segment)) => Kept { segment, ..*kept },
-        (Step::LoadHead, Ans::Value(head)) => Kept { head, ..*kept },
-        (Step::LookAt(Side::Home), Ans::Value(home_free)) => Kept { home_free, ..*kept },
-        (Step::LookAt(Side::Probing), Ans::Value(probing_free)) => Kept {
-            probing_free,
-            ..*kept
-        },
-        (Step::LoadWord(at), Ans::Value(value)) => Kept {
-            words: with_word(&kept.words, at, value),
-            ..*kept
-        },
-        (Step::LoadCount, Ans::Value(_)) => match chosen(task.call, &kept.words) {
-            Some(slot) => Kept { slot, ..*kept },
-            None => *kept,
-        },
-        _ => *kept,
+        (Step::LoadRoot, Ans::Value(root)) => kept.root = root,
+        (Step::LoadEntry, Ans::Value(segment)) => kept.segment = segment,
+        (Step::LoadHead, Ans::Value(head)) => kept.head = head,
+        (Step::LookAt(Side::Home), Ans::Value(free)) => kept.home_free = free,
+        (Step::LookAt(Side::Probing), Ans::Value(free)) => kept.probing_free = free,
+        (Step::LoadWord(at), Ans::Value(value)) => set_word(&mut kept.words, at, value),
+        (Step::LoadCount, Ans::Value(_)) => {
+            if let Some(slot) = chosen(task.call, &kept.words) {
+                kept.slot = slot;
+            }
+        }
+        _ => {}
     }
 }
 

@@ -2,7 +2,7 @@
 use Rattle.std.proofs.Common.{◌≡◌, ◌≢◌, ℕ, ◌+◌, ◌-◌, ◌%◌, ◌^◌, inl, inr, Bool, true, false, cond, Option, Some, None, List, refl, sym, ◌∙◌, ap, subst, arith, slice_index}
 use Rattle.std.specs.Prelude.{◌==◌, ◌&&◌, ◌||◌, not, nat_le, nat_lt, ⊤}
 use Rattle.std.proofs.lemmas.Bool.{eqb-true, eqb-false, ltb-false, leb-true, leb-false}
-use Rattle.segment_head.specs.HeadWord.{version_in, state_in, normal, splitting}
+use Rattle.segment_head.specs.HeadWord.{version_in, state_in, normal, splitting, is_live}
 use Rattle.image_layout.specs.Places.{root_word}
 use Rattle.op_core.specs.declared.want.Ans.{Ans}
 use Rattle.op_core.specs.declared.want.Ans.TheVariants.{Value, Won, Lost, Drawn, Passed}
@@ -42,14 +42,14 @@ version_of Good = 0
 version_of Other = 0
 
 late_by : (head version byte : ℕ) (b live c : Bool) → (version_in head == version) ≡ b → cond (not b && live) (Late (version_in head)) (cond c Good Other) ≡ Late byte
-    → (version_in head ≡ byte) × (byte ≢ version)
+    → (version_in head ≡ byte) × (byte ≢ version) × (live ≡ true)
 late_by head version byte true live true is late = absurd (cc)
 late_by head version byte true live false is late = absurd (cc)
-late_by head version byte false true c is late = let same = ap version_of late in (same, (λ e. eqb-false (version_in head) version is (same ∙ e)))
+late_by head version byte false true c is late = let same = ap version_of late in (same, (λ e. eqb-false (version_in head) version is (same ∙ e)), refl)
 late_by head version byte false false true is late = absurd (cc)
 late_by head version byte false false false is late = absurd (cc)
 
-late_is : (version hash head byte : ℕ) → sight_of version hash head ≡ Late byte → (version_in head ≡ byte) × (byte ≢ version)
+late_is : (version hash head byte : ℕ) → sight_of version hash head ≡ Late byte → (version_in head ≡ byte) × (byte ≢ version) × (is_live head ≡ true)
 late_is version hash head byte late =
     late_by head version byte (version_in head == version) ((state_in head == normal) || (state_in head == splitting))
     ((version_in head == version) && ((state_in head == normal) && is_covering head hash)) refl late
@@ -77,7 +77,7 @@ module _ (t : Task) (k : Kept) (loads : List (ℕ × ℕ)) (v : ℕ) where
   head_caused : IsNamed t k LoadHead (Value v) loads → (sight : Sight) → sight_of t.site.version t.hash v ≡ sight → CausedIf t k LoadHead (Value v) loads (after_head sight k.segment head v)
   head_caused named Good is = tt
   head_caused named (Late byte) is = let l = late_is t.site.version t.hash v byte is in
-      record { head = v; finds = (refl, refl); segment_is = refl; named = named; sight = is; version = l.0; other = l.1 }
+      record { first_look = refl; head = v; finds = (refl, refl); segment_is = refl; named = named; sight = is; live = l.2; version = l.0; other = l.1 }
   head_caused named Other is = inr (record { finds = (refl, refl); watched = inr (inr (inl (refl, named))); same = refl; amiss = is })
 
   look_caused : (side : Side) → IsNamed t k (LookAt side) (Value v) loads → CausedIf t k (LookAt side) (Value v) loads (after_look side (lock_word t k side) v)
@@ -178,7 +178,7 @@ ends_by_cause op a loads end change r honest still decided =
     decides op.task op.kept op.step a loads (step_after op.task op.kept op.step a) end (caused_in op.task op.kept op.step a loads change (recalls op loads r) honest still) decided
 
 -- ---- what is decided stays so
-stays_in : (t : Task) (k : Kept) (s : Step) (a : Ans) (end : WriteEnd) → IsDecided s end → IsDecided (step_after t k s a) end
+pub stays_in : (t : Task) (k : Kept) (s : Step) (a : Ans) (end : WriteEnd) → IsDecided s end → IsDecided (step_after t k s a) end
 stays_in t k (GiveBack OnlyHome e) Passed end is = is
 stays_in t k (GiveBack OnlyProbing e) Passed end is = is
 stays_in t k (GiveBack Both e) Passed end is = is

@@ -35,32 +35,12 @@ use Rattle.write_op.specs.Ways.{bucket_of, lock_word, sight_of}
 use Rattle.write_op.specs.Wanted.{free_of, wanted_of}
 use Rattle.write_op.specs.Taken.{begun, wanted, taken, moved, seen_at, give_up, after_head, after_look, after_loss, again, inserting, changing, decided, after_count, made, gave_back, kept_after, step_after}
 use Rattle.write_op.specs.Causes.{after_all, changed_of, told_word, IsDecided, AgainByOthers}
+use Rattle.write_op.specs.ChangePart.{Owns}
 use Rattle.write_op.proofs.causing.Recalling.{both_by}
 use Rattle.way.proofs.Indexes.{index_below}
 use Rattle.write_op.proofs.points.Hashes.{begins_inside}
 
--- ---- what was changed, and which numbers are kept, at each control point before the stores
-module _ (t : Task) (k : Kept) where
-  abbrev InRange : Type 0
-  InRange = (k.root ≤ t.site.geometry.depth) × (k.segment < t.site.geometry.segments)
-
-  abbrev lock : Side → ℕ
-  lock side = lock_word t k side
-
-  abbrev pub Owns : Step → List ℕ → Type 0
-  Owns AskPower ws = ws ≡ []
-  Owns LoadRoot ws = ws ≡ []
-  Owns LoadEntry ws = (ws ≡ []) × (k.root ≤ t.site.geometry.depth)
-  Owns LoadHead ws = (ws ≡ []) × InRange
-  Owns (LookAt Home) ws = (ws ≡ []) × InRange
-  Owns (TryLock Home) ws = (ws ≡ []) × InRange
-  Owns (LookAt Probing) ws = (ws ≡ lock Home ∷ []) × InRange
-  Owns (TryLock Probing) ws = (ws ≡ lock Home ∷ []) × InRange
-  Owns RootAgain ws = (ws ≡ lock Probing ∷ lock Home ∷ []) × InRange
-  Owns EntryAgain ws = (ws ≡ lock Probing ∷ lock Home ∷ []) × InRange
-  Owns HeadAgain ws = (ws ≡ lock Probing ∷ lock Home ∷ []) × InRange
-  Owns s ws = ⊤
-
+-- ---- what was changed is kept account of
 module _ (t : Task) (k : Kept) (ws : List ℕ) where
   abbrev P : Step → Type 0
   P s = Owns t k s ws
@@ -122,7 +102,7 @@ module _ (t : Task) (k : Kept) (ws : List ℕ) where
   gave_owns OnlyProbing end = tt
   gave_owns Both end = tt
 
-step_owns : (t : Task) (k : Kept) (s : Step) (a : Ans) (ws : List ℕ) → Owns t k s ws → Owns t (kept_after t k s a) (step_after t k s a) (change_of (wanted_of t k s) a ++ ws)
+pub step_owns : (t : Task) (k : Kept) (s : Step) (a : Ans) (ws : List ℕ) → Owns t k s ws → Owns t (kept_after t k s a) (step_after t k s a) (change_of (wanted_of t k s) a ++ ws)
 step_owns t k AskPower (Value v) ws o = both_by (λ s. Owns t k s ws) (v == 0) LoadRoot (Ended Off) (λ _. o) (λ _. tt)
 step_owns t k LoadRoot (Value v) ws o =
     both_by (λ s. Owns t (record k { root = v }) s ws) (nat_le v t.site.geometry.depth) LoadEntry (seen_at root_word v) (λ is. (o, leb-true v t.site.geometry.depth is)) (λ _. tt)
@@ -265,7 +245,7 @@ module _ (ws : List ℕ) where
   made_others slot DrawPlace (Drawn place) = tt
   made_others slot point a = tt
 
-others_in : (t : Task) (k : Kept) (s : Step) (a : Ans) (ws : List ℕ) → IsShape t.site.geometry → t.hash < 2 ^ 64 → Owns t k s ws → ((e : WriteEnd) → IsDecided s e → ⊥)
+pub others_in : (t : Task) (k : Kept) (s : Step) (a : Ans) (ws : List ℕ) → IsShape t.site.geometry → t.hash < 2 ^ 64 → Owns t k s ws → ((e : WriteEnd) → IsDecided s e → ⊥)
     → OthersIf ws (step_after t k s a)
 others_in t k AskPower (Value v) ws is fits o still = both_by (OthersIf ws) (v == 0) LoadRoot (Ended Off) (λ _. tt) (λ _. tt)
 others_in t k LoadRoot (Value v) ws is fits o still =
@@ -306,7 +286,7 @@ others_in t k (GiveBack held end) a ws is fits o still = absurd (still end refl)
 others_in t k (Ended end) a ws is fits o still = absurd (still end refl)
 others_in t k s a ws is fits o still = tt
 
-told_new : (ws : List ℕ) (s : Step) (why : Why) → OthersIf ws s → IsDecided s (Again why) → Has (told_word why) ws → ⊥
+pub told_new : (ws : List ℕ) (s : Step) (why : Why) → OthersIf ws s → IsDecided s (Again why) → Has (told_word why) ws → ⊥
 told_new ws (GiveBack held end) why others same = subst (λ e. OthersIf ws (GiveBack held e)) same others
 told_new ws (Ended end) why others same = subst (λ e. OthersIf ws (Ended e)) same others
 told_new ws s why others none = elim none [ ]

@@ -223,7 +223,7 @@ stores_load t k FlushPublished a = refl
 stores_load t k FencePublished a = refl
 stores_load t k DrawPlace a = refl
 
-step_recalls : (t : Task) (k : Kept) (s : Step) (a : Ans) (loads : List (ℕ × ℕ)) → Recalls t k s loads
+pub step_recalls : (t : Task) (k : Kept) (s : Step) (a : Ans) (loads : List (ℕ × ℕ)) → Recalls t k s loads
     → Recalls t (kept_after t k s a) (step_after t k s a) (load_of (wanted_of t k s) a ++ loads)
 step_recalls t k AskPower (Value v) loads r = both_by (λ s. Recalls t k s loads) (v == 0) LoadRoot (Ended Off)
     (λ _. record { whole = r.whole; way = tt; knows = tt }) (λ _. record { whole = r.whole; way = tt; knows = tt })
