@@ -58,7 +58,7 @@ fn remedy(step: Step) -> &'static str {
         Step::Make => {
             "nothing was changed: see that the folder is there, and that this user may write in it"
         }
-        Step::Write => "nothing was changed: make room on the disk, and try again",
+        Step::Write => "nothing was changed: see that its disk has room and is well, and try again",
         Step::Rename => {
             "nothing was changed: see that the path is that of a file which this user may replace"
         }
