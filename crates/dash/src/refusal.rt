@@ -77,12 +77,14 @@ impl<'a> Refusal<'a> {
     fn store<W: fmt::Write>(&self, f: &mut fmt::Formatter<W>) -> fmt::Result {
         let (program, path) = (self.program, self.path);
         if path.is_empty() {
-            return f.write_str("dash: the image's path is empty: give the name of its file, as a.img");
+            return f.write_str(
+                "dash: the image's path is empty: give the name of its file, as a.img",
+            );
         }
         match self.image {
             Some(Trouble::Missing) => write!(
                 f,
-                "dash: {path}: there is no such file: make an image first, by {program} '{path}' format 1 0 0"
+                "dash: {path}: there is no such file: give the path of an image, or make one, by {program} '{path}' format 1 0 0"
             ),
             Some(trouble) => write!(f, "dash: {path}: {trouble}"),
             None => write!(f, "dash: {path}: its file failed"),

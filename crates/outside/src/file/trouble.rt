@@ -69,7 +69,7 @@ impl fmt::Display for Trouble {
     fn fmt<W: fmt::Write>(&self, f: &mut fmt::Formatter<W>) -> fmt::Result {
         f.write_str(match self {
             Trouble::Missing => {
-                "there is no such file: make an image first, by the words `format 1 0 0`"
+                "there is no such file: give the path of an image, or make one, by the words `format 1 0 0`"
             }
             Trouble::LeadsNowhere => {
                 "this is a symbolic link to a file that is not there: give the path of that file to format, or remove the link"
