@@ -4,14 +4,14 @@
 pub fn image_words(fault: &str) -> &'static str {
     match fault {
         "length" => {
-            "its length is not that of an image: it is none, or a part of one; give the path of a whole image"
+            "its length is not that of an image: it is none, or is damaged; give the path of a whole image, or of an earlier copy"
         }
         "magic" => "it does not begin with DASHEH01, so it is no image: give the path of an image",
         "format" => {
             "its format is none that this version knows (format 1, hash 0 or 1): give the path of another image"
         }
         "geometry" => {
-            "its shape is out of range (1 to 16384 segments, depth 0 to 16), so it is damaged: take a copy of it from before"
+            "its shape is out of range (1 to 16384 segments, depth 0 to 16), so it is damaged: use an earlier copy of it"
         }
         _ => rule_words(fault),
     }
@@ -51,13 +51,13 @@ fn limit_words(word: &[u8]) -> &'static str {
             "it has more than one slot for segments, which this version cannot read yet, and a later one will: until then make images by `format 1 DEPTH KIND`"
         }
         b"8" => {
-            "its directory is deeper than 0, which this version cannot read yet, and a later one will"
+            "its directory is deeper than 0, which this version cannot read yet, and a later one will: until then use another image"
         }
         b"16" => {
-            "it was left by a power cut, which check and list take, but this version cannot play yet, and a later one will"
+            "it was left by a power cut, which check and list take, but this version cannot play yet, and a later one will: until then insert the pairs that list prints into a new image"
         }
         _ => {
-            "it has a record outside its home bucket, or a segment that is split or to be repaired, which this version cannot take yet, and a later one will"
+            "it has a record outside its home bucket, or a segment that is split or to be repaired, which this version cannot take yet, and a later one will: until then use another image"
         }
     }
 }
@@ -66,25 +66,25 @@ fn limit_words(word: &[u8]) -> &'static str {
 fn broken_words(rule: u8) -> &'static str {
     match rule {
         b'1' => {
-            "a number in its head or in a segment's header is out of range, so it is damaged: take a copy of it from before"
+            "a number in its head or in a segment's header is out of range, so it is damaged: use an earlier copy of it"
         }
         b'2' => {
-            "some keys belong to no segment, or to two, so it is damaged: take a copy of it from before"
+            "some keys belong to no segment, or to two, so it is damaged: use an earlier copy of it"
         }
         b'3' => {
-            "an entry of its directory does not lead to the segment of its keys, so it is damaged: take a copy of it from before"
+            "an entry of its directory does not lead to the segment of its keys, so it is damaged: use an earlier copy of it"
         }
         b'4' => {
-            "a record stands in a bucket that is not its key's, or its fingerprint is another, so it is damaged: take a copy of it from before"
+            "a record stands in a bucket that is not its key's, or its fingerprint is another, so it is damaged: use an earlier copy of it"
         }
         b'5' => {
-            "a key stands in it twice, with two values, so it is damaged: take a copy of it from before"
+            "a key stands in it twice, with two values, so it is damaged: use an earlier copy of it"
         }
         b'6' => {
-            "a segment has a later version than the image, so it is damaged: take a copy of it from before"
+            "a segment has a later version than the image, so it is damaged: use an earlier copy of it"
         }
         _ => {
-            "it is marked as closed, and is not as a close leaves it, so it is damaged: take a copy of it from before"
+            "it is marked as closed, and is not as a close leaves it, so it is damaged: use an earlier copy of it"
         }
     }
 }

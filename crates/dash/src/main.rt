@@ -19,13 +19,17 @@ use std::process::ExitCode;
 
 fn main(rt: HostRuntime) -> ExitCode {
     let Ok(arguments) = received(&rt) else {
-        let _ = rt.eprintln("dash: memory was wanting for its words");
+        let _ = rt.eprintln(
+            "dash: memory was wanting for its words: let the process have more (ulimit -v)",
+        );
         return ExitCode::from(NO_MEMORY);
     };
     let (path, words) = parted(&arguments);
     let purpose = purpose_of(words);
     let Ok(mut image) = FileStore::new(&rt, rt.alloc(), path, purpose, number::drawn(&rt)) else {
-        let _ = rt.eprintln("dash: memory was wanting for the image's path");
+        let _ = rt.eprintln(
+            "dash: memory was wanting for the image's path: let the process have more (ulimit -v)",
+        );
         return ExitCode::from(NO_MEMORY);
     };
     let mut input = StdSource::new(rt.stdin());
@@ -44,6 +48,7 @@ fn main(rt: HostRuntime) -> ExitCode {
         let _ = rt.eprintln(Refusal {
             status,
             program: program_of(&arguments),
+            is_text: !arguments.is_empty(),
             path: path,
             line: out.line(),
             image: image.trouble(),

@@ -12,6 +12,8 @@ pub struct Refusal<'a> {
     pub status: u8,
     /// The name by which the program was called.
     pub program: &'a str,
+    /// Whether its arguments are text.
+    pub is_text: bool,
     /// The image's path.
     pub path: &'a str,
     /// The line on standard output.
@@ -28,9 +30,14 @@ impl<'a> Refusal<'a> {
     // The forms of the words, with their ranges.
     fn forms<W: fmt::Write>(&self, f: &mut fmt::Formatter<W>) -> fmt::Result {
         let program = self.program;
+        let what = if self.is_text {
+            "these words are none of"
+        } else {
+            "one of these words is no UTF-8 text, which no command takes; the commands are"
+        };
         write!(
             f,
-            "dash: these words are none of: {program} IMAGE format SEGMENTS DEPTH KIND (1 to 16384, 0 to 16, 0 or 1), {program} IMAGE play (with a script as standard input), {program} IMAGE check, {program} IMAGE list"
+            "dash: {what}: {program} IMAGE format SEGMENTS DEPTH KIND (1 to 16384, 0 to 16, 0 or 1), {program} IMAGE play (with a script as standard input), {program} IMAGE check, {program} IMAGE list; IMAGE is the path of the image's file, as in {program} a.img format 1 0 0"
         )
     }
 
@@ -40,7 +47,10 @@ impl<'a> Refusal<'a> {
         let fault = self.line.strip_prefix("fault script ").unwrap_or("");
         let (kind, place) = fault.split_once(' ').unwrap_or((fault, ""));
         let words = script_words(kind);
-        write!(f, "dash: {path} is as it was; the script, {place}: {words}")
+        match place {
+            "line 0" => write!(f, "dash: {path} is as it was; the script: {words}"),
+            _ => write!(f, "dash: {path} is as it was; the script, {place}: {words}"),
+        }
     }
 
     fn image<W: fmt::Write>(&self, f: &mut fmt::Formatter<W>) -> fmt::Result {
@@ -66,10 +76,15 @@ impl<'a> Refusal<'a> {
 
     fn store<W: fmt::Write>(&self, f: &mut fmt::Formatter<W>) -> fmt::Result {
         let (program, path) = (self.program, self.path);
+        if path.is_empty() {
+            return f.write_str(
+                "dash: the image's path is empty: give the name of its file, as a.img",
+            );
+        }
         match self.image {
             Some(Trouble::Missing) => write!(
                 f,
-                "dash: {path}: there is no such file: make an image first, by {program} {path} format 1 0 0"
+                "dash: {path}: there is no such file: give the path of an image, or make one, by {program} '{path}' format 1 0 0"
             ),
             Some(trouble) => write!(f, "dash: {path}: {trouble}"),
             None => write!(f, "dash: {path}: its file failed"),
@@ -92,7 +107,7 @@ impl<'a> fmt::Display for Refusal<'a> {
             SINK_FAILED => self.stream(
                 "standard output could not be written",
                 self.out,
-                "a play that was done has stored its image all the same, and what was refused has changed nothing",
+                "check and list may be run again; a play may have stored its image all the same, so see by list before it is played again",
                 f,
             ),
             STORE_FAILED => self.store(f),

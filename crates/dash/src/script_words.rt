@@ -4,7 +4,7 @@
 pub fn script_words(kind: &str) -> &'static str {
     match kind {
         "word" => {
-            "this line is none of: C get K, C insert K V, C update K V, C remove K, step C N, until C KIND N (KIND is store, exchange, flush, fence, draw or end), until C at W, close, cut N; each letter but KIND stands for a number, as in `1 get 5`, and words are parted by spaces"
+            "this line is none of: C get K, C insert K V, C update K V, C remove K, step C N, until C KIND N (KIND is store, exchange, flush, fence, draw or end), until C at W, close, cut N; each letter but KIND stands for a number, as in `1 get 5`, words are parted by spaces, and a line that begins with # is skipped"
         }
         "number" => {
             "in this line something else stands where a number must: a number is 0 to 18446744073709551615, in 1 to 20 decimal digits and nothing else"

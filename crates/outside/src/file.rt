@@ -42,7 +42,8 @@ impl From<Trouble> for NotRead {
     }
 }
 
-// The path with no link in it, which the system may refuse to tell. Where nothing has its name it is as it was given.
+// The path with no link in it. Where the system does not tell it, as below a folder that may not be searched, it is as
+// it was given, unless it is a link itself.
 fn followed<R: Files>(
     rt: &R,
     alloc: Global,
@@ -50,12 +51,14 @@ fn followed<R: Files>(
 ) -> Result<(String, Option<Trouble>), AllocError> {
     match rt.canonicalize(alloc, path) {
         Ok(real) => Ok((real.into_string(), None)),
+        Err(error) if error.kind() == ErrorKind::OutOfMemory => Err(AllocError),
         Err(error) => {
             let given = String::from_str(alloc, path)?;
-            match error.kind() {
-                ErrorKind::OutOfMemory => Err(AllocError),
-                ErrorKind::NotFound => Ok((given, None)),
-                _ => Ok((given, Some(Trouble::Refused(Step::Follow, error)))),
+            match rt.symlink_metadata(path) {
+                Ok(found) if found.is_symlink() && error.kind() != ErrorKind::NotFound => {
+                    Ok((given, Some(Trouble::Refused(Step::Follow, error))))
+                }
+                _ => Ok((given, None)),
             }
         }
     }

@@ -4,7 +4,7 @@ ghost use Rattle.std.specs.Fmt.{decimal};
 ghost use Rattle.std.specs.Path.{path_with_file_name};
 
 use super::held::Held;
-use super::opened::opened;
+use super::opened::above_streams;
 use super::rights::{first_mode, kept_mode};
 use super::trouble::{Step, Trouble};
 use std::alloc::{AllocError, Global};
@@ -46,10 +46,11 @@ fn keep_rights(file: &File, had: &Metadata) -> io::Result<()> {
     Ok(())
 }
 
-fn fill(file: &mut File, before: Option<&Held>, bytes: &[u8]) -> io::Result<()> {
+fn fill(made: File, before: Option<&Held>, bytes: &[u8]) -> io::Result<()> {
+    let mut file = above_streams(made)?;
     file.write_all(bytes)?;
     if let Some(held) = before {
-        keep_rights(file, &held.found)?;
+        keep_rights(&file, &held.found)?;
     }
     file.sync_all()
 }
@@ -61,11 +62,11 @@ pub fn write_second<R: Files<File = File>>(
     before: Option<&Held>,
     bytes: &[u8],
 ) -> Result<(), Trouble> {
-    let mut file = match opened(rt, &new_file(before), second) {
+    let made = match new_file(before).open(rt, second) {
         Ok(file) => file,
         Err(error) => return Err(Trouble::Refused(Step::Make, error)),
     };
-    match fill(&mut file, before, bytes) {
+    match fill(made, before, bytes) {
         Ok(()) => Ok(()),
         Err(error) => {
             let _ = fs::remove_file(rt, second);

@@ -49,14 +49,30 @@ fn undone(step: Step) -> &'static str {
     }
 }
 
+// What to do about it.
+fn remedy(step: Step) -> &'static str {
+    match step {
+        Step::Follow => "give the path of a file that this user can reach",
+        Step::Open => "see that this user may read it, and for format and play write it",
+        Step::Read => "try again, or use an earlier copy of it",
+        Step::Make => {
+            "nothing was changed: see that the folder is there, and that this user may write in it"
+        }
+        Step::Write => "nothing was changed: see that its disk has room and is well, and try again",
+        Step::Rename => {
+            "nothing was changed: see that the path is that of a file which this user may replace"
+        }
+    }
+}
+
 impl fmt::Display for Trouble {
     fn fmt<W: fmt::Write>(&self, f: &mut fmt::Formatter<W>) -> fmt::Result {
         f.write_str(match self {
             Trouble::Missing => {
-                "there is no such file: make an image first, by the words `format 1 0 0`"
+                "there is no such file: give the path of an image, or make one, by the words `format 1 0 0`"
             }
             Trouble::LeadsNowhere => {
-                "this is a symbolic link to a file that is not there: make that file, or remove the link"
+                "this is a symbolic link to a file that is not there: give the path of that file to format, or remove the link"
             }
             Trouble::NoFile => {
                 "this is a folder, a device or a pipe: give the path of a regular file"
@@ -71,7 +87,7 @@ impl fmt::Display for Trouble {
                 "another process made, replaced or removed this file meanwhile, so nothing was changed: try again"
             }
             Trouble::Refused(step, reason) => {
-                return write!(f, "{}: {reason}", undone(*step));
+                return write!(f, "{}: {reason}; {}", undone(*step), remedy(*step));
             }
         })
     }

@@ -161,6 +161,9 @@ fn link_is_followed(rt: HostRuntime) -> Result<(), Fail> {
     let mut nowhere = store(&rt, "link/edge.img", Purpose::Writing)?;
     assert_eq!(rt; nowhere.write_all(b"new"), Err(Failed));
     assert!(rt; matches!(nowhere.trouble(), Some(Trouble::LeadsNowhere)));
+    let mut reader = store(&rt, "link/edge.img", Purpose::Reading)?;
+    assert!(rt; matches!(reader.read_all(rt.alloc(), 9), Err(StoreFault::Failed)));
+    assert!(rt; matches!(reader.trouble(), Some(Trouble::LeadsNowhere)));
     Ok(())
 }
 
