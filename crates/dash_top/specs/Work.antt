@@ -1,5 +1,5 @@
 -- What each command does, and why one stops before it is done.
-use Rattle.std.specs.Prelude.{◌≡◌, ◌⊎◌, ℕ, ◌+◌, ◌↔◌, Option, List, [], length, slice_index, string_bytes, IsTrue, Bool, true}
+use Rattle.std.specs.Prelude.{◌≡◌, ℕ, ◌+◌, ◌↔◌, Option, List, [], length, slice_index, string_bytes, IsTrue, Bool, true}
 use Rattle.std.specs.List.Sorted.{IsStrictlyIncreasing}
 use Rattle.outside.specs.Causes.{Rose}
 use Rattle.outside.specs.Storing.{Holds}

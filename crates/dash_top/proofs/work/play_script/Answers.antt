@@ -1,4 +1,4 @@
-use Rattle.std.proofs.Common.{List, ℕ, ◌+◌, subst, refl, sym, ap, ◌∙◌, Option, []}
+use Rattle.std.proofs.Common.{List, ℕ, ◌+◌, subst, refl, sym, ap, ◌∙◌, Option}
 use Rattle.outside.specs.Storing.{Holds}
 use Rattle.session.specs.Session.{IsSession}
 use Rattle.core_run.specs.Sessions.{ending_of}
