@@ -28,7 +28,7 @@ module _ (t : Told) (words : List (List ℕ)) (source_old source_new store_old s
   cause_of_format (Script fault) says h = absurd h
   cause_of_format (Image fault) says h = absurd h
   cause_of_format Source says h = absurd h
-  cause_of_format Store says h = (h.0, StoreFailed.in_formatting says h.1)
+  cause_of_format Store says h = (h.0, StoreFailed.in_formatting says (record { once = h.1.0; failed = h.1.1 }))
   cause_of_format NoMemory says h = record { same = h.0; unwritten = h.1 }
 
   -- of a play

@@ -1,5 +1,5 @@
 -- What the store and the source tell before a call and after it, and what was read of them.
-use Rattle.std.specs.Prelude.{◌≡◌, ◌≢◌, ℕ, ◌+◌, ◌≤◌, Bool, true, List, length, slice_index, Option}
+use Rattle.std.specs.Prelude.{◌≡◌, ◌≢◌, ℕ, ◌+◌, ◌≤◌, Bool, true, false, List, length, slice_index, Option}
 use Rattle.std.specs.Io.KnownBytes.{Consumes, IsAtEnd}
 use Rattle.outside.specs.Causes.{Rose}
 use Rattle.outside.specs.Storing.{IsFront}
@@ -48,19 +48,22 @@ pub record KeepsStore (t : Told) : Type 0 where
   pub same : t.store_new ≡ t.store_old
   pub unwritten : t.writes_new ≡ t.writes_old
 
--- the store was written once
-abbrev pub WritesOnce : Told → Type 0
-WritesOnce t = t.writes_new ≡ t.writes_old + 1
+-- the store was written once, and that did not fail
+pub record WritesOnce (t : Told) : Type 0 where
+  pub once : t.writes_new ≡ t.writes_old + 1
+  pub kept : t.lost ≡ false
 
 -- it was written once, and that failed
-abbrev pub LosesWrite : Told → Type 0
-LosesWrite t = WritesOnce t × (t.lost ≡ true)
+pub record LosesWrite (t : Told) : Type 0 where
+  pub once : t.writes_new ≡ t.writes_old + 1
+  pub failed : t.lost ≡ true
 
 -- THE SCRIPT
 -- a script was read: all that was left, or a byte more than may be
 pub record ReadsScript (source_old source_new : Option (List ℕ)) (script : List ℕ) : Type 0 where
   pub taken : Consumes source_old source_new script
   pub to_its_end : length script ≤ script_limit → IsAtEnd source_new
+  pub no_more : length script ≤ script_limit + 1
 
 -- and it is one of the grammar
 pub record ReadsGoodScript (source_old source_new : Option (List ℕ)) : Type 0 where

@@ -16,5 +16,6 @@ mod work;
 
 pub use status::{
     BAD_IMAGE, BAD_SCRIPT, BAD_WORDS, DONE, NO_MEMORY, SINK_FAILED, SOURCE_FAILED, STORE_FAILED,
+    statuses_have_numbers,
 };
 pub use top::dash_run;

@@ -1,5 +1,5 @@
 // What each command does between the outside's bytes.
-ghost use Rattle.std.specs.Prelude.{◌≡◌, ◌≢◌, ◌⊎◌, ◌+◌, ◌<◌, ◌≤◌, ℕ, List, OnOk, IfOk, IfErr, map, string_bytes};
+ghost use Rattle.std.specs.Prelude.{◌≡◌, ◌≢◌, ◌⊎◌, ◌+◌, ◌<◌, ◌≤◌, ℕ, List, OnOk, IfOk, IfErr, map, string_bytes, false};
 ghost use Rattle.outside.specs.Storing.{most_writes};
 ghost use Rattle.dash_top.specs.Commands.{check_words, list_words, play_words};
 ghost use Rattle.dash_top.specs.Told.{told};
@@ -86,6 +86,7 @@ fn format_image<I: Store>(alloc: Global, image: &mut I, geometry: Geometry) -> R
     requires { I.writes image.old < most_writes }
     ensures ok { OnOk result (StoresNew (I.contents image.old) (I.contents image.new) geometry) }
     ensures once { OnOk result (I.writes image.new ≡ I.writes image.old + 1) }
+    ensures kept { OnOk result (I.lost image.new ≡ false) }
     ensures err { IfErr result (HasFormatCause (I.contents image.old) (I.contents image.new) (I.writes image.old) (I.writes image.new) (I.lost image.new)
         (I.faults image.old) (I.faults image.new)) }
 {
@@ -131,6 +132,7 @@ fn play_script<I: Store, S: Source>(
     requires { I.writes image.old < most_writes }
     ensures ok { IfOk result (λ lines. Plays (told (I.contents image.old) (I.contents image.new) (I.writes image.old) (I.writes image.new) (I.lost image.new) (S.left input.old) (S.left input.new)) lines.items) }
     ensures once { IfOk result (λ lines. I.writes image.new ≡ I.writes image.old + 1) }
+    ensures kept { IfOk result (λ lines. I.lost image.new ≡ false) }
     ensures err { IfErr result (HasCause (told (I.contents image.old) (I.contents image.new) (I.writes image.old) (I.writes image.new) (I.lost image.new) (S.left input.old) (S.left input.new))
         play_words (S.faults input.old) (S.faults input.new) (I.faults image.old) (I.faults image.new)) }
 {

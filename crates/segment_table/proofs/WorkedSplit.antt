@@ -1,19 +1,20 @@
 -- A table of eight slots, worked through: as it is formatted, and before and after each store of its first split, which
--- doubles the directory. The stores and their words are those of a run of 57 inserts; the frame is sound after each.
-use Rattle.std.proofs.Common.{◌≡◌, ◌≢◌, ℕ, ◌+◌, ◌*◌, ◌/◌, ◌%◌, ◌^◌, ◌<◌, ◌≤◌, ◌⊎◌, inl, inr, Some, refl, sym, ap, subst, ◌∙◌, lit<, lit≤, arith}
+-- doubles the directory. The stores and their words are those of a run of 57 inserts; the frame is sound after each. Then the
+-- stores of a repair of that split, cut off before its side is live and after.
+use Rattle.std.proofs.Common.{◌≡◌, ◌≢◌, ℕ, suc, ◌+◌, ◌*◌, ◌/◌, ◌%◌, ◌^◌, ◌<◌, ◌≤◌, ◌⊎◌, inl, inr, Some, refl, sym, ap, subst, ◌∙◌, lit<, lit≤, arith}
 use Rattle.std.specs.Prelude.{◌==◌, if◌then◌else◌}
 use Rattle.std.proofs.lemmas.Bool.{cases_eq, ne_eqb}
 use Rattle.trace.specs.Events.{Words, with_word}
 use Rattle.hash_word.specs.Hash.{top}
 use Rattle.segment_head.specs.HeadWord.{state_in, normal, splitting}
 use Rattle.image_layout.specs.Places.{Shape, IsShape}
-use Rattle.sound_image.specs.Segments.{Frame, frame_of, depth_at, IsLive, IsReadySide}
+use Rattle.sound_image.specs.Segments.{Frame, frame_of, depth_at, IsLive, IsReadySide, HasReadySide}
 use Rattle.segment_table.specs.Claims.{Claims, LeadsToClaimer, arrived, HasSoundFrame}
 use Rattle.segment_table.specs.Owner.{owner, owner_below}
 use Rattle.segment_table.specs.Stores.{StoreHandsOver}
 use Rattle.segment_table.proofs.frames.Regions.{top_below}
 use Rattle.segment_table.proofs.stores.Moved.{HeadFits, head_in_range}
-use Rattle.segment_table.proofs.StoreLaws.{opens, links, begins_split, takes_slot, doubles, goes_live, names_claimer, ends_split}
+use Rattle.segment_table.proofs.StoreLaws.{opens, links, begins_split, takes_slot, frees_slot, doubles, goes_live, names_claimer, names_side, ends_split, drops_split, renews}
 
 -- eight slots, depth 3, and keys that are their own hashes: slot 0 begins at word 64 and slot 1 at word 2208
 abbrev pub eight : Shape
@@ -185,6 +186,59 @@ ended-sound =
   where
     side : IsReadySide (frame_of eight named) 0 1
     side = record { splits = refl; named = refl; slot = lit< tt; live = inl refl; deeper = lit< tt; zeros = refl }
+
+-- A REPAIR of this split, where it was cut off before slot 1 is live: slot 1 is free, and its other fields stay
+abbrev freed : Words
+freed = with_word doubled 2209 4295032833
+
+freed-sound : HasSoundFrame eight freed
+freed-sound =
+    (frees_slot eight doubled eight-IsShape doubled-sound 1 4295032833
+    (record { slot = lit< tt; was = refl; becomes = refl; past = lit≤ tt })).goes_on.sound
+
+-- and slot 0 is normal again, as deep as before
+abbrev dropped : Words
+dropped = with_word freed 65 257
+
+dropped-sound : HasSoundFrame eight dropped
+dropped-sound =
+    (drops_split eight freed eight-IsShape freed-sound 0 257
+    (record {
+      slot = lit< tt;
+      was = refl;
+      unready = unready;
+      becomes = refl;
+      region = record { depth = refl; pattern = refl };
+      past = lit≤ tt;
+    })).goes_on.sound
+  where
+    linked_slot : (n : ℕ) → 2 ≡ suc n → n ≡ 1
+    linked_slot n e = omega (arith, e)
+
+    dead : (state_in 4295032833 ≡ normal) ⊎ (state_in 4295032833 ≡ splitting) → ⊥
+    dead (inl e) = omega (arith, e)
+    dead (inr e) = omega (arith, e)
+
+    unready : HasReadySide (frame_of eight freed) 0 → ⊥
+    unready side = dead (subst (λ n. IsLive (frame_of eight freed) n) (linked_slot side.0 side.1.named) side.1.live)
+
+-- and where it was cut off after that: entry 1, which names slot 0 still, is to name slot 1; the split then ends as above
+repaired-sound : HasSoundFrame eight named
+repaired-sound =
+    (names_side eight shared eight-IsShape handed.goes_on.sound 0 1 1
+    (record { slot = lit< tt; side = side; index = lit< tt; in_side = λ h fits at. at; shallow = lit≤ tt })).goes_on.sound
+  where
+    side : IsReadySide (frame_of eight shared) 0 1
+    side = record { splits = refl; named = refl; slot = lit< tt; live = inl refl; deeper = lit< tt; zeros = refl }
+
+-- a version byte of the table as it was formatted becomes 0
+abbrev swept : Words
+swept = with_word formatted 65 256
+
+swept-sound : HasSoundFrame eight swept
+swept-sound =
+    (renews eight formatted eight-IsShape formatted-sound 0 256
+    (record { slot = lit< tt; becomes = refl; region = record { depth = refl; pattern = refl }; past = lit≤ tt })).goes_on.sound
 
 -- THE OWNERS of the first hash of each half, before and after: they move when slot 1 becomes normal, and at no other store
 abbrev low : ℕ

@@ -1,5 +1,4 @@
 use Rattle.dash_top.specs.Commands.ReadsImage.{for_check, for_list}
-use Rattle.dash_top.specs.Told.{KeepsStore}
 use Rattle.dash_top.specs.Work.{by_format, by_check, by_list, by_play}
 use Rattle.dash_top.proofs.Causes.{cause_of_reading, cause_of_format, cause_of_play, err_of}
 use Rattle.dash_top.proofs.Complete.{check_is_no_play, list_is_no_play}
@@ -7,7 +6,9 @@ use Rattle.dash_top.proofs.work.perform.Goals as goal
 
 -- FORMAT
 pub returns-in_ok-format_image-in-Format-clause-ok : goal.returns-in_ok-format_image-in-Format-clause-ok
-returns-in_ok-format_image-in-Format-clause-ok g c = by_format c.in-Format.ensures c.in_ok-format_image-in-Format.ensures.ok c.in_ok-format_image-in-Format.ensures.once
+returns-in_ok-format_image-in-Format-clause-ok g c =
+    by_format c.in-Format.ensures c.in_ok-format_image-in-Format.ensures.ok
+    (record { once = c.in_ok-format_image-in-Format.ensures.once; kept = c.in_ok-format_image-in-Format.ensures.kept })
 
 pub returns-in_err-format_image-in-Format-clause-err : goal.returns-in_err-format_image-in-Format-clause-err
 returns-in_err-format_image-in-Format-clause-err g c =
@@ -40,7 +41,9 @@ returns-in_err-text-in-List-clause-err g c =
 
 -- PLAY
 pub returns-in_ok-lines-in-Play-clause-ok : goal.returns-in_ok-lines-in-Play-clause-ok
-returns-in_ok-lines-in-Play-clause-ok g c = by_play c.in-Play.ensures c.in_ok-lines-in-Play.ensures.ok c.in_ok-lines-in-Play.ensures.once
+returns-in_ok-lines-in-Play-clause-ok g c =
+    by_play c.in-Play.ensures c.in_ok-lines-in-Play.ensures.ok
+    (record { once = c.in_ok-lines-in-Play.ensures.once; kept = c.in_ok-lines-in-Play.ensures.kept })
 
 pub returns-in_err-lines-in-Play-clause-err : goal.returns-in_err-lines-in-Play-clause-err
 returns-in_err-lines-in-Play-clause-err g c =

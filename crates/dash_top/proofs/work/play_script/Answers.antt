@@ -1,4 +1,4 @@
-use Rattle.std.proofs.Common.{List, ℕ, ◌+◌, subst, refl, sym, ap, ◌∙◌, Option, []}
+use Rattle.std.proofs.Common.{List, ℕ, ◌+◌, subst, refl, sym, ap, ◌∙◌, Option}
 use Rattle.outside.specs.Storing.{Holds}
 use Rattle.session.specs.Session.{IsSession}
 use Rattle.core_run.specs.Sessions.{ending_of}
@@ -30,6 +30,8 @@ returns-in-Ok-clause-ok g c =
       shape = c.in_ok-medium.medium.geometry;
       words = c.in_ok-medium.medium.words;
       reads = image;
+      served = c.in_ok-medium.ensures.served;
+      untouched = c.in_default.ensures.ok;
       ending = c.in_ok-ending.ending.items;
       stores = subst (λ o. Holds o (g.I.Store.contents c.write_all.new.self) c.in_ok-ending.ending.items) c.in_ok-medium.ensures.keeps
           (subst (λ (x : List ℕ). Holds (g.I.Store.contents c.read_image.new.image) (g.I.Store.contents c.write_all.new.self) x) c.deref.ensures.value c.in-Ok.ensures.written);
@@ -83,5 +85,8 @@ returns-clause-err g c = (
         served = c.in_ok-medium.ensures.served;
         untouched = c.in_default.ensures.ok;
       })
-      (c.in-Err-write_all.ensures.once ∙ ap (λ (n : ℕ). n + 1) c.in_ok-medium.ensures.unwritten, c.in-Err-write_all.ensures.failed),
+      (record {
+        once = c.in-Err-write_all.ensures.once ∙ ap (λ (n : ℕ). n + 1) c.in_ok-medium.ensures.unwritten;
+        failed = c.in-Err-write_all.ensures.failed;
+      }),
 )
