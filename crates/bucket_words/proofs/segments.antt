@@ -7,3 +7,5 @@ pub mod OneRecord
 pub mod Cores
 pub mod Prepared
 pub mod Rules
+pub mod Deciding
+pub mod WorkedTables

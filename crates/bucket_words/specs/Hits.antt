@@ -21,6 +21,10 @@ module _ (shape : Shape) (word : Words) where
   abbrev pub HasNone : ℕ → ℕ → Type 0
   HasNone s k = (b r : ℕ) → Hit s b r k → ⊥
 
+  -- none of bucket b there
+  abbrev pub HasNoneIn : ℕ → ℕ → ℕ → Type 0
+  HasNoneIn s b k = (r : ℕ) → Hit s b r k → ⊥
+
   -- none but slot r of bucket b
   abbrev pub HasOnly : ℕ → ℕ → ℕ → ℕ → Type 0
   HasOnly s b r k = (c t : ℕ) → Hit s c t k → (c ≡ b) × (t ≡ r)

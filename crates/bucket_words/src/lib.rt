@@ -12,5 +12,6 @@ mod records;
 pub use laws::{changes_of_one_word, cores_decide, home_words_decide, tables_are_sound};
 pub use records::{
     changes_of_a_record, cores_of_the_image_decide, keys_are_found, no_slot_changes,
-    one_slot_changes, owners_follow_the_structure, stores_beside_records, tables_follow_the_rules,
+    one_slot_changes, owners_follow_the_structure, places_of_a_key_decide, stores_beside_records,
+    tables_follow_the_rules,
 };

@@ -1,19 +1,20 @@
 //! Laws of records in the buckets of any segment: what a key has, and what a store does to that. The functions do nothing: each
 //! stands for the law that its contract says.
 
-ghost use Rattle.std.specs.Prelude.{◌≡◌, ◌≢◌, ◌↔◌, ℕ, ◌+◌, ◌*◌, ◌^◌, ◌<◌, ◌≤◌, None, Some, Option};
+ghost use Rattle.std.specs.Prelude.{◌≡◌, ◌≢◌, ◌↔◌, ◌⊎◌, ℕ, ◌+◌, ◌*◌, ◌^◌, ◌<◌, ◌≤◌, None, Some, Option};
 ghost use Rattle.trace.specs.Events.{Words, with_word};
 ghost use Rattle.bucket_meta.specs.Bucket.{allocated, member, finger, record_slots};
 ghost use Rattle.bucket_meta.specs.Marks.{SameButSlot};
-ghost use Rattle.image_layout.specs.Places.{Shape, IsShape, bucket_at, words_of, block, buckets};
+ghost use Rattle.hash_word.specs.Hash.{home_of, probing_of};
+ghost use Rattle.image_layout.specs.Places.{Shape, IsShape, bucket_at, words_of, block, homes, stash_buckets, buckets};
 ghost use Rattle.sound_image.specs.Rules.{RecordsStandRight, KeysHaveOneValue};
 ghost use Rattle.sound_image.specs.Records.{key_hash, HasAt};
 ghost use Rattle.segment_table.specs.Claims.{HasSoundFrame};
 ghost use Rattle.bucket_words.specs.Buckets.{IsTaken, value_in};
 ghost use Rattle.bucket_words.specs.Slots.{SameSlot};
-ghost use Rattle.bucket_words.specs.Core.{core_of, core};
+ghost use Rattle.bucket_words.specs.Core.{core_of, core, SameCoresIn};
 ghost use Rattle.bucket_words.specs.Owners.{IsStructure, owner_of, SameOwners};
-ghost use Rattle.bucket_words.specs.Hits.{Hit, HasNone, HasOnly, find};
+ghost use Rattle.bucket_words.specs.Hits.{Hit, HasNone, HasNoneIn, HasOnly, find};
 ghost use Rattle.bucket_words.specs.Standing.{StandsAt, IsTable};
 ghost use Rattle.bucket_words.specs.TableChanges.{KeepsTable, ChangesKey, OnlyNewHit, IsReadyAt, ChangesSlot};
 
@@ -120,4 +121,15 @@ pub fn cores_of_the_image_decide()
     ensures table { (shape : Shape) (word other : Words) → ((i : ℕ) → i < words_of shape → core shape word i ≡ core shape other i) → IsTable shape word → IsTable shape other }
     ensures pairs { (shape : Shape) (word other : Words) → ((i : ℕ) → i < words_of shape → core shape word i ≡ core shape other i)
         → (k : ℕ) → find shape other k ≡ find shape word k }
+{}
+
+/// What a key has in two tables is the same where one segment owns it in both, and the buckets where it may stand have the same
+/// cores: its home, its probing bucket, and each stash bucket but one where it stands in neither table.
+pub fn places_of_a_key_decide()
+    ensures { (shape : Shape) (word other : Words) (s k : ℕ) → IsTable shape word → IsTable shape other
+        → owner_of shape word (key_hash shape k) ≡ Some s → owner_of shape other (key_hash shape k) ≡ Some s
+        → SameCoresIn shape word other s (home_of (key_hash shape k)) → SameCoresIn shape word other s (probing_of (home_of (key_hash shape k)))
+        → ((c : ℕ) → c < stash_buckets
+            → SameCoresIn shape word other s (homes + c) ⊎ (HasNoneIn shape word s (homes + c) k × HasNoneIn shape other s (homes + c) k))
+        → find shape other k ≡ find shape word k }
 {}
