@@ -1,10 +1,11 @@
 -- Each row of the worked run, by computing the definitions on it.
 use Rattle.std.proofs.Common.{◌≡◌, refl}
+use Rattle.std.specs.Prelude.{[], ◌∷◌}
 use Rattle.script_text.specs.declared.line.Event.TheVariants.{Store, Exchange, Flush, Fence, Draw, End}
-use Rattle.script_text.specs.declared.line.Line.TheVariants.{Step, Until, At}
+use Rattle.script_text.specs.declared.line.Line.TheVariants.{Step, Until, At, Close, Cut}
 use Rattle.write_op.specs.declared.control.Step.TheVariants.{LoadWord, LoadCount}
 use Rattle.bucket_meta.specs.Search.{slot_with, slot_free}
-use Rattle.core_run.specs.WorkedRun.{StopsInRestart, StopsOnTheWay, StopsInChange, at_first, after_line, standing, before_change}
+use Rattle.core_run.specs.WorkedRun.{StopsInRestart, StopsOnTheWay, StopsInChange, ClosesAfter, at_first, at_end, after_line, standing, before_change}
 
 pub step_0_1 : StopsInRestart (Step 0 1, 1)
 step_0_1 = refl
@@ -87,3 +88,12 @@ loaded_all = refl
 pub counted : after_line (Step 1 1) (standing 42 LoadCount) ≡ before_change
 unfolding slot_with slot_free
 counted = refl
+
+pub closing : ClosesAfter 54 (after_line Close before_change)
+closing = record { begun = refl; run_out = refl }
+
+pub at_cut : after_line (Cut 2) before_change ≡ before_change
+at_cut = refl
+
+pub ends_in_cut : at_end (Step 1 3 ∷ Cut 2 ∷ []) ≡ after_line (Step 1 3) before_change
+ends_in_cut = refl

@@ -7,15 +7,16 @@ use Rattle.map_model.specs.declared.call.Call.{Call}
 use Rattle.map_model.specs.declared.call.Call.TheVariants.{Insert}
 use Rattle.script_text.specs.declared.line.Event.TheVariants.{Store, Exchange, Flush, Fence, Draw, End}
 use Rattle.script_text.specs.declared.line.Line.{Line}
-use Rattle.script_text.specs.declared.line.Line.TheVariants.{Step, Until, At}
+use Rattle.script_text.specs.declared.line.Line.TheVariants.{Step, Until, At, Close, Cut}
+use Rattle.restart_op.specs.Close.{begun as close_begun}
 use Rattle.write_op.specs.declared.control.Step.{Step as WriteStep}
 use Rattle.write_op.specs.declared.control.Step.TheVariants.{LoadWord, LoadCount, Make}
 use Rattle.write_op.specs.declared.control.Point.TheVariants.{StoreKey}
 use Rattle.engine.specs.declared.engine.Op.TheVariants.{Write}
 use Rattle.engine.specs.Core.{Caller}
-use Rattle.core_run.specs.declared.keeper.Keeper.TheVariants.{Open}
+use Rattle.core_run.specs.declared.keeper.Keeper.TheVariants.{Open, Closing}
 use Rattle.core_run.specs.State.{State, beginning}
-use Rattle.core_run.specs.Run.{line_done, most_events}
+use Rattle.core_run.specs.Run.{line_done, most_events, state_at_end, cut_of}
 
 -- a new image of one segment, of depth 0 and with the keys as their hashes, as far as the run looks at its words
 abbrev pub small : Shape
@@ -121,6 +122,15 @@ change_rows =
     ∷ (Until 1 Fence 2, 51) ∷ (Until 1 Draw 1, 52) ∷ (Until 1 End 1, 54) ∷ (Until 1 Exchange 1, 54) ∷ (At 1 97, 49) ∷ (At 1 96, 53)
     ∷ (At 1 99, 54) ∷ []
 
+-- A CLOSE lets the calls run out, and is begun then
+pub record ClosesAfter (n : ℕ) (s : State) : Type 0 where
+  pub begun : s.keeper ≡ Closing (close_begun small)
+  pub run_out : s.core.trace ≡ done_of_insert n
+
+-- A SCRIPT'S END: from the state before the change these lines lead here
+abbrev pub at_end : List Line → State
+at_end lines = state_at_end small (most_events small one_insert) lines (cut_of lines) before_change
+
 -- EACH LINE STOPS where its row says
 pub record LinesStop : Type 0 where
   pub in_restart : AllByRecursion StopsInRestart restart_rows
@@ -131,3 +141,6 @@ pub record LinesStop : Type 0 where
   pub loaded_all : after_line (Step 1 11) (standing 31 (LoadWord 21)) ≡ standing 42 LoadCount
   pub counted : after_line (Step 1 1) (standing 42 LoadCount) ≡ before_change
   pub in_change : AllByRecursion StopsInChange change_rows
+  pub closing : ClosesAfter 54 (after_line Close before_change)
+  pub at_cut : after_line (Cut 2) before_change ≡ before_change
+  pub ends_in_cut : at_end (Step 1 3 ∷ Cut 2 ∷ []) ≡ after_line (Step 1 3) before_change

@@ -4,10 +4,10 @@ use Rattle.sound_image.specs.Segments.{Frame, depth_at, pattern_at, IsLive, IsLi
 use Rattle.segment_table.specs.Claims.{Claims, ClaimsNoOneSide, ClaimsOneSide, IsSoundFrame}
 use Rattle.segment_table.specs.Owner.{owner}
 use Rattle.segment_table.specs.Stores.{Keeps, HandsOver}
-use Rattle.segment_table.proofs.Regions.{top_of_first, first_fits, doubled_fits}
-use Rattle.segment_table.proofs.Deciding.{claims_or_gave}
-use Rattle.segment_table.proofs.SoundFrames.{live_low, live_pattern, side_covered}
-use Rattle.segment_table.proofs.Owner.{claimer_found}
+use Rattle.segment_table.proofs.frames.Regions.{top_of_first, first_fits, doubled_fits}
+use Rattle.segment_table.proofs.frames.Deciding.{claims_or_gave}
+use Rattle.segment_table.proofs.frames.SoundFrames.{live_low, live_pattern, side_covered}
+use Rattle.segment_table.proofs.frames.Owner.{claimer_found}
 use Rattle.segment_table.proofs.Media.{middle}
 
 module _ (greatest : ℕ) (most : greatest ≤ 16) (frame : Frame) (sound : IsSoundFrame greatest frame) (s : ℕ) (slot : s < frame.segments) (live : IsLive frame s) where

@@ -6,9 +6,9 @@ use Rattle.segment_head.specs.HeadWord.{state_in, depth_in, pattern_in}
 use Rattle.sound_image.specs.Segments.{Frame, depth_at, pattern_at, IsLive, CoversHash, IsLiveFor, InOneSide, IsReadySide}
 use Rattle.segment_table.specs.Claims.{IsSoundFrame}
 use Rattle.segment_table.specs.Media.{first_hash, IsSteady}
-use Rattle.segment_table.proofs.Regions.{first, top_of_first, next_top_of_first, first_least, less_top}
-use Rattle.segment_table.proofs.SoundFrames.{first_covered, live_low, nested, nested_side, side_covered}
-use Rattle.segment_table.proofs.Moved.{side_same}
+use Rattle.segment_table.proofs.frames.Regions.{first, top_of_first, next_top_of_first, first_least, less_top}
+use Rattle.segment_table.proofs.frames.SoundFrames.{first_covered, live_low, nested, nested_side, side_covered}
+use Rattle.segment_table.proofs.stores.Moved.{side_same}
 
 pub steady_self : (frame : Frame) → IsSteady frame frame
 steady_self frame = record { slots = refl; stays = λ s slot live. (live, refl, omega arith) }

@@ -10,8 +10,8 @@ use Rattle.segment_table.specs.Claims.{Claims, HasSoundFrame}
 use Rattle.segment_table.specs.Stores.{IsFrameWord, StoreKeeps, StoreHandsOver}
 use Rattle.segment_table.proofs.FrameWords.{buckets_apart}
 use Rattle.segment_table.specs.Pairs.{Holds, HashesFit, IsCopied, StoreKeepsPairs}
-use Rattle.segment_table.proofs.Deciding.{one_side}
-use Rattle.segment_table.proofs.SoundFrames.{claimer_owns, owner_claims}
+use Rattle.segment_table.proofs.frames.Deciding.{one_side}
+use Rattle.segment_table.proofs.frames.SoundFrames.{claimer_owns, owner_claims}
 use Rattle.segment_table.proofs.Claimers.{kept_back}
 
 -- A RECORD IN ITS OWNER is a pair, and a pair is one

@@ -7,12 +7,12 @@ use Rattle.segment_table.specs.Claims.{HasSoundFrame}
 use Rattle.segment_table.specs.Stores.{TakesSlot, FreesSlot, Links, BeginsSplit, GoesLive, NamesClaimer, NamesSide, EndsSplit, DropsSplit, Renews, Opens}
 use Rattle.segment_table.specs.Stores.{Doubles, IsFrameWord, StoreKeeps, StoreHandsOver}
 use Rattle.segment_table.proofs.Words.{header_stored, link_stored, root_stored, status_stored, entry_stored, other_stored}
-use Rattle.segment_table.proofs.Slots.{takes_keeps, frees_keeps}
-use Rattle.segment_table.proofs.SameRegion.{begins_split_keeps, drops_split_keeps, renews_keeps}
-use Rattle.segment_table.proofs.Roots.{links_keeps, doubles_keeps, opens_keeps, untouched_keeps}
-use Rattle.segment_table.proofs.GoesLive.{hands_over}
-use Rattle.segment_table.proofs.Entries.{names_claimer_keeps, names_side_keeps}
-use Rattle.segment_table.proofs.EndsSplit.{ends_split_keeps}
+use Rattle.segment_table.proofs.stores.Slots.{takes_keeps, frees_keeps}
+use Rattle.segment_table.proofs.stores.SameRegion.{begins_split_keeps, drops_split_keeps, renews_keeps}
+use Rattle.segment_table.proofs.stores.Roots.{links_keeps, doubles_keeps, opens_keeps, untouched_keeps}
+use Rattle.segment_table.proofs.stores.GoesLive.{hands_over}
+use Rattle.segment_table.proofs.stores.Entries.{names_claimer_keeps, names_side_keeps}
+use Rattle.segment_table.proofs.stores.EndsSplit.{ends_split_keeps}
 
 module _ (shape : Shape) (word : ImageWords) (is_shape : IsShape shape) (sound : HasSoundFrame shape word) where
   abbrev frame : Frame

@@ -6,9 +6,9 @@ use Rattle.image_layout.specs.Places.{Shape, root_word, state_word, entry_at, he
 use Rattle.image_layout.proofs.Areas.{entry_before}
 use Rattle.sound_image.specs.Segments.{ImageWords, Frame, frame_of}
 use Rattle.segment_table.specs.Stores.{IsFrameWord}
-use Rattle.segment_table.proofs.Moved.{HeaderStored, SameHeaders}
-use Rattle.segment_table.proofs.Roots.{Beside}
-use Rattle.segment_table.proofs.Entries.{EntryStored}
+use Rattle.segment_table.proofs.stores.Moved.{HeaderStored, SameHeaders}
+use Rattle.segment_table.proofs.stores.Roots.{Beside}
+use Rattle.segment_table.proofs.stores.Entries.{EntryStored}
 
 module _ (shape : Shape) (word : ImageWords) (low : word root_word ≤ shape.depth) where
   abbrev before : Frame

@@ -11,8 +11,8 @@ use Rattle.sound_image.specs.Segments.{Frame, frame_of, depth_at, IsLive, IsRead
 use Rattle.segment_table.specs.Claims.{Claims, LeadsToClaimer, arrived, HasSoundFrame}
 use Rattle.segment_table.specs.Owner.{owner, owner_below}
 use Rattle.segment_table.specs.Stores.{StoreHandsOver}
-use Rattle.segment_table.proofs.Regions.{top_below}
-use Rattle.segment_table.proofs.Moved.{HeadFits, head_in_range}
+use Rattle.segment_table.proofs.frames.Regions.{top_below}
+use Rattle.segment_table.proofs.stores.Moved.{HeadFits, head_in_range}
 use Rattle.segment_table.proofs.StoreLaws.{opens, links, begins_split, takes_slot, doubles, goes_live, names_claimer, ends_split}
 
 -- eight slots, depth 3, and keys that are their own hashes: slot 0 begins at word 64 and slot 1 at word 2208

@@ -6,7 +6,7 @@ use Rattle.trace.specs.Events.{Words, with_word}
 use Rattle.sound_image.specs.Segments.{frame_of, CoversHash}
 use Rattle.segment_table.specs.Claims.{named_for, HasSoundFrame}
 use Rattle.segment_table.specs.Owner.{owner, owner_below}
-use Rattle.segment_table.proofs.SoundFrames.{way_begins}
+use Rattle.segment_table.proofs.frames.SoundFrames.{way_begins}
 use Rattle.segment_table.proofs.WorkedSplit.{eight, formatted}
 
 -- FOUR SEGMENTS: slot 0 with the pattern 0, slot 1 with 10, slot 2 with 110 and slot 3 with 111, and the root at depth 3

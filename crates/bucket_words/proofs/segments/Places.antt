@@ -4,7 +4,7 @@ use Rattle.trace.specs.Events.{Words, with_word}
 use Rattle.trace.proofs.Replaced.{replaced_same, replaced_other}
 use Rattle.image_layout.specs.Places.{Shape, first_segment, head_at, bucket_at, block, buckets}
 use Rattle.sound_image.specs.Segments.{frame_of}
-use Rattle.segment_table.proofs.Owner.{found_owns, same_owner}
+use Rattle.segment_table.proofs.frames.Owner.{found_owns, same_owner}
 use Rattle.bucket_words.specs.Owners.{IsStructure, owner_of, SameOwners}
 
 -- THE NUMBERS of words

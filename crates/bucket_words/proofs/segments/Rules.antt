@@ -9,8 +9,8 @@ use Rattle.sound_image.specs.Records.{key_hash, slot_key, slot_hash, HasRecord, 
 use Rattle.sound_image.specs.Rules.{StandsRight, RecordsStandRight, KeysHaveOneValue}
 use Rattle.sound_image.proofs.Hashes.{key_hash-fits}
 use Rattle.segment_table.specs.Claims.{HasSoundFrame}
-use Rattle.segment_table.proofs.SoundFrames.{owner_claims}
-use Rattle.segment_table.proofs.Owner.{found_owns, claimer_found}
+use Rattle.segment_table.proofs.frames.SoundFrames.{owner_claims}
+use Rattle.segment_table.proofs.frames.Owner.{found_owns, claimer_found}
 use Rattle.bucket_words.specs.Buckets.{value_in}
 use Rattle.bucket_words.specs.Owners.{owner_of}
 use Rattle.bucket_words.specs.Hits.{Hit, find}

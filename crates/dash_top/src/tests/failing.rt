@@ -103,13 +103,16 @@ fn bad_images(rt: HostRuntime) -> Result<(), Fail> {
     ];
     for changes in images {
         let start = file_of(alloc, ONE_SEGMENT, &[&NEW, &PAIR, changes])?;
-        let row: Row = (&["check"], b"1 get 5\n", DEAF, SINK_FAILED, 0, 0);
-        assert!(rt; keeps_all(&rt, alloc, &start, row)?);
+        for word in ["check", "list"] {
+            let row: Row = (&[word], b"1 get 5\n", DEAF, SINK_FAILED, 0, 0);
+            assert!(rt; keeps_all(&rt, alloc, &start, row)?, "at {word}");
+        }
         let row: Row = (&["play"], b"1 get 5\n", DEAF, SINK_FAILED, 0, 8);
         assert!(rt; keeps_all(&rt, alloc, &start, row)?);
         let both = run(&rt, alloc, &["play"], &start, b"1 get x\n", NONE)?;
         assert_eq!(rt; both.status, BAD_SCRIPT);
         assert_eq!(rt; both.writes, 0);
+        assert_eq!(rt; both.pulled, 8);
         assert_eq!(rt;
             both.written.as_slice(),
             b"fault script number line 1\n".as_slice()

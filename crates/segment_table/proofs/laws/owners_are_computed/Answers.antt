@@ -1,7 +1,7 @@
 -- Who claims a hash is the deepest that covers it, and is found.
 use Rattle.std.proofs.Common.{◌≡◌, ℕ, None, Some, sym, ◌∙◌}
-use Rattle.segment_table.proofs.SoundFrames.{claimer_owns, owner_claims}
-use Rattle.segment_table.proofs.Owner.{found_owns, claimer_found, same_owner}
+use Rattle.segment_table.proofs.frames.SoundFrames.{claimer_owns, owner_claims}
+use Rattle.segment_table.proofs.frames.Owner.{found_owns, claimer_found, same_owner}
 use Rattle.segment_table.proofs.laws.owners_are_computed.Goals as goal
 
 pub returns-clause-claimer : goal.returns-clause-claimer

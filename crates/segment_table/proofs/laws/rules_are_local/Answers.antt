@@ -1,5 +1,5 @@
 -- The rules, word by word, and a sound frame.
-use Rattle.segment_table.proofs.Rules.{from_rules, to_rules}
+use Rattle.segment_table.proofs.frames.Rules.{from_rules, to_rules}
 use Rattle.segment_table.proofs.laws.rules_are_local.Goals as goal
 
 pub returns : goal.returns

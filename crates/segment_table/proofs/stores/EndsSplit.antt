@@ -7,12 +7,12 @@ use Rattle.sound_image.specs.Segments.{Frame, state_at, depth_at, pattern_at, Is
 use Rattle.segment_table.specs.Claims.{Claims, LeadsToClaimer, arrived, on, named_for, IsSoundFrame}
 use Rattle.segment_table.specs.Media.{IsSteady, first_hash}
 use Rattle.segment_table.specs.Stores.{Keeps, EndsSplit}
-use Rattle.segment_table.proofs.Regions.{one_fewer, zero_side_begins, times_power, doubled_fits}
-use Rattle.segment_table.proofs.Deciding.{one_side}
-use Rattle.segment_table.proofs.SoundFrames.{way_begins, live_low, live_pattern}
-use Rattle.segment_table.proofs.Moved.{HeaderStored, HeadFits, numbers, HasNumbers, numbers_stored, live_same, side_same, live_for_same, ready_kept}
-use Rattle.segment_table.proofs.SameRegion.{same_entries}
-use Rattle.segment_table.proofs.GoesLive.{steady_same}
+use Rattle.segment_table.proofs.frames.Regions.{one_fewer, zero_side_begins, times_power, doubled_fits}
+use Rattle.segment_table.proofs.frames.Deciding.{one_side}
+use Rattle.segment_table.proofs.frames.SoundFrames.{way_begins, live_low, live_pattern}
+use Rattle.segment_table.proofs.stores.Moved.{HeaderStored, HeadFits, numbers, HasNumbers, numbers_stored, live_same, side_same, live_for_same, ready_kept}
+use Rattle.segment_table.proofs.stores.SameRegion.{same_entries}
+use Rattle.segment_table.proofs.stores.GoesLive.{steady_same}
 
 -- a side that begins where a region does begins where its 0-side does, and the other way round
 half_more : (p a k j : ℕ) → j ≡ suc k → p ≡ a * 2 ^ k → 2 * p ≡ a * 2 ^ j

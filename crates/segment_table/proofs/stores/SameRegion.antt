@@ -6,10 +6,10 @@ use Rattle.hash_word.specs.Hash.{index_of}
 use Rattle.sound_image.specs.Segments.{Frame, image_version, state_at, depth_at, pattern_at, IsLive, IsReadySide}
 use Rattle.segment_table.specs.Claims.{named_for, IsSoundFrame}
 use Rattle.segment_table.specs.Stores.{Keeps, HasRegionOf, BeginsSplit, DropsSplit, Renews}
-use Rattle.segment_table.proofs.Regions.{top_below}
-use Rattle.segment_table.proofs.SoundFrames.{side_begins, normal_is_whole}
-use Rattle.segment_table.proofs.Moved.{HeaderStored, HeadFits, numbers, numbers_stored, live_same, ready_same}
-use Rattle.segment_table.proofs.Alike.{alike_keeps}
+use Rattle.segment_table.proofs.frames.Regions.{top_below}
+use Rattle.segment_table.proofs.frames.SoundFrames.{side_begins, normal_is_whole}
+use Rattle.segment_table.proofs.stores.Moved.{HeaderStored, HeadFits, numbers, numbers_stored, live_same, ready_same}
+use Rattle.segment_table.proofs.stores.Alike.{alike_keeps}
 
 -- what entries name is the same where root and entries are
 pub same_entries : (greatest : ℕ) → greatest ≤ 16 → (before after : Frame) → IsSoundFrame greatest before → after.root ≡ before.root

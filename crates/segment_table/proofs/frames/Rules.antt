@@ -7,9 +7,9 @@ use Rattle.sound_image.specs.Segments.{ImageWords, Frame, frame_of, depth_at, pa
 use Rattle.sound_image.specs.Directory.{SharesWell}
 use Rattle.segment_table.specs.Claims.{Claims, LeadsToClaimer, named_for, IsSoundFrame, FollowsFrameRules}
 use Rattle.segment_table.specs.Claims.{arrived as arrives, on as goes}
-use Rattle.segment_table.proofs.Regions.{first, same_fewer, top_below, top_of_first, first_fits}
-use Rattle.segment_table.proofs.Deciding.{claims_or_gave}
-use Rattle.segment_table.proofs.SoundFrames.{claimer_of, apart, claimer_owns, owner_claims}
+use Rattle.segment_table.proofs.frames.Regions.{first, same_fewer, top_below, top_of_first, first_fits}
+use Rattle.segment_table.proofs.frames.Deciding.{claims_or_gave}
+use Rattle.segment_table.proofs.frames.SoundFrames.{claimer_of, apart, claimer_owns, owner_claims}
 
 module _ (shape : Shape) (is_shape : IsShape shape) (word : ImageWords) where
   abbrev frame : Frame

@@ -6,7 +6,7 @@ use Rattle.hash_word.specs.Hash.{top}
 use Rattle.segment_head.specs.HeadWord.{state_in, depth_in, pattern_in, normal, splitting}
 use Rattle.sound_image.specs.Segments.{Frame, depth_at, IsLive, CoversHash, IsLiveFor, Owns}
 use Rattle.segment_table.specs.Claims.{Claims, IsSoundFrame}
-use Rattle.segment_table.proofs.SoundFrames.{claimer_owns, owner_claims}
+use Rattle.segment_table.proofs.frames.SoundFrames.{claimer_owns, owner_claims}
 use Rattle.segment_table.specs.Owner.{covers_live, deeper_of, owner_below, owner}
 
 or_one : (a b : Bool) → (a || b) ≡ true → (a ≡ true) ⊎ (b ≡ true)

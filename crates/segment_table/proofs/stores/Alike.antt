@@ -6,8 +6,8 @@ use Rattle.sound_image.specs.Segments.{Frame, depth_at, pattern_at, IsLive, IsLi
 use Rattle.segment_table.specs.Claims.{Claims, LeadsToClaimer, arrived, on, named_for, IsSoundFrame}
 use Rattle.segment_table.specs.Media.{IsSteady}
 use Rattle.segment_table.specs.Stores.{Keeps}
-use Rattle.segment_table.proofs.SoundFrames.{way_begins}
-use Rattle.segment_table.proofs.Moved.{HasNumbers, SameHeaders, live_same, ready_kept}
+use Rattle.segment_table.proofs.frames.SoundFrames.{way_begins}
+use Rattle.segment_table.proofs.stores.Moved.{HasNumbers, SameHeaders, live_same, ready_kept}
 
 pub record Alike (greatest : ℕ) (before after : Frame) : Type 0 where
   pub segments : after.segments ≡ before.segments

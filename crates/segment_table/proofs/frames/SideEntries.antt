@@ -5,7 +5,7 @@ use Rattle.std.proofs.Math.Nat.{div-eq_of_lt-le, div-mul-le_self, lt-div-mul-add
 use Rattle.hash_word.specs.Hash.{top, index_of}
 use Rattle.sound_image.specs.Segments.{Frame, depth_at, pattern_at, InOneSide}
 use Rattle.segment_table.specs.Claims.{IsSideEntry}
-use Rattle.segment_table.proofs.Regions.{fewer}
+use Rattle.segment_table.proofs.frames.Regions.{fewer}
 
 next_odd : (p : ℕ) → 2 * p + 1 + 1 ≡ 2 * p + 2
 next_odd p = omega arith

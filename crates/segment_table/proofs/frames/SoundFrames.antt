@@ -7,8 +7,8 @@ use Rattle.segment_head.specs.HeadWord.{free, normal, splitting}
 use Rattle.sound_image.specs.Segments.{Frame, state_at, depth_at, pattern_at, IsLive, CoversHash, IsLiveFor, Owns, InOneSide}
 use Rattle.segment_table.specs.Claims.{Claims, LeadsToClaimer, arrived, on, IsSoundFrame}
 use Rattle.segment_table.specs.Media.{first_hash}
-use Rattle.segment_table.proofs.Regions.{fewer, same_fewer, one_fewer, top_of_first, first_fits, next_top_of_first}
-use Rattle.segment_table.proofs.Deciding.{claims_or_gave}
+use Rattle.segment_table.proofs.frames.Regions.{fewer, same_fewer, one_fewer, top_of_first, first_fits, next_top_of_first}
+use Rattle.segment_table.proofs.frames.Deciding.{claims_or_gave}
 
 module _ (frame : Frame) where
   pub not_free : (s : ℕ) → IsLive frame s → state_at frame s ≢ free

@@ -4,9 +4,9 @@ use Rattle.segment_head.specs.HeadWord.{version_in, state_in, depth_in, pattern_
 use Rattle.sound_image.specs.Segments.{Frame, image_version, IsLive}
 use Rattle.segment_table.specs.Claims.{IsSoundFrame}
 use Rattle.segment_table.specs.Stores.{Keeps, TakesSlot, FreesSlot}
-use Rattle.segment_table.proofs.Moved.{HeaderStored, HeadFits, numbers, numbers_stored, live_same, ready_kept}
-use Rattle.segment_table.proofs.Alike.{alike_keeps}
-use Rattle.segment_table.proofs.SameRegion.{same_entries}
+use Rattle.segment_table.proofs.stores.Moved.{HeaderStored, HeadFits, numbers, numbers_stored, live_same, ready_kept}
+use Rattle.segment_table.proofs.stores.Alike.{alike_keeps}
+use Rattle.segment_table.proofs.stores.SameRegion.{same_entries}
 
 module _ (greatest : ℕ) (most : greatest ≤ 16) (before after : Frame) (n x : ℕ) (sound : IsSoundFrame greatest before) (stored : HeaderStored before after n x) where
   module _ (dead : IsLive before n → ⊥) (stays_dead : IsLive after n → ⊥) (fits : HeadFits greatest x) (past : version_in x ≤ image_version before)

@@ -8,10 +8,10 @@ use Rattle.sound_image.specs.Segments.{Frame, depth_at, pattern_at, CoversHash, 
 use Rattle.segment_table.specs.Claims.{Claims, LeadsToClaimer, arrived, on, named_for, IsSoundFrame}
 use Rattle.segment_table.specs.Media.{first_hash}
 use Rattle.segment_table.specs.Stores.{Keeps, NamesClaimer, NamesSide}
-use Rattle.segment_table.proofs.Regions.{fewer, top_below, first, top_of_first, first_fits, odd_power}
-use Rattle.segment_table.proofs.SoundFrames.{claimer_of, way_deeper, way_begins, first_covered, live_low, nested_side, side_covered, deepest, apart_at}
-use Rattle.segment_table.proofs.Moved.{SameHeaders, HasNumbers, numbers, numbers_same, live_same, side_same, live_for_same, ready_kept}
-use Rattle.segment_table.proofs.GoesLive.{steady_same}
+use Rattle.segment_table.proofs.frames.Regions.{fewer, top_below, first, top_of_first, first_fits, odd_power}
+use Rattle.segment_table.proofs.frames.SoundFrames.{claimer_of, way_deeper, way_begins, first_covered, live_low, nested_side, side_covered, deepest, apart_at}
+use Rattle.segment_table.proofs.stores.Moved.{SameHeaders, HasNumbers, numbers, numbers_same, live_same, side_same, live_for_same, ready_kept}
+use Rattle.segment_table.proofs.stores.GoesLive.{steady_same}
 
 -- AN ENTRY IS STORED: all else is the same
 pub record EntryStored (before after : Frame) (i n : ℕ) : Type 0 where

@@ -6,11 +6,11 @@ use Rattle.segment_head.specs.HeadWord.{state_in, depth_in, pattern_in, free, no
 use Rattle.sound_image.specs.Segments.{Frame, state_at, depth_at, pattern_at, IsLive, CoversHash, InOneSide, IsReadySide}
 use Rattle.segment_table.specs.Claims.{Claims, LeadsToClaimer, arrived, on, named_for, IsSoundFrame}
 use Rattle.segment_table.specs.Stores.{HandsOver, GoesLive}
-use Rattle.segment_table.proofs.Regions.{odd_power, doubled_fits}
-use Rattle.segment_table.proofs.Deciding.{Decided, both, one_side}
-use Rattle.segment_table.proofs.SoundFrames.{way_begins, live_pattern, side_covered, apart}
-use Rattle.segment_table.proofs.Moved.{HeaderStored, HeadFits, numbers, HasNumbers, numbers_stored, live_same, side_same, live_for_same, ready_kept}
-use Rattle.segment_table.proofs.SameRegion.{same_entries}
+use Rattle.segment_table.proofs.frames.Regions.{odd_power, doubled_fits}
+use Rattle.segment_table.proofs.frames.Deciding.{Decided, both, one_side}
+use Rattle.segment_table.proofs.frames.SoundFrames.{way_begins, live_pattern, side_covered, apart}
+use Rattle.segment_table.proofs.stores.Moved.{HeaderStored, HeadFits, numbers, HasNumbers, numbers_stored, live_same, side_same, live_for_same, ready_kept}
+use Rattle.segment_table.proofs.stores.SameRegion.{same_entries}
 
 -- a header that is the same is as deep, and begins at the same hash
 pub steady_same : (before after : Frame) (s : ℕ) → after.header s ≡ before.header s → IsLive before s

@@ -6,10 +6,10 @@ use Rattle.segment_head.specs.HeadWord.{version_in, state_in}
 use Rattle.sound_image.specs.Segments.{Frame, state_at}
 use Rattle.segment_table.specs.Claims.{IsSoundFrame}
 use Rattle.segment_table.specs.Stores.{Keeps, Links, Opens}
-use Rattle.segment_table.proofs.Regions.{one_fewer, top_below}
-use Rattle.segment_table.proofs.Moved.{SameHeaders, numbers, numbers_same}
-use Rattle.segment_table.proofs.Alike.{alike_keeps, same_headers_alike}
-use Rattle.segment_table.proofs.SameRegion.{same_entries}
+use Rattle.segment_table.proofs.frames.Regions.{one_fewer, top_below}
+use Rattle.segment_table.proofs.stores.Moved.{SameHeaders, numbers, numbers_same}
+use Rattle.segment_table.proofs.stores.Alike.{alike_keeps, same_headers_alike}
+use Rattle.segment_table.proofs.stores.SameRegion.{same_entries}
 
 -- what is the same after a store that is none to a header
 pub record Beside (before after : Frame) : Type 0 where
