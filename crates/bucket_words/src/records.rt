@@ -57,8 +57,8 @@ pub fn one_slot_changes()
         → owner_of shape word (key_hash shape k) ≡ Some s → IsTaken other (bucket_at shape s b) r → find shape other k ≡ Some (value_in other (bucket_at shape s b) r) }
     ensures freed { (shape : Shape) (word other : Words) (s b r k : ℕ) → IsTable shape word → ChangesSlot shape word other s b r k → HasOnly shape word s b r k
         → owner_of shape word (key_hash shape k) ≡ Some s → (IsTaken other (bucket_at shape s b) r → ⊥) → find shape other k ≡ None }
-    ensures still { (shape : Shape) (word other : Words) (s b r c t k : ℕ) → IsTable shape word → ChangesSlot shape word other s b r k
-        → Hit shape word s c t k → (c ≡ b → t ≡ r → ⊥) → KeepsTable shape word other }
+    ensures still { (shape : Shape) (word other : Words) (s b r d u k : ℕ) → IsTable shape word → ChangesSlot shape word other s b r k
+        → Hit shape word s d u k → (d ≡ b → u ≡ r → ⊥) → KeepsTable shape word other }
     ensures foreign { (shape : Shape) (word other : Words) (s b r k : ℕ) → IsTable shape word → ChangesSlot shape word other s b r k
         → (owner_of shape word (key_hash shape k) ≡ Some s → ⊥) → KeepsTable shape word other }
     ensures records { (shape : Shape) (word other : Words) (s b r k : ℕ) → IsTable shape word → ChangesSlot shape word other s b r k → OnlyNewHit shape word other s b r k }
@@ -130,6 +130,6 @@ pub fn places_of_a_key_decide()
         → owner_of shape word (key_hash shape k) ≡ Some s → owner_of shape other (key_hash shape k) ≡ Some s
         → SameCoresIn shape word other s (home_of (key_hash shape k)) → SameCoresIn shape word other s (probing_of (home_of (key_hash shape k)))
         → ((c : ℕ) → c < stash_buckets
-            → SameCoresIn shape word other s (homes + c) ⊎ (HasNoneIn shape word s (homes + c) k × HasNoneIn shape other s (homes + c) k))
+        → SameCoresIn shape word other s (homes + c) ⊎ (HasNoneIn shape word s (homes + c) k × HasNoneIn shape other s (homes + c) k))
         → find shape other k ≡ find shape word k }
 {}

@@ -1,13 +1,12 @@
 -- What a key has depends on the buckets where it may stand.
-use Rattle.std.proofs.Common.{◌≡◌, ℕ, ◌+◌, ◌-◌, ◌<◌, ◌≤◌, Some, refl, subst, sym, arith, inl, inr, ◌⊎◌}
+use Rattle.std.proofs.Common.{◌≡◌, ℕ, ◌+◌, ◌-◌, ◌<◌, ◌≤◌, Some, subst, sym, arith, inl, inr, ◌⊎◌}
 use Rattle.hash_word.specs.Hash.{home_of, probing_of}
 use Rattle.trace.specs.Events.{Words}
-use Rattle.image_layout.specs.Places.{Shape, bucket_at, homes, stash_buckets, buckets}
+use Rattle.image_layout.specs.Places.{Shape, homes, stash_buckets, buckets}
 use Rattle.sound_image.specs.Records.{key_hash}
-use Rattle.bucket_words.specs.Buckets.{value_in}
 use Rattle.bucket_words.specs.Core.{SameCoresIn}
 use Rattle.bucket_words.specs.Owners.{owner_of}
-use Rattle.bucket_words.specs.Hits.{Hit, HasNoneIn, find}
+use Rattle.bucket_words.specs.Hits.{HasNoneIn, find}
 use Rattle.bucket_words.specs.Standing.{IsTable, StandsAt}
 use Rattle.bucket_words.proofs.segments.Places.{owner_within}
 use Rattle.bucket_words.proofs.segments.Finding.{find_alike}
@@ -22,7 +21,7 @@ module _ (shape : Shape) (word other : Words) (table : IsTable shape word) (othe
     (home : SameCoresIn shape word other s (home_of (key_hash shape k)))
     (probing : SameCoresIn shape word other s (probing_of (home_of (key_hash shape k))))
     (stash : (c : ℕ) → c < stash_buckets
-        → SameCoresIn shape word other s (homes + c) ⊎ (HasNoneIn shape word s (homes + c) k × HasNoneIn shape other s (homes + c) k)) where
+    → SameCoresIn shape word other s (homes + c) ⊎ (HasNoneIn shape word s (homes + c) k × HasNoneIn shape other s (homes + c) k)) where
   -- a bucket where the key may stand has the same cores, or the key stands there in neither
   abbrev AtPlace : ℕ → Type 0
   AtPlace b = SameCoresIn shape word other s b ⊎ (HasNoneIn shape word s b k × HasNoneIn shape other s b k)

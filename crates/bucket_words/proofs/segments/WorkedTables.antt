@@ -1,6 +1,6 @@
 -- A table of two segments, worked through: a record in the stash, its copy at home, the stash's cleared, a key of the other segment;
 -- and two tables gone wrong.
-use Rattle.std.proofs.Common.{◌≡◌, ◌≢◌, ℕ, ◌+◌, ◌*◌, ◌%◌, ◌^◌, ◌<◌, ◌≤◌, None, Some, refl, ap, sym, subst, ◌∙◌, lit≤, arith, inl, inr}
+use Rattle.std.proofs.Common.{◌≡◌, ◌≢◌, ℕ, ◌+◌, ◌*◌, ◌%◌, ◌^◌, ◌<◌, ◌≤◌, Some, refl, ap, sym, ◌∙◌, lit≤, arith, inl, inr}
 use Rattle.std.specs.Prelude.{◌==◌, if◌then◌else◌}
 use Rattle.std.proofs.lemmas.Bool.{ne_eqb}
 use Rattle.std.proofs.lemmas.Nat.Bits.{bit_at_above}
@@ -8,15 +8,13 @@ use Rattle.std.proofs.Math.Nat.{zero-div}
 use Rattle.bucket_meta.specs.Bucket.{allocated}
 use Rattle.bucket_meta.specs.Marks.{SameButSlot}
 use Rattle.trace.specs.Events.{Words, with_word}
-use Rattle.image_layout.specs.Places.{Shape, bucket_at, buckets}
-use Rattle.sound_image.specs.Records.{key_hash}
+use Rattle.image_layout.specs.Places.{Shape, buckets}
 use Rattle.segment_table.specs.Owner.{owner_below}
-use Rattle.bucket_words.specs.Buckets.{IsTaken}
 use Rattle.bucket_words.specs.Owners.{owner_of, home_at}
-use Rattle.bucket_words.specs.Hits.{Hit, HasNone, HasOnly, find}
+use Rattle.bucket_words.specs.Hits.{Hit, HasNone, find}
 use Rattle.bucket_words.specs.Standing.{IsTable}
 use Rattle.bucket_words.specs.TableChanges.{KeepsTable, ChangesKey}
-use Rattle.bucket_words.proofs.segments.Finding.{find_is, find_none, none_found}
+use Rattle.bucket_words.proofs.segments.Finding.{find_none, none_found}
 use Rattle.bucket_words.proofs.segments.OneRecord.{insert_key, copy_key, clear_key}
 use Rattle.bucket_words.proofs.segments.Prepared.{key_keeps, value_keeps, low_keeps}
 
