@@ -104,11 +104,11 @@ pub find_of_cores : (shape : Shape) (word other : Words) → ((i : ℕ) → i < 
     → find shape other k ≡ find shape word k
 find_of_cores shape word other same k =
     let own = owners_of_cores shape word other same (key_hash shape k) in
-    ap (λ o. find_by shape other o k) own ∙ by (owner_of shape word (key_hash shape k)) refl
+    ap (λ o. find_by shape other o k) own ∙ for_owner (owner_of shape word (key_hash shape k)) refl
   where
-    by : (o : Option ℕ) → owner_of shape word (key_hash shape k) ≡ o → find_by shape other (owner_of shape word (key_hash shape k)) k ≡ find_by shape word (owner_of shape word (key_hash shape k)) k
-    by None own = ap (λ o. find_by shape other o k) own ∙ sym (ap (λ o. find_by shape word o k) own)
-    by (Some s) own = let within = owner_within shape word (key_hash shape k) s own in
+    for_owner : (o : Option ℕ) → owner_of shape word (key_hash shape k) ≡ o → find_by shape other (owner_of shape word (key_hash shape k)) k ≡ find_by shape word (owner_of shape word (key_hash shape k)) k
+    for_owner None own = ap (λ o. find_by shape other o k) own ∙ sym (ap (λ o. find_by shape word o k) own)
+    for_owner (Some s) own = let within = owner_within shape word (key_hash shape k) s own in
         ap (λ o. find_by shape other o k) own
         ∙ from_same shape word other s k buckets (λ b near t l. slots_of_cores shape word other s b within near
         (λ n _ inside. same (bucket_at shape s b + n) (within_image shape s b n within near inside)) t l)

@@ -124,11 +124,11 @@ module _ (shape : Shape) (word other : Words) (was : IsTable shape word) (is : I
       → ((s b r : ℕ) → owner_of shape word (key_hash shape k) ≡ Some s → Hit shape word s b r k
       → (c : ℕ) × (t : ℕ) × Hit shape other s c t k × (value_in other (bucket_at shape s c) t ≡ value_in word (bucket_at shape s b) r))
       → ((s b r : ℕ) → owner_of shape word (key_hash shape k) ≡ Some s → Hit shape other s b r k → (c : ℕ) × (t : ℕ) × Hit shape word s c t k) → find shape other k ≡ find shape word k
-  find_alike_any same go back = by (owner_of shape word (key_hash shape k)) refl
+  find_alike_any same go back = for_owner (owner_of shape word (key_hash shape k)) refl
     where
-      by : (o : Option ℕ) → owner_of shape word (key_hash shape k) ≡ o → find shape other k ≡ find shape word k
-      by None own = find_empty shape other k (same ∙ own) ∙ sym (find_empty shape word k own)
-      by (Some s) own = find_alike s (owner_within shape word (key_hash shape k) s own) own (same ∙ own) (λ b r h. go s b r own h) (λ b r h. back s b r own h)
+      for_owner : (o : Option ℕ) → owner_of shape word (key_hash shape k) ≡ o → find shape other k ≡ find shape word k
+      for_owner None own = find_empty shape other k (same ∙ own) ∙ sym (find_empty shape word k own)
+      for_owner (Some s) own = find_alike s (owner_within shape word (key_hash shape k) s own) own (same ∙ own) (λ b r h. go s b r own h) (λ b r h. back s b r own h)
 
 -- what a key has in buckets of the same slots is the same
 module _ (shape : Shape) (word other : Words) (s k : ℕ) where

@@ -1,11 +1,14 @@
 -- Words of the buckets of all segments are apart, from one another and from the structure; and the owner of a hash depends on the structure.
 use Rattle.std.proofs.Common.{◌≡◌, ℕ, ◌+◌, ◌*◌, ◌<◌, Some, refl, ap, sym, subst, ◌∙◌, arith, inl, inr}
+use Rattle.std.specs.Option.{unwrap_or}
+use Rattle.hash_word.specs.Hash.{home_of}
 use Rattle.trace.specs.Events.{Words, with_word}
 use Rattle.trace.proofs.Replaced.{replaced_same, replaced_other}
 use Rattle.image_layout.specs.Places.{Shape, first_segment, head_at, bucket_at, block, buckets}
 use Rattle.sound_image.specs.Segments.{frame_of}
+use Rattle.sound_image.specs.Records.{key_hash}
 use Rattle.segment_table.proofs.frames.Owner.{found_owns, same_owner}
-use Rattle.bucket_words.specs.Owners.{IsStructure, owner_of, SameOwners}
+use Rattle.bucket_words.specs.Owners.{IsStructure, owner_of, home_at, SameOwners}
 
 -- THE NUMBERS of words
 one_segment : (f s q b c m n : ℕ) → b < buckets → c < buckets → m < block → n < block
@@ -40,6 +43,14 @@ owner_kept shape word other same h =
 
 pub owner_within : (shape : Shape) (word : Words) (h s : ℕ) → owner_of shape word h ≡ Some s → s < shape.segments
 owner_within shape word h s own = (found_owns (frame_of shape word) h s own).own.slot
+
+-- so the home bucket of a key begins in its owner, and where owners stay, homes do
+pub home_in_owner : (shape : Shape) (word : Words) (s k : ℕ) → owner_of shape word (key_hash shape k) ≡ Some s
+    → home_at shape word k ≡ bucket_at shape s (home_of (key_hash shape k))
+home_in_owner shape word s k own = ap (λ o. bucket_at shape (unwrap_or o 0) (home_of (key_hash shape k))) own
+
+pub home_kept : (shape : Shape) (word other : Words) → SameOwners shape word other → (k : ℕ) → home_at shape other k ≡ home_at shape word k
+home_kept shape word other same k = ap (λ o. bucket_at shape (unwrap_or o 0) (home_of (key_hash shape k))) (same (key_hash shape k))
 
 -- A WORD OF A BUCKET IS REPLACED
 module _ (shape : Shape) (word : Words) (s b m x i : ℕ) (bucket : b < buckets) (inside : m < block) (place : i ≡ bucket_at shape s b + m) where

@@ -97,16 +97,16 @@ module _ (shape : Shape) (is : IsShape shape) (word : Words) (sound : HasSoundFr
 
       pub at_of_find : (a : Option ℕ) → find shape word k ≡ a → HasAt shape word k a
       at_of_find None nothing = λ v pair. some_none (sym (find_pair v pair) ∙ nothing)
-      at_of_find (Some v) found = by (owner_of shape word (key_hash shape k)) refl
+      at_of_find (Some v) found = for_owner (owner_of shape word (key_hash shape k)) refl
         where
-          by : (o : Option ℕ) → owner_of shape word (key_hash shape k) ≡ o → HasPair shape word k v
-          by None own = absurd (some_none (sym found ∙ find_empty shape word k own))
-          by (Some s) own = let h = hit_found shape word s k v own found in pair_of s h.0 h.1 v h.2 own h.3
+          for_owner : (o : Option ℕ) → owner_of shape word (key_hash shape k) ≡ o → HasPair shape word k v
+          for_owner None own = absurd (some_none (sym found ∙ find_empty shape word k own))
+          for_owner (Some s) own = let h = hit_found shape word s k v own found in pair_of s h.0 h.1 v h.2 own h.3
 
       pub find_of_at : (a : Option ℕ) → HasAt shape word k a → find shape word k ≡ a
       find_of_at (Some v) pair = find_pair v pair
-      find_of_at None none = by (find shape word k) refl
+      find_of_at None none = for_found (find shape word k) refl
         where
-          by : (a : Option ℕ) → find shape word k ≡ a → find shape word k ≡ None
-          by None e = e
-          by (Some v) e = absurd (none v (at_of_find (Some v) e))
+          for_found : (a : Option ℕ) → find shape word k ≡ a → find shape word k ≡ None
+          for_found None e = e
+          for_found (Some v) e = absurd (none v (at_of_find (Some v) e))

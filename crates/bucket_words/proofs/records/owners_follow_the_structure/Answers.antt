@@ -1,7 +1,7 @@
 -- Each clause is a lemma.
 use Rattle.std.proofs.Common.{◌+◌, refl}
 use Rattle.image_layout.specs.Places.{bucket_at}
-use Rattle.bucket_words.proofs.segments.Places.{owner_kept, owner_within, owners_kept}
+use Rattle.bucket_words.proofs.segments.Places.{owner_kept, owner_within, owners_kept, home_in_owner, home_kept}
 use Rattle.bucket_words.proofs.records.owners_follow_the_structure.Goals as goal
 
 pub returns-clause-kept : goal.returns-clause-kept
@@ -12,3 +12,9 @@ returns-clause-apart c shape word s b n x bucket inside = owners_kept shape word
 
 pub returns-clause-segment : goal.returns-clause-segment
 returns-clause-segment c = owner_within
+
+pub returns-clause-home : goal.returns-clause-home
+returns-clause-home c = home_in_owner
+
+pub returns-clause-same_home : goal.returns-clause-same_home
+returns-clause-same_home c = home_kept
