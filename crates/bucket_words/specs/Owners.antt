@@ -12,7 +12,7 @@ use Rattle.segment_table.specs.Owner.{owner}
 abbrev pub IsStructure : Shape → ℕ → Type 0
 IsStructure shape i = (i < first_segment shape) ⊎ ((s : ℕ) × (w : ℕ) × (s < shape.segments) × (w < block) × (i ≡ head_at shape s + w))
 
--- the structure is as the front has it
+-- words have the structure that others have, which are the front where that is fixed
 abbrev pub HasStructure : Shape → Words → Words → Type 0
 HasStructure shape front word = (i : ℕ) → IsStructure shape i → word i ≡ front i
 

@@ -13,16 +13,16 @@ ghost use Rattle.segment_table.specs.Claims.{HasSoundFrame};
 ghost use Rattle.bucket_words.specs.Buckets.{IsTaken, value_in};
 ghost use Rattle.bucket_words.specs.Slots.{SameSlot};
 ghost use Rattle.bucket_words.specs.Core.{core_of, core, SameCoresIn};
-ghost use Rattle.bucket_words.specs.Owners.{IsStructure, owner_of, home_at, SameOwners};
+ghost use Rattle.bucket_words.specs.Owners.{HasStructure, owner_of, home_at, SameOwners};
 ghost use Rattle.bucket_words.specs.Hits.{Hit, HasNone, HasNoneIn, HasOnly, find};
 ghost use Rattle.bucket_words.specs.Standing.{StandsAt, IsTable};
 ghost use Rattle.bucket_words.specs.TableChanges.{KeepsTable, ChangesKey, OnlyNewHit, IsReadyAt, ChangesSlot};
 
-/// Which segment owns a hash depends on the structure alone, so no store to a bucket changes that; and the owner is one of the
+/// Which segment owns a hash depends on the structure alone, which no store to a bucket changes; and the owner is one of the
 /// segments. A key's home bucket begins in the owner, and stays where owners stay.
 pub fn owners_follow_the_structure()
-    ensures kept { (shape : Shape) (word other : Words) → ((i : ℕ) → IsStructure shape i → other i ≡ word i) → SameOwners shape word other }
-    ensures apart { (shape : Shape) (word : Words) (s b n x : ℕ) → b < buckets → n < block → SameOwners shape word (with_word word (bucket_at shape s b + n) x) }
+    ensures kept { (shape : Shape) (word other : Words) → HasStructure shape word other → SameOwners shape word other }
+    ensures apart { (shape : Shape) (word : Words) (s b n x : ℕ) → b < buckets → n < block → HasStructure shape word (with_word word (bucket_at shape s b + n) x) }
     ensures segment { (shape : Shape) (word : Words) (h s : ℕ) → owner_of shape word h ≡ Some s → s < shape.segments }
     ensures home { (shape : Shape) (word : Words) (s k : ℕ) → owner_of shape word (key_hash shape k) ≡ Some s
         → home_at shape word k ≡ bucket_at shape s (home_of (key_hash shape k)) }

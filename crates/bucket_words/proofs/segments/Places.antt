@@ -8,7 +8,7 @@ use Rattle.image_layout.specs.Places.{Shape, first_segment, head_at, bucket_at, 
 use Rattle.sound_image.specs.Segments.{frame_of}
 use Rattle.sound_image.specs.Records.{key_hash}
 use Rattle.segment_table.proofs.frames.Owner.{found_owns, same_owner}
-use Rattle.bucket_words.specs.Owners.{IsStructure, owner_of, home_at, SameOwners}
+use Rattle.bucket_words.specs.Owners.{IsStructure, HasStructure, owner_of, home_at, SameOwners}
 
 -- THE NUMBERS of words
 one_segment : (f s q b c m n : ℕ) → b < buckets → c < buckets → m < block → n < block
@@ -37,7 +37,7 @@ not_structure shape s b n i bucket inside place is = elim is [
 ]
 
 -- THE OWNER of a hash is that of the same structure, and one of the slots
-pub owner_kept : (shape : Shape) (word other : Words) → ((i : ℕ) → IsStructure shape i → other i ≡ word i) → SameOwners shape word other
+pub owner_kept : (shape : Shape) (word other : Words) → HasStructure shape word other → SameOwners shape word other
 owner_kept shape word other same h =
     same_owner (frame_of shape word) (frame_of shape other) h refl (λ s slot. same (head_at shape s + 1) (inr (s, 1, slot, omega arith, refl)))
 
@@ -57,7 +57,7 @@ module _ (shape : Shape) (word : Words) (s b m x i : ℕ) (bucket : b < buckets)
   abbrev other : Words
   other = with_word word i x
 
-  pub structure_kept : (j : ℕ) → IsStructure shape j → other j ≡ word j
+  pub structure_kept : HasStructure shape word other
   structure_kept j is = replaced_other word i x j (λ e. not_structure shape s b m i bucket inside place (subst (IsStructure shape) e is))
 
   pub owners_kept : SameOwners shape word other
