@@ -64,7 +64,7 @@ pub fn one_slot_changes()
         → Hit shape word s d u k → (d ≡ b → u ≡ r → ⊥) → KeepsTable shape word other }
     ensures foreign { (shape : Shape) (word other : Words) (s b r k : ℕ) → IsTable shape word → ChangesSlot shape word other s b r k
         → (owner_of shape word (key_hash shape k) ≡ Some s → ⊥) → KeepsTable shape word other }
-    ensures records { (shape : Shape) (word other : Words) (s b r k : ℕ) → IsTable shape word → ChangesSlot shape word other s b r k → OnlyNewHit shape word other s b r k }
+    ensures records { (shape : Shape) (word other : Words) (s b r k : ℕ) → ChangesSlot shape word other s b r k → OnlyNewHit shape word other s b r k }
 {}
 
 /// Where no record slot changes, and no owner, a table stays one, with the same pairs.

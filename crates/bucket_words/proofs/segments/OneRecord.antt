@@ -107,21 +107,21 @@ module _ (shape : Shape) (word : Words) (table : IsTable shape word) (s b : ℕ)
         now = ap (allocated r) told_meta ∙ taken
 
         pub appears_only : OnlyNewHit shape word told s b r k
-        appears_only = only_new shape word told table s b r k appears
+        appears_only = only_new shape word told s b r k appears
 
         -- of a key that stood nowhere
         pub insert_key : owner_of shape word (key_hash shape k) ≡ Some s → ChangesKey shape word told k (Some (value_in word at r))
         insert_key own = record {
-          table = changed_table shape word told table s b r k appears;
-          here = now_taken shape word told table s b r k appears now bucket slot own ∙ ap Some (told_value r slot);
-          elsewhere = elsewhere shape word told table s b r k appears;
+          table = changed_table shape word told s b r k appears table;
+          here = now_taken shape word told s b r k appears table now bucket slot own ∙ ap Some (told_value r slot);
+          elsewhere = elsewhere shape word told s b r k appears table;
         }
 
         -- of a key that stands elsewhere too
         pub copy_key : (c t : ℕ) → Hit shape word s c t k → KeepsTable shape word told
         copy_key c t h = record {
-          table = changed_table shape word told table s b r k appears;
-          pairs = still shape word told table s b r k appears c t h
+          table = changed_table shape word told s b r k appears table;
+          pairs = still shape word told s b r k appears table c t h
               (λ e f. not_both _ (subst (λ (z : ℕ). IsTaken word at z) f (subst (λ (z : ℕ). IsTaken word (bucket_at shape s z) t) e h.taken)) ready.is_free);
         }
 
@@ -143,15 +143,15 @@ module _ (shape : Shape) (word : Words) (table : IsTable shape word) (s b : ℕ)
         -- of a key that stands elsewhere too
         pub clear_key : (c t : ℕ) → Hit shape word s c t k → (c ≡ b → t ≡ r → ⊥) → KeepsTable shape word told
         clear_key c t h apart = record {
-          table = changed_table shape word told table s b r k vanishes;
-          pairs = still shape word told table s b r k vanishes c t h apart;
+          table = changed_table shape word told s b r k vanishes table;
+          pairs = still shape word told s b r k vanishes table c t h apart;
         }
 
         pub remove_key : owner_of shape word (key_hash shape k) ≡ Some s → HasOnly shape word s b r k → ChangesKey shape word told k None
         remove_key own only = record {
-          table = changed_table shape word told table s b r k vanishes;
-          here = now_free shape word told table s b r k vanishes not_taken (λ c t h apart. let o = only c t h in apart o.0 o.1) own;
-          elsewhere = elsewhere shape word told table s b r k vanishes;
+          table = changed_table shape word told s b r k vanishes table;
+          here = now_free shape word told s b r k vanishes table not_taken (λ c t h apart. let o = only c t h in apart o.0 o.1) own;
+          elsewhere = elsewhere shape word told s b r k vanishes table;
         }
 
   -- A RECORD'S VALUE IS ANOTHER
@@ -195,8 +195,8 @@ module _ (shape : Shape) (word : Words) (table : IsTable shape word) (s b : ℕ)
 
     pub update_key : ChangesKey shape word updated k (Some x)
     update_key = record {
-      table = changed_table shape word updated table s b r k update_changes;
-      here = now_taken shape word updated table s b r k update_changes (ap (allocated r) meta_kept ∙ stood.taken) bucket stood.slot own
+      table = changed_table shape word updated s b r k update_changes table;
+      here = now_taken shape word updated s b r k update_changes table (ap (allocated r) meta_kept ∙ stood.taken) bucket stood.slot own
           ∙ ap Some (this_word shape word s b (5 + 2 * r) x (at + 5 + 2 * r) bucket in_slot (omega arith) (at + 5 + 2 * r) (omega arith));
-      elsewhere = elsewhere shape word updated table s b r k update_changes;
+      elsewhere = elsewhere shape word updated s b r k update_changes table;
     }
