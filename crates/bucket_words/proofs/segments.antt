@@ -9,3 +9,5 @@ pub mod Prepared
 pub mod Rules
 pub mod Deciding
 pub mod WorkedTables
+pub mod Noted
+pub mod Stashed

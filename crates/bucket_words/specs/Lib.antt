@@ -4,6 +4,7 @@ pub mod Owners
 pub mod Hits
 pub mod Standing
 pub mod TableChanges
+pub mod HomeNotes
 pub mod Tables
 pub mod Core
 pub mod Changes
