@@ -1,3 +1,4 @@
+pub mod segments
 pub mod WordCores
 pub mod Slots
 pub mod Finding

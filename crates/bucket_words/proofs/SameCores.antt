@@ -2,7 +2,7 @@
 use Rattle.std.proofs.Common.{◌≡◌, ℕ, ◌+◌, ◌*◌, ◌%◌, ◌^◌, ◌<◌, ◌≤◌, ap, sym, ◌∙◌, arith}
 use Rattle.hash_word.specs.Hash.{home_of}
 use Rattle.trace.specs.Events.{Words}
-use Rattle.image_layout.specs.Places.{Shape, bucket_at, homes, buckets}
+use Rattle.image_layout.specs.Places.{Shape, bucket_at, buckets}
 use Rattle.sound_image.specs.Records.{key_hash}
 use Rattle.sound_image.proofs.Hashes.{home_of-below}
 use Rattle.sound_image.proofs.LowBits.{same_allocated, same_member, same_finger}

@@ -5,22 +5,12 @@ use Rattle.bucket_meta.specs.Bucket.{allocated, member, finger, record_slots}
 use Rattle.trace.specs.Events.{Words}
 use Rattle.image_layout.specs.Places.{Shape, bucket_at}
 use Rattle.sound_image.specs.Records.{key_hash}
-use Rattle.bucket_words.specs.Buckets.{IsTaken, key_in, value_in, finger_in, IsHomeBucket}
+use Rattle.bucket_words.specs.Buckets.{IsTaken, IsHomeBucket}
+pub use Rattle.bucket_words.specs.Slots.{SameSlot, SameSlots}
 
 module _ (word other : Words) (at : ℕ) where
-  -- slot t is taken in both or in none, and if it is, then by the same record
-  pub record SameSlot (t : ℕ) : Type 0 where
-    pub taken : allocated t (other (at + 1)) ≡ allocated t (word (at + 1))
-    pub membership : IsTaken word at t → member t (other (at + 1)) ≡ member t (word (at + 1))
-    pub key : IsTaken word at t → key_in other at t ≡ key_in word at t
-    pub value : IsTaken word at t → value_in other at t ≡ value_in word at t
-    pub fingerprint : IsTaken word at t → finger_in other at t ≡ finger_in word at t
-
-  abbrev pub SameSlots : Type 0
-  SameSlots = (t : ℕ) → t < record_slots → SameSlot t
-
   -- a bucket of the same words
-  pub same_words : ((n : ℕ) → n < 32 → other (at + n) ≡ word (at + n)) → SameSlots
+  pub same_words : ((n : ℕ) → n < 32 → other (at + n) ≡ word (at + n)) → SameSlots word other at
   same_words same t slot = record {
     taken = ap (allocated t) (same 1 (omega arith));
     membership = λ _. ap (member t) (same 1 (omega arith));

@@ -1,8 +1,8 @@
 -- The core of a word: what of it a rule or a pair depends on between a restart and a close. Of a lock word that is
 -- nothing, and of a bucket's metadata all but the overflow parts.
-use Rattle.std.specs.Prelude.{ℕ, zero, suc, ◌-◌, ◌/◌, ◌%◌, ◌^◌, nat_lt, ◌==◌, ◌||◌, if◌then◌else◌}
+use Rattle.std.specs.Prelude.{◌≡◌, ℕ, zero, suc, ◌+◌, ◌-◌, ◌/◌, ◌%◌, ◌^◌, ◌<◌, ◌≤◌, nat_lt, ◌==◌, ◌||◌, if◌then◌else◌}
 use Rattle.trace.specs.Events.{Words}
-use Rattle.image_layout.specs.Places.{Shape, first_segment, words_of}
+use Rattle.image_layout.specs.Places.{Shape, first_segment, words_of, bucket_at, block}
 
 -- of word n of a bucket
 abbrev pub core_in_bucket : ℕ → ℕ → ℕ
@@ -25,3 +25,7 @@ module _ (shape : Shape) where
 
   abbrev pub core : Words → Words
   core word i = core_of i (word i)
+
+  -- the words of bucket b of segment s behind its lock word have the same cores in both
+  abbrev pub SameCoresIn : Words → Words → ℕ → ℕ → Type 0
+  SameCoresIn word other s b = (n : ℕ) → 1 ≤ n → n < block → core word (bucket_at shape s b + n) ≡ core other (bucket_at shape s b + n)

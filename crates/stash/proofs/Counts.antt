@@ -32,8 +32,8 @@ same_pieces p q (suc n) same =
     let last : q n ≡ p n = same n (omega arith) in
     pieces_more q n ∙ ap (λ front. front ++ q n) before ∙ ap (λ piece. flat_map p (numbers_below n) ++ piece) last ∙ sym (pieces_more p n)
 
--- where one piece is changed, the number changes by what that piece gives
-pub changed_piece : (f : List Note → ℕ) → IsSum f → (p q : ℕ → List Note) (k n : ℕ) → k < n → ((i : ℕ) → i ≢ k → q i ≡ p i)
+-- where one piece of those below n is changed, the number changes by what that piece gives
+pub changed_piece : (f : List Note → ℕ) → IsSum f → (p q : ℕ → List Note) (k n : ℕ) → k < n → ((i : ℕ) → i < n → i ≢ k → q i ≡ p i)
     → f (flat_map q (numbers_below n)) + f (p k) ≡ f (flat_map p (numbers_below n)) + f (q k)
 changed_piece f is p q k zero within same = absurd (omega arith)
 changed_piece f is p q k (suc n) within same =
@@ -41,12 +41,13 @@ changed_piece f is p q k (suc n) within same =
     let of_p : f (flat_map p (numbers_below (suc n))) ≡ f (flat_map p (numbers_below n)) + f (p n) = ap f (pieces_more p n) ∙ is.both _ _ in
     elim (cases_lt k n) [
       | inl low ↦
-          let before : f (flat_map q (numbers_below n)) + f (p k) ≡ f (flat_map p (numbers_below n)) + f (q k) = changed_piece f is p q k n low same in
-          let last : f (q n) ≡ f (p n) = ap f (same n (omega arith)) in
+          let before : f (flat_map q (numbers_below n)) + f (p k) ≡ f (flat_map p (numbers_below n)) + f (q k) = changed_piece f is p q k n low (λ i below. same i (omega (arith, below))) in
+          let last : f (q n) ≡ f (p n) = ap f (same n (omega arith) (omega (arith, low))) in
           omega (arith, of_q, of_p, before, last)
       | inr high ↦
-          let is_last : k ≡ n = omega arith in
-          let before : f (flat_map q (numbers_below n)) ≡ f (flat_map p (numbers_below n)) = ap f (same_pieces p q n (λ i below. same i (omega arith))) in
+          let is_last : k ≡ n = omega (arith, within, high) in
+          let before : f (flat_map q (numbers_below n)) ≡ f (flat_map p (numbers_below n)) =
+          ap f (same_pieces p q n (λ i below. same i (omega (arith, below)) (omega (arith, below, is_last)))) in
           let here_p : f (p k) ≡ f (p n) = ap (λ i. f (p i)) is_last in
           let here_q : f (q k) ≡ f (q n) = ap (λ i. f (q i)) is_last in
           omega (arith, of_q, of_p, before, here_p, here_q)

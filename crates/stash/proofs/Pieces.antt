@@ -39,5 +39,5 @@ other_side_stays old new k side place becomes before after =
 pub this_side_changes : (f : List Note → ℕ) → IsSum f → (old new : Meta) (k side : ℕ) (place : Place) → PlaceBecomes old new k place → k < 4
     → f (notes_at new side) + f (piece side (place_at old k)) ≡ f (notes_at old side) + f (piece side place)
 this_side_changes f is old new k side place becomes within =
-    changed_piece f is (λ i. piece side (place_at old i)) (λ i. piece side (place_at new i)) k 4 within (λ i other. ap (λ p. piece side p) (becomes.elsewhere i other))
+    changed_piece f is (λ i. piece side (place_at old i)) (λ i. piece side (place_at new i)) k 4 within (λ i below other. ap (λ p. piece side p) (becomes.elsewhere i other))
     ∙ ap (λ p. f (notes_at old side) + f (piece side p)) becomes.here

@@ -1,0 +1,29 @@
+-- A table by its records: each stands where it is looked for, and a key that stands twice has one value.
+use Rattle.std.specs.Prelude.{◌≡◌, ℕ, ◌+◌, ◌≤◌, Some, ◌⊎◌}
+use Rattle.hash_word.specs.Hash.{home_of, finger_of, probing_of}
+use Rattle.bucket_meta.specs.Bucket.{member}
+use Rattle.trace.specs.Events.{Words}
+use Rattle.image_layout.specs.Places.{Shape, bucket_at, homes}
+use Rattle.sound_image.specs.Records.{key_hash}
+use Rattle.bucket_words.specs.Buckets.{value_in, finger_in}
+use Rattle.bucket_words.specs.Owners.{owner_of}
+use Rattle.bucket_words.specs.Hits.{Hit}
+
+-- a record of key k with this membership bit may stand in bucket b: in its home without the bit, in its probing bucket with
+-- it, or in the stash
+abbrev pub StandsAt : Shape → ℕ → ℕ → ℕ → Type 0
+StandsAt shape b k bit =
+    ((b ≡ home_of (key_hash shape k)) × (bit ≡ 0)) ⊎ ((b ≡ probing_of (home_of (key_hash shape k))) × (bit ≡ 1)) ⊎ (homes ≤ b)
+
+module _ (shape : Shape) (word : Words) where
+  -- slot r of bucket b of segment s is one where a record of key k may stand, and has its fingerprint
+  pub record IsRight (s b r k : ℕ) : Type 0 where
+    pub bucket : StandsAt shape b k (member r (word (bucket_at shape s b + 1)))
+    pub fingerprint : finger_in word (bucket_at shape s b) r ≡ finger_of (key_hash shape k)
+
+  -- A TABLE: in the segment that owns its key's hash each record stands right, and two records of one key have one value.
+  -- Of records in other segments nothing is said
+  pub record IsTable : Type 0 where
+    pub stands : (s b r k : ℕ) → Hit shape word s b r k → owner_of shape word (key_hash shape k) ≡ Some s → IsRight s b r k
+    pub one_value : (s b r c t k : ℕ) → Hit shape word s b r k → Hit shape word s c t k → owner_of shape word (key_hash shape k) ≡ Some s
+        → value_in word (bucket_at shape s b) r ≡ value_in word (bucket_at shape s c) t
