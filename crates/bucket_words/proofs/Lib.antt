@@ -6,7 +6,6 @@ pub mod SameCores
 pub mod OneSegment
 pub mod TableSound
 pub mod Pairs
-pub mod OneWord
-pub mod OneSlot
+pub mod stores
 pub mod OneChange
 pub mod WorkedTable

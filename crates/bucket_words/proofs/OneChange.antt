@@ -14,8 +14,8 @@ use Rattle.bucket_meta.specs.Marks.{SameButSlot}
 use Rattle.bucket_words.proofs.Slots.{SameSlot, SameSlots}
 use Rattle.bucket_words.proofs.Finding.{Hits}
 use Rattle.bucket_words.proofs.SameCores.{find_of_cores, table_of_cores}
-use Rattle.bucket_words.proofs.OneWord.{kept_front, other_bucket, other_word, this_word}
-use Rattle.bucket_words.proofs.OneSlot.{ChangesSlot, keeps, changed_table, elsewhere, now_taken, now_free}
+use Rattle.bucket_words.proofs.stores.OneWord.{kept_front, other_bucket, other_word, this_word}
+use Rattle.bucket_words.proofs.stores.OneSlot.{ChangesSlot, keeps, changed_table, elsewhere, now_taken, now_free}
 
 not_both : (n : ℕ) → n ≡ 1 → n ≡ 0 → ⊥
 not_both n e f = omega arith
