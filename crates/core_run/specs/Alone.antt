@@ -2,6 +2,7 @@
 use Rattle.std.specs.Prelude.{◌≡◌, ℕ, ◌+◌, ◌-◌, ◌≤◌, ⊤, false, Some, List, [], ◌∷◌, length}
 use Rattle.restart_op.specs.Closing.{left as close_left, events_of}
 use Rattle.engine.specs.declared.engine.End.{End}
+use Rattle.engine.specs.Engine.{outcome_of_end}
 use Rattle.engine.specs.Core.{Caller, Core}
 use Rattle.engine.specs.Alone.{EndsCall, along, IsAlone as IsAloneIn}
 use Rattle.core_run.specs.declared.keeper.Keeper.{Keeper}
@@ -53,7 +54,7 @@ AloneStays = (t : Task) (c : ℕ) (s : State) (d : Deed) → IsForOne t → IsRu
 -- and an attempt that ends has its reply
 abbrev pub AloneReplies : Type 0
 AloneReplies = (t : Task) (c : ℕ) (s : State) (d : Deed) (end : End) → IsForOne t → IsRunning t s → IsAlone t s → deed t.shape c s ≡ Some d → d.end ≡ Some end
-    → EndsCall end
+    → EndsCall (outcome_of_end end)
 
 -- so none is to be made again
 abbrev pub NeverAgain : Type 0

@@ -8,7 +8,7 @@ use Rattle.map_model.specs.declared.call.Call.{Call}
 use Rattle.world.specs.Views.{Has}
 use Rattle.way.specs.Ways.{is_covering}
 use Rattle.restart_op.specs.Closing.{events_of}
-use Rattle.engine.specs.Causes.{Doings}
+use Rattle.part.specs.Doings.{Doings}
 use Rattle.core_run.specs.Run.{all_calls}
 
 -- ---- what is counted in the newest words

@@ -14,7 +14,6 @@ pub fn alone_stays()
     ensures replies { AloneReplies }
     ensures never_again { NeverAgain }
 {
-    engine::ends_have_causes();
     engine::never_again_alone();
     engine::attempts_end();
     restart_op::close_ends();
@@ -32,7 +31,6 @@ pub fn runs_stay_well()
     ensures lines { LinesStay }
     ensures closed { ClosedStays }
 {
-    engine::ends_have_causes();
     engine::never_again_alone();
     engine::attempts_end();
     restart_op::close_ends();
@@ -52,7 +50,6 @@ pub fn calls_run_out()
     ensures run_out { RunOutEnds }
     ensures closed { ClosedEnds }
 {
-    engine::ends_have_causes();
     engine::never_again_alone();
     engine::attempts_end();
     restart_op::close_ends();
@@ -65,7 +62,6 @@ pub fn calls_run_out()
 pub fn drives_are_enough()
     ensures { DrivesAreEnough }
 {
-    engine::ends_have_causes();
     engine::never_again_alone();
     engine::attempts_end();
     restart_op::close_ends();
@@ -78,7 +74,6 @@ pub fn drives_are_enough()
 pub fn runs_are_well()
     ensures { RunsAreWell }
 {
-    engine::ends_have_causes();
     engine::never_again_alone();
     engine::attempts_end();
     restart_op::close_ends();

@@ -18,7 +18,6 @@ pub fn rounds_run_out()
     ensures always { EndRuleEnds }
     ensures enough { CallersDriveEnough }
 {
-    engine::ends_have_causes();
     engine::never_again_alone();
     engine::attempts_end();
     states::run_begins();

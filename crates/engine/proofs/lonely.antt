@@ -1,4 +1,3 @@
 -- A caller that steps while all others stand between two attempts is told no Again.
-pub mod Still
 pub mod Others
 pub mod Lonely

@@ -1,9 +1,5 @@
--- The laws of an engine, by those of its machines.
-pub mod Ways
-pub mod Fitting
-pub mod Falling
-pub mod Within
-pub mod Sparing
-pub mod NeverCuts
-pub mod Waits
+-- The machines of a call as one part, and what follows for an engine.
+pub mod Ops
+pub mod Begins
+pub mod Engines
 pub mod Pairs

@@ -3,39 +3,31 @@ use Rattle.std.specs.Prelude.{◌≡◌, ◌≢◌, ℕ, suc, ⊤, Option, None,
 use Rattle.op_core.specs.declared.want.Want.TheVariants as want
 use Rattle.op_core.specs.declared.why.Why.{Why}
 use Rattle.op_core.specs.declared.why.Why.TheVariants.{Busy}
-use Rattle.trace.specs.Events.{Words}
 use Rattle.image_layout.specs.Places.{Shape}
-use Rattle.image_layout.specs.Volatile.{counter_word}
 use Rattle.map_model.specs.declared.call.Call.{Call}
 use Rattle.map_model.specs.declared.entry.Reply.{Reply}
-use Rattle.world.specs.Views.{Has}
-use Rattle.read_op.specs.declared.step.ReadEnd.TheVariants as read_end
-use Rattle.write_op.specs.declared.control.WriteEnd.TheVariants as write_end
 use Rattle.restart_op.specs.Restarted.{IsPlayableImage}
-use Rattle.engine.specs.declared.engine.End.{End}
-use Rattle.engine.specs.declared.engine.End.TheVariants as ends
 use Rattle.engine.specs.declared.engine.Engine.{Engine}
-use Rattle.engine.specs.Engine.{begun, wanted, reply_of_end}
+use Rattle.part.specs.Doings.{Doings, nothing_done, IsStill}
+use Rattle.part.specs.Outcomes.{Outcome, again, reply_of}
+use Rattle.engine.specs.Engine.{begun, wanted, end_of, outcome_of_end}
+use Rattle.engine.specs.OpPart.{op_part}
 use Rattle.engine.specs.Core.{Caller, Core, current}
 use Rattle.engine.specs.Laws.{opened, AreScripts}
-use Rattle.engine.specs.Causes.{Doings, nothing_done, Watched, watched, engine_next, watched_turn, watched_run, IsDecided, Decides}
+use Rattle.engine.specs.Causes.{Watched, watched, engine_next, watched_turn, watched_run, Decides}
 
--- ---- ends
--- an end that is to be told: a reply, and none that says to try again
+-- ---- outcomes
+-- an outcome that is to be told: a reply, and none that says to try again
 abbrev pub IsReply : Option (Reply × ℕ) → Type 0
 IsReply None = ⊥
 IsReply (Some r) = ⊤
 
-abbrev pub EndsCall : End → Type 0
-EndsCall end = IsReply (reply_of_end end)
+abbrev pub EndsCall : Option Outcome → Type 0
+EndsCall outcome = IsReply (reply_of outcome)
 
--- it says to try again, and why
-abbrev pub SaysAgain : End → Why → Type 0
-SaysAgain end why = (end ≡ ends.Read (read_end.Again why)) ⊎ (end ≡ ends.Write (write_end.Again why))
-
--- it is one of the two
-abbrev pub IsTold : End → Type 0
-IsTold end = EndsCall end ⊎ ((why : Why) × SaysAgain end why)
+-- it is one, or it says to try again, and why
+abbrev pub IsTold : Option Outcome → Type 0
+IsTold outcome = EndsCall outcome ⊎ ((why : Why) × (outcome ≡ Some (again why)))
 
 -- ---- a caller between two attempts
 -- no engine of it runs, or one that has done nothing yet
@@ -50,16 +42,12 @@ abbrev pub IsResting : Watched → ℕ → Type 0
 IsResting w j = (c : Caller) → slice_get w.core.callers j ≡ Some c → IsRestingBy c (w.doings j)
 
 -- ---- a caller alone
--- what an attempt loaded is still so, or it changed that itself; but for the commit counter, from which it draws
-abbrev pub IsStill : Shape → Words → Doings → Type 0
-IsStill shape words did = (word value : ℕ) → Has (word, value) did.loads → word ≢ counter_word shape → (words word ≡ value) ⊎ Has word did.changed
-
 -- THE CALLER AT PLACE j IS ALONE: all others are between two attempts, what its attempt loaded is still so, and if its end is
 -- decided it does not say to try again
 pub record IsAlone (shape : Shape) (j : ℕ) (w : Watched) : Type 0 where
   pub others : (i : ℕ) (c : Caller) → i ≢ j → slice_get w.core.callers i ≡ Some c → IsBetween c
   pub still : IsStill shape w.core.words (w.doings j)
-  pub calm : (c : Caller) (e : Engine) (end : End) (why : Why) → slice_get w.core.callers j ≡ Some c → c.engine ≡ Some e → IsDecided e.op end → SaysAgain end why → ⊥
+  pub calm : (c : Caller) (e : Engine) (why : Why) → slice_get w.core.callers j ≡ Some c → c.engine ≡ Some e → op_part.outcome e.op ≡ Some (again why) → ⊥
 
 -- ---- the laws, along all turns from an image that may be played
 module _ (shape : Shape) (words : List ℕ) (scripts : List (List Call)) where
@@ -82,9 +70,9 @@ pub record IsOthers (core : Core) (j : ℕ) : Type 0 where
   pub midst : IsBetween caller → ⊥
 
 abbrev pub BusyIsOthers : Type 0
-BusyIsOthers = AlongTurns (λ shape words scripts turns. (j : ℕ) (c : Caller) (call : Call) (e : Engine) (end : End) (word value : ℕ)
+BusyIsOthers = AlongTurns (λ shape words scripts turns. (j : ℕ) (c : Caller) (call : Call) (e : Engine) (word value : ℕ)
     → slice_get (along shape words scripts turns).core.callers j ≡ Some c → current c ≡ Some call → c.engine ≡ Some e
-    → Decides shape (along shape words scripts turns).core.words e end → SaysAgain end (Busy word value) → IsOthers (along shape words scripts turns).core j)
+    → Decides shape (along shape words scripts turns).core.words e (again (Busy word value)) → IsOthers (along shape words scripts turns).core j)
 
 -- AT THE BEGINNING all callers rest, and each is alone
 abbrev pub AllRestAtStart : Type 0
@@ -114,12 +102,19 @@ pub record IsNext (w : Watched) (j : ℕ) (e : Engine) : Type 0 where
 -- AN ATTEMPT OF A CALLER ALONE never ends in Again
 abbrev pub AloneNeverAgain : Type 0
 AloneNeverAgain = AlongTurns (λ shape words scripts turns. (j : ℕ) (e : Engine) → IsAlone shape j (along shape words scripts turns) → IsNext (along shape words scripts turns) j e
-    → (end : End) (why : Why) → IsDecided (engine_next shape (along shape words scripts turns).core.words e).op end → SaysAgain end why → ⊥)
+    → (why : Why) → op_part.outcome (engine_next shape (along shape words scripts turns).core.words e).op ≡ Some (again why) → ⊥)
 
 -- and whoever has its turn, its attempt ends with a reply or in Again
 abbrev pub EndsAreTold : Type 0
 EndsAreTold = AlongTurns (λ shape words scripts turns. (j : ℕ) (e : Engine) → IsNext (along shape words scripts turns) j e
-    → (end : End) → IsDecided (engine_next shape (along shape words scripts turns).core.words e).op end → IsTold end)
+    → (outcome : Outcome) → op_part.outcome (engine_next shape (along shape words scripts turns).core.words e).op ≡ Some outcome → IsTold (Some outcome))
+
+-- where it wants nothing more, so does its end
+abbrev pub EndsTell : Type 0
+EndsTell = AlongTurns (λ shape words scripts turns. (j : ℕ) (e : Engine) → IsNext (along shape words scripts turns) j e
+    → wanted (engine_next shape (along shape words scripts turns).core.words e) ≡ want.Done
+    → (outcome : Outcome) × (op_part.outcome (engine_next shape (along shape words scripts turns).core.words e).op ≡ Some outcome)
+    × (outcome_of_end (end_of (engine_next shape (along shape words scripts turns).core.words e)) ≡ Some outcome))
 
 -- AN ATTEMPT THAT ENDED leaves its caller at rest, and a turn of another caller leaves it so
 abbrev pub EndedRests : Type 0

@@ -5,22 +5,20 @@ use Rattle.op_core.specs.declared.want.Ans.{Ans}
 use Rattle.map_model.specs.declared.call.Call.{Call}
 use Rattle.map_model.specs.declared.call.Call.TheVariants.{Get, Insert, Update, Remove}
 use Rattle.map_model.specs.declared.entry.Reply.{Reply}
-use Rattle.map_model.specs.declared.entry.Reply.TheVariants as reply
 use Rattle.world.specs.declared.site.Site.{Site}
 use Rattle.world.specs.Kinds.{Kind}
+use Rattle.part.specs.Outcomes.{Outcome, again, reply_of}
 use Rattle.read_op.specs.declared.step.ReadEnd.{ReadEnd}
 use Rattle.read_op.specs.declared.step.ReadEnd.TheVariants as read_end
 use Rattle.read_op.specs.declared.step.ReadStep.{ReadStep}
 use Rattle.read_op.specs.declared.step.ReadStep.TheVariants as read_step
 use Rattle.read_op.specs.Steps.{begun as read_begun, wanted as read_wanted, taken as read_taken}
 use Rattle.read_op.specs.Fits.{kind_of as read_kind}
-use Rattle.write_op.specs.declared.control.WriteEnd.{WriteEnd}
-use Rattle.write_op.specs.declared.control.WriteEnd.TheVariants as write_end
-use Rattle.write_op.specs.declared.control.Step.{Step}
-use Rattle.write_op.specs.declared.control.Step.TheVariants as write_step
+use Rattle.read_op.specs.GetPart.{outcome_of as get_outcome}
 use Rattle.write_op.specs.declared.machine.WriteOp.{WriteOp}
-use Rattle.write_op.specs.Taken.{begun as write_begun, wanted as write_wanted, taken as write_taken, refused, end_of as write_end_of}
+use Rattle.write_op.specs.Taken.{begun as write_begun, wanted as write_wanted, end_of as write_end_of}
 use Rattle.write_op.specs.Fits.{kind_of as write_kind}
+use Rattle.write_op.specs.ChangePart.{whole_change, outcome_of as change_outcome}
 use Rattle.engine.specs.declared.engine.Op.{Op}
 use Rattle.engine.specs.declared.engine.Op.TheVariants.{Read, Write}
 use Rattle.engine.specs.declared.engine.End.{End}
@@ -42,14 +40,6 @@ running op = record { op = op }
 abbrev pub begun : Site → Call → Engine
 begun site call = running (op_of site call)
 
--- an insert that found no slot is refused: the next part goes on
-abbrev pub go_on_at : WriteOp → Step → WriteOp
-go_on_at op (write_step.Ended write_end.NoSlot) = refused op
-go_on_at op step = op
-
-abbrev pub go_on : WriteOp → WriteOp
-go_on op = go_on_at op op.step
-
 -- the event that it wants
 abbrev pub wanted_by_op : Op → Want
 wanted_by_op (Read op) = read_wanted op
@@ -58,10 +48,10 @@ wanted_by_op (Write op) = write_wanted op
 abbrev pub wanted : Engine → Want
 wanted e = wanted_by_op e.op
 
--- what an answer makes of it
+-- what an answer makes of it: an insert that found no slot goes on to its refusal
 abbrev pub taken_by_op : Op → Ans → Op
 taken_by_op (Read op) ans = Read (read_taken op ans)
-taken_by_op (Write op) ans = Write (go_on (write_taken op ans))
+taken_by_op (Write op) ans = Write (whole_change.taken op ans)
 
 abbrev pub taken : Engine → Ans → Engine
 taken e ans = record { op = taken_by_op e.op ans }
@@ -78,32 +68,22 @@ end_of_op (Write op) = ends.Write (write_end_of op)
 abbrev pub end_of : Engine → End
 end_of e = end_of_op e.op
 
--- the reply of an end, with its place
-abbrev pub read_reply : ReadEnd → Option (Reply × ℕ)
-read_reply (read_end.Found v place) = Some (reply.Found v, place)
-read_reply (read_end.Absent place) = Some (reply.Absent, place)
-read_reply end = None
+-- the outcome of an attempt that ended so
+abbrev pub outcome_of_end : End → Option Outcome
+outcome_of_end (ends.Read end) = Some (get_outcome end)
+outcome_of_end (ends.Write end) = change_outcome end
 
-abbrev pub write_reply : WriteEnd → Option (Reply × ℕ)
-write_reply (write_end.Replied r place) = Some (r, place)
-write_reply end = None
-
+-- its reply, with its place
 abbrev pub reply_of_end : End → Option (Reply × ℕ)
-reply_of_end (ends.Read end) = read_reply end
-reply_of_end (ends.Write end) = write_reply end
+reply_of_end end = reply_of (outcome_of_end end)
 
--- an end that says that the attempt is to be made again
-abbrev pub is_read_again : ReadEnd → Bool
-is_read_again (read_end.Again why) = true
-is_read_again end = false
-
-abbrev pub is_write_again : WriteEnd → Bool
-is_write_again (write_end.Again why) = true
-is_write_again end = false
+-- it says that the attempt is to be made again
+abbrev pub says_again : Option Outcome → Bool
+says_again (Some (again why)) = true
+says_again outcome = false
 
 abbrev pub is_again : End → Bool
-is_again (ends.Read end) = is_read_again end
-is_again (ends.Write end) = is_write_again end
+is_again end = says_again (outcome_of_end end)
 
 -- the kind of its next event in the world of many callers, by the value that the event finds
 abbrev pub kind_of_op : Op → ℕ → Kind

@@ -3,7 +3,6 @@ use Rattle.std.specs.Prelude.{◌≡◌, ◌≢◌, ℕ, ◌^◌, ◌<◌, List,
 use Rattle.op_core.specs.declared.want.Want.TheVariants.{Done}
 use Rattle.trace.specs.Events.{Words}
 use Rattle.map_model.specs.declared.call.Call.{Call}
-use Rattle.map_model.specs.declared.call.Call.TheVariants.{Get}
 use Rattle.map_model.specs.Map.{key_of, value_of}
 use Rattle.world.specs.declared.site.Site.{Site as Here}
 use Rattle.world.specs.Site.{Site, IsSite}
@@ -11,26 +10,16 @@ use Rattle.world.specs.Views.{View, At}
 use Rattle.world.specs.Wants.{answer_to, word_of}
 use Rattle.world.specs.Kinds.{wanted as wanted_by, view_after, May}
 use Rattle.world.specs.Invariant.{Holds}
-use Rattle.world.specs.Attempts.{HoldsOnly, HasNoMore, EntersReply}
-use Rattle.read_op.specs.Fits.{IsIn as ReadIsIn, Suits as ReadSuits}
-use Rattle.write_op.specs.Suits.{IsIn as WriteIsIn, Suits as WriteSuits}
-use Rattle.write_op.specs.Numbers.{HasWords}
-use Rattle.engine.specs.declared.engine.Op.{Op}
-use Rattle.engine.specs.declared.engine.Op.TheVariants.{Read, Write}
+use Rattle.world.specs.Attempts.{HoldsOnly, EntersReply}
+use Rattle.part.specs.Part.{Suits as SuitsPart}
 use Rattle.engine.specs.declared.engine.Engine.{Engine}
 use Rattle.engine.specs.Engine.{begun, wanted, taken, end_of, reply_of_end, kind_of}
+use Rattle.engine.specs.OpPart.{op_part}
 
 -- THE VIEW suits the machine in the midst of a call, whose attempt began with the view `before`
-abbrev pub SuitsOp : Site → Here → Call → Op → View → View → Type 0
-SuitsOp site here call (Read op) before v =
-    (call ≡ Get op.key) × (op.site ≡ here) × ReadIsIn site op × ReadSuits site op v × HoldsOnly [] v × HasNoMore before v
-SuitsOp site here call (Write op) before v =
-    (op.task.call ≡ call) × (op.task.site ≡ here) × WriteIsIn site op × HasWords op × WriteSuits before op v
-
 pub record Suits (site : Site) (here : Here) (call : Call) (e : Engine) (before v : View) : Type 0 where
   pub asks : wanted e ≢ Done
-  pub suits : SuitsOp site here call e.op before v
-  pub callers : 0 < v.callers
+  pub suits : SuitsPart op_part site here call e.op before v
 
 -- AN ATTEMPT HAS ENDED: the caller holds and owes nothing, and has its reply, if there is one, as its next entry
 pub record HasEnded (call : Call) (e : Engine) (before v : View) : Type 0 where

@@ -13,22 +13,16 @@ use Rattle.world.specs.Site.{Site}
 use Rattle.world.specs.Views.{View, At}
 use Rattle.world.specs.Wants.{words_after}
 use Rattle.world.specs.Invariant.{Holds}
-use Rattle.write_op.specs.Pairs.{IsMade}
-use Rattle.engine.specs.declared.engine.Op.{Op}
-use Rattle.engine.specs.declared.engine.Op.TheVariants.{Read, Write}
 use Rattle.engine.specs.declared.engine.Engine.{Engine}
 use Rattle.engine.specs.Engine.{begun, wanted, taken, end_of, reply_of_end}
+use Rattle.engine.specs.OpPart.{op_part}
 use Rattle.engine.specs.Fits.{Suits, next_engine}
 use Rattle.engine.specs.Core.{Caller, Core, turn}
 use Rattle.engine.specs.Holding.{CoreHolds}
 
 -- the attempt has done the one store that makes its change; a get never does
-abbrev pub HasMadeOp : Op → Type 0
-HasMadeOp (Read op) = ⊥
-HasMadeOp (Write op) = IsMade op.step
-
 abbrev pub HasMade : Engine → Type 0
-HasMade e = HasMadeOp e.op
+HasMade e = op_part.HasMade e.op
 
 -- ---- an engine
 -- EACH EVENT leaves what every key has as it was, beside any other callers, or else it is the one by which the attempt makes its

@@ -17,9 +17,9 @@ pub fn ends_have_causes()
     ensures causes { EndsHaveCauses }
     ensures busy { BusyIsOthers }
 {
-    laws::fits_the_world();
+    laws::calls_are_parts();
     turns::opened_holds();
     turns::turn_keeps();
     restart_op::restart_begins();
-    write_op::ends_have_causes();
+    write_op::whole_changes_are_parts();
 }

@@ -2,7 +2,7 @@
 
 ghost use Rattle.std.specs.Prelude.{◌≡◌};
 ghost use Rattle.op_core.specs.declared.want.Want.TheVariants as want;
-ghost use Rattle.engine.specs.Engine.{running, begun, go_on, wanted, taken, end_of, reply_of_end, is_again};
+ghost use Rattle.engine.specs.Engine.{running, begun, wanted, taken, end_of, reply_of_end, is_again};
 
 use map_model::{Call, Reply};
 use op_core::{Ans, Machine, Want};
@@ -58,17 +58,6 @@ pub struct Engine {
     op: Op,
 }
 
-/// A change goes on: an insert that found no slot is refused.
-fn go_on(op: WriteOp) -> WriteOp
-    ensures { result ≡ go_on op }
-{
-    if op.want() == Want::Done && op.end() == WriteEnd::NoSlot {
-        op.refuse()
-    } else {
-        op
-    }
-}
-
 impl Engine {
     /// The engine of a machine.
     pub fn new(op: Op) -> Engine
@@ -107,7 +96,9 @@ impl Engine {
             Op::Read(op) => op.take(ans),
             Op::Write(op) => {
                 op.take(ans);
-                *op = go_on(*op);
+                if op.hands_on() {
+                    *op = op.refuse();
+                }
             }
         }
     }

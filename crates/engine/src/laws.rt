@@ -1,6 +1,6 @@
 //! The laws of an engine. The functions do nothing: each stands for the law that its contract says.
 
-ghost use Rattle.std.specs.Prelude.{◌≡◌, ◌≢◌, ℕ, ◌+◌, ◌<◌, ◌≤◌};
+ghost use Rattle.std.specs.Prelude.{◌≡◌, ◌≢◌, ℕ, ◌+◌, ◌<◌, ◌≤◌, Some};
 ghost use Rattle.op_core.specs.declared.want.Want.TheVariants.{Flush, Fence, Done};
 ghost use Rattle.op_core.specs.declared.want.Ans.{Ans};
 ghost use Rattle.map_model.specs.declared.call.Call.{Call};
@@ -8,10 +8,31 @@ ghost use Rattle.world.specs.declared.site.Site.{Site};
 ghost use Rattle.op_core.specs.Answers.{IsAnswer};
 ghost use Rattle.engine.specs.declared.engine.Engine.{Engine};
 ghost use Rattle.engine.specs.Engine.{begun, wanted, taken};
+ghost use Rattle.world.specs.Site.{Site as Image};
+ghost use Rattle.part.specs.Doings.{nothing_done};
+ghost use Rattle.part.specs.Outcomes.{finished};
+ghost use Rattle.part.specs.Part.{IsPart};
+ghost use Rattle.part.specs.Causes.{EndsByCause};
+ghost use Rattle.engine.specs.OpPart.{op_part};
+ghost use Rattle.engine.specs.Causes.{EndsAreDecided};
 ghost use Rattle.engine.specs.Fits.{BeginsSuited, KeepsSuits};
 ghost use Rattle.engine.specs.Left.{most_events, left, waiting};
 ghost use Rattle.engine.specs.Pairs.{LeavesOrMakes, BeginsUnmade, StaysMade, EndsAsDone, TurnLeavesOrMakes};
 ghost use Rattle.engine.specs.Asks.{AsksWithin, AsksWords, KeepsNotes};
+
+/// The machines of a call are one part, a get or a change that goes on to its refusal, and each of its outcomes has its cause, in what
+/// its attempt did. None is that it has finished; and where nothing more is wanted, the end is what was decided.
+pub fn calls_are_parts()
+    ensures part { IsPart op_part }
+    ensures causes { EndsByCause op_part }
+    ensures remembers { (site : Image) (here : Site) (call : Call) → op_part.Remembers site (begun here call).op nothing_done }
+    ensures finished { (e : Engine) → op_part.outcome e.op ≡ Some finished → ⊥ }
+    ensures ends { EndsAreDecided }
+{
+    read_op::gets_are_parts();
+    write_op::attempt_ends();
+    write_op::whole_changes_are_parts();
+}
 
 /// An engine fits the world of many callers: at the beginning of a call it suits the view of a caller that holds, knows and owes
 /// nothing; each event is one of a kind that the view may take, and leaves a view that suits the engine; or the attempt has
@@ -20,16 +41,17 @@ pub fn fits_the_world()
     ensures begins { BeginsSuited }
     ensures steps { KeepsSuits }
 {
-    write_op::words_are_inside();
-    write_op::stores_are_words();
-    write_op::fits_the_world();
+    world::steps_add_one_reply();
+    read_op::gets_are_parts();
+    write_op::whole_changes_are_parts();
+    calls_are_parts();
 }
 
 /// An engine asks for words of the image and those behind it alone, and flushes lines of the image alone.
 pub fn asks_within()
     ensures { AsksWithin }
 {
-    write_op::words_are_inside();
+    calls_are_parts();
 }
 
 /// An attempt ends: each answer of the kind that was asked for leaves fewer events, of at most `most_events`.
@@ -37,22 +59,21 @@ pub fn attempts_end()
     ensures falls { (e : Engine) (ans : Ans) → IsAnswer (wanted e) ans → left (taken e ans) < left e }
     ensures most { (e : Engine) → left e ≤ most_events }
 {
-    read_op::ends_in_time();
-    write_op::attempt_ends();
+    calls_are_parts();
 }
 
 /// What an engine stores, or puts in place of another value, is a word.
 pub fn stores_are_words()
     ensures { AsksWords }
 {
-    write_op::stores_are_words();
+    calls_are_parts();
 }
 
 /// A metadata word that an engine stores has the overflow notes of the word before, which its caller knows, and it exchanges none.
 pub fn stores_keep_notes()
     ensures { KeepsNotes }
 {
-    write_op::stores_keep_notes();
+    calls_are_parts();
 }
 
 /// At most two lines are flushed and not fenced: the number that bounds them is 0 at both ends and never above 2, each flush
@@ -64,7 +85,7 @@ pub fn flushes_are_few()
     ensures keeps { (e : Engine) (ans : Ans) → IsAnswer (wanted e) ans → wanted e ≢ Fence → waiting e ≤ waiting (taken e ans) }
     ensures ends { (e : Engine) → wanted e ≡ Done → waiting e ≡ 0 }
 {
-    write_op::flushes_are_few();
+    calls_are_parts();
 }
 
 /// An attempt that does not end as done left the pairs as they were, beside any other callers: each event leaves what every key
@@ -79,5 +100,5 @@ pub fn refusals_leave_pairs()
     ensures turns { TurnLeavesOrMakes }
 {
     world::other_steps_keep_pairs();
-    write_op::refusals_leave_pairs();
+    calls_are_parts();
 }

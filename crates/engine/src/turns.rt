@@ -14,6 +14,7 @@ pub fn turn_keeps()
 {
     world::worlds_stay_well();
     world::steps_do_events();
+    laws::calls_are_parts();
     laws::fits_the_world();
     laws::stores_are_words();
     laws::stores_keep_notes();
@@ -26,6 +27,7 @@ pub fn holding_is_good()
     world::entries_are_legal();
     world::device_leaves_what_views_say();
     bucket_words::tables_are_sound();
+    laws::calls_are_parts();
 }
 
 /// The core with which callers begin holds.

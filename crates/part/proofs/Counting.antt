@@ -1,5 +1,5 @@
 -- Two counts, one after another, are a part, and end by cause.
-use Rattle.std.proofs.Common.{◌≡◌, ◌≢◌, ◌==◌, Bool, true, false, None, Some, refl, sym, ◌∙◌, subst, arith}
+use Rattle.std.proofs.Common.{◌≡◌, ◌≢◌, ◌==◌, Bool, true, false, None, Some, [], refl, sym, ◌∙◌, subst, arith}
 use Rattle.std.specs.Prelude.{if◌then◌else◌}
 use Rattle.std.proofs.lemmas.Bool.{eq-eqb}
 use Rattle.std.proofs.lemmas.Option.{none-some, same_Some}
@@ -13,6 +13,7 @@ use Rattle.image_layout.specs.Volatile.{power_word}
 use Rattle.map_model.specs.declared.call.Call.{Call}
 use Rattle.world.specs.declared.site.Site.{Site as Here}
 use Rattle.world.specs.Site.{Site}
+use Rattle.world.specs.Views.{HasLock}
 use Rattle.world.specs.Wants.{answer_to, word_of}
 use Rattle.world.specs.Laws.{CallersStay}
 use Rattle.part.specs.declared.count.CountEnd.TheVariants.{Counted, Off}
@@ -60,8 +61,9 @@ ends_by_cause = record {
   steps = λ site here call words views j op before v did h at s asks small r. record {
     remembers = tt;
     caused = λ end none some. by_step site here call words did op op.step asks end some;
+    not_own = λ word value none some has. (let none : HasLock [] word = subst (λ locks. HasLock locks word) s.stands.nothing.held has in none.1);
   };
-  stays = λ op a end i some. stays op op.step a end some;
+  stays = λ op a end some. stays op op.step a end some;
   decided = λ site here call op v s done closed. ended op.site.geometry op.step done;
 }
 

@@ -50,13 +50,19 @@ module _ {M : Type 0} (callers : CallersStay) (p : Part M) (next : M → M) (is 
 
   -- ---- the laws
   steps : KeepsSuits (onward_part p next)
-  steps site here call words views j op before v h at s asks small =
-      let w = is.steps site here call words views j op before v h at (suits_one p next site here call op before v s) asks small in
+  steps site here call words views j op before v h at s asks =
+      let w = is.steps site here call words views j op before v h at (suits_one p next site here call op before v s) asks in
       let found : ℕ = words (word_of site.shape (p.wanted op)) in
       let after : M = p.taken op (answer_to (p.wanted op) found) in
       let some : 0 < (view_after site.shape (p.kind op found) found v).callers = subst (λ n. 0 < n) (sym (callers site.shape (p.kind op found) found v)) s.callers in
-      let both = stands_on site here call before (view_after site.shape (p.kind op found) found v) after some (p.hands_on after) refl w.stands w.enters in
-      record { wants = w.wants; may = w.may; stands = both.0; enters = both.1; makes = λ change. ((w.makes change).0, made_on after (w.makes change).1 (p.hands_on after) refl) }
+      let both = λ (small : found < 2 ^ 64). stands_on site here call before (view_after site.shape (p.kind op found) found v) after some (p.hands_on after) refl (w.stands small) (w.enters small) in
+      record {
+        wants = w.wants;
+        may = w.may;
+        stands = λ small. (both small).0;
+        enters = λ small. (both small).1;
+        makes = λ change. ((w.makes change).0, made_on after (w.makes change).1 (p.hands_on after) refl);
+      }
 
   pub onward_is_part : IsPart (onward_part p next)
   onward_is_part = record {
@@ -73,6 +79,7 @@ module _ {M : Type 0} (callers : CallersStay) (p : Part M) (next : M → M) (is 
       ends = is.flushes.ends;
     };
     made = record { stays = λ op a i made. made_on (p.taken op a) (is.made.stays op a i made) (p.hands_on (p.taken op a)) refl; done = is.made.done };
+    plans = λ site here call op before v planned s. is.plans site here call op before v planned (suits_one p next site here call op before v s);
     power = is.power;
   }
 
@@ -87,7 +94,7 @@ module _ {M : Type 0} (p : Part M) (next : M → M) (goes : GoesOn p next) (by_c
 
   caused_steps : (site : Site) (here : Here) (call : Call) (words : Words) (views : List View) (j : ℕ) (op : M) (before v : View) (did : Doings) → Holds site words views → At views j v
       → Suits (onward_part p next) site here call op before v → p.wanted op ≢ Done → words (word_of site.shape (p.wanted op)) < 2 ^ 64
-      → p.Remembers site op did → StepsByCause (onward_part p next) site here call words op did
+      → p.Remembers site op did → StepsByCause (onward_part p next) site here call words op v did
   caused_steps site here call words views j op before v did h at s asks small r =
       let w = by_cause.steps site here call words views j op before v did h at (suits_one p next site here call op before v s) asks small r in
       let a : Ans = answer_to (p.wanted op) (words (word_of site.shape (p.wanted op))) in
@@ -95,11 +102,12 @@ module _ {M : Type 0} (p : Part M) (next : M → M) (goes : GoesOn p next) (by_c
       record {
         remembers = remembers_on site after (with_event_of (p.wanted op) a did) w.remembers (p.hands_on after) refl;
         caused = λ end none some. w.caused end none (outcome_on after (p.hands_on after) refl ∙ some);
+        not_own = λ word value none some. w.not_own word value none (outcome_on after (p.hands_on after) refl ∙ some);
       }
 
   pub onward_ends_by_cause : EndsByCause (onward_part p next)
   onward_ends_by_cause = record {
     steps = caused_steps;
-    stays = λ op a end i some. sym (outcome_on (p.taken op a) (p.hands_on (p.taken op a)) refl) ∙ by_cause.stays op a end i some;
+    stays = λ op a end some. sym (outcome_on (p.taken op a) (p.hands_on (p.taken op a)) refl) ∙ by_cause.stays op a end some;
     decided = λ site here call op v s done closed. by_cause.decided site here call op v s.stands done s.closed;
   }

@@ -17,7 +17,7 @@ use Rattle.world.specs.Attempts.{EntersReply}
 use Rattle.world.specs.Laws.{CallersStay}
 use Rattle.part.specs.Doings.{Doings, with_event_of}
 use Rattle.part.specs.Outcomes.{Outcome, replied, reply_of}
-use Rattle.part.specs.Part.{Part, Suits, KeepsSuits, EndsBare, AsksWithin, PutsWords, KeepsNotes, KeepsPower, IsPart}
+use Rattle.part.specs.Part.{Part, Suits, KeepsSuits, EndsBare, AsksWithin, PutsWords, KeepsNotes, PlansItsCall, KeepsPower, IsPart}
 use Rattle.part.specs.Causes.{StepsByCause, EndsByCause}
 use Rattle.part.specs.Then.{Then, first, second, passed, wanted, taken, Stands, outcome, Remembers, HasMade, left, waiting, hands_on, then_part, Passes}
 
@@ -56,15 +56,21 @@ module _ {A B : Type 0} (callers : CallersStay) (a : Part A) (b : Part B) (next 
 
   -- ---- the laws
   steps : KeepsSuits (then_part a b next most)
-  steps site here call words views j (first x) before v h at s asks small =
-      let w = is_a.steps site here call words views j x before v h at (suits_first a b next most site here call x before v s) asks small in
+  steps site here call words views j (first x) before v h at s asks =
+      let w = is_a.steps site here call words views j x before v h at (suits_first a b next most site here call x before v s) asks in
       let found : ℕ = words (word_of site.shape (a.wanted x)) in
       let y : A = a.taken x (answer_to (a.wanted x) found) in
       let some : 0 < (view_after site.shape (a.kind x found) found v).callers = subst (λ n. 0 < n) (sym (callers site.shape (a.kind x found) found v)) s.callers in
-      let p = stands_on site here call before (view_after site.shape (a.kind x found) found v) y some (a.hands_on y) refl w.stands w.enters in
-      record { wants = w.wants; may = w.may; stands = p.0; enters = p.1; makes = λ change. ((w.makes change).0, made_on y (w.makes change).1 (a.hands_on y) refl) }
-  steps site here call words views j (second y) before v h at s asks small =
-      let w = is_b.steps site here call words views j y before v h at (suits_second a b next most site here call y before v s) asks small in
+      let p = λ (small : found < 2 ^ 64). stands_on site here call before (view_after site.shape (a.kind x found) found v) y some (a.hands_on y) refl (w.stands small) (w.enters small) in
+      record {
+        wants = w.wants;
+        may = w.may;
+        stands = λ small. (p small).0;
+        enters = λ small. (p small).1;
+        makes = λ change. ((w.makes change).0, made_on y (w.makes change).1 (a.hands_on y) refl);
+      }
+  steps site here call words views j (second y) before v h at s asks =
+      let w = is_b.steps site here call words views j y before v h at (suits_second a b next most site here call y before v s) asks in
       record { wants = w.wants; may = w.may; stands = w.stands; enters = w.enters; makes = w.makes }
 
   ends : EndsBare (then_part a b next most)
@@ -115,6 +121,10 @@ module _ {A B : Type 0} (callers : CallersStay) (a : Part A) (b : Part B) (next 
   notes site here call (first x) before v k is s near = is_a.notes site here call x before v k is (suits_first a b next most site here call x before v s) near
   notes site here call (second y) before v k is s near = is_b.notes site here call y before v k is (suits_second a b next most site here call y before v s) near
 
+  plans : PlansItsCall (then_part a b next most)
+  plans site here call (first x) before v planned s = is_a.plans site here call x before v planned (suits_first a b next most site here call x before v s)
+  plans site here call (second y) before v planned s = is_b.plans site here call y before v planned (suits_second a b next most site here call y before v s)
+
   power : KeepsPower (then_part a b next most)
   power (first x) n = is_a.power x n
   power (second y) n = is_b.power y n
@@ -129,6 +139,7 @@ module _ {A B : Type 0} (callers : CallersStay) (a : Part A) (b : Part B) (next 
     notes = notes;
     flushes = record { most = most_waiting; flushes = flush_adds; keeps = waits; ends = none_waits };
     made = record { stays = stays; done = done };
+    plans = plans;
     power = power;
   }
 
@@ -144,7 +155,7 @@ module _ {A B : Type 0} (a : Part A) (b : Part B) (next : A → B) (most : ℕ) 
 
   caused_steps : (site : Site) (here : Here) (call : Call) (words : Words) (views : List View) (j : ℕ) (m : Then A B) (before v : View) (did : Doings) → Holds site words views → At views j v
       → Suits (then_part a b next most) site here call m before v → wanted a b next most m ≢ Done → words (word_of site.shape (wanted a b next most m)) < 2 ^ 64
-      → Remembers a b next most site m did → StepsByCause (then_part a b next most) site here call words m did
+      → Remembers a b next most site m did → StepsByCause (then_part a b next most) site here call words m v did
   caused_steps site here call words views j (first x) before v did h at s asks small r =
       let w = by_a.steps site here call words views j x before v did h at (suits_first a b next most site here call x before v s) asks small r in
       let y : A = a.taken x (answer_to (a.wanted x) (words (word_of site.shape (a.wanted x)))) in
@@ -152,14 +163,15 @@ module _ {A B : Type 0} (a : Part A) (b : Part B) (next : A → B) (most : ℕ) 
       record {
         remembers = remembers_on site y (with_event_of (a.wanted x) (answer_to (a.wanted x) (words (word_of site.shape (a.wanted x)))) did) w.remembers (a.hands_on y) refl;
         caused = λ end none some. w.caused end none (same ∙ some);
+        not_own = λ word value none some. w.not_own word value none (same ∙ some);
       }
   caused_steps site here call words views j (second y) before v did h at s asks small r =
       let w = by_b.steps site here call words views j y before v did h at (suits_second a b next most site here call y before v s) asks small r in
-      record { remembers = w.remembers; caused = w.caused }
+      record { remembers = w.remembers; caused = w.caused; not_own = w.not_own }
 
-  decided_stays : (m : Then A B) (ans : Ans) (end : Outcome) → IsAnswer (wanted a b next most m) ans → outcome a b next most m ≡ Some end → outcome a b next most (taken a b next most m ans) ≡ Some end
-  decided_stays (first x) ans end i some = sym (outcome_on (a.taken x ans) (a.hands_on (a.taken x ans)) refl) ∙ by_a.stays x ans end i some
-  decided_stays (second y) ans end i some = by_b.stays y ans end i some
+  decided_stays : (m : Then A B) (ans : Ans) (end : Outcome) → outcome a b next most m ≡ Some end → outcome a b next most (taken a b next most m ans) ≡ Some end
+  decided_stays (first x) ans end some = sym (outcome_on (a.taken x ans) (a.hands_on (a.taken x ans)) refl) ∙ by_a.stays x ans end some
+  decided_stays (second y) ans end some = by_b.stays y ans end some
 
   decided : (site : Site) (here : Here) (call : Call) (m : Then A B) (v : View) → Stands a b next most site here call m v → wanted a b next most m ≡ Done → hands_on a b next most m ≡ false
       → (end : Outcome) × (outcome a b next most m ≡ Some end)

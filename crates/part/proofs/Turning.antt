@@ -20,7 +20,7 @@ publishing_or_not kind = inr (λ f. f)
 module _ {M : Type 0} (p : Part M) (part : IsPart p) (each : (site : Site) (kind : Kind) → Keeps site kind) (callers : CallersStay) (others : OtherStepsKeepPairs) (powers : PowerStays) where
   pub turn_keeps : TurnKeeps p
   turn_keeps site here call words views j op before v h at s asks small =
-      let w : StepsWell p site here call words op before v = part.steps site here call words views j op before v h at s asks small in
+      let w : StepsWell p site here call words op before v = part.steps site here call words views j op before v h at s asks in
       let n : ℕ = finds p site words op in
       let k : Kind = p.kind op n in
       let Kept : Want → Type 0 = λ x. Holds site (words_after site.shape x j words) (set views j (view_after site.shape k (words (word_of site.shape x)) v)) in
@@ -29,15 +29,15 @@ module _ {M : Type 0} (p : Part M) (part : IsPart p) (each : (site : Site) (kind
       let some : 0 < (next_view p site words op v).callers = subst (λ m. 0 < m) (sym (callers site.shape k n v)) s.callers in
       record {
         holds = subst Kept (sym w.wants) (each site k words views j v h at w.may);
-        suits = record { stands = w.stands; enters = w.enters; callers = some };
+        suits = record { stands = w.stands small; enters = w.enters small; callers = some };
         pairs = elim (publishing_or_not k) [
           | inl change ↦ inr (w.makes change)
           | inr other ↦ inl (subst Same (sym w.wants) (others site words views j v k j h at w.may other))
         ];
         power = subst On (sym w.wants) (powers site words views j v k j h at (part.power op n) w.may);
         ends = λ done closed. record {
-          nothing = part.ends site here call (next p site words op) (next_view p site words op v) w.stands done closed;
+          nothing = part.ends site here call (next p site words op) (next_view p site words op v) (w.stands small) done closed;
           callers = some;
-          enters = w.enters;
+          enters = w.enters small;
         };
       }

@@ -5,7 +5,7 @@ use Rattle.op_core.specs.declared.want.Want.TheVariants.{Power, Done}
 use Rattle.op_core.specs.declared.want.Ans.{Ans}
 use Rattle.op_core.specs.declared.why.Why.{Why}
 use Rattle.op_core.specs.declared.why.Why.TheVariants.{Busy, Moved}
-use Rattle.op_core.specs.Answers.{IsAnswer, Finds}
+use Rattle.op_core.specs.Answers.{Finds}
 use Rattle.hash_word.specs.Hash.{home_of, probing_of}
 use Rattle.bucket_meta.specs.Bucket.{allocated}
 use Rattle.trace.specs.Events.{Words}
@@ -22,7 +22,7 @@ use Rattle.map_model.specs.Legal.{IsInsert}
 use Rattle.bucket_words.specs.Tables.{home_at}
 use Rattle.world.specs.declared.site.Site.{Site as Here}
 use Rattle.world.specs.Site.{Site}
-use Rattle.world.specs.Views.{View, At, Has}
+use Rattle.world.specs.Views.{View, At, Has, HasLock}
 use Rattle.world.specs.Invariant.{Holds}
 use Rattle.world.specs.Wants.{answer_to, word_of}
 use Rattle.part.specs.Doings.{Doings, with_event_of, IsStill}
@@ -155,18 +155,19 @@ module _ (shape : Shape) (words : Words) (did : Doings) (call : Call) where
 -- ---- the causes of a part's outcomes
 module _ {M : Type 0} (p : Part M) where
   -- what a machine has remembered it remembers after its next event, with what that did; and where the event decides the outcome, the
-  -- cause is there
-  pub record StepsByCause (site : Site) (here : Here) (call : Call) (words : Words) (op : M) (did : Doings) : Type 0 where
+  -- cause is there; and who is told that a lock is taken does not hold it
+  pub record StepsByCause (site : Site) (here : Here) (call : Call) (words : Words) (op : M) (v : View) (did : Doings) : Type 0 where
     pub remembers : p.Remembers site (next p site words op) (with_event_of (p.wanted op) (answer_to (p.wanted op) (finds p site words op)) did)
     pub caused : (outcome : Outcome) → p.outcome op ≡ None → p.outcome (next p site words op) ≡ Some outcome → HasCause site.shape words did call (p.wanted op) here outcome
+    pub not_own : (word value : ℕ) → p.outcome op ≡ None → p.outcome (next p site words op) ≡ Some (again (Busy word value)) → HasLock v.held word → ⊥
 
   -- EACH OUTCOME HAS ITS CAUSE, beside any other callers; it stays as it was decided; and where a machine wants nothing more, and does
   -- not hand on, it is decided
   pub record EndsByCause : Type 0 where
     pub steps : (site : Site) (here : Here) (call : Call) (words : Words) (views : List View) (j : ℕ) (op : M) (before v : View) (did : Doings)
         → Holds site words views → At views j v → Suits p site here call op before v → p.wanted op ≢ Done → finds p site words op < 2 ^ 64 → p.Remembers site op did
-        → StepsByCause site here call words op did
-    pub stays : (op : M) (a : Ans) (outcome : Outcome) → IsAnswer (p.wanted op) a → p.outcome op ≡ Some outcome → p.outcome (p.taken op a) ≡ Some outcome
+        → StepsByCause site here call words op v did
+    pub stays : (op : M) (a : Ans) (outcome : Outcome) → p.outcome op ≡ Some outcome → p.outcome (p.taken op a) ≡ Some outcome
     pub decided : (site : Site) (here : Here) (call : Call) (op : M) (v : View) → p.Stands site here call op v → p.wanted op ≡ Done → p.hands_on op ≡ false
         → (outcome : Outcome) × (p.outcome op ≡ Some outcome)
 

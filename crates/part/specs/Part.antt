@@ -11,7 +11,7 @@ use Rattle.map_model.specs.declared.call.Call.{Call}
 use Rattle.map_model.specs.declared.entry.Reply.TheVariants as reply
 use Rattle.world.specs.declared.site.Site.{Site as Here}
 use Rattle.world.specs.Site.{Site, IsSite}
-use Rattle.world.specs.Views.{View, At}
+use Rattle.world.specs.Views.{View, Has, At}
 use Rattle.world.specs.Wants.{answer_to, word_of}
 use Rattle.world.specs.Kinds.{Kind, cuts_power, wanted as wanted_by, view_after, May}
 use Rattle.world.specs.Invariant.{Holds}
@@ -64,18 +64,18 @@ module _ {M : Type 0} (p : Part M) where
 
   -- ---- the laws
   -- the event is that of its kind, which the view may take; the view after it stands for the next state, with the reply of that
-  -- entered; and if it is the event that makes a change, the change was not made before it, and is made after it
+  -- entered, where a word was found; and if it is the event that makes a change, the change was not made before it, and is made after it
   pub record StepsWell (site : Site) (here : Here) (call : Call) (words : Words) (op : M) (before v : View) : Type 0 where
     pub wants : p.wanted op ≡ wanted_by site.shape (p.kind op (finds site words op))
     pub may : May site (p.kind op (finds site words op)) v
-    pub stands : p.Stands site here call (next site words op) (next_view site words op v)
-    pub enters : EntersReply call (reply_of (p.outcome (next site words op))) before (next_view site words op v)
+    pub stands : finds site words op < 2 ^ 64 → p.Stands site here call (next site words op) (next_view site words op v)
+    pub enters : finds site words op < 2 ^ 64 → EntersReply call (reply_of (p.outcome (next site words op))) before (next_view site words op v)
     pub makes : IsPublishingKind (p.kind op (finds site words op)) → (p.HasMade op → ⊥) × p.HasMade (next site words op)
 
   -- EACH STEP, beside any other callers
   abbrev pub KeepsSuits : Type 0
   KeepsSuits = (site : Site) (here : Here) (call : Call) (words : Words) (views : List View) (j : ℕ) (op : M) (before v : View)
-      → Holds site words views → At views j v → Suits site here call op before v → p.wanted op ≢ Done → finds site words op < 2 ^ 64 → StepsWell site here call words op before v
+      → Holds site words views → At views j v → Suits site here call op before v → p.wanted op ≢ Done → StepsWell site here call words op before v
 
   -- a machine that wants nothing more holds, knows and owes nothing, but where it hands on
   abbrev pub EndsBare : Type 0
@@ -110,6 +110,11 @@ module _ {M : Type 0} (p : Part M) where
     pub stays : (op : M) (a : Ans) → IsAnswer (p.wanted op) a → p.HasMade op → p.HasMade (p.taken op a)
     pub done : (op : M) → p.HasMade op → p.wanted op ≡ Done → (place : ℕ) × (p.outcome op ≡ Some (replied reply.Done place))
 
+  -- what its caller has planned is the call's change, and then no reply is entered yet
+  abbrev pub PlansItsCall : Type 0
+  PlansItsCall = (site : Site) (here : Here) (call : Call) (op : M) (before v : View) (planned : Call) → Suits site here call op before v → Has planned v.planned
+      → (planned ≡ call) × (v.own ≡ before.own)
+
   -- it never cuts the power
   abbrev pub KeepsPower : Type 0
   KeepsPower = (op : M) (n : ℕ) → p.kind op n ≢ cuts_power
@@ -124,4 +129,5 @@ module _ {M : Type 0} (p : Part M) where
     pub notes : KeepsNotes
     pub flushes : FlushesFew
     pub made : EndsAsDone
+    pub plans : PlansItsCall
     pub power : KeepsPower

@@ -1,14 +1,15 @@
 -- A get as a part of a call.
-use Rattle.std.specs.Prelude.{◌≡◌, ℕ, ◌%◌, ◌≤◌, ⊤, false, Option, None, Some, []}
+use Rattle.std.specs.Prelude.{◌≡◌, ℕ, ◌%◌, ◌^◌, ◌<◌, ◌≤◌, ⊤, false, Option, None, Some, []}
+use Rattle.op_core.specs.declared.want.Want.TheVariants.{Done}
 use Rattle.map_model.specs.declared.call.Call.{Call}
 use Rattle.map_model.specs.declared.call.Call.TheVariants.{Get}
 use Rattle.map_model.specs.declared.entry.Reply.TheVariants as reply
 use Rattle.world.specs.declared.site.Site.{Site as Here}
-use Rattle.world.specs.Site.{Site}
+use Rattle.world.specs.Site.{Site, IsSite}
 use Rattle.world.specs.Views.{View}
 use Rattle.world.specs.Attempts.{HoldsOnly}
-use Rattle.part.specs.Doings.{Doings}
-use Rattle.part.specs.Outcomes.{Outcome, replied, again, stale, off}
+use Rattle.part.specs.Doings.{Doings, nothing_done}
+use Rattle.part.specs.Outcomes.{Outcome, replied, again, stale, off, finished}
 use Rattle.part.specs.Part.{Part}
 use Rattle.read_op.specs.declared.step.Path.{Path}
 use Rattle.read_op.specs.declared.step.ReadEnd.{ReadEnd}
@@ -16,7 +17,7 @@ use Rattle.read_op.specs.declared.step.ReadEnd.TheVariants as ends
 use Rattle.read_op.specs.declared.step.ReadStep.{ReadStep}
 use Rattle.read_op.specs.declared.step.ReadStep.TheVariants.{Entry, Head, Lock, Fill, Count, Check, Ended}
 use Rattle.read_op.specs.declared.op.ReadOp.{ReadOp}
-use Rattle.read_op.specs.Steps.{wanted, taken}
+use Rattle.read_op.specs.Steps.{begun, wanted, taken}
 use Rattle.read_op.specs.Budget.{most_events, left}
 use Rattle.read_op.specs.Fits.{IsIn, Suits, kind_of}
 use Rattle.read_op.specs.Causes.{IsWithin, kept}
@@ -74,3 +75,21 @@ get_part = record {
   most_waiting = 0;
   hands_on = λ op. false;
 }
+
+-- ---- where it begins and ends
+-- a get of a key that is a word, by a caller that holds and owes nothing
+abbrev pub BeginsAsPart : Type 0
+BeginsAsPart = (site : Site) (here : Here) (key : ℕ) (v : View) → IsSite site → here.geometry ≡ site.shape → key < 2 ^ 64 → HoldsOnly [] v
+    → Stands site here (Get key) (begun key here) v
+
+-- it remembers what it did, which is nothing
+abbrev pub BeginsRemembering : Type 0
+BeginsRemembering = (site : Site) (here : Here) (key : ℕ) → Remembers site (begun key here) nothing_done
+
+-- and at its end it tells its outcome
+abbrev pub EndsAsSaid : Type 0
+EndsAsSaid = (op : ReadOp) → wanted op ≡ Done → (end : ReadEnd) × (op.step ≡ Ended end)
+
+-- it never ends but with a reply, or to be made again, stale or off
+abbrev pub NeverFinished : Type 0
+NeverFinished = (op : ReadOp) → outcome_in op.step ≡ Some finished → ⊥

@@ -6,7 +6,7 @@ ghost use Rattle.world.specs.Views.{View};
 ghost use Rattle.read_op.specs.declared.op.ReadOp.{ReadOp};
 ghost use Rattle.part.specs.Part.{IsPart};
 ghost use Rattle.part.specs.Causes.{EndsByCause as HasOutcomesByCause};
-ghost use Rattle.read_op.specs.GetPart.{get_part};
+ghost use Rattle.read_op.specs.GetPart.{get_part, BeginsAsPart, BeginsRemembering, EndsAsSaid, NeverFinished};
 ghost use Rattle.read_op.specs.Fits.{BeginsSuited, WantsByKind, MayStep, KeepsSuits};
 ghost use Rattle.read_op.specs.Budget.{most_events, left, Falls, EndsInTime, AsksWithin};
 ghost use Rattle.read_op.specs.Causes.{ReadsAlone, EndsByCause, KeepsLoads, EndsSoundly, NeverStale, NeverBusy};
@@ -32,10 +32,14 @@ pub fn fits_the_world()
 {}
 
 /// A get is a part of a call: it fits the world, ends in time, asks for words of the image alone, and stores nothing; and each of
-/// its outcomes has its cause, in what its attempt did.
+/// its outcomes has its cause, in what its attempt did. It begins with a view that suits it, and at its end it tells its outcome.
 pub fn gets_are_parts()
     ensures part { IsPart get_part }
     ensures causes { HasOutcomesByCause get_part }
+    ensures begins { BeginsAsPart }
+    ensures remembers { BeginsRemembering }
+    ensures ends { EndsAsSaid }
+    ensures finished { NeverFinished }
 {
     ends_in_time();
     asks_within();

@@ -1,14 +1,17 @@
 -- A change as a part of a call: where an insert finds no slot it keeps its locks, and another part goes on.
-use Rattle.std.specs.Prelude.{◌≡◌, ℕ, ◌<◌, ◌≤◌, ◌⊎◌, ⊤, Bool, true, false, Option, None, Some, List, [], ◌∷◌}
+use Rattle.std.specs.Prelude.{◌≡◌, ℕ, ◌^◌, ◌<◌, ◌≤◌, ◌⊎◌, ⊤, Bool, true, false, Option, None, Some, List, [], ◌∷◌}
 use Rattle.op_core.specs.declared.why.Why.{Why}
 use Rattle.map_model.specs.declared.call.Call.{Call}
 use Rattle.world.specs.declared.site.Site.{Site as Here}
-use Rattle.world.specs.Site.{Site}
+use Rattle.world.specs.Site.{Site, IsSite}
 use Rattle.world.specs.Views.{View}
-use Rattle.part.specs.Doings.{Doings}
-use Rattle.part.specs.Outcomes.{Outcome, replied, again, stale, off}
+use Rattle.world.specs.Attempts.{HoldsOnly}
+use Rattle.map_model.specs.Map.{key_of, value_of}
+use Rattle.map_model.specs.Legal.{IsChange}
+use Rattle.part.specs.Doings.{Doings, nothing_done}
+use Rattle.part.specs.Outcomes.{Outcome, replied, again, stale, off, finished}
 use Rattle.part.specs.Part.{Part}
-use Rattle.part.specs.Onward.{onward_part}
+use Rattle.part.specs.Onward.{Stands as StandsOnward, onward_part}
 use Rattle.write_op.specs.declared.control.WriteEnd.{WriteEnd}
 use Rattle.write_op.specs.declared.control.WriteEnd.TheVariants.{Replied, NoSlot, Again, Stale, Off}
 use Rattle.write_op.specs.declared.control.Step.{Step}
@@ -17,7 +20,7 @@ use Rattle.write_op.specs.declared.control.Side.TheVariants.{Home, Probing}
 use Rattle.write_op.specs.declared.control.Kept.{Kept}
 use Rattle.write_op.specs.declared.control.Task.{Task}
 use Rattle.write_op.specs.declared.machine.WriteOp.{WriteOp}
-use Rattle.write_op.specs.Taken.{wanted, taken, refused}
+use Rattle.write_op.specs.Taken.{begun, wanted, taken, refused}
 use Rattle.write_op.specs.Left.{most_events, left}
 use Rattle.write_op.specs.Waiting.{waiting}
 use Rattle.write_op.specs.Fits.{kind_of}
@@ -101,3 +104,21 @@ change_part = record {
 -- A CHANGE, AND WHERE IT FINDS NO SLOT ITS REFUSAL, which is by the same machine
 abbrev pub whole_change : Part WriteOp
 whole_change = onward_part change_part refused
+
+-- ---- where it begins
+-- a change of a key and to a value that are words, by a caller that holds, knows and owes nothing
+abbrev pub BeginsAsPart : Type 0
+BeginsAsPart = (site : Site) (here : Here) (call : Call) (v : View) → IsSite site → here.geometry ≡ site.shape → key_of call < 2 ^ 64 → value_of call < 2 ^ 64 → IsChange call
+    → HoldsOnly [] v → 0 < v.callers → StandsOnward change_part refused site here call (begun call here) v
+
+-- it remembers what it did, which is nothing
+abbrev pub BeginsRemembering : Type 0
+BeginsRemembering = (site : Site) (here : Here) (call : Call) → IsChange call → Remembers site (begun call here) nothing_done
+
+-- and holds nothing
+abbrev pub BeginsBare : Type 0
+BeginsBare = (site : Site) (here : Here) (call other : Call) (v : View) → IsChange other → Stands site here call (begun other here) v → v.held ≡ []
+
+-- it never ends but with a reply, or to be made again, stale or off
+abbrev pub NeverFinished : Type 0
+NeverFinished = (op : WriteOp) → outcome_in op.step ≡ Some finished → ⊥

@@ -5,7 +5,7 @@ ghost use Rattle.op_core.specs.declared.want.Want.TheVariants.{Flush, Fence, Don
 ghost use Rattle.world.specs.Kinds.{wanted as wanted_by};
 ghost use Rattle.part.specs.Part.{IsPart};
 ghost use Rattle.part.specs.Causes.{EndsByCause as HasOutcomesByCause};
-ghost use Rattle.write_op.specs.ChangePart.{change_part, whole_change};
+ghost use Rattle.write_op.specs.ChangePart.{change_part, whole_change, BeginsAsPart, BeginsRemembering, BeginsBare, NeverFinished};
 ghost use Rattle.write_op.specs.Fits.{Fits, kind_of};
 ghost use Rattle.op_core.specs.Answers.{IsWord, IsAnswer};
 ghost use Rattle.op_core.specs.declared.want.Ans.{Ans};
@@ -123,6 +123,7 @@ pub fn changes_are_parts()
     ensures causes { HasOutcomesByCause change_part }
 {
     attempt_ends();
+    events_have_kinds();
     words_are_inside();
     fits_the_world();
     stores_are_words();
@@ -131,10 +132,15 @@ pub fn changes_are_parts()
     refusals_leave_pairs();
 }
 
-/// So is a change that goes on to its refusal where no slot is free: by the law of a part that goes on by itself.
+/// So is a change that goes on to its refusal where no slot is free: by the law of a part that goes on by itself. It
+/// begins with a view that suits it, having done and holding nothing.
 pub fn whole_changes_are_parts()
     ensures part { IsPart whole_change }
     ensures causes { HasOutcomesByCause whole_change }
+    ensures begins { BeginsAsPart }
+    ensures remembers { BeginsRemembering }
+    ensures bare { BeginsBare }
+    ensures finished { NeverFinished }
 {
     world::steps_add_one_reply();
     attempt_ends();

@@ -1,11 +1,12 @@
 //! The machine.
 
-ghost use Rattle.std.specs.Prelude.{◌≡◌, ◌≤◌};
+ghost use Rattle.std.specs.Prelude.{◌≡◌, ◌≤◌, true};
 ghost use Rattle.op_core.specs.declared.want.Want.TheVariants.{Done};
 ghost use Rattle.map_model.specs.Legal.{IsChange};
 ghost use Rattle.write_op.specs.declared.control.WriteEnd.TheVariants.{NoSlot};
 ghost use Rattle.write_op.specs.Taken.{begun, end_of, first_step, refused};
 ghost use Rattle.write_op.specs.Left.{left};
+ghost use Rattle.write_op.specs.ChangePart.{is_without_slot};
 
 use crate::asking::want_of;
 use crate::control::{Kept, Step, Task, WriteEnd};
@@ -64,6 +65,15 @@ impl WriteOp {
             Step::Ended(end) => end,
             _ => WriteEnd::Off,
         }
+    }
+
+    /// Whether an insert found no slot and keeps its locks: another part goes on.
+    pub fn hands_on(&self) -> bool
+        ensures is { result ≡ is_without_slot self.now.step }
+        ensures no_more { result ≡ true → Rattle.write_op.specs.Taken.wanted self.now ≡ Done }
+        ensures no_slot { result ≡ true → end_of self.now ≡ NoSlot }
+    {
+        matches!(self.step, Step::Ended(WriteEnd::NoSlot))
     }
 
     /// Goes on with an insert that found no slot: it is refused, and its locks are given back.

@@ -10,15 +10,13 @@ use Rattle.image_layout.specs.Places.{Shape, IsShape}
 use Rattle.script_text.specs.declared.line.Event.TheVariants as event
 use Rattle.script_text.specs.declared.line.Line.{Line}
 use Rattle.script_text.specs.declared.line.Line.TheVariants as line
-use Rattle.read_op.specs.declared.step.ReadEnd.TheVariants as read_end
-use Rattle.write_op.specs.declared.control.WriteEnd.TheVariants as write_end
+use Rattle.part.specs.Outcomes.{Outcome, replied}
 use Rattle.restart_op.specs.declared.restart.RestartOp.{RestartOp}
 use Rattle.restart_op.specs.Close.{begun as close_begun}
 use Rattle.restart_op.specs.Closing.{left as close_left, events_of, Falls as CloseFalls}
 use Rattle.engine.specs.declared.engine.Engine.{Engine}
 use Rattle.engine.specs.declared.engine.End.{End}
-use Rattle.engine.specs.declared.engine.End.TheVariants as ends
-use Rattle.engine.specs.Engine.{reply_of_end, is_again}
+use Rattle.engine.specs.Engine.{outcome_of_end, reply_of_end, says_again}
 use Rattle.engine.specs.Alone.{IsReply, EndsCall}
 use Rattle.engine.specs.Core.{Caller, Core, current}
 use Rattle.engine.specs.Holding.{DoesCall}
@@ -39,21 +37,13 @@ use Rattle.core_run.proofs.ends.Staying.{IsOfOne, of_one, one_left}
 use Rattle.core_run.proofs.ends.Measures.{left_for, deed_less, left_low, behind_low, stays_shut, IsEarly, stays_early}
 
 -- ---- ends with a reply
-again_no : (end : End) → EndsCall end → is_again end ≡ false
-again_no (ends.Read (read_end.Found x place)) told = refl
-again_no (ends.Read (read_end.Absent place)) told = refl
-again_no (ends.Read (read_end.Again why)) told = absurd told
-again_no (ends.Read (read_end.Stale segment byte)) told = absurd told
-again_no (ends.Read read_end.Off) told = absurd told
-again_no (ends.Write (write_end.Replied r place)) told = refl
-again_no (ends.Write write_end.NoSlot) told = absurd told
-again_no (ends.Write (write_end.Again why)) told = absurd told
-again_no (ends.Write (write_end.Stale segment byte)) told = absurd told
-again_no (ends.Write write_end.Off) told = absurd told
+again_no : (o : Option Outcome) → EndsCall o → says_again o ≡ false
+again_no (Some (replied reply place)) told = refl
+again_no o told = absurd told
 
-pub never_again : (o : Option End) → ((end : End) → o ≡ Some end → EndsCall end) → ends_in_again o ≡ false
+pub never_again : (o : Option End) → ((end : End) → o ≡ Some end → EndsCall (outcome_of_end end)) → ends_in_again o ≡ false
 never_again None told = refl
-never_again (Some end) told = again_no end (told end refl)
+never_again (Some end) told = again_no (outcome_of_end end) (told end refl)
 
 pub has_reply : (o : Option (Reply × ℕ)) → IsReply o → is_some_reply o ≡ true
 has_reply None told = absurd told
@@ -99,7 +89,7 @@ module _ (wells : DeedsAreWell) (stays : AloneStays) (replies : AloneReplies) (l
   after : (c : ℕ) (s : State) (d : Deed) → IsRun t s → deed t.shape c s ≡ Some d → IsRun t d.state
   after c s d r e = record { running = (wells t c s d is.task r.running e).after; alone = stays t c s d is r.running r.alone e }
 
-  told : (c : ℕ) (s : State) (d : Deed) → IsRun t s → deed t.shape c s ≡ Some d → (end : End) → d.end ≡ Some end → EndsCall end
+  told : (c : ℕ) (s : State) (d : Deed) → IsRun t s → deed t.shape c s ≡ Some d → (end : End) → d.end ≡ Some end → EndsCall (outcome_of_end end)
   told c s d r e end ends = replies t c s d end is r.running r.alone e ends
 
   fewer : (c : ℕ) (s : State) (d : Deed) → IsRun t s → deed t.shape c s ≡ Some d → left_for c d.state < left_for c s

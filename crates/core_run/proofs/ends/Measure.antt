@@ -2,8 +2,7 @@
 use Rattle.std.proofs.Common.{ℕ, ◌<◌, inl, inr, arith}
 use Rattle.trace.specs.Events.{Words}
 use Rattle.image_layout.specs.Places.{Shape}
-use Rattle.engine.specs.Causes.{Doings}
-use Rattle.engine.specs.Alone.{IsStill}
+use Rattle.part.specs.Doings.{Doings, IsStill}
 use Rattle.core_run.specs.Measure.{Outcome, found_stale, needs_split, has_repaired, has_split, has_room, stage_before, stage_after, attempts_left, joined, HasRoomCause, Owes}
 
 module _ (shape : Shape) (hash : ℕ) (before after : Words) (last did : Doings) (still : IsStill shape after (joined last did)) where

@@ -9,7 +9,6 @@ use Rattle.script_text.specs.declared.line.Event.TheVariants as event
 use Rattle.op_core.specs.declared.want.Want.{Want}
 use Rattle.op_core.specs.declared.want.Want.TheVariants as want
 use Rattle.op_core.specs.declared.want.Ans.{Ans}
-use Rattle.op_core.specs.declared.why.Why.{Why}
 use Rattle.map_model.specs.declared.call.Call.{Call}
 use Rattle.map_model.specs.declared.entry.Reply.{Reply}
 use Rattle.world.specs.Views.{View}
@@ -21,13 +20,13 @@ use Rattle.restart_op.specs.declared.close.CloseOp.{CloseOp}
 use Rattle.restart_op.specs.Close.{begun as close_begun, wanted as close_wanted, taken as close_taken}
 use Rattle.engine.specs.declared.engine.End.{End}
 use Rattle.engine.specs.declared.engine.Engine.{Engine}
-use Rattle.engine.specs.Engine.{wanted, end_of, reply_of_end, is_again}
+use Rattle.engine.specs.Engine.{wanted, end_of, outcome_of_end, reply_of_end, says_again, is_again}
 use Rattle.engine.specs.Left.{left, most_events}
 use Rattle.engine.specs.Core.{Caller, Core, current, entry_of, drawn_by, ended, settled, answered, with_event, turn, turn_of_call, turn_of_caller}
 use Rattle.engine.specs.Holding.{IsCalling, DoesCall, CallerFits}
 use Rattle.engine.specs.Laws.{AreScripts}
 use Rattle.engine.specs.Causes.{Watched, answer_now, engine_next, watched_turn}
-use Rattle.engine.specs.Alone.{EndsCall, SaysAgain, IsTold, IsResting, IsNext, at_start, along}
+use Rattle.engine.specs.Alone.{EndsCall, IsTold, IsResting, IsNext, at_start, along}
 use Rattle.core_run.specs.declared.keeper.Keeper.{Keeper}
 use Rattle.core_run.specs.declared.keeper.Keeper.TheVariants.{Restarting, Open, Closing, Closed}
 use Rattle.core_run.specs.declared.goal.Goal.{Goal}
@@ -80,18 +79,14 @@ module _ (shape : Shape) (c : Caller) (call : Call) (e : Engine) where
   behind_low want.Done = ended_low (reply_of_end (end_of e))
   behind_low w = omega arith
 
-says_again : (end : End) (why : Why) → SaysAgain end why → is_again end ≡ true
-says_again end why (inl is) = ap is_again is
-says_again end why (inr is) = ap is_again is
-
 -- an end with a reply or in Again ends the turn
-stops_by : (shape : Shape) (m c : ℕ) (u : State) (end : End) → IsTold end
+stops_by : (shape : Shape) (m c : ℕ) (u : State) (end : End) → IsTold (outcome_of_end end)
     → (if is_again end then u else drive shape m c (Kind event.End) (if ends_call (Some end) then 0 else 1) u) ≡ u
 stops_by shape m c u end (inl told) =
     let stop : drive shape m c (Kind event.End) (if ends_call (Some end) then 0 else 1) u ≡ u
     = ap (λ b. drive shape m c (Kind event.End) (if b then 0 else 1) u) (has_reply (reply_of_end end) told) ∙ drive_none shape m c (Kind event.End) u in
     either (λ x. x ≡ u) (is_again end) u (drive shape m c (Kind event.End) (if ends_call (Some end) then 0 else 1) u) refl stop
-stops_by shape m c u end (inr again) = so (λ x. x ≡ u) (is_again end) u (drive shape m c (Kind event.End) (if ends_call (Some end) then 0 else 1) u) (says_again end again.0 again.1) refl
+stops_by shape m c u end (inr again) = so (λ x. x ≡ u) (is_again end) u (drive shape m c (Kind event.End) (if ends_call (Some end) then 0 else 1) u) (ap says_again again.1) refl
 
 module _ (laws : EngineLaws) (wells : DeedsAreWell) (t : Task) (is : IsTask t) where
   scripts_are : AreScripts t.scripts
@@ -179,10 +174,11 @@ module _ (laws : EngineLaws) (wells : DeedsAreWell) (t : Task) (is : IsTask t) w
       on_after : HaveRested t core_after Others
       on_after = record { turns = h.turns ++ suc j ∷ []; core_is = same_core; rest = others_rest }
 
-      told_after : wanted next ≡ want.Done → IsTold (end_of next)
+      told_after : wanted next ≡ want.Done → IsTold (outcome_of_end (end_of next))
       told_after done =
-          subst (λ (k : Core). wanted (engine_next t.shape k.words e) ≡ want.Done → IsTold (end_of (engine_next t.shape k.words e))) (sym h.core_is)
-          (λ d. laws.told t.shape t.first is.served t.scripts scripts_are h.turns j e is_next (end_of (engine_next t.shape w.core.words e)) (laws.sure (engine_next t.shape w.core.words e) d)) done
+          subst (λ (k : Core). wanted (engine_next t.shape k.words e) ≡ want.Done → IsTold (outcome_of_end (end_of (engine_next t.shape k.words e)))) (sym h.core_is)
+          (λ d. let o = laws.tell t.shape t.first is.served t.scripts scripts_are h.turns j e is_next d in
+          subst IsTold (sym o.2) (laws.told t.shape t.first is.served t.scripts scripts_are h.turns j e is_next o.0 o.1)) done
 
       ended_after : wanted next ≡ want.Done → HaveRested t core_after (λ i. Others i ⊎ (i ≡ j))
       ended_after done = record {
@@ -216,7 +212,7 @@ module _ (laws : EngineLaws) (wells : DeedsAreWell) (t : Task) (is : IsTask t) w
         by_end rest (Some end) q =
             let drops = behind_after core o j c there call calls e runs in
             let done = has_ended t.shape c call (next core o j c there call calls e runs) (wanted (next core o j c there call calls e runs)) refl end q in
-            let told : IsTold end = subst IsTold done.1 (told_after core o j c there call calls e runs Others apart h done.0) in
+            let told : IsTold (outcome_of_end end) = subst (λ x. IsTold (outcome_of_end x)) done.1 (told_after core o j c there call calls e runs Others apart h done.0) in
             subst (Rests b) (sym (stops_by t.shape m (suc j) (at (core_after core o j c there call calls e runs)) end told))
             (record {
               here = refl;
@@ -663,11 +659,11 @@ module _ (laws : EngineLaws) (wells : DeedsAreWell) (t : Task) (is : IsTask t) (
       some_work = let less = less_left laws wells t is core o j c there call calls e runs in let w = work_now in omega (arith, less, w)
 
       -- an end that is no Again is a reply
-      replies_here : ends_in_again deed_here.end ≡ false → wanted engine_after ≡ want.Done → EndsCall (end_of engine_after)
+      replies_here : ends_in_again deed_here.end ≡ false → wanted engine_after ≡ want.Done → EndsCall (outcome_of_end (end_of engine_after))
       replies_here calm done = elim (told_after laws wells t is core o j c there call calls e runs Nobody (λ i none same. none) h done) [
         | inl told ↦ told
         | inr again ↦
-            let is_so : is_again (end_of engine_after) ≡ true = says_again (end_of engine_after) again.0 again.1 in
+            let is_so : is_again (end_of engine_after) ≡ true = ap says_again again.1 in
             let same : ends_in_again deed_here.end ≡ is_again (end_of engine_after) = ap (λ w. ends_in_again (end_by t.shape engine_after w)) done in
             absurd (let z : true ≡ false = sym is_so ∙ sym same ∙ calm in cc)
       ]

@@ -19,12 +19,12 @@ use Rattle.restart_op.specs.Close.{wanted as close_wanted, taken as close_taken}
 use Rattle.restart_op.specs.Closing.{left as close_left, events_of, Falls as CloseFalls}
 use Rattle.engine.specs.declared.engine.End.{End}
 use Rattle.engine.specs.declared.engine.Engine.{Engine}
-use Rattle.engine.specs.Engine.{wanted, end_of}
+use Rattle.engine.specs.Engine.{wanted, end_of, outcome_of_end}
 use Rattle.engine.specs.Core.{Caller, Core, current, drawn_by, answered, with_event, turn, turn_of_call, turn_of_caller}
 use Rattle.engine.specs.Holding.{IsCalling, DoesCall, CallerFits}
 use Rattle.engine.specs.Laws.{AreScripts}
 use Rattle.engine.specs.Left.{left}
-use Rattle.engine.specs.Causes.{Watched, answer_now, engine_next, watched_turn, watched_run, IsDecided}
+use Rattle.engine.specs.Causes.{Watched, answer_now, engine_next, watched_turn, watched_run}
 use Rattle.engine.specs.Alone.{EndsCall, IsNext, at_start, along, IsAlone as IsAloneIn}
 use Rattle.core_run.specs.declared.keeper.Keeper.{Keeper}
 use Rattle.core_run.specs.declared.keeper.Keeper.TheVariants.{Restarting, Open, Closing, Closed}
@@ -82,7 +82,7 @@ module _ (laws : EngineLaws) (t : Task) (is : IsTask t) where
   pub record IsOpenLeft (j : ℕ) (core : Core) (d : Deed) : Type 0 where
     pub still_open : d.state.keeper ≡ Open
     pub stays_alone : StandsAlone t d.state.core j
-    pub told : (end : End) → d.end ≡ Some end → EndsCall end
+    pub told : (end : End) → d.end ≡ Some end → EndsCall (outcome_of_end end)
     pub less_work : all_work d.state.core.callers < all_work core.callers
     pub answers : (end : End) → d.end ≡ Some end → all_behind d.state.core.callers + 1 ≡ all_behind core.callers
     pub goes_on : d.end ≡ None → all_behind d.state.core.callers ≡ all_behind core.callers
@@ -104,14 +104,17 @@ module _ (laws : EngineLaws) (t : Task) (is : IsTask t) where
     is_next : IsNext (along t.shape t.first t.scripts a.turns) j e
     is_next = record { caller = c; there = subst (λ (k : Core). slice_get k.callers j ≡ Some c) a.core_is there; call = call; calls = calls; runs = runs }
 
-    replies_there : (end : End) → IsDecided (engine_next t.shape (along t.shape t.first t.scripts a.turns).core.words e).op end → EndsCall end
-    replies_there end decided = elim (laws.told t.shape t.first is.served t.scripts scripts_are a.turns j e is_next end decided) [
-      | inl told ↦ told
-      | inr again ↦ absurd (laws.never t.shape t.first is.served t.scripts scripts_are a.turns j e a.alone is_next end again.0 decided again.1)
-    ]
+    replies_there : wanted (engine_next t.shape (along t.shape t.first t.scripts a.turns).core.words e) ≡ want.Done
+        → EndsCall (outcome_of_end (end_of (engine_next t.shape (along t.shape t.first t.scripts a.turns).core.words e)))
+    replies_there done =
+        let o = laws.tell t.shape t.first is.served t.scripts scripts_are a.turns j e is_next done in
+        elim (laws.told t.shape t.first is.served t.scripts scripts_are a.turns j e is_next o.0 o.1) [
+          | inl told ↦ subst EndsCall (sym o.2) told
+          | inr says ↦ absurd (laws.never t.shape t.first is.served t.scripts scripts_are a.turns j e a.alone is_next says.0 (o.1 ∙ says.1))
+        ]
 
-    replies : (end : End) → IsDecided next.op end → EndsCall end
-    replies = subst (λ (k : Core). (end : End) → IsDecided (engine_next t.shape k.words e).op end → EndsCall end) (sym a.core_is) replies_there
+    replies : wanted next ≡ want.Done → EndsCall (outcome_of_end (end_of next))
+    replies = subst (λ (k : Core). wanted (engine_next t.shape k.words e) ≡ want.Done → EndsCall (outcome_of_end (end_of (engine_next t.shape k.words e)))) (sym a.core_is) replies_there
 
     turn_is : turn t.shape (suc j) core ≡ with_event t.shape j core c call e
     turn_is =
@@ -134,10 +137,10 @@ module _ (laws : EngineLaws) (t : Task) (is : IsTask t) where
     worked : IsWorked (behind c) (left e) (end_by t.shape next (wanted next)) after
     worked = settled_works t.shape laws.low (record c { drew = drawn_by c call ans }) call next (left e) (wanted next)
         (laws.less e ans (is_answer (wanted e) (core.words (word_of t.shape (wanted e))) calling.1.suits.asks)) (slice_get_within c.calls (length c.entries) call calls)
-        (λ done. replies (end_of next) (laws.sure next done)) refl
+        replies refl
 
-    end_told : (w : Want) → wanted next ≡ w → (end : End) → end_by t.shape next w ≡ Some end → EndsCall end
-    end_told want.Done done end q = subst EndsCall (same_Some (end_of next) end q) (replies (end_of next) (laws.sure next done))
+    end_told : (w : Want) → wanted next ≡ w → (end : End) → end_by t.shape next w ≡ Some end → EndsCall (outcome_of_end end)
+    end_told want.Done done end q = subst (λ x. EndsCall (outcome_of_end x)) (same_Some (end_of next) end q) (replies done)
     end_told w done end q = absurd (none-some end q)
 
     -- the work of the caller with this engine
@@ -188,7 +191,7 @@ module _ (laws : EngineLaws) (t : Task) (is : IsForOne t) where
   -- ---- the state
   record IsGood (d : Deed) : Type 0 where
     alone : IsAlone t d.state
-    told : (end : End) → d.end ≡ Some end → EndsCall end
+    told : (end : End) → d.end ≡ Some end → EndsCall (outcome_of_end end)
 
   open_good : (j : ℕ) (k : Keeper) (core : Core) → IsRunningBy t k core → IsAloneBy t k core → (d : Deed) → open_deed t.shape j k core ≡ Some d → IsGood d
   open_good j Open core o a d e =
@@ -218,7 +221,7 @@ module _ (laws : EngineLaws) (t : Task) (is : IsForOne t) where
   closes op want.Draw core p = p
   closes op want.Power core p = p
 
-  no_end : (d : Deed) → d.end ≡ None → (end : End) → d.end ≡ Some end → EndsCall end
+  no_end : (d : Deed) → d.end ≡ None → (end : End) → d.end ≡ Some end → EndsCall (outcome_of_end end)
   no_end d none end some = absurd (none-some end (sym none ∙ some))
 
   keeper_good : CloseFalls → (k : Keeper) (core : Core) → IsRunningBy t k core → IsAloneBy t k core → (d : Deed) → keeper_deed t.shape k core ≡ Some d → IsGood d

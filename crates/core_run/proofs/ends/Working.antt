@@ -11,12 +11,11 @@ use Rattle.map_model.specs.declared.entry.Entry.{Entry}
 use Rattle.op_core.specs.Answers.{IsAnswer}
 use Rattle.engine.specs.declared.engine.Engine.{Engine}
 use Rattle.engine.specs.declared.engine.End.{End}
-use Rattle.engine.specs.Engine.{begun, wanted, taken, end_of, reply_of_end}
+use Rattle.engine.specs.Engine.{begun, wanted, taken, end_of, outcome_of_end, reply_of_end}
 use Rattle.engine.specs.Left.{most_events, left}
 use Rattle.engine.specs.Core.{Caller, call_at, engine_for, ended, settled}
 use Rattle.core_run.specs.State.{end_by}
-use Rattle.engine.specs.Causes.{EndsAreDecided}
-use Rattle.engine.specs.Alone.{IsReply, EndsCall, AllRestAtStart, AloneAtStart, RestingIsAlone, OwnTurnsStayAlone, AloneNeverAgain, EndsAreTold, EndedRests, OthersStayResting}
+use Rattle.engine.specs.Alone.{IsReply, EndsCall, AllRestAtStart, AloneAtStart, RestingIsAlone, OwnTurnsStayAlone, AloneNeverAgain, EndsAreTold, EndsTell, EndedRests, OthersStayResting}
 use Rattle.core_run.specs.Alone.{behind}
 use Rattle.core_run.specs.Run.{events_of_call}
 
@@ -32,7 +31,7 @@ pub record EngineLaws : Type 0 where
   pub never : AloneNeverAgain
   pub told : EndsAreTold
   pub own : OwnTurnsStayAlone
-  pub sure : EndsAreDecided
+  pub tell : EndsTell
   pub start : AllRestAtStart
   pub start_alone : AloneAtStart
   pub rests : RestingIsAlone
@@ -84,7 +83,7 @@ module _ (shape : Shape) (low : IsLow) (c : Caller) (call : Call) (e : Engine) (
   runs_works : left e < n → IsWorked (behind c) n None (record c { engine = Some e; begun = true })
   runs_works less = record { falls = omega (arith, less); answers = λ end is. absurd (none-some end is); goes_on = λ none. refl }
 
-  pub settled_works : (w : Want) → left e < n → length c.entries < length c.calls → (wanted e ≡ want.Done → EndsCall (end_of e)) → wanted e ≡ w
+  pub settled_works : (w : Want) → left e < n → length c.entries < length c.calls → (wanted e ≡ want.Done → EndsCall (outcome_of_end (end_of e))) → wanted e ≡ w
       → IsWorked (behind c) n (end_by shape e w) (settled c call e w)
   settled_works want.Done less within told is = ended_works (omega (arith, less)) within (reply_of_end (end_of e)) (told is)
   settled_works (want.Load i) less within told is = runs_works less

@@ -12,7 +12,8 @@ use Rattle.world.specs.Wants.{answer_to, word_of}
 use Rattle.engine.specs.declared.engine.Engine.{Engine}
 use Rattle.engine.specs.Engine.{wanted, taken}
 use Rattle.engine.specs.Left.{waiting}
-use Rattle.engine.specs.Asks.{IsWithin, AsksWithin}
+use Rattle.part.specs.Asks.{IsWithin}
+use Rattle.engine.specs.Asks.{AsksWithin}
 use Rattle.engine.specs.Core.{Caller, Core, current, drawn_by, answered, with_event, turn_of_call, turn_of_caller}
 use Rattle.engine.specs.Holding.{IsCalling, DoesCall, CallerFits, CoreHolds, TurnKeeps}
 use Rattle.core_run.specs.declared.keeper.Keeper.TheVariants.{Open}
@@ -55,7 +56,7 @@ module _ (keeps : TurnKeeps) (asks : AsksWithin) (waits : EnginesWait) (most : (
       subst (λ q. WaitsFor core.trace (suc j) q) runs
       (subst (λ k. WaitsFor core.trace k c.engine) (omega arith) (waits_at core.trace 1 j core.callers c at o.few_wait))
 
-  within : IsWithin (site_in t) e
+  within : IsWithin t.shape (wanted e)
   within = asks (site_in t) c.site calling.call e calling.before seen.0 o.holds.well.holds.site_is calling.suits
 
   may : MayBeDone t (suc j) core (wanted e)

@@ -1,39 +1,36 @@
 -- The power word stays 0 from the end of a restart on: no event of a caller changes it.
-use Rattle.std.proofs.Common.{◌≡◌, ℕ, zero, suc, ◌%◌, ◌^◌, ◌<◌, Option, None, Some, List, [], ◌∷◌, length, slice_get, slice_index, refl, sym, ◌∙◌, ap, subst, arith}
+use Rattle.std.proofs.Common.{◌≡◌, ℕ, zero, suc, ◌%◌, ◌^◌, Option, None, Some, List, [], ◌∷◌, slice_get, slice_index, refl, sym, ◌∙◌, ap, subst, arith}
 use Rattle.std.proofs.lemmas.List.{get_or_past}
 use Rattle.trace.specs.Events.{Words}
-use Rattle.trace.proofs.Moments.{value_at_now}
 use Rattle.trace.proofs.Replaced.{replaced_other}
 use Rattle.image_layout.specs.Places.{Shape, state_word}
 use Rattle.image_layout.specs.Volatile.{power_word}
 use Rattle.map_model.specs.declared.call.Call.{Call}
 use Rattle.world.specs.Site.{Site}
-use Rattle.world.specs.Wants.{word_of, words_after}
+use Rattle.world.specs.Wants.{words_after}
 use Rattle.world.specs.World.{fresh_view}
 use Rattle.world.proofs.stepping.Steps.{power_stays}
 use Rattle.restart_op.specs.Restarted.{IsPlayableImage, words_at_end}
+use Rattle.part.specs.Part.{IsPart}
 use Rattle.engine.specs.declared.engine.Engine.{Engine}
 use Rattle.engine.specs.Engine.{wanted, kind_of}
-use Rattle.engine.specs.Fits.{finds, KeepsSuits}
+use Rattle.engine.specs.OpPart.{op_part}
+use Rattle.engine.specs.Fits.{finds}
 use Rattle.engine.specs.Core.{Caller, Core, current, turn, turn_of_call, turn_of_caller, run}
 use Rattle.engine.specs.Holding.{IsCalling, DoesCall, CallerFits, CoreHolds, TurnKeeps}
-use Rattle.engine.proofs.machines.NeverCuts.{IsCut, never_cuts}
 use Rattle.engine.proofs.Places.{zip_at}
 
 -- ---- turns
-module _ (keeps : KeepsSuits) (site : Site) (start : Words) (core : Core) (h : CoreHolds site start core) (off : core.words (power_word site.shape) ≡ 0) where
-  now_fits : (i : ℕ) → core.words i < 2 ^ 64
-  now_fits i = subst (λ x. x < 2 ^ 64) (value_at_now start core.trace i ∙ sym (ap (λ (ws : Words). ws i) h.well.words_are)) (h.fits i (length core.trace))
-
+module _ (part : IsPart op_part) (site : Site) (start : Words) (core : Core) (h : CoreHolds site start core) (off : core.words (power_word site.shape) ≡ 0) where
   module _ (j : ℕ) (c : Caller) (there : slice_get core.callers j ≡ Some c) where
     after_event : (call : Call) (e : Engine) → c.engine ≡ Some e → words_after site.shape (wanted e) (suc j) core.words (power_word site.shape) ≡ 0
     after_event call e runs =
         let z = zip_at (CallerFits site) core.callers h.views j c h.each there in
         let calling : IsCalling site c e z.0 = subst (λ o. DoesCall site c o z.0) runs z.2.does in
         let n = finds site e core.words in
-        let well = keeps site c.site calling.call e core.words (fresh_view 0 ∷ h.views) (suc j) calling.before z.0 h.well.holds z.1 calling.suits (now_fits (word_of site.shape (wanted e))) in
+        let well = part.steps site c.site calling.call core.words (fresh_view 0 ∷ h.views) (suc j) e.op calling.before z.0 h.well.holds z.1 calling.suits.suits calling.suits.asks in
         subst (λ w. words_after site.shape w (suc j) core.words (power_word site.shape) ≡ 0) (sym well.wants)
-        (power_stays site core.words (fresh_view 0 ∷ h.views) (suc j) z.0 (kind_of e n) (suc j) h.well.holds z.1 (λ cut. never_cuts e.op n (subst IsCut (sym cut) tt)) well.may ∙ off)
+        (power_stays site core.words (fresh_view 0 ∷ h.views) (suc j) z.0 (kind_of e n) (suc j) h.well.holds z.1 (part.power e.op n) well.may ∙ off)
 
     by_call : (call : Option Call) (engine : Option Engine) → c.engine ≡ engine → (turn_of_call site.shape j core c call engine).words (power_word site.shape) ≡ 0
     by_call None engine runs = off
@@ -48,11 +45,11 @@ module _ (keeps : KeepsSuits) (site : Site) (start : Words) (core : Core) (h : C
   turn_powered zero = off
   turn_powered (suc j) = by_caller j (slice_get core.callers j) refl
 
-pub run_powered : KeepsSuits → TurnKeeps → (site : Site) (start : Words) (core : Core) (turns : List ℕ) → CoreHolds site start core → core.words (power_word site.shape) ≡ 0
+pub run_powered : IsPart op_part → TurnKeeps → (site : Site) (start : Words) (core : Core) (turns : List ℕ) → CoreHolds site start core → core.words (power_word site.shape) ≡ 0
     → (run site.shape turns core).words (power_word site.shape) ≡ 0
-run_powered keeps turned site start core [] h off = off
-run_powered keeps turned site start core (c ∷ turns) h off =
-    run_powered keeps turned site start (turn site.shape c core) turns (turned site start core c h) (turn_powered keeps site start core h off c)
+run_powered part turned site start core [] h off = off
+run_powered part turned site start core (c ∷ turns) h off =
+    run_powered part turned site start (turn site.shape c core) turns (turned site start core c h) (turn_powered part site start core h off c)
 
 -- ---- after a restart
 pub restart_powered : (shape : Shape) (words : List ℕ) → IsPlayableImage shape words → words_at_end shape words (power_word shape) ≡ 0

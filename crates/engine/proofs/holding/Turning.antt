@@ -24,7 +24,9 @@ use Rattle.world.specs.Wants.{answer_to, word_of, left_by, event_of, words_after
 use Rattle.world.specs.World.{changed_at, IsWell, fresh_view}
 use Rattle.world.specs.Laws.{ChangesOneWord, KeepsWell}
 use Rattle.world.specs.Attempts.{HoldsOnly, EntersReply}
+use Rattle.part.specs.Part.{IsPart}
 use Rattle.engine.specs.declared.engine.Engine.{Engine}
+use Rattle.engine.specs.OpPart.{op_part}
 use Rattle.engine.specs.Engine.{taken, wanted, end_of, reply_of_end, kind_of}
 use Rattle.engine.specs.Fits.{IsWordCall, Suits, HasEnded, BeginsSuited, finds, next_engine, StepsWell, KeepsSuits}
 use Rattle.engine.specs.Core.{Caller, Core, call_at, current, engine_for, entry_of, drawn_by, ended, settled, answered, with_event, turn_of_call, turn_of_caller, turn}
@@ -102,7 +104,7 @@ module _ (begins : BeginsSuited) (site : Site) (is_site : IsSite site) (c : Call
   goes_on e suits entries = record {
     place = place;
     words = words;
-    callers = suits.callers;
+    callers = suits.suits.callers;
     replied = replied;
     within = within;
     does = record {
@@ -219,7 +221,7 @@ calls_stay shape core [] = refl
 calls_stay shape core (c ∷ turns) = calls_stay shape (turn shape c core) turns ∙ turn_calls shape c core
 
 -- ---- the core
-module _ (begins : BeginsSuited) (keeps : KeepsSuits) (are_words : AsksWords) (keep_notes : KeepsNotes) (steps : KeepsWell) (one_word : ChangesOneWord)
+module _ (part : IsPart op_part) (begins : BeginsSuited) (keeps : KeepsSuits) (are_words : AsksWords) (keep_notes : KeepsNotes) (steps : KeepsWell) (one_word : ChangesOneWord)
     (site : Site) (start : Words) (core : Core) (h : CoreHolds site start core) where
   now_fits : (i : ℕ) → core.words i < 2 ^ 64
   now_fits i = subst (λ x. x < 2 ^ 64) (value_at_now start core.trace i ∙ sym (ap (λ (ws : Words). ws i) h.well.words_are)) (h.fits i (length core.trace))
@@ -264,7 +266,7 @@ module _ (begins : BeginsSuited) (keeps : KeepsSuits) (are_words : AsksWords) (k
           calling.own_before (drawn_by c calling.call (answer_to (wanted e) n)) (drawn_call c calling.call calling.drew_call (answer_to (wanted e) n)) (next_engine site e core.words) (wanted (next_engine site e core.words)) refl well_step.suits well_step.ends
           (λ s. subst (λ w. HasEntries c.entries (drawn_by c calling.call (answer_to w n)) (view_after site.shape kind n v).own) (sym well_step.wants)
           (entries_after site c calling.call v n calling.entries
-          (λ planned has. let p = planned_is site c.site calling.call calling.before v e planned calling.suits has in (p.0, p.1 ∙ calling.own_before))
+          (λ planned has. let p = planned_is site c.site calling.call calling.before v part e planned calling.suits has in (p.0, p.1 ∙ calling.own_before))
           kind well_step.may
           (let l = at_most_one site c.site calling.call calling.before (view_after site.shape kind n v) (next_engine site e core.words) s in
           subst (λ (es : List Entry). length (view_after site.shape kind n v).own ≤ suc (length es)) calling.own_before l)))
@@ -292,5 +294,5 @@ module _ (begins : BeginsSuited) (keeps : KeepsSuits) (are_words : AsksWords) (k
   turned zero = h
   turned (suc j) = by_caller j (slice_get core.callers j) refl
 
-pub turn_keeps : BeginsSuited → KeepsSuits → AsksWords → KeepsNotes → KeepsWell → ChangesOneWord → TurnKeeps
-turn_keeps begins keeps are_words keep_notes steps one_word site start core c h = turned begins keeps are_words keep_notes steps one_word site start core h c
+pub turn_keeps : IsPart op_part → BeginsSuited → KeepsSuits → AsksWords → KeepsNotes → KeepsWell → ChangesOneWord → TurnKeeps
+turn_keeps part begins keeps are_words keep_notes steps one_word site start core c h = turned part begins keeps are_words keep_notes steps one_word site start core h c

@@ -16,7 +16,7 @@ use Rattle.world.specs.Invariant.{Holds}
 use Rattle.restart_op.specs.Notes.{HasNoNotes}
 use Rattle.engine.specs.declared.engine.Engine.{Engine}
 use Rattle.engine.specs.Engine.{wanted}
-use Rattle.engine.specs.Asks.{LeavesNotes}
+use Rattle.part.specs.Asks.{LeavesNotes}
 
 -- a metadata word without notes
 abbrev IsUnnoted : ℕ → Type 0
@@ -26,12 +26,12 @@ replaced_here : (words : Words) (i x : ℕ) → with_word words i x i ≡ x
 replaced_here words i x = ap (λ b. cond b x (words i)) (eq-eqb i i refl)
 
 module _ (site : Site) (e : Engine) (words : Words) (views : List View) (j : ℕ) (v : View) (h : Holds site words views) (at : At views j v)
-    (leaves : (b : ℕ) → b < buckets → LeavesNotes site e v b) (c : ℕ) (none : HasNoNotes site.shape words) where
+    (leaves : (b : ℕ) → b < buckets → LeavesNotes site.shape v b (wanted e)) (c : ℕ) (none : HasNoNotes site.shape words) where
   module _ (b : ℕ) (within : b < 64) where
     abbrev meta : ℕ
     meta = bucket_at site.shape 0 b + 1
 
-    leave : LeavesNotes site e v b
+    leave : LeavesNotes site.shape v b (wanted e)
     leave = leaves b (omega (arith, within))
 
     elsewhere : (i x : ℕ) → i ≢ meta → IsUnnoted (with_word words i x meta)

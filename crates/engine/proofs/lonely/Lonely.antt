@@ -1,180 +1,93 @@
 -- A caller that steps while all others stand between two attempts is told no Again, and its own turns leave it so.
-use Rattle.std.proofs.Common.{◌≡◌, ◌≢◌, ℕ, zero, suc, ◌+◌, ◌^◌, ◌<◌, inl, inr, ◌⊎◌, Bool, true, false, cond, Option, None, Some, List, [], ◌∷◌, ◌++◌, length, slice_get, refl, sym, ◌∙◌, ap, subst, arith}
-use Rattle.std.specs.Prelude.{nat_le, nat_lt, if◌then◌else◌}
-use Rattle.std.proofs.lemmas.Bool.{cases_eq, eq-eqb, ne_eqb, ltb-true, leb-true}
+use Rattle.std.proofs.Common.{◌≡◌, ◌≢◌, ℕ, zero, suc, ◌^◌, ◌<◌, inl, inr, ◌⊎◌, cond, Option, None, Some, List, [], ◌∷◌, ◌++◌, length, slice_get, slice_index, refl, sym, ◌∙◌, ap, subst}
+use Rattle.std.proofs.lemmas.Bool.{cases_eq, eq-eqb, ne_eqb}
 use Rattle.std.proofs.lemmas.Option.{none-some, same_Some}
 use Rattle.op_core.specs.declared.want.Want.{Want}
 use Rattle.op_core.specs.declared.want.Want.TheVariants as want
 use Rattle.op_core.specs.declared.want.Ans.{Ans}
 use Rattle.op_core.specs.declared.why.Why.{Why}
 use Rattle.op_core.specs.declared.why.Why.TheVariants.{Busy, Moved}
-use Rattle.hash_word.specs.Hash.{index_of}
 use Rattle.trace.specs.Events.{Words}
-use Rattle.image_layout.specs.Places.{Shape, IsShape, root_word, entry_at, head_at, bucket_at, words_of, state_word, buckets}
-use Rattle.image_layout.proofs.Areas.{entry_before}
-use Rattle.sound_image.specs.Records.{key_hash}
-use Rattle.sound_image.proofs.Hashes.{key_hash-fits}
+use Rattle.trace.proofs.Moments.{value_at_now}
+use Rattle.image_layout.specs.Places.{Shape, state_word}
 use Rattle.map_model.specs.declared.call.Call.{Call}
 use Rattle.map_model.specs.declared.entry.Reply.{Reply}
-use Rattle.way.proofs.Indexes.{index_below}
-use Rattle.world.specs.declared.site.Site.{Site as Here}
-use Rattle.restart_op.specs.Restarted.{IsPlayableImage, words_at_end, site_of}
-use Rattle.read_op.specs.declared.step.ReadEnd.TheVariants as read_end
-use Rattle.read_op.specs.declared.step.ReadStep.{ReadStep}
-use Rattle.read_op.specs.declared.step.ReadStep.TheVariants as reads
-use Rattle.write_op.specs.declared.control.Side.{Side}
-use Rattle.write_op.specs.declared.control.Side.TheVariants.{Home, Probing}
-use Rattle.write_op.specs.declared.control.WriteEnd.{WriteEnd}
-use Rattle.write_op.specs.declared.control.WriteEnd.TheVariants as write_end
-use Rattle.write_op.specs.declared.control.Step.{Step}
-use Rattle.write_op.specs.declared.control.Step.TheVariants.{GiveBack, Ended}
-use Rattle.write_op.specs.Causes.{IsDecided as IsChangeDecided}
-use Rattle.write_op.specs.Ways.{bucket_of}
 use Rattle.map_model.specs.Map.{key_of}
-use Rattle.engine.specs.declared.engine.Op.{Op}
-use Rattle.engine.specs.declared.engine.Op.TheVariants.{Read, Write}
-use Rattle.engine.specs.declared.engine.End.{End}
-use Rattle.engine.specs.declared.engine.End.TheVariants as ends
+use Rattle.world.specs.declared.site.Site.{Site as Here}
+use Rattle.world.specs.Wants.{word_of, words_after}
+use Rattle.world.specs.World.{fresh_view}
+use Rattle.part.specs.Doings.{Doings, nothing_done, with_event_of, IsStill}
+use Rattle.part.specs.Outcomes.{Outcome, replied, again}
+use Rattle.part.specs.Part.{IsPart}
+use Rattle.part.specs.Causes.{EndsByCause}
+use Rattle.part.proofs.Still.{nothing_still, own_events_keep_still, alone_nothing_moves}
+use Rattle.restart_op.specs.Restarted.{IsPlayableImage, words_at_end, site_of}
 use Rattle.engine.specs.declared.engine.Engine.{Engine}
 use Rattle.engine.specs.Engine.{begun, wanted, end_of, reply_of_end}
+use Rattle.engine.specs.OpPart.{op_part}
 use Rattle.engine.specs.Core.{Caller, call_at, current, engine_for, fresh, callers_from, drawn_by, ended, settled, answered, with_event, turn_of_call, turn_of_caller}
-use Rattle.engine.specs.Holding.{CallerFits, TurnKeeps}
+use Rattle.engine.specs.Holding.{IsCalling, DoesCall, CallerFits, TurnKeeps}
 use Rattle.engine.specs.Laws.{OpenedHolds, AreScripts}
-use Rattle.engine.specs.Causes.{Doings, doings_by, with_doings, Watched, answer_now, engine_next, doings_of_call, doings_of_caller, watched_turn, IsDecided, Decides, BeginsUndecided, DecidedStays, IsOnWay, IsLockThere, IsWatched, HasMoved, HasCause, EndsHaveCauses, nothing_done, watched_run}
-use Rattle.engine.specs.Alone.{SaysAgain, IsTold, IsBetween, IsRestingBy, IsResting, IsStill, IsAlone, IsNext, at_start, along, BusyIsOthers, AllRestAtStart, AloneAtStart, RestingIsAlone, OwnTurnsStayAlone, AloneNeverAgain, EndsAreTold, EndedRests, OthersStayResting}
+use Rattle.engine.specs.Causes.{doings_by, with_doings, Watched, answer_now, engine_next, doings_of_call, doings_of_caller, watched_turn, Decides, BeginsUndecided, DecidedStays, EndsAreDecided, HasCause, EndsHaveCauses, watched_run}
+use Rattle.engine.specs.Alone.{IsTold, IsBetween, IsRestingBy, IsResting, IsAlone, IsNext, at_start, along, BusyIsOthers, AllRestAtStart, AloneAtStart, RestingIsAlone, OwnTurnsStayAlone, AloneNeverAgain, EndsAreTold, EndsTell, EndedRests, OthersStayResting}
 use Rattle.engine.proofs.Places.{zip_at, set_cases}
 use Rattle.engine.proofs.attempts.Deciding.{holds_there}
-use Rattle.engine.proofs.lonely.Still.{nothing_still, turn_still}
 use Rattle.engine.proofs.attempts.Doing.{set_there}
 
--- ---- an end is decided or is not, and it is one
-get_decided : (s : ReadStep) → ((end : Rattle.read_op.specs.declared.step.ReadEnd.ReadEnd) × (s ≡ reads.Ended end)) ⊎ ((end : Rattle.read_op.specs.declared.step.ReadEnd.ReadEnd) → s ≡ reads.Ended end → ⊥)
-get_decided (reads.Ended end) = inl (end, refl)
-get_decided s = inr (λ end is. cc)
+-- ---- an outcome is decided or is not
+decided_or_not : (o : Option Outcome) → ((outcome : Outcome) × (o ≡ Some outcome)) ⊎ (o ≡ None)
+decided_or_not (Some outcome) = inl (outcome, refl)
+decided_or_not None = inr refl
 
-change_decided : (s : Step) → ((end : WriteEnd) × IsChangeDecided s end) ⊎ ((end : WriteEnd) → IsChangeDecided s end → ⊥)
-change_decided (GiveBack held end) = inl (end, refl)
-change_decided (Ended end) = inl (end, refl)
-change_decided s = inr (λ end is. is)
-
-decided_or_not : (op : Op) → ((end : End) × IsDecided op end) ⊎ ((end : End) → IsDecided op end → ⊥)
-decided_or_not (Read op) = elim (get_decided op.step) [
-  | inl p ↦ inl (ends.Read p.0, p.1)
-  | inr none ↦ inr (not_read none)
-]
-  where
-    not_read : ((end : Rattle.read_op.specs.declared.step.ReadEnd.ReadEnd) → op.step ≡ reads.Ended end → ⊥) → (end : End) → IsDecided (Read op) end → ⊥
-    not_read none (ends.Read end) is = none end is
-    not_read none (ends.Write end) is = is
-decided_or_not (Write op) = elim (change_decided op.step) [
-  | inl p ↦ inl (ends.Write p.0, p.1)
-  | inr none ↦ inr (not_write none)
-]
-  where
-    not_write : ((end : WriteEnd) → IsChangeDecided op.step end → ⊥) → (end : End) → IsDecided (Write op) end → ⊥
-    not_write none (ends.Read end) is = is
-    not_write none (ends.Write end) is = none end is
-
-same_change_end : (s : Step) (a b : WriteEnd) → IsChangeDecided s a → IsChangeDecided s b → a ≡ b
-same_change_end (GiveBack held end) a b is so = sym is ∙ so
-same_change_end (Ended end) a b is so = sym is ∙ so
-same_change_end s a b is so = absurd is
-
-same_end : (op : Op) (a b : End) → IsDecided op a → IsDecided op b → a ≡ b
-same_end (Read op) (ends.Read a) (ends.Read b) is so = let q = sym is ∙ so in cc
-same_end (Read op) (ends.Read a) (ends.Write b) is so = absurd so
-same_end (Read op) (ends.Write a) b is so = absurd is
-same_end (Write op) (ends.Write a) (ends.Write b) is so = ap ends.Write (same_change_end op.step a b is so)
-same_end (Write op) (ends.Write a) (ends.Read b) is so = absurd so
-same_end (Write op) (ends.Read a) b is so = absurd is
-
-told_has_slot : (end : End) → IsTold end → end ≢ ends.Write write_end.NoSlot
-told_has_slot (ends.Read end) told is = cc
-told_has_slot (ends.Write (write_end.Replied r place)) told is = cc
-told_has_slot (ends.Write write_end.NoSlot) (inl told) is = absurd told
-told_has_slot (ends.Write write_end.NoSlot) (inr (why, inl q)) is = absurd (let z = q in cc)
-told_has_slot (ends.Write write_end.NoSlot) (inr (why, inr q)) is = absurd (let z = q in cc)
-told_has_slot (ends.Write (write_end.Again why)) told is = cc
-told_has_slot (ends.Write (write_end.Stale segment byte)) told is = cc
-told_has_slot (ends.Write write_end.Off) told is = cc
-
--- what holds of an end that is decided, and of each that the next event decides, holds of each that is decided after it
-next_ends : DecidedStays → (P : End → Type 0) (shape : Shape) (words : Words) (e : Engine) → ((end : End) → IsDecided e.op end → P end × (end ≢ ends.Write write_end.NoSlot))
-    → ((end : End) → Decides shape words e end → P end) → (end : End) → IsDecided (engine_next shape words e).op end → P end
-next_ends stays P shape words e before by end decided = elim (decided_or_not e.op) [
-  | inl old ↦
-      let was = before old.0 old.1 in
-      subst P (same_end (engine_next shape words e).op old.0 end (stays e (answer_now shape words e) old.0 was.1 old.1) decided) was.0
-  | inr none ↦ by end (record { undecided = none; decides = decided })
+-- what holds of an outcome that is decided, and of each that the next event decides, holds of each that is decided after it
+next_ends : DecidedStays → (P : Outcome → Type 0) (shape : Shape) (words : Words) (e : Engine) → ((outcome : Outcome) → op_part.outcome e.op ≡ Some outcome → P outcome)
+    → ((outcome : Outcome) → Decides shape words e outcome → P outcome) → (outcome : Outcome) → op_part.outcome (engine_next shape words e).op ≡ Some outcome → P outcome
+next_ends stays P shape words e before by outcome decided = elim (decided_or_not (op_part.outcome e.op)) [
+  | inl old ↦ subst P (same_Some old.0 outcome (sym (stays e (answer_now shape words e) old.0 old.1) ∙ decided)) (before old.0 old.1)
+  | inr none ↦ by outcome (record { undecided = none; decides = decided })
 ]
 
--- ---- words that are watched lie in the image
-module _ (shape : Shape) (is : IsShape shape) (hash : ℕ) (fits : hash < 2 ^ 64) where
-  first_within : root_word < words_of shape
-  first_within = let some = is.some in omega (arith, some)
+-- ---- what an attempt of its own loaded is still so after its turn
+module _ (shape : Shape) (j : ℕ) (w : Watched) (still : IsStill shape w.core.words (w.doings j)) where
+  -- whatever is wanted next
+  by_next : (next event : Want) (ws : Words) (a : Ans) → IsStill shape ws (with_event_of event a (w.doings j)) → IsStill shape ws (doings_by next event a (w.doings j))
+  by_next want.Done event ws a now = nothing_still shape ws
+  by_next next event ws a now = now
 
-  entry_by : (root : ℕ) (b : Bool) → nat_le root shape.depth ≡ b → (if b then entry_at root (index_of root hash) else root_word) < words_of shape
-  entry_by root true low =
-      let most = is.depth in
-      let within = leb-true root shape.depth low in
-      let index = index_below root hash (omega (arith, within, most)) fits in
-      let before = entry_before shape root (index_of root hash) within index in
-      omega (arith, before)
-  entry_by root false low = first_within
+  still_by_call : (c : Caller) (call : Option Call) (engine : Option Engine) → IsStill shape (turn_of_call shape j w.core c call engine).words (doings_of_call shape j w call engine j)
+  still_by_call c None engine = still
+  still_by_call c (Some call) None = still
+  still_by_call c (Some call) (Some e) =
+      let now = words_after shape (wanted e) (suc j) w.core.words in
+      let new : Doings = doings_by (wanted (engine_next shape w.core.words e)) (wanted e) (answer_now shape w.core.words e) (w.doings j) in
+      subst (λ b. IsStill shape now (cond b new (w.doings j))) (sym (eq-eqb j j refl))
+      (by_next (wanted (engine_next shape w.core.words e)) (wanted e) now (answer_now shape w.core.words e) (own_events_keep_still shape w.core.words (w.doings j) (wanted e) (suc j) still))
 
-  head_by : (segment : ℕ) (b : Bool) → nat_lt segment shape.segments ≡ b → (if b then head_at shape segment + 1 else root_word) < words_of shape
-  head_by segment true low = let under = ltb-true segment shape.segments low in omega (arith, under)
-  head_by segment false low = first_within
+  still_by_caller : (o : Option Caller) → IsStill shape (turn_of_caller shape j w.core o).words (doings_of_caller shape j w o j)
+  still_by_caller None = still
+  still_by_caller (Some c) = still_by_call c (current c) c.engine
 
-  lock_by : (segment bucket : ℕ) → bucket < buckets → (b : Bool) → nat_lt segment shape.segments ≡ b → (if b then bucket_at shape segment bucket else root_word) < words_of shape
-  lock_by segment bucket near true low = let under = ltb-true segment shape.segments low in omega (arith, under, near)
-  lock_by segment bucket near false low = first_within
+  turn_still : IsStill shape (watched_turn shape (suc j) w).core.words ((watched_turn shape (suc j) w).doings j)
+  turn_still = still_by_caller (slice_get w.core.callers j)
 
-  near : (side : Side) → bucket_of side hash < buckets
-  near Home = omega arith
-  near Probing = omega arith
-
-module _ (shape : Shape) (is : IsShape shape) (words : Words) (did : Doings) (call : Call) (fits : key_hash shape (key_of call) < 2 ^ 64) where
-  abbrev hash : ℕ
-  hash = key_hash shape (key_of call)
-
-  on_way : (word : ℕ) → IsOnWay shape words did call word → word < words_of shape
-  on_way word (inl root) = subst (λ n. n < words_of shape) (sym root) (first_within shape is hash fits)
-  on_way word (inr (inl p)) = subst (λ n. n < words_of shape) (sym p.2) (entry_by shape is hash fits p.0 _ refl)
-  on_way word (inr (inr p)) = subst (λ n. n < words_of shape) (sym p.2) (head_by shape is hash fits p.0 _ refl)
-
-  lock_there : (word : ℕ) → IsLockThere shape words did call word → word < words_of shape
-  lock_there word p = subst (λ n. n < words_of shape) (sym p.3) (lock_by shape is hash fits p.0 (bucket_of p.2 hash) (near shape is hash fits p.2) _ refl)
-
-  watched_within : (word before after : ℕ) → IsWatched shape words did call word before after → word < words_of shape
-  watched_within word before after (inl way) = on_way word way
-  watched_within word before after (inr lock) = lock_there word lock.0
-
-  -- NOTHING MOVES for a caller to whom all that it loaded is still so
-  nothing_moves : (word before after : ℕ) → IsStill shape words did → HasMoved shape words did call word before after → ⊥
-  nothing_moves word before after still m =
-      elim (still word before m.loaded (let low = watched_within word before after m.watched in λ same. omega (arith, low, same))) [
-        | inl is ↦ m.differ (sym is ∙ m.newest)
-        | inr own ↦ m.by_others own
-      ]
-
--- ---- what holds of each decided end of the caller at a place holds after its turn
-module _ (P : End → Type 0) where
+-- ---- what holds of each decided outcome of the caller at a place holds after its turn
+module _ (P : Outcome → Type 0) where
   abbrev Holds : Caller → Type 0
-  Holds c = (e : Engine) (end : End) → c.engine ≡ Some e → IsDecided e.op end → P end
+  Holds c = (e : Engine) (outcome : Outcome) → c.engine ≡ Some e → op_part.outcome e.op ≡ Some outcome → P outcome
 
   module _ (first : BeginsUndecided) where
-    begun_holds : (here : Here) (o : Option Call) (e : Engine) (end : End) → engine_for here o ≡ Some e → IsDecided e.op end → P end
-    begun_holds here None e end is decided = absurd (none-some e is)
-    begun_holds here (Some call) e end is decided = absurd (first here call end (subst (λ (x : Engine). IsDecided x.op end) (sym (same_Some (begun here call) e is)) decided))
+    begun_holds : (here : Here) (o : Option Call) (e : Engine) (outcome : Outcome) → engine_for here o ≡ Some e → op_part.outcome e.op ≡ Some outcome → P outcome
+    begun_holds here None e outcome is decided = absurd (none-some e is)
+    begun_holds here (Some call) e outcome is decided =
+        absurd (none-some outcome (sym (first here call) ∙ subst (λ (x : Engine). op_part.outcome x.op ≡ Some outcome) (sym (same_Some (begun here call) e is)) decided))
 
     ended_holds : (c : Caller) (call : Call) (o : Option (Reply × ℕ)) → Holds (ended c call o)
-    ended_holds c call None e end is decided = begun_holds c.site (Some call) e end is decided
-    ended_holds c call (Some r) e end is decided = begun_holds c.site (call_at c (suc (length c.entries))) e end is decided
+    ended_holds c call None e outcome is decided = begun_holds c.site (Some call) e outcome is decided
+    ended_holds c call (Some r) e outcome is decided = begun_holds c.site (call_at c (suc (length c.entries))) e outcome is decided
 
-    settled_holds : (c : Caller) (call : Call) (next : Engine) (asked : Want) → ((end : End) → IsDecided next.op end → P end) → Holds (settled c call next asked)
-    settled_holds c call next want.Done good e end is decided = ended_holds c call (reply_of_end (end_of next)) e end is decided
-    settled_holds c call next asked good e end is decided = good end (subst (λ (x : Engine). IsDecided x.op end) (sym (same_Some next e is)) decided)
+    settled_holds : (c : Caller) (call : Call) (next : Engine) (asked : Want) → ((outcome : Outcome) → op_part.outcome next.op ≡ Some outcome → P outcome) → Holds (settled c call next asked)
+    settled_holds c call next want.Done good e outcome is decided = ended_holds c call (reply_of_end (end_of next)) e outcome is decided
+    settled_holds c call next asked good e outcome is decided = good outcome (subst (λ (x : Engine). op_part.outcome x.op ≡ Some outcome) (sym (same_Some next e is)) decided)
 
 -- who stands at another place stands there as before
 others_there : (shape : Shape) (w : Watched) (i j : ℕ) (d : Caller) → i ≢ j → slice_get (watched_turn shape (suc j) w).core.callers i ≡ Some d → slice_get w.core.callers i ≡ Some d
@@ -225,9 +138,9 @@ fresh_rests shape version number (calls ∷ scripts) (suc j) c at = fresh_rests 
 pub others_stay_resting : OthersStayResting
 others_stay_resting shape w i j other rest c at = subst (λ did. IsRestingBy c did) (sym (others_doings shape w i j other)) (rest c (others_there shape w i j c other at))
 
--- what holds of each decided end there holds after its turn
-module _ (P : End → Type 0) (first : BeginsUndecided) (shape : Shape) (w : Watched) (j : ℕ) (before : (c : Caller) → slice_get w.core.callers j ≡ Some c → Holds P c)
-    (next : (e : Engine) → IsNext w j e → (end : End) → IsDecided (engine_next shape w.core.words e).op end → P end) where
+-- what holds of each decided outcome there holds after its turn
+module _ (P : Outcome → Type 0) (first : BeginsUndecided) (shape : Shape) (w : Watched) (j : ℕ) (before : (c : Caller) → slice_get w.core.callers j ≡ Some c → Holds P c)
+    (next : (e : Engine) → IsNext w j e → (outcome : Outcome) → op_part.outcome (engine_next shape w.core.words e).op ≡ Some outcome → P outcome) where
   by_call : (d c : Caller) → slice_get w.core.callers j ≡ Some c → (call : Option Call) (engine : Option Engine) → current c ≡ call → c.engine ≡ engine
       → slice_get (turn_of_call shape j w.core c call engine).callers j ≡ Some d → Holds P d
   by_call d c there None engine calls runs is = before d is
@@ -246,40 +159,37 @@ module _ (P : End → Type 0) (first : BeginsUndecided) (shape : Shape) (w : Wat
   holds_after d is = by_caller d (slice_get w.core.callers j) refl is
 
 -- ---- an attempt ends with a reply or in Again, whoever has its turn
+abbrev IsToldOne : Outcome → Type 0
+IsToldOne outcome = IsTold (Some outcome)
+
 abbrev AllTold : Watched → Type 0
-AllTold w = (j : ℕ) (c : Caller) → slice_get w.core.callers j ≡ Some c → Holds IsTold c
+AllTold w = (j : ℕ) (c : Caller) → slice_get w.core.callers j ≡ Some c → Holds IsToldOne c
 
 one_more_turn : (shape : Shape) (turns : List ℕ) (c : ℕ) (w : Watched) → watched_run shape (turns ++ c ∷ []) w ≡ watched_turn shape c (watched_run shape turns w)
 one_more_turn shape [] c w = refl
 one_more_turn shape (d ∷ turns) c w = one_more_turn shape turns c (watched_turn shape d w)
 
-told_by : (shape : Shape) (words : Words) (did : Doings) (call : Call) (event : Want) (end : End) → HasCause shape words did call event end → IsTold end
-told_by shape words did call event (ends.Read (read_end.Found x place)) has = inl tt
-told_by shape words did call event (ends.Read (read_end.Absent place)) has = inl tt
-told_by shape words did call event (ends.Read (read_end.Again why)) has = inr (why, inl refl)
-told_by shape words did call event (ends.Read (read_end.Stale segment byte)) has = absurd has
-told_by shape words did call event (ends.Read read_end.Off) has = absurd has
-told_by shape words did call event (ends.Write (write_end.Replied r place)) has = inl tt
-told_by shape words did call event (ends.Write write_end.NoSlot) has = absurd has
-told_by shape words did call event (ends.Write (write_end.Again why)) has = inr (why, inr refl)
-told_by shape words did call event (ends.Write (write_end.Stale segment byte)) has = absurd has
-told_by shape words did call event (ends.Write write_end.Off) has = absurd has
+told_by : (shape : Shape) (words : Words) (did : Doings) (call : Call) (event : Want) (outcome : Outcome) → HasCause shape words did call event outcome → IsToldOne outcome
+told_by shape words did call event (replied reply place) has = inl tt
+told_by shape words did call event (again why) has = inr (why, refl)
+told_by shape words did call event outcome has = absurd has
 
 module _ (causes : EndsHaveCauses) (first : BeginsUndecided) (stays : DecidedStays)
     (shape : Shape) (words : List ℕ) (image : IsPlayableImage shape words) (scripts : List (List Call)) (are : AreScripts scripts) where
   abbrev at : List ℕ → Watched
   at turns = along shape words scripts turns
 
-  next_told : (turns : List ℕ) → AllTold (at turns) → (j : ℕ) (e : Engine) → IsNext (at turns) j e → (end : End) → IsDecided (engine_next shape (at turns).core.words e).op end → IsTold end
-  next_told turns all j e n = next_ends stays IsTold shape (at turns).core.words e
-      (λ end is. let told = all j n.caller n.there e end n.runs is in (told, told_has_slot end told))
-      (λ end decides. told_by shape (at turns).core.words ((at turns).doings j) n.call (wanted e) end
-      (causes shape words image scripts are turns j n.caller n.call e end n.there n.calls n.runs decides))
+  next_told : (turns : List ℕ) → AllTold (at turns) → (j : ℕ) (e : Engine) → IsNext (at turns) j e → (outcome : Outcome) → op_part.outcome (engine_next shape (at turns).core.words e).op ≡ Some outcome
+      → IsToldOne outcome
+  next_told turns all j e n = next_ends stays IsToldOne shape (at turns).core.words e
+      (λ outcome is. all j n.caller n.there e outcome n.runs is)
+      (λ outcome decides. told_by shape (at turns).core.words ((at turns).doings j) n.call (wanted e) outcome
+      (causes shape words image scripts are turns j n.caller n.call e outcome n.there n.calls n.runs decides))
 
   turn_told : (turns : List ℕ) → AllTold (at turns) → (c : ℕ) → AllTold (watched_turn shape c (at turns))
   turn_told turns all zero i d is = all i d is
   turn_told turns all (suc j) i d is = elim (cases_eq i j) [
-    | inl same ↦ holds_after IsTold first shape (at turns) j (all j) (next_told turns all j) d (subst (λ k. slice_get (watched_turn shape (suc j) (at turns)).core.callers k ≡ Some d) same is)
+    | inl same ↦ holds_after IsToldOne first shape (at turns) j (all j) (next_told turns all j) d (subst (λ k. slice_get (watched_turn shape (suc j) (at turns)).core.callers k ≡ Some d) same is)
     | inr other ↦ all i d (others_there shape (at turns) i j d other is)
   ]
 
@@ -290,15 +200,15 @@ module _ (causes : EndsHaveCauses) (first : BeginsUndecided) (stays : DecidedSta
       subst (λ w. AllTold (watched_run shape turns w)) more (run_told (done ++ c ∷ []) turns (subst AllTold (sym more) (turn_told done all c)))
 
   start_told : AllTold (at [])
-  start_told j c is e end runs decided = elim (fresh_rests shape (words_at_end shape words state_word) 1 scripts j c is) [
+  start_told j c is e outcome runs decided = elim (fresh_rests shape (words_at_end shape words state_word) 1 scripts j c is) [
     | inl none ↦ absurd (none-some e (sym none ∙ runs))
-    | inr p ↦ begun_holds IsTold first c.site (Some p.0) e end (sym p.1 ∙ runs) decided
+    | inr p ↦ begun_holds IsToldOne first c.site (Some p.0) e outcome (sym p.1 ∙ runs) decided
   ]
 
   all_told : (turns : List ℕ) → AllTold (at turns)
   all_told turns = run_told [] turns start_told
 
-  ends_told : (turns : List ℕ) (j : ℕ) (e : Engine) → IsNext (at turns) j e → (end : End) → IsDecided (engine_next shape (at turns).core.words e).op end → IsTold end
+  ends_told : (turns : List ℕ) (j : ℕ) (e : Engine) → IsNext (at turns) j e → (outcome : Outcome) → op_part.outcome (engine_next shape (at turns).core.words e).op ≡ Some outcome → IsToldOne outcome
   ends_told turns = next_told turns (all_told turns)
 
   -- ---- after any turns, alone
@@ -306,44 +216,36 @@ module _ (causes : EndsHaveCauses) (first : BeginsUndecided) (stays : DecidedSta
     abbrev w : Watched
     w = at turns
 
-    abbrev IsCalm : End → Type 0
-    IsCalm end = (why : Why) → SaysAgain end why → ⊥
+    abbrev IsCalm : Outcome → Type 0
+    IsCalm outcome = (why : Why) → outcome ≡ again why → ⊥
 
     module _ (e : Engine) (n : IsNext w j e) where
       -- the keys of calls are words
-      hash_fits : key_hash shape (key_of n.call) < 2 ^ 64
-      hash_fits =
+      key_fits : key_of n.call < 2 ^ 64
+      key_fits =
           let h = holds_there opens keeps shape words image scripts are turns in
           let z = zip_at (CallerFits (site_of shape words (length scripts))) w.core.callers h.views j n.caller h.each n.there in
-          key_hash-fits shape (key_of n.call) (z.2.words (length n.caller.entries) n.call n.calls).0
+          (z.2.words (length n.caller.entries) n.call n.calls).0
 
-      never_busy : (end : End) (word value : ℕ) → Decides shape w.core.words e end → SaysAgain end (Busy word value) → ⊥
-      never_busy end word value decides says =
-          let o = busy shape words image scripts are turns j n.caller n.call e end word value n.there n.calls n.runs decides says in
+      never_by : (why : Why) → Decides shape w.core.words e (again why) → ⊥
+      never_by (Busy word value) decides =
+          let o = busy shape words image scripts are turns j n.caller n.call e word value n.there n.calls n.runs decides in
           o.midst (alone.others o.place o.caller o.elsewhere o.there)
+      never_by (Moved word before after) decides =
+          alone_nothing_moves shape w.core.words (w.doings j) n.call word before after image.sound.in_range key_fits alone.still
+          (causes shape words image scripts are turns j n.caller n.call e (again (Moved word before after)) n.there n.calls n.runs decides).1
 
-      moved_by : (end : End) (word before after : ℕ) → SaysAgain end (Moved word before after) → HasCause shape w.core.words (w.doings j) n.call (wanted e) end
-          → HasMoved shape w.core.words (w.doings j) n.call word before after
-      moved_by end word before after (inl is) has = (subst (λ x. HasCause shape w.core.words (w.doings j) n.call (wanted e) x) is has).1
-      moved_by end word before after (inr is) has = (subst (λ x. HasCause shape w.core.words (w.doings j) n.call (wanted e) x) is has).1
-
-      decides_calm : (end : End) → Decides shape w.core.words e end → IsCalm end
-      decides_calm end decides (Busy word value) says = never_busy end word value decides says
-      decides_calm end decides (Moved word before after) says =
-          nothing_moves shape image.sound.in_range w.core.words (w.doings j) n.call hash_fits word before after alone.still
-          (moved_by end word before after says (causes shape words image scripts are turns j n.caller n.call e end n.there n.calls n.runs decides))
-
-      next_calm : (end : End) → IsDecided (engine_next shape w.core.words e).op end → IsCalm end
+      next_calm : (outcome : Outcome) → op_part.outcome (engine_next shape w.core.words e).op ≡ Some outcome → IsCalm outcome
       next_calm = next_ends stays IsCalm shape w.core.words e
-          (λ end is. ((λ why says. alone.calm n.caller e end why n.there n.runs is says), told_has_slot end (all_told turns j n.caller n.there e end n.runs is)))
-          decides_calm
+          (λ outcome is why says. alone.calm n.caller e why n.there n.runs (is ∙ ap Some says))
+          (λ outcome decides why says. never_by why (subst (λ o. Decides shape w.core.words e o) says decides))
 
     stays_alone : IsAlone shape j (watched_turn shape (suc j) w)
     stays_alone = record {
       others = λ i c other is. alone.others i c other (others_there shape w i j c other is);
       still = turn_still shape j w alone.still;
-      calm = λ c e end why is runs decided says.
-          holds_after IsCalm first shape w j (λ d there x so run sure. λ y s. alone.calm d x so y there run sure s) next_calm c is e end runs decided why says;
+      calm = λ c e why is runs decided.
+          holds_after IsCalm first shape w j (λ d there x outcome run sure. λ y says. alone.calm d x y there run (sure ∙ ap Some says)) next_calm c is e (again why) runs decided why refl;
     }
 
 pub own_turns_stay_alone : OpenedHolds → TurnKeeps → BusyIsOthers → EndsHaveCauses → BeginsUndecided → DecidedStays → OwnTurnsStayAlone
@@ -351,11 +253,24 @@ own_turns_stay_alone opens keeps busy causes first stays shape words image scrip
     stays_alone causes first stays shape words image scripts are opens keeps busy turns j alone
 
 pub alone_never_again : OpenedHolds → TurnKeeps → BusyIsOthers → EndsHaveCauses → BeginsUndecided → DecidedStays → AloneNeverAgain
-alone_never_again opens keeps busy causes first stays shape words image scripts are turns j e alone n end why decided says =
-    next_calm causes first stays shape words image scripts are opens keeps busy turns j alone e n end decided why says
+alone_never_again opens keeps busy causes first stays shape words image scripts are turns j e alone n why decided =
+    next_calm causes first stays shape words image scripts are opens keeps busy turns j alone e n (again why) decided why refl
 
 pub ends_are_told : EndsHaveCauses → BeginsUndecided → DecidedStays → EndsAreTold
-ends_are_told causes first stays shape words image scripts are turns j e n end decided = ends_told causes first stays shape words image scripts are turns j e n end decided
+ends_are_told causes first stays shape words image scripts are turns j e n outcome decided = ends_told causes first stays shape words image scripts are turns j e n outcome decided
+
+-- where nothing more is wanted an outcome is decided, and is that of the end
+pub ends_tell : IsPart op_part → EndsByCause op_part → OpenedHolds → TurnKeeps → EndsAreDecided → EndsTell
+ends_tell part causes opens keeps says shape words image scripts are turns j e n done =
+    let w = along shape words scripts turns in
+    let site = site_of shape words (length scripts) in
+    let h = holds_there opens keeps shape words image scripts are turns in
+    let z = zip_at (CallerFits site) w.core.callers h.views j n.caller h.each n.there in
+    let calling : IsCalling site n.caller e z.0 = subst (λ o. DoesCall site n.caller o z.0) n.runs z.2.does in
+    let step = part.steps site n.caller.site calling.call w.core.words (fresh_view 0 ∷ h.views) (suc j) e.op calling.before z.0 h.well.holds z.1 calling.suits.suits calling.suits.asks in
+    let small = subst (λ x. x < 2 ^ 64) (value_at_now (slice_index words) w.core.trace (word_of shape (wanted e)) ∙ sym (ap (λ (ws : Words). ws (word_of shape (wanted e))) h.well.words_are)) (h.fits (word_of shape (wanted e)) (length w.core.trace)) in
+    let d = causes.decided site n.caller.site calling.call (engine_next shape w.core.words e).op _ (step.stands small) done refl in
+    (d.0, d.1, sym (says (engine_next shape w.core.words e) done) ∙ d.1)
 
 pub all_rest_at_start : AllRestAtStart
 all_rest_at_start shape words scripts j c is = fresh_rests shape (words_at_end shape words state_word) 1 scripts j c is
@@ -364,15 +279,15 @@ rests_between : (c : Caller) (did : Doings) → IsRestingBy c did → IsBetween 
 rests_between c did (inl none) = inl none
 rests_between c did (inr p) = inr (p.0, p.1)
 
-rests_calm : BeginsUndecided → (c : Caller) (did : Doings) → IsRestingBy c did → (e : Engine) (end : End) → c.engine ≡ Some e → IsDecided e.op end → ⊥
-rests_calm first c did (inl none) e end runs decided = none-some e (sym none ∙ runs)
-rests_calm first c did (inr p) e end runs decided = begun_holds (λ end. ⊥) first c.site (Some p.0) e end (sym p.1 ∙ runs) decided
+rests_calm : BeginsUndecided → (c : Caller) (did : Doings) → IsRestingBy c did → (e : Engine) (outcome : Outcome) → c.engine ≡ Some e → op_part.outcome e.op ≡ Some outcome → ⊥
+rests_calm first c did (inl none) e outcome runs decided = none-some e (sym none ∙ runs)
+rests_calm first c did (inr p) e outcome runs decided = begun_holds (λ outcome. ⊥) first c.site (Some p.0) e outcome (sym p.1 ∙ runs) decided
 
 pub alone_at_start : BeginsUndecided → AloneAtStart
 alone_at_start first shape words scripts j = record {
   others = λ i c other is. rests_between c nothing_done (all_rest_at_start shape words scripts i c is);
   still = nothing_still shape (at_start shape words scripts).core.words;
-  calm = λ c e end why is runs decided says. rests_calm first c nothing_done (all_rest_at_start shape words scripts j c is) e end runs decided;
+  calm = λ c e why is runs decided. rests_calm first c nothing_done (all_rest_at_start shape words scripts j c is) e (again why) runs decided;
 }
 
 resting_still : (shape : Shape) (words : Words) (c : Caller) (e : Engine) (did : Doings) → c.engine ≡ Some e → IsRestingBy c did → IsStill shape words did
@@ -383,7 +298,7 @@ pub resting_is_alone : BeginsUndecided → RestingIsAlone
 resting_is_alone first shape w j c e rest there runs = record {
   others = λ i d other is. rests_between d (w.doings i) (rest i d is);
   still = resting_still shape w.core.words c e (w.doings j) runs (rest j c there);
-  calm = λ d x end why is run decided says. rests_calm first d (w.doings j) (rest j d is) x end run decided;
+  calm = λ d x why is run decided. rests_calm first d (w.doings j) (rest j d is) x (again why) run decided;
 }
 
 module _ (shape : Shape) (w : Watched) (j : ℕ) (e : Engine) (n : IsNext w j e) where

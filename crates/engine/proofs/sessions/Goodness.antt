@@ -35,8 +35,9 @@ use Rattle.engine.specs.Core.{Caller, Core, current, open_of, told_of, tolds_of,
 use Rattle.engine.specs.Good.{IsGood}
 use Rattle.engine.specs.Holding.{HasEntries, DoesCall, CallerFits, world_of, CoreHolds, HoldingIsGood}
 use Rattle.engine.proofs.sessions.Causing.{full_had, spent_had}
-use Rattle.engine.proofs.holding.Planned.{none_has}
-use Rattle.engine.proofs.holding.Planned.{planned_is}
+use Rattle.engine.proofs.holding.Planned.{none_has, planned_is}
+use Rattle.part.specs.Part.{IsPart}
+use Rattle.engine.specs.OpPart.{op_part}
 use Rattle.engine.proofs.Places.{one_more}
 use Rattle.engine.proofs.holding.Scripted.{all_follow}
 use Rattle.engine.proofs.sessions.Cut.{told_had, told_spent, told_legal, IsLegalWith}
@@ -76,13 +77,13 @@ begun_open : (b : Bool) (drew : Option Entry) → (b ≡ false → ⊥) → drew
 begun_open false drew not_idle none = absurd (not_idle refl)
 begun_open true drew not_idle none = ap Some none
 
-opens : (site : Site) (c : Caller) (v : View) (call : Call) → CallerFits site c v → Has call v.planned → HasOpen c call
-opens site c v call fits has = by c.engine fits.does
+opens : IsPart op_part → (site : Site) (c : Caller) (v : View) (call : Call) → CallerFits site c v → Has call v.planned → HasOpen c call
+opens part site c v call fits has = by c.engine fits.does
   where
     by : (engine : _) → DoesCall site c engine v → HasOpen c call
     by None d = absurd (none_has v.planned call d.nothing.planned has)
     by (Some e) d =
-        let p = planned_is site c.site d.call d.before v e call d.suits has in
+        let p = planned_is site c.site d.call d.before v part e call d.suits has in
         record {
           is_current = d.is_current ∙ ap Some (sym p.0);
           open_call = begun_open c.begun c.drew (λ idle. none_has v.planned call (d.planned idle) has) (none_drawn c.entries v.own c.drew d.entries (p.1 ∙ d.own_before));
@@ -112,7 +113,7 @@ undrawn_has (x ∷ callers) (suc j) c call is open_here =
     (undrawn_has callers j c call is open_here)
 
 -- ---- the core
-module _ (legal : EntriesAreLegal) (leaves : DeviceLeaves) (follow : TablesFollow) (found : PairsAreFound)
+module _ (part : IsPart op_part) (legal : EntriesAreLegal) (leaves : DeviceLeaves) (follow : TablesFollow) (found : PairsAreFound)
     (site : Site) (start : Words) (core : Core) (opening : Map) (h : CoreHolds site start core) (same : (k : ℕ) → get opening k ≡ site.start k) where
   abbrev now : Map
   now = replay opening (weave (histories core))
@@ -163,7 +164,7 @@ module _ (legal : EntriesAreLegal) (leaves : DeviceLeaves) (follow : TablesFollo
     module _ (j : ℕ) (u : View) (call : Call) (at : At (fresh_view 0 ∷ h.views) j u) (has : Has call u.planned) where
       whose : (i : ℕ) → At (fresh_view 0 ∷ h.views) i u → Contains (undrawn (map (λ (c : Caller). c.calls) core.callers) (tolds_of core)) call
       whose zero first = absurd (subst (λ (z : View). Has call z.planned) (sym (some-injective (fresh_view 0) u first)) has)
-      whose (suc i) later = let c = caller_at site core.callers h.views i u h.each later in undrawn_has core.callers i c.0 call c.1 (opens site c.0 u call c.2 has)
+      whose (suc i) later = let c = caller_at site core.callers h.views i u h.each later in undrawn_has core.callers i c.0 call c.1 (opens part site c.0 u call c.2 has)
 
       done : reply.Done ≡ reply_by (get now (key_of call)) call
       done = h.well.holds.plans.fits j u call at has ∙ ap (λ a. reply_by a call) (sym (told.1 (key_of call)))
@@ -193,5 +194,5 @@ module _ (legal : EntriesAreLegal) (leaves : DeviceLeaves) (follow : TablesFollo
     spent = told_spent site core h.views h.each (spent_had site core.words (fresh_view 0 ∷ h.views) h.well.holds);
   }
 
-pub holding_is_good : EntriesAreLegal → DeviceLeaves → TablesFollow → PairsAreFound → HoldingIsGood
-holding_is_good legal leaves follow found site start core opening h same = is_good legal leaves follow found site start core opening h same
+pub holding_is_good : IsPart op_part → EntriesAreLegal → DeviceLeaves → TablesFollow → PairsAreFound → HoldingIsGood
+holding_is_good part legal leaves follow found site start core opening h same = is_good part legal leaves follow found site start core opening h same

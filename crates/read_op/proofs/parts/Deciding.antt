@@ -18,7 +18,7 @@ use Rattle.bucket_words.specs.Tables.{home_at}
 use Rattle.way.specs.Ways.{entry_word, head_word, bucket_word}
 use Rattle.world.specs.declared.site.Site.{Site as Here}
 use Rattle.world.specs.Site.{Site}
-use Rattle.world.specs.Views.{View, At, Has}
+use Rattle.world.specs.Views.{View, At, Has, HasLock}
 use Rattle.world.specs.Wants.{answer_to, word_of}
 use Rattle.world.specs.Invariant.{Holds}
 use Rattle.world.proofs.stepping.Answers.{load_value}
@@ -231,7 +231,8 @@ get_ends_by_cause = record {
   steps = λ site here call words views j op before v did h at s asks small r. record {
     remembers = remembers_next op site (words (word_of site.shape (wanted op))) did r;
     caused = λ outcome none some. caused site here call words views j op before v h at s asks did r outcome some;
+    not_own = λ word value none some has. (let none : HasLock [] word = subst (λ locks. HasLock locks word) s.stands.nothing.held has in none.1);
   };
-  stays = λ op a outcome i some. stays_in op op.step a outcome some;
+  stays = λ op a outcome some. stays_in op op.step a outcome some;
   decided = λ site here call op v s done closed. let ended = has_ended op op.step done in (outcome_of ended.0, ap outcome_in ended.1);
 }

@@ -14,7 +14,7 @@ use Rattle.map_model.specs.declared.entry.Reply.TheVariants as reply
 use Rattle.map_model.specs.Map.{is_change}
 use Rattle.world.specs.declared.site.Site.{Site as Here}
 use Rattle.world.specs.Site.{Site}
-use Rattle.world.specs.Views.{View, At}
+use Rattle.world.specs.Views.{View, Has, At}
 use Rattle.world.specs.Wants.{word_of}
 use Rattle.world.specs.Kinds.{cuts_power, wanted as wanted_by, next_entry, view_after}
 use Rattle.world.specs.Invariant.{Holds}
@@ -105,7 +105,7 @@ module _ (reads : ReadsAlone) (wants : (site : Site) (op : ReadOp) → WantsByKi
       ) in
       let two = subst (λ m. Goal (taken op (Value m)) m) same one in
       let three = subst (λ a. Goal (taken op a) found) (sym (load_value (wanted op) found (load_asked (wanted op) (reads op) asks))) two in
-      record { wants = is; may = may site op v h.site_is st.is_in st.suits; stands = three.0; enters = three.1; makes = λ change. absurd (made_in op op.step change) }
+      record { wants = is; may = may site op v h.site_is st.is_in st.suits; stands = λ small. three.0; enters = λ small. three.1; makes = λ change. absurd (made_in op op.step change) }
 
   falls : (op : ReadOp) (a : Ans) → IsAnswer (wanted op) a → left (taken op a).step < left op.step
   falls op a i =
@@ -125,7 +125,7 @@ module _ (reads : ReadsAlone) (wants : (site : Site) (op : ReadOp) → WantsByKi
 
   pub get_is_part : IsPart get_part
   get_is_part = record {
-    steps = λ site here call words views j op before v h at s asks small. steps site here call words views j op before v h at s asks;
+    steps = λ site here call words views j op before v h at s asks. steps site here call words views j op before v h at s asks;
     ends = λ site here call op v s done closed. s.nothing;
     time = record { falls = falls; most = most };
     within = λ site here call op before v is s. record {
@@ -136,5 +136,6 @@ module _ (reads : ReadsAlone) (wants : (site : Site) (op : ReadOp) → WantsByKi
     notes = λ site here call op before v b is s near. record { stores = λ x e. absurd (no_store op _ x e); exchanges = λ x y e. absurd (no_exchange op _ x y e) };
     flushes = record { most = λ op. omega arith; flushes = λ op a l i e. absurd (no_flush op l e); keeps = λ op a i e. omega arith; ends = λ op e. refl };
     made = record { stays = λ op a i made. made; done = λ op made e. absurd made };
+    plans = λ site here call op before v planned s has. absurd (subst (λ calls. Has planned calls) s.stands.nothing.planned has);
     power = λ op n. cuts_in op op.step;
   }

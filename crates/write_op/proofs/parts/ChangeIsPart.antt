@@ -1,5 +1,5 @@
 -- A change is a part of a call.
-use Rattle.std.proofs.Common.{◌≡◌, ◌≢◌, ℕ, ◌+◌, ◌*◌, ◌==◌, ◌^◌, ◌<◌, ◌≤◌, Bool, true, false, cond, [], refl, sym, ap, subst}
+use Rattle.std.proofs.Common.{◌≡◌, ◌≢◌, ℕ, ◌+◌, ◌*◌, ◌^◌, ◌<◌, ◌≤◌, false, [], refl, sym, ◌∙◌, ap, subst}
 use Rattle.op_core.specs.declared.want.Want.TheVariants as want
 use Rattle.op_core.specs.declared.want.Ans.{Ans}
 use Rattle.op_core.specs.Answers.{IsAnswer, IsWord}
@@ -26,16 +26,18 @@ use Rattle.write_op.specs.Taken.{wanted, taken, end_of}
 use Rattle.write_op.specs.Left.{most_events, left, EndsAsSaid}
 use Rattle.write_op.specs.Waiting.{waiting}
 use Rattle.write_op.specs.Inside.{IsInside, AsksInside}
-use Rattle.write_op.specs.Fits.{kind_of}
+use Rattle.write_op.specs.Fits.{Fits, kind_of}
 use Rattle.write_op.specs.Numbers.{HasWords, AsksWords}
 use Rattle.write_op.specs.Spared.{KeepsNotes}
 use Rattle.write_op.specs.Suits.{Enters, EntersEnd, Suits, SuitsEnd, SuitsStep, MayStep, KeepsSuits}
 use Rattle.write_op.specs.Pairs.{IsPublish, IsMade, MakesIt, StaysMade, EndsAsDone}
 use Rattle.write_op.specs.ChangePart.{outcome_of, outcome_in, is_without_slot, Stands, change_part}
+use Rattle.write_op.proofs.parts.Planning.{in_step}
 use Rattle.write_op.proofs.parts.ChangeAsks.{HasLine, step_line, IsOff, step_off, IsOf, makes_by, step_kind}
 
 -- what the laws of a change say of it
 pub record ChangeLaws : Type 0 where
+  pub kinds : (op : WriteOp) (n : ℕ) → Fits op → (wanted op ≡ want.Done → ⊥) → wanted op ≡ wanted_by op.task.site.geometry (kind_of op n)
   pub may : MayStep
   pub keeps : KeepsSuits
   pub has : (op : WriteOp) (ans : Ans) → IsWord ans → HasWords op → HasWords (taken op ans)
@@ -98,27 +100,28 @@ suits_there site here call op before v s = record {
 
 module _ (laws : ChangeLaws) where
   steps : KeepsPartSuits change_part
-  steps site here call words views j op before v h at s asks small =
+  steps site here call words views j op before v h at s asks =
       let st : Stands site here call op v = s.stands in
       let suits = suits_there site here call op before v s in
       let found : ℕ = words (word_of site.shape (wanted op)) in
       let n : ℕ = words (word_of op.task.site.geometry (wanted op)) in
       let same : n ≡ found = ap (λ g. words (word_of g (wanted op))) st.is_in.shape in
+      let Goal : ℕ → Type 0 = λ m. Stands site here call (taken op (answer_to (wanted op) m)) (view_after site.shape (kind_of op m) m v)
+      × EntersReply call (reply_of (outcome_in (taken op (answer_to (wanted op) m)).step)) before (view_after site.shape (kind_of op m) m v) in
+      let both : found < 2 ^ 64 → Goal found = λ small.
       let fits : n < 2 ^ 64 = subst (λ m. m < 2 ^ 64) (sym same) small in
       let well = laws.keeps site op words views j before v h at st.is_in suits asks fits in
       let next : WriteOp = taken op (answer_to (wanted op) n) in
-      let Goal : ℕ → Type 0 = λ m. Stands site here call (taken op (answer_to (wanted op) m)) (view_after site.shape (kind_of op m) m v)
-      × EntersReply call (reply_of (outcome_in (taken op (answer_to (wanted op) m)).step)) before (view_after site.shape (kind_of op m) m v) in
       let one : Goal n = (
         record { same = st.same; at = st.at; is_in = well.is_in; has = laws.has op (answer_to (wanted op) n) (is_word (wanted op) n fits) st.has; view = well.suits.view },
         subst (λ c. EntersReply c (reply_of (outcome_in next.step)) before (view_after site.shape (kind_of op n) n v)) st.same (here_is op.task.call before _ next.step well.suits.enters),
       ) in
-      let two = subst Goal same one in
+      subst Goal same one in
       record {
-        wants = subst (λ m. wanted op ≡ wanted_by site.shape (kind_of op m)) same well.wants;
+        wants = subst (λ g. wanted op ≡ wanted_by g (kind_of op found)) st.is_in.shape (laws.kinds op found st.is_in.inside.numbers asks);
         may = laws.may site op before v found h.site_is st.is_in st.has suits;
-        stands = two.0;
-        enters = two.1;
+        stands = λ small. (both small).0;
+        enters = λ small. (both small).1;
         makes = λ change.
             let p : IsPublish op.step = makes_by op.step (kind_of op found) (step_kind op.task op.kept found op.step) change in
             (publish_unmade op.step p, laws.makes op (answer_to (wanted op) found) (is_answer (wanted op) found asks) p);
@@ -145,5 +148,8 @@ module _ (laws : ChangeLaws) where
     };
     flushes = record { most = laws.few; flushes = laws.flushes; keeps = laws.waits; ends = laws.none_waits };
     made = record { stays = laws.stays; done = λ op made done. let d = laws.done op made done in (d.0, ap (λ (s : Step). outcome_in s) d.1) };
+    plans = λ site here call op before v planned s has.
+        let r = in_step op.task op.kept before v op.step planned (suits_there site here call op before v s).enters s.stands.view has in
+        (r.0 ∙ s.stands.same, r.1);
     power = λ op n cut. subst (λ k. IsOf op.step k) cut (step_kind op.task op.kept n op.step);
   }

@@ -23,12 +23,12 @@ use Rattle.bucket_words.specs.Tables.{home_at}
 use Rattle.way.specs.Ways.{entry_word, head_word, bucket_word}
 use Rattle.world.specs.declared.site.Site.{Site as Here}
 use Rattle.world.specs.Site.{Site}
-use Rattle.world.specs.Views.{View, Has, At}
+use Rattle.world.specs.Views.{View, Has, At, HasLock}
 use Rattle.world.specs.Wants.{answer_to, word_of}
 use Rattle.world.specs.Invariant.{Holds}
 use Rattle.world.proofs.stepping.Answers.{is_honest, finds_newest}
 use Rattle.part.specs.Doings.{Doings, with_event_of}
-use Rattle.part.specs.Outcomes.{Outcome, replied, again, stale, off}
+use Rattle.part.specs.Outcomes.{Outcome, replied, again, stale, off, finished}
 use Rattle.part.specs.Part.{Suits as SuitsPart}
 use Rattle.part.specs.Causes.{IsNamed, IsWatched, IsOwnLock, FindsNoRoom, HasReplyCause, Looked, HasAgainCause, IsStale, IsOff, HasCause, EndsByCause}
 use Rattle.write_op.specs.declared.control.Side.{Side}
@@ -48,7 +48,7 @@ use Rattle.write_op.specs.Taken.{wanted, taken, seen_at, step_after, kept_after,
 use Rattle.write_op.specs.Left.{EndsAsSaid}
 use Rattle.write_op.specs.Suits.{GivesBack, SuitsStep}
 use Rattle.write_op.specs.Causes.{AreAmong, kept_in, IsDecided, Caused, Answers, FindsStale, FindsOff, IsRunning, IsSoundEnd, told_word, FindsNoRoom as ChangeFindsNoRoom, IsOwnLock as IsOwnLockOf}
-use Rattle.write_op.specs.ChangePart.{outcome_of, outcome_in, is_without_slot, Stands, HasDepthOrTold, Remembers, change_part}
+use Rattle.write_op.specs.ChangePart.{outcome_of, outcome_in, is_without_slot, Stands, HasDepthOrTold, Remembers, NeverFinished, change_part}
 use Rattle.write_op.proofs.causing.Recalling.{recalls, step_recalls}
 use Rattle.write_op.proofs.causing.Caused.{ends_by_cause, stays_in}
 use Rattle.write_op.proofs.causing.Others.{step_owns, others_in, told_new}
@@ -132,6 +132,13 @@ decided_so : (s : Step) (outcome : Outcome) → outcome_in s ≡ Some outcome �
 decided_so (GiveBack held end) outcome some = (end, refl, some)
 decided_so (Ended end) outcome some = (end, refl, some)
 decided_so s outcome some = absurd (none-some outcome some)
+
+again_end : (end : WriteEnd) (why : Why) → outcome_of end ≡ Some (again why) → end ≡ Again why
+again_end (Again other) why is = let same = same_Some (again other) (again why) is in cc
+again_end (Replied r place) why is = absurd (let same = same_Some (replied r place) (again why) is in cc)
+again_end NoSlot why is = absurd (none-some (again why) is)
+again_end (Stale segment byte) why is = absurd (let same = same_Some (stale segment byte) (again why) is in cc)
+again_end Off why is = absurd (let same = same_Some off (again why) is in cc)
 
 none_ends : (end : WriteEnd) → outcome_of end ≡ None → end ≡ NoSlot
 none_ends NoSlot none = refl
@@ -303,6 +310,12 @@ module _ (site : Site) (here : Here) (call : Call) (words : Words) (views : List
       let d = decided_so next.step outcome (subst (λ g. outcome_in (taken op (answer_to (wanted op) (words (word_of g (wanted op))))).step ≡ Some outcome) (sym stands.is_in.shape) some) in
       by_end d.0 outcome d.2 d.1
 
+  -- who is told that a lock is taken does not hold it
+  not_own : (word value : ℕ) → outcome_in (taken op (answer_to (wanted op) (words (word_of site.shape (wanted op))))).step ≡ Some (again (Busy word value)) → HasLock v.held word → ⊥
+  not_own word value some =
+      let d = decided_so next.step (again (Busy word value)) (subst (λ g. outcome_in (taken op (answer_to (wanted op) (words (word_of g (wanted op))))).step ≡ Some (again (Busy word value))) (sym stands.is_in.shape) some) in
+      (sound.busy word value (subst (IsDecided next.step) (again_end d.0 (Busy word value) d.2) d.1)).4
+
 -- ---- what is decided stays so
 gave_outcome : (held : Held) (end : WriteEnd) → outcome_in (gave_back held end) ≡ outcome_of end
 gave_outcome OnlyHome end = refl
@@ -327,10 +340,22 @@ change_ends_by_cause said = record {
   steps = λ site here call words views j op before v did h at s asks small r. record {
     remembers = remembers_after site op (answer_to (wanted op) (words (word_of site.shape (wanted op)))) did r;
     caused = λ outcome none some. caused site here call words views j op before v h at s did r (open_in op.task op.kept v op.step s.stands.view asks none) outcome some;
+    not_own = λ word value none some. not_own site here call words views j op before v h at s did r (open_in op.task op.kept v op.step s.stands.view asks none) word value some;
   };
-  stays = λ op a outcome i some. outcome_stays op.task op.kept op.step a outcome some;
+  stays = λ op a outcome some. outcome_stays op.task op.kept op.step a outcome some;
   decided = λ site here call op v s done closed.
       let is = said op done in
       let e = ended_outcome (end_of op) (subst (λ s. is_without_slot s ≡ false) is closed) in
       (e.0, ap outcome_in is ∙ e.1);
 }
+
+-- no end of it is that it has finished
+finishes : (end : WriteEnd) → outcome_of end ≡ Some finished → ⊥
+finishes (Replied r place) is = absurd (let same = same_Some (replied r place) finished is in cc)
+finishes NoSlot is = none-some finished is
+finishes (Again why) is = absurd (let same = same_Some (again why) finished is in cc)
+finishes (Stale segment byte) is = absurd (let same = same_Some (stale segment byte) finished is in cc)
+finishes Off is = absurd (let same = same_Some off finished is in cc)
+
+pub never_finished : NeverFinished
+never_finished op some = let d = decided_so op.step finished some in finishes d.0 d.2

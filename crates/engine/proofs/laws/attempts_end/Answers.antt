@@ -1,21 +1,8 @@
--- An engine ends since its machines do.
-use Rattle.engine.proofs.machines.Falling.{falls, most}
+-- By the law of a part.
 use Rattle.engine.proofs.laws.attempts_end.Goals as goal
 
 pub returns-clause-falls : goal.returns-clause-falls
-returns-clause-falls c = falls (record {
-  get_falls = c.ends_in_time.ensures.falls;
-  get_most = c.ends_in_time.ensures.most;
-  change_falls = c.attempt_ends.ensures.falls;
-  change_most = c.attempt_ends.ensures.most;
-  change_refuses = c.attempt_ends.ensures.refuses;
-})
+returns-clause-falls c = λ e ans i. c.calls_are_parts.ensures.part.time.falls e.op ans i
 
 pub returns-clause-most : goal.returns-clause-most
-returns-clause-most c = most (record {
-  get_falls = c.ends_in_time.ensures.falls;
-  get_most = c.ends_in_time.ensures.most;
-  change_falls = c.attempt_ends.ensures.falls;
-  change_most = c.attempt_ends.ensures.most;
-  change_refuses = c.attempt_ends.ensures.refuses;
-})
+returns-clause-most c = λ e. c.calls_are_parts.ensures.part.time.most e.op

@@ -1,19 +1,20 @@
--- For a get and for a change.
-use Rattle.engine.proofs.machines.Pairs.{leaves_or_makes, begins_unmade, stays_made, ends_as_done, turn_leaves_or_makes}
+-- By the laws of a part.
+use Rattle.engine.proofs.machines.Begins.{begins_unmade}
+use Rattle.engine.proofs.machines.Engines.{ends_as_done}
+use Rattle.engine.proofs.machines.Pairs.{leaves_or_makes, turn_leaves_or_makes}
 use Rattle.engine.proofs.laws.refusals_leave_pairs.Goals as goal
 
 pub returns-clause-leaves : goal.returns-clause-leaves
-returns-clause-leaves c = leaves_or_makes c.other_steps_keep_pairs.ensures c.refusals_leave_pairs.ensures.leaves c.refusals_leave_pairs.ensures.makes
+returns-clause-leaves c = leaves_or_makes c.calls_are_parts.ensures.part c.other_steps_keep_pairs.ensures
 
 pub returns-clause-begins : goal.returns-clause-begins
 returns-clause-begins c = begins_unmade
 
 pub returns-clause-stays : goal.returns-clause-stays
-returns-clause-stays c = stays_made c.refusals_leave_pairs.ensures.stays
+returns-clause-stays c = λ e ans i made. c.calls_are_parts.ensures.part.made.stays e.op ans i made
 
 pub returns-clause-done : goal.returns-clause-done
-returns-clause-done c = ends_as_done c.refusals_leave_pairs.ensures.ends
+returns-clause-done c = ends_as_done c.calls_are_parts.ensures.part c.calls_are_parts.ensures.ends
 
 pub returns-clause-turns : goal.returns-clause-turns
-returns-clause-turns c = turn_leaves_or_makes
-    (leaves_or_makes c.other_steps_keep_pairs.ensures c.refusals_leave_pairs.ensures.leaves c.refusals_leave_pairs.ensures.makes)
+returns-clause-turns c = turn_leaves_or_makes (leaves_or_makes c.calls_are_parts.ensures.part c.other_steps_keep_pairs.ensures)

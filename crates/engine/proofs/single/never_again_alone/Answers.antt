@@ -1,5 +1,5 @@
 -- By the causes of ends.
-use Rattle.engine.proofs.lonely.Lonely.{all_rest_at_start, alone_at_start, resting_is_alone, own_turns_stay_alone, alone_never_again, ends_are_told, ended_rests, others_stay_resting}
+use Rattle.engine.proofs.lonely.Lonely.{all_rest_at_start, alone_at_start, resting_is_alone, own_turns_stay_alone, alone_never_again, ends_are_told, ends_tell, ended_rests, others_stay_resting}
 use Rattle.engine.proofs.single.never_again_alone.Goals as goal
 
 pub returns-clause-start : goal.returns-clause-start
@@ -27,3 +27,6 @@ returns-clause-ended c = ended_rests
 
 pub returns-clause-others : goal.returns-clause-others
 returns-clause-others c = others_stay_resting
+
+pub returns-clause-tell : goal.returns-clause-tell
+returns-clause-tell c = ends_tell c.calls_are_parts.ensures.part c.calls_are_parts.ensures.causes c.opened_holds.ensures c.turn_keeps.ensures.one c.ends_have_causes.ensures.ends

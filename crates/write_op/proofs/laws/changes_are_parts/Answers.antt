@@ -5,6 +5,7 @@ use Rattle.write_op.proofs.laws.changes_are_parts.Goals as goal
 
 pub returns-clause-part : goal.returns-clause-part
 returns-clause-part c = change_is_part (record {
+  kinds = c.events_have_kinds.ensures;
   may = c.fits_the_world.ensures.may;
   keeps = c.fits_the_world.ensures.keeps;
   has = c.stores_are_words.ensures.keeps;
