@@ -1,5 +1,5 @@
 -- The engine of one caller: the machine of its call, one event after another.
-use Rattle.std.specs.Prelude.{ℕ, Bool, true, false, Option, None, Some}
+use Rattle.std.specs.Prelude.{ℕ, Bool, true, false, Option, Some}
 use Rattle.op_core.specs.declared.want.Want.{Want}
 use Rattle.op_core.specs.declared.want.Ans.{Ans}
 use Rattle.map_model.specs.declared.call.Call.{Call}
@@ -15,7 +15,6 @@ use Rattle.read_op.specs.declared.step.ReadStep.TheVariants as read_step
 use Rattle.read_op.specs.Steps.{begun as read_begun, wanted as read_wanted, taken as read_taken}
 use Rattle.read_op.specs.Fits.{kind_of as read_kind}
 use Rattle.read_op.specs.GetPart.{outcome_of as get_outcome}
-use Rattle.write_op.specs.declared.machine.WriteOp.{WriteOp}
 use Rattle.write_op.specs.Taken.{begun as write_begun, wanted as write_wanted, end_of as write_end_of}
 use Rattle.write_op.specs.Fits.{kind_of as write_kind}
 use Rattle.write_op.specs.ChangePart.{whole_change, outcome_of as change_outcome}

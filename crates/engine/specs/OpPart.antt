@@ -1,5 +1,5 @@
 -- THE MACHINES OF A CALL, AS ONE PART: a line for each machine and field.
-use Rattle.std.specs.Prelude.{ℕ, Bool, false, Option}
+use Rattle.std.specs.Prelude.{ℕ, false, Option}
 use Rattle.map_model.specs.declared.call.Call.{Call}
 use Rattle.world.specs.declared.site.Site.{Site as Here}
 use Rattle.world.specs.Site.{Site}

@@ -14,8 +14,8 @@ mod turns;
 pub use causes::ends_have_causes;
 pub use engine::{End, Engine, Op};
 pub use laws::{
-    asks_within, attempts_end, calls_are_parts, fits_the_world, flushes_are_few, refusals_leave_pairs,
-    stores_are_words, stores_keep_notes,
+    asks_within, attempts_end, calls_are_parts, fits_the_world, flushes_are_few,
+    refusals_leave_pairs, stores_are_words, stores_keep_notes,
 };
 pub use single::never_again_alone;
 pub use turns::{

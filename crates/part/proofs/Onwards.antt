@@ -1,8 +1,7 @@
 -- A part that goes on by itself is a part, whatever it is, and each of its outcomes has its cause.
-use Rattle.std.proofs.Common.{◌≡◌, ◌≢◌, ℕ, ◌+◌, ◌^◌, ◌<◌, ◌≤◌, Bool, true, false, List, Some, refl, sym, ◌∙◌, subst, arith}
-use Rattle.op_core.specs.declared.want.Want.TheVariants.{Flush, Fence, Done}
+use Rattle.std.proofs.Common.{◌≡◌, ◌≢◌, ℕ, ◌+◌, ◌^◌, ◌<◌, ◌≤◌, Bool, true, false, List, refl, sym, ◌∙◌, subst, arith}
+use Rattle.op_core.specs.declared.want.Want.TheVariants.{Done}
 use Rattle.op_core.specs.declared.want.Ans.{Ans}
-use Rattle.op_core.specs.Answers.{IsAnswer}
 use Rattle.trace.specs.Events.{Words}
 use Rattle.map_model.specs.declared.call.Call.{Call}
 use Rattle.world.specs.declared.site.Site.{Site as Here}
@@ -14,10 +13,10 @@ use Rattle.world.specs.Invariant.{Holds}
 use Rattle.world.specs.Attempts.{EntersReply}
 use Rattle.world.specs.Laws.{CallersStay}
 use Rattle.part.specs.Doings.{Doings, with_event_of}
-use Rattle.part.specs.Outcomes.{Outcome, reply_of}
+use Rattle.part.specs.Outcomes.{reply_of}
 use Rattle.part.specs.Part.{Part, Suits, KeepsSuits, IsPart}
 use Rattle.part.specs.Causes.{StepsByCause, EndsByCause}
-use Rattle.part.specs.Onward.{passed, gone_on, taken, Stands, onward_part, GoesOn}
+use Rattle.part.specs.Onward.{passed, Stands, onward_part, GoesOn}
 
 module _ {M : Type 0} (p : Part M) (next : M → M) (site : Site) (here : Here) (call : Call) where
   pub suits_one : (op : M) (before v : View) → Suits (onward_part p next) site here call op before v → Suits p site here call op before v

@@ -16,7 +16,6 @@ use Rattle.image_layout.proofs.Areas.{entry_before}
 use Rattle.way.proofs.Indexes.{index_below}
 use Rattle.sound_image.specs.Records.{key_hash}
 use Rattle.sound_image.proofs.Hashes.{key_hash-fits}
-use Rattle.map_model.specs.declared.call.Call.{Call}
 use Rattle.map_model.specs.Map.{key_of}
 use Rattle.world.specs.Views.{Has}
 use Rattle.world.specs.Wants.{answer_to, word_of, words_after}

@@ -1,5 +1,5 @@
 -- How a caller's view stands at each control point of a change: what it holds, knows and owes, and what it has replied.
-use Rattle.std.specs.Prelude.{◌≡◌, ◌≢◌, ℕ, ◌+◌, ◌*◌, ◌^◌, ◌<◌, ◌≤◌, ⊤, None, List, [], ◌∷◌, ◌++◌, ◌⊎◌, length, slice_index, slice_set}
+use Rattle.std.specs.Prelude.{◌≡◌, ◌≢◌, ℕ, ◌+◌, ◌*◌, ◌^◌, ◌<◌, ◌≤◌, ⊤, None, List, [], ◌∷◌, ◌⊎◌, length, slice_index, slice_set}
 use Rattle.op_core.specs.declared.want.Want.TheVariants as want
 use Rattle.segment_head.specs.HeadWord.{state_in, depth_in, normal}
 use Rattle.bucket_meta.specs.Bucket.{allocated, record_slots}
@@ -8,9 +8,8 @@ use Rattle.hash_word.specs.Hash.{finger_of}
 use Rattle.sound_image.specs.Records.{key_hash}
 use Rattle.map_model.specs.declared.call.Call.{Call}
 use Rattle.map_model.specs.declared.call.Call.TheVariants.{Get, Insert, Update, Remove}
-use Rattle.map_model.specs.declared.entry.Reply.{Reply}
-use Rattle.map_model.specs.Map.{is_change, key_of, value_of}
-use Rattle.map_model.specs.Legal.{IsInsert, IsChange, seen_after}
+use Rattle.map_model.specs.Map.{key_of, value_of}
+use Rattle.map_model.specs.Legal.{IsInsert, IsChange}
 use Rattle.world.specs.declared.site.Site.{Site as Here}
 use Rattle.world.specs.Site.{Site, IsSite, IsUnder}
 use Rattle.world.specs.Views.{View, Has, At}

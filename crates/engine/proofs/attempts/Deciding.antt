@@ -1,5 +1,5 @@
 -- Where the next event of a caller decides the outcome of its attempt, the cause is there.
-use Rattle.std.proofs.Common.{◌≡◌, ◌≢◌, ℕ, suc, ◌+◌, ◌%◌, ◌^◌, ◌<◌, inl, inr, true, false, cond, None, Some, List, [], ◌∷◌, length, slice_get, slice_index, refl, sym, ◌∙◌, ap, subst, arith}
+use Rattle.std.proofs.Common.{◌≡◌, ℕ, suc, ◌+◌, ◌%◌, ◌^◌, ◌<◌, inl, inr, true, false, cond, Some, List, ◌∷◌, length, slice_get, slice_index, refl, sym, ◌∙◌, ap, subst, arith}
 use Rattle.std.specs.Prelude.{nat_lt}
 use Rattle.std.proofs.lemmas.Bool.{cases_lt, lt-ltb, le-ltb, false≢true}
 use Rattle.std.proofs.lemmas.Option.{same_Some}
@@ -24,7 +24,7 @@ use Rattle.world.proofs.stepping.Answers.{finds_newest}
 use Rattle.part.specs.Doings.{Doings}
 use Rattle.part.specs.Outcomes.{Outcome, replied, again, stale, off, finished}
 use Rattle.part.specs.Part.{IsPart}
-use Rattle.part.specs.Causes.{IsStale, IsOff, HasCause as HasPartCause, StepsByCause, EndsByCause}
+use Rattle.part.specs.Causes.{IsStale, HasCause as HasPartCause, StepsByCause, EndsByCause}
 use Rattle.restart_op.specs.Restarted.{IsPlayableImage, words_at_end, site_of, EndsStarted}
 use Rattle.engine.specs.declared.engine.Engine.{Engine}
 use Rattle.engine.specs.Engine.{wanted}

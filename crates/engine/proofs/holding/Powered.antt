@@ -1,5 +1,5 @@
 -- The power word stays 0 from the end of a restart on: no event of a caller changes it.
-use Rattle.std.proofs.Common.{◌≡◌, ℕ, zero, suc, ◌%◌, ◌^◌, Option, None, Some, List, [], ◌∷◌, slice_get, slice_index, refl, sym, ◌∙◌, ap, subst, arith}
+use Rattle.std.proofs.Common.{◌≡◌, ℕ, zero, suc, ◌%◌, ◌^◌, Option, None, Some, List, [], ◌∷◌, slice_get, slice_index, refl, sym, ◌∙◌, subst, arith}
 use Rattle.std.proofs.lemmas.List.{get_or_past}
 use Rattle.trace.specs.Events.{Words}
 use Rattle.trace.proofs.Replaced.{replaced_other}

@@ -1,5 +1,5 @@
 -- Where an engine begins, a line for each call; and what it tells at its end, a line for each machine.
-use Rattle.std.proofs.Common.{◌≡◌, ◌<◌, ◌^◌, None, Some, [], refl, sym, ap, ◌∙◌, subst}
+use Rattle.std.proofs.Common.{◌≡◌, Some, [], refl, sym, subst}
 use Rattle.map_model.specs.declared.call.Call.{Call}
 use Rattle.map_model.specs.declared.call.Call.TheVariants.{Get, Insert, Update, Remove}
 use Rattle.op_core.specs.declared.want.Want.TheVariants as want
@@ -9,7 +9,6 @@ use Rattle.world.specs.Views.{View}
 use Rattle.part.specs.Doings.{nothing_done}
 use Rattle.part.specs.Outcomes.{finished}
 use Rattle.read_op.specs.GetPart.{outcome_in as get_outcome_in, BeginsAsPart as GetBegins, BeginsRemembering as GetRemembers, EndsAsSaid as GetSays, NeverFinished as GetFinished}
-use Rattle.read_op.specs.Steps.{begun as read_begun}
 use Rattle.write_op.specs.Left.{EndsAsSaid as ChangeSays}
 use Rattle.write_op.specs.Taken.{end_at}
 use Rattle.write_op.specs.ChangePart.{outcome_of as change_outcome, outcome_in as change_outcome_in, BeginsAsPart as ChangeBegins, BeginsRemembering as ChangeRemembers, BeginsBare, NeverFinished as ChangeFinished}

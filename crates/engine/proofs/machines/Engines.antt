@@ -1,5 +1,5 @@
 -- The laws of an engine, by those of the one part that its machines are.
-use Rattle.std.proofs.Common.{◌≡◌, ℕ, ◌<◌, refl, sym, ap, subst, ◌∙◌}
+use Rattle.std.proofs.Common.{◌<◌, refl, sym, ap, subst, ◌∙◌}
 use Rattle.world.specs.Views.{View}
 use Rattle.world.specs.Kinds.{view_after}
 use Rattle.world.specs.Laws.{CallersStay}

@@ -1,5 +1,5 @@
 -- The machines of a call are one part: each law by a line for each machine.
-use Rattle.std.proofs.Common.{◌≡◌, ◌≢◌, ℕ, ◌+◌, ◌^◌, ◌<◌, ◌≤◌, List, Some, None, false, refl, sym, ap, subst, arith}
+use Rattle.std.proofs.Common.{◌≡◌, ◌≢◌, ℕ, ◌+◌, ◌^◌, ◌<◌, ◌≤◌, List, Some, refl, arith}
 use Rattle.op_core.specs.declared.want.Want.TheVariants.{Flush, Fence, Done}
 use Rattle.op_core.specs.declared.want.Ans.{Ans}
 use Rattle.op_core.specs.Answers.{IsAnswer}

@@ -5,13 +5,13 @@ use Rattle.trace.specs.Events.{Words}
 use Rattle.bucket_words.specs.Tables.{find}
 use Rattle.world.specs.Site.{Site}
 use Rattle.world.specs.Views.{View, At}
-use Rattle.world.specs.Wants.{word_of, words_after}
+use Rattle.world.specs.Wants.{words_after}
 use Rattle.world.specs.Kinds.{Kind, publishes}
 use Rattle.world.specs.World.{fresh_view}
 use Rattle.world.specs.Pairs.{IsPublishingKind, OtherStepsKeepPairs}
 use Rattle.part.specs.Part.{IsPart}
 use Rattle.engine.specs.declared.engine.Engine.{Engine}
-use Rattle.engine.specs.Engine.{wanted, kind_of}
+use Rattle.engine.specs.Engine.{kind_of}
 use Rattle.engine.specs.OpPart.{op_part}
 use Rattle.engine.specs.Fits.{finds}
 use Rattle.engine.specs.Core.{Caller, Core, current, turn_of_call, turn_of_caller, turn}

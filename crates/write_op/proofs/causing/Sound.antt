@@ -1,18 +1,15 @@
 -- By what a change ends in a world whose invariant holds.
 use Rattle.std.proofs.Common.{◌≡◌, ◌≢◌, ℕ, ◌+◌, ◌%◌, ◌<◌, inl, inr, ◌⊎◌, Bool, true, false, cond, List, refl, sym, ◌∙◌, ap, subst, arith}
 use Rattle.std.specs.Prelude.{◌==◌, ◌&&◌, ◌||◌, not, nat_lt, nat_le}
-use Rattle.std.proofs.lemmas.Bool.{cases_lt, eq-eqb, eqb-false, lt-ltb, le-ltb, le-leb, false≢true}
+use Rattle.std.proofs.lemmas.Bool.{cases_lt, eq-eqb, lt-ltb, le-ltb, le-leb, false≢true}
 use Rattle.hash_word.specs.Hash.{home_of, index_of, top}
 use Rattle.segment_head.specs.HeadWord.{version_in, state_in, pattern_in, normal, splitting, free}
-use Rattle.op_core.specs.declared.want.Want.{Want}
-use Rattle.op_core.specs.declared.want.Want.TheVariants as want
 use Rattle.op_core.specs.declared.want.Ans.{Ans}
-use Rattle.op_core.specs.declared.want.Ans.TheVariants.{Won, Lost}
 use Rattle.op_core.specs.declared.why.Why.TheVariants.{Busy, Moved}
-use Rattle.op_core.specs.Answers.{Finds, IsHonest}
+use Rattle.op_core.specs.Answers.{Finds}
 use Rattle.map_model.specs.declared.entry.Reply.TheVariants as reply
 use Rattle.trace.specs.Events.{Words}
-use Rattle.image_layout.specs.Places.{Shape, root_word, entry_at, head_at, bucket_at, buckets}
+use Rattle.image_layout.specs.Places.{root_word, entry_at, head_at, bucket_at, buckets}
 use Rattle.sound_image.specs.Records.{key_hash}
 use Rattle.bucket_words.specs.Tables.{IsHomeTable}
 use Rattle.world.specs.Site.{Site, IsLockWord}

@@ -283,11 +283,14 @@ module _ (site : Site) (here : Here) (call : Call) (words : Words) (views : List
       }
 
   off_by : FindsOff op.task op.kept op.step answer did.loads → IsOff site.shape words did call (wanted op)
-  off_by c = (c.1, λ zero.
-      let told : answer ≡ Value (words (power_word op.task.site.geometry)) = ap (λ w. answer_to w (words (word_of op.task.site.geometry w))) c.1 in
-      let both : Value c.0 ≡ Value (words (power_word op.task.site.geometry)) = sym c.2 ∙ told in
-      let value : c.0 ≡ words (power_word op.task.site.geometry) = cc in
-      c.3 (value ∙ (ap (λ g. words (power_word g)) stands.is_in.shape ∙ zero)))
+  off_by c = (
+    c.1,
+    λ zero.
+        let told : answer ≡ Value (words (power_word op.task.site.geometry)) = ap (λ w. answer_to w (words (word_of op.task.site.geometry w))) c.1 in
+        let both : Value c.0 ≡ Value (words (power_word op.task.site.geometry)) = sym c.2 ∙ told in
+        let value : c.0 ≡ words (power_word op.task.site.geometry) = cc in
+        c.3 (value ∙ (ap (λ g. words (power_word g)) stands.is_in.shape ∙ zero)),
+  )
 
   by_end : (end : WriteEnd) (outcome : Outcome) → outcome_of end ≡ Some outcome → IsDecided next.step end → HasCause site.shape words did call (wanted op) here outcome
   by_end (Replied r place) outcome is so = subst (HasCause site.shape words did call (wanted op) here) (same_Some (replied r place) outcome is)

@@ -1,5 +1,5 @@
 -- What a caller in the midst of a change has planned is its call's change, and then it has no new entry.
-use Rattle.std.proofs.Common.{◌≡◌, List, [], ◌∷◌, inl, inr, subst}
+use Rattle.std.proofs.Common.{◌≡◌, List, [], inl, inr, subst}
 use Rattle.map_model.specs.declared.call.Call.{Call}
 use Rattle.world.specs.Views.{View, Has}
 use Rattle.write_op.specs.declared.control.Side.TheVariants.{Home, Probing}

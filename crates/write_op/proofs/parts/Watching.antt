@@ -168,4 +168,3 @@ module _ (t : Task) (k : Kept) (loads : List (ℕ × ℕ)) (low : k.root ≤ t.s
     change_watched (TryLock Home) a way fits still looks told = absurd told
     change_watched (TryLock Probing) a way fits still looks told = absurd told
     change_watched s a way fits still looks told = absurd told
-

@@ -1,5 +1,5 @@
 -- A change of a key that is a word begins with its numbers in range.
-use Rattle.std.proofs.Common.{ℕ, ◌^◌, ◌<◌, arith}
+use Rattle.std.proofs.Common.{◌^◌, ◌<◌, arith}
 use Rattle.image_layout.specs.Places.{IsShape}
 use Rattle.map_model.specs.declared.call.Call.{Call}
 use Rattle.map_model.specs.Map.{key_of}

@@ -3,8 +3,6 @@ use Rattle.std.proofs.Common.{ℕ, ◌+◌, ◌*◌, ◌/◌, ◌^◌, ◌<◌, 
 use Rattle.std.specs.Prelude.{nat_le, nat_lt}
 use Rattle.std.proofs.lemmas.Bool.{cases_Bool}
 use Rattle.bucket_meta.specs.Bucket.{record_slots}
-use Rattle.map_model.specs.declared.call.Call.{Call}
-use Rattle.map_model.specs.declared.call.Call.TheVariants.{Get, Insert, Update, Remove}
 use Rattle.image_layout.specs.Places.{Shape, IsShape, root_word, entry_at, head_at, bucket_at, words_of, homes}
 use Rattle.image_layout.specs.Volatile.{all_words_of}
 use Rattle.image_layout.proofs.Areas.{entry_before}

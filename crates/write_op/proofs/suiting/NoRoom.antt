@@ -1,13 +1,12 @@
 -- An insert that found its home bucket full, without its key, knows the cause of its refusal: whatever map has what the bucket
 -- has for the keys of this home, it has something for as many keys as the bucket has slots.
-use Rattle.std.proofs.Common.{◌≡◌, ◌==◌, ℕ, zero, suc, ◌+◌, ◌*◌, ◌/◌, ◌^◌, ◌<◌, ◌≤◌, inl, inr, Bool, true, false, cond, Option, Some, None, is_some, List, refl, sym, ap, ◌∙◌, subst, arith, slice_index, mod-lt}
-use Rattle.std.proofs.lemmas.Bool.{cases_eq, eqb-true}
+use Rattle.std.proofs.Common.{◌≡◌, ◌==◌, ℕ, ◌+◌, ◌*◌, ◌^◌, ◌<◌, ◌≤◌, inl, inr, Bool, true, false, cond, Option, Some, None, is_some, refl, sym, ap, ◌∙◌, subst, arith, slice_index}
+use Rattle.std.proofs.lemmas.Bool.{eqb-true}
 use Rattle.bucket_meta.specs.Bucket.{allocated, record_slots}
 use Rattle.hash_word.specs.Hash.{home_of, top}
 use Rattle.trace.specs.Events.{Words}
 use Rattle.image_layout.specs.Places.{bucket_at, buckets}
 use Rattle.map_model.specs.declared.call.Call.{Call}
-use Rattle.map_model.specs.declared.entry.Reply.{Reply}
 use Rattle.map_model.specs.declared.entry.Reply.TheVariants.{Full, Deep}
 use Rattle.map_model.specs.Map.{key_of}
 use Rattle.sound_image.specs.Records.{key_hash}
