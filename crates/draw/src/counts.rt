@@ -1,0 +1,83 @@
+//! How many records buckets have, and how many the stash has for them.
+
+ghost use Rattle.std.specs.Prelude.{◌≡◌, ℕ, ◌+◌, ◌<◌, ◌≤◌, length, slice_index};
+ghost use Rattle.bucket_meta.specs.Bucket.{record_slots, overflow_places};
+ghost use Rattle.image_layout.specs.Places.{bucket_at, buckets, words_of};
+ghost use Rattle.draw.specs.Counts.{taken_below, notes_below, filled, stashed, sign};
+
+use bucket_meta::words::{PLACES, SLOTS, has_note, is_taken, overflow_count_of};
+use image_layout::Geometry;
+
+/// The metadata word of a bucket.
+fn metadata_of(geometry: &Geometry, words: &[u64], s: u64, b: u8) -> u64
+    requires whole { length words.now ≡ words_of geometry.now }
+    requires slot { s < geometry.now.segments }
+    requires bucket { b < buckets }
+    ensures { result ≡ slice_index words.now (bucket_at geometry.now s b + 1) }
+{
+    words[geometry.bucket_at(s, b) as usize + 1]
+}
+
+/// How many record slots are taken, by the metadata word.
+fn taken_in(w1: u64) -> u8
+    ensures is { result ≡ taken_below record_slots w1 }
+    ensures most { result ≤ record_slots }
+{
+    let mut count = 0;
+    for slot in 0..SLOTS {
+        if is_taken(w1, slot) {
+            count += 1;
+        }
+    }
+    count
+}
+
+/// How many overflow places hold a note, by the metadata word.
+fn notes_in(w1: u64) -> u8
+    ensures is { result ≡ notes_below overflow_places w1 }
+    ensures most { result ≤ overflow_places }
+{
+    let mut count = 0;
+    for place in 0..PLACES {
+        if has_note(w1, place) {
+            count += 1;
+        }
+    }
+    count
+}
+
+/// How many records bucket `b` of the segment in slot `s` has, 0 to 14.
+pub fn filled(geometry: &Geometry, words: &[u64], s: u64, b: u8) -> u8
+    requires whole { length words.now ≡ words_of geometry.now }
+    requires slot { s < geometry.now.segments }
+    requires bucket { b < buckets }
+    ensures is { result ≡ filled geometry.now (slice_index words.now) s b }
+    ensures most { result ≤ record_slots }
+{
+    taken_in(metadata_of(geometry, words, s, b))
+}
+
+/// How many records the stash has for home bucket `b` of the segment in slot `s`, as the bucket itself says: one for each of its
+/// notes, and those that it only counts.
+pub fn stashed(geometry: &Geometry, words: &[u64], s: u64, b: u8) -> u8
+    requires whole { length words.now ≡ words_of geometry.now }
+    requires slot { s < geometry.now.segments }
+    requires bucket { b < buckets }
+    ensures is { result ≡ stashed geometry.now (slice_index words.now) s b }
+    ensures most { result < 36 }
+{
+    let w1 = metadata_of(geometry, words, s, b);
+    notes_in(w1) + overflow_count_of(w1)
+}
+
+/// The sign of a bucket with so many records: a dot for none, then `1` to `9` and `a` to `e`.
+pub fn sign(count: u8) -> char
+    requires { count ≤ record_slots }
+    ensures { result ≡ sign count }
+{
+    match count {
+        0 => '.',
+        1..=9 => (b'0' + count) as char,
+        _ => (b'a' - 10 + count) as char,
+    }
+}

@@ -1,0 +1,84 @@
+//! The picture as text: a line for the image, and for each segment a line that says what it is and one with a sign for
+//! each bucket.
+
+ghost use Rattle.std.specs.Prelude.{◌≡◌, ◌<◌, length};
+ghost use Rattle.image_layout.specs.Places.{words_of};
+ghost use Rattle.sound_image.specs.Image.{IsSoundImage};
+
+use crate::counts::{filled, sign, stashed};
+use crate::header::header_of;
+use anyhow::Result;
+use image_file::{Medium, check};
+use image_layout::{BUCKETS, Geometry, HOMES};
+use std::io::Print;
+
+/// The line of an image: what `check` counts.
+fn print_image<R: Print>(rt: &R, medium: &Medium) -> Result<()>
+    requires { IsSoundImage medium.now.geometry medium.now.words }
+{
+    let summary = check(medium);
+    let clean = if summary.clean { "clean" } else { "unclean" };
+    println!(rt;
+        "version {}, depth {}, slots {}, live segments {}, pairs {}, {clean}",
+        summary.version,
+        summary.depth,
+        medium.geometry.segments(),
+        summary.live,
+        summary.pairs
+    )?;
+    Ok(())
+}
+
+/// The signs of a segment's buckets: the home buckets, a space, and the stash buckets.
+fn print_signs<R: Print>(rt: &R, geometry: &Geometry, words: &[u64], s: u64) -> Result<()>
+    requires whole { length words.now ≡ words_of geometry.now }
+    requires slot { s < geometry.now.segments }
+{
+    print!(rt; "  ")?;
+    for b in 0..BUCKETS {
+        if b == HOMES {
+            print!(rt; " ")?;
+        }
+        let sign = sign(filled(geometry, words, s, b));
+        print!(rt; "{sign}")?;
+    }
+    println!(rt; "")?;
+    Ok(())
+}
+
+/// How many records the stash has for the home buckets of a segment, as they say.
+fn all_stashed(geometry: &Geometry, words: &[u64], s: u64) -> u64
+    requires whole { length words.now ≡ words_of geometry.now }
+    requires slot { s < geometry.now.segments }
+{
+    let mut count = 0;
+    for b in 0..HOMES {
+        count += u64::from(stashed(geometry, words, s, b));
+    }
+    count
+}
+
+/// The lines of the segment in slot `s`.
+fn print_segment<R: Print>(rt: &R, geometry: &Geometry, words: &[u64], s: u64) -> Result<()>
+    requires whole { length words.now ≡ words_of geometry.now }
+    requires slot { s < geometry.now.segments }
+{
+    let header = header_of(geometry, words, s);
+    let stashed = all_stashed(geometry, words, s);
+    println!(rt; "segment {s}: {header}, {stashed} in the stash by its notes")?;
+    if !header.is_free() {
+        print_signs(rt, geometry, words, s)?;
+    }
+    Ok(())
+}
+
+/// Prints the picture of a sound image as text.
+pub fn print<R: Print>(rt: &R, medium: &Medium) -> Result<()>
+    requires sound { IsSoundImage medium.now.geometry medium.now.words }
+{
+    print_image(rt, medium)?;
+    for s in 0..medium.geometry.segments() {
+        print_segment(rt, &medium.geometry, medium.words.as_slice(), s)?;
+    }
+    Ok(())
+}
