@@ -7,7 +7,7 @@ use Rattle.op_core.specs.declared.why.Why.{Why}
 use Rattle.op_core.specs.declared.why.Why.TheVariants.{Busy, Moved}
 use Rattle.op_core.specs.Answers.{Finds}
 use Rattle.hash_word.specs.Hash.{home_of, probing_of}
-use Rattle.bucket_meta.specs.Bucket.{allocated}
+use Rattle.bucket_meta.specs.Bucket.{allocated, record_slots}
 use Rattle.trace.specs.Events.{Words}
 use Rattle.segment_head.specs.HeadWord.{version_in, state_in, depth_in, is_live, free}
 use Rattle.image_layout.specs.Places.{Shape, IsShape, root_word, head_at, bucket_at}
@@ -86,14 +86,14 @@ module _ (shape : Shape) (words : Words) (did : Doings) (call : Call) where
     pub by_others : Has word did.changed → ⊥
 
   -- ---- no room
-  -- the attempt loaded the metadata word of the home bucket, by which all 14 slots are taken, and the key word of each slot,
+  -- the attempt loaded the metadata word of the home bucket, by which all record slots are taken, and the key word of each slot,
   -- none of which is the key of this insert
   pub record FindsNoRoom : Type 0 where
     pub insert : IsInsert call
     pub meta : ℕ
     pub loaded : Has (home_at shape (key_of call) + 1, meta) did.loads
-    pub taken : (slot : ℕ) → slot < 14 → allocated slot meta ≡ 1
-    pub others : (slot : ℕ) → slot < 14 → (key : ℕ) × Has (home_at shape (key_of call) + (4 + 2 * slot), key) did.loads × (key ≢ key_of call)
+    pub taken : (slot : ℕ) → slot < record_slots → allocated slot meta ≡ 1
+    pub others : (slot : ℕ) → slot < record_slots → (key : ℕ) × Has (home_at shape (key_of call) + (4 + 2 * slot), key) did.loads × (key ≢ key_of call)
 
   -- the attempt loaded the header word of the segment in a slot, with this value
   abbrev pub WasHead : ℕ → ℕ → Type 0
