@@ -17,7 +17,7 @@ use Rattle.read_op.specs.Fits.{kind_of as read_kind}
 use Rattle.read_op.specs.GetPart.{outcome_of as get_outcome}
 use Rattle.write_op.specs.Taken.{begun as write_begun, wanted as write_wanted, end_of as write_end_of}
 use Rattle.write_op.specs.Fits.{kind_of as write_kind}
-use Rattle.write_op.specs.ChangePart.{whole_change, outcome_of as change_outcome}
+use Rattle.write_op.specs.ChangePart.{whole_taken, outcome_of as change_outcome}
 use Rattle.engine.specs.declared.engine.Op.{Op}
 use Rattle.engine.specs.declared.engine.Op.TheVariants.{Read, Write}
 use Rattle.engine.specs.declared.engine.End.{End}
@@ -50,7 +50,7 @@ wanted e = wanted_by_op e.op
 -- what an answer makes of it: an insert that found no slot goes on to its refusal
 abbrev pub taken_by_op : Op → Ans → Op
 taken_by_op (Read op) ans = Read (read_taken op ans)
-taken_by_op (Write op) ans = Write (whole_change.taken op ans)
+taken_by_op (Write op) ans = Write (whole_taken op ans)
 
 abbrev pub taken : Engine → Ans → Engine
 taken e ans = record { op = taken_by_op e.op ans }

@@ -38,10 +38,6 @@ abbrev pub waiting : Op → ℕ
 waiting (Read op) = get_part.waiting op
 waiting (Write op) = whole_change.waiting op
 
--- an attempt makes at most so many events: a get is no longer than a change
-abbrev pub most_events : ℕ
-most_events = most_of_change
-
 abbrev pub op_part : Part Op
 op_part = record {
   wanted = wanted_by_op;
@@ -52,7 +48,7 @@ op_part = record {
   Remembers = Remembers;
   HasMade = HasMade;
   left = left;
-  most_events = most_events;
+  most_events = most_of_change;
   waiting = waiting;
   most_waiting = 2;
   hands_on = λ op. false;

@@ -1,5 +1,6 @@
 -- A change as a part of a call: where an insert finds no slot it keeps its locks, and another part goes on.
-use Rattle.std.specs.Prelude.{◌≡◌, ℕ, ◌^◌, ◌<◌, ◌≤◌, ◌⊎◌, ⊤, Bool, true, false, Option, None, Some, List, [], ◌∷◌}
+use Rattle.std.specs.Prelude.{◌≡◌, ℕ, ◌^◌, ◌<◌, ◌≤◌, ◌⊎◌, ⊤, Bool, true, false, Option, None, Some, List, [], ◌∷◌, if◌then◌else◌}
+use Rattle.op_core.specs.declared.want.Ans.{Ans}
 use Rattle.op_core.specs.declared.why.Why.{Why}
 use Rattle.map_model.specs.declared.call.Call.{Call}
 use Rattle.world.specs.declared.site.Site.{Site as Here}
@@ -84,6 +85,10 @@ pub record Remembers (site : Site) (op : WriteOp) (did : Doings) : Type 0 where
   pub loads : RemembersLoads op did.loads
   pub owns : Owns op.task op.kept op.step did.changed
   pub depth : HasDepthOrTold op
+
+-- what an answer makes of a change with its refusal: an insert that found no slot goes on
+abbrev pub whole_taken : WriteOp → Ans → WriteOp
+whole_taken op ans = if is_without_slot (taken op ans).step then refused (taken op ans) else taken op ans
 
 abbrev pub change_part : Part WriteOp
 change_part = record {

@@ -22,7 +22,8 @@ use Rattle.write_op.specs.ChangePart.{whole_change}
 use Rattle.engine.specs.declared.engine.Op.{Op}
 use Rattle.engine.specs.declared.engine.Op.TheVariants.{Read, Write}
 use Rattle.engine.specs.Engine.{wanted_by_op, taken_by_op}
-use Rattle.engine.specs.OpPart.{Stands, outcome, Remembers, HasMade, left, waiting, most_events, op_part}
+use Rattle.engine.specs.OpPart.{Stands, outcome, Remembers, HasMade, left, waiting, op_part}
+use Rattle.write_op.specs.Left.{most_events}
 
 module _ (site : Site) (here : Here) (call : Call) (before v : View) where
   get_suits : (op : ReadOp) → Suits op_part site here call (Read op) before v → Suits get_part site here call op before v
