@@ -1,0 +1,143 @@
+-- The stores that change no pair: to the key, the value and the fingerprint of a free slot.
+use Rattle.std.proofs.Common.{◌≡◌, ◌≢◌, ◌⊎◌, ℕ, zero, suc, ◌+◌, ◌*◌, ◌-◌, ◌/◌, ◌%◌, ◌^◌, ◌<◌, ◌≤◌, List, [], ◌∷◌, ◌++◌, cond, eqb, inl, inr, refl, sym, ap, ◌∙◌, subst, arith}
+use Rattle.std.specs.Prelude.{◌==◌, ◌&&◌, if◌then◌else◌}
+use Rattle.std.proofs.lemmas.Bool.{cases_eq, ne_eqb}
+use Rattle.bucket_meta.specs.Bucket.{allocated, finger, overflow_count, note_used, note_member, note_index, note_finger}
+use Rattle.bucket_meta.specs.Notes.{Note}
+use Rattle.hash_word.specs.Hash.{probing_of}
+use Rattle.trace.specs.Events.{Words, with_word}
+use Rattle.trace.proofs.Replaced.{cases_at}
+use Rattle.image_layout.specs.Places.{Shape, bucket_at, key_at}
+use Rattle.sound_image.specs.Records.{word_in, notes_in, notes_of, stashed_in, stashed_of}
+use Rattle.bucket_words.specs.Buckets.{IsTaken, key_in, value_in, finger_in}
+use Rattle.bucket_words.proofs.Slots.{SameSlot}
+use Rattle.stash.proofs.Counts.{same_pieces}
+use Rattle.bucket_words.specs.Standing.{IsTable}
+use Rattle.bucket_words.specs.Hits.{Hit}
+use Rattle.bucket_words.specs.TableChanges.{KeepsTable}
+use Rattle.bucket_words.proofs.segments.Places.{owners_kept, other_word}
+use Rattle.bucket_words.proofs.segments.NoSlot.{same_there, same_back}
+use Rattle.bucket_words.proofs.segments.Prepared.{slots_kept, behind_meta}
+use Rattle.table_world.specs.Site.{Site, IsSite, IsUnder}
+use Rattle.table_world.specs.Views.{View, HasLock}
+use Rattle.table_world.specs.Kinds.{IsNewest, StandsBeside, SameNotes, IsTidy, May, stores}
+use Rattle.table_world.specs.Holders.{KnowsBucket, SparesTaken, MayPrepare}
+use Rattle.table_world.proofs.beside.Noted.{notes_by, piece_of, piece_by, stash_keys}
+use Rattle.table_world.proofs.beside.Stashed.{pieces}
+use Rattle.table_world.proofs.stepping.Holders.{newest_same, medium_same}
+
+-- ---- the overflow fingerprints of word 3
+abbrev note_piece : ℕ → ℕ → ℕ → ℕ → ℕ → List Note
+note_piece side u m f n = if (u == 1) && (m == side) then (f, n) ∷ [] else []
+
+finger_kept : (w1 w3 x i : ℕ) → x / 2 ^ 48 ≡ w3 / 2 ^ 48 → i < 4 → note_finger i w1 x ≡ note_finger i w1 w3
+finger_kept w1 w3 x zero same l = omega (arith, same)
+finger_kept w1 w3 x (suc zero) same l = omega (arith, same)
+finger_kept w1 w3 x (suc (suc zero)) same l = refl
+finger_kept w1 w3 x (suc (suc (suc zero))) same l = refl
+finger_kept w1 w3 x (suc (suc (suc (suc i)))) same l = absurd (omega (arith, l))
+
+notes_kept_3 : (w1 w3 x side : ℕ) → x / 2 ^ 48 ≡ w3 / 2 ^ 48 → notes_by w1 x side ≡ notes_by w1 w3 side
+notes_kept_3 w1 w3 x side same = same_pieces (λ i. note_piece side (note_used i w1) (note_member i w1) (note_finger i w1 w3) (note_index i w1))
+    (λ i. note_piece side (note_used i w1) (note_member i w1) (note_finger i w1 x) (note_index i w1)) 4
+    (λ i l. ap (λ z. note_piece side (note_used i w1) (note_member i w1) z (note_index i w1)) (finger_kept w1 w3 x i same l))
+
+module _ (shape : Shape) (w : Words) (table : IsTable shape w) (s b m x : ℕ) (seg : s < shape.segments) (bucket : b < 66) (spares : SparesTaken w (bucket_at shape s b) m x) where
+  abbrev i : ℕ
+  i = bucket_at shape s b + m
+
+  abbrev us : Words
+  us = with_word w i x
+
+  slots : (q c t : ℕ) → q < shape.segments → c < 66 → t < 14 → SameSlot w us (bucket_at shape q c) t
+  slots = slots_kept shape w table s b m x i seg bucket spares.from spares.inside refl spares.keys spares.values spares.fingers
+
+  keeping : KeepsTable shape w us
+  keeping = behind_meta shape w table s b m x i seg bucket spares.from spares.inside refl spares.keys spares.values spares.fingers
+
+  forth : (q c t l : ℕ) → Hit shape w q c t l → Hit shape us q c t l
+  forth = same_there shape w us table (owners_kept shape w s b m x i bucket spares.inside refl) slots
+
+  back : (q c t l : ℕ) → Hit shape us q c t l → Hit shape w q c t l
+  back = same_back shape w us table (owners_kept shape w s b m x i bucket spares.inside refl) slots
+
+  kept : (q c n j : ℕ) → c < 66 → n < 32 → j ≡ bucket_at shape q c + n → (q ≡ s → c ≡ b → n ≡ m → ⊥) → us j ≡ w j
+  kept = other_word shape w s b m x i bucket spares.inside refl
+
+  meta : (q c : ℕ) → c < 66 → word_in shape us q c 1 ≡ word_in shape w q c 1
+  meta q c near = kept q c 1 (bucket_at shape q c + 1) near (omega arith) refl (λ _ _ e. let z = spares.from in omega (arith, e, z))
+
+  one_side : (q c side : ℕ) → c < 66 → notes_in shape us q c side ≡ notes_in shape w q c side
+  one_side q c side near = ap (λ z. notes_by z (word_in shape us q c 3) side) (meta q c near) ∙ third (cases_eq m 3)
+    where
+      third : ((m ≡ 3) ⊎ (m ≡ 3 → ⊥)) → notes_by (word_in shape w q c 1) (word_in shape us q c 3) side ≡ notes_by (word_in shape w q c 1) (word_in shape w q c 3) side
+      third (inr other) = ap (λ z. notes_by (word_in shape w q c 1) z side) (kept q c 3 (bucket_at shape q c + 3) near (omega arith) refl (λ _ _ e. other (sym e)))
+      third (inl e) = cases_at (λ z. notes_by (word_in shape w q c 1) (cond z x (w (bucket_at shape q c + 3))) side ≡ notes_by (word_in shape w q c 1) (word_in shape w q c 3) side) (bucket_at shape q c + 3) i
+          (λ here. notes_kept_3 (word_in shape w q c 1) (word_in shape w q c 3) x side (spares.overflow e ∙ ap (λ z. z / 2 ^ 48) (ap w (sym (here ∙ ap (λ z. bucket_at shape s b + z) e)))))
+          (λ _. refl)
+
+  -- a key that changes is that of a free slot
+  piece_kept : (q d e t : ℕ) → q < shape.segments → e < 2 → t < 14 → pieces shape us q d e t ≡ pieces shape w q d e t
+  piece_kept q d e t near small l =
+      let same = slots q (64 + e) t near (omega (arith, small)) l in
+      elim (cases_eq (allocated t (word_in shape w q (64 + e) 1)) 1) [
+        | inl taken ↦ ap (λ z. piece_by shape d e z t (us (key_at shape q (64 + e) t))) (meta q (64 + e) (omega (arith, small))) ∙ ap (piece_by shape d e (word_in shape w q (64 + e) 1) t) (same.key taken)
+        | inr free ↦ none (word_in shape us q (64 + e) 1) (us (key_at shape q (64 + e) t)) (λ z. free (sym same.taken ∙ z)) ∙ sym (none (word_in shape w q (64 + e) 1) (w (key_at shape q (64 + e) t)) free)
+      ]
+    where
+      none : (w1 key : ℕ) → (allocated t w1 ≡ 1 → ⊥) → piece_by shape d e w1 t key ≡ []
+      none w1 key free = rw (ne_eqb (allocated t w1) 1 free) refl
+
+  notes_all : (q d : ℕ) → q < shape.segments → d < 64 → SameNotes shape w us q d
+  notes_all q d near_q near = record {
+    notes = ap (λ z. z ++ notes_in shape us q (probing_of d) 1) (one_side q d 0 (omega (arith, near))) ∙ ap (λ z. notes_in shape w q d 0 ++ z) (one_side q (probing_of d) 1 (omega arith));
+    count = ap overflow_count (meta q d (omega (arith, near)));
+    stashed = ap (λ z. z ++ stashed_in shape us q d 1) (in_stash 0 (omega arith)) ∙ ap (λ z. stashed_in shape w q d 0 ++ z) (in_stash 1 (omega arith));
+  }
+    where
+      in_stash : (e : ℕ) → e < 2 → stashed_in shape us q d e ≡ stashed_in shape w q d e
+      in_stash e small = same_pieces (pieces shape w q d e) (pieces shape us q d e) 14 (λ t l. piece_kept q d e t near_q small l)
+
+module _ (site : Site) (is_any : IsSite site) (v : View) (s b m x : ℕ) (word : Words) (seg : s < site.shape.segments) (bucket : b < 66) (known : KnowsBucket site.shape v s b word)
+    (spares : SparesTaken word (bucket_at site.shape s b) m x) where
+  -- words that agree under the lock
+  spares_there : (w : Words) → ((i : ℕ) → IsUnder (bucket_at site.shape s b) i → w i ≡ word i) → SparesTaken w (bucket_at site.shape s b) m x
+  spares_there w same = record {
+    from = spares.from;
+    inside = spares.inside;
+    keys = λ t l taken. spares.keys t l (ap (allocated t) (sym one) ∙ taken);
+    values = λ t l taken. spares.values t l (ap (allocated t) (sym one) ∙ taken);
+    fingers = λ t l taken. fingers_of t (with_word w (at + m) x) (with_word word (at + m) x) (stored 2 (omega arith) (omega arith)) (stored 3 (omega arith) (omega arith))
+        ∙ spares.fingers t l (ap (allocated t) (sym one) ∙ taken) ∙ sym (fingers_of t w word (same (at + 2) (omega arith, omega arith)) (same (at + 3) (omega arith, omega arith)));
+    overflow = λ e. spares.overflow e ∙ ap (λ z. z / 2 ^ 48) (sym (same (at + 3) (omega arith, omega arith)));
+  }
+    where
+      at : ℕ
+      at = bucket_at site.shape s b
+
+      one : w (bucket_at site.shape s b + 1) ≡ word (bucket_at site.shape s b + 1)
+      one = same (bucket_at site.shape s b + 1) (omega arith, omega arith)
+
+      stored : (n : ℕ) → 1 ≤ n → n < 32 → with_word w (bucket_at site.shape s b + m) x (bucket_at site.shape s b + n) ≡ with_word word (bucket_at site.shape s b + m) x (bucket_at site.shape s b + n)
+      stored n above below = ap (λ z. cond (eqb (bucket_at site.shape s b + n) (bucket_at site.shape s b + m)) x z) (same (bucket_at site.shape s b + n) (omega (arith, above), omega (arith, below)))
+
+      fingers_of : (t : ℕ) (p q : Words) → p (bucket_at site.shape s b + 2) ≡ q (bucket_at site.shape s b + 2) → p (bucket_at site.shape s b + 3) ≡ q (bucket_at site.shape s b + 3)
+          → finger_in p (bucket_at site.shape s b) t ≡ finger_in q (bucket_at site.shape s b) t
+      fingers_of t p q two three = ap (λ z. finger t z (p (bucket_at site.shape s b + 3))) two ∙ ap (finger t (q (bucket_at site.shape s b + 2))) three
+
+  pub may_store : May site (stores (bucket_at site.shape s b + m) x) v
+  may_store = (
+    record {
+      guarded = (bucket_at site.shape s b, known.lock, (let z = spares.from in omega (arith, z), let z = spares.inside in omega (arith, z)));
+      twins = λ words n q b1 r1 c1 t1 l h g. let sp = spares_there words (newest_same site is_any v words word s b n known) in
+          inr (inl (back site.shape words n.table s b m x seg bucket sp q b1 r1 l h, back site.shape words n.table s b m x seg bucket sp q c1 t1 l g));
+      notes = λ words n q d near_q near. inl (notes_all site.shape words n.table s b m x seg bucket (spares_there words (newest_same site is_any v words word s b n known)) q d near_q near);
+      stash = λ words n q e t l small h. inl (forth site.shape words n.table s b m x seg bucket (spares_there words (newest_same site is_any v words word s b n known)) q (64 + e) t l h);
+      alike = λ words medium n o q e t l small h. inr (back site.shape medium o.table s b m x seg bucket (spares_there medium (medium_same site is_any v words medium word s b o known)) q (64 + e) t l h);
+      adds = λ words n q d r l h. inl (back site.shape words n.table s b m x seg bucket (spares_there words (newest_same site is_any v words word s b n known)) q d r l h);
+    },
+    (λ words medium n o. keeping site.shape medium o.table s b m x seg bucket (spares_there medium (medium_same site is_any v words medium word s b o known))),
+  )
+
+pub may_prepare : (site : Site) → IsSite site → (v : View) → MayPrepare site v
+may_prepare site is v = record { store = λ s b m x word seg bucket known spares. may_store site is v s b m x word seg bucket known spares }

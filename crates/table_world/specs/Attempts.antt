@@ -1,0 +1,31 @@
+-- What the view of a caller has and holds at the beginning of an attempt, and at its end.
+use Rattle.std.specs.Prelude.{◌≡◌, ℕ, Option, None, Some, List, [], ◌∷◌, ◌++◌}
+use Rattle.map_model.specs.declared.call.Call.{Call}
+use Rattle.map_model.specs.declared.entry.Reply.{Reply}
+use Rattle.map_model.specs.Map.{is_change}
+use Rattle.map_model.specs.Legal.{seen_after}
+use Rattle.table_world.specs.Views.{View}
+use Rattle.table_world.specs.Kinds.{next_entry}
+
+-- these locks, and nothing else: no word known or unsettled, and no change planned
+pub record HoldsOnly (locks : List (ℕ × ℕ)) (v : View) : Type 0 where
+  pub held : v.held ≡ locks
+  pub known : v.known ≡ []
+  pub dirty : v.dirty ≡ []
+  pub flushed : v.flushed ≡ []
+  pub planned : v.planned ≡ []
+
+-- the replies of another view, and it has seen as much
+pub record HasNoMore (before v : View) : Type 0 where
+  pub own : v.own ≡ before.own
+  pub seen : v.seen ≡ before.seen
+
+-- this reply more
+pub record HasOneMore (call : Call) (reply : Reply) (place : ℕ) (before v : View) : Type 0 where
+  pub own : v.own ≡ before.own ++ next_entry before call reply place (is_change reply) ∷ []
+  pub seen : v.seen ≡ seen_after (next_entry before call reply place (is_change reply))
+
+-- the reply that an attempt gives, with its place, or no more than before
+abbrev pub EntersReply : Call → Option (Reply × ℕ) → View → View → Type 0
+EntersReply call None before v = HasNoMore before v
+EntersReply call (Some r) before v = HasOneMore call r.0 r.1 before v

@@ -1,0 +1,454 @@
+-- The kinds of step: why an event is made, with its numbers. For each: which event it is, what the stepping view becomes,
+-- and what it asks of that view alone.
+use Rattle.std.specs.Prelude.{◌≡◌, ◌≢◌, ◌-◌, ◌==◌, ◌&&◌, ℕ, suc, ◌+◌, ◌%◌, ◌^◌, ◌<◌, nat_lt, Bool, true, false, ⊤, Option, None, Some, List, [], ◌∷◌, ◌++◌, ◌⊎◌, length, if◌then◌else◌}
+use Rattle.op_core.specs.declared.want.Want.{Want}
+use Rattle.op_core.specs.declared.want.Want.TheVariants.{Load, Store, Exchange, Flush, Fence, Draw, Power}
+use Rattle.trace.specs.Events.{Words, line_of, with_word}
+use Rattle.image_layout.specs.Places.{Shape, bucket_at}
+use Rattle.image_layout.specs.Volatile.{counter_word, power_word}
+use Rattle.map_model.specs.declared.call.Call.{Call}
+use Rattle.map_model.specs.declared.call.Call.TheVariants.{Get, Remove}
+use Rattle.map_model.specs.declared.entry.Reply.{Reply}
+use Rattle.map_model.specs.declared.entry.Reply.TheVariants.{Done, Spent}
+use Rattle.map_model.specs.declared.entry.Entry.{Entry}
+use Rattle.map_model.specs.Map.{key_of, shown, is_change}
+use Rattle.map_model.specs.Legal.{IsChange, seen_after}
+use Rattle.bucket_meta.specs.Notes.{AreExact}
+use Rattle.hash_word.specs.Hash.{home_of, probing_of}
+use Rattle.sound_image.specs.Records.{key_hash, word_in, notes_of, stashed_of, HasExactNotes}
+use Rattle.bucket_meta.specs.Bucket.{overflow_count}
+use Rattle.bucket_words.specs.Standing.{IsTable}
+use Rattle.bucket_words.specs.Hits.{Hit, HasOnly, find}
+use Rattle.bucket_words.specs.Buckets.{value_in}
+use Rattle.bucket_words.specs.Owners.{HasStructure, owner_of, home_at}
+use Rattle.bucket_words.specs.Core.{core_of}
+use Rattle.bucket_words.specs.TableChanges.{KeepsTable, ChangesKey}
+use Rattle.table_world.specs.Site.{Site, IsLockWord, IsUnder}
+use Rattle.table_world.specs.Views.{Note, Answer, Move, Owed, View, Has, HasLock, IsGuarded, IsLoose, IsFirm}
+use Rattle.table_world.specs.History.{Log, change_of, result_of, reply_by, MayReply, HasRoomCause}
+
+pub data Kind : Type 0 where
+  -- a load of any word, of which nothing is kept
+  peeks : (word : ℕ) → Kind
+  -- a load of the power word, with which an attempt begins: what was noted before is forgotten
+  asks_power : Kind
+  -- a load of the commit counter before a change is stored: there is room for one place more, or else the call is
+  -- answered as spent
+  finds_room : (call : Call) → Kind
+  -- a load of the commit counter that places the reply to a call that changes nothing
+  refuses : (call : Call) (reply : Reply) → Kind
+  -- a load of the commit counter that places what a key has by the notes
+  places : (key : ℕ) (value : Option ℕ) → Kind
+  -- a first load of a lock word
+  looks : (lock : ℕ) → Kind
+  -- a load of a word of a bucket that is noted
+  notes_word : (lock word : ℕ) → Kind
+  -- a load of a noted lock word once more; the last of these makes the entry of a get
+  validates : (lock : ℕ) → Kind
+  -- a load of a word under one's own lock
+  learns : (word : ℕ) → Kind
+  -- a load of a lock word by who wants the lock: one that is free with the last version is remembered
+  meets_lock : (lock : ℕ) → Kind
+  -- an exchange of a lock word from a free value to the locked one
+  tries : (lock free : ℕ) → Kind
+  -- a store under one's own lock that changes no pair
+  stores : (word value : ℕ) → Kind
+  -- such a store by which a record stands a second time, and one that clears its source
+  copies : (word value : ℕ) (move : Move) → Kind
+  clears : (word value : ℕ) (move : Move) → Kind
+  -- such a store after which a note that was owed is stored, or taken away
+  repays : (word value : ℕ) (owed : Owed) → Kind
+  -- the one store that makes a change
+  publishes : (word value : ℕ) (call : Call) → Kind
+  -- such a store by which a record comes to the stash or leaves it, so that a note is owed
+  stashes : (word value : ℕ) (call : Call) (owed : Owed) → Kind
+  flushes : (line : ℕ) → Kind
+  fences : Kind
+  -- a change draws its place
+  draws_place : (call : Call) → Kind
+  -- a store that frees a lock
+  unlocks : (lock next : ℕ) → Kind
+  -- a store of the power word, by a caller whose power is cut
+  cuts_power : Kind
+
+-- what is wanted of the memory
+abbrev pub wanted : Shape → Kind → Want
+wanted shape (peeks i) = Load i
+wanted shape asks_power = Power
+wanted shape (finds_room call) = Load (counter_word shape)
+wanted shape (refuses call reply) = Load (counter_word shape)
+wanted shape (places k a) = Load (counter_word shape)
+wanted shape (looks lock) = Load lock
+wanted shape (notes_word lock i) = Load i
+wanted shape (validates lock) = Load lock
+wanted shape (learns i) = Load i
+wanted shape (meets_lock lock) = Load lock
+wanted shape (tries lock free) = Exchange lock free (free + 1)
+wanted shape (stores i x) = Store i x
+wanted shape (copies i x m) = Store i x
+wanted shape (clears i x m) = Store i x
+wanted shape (repays i x o) = Store i x
+wanted shape (publishes i x call) = Store i x
+wanted shape (stashes i x call o) = Store i x
+wanted shape (flushes l) = Flush l
+wanted shape fences = Fence
+wanted shape (draws_place call) = Draw
+wanted shape (unlocks lock next) = Store lock next
+wanted shape cuts_power = Store (power_word shape) 1
+
+-- ---- what becomes of the lists of a view
+-- the pairs of other words
+abbrev pub without : ℕ → List (ℕ × ℕ) → List (ℕ × ℕ)
+without i [] = []
+without i (p ∷ ps) = if p.0 == i then without i ps else p ∷ without i ps
+
+-- the pairs of words that do not lie under a lock
+abbrev pub not_under : ℕ → List (ℕ × ℕ) → List (ℕ × ℕ)
+not_under lock [] = []
+not_under lock (p ∷ ps) = if nat_lt lock p.0 && nat_lt p.0 (lock + 32) then not_under lock ps else p ∷ not_under lock ps
+
+-- the pairs of words of a line, and the others
+abbrev pub on_line : ℕ → List (ℕ × ℕ) → List (ℕ × ℕ)
+on_line l [] = []
+on_line l (p ∷ ps) = if line_of p.0 == l then p ∷ on_line l ps else on_line l ps
+
+abbrev pub off_line : ℕ → List (ℕ × ℕ) → List (ℕ × ℕ)
+off_line l [] = []
+off_line l (p ∷ ps) = if line_of p.0 == l then off_line l ps else p ∷ off_line l ps
+
+-- a word becomes loose where a store changes its core
+abbrev pub loosened : Shape → ℕ → ℕ → ℕ → List (ℕ × ℕ) → List (ℕ × ℕ)
+loosened shape i old new dirty = if core_of shape i old == core_of shape i new then dirty else (i, old) ∷ dirty
+
+-- the planned changes of other keys
+abbrev pub of_other_keys : ℕ → List Call → List Call
+of_other_keys k [] = []
+of_other_keys k (call ∷ calls) = if key_of call == k then of_other_keys k calls else call ∷ of_other_keys k calls
+
+-- the moves of other records
+abbrev pub of_other_records : Move → List Move → List Move
+of_other_records m [] = []
+of_other_records m (n ∷ moves) = if (n.segment == m.segment) && (n.key == m.key) then of_other_records m moves else n ∷ of_other_records m moves
+
+-- what is owed for other homes
+abbrev pub of_other_homes : Owed → List Owed → List Owed
+of_other_homes o [] = []
+of_other_homes o (n ∷ owed) = if (n.segment == o.segment) && (n.home == o.home) then of_other_homes o owed else n ∷ of_other_homes o owed
+
+-- the notes of a bucket with one word more
+abbrev pub with_noted : ℕ → ℕ → ℕ → List Note → List Note
+with_noted lock i x [] = []
+with_noted lock i x (note ∷ notes) =
+    (if note.lock == lock then (record note { words = (i, x) ∷ note.words }) else note) ∷ with_noted lock i x notes
+
+-- the notes, of none of which the lock word was loaded again
+abbrev pub unmarked : List Note → List Note
+unmarked [] = []
+unmarked (note ∷ notes) = record note { again = false } ∷ unmarked notes
+
+-- the notes, where a lock word was loaded again and found to be x
+abbrev pub marked : ℕ → ℕ → List Note → List Note
+marked lock x [] = []
+marked lock x (note ∷ notes) =
+    (if (note.lock == lock) && (note.free == x) then (record note { again = true }) else note) ∷ marked lock x notes
+
+abbrev pub all_again : List Note → Bool
+all_again [] = true
+all_again (note ∷ notes) = note.again && all_again notes
+
+-- ---- what becomes of a view
+abbrev pub next_entry : View → Call → Reply → ℕ → Bool → Entry
+next_entry v call reply place drew = record { serial = suc (length v.own); call = call; reply = reply; place = place; drew = drew }
+
+-- a view with one reply more, and without its notes
+abbrev pub with_reply : View → Entry → View
+with_reply v e = record v { own = v.own ++ e ∷ []; seen = seen_after e; notes = []; answer = None }
+
+-- a view with a store's word known
+abbrev pub with_store : Shape → ℕ → ℕ → ℕ → List Call → List Move → List Owed → View → View
+with_store shape i old new calls moves owed v =
+    record v { known = (i, new) ∷ without i v.known; dirty = loosened shape i old new v.dirty; planned = calls; moving = moves; owed = owed }
+
+-- a view whose notes are all good gives its answer
+abbrev pub with_answer : Bool → Option Answer → View → View
+with_answer false answer v = v
+with_answer true None v = v
+with_answer true (Some a) v = with_reply v (next_entry v (Get a.key) (shown a.value) a.place false)
+
+abbrev pub validated : View → View
+validated v = with_answer (all_again v.notes) v.answer v
+
+-- a view that found a lock free, or not
+abbrev pub with_look : Bool → ℕ → ℕ → View → View
+with_look true lock n v = record v { notes = record { lock = lock; free = n; words = []; again = false } ∷ v.notes }
+with_look false lock n v = record v { notes = []; answer = None }
+
+-- a view that found room in the commit counter, or not
+abbrev pub with_count : Bool → Call → ℕ → View → View
+with_count true call n v = record v { room = v.callers }
+with_count false call n v = with_reply v (next_entry v call Spent n false)
+
+-- the spent locks with one more, where its word was found so, or not
+abbrev pub with_spent : Bool → ℕ → List ℕ → List ℕ
+with_spent true lock locks = lock ∷ locks
+with_spent false lock locks = locks
+
+-- a view that won a lock, or not
+abbrev pub with_lock : Bool → ℕ → ℕ → View → View
+with_lock true lock free v = record v { held = (lock, free + 1) ∷ v.held }
+with_lock false lock free v = v
+
+-- a view that drew the place of a change
+abbrev pub with_draw : Call → ℕ → View → View
+with_draw call n v = record v {
+  planned = of_other_keys (key_of call) v.planned;
+  room = 0;
+  own = v.own ++ next_entry v call Done n true ∷ [];
+  seen = suc n;
+  notes = [];
+  answer = None;
+}
+
+-- the view after, by the word that was found
+abbrev pub view_after : Shape → Kind → ℕ → View → View
+view_after shape (peeks i) n v = v
+view_after shape asks_power n v = record v { notes = []; answer = None }
+view_after shape (finds_room call) n v = with_count (nat_lt n (2 ^ 63)) call n v
+view_after shape (refuses call reply) n v = with_reply v (next_entry v call reply n false)
+view_after shape (places k a) n v = record v { notes = unmarked v.notes; answer = Some (record { key = k; value = a; place = n }) }
+view_after shape (looks lock) n v = with_look (n % 2 == 0) lock n v
+view_after shape (notes_word lock i) n v = record v { notes = with_noted lock i n v.notes }
+view_after shape (validates lock) n v = validated (record v { notes = marked lock n v.notes })
+view_after shape (learns i) n v = record v { known = (i, n) ∷ v.known }
+view_after shape (meets_lock lock) n v = record v { spent_locks = with_spent (n == 2 ^ 64 - 2) lock v.spent_locks }
+view_after shape (tries lock free) n v = with_lock (n == free) lock free v
+view_after shape (stores i x) n v = with_store shape i n x v.planned v.moving v.owed v
+view_after shape (copies i x m) n v = with_store shape i n x v.planned (m ∷ v.moving) v.owed v
+view_after shape (clears i x m) n v = with_store shape i n x v.planned (of_other_records m v.moving) v.owed v
+view_after shape (repays i x o) n v = with_store shape i n x v.planned v.moving (of_other_homes o v.owed) v
+view_after shape (publishes i x call) n v = with_store shape i n x (call ∷ v.planned) v.moving v.owed v
+view_after shape (stashes i x call o) n v = with_store shape i n x (call ∷ v.planned) v.moving (o ∷ v.owed) v
+view_after shape (flushes l) n v = record v { dirty = off_line l v.dirty; flushed = on_line l v.dirty ++ v.flushed }
+view_after shape fences n v = record v { flushed = [] }
+view_after shape (draws_place call) n v = with_draw call n v
+view_after shape (unlocks lock next) n v = record v { held = without lock v.held; known = not_under lock v.known }
+view_after shape cuts_power n v = record v { stored_power = true }
+
+-- the history after: a draw adds a change
+abbrev pub log_after : Kind → Log → Log
+log_after (draws_place call) log = change_of call ∷ log
+log_after _ log = log
+
+-- ---- what is said of tables, for the conditions below
+-- what is owed: with the notes as they were, the one that was owed makes them exact for the records as they are now
+abbrev pub IsOwedOf : Bool → ℕ × ℕ → List (ℕ × ℕ) → ℕ → List (ℕ × ℕ) → Type 0
+IsOwedOf true note notes count stashed = AreExact (note ∷ notes) count stashed
+IsOwedOf false note notes count stashed = AreExact notes count (note ∷ stashed)
+
+abbrev pub IsOwed : Shape → Words → Owed → Type 0
+IsOwed shape words o = IsOwedOf o.added o.note o.notes o.count (stashed_of shape words o.segment o.home)
+
+-- the locks of the key's home and of both places of a move are held
+abbrev pub HoldsMove : Shape → List (ℕ × ℕ) → Move → Type 0
+HoldsMove shape held m = HasLock held (bucket_at shape m.segment (home_of (key_hash shape m.key))) × HasLock held (bucket_at shape m.segment m.from_bucket)
+    × HasLock held (bucket_at shape m.segment m.to_bucket)
+
+-- two places are those of a move
+abbrev pub IsMoveOf : Move → ℕ → ℕ → ℕ → ℕ → ℕ → ℕ → Type 0
+IsMoveOf m s k b r c t = (s ≡ m.segment) × (k ≡ m.key)
+    × (((b ≡ m.from_bucket) × (r ≡ m.from_slot) × (c ≡ m.to_bucket) × (t ≡ m.to_slot)) ⊎ ((b ≡ m.to_bucket) × (r ≡ m.to_slot) × (c ≡ m.from_bucket) × (t ≡ m.from_slot)))
+
+-- what home b of a segment has noted of the stash, and what it has there, is as it was
+pub record SameNotes (shape : Shape) (word other : Words) (s b : ℕ) : Type 0 where
+  pub notes : notes_of shape other s b ≡ notes_of shape word s b
+  pub count : overflow_count (word_in shape other s b 1) ≡ overflow_count (word_in shape word s b 1)
+  pub stashed : stashed_of shape other s b ≡ stashed_of shape word s b
+
+-- ---- what a kind asks of the stepping view alone
+module _ (site : Site) where
+  -- a medium has the words that a view knows and has not loose. What a cut leaves has their cores alone; since those
+  -- decide, it is enough to speak of media that have them whole
+  abbrev pub Agrees : View → Words → Type 0
+  Agrees v medium = (i x : ℕ) → Has (i, x) v.known → ((y : ℕ) → IsLoose v (i, y) → ⊥) → medium i ≡ x
+
+  -- words are those that were noted
+  abbrev pub AgreesWithNotes : List Note → Words → Type 0
+  AgreesWithNotes notes words = (note : Note) (i x : ℕ) → Has note notes → Has (i, x) note.words → words i ≡ x
+
+  -- no change of this key is planned
+  abbrev pub IsUnplanned : View → ℕ → Type 0
+  IsUnplanned v k = (call : Call) → Has call v.planned → key_of call ≡ k → ⊥
+
+  abbrev pub OwesNone : View → ℕ → ℕ → Type 0
+  OwesNone v s b = (o : Owed) → Has o v.owed → o.segment ≡ s → o.home ≡ b → ⊥
+
+  -- words may be the newest, as far as a view can know: a table with the words that it knows; under the locks that it holds
+  -- a key stands once but for its own moves, and notes are exact but for those that it owes
+  pub record IsNewest (v : View) (words : Words) : Type 0 where
+    pub structure : HasStructure site.shape site.front words
+    pub table : IsTable site.shape words
+    pub knows : (i x : ℕ) → Has (i, x) v.known → words i ≡ x
+    pub once : (s b r c t k : ℕ) → HasLock v.held (bucket_at site.shape s (home_of (key_hash site.shape k))) → Hit site.shape words s b r k → Hit site.shape words s c t k
+        → ((b ≡ c) × (r ≡ t)) ⊎ ((m : Move) × Has m v.moving × IsMoveOf m s k b r c t)
+    pub exact : (s b : ℕ) → s < site.shape.segments → b < 64 → HasLock v.held (bucket_at site.shape s b) → OwesNone v s b → HasExactNotes site.shape words s b
+    pub owes : (o : Owed) → Has o v.owed → IsOwed site.shape words o
+
+  -- a medium may be left beside them, as far as a view can know
+  pub record StandsBeside (v : View) (words medium : Words) : Type 0 where
+    pub structure : HasStructure site.shape site.front medium
+    pub table : IsTable site.shape medium
+    pub agrees : Agrees v medium
+    pub owner : (s k : ℕ) → HasLock v.held (bucket_at site.shape s (home_of (key_hash site.shape k))) → owner_of site.shape words (key_hash site.shape k) ≡ Some s
+        → owner_of site.shape medium (key_hash site.shape k) ≡ Some s
+    -- under the lock of a key's home, a record of it in the stash stands there in the newest words too
+    pub stashed : (s c t k : ℕ) → c < 2 → HasLock v.held (bucket_at site.shape s (home_of (key_hash site.shape k))) → IsUnplanned v k
+        → owner_of site.shape medium (key_hash site.shape k) ≡ Some s → Hit site.shape medium s (64 + c) t k → Hit site.shape words s (64 + c) t k
+
+  -- whatever the newest words are, and whatever medium stands beside them
+  abbrev pub Always : View → (Words → Type 0) → Type 0
+  Always v P = (words : Words) → IsNewest v words → P words
+
+  abbrev pub AlwaysBeside : View → (Words → Words → Type 0) → Type 0
+  AlwaysBeside v P = (words medium : Words) → IsNewest v words → StandsBeside v words medium → P words medium
+
+  -- the segment owns the key, and the view holds the lock of its home there
+  abbrev pub IsLed : View → ℕ → ℕ → Type 0
+  IsLed v s k = Always v (λ words. owner_of site.shape words (key_hash site.shape k) ≡ Some s)
+
+  abbrev pub HoldsHome : View → ℕ → ℕ → Type 0
+  HoldsHome v s k = IsLed v s k × HasLock v.held (bucket_at site.shape s (home_of (key_hash site.shape k)))
+
+  -- ---- the parts of a store's condition
+  -- a table stays one with the same pairs
+  abbrev pub IsHarmless : View → ℕ → ℕ → Type 0
+  IsHarmless v i x = AlwaysBeside v (λ words medium. KeepsTable site.shape medium (with_word medium i x))
+
+  -- the call is to be answered as done, and the store makes its change alone
+  abbrev pub IsPublishing : View → Call → ℕ → ℕ → Type 0
+  IsPublishing v call i x = AlwaysBeside v (λ words medium.
+      (Done ≡ reply_by (find site.shape medium (key_of call)) call) × ChangesKey site.shape medium (with_word medium i x) (key_of call) (result_of call))
+
+  -- no key stands twice that did not, but at two places that are named
+  abbrev pub AddsNoTwin : View → ℕ → ℕ → (ℕ → ℕ → ℕ → ℕ → ℕ → ℕ → Type 0) → Type 0
+  AddsNoTwin v i x but = Always v (λ words. (s b r c t k : ℕ) → Hit site.shape (with_word words i x) s b r k → Hit site.shape (with_word words i x) s c t k
+      → ((b ≡ c) × (r ≡ t)) ⊎ (Hit site.shape words s b r k × Hit site.shape words s c t k) ⊎ but s k b r c t)
+
+  -- a view owes a note of home b
+  abbrev pub IsOwing : View → ℕ → ℕ → Type 0
+  IsOwing v s b = (o : Owed) × Has o v.owed × (o.segment ≡ s) × (o.home ≡ b)
+
+  -- notes and stash records of all homes but one are as they were; of a home that is owed one, the records at least
+  abbrev pub KeepsNotes : View → ℕ → ℕ → (ℕ → ℕ → Type 0) → Type 0
+  KeepsNotes v i x but = Always v (λ words. (s b : ℕ) → s < site.shape.segments → b < 64
+      → SameNotes site.shape words (with_word words i x) s b ⊎ ((stashed_of site.shape (with_word words i x) s b ≡ stashed_of site.shape words s b) × IsOwing v s b) ⊎ but s b)
+
+  -- a record leaves the stash only where it is named
+  abbrev pub KeepsStash : View → ℕ → ℕ → (ℕ → ℕ → Type 0) → Type 0
+  KeepsStash v i x but = Always v (λ words. (s c t k : ℕ) → c < 2 → Hit site.shape words s (64 + c) t k → Hit site.shape (with_word words i x) s (64 + c) t k ⊎ but k (bucket_at site.shape s (64 + c)))
+
+  -- a record comes to the stash of a medium only where it comes to that of the newest words
+  abbrev pub AddsAlike : View → ℕ → ℕ → Type 0
+  AddsAlike v i x = AlwaysBeside v (λ words medium. (s c t k : ℕ) → c < 2 → Hit site.shape (with_word medium i x) s (64 + c) t k
+      → Hit site.shape (with_word words i x) s (64 + c) t k ⊎ Hit site.shape medium s (64 + c) t k)
+
+  -- a record of a key comes only under the locks of its bucket and of the key's home
+  abbrev pub AddsHeld : View → ℕ → ℕ → Type 0
+  AddsHeld v i x = Always v (λ words. (s b r k : ℕ) → Hit site.shape (with_word words i x) s b r k
+      → Hit site.shape words s b r k ⊎ (HasLock v.held (bucket_at site.shape s (home_of (key_hash site.shape k))) × HasLock v.held (bucket_at site.shape s b)))
+
+  -- the locks of the buckets are held in which a key stands
+  abbrev pub HoldsPlaces : View → ℕ → Type 0
+  HoldsPlaces v k = Always v (λ words. (s b r : ℕ) → owner_of site.shape words (key_hash site.shape k) ≡ Some s → Hit site.shape words s b r k → HasLock v.held (bucket_at site.shape s b))
+
+  abbrev pub NoTwin : ℕ → ℕ → ℕ → ℕ → ℕ → ℕ → Type 0
+  NoTwin s k b r c t = ⊥
+
+  abbrev pub NoHome : ℕ → ℕ → Type 0
+  NoHome s b = ⊥
+
+  abbrev pub IsHomeOf : Owed → ℕ → ℕ → Type 0
+  IsHomeOf o s b = (o.segment ≡ s) × (o.home ≡ b)
+
+  -- a remove takes a record from a stash bucket whose lock is held
+  abbrev pub MayTake : View → Call → ℕ → ℕ → Type 0
+  MayTake v call k lock = (call ≡ Remove k) × HasLock v.held lock
+
+  -- what all stores ask
+  pub record IsTidy (v : View) (i x : ℕ) (twin : ℕ → ℕ → ℕ → ℕ → ℕ → ℕ → Type 0) (home : ℕ → ℕ → Type 0) (taken : ℕ → ℕ → Type 0) : Type 0 where
+    pub guarded : IsGuarded v.held i
+    pub twins : AddsNoTwin v i x twin
+    pub notes : KeepsNotes v i x home
+    pub stash : KeepsStash v i x taken
+    pub alike : AddsAlike v i x
+    pub adds : AddsHeld v i x
+
+  -- a lock is held and nothing under it is loose
+  abbrev pub IsKept : View → ℕ → Type 0
+  IsKept v lock = HasLock v.held lock × IsFirm v lock
+
+  -- the lock of a stash bucket is not held, and the notes say that the key does not stand there
+  abbrev pub IsUnvisited : View → ℕ → ℕ → ℕ → Type 0
+  IsUnvisited v s k c = (HasLock v.held (bucket_at site.shape s (64 + c)) → ⊥) × Always v (λ words. (t : ℕ) → Hit site.shape words s (64 + c) t k → ⊥)
+
+  -- a reply that may stand whatever the key has, or that is right by what the holder of the key's lock knows
+  abbrev pub IsKnownReply : View → Call → Reply → Type 0
+  IsKnownReply v call reply = ((a : Option ℕ) → MayReply a call reply)
+      ⊎ ((s : ℕ) × HoldsHome v s (key_of call) × IsUnplanned v (key_of call) × Always v (λ words. MayReply (find site.shape words (key_of call)) call reply))
+
+  -- words may be the newest while all noted locks are free, as far as a reader can know
+  pub record IsNow (notes : List Note) (words : Words) : Type 0 where
+    pub structure : HasStructure site.shape site.front words
+    pub table : IsTable site.shape words
+    pub agrees : AgreesWithNotes notes words
+    pub exact : (s b : ℕ) (note : Note) → s < site.shape.segments → b < 64 → Has note notes → note.lock ≡ bucket_at site.shape s b → HasExactNotes site.shape words s b
+
+  -- a map may be what all keys have, as far as a view can know: it has what the newest words have for the keys of whose homes
+  -- the view holds the locks, and the records in the buckets that it holds, which are of different keys
+  pub record IsMapNow (v : View) (words : Words) (m : ℕ → Option ℕ) : Type 0 where
+    pub known : (k : ℕ) → HasLock v.held (home_at site.shape words k) → IsUnplanned v k → m k ≡ find site.shape words k
+    pub records : (s b r k : ℕ) → HasLock v.held (bucket_at site.shape s b) → IsUnplanned v k → owner_of site.shape words (key_hash site.shape k) ≡ Some s
+        → Hit site.shape words s b r k → m k ≡ Some (value_in words (bucket_at site.shape s b) r)
+    pub differ : (s b r c t k : ℕ) → HasLock v.held (bucket_at site.shape s b) → v.moving ≡ [] → Hit site.shape words s b r k → Hit site.shape words s c t k
+        → (b ≡ c) × (r ≡ t)
+
+  -- a reply for want of room has its cause in whatever map that may be
+  abbrev pub IsKnownCause : View → Call → Reply → Type 0
+  IsKnownCause v call reply = (m : ℕ → Option ℕ) → Always v (λ words. IsMapNow v words m → HasRoomCause site.shape m call reply)
+
+  -- a reply that a number is spent comes from who found a lock word of the last version
+  abbrev pub IsKnownSpent : View → Reply → Type 0
+  IsKnownSpent v reply = reply ≡ Spent → (lock : ℕ) × Has lock v.spent_locks
+
+  abbrev pub May : Kind → View → Type 0
+  May (peeks i) v = ⊤
+  May asks_power v = ⊤
+  May (finds_room call) v = IsChange call × (0 < v.callers)
+  May (refuses call reply) v = (is_change reply ≡ false) × IsKnownReply v call reply × IsKnownCause v call reply × IsKnownSpent v reply
+  May (places k a) v = (s : ℕ) × ((note : Note) × Has note v.notes × (note.lock ≡ bucket_at site.shape s (home_of (key_hash site.shape k))))
+      × ((words : Words) → IsNow v.notes words → (owner_of site.shape words (key_hash site.shape k) ≡ Some s) × (find site.shape words k ≡ a))
+  May (looks lock) v = IsLockWord site.shape lock
+  May (notes_word lock i) v = IsUnder lock i
+  May (validates lock) v = ⊤
+  May (learns i) v = IsGuarded v.held i
+  May (meets_lock lock) v = IsLockWord site.shape lock
+  May (tries lock free) v = IsLockWord site.shape lock × (free % 2 ≡ 0) × (free ≢ 2 ^ 64 - 2)
+  May (stores i x) v = IsTidy v i x NoTwin NoHome NoHome × IsHarmless v i x
+  May (copies i x m) v = IsTidy v i x (IsMoveOf m) NoHome NoHome × IsHarmless v i x
+      × HoldsMove site.shape v.held m
+  May (clears i x m) v = IsTidy v i x NoTwin NoHome NoHome × IsHarmless v i x
+      × Always v (λ words. HasOnly site.shape (with_word words i x) m.segment m.to_bucket m.to_slot m.key)
+  May (repays i x o) v = IsTidy v i x NoTwin (IsHomeOf o) NoHome × IsHarmless v i x
+      × Always v (λ words. HasExactNotes site.shape (with_word words i x) o.segment o.home)
+      × Has o v.owed
+  May (publishes i x call) v = IsTidy v i x NoTwin NoHome (MayTake v call) × ((s : ℕ) × HoldsHome v s (key_of call)) × IsUnplanned v (key_of call) × IsPublishing v call i x × HoldsPlaces v (key_of call)
+  May (stashes i x call o) v = IsTidy v i x NoTwin (IsHomeOf o) (MayTake v call) × ((s : ℕ) × HoldsHome v s (key_of call)) × IsUnplanned v (key_of call) × IsPublishing v call i x
+      × (o.segment < site.shape.segments) × (o.home < 64) × HasLock v.held (bucket_at site.shape o.segment o.home) × OwesNone v o.segment o.home
+      × Always v (λ words. IsOwed site.shape (with_word words i x) o) × HoldsPlaces v (key_of call)
+  May (flushes l) v = ⊤
+  May fences v = ⊤
+  May (draws_place call) v = Has call v.planned × (0 < v.room) × ((s : ℕ) × HoldsHome v s (key_of call)
+      × IsFirm v (bucket_at site.shape s (home_of (key_hash site.shape (key_of call))))
+      × IsKept v (bucket_at site.shape s (probing_of (home_of (key_hash site.shape (key_of call)))))
+      × ((c : ℕ) → c < 2 → IsKept v (bucket_at site.shape s (64 + c)) ⊎ IsUnvisited v s (key_of call) c))
+  May (unlocks lock next) v = (x : ℕ) × Has (lock, x) v.held × IsFirm v lock × (v.planned ≡ []) × (v.moving ≡ []) × (v.owed ≡ []) × (next ≡ x + 1)
+  May cuts_power v = ⊤
