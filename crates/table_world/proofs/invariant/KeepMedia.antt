@@ -317,4 +317,4 @@ module _ (site : Site) (words : Words) (views : List View) (j : ℕ) (v : View) 
   keep_media fences may = calm (record v { flushed = [] }) ((λ p q. elim q [ inl d ↦ inl d | inr f ↦ absurd f ]), refl, (λ c has lock l. l))
   keep_media (draws_place call) may = drawn call _ _ may
   keep_media (unlocks lock next) may = relocked lock next _ (h.locks.locked j v lock may.0 at may.1).0 ((λ p l. l), refl, (λ c has _ l. absurd (subst (λ (cs : List Call). Has c cs) may.3 has)))
-  keep_media cuts_power may = media_fewer site words (with_word words (power_word site.shape) 1) views j v _ at (λ n within. power_cores site h.site_is words 1 n within) (λ p l. l) h.log h.media (λ call has. has)
+  keep_media cuts_power may = media_fewer site words (with_word words (power_word site.shape) 1) views j v _ at (λ n within. power_cores site h.site_is words 1 n within) (λ p l. l) h.site_is h.log h.media (λ call has. (has, (λ lock l. l)))
