@@ -1,11 +1,11 @@
 -- What the holder of locks has to know of buckets to make a store there, said over the words that it knows.
 use Rattle.std.specs.Prelude.{◌≡◌, ◌≢◌, ◌≤◌, ℕ, ◌+◌, ◌*◌, ◌/◌, ◌^◌, ◌<◌, ◌⊎◌, [], true, false, None, Some, List}
-use Rattle.bucket_meta.specs.Bucket.{allocated, member, overflow_count}
+use Rattle.bucket_meta.specs.Bucket.{allocated, member, overflow_count, record_slots}
 use Rattle.bucket_meta.specs.Notes.{how_often, AreExact}
 use Rattle.bucket_words.specs.Core.{core_of}
 use Rattle.hash_word.specs.Hash.{home_of, probing_of, finger_of}
 use Rattle.trace.specs.Events.{Words, with_word}
-use Rattle.image_layout.specs.Places.{Shape, bucket_at}
+use Rattle.image_layout.specs.Places.{Shape, bucket_at, block, homes, stash_buckets, buckets}
 use Rattle.sound_image.specs.Records.{key_hash, word_in, notes_in, notes_of}
 use Rattle.map_model.specs.declared.call.Call.TheVariants.{Insert, Update, Remove}
 use Rattle.map_model.specs.declared.call.Call.{Call}
@@ -14,6 +14,7 @@ use Rattle.map_model.specs.Map.{key_of}
 use Rattle.table_world.specs.History.{MayReply}
 use Rattle.bucket_words.specs.Buckets.{IsTaken, value_in, finger_in}
 use Rattle.bucket_meta.specs.Marks.{SameButSlot}
+use Rattle.bucket_words.specs.HomeNotes.{IsUnnoted}
 use Rattle.bucket_words.specs.Hits.{Hit}
 use Rattle.bucket_words.specs.Standing.{StandsAt}
 use Rattle.bucket_words.specs.TableChanges.{IsReadyAt}
@@ -34,21 +35,16 @@ pub record KnowsBucket (shape : Shape) (v : View) (s b : ℕ) (word : Words) : T
 -- a store to word m, of 2 to 31, of bucket b leaves the taken slots and their fingerprints as they are, and the overflow parts of word 3
 pub record SparesTaken (word : Words) (at m x : ℕ) : Type 0 where
   pub from : 2 ≤ m
-  pub inside : m < 32
-  pub keys : (t : ℕ) → t < 14 → IsTaken word at t → 4 + 2 * t ≢ m
-  pub values : (t : ℕ) → t < 14 → IsTaken word at t → 5 + 2 * t ≢ m
-  pub fingers : (t : ℕ) → t < 14 → IsTaken word at t → finger_in (with_word word (at + m) x) at t ≡ finger_in word at t
+  pub inside : m < block
+  pub keys : (t : ℕ) → t < record_slots → IsTaken word at t → 4 + 2 * t ≢ m
+  pub values : (t : ℕ) → t < record_slots → IsTaken word at t → 5 + 2 * t ≢ m
+  pub fingers : (t : ℕ) → t < record_slots → IsTaken word at t → finger_in (with_word word (at + m) x) at t ≡ finger_in word at t
   pub overflow : m ≡ 3 → x / 2 ^ 48 ≡ word (at + 3) / 2 ^ 48
 
 -- the stores that change no pair: to the key, the value and the fingerprint of a free slot
 pub record MayPrepare (site : Site) (v : View) : Type 0 where
-  pub store : (s b m x : ℕ) (word : Words) → s < site.shape.segments → b < 66 → KnowsBucket site.shape v s b word → SparesTaken word (bucket_at site.shape s b) m x
+  pub store : (s b m x : ℕ) (word : Words) → s < site.shape.segments → b < buckets → KnowsBucket site.shape v s b word → SparesTaken word (bucket_at site.shape s b) m x
       → May site (stores (bucket_at site.shape s b + m) x) v
-
--- the notes of home b name no record of this fingerprint in stash bucket c, and no record of the home is without a note
-pub record IsUnnoted (shape : Shape) (word : Words) (s b f c : ℕ) : Type 0 where
-  pub none : how_often (f, c) (notes_of shape word s b) ≡ 0
-  pub counted : overflow_count (word_in shape word s b 1) ≡ 0
 
 -- the search for a key found nothing: in its home and probing bucket, and in each stash bucket that it had to visit
 pub record FoundNone (site : Site) (v : View) (word : Words) (s k : ℕ) : Type 0 where
@@ -59,7 +55,7 @@ pub record FoundNone (site : Site) (v : View) (word : Words) (s k : ℕ) : Type 
   pub probing : KnowsBucket site.shape v s (probing_of (home_of (key_hash site.shape k))) word
   pub not_home : (t : ℕ) → Hit site.shape word s (home_of (key_hash site.shape k)) t k → ⊥
   pub not_probing : (t : ℕ) → Hit site.shape word s (probing_of (home_of (key_hash site.shape k))) t k → ⊥
-  pub stash : (c : ℕ) → c < 2 → (KnowsBucket site.shape v s (64 + c) word × ((t : ℕ) → Hit site.shape word s (64 + c) t k → ⊥))
+  pub stash : (c : ℕ) → c < stash_buckets → (KnowsBucket site.shape v s (homes + c) word × ((t : ℕ) → Hit site.shape word s (homes + c) t k → ⊥))
       ⊎ IsUnnoted site.shape word s (home_of (key_hash site.shape k)) (finger_of (key_hash site.shape k)) c
 
 -- the search for a key found it in slot r of bucket b
@@ -87,13 +83,13 @@ pub record FreesSlot (r w x : ℕ) : Type 0 where
 
 pub record MayPlace (site : Site) (v : View) : Type 0 where
   -- an insert in the home or the probing bucket
-  pub insert : (s b r k a x : ℕ) (word : Words) → FoundNone site v word s k → b < 64 → KnowsBucket site.shape v s b word → IsReadyAt site.shape word s b r k
+  pub insert : (s b r k a x : ℕ) (word : Words) → FoundNone site v word s k → b < homes → KnowsBucket site.shape v s b word → IsReadyAt site.shape word s b r k
       → value_in word (bucket_at site.shape s b) r ≡ a → TakesSlot site.shape b r k (word (bucket_at site.shape s b + 1)) x
       → May site (publishes (bucket_at site.shape s b + 1) x (Insert k a)) v
   -- and in the stash, for which a note is owed
-  pub stash : (s c r k a x : ℕ) (word : Words) → FoundNone site v word s k → c < 2 → KnowsBucket site.shape v s (64 + c) word → IsReadyAt site.shape word s (64 + c) r k
-      → value_in word (bucket_at site.shape s (64 + c)) r ≡ a → TakesSlot site.shape (64 + c) r k (word (bucket_at site.shape s (64 + c) + 1)) x
-      → May site (stashes (bucket_at site.shape s (64 + c) + 1) x (Insert k a) (record {
+  pub stash : (s c r k a x : ℕ) (word : Words) → FoundNone site v word s k → c < stash_buckets → KnowsBucket site.shape v s (homes + c) word → IsReadyAt site.shape word s (homes + c) r k
+      → value_in word (bucket_at site.shape s (homes + c)) r ≡ a → TakesSlot site.shape (homes + c) r k (word (bucket_at site.shape s (homes + c) + 1)) x
+      → May site (stashes (bucket_at site.shape s (homes + c) + 1) x (Insert k a) (record {
         segment = s; home = home_of (key_hash site.shape k); added = true; note = (finger_of (key_hash site.shape k), c);
         notes = notes_of site.shape word s (home_of (key_hash site.shape k)); count = overflow_count (word_in site.shape word s (home_of (key_hash site.shape k)) 1);
       })) v
@@ -101,14 +97,14 @@ pub record MayPlace (site : Site) (v : View) : Type 0 where
 pub record MayChange (site : Site) (v : View) : Type 0 where
   -- an update wherever the record stands, and a remove in the home or the probing bucket
   pub update : (s b r k a : ℕ) (word : Words) → FoundAt site v word s b r k → May site (publishes (bucket_at site.shape s b + 5 + 2 * r) a (Update k a)) v
-  pub remove : (s b r k x : ℕ) (word : Words) → FoundAt site v word s b r k → b < 64 → FreesSlot r (word (bucket_at site.shape s b + 1)) x
+  pub remove : (s b r k x : ℕ) (word : Words) → FoundAt site v word s b r k → b < homes → FreesSlot r (word (bucket_at site.shape s b + 1)) x
       → May site (publishes (bucket_at site.shape s b + 1) x (Remove k)) v
 
 -- a remove of a record in the stash, for which a note is owed
 pub record MayUnstash (site : Site) (v : View) : Type 0 where
-  pub remove : (s c r k x : ℕ) (word : Words) → FoundAt site v word s (64 + c) r k → OwesNone site v s (home_of (key_hash site.shape k)) → c < 2
-      → FreesSlot r (word (bucket_at site.shape s (64 + c) + 1)) x
-      → May site (stashes (bucket_at site.shape s (64 + c) + 1) x (Remove k) (record {
+  pub remove : (s c r k x : ℕ) (word : Words) → FoundAt site v word s (homes + c) r k → OwesNone site v s (home_of (key_hash site.shape k)) → c < stash_buckets
+      → FreesSlot r (word (bucket_at site.shape s (homes + c) + 1)) x
+      → May site (stashes (bucket_at site.shape s (homes + c) + 1) x (Remove k) (record {
         segment = s; home = home_of (key_hash site.shape k); added = false; note = (finger_of (key_hash site.shape k), c);
         notes = notes_of site.shape word s (home_of (key_hash site.shape k)); count = overflow_count (word_in site.shape word s (home_of (key_hash site.shape k)) 1);
       })) v
@@ -129,7 +125,7 @@ pub record KeepsNeighbours (shape : Shape) (word other : Words) (s b : ℕ) : Ty
 pub record TouchesNote (site : Site) (v : View) (word : Words) (o : Owed) (c n x : ℕ) : Type 0 where
   pub owed : Has o v.owed
   pub segment : o.segment < site.shape.segments
-  pub near : o.home < 64
+  pub near : o.home < homes
   pub home : KnowsBucket site.shape v o.segment o.home word
   pub probing : KnowsBucket site.shape v o.segment (probing_of o.home) word
   pub bucket : (c ≡ o.home) ⊎ (c ≡ probing_of o.home)
@@ -164,22 +160,22 @@ OwesAsKnown site v word s b = OwesNone site v s b
 pub record MayDraw (site : Site) (v : View) : Type 0 where
   -- where the key stands in a bucket that is known
   pub shown : (call : Call) (s b r : ℕ) (word : Words) → DrawsWell site v call s word → KnowsBucket site.shape v s b word → Hit site.shape word s b r (key_of call) → v.moving ≡ []
-      → ((c : ℕ) → c < 2 → IsKept site v (bucket_at site.shape s (64 + c)) ⊎ (HasLock v.held (bucket_at site.shape s (64 + c)) → ⊥)) → May site (draws_place call) v
+      → ((c : ℕ) → c < stash_buckets → IsKept site v (bucket_at site.shape s (homes + c)) ⊎ (HasLock v.held (bucket_at site.shape s (homes + c)) → ⊥)) → May site (draws_place call) v
   -- where the notes name no record of it in the stash buckets that are not held
   pub unnoted : (call : Call) (s : ℕ) (word : Words) → DrawsWell site v call s word → OwesAsKnown site v word s (home_of (key_hash site.shape (key_of call)))
-      → ((c : ℕ) → c < 2 → IsKept site v (bucket_at site.shape s (64 + c))
-          ⊎ ((HasLock v.held (bucket_at site.shape s (64 + c)) → ⊥) × IsUnnoted site.shape word s (home_of (key_hash site.shape (key_of call))) (finger_of (key_hash site.shape (key_of call))) c))
+      → ((c : ℕ) → c < stash_buckets → IsKept site v (bucket_at site.shape s (homes + c))
+          ⊎ ((HasLock v.held (bucket_at site.shape s (homes + c)) → ⊥) × IsUnnoted site.shape word s (home_of (key_hash site.shape (key_of call))) (finger_of (key_hash site.shape (key_of call))) c))
       → May site (draws_place call) v
 
 pub record MayMove (site : Site) (v : View) : Type 0 where
   -- the copy of a record of home or probing bucket b in bucket c
-  pub copy : (s b r c t k x : ℕ) (word : Words) → HasLock v.held (bucket_at site.shape s (home_of (key_hash site.shape k))) → b < 64 → c < 64
+  pub copy : (s b r c t k x : ℕ) (word : Words) → HasLock v.held (bucket_at site.shape s (home_of (key_hash site.shape k))) → b < homes → c < homes
       → KnowsBucket site.shape v s b word → KnowsBucket site.shape v s c word → Hit site.shape word s b r k → IsReadyAt site.shape word s c t k
       → value_in word (bucket_at site.shape s c) t ≡ value_in word (bucket_at site.shape s b) r → TakesSlot site.shape c t k (word (bucket_at site.shape s c + 1)) x
       → v.moving ≡ []
       → May site (copies (bucket_at site.shape s c + 1) x (record { segment = s; key = k; from_bucket = b; from_slot = r; to_bucket = c; to_slot = t })) v
   -- and the clearing of its source
-  pub clear : (m : Move) (x : ℕ) (word : Words) → HasLock v.held (bucket_at site.shape m.segment (home_of (key_hash site.shape m.key))) → m.from_bucket < 64
+  pub clear : (m : Move) (x : ℕ) (word : Words) → HasLock v.held (bucket_at site.shape m.segment (home_of (key_hash site.shape m.key))) → m.from_bucket < homes
       → KnowsBucket site.shape v m.segment m.from_bucket word → KnowsBucket site.shape v m.segment m.to_bucket word
       → Hit site.shape word m.segment m.from_bucket m.from_slot m.key → Hit site.shape word m.segment m.to_bucket m.to_slot m.key
       → (m.to_bucket ≡ m.from_bucket → m.to_slot ≡ m.from_slot → ⊥) → FreesSlot m.from_slot (word (bucket_at site.shape m.segment m.from_bucket + 1)) x

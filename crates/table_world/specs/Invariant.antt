@@ -9,7 +9,7 @@ use Rattle.map_model.specs.declared.entry.Entry.{Entry}
 use Rattle.map_model.specs.Map.{key_of}
 use Rattle.map_model.specs.Weave.{draws, drew_at}
 use Rattle.map_model.specs.Legal.{InOrder, seen_of}
-use Rattle.image_layout.specs.Places.{bucket_at}
+use Rattle.image_layout.specs.Places.{bucket_at, homes, stash_buckets}
 use Rattle.hash_word.specs.Hash.{home_of}
 use Rattle.sound_image.specs.Records.{key_hash, HasExactNotes}
 use Rattle.map_model.specs.declared.call.Call.TheVariants.{Remove}
@@ -78,18 +78,18 @@ NobodyOwes views s b = (j : ℕ) (v : View) (o : Owed) → At views j v → Has 
 
 -- OVERFLOW DATA: in the newest words the notes of a home are exact where nobody owes it one; and who does holds its lock
 pub record Overflow (site : Site) (words : Words) (views : List View) : Type 0 where
-  pub exact : (s b : ℕ) → s < site.shape.segments → b < 64 → NobodyOwes views s b → HasExactNotes site.shape words s b
+  pub exact : (s b : ℕ) → s < site.shape.segments → b < homes → NobodyOwes views s b → HasExactNotes site.shape words s b
   pub owes : (j : ℕ) (v : View) (o : Owed) → At views j v → Has o v.owed → IsOwed site.shape words o
   pub held : (j : ℕ) (v : View) (o : Owed) → At views j v → Has o v.owed → HasLock v.held (bucket_at site.shape o.segment o.home)
-  pub fits : (j : ℕ) (v : View) (o : Owed) → At views j v → Has o v.owed → (o.segment < site.shape.segments) × (o.home < 64)
+  pub fits : (j : ℕ) (v : View) (o : Owed) → At views j v → Has o v.owed → (o.segment < site.shape.segments) × (o.home < homes)
 
 -- MEDIA: whatever a cut may leave is a table, and has for each key what the history or one planned change gives it
 pub record Media (site : Site) (words : Words) (views : List View) (log : Log) : Type 0 where
   pub structure : (medium : Words) → IsPossible site words views medium → HasStructure site.shape site.front medium
   pub table : (medium : Words) → IsPossible site words views medium → IsTable site.shape medium
   -- a record in the stash stands there in the newest words too, or the holder of that lock is removing it
-  pub stashed : (medium : Words) → IsPossible site words views medium → (s c t k : ℕ) → c < 2 → owner_of site.shape medium (key_hash site.shape k) ≡ Some s
-      → Hit site.shape medium s (64 + c) t k → Hit site.shape words s (64 + c) t k ⊎ IsRemoving views k (bucket_at site.shape s (64 + c))
+  pub stashed : (medium : Words) → IsPossible site words views medium → (s c t k : ℕ) → c < stash_buckets → owner_of site.shape medium (key_hash site.shape k) ≡ Some s
+      → Hit site.shape medium s (homes + c) t k → Hit site.shape words s (homes + c) t k ⊎ IsRemoving views k (bucket_at site.shape s (homes + c))
   pub stands : (medium : Words) → IsPossible site words views medium → (k : ℕ) → Stands site views log k (find site.shape medium k)
 
 -- a note: the lock word has not fallen below the free value, and while it still is that value the noted words are the

@@ -4,7 +4,7 @@ use Rattle.std.specs.Prelude.{◌≡◌, ◌≢◌, ◌-◌, ◌==◌, ◌&&◌,
 use Rattle.op_core.specs.declared.want.Want.{Want}
 use Rattle.op_core.specs.declared.want.Want.TheVariants.{Load, Store, Exchange, Flush, Fence, Draw, Power}
 use Rattle.trace.specs.Events.{Words, line_of, with_word}
-use Rattle.image_layout.specs.Places.{Shape, bucket_at}
+use Rattle.image_layout.specs.Places.{Shape, bucket_at, block, homes, stash_buckets}
 use Rattle.image_layout.specs.Volatile.{counter_word, power_word}
 use Rattle.map_model.specs.declared.call.Call.{Call}
 use Rattle.map_model.specs.declared.call.Call.TheVariants.{Get, Remove}
@@ -21,6 +21,7 @@ use Rattle.bucket_words.specs.Standing.{IsTable}
 use Rattle.bucket_words.specs.Hits.{Hit, HasOnly, find}
 use Rattle.bucket_words.specs.Buckets.{value_in}
 use Rattle.bucket_words.specs.Owners.{HasStructure, owner_of, home_at}
+use Rattle.bucket_words.specs.HomeNotes.{SameHomeNotes}
 use Rattle.bucket_words.specs.Core.{core_of}
 use Rattle.bucket_words.specs.TableChanges.{KeepsTable, ChangesKey}
 use Rattle.table_world.specs.Site.{Site, IsLockWord, IsUnder}
@@ -105,7 +106,7 @@ without i (p ∷ ps) = if p.0 == i then without i ps else p ∷ without i ps
 -- the pairs of words that do not lie under a lock
 abbrev pub not_under : ℕ → List (ℕ × ℕ) → List (ℕ × ℕ)
 not_under lock [] = []
-not_under lock (p ∷ ps) = if nat_lt lock p.0 && nat_lt p.0 (lock + 32) then not_under lock ps else p ∷ not_under lock ps
+not_under lock (p ∷ ps) = if nat_lt lock p.0 && nat_lt p.0 (lock + block) then not_under lock ps else p ∷ not_under lock ps
 
 -- the pairs of words of a line, and the others
 abbrev pub on_line : ℕ → List (ℕ × ℕ) → List (ℕ × ℕ)
@@ -258,12 +259,6 @@ abbrev pub IsMoveOf : Move → ℕ → ℕ → ℕ → ℕ → ℕ → ℕ → T
 IsMoveOf m s k b r c t = (s ≡ m.segment) × (k ≡ m.key)
     × (((b ≡ m.from_bucket) × (r ≡ m.from_slot) × (c ≡ m.to_bucket) × (t ≡ m.to_slot)) ⊎ ((b ≡ m.to_bucket) × (r ≡ m.to_slot) × (c ≡ m.from_bucket) × (t ≡ m.from_slot)))
 
--- what home b of a segment has noted of the stash, and what it has there, is as it was
-pub record SameNotes (shape : Shape) (word other : Words) (s b : ℕ) : Type 0 where
-  pub notes : notes_of shape other s b ≡ notes_of shape word s b
-  pub count : overflow_count (word_in shape other s b 1) ≡ overflow_count (word_in shape word s b 1)
-  pub stashed : stashed_of shape other s b ≡ stashed_of shape word s b
-
 -- ---- what a kind asks of the stepping view alone
 module _ (site : Site) where
   -- a medium has the words that a view knows and has not loose. What a cut leaves has their cores alone; since those
@@ -290,7 +285,7 @@ module _ (site : Site) where
     pub knows : (i x : ℕ) → Has (i, x) v.known → words i ≡ x
     pub once : (s b r c t k : ℕ) → HasLock v.held (bucket_at site.shape s (home_of (key_hash site.shape k))) → Hit site.shape words s b r k → Hit site.shape words s c t k
         → ((b ≡ c) × (r ≡ t)) ⊎ ((m : Move) × Has m v.moving × IsMoveOf m s k b r c t)
-    pub exact : (s b : ℕ) → s < site.shape.segments → b < 64 → HasLock v.held (bucket_at site.shape s b) → OwesNone v s b → HasExactNotes site.shape words s b
+    pub exact : (s b : ℕ) → s < site.shape.segments → b < homes → HasLock v.held (bucket_at site.shape s b) → OwesNone v s b → HasExactNotes site.shape words s b
     pub owes : (o : Owed) → Has o v.owed → IsOwed site.shape words o
 
   -- a medium may be left beside them, as far as a view can know
@@ -301,8 +296,8 @@ module _ (site : Site) where
     pub owner : (s k : ℕ) → HasLock v.held (bucket_at site.shape s (home_of (key_hash site.shape k))) → owner_of site.shape words (key_hash site.shape k) ≡ Some s
         → owner_of site.shape medium (key_hash site.shape k) ≡ Some s
     -- under the lock of a key's home, a record of it in the stash stands there in the newest words too
-    pub stashed : (s c t k : ℕ) → c < 2 → HasLock v.held (bucket_at site.shape s (home_of (key_hash site.shape k))) → IsUnplanned v k
-        → owner_of site.shape medium (key_hash site.shape k) ≡ Some s → Hit site.shape medium s (64 + c) t k → Hit site.shape words s (64 + c) t k
+    pub stashed : (s c t k : ℕ) → c < stash_buckets → HasLock v.held (bucket_at site.shape s (home_of (key_hash site.shape k))) → IsUnplanned v k
+        → owner_of site.shape medium (key_hash site.shape k) ≡ Some s → Hit site.shape medium s (homes + c) t k → Hit site.shape words s (homes + c) t k
 
   -- whatever the newest words are, and whatever medium stands beside them
   abbrev pub Always : View → (Words → Type 0) → Type 0
@@ -339,17 +334,17 @@ module _ (site : Site) where
 
   -- notes and stash records of all homes but one are as they were; of a home that is owed one, the records at least
   abbrev pub KeepsNotes : View → ℕ → ℕ → (ℕ → ℕ → Type 0) → Type 0
-  KeepsNotes v i x but = Always v (λ words. (s b : ℕ) → s < site.shape.segments → b < 64
-      → SameNotes site.shape words (with_word words i x) s b ⊎ ((stashed_of site.shape (with_word words i x) s b ≡ stashed_of site.shape words s b) × IsOwing v s b) ⊎ but s b)
+  KeepsNotes v i x but = Always v (λ words. (s b : ℕ) → s < site.shape.segments → b < homes
+      → SameHomeNotes site.shape words (with_word words i x) s b ⊎ ((stashed_of site.shape (with_word words i x) s b ≡ stashed_of site.shape words s b) × IsOwing v s b) ⊎ but s b)
 
   -- a record leaves the stash only where it is named
   abbrev pub KeepsStash : View → ℕ → ℕ → (ℕ → ℕ → Type 0) → Type 0
-  KeepsStash v i x but = Always v (λ words. (s c t k : ℕ) → c < 2 → Hit site.shape words s (64 + c) t k → Hit site.shape (with_word words i x) s (64 + c) t k ⊎ but k (bucket_at site.shape s (64 + c)))
+  KeepsStash v i x but = Always v (λ words. (s c t k : ℕ) → c < stash_buckets → Hit site.shape words s (homes + c) t k → Hit site.shape (with_word words i x) s (homes + c) t k ⊎ but k (bucket_at site.shape s (homes + c)))
 
   -- a record comes to the stash of a medium only where it comes to that of the newest words
   abbrev pub AddsAlike : View → ℕ → ℕ → Type 0
-  AddsAlike v i x = AlwaysBeside v (λ words medium. (s c t k : ℕ) → c < 2 → Hit site.shape (with_word medium i x) s (64 + c) t k
-      → Hit site.shape (with_word words i x) s (64 + c) t k ⊎ Hit site.shape medium s (64 + c) t k)
+  AddsAlike v i x = AlwaysBeside v (λ words medium. (s c t k : ℕ) → c < stash_buckets → Hit site.shape (with_word medium i x) s (homes + c) t k
+      → Hit site.shape (with_word words i x) s (homes + c) t k ⊎ Hit site.shape medium s (homes + c) t k)
 
   -- a record of a key comes only under the locks of its bucket and of the key's home
   abbrev pub AddsHeld : View → ℕ → ℕ → Type 0
@@ -388,7 +383,7 @@ module _ (site : Site) where
 
   -- the lock of a stash bucket is not held, and the notes say that the key does not stand there
   abbrev pub IsUnvisited : View → ℕ → ℕ → ℕ → Type 0
-  IsUnvisited v s k c = (HasLock v.held (bucket_at site.shape s (64 + c)) → ⊥) × Always v (λ words. (t : ℕ) → Hit site.shape words s (64 + c) t k → ⊥)
+  IsUnvisited v s k c = (HasLock v.held (bucket_at site.shape s (homes + c)) → ⊥) × Always v (λ words. (t : ℕ) → Hit site.shape words s (homes + c) t k → ⊥)
 
   -- a reply that may stand whatever the key has, or that is right by what the holder of the key's lock knows
   abbrev pub IsKnownReply : View → Call → Reply → Type 0
@@ -400,7 +395,7 @@ module _ (site : Site) where
     pub structure : HasStructure site.shape site.front words
     pub table : IsTable site.shape words
     pub agrees : AgreesWithNotes notes words
-    pub exact : (s b : ℕ) (note : Note) → s < site.shape.segments → b < 64 → Has note notes → note.lock ≡ bucket_at site.shape s b → HasExactNotes site.shape words s b
+    pub exact : (s b : ℕ) (note : Note) → s < site.shape.segments → b < homes → Has note notes → note.lock ≡ bucket_at site.shape s b → HasExactNotes site.shape words s b
 
   -- a map may be what all keys have, as far as a view can know: it has what the newest words have for the keys of whose homes
   -- the view holds the locks, and the records in the buckets that it holds, which are of different keys
@@ -442,13 +437,13 @@ module _ (site : Site) where
       × Has o v.owed
   May (publishes i x call) v = IsTidy v i x NoTwin NoHome (MayTake v call) × ((s : ℕ) × HoldsHome v s (key_of call)) × IsUnplanned v (key_of call) × IsPublishing v call i x × HoldsPlaces v (key_of call)
   May (stashes i x call o) v = IsTidy v i x NoTwin (IsHomeOf o) (MayTake v call) × ((s : ℕ) × HoldsHome v s (key_of call)) × IsUnplanned v (key_of call) × IsPublishing v call i x
-      × (o.segment < site.shape.segments) × (o.home < 64) × HasLock v.held (bucket_at site.shape o.segment o.home) × OwesNone v o.segment o.home
+      × (o.segment < site.shape.segments) × (o.home < homes) × HasLock v.held (bucket_at site.shape o.segment o.home) × OwesNone v o.segment o.home
       × Always v (λ words. IsOwed site.shape (with_word words i x) o) × HoldsPlaces v (key_of call)
   May (flushes l) v = ⊤
   May fences v = ⊤
   May (draws_place call) v = Has call v.planned × (0 < v.room) × ((s : ℕ) × HoldsHome v s (key_of call)
       × IsFirm v (bucket_at site.shape s (home_of (key_hash site.shape (key_of call))))
       × IsKept v (bucket_at site.shape s (probing_of (home_of (key_hash site.shape (key_of call)))))
-      × ((c : ℕ) → c < 2 → IsKept v (bucket_at site.shape s (64 + c)) ⊎ IsUnvisited v s (key_of call) c))
+      × ((c : ℕ) → c < stash_buckets → IsKept v (bucket_at site.shape s (homes + c)) ⊎ IsUnvisited v s (key_of call) c))
   May (unlocks lock next) v = (x : ℕ) × Has (lock, x) v.held × IsFirm v lock × (v.planned ≡ []) × (v.moving ≡ []) × (v.owed ≡ []) × (next ≡ x + 1)
   May cuts_power v = ⊤

@@ -4,7 +4,6 @@ pub mod History
 pub mod Wants
 pub mod Kinds
 pub mod Entering
-pub mod Attempts
 pub mod Media
 pub mod Invariant
 pub mod Tied
@@ -16,3 +15,4 @@ pub mod Later
 pub mod Spent
 pub mod Holders
 pub mod Readers
+pub mod Attempts

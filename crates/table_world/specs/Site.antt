@@ -1,7 +1,7 @@
 -- What is fixed from the end of a restart to the close: how the image is laid out, the words of its structure, what each key had at the start, and how many callers there are.
 use Rattle.std.specs.Prelude.{◌≡◌, ℕ, ◌+◌, ◌-◌, ◌^◌, ◌<◌, Option}
 use Rattle.trace.specs.Events.{Words}
-use Rattle.image_layout.specs.Places.{Shape, IsShape, bucket_at, buckets}
+use Rattle.image_layout.specs.Places.{Shape, IsShape, bucket_at, buckets, block}
 
 pub record Site : Type 0 where
   pub shape : Shape
@@ -30,4 +30,4 @@ HasSpentLock shape words = (lock : ℕ) × IsSpentLock shape words lock
 
 -- word i is one of the 31 words behind a lock word, which the lock guards
 abbrev pub IsUnder : ℕ → ℕ → Type 0
-IsUnder lock i = (lock < i) × (i < lock + 32)
+IsUnder lock i = (lock < i) × (i < lock + block)

@@ -2,7 +2,7 @@
 use Rattle.std.specs.Prelude.{◌≡◌, ℕ, zero, suc, ◌<◌, ◌%◌, List, [], ◌∷◌, None, false}
 use Rattle.trace.specs.Events.{Words, Trace, value}
 use Rattle.trace.specs.Steps.{HadSinceSettled}
-use Rattle.image_layout.specs.Places.{Shape, words_of}
+use Rattle.image_layout.specs.Places.{Shape, words_of, homes}
 use Rattle.image_layout.specs.Volatile.{counter_word, power_word}
 use Rattle.bucket_words.specs.Standing.{IsTable}
 use Rattle.bucket_words.specs.Owners.{HasStructure}
@@ -71,7 +71,7 @@ pub record Begins (site : Site) (start : Words) (world : World) : Type 0 where
   pub structure : HasStructure site.shape site.front world.words
   pub table : IsTable site.shape world.words
   pub once : (s b r c t k : ℕ) → Hit site.shape world.words s b r k → Hit site.shape world.words s c t k → (b ≡ c) × (r ≡ t)
-  pub exact : (s b : ℕ) → s < site.shape.segments → b < 64 → HasExactNotes site.shape world.words s b
+  pub exact : (s b : ℕ) → s < site.shape.segments → b < homes → HasExactNotes site.shape world.words s b
   pub pairs : (k : ℕ) → find site.shape world.words k ≡ site.start k
   pub free : (lock : ℕ) → IsLockWord site.shape lock → world.words lock % 2 ≡ 0
   pub counter : world.words (counter_word site.shape) ≡ 0

@@ -13,7 +13,8 @@ use Rattle.bucket_words.specs.Hits.{Hit}
 use Rattle.table_world.specs.Site.{Site, IsSite, IsUnder}
 use Rattle.table_world.specs.Views.{Move, Owed, View, Has, HasLock}
 use Rattle.table_world.specs.Kinds.{IsNewest, IsOwedOf, IsKept, May, draws_place}
-use Rattle.table_world.specs.Holders.{KnowsBucket, IsUnnoted, DrawsWell, OwesAsKnown, MayDraw}
+use Rattle.bucket_words.specs.HomeNotes.{IsUnnoted}
+use Rattle.table_world.specs.Holders.{KnowsBucket, DrawsWell, OwesAsKnown, MayDraw}
 use Rattle.table_world.proofs.beside.Noted.{notes_same}
 use Rattle.table_world.proofs.beside.Stashed.{hit_stashed, not_there}
 use Rattle.table_world.proofs.stepping.Holders.{newest_same, hit_from}

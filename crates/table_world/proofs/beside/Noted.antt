@@ -8,7 +8,8 @@ use Rattle.stash.proofs.Counts.{same_pieces}
 use Rattle.trace.specs.Events.{Words}
 use Rattle.image_layout.specs.Places.{Shape, bucket_at, key_at}
 use Rattle.sound_image.specs.Records.{key_hash, word_in, slot_hash, notes_in, notes_of, stashed_in, stashed_of, HasExactNotes}
-use Rattle.table_world.specs.Kinds.{SameNotes, IsOwedOf}
+use Rattle.bucket_words.specs.HomeNotes.{SameHomeNotes}
+use Rattle.table_world.specs.Kinds.{IsOwedOf}
 use Rattle.table_world.specs.Kinds.{IsOwed}
 use Rattle.table_world.specs.Views.{Owed}
 
@@ -50,7 +51,7 @@ module _ (shape : Shape) (word other : Words) (s b : ℕ) (home : b < 64) where
           sym (ap other e) ∙ same (4 + 2 * r) (omega arith) (omega (arith, slot)) ∙ ap word e
 
   -- the words behind the lock words are the same
-  pub same_notes : ((c n : ℕ) → c < 66 → 1 ≤ n → n < 32 → other (bucket_at shape s c + n) ≡ word (bucket_at shape s c + n)) → SameNotes shape word other s b
+  pub same_notes : ((c n : ℕ) → c < 66 → 1 ≤ n → n < 32 → other (bucket_at shape s c + n) ≡ word (bucket_at shape s c + n)) → SameHomeNotes shape word other s b
   same_notes same = record {
     notes = notes_same (λ n above below. same b n (omega (arith, home)) above (omega (arith, below))) (λ n above below. same (probing_of b) n near_probing above (omega (arith, below)));
     count = ap overflow_count (same b 1 (omega (arith, home)) (omega arith) (omega arith));
@@ -59,7 +60,7 @@ module _ (shape : Shape) (word other : Words) (s b : ℕ) (home : b < 64) where
   }
 
 -- so exact notes stay exact
-pub exact_same : (shape : Shape) (word other : Words) (s b : ℕ) → SameNotes shape word other s b → HasExactNotes shape word s b → HasExactNotes shape other s b
+pub exact_same : (shape : Shape) (word other : Words) (s b : ℕ) → SameHomeNotes shape word other s b → HasExactNotes shape word s b → HasExactNotes shape other s b
 exact_same shape word other s b same exact = moved (notes_of shape word s b) (notes_of shape other s b) (overflow_count (word_in shape word s b 1)) (overflow_count (word_in shape other s b 1))
     (stashed_of shape word s b) (stashed_of shape other s b) same.notes same.count same.stashed exact
   where

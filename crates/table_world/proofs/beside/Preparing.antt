@@ -20,7 +20,8 @@ use Rattle.bucket_words.proofs.segments.NoSlot.{same_there, same_back}
 use Rattle.bucket_words.proofs.segments.Prepared.{slots_kept, behind_meta}
 use Rattle.table_world.specs.Site.{Site, IsSite, IsUnder}
 use Rattle.table_world.specs.Views.{View, HasLock}
-use Rattle.table_world.specs.Kinds.{IsNewest, StandsBeside, SameNotes, IsTidy, May, stores}
+use Rattle.bucket_words.specs.HomeNotes.{SameHomeNotes}
+use Rattle.table_world.specs.Kinds.{IsNewest, StandsBeside, IsTidy, May, stores}
 use Rattle.table_world.specs.Holders.{KnowsBucket, SparesTaken, MayPrepare}
 use Rattle.table_world.proofs.beside.Noted.{notes_by, piece_of, piece_by, stash_keys}
 use Rattle.table_world.proofs.beside.Stashed.{pieces}
@@ -88,7 +89,7 @@ module _ (shape : Shape) (w : Words) (table : IsTable shape w) (s b m x : ℕ) (
       none : (w1 key : ℕ) → (allocated t w1 ≡ 1 → ⊥) → piece_by shape d e w1 t key ≡ []
       none w1 key free = rw (ne_eqb (allocated t w1) 1 free) refl
 
-  notes_all : (q d : ℕ) → q < shape.segments → d < 64 → SameNotes shape w us q d
+  notes_all : (q d : ℕ) → q < shape.segments → d < 64 → SameHomeNotes shape w us q d
   notes_all q d near_q near = record {
     notes = ap (λ z. z ++ notes_in shape us q (probing_of d) 1) (one_side q d 0 (omega (arith, near))) ∙ ap (λ z. notes_in shape w q d 0 ++ z) (one_side q (probing_of d) 1 (omega arith));
     count = ap overflow_count (meta q d (omega (arith, near)));

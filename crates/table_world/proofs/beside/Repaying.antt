@@ -16,7 +16,8 @@ use Rattle.bucket_words.proofs.segments.Places.{other_word}
 use Rattle.bucket_words.proofs.segments.Prepared.{core_keeps}
 use Rattle.table_world.specs.Site.{Site, IsSite, IsUnder}
 use Rattle.table_world.specs.Views.{Owed, View, Has, HasLock, IsGuarded}
-use Rattle.table_world.specs.Kinds.{IsNewest, StandsBeside, SameNotes, IsOwing, IsHomeOf, IsOwedOf, IsOwed, IsTidy, IsHarmless, May, stores, repays}
+use Rattle.bucket_words.specs.HomeNotes.{SameHomeNotes}
+use Rattle.table_world.specs.Kinds.{IsNewest, StandsBeside, IsOwing, IsHomeOf, IsOwedOf, IsOwed, IsTidy, IsHarmless, May, stores, repays}
 use Rattle.table_world.specs.Holders.{KnowsBucket, KeepsNeighbours, TouchesNote, MayRepay}
 use Rattle.table_world.proofs.beside.Noted.{notes_by, stash_same}
 use Rattle.table_world.proofs.Tables.{same_hit, cores_replaced}
@@ -143,7 +144,7 @@ module _ (site : Site) (is : IsSite site) (v : View) (o : Owed) (c n x : ℕ) (w
     one_home : (d : ℕ) → d < 64 → probing_of d ≡ probing_of b → d ≡ b
     one_home d near e = let z = touch.near in omega (arith, near, e, z)
 
-    others : (q d : ℕ) → d < 64 → (q ≡ s → d ≡ b → ⊥) → SameNotes site.shape words us q d
+    others : (q d : ℕ) → d < 64 → (q ≡ s → d ≡ b → ⊥) → SameHomeNotes site.shape words us q d
     others q d near apart = record {
       notes = ap (λ z. z ++ notes_in site.shape us q (probing_of d) 1) (side_0 q d near apart)
           ∙ ap (λ z. notes_in site.shape words q d 0 ++ z) (side_1 q (probing_of d) (omega arith) (λ f g. apart f (one_home d near g)));
@@ -162,7 +163,7 @@ module _ (site : Site) (is : IsSite site) (v : View) (o : Owed) (c n x : ℕ) (w
         subst (λ z. AreExact z (overflow_count (word_in site.shape us s b 1)) (stashed_of site.shape us s b)) (sym notes)
         (subst (λ z. AreExact (notes_of site.shape (with_word word i x) s b) z (stashed_of site.shape us s b)) (sym count) (exact (stashed_of site.shape us s b) due))
 
-  tidy : (home : ℕ → ℕ → Type 0) → ((words : Words) → IsNewest site v words → (q d : ℕ) → d < 64 → SameNotes site.shape words (with_word words i x) q d
+  tidy : (home : ℕ → ℕ → Type 0) → ((words : Words) → IsNewest site v words → (q d : ℕ) → d < 64 → SameHomeNotes site.shape words (with_word words i x) q d
       ⊎ ((stashed_of site.shape (with_word words i x) q d ≡ stashed_of site.shape words q d) × IsOwing site v q d) ⊎ home q d)
       → IsTidy site v i x (λ s k b r c t. ⊥) home (λ k lock. ⊥)
   tidy home notes = record {

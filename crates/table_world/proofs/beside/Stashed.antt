@@ -13,8 +13,10 @@ use Rattle.trace.specs.Events.{Words}
 use Rattle.image_layout.specs.Places.{Shape, bucket_at, key_at}
 use Rattle.sound_image.specs.Records.{key_hash, word_in, notes_in, notes_of, stashed_in, stashed_of, HasExactNotes}
 use Rattle.bucket_words.specs.Hits.{Hit}
-use Rattle.table_world.specs.Kinds.{SameNotes}
-use Rattle.table_world.specs.Holders.{IsUnnoted}
+use Rattle.bucket_words.specs.HomeNotes.{SameHomeNotes}
+
+use Rattle.bucket_words.specs.HomeNotes.{IsUnnoted}
+
 use Rattle.table_world.proofs.beside.Noted.{notes_by, piece_by}
 
 -- ---- the overflow parts of a metadata word

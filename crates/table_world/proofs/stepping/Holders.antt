@@ -23,8 +23,10 @@ use Rattle.bucket_words.proofs.segments.OneRecord.{not_both, not_taken, told, to
 use Rattle.table_world.specs.Site.{Site, IsSite, IsUnder}
 use Rattle.table_world.specs.Views.{Move, Owed, View, Has, HasLock, IsGuarded}
 use Rattle.table_world.specs.History.{reply_by, MayReply}
-use Rattle.table_world.specs.Kinds.{OwesNone, IsNewest, StandsBeside, SameNotes, IsMoveOf, IsHomeOf, IsOwing, IsOwed, IsTidy, AddsHeld, HoldsPlaces, MayTake, IsHarmless, IsPublishing, May, publishes, stashes, copies, clears}
-use Rattle.table_world.specs.Holders.{KnowsWord, KnowsBucket, IsUnnoted, FoundNone, FoundAt, TakesSlot, FreesSlot, MayPlace, MayChange, MayUnstash, MayTell, MayMove}
+use Rattle.bucket_words.specs.HomeNotes.{SameHomeNotes}
+use Rattle.table_world.specs.Kinds.{OwesNone, IsNewest, StandsBeside, IsMoveOf, IsHomeOf, IsOwing, IsOwed, IsTidy, AddsHeld, HoldsPlaces, MayTake, IsHarmless, IsPublishing, May, publishes, stashes, copies, clears}
+use Rattle.bucket_words.specs.HomeNotes.{IsUnnoted}
+use Rattle.table_world.specs.Holders.{KnowsWord, KnowsBucket, FoundNone, FoundAt, TakesSlot, FreesSlot, MayPlace, MayChange, MayUnstash, MayTell, MayMove}
 use Rattle.table_world.proofs.beside.Noted.{notes_by, piece_of, piece_by, notes_same, stash_same, stash_keys}
 use Rattle.table_world.proofs.beside.Stashed.{changed_within, overflow_same, count_same, not_there, came, longer, pieces, free_piece, other_piece, record_piece}
 use Rattle.stash.proofs.Counts.{IsSum, same_pieces, how_often-is_sum, length-is_sum}
@@ -103,7 +105,7 @@ module _ (shape : Shape) (word : Words) (table : IsTable shape word) (s b r x : 
   count_kept q d near = by_parts overflow_count (count_same (word (bucket_at shape s b + 1)) x high) q d (omega (arith, near))
 
   -- in the stash nothing is another where the bucket is none of its
-  pub outside : b < 64 → (q d : ℕ) → d < 64 → SameNotes shape word other q d
+  pub outside : b < 64 → (q d : ℕ) → d < 64 → SameHomeNotes shape word other q d
   outside low q d near = record {
     notes = notes_kept q d near;
     count = count_kept q d near;
@@ -349,13 +351,13 @@ module _ (site : Site) (is : IsSite site) (v : View) where
               (subst (λ (z : ℕ). pieces site.shape after s d z t ≡ pieces site.shape words s d z t) (sym g)
               (subst (λ (z : ℕ). pieces site.shape after s d c z ≡ pieces site.shape words s d c z) (sym y) (not_its_home d apart ∙ sym (before_piece d))))
 
-      notes_here : (q d : ℕ) → d < 64 → SameNotes site.shape words after q d ⊎ ((stashed_of site.shape after q d ≡ stashed_of site.shape words q d) × IsOwing site v q d) ⊎ IsHomeOf site owing q d
+      notes_here : (q d : ℕ) → d < 64 → SameHomeNotes site.shape words after q d ⊎ ((stashed_of site.shape after q d ≡ stashed_of site.shape words q d) × IsOwing site v q d) ⊎ IsHomeOf site owing q d
       notes_here q d near = elim (cases_eq q s) [
         | inr m ↦ inl (same_all q d near (λ e _. m e))
         | inl e ↦ elim (cases_eq d (home k)) [ inr m ↦ inl (same_all q d near (λ _ g. m g)) | inl g ↦ inr (inr (sym e, sym g)) ]
       ]
         where
-          same_all : (q d : ℕ) → d < 64 → (q ≡ s → d ≡ home k → ⊥) → SameNotes site.shape words after q d
+          same_all : (q d : ℕ) → d < 64 → (q ≡ s → d ≡ home k → ⊥) → SameHomeNotes site.shape words after q d
           same_all q d near apart = record {
             notes = notes_kept site.shape words n.table s (64 + c) r x made.segment made.bucket made.slot but_here high_here q d near;
             count = count_kept site.shape words n.table s (64 + c) r x made.segment made.bucket made.slot but_here high_here q d near;
@@ -666,7 +668,7 @@ module _ (site : Site) (is : IsSite site) (v : View) where
         update_kept : (q c n j : ℕ) → c < 66 → n < 32 → j ≡ bucket_at site.shape q c + n → (n ≡ 5 + 2 * r → ⊥) → with_word w value_word a j ≡ w j
         update_kept q c n j near below place other = updated_kept site.shape w table s b stood.segment stood.bucket r k a stood own only q c n j near below place (λ _ _ e. other e)
 
-        update_notes : (q d : ℕ) → d < 64 → SameNotes site.shape w (with_word w value_word a) q d
+        update_notes : (q d : ℕ) → d < 64 → SameHomeNotes site.shape w (with_word w value_word a) q d
         update_notes q d near = record {
           notes = notes_same site.shape w (with_word w value_word a) q d near
               (λ i above below. update_kept q d i (bucket_at site.shape q d + i) (omega (arith, near)) (omega (arith, below)) refl (λ e. omega (arith, e, below)))
@@ -844,13 +846,13 @@ module _ (site : Site) (is : IsSite site) (v : View) where
               (subst (λ (z : ℕ). pieces site.shape left s d z t ≡ pieces site.shape words s d z t) (sym g)
               (subst (λ (z : ℕ). pieces site.shape left s d c z ≡ pieces site.shape words s d c z) (sym y) (has_piece d ∙ sym (had_other d apart))))
 
-      notes_so : (q d : ℕ) → d < 64 → SameNotes site.shape words left q d ⊎ ((stashed_of site.shape left q d ≡ stashed_of site.shape words q d) × IsOwing site v q d) ⊎ IsHomeOf site parting q d
+      notes_so : (q d : ℕ) → d < 64 → SameHomeNotes site.shape words left q d ⊎ ((stashed_of site.shape left q d ≡ stashed_of site.shape words q d) × IsOwing site v q d) ⊎ IsHomeOf site parting q d
       notes_so q d near = elim (cases_eq q s) [
         | inr m ↦ inl (all_so q d near (λ e _. m e))
         | inl e ↦ elim (cases_eq d (home k)) [ inr m ↦ inl (all_so q d near (λ _ g. m g)) | inl g ↦ inr (inr (sym e, sym g)) ]
       ]
         where
-          all_so : (q d : ℕ) → d < 64 → (q ≡ s → d ≡ home k → ⊥) → SameNotes site.shape words left q d
+          all_so : (q d : ℕ) → d < 64 → (q ≡ s → d ≡ home k → ⊥) → SameHomeNotes site.shape words left q d
           all_so q d near apart = record {
             notes = notes_kept site.shape words n.table s (64 + c) r x f.hit.segment f.hit.bucket f.hit.slot (but_this words n.table so) high_so q d near;
             count = count_kept site.shape words n.table s (64 + c) r x f.hit.segment f.hit.bucket f.hit.slot (but_this words n.table so) high_so q d near;

@@ -12,7 +12,8 @@ use Rattle.bucket_words.proofs.segments.Finding.{find_is, find_none}
 use Rattle.table_world.specs.Site.{Site, IsUnder}
 use Rattle.table_world.specs.Views.{Note, View}
 use Rattle.table_world.specs.Kinds.{IsNow}
-use Rattle.table_world.specs.Holders.{IsUnnoted}
+use Rattle.bucket_words.specs.HomeNotes.{IsUnnoted}
+
 use Rattle.table_world.specs.Readers.{NotedBucket, Looked, MayAnswer}
 use Rattle.table_world.proofs.beside.Noted.{notes_same}
 use Rattle.table_world.proofs.beside.Stashed.{not_there}
