@@ -2,8 +2,9 @@
 //!
 //! Definitions and laws for every crate that speaks of a running table. `specs/` reads from `Buckets` and `Slots` (one bucket)
 //! and `Core` (what of a word counts) over `Owners` (which segment owns a hash), `Hits` (where a key stands, and `find`) and
-//! `Standing` (what a table is) to `TableChanges` and `HomeNotes` (what a home has noted of the stash): tables of any number of segments, with records in all their buckets. `Tables`
-//! and `Changes` say the same of one segment whose records stand in their homes, which is what the program serves today.
+//! `Standing` (what a table is) to `TableChanges` and `HomeNotes` (what a home has noted of the stash): tables of any number of
+//! segments, with records in all their buckets. `Tables` and `Changes` say the same of one segment whose records stand in their
+//! homes, which is what the program serves today.
 #![tactic(auto)]
 
 mod laws;
