@@ -4,7 +4,7 @@ pub mod Lists
 pub mod Seats
 pub mod Entries
 pub mod NotedLists
-pub mod beside
+pub mod holding
 pub mod invariant
 pub mod device
 pub mod Legality

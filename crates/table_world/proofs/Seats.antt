@@ -40,7 +40,7 @@ module _ (views : List View) (j : ℕ) (v w : View) (at : At views j v) where
       (λ (n : i ≢ j). (u, set_there views j i u w n a, p))
 
 -- ---- who holds a word
-module _ (site : Site) (is : IsSite site) (words : Words) (views : List View) (l : Locks site words views) where
+module _ (site : Site) (words : Words) (views : List View) (l : Locks site words views) where
   pub lock_of : (j : ℕ) (v : View) (lock : ℕ) → At views j v → HasLock v.held lock → IsLockWord site.shape lock
   lock_of j v lock a h = (l.locked j v lock h.0 a h.1).0
 

@@ -21,7 +21,7 @@ use Rattle.table_world.specs.Site.{Site, IsSite, IsLockWord, IsUnder}
 use Rattle.table_world.proofs.Grounds.{lock_within, lock_core, under_lock}
 
 -- ---- over a site
-module _ (site : Site) (is : IsSite site) where
+module _ (site : Site) where
   -- words of the cores of a table are one, with the same pairs
   pub same_keeps : (word other : Words) → ((i : ℕ) → i < words_of site.shape → core site.shape word i ≡ core site.shape other i) → IsTable site.shape word
       → KeepsTable site.shape word other

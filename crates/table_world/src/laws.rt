@@ -1,6 +1,6 @@
 //! The laws of the world. The functions do nothing: each stands for the law that its contract says.
 
-ghost use Rattle.table_world.specs.Site.{Site, IsSite};
+ghost use Rattle.table_world.specs.Site.{Site};
 ghost use Rattle.table_world.specs.Views.{View};
 ghost use Rattle.table_world.specs.Readers.{MayAnswer};
 ghost use Rattle.table_world.specs.Holders.{MayPrepare, MayPlace, MayChange, MayTell, MayRepay, MayDraw, MayUnstash, MayMove};
@@ -57,19 +57,19 @@ pub fn device_leaves_what_views_say()
 
 /// What the holder of locks has to know of buckets to place a record in any of them, to copy one and to clear its source.
 pub fn holders_may()
-    ensures prepare { (site : Site) → IsSite site → (v : View) → MayPrepare site v }
-    ensures place { (site : Site) → IsSite site → (v : View) → MayPlace site v }
-    ensures change { (site : Site) → IsSite site → (v : View) → MayChange site v }
-    ensures tell { (site : Site) → IsSite site → (v : View) → MayTell site v }
-    ensures unstash { (site : Site) → IsSite site → (v : View) → MayUnstash site v }
-    ensures draw { (site : Site) → IsSite site → (v : View) → MayDraw site v }
-    ensures repay { (site : Site) → IsSite site → (v : View) → MayRepay site v }
-    ensures moves { (site : Site) → IsSite site → (v : View) → MayMove site v }
+    ensures prepare { (site : Site) (v : View) → MayPrepare site v }
+    ensures place { (site : Site) (v : View) → MayPlace site v }
+    ensures change { (site : Site) (v : View) → MayChange site v }
+    ensures tell { (site : Site) (v : View) → MayTell site v }
+    ensures unstash { (site : Site) (v : View) → MayUnstash site v }
+    ensures draw { (site : Site) (v : View) → MayDraw site v }
+    ensures repay { (site : Site) (v : View) → MayRepay site v }
+    ensures moves { (site : Site) (v : View) → MayMove site v }
 {}
 
 /// What a reader has to note of buckets to place an answer.
 pub fn readers_may()
-    ensures { (site : Site) → (v : View) → MayAnswer site v }
+    ensures { (site : Site) (v : View) → MayAnswer site v }
 {}
 
 /// A view that is cut in two, and two that are joined, keep the invariant.

@@ -125,10 +125,10 @@ module _ (site : Site) (start : Words) (world : World) (b : Begins site start wo
       fits = λ j v o at h. absurd (none (λ v. v.owed) (λ _. refl) j v o at h);
     };
     media = record {
-      structure = λ m p i s. core_structure_same site b.site_is world.words m (cores m p) i s ∙ b.structure i s;
-      table = λ m p. (same_keeps site b.site_is world.words m (λ i within. sym (cores m p i within)) b.table).table;
-      stashed = λ m p s c t k small own hit. inl (same_hit site b.site_is m world.words (cores m p) s (64 + c) t k hit);
-      stands = λ m p k. inl (same_find site b.site_is m world.words k (cores m p) ∙ b.pairs k);
+      structure = λ m p i s. core_structure_same site world.words m (cores m p) i s ∙ b.structure i s;
+      table = λ m p. (same_keeps site world.words m (λ i within. sym (cores m p i within)) b.table).table;
+      stashed = λ m p s c t k small own hit. inl (same_hit site m world.words (cores m p) s (64 + c) t k hit);
+      stands = λ m p k. inl (same_find site m world.words k (cores m p) ∙ b.pairs k);
     };
     notes = record {
       noted = λ j v n at h. absurd (none (λ v. v.notes) (λ _. refl) j v n at h);

@@ -19,7 +19,7 @@ use Rattle.table_world.specs.Laws.{words_by, views_by}
 use Rattle.table_world.proofs.Tables.{same_hit, lock_cores, counter_cores, power_cores, power_cores}
 use Rattle.table_world.proofs.Lists.{set_here}
 use Rattle.table_world.proofs.Seats.{each, carry}
-use Rattle.table_world.proofs.beside.Beside.{newest_is}
+use Rattle.table_world.proofs.holding.Beside.{newest_is}
 use Rattle.table_world.proofs.invariant.KeepMedia.{storer}
 
 other_records_has : (m n : Move) (moves : List Move) → Has n (of_other_records m moves) → Has n moves
@@ -86,7 +86,7 @@ module _ (site : Site) (words : Words) (views : List View) (j : ℕ) (v : View) 
   quiet : (us : Words) (w : View) → ((n : ℕ) → n < words_of site.shape → core site.shape us n ≡ core site.shape words n) → w.moving ≡ v.moving
       → ((m : Move) → Has m v.moving → Held site w.held m) → Copies site us (set views j w)
   quiet us w same moving held = copies_law site words us views j v w at h.copies
-      (λ s b r c t k x y. elim (h.copies.once s b r c t k (same_hit site h.site_is us words same s b r k x) (same_hit site h.site_is us words same s c t k y)) [
+      (λ s b r c t k x y. elim (h.copies.once s b r c t k (same_hit site us words same s b r k x) (same_hit site us words same s c t k y)) [
         | inl e ↦ inl e
         | inr o ↦ inr (still_moving w s k b r c t (λ m _ has. subst (λ (ms : List Move). Has m ms) (sym moving) has) o)
       ])
@@ -96,7 +96,7 @@ module _ (site : Site) (words : Words) (views : List View) (j : ℕ) (v : View) 
   calm w q = quiet words w (λ n _. refl) q.0 (λ m has. subst (λ z. Held site z m) (sym q.2) (mine m has))
 
   tried : (lock free : ℕ) → IsLockWord site.shape lock → (t : Bool) → Copies site (after (cond t (exchanged j lock (free + 1)) (loaded j lock)) words) (set views j (with_lock t lock free v))
-  tried lock free is true = quiet (with_word words lock (free + 1)) (with_lock true lock free v) (λ n _. lock_cores site h.site_is words lock (free + 1) is n) refl (λ m has. more_held site v.held (with_lock true lock free v).held m (λ k l. (l.0, inr l.1)) (mine m has))
+  tried lock free is true = quiet (with_word words lock (free + 1)) (with_lock true lock free v) (λ n _. lock_cores site words lock (free + 1) is n) refl (λ m has. more_held site v.held (with_lock true lock free v).held m (λ k l. (l.0, inr l.1)) (mine m has))
   tried lock free is false = calm v (refl, refl, refl)
 
   -- a store
@@ -166,7 +166,7 @@ module _ (site : Site) (words : Words) (views : List View) (j : ℕ) (v : View) 
   keep_copies (stashes i x call o) may = plain i x (call ∷ v.planned) (o ∷ v.owed) may.0
   keep_copies (flushes l) may = calm _ (refl, refl, refl)
   keep_copies fences may = calm _ (refl, refl, refl)
-  keep_copies (draws_place call) may = quiet (with_word words (counter_word site.shape) _) _ (counter_cores site h.site_is words _) refl mine
-  keep_copies (unlocks lock next) may = quiet (with_word words lock next) _ (λ n _. lock_cores site h.site_is words lock next (h.locks.locked j v lock may.0 at may.1).0 n) refl
+  keep_copies (draws_place call) may = quiet (with_word words (counter_word site.shape) _) _ (counter_cores site words _) refl mine
+  keep_copies (unlocks lock next) may = quiet (with_word words lock next) _ (λ n _. lock_cores site words lock next (h.locks.locked j v lock may.0 at may.1).0 n) refl
       (λ m has. absurd (subst (λ (ms : List Move). Has m ms) may.4 has))
-  keep_copies cuts_power may = quiet (with_word words (power_word site.shape) 1) _ (power_cores site h.site_is words 1) refl mine
+  keep_copies cuts_power may = quiet (with_word words (power_word site.shape) 1) _ (power_cores site words 1) refl mine

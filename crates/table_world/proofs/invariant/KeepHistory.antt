@@ -25,7 +25,7 @@ use Rattle.table_world.proofs.Lists.{total_set, has_joined}
 use Rattle.table_world.proofs.Seats.{each, guarded_no_counter}
 use Rattle.table_world.proofs.Entries.{in_order_more, seen_of_more, count_more, count_none, total_none, drew_here, when_now, when_more, right_more, shown_may, shown_keeps, shown_cause, cause_alike}
 use Rattle.table_world.proofs.NotedLists.{marked_to, again_all}
-use Rattle.table_world.proofs.beside.Beside.{newest, newest_is, holds_home, held_is_map, slot_is_pair, slots_differ}
+use Rattle.table_world.proofs.holding.Beside.{newest, newest_is, holds_home, held_is_map, slot_is_pair, slots_differ}
 
 abbrev drew_of : ℕ → View → ℕ
 drew_of n v = length (filter (drew_at n) v.own)
@@ -194,12 +194,12 @@ module _ (site : Site) (words : Words) (views : List View) (j : ℕ) (v : View) 
   keep_history (learns i) may = calm _ refl refl
   keep_history (meets_lock lock) may = calm _ refl refl
   keep_history (tries lock free) may = tried lock free may.0 (eqb (words lock) free)
-  keep_history (stores i x) may = elsewhere i x _ (λ e. guarded_no_counter site h.site_is words views h.locks j v i at may.0.guarded (sym e)) refl refl
-  keep_history (copies i x m) may = elsewhere i x _ (λ e. guarded_no_counter site h.site_is words views h.locks j v i at may.0.guarded (sym e)) refl refl
-  keep_history (clears i x m) may = elsewhere i x _ (λ e. guarded_no_counter site h.site_is words views h.locks j v i at may.0.guarded (sym e)) refl refl
-  keep_history (repays i x o) may = elsewhere i x _ (λ e. guarded_no_counter site h.site_is words views h.locks j v i at may.0.guarded (sym e)) refl refl
-  keep_history (publishes i x call) may = elsewhere i x _ (λ e. guarded_no_counter site h.site_is words views h.locks j v i at may.0.guarded (sym e)) refl refl
-  keep_history (stashes i x call o) may = elsewhere i x _ (λ e. guarded_no_counter site h.site_is words views h.locks j v i at may.0.guarded (sym e)) refl refl
+  keep_history (stores i x) may = elsewhere i x _ (λ e. guarded_no_counter site words views h.locks j v i at may.0.guarded (sym e)) refl refl
+  keep_history (copies i x m) may = elsewhere i x _ (λ e. guarded_no_counter site words views h.locks j v i at may.0.guarded (sym e)) refl refl
+  keep_history (clears i x m) may = elsewhere i x _ (λ e. guarded_no_counter site words views h.locks j v i at may.0.guarded (sym e)) refl refl
+  keep_history (repays i x o) may = elsewhere i x _ (λ e. guarded_no_counter site words views h.locks j v i at may.0.guarded (sym e)) refl refl
+  keep_history (publishes i x call) may = elsewhere i x _ (λ e. guarded_no_counter site words views h.locks j v i at may.0.guarded (sym e)) refl refl
+  keep_history (stashes i x call o) may = elsewhere i x _ (λ e. guarded_no_counter site words views h.locks j v i at may.0.guarded (sym e)) refl refl
   keep_history (flushes l) may = calm _ refl refl
   keep_history fences may = calm _ refl refl
   keep_history (draws_place call) may = drawn call may.0

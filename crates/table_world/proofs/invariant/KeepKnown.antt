@@ -48,13 +48,13 @@ module _ (site : Site) (words : Words) (views : List View) (j : ℕ) (v : View) 
   -- a lock word changes
   relocked : (lock x : ℕ) (w : View) → IsLockWord site.shape lock → Fits (with_word words lock x) w → KnownWords (with_word words lock x) (set views j w)
   relocked lock x w is own = known_law words (with_word words lock x) views j v w at h.known
-      (λ i u n a m g. replaced_other words lock x m (guarded_no_lock site h.site_is words views h.locks i u m lock a g is)) own
+      (λ i u n a m g. replaced_other words lock x m (guarded_no_lock site words views h.locks i u m lock a g is)) own
 
   tried : (lock free : ℕ) → IsLockWord site.shape lock → (t : Bool)
       → KnownWords (after (cond t (exchanged j lock (free + 1)) (loaded j lock)) words) (set views j (with_lock t lock free v))
   tried lock free is true = relocked lock (free + 1) (with_lock true lock free v) is (
     (λ i x q. (let r = mine.0 i x q in
-        (replaced_other words lock (free + 1) i (guarded_no_lock site h.site_is words views h.locks j v i lock at r.1 is) ∙ r.0, (r.1.0, (r.1.1.0, inr r.1.1.1), r.1.2)))),
+        (replaced_other words lock (free + 1) i (guarded_no_lock site words views h.locks j v i lock at r.1 is) ∙ r.0, (r.1.0, (r.1.1.0, inr r.1.1.1), r.1.2)))),
     (λ i x q. (let g = mine.1 i x q in (g.0, (g.1.0, inr g.1.1), g.2))),
   )
   tried lock free is false = calm v mine
@@ -62,7 +62,7 @@ module _ (site : Site) (words : Words) (views : List View) (j : ℕ) (v : View) 
   stored : (i x : ℕ) (calls : List Call) (moves : List Move) (owed : List Owed) → IsGuarded v.held i
       → KnownWords (with_word words i x) (set views j (with_store site.shape i (words i) x calls moves owed v))
   stored i x calls moves owed g = known_law words (with_word words i x) views j v _ at h.known
-      (λ a u ne a' m g'. replaced_other words i x m (λ e. ne (one_guard site h.site_is words views h.locks a j u v i a' at (subst (λ (n : ℕ). IsGuarded u.held n) e g') g))) (
+      (λ a u ne a' m g'. replaced_other words i x m (λ e. ne (one_guard site words views h.locks a j u v i a' at (subst (λ (n : ℕ). IsGuarded u.held n) e g') g))) (
         (λ n y q. elim (has_first i x n y (without i v.known) q) [
           | inl e ↦ (ap (with_word words i x) e.0 ∙ (replaced_same words i x ∙ sym e.1), subst (λ (m : ℕ). IsGuarded v.held m) (sym e.0) g)
           | inr r ↦ (let s = without_has i n y v.known r in let t = mine.0 n y s.1 in (replaced_other words i x n s.0 ∙ t.0, t.1))
@@ -81,9 +81,9 @@ module _ (site : Site) (words : Words) (views : List View) (j : ℕ) (v : View) 
 
   drawn : (call : Call) (n x : ℕ) → KnownWords (with_word words (counter_word site.shape) x) (set views j (with_draw call n v))
   drawn call n x = known_law words _ views j v _ at h.known
-      (λ i u ne a m g. replaced_other words (counter_word site.shape) x m (guarded_no_counter site h.site_is words views h.locks i u m a g)) (
+      (λ i u ne a m g. replaced_other words (counter_word site.shape) x m (guarded_no_counter site words views h.locks i u m a g)) (
         (λ i y q. (let t = mine.0 i y q in
-            (replaced_other words (counter_word site.shape) x i (guarded_no_counter site h.site_is words views h.locks j v i at t.1) ∙ t.0, t.1))),
+            (replaced_other words (counter_word site.shape) x i (guarded_no_counter site words views h.locks j v i at t.1) ∙ t.0, t.1))),
         mine.1,
       )
 
@@ -91,7 +91,7 @@ module _ (site : Site) (words : Words) (views : List View) (j : ℕ) (v : View) 
       → KnownWords (with_word words lock next) (views_by site (unlocks lock next) j v words views)
   freed lock next m has firm is = relocked lock next _ is (
     (λ n y q. (let o = not_under_has lock n y v.known q in let r = mine.0 n y o.1 in (
-      replaced_other words lock next n (guarded_no_lock site h.site_is words views h.locks j v n lock at r.1 is) ∙ r.0,
+      replaced_other words lock next n (guarded_no_lock site words views h.locks j v n lock at r.1 is) ∙ r.0,
       still_guarded lock n r.1 (λ e. o.0 (subst (λ (z : ℕ). IsUnder z n) e r.1.2)),
     ))),
     (λ n y q. (let g = mine.1 n y q in still_guarded lock n g (λ e. firm (n, y) q (subst (λ (z : ℕ). IsUnder z n) e g.2)))),
@@ -126,8 +126,8 @@ module _ (site : Site) (words : Words) (views : List View) (j : ℕ) (v : View) 
   keep_known (draws_place call) may = drawn call _ _
   keep_known (unlocks lock next) may = freed lock next may.0 may.1 may.2 (h.locks.locked j v lock may.0 at may.1).0
   keep_known cuts_power may = known_law words _ views j v _ at h.known
-      (λ i u ne a m g. replaced_other words (power_word site.shape) 1 m (λ e. let w = guarded_within site h.site_is words views h.locks i u m a g in omega (arith, w, e))) (
+      (λ i u ne a m g. replaced_other words (power_word site.shape) 1 m (λ e. let w = guarded_within site words views h.locks i u m a g in omega (arith, w, e))) (
         (λ i y q. (let t = mine.0 i y q in
-            (replaced_other words (power_word site.shape) 1 i (λ e. let w = guarded_within site h.site_is words views h.locks j v i at t.1 in omega (arith, w, e)) ∙ t.0, t.1))),
+            (replaced_other words (power_word site.shape) 1 i (λ e. let w = guarded_within site words views h.locks j v i at t.1 in omega (arith, w, e)) ∙ t.0, t.1))),
         mine.1,
       )

@@ -113,7 +113,7 @@ module _ (site : Site) (words : Words) (views : List View) (j : ℕ) (v : View) 
 
   stored : (i x : ℕ) (w : View) → w.held ≡ v.held → IsGuarded v.held i → Locks site (with_word words i x) (set views j w)
   stored i x w held g = locks_same site words (with_word words i x) views j v w at h.locks held
-      (λ lock is. replaced_other words i x lock (λ e. guarded_no_lock site h.site_is words views h.locks j v i lock at g is (sym e)))
+      (λ lock is. replaced_other words i x lock (λ e. guarded_no_lock site words views h.locks j v i lock at g is (sym e)))
 
   tried : (lock free : ℕ) → IsLockWord site.shape lock → free % 2 ≡ 0 → (t : Bool) → eqb (words lock) free ≡ t
       → Locks site (after (cond t (exchanged j lock (free + 1)) (loaded j lock)) words) (set views j (with_lock t lock free v))

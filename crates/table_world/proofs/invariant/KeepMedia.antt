@@ -23,7 +23,7 @@ use Rattle.table_world.specs.Invariant.{IsRemoving, Media, Holds}
 use Rattle.table_world.specs.Kinds.{Kind, peeks, asks_power, finds_room, refuses, places, looks, notes_word, validates, learns, meets_lock, tries, stores, copies, clears, repays, publishes, stashes, flushes, fences, draws_place, unlocks, cuts_power, without, loosened, marked, all_again, with_answer, with_look, with_count, with_lock, with_draw, log_after, of_other_records, of_other_homes, with_store, IsNewest, StandsBeside, IsTidy, IsKept, MayTake, IsHarmless, IsPublishing, IsUnplanned, May}
 use Rattle.table_world.specs.Laws.{words_by, views_by}
 use Rattle.table_world.proofs.Tables.{same_keeps, same_owner, core_structure_same, same_hit, same_find, find_places, cores_with, lock_cores, counter_cores, power_cores}
-use Rattle.table_world.proofs.beside.Beside.{newest, whole, whole_cores, whole_structure, guarded_structure, newest_is, beside, quiet, remover, medium_owner}
+use Rattle.table_world.proofs.holding.Beside.{newest, whole, whole_cores, whole_structure, guarded_structure, newest_is, beside, quiet, remover, medium_owner}
 use Rattle.bucket_words.proofs.segments.Finding.{find_is}
 use Rattle.bucket_words.proofs.segments.Places.{owner_within}
 use Rattle.bucket_words.specs.Buckets.{value_in}
@@ -71,9 +71,9 @@ module _ (site : Site) (words us : Words) (views : List View) (j : ℕ) (v w : V
         (λ l. inr (j, v, e.2, at, less (i, e.2) l, e.5)) (λ a u n b l. inr (a, u, e.2, b, l, e.5)) e.0 e.1 e.3 e.4
   ]
 
-  pub media_fewer : (is : IsSite site) (log : Log) → Media site words views log → ((call : Call) → Has call v.planned → Has call w.planned × ((lock : ℕ) → HasLock v.held lock → HasLock w.held lock))
+  pub media_fewer : (log : Log) → Media site words views log → ((call : Call) → Has call v.planned → Has call w.planned × ((lock : ℕ) → HasLock v.held lock → HasLock w.held lock))
       → Media site us (set views j w) log
-  media_fewer is log o keeps = record {
+  media_fewer log o keeps = record {
     structure = λ m p. o.structure m (possible_fewer m p);
     table = λ m p. o.table m (possible_fewer m p);
     stands = λ m p k. elim (o.stands m (possible_fewer m p) k) [
@@ -81,7 +81,7 @@ module _ (site : Site) (words us : Words) (views : List View) (j : ℕ) (v w : V
       | inr s ↦ inr (planned_stays views j v w at k (find site.shape m k) (λ call has _. (keeps call has).0) s)
     ];
     stashed = λ m p s c t k small own hit. elim (o.stashed m (possible_fewer m p) s c t k small own hit) [
-      | inl e ↦ inl (same_hit site is words us (λ n near. sym (same n near)) s (64 + c) t k e)
+      | inl e ↦ inl (same_hit site words us (λ n near. sym (same n near)) s (64 + c) t k e)
       | inr r ↦ inr (removing_stays views j v w at k (bucket_at site.shape s (64 + c)) (λ has l. let q = keeps (Remove k) has in (q.0, q.1 (bucket_at site.shape s (64 + c)) l)) r)
     ];
   }
@@ -163,24 +163,24 @@ module _ (site : Site) (words : Words) (views : List View) (j : ℕ) (v : View) 
 
     -- what a store does to a medium it does to the one with whole words
     stored_cores : (m : Words) (n : ℕ) → core site.shape (with_word (old_of m) i x) n ≡ core site.shape (with_word m i x) n
-    stored_cores m = cores_with site h.site_is (old_of m) m i x (whole_cores site words views j v h at m)
+    stored_cores m = cores_with site (old_of m) m i x (whole_cores site words views j v h at m)
 
     new : (m : Words) → IsPossible site words views m → IsTable site.shape (with_word (old_of m) i x)
         → ((k : ℕ) → Stands site (set views j w) h.log k (find site.shape (with_word (old_of m) i x) k)) → (n : Words) → ((a : ℕ) → core site.shape (with_word m i x) a ≡ core site.shape n a) → IsFine i x w n
     new m p table stands n same =
         let cores : (a : ℕ) → core site.shape (with_word (old_of m) i x) a ≡ core site.shape n a = λ a. stored_cores m a ∙ same a in
-        let kept = same_keeps site h.site_is (with_word (old_of m) i x) n (λ a _. cores a) table in
-        let structure : HasStructure site.shape site.front n = λ a s. core_structure_same site h.site_is (with_word (old_of m) i x) n (λ b _. sym (cores b)) a s
+        let kept = same_keeps site (with_word (old_of m) i x) n (λ a _. cores a) table in
+        let structure : HasStructure site.shape site.front n = λ a s. core_structure_same site (with_word (old_of m) i x) n (λ b _. sym (cores b)) a s
             ∙ (guarded_structure site words views j v h at i x tidy.guarded (old_of m) a s ∙ whole_structure site words views j v h at m p a s) in (
           structure,
           kept.table,
           (λ k. subst (λ (a : Option ℕ). Stands site (set views j w) h.log k a) (sym (kept.pairs k)) (stands k)),
           (λ s c t k small own hit. elim (tidy.alike words (old_of m) is_newest (beside site words views j v h at m p) s c t k small
-              (same_hit site h.site_is n (with_word (old_of m) i x) (λ a _. sym (cores a)) s (64 + c) t k hit)) [
+              (same_hit site n (with_word (old_of m) i x) (λ a _. sym (cores a)) s (64 + c) t k hit)) [
             | inl e ↦ inl e
             | inr q ↦ removes s c t k small (h.media.stashed m p s c t k small
-                (medium_owner site words views j v h at m p k ∙ sym (same_owner site h.site_is words n (h.media.structure words (newest site words views)) structure (key_hash site.shape k)) ∙ own)
-                (same_hit site h.site_is (old_of m) m (λ a _. whole_cores site words views j v h at m a) s (64 + c) t k q))
+                (medium_owner site words views j v h at m p k ∙ sym (same_owner site words n (h.media.structure words (newest site words views)) structure (key_hash site.shape k)) ∙ own)
+                (same_hit site (old_of m) m (λ a _. whole_cores site words views j v h at m a) s (64 + c) t k q))
           ]),
         )
 
@@ -188,14 +188,14 @@ module _ (site : Site) (words : Words) (views : List View) (j : ℕ) (v : View) 
         × ((k : ℕ) → Stands site (set views j w) h.log k (find site.shape (with_word (old_of m) i x) k))) → Media site (with_word words i x) (set views j w) h.log
     media_store made =
         let all : (m : Words) → IsPossible site (with_word words i x) (set views j w) m → IsFine i x w m =
-        λ m p. elim (grown site words views j v at i x calls moves owed (guarded_within site h.site_is words views h.locks j v i at tidy.guarded) m p) [
+        λ m p. elim (grown site words views j v at i x calls moves owed (guarded_within site words views h.locks j v i at tidy.guarded) m p) [
           | inl q ↦ old m q
           | inr q ↦ (let r = made q.0 q.1 in new q.0 q.1 r.0 r.1 m q.2)
         ] in
         record { structure = λ m p. (all m p).0; table = λ m p. (all m p).1; stands = λ m p k. (all m p).2 k; stashed = λ m p. (all m p).3 }
 
   same_whole : (m : Words) (k : ℕ) → find site.shape (old_of m) k ≡ find site.shape m k
-  same_whole m k = same_find site h.site_is (old_of m) m k (λ n _. whole_cores site words views j v h at m n)
+  same_whole m k = same_find site (old_of m) m k (λ n _. whole_cores site words views j v h at m n)
 
   harmless : (i x : ℕ) (moves : List Move) (owed : List Owed) {twin : ℕ → ℕ → ℕ → ℕ → ℕ → ℕ → Type 0} {home : ℕ → ℕ → Type 0} → IsTidy site v i x twin home (λ k lock. ⊥) → IsHarmless site v i x
       → Media site (with_word words i x) (set views j (storer site words i x v.planned moves owed v)) h.log
@@ -220,10 +220,10 @@ module _ (site : Site) (words : Words) (views : List View) (j : ℕ) (v : View) 
       ))
 
   calm : (w : View) → IsQuiet w v → Media site words (set views j w) h.log
-  calm w q = media_fewer site words words views j v w at (λ n _. refl) q.0 h.site_is h.log h.media (λ call has. (subst (λ (cs : List Call). Has call cs) (sym q.1) has, q.2 call has))
+  calm w q = media_fewer site words words views j v w at (λ n _. refl) q.0 h.log h.media (λ call has. (subst (λ (cs : List Call). Has call cs) (sym q.1) has, q.2 call has))
 
   relocked : (lock x : ℕ) (w : View) → IsLockWord site.shape lock → IsQuiet w v → Media site (with_word words lock x) (set views j w) h.log
-  relocked lock x w is q = media_fewer site words (with_word words lock x) views j v w at (λ n _. lock_cores site h.site_is words lock x is n) q.0 h.site_is h.log h.media
+  relocked lock x w is q = media_fewer site words (with_word words lock x) views j v w at (λ n _. lock_cores site words lock x is n) q.0 h.log h.media
       (λ call has. (subst (λ (cs : List Call). Has call cs) (sym q.1) has, q.2 call has))
 
   tried : (lock free : ℕ) → IsLockWord site.shape lock → (t : Bool) → Media site (after (cond t (exchanged j lock (free + 1)) (loaded j lock)) words) (set views j (with_lock t lock free v)) h.log
@@ -245,7 +245,7 @@ module _ (site : Site) (words : Words) (views : List View) (j : ℕ) (v : View) 
     firm lock q m p i u = sym (quiet site words views j v h at lock q.1 q.0 m p i u)
 
     stands_now : (m : Words) → IsPossible site words views m → find site.shape m k ≡ find site.shape words k
-    stands_now m p = find_places site h.site_is words m (h.media.table words (newest site words views)) (h.media.table m p) s k own (medium_owner site words views j v h at m p k ∙ own)
+    stands_now m p = find_places site words m (h.media.table words (newest site words views)) (h.media.table m p) s k own (medium_owner site words views j v h at m p k ∙ own)
         (firm (bucket_at site.shape s (home_of (key_hash site.shape k))) (may.2.1.1, may.2.2) m p) (firm (bucket_at site.shape s (probing_of (home_of (key_hash site.shape k)))) may.2.3 m p)
         (λ c small. elim (may.2.4 c small) [
           | inl q ↦ inl (firm (bucket_at site.shape s (64 + c)) q m p)
@@ -263,7 +263,7 @@ module _ (site : Site) (words : Words) (views : List View) (j : ℕ) (v : View) 
         let w = with_draw call n v in
         let log' : Log = change_of call ∷ h.log in
         let back : (m : Words) → IsPossible site (with_word words (counter_word site.shape) x) (set views j w) m → IsPossible site words views m =
-        possible_fewer site words (with_word words (counter_word site.shape) x) views j v w at (counter_cores site h.site_is words x) (λ p l. l) in
+        possible_fewer site words (with_word words (counter_word site.shape) x) views j v w at (counter_cores site words x) (λ p l. l) in
         record {
           structure = λ m p. h.media.structure m (back m p);
           table = λ m p. h.media.table m (back m p);
@@ -278,7 +278,7 @@ module _ (site : Site) (words : Words) (views : List View) (j : ℕ) (v : View) 
                 ]
           ];
           stashed = λ m p q c t l small own' hit. elim (h.media.stashed m (back m p) q c t l small own' hit) [
-            | inl e ↦ inl (same_hit site h.site_is words (with_word words (counter_word site.shape) x) (λ n near. sym (counter_cores site h.site_is words x n near)) q (64 + c) t l e)
+            | inl e ↦ inl (same_hit site words (with_word words (counter_word site.shape) x) (λ n near. sym (counter_cores site words x n near)) q (64 + c) t l e)
             | inr r ↦ elim (cases_eq l k) [
               | inl e ↦ absurd (gone m (back m p) q c t l own' hit e r)
               | inr n ↦ inr (removing_stays views j v w at l (bucket_at site.shape q (64 + c)) (λ has lk. (of_other_keys_stays k v.planned (Remove l) n has, lk)) r)
@@ -317,4 +317,4 @@ module _ (site : Site) (words : Words) (views : List View) (j : ℕ) (v : View) 
   keep_media fences may = calm (record v { flushed = [] }) ((λ p q. elim q [ inl d ↦ inl d | inr f ↦ absurd f ]), refl, (λ c has lock l. l))
   keep_media (draws_place call) may = drawn call _ _ may
   keep_media (unlocks lock next) may = relocked lock next _ (h.locks.locked j v lock may.0 at may.1).0 ((λ p l. l), refl, (λ c has _ l. absurd (subst (λ (cs : List Call). Has c cs) may.3 has)))
-  keep_media cuts_power may = media_fewer site words (with_word words (power_word site.shape) 1) views j v _ at (λ n within. power_cores site h.site_is words 1 n within) (λ p l. l) h.site_is h.log h.media (λ call has. (has, (λ lock l. l)))
+  keep_media cuts_power may = media_fewer site words (with_word words (power_word site.shape) 1) views j v _ at (λ n within. power_cores site words 1 n within) (λ p l. l) h.log h.media (λ call has. (has, (λ lock l. l)))

@@ -24,7 +24,7 @@ use Rattle.table_world.proofs.Grounds.{one_lock, lock_apart, lock_within}
 use Rattle.table_world.proofs.Seats.{each, guarded_no_lock}
 use Rattle.table_world.proofs.Entries.{when_now, when_more}
 use Rattle.table_world.proofs.NotedLists.{noted_from, noted_to, marked_from, marked_to, unmarked_from, unmarked_to}
-use Rattle.table_world.proofs.beside.Beside.{newest, free_is_map}
+use Rattle.table_world.proofs.holding.Beside.{newest, free_is_map}
 
 -- what words may become of a noted bucket: its lock word does not fall, and while it is the free value nothing changed
 abbrev pub Rises : Words → Words → Note → Type 0
@@ -97,7 +97,7 @@ module _ (site : Site) (words : Words) (views : List View) (j : ℕ) (v : View) 
   stored : (i x : ℕ) → IsGuarded v.held i → (n : Note) → IsNote site words n → Rises words (with_word words i x) n
   stored i x g n f =
       let l = h.locks.locked j v g.0 g.1.0 at g.1.1 in
-      let lock : with_word words i x n.lock ≡ words n.lock = replaced_other words i x n.lock (λ e. guarded_no_lock site h.site_is words views h.locks j v i n.lock at g f.lock (sym e)) in (
+      let lock : with_word words i x n.lock ≡ words n.lock = replaced_other words i x n.lock (λ e. guarded_no_lock site words views h.locks j v i n.lock at g f.lock (sym e)) in (
         omega (arith, lock),
         (λ e. (
           sym lock ∙ e,

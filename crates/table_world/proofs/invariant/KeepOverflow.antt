@@ -20,10 +20,11 @@ use Rattle.table_world.specs.Kinds.{Kind, peeks, asks_power, finds_room, refuses
 use Rattle.table_world.specs.Laws.{words_by, views_by}
 use Rattle.table_world.proofs.Lists.{set_here, set_there}
 use Rattle.table_world.proofs.Seats.{each, is_v}
-use Rattle.table_world.proofs.beside.Beside.{newest_is, same_view}
+use Rattle.table_world.proofs.holding.Beside.{newest_is, same_view}
 use Rattle.table_world.proofs.invariant.KeepMedia.{storer}
 use Rattle.table_world.proofs.invariant.KeepCopies.{look_moving, count_moving, answer_moving}
-use Rattle.table_world.proofs.beside.Noted.{same_notes, exact_same, owed_same}
+use Rattle.table_world.proofs.holding.Owing.{same_notes, owed_same}
+use Rattle.bucket_words.proofs.segments.Noted.{exact_same}
 
 same_test : (a b c d : ℕ) → (eqb a b && eqb c d) ≡ true → (a ≡ b) × (c ≡ d)
 same_test a b c d t = elim (cases_Bool (eqb a b)) [
@@ -90,12 +91,12 @@ module _ (site : Site) (words : Words) (views : List View) (j : ℕ) (v : View) 
   quiet : (us : Words) (w : View) → ((s c n : ℕ) → s < site.shape.segments → c < 66 → 1 ≤ n → n < 32 → us (bucket_at site.shape s c + n) ≡ words (bucket_at site.shape s c + n))
       → w.owed ≡ v.owed → ((o : Owed) → Has o v.owed → HasLock w.held (lock_of_owed site o)) → Overflow site us (set views j w)
   quiet us w same owed held = overflow_law site words us views j v w at h.overflow
-      (λ s b seg near none. exact_same site.shape words us s b (same_notes site.shape words us s b near (λ c n. same s c n seg))
+      (λ s b seg near none. exact_same site.shape words us s b (same_notes site.shape words us s b seg near (λ c n. same s c n seg))
           (h.overflow.exact s b seg near (nobody w s b (λ o _ _ has. subst (λ (os : List Owed). Has o os) (sym owed) has) none)))
       (λ i u o n a has. let f = h.overflow.fits i u o a has in
-          owed_same site.shape words us o (same_notes site.shape words us o.segment o.home f.1 (λ c n. same o.segment c n f.0)).stashed (h.overflow.owes i u o a has))
+          owed_same site.shape words us o (same_notes site.shape words us o.segment o.home f.0 f.1 (λ c n. same o.segment c n f.0)).stashed (h.overflow.owes i u o a has))
       (λ o has. let has' = subst (λ (os : List Owed). Has o os) owed has in let d = due o has' in
-          (owed_same site.shape words us o (same_notes site.shape words us o.segment o.home d.3 (λ c n. same o.segment c n d.2)).stashed d.0, held o has', d.2, d.3))
+          (owed_same site.shape words us o (same_notes site.shape words us o.segment o.home d.2 d.3 (λ c n. same o.segment c n d.2)).stashed d.0, held o has', d.2, d.3))
 
   calm : (w : View) → (w.moving ≡ v.moving) × (w.owed ≡ v.owed) × (w.held ≡ v.held) → Overflow site words (set views j w)
   calm w q = quiet words w (λ s c n _ _ _ _. refl) q.1 (λ o has. subst (λ z. HasLock z (lock_of_owed site o)) (sym q.2) (due o has).1)

@@ -26,7 +26,7 @@ use Rattle.sound_image.specs.Records.{key_hash}
 use Rattle.table_world.proofs.Tables.{core_owner, same_hit, same_home, same_find, lock_cores, counter_cores, power_cores}
 use Rattle.table_world.proofs.Seats.{each, lock_of, without_stays, of_other_keys_has}
 use Rattle.table_world.proofs.invariant.KeepLocks.{look_held, count_held, answer_held}
-use Rattle.table_world.proofs.beside.Beside.{newest, newest_is, beside_self, holds_home, held_is_map}
+use Rattle.table_world.proofs.holding.Beside.{newest, newest_is, beside_self, holds_home, held_is_map}
 use Rattle.table_world.proofs.invariant.KeepMedia.{look_quiet, count_quiet, answer_quiet, storer}
 
 -- a view holds the locks of the buckets in which a key stands
@@ -62,20 +62,20 @@ module _ (site : Site) (words : Words) (views : List View) (j : ℕ) (v : View) 
   places_same : (us : Words) (u w : View) (k : ℕ) → ((n : ℕ) → n < words_of site.shape → core site.shape us n ≡ core site.shape words n) → ((lock : ℕ) → HasLock u.held lock → HasLock w.held lock)
       → HoldsAll site words u k → HoldsAll site us w k
   places_same us u w k same more all s b r own hit = more (bucket_at site.shape s b)
-      (all s b r (sym (core_owner site h.site_is words us same (key_hash site.shape k)) ∙ own) (same_hit site h.site_is us words same s b r k hit))
+      (all s b r (sym (core_owner site words us same (key_hash site.shape k)) ∙ own) (same_hit site us words same s b r k hit))
 
   quiet : (us : Words) (w : View) → ((n : ℕ) → n < words_of site.shape → core site.shape us n ≡ core site.shape words n) → w.planned ≡ v.planned
       → ((c : Call) → Has c v.planned → (lock : ℕ) → HasLock v.held lock → HasLock w.held lock) → Plans site us (set views j w) h.log
   quiet us w same planned held = plans_law site words us views h.log h.log j v w at h.plans
-      (λ i u c n a has r. (places_same us u u (key_of c) same (λ lock l. l) r.0, moved us u (key_of c) (same_home site h.site_is words us same (key_of c)) r.1, same_find site h.site_is us words (key_of c) same ∙ r.2, r.3))
+      (λ i u c n a has r. (places_same us u u (key_of c) same (λ lock l. l) r.0, moved us u (key_of c) (same_home site words us same (key_of c)) r.1, same_find site us words (key_of c) same ∙ r.2, r.3))
       (λ c has. let has' = subst (λ (cs : List Call). Has c cs) planned has in let r = mine c has' in
-      (places_same us v w (key_of c) same (held c has') r.0, moved us w (key_of c) (same_home site h.site_is words us same (key_of c)) (held c has' _ r.1), same_find site h.site_is us words (key_of c) same ∙ r.2, r.3))
+      (places_same us v w (key_of c) same (held c has') r.0, moved us w (key_of c) (same_home site words us same (key_of c)) (held c has' _ r.1), same_find site us words (key_of c) same ∙ r.2, r.3))
 
   calm : (w : View) → w.planned ≡ v.planned → w.held ≡ v.held → Plans site words (set views j w) h.log
   calm w planned held = quiet words w (λ n _. refl) planned (λ c has lock l. subst (λ z. HasLock z lock) (sym held) l)
 
   tried : (lock free : ℕ) → IsLockWord site.shape lock → (t : Bool) → Plans site (after (cond t (exchanged j lock (free + 1)) (loaded j lock)) words) (set views j (with_lock t lock free v)) h.log
-  tried lock free is true = quiet (with_word words lock (free + 1)) (with_lock true lock free v) (λ n _. lock_cores site h.site_is words lock (free + 1) is n) refl (λ c has k l. (l.0, inr l.1))
+  tried lock free is true = quiet (with_word words lock (free + 1)) (with_lock true lock free v) (λ n _. lock_cores site words lock (free + 1) is n) refl (λ c has k l. (l.0, inr l.1))
   tried lock free is false = calm v refl refl
 
   -- another view's planned change is of another key than one whose lock is held here
@@ -84,13 +84,13 @@ module _ (site : Site) (words : Words) (views : List View) (j : ℕ) (v : View) 
 
   -- a store to a bucket moves no home
   stays : (i x k : ℕ) → IsGuarded v.held i → home_at site.shape (with_word words i x) k ≡ home_at site.shape words k
-  stays i x k g = let l = lock_of site h.site_is words views h.locks j v g.0 at g.1 in let u = under_lock site.shape l.0 l.1 i (subst (λ (z : ℕ). IsUnder z i) l.4 g.2) in
+  stays i x k g = let l = lock_of site words views h.locks j v g.0 at g.1 in let u = under_lock site.shape l.0 l.1 i (subst (λ (z : ℕ). IsUnder z i) l.4 g.2) in
       ap (λ s. bucket_at site.shape (unwrap_or s 0) (home_of (key_hash site.shape k))) (owners_kept site.shape words l.0 l.1 u.0 x i l.3 u.2 u.3 (key_hash site.shape k))
 
   -- what is said of a change of another view, or of another planned here, after a store
   module _ (i x : ℕ) (g : IsGuarded v.held i) (adds : AddsHeld site v i x) where
     own_after : (k s : ℕ) → owner_of site.shape (with_word words i x) (key_hash site.shape k) ≡ Some s → owner_of site.shape words (key_hash site.shape k) ≡ Some s
-    own_after k s own = let l = lock_of site h.site_is words views h.locks j v g.0 at g.1 in let u = under_lock site.shape l.0 l.1 i (subst (λ (z : ℕ). IsUnder z i) l.4 g.2) in
+    own_after k s own = let l = lock_of site words views h.locks j v g.0 at g.1 in let u = under_lock site.shape l.0 l.1 i (subst (λ (z : ℕ). IsUnder z i) l.4 g.2) in
         sym (owners_kept site.shape words l.0 l.1 u.0 x i l.3 u.2 u.3 (key_hash site.shape k)) ∙ own
 
     places_mine : (k : ℕ) → HoldsAll site words v k → HoldsAll site (with_word words i x) v k
@@ -129,14 +129,14 @@ module _ (site : Site) (words : Words) (views : List View) (j : ℕ) (v : View) 
   drawn call n x has =
       let us = with_word words (counter_word site.shape) x in
       let found : (c : Call) → find site.shape us (key_of c) ≡ find site.shape words (key_of c) =
-      λ c. same_find site h.site_is us words (key_of c) (counter_cores site h.site_is words x) in
-      let home : (c : Call) → home_at site.shape us (key_of c) ≡ home_at site.shape words (key_of c) = λ c. same_home site h.site_is words us (counter_cores site h.site_is words x) (key_of c) in
+      λ c. same_find site us words (key_of c) (counter_cores site words x) in
+      let home : (c : Call) → home_at site.shape us (key_of c) ≡ home_at site.shape words (key_of c) = λ c. same_home site words us (counter_cores site words x) (key_of c) in
       let other : (c : Call) → (key_of c ≡ key_of call → ⊥) → map_now site.start h.log (key_of c) ≡ map_now site.start (change_of call ∷ h.log) (key_of c) =
       λ c n. sym (ap (λ b. cond b (result_of call) (map_now site.start h.log (key_of c))) (ne_eqb (key_of c) (key_of call) n)) in
       plans_law site words _ views h.log (change_of call ∷ h.log) j v (with_draw call n v) at h.plans
-      (λ a u c n b has' o. (places_same us u u (key_of c) (counter_cores site h.site_is words x) (λ lock l. l) o.0, moved us u (key_of c) (home c) o.1, found c ∙ o.2, subst (λ (z : Option ℕ). Done ≡ reply_by z c) (other c (apart a u c (key_of call) n b o.1 (h.plans.held j v call at has))) o.3))
+      (λ a u c n b has' o. (places_same us u u (key_of c) (counter_cores site words x) (λ lock l. l) o.0, moved us u (key_of c) (home c) o.1, found c ∙ o.2, subst (λ (z : Option ℕ). Done ≡ reply_by z c) (other c (apart a u c (key_of call) n b o.1 (h.plans.held j v call at has))) o.3))
       (λ c has'. let s = of_other_keys_has (key_of call) v.planned c has' in let o = mine c s.1 in
-      (places_same us v v (key_of c) (counter_cores site h.site_is words x) (λ lock l. l) o.0, moved us v (key_of c) (home c) o.1, found c ∙ o.2, subst (λ (z : Option ℕ). Done ≡ reply_by z c) (other c s.0) o.3))
+      (places_same us v v (key_of c) (counter_cores site words x) (λ lock l. l) o.0, moved us v (key_of c) (home c) o.1, found c ∙ o.2, subst (λ (z : Option ℕ). Done ≡ reply_by z c) (other c s.0) o.3))
 
   pub keep_plans : (kind : Kind) → May site kind v → Plans site (words_by site kind j words) (views_by site kind j v words views) (log_after kind h.log)
   keep_plans (peeks i) may = calm _ refl refl
@@ -160,6 +160,6 @@ module _ (site : Site) (words : Words) (views : List View) (j : ℕ) (v : View) 
   keep_plans fences may = calm _ refl refl
   keep_plans (draws_place call) may = drawn call _ _ may.0
   keep_plans (unlocks lock next) may = let is = (h.locks.locked j v lock may.0 at may.1).0 in
-      quiet (with_word words lock next) _ (λ n _. lock_cores site h.site_is words lock next is n) refl
+      quiet (with_word words lock next) _ (λ n _. lock_cores site words lock next is n) refl
       (λ c has lock l. absurd (subst (λ (cs : List Call). Has c cs) may.3 has))
-  keep_plans cuts_power may = quiet (with_word words (power_word site.shape) 1) _ (λ n within. power_cores site h.site_is words 1 n within) refl (λ c has lock l. l)
+  keep_plans cuts_power may = quiet (with_word words (power_word site.shape) 1) _ (λ n within. power_cores site words 1 n within) refl (λ c has lock l. l)

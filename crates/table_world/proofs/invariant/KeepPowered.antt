@@ -32,7 +32,7 @@ module _ (site : Site) (words : Words) (views : List View) (j : ℕ) (v : View) 
   lock_apart lock is same = let near = lock_within site.shape lock is in omega (arith, near, same)
 
   guarded_apart : (i : ℕ) → IsGuarded v.held i → i ≡ power → ⊥
-  guarded_apart i g same = let near = guarded_within site h.site_is words views h.locks j v i at g in omega (arith, near, same)
+  guarded_apart i g same = let near = guarded_within site words views h.locks j v i at g in omega (arith, near, same)
 
   tried : (lock free : ℕ) → IsLockWord site.shape lock → (t : Bool) → Powered site (after (cond t (exchanged j lock (free + 1)) (loaded j lock)) words) (set views j (with_lock t lock free v))
   tried lock free is true = elsewhere lock (free + 1) _ (lock_apart lock is) refl

@@ -15,9 +15,9 @@ use Rattle.table_world.specs.Kinds.{IsNow}
 use Rattle.bucket_words.specs.HomeNotes.{IsUnnoted}
 
 use Rattle.table_world.specs.Readers.{NotedBucket, Looked, MayAnswer}
-use Rattle.table_world.proofs.beside.Noted.{notes_same}
-use Rattle.table_world.proofs.beside.Stashed.{not_there}
-use Rattle.table_world.proofs.stepping.Holders.{hit_to, hit_from, same_value}
+use Rattle.bucket_words.proofs.segments.Noted.{notes_same}
+use Rattle.bucket_words.proofs.segments.Stashed.{not_there}
+use Rattle.table_world.proofs.holding.Known.{hit_to, hit_from, same_value}
 
 module _ (site : Site) (v : View) where
   abbrev home : ℕ → ℕ
@@ -35,7 +35,7 @@ module _ (site : Site) (v : View) where
   module _ (s k : ℕ) (word : Words) (l : Looked site v.notes word s k) (words : Words) (n : IsNow site v.notes words) where
     unnoted : (c : ℕ) → IsUnnoted site.shape word s (home k) (finger_of (key_hash site.shape k)) c → IsUnnoted site.shape words s (home k) (finger_of (key_hash site.shape k)) c
     unnoted c u = record {
-      none = ap (how_often (finger_of (key_hash site.shape k), c)) (notes_same site.shape word words s (home k) (home_near k)
+      none = ap (how_often (finger_of (key_hash site.shape k), c)) (notes_same site.shape word words s (home k)
           (λ i above below. same words word s (home k) n l.home (bucket_at site.shape s (home k) + i) (omega (arith, above), omega (arith, below)))
           (λ i above below. same words word s (probing_of (home k)) n l.probing (bucket_at site.shape s (probing_of (home k)) + i) (omega (arith, above), omega (arith, below)))) ∙ u.none;
       counted = ap overflow_count (same words word s (home k) n l.home (bucket_at site.shape s (home k) + 1) (omega arith, omega arith)) ∙ u.counted;

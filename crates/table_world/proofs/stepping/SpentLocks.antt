@@ -17,7 +17,7 @@ use Rattle.table_world.proofs.Seats.{guarded_no_lock}
 module _ (site : Site) (words : Words) (views : List View) (j : ℕ) (v : View) (h : Holds site words views) (at : At views j v) (lock : ℕ) (is : IsLockWord site.shape lock)
     (spent : words lock ≡ 2 ^ 64 - 2) where
   stored : (i x : ℕ) → IsGuarded v.held i → with_word words i x lock ≡ 2 ^ 64 - 2
-  stored i x g = replaced_other words i x lock (λ e. guarded_no_lock site h.site_is words views h.locks j v i lock at g is (sym e)) ∙ spent
+  stored i x g = replaced_other words i x lock (λ e. guarded_no_lock site words views h.locks j v i lock at g is (sym e)) ∙ spent
 
   behind : (i x : ℕ) → (lock ≡ i → ⊥) → with_word words i x lock ≡ 2 ^ 64 - 2
   behind i x other = replaced_other words i x lock other ∙ spent

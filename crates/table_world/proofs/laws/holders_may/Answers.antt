@@ -1,7 +1,8 @@
-use Rattle.table_world.proofs.stepping.Holders.{may_place, may_unstash_all, may_change, may_tell, may_move}
-use Rattle.table_world.proofs.beside.Preparing.{may_prepare}
-use Rattle.table_world.proofs.beside.Drawing.{may_draw}
-use Rattle.table_world.proofs.beside.Repaying.{may_repay}
+use Rattle.table_world.proofs.holding.Holders.{may_place, may_unstash_all, may_change, may_tell}
+use Rattle.table_world.proofs.holding.Moving.{may_move}
+use Rattle.table_world.proofs.holding.Preparing.{may_prepare}
+use Rattle.table_world.proofs.holding.Drawing.{may_draw}
+use Rattle.table_world.proofs.holding.Repaying.{may_repay}
 use Rattle.table_world.proofs.laws.holders_may.Goals as goal
 
 pub returns-clause-place : goal.returns-clause-place

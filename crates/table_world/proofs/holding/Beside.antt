@@ -32,9 +32,9 @@ newest site words views i within = inl refl
 module _ (site : Site) (words : Words) (views : List View) (j : ℕ) (v : View) (h : Holds site words views) (at : At views j v) where
   -- a possible medium has the cores of the words that a view knows and has not loose
   core_agrees : (m : Words) → IsPossible site words views m → (i x : ℕ) → Has (i, x) v.known → ((y : ℕ) → IsLoose v (i, y) → ⊥) → core site.shape m i ≡ core site.shape words i
-  core_agrees m p i x known firm = let r = h.known.knows j v i x at known in elim (p i (guarded_within site h.site_is words views h.locks j v i at r.1)) [
+  core_agrees m p i x known firm = let r = h.known.knows j v i x at known in elim (p i (guarded_within site words views h.locks j v i at r.1)) [
     | inl e ↦ e
-    | inr e ↦ absurd (let q = one_guard site h.site_is words views h.locks e.0 j e.1 v i e.3 at (h.known.loose e.0 e.1 i e.2 e.3 e.4) r.1 in
+    | inr e ↦ absurd (let q = one_guard site words views h.locks e.0 j e.1 v i e.3 at (h.known.loose e.0 e.1 i e.2 e.3 e.4) r.1 in
         firm e.2 (subst (λ (u : View). IsLoose u (i, e.2)) (is_v views j v v at e.0 e.1 e.3 q) e.4))
   ]
 
@@ -49,10 +49,10 @@ module _ (site : Site) (words : Words) (views : List View) (j : ℕ) (v : View) 
   ]
 
   pub whole_table : (m : Words) → IsPossible site words views m → IsTable site.shape (whole m)
-  whole_table m p = same_table site h.site_is m (whole m) (λ n. sym (whole_cores m n)) (h.media.table m p)
+  whole_table m p = same_table site m (whole m) (λ n. sym (whole_cores m n)) (h.media.table m p)
 
   pub whole_structure : (m : Words) → IsPossible site words views m → HasStructure site.shape site.front (whole m)
-  whole_structure m p i s = core_structure_same site h.site_is m (whole m) (λ n _. whole_cores m n) i s ∙ h.media.structure m p i s
+  whole_structure m p i s = core_structure_same site m (whole m) (λ n _. whole_cores m n) i s ∙ h.media.structure m p i s
 
   pub whole_agrees : (m : Words) → IsPossible site words views m → Agrees site v (whole m)
   whole_agrees m p i x known firm =
@@ -60,7 +60,7 @@ module _ (site : Site) (words : Words) (views : List View) (j : ℕ) (v : View) 
 
   -- a store under a lock leaves the structure
   pub guarded_structure : (i x : ℕ) → IsGuarded v.held i → (m : Words) → HasStructure site.shape m (with_word m i x)
-  guarded_structure i x g m = let l = lock_of site h.site_is words views h.locks j v g.0 at g.1 in let u = under_lock site.shape l.0 l.1 i (subst (λ (z : ℕ). IsUnder z i) l.4 g.2) in
+  guarded_structure i x g m = let l = lock_of site words views h.locks j v g.0 at g.1 in let u = under_lock site.shape l.0 l.1 i (subst (λ (z : ℕ). IsUnder z i) l.4 g.2) in
       structure_kept site.shape m l.0 l.1 u.0 x i l.3 u.2 u.3
 
   -- the newest words have what a view knows
@@ -70,9 +70,9 @@ module _ (site : Site) (words : Words) (views : List View) (j : ℕ) (v : View) 
   -- under a lock of which nothing is loose all media have one core
   pub quiet : (lock : ℕ) → IsFirm v lock → HasLock v.held lock → (m : Words) → IsPossible site words views m
       → (i : ℕ) → IsUnder lock i → core site.shape m i ≡ core site.shape words i
-  quiet lock firm has m p i g = elim (p i (under_within site.shape lock i (lock_of site h.site_is words views h.locks j v lock at has) g)) [
+  quiet lock firm has m p i g = elim (p i (under_within site.shape lock i (lock_of site words views h.locks j v lock at has) g)) [
     | inl e ↦ e
-    | inr e ↦ absurd (let q = one_guard site h.site_is words views h.locks e.0 j e.1 v i e.3 at (h.known.loose e.0 e.1 i e.2 e.3 e.4) (lock, has, g) in
+    | inr e ↦ absurd (let q = one_guard site words views h.locks e.0 j e.1 v i e.3 at (h.known.loose e.0 e.1 i e.2 e.3 e.4) (lock, has, g) in
         firm (i, e.2) (subst (λ (u : View). IsLoose u (i, e.2)) (is_v views j v v at e.0 e.1 e.3 q) e.4) g)
   ]
 
@@ -121,10 +121,10 @@ module _ (site : Site) (words : Words) (views : List View) (j : ℕ) (v : View) 
       (subst (λ (u : View). Has (Remove k) u.planned) e r.3, subst (λ (u : View). HasLock u.held lock) e r.4)
 
   pub whole_owner : (m : Words) → IsPossible site words views m → (k : ℕ) → owner_of site.shape (whole m) (key_hash site.shape k) ≡ owner_of site.shape words (key_hash site.shape k)
-  whole_owner m p k = same_owner site h.site_is words (whole m) (h.media.structure words (newest site words views)) (whole_structure m p) (key_hash site.shape k)
+  whole_owner m p k = same_owner site words (whole m) (h.media.structure words (newest site words views)) (whole_structure m p) (key_hash site.shape k)
 
   pub medium_owner : (m : Words) → IsPossible site words views m → (k : ℕ) → owner_of site.shape m (key_hash site.shape k) ≡ owner_of site.shape words (key_hash site.shape k)
-  medium_owner m p k = same_owner site h.site_is words m (h.media.structure words (newest site words views)) (h.media.structure m p) (key_hash site.shape k)
+  medium_owner m p k = same_owner site words m (h.media.structure words (newest site words views)) (h.media.structure m p) (key_hash site.shape k)
 
   pub beside : (m : Words) → IsPossible site words views m → StandsBeside site v words (whole m)
   beside m p = record {
@@ -134,7 +134,7 @@ module _ (site : Site) (words : Words) (views : List View) (j : ℕ) (v : View) 
     owner = λ s k lock own. whole_owner m p k ∙ own;
     stashed = λ s c t k small lock none own hit.
         let own' = sym (whole_owner m p k) ∙ own in
-        elim (h.media.stashed m p s c t k small (medium_owner m p k ∙ own') (same_hit site h.site_is (whole m) m (λ n _. whole_cores m n) s (64 + c) t k hit)) [
+        elim (h.media.stashed m p s c t k small (medium_owner m p k ∙ own') (same_hit site (whole m) m (λ n _. whole_cores m n) s (64 + c) t k hit)) [
           | inl e ↦ e
           | inr r ↦ absurd (none (Remove k) (remover s k _ lock own' r).0 refl)
         ];

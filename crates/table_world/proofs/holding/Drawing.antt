@@ -15,11 +15,11 @@ use Rattle.table_world.specs.Views.{Move, Owed, View, Has, HasLock}
 use Rattle.table_world.specs.Kinds.{IsNewest, IsOwedOf, IsKept, May, draws_place}
 use Rattle.bucket_words.specs.HomeNotes.{IsUnnoted}
 use Rattle.table_world.specs.Holders.{KnowsBucket, DrawsWell, OwesAsKnown, MayDraw}
-use Rattle.table_world.proofs.beside.Noted.{notes_same}
-use Rattle.table_world.proofs.beside.Stashed.{hit_stashed, not_there}
-use Rattle.table_world.proofs.stepping.Holders.{newest_same, hit_from}
+use Rattle.table_world.proofs.holding.Owing.{notes_known, count_known}
+use Rattle.bucket_words.proofs.segments.Stashed.{hit_stashed, not_there}
+use Rattle.table_world.proofs.holding.Known.{newest_same, hit_from}
 
-module _ (site : Site) (is : IsSite site) (v : View) (call : Call) (s : ℕ) (word : Words) (d : DrawsWell site v call s word) where
+module _ (site : Site) (v : View) (call : Call) (s : ℕ) (word : Words) (d : DrawsWell site v call s word) where
   abbrev k : ℕ
   k = key_of call
 
@@ -28,14 +28,6 @@ module _ (site : Site) (is : IsSite site) (v : View) (call : Call) (s : ℕ) (wo
 
   near : b < 64
   near = let h = key_hash site.shape k in let r : h / 2 ^ 8 % 2 ^ 6 < 64 = omega arith in r
-
-  notes_known : (words : Words) → IsNewest site v words → notes_of site.shape words s b ≡ notes_of site.shape word s b
-  notes_known words n = notes_same site.shape word words s b near
-      (λ i above below. newest_same site is v words word s b n d.home_words (bucket_at site.shape s b + i) (omega (arith, above), omega (arith, below)))
-      (λ i above below. newest_same site is v words word s (probing_of b) n d.probing_words (bucket_at site.shape s (probing_of b) + i) (omega (arith, above), omega (arith, below)))
-
-  count_known : (words : Words) → IsNewest site v words → overflow_count (word_in site.shape words s b 1) ≡ overflow_count (word_in site.shape word s b 1)
-  count_known words n = ap overflow_count (newest_same site is v words word s b n d.home_words (bucket_at site.shape s b + 1) (omega arith, omega arith))
 
   -- what was exact before a record left does not name another that is there
   not_left : (added : Bool) (note : Note) (notes : List Note) (count : ℕ) (stashed : List Note) (sought : Note) → added ≡ false → IsOwedOf added note notes count stashed → how_often sought notes ≡ 0 → count ≡ 0
@@ -49,8 +41,8 @@ module _ (site : Site) (is : IsSite site) (v : View) (call : Call) (s : ℕ) (wo
   nowhere : OwesAsKnown site v word s b → (c : ℕ) → c < 2 → IsUnnoted site.shape word s b (finger_of (key_hash site.shape k)) c → (words : Words) → IsNewest site v words → (t : ℕ) → Hit site.shape words s (64 + c) t k → ⊥
   nowhere owes c small u words n t h = elim owes [
     | inl none ↦ not_there site.shape words s c t k small (n.exact s b h.segment near d.led.1 none) (record {
-      none = ap (how_often (finger_of (key_hash site.shape k), c)) (notes_known words n) ∙ u.none;
-      counted = count_known words n ∙ u.counted;
+      none = ap (how_often (finger_of (key_hash site.shape k), c)) (notes_known site v words word s b n d.home_words d.probing_words) ∙ u.none;
+      counted = count_known site v words word s b n d.home_words ∙ u.counted;
     }) h
     | inr o ↦ not_left o.0.added o.0.note o.0.notes o.0.count (stashed_of site.shape words o.0.segment o.0.home) (finger_of (key_hash site.shape k), c) o.4 (n.owes o.0 o.1)
         (ap (how_often (finger_of (key_hash site.shape k), c)) o.5 ∙ u.none) (o.6 ∙ u.counted) (moved o.0.segment o.0.home o.2 o.3 (hit_stashed site.shape words s c t k small h))
@@ -72,14 +64,14 @@ module _ (site : Site) (is : IsSite site) (v : View) (call : Call) (s : ℕ) (wo
       → ((c : ℕ) → c < 2 → IsKept site v (bucket_at site.shape s (64 + c)) ⊎ (HasLock v.held (bucket_at site.shape s (64 + c)) → ⊥)) → May site (draws_place call) v
   may_shown e r known hit still stash = (d.planned, d.room, (s, d.led, d.firm, d.probing, λ c small. elim (stash c small) [
     | inl q ↦ inl q
-    | inr q ↦ inr (q, λ words n t h. elim (n.once s (64 + c) t e r k d.led.1 h (hit_from site.shape word words s e (newest_same site is v words word s e n known) r k hit)) [
+    | inr q ↦ inr (q, λ words n t h. elim (n.once s (64 + c) t e r k d.led.1 h (hit_from site.shape word words s e (newest_same site v words word s e n known) r k hit)) [
       | inl same ↦ q (subst (λ (z : ℕ). HasLock v.held (bucket_at site.shape s z)) (sym same.0) known.lock)
       | inr m ↦ absurd (subst (λ (ms : List Move). Has m.0 ms) still m.1)
     ])
   ]))
 
-pub may_draw : (site : Site) → IsSite site → (v : View) → MayDraw site v
-may_draw site is v = record {
-  shown = λ call s b r word d known hit still stash. may_shown site is v call s word d b r known hit still stash;
-  unnoted = λ call s word d owes stash. may_unnoted site is v call s word d owes stash;
+pub may_draw : (site : Site) (v : View) → MayDraw site v
+may_draw site v = record {
+  shown = λ call s b r word d known hit still stash. may_shown site v call s word d b r known hit still stash;
+  unnoted = λ call s word d owes stash. may_unnoted site v call s word d owes stash;
 }

@@ -23,9 +23,9 @@ use Rattle.table_world.specs.Views.{View, HasLock}
 use Rattle.bucket_words.specs.HomeNotes.{SameHomeNotes}
 use Rattle.table_world.specs.Kinds.{IsNewest, StandsBeside, IsTidy, May, stores}
 use Rattle.table_world.specs.Holders.{KnowsBucket, SparesTaken, MayPrepare}
-use Rattle.table_world.proofs.beside.Noted.{notes_by, piece_of, piece_by, stash_keys}
-use Rattle.table_world.proofs.beside.Stashed.{pieces}
-use Rattle.table_world.proofs.stepping.Holders.{newest_same, medium_same}
+use Rattle.bucket_words.proofs.segments.Noted.{notes_by}
+use Rattle.bucket_words.proofs.segments.Stashed.{stashed_same}
+use Rattle.table_world.proofs.holding.Known.{newest_same, medium_same}
 
 -- ---- the overflow fingerprints of word 3
 abbrev note_piece : ℕ → ℕ → ℕ → ℕ → ℕ → List Note
@@ -77,29 +77,14 @@ module _ (shape : Shape) (w : Words) (table : IsTable shape w) (s b m x : ℕ) (
           (λ here. notes_kept_3 (word_in shape w q c 1) (word_in shape w q c 3) x side (spares.overflow e ∙ ap (λ z. z / 2 ^ 48) (ap w (sym (here ∙ ap (λ z. bucket_at shape s b + z) e)))))
           (λ _. refl)
 
-  -- a key that changes is that of a free slot
-  piece_kept : (q d e t : ℕ) → q < shape.segments → e < 2 → t < 14 → pieces shape us q d e t ≡ pieces shape w q d e t
-  piece_kept q d e t near small l =
-      let same = slots q (64 + e) t near (omega (arith, small)) l in
-      elim (cases_eq (allocated t (word_in shape w q (64 + e) 1)) 1) [
-        | inl taken ↦ ap (λ z. piece_by shape d e z t (us (key_at shape q (64 + e) t))) (meta q (64 + e) (omega (arith, small))) ∙ ap (piece_by shape d e (word_in shape w q (64 + e) 1) t) (same.key taken)
-        | inr free ↦ none (word_in shape us q (64 + e) 1) (us (key_at shape q (64 + e) t)) (λ z. free (sym same.taken ∙ z)) ∙ sym (none (word_in shape w q (64 + e) 1) (w (key_at shape q (64 + e) t)) free)
-      ]
-    where
-      none : (w1 key : ℕ) → (allocated t w1 ≡ 1 → ⊥) → piece_by shape d e w1 t key ≡ []
-      none w1 key free = rw (ne_eqb (allocated t w1) 1 free) refl
-
   notes_all : (q d : ℕ) → q < shape.segments → d < 64 → SameHomeNotes shape w us q d
   notes_all q d near_q near = record {
     notes = ap (λ z. z ++ notes_in shape us q (probing_of d) 1) (one_side q d 0 (omega (arith, near))) ∙ ap (λ z. notes_in shape w q d 0 ++ z) (one_side q (probing_of d) 1 (omega arith));
     count = ap overflow_count (meta q d (omega (arith, near)));
-    stashed = ap (λ z. z ++ stashed_in shape us q d 1) (in_stash 0 (omega arith)) ∙ ap (λ z. stashed_in shape w q d 0 ++ z) (in_stash 1 (omega arith));
+    stashed = stashed_same shape w us q d (λ e t small l. slots q (64 + e) t near_q (omega (arith, small)) l);
   }
-    where
-      in_stash : (e : ℕ) → e < 2 → stashed_in shape us q d e ≡ stashed_in shape w q d e
-      in_stash e small = same_pieces (pieces shape w q d e) (pieces shape us q d e) 14 (λ t l. piece_kept q d e t near_q small l)
 
-module _ (site : Site) (is_any : IsSite site) (v : View) (s b m x : ℕ) (word : Words) (seg : s < site.shape.segments) (bucket : b < 66) (known : KnowsBucket site.shape v s b word)
+module _ (site : Site) (v : View) (s b m x : ℕ) (word : Words) (seg : s < site.shape.segments) (bucket : b < 66) (known : KnowsBucket site.shape v s b word)
     (spares : SparesTaken word (bucket_at site.shape s b) m x) where
   -- words that agree under the lock
   spares_there : (w : Words) → ((i : ℕ) → IsUnder (bucket_at site.shape s b) i → w i ≡ word i) → SparesTaken w (bucket_at site.shape s b) m x
@@ -130,15 +115,15 @@ module _ (site : Site) (is_any : IsSite site) (v : View) (s b m x : ℕ) (word :
   may_store = (
     record {
       guarded = (bucket_at site.shape s b, known.lock, (let z = spares.from in omega (arith, z), let z = spares.inside in omega (arith, z)));
-      twins = λ words n q b1 r1 c1 t1 l h g. let sp = spares_there words (newest_same site is_any v words word s b n known) in
+      twins = λ words n q b1 r1 c1 t1 l h g. let sp = spares_there words (newest_same site v words word s b n known) in
           inr (inl (back site.shape words n.table s b m x seg bucket sp q b1 r1 l h, back site.shape words n.table s b m x seg bucket sp q c1 t1 l g));
-      notes = λ words n q d near_q near. inl (notes_all site.shape words n.table s b m x seg bucket (spares_there words (newest_same site is_any v words word s b n known)) q d near_q near);
-      stash = λ words n q e t l small h. inl (forth site.shape words n.table s b m x seg bucket (spares_there words (newest_same site is_any v words word s b n known)) q (64 + e) t l h);
-      alike = λ words medium n o q e t l small h. inr (back site.shape medium o.table s b m x seg bucket (spares_there medium (medium_same site is_any v words medium word s b o known)) q (64 + e) t l h);
-      adds = λ words n q d r l h. inl (back site.shape words n.table s b m x seg bucket (spares_there words (newest_same site is_any v words word s b n known)) q d r l h);
+      notes = λ words n q d near_q near. inl (notes_all site.shape words n.table s b m x seg bucket (spares_there words (newest_same site v words word s b n known)) q d near_q near);
+      stash = λ words n q e t l small h. inl (forth site.shape words n.table s b m x seg bucket (spares_there words (newest_same site v words word s b n known)) q (64 + e) t l h);
+      alike = λ words medium n o q e t l small h. inr (back site.shape medium o.table s b m x seg bucket (spares_there medium (medium_same site v words medium word s b o known)) q (64 + e) t l h);
+      adds = λ words n q d r l h. inl (back site.shape words n.table s b m x seg bucket (spares_there words (newest_same site v words word s b n known)) q d r l h);
     },
-    (λ words medium n o. keeping site.shape medium o.table s b m x seg bucket (spares_there medium (medium_same site is_any v words medium word s b o known))),
+    (λ words medium n o. keeping site.shape medium o.table s b m x seg bucket (spares_there medium (medium_same site v words medium word s b o known))),
   )
 
-pub may_prepare : (site : Site) → IsSite site → (v : View) → MayPrepare site v
-may_prepare site is v = record { store = λ s b m x word seg bucket known spares. may_store site is v s b m x word seg bucket known spares }
+pub may_prepare : (site : Site) (v : View) → MayPrepare site v
+may_prepare site v = record { store = λ s b m x word seg bucket known spares. may_store site v s b m x word seg bucket known spares }
