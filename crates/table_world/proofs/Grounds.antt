@@ -1,11 +1,7 @@
 -- Where lock words stand, what lies under them, and that they have no core.
-use Rattle.std.proofs.Common.{◌≡◌, ℕ, ◌+◌, ◌*◌, ◌-◌, ◌/◌, ◌%◌, ◌^◌, ◌<◌, ◌≤◌, cond, ◌||◌, false, refl, ap, ◌∙◌, arith, eqb}
-use Rattle.std.proofs.lemmas.Bool.{ne_eqb, le-ltb}
-use Rattle.std.specs.Prelude.{nat_lt}
-use Rattle.image_layout.specs.Places.{Shape, first_segment, bucket_at, words_of, buckets}
-use Rattle.sound_image.specs.Records.{key_hash}
-use Rattle.hash_word.specs.Hash.{home_of}
-use Rattle.bucket_words.specs.Core.{core_in_bucket, group_of, core_of}
+use Rattle.std.proofs.Common.{◌≡◌, ℕ, ◌+◌, ◌*◌, ◌-◌, ◌<◌, ◌≤◌, ap, ◌∙◌, arith}
+use Rattle.image_layout.specs.Places.{Shape, first_segment, bucket_at, words_of}
+use Rattle.bucket_words.specs.Core.{core_of}
 use Rattle.bucket_words.proofs.segments.Cores.{core_in}
 use Rattle.table_world.specs.Site.{IsLockWord, IsUnder}
 

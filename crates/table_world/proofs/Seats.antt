@@ -11,7 +11,7 @@ use Rattle.image_layout.specs.Volatile.{counter_word}
 use Rattle.map_model.specs.declared.call.Call.{Call}
 use Rattle.map_model.specs.Map.{key_of}
 use Rattle.bucket_words.specs.Core.{core_of}
-use Rattle.table_world.specs.Site.{Site, IsSite, IsLockWord, IsUnder}
+use Rattle.table_world.specs.Site.{Site, IsLockWord, IsUnder}
 use Rattle.table_world.specs.Views.{View, Has, At, HasLock, IsGuarded}
 use Rattle.table_world.specs.Invariant.{Locks}
 use Rattle.table_world.specs.Kinds.{without, not_under, on_line, off_line, loosened, of_other_keys}

@@ -1,24 +1,21 @@
 -- What tables are by the cores of their words, as the parts of the invariant use it.
-use Rattle.std.proofs.Common.{◌≡◌, ◌≢◌, ℕ, zero, suc, ◌+◌, ◌-◌, ◌<◌, ◌≤◌, refl, cond, sym, ap, ◌∙◌, subst, arith, inl, inr, ◌⊎◌, Some}
-use Rattle.std.proofs.lemmas.Bool.{cases_lt, cases_eq}
+use Rattle.std.proofs.Common.{◌≡◌, ℕ, ◌+◌, ◌<◌, refl, cond, sym, ap, ◌∙◌, subst, arith, inl, inr, ◌⊎◌, Some}
 use Rattle.hash_word.specs.Hash.{home_of, probing_of}
 use Rattle.trace.specs.Events.{Words, with_word}
 use Rattle.trace.proofs.Replaced.{cases_at, replaced_other}
-use Rattle.image_layout.specs.Places.{words_of, bucket_at, buckets}
+use Rattle.image_layout.specs.Places.{words_of, bucket_at}
 use Rattle.image_layout.specs.Volatile.{counter_word, power_word}
 use Rattle.sound_image.specs.Records.{key_hash}
-use Rattle.bucket_words.specs.Buckets.{value_in}
 use Rattle.bucket_words.specs.Core.{core_of, core, SameCoresIn}
 use Rattle.bucket_words.specs.Owners.{HasStructure, SameOwners, owner_of, home_at}
 use Rattle.bucket_words.specs.Standing.{IsTable}
 use Rattle.bucket_words.specs.Hits.{Hit, find}
-use Rattle.std.specs.Option.{unwrap_or}
 use Rattle.bucket_words.specs.TableChanges.{KeepsTable}
 use Rattle.bucket_words.proofs.segments.Places.{owner_kept, home_kept}
 use Rattle.bucket_words.proofs.segments.Deciding.{find_places as places_decide}
-use Rattle.bucket_words.proofs.segments.Cores.{keeps_of_cores, find_of_cores, core_structure, structure_within, slots_of_cores, hit_of_cores}
-use Rattle.table_world.specs.Site.{Site, IsSite, IsLockWord, IsUnder}
-use Rattle.table_world.proofs.Grounds.{lock_within, lock_core, under_lock}
+use Rattle.bucket_words.proofs.segments.Cores.{keeps_of_cores, find_of_cores, core_structure, structure_within, hit_of_cores}
+use Rattle.table_world.specs.Site.{Site, IsLockWord, IsUnder}
+use Rattle.table_world.proofs.Grounds.{lock_within, lock_core}
 
 -- ---- over a site
 module _ (site : Site) where
@@ -82,7 +79,7 @@ module _ (site : Site) where
       (home : (i : ℕ) → IsUnder (bucket_at site.shape s (home_of (key_hash site.shape k))) i → core site.shape word i ≡ core site.shape other i)
       (probing : (i : ℕ) → IsUnder (bucket_at site.shape s (probing_of (home_of (key_hash site.shape k)))) i → core site.shape word i ≡ core site.shape other i)
       (stash : (c : ℕ) → c < 2 → ((i : ℕ) → IsUnder (bucket_at site.shape s (64 + c)) i → core site.shape word i ≡ core site.shape other i)
-          ⊎ (((t : ℕ) → Hit site.shape word s (64 + c) t k → ⊥) × ((t : ℕ) → Hit site.shape other s (64 + c) t k → ⊥))) where
+      ⊎ (((t : ℕ) → Hit site.shape word s (64 + c) t k → ⊥) × ((t : ℕ) → Hit site.shape other s (64 + c) t k → ⊥))) where
     under_bucket : (b : ℕ) → ((i : ℕ) → IsUnder (bucket_at site.shape s b) i → core site.shape word i ≡ core site.shape other i) → SameCoresIn site.shape word other s b
     under_bucket b same n above inside = same (bucket_at site.shape s b + n) (omega (arith, above), omega (arith, inside))
 

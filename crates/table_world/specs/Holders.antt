@@ -1,7 +1,7 @@
 -- What the holder of locks has to know of buckets to make a store there, said over the words that it knows.
 use Rattle.std.specs.Prelude.{◌≡◌, ◌≢◌, ◌≤◌, ℕ, ◌+◌, ◌*◌, ◌/◌, ◌^◌, ◌<◌, ◌⊎◌, [], true, false, None, Some, List}
 use Rattle.bucket_meta.specs.Bucket.{allocated, member, overflow_count, record_slots}
-use Rattle.bucket_meta.specs.Notes.{how_often, AreExact}
+use Rattle.bucket_meta.specs.Notes.{AreExact}
 use Rattle.bucket_words.specs.Core.{core_of}
 use Rattle.hash_word.specs.Hash.{home_of, probing_of, finger_of}
 use Rattle.trace.specs.Events.{Words, with_word}
@@ -90,8 +90,12 @@ pub record MayPlace (site : Site) (v : View) : Type 0 where
   pub stash : (s c r k a x : ℕ) (word : Words) → FoundNone site v word s k → c < stash_buckets → KnowsBucket site.shape v s (homes + c) word → IsReadyAt site.shape word s (homes + c) r k
       → value_in word (bucket_at site.shape s (homes + c)) r ≡ a → TakesSlot site.shape (homes + c) r k (word (bucket_at site.shape s (homes + c) + 1)) x
       → May site (stashes (bucket_at site.shape s (homes + c) + 1) x (Insert k a) (record {
-        segment = s; home = home_of (key_hash site.shape k); added = true; note = (finger_of (key_hash site.shape k), c);
-        notes = notes_of site.shape word s (home_of (key_hash site.shape k)); count = overflow_count (word_in site.shape word s (home_of (key_hash site.shape k)) 1);
+        segment = s;
+        home = home_of (key_hash site.shape k);
+        added = true;
+        note = (finger_of (key_hash site.shape k), c);
+        notes = notes_of site.shape word s (home_of (key_hash site.shape k));
+        count = overflow_count (word_in site.shape word s (home_of (key_hash site.shape k)) 1);
       })) v
 
 pub record MayChange (site : Site) (v : View) : Type 0 where
@@ -105,8 +109,12 @@ pub record MayUnstash (site : Site) (v : View) : Type 0 where
   pub remove : (s c r k x : ℕ) (word : Words) → FoundAt site v word s (homes + c) r k → OwesNone site v s (home_of (key_hash site.shape k)) → c < stash_buckets
       → FreesSlot r (word (bucket_at site.shape s (homes + c) + 1)) x
       → May site (stashes (bucket_at site.shape s (homes + c) + 1) x (Remove k) (record {
-        segment = s; home = home_of (key_hash site.shape k); added = false; note = (finger_of (key_hash site.shape k), c);
-        notes = notes_of site.shape word s (home_of (key_hash site.shape k)); count = overflow_count (word_in site.shape word s (home_of (key_hash site.shape k)) 1);
+        segment = s;
+        home = home_of (key_hash site.shape k);
+        added = false;
+        note = (finger_of (key_hash site.shape k), c);
+        notes = notes_of site.shape word s (home_of (key_hash site.shape k));
+        count = overflow_count (word_in site.shape word s (home_of (key_hash site.shape k)) 1);
       })) v
 
 -- the replies that change nothing
@@ -138,8 +146,8 @@ pub record MayRepay (site : Site) (v : View) : Type 0 where
   pub part : (o : Owed) (c n x : ℕ) (word : Words) → TouchesNote site v word o c n x → May site (stores (bucket_at site.shape o.segment c + n) x) v
   pub last : (o : Owed) (c n x : ℕ) (word : Words) → TouchesNote site v word o c n x
       → ((stashed : List (ℕ × ℕ)) → IsOwedOf o.added o.note o.notes o.count stashed
-          → AreExact (notes_of site.shape (with_word word (bucket_at site.shape o.segment c + n) x) o.segment o.home)
-              (overflow_count (word_in site.shape (with_word word (bucket_at site.shape o.segment c + n) x) o.segment o.home 1)) stashed)
+      → AreExact (notes_of site.shape (with_word word (bucket_at site.shape o.segment c + n) x) o.segment o.home)
+      (overflow_count (word_in site.shape (with_word word (bucket_at site.shape o.segment c + n) x) o.segment o.home 1)) stashed)
       → May site (repays (bucket_at site.shape o.segment c + n) x o) v
 
 -- the draw of a change: what is held and firm, and what of the stash is not held
@@ -164,7 +172,7 @@ pub record MayDraw (site : Site) (v : View) : Type 0 where
   -- where the notes name no record of it in the stash buckets that are not held
   pub unnoted : (call : Call) (s : ℕ) (word : Words) → DrawsWell site v call s word → OwesAsKnown site v word s (home_of (key_hash site.shape (key_of call)))
       → ((c : ℕ) → c < stash_buckets → IsKept site v (bucket_at site.shape s (homes + c))
-          ⊎ ((HasLock v.held (bucket_at site.shape s (homes + c)) → ⊥) × IsUnnoted site.shape word s (home_of (key_hash site.shape (key_of call))) (finger_of (key_hash site.shape (key_of call))) c))
+      ⊎ ((HasLock v.held (bucket_at site.shape s (homes + c)) → ⊥) × IsUnnoted site.shape word s (home_of (key_hash site.shape (key_of call))) (finger_of (key_hash site.shape (key_of call))) c))
       → May site (draws_place call) v
 
 pub record MayMove (site : Site) (v : View) : Type 0 where

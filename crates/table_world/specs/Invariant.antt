@@ -10,7 +10,6 @@ use Rattle.map_model.specs.Map.{key_of}
 use Rattle.map_model.specs.Weave.{draws, drew_at}
 use Rattle.map_model.specs.Legal.{InOrder, seen_of}
 use Rattle.image_layout.specs.Places.{bucket_at, homes, stash_buckets}
-use Rattle.hash_word.specs.Hash.{home_of}
 use Rattle.sound_image.specs.Records.{key_hash, HasExactNotes}
 use Rattle.map_model.specs.declared.call.Call.TheVariants.{Remove}
 use Rattle.bucket_words.specs.Standing.{IsTable}

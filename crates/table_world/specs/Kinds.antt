@@ -15,8 +15,7 @@ use Rattle.map_model.specs.Map.{key_of, shown, is_change}
 use Rattle.map_model.specs.Legal.{IsChange, seen_after}
 use Rattle.bucket_meta.specs.Notes.{AreExact}
 use Rattle.hash_word.specs.Hash.{home_of, probing_of}
-use Rattle.sound_image.specs.Records.{key_hash, word_in, notes_of, stashed_of, HasExactNotes}
-use Rattle.bucket_meta.specs.Bucket.{overflow_count}
+use Rattle.sound_image.specs.Records.{key_hash, stashed_of, HasExactNotes}
 use Rattle.bucket_words.specs.Standing.{IsTable}
 use Rattle.bucket_words.specs.Hits.{Hit, HasOnly, find}
 use Rattle.bucket_words.specs.Buckets.{value_in}

@@ -1,12 +1,9 @@
 -- What a reader has to note of buckets to place an answer.
-use Rattle.std.specs.Prelude.{◌≡◌, ℕ, ◌+◌, ◌<◌, ◌⊎◌, Option, None, Some, List, [], ◌∷◌, map, slice_index}
-use Rattle.bucket_meta.specs.Bucket.{allocated}
+use Rattle.std.specs.Prelude.{◌≡◌, ℕ, ◌+◌, ◌<◌, ◌⊎◌, None, Some, List}
 use Rattle.hash_word.specs.Hash.{home_of, probing_of, finger_of}
 use Rattle.trace.specs.Events.{Words}
 use Rattle.image_layout.specs.Places.{Shape, bucket_at, homes, stash_buckets}
 use Rattle.sound_image.specs.Records.{key_hash}
-use Rattle.map_model.specs.declared.call.Call.{Call}
-use Rattle.map_model.specs.Map.{key_of}
 use Rattle.bucket_words.specs.Buckets.{value_in}
 use Rattle.bucket_words.specs.Hits.{Hit}
 use Rattle.bucket_words.specs.Owners.{owner_of}
@@ -14,7 +11,6 @@ use Rattle.table_world.specs.Site.{Site, IsUnder}
 use Rattle.table_world.specs.Views.{Note, View, Has}
 use Rattle.table_world.specs.Kinds.{IsNow, May, places}
 use Rattle.bucket_words.specs.HomeNotes.{IsUnnoted}
-use Rattle.table_world.specs.Holders.{FoundNone}
 
 -- the 31 words behind the lock word of a bucket are noted: they are those of `word`
 pub record NotedBucket (shape : Shape) (notes : List Note) (s b : ℕ) (word : Words) : Type 0 where
@@ -38,7 +34,7 @@ pub record MayAnswer (site : Site) (v : View) : Type 0 where
   pub none : (s k : ℕ) (word : Words) → Looked site v.notes word s k
       → ((t : ℕ) → Hit site.shape word s (home_of (key_hash site.shape k)) t k → ⊥) → ((t : ℕ) → Hit site.shape word s (probing_of (home_of (key_hash site.shape k))) t k → ⊥)
       → ((c : ℕ) → c < stash_buckets → (NotedBucket site.shape v.notes s (homes + c) word × ((t : ℕ) → Hit site.shape word s (homes + c) t k → ⊥))
-          ⊎ IsUnnoted site.shape word s (home_of (key_hash site.shape k)) (finger_of (key_hash site.shape k)) c)
+      ⊎ IsUnnoted site.shape word s (home_of (key_hash site.shape k)) (finger_of (key_hash site.shape k)) c)
       → May site (places k None) v
   pub some : (s b r k : ℕ) (word : Words) → Looked site v.notes word s k → NotedBucket site.shape v.notes s b word → Hit site.shape word s b r k
       → May site (places k (Some (value_in word (bucket_at site.shape s b) r))) v

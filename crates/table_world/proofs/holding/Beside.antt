@@ -1,11 +1,10 @@
 -- What a view knows of the newest words, and of a medium that may be left beside them.
-use Rattle.std.proofs.Common.{◌≡◌, ◌≢◌, ◌⊎◌, ℕ, ◌+◌, ◌*◌, ◌%◌, ◌<◌, List, [], cond, eqb, Option, Some, inl, inr, refl, sym, ap, ◌∙◌, subst, arith}
+use Rattle.std.proofs.Common.{◌≡◌, ℕ, ◌+◌, ◌%◌, List, [], cond, eqb, Some, inl, inr, refl, sym, ap, ◌∙◌, subst, arith}
 use Rattle.std.proofs.lemmas.Bool.{cases_Bool, eq-eqb, eqb-true}
 use Rattle.trace.specs.Events.{Words, with_word}
-use Rattle.image_layout.specs.Places.{words_of, bucket_at}
+use Rattle.image_layout.specs.Places.{bucket_at}
 use Rattle.hash_word.specs.Hash.{home_of}
 use Rattle.sound_image.specs.Records.{key_hash}
-use Rattle.map_model.specs.declared.call.Call.{Call}
 use Rattle.map_model.specs.declared.call.Call.TheVariants.{Remove}
 use Rattle.map_model.specs.Map.{key_of}
 use Rattle.bucket_words.specs.Core.{core_of, core}
@@ -17,12 +16,12 @@ use Rattle.bucket_words.proofs.segments.Finding.{find_is}
 use Rattle.bucket_words.proofs.segments.Places.{structure_kept}
 use Rattle.bucket_words.specs.Buckets.{value_in}
 use Rattle.table_world.specs.Site.{Site, IsUnder}
-use Rattle.table_world.specs.Views.{Move, Owed, View, Has, At, HasLock, IsGuarded, IsLoose, IsFirm}
+use Rattle.table_world.specs.Views.{Move, View, Has, At, HasLock, IsGuarded, IsLoose, IsFirm}
 use Rattle.table_world.specs.History.{map_now}
 use Rattle.table_world.specs.Media.{IsPossible}
 use Rattle.table_world.specs.Invariant.{Holds, IsRemoving}
-use Rattle.table_world.specs.Kinds.{Agrees, IsUnplanned, IsNewest, StandsBeside, IsMoveOf, HoldsHome}
-use Rattle.table_world.proofs.Tables.{same_keeps, same_table, same_owner, core_structure_same, same_hit}
+use Rattle.table_world.specs.Kinds.{Agrees, IsUnplanned, IsNewest, StandsBeside, HoldsHome}
+use Rattle.table_world.proofs.Tables.{same_table, same_owner, core_structure_same, same_hit}
 use Rattle.table_world.proofs.Seats.{is_v, one_guard, guarded_within, lock_of}
 use Rattle.table_world.proofs.Grounds.{under_within, under_lock}
 
@@ -95,13 +94,17 @@ module _ (site : Site) (words : Words) (views : List View) (j : ℕ) (v : View) 
     knows = λ i x known. (h.known.knows j v i x at known).0;
     once = λ s b r c t k lock hit hit'. elim (h.copies.once s b r c t k hit hit') [
       | inl e ↦ inl e
-      | inr m ↦ inr (m.2, subst (λ (u : View). Has m.2 u.moving)
-          (same_view m.0 m.1 (bucket_at site.shape s (home_of (key_hash site.shape k))) (bucket_at site.shape m.2.segment (home_of (key_hash site.shape m.2.key))) m.3 (h.copies.held m.0 m.1 m.2 m.3 m.4).0 lock
-              (ap (λ z. bucket_at site.shape z (home_of (key_hash site.shape m.2.key))) (sym m.5.0) ∙ ap (λ z. bucket_at site.shape s (home_of (key_hash site.shape z))) (sym m.5.1))) m.4, m.5)
+      | inr m ↦ inr (
+        m.2,
+        subst (λ (u : View). Has m.2 u.moving)
+            (same_view m.0 m.1 (bucket_at site.shape s (home_of (key_hash site.shape k))) (bucket_at site.shape m.2.segment (home_of (key_hash site.shape m.2.key))) m.3 (h.copies.held m.0 m.1 m.2 m.3 m.4).0 lock
+            (ap (λ z. bucket_at site.shape z (home_of (key_hash site.shape m.2.key))) (sym m.5.0) ∙ ap (λ z. bucket_at site.shape s (home_of (key_hash site.shape z))) (sym m.5.1))) m.4,
+        m.5,
+      )
     ];
     exact = λ s b seg near lock none. h.overflow.exact s b seg near (λ i u o a has e f.
         none o (subst (λ (u : View). Has o u.owed) (same_view i u (bucket_at site.shape s b) (bucket_at site.shape o.segment o.home) a (h.overflow.held i u o a has) lock
-            (ap (λ z. bucket_at site.shape z o.home) e ∙ ap (bucket_at site.shape s) f)) has) e f);
+        (ap (λ z. bucket_at site.shape z o.home) e ∙ ap (bucket_at site.shape s) f)) has) e f);
     owes = λ o has. h.overflow.owes j v o at has;
   }
 
@@ -117,7 +120,7 @@ module _ (site : Site) (words : Words) (views : List View) (j : ℕ) (v : View) 
       → IsRemoving views k lock → Has (Remove k) v.planned × HasLock v.held lock
   remover s k lock has own r =
       let e = same_view r.0 r.1 (bucket_at site.shape s (home_of (key_hash site.shape k))) (home_at site.shape words k) r.2 (h.plans.held r.0 r.1 (Remove k) r.2 r.3) has
-          (ap (λ z. bucket_at site.shape (unwrap_or z 0) (home_of (key_hash site.shape k))) own) in
+      (ap (λ z. bucket_at site.shape (unwrap_or z 0) (home_of (key_hash site.shape k))) own) in
       (subst (λ (u : View). Has (Remove k) u.planned) e r.3, subst (λ (u : View). HasLock u.held lock) e r.4)
 
   pub whole_owner : (m : Words) → IsPossible site words views m → (k : ℕ) → owner_of site.shape (whole m) (key_hash site.shape k) ≡ owner_of site.shape words (key_hash site.shape k)
@@ -157,7 +160,7 @@ slot_is_pair site words views j v h at s b r k lock none own hit =
     elim (h.media.stands words (newest site words views) k) [
       | inl e ↦ sym e ∙ found
       | inr p ↦ absurd (let l = h.plans.places p.0 p.1 p.2 p.3 p.4 s b r (subst (λ (z : ℕ). owner_of site.shape words (key_hash site.shape z) ≡ Some s) (sym p.5) own)
-            (subst (λ (z : ℕ). Hit site.shape words s b r z) (sym p.5) hit) in
+          (subst (λ (z : ℕ). Hit site.shape words s b r z) (sym p.5) hit) in
           let e = same_view site words views j v h at p.0 p.1 (bucket_at site.shape s b) (bucket_at site.shape s b) p.3 l lock refl in
           none p.2 (subst (λ (u : View). Has p.2 u.planned) e p.4) p.5)
     ]

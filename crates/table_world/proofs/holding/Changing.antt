@@ -1,33 +1,29 @@
 -- A record that a search found: its value is another, or it vanishes.
-use Rattle.std.proofs.Common.{◌≡◌, ◌≢◌, ◌⊎◌, ℕ, zero, suc, ◌+◌, ◌*◌, ◌-◌, ◌/◌, ◌%◌, ◌^◌, ◌<◌, ◌≤◌, List, [], ◌∷◌, ◌++◌, length, None, Some, true, false, inl, inr, refl, sym, ap, ◌∙◌, subst, arith}
-use Rattle.std.proofs.lemmas.Bool.{cases_eq}
-use Rattle.bucket_meta.specs.Bucket.{allocated, member, finger, overflow_count}
-use Rattle.hash_word.specs.Hash.{home_of, probing_of, finger_of}
+use Rattle.std.proofs.Common.{◌≡◌, ◌≢◌, ℕ, ◌+◌, ◌*◌, ◌<◌, List, Some, inl, inr, refl, sym, ap, ◌∙◌, subst, arith}
+use Rattle.bucket_meta.specs.Bucket.{allocated, overflow_count}
+use Rattle.hash_word.specs.Hash.{home_of, probing_of}
 use Rattle.trace.specs.Events.{Words, with_word}
-use Rattle.image_layout.specs.Places.{Shape, bucket_at, key_at}
-use Rattle.sound_image.specs.Records.{key_hash, word_in, notes_in, notes_of, stashed_in, stashed_of, HasExactNotes}
-use Rattle.map_model.specs.declared.call.Call.TheVariants.{Insert, Update, Remove}
-use Rattle.map_model.specs.Map.{key_of}
-use Rattle.bucket_words.specs.Buckets.{IsTaken, key_in, value_in, finger_in}
+use Rattle.image_layout.specs.Places.{bucket_at, key_at}
+use Rattle.sound_image.specs.Records.{key_hash, word_in}
+use Rattle.map_model.specs.declared.call.Call.TheVariants.{Update, Remove}
+use Rattle.bucket_words.specs.Buckets.{IsTaken, value_in}
 use Rattle.bucket_meta.specs.Marks.{SameButSlot}
-use Rattle.bucket_words.specs.Standing.{IsTable, StandsAt}
-use Rattle.bucket_words.specs.Hits.{Hit, HasNone, HasOnly, find}
+use Rattle.bucket_words.specs.Standing.{IsTable}
+use Rattle.bucket_words.specs.Hits.{Hit, HasOnly, find}
 use Rattle.bucket_words.specs.Owners.{owner_of}
-use Rattle.bucket_words.specs.TableChanges.{KeepsTable, ChangesKey, IsReadyAt, OnlyNewHit}
-use Rattle.bucket_words.proofs.segments.Finding.{find_is, find_none}
+use Rattle.bucket_words.proofs.segments.Finding.{find_is}
 use Rattle.bucket_words.specs.TableChanges.{ChangesSlot}
-use Rattle.bucket_words.proofs.segments.OneSlot.{go, only_new, cases_place, old_key}
-use Rattle.bucket_words.proofs.segments.OneRecord.{not_both, not_taken, told, told_kept, told_meta, appears, appears_only, now, insert_key, copy_key, vanishes, clear_key, remove_key, update_key, update_changes, updated_kept}
-use Rattle.table_world.specs.Site.{Site, IsSite, IsUnder}
-use Rattle.table_world.specs.Views.{Move, Owed, View, Has, HasLock, IsGuarded}
-use Rattle.table_world.specs.History.{reply_by, MayReply}
+use Rattle.bucket_words.proofs.segments.OneSlot.{go, only_new}
+use Rattle.bucket_words.proofs.segments.OneRecord.{not_taken, vanishes, remove_key, update_key, update_changes, updated_kept}
+use Rattle.table_world.specs.Site.{Site, IsUnder}
+use Rattle.table_world.specs.Views.{Move, View, Has, HasLock}
+use Rattle.table_world.specs.History.{reply_by}
 use Rattle.bucket_words.specs.HomeNotes.{SameHomeNotes}
-use Rattle.table_world.specs.Kinds.{OwesNone, IsNewest, StandsBeside, IsMoveOf, IsHomeOf, IsOwing, IsOwed, IsTidy, AddsHeld, HoldsPlaces, MayTake, IsHarmless, IsPublishing, May, publishes, stashes, copies, clears}
-use Rattle.bucket_words.specs.HomeNotes.{IsUnnoted}
-use Rattle.table_world.specs.Holders.{KnowsWord, KnowsBucket, FoundNone, FoundAt, TakesSlot, FreesSlot, MayPlace, MayChange, MayUnstash, MayTell, MayMove}
+use Rattle.table_world.specs.Kinds.{IsNewest, StandsBeside, HoldsPlaces, May, publishes}
+use Rattle.table_world.specs.Holders.{KnowsBucket, FoundAt, FreesSlot}
 use Rattle.bucket_words.proofs.segments.Noted.{notes_same}
 use Rattle.bucket_words.proofs.segments.Stashed.{piece_by, stashed_by_pieces}
-use Rattle.table_world.proofs.holding.Known.{same_value, ready, hit_to, hit_from, but_slot, high_part, home_near, stash_of, newest_same, medium_same}
+use Rattle.table_world.proofs.holding.Known.{hit_to, hit_from, but_slot, high_part, stash_of, newest_same, medium_same}
 use Rattle.table_world.proofs.holding.Owing.{notes_beside}
 
 module _ (site : Site) (v : View) where
@@ -108,14 +104,16 @@ module _ (site : Site) (v : View) where
           count = ap overflow_count (update_kept q d 1 (bucket_at site.shape q d + 1) (omega (arith, near)) (omega arith) refl (λ e. omega (arith, e)));
           stashed = stashed_by_pieces site.shape w (with_word w value_word a) q d (λ c t small l.
               ap (λ z. piece_by site.shape d c (allocated t z) (with_word w value_word a (key_at site.shape q (64 + c) t)))
-                  (update_kept q (64 + c) 1 (bucket_at site.shape q (64 + c) + 1) (omega (arith, small)) (omega arith) refl (λ e. omega (arith, e)))
+              (update_kept q (64 + c) 1 (bucket_at site.shape q (64 + c) + 1) (omega (arith, small)) (omega arith) refl (λ e. omega (arith, e)))
               ∙ ap (piece_by site.shape d c (allocated t (word_in site.shape w q (64 + c) 1)))
-                  (update_kept q (64 + c) (4 + 2 * t) (key_at site.shape q (64 + c) t) (omega (arith, small)) (omega (arith, l)) (omega arith) (λ e. omega (arith, e))));
+              (update_kept q (64 + c) (4 + 2 * t) (key_at site.shape q (64 + c) t) (omega (arith, small)) (omega (arith, l)) (omega arith) (λ e. omega (arith, e))));
         }
 
         update_stays : (q c t l : ℕ) → Hit site.shape w q c t l → Hit site.shape (with_word w value_word a) q c t l
         update_stays q c t l h = record {
-          segment = h.segment; bucket = h.bucket; slot = h.slot;
+          segment = h.segment;
+          bucket = h.bucket;
+          slot = h.slot;
           taken = ap (allocated t) (update_kept q c 1 (bucket_at site.shape q c + 1) h.bucket (omega arith) refl (λ e. omega (arith, e))) ∙ h.taken;
           key = update_kept q c (4 + 2 * t) (bucket_at site.shape q c + 4 + 2 * t) h.bucket (let l = h.slot in omega (arith, l)) (omega arith) (λ e. omega (arith, e)) ∙ h.key;
         }

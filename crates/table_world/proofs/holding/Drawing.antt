@@ -1,17 +1,16 @@
 -- What a holder has to know to draw the place of a change.
-use Rattle.std.proofs.Common.{◌≡◌, ◌⊎◌, ℕ, ◌+◌, ◌*◌, ◌/◌, ◌%◌, ◌^◌, ◌<◌, ◌≤◌, Bool, true, false, List, [], ◌∷◌, inl, inr, refl, sym, ap, ◌∙◌, subst, arith}
-use Rattle.bucket_meta.specs.Bucket.{overflow_count}
-use Rattle.bucket_meta.specs.Notes.{Note, how_often, AreExact}
-use Rattle.hash_word.specs.Hash.{home_of, probing_of, finger_of}
+use Rattle.std.proofs.Common.{◌≡◌, ◌⊎◌, ℕ, ◌+◌, ◌/◌, ◌%◌, ◌^◌, ◌<◌, Bool, true, false, List, [], ◌∷◌, inl, inr, sym, ap, ◌∙◌, subst, arith}
+use Rattle.bucket_meta.specs.Notes.{Note, how_often}
+use Rattle.hash_word.specs.Hash.{home_of, finger_of}
 use Rattle.stash.proofs.ExactNotes.{each_is_named, often_head}
 use Rattle.trace.specs.Events.{Words}
 use Rattle.image_layout.specs.Places.{bucket_at}
-use Rattle.sound_image.specs.Records.{key_hash, word_in, notes_of, stashed_of}
+use Rattle.sound_image.specs.Records.{key_hash, stashed_of}
 use Rattle.map_model.specs.declared.call.Call.{Call}
 use Rattle.map_model.specs.Map.{key_of}
 use Rattle.bucket_words.specs.Hits.{Hit}
-use Rattle.table_world.specs.Site.{Site, IsSite, IsUnder}
-use Rattle.table_world.specs.Views.{Move, Owed, View, Has, HasLock}
+use Rattle.table_world.specs.Site.{Site}
+use Rattle.table_world.specs.Views.{Move, View, Has, HasLock}
 use Rattle.table_world.specs.Kinds.{IsNewest, IsOwedOf, IsKept, May, draws_place}
 use Rattle.bucket_words.specs.HomeNotes.{IsUnnoted}
 use Rattle.table_world.specs.Holders.{KnowsBucket, DrawsWell, OwesAsKnown, MayDraw}
@@ -55,20 +54,43 @@ module _ (site : Site) (v : View) (call : Call) (s : ℕ) (word : Words) (d : Dr
   pub may_unnoted : OwesAsKnown site v word s b
       → ((c : ℕ) → c < 2 → IsKept site v (bucket_at site.shape s (64 + c)) ⊎ ((HasLock v.held (bucket_at site.shape s (64 + c)) → ⊥) × IsUnnoted site.shape word s b (finger_of (key_hash site.shape k)) c))
       → May site (draws_place call) v
-  may_unnoted owes stash = (d.planned, d.room, (s, d.led, d.firm, d.probing, λ c small. elim (stash c small) [
-    | inl q ↦ inl q
-    | inr q ↦ inr (q.0, λ words n t h. nowhere owes c small q.1 words n t h)
-  ]))
+  may_unnoted owes stash = (
+    d.planned,
+    d.room,
+    (
+      s,
+      d.led,
+      d.firm,
+      d.probing,
+      λ c small. elim (stash c small) [
+        | inl q ↦ inl q
+        | inr q ↦ inr (q.0, λ words n t h. nowhere owes c small q.1 words n t h)
+      ],
+    ),
+  )
 
   pub may_shown : (e r : ℕ) → KnowsBucket site.shape v s e word → Hit site.shape word s e r k → v.moving ≡ []
       → ((c : ℕ) → c < 2 → IsKept site v (bucket_at site.shape s (64 + c)) ⊎ (HasLock v.held (bucket_at site.shape s (64 + c)) → ⊥)) → May site (draws_place call) v
-  may_shown e r known hit still stash = (d.planned, d.room, (s, d.led, d.firm, d.probing, λ c small. elim (stash c small) [
-    | inl q ↦ inl q
-    | inr q ↦ inr (q, λ words n t h. elim (n.once s (64 + c) t e r k d.led.1 h (hit_from site.shape word words s e (newest_same site v words word s e n known) r k hit)) [
-      | inl same ↦ q (subst (λ (z : ℕ). HasLock v.held (bucket_at site.shape s z)) (sym same.0) known.lock)
-      | inr m ↦ absurd (subst (λ (ms : List Move). Has m.0 ms) still m.1)
-    ])
-  ]))
+  may_shown e r known hit still stash = (
+    d.planned,
+    d.room,
+    (
+      s,
+      d.led,
+      d.firm,
+      d.probing,
+      λ c small. elim (stash c small) [
+        | inl q ↦ inl q
+        | inr q ↦ inr (
+          q,
+          λ words n t h. elim (n.once s (64 + c) t e r k d.led.1 h (hit_from site.shape word words s e (newest_same site v words word s e n known) r k hit)) [
+            | inl same ↦ q (subst (λ (z : ℕ). HasLock v.held (bucket_at site.shape s z)) (sym same.0) known.lock)
+            | inr m ↦ absurd (subst (λ (ms : List Move). Has m.0 ms) still m.1)
+          ],
+        )
+      ],
+    ),
+  )
 
 pub may_draw : (site : Site) (v : View) → MayDraw site v
 may_draw site v = record {

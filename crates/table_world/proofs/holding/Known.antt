@@ -1,30 +1,18 @@
 -- What is known of a bucket under its lock, in the newest words and in a medium beside them.
-use Rattle.std.proofs.Common.{◌≡◌, ◌≢◌, ◌⊎◌, ℕ, zero, suc, ◌+◌, ◌*◌, ◌-◌, ◌/◌, ◌%◌, ◌^◌, ◌<◌, ◌≤◌, List, [], ◌∷◌, ◌++◌, length, None, Some, true, false, inl, inr, refl, sym, ap, ◌∙◌, subst, arith}
-use Rattle.std.proofs.lemmas.Bool.{cases_eq}
-use Rattle.bucket_meta.specs.Bucket.{allocated, member, finger, overflow_count}
-use Rattle.hash_word.specs.Hash.{home_of, probing_of, finger_of}
-use Rattle.trace.specs.Events.{Words, with_word}
-use Rattle.image_layout.specs.Places.{Shape, bucket_at, key_at}
-use Rattle.sound_image.specs.Records.{key_hash, word_in, notes_in, notes_of, stashed_in, stashed_of, HasExactNotes}
-use Rattle.map_model.specs.declared.call.Call.TheVariants.{Insert, Update, Remove}
-use Rattle.map_model.specs.Map.{key_of}
-use Rattle.bucket_words.specs.Buckets.{IsTaken, key_in, value_in, finger_in}
+use Rattle.std.proofs.Common.{◌≡◌, ℕ, ◌+◌, ◌*◌, ◌-◌, ◌/◌, ◌%◌, ◌^◌, ◌<◌, ◌≤◌, sym, ap, ◌∙◌, subst, arith}
+use Rattle.bucket_meta.specs.Bucket.{allocated, finger}
+use Rattle.hash_word.specs.Hash.{home_of}
+use Rattle.trace.specs.Events.{Words}
+use Rattle.image_layout.specs.Places.{Shape, bucket_at}
+use Rattle.sound_image.specs.Records.{key_hash}
+use Rattle.bucket_words.specs.Buckets.{key_in, value_in, finger_in}
 use Rattle.bucket_meta.specs.Marks.{SameButSlot}
-use Rattle.bucket_words.specs.Standing.{IsTable, StandsAt}
-use Rattle.bucket_words.specs.Hits.{Hit, HasNone, HasOnly, find}
-use Rattle.bucket_words.specs.Owners.{owner_of}
-use Rattle.bucket_words.specs.TableChanges.{KeepsTable, ChangesKey, IsReadyAt, OnlyNewHit}
-use Rattle.bucket_words.proofs.segments.Finding.{find_is, find_none}
-use Rattle.bucket_words.specs.TableChanges.{ChangesSlot}
-use Rattle.bucket_words.proofs.segments.OneSlot.{go, only_new, cases_place, old_key}
-use Rattle.bucket_words.proofs.segments.OneRecord.{not_both, not_taken, told, told_kept, told_meta, appears, appears_only, now, insert_key, copy_key, vanishes, clear_key, remove_key, update_key, update_changes, updated_kept}
-use Rattle.table_world.specs.Site.{Site, IsSite, IsUnder}
-use Rattle.table_world.specs.Views.{Move, Owed, View, Has, HasLock, IsGuarded}
-use Rattle.table_world.specs.History.{reply_by, MayReply}
-use Rattle.bucket_words.specs.HomeNotes.{SameHomeNotes}
-use Rattle.table_world.specs.Kinds.{OwesNone, IsNewest, StandsBeside, IsMoveOf, IsHomeOf, IsOwing, IsOwed, IsTidy, AddsHeld, HoldsPlaces, MayTake, IsHarmless, IsPublishing, May, publishes, stashes, copies, clears}
-use Rattle.bucket_words.specs.HomeNotes.{IsUnnoted}
-use Rattle.table_world.specs.Holders.{KnowsWord, KnowsBucket, FoundNone, FoundAt, TakesSlot, FreesSlot, MayPlace, MayChange, MayUnstash, MayTell, MayMove}
+use Rattle.bucket_words.specs.Hits.{Hit}
+use Rattle.bucket_words.specs.TableChanges.{IsReadyAt}
+use Rattle.table_world.specs.Site.{Site, IsUnder}
+use Rattle.table_world.specs.Views.{View}
+use Rattle.table_world.specs.Kinds.{IsNewest, StandsBeside}
+use Rattle.table_world.specs.Holders.{KnowsBucket}
 use Rattle.image_layout.specs.Places.{homes, stash_buckets, buckets}
 
 -- words that are another's under a lock

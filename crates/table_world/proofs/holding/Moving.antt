@@ -1,31 +1,23 @@
 -- The copy of a record, and the clearing of its source.
-use Rattle.std.proofs.Common.{◌≡◌, ◌≢◌, ◌⊎◌, ℕ, zero, suc, ◌+◌, ◌*◌, ◌-◌, ◌/◌, ◌%◌, ◌^◌, ◌<◌, ◌≤◌, List, [], ◌∷◌, ◌++◌, length, None, Some, true, false, inl, inr, refl, sym, ap, ◌∙◌, subst, arith}
-use Rattle.std.proofs.lemmas.Bool.{cases_eq}
-use Rattle.bucket_meta.specs.Bucket.{allocated, member, finger, overflow_count}
-use Rattle.hash_word.specs.Hash.{home_of, probing_of, finger_of}
+use Rattle.std.proofs.Common.{◌≡◌, ◌≢◌, ℕ, ◌+◌, ◌<◌, List, [], Some, inl, inr, refl, sym, ◌∙◌, subst, arith}
+use Rattle.hash_word.specs.Hash.{home_of}
 use Rattle.trace.specs.Events.{Words, with_word}
-use Rattle.image_layout.specs.Places.{Shape, bucket_at, key_at}
-use Rattle.sound_image.specs.Records.{key_hash, word_in, notes_in, notes_of, stashed_in, stashed_of, HasExactNotes}
-use Rattle.map_model.specs.declared.call.Call.TheVariants.{Insert, Update, Remove}
-use Rattle.map_model.specs.Map.{key_of}
-use Rattle.bucket_words.specs.Buckets.{IsTaken, key_in, value_in, finger_in}
+use Rattle.image_layout.specs.Places.{bucket_at}
+use Rattle.sound_image.specs.Records.{key_hash}
+use Rattle.bucket_words.specs.Buckets.{IsTaken, value_in}
 use Rattle.bucket_meta.specs.Marks.{SameButSlot}
-use Rattle.bucket_words.specs.Standing.{IsTable, StandsAt}
-use Rattle.bucket_words.specs.Hits.{Hit, HasNone, HasOnly, find}
+use Rattle.bucket_words.specs.Standing.{IsTable}
+use Rattle.bucket_words.specs.Hits.{Hit}
 use Rattle.bucket_words.specs.Owners.{owner_of}
-use Rattle.bucket_words.specs.TableChanges.{KeepsTable, ChangesKey, IsReadyAt, OnlyNewHit}
-use Rattle.bucket_words.proofs.segments.Finding.{find_is, find_none}
+use Rattle.bucket_words.specs.TableChanges.{KeepsTable, IsReadyAt, OnlyNewHit}
 use Rattle.bucket_words.specs.TableChanges.{ChangesSlot}
-use Rattle.bucket_words.proofs.segments.OneSlot.{go, only_new, cases_place, old_key}
-use Rattle.bucket_words.proofs.segments.OneRecord.{not_both, not_taken, told, told_kept, told_meta, appears, appears_only, now, insert_key, copy_key, vanishes, clear_key, remove_key, update_key, update_changes, updated_kept}
-use Rattle.table_world.specs.Site.{Site, IsSite, IsUnder}
-use Rattle.table_world.specs.Views.{Move, Owed, View, Has, HasLock, IsGuarded}
-use Rattle.table_world.specs.History.{reply_by, MayReply}
-use Rattle.bucket_words.specs.HomeNotes.{SameHomeNotes}
-use Rattle.table_world.specs.Kinds.{OwesNone, IsNewest, StandsBeside, IsMoveOf, IsHomeOf, IsOwing, IsOwed, IsTidy, AddsHeld, HoldsPlaces, MayTake, IsHarmless, IsPublishing, May, publishes, stashes, copies, clears}
-use Rattle.bucket_words.specs.HomeNotes.{IsUnnoted}
-use Rattle.table_world.specs.Holders.{KnowsWord, KnowsBucket, FoundNone, FoundAt, TakesSlot, FreesSlot, MayPlace, MayChange, MayUnstash, MayTell, MayMove}
-use Rattle.table_world.proofs.holding.Known.{same_value, ready, hit_to, hit_from, but_slot, high_part, home_near, stash_of, newest_same, medium_same}
+use Rattle.bucket_words.proofs.segments.OneSlot.{go, only_new}
+use Rattle.bucket_words.proofs.segments.OneRecord.{not_taken, appears, copy_key, vanishes, clear_key}
+use Rattle.table_world.specs.Site.{Site, IsUnder}
+use Rattle.table_world.specs.Views.{Move, View, Has, HasLock}
+use Rattle.table_world.specs.Kinds.{IsNewest, IsMoveOf, May, copies, clears}
+use Rattle.table_world.specs.Holders.{KnowsBucket, TakesSlot, FreesSlot, MayMove}
+use Rattle.table_world.proofs.holding.Known.{same_value, ready, hit_from, but_slot, high_part, newest_same, medium_same}
 use Rattle.table_world.proofs.holding.Owing.{notes_beside}
 
 module _ (site : Site) (v : View) where
@@ -96,7 +88,7 @@ module _ (site : Site) (v : View) where
             ];
         notes = λ words n q d seg near. let same = newest_same site v words word s c n target in
             inl (notes_beside site.shape words s c t k x (copied words n.table (newest_same site v words word s b n source) same) made.bucket (high_part site.shape word words s c same x takes.overflow) q d seg near
-                (λ _ high _. omega (arith, high, low)));
+            (λ _ high _. omega (arith, high, low)));
         stash = λ words n q e u l small h. inl (copy_stays words n.table (newest_same site v words word s b n source) (newest_same site v words word s c n target) q (64 + e) u l (λ f. omega (arith, f, low)) h);
         alike = λ words medium n o q e u l small h. elim (only_copy medium o.table (medium_same site v words medium word s b o source) (medium_same site v words medium word s c o target) q (64 + e) u l h) [
           | inl old ↦ inr old
@@ -165,7 +157,7 @@ module _ (site : Site) (v : View) where
             inr (inl (was q b1 r1 l h, was q c1 t1 l g));
         notes = λ words n q d seg near. let same = newest_same site v words word m.segment m.from_bucket n source in
             inl (notes_beside site.shape words m.segment m.from_bucket m.from_slot m.key x (clearing words n.table same (newest_same site v words word m.segment m.to_bucket n target)) stood.bucket
-                (high_part site.shape word words m.segment m.from_bucket same x frees.overflow) q d seg near (λ _ high _. omega (arith, high, low)));
+            (high_part site.shape word words m.segment m.from_bucket same x frees.overflow) q d seg near (λ _ high _. omega (arith, high, low)));
         stash = λ words n q e u l small h. inl (clear_stays words n.table (newest_same site v words word m.segment m.from_bucket n source) (newest_same site v words word m.segment m.to_bucket n target) q (64 + e) u l (λ f. omega (arith, f, low)) h);
         alike = λ words medium n o q e u l small h. inr (was_there medium o.table (medium_same site v words medium word m.segment m.from_bucket o source) (medium_same site v words medium word m.segment m.to_bucket o target) q (64 + e) u l h);
         adds = λ words n q d u l h. inl (was_there words n.table (newest_same site v words word m.segment m.from_bucket n source) (newest_same site v words word m.segment m.to_bucket n target) q d u l h);

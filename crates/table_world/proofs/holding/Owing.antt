@@ -1,5 +1,5 @@
 -- What homes have noted of the stash, and what views owe to that, beside a store.
-use Rattle.std.proofs.Common.{◌≡◌, ◌⊎◌, ℕ, ◌+◌, ◌/◌, ◌^◌, ◌<◌, ◌≤◌, ap, sym, subst, arith}
+use Rattle.std.proofs.Common.{◌≡◌, ℕ, ◌+◌, ◌/◌, ◌^◌, ◌<◌, ◌≤◌, ap, sym, subst, arith}
 use Rattle.hash_word.specs.Hash.{home_of, probing_of}
 use Rattle.bucket_meta.specs.Bucket.{overflow_count}
 use Rattle.trace.specs.Events.{Words, with_word}

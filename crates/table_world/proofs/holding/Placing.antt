@@ -1,33 +1,28 @@
 -- A search that found nothing, and the record that is then placed in the home or the probing bucket.
-use Rattle.std.proofs.Common.{◌≡◌, ◌≢◌, ◌⊎◌, ℕ, zero, suc, ◌+◌, ◌*◌, ◌-◌, ◌/◌, ◌%◌, ◌^◌, ◌<◌, ◌≤◌, List, [], ◌∷◌, ◌++◌, length, None, Some, true, false, inl, inr, refl, sym, ap, ◌∙◌, subst, arith}
-use Rattle.std.proofs.lemmas.Bool.{cases_eq}
-use Rattle.bucket_meta.specs.Bucket.{allocated, member, finger, overflow_count}
+use Rattle.std.proofs.Common.{◌≡◌, ◌⊎◌, ℕ, ◌+◌, ◌<◌, Some, inl, inr, sym, ap, ◌∙◌, subst, arith}
 use Rattle.hash_word.specs.Hash.{home_of, probing_of, finger_of}
 use Rattle.trace.specs.Events.{Words, with_word}
-use Rattle.image_layout.specs.Places.{Shape, bucket_at, key_at}
-use Rattle.sound_image.specs.Records.{key_hash, word_in, notes_in, notes_of, stashed_in, stashed_of, HasExactNotes}
-use Rattle.map_model.specs.declared.call.Call.TheVariants.{Insert, Update, Remove}
-use Rattle.map_model.specs.Map.{key_of}
-use Rattle.bucket_words.specs.Buckets.{IsTaken, key_in, value_in, finger_in}
+use Rattle.image_layout.specs.Places.{bucket_at}
+use Rattle.sound_image.specs.Records.{key_hash}
+use Rattle.map_model.specs.declared.call.Call.TheVariants.{Insert}
+use Rattle.bucket_words.specs.Buckets.{IsTaken, value_in}
 use Rattle.bucket_meta.specs.Marks.{SameButSlot}
-use Rattle.bucket_words.specs.Standing.{IsTable, StandsAt}
-use Rattle.bucket_words.specs.Hits.{Hit, HasNone, HasOnly, find}
-use Rattle.bucket_words.specs.Owners.{owner_of}
-use Rattle.bucket_words.specs.TableChanges.{KeepsTable, ChangesKey, IsReadyAt, OnlyNewHit}
-use Rattle.bucket_words.proofs.segments.Finding.{find_is, find_none}
+use Rattle.bucket_words.specs.Standing.{IsTable}
+use Rattle.bucket_words.specs.Hits.{Hit, HasNone}
+use Rattle.bucket_words.specs.TableChanges.{ChangesKey, IsReadyAt, OnlyNewHit}
+use Rattle.bucket_words.proofs.segments.Finding.{find_none}
 use Rattle.bucket_words.specs.TableChanges.{ChangesSlot}
-use Rattle.bucket_words.proofs.segments.OneSlot.{go, only_new, cases_place, old_key}
-use Rattle.bucket_words.proofs.segments.OneRecord.{not_both, not_taken, told, told_kept, told_meta, appears, appears_only, now, insert_key, copy_key, vanishes, clear_key, remove_key, update_key, update_changes, updated_kept}
-use Rattle.table_world.specs.Site.{Site, IsSite, IsUnder}
-use Rattle.table_world.specs.Views.{Move, Owed, View, Has, HasLock, IsGuarded}
-use Rattle.table_world.specs.History.{reply_by, MayReply}
-use Rattle.bucket_words.specs.HomeNotes.{SameHomeNotes}
-use Rattle.table_world.specs.Kinds.{OwesNone, IsNewest, StandsBeside, IsMoveOf, IsHomeOf, IsOwing, IsOwed, IsTidy, AddsHeld, HoldsPlaces, MayTake, IsHarmless, IsPublishing, May, publishes, stashes, copies, clears}
+use Rattle.bucket_words.proofs.segments.OneSlot.{go, only_new}
+use Rattle.bucket_words.proofs.segments.OneRecord.{not_both, appears, now, insert_key}
+use Rattle.table_world.specs.Site.{Site, IsUnder}
+use Rattle.table_world.specs.Views.{View, HasLock, IsGuarded}
+use Rattle.table_world.specs.History.{reply_by}
+use Rattle.table_world.specs.Kinds.{IsNewest, StandsBeside, AddsHeld, HoldsPlaces, IsPublishing, May, publishes}
 use Rattle.bucket_words.specs.HomeNotes.{IsUnnoted}
-use Rattle.table_world.specs.Holders.{KnowsWord, KnowsBucket, FoundNone, FoundAt, TakesSlot, FreesSlot, MayPlace, MayChange, MayUnstash, MayTell, MayMove}
+use Rattle.table_world.specs.Holders.{KnowsBucket, FoundNone, TakesSlot}
 use Rattle.bucket_words.proofs.segments.Stashed.{not_there}
 use Rattle.bucket_meta.specs.Notes.{how_often}
-use Rattle.table_world.proofs.holding.Known.{same_value, ready, hit_to, hit_from, but_slot, high_part, home_near, stash_of, newest_same, medium_same}
+use Rattle.table_world.proofs.holding.Known.{same_value, ready, hit_to, but_slot, high_part, home_near, stash_of, newest_same, medium_same}
 use Rattle.table_world.proofs.holding.Owing.{notes_beside, notes_known, count_known}
 
 module _ (site : Site) (v : View) where
@@ -133,7 +128,7 @@ module _ (site : Site) (v : View) where
             sym (ap (λ z. reply_by z (Insert k a)) (find_none site.shape medium s k made.segment own none)),
             subst (λ z. ChangesKey site.shape medium (with_word medium i x) k (Some z)) (same_value site.shape word medium s b same r made.slot ∙ value)
                 (insert_key site.shape medium o.table s b made.segment made.bucket r x made.slot (but_slot site.shape word medium s b same r x takes.others) k
-                    (ready site.shape word medium s b same r k made) takes.taken takes.stands (λ _ c t h. absurd (none c t h)) own),
+                (ready site.shape word medium s b same r k made) takes.taken takes.stands (λ _ c t h. absurd (none c t h)) own),
           )
 
       -- outside the stash
@@ -144,7 +139,7 @@ module _ (site : Site) (v : View) where
           twins = λ words n q c t d u l h g. no_twin words n.table (newest_same site v words word s b n known) (none_newest words n) q c t d u l h g;
           notes = λ words n q d seg near. let same = newest_same site v words word s b n known in
               inl (notes_beside site.shape words s b r k x (change words n.table same (none_newest words n)) made.bucket (high_part site.shape word words s b same x takes.overflow) q d seg near
-                  (λ _ high _. omega (arith, high, low)));
+              (λ _ high _. omega (arith, high, low)));
           stash = λ words n q c t l small h. inl (stays words n.table (newest_same site v words word s b n known) (none_newest words n) q (64 + c) t l h);
           alike = λ words medium n o q c t l small h. elim (only medium o.table (medium_same site v words medium word s b o known) (none_medium words medium n o) q (64 + c) t l h) [
             | inl old ↦ inr old

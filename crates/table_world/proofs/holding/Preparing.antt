@@ -1,15 +1,15 @@
 -- The stores that change no pair: to the key, the value and the fingerprint of a free slot.
-use Rattle.std.proofs.Common.{◌≡◌, ◌≢◌, ◌⊎◌, ℕ, zero, suc, ◌+◌, ◌*◌, ◌-◌, ◌/◌, ◌%◌, ◌^◌, ◌<◌, ◌≤◌, List, [], ◌∷◌, ◌++◌, cond, eqb, inl, inr, refl, sym, ap, ◌∙◌, subst, arith}
+use Rattle.std.proofs.Common.{◌≡◌, ◌⊎◌, ℕ, zero, suc, ◌+◌, ◌/◌, ◌^◌, ◌<◌, ◌≤◌, List, [], ◌∷◌, ◌++◌, cond, eqb, inl, inr, refl, sym, ap, ◌∙◌, arith}
 use Rattle.std.specs.Prelude.{◌==◌, ◌&&◌, if◌then◌else◌}
-use Rattle.std.proofs.lemmas.Bool.{cases_eq, ne_eqb}
+use Rattle.std.proofs.lemmas.Bool.{cases_eq}
 use Rattle.bucket_meta.specs.Bucket.{allocated, finger, overflow_count, note_used, note_member, note_index, note_finger}
 use Rattle.bucket_meta.specs.Notes.{Note}
 use Rattle.hash_word.specs.Hash.{probing_of}
 use Rattle.trace.specs.Events.{Words, with_word}
 use Rattle.trace.proofs.Replaced.{cases_at}
-use Rattle.image_layout.specs.Places.{Shape, bucket_at, key_at}
-use Rattle.sound_image.specs.Records.{word_in, notes_in, notes_of, stashed_in, stashed_of}
-use Rattle.bucket_words.specs.Buckets.{IsTaken, key_in, value_in, finger_in}
+use Rattle.image_layout.specs.Places.{Shape, bucket_at}
+use Rattle.sound_image.specs.Records.{word_in, notes_in}
+use Rattle.bucket_words.specs.Buckets.{finger_in}
 use Rattle.bucket_words.proofs.Slots.{SameSlot}
 use Rattle.stash.proofs.Counts.{same_pieces}
 use Rattle.bucket_words.specs.Standing.{IsTable}
@@ -18,10 +18,10 @@ use Rattle.bucket_words.specs.TableChanges.{KeepsTable}
 use Rattle.bucket_words.proofs.segments.Places.{owners_kept, other_word}
 use Rattle.bucket_words.proofs.segments.NoSlot.{same_there, same_back}
 use Rattle.bucket_words.proofs.segments.Prepared.{slots_kept, behind_meta}
-use Rattle.table_world.specs.Site.{Site, IsSite, IsUnder}
-use Rattle.table_world.specs.Views.{View, HasLock}
+use Rattle.table_world.specs.Site.{Site, IsUnder}
+use Rattle.table_world.specs.Views.{View}
 use Rattle.bucket_words.specs.HomeNotes.{SameHomeNotes}
-use Rattle.table_world.specs.Kinds.{IsNewest, StandsBeside, IsTidy, May, stores}
+use Rattle.table_world.specs.Kinds.{May, stores}
 use Rattle.table_world.specs.Holders.{KnowsBucket, SparesTaken, MayPrepare}
 use Rattle.bucket_words.proofs.segments.Noted.{notes_by}
 use Rattle.bucket_words.proofs.segments.Stashed.{stashed_same}

@@ -1,24 +1,21 @@
 -- The stores of a note by one who owes it.
-use Rattle.std.proofs.Common.{◌≡◌, ◌≢◌, ◌⊎◌, ℕ, ◌+◌, ◌*◌, ◌%◌, ◌^◌, ◌<◌, ◌≤◌, List, ◌++◌, cond, eqb, inl, inr, refl, sym, ap, ◌∙◌, subst, arith}
+use Rattle.std.proofs.Common.{◌≡◌, ◌⊎◌, ℕ, ◌+◌, ◌<◌, ◌≤◌, List, ◌++◌, cond, eqb, inl, inr, refl, sym, ap, ◌∙◌, subst, arith}
 use Rattle.std.proofs.lemmas.Bool.{cases_eq}
 use Rattle.bucket_meta.specs.Bucket.{overflow_count}
 use Rattle.bucket_meta.specs.Notes.{AreExact}
 use Rattle.hash_word.specs.Hash.{probing_of}
 use Rattle.trace.specs.Events.{Words, with_word}
-use Rattle.trace.proofs.Replaced.{replaced_other}
-use Rattle.image_layout.specs.Places.{Shape, first_segment, bucket_at, words_of}
-use Rattle.sound_image.specs.Records.{word_in, notes_in, notes_of, stashed_in, stashed_of, HasExactNotes}
+use Rattle.image_layout.specs.Places.{Shape, bucket_at}
+use Rattle.sound_image.specs.Records.{word_in, notes_in, notes_of, stashed_of, HasExactNotes}
 use Rattle.bucket_words.specs.Core.{core_of, core}
-use Rattle.bucket_words.specs.Standing.{IsTable}
 use Rattle.bucket_words.specs.Hits.{Hit}
-use Rattle.bucket_words.specs.TableChanges.{KeepsTable}
 use Rattle.bucket_words.proofs.segments.Places.{other_word}
 use Rattle.bucket_words.proofs.segments.Prepared.{core_keeps}
-use Rattle.table_world.specs.Site.{Site, IsSite, IsUnder}
-use Rattle.table_world.specs.Views.{Owed, View, Has, HasLock, IsGuarded}
+use Rattle.table_world.specs.Site.{Site, IsUnder}
+use Rattle.table_world.specs.Views.{Owed, View}
 use Rattle.bucket_words.specs.HomeNotes.{SameHomeNotes}
-use Rattle.table_world.specs.Kinds.{IsNewest, StandsBeside, IsOwing, IsHomeOf, IsOwedOf, IsOwed, IsTidy, IsHarmless, May, stores, repays}
-use Rattle.table_world.specs.Holders.{KnowsBucket, KeepsNeighbours, TouchesNote, MayRepay}
+use Rattle.table_world.specs.Kinds.{IsNewest, IsOwing, IsHomeOf, IsOwedOf, IsTidy, IsHarmless, May, stores, repays}
+use Rattle.table_world.specs.Holders.{KnowsBucket, TouchesNote, MayRepay}
 use Rattle.bucket_words.proofs.segments.Noted.{notes_by}
 use Rattle.bucket_words.proofs.segments.Stashed.{stashed_same as stashed_stays}
 use Rattle.bucket_words.proofs.segments.Cores.{slots_of_cores}

@@ -1,34 +1,27 @@
 -- A record that is placed in the stash, for which a note is owed.
-use Rattle.std.proofs.Common.{◌≡◌, ◌≢◌, ◌⊎◌, ℕ, zero, suc, ◌+◌, ◌*◌, ◌-◌, ◌/◌, ◌%◌, ◌^◌, ◌<◌, ◌≤◌, List, [], ◌∷◌, ◌++◌, length, None, Some, true, false, inl, inr, refl, sym, ap, ◌∙◌, subst, arith}
+use Rattle.std.proofs.Common.{◌≡◌, ◌⊎◌, ℕ, ◌+◌, ◌/◌, ◌^◌, ◌<◌, ◌≤◌, ◌∷◌, true, inl, inr, sym, subst}
 use Rattle.std.proofs.lemmas.Bool.{cases_eq}
-use Rattle.bucket_meta.specs.Bucket.{allocated, member, finger, overflow_count}
-use Rattle.hash_word.specs.Hash.{home_of, probing_of, finger_of}
+use Rattle.bucket_meta.specs.Bucket.{overflow_count}
+use Rattle.hash_word.specs.Hash.{home_of, finger_of}
 use Rattle.trace.specs.Events.{Words, with_word}
-use Rattle.image_layout.specs.Places.{Shape, bucket_at, key_at}
-use Rattle.sound_image.specs.Records.{key_hash, word_in, notes_in, notes_of, stashed_in, stashed_of, HasExactNotes}
-use Rattle.map_model.specs.declared.call.Call.TheVariants.{Insert, Update, Remove}
-use Rattle.map_model.specs.Map.{key_of}
-use Rattle.bucket_words.specs.Buckets.{IsTaken, key_in, value_in, finger_in}
+use Rattle.image_layout.specs.Places.{bucket_at}
+use Rattle.sound_image.specs.Records.{key_hash, word_in, notes_of, stashed_of}
+use Rattle.map_model.specs.declared.call.Call.TheVariants.{Insert}
+use Rattle.bucket_words.specs.Buckets.{value_in}
 use Rattle.bucket_meta.specs.Marks.{SameButSlot}
-use Rattle.bucket_words.specs.Standing.{IsTable, StandsAt}
-use Rattle.bucket_words.specs.Hits.{Hit, HasNone, HasOnly, find}
-use Rattle.bucket_words.specs.Owners.{owner_of}
-use Rattle.bucket_words.specs.TableChanges.{KeepsTable, ChangesKey, IsReadyAt, OnlyNewHit}
-use Rattle.bucket_words.proofs.segments.Finding.{find_is, find_none}
+use Rattle.bucket_words.specs.Hits.{Hit}
+use Rattle.bucket_words.specs.TableChanges.{IsReadyAt}
 use Rattle.bucket_words.specs.TableChanges.{ChangesSlot}
-use Rattle.bucket_words.proofs.segments.OneSlot.{go, only_new, cases_place, old_key}
-use Rattle.bucket_words.proofs.segments.OneRecord.{not_both, not_taken, told, told_kept, told_meta, appears, appears_only, now, insert_key, copy_key, vanishes, clear_key, remove_key, update_key, update_changes, updated_kept}
-use Rattle.table_world.specs.Site.{Site, IsSite, IsUnder}
-use Rattle.table_world.specs.Views.{Move, Owed, View, Has, HasLock, IsGuarded}
-use Rattle.table_world.specs.History.{reply_by, MayReply}
+use Rattle.bucket_words.proofs.segments.OneRecord.{not_both}
+use Rattle.table_world.specs.Site.{Site, IsUnder}
+use Rattle.table_world.specs.Views.{Owed, View}
 use Rattle.bucket_words.specs.HomeNotes.{SameHomeNotes}
-use Rattle.table_world.specs.Kinds.{OwesNone, IsNewest, StandsBeside, IsMoveOf, IsHomeOf, IsOwing, IsOwed, IsTidy, AddsHeld, HoldsPlaces, MayTake, IsHarmless, IsPublishing, May, publishes, stashes, copies, clears}
-use Rattle.bucket_words.specs.HomeNotes.{IsUnnoted}
-use Rattle.table_world.specs.Holders.{KnowsWord, KnowsBucket, FoundNone, FoundAt, TakesSlot, FreesSlot, MayPlace, MayChange, MayUnstash, MayTell, MayMove}
+use Rattle.table_world.specs.Kinds.{IsNewest, IsHomeOf, IsOwing, IsOwed, May, stashes}
+use Rattle.table_world.specs.Holders.{KnowsBucket, FoundNone, TakesSlot}
 use Rattle.bucket_meta.specs.Notes.{AreExact}
 use Rattle.bucket_words.proofs.segments.Stashed.{comes}
 use Rattle.table_world.proofs.holding.Placing.{guarded, no_twin, none_newest, none_medium, stays, only, is_now, adding, publishing, nowhere, change}
-use Rattle.table_world.proofs.holding.Known.{same_value, ready, hit_to, hit_from, but_slot, high_part, home_near, stash_of, newest_same, medium_same}
+use Rattle.table_world.proofs.holding.Known.{ready, but_slot, high_part, home_near, newest_same, medium_same}
 use Rattle.table_world.proofs.holding.Owing.{notes_beside, notes_known, count_known}
 
 module _ (site : Site) (v : View) where
@@ -43,8 +36,12 @@ module _ (site : Site) (v : View) where
 
     abbrev owing : Owed
     owing = record {
-      segment = s; home = home k; added = true; note = (finger_of (key_hash site.shape k), c);
-      notes = notes_of site.shape word s (home k); count = overflow_count (word_in site.shape word s (home k) 1);
+      segment = s;
+      home = home k;
+      added = true;
+      note = (finger_of (key_hash site.shape k), c);
+      notes = notes_of site.shape word s (home k);
+      count = overflow_count (word_in site.shape word s (home k) 1);
     }
 
     -- in the newest words
@@ -88,7 +85,7 @@ module _ (site : Site) (v : View) where
           subst (λ z. AreExact ((finger_of (key_hash site.shape k), c) ∷ z) owing.count (stashed_of site.shape after s (home k))) notes
           (subst (λ z. AreExact ((finger_of (key_hash site.shape k), c) ∷ notes_of site.shape words s (home k)) z (stashed_of site.shape after s (home k))) count
           (comes site.shape words after s c r k small made.slot changed (λ taken. not_both _ taken made_here.is_free) hit_now (notes_of site.shape words s (home k))
-              (overflow_count (word_in site.shape words s (home k) 1)) (n.exact s (home k) made.segment (home_near site.shape k) f.led.1 f.owes)))
+          (overflow_count (word_in site.shape words s (home k) 1)) (n.exact s (home k) made.segment (home_near site.shape k) f.led.1 f.owes)))
 
     pub may_stash : May site (stashes at_word x (Insert k a) owing) v
     may_stash = (
@@ -99,12 +96,12 @@ module _ (site : Site) (v : View) where
         stash = λ words n q e t l near h. inl (stays site v word s k f (64 + c) r a x known made value takes words n.table (same_here words n) (none_newest site v word s k f words n) q (64 + e) t l h);
         alike = λ words medium n o q e t l near h. elim (only site v word s k f (64 + c) r a x known made value takes medium o.table (medium_same site v words medium word s (64 + c) o known)
             (none_medium site v word s k f words medium n o) q (64 + e) t l h) [
-          | inl old ↦ inr old
-          | inr new ↦ inl (subst (λ (z : ℕ). Hit site.shape (with_word words at_word x) z (64 + e) t l) (sym new.0)
-              (subst (λ (z : ℕ). Hit site.shape (with_word words at_word x) s z t l) (sym new.1)
-              (subst (λ (z : ℕ). Hit site.shape (with_word words at_word x) s (64 + c) z l) (sym new.2)
-              (subst (λ (z : ℕ). Hit site.shape (with_word words at_word x) s (64 + c) r z) (sym new.3) (hit_now words n)))))
-        ];
+              | inl old ↦ inr old
+              | inr new ↦ inl (subst (λ (z : ℕ). Hit site.shape (with_word words at_word x) z (64 + e) t l) (sym new.0)
+                  (subst (λ (z : ℕ). Hit site.shape (with_word words at_word x) s z t l) (sym new.1)
+                  (subst (λ (z : ℕ). Hit site.shape (with_word words at_word x) s (64 + c) z l) (sym new.2)
+                  (subst (λ (z : ℕ). Hit site.shape (with_word words at_word x) s (64 + c) r z) (sym new.3) (hit_now words n)))))
+            ];
         adds = adding site v word s k f (64 + c) r a x known made value takes;
       },
       (s, f.led),

@@ -1,34 +1,29 @@
 -- A record that vanishes from the stash, for which a note is owed.
-use Rattle.std.proofs.Common.{◌≡◌, ◌≢◌, ◌⊎◌, ℕ, zero, suc, ◌+◌, ◌*◌, ◌-◌, ◌/◌, ◌%◌, ◌^◌, ◌<◌, ◌≤◌, List, [], ◌∷◌, ◌++◌, length, None, Some, true, false, inl, inr, refl, sym, ap, ◌∙◌, subst, arith}
+use Rattle.std.proofs.Common.{◌≡◌, ◌⊎◌, ℕ, ◌+◌, ◌/◌, ◌^◌, ◌<◌, ◌≤◌, ◌∷◌, false, inl, inr, sym, ap, subst, arith}
 use Rattle.std.proofs.lemmas.Bool.{cases_eq}
-use Rattle.bucket_meta.specs.Bucket.{allocated, member, finger, overflow_count}
-use Rattle.hash_word.specs.Hash.{home_of, probing_of, finger_of}
+use Rattle.bucket_meta.specs.Bucket.{overflow_count}
+use Rattle.hash_word.specs.Hash.{home_of, finger_of}
 use Rattle.trace.specs.Events.{Words, with_word}
-use Rattle.image_layout.specs.Places.{Shape, bucket_at, key_at}
-use Rattle.sound_image.specs.Records.{key_hash, word_in, notes_in, notes_of, stashed_in, stashed_of, HasExactNotes}
-use Rattle.map_model.specs.declared.call.Call.TheVariants.{Insert, Update, Remove}
-use Rattle.map_model.specs.Map.{key_of}
-use Rattle.bucket_words.specs.Buckets.{IsTaken, key_in, value_in, finger_in}
+use Rattle.image_layout.specs.Places.{bucket_at}
+use Rattle.sound_image.specs.Records.{key_hash, word_in, notes_of, stashed_of}
+use Rattle.map_model.specs.declared.call.Call.TheVariants.{Remove}
+use Rattle.bucket_words.specs.Buckets.{IsTaken}
 use Rattle.bucket_meta.specs.Marks.{SameButSlot}
-use Rattle.bucket_words.specs.Standing.{IsTable, StandsAt}
-use Rattle.bucket_words.specs.Hits.{Hit, HasNone, HasOnly, find}
-use Rattle.bucket_words.specs.Owners.{owner_of}
-use Rattle.bucket_words.specs.TableChanges.{KeepsTable, ChangesKey, IsReadyAt, OnlyNewHit}
-use Rattle.bucket_words.proofs.segments.Finding.{find_is, find_none}
+use Rattle.bucket_words.specs.Standing.{IsTable}
+use Rattle.bucket_words.specs.Hits.{Hit}
 use Rattle.bucket_words.specs.TableChanges.{ChangesSlot}
 use Rattle.bucket_words.proofs.segments.OneSlot.{go, only_new, cases_place, old_key}
-use Rattle.bucket_words.proofs.segments.OneRecord.{not_both, not_taken, told, told_kept, told_meta, appears, appears_only, now, insert_key, copy_key, vanishes, clear_key, remove_key, update_key, update_changes, updated_kept}
-use Rattle.table_world.specs.Site.{Site, IsSite, IsUnder}
-use Rattle.table_world.specs.Views.{Move, Owed, View, Has, HasLock, IsGuarded}
-use Rattle.table_world.specs.History.{reply_by, MayReply}
+use Rattle.bucket_words.proofs.segments.OneRecord.{not_taken, vanishes, remove_key}
+use Rattle.table_world.specs.Site.{Site, IsUnder}
+use Rattle.table_world.specs.Views.{Owed, View, HasLock}
+use Rattle.table_world.specs.History.{reply_by}
 use Rattle.bucket_words.specs.HomeNotes.{SameHomeNotes}
-use Rattle.table_world.specs.Kinds.{OwesNone, IsNewest, StandsBeside, IsMoveOf, IsHomeOf, IsOwing, IsOwed, IsTidy, AddsHeld, HoldsPlaces, MayTake, IsHarmless, IsPublishing, May, publishes, stashes, copies, clears}
-use Rattle.bucket_words.specs.HomeNotes.{IsUnnoted}
-use Rattle.table_world.specs.Holders.{KnowsWord, KnowsBucket, FoundNone, FoundAt, TakesSlot, FreesSlot, MayPlace, MayChange, MayUnstash, MayTell, MayMove}
+use Rattle.table_world.specs.Kinds.{OwesNone, IsNewest, IsHomeOf, IsOwing, IsOwed, May, stashes}
+use Rattle.table_world.specs.Holders.{FoundAt, FreesSlot}
 use Rattle.bucket_meta.specs.Notes.{AreExact}
 use Rattle.bucket_words.proofs.segments.Stashed.{leaves}
 use Rattle.table_world.proofs.holding.Changing.{hit_medium, held_place, own_medium, only_medium, found_medium}
-use Rattle.table_world.proofs.holding.Known.{same_value, ready, hit_to, hit_from, but_slot, high_part, home_near, stash_of, newest_same, medium_same}
+use Rattle.table_world.proofs.holding.Known.{hit_from, but_slot, high_part, home_near, newest_same, medium_same}
 use Rattle.table_world.proofs.holding.Owing.{notes_beside, notes_known, count_known}
 
 module _ (site : Site) (v : View) where
@@ -43,8 +38,12 @@ module _ (site : Site) (v : View) where
 
     abbrev parting : Owed
     parting = record {
-      segment = s; home = home k; added = false; note = (finger_of (key_hash site.shape k), c);
-      notes = notes_of site.shape word s (home k); count = overflow_count (word_in site.shape word s (home k) 1);
+      segment = s;
+      home = home k;
+      added = false;
+      note = (finger_of (key_hash site.shape k), c);
+      notes = notes_of site.shape word s (home k);
+      count = overflow_count (word_in site.shape word s (home k) 1);
     }
 
     module _ (w : Words) (table : IsTable site.shape w) (same : (i : ℕ) → IsUnder (bucket_at site.shape s (64 + c)) i → w i ≡ word i) where
@@ -110,7 +109,7 @@ module _ (site : Site) (v : View) where
           subst (λ z. AreExact z parting.count ((finger_of (key_hash site.shape k), c) ∷ stashed_of site.shape left s (home k))) notes
           (subst (λ z. AreExact (notes_of site.shape words s (home k)) z ((finger_of (key_hash site.shape k), c) ∷ stashed_of site.shape left s (home k))) count
           (leaves site.shape words left s c r k small f.hit.slot changed stood_here (left_free words n.table so) (notes_of site.shape words s (home k))
-              (overflow_count (word_in site.shape words s (home k) 1)) (n.exact s (home k) f.hit.segment (home_near site.shape k) f.led.1 owes)))
+          (overflow_count (word_in site.shape words s (home k) 1)) (n.exact s (home k) f.hit.segment (home_near site.shape k) f.led.1 owes)))
 
     pub may_unstash : May site (stashes gone_word x (Remove k) parting) v
     may_unstash = (

@@ -1,20 +1,18 @@
 -- A key stands once in the newest words, or one view has it under way, at each kind of step.
-use Rattle.std.proofs.Common.{◌≡◌, ◌≢◌, ◌⊎◌, ℕ, ◌+◌, ◌%◌, ◌^◌, ◌<◌, List, [], ◌∷◌, set, cond, eqb, ◌&&◌, Bool, true, false, Option, None, Some, inl, inr, refl, sym, ap, ◌∙◌, subst}
+use Rattle.std.proofs.Common.{◌≡◌, ◌⊎◌, ℕ, ◌+◌, ◌%◌, ◌^◌, ◌<◌, List, [], ◌∷◌, set, cond, eqb, ◌&&◌, Bool, true, false, Option, None, Some, inl, inr, refl, sym, ap, ◌∙◌, subst}
 use Rattle.std.specs.Prelude.{nat_lt}
-use Rattle.std.proofs.lemmas.Bool.{cases_eq, cases_Bool, eq-eqb, ne_eqb, eqb-true, eqb-false}
+use Rattle.std.proofs.lemmas.Bool.{cases_eq, cases_Bool, eqb-true}
 use Rattle.trace.specs.Events.{Words, with_word, after}
 use Rattle.trace.specs.Events.Event.{loaded, exchanged}
-use Rattle.image_layout.specs.Places.{words_of, bucket_at}
+use Rattle.image_layout.specs.Places.{words_of}
 use Rattle.image_layout.specs.Volatile.{counter_word, power_word}
-use Rattle.hash_word.specs.Hash.{home_of}
-use Rattle.sound_image.specs.Records.{key_hash}
 use Rattle.map_model.specs.declared.call.Call.{Call}
 use Rattle.bucket_words.specs.Core.{core}
 use Rattle.bucket_words.specs.Hits.{Hit, HasOnly}
 use Rattle.table_world.specs.Site.{Site, IsLockWord}
 use Rattle.table_world.specs.Views.{Answer, Move, Owed, View, Has, At, HasLock}
 use Rattle.table_world.specs.Invariant.{IsMoving, Copies, Holds}
-use Rattle.table_world.specs.Kinds.{Kind, peeks, asks_power, finds_room, refuses, places, looks, notes_word, validates, learns, meets_lock, tries, stores, copies, clears, repays, publishes, stashes, flushes, fences, draws_place, unlocks, cuts_power, marked, all_again, with_answer, with_look, with_count, with_lock, with_draw, of_other_records, of_other_homes, IsMoveOf, HoldsMove, IsTidy, May}
+use Rattle.table_world.specs.Kinds.{Kind, peeks, asks_power, finds_room, refuses, places, looks, notes_word, validates, learns, meets_lock, tries, stores, copies, clears, repays, publishes, stashes, flushes, fences, draws_place, unlocks, cuts_power, marked, all_again, with_answer, with_look, with_count, with_lock, of_other_records, of_other_homes, IsMoveOf, HoldsMove, IsTidy, May}
 use Rattle.table_world.specs.Laws.{words_by, views_by}
 use Rattle.table_world.proofs.Tables.{same_hit, lock_cores, counter_cores, power_cores, power_cores}
 use Rattle.table_world.proofs.Lists.{set_here}
@@ -106,7 +104,7 @@ module _ (site : Site) (words : Words) (views : List View) (j : ℕ) (v : View) 
 
     stored : ((s k b r c t : ℕ) → twin s k b r c t → IsMoving (set views j w) s k b r c t)
         → ((s b r c t k : ℕ) → Hit site.shape (with_word words i x) s b r k → Hit site.shape (with_word words i x) s c t k → IsMoving views s k b r c t
-            → ((b ≡ c) × (r ≡ t)) ⊎ IsMoving (set views j w) s k b r c t)
+        → ((b ≡ c) × (r ≡ t)) ⊎ IsMoving (set views j w) s k b r c t)
         → ((m : Move) → Has m moves → Held site v.held m) → Copies site (with_word words i x) (set views j w)
     stored twins stays held = copies_law site words (with_word words i x) views j v w at h.copies
         (λ s b r c t k p q. elim (tidy.twins words (newest_is site words views j v h at) s b r c t k p q) [

@@ -25,7 +25,7 @@ use Rattle.table_world.proofs.Lists.{total_set, has_joined}
 use Rattle.table_world.proofs.Seats.{each, guarded_no_counter}
 use Rattle.table_world.proofs.Entries.{in_order_more, seen_of_more, count_more, count_none, total_none, drew_here, when_now, when_more, right_more, shown_may, shown_keeps, shown_cause, cause_alike}
 use Rattle.table_world.proofs.NotedLists.{marked_to, again_all}
-use Rattle.table_world.proofs.holding.Beside.{newest, newest_is, holds_home, held_is_map, slot_is_pair, slots_differ}
+use Rattle.table_world.proofs.holding.Beside.{newest_is, holds_home, held_is_map, slot_is_pair, slots_differ}
 
 abbrev drew_of : ℕ → View → ℕ
 drew_of n v = length (filter (drew_at n) v.own)

@@ -1,6 +1,6 @@
 -- What a cut may leave is a table and stands in the history, at each kind of step.
-use Rattle.std.proofs.Common.{◌≡◌, ◌≢◌, ◌⊎◌, ℕ, ◌+◌, ◌%◌, ◌^◌, ◌<◌, List, [], ◌∷◌, set, cond, eqb, Bool, true, false, Option, None, Some, inl, inr, refl, sym, ap, ◌∙◌, subst, arith}
-use Rattle.std.proofs.lemmas.Bool.{cases_Bool, cases_eq, eq-eqb, eqb-true, ne_eqb}
+use Rattle.std.proofs.Common.{◌≡◌, ◌≢◌, ◌⊎◌, ℕ, ◌+◌, ◌%◌, ◌^◌, ◌<◌, List, [], ◌∷◌, set, cond, eqb, Bool, true, false, Option, None, Some, inl, inr, refl, sym, ap, ◌∙◌, subst}
+use Rattle.std.proofs.lemmas.Bool.{cases_eq, eq-eqb, ne_eqb}
 use Rattle.std.specs.Prelude.{nat_lt}
 use mathlib.Core.Logic.{dite}
 use native.Mathlib.Decide.{ℕ_discrete}
@@ -14,25 +14,23 @@ use Rattle.map_model.specs.Map.{key_of}
 use Rattle.bucket_words.specs.Core.{core_of, core}
 use Rattle.bucket_words.specs.Standing.{IsTable}
 use Rattle.bucket_words.specs.Hits.{Hit, find}
-use Rattle.bucket_words.specs.Owners.{HasStructure, home_at, owner_of}
-use Rattle.table_world.specs.Site.{Site, IsSite, IsLockWord, IsUnder}
-use Rattle.table_world.specs.Views.{Answer, Move, Owed, View, Has, At, HasLock, IsGuarded, IsLoose, IsFirm}
+use Rattle.bucket_words.specs.Owners.{HasStructure, owner_of}
+use Rattle.table_world.specs.Site.{Site, IsLockWord, IsUnder}
+use Rattle.table_world.specs.Views.{Answer, Move, Owed, View, Has, At, HasLock, IsLoose}
 use Rattle.table_world.specs.History.{Log, map_now, result_of, change_of}
 use Rattle.table_world.specs.Media.{MayLeave, IsPossible, IsPlanned, Stands}
 use Rattle.table_world.specs.Invariant.{IsRemoving, Media, Holds}
-use Rattle.table_world.specs.Kinds.{Kind, peeks, asks_power, finds_room, refuses, places, looks, notes_word, validates, learns, meets_lock, tries, stores, copies, clears, repays, publishes, stashes, flushes, fences, draws_place, unlocks, cuts_power, without, loosened, marked, all_again, with_answer, with_look, with_count, with_lock, with_draw, log_after, of_other_records, of_other_homes, with_store, IsNewest, StandsBeside, IsTidy, IsKept, MayTake, IsHarmless, IsPublishing, IsUnplanned, May}
+use Rattle.table_world.specs.Kinds.{Kind, peeks, asks_power, finds_room, refuses, places, looks, notes_word, validates, learns, meets_lock, tries, stores, copies, clears, repays, publishes, stashes, flushes, fences, draws_place, unlocks, cuts_power, marked, all_again, with_answer, with_look, with_count, with_lock, with_draw, log_after, of_other_records, of_other_homes, with_store, IsNewest, IsTidy, IsKept, MayTake, IsHarmless, IsPublishing, May}
 use Rattle.table_world.specs.Laws.{words_by, views_by}
 use Rattle.table_world.proofs.Tables.{same_keeps, same_owner, core_structure_same, same_hit, same_find, find_places, cores_with, lock_cores, counter_cores, power_cores}
 use Rattle.table_world.proofs.holding.Beside.{newest, whole, whole_cores, whole_structure, guarded_structure, newest_is, beside, quiet, remover, medium_owner}
 use Rattle.bucket_words.proofs.segments.Finding.{find_is}
-use Rattle.bucket_words.proofs.segments.Places.{owner_within}
 use Rattle.bucket_words.specs.Buckets.{value_in}
 use Rattle.hash_word.specs.Hash.{home_of, probing_of}
 use Rattle.sound_image.specs.Records.{key_hash}
 use Rattle.map_model.specs.declared.call.Call.TheVariants.{Remove}
 use Rattle.table_world.proofs.Lists.{set_here}
-use Rattle.table_world.proofs.Seats.{each, is_v, carry, one_guard, guarded_within, lock_of, loosened_has, flush_loose, of_other_keys_stays}
-use Rattle.table_world.proofs.Grounds.{under_within}
+use Rattle.table_world.proofs.Seats.{each, carry, guarded_within, loosened_has, flush_loose, of_other_keys_stays}
 
 -- ---- the views after a step
 -- a view after has no more loose words, and the same changes planned
@@ -171,17 +169,17 @@ module _ (site : Site) (words : Words) (views : List View) (j : ℕ) (v : View) 
         let cores : (a : ℕ) → core site.shape (with_word (old_of m) i x) a ≡ core site.shape n a = λ a. stored_cores m a ∙ same a in
         let kept = same_keeps site (with_word (old_of m) i x) n (λ a _. cores a) table in
         let structure : HasStructure site.shape site.front n = λ a s. core_structure_same site (with_word (old_of m) i x) n (λ b _. sym (cores b)) a s
-            ∙ (guarded_structure site words views j v h at i x tidy.guarded (old_of m) a s ∙ whole_structure site words views j v h at m p a s) in (
+        ∙ (guarded_structure site words views j v h at i x tidy.guarded (old_of m) a s ∙ whole_structure site words views j v h at m p a s) in (
           structure,
           kept.table,
           (λ k. subst (λ (a : Option ℕ). Stands site (set views j w) h.log k a) (sym (kept.pairs k)) (stands k)),
           (λ s c t k small own hit. elim (tidy.alike words (old_of m) is_newest (beside site words views j v h at m p) s c t k small
               (same_hit site n (with_word (old_of m) i x) (λ a _. sym (cores a)) s (64 + c) t k hit)) [
-            | inl e ↦ inl e
-            | inr q ↦ removes s c t k small (h.media.stashed m p s c t k small
-                (medium_owner site words views j v h at m p k ∙ sym (same_owner site words n (h.media.structure words (newest site words views)) structure (key_hash site.shape k)) ∙ own)
-                (same_hit site (old_of m) m (λ a _. whole_cores site words views j v h at m a) s (64 + c) t k q))
-          ]),
+                | inl e ↦ inl e
+                | inr q ↦ removes s c t k small (h.media.stashed m p s c t k small
+                    (medium_owner site words views j v h at m p k ∙ sym (same_owner site words n (h.media.structure words (newest site words views)) structure (key_hash site.shape k)) ∙ own)
+                    (same_hit site (old_of m) m (λ a _. whole_cores site words views j v h at m a) s (64 + c) t k q))
+              ]),
         )
 
     media_store : ((m : Words) → IsPossible site words views m → IsTable site.shape (with_word (old_of m) i x)

@@ -1,26 +1,25 @@
 -- The notes of a home are exact, or one view owes it a note, at each kind of step.
-use Rattle.std.proofs.Common.{◌≡◌, ◌≢◌, ◌⊎◌, ℕ, ◌+◌, ◌*◌, ◌%◌, ◌^◌, ◌<◌, ◌≤◌, List, [], ◌∷◌, set, cond, eqb, ◌&&◌, Bool, true, false, Option, None, Some, inl, inr, refl, sym, ap, ◌∙◌, subst, arith}
+use Rattle.std.proofs.Common.{◌≡◌, ◌≢◌, ◌⊎◌, ℕ, ◌+◌, ◌*◌, ◌%◌, ◌^◌, ◌<◌, ◌≤◌, List, [], ◌∷◌, set, cond, eqb, ◌&&◌, Bool, true, false, inl, inr, refl, sym, ap, ◌∙◌, subst, arith}
 use Rattle.std.specs.Prelude.{nat_lt}
-use Rattle.std.proofs.lemmas.Bool.{cases_eq, cases_Bool, eq-eqb, eqb-true, eqb-false}
+use Rattle.std.proofs.lemmas.Bool.{cases_eq, cases_Bool, eq-eqb, eqb-true}
 use mathlib.Core.Logic.{dite}
 use native.Mathlib.Decide.{ℕ_discrete}
 use Rattle.trace.specs.Events.{Words, with_word, after}
 use Rattle.trace.specs.Events.Event.{loaded, exchanged}
 use Rattle.trace.proofs.Replaced.{replaced_other}
-use Rattle.image_layout.specs.Places.{Shape, first_segment, words_of, bucket_at}
+use Rattle.image_layout.specs.Places.{first_segment, bucket_at}
 use Rattle.image_layout.specs.Volatile.{counter_word, power_word}
 use Rattle.sound_image.specs.Records.{HasExactNotes}
 use Rattle.map_model.specs.declared.call.Call.{Call}
 use Rattle.bucket_words.proofs.segments.Cores.{within_image}
 use Rattle.table_world.specs.Site.{Site, IsLockWord}
-use Rattle.table_world.specs.Views.{Answer, Move, Owed, View, Has, At, HasLock}
+use Rattle.table_world.specs.Views.{Move, Owed, View, Has, At, HasLock}
 use Rattle.table_world.specs.Invariant.{NobodyOwes, Overflow, Holds}
-use Rattle.bucket_words.specs.HomeNotes.{SameHomeNotes}
-use Rattle.table_world.specs.Kinds.{Kind, peeks, asks_power, finds_room, refuses, places, looks, notes_word, validates, learns, meets_lock, tries, stores, copies, clears, repays, publishes, stashes, flushes, fences, draws_place, unlocks, cuts_power, marked, all_again, with_answer, with_look, with_count, with_lock, with_draw, of_other_records, of_other_homes, IsOwed, IsHomeOf, OwesNone, IsTidy, May}
+use Rattle.table_world.specs.Kinds.{Kind, peeks, asks_power, finds_room, refuses, places, looks, notes_word, validates, learns, meets_lock, tries, stores, copies, clears, repays, publishes, stashes, flushes, fences, draws_place, unlocks, cuts_power, marked, all_again, with_lock, of_other_records, of_other_homes, IsOwed, IsHomeOf, OwesNone, IsTidy, May}
 use Rattle.table_world.specs.Laws.{words_by, views_by}
 use Rattle.table_world.proofs.Lists.{set_here, set_there}
 use Rattle.table_world.proofs.Seats.{each, is_v}
-use Rattle.table_world.proofs.holding.Beside.{newest_is, same_view}
+use Rattle.table_world.proofs.holding.Beside.{newest_is}
 use Rattle.table_world.proofs.invariant.KeepMedia.{storer}
 use Rattle.table_world.proofs.invariant.KeepCopies.{look_moving, count_moving, answer_moving}
 use Rattle.table_world.proofs.holding.Owing.{same_notes, owed_same}
@@ -92,11 +91,11 @@ module _ (site : Site) (words : Words) (views : List View) (j : ℕ) (v : View) 
       → w.owed ≡ v.owed → ((o : Owed) → Has o v.owed → HasLock w.held (lock_of_owed site o)) → Overflow site us (set views j w)
   quiet us w same owed held = overflow_law site words us views j v w at h.overflow
       (λ s b seg near none. exact_same site.shape words us s b (same_notes site.shape words us s b seg near (λ c n. same s c n seg))
-          (h.overflow.exact s b seg near (nobody w s b (λ o _ _ has. subst (λ (os : List Owed). Has o os) (sym owed) has) none)))
+      (h.overflow.exact s b seg near (nobody w s b (λ o _ _ has. subst (λ (os : List Owed). Has o os) (sym owed) has) none)))
       (λ i u o n a has. let f = h.overflow.fits i u o a has in
-          owed_same site.shape words us o (same_notes site.shape words us o.segment o.home f.0 f.1 (λ c n. same o.segment c n f.0)).stashed (h.overflow.owes i u o a has))
+      owed_same site.shape words us o (same_notes site.shape words us o.segment o.home f.0 f.1 (λ c n. same o.segment c n f.0)).stashed (h.overflow.owes i u o a has))
       (λ o has. let has' = subst (λ (os : List Owed). Has o os) owed has in let d = due o has' in
-          (owed_same site.shape words us o (same_notes site.shape words us o.segment o.home d.2 d.3 (λ c n. same o.segment c n d.2)).stashed d.0, held o has', d.2, d.3))
+      (owed_same site.shape words us o (same_notes site.shape words us o.segment o.home d.2 d.3 (λ c n. same o.segment c n d.2)).stashed d.0, held o has', d.2, d.3))
 
   calm : (w : View) → (w.moving ≡ v.moving) × (w.owed ≡ v.owed) × (w.held ≡ v.held) → Overflow site words (set views j w)
   calm w q = quiet words w (λ s c n _ _ _ _. refl) q.1 (λ o has. subst (λ z. HasLock z (lock_of_owed site o)) (sym q.2) (due o has).1)

@@ -24,9 +24,9 @@ use Rattle.bucket_words.proofs.segments.Places.{owners_kept}
 use Rattle.hash_word.specs.Hash.{home_of}
 use Rattle.sound_image.specs.Records.{key_hash}
 use Rattle.table_world.proofs.Tables.{core_owner, same_hit, same_home, same_find, lock_cores, counter_cores, power_cores}
-use Rattle.table_world.proofs.Seats.{each, lock_of, without_stays, of_other_keys_has}
+use Rattle.table_world.proofs.Seats.{each, lock_of, of_other_keys_has}
 use Rattle.table_world.proofs.invariant.KeepLocks.{look_held, count_held, answer_held}
-use Rattle.table_world.proofs.holding.Beside.{newest, newest_is, beside_self, holds_home, held_is_map}
+use Rattle.table_world.proofs.holding.Beside.{newest_is, beside_self, holds_home, held_is_map}
 use Rattle.table_world.proofs.invariant.KeepMedia.{look_quiet, count_quiet, answer_quiet, storer}
 
 -- a view holds the locks of the buckets in which a key stands
@@ -118,9 +118,12 @@ module _ (site : Site) (words : Words) (views : List View) (j : ℕ) (v : View) 
       plans_law site words (with_word words i x) views h.log h.log j v _ at h.plans
       (λ a u c n b has' o. (places_other i x g adds a u c n b o.1 o.0, moved (with_word words i x) u (key_of c) (stays i x (key_of c) g) o.1, r.1.elsewhere (key_of c) (apart a u c (key_of call) n b o.1 has) ∙ o.2, o.3))
       (λ c has'. elim has' [
-        | inl e ↦ subst (λ (z : Call). IsKept site (with_word words i x) v h.log z) (sym e)
-            (places_mine i x g adds (key_of call) (placed words (newest_is site words views j v h at)),
-            moved (with_word words i x) v (key_of call) (stays i x (key_of call) g) has, r.1.here, subst (λ (a : Option ℕ). Done ≡ reply_by a call) (held_is_map site words views j v h at (key_of call) has none) r.0)
+        | inl e ↦ subst (λ (z : Call). IsKept site (with_word words i x) v h.log z) (sym e) (
+          places_mine i x g adds (key_of call) (placed words (newest_is site words views j v h at)),
+          moved (with_word words i x) v (key_of call) (stays i x (key_of call) g) has,
+          r.1.here,
+          subst (λ (a : Option ℕ). Done ≡ reply_by a call) (held_is_map site words views j v h at (key_of call) has none) r.0,
+        )
         | inr q ↦ (let o = mine c q in (places_mine i x g adds (key_of c) o.0, moved (with_word words i x) v (key_of c) (stays i x (key_of c) g) o.1, r.1.elsewhere (key_of c) (none c q) ∙ o.2, o.3))
       ])
 

@@ -4,7 +4,7 @@ use Rattle.trace.specs.Events.{Words, with_word, after}
 use Rattle.trace.specs.Events.Event.{loaded, exchanged}
 use Rattle.image_layout.specs.Volatile.{counter_word, power_word}
 use Rattle.bucket_words.specs.Hits.{find}
-use Rattle.table_world.specs.Site.{Site, IsSite, IsLockWord}
+use Rattle.table_world.specs.Site.{Site, IsLockWord}
 use Rattle.table_world.specs.Kinds.{peeks, asks_power, finds_room, refuses, places, looks, notes_word, validates, learns, meets_lock, tries, stores, copies, clears, repays, publishes, stashes, flushes, fences, draws_place, unlocks, cuts_power}
 use Rattle.table_world.specs.Pairs.{OtherStepsKeepPairs}
 use Rattle.table_world.proofs.Tables.{same_find, lock_cores, counter_cores, power_cores}

@@ -1,19 +1,17 @@
 -- What a reader has to note of buckets to place an answer.
-use Rattle.std.proofs.Common.{◌≡◌, ◌⊎◌, ℕ, ◌+◌, ◌-◌, ◌*◌, ◌/◌, ◌%◌, ◌^◌, ◌<◌, ◌≤◌, List, None, Some, inl, inr, sym, ap, ◌∙◌, subst, arith}
+use Rattle.std.proofs.Common.{◌≡◌, ◌⊎◌, ℕ, ◌+◌, ◌-◌, ◌/◌, ◌%◌, ◌^◌, ◌<◌, ◌≤◌, Some, inl, inr, ap, ◌∙◌, subst, arith}
 use Rattle.bucket_meta.specs.Bucket.{overflow_count}
 use Rattle.bucket_meta.specs.Notes.{how_often}
 use Rattle.hash_word.specs.Hash.{home_of, probing_of, finger_of}
 use Rattle.trace.specs.Events.{Words}
 use Rattle.image_layout.specs.Places.{bucket_at}
 use Rattle.sound_image.specs.Records.{key_hash}
-use Rattle.bucket_words.specs.Buckets.{value_in}
 use Rattle.bucket_words.specs.Hits.{Hit, HasNone}
 use Rattle.bucket_words.proofs.segments.Finding.{find_is, find_none}
 use Rattle.table_world.specs.Site.{Site, IsUnder}
-use Rattle.table_world.specs.Views.{Note, View}
+use Rattle.table_world.specs.Views.{View}
 use Rattle.table_world.specs.Kinds.{IsNow}
 use Rattle.bucket_words.specs.HomeNotes.{IsUnnoted}
-
 use Rattle.table_world.specs.Readers.{NotedBucket, Looked, MayAnswer}
 use Rattle.bucket_words.proofs.segments.Noted.{notes_same}
 use Rattle.bucket_words.proofs.segments.Stashed.{not_there}
@@ -43,7 +41,7 @@ module _ (site : Site) (v : View) where
 
     nowhere : ((t : ℕ) → Hit site.shape word s (home k) t k → ⊥) → ((t : ℕ) → Hit site.shape word s (probing_of (home k)) t k → ⊥)
         → ((c : ℕ) → c < 2 → (NotedBucket site.shape v.notes s (64 + c) word × ((t : ℕ) → Hit site.shape word s (64 + c) t k → ⊥))
-            ⊎ IsUnnoted site.shape word s (home k) (finger_of (key_hash site.shape k)) c) → HasNone site.shape words s k
+        ⊎ IsUnnoted site.shape word s (home k) (finger_of (key_hash site.shape k)) c) → HasNone site.shape words s k
     nowhere not_home not_probing stash c t h = elim (n.table.stands s c t k h (l.led words n)).bucket [
       | inl a ↦ not_home t (hit_to site.shape word words s (home k) (same words word s (home k) n l.home) t k (subst (λ (z : ℕ). Hit site.shape words s z t k) a.0 h))
       | inr e ↦ elim e [
@@ -57,10 +55,18 @@ module _ (site : Site) (v : View) where
 
   pub may_answer : MayAnswer site v
   may_answer = record {
-    none = λ s k word l not_home not_probing stash. (s, (l.home.note, l.home.has, l.home.lock),
-        λ words n. (l.led words n, find_none site.shape words s k l.segment (l.led words n) (nowhere s k word l words n not_home not_probing stash)));
-    some = λ s b r k word l there hit. (s, (l.home.note, l.home.has, l.home.lock),
-        λ words n. (l.led words n,
-            find_is site.shape words n.table s b r k (hit_from site.shape word words s b (same words word s b n there) r k hit) (l.led words n)
-            ∙ ap Some (same_value site.shape word words s b (same words word s b n there) r hit.slot)));
+    none = λ s k word l not_home not_probing stash. (
+      s,
+      (l.home.note, l.home.has, l.home.lock),
+      λ words n. (l.led words n, find_none site.shape words s k l.segment (l.led words n) (nowhere s k word l words n not_home not_probing stash)),
+    );
+    some = λ s b r k word l there hit. (
+      s,
+      (l.home.note, l.home.has, l.home.lock),
+      λ words n. (
+        l.led words n,
+        find_is site.shape words n.table s b r k (hit_from site.shape word words s b (same words word s b n there) r k hit) (l.led words n)
+            ∙ ap Some (same_value site.shape word words s b (same words word s b n there) r hit.slot),
+      ),
+    );
   }
