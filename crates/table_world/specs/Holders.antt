@@ -20,7 +20,8 @@ use Rattle.bucket_words.specs.Standing.{StandsAt}
 use Rattle.bucket_words.specs.TableChanges.{IsReadyAt}
 use Rattle.table_world.specs.Site.{Site, IsUnder}
 use Rattle.table_world.specs.Views.{Move, Owed, View, Has, HasLock, IsLoose, IsFirm}
-use Rattle.table_world.specs.Kinds.{HoldsHome, IsUnplanned, IsKnownReply, OwesNone, May, IsOwedOf, IsKept, draws_place, stores, repays, publishes, stashes, copies, clears}
+use Rattle.table_world.specs.Kinds.{draws_place, stores, repays, publishes, stashes, copies, clears}
+use Rattle.table_world.specs.Conditions.{HoldsHome, IsUnplanned, IsKnownReply, OwesNone, May, IsOwedOf, IsKept}
 
 -- a view knows word i, and does not have it loose
 pub record KnowsWord (v : View) (i x : ℕ) : Type 0 where

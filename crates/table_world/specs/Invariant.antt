@@ -15,7 +15,7 @@ use Rattle.map_model.specs.declared.call.Call.TheVariants.{Remove}
 use Rattle.bucket_words.specs.Standing.{IsTable}
 use Rattle.bucket_words.specs.Hits.{Hit, find}
 use Rattle.bucket_words.specs.Owners.{HasStructure, owner_of, home_at}
-use Rattle.table_world.specs.Kinds.{IsOwed, IsMoveOf, HoldsMove}
+use Rattle.table_world.specs.Conditions.{IsOwed, IsMoveOf, HoldsMove}
 use Rattle.table_world.specs.Site.{Site, IsSite, IsLockWord, IsSpentLock, HasSpentLock, IsUnder}
 use Rattle.table_world.specs.Views.{Note, Answer, Move, Owed, View, Has, At, HasLock, IsGuarded, IsLoose}
 use Rattle.table_world.specs.History.{Log, map_now, map_when, result_of, reply_by, IsRight}

@@ -16,7 +16,8 @@ use Rattle.table_world.specs.Site.{Site}
 use Rattle.table_world.specs.Views.{View, At}
 use Rattle.table_world.specs.History.{Log, map_now}
 use Rattle.table_world.specs.Wants.{word_of, left_by, words_after}
-use Rattle.table_world.specs.Kinds.{Kind, cuts_power, wanted, view_after, May}
+use Rattle.table_world.specs.Kinds.{Kind, cuts_power, wanted, view_after}
+use Rattle.table_world.specs.Conditions.{May}
 use Rattle.table_world.specs.Entering.{Enters}
 use Rattle.table_world.specs.Media.{IsPossible, Stands}
 use Rattle.table_world.specs.Invariant.{History, Holds}

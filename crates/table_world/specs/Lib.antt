@@ -3,6 +3,7 @@ pub mod Views
 pub mod History
 pub mod Wants
 pub mod Kinds
+pub mod Conditions
 pub mod Entering
 pub mod Media
 pub mod Invariant

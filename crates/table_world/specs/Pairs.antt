@@ -4,7 +4,8 @@ use Rattle.trace.specs.Events.{Words}
 use Rattle.bucket_words.specs.Hits.{find}
 use Rattle.table_world.specs.Site.{Site}
 use Rattle.table_world.specs.Views.{View, At}
-use Rattle.table_world.specs.Kinds.{Kind, publishes, stashes, May}
+use Rattle.table_world.specs.Kinds.{Kind, publishes, stashes}
+use Rattle.table_world.specs.Conditions.{May}
 use Rattle.table_world.specs.Invariant.{Holds}
 use Rattle.table_world.specs.Laws.{words_by}
 

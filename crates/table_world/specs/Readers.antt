@@ -9,7 +9,8 @@ use Rattle.bucket_words.specs.Hits.{Hit}
 use Rattle.bucket_words.specs.Owners.{owner_of}
 use Rattle.table_world.specs.Site.{Site, IsUnder}
 use Rattle.table_world.specs.Views.{Note, View, Has}
-use Rattle.table_world.specs.Kinds.{IsNow, May, places}
+use Rattle.table_world.specs.Kinds.{places}
+use Rattle.table_world.specs.Conditions.{IsNow, May}
 use Rattle.bucket_words.specs.HomeNotes.{IsUnnoted}
 
 -- the 31 words behind the lock word of a bucket are noted: they are those of `word`

@@ -4,7 +4,8 @@ use Rattle.trace.specs.Events.{Words}
 use Rattle.table_world.specs.Site.{Site, IsSpentLock}
 use Rattle.table_world.specs.Views.{View, At}
 use Rattle.table_world.specs.Invariant.{Holds}
-use Rattle.table_world.specs.Kinds.{Kind, May}
+use Rattle.table_world.specs.Kinds.{Kind}
+use Rattle.table_world.specs.Conditions.{May}
 use Rattle.table_world.specs.Laws.{words_by}
 
 -- EACH STEP leaves such a word

@@ -2,7 +2,7 @@
 //! two events.
 //!
 //! Definitions and laws alone. `specs/` reads from `Site` over `Views` and `History` to `Invariant`; `Kinds` has the
-//! kinds of step, and `Laws` the laws.
+//! kinds of step, `Conditions` what each of them asks, and `Laws` the laws.
 #![tactic(auto)]
 
 mod laws;

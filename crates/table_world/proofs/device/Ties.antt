@@ -21,7 +21,8 @@ use Rattle.table_world.specs.Site.{Site, IsLockWord}
 use Rattle.table_world.specs.Views.{Answer, View, Has, At, IsGuarded, IsLoose}
 use Rattle.table_world.specs.Media.{MayLeave}
 use Rattle.table_world.specs.Invariant.{Holds}
-use Rattle.table_world.specs.Kinds.{Kind, peeks, asks_power, finds_room, refuses, places, looks, notes_word, validates, learns, meets_lock, tries, stores, copies, clears, repays, publishes, stashes, flushes, fences, draws_place, unlocks, cuts_power, wanted, on_line, off_line, loosened, marked, all_again, with_answer, with_look, with_count, with_lock, with_draw, May}
+use Rattle.table_world.specs.Kinds.{Kind, peeks, asks_power, finds_room, refuses, places, looks, notes_word, validates, learns, meets_lock, tries, stores, copies, clears, repays, publishes, stashes, flushes, fences, draws_place, unlocks, cuts_power, wanted, on_line, off_line, loosened, marked, all_again, with_answer, with_look, with_count, with_lock, with_draw}
+use Rattle.table_world.specs.Conditions.{May}
 use Rattle.table_world.specs.Wants.{event_of}
 use Rattle.table_world.specs.Tied.{IsFlushed, Tied}
 use Rattle.table_world.specs.Laws.{found_by, views_by}

@@ -15,7 +15,8 @@ use Rattle.table_world.specs.Wants.{word_of, event_of}
 use Rattle.table_world.specs.Media.{MayLeave, IsPossible}
 use Rattle.map_model.specs.Weave.{draws}
 use Rattle.map_model.specs.Legal.{InOrder, seen_of}
-use Rattle.table_world.specs.Kinds.{Kind, wanted, view_after, May}
+use Rattle.table_world.specs.Kinds.{Kind, wanted, view_after}
+use Rattle.table_world.specs.Conditions.{May}
 use Rattle.table_world.specs.Invariant.{Holds}
 use Rattle.table_world.specs.Tied.{Tied}
 use Rattle.table_world.specs.World.{World, changed_at, IsWell, fresh_view, Begins}

@@ -20,7 +20,7 @@ use Rattle.table_world.specs.Views.{Move, View, Has, At, HasLock, IsGuarded, IsL
 use Rattle.table_world.specs.History.{map_now}
 use Rattle.table_world.specs.Media.{IsPossible}
 use Rattle.table_world.specs.Invariant.{Holds, IsRemoving}
-use Rattle.table_world.specs.Kinds.{Agrees, IsUnplanned, IsNewest, StandsBeside, HoldsHome}
+use Rattle.table_world.specs.Conditions.{Agrees, IsUnplanned, IsNewest, StandsBeside, HoldsHome}
 use Rattle.table_world.proofs.Tables.{same_table, same_owner, core_structure_same, same_hit}
 use Rattle.table_world.proofs.Seats.{is_v, one_guard, guarded_within, lock_of}
 use Rattle.table_world.proofs.Grounds.{under_within, under_lock}

@@ -19,7 +19,8 @@ use Rattle.table_world.specs.Site.{Site, IsUnder}
 use Rattle.table_world.specs.Views.{Move, View, Has, HasLock}
 use Rattle.table_world.specs.History.{reply_by}
 use Rattle.bucket_words.specs.HomeNotes.{SameHomeNotes}
-use Rattle.table_world.specs.Kinds.{IsNewest, StandsBeside, HoldsPlaces, May, publishes}
+use Rattle.table_world.specs.Kinds.{publishes}
+use Rattle.table_world.specs.Conditions.{IsNewest, StandsBeside, HoldsPlaces, May}
 use Rattle.table_world.specs.Holders.{KnowsBucket, FoundAt, FreesSlot}
 use Rattle.bucket_words.proofs.segments.Noted.{notes_same}
 use Rattle.bucket_words.proofs.segments.Stashed.{piece_by, stashed_by_pieces}

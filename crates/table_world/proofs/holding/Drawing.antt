@@ -11,7 +11,8 @@ use Rattle.map_model.specs.Map.{key_of}
 use Rattle.bucket_words.specs.Hits.{Hit}
 use Rattle.table_world.specs.Site.{Site}
 use Rattle.table_world.specs.Views.{Move, View, Has, HasLock}
-use Rattle.table_world.specs.Kinds.{IsNewest, IsOwedOf, IsKept, May, draws_place}
+use Rattle.table_world.specs.Kinds.{draws_place}
+use Rattle.table_world.specs.Conditions.{IsNewest, IsOwedOf, IsKept, May}
 use Rattle.bucket_words.specs.HomeNotes.{IsUnnoted}
 use Rattle.table_world.specs.Holders.{KnowsBucket, DrawsWell, OwesAsKnown, MayDraw}
 use Rattle.table_world.proofs.holding.Owing.{notes_known, count_known}

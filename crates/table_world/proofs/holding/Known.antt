@@ -11,7 +11,7 @@ use Rattle.bucket_words.specs.Hits.{Hit}
 use Rattle.bucket_words.specs.TableChanges.{IsReadyAt}
 use Rattle.table_world.specs.Site.{Site, IsUnder}
 use Rattle.table_world.specs.Views.{View}
-use Rattle.table_world.specs.Kinds.{IsNewest, StandsBeside}
+use Rattle.table_world.specs.Conditions.{IsNewest, StandsBeside}
 use Rattle.table_world.specs.Holders.{KnowsBucket}
 use Rattle.image_layout.specs.Places.{homes, stash_buckets, buckets}
 

@@ -15,7 +15,8 @@ use Rattle.bucket_words.proofs.segments.OneSlot.{go, only_new}
 use Rattle.bucket_words.proofs.segments.OneRecord.{not_taken, appears, copy_key, vanishes, clear_key}
 use Rattle.table_world.specs.Site.{Site, IsUnder}
 use Rattle.table_world.specs.Views.{Move, View, Has, HasLock}
-use Rattle.table_world.specs.Kinds.{IsNewest, IsMoveOf, May, copies, clears}
+use Rattle.table_world.specs.Kinds.{copies, clears}
+use Rattle.table_world.specs.Conditions.{IsNewest, IsMoveOf, May}
 use Rattle.table_world.specs.Holders.{KnowsBucket, TakesSlot, FreesSlot, MayMove}
 use Rattle.table_world.proofs.holding.Known.{same_value, ready, hit_from, but_slot, high_part, newest_same, medium_same}
 use Rattle.table_world.proofs.holding.Owing.{notes_beside}

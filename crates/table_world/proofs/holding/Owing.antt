@@ -13,7 +13,7 @@ use Rattle.bucket_words.proofs.segments.Noted.{notes_same, notes_kept, count_kep
 use Rattle.bucket_words.proofs.segments.Stashed.{stashed_same, others_stashed}
 use Rattle.table_world.specs.Site.{Site}
 use Rattle.table_world.specs.Views.{Owed, View}
-use Rattle.table_world.specs.Kinds.{IsOwedOf, IsOwed, IsNewest}
+use Rattle.table_world.specs.Conditions.{IsOwedOf, IsOwed, IsNewest}
 use Rattle.table_world.specs.Holders.{KnowsBucket}
 use Rattle.table_world.proofs.holding.Known.{newest_same}
 

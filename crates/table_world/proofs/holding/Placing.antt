@@ -17,7 +17,8 @@ use Rattle.bucket_words.proofs.segments.OneRecord.{not_both, appears, now, inser
 use Rattle.table_world.specs.Site.{Site, IsUnder}
 use Rattle.table_world.specs.Views.{View, HasLock, IsGuarded}
 use Rattle.table_world.specs.History.{reply_by}
-use Rattle.table_world.specs.Kinds.{IsNewest, StandsBeside, AddsHeld, HoldsPlaces, IsPublishing, May, publishes}
+use Rattle.table_world.specs.Kinds.{publishes}
+use Rattle.table_world.specs.Conditions.{IsNewest, StandsBeside, AddsHeld, HoldsPlaces, IsPublishing, May}
 use Rattle.bucket_words.specs.HomeNotes.{IsUnnoted}
 use Rattle.table_world.specs.Holders.{KnowsBucket, FoundNone, TakesSlot}
 use Rattle.bucket_words.proofs.segments.Stashed.{not_there}

@@ -21,7 +21,8 @@ use Rattle.bucket_words.proofs.segments.Prepared.{slots_kept, behind_meta}
 use Rattle.table_world.specs.Site.{Site, IsUnder}
 use Rattle.table_world.specs.Views.{View}
 use Rattle.bucket_words.specs.HomeNotes.{SameHomeNotes}
-use Rattle.table_world.specs.Kinds.{May, stores}
+use Rattle.table_world.specs.Kinds.{stores}
+use Rattle.table_world.specs.Conditions.{May}
 use Rattle.table_world.specs.Holders.{KnowsBucket, SparesTaken, MayPrepare}
 use Rattle.bucket_words.proofs.segments.Noted.{notes_by}
 use Rattle.bucket_words.proofs.segments.Stashed.{stashed_same}

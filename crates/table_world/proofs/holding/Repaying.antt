@@ -14,7 +14,8 @@ use Rattle.bucket_words.proofs.segments.Prepared.{core_keeps}
 use Rattle.table_world.specs.Site.{Site, IsUnder}
 use Rattle.table_world.specs.Views.{Owed, View}
 use Rattle.bucket_words.specs.HomeNotes.{SameHomeNotes}
-use Rattle.table_world.specs.Kinds.{IsNewest, IsOwing, IsHomeOf, IsOwedOf, IsTidy, IsHarmless, May, stores, repays}
+use Rattle.table_world.specs.Kinds.{stores, repays}
+use Rattle.table_world.specs.Conditions.{IsNewest, IsOwing, IsHomeOf, IsOwedOf, IsTidy, IsHarmless, May}
 use Rattle.table_world.specs.Holders.{KnowsBucket, TouchesNote, MayRepay}
 use Rattle.bucket_words.proofs.segments.Noted.{notes_by}
 use Rattle.bucket_words.proofs.segments.Stashed.{stashed_same as stashed_stays}

@@ -16,7 +16,8 @@ use Rattle.bucket_words.proofs.segments.OneRecord.{not_both}
 use Rattle.table_world.specs.Site.{Site, IsUnder}
 use Rattle.table_world.specs.Views.{Owed, View}
 use Rattle.bucket_words.specs.HomeNotes.{SameHomeNotes}
-use Rattle.table_world.specs.Kinds.{IsNewest, IsHomeOf, IsOwing, IsOwed, May, stashes}
+use Rattle.table_world.specs.Kinds.{stashes}
+use Rattle.table_world.specs.Conditions.{IsNewest, IsHomeOf, IsOwing, IsOwed, May}
 use Rattle.table_world.specs.Holders.{KnowsBucket, FoundNone, TakesSlot}
 use Rattle.bucket_meta.specs.Notes.{AreExact}
 use Rattle.bucket_words.proofs.segments.Stashed.{comes}

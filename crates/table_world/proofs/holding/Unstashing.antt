@@ -18,7 +18,8 @@ use Rattle.table_world.specs.Site.{Site, IsUnder}
 use Rattle.table_world.specs.Views.{Owed, View, HasLock}
 use Rattle.table_world.specs.History.{reply_by}
 use Rattle.bucket_words.specs.HomeNotes.{SameHomeNotes}
-use Rattle.table_world.specs.Kinds.{OwesNone, IsNewest, IsHomeOf, IsOwing, IsOwed, May, stashes}
+use Rattle.table_world.specs.Kinds.{stashes}
+use Rattle.table_world.specs.Conditions.{OwesNone, IsNewest, IsHomeOf, IsOwing, IsOwed, May}
 use Rattle.table_world.specs.Holders.{FoundAt, FreesSlot}
 use Rattle.bucket_meta.specs.Notes.{AreExact}
 use Rattle.bucket_words.proofs.segments.Stashed.{leaves}

@@ -12,7 +12,8 @@ use Rattle.bucket_words.specs.Hits.{Hit, HasOnly}
 use Rattle.table_world.specs.Site.{Site, IsLockWord}
 use Rattle.table_world.specs.Views.{Answer, Move, Owed, View, Has, At, HasLock}
 use Rattle.table_world.specs.Invariant.{IsMoving, Copies, Holds}
-use Rattle.table_world.specs.Kinds.{Kind, peeks, asks_power, finds_room, refuses, places, looks, notes_word, validates, learns, meets_lock, tries, stores, copies, clears, repays, publishes, stashes, flushes, fences, draws_place, unlocks, cuts_power, marked, all_again, with_answer, with_look, with_count, with_lock, of_other_records, of_other_homes, IsMoveOf, HoldsMove, IsTidy, May}
+use Rattle.table_world.specs.Kinds.{Kind, peeks, asks_power, finds_room, refuses, places, looks, notes_word, validates, learns, meets_lock, tries, stores, copies, clears, repays, publishes, stashes, flushes, fences, draws_place, unlocks, cuts_power, marked, all_again, with_answer, with_look, with_count, with_lock, of_other_records, of_other_homes}
+use Rattle.table_world.specs.Conditions.{IsMoveOf, HoldsMove, IsTidy, May}
 use Rattle.table_world.specs.Laws.{words_by, views_by}
 use Rattle.table_world.proofs.Tables.{same_hit, lock_cores, counter_cores, power_cores, power_cores}
 use Rattle.table_world.proofs.Lists.{set_here}

@@ -18,7 +18,8 @@ use Rattle.table_world.specs.Site.{Site, IsLockWord}
 use Rattle.table_world.specs.Views.{Answer, View, Has, At}
 use Rattle.table_world.specs.History.{Log, map_now, map_when, MayReply, HasRoomCause, IsRight, change_of}
 use Rattle.table_world.specs.Invariant.{total, History, IsAnswer, Holds}
-use Rattle.table_world.specs.Kinds.{Kind, peeks, asks_power, finds_room, refuses, places, looks, notes_word, validates, learns, meets_lock, tries, stores, copies, clears, repays, publishes, stashes, flushes, fences, draws_place, unlocks, cuts_power, marked, all_again, next_entry, with_reply, with_answer, with_look, with_count, with_lock, with_draw, log_after, IsKnownReply, IsKnownCause, May}
+use Rattle.table_world.specs.Kinds.{Kind, peeks, asks_power, finds_room, refuses, places, looks, notes_word, validates, learns, meets_lock, tries, stores, copies, clears, repays, publishes, stashes, flushes, fences, draws_place, unlocks, cuts_power, marked, all_again, next_entry, with_reply, with_answer, with_look, with_count, with_lock, with_draw, log_after}
+use Rattle.table_world.specs.Conditions.{IsKnownReply, IsKnownCause, May}
 use Rattle.table_world.specs.Laws.{words_by, views_by}
 use Rattle.table_world.proofs.Grounds.{lock_within}
 use Rattle.table_world.proofs.Lists.{total_set, has_joined}

@@ -9,7 +9,8 @@ use Rattle.map_model.specs.declared.call.Call.{Call}
 use Rattle.table_world.specs.Site.{Site, IsLockWord, IsUnder}
 use Rattle.table_world.specs.Views.{Answer, Move, Owed, View, Has, At, IsGuarded, IsLoose}
 use Rattle.table_world.specs.Invariant.{KnownWords, Holds}
-use Rattle.table_world.specs.Kinds.{of_other_records, of_other_homes, with_store, Kind, peeks, asks_power, finds_room, refuses, places, looks, notes_word, validates, learns, meets_lock, tries, stores, copies, clears, repays, publishes, stashes, flushes, fences, draws_place, unlocks, cuts_power, without, marked, all_again, with_answer, with_look, with_count, with_lock, with_draw, May}
+use Rattle.table_world.specs.Kinds.{of_other_records, of_other_homes, with_store, Kind, peeks, asks_power, finds_room, refuses, places, looks, notes_word, validates, learns, meets_lock, tries, stores, copies, clears, repays, publishes, stashes, flushes, fences, draws_place, unlocks, cuts_power, without, marked, all_again, with_answer, with_look, with_count, with_lock, with_draw}
+use Rattle.table_world.specs.Conditions.{May}
 use Rattle.table_world.specs.Laws.{words_by, views_by}
 use Rattle.table_world.proofs.Seats.{each, one_guard, guarded_no_lock, guarded_no_counter, guarded_within, has_first, without_has, without_stays, not_under_has, loosened_has, flush_loose}
 

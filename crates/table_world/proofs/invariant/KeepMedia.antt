@@ -20,7 +20,8 @@ use Rattle.table_world.specs.Views.{Answer, Move, Owed, View, Has, At, HasLock, 
 use Rattle.table_world.specs.History.{Log, map_now, result_of, change_of}
 use Rattle.table_world.specs.Media.{MayLeave, IsPossible, IsPlanned, Stands}
 use Rattle.table_world.specs.Invariant.{IsRemoving, Media, Holds}
-use Rattle.table_world.specs.Kinds.{Kind, peeks, asks_power, finds_room, refuses, places, looks, notes_word, validates, learns, meets_lock, tries, stores, copies, clears, repays, publishes, stashes, flushes, fences, draws_place, unlocks, cuts_power, marked, all_again, with_answer, with_look, with_count, with_lock, with_draw, log_after, of_other_records, of_other_homes, with_store, IsNewest, IsTidy, IsKept, MayTake, IsHarmless, IsPublishing, May}
+use Rattle.table_world.specs.Kinds.{Kind, peeks, asks_power, finds_room, refuses, places, looks, notes_word, validates, learns, meets_lock, tries, stores, copies, clears, repays, publishes, stashes, flushes, fences, draws_place, unlocks, cuts_power, marked, all_again, with_answer, with_look, with_count, with_lock, with_draw, log_after, of_other_records, of_other_homes, with_store}
+use Rattle.table_world.specs.Conditions.{IsNewest, IsTidy, IsKept, MayTake, IsHarmless, IsPublishing, May}
 use Rattle.table_world.specs.Laws.{words_by, views_by}
 use Rattle.table_world.proofs.Tables.{same_keeps, same_owner, core_structure_same, same_hit, same_find, find_places, cores_with, lock_cores, counter_cores, power_cores}
 use Rattle.table_world.proofs.holding.Beside.{newest, whole, whole_cores, whole_structure, guarded_structure, newest_is, beside, quiet, remover, medium_owner}

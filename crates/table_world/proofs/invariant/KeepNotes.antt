@@ -18,7 +18,8 @@ use Rattle.table_world.specs.Site.{Site, IsLockWord, IsUnder}
 use Rattle.table_world.specs.Views.{Note, Answer, View, Has, At, IsGuarded}
 use Rattle.table_world.specs.History.{Log, Change, change_of}
 use Rattle.table_world.specs.Invariant.{IsNote, IsUnmoved, IsAnswer, Notes, Holds}
-use Rattle.table_world.specs.Kinds.{Kind, peeks, asks_power, finds_room, refuses, places, looks, notes_word, validates, learns, meets_lock, tries, stores, copies, clears, repays, publishes, stashes, flushes, fences, draws_place, unlocks, cuts_power, with_noted, unmarked, marked, all_again, next_entry, with_reply, with_answer, with_look, with_count, with_lock, with_draw, log_after, IsNow, May}
+use Rattle.table_world.specs.Kinds.{Kind, peeks, asks_power, finds_room, refuses, places, looks, notes_word, validates, learns, meets_lock, tries, stores, copies, clears, repays, publishes, stashes, flushes, fences, draws_place, unlocks, cuts_power, with_noted, unmarked, marked, all_again, next_entry, with_reply, with_answer, with_look, with_count, with_lock, with_draw, log_after}
+use Rattle.table_world.specs.Conditions.{IsNow, May}
 use Rattle.table_world.specs.Laws.{words_by, views_by}
 use Rattle.table_world.proofs.Grounds.{one_lock, lock_apart, lock_within}
 use Rattle.table_world.proofs.Seats.{each, guarded_no_lock}

@@ -15,7 +15,8 @@ use Rattle.bucket_words.proofs.segments.Cores.{within_image}
 use Rattle.table_world.specs.Site.{Site, IsLockWord}
 use Rattle.table_world.specs.Views.{Move, Owed, View, Has, At, HasLock}
 use Rattle.table_world.specs.Invariant.{NobodyOwes, Overflow, Holds}
-use Rattle.table_world.specs.Kinds.{Kind, peeks, asks_power, finds_room, refuses, places, looks, notes_word, validates, learns, meets_lock, tries, stores, copies, clears, repays, publishes, stashes, flushes, fences, draws_place, unlocks, cuts_power, marked, all_again, with_lock, of_other_records, of_other_homes, IsOwed, IsHomeOf, OwesNone, IsTidy, May}
+use Rattle.table_world.specs.Kinds.{Kind, peeks, asks_power, finds_room, refuses, places, looks, notes_word, validates, learns, meets_lock, tries, stores, copies, clears, repays, publishes, stashes, flushes, fences, draws_place, unlocks, cuts_power, marked, all_again, with_lock, of_other_records, of_other_homes}
+use Rattle.table_world.specs.Conditions.{IsOwed, IsHomeOf, OwesNone, IsTidy, May}
 use Rattle.table_world.specs.Laws.{words_by, views_by}
 use Rattle.table_world.proofs.Lists.{set_here, set_there}
 use Rattle.table_world.proofs.Seats.{each, is_v}

@@ -17,7 +17,8 @@ use Rattle.table_world.specs.Site.{Site, IsLockWord, IsUnder}
 use Rattle.table_world.specs.Views.{Move, Owed, View, Has, At, HasLock, IsGuarded}
 use Rattle.table_world.specs.History.{Log, map_now, result_of, reply_by, change_of}
 use Rattle.table_world.specs.Invariant.{Plans, Holds}
-use Rattle.table_world.specs.Kinds.{Kind, peeks, asks_power, finds_room, refuses, places, looks, notes_word, validates, learns, meets_lock, tries, stores, copies, clears, repays, publishes, stashes, flushes, fences, draws_place, unlocks, cuts_power, marked, all_again, with_lock, with_draw, log_after, IsHarmless, IsPublishing, IsUnplanned, HoldsHome, AddsHeld, HoldsPlaces, of_other_records, of_other_homes, May}
+use Rattle.table_world.specs.Kinds.{Kind, peeks, asks_power, finds_room, refuses, places, looks, notes_word, validates, learns, meets_lock, tries, stores, copies, clears, repays, publishes, stashes, flushes, fences, draws_place, unlocks, cuts_power, marked, all_again, with_lock, with_draw, log_after, of_other_records, of_other_homes}
+use Rattle.table_world.specs.Conditions.{IsHarmless, IsPublishing, IsUnplanned, HoldsHome, AddsHeld, HoldsPlaces, May}
 use Rattle.table_world.specs.Laws.{words_by, views_by}
 use Rattle.table_world.proofs.Grounds.{under_lock}
 use Rattle.bucket_words.proofs.segments.Places.{owners_kept}

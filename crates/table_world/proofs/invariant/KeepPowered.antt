@@ -8,7 +8,8 @@ use Rattle.map_model.specs.declared.call.Call.{Call}
 use Rattle.table_world.specs.Site.{Site, IsLockWord}
 use Rattle.table_world.specs.Views.{Answer, View, At, IsGuarded}
 use Rattle.table_world.specs.Invariant.{Powered, Holds}
-use Rattle.table_world.specs.Kinds.{Kind, peeks, asks_power, finds_room, refuses, places, looks, notes_word, validates, learns, meets_lock, tries, stores, copies, clears, repays, publishes, stashes, flushes, fences, draws_place, unlocks, cuts_power, marked, with_answer, with_look, with_count, with_lock, May}
+use Rattle.table_world.specs.Kinds.{Kind, peeks, asks_power, finds_room, refuses, places, looks, notes_word, validates, learns, meets_lock, tries, stores, copies, clears, repays, publishes, stashes, flushes, fences, draws_place, unlocks, cuts_power, marked, with_answer, with_look, with_count, with_lock}
+use Rattle.table_world.specs.Conditions.{May}
 use Rattle.table_world.specs.Laws.{words_by, views_by}
 use Rattle.table_world.proofs.Grounds.{lock_within}
 use Rattle.table_world.proofs.Lists.{set_here}

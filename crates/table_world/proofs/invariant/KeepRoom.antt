@@ -9,7 +9,8 @@ use Rattle.table_world.specs.Site.{Site}
 use Rattle.table_world.specs.Views.{Answer, View, At}
 use Rattle.table_world.specs.History.{Log}
 use Rattle.table_world.specs.Invariant.{total, Room, Holds}
-use Rattle.table_world.specs.Kinds.{Kind, peeks, asks_power, finds_room, refuses, places, looks, notes_word, validates, learns, meets_lock, tries, stores, copies, clears, repays, publishes, stashes, flushes, fences, draws_place, unlocks, cuts_power, marked, all_again, with_answer, with_look, with_count, with_lock, with_draw, log_after, May}
+use Rattle.table_world.specs.Kinds.{Kind, peeks, asks_power, finds_room, refuses, places, looks, notes_word, validates, learns, meets_lock, tries, stores, copies, clears, repays, publishes, stashes, flushes, fences, draws_place, unlocks, cuts_power, marked, all_again, with_answer, with_look, with_count, with_lock, with_draw, log_after}
+use Rattle.table_world.specs.Conditions.{May}
 use Rattle.table_world.specs.Laws.{views_by}
 use Rattle.table_world.proofs.Lists.{total_set, total_most}
 use Rattle.table_world.proofs.Seats.{each}

@@ -13,7 +13,8 @@ use Rattle.table_world.specs.Site.{Site, IsSpentLock, HasSpentLock}
 use Rattle.table_world.specs.Views.{Answer, View, Has, At}
 use Rattle.table_world.specs.History.{Log}
 use Rattle.table_world.specs.Invariant.{Spending, Holds}
-use Rattle.table_world.specs.Kinds.{Kind, peeks, asks_power, finds_room, refuses, places, looks, notes_word, validates, learns, meets_lock, tries, stores, copies, clears, repays, publishes, stashes, flushes, fences, draws_place, unlocks, cuts_power, marked, all_again, next_entry, with_answer, with_look, with_count, with_spent, with_lock, log_after, May, view_after}
+use Rattle.table_world.specs.Kinds.{Kind, peeks, asks_power, finds_room, refuses, places, looks, notes_word, validates, learns, meets_lock, tries, stores, copies, clears, repays, publishes, stashes, flushes, fences, draws_place, unlocks, cuts_power, marked, all_again, next_entry, with_answer, with_look, with_count, with_spent, with_lock, log_after, view_after}
+use Rattle.table_world.specs.Conditions.{May}
 use Rattle.table_world.specs.Laws.{found_by, words_by, views_by}
 use Rattle.table_world.proofs.Lists.{has_joined}
 use Rattle.table_world.proofs.Seats.{each}

@@ -10,7 +10,7 @@ use Rattle.bucket_words.specs.Hits.{Hit, HasNone}
 use Rattle.bucket_words.proofs.segments.Finding.{find_is, find_none}
 use Rattle.table_world.specs.Site.{Site, IsUnder}
 use Rattle.table_world.specs.Views.{View}
-use Rattle.table_world.specs.Kinds.{IsNow}
+use Rattle.table_world.specs.Conditions.{IsNow}
 use Rattle.bucket_words.specs.HomeNotes.{IsUnnoted}
 use Rattle.table_world.specs.Readers.{NotedBucket, Looked, MayAnswer}
 use Rattle.bucket_words.proofs.segments.Noted.{notes_same}

@@ -8,7 +8,8 @@ use Rattle.image_layout.specs.Volatile.{counter_word, power_word}
 use Rattle.table_world.specs.Site.{Site, IsLockWord}
 use Rattle.table_world.specs.Views.{View, At, IsGuarded}
 use Rattle.table_world.specs.Invariant.{Holds}
-use Rattle.table_world.specs.Kinds.{Kind, peeks, asks_power, finds_room, refuses, places, looks, notes_word, validates, learns, meets_lock, tries, stores, copies, clears, repays, publishes, stashes, flushes, fences, draws_place, unlocks, cuts_power, May}
+use Rattle.table_world.specs.Kinds.{Kind, peeks, asks_power, finds_room, refuses, places, looks, notes_word, validates, learns, meets_lock, tries, stores, copies, clears, repays, publishes, stashes, flushes, fences, draws_place, unlocks, cuts_power}
+use Rattle.table_world.specs.Conditions.{May}
 use Rattle.table_world.specs.Laws.{words_by}
 use Rattle.table_world.specs.Spent.{SpentLocksStay}
 use Rattle.table_world.proofs.Grounds.{lock_within}

@@ -12,7 +12,8 @@ use Rattle.table_world.specs.Site.{Site, IsLockWord}
 use Rattle.table_world.specs.Views.{Answer, View, At, IsGuarded}
 use Rattle.table_world.specs.Wants.{words_after}
 use Rattle.table_world.specs.Kinds.{Kind, peeks, asks_power, finds_room, refuses, places, looks, notes_word, validates, learns, meets_lock, tries, stores, copies, clears, repays, publishes, stashes, flushes, fences, draws_place, unlocks, cuts_power}
-use Rattle.table_world.specs.Kinds.{wanted, with_look, with_count, with_lock, with_answer, next_entry, marked, all_again, May}
+use Rattle.table_world.specs.Kinds.{wanted, with_look, with_count, with_lock, with_answer, next_entry, marked, all_again}
+use Rattle.table_world.specs.Conditions.{May}
 use Rattle.table_world.specs.Entering.{Enters}
 use Rattle.table_world.specs.Invariant.{Holds}
 use Rattle.table_world.specs.Laws.{StepsEnter, CallersStay, PowerStays}
