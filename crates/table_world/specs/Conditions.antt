@@ -28,6 +28,7 @@ abbrev pub IsOwedOf : Bool → ℕ × ℕ → List (ℕ × ℕ) → ℕ → List
 IsOwedOf true note notes count stashed = AreExact (note ∷ notes) count stashed
 IsOwedOf false note notes count stashed = AreExact notes count (note ∷ stashed)
 
+-- by the records of its home in the stash
 abbrev pub IsOwed : Shape → Words → Owed → Type 0
 IsOwed shape words o = IsOwedOf o.added o.note o.notes o.count (stashed_of shape words o.segment o.home)
 
@@ -56,6 +57,7 @@ module _ (site : Site) where
   abbrev pub IsUnplanned : View → ℕ → Type 0
   IsUnplanned v k = (call : Call) → Has call v.planned → key_of call ≡ k → ⊥
 
+  -- the view owes no note of home b of a segment
   abbrev pub OwesNone : View → ℕ → ℕ → Type 0
   OwesNone v s b = (o : Owed) → Has o v.owed → o.segment ≡ s → o.home ≡ b → ⊥
 
@@ -81,17 +83,19 @@ module _ (site : Site) where
     pub stashed : (s c t k : ℕ) → c < stash_buckets → HasLock v.held (bucket_at site.shape s (home_of (key_hash site.shape k))) → IsUnplanned v k
         → owner_of site.shape medium (key_hash site.shape k) ≡ Some s → Hit site.shape medium s (homes + c) t k → Hit site.shape words s (homes + c) t k
 
-  -- whatever the newest words are, and whatever medium stands beside them
+  -- whatever the newest words are
   abbrev pub Always : View → (Words → Type 0) → Type 0
   Always v P = (words : Words) → IsNewest v words → P words
 
+  -- and whatever medium stands beside them
   abbrev pub AlwaysBeside : View → (Words → Words → Type 0) → Type 0
   AlwaysBeside v P = (words medium : Words) → IsNewest v words → StandsBeside v words medium → P words medium
 
-  -- the segment owns the key, and the view holds the lock of its home there
+  -- the segment owns the key
   abbrev pub IsLed : View → ℕ → ℕ → Type 0
   IsLed v s k = Always v (λ words. owner_of site.shape words (key_hash site.shape k) ≡ Some s)
 
+  -- and the view holds the lock of its home there
   abbrev pub HoldsHome : View → ℕ → ℕ → Type 0
   HoldsHome v s k = IsLed v s k × HasLock v.held (bucket_at site.shape s (home_of (key_hash site.shape k)))
 
@@ -137,12 +141,14 @@ module _ (site : Site) where
   abbrev pub HoldsPlaces : View → ℕ → Type 0
   HoldsPlaces v k = Always v (λ words. (s b r : ℕ) → owner_of site.shape words (key_hash site.shape k) ≡ Some s → Hit site.shape words s b r k → HasLock v.held (bucket_at site.shape s b))
 
+  -- nothing is named
   abbrev pub NoTwin : ℕ → ℕ → ℕ → ℕ → ℕ → ℕ → Type 0
   NoTwin s k b r c t = ⊥
 
-  abbrev pub NoHome : ℕ → ℕ → Type 0
-  NoHome s b = ⊥
+  abbrev pub Nowhere : ℕ → ℕ → Type 0
+  Nowhere s b = ⊥
 
+  -- home b is the one of an owed note
   abbrev pub IsHomeOf : Owed → ℕ → ℕ → Type 0
   IsHomeOf o s b = (o.segment ≡ s) × (o.home ≡ b)
 
@@ -196,6 +202,7 @@ module _ (site : Site) where
   abbrev pub IsKnownSpent : View → Reply → Type 0
   IsKnownSpent v reply = reply ≡ Spent → (lock : ℕ) × Has lock v.spent_locks
 
+  -- WHAT A KIND OF STEP ASKS of the stepping view
   abbrev pub May : Kind → View → Type 0
   May (peeks i) v = ⊤
   May asks_power v = ⊤
@@ -209,15 +216,15 @@ module _ (site : Site) where
   May (learns i) v = IsGuarded v.held i
   May (meets_lock lock) v = IsLockWord site.shape lock
   May (tries lock free) v = IsLockWord site.shape lock × (free % 2 ≡ 0) × (free ≢ 2 ^ 64 - 2)
-  May (stores i x) v = IsTidy v i x NoTwin NoHome NoHome × IsHarmless v i x
-  May (copies i x m) v = IsTidy v i x (IsMoveOf m) NoHome NoHome × IsHarmless v i x
+  May (stores i x) v = IsTidy v i x NoTwin Nowhere Nowhere × IsHarmless v i x
+  May (copies i x m) v = IsTidy v i x (IsMoveOf m) Nowhere Nowhere × IsHarmless v i x
       × HoldsMove site.shape v.held m
-  May (clears i x m) v = IsTidy v i x NoTwin NoHome NoHome × IsHarmless v i x
+  May (clears i x m) v = IsTidy v i x NoTwin Nowhere Nowhere × IsHarmless v i x
       × Always v (λ words. HasOnly site.shape (with_word words i x) m.segment m.to_bucket m.to_slot m.key)
-  May (repays i x o) v = IsTidy v i x NoTwin (IsHomeOf o) NoHome × IsHarmless v i x
+  May (repays i x o) v = IsTidy v i x NoTwin (IsHomeOf o) Nowhere × IsHarmless v i x
       × Always v (λ words. HasExactNotes site.shape (with_word words i x) o.segment o.home)
       × Has o v.owed
-  May (publishes i x call) v = IsTidy v i x NoTwin NoHome (MayTake v call) × ((s : ℕ) × HoldsHome v s (key_of call)) × IsUnplanned v (key_of call) × IsPublishing v call i x × HoldsPlaces v (key_of call)
+  May (publishes i x call) v = IsTidy v i x NoTwin Nowhere (MayTake v call) × ((s : ℕ) × HoldsHome v s (key_of call)) × IsUnplanned v (key_of call) × IsPublishing v call i x × HoldsPlaces v (key_of call)
   May (stashes i x call o) v = IsTidy v i x NoTwin (IsHomeOf o) (MayTake v call) × ((s : ℕ) × HoldsHome v s (key_of call)) × IsUnplanned v (key_of call) × IsPublishing v call i x
       × (o.segment < site.shape.segments) × (o.home < homes) × HasLock v.held (bucket_at site.shape o.segment o.home) × OwesNone v o.segment o.home
       × Always v (λ words. IsOwed site.shape (with_word words i x) o) × HoldsPlaces v (key_of call)

@@ -82,6 +82,7 @@ pub record FreesSlot (r w x : ℕ) : Type 0 where
   pub free : allocated r x ≡ 0
   pub overflow : x / 2 ^ 28 ≡ w / 2 ^ 28
 
+-- the stores by which a record appears whose key stood nowhere
 pub record MayPlace (site : Site) (v : View) : Type 0 where
   -- an insert in the home or the probing bucket
   pub insert : (s b r k a x : ℕ) (word : Words) → FoundNone site v word s k → b < homes → KnowsBucket site.shape v s b word → IsReadyAt site.shape word s b r k
@@ -99,6 +100,7 @@ pub record MayPlace (site : Site) (v : View) : Type 0 where
         count = overflow_count (word_in site.shape word s (home_of (key_hash site.shape k)) 1);
       })) v
 
+-- the stores to a record that was found
 pub record MayChange (site : Site) (v : View) : Type 0 where
   -- an update wherever the record stands, and a remove in the home or the probing bucket
   pub update : (s b r k a : ℕ) (word : Words) → FoundAt site v word s b r k → May site (publishes (bucket_at site.shape s b + 5 + 2 * r) a (Update k a)) v
@@ -142,6 +144,7 @@ pub record TouchesNote (site : Site) (v : View) (word : Words) (o : Owed) (c n x
   pub same_core : core_of site.shape (bucket_at site.shape o.segment c + n) x ≡ core_of site.shape (bucket_at site.shape o.segment c + n) (word (bucket_at site.shape o.segment c + n))
   pub neighbours : KeepsNeighbours site.shape word (with_word word (bucket_at site.shape o.segment c + n) x) o.segment o.home
 
+-- the stores of a note that is owed
 pub record MayRepay (site : Site) (v : View) : Type 0 where
   -- one of the stores of a note, and the last one, after which the notes are exact for whatever records the notes of before were to be
   pub part : (o : Owed) (c n x : ℕ) (word : Words) → TouchesNote site v word o c n x → May site (stores (bucket_at site.shape o.segment c + n) x) v
@@ -166,6 +169,7 @@ abbrev pub OwesAsKnown : Site → View → Words → ℕ → ℕ → Type 0
 OwesAsKnown site v word s b = OwesNone site v s b
     ⊎ ((o : Owed) × Has o v.owed × (o.segment ≡ s) × (o.home ≡ b) × (o.added ≡ false) × (o.notes ≡ notes_of site.shape word s b) × (o.count ≡ overflow_count (word_in site.shape word s b 1)))
 
+-- the draws of a change
 pub record MayDraw (site : Site) (v : View) : Type 0 where
   -- where the key stands in a bucket that is known
   pub shown : (call : Call) (s b r : ℕ) (word : Words) → DrawsWell site v call s word → KnowsBucket site.shape v s b word → Hit site.shape word s b r (key_of call) → v.moving ≡ []
@@ -176,9 +180,10 @@ pub record MayDraw (site : Site) (v : View) : Type 0 where
       ⊎ ((HasLock v.held (bucket_at site.shape s (homes + c)) → ⊥) × IsUnnoted site.shape word s (home_of (key_hash site.shape (key_of call))) (finger_of (key_hash site.shape (key_of call))) c))
       → May site (draws_place call) v
 
+-- the two stores by which a record is moved
 pub record MayMove (site : Site) (v : View) : Type 0 where
-  -- the copy of a record of home or probing bucket b in bucket c
-  pub copy : (s b r c t k x : ℕ) (word : Words) → HasLock v.held (bucket_at site.shape s (home_of (key_hash site.shape k))) → b < homes → c < homes
+  -- the copy of a record of bucket b in bucket c
+  pub copy : (s b r c t k x : ℕ) (word : Words) → HasLock v.held (bucket_at site.shape s (home_of (key_hash site.shape k))) → c < homes
       → KnowsBucket site.shape v s b word → KnowsBucket site.shape v s c word → Hit site.shape word s b r k → IsReadyAt site.shape word s c t k
       → value_in word (bucket_at site.shape s c) t ≡ value_in word (bucket_at site.shape s b) r → TakesSlot site.shape c t k (word (bucket_at site.shape s c + 1)) x
       → v.moving ≡ []

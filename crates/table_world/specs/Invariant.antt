@@ -1,5 +1,5 @@
 -- What holds of the newest words and of all views between any two events, from the end of a restart to the close. It is
--- said object by object: locks, words, planned changes, history, media, notes, room, spent numbers, power.
+-- said object by object: locks, words, planned changes, history, copies, overflow data, media, notes, room, spent numbers, power.
 use Rattle.std.specs.Prelude.{◌≡◌, ◌≢◌, ℕ, ◌+◌, ◌%◌, ◌^◌, ◌<◌, ◌≤◌, true, Some, List, [], ◌∷◌, ◌⊎◌, length, filter}
 use Rattle.trace.specs.Events.{Words}
 use Rattle.image_layout.specs.Volatile.{counter_word, power_word}

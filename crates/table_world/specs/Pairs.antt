@@ -9,7 +9,7 @@ use Rattle.table_world.specs.Conditions.{May}
 use Rattle.table_world.specs.Invariant.{Holds}
 use Rattle.table_world.specs.Laws.{words_by}
 
--- the one kind of step that makes a change
+-- the two kinds of step that make a change
 abbrev pub IsPublishingKind : Kind → Type 0
 IsPublishingKind (publishes i x call) = ⊤
 IsPublishingKind (stashes i x call o) = ⊤

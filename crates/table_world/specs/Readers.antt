@@ -31,6 +31,7 @@ pub record Looked (site : Site) (notes : List Note) (word : Words) (s k : ℕ) :
   pub home : NotedBucket site.shape notes s (home_of (key_hash site.shape k)) word
   pub probing : NotedBucket site.shape notes s (probing_of (home_of (key_hash site.shape k))) word
 
+-- the answers of a get: none, where the key stands in no bucket that it looked in, or the value of its record
 pub record MayAnswer (site : Site) (v : View) : Type 0 where
   pub none : (s k : ℕ) (word : Words) → Looked site v.notes word s k
       → ((t : ℕ) → Hit site.shape word s (home_of (key_hash site.shape k)) t k → ⊥) → ((t : ℕ) → Hit site.shape word s (probing_of (home_of (key_hash site.shape k))) t k → ⊥)

@@ -16,7 +16,8 @@ pub fn each_step_keeps()
     ensures { (site : Site) (kind : Kind) → Keeps site kind }
 {}
 
-/// Whatever a power cut may leave is a table, and stands in the history in which all replies are right.
+/// Whatever a power cut may leave has the structure that it had, is a table, and stands in the history in which all replies are
+/// right.
 pub fn media_stand()
     ensures { MediaStand }
 {}
@@ -55,7 +56,9 @@ pub fn device_leaves_what_views_say()
     ensures { DeviceLeaves }
 {}
 
-/// What the holder of locks has to know of buckets to place a record in any of them, to copy one and to clear its source.
+/// What the holder of locks has to know of buckets: to prepare a slot; to place a record in its home, its probing bucket or the
+/// stash; to change one that it found, or to take it away, from the stash too; to tell what a key has; to draw the place of a
+/// change; to store or take away a note that it owes; and to move a record, by a copy and the clearing of its source.
 pub fn holders_may()
     ensures prepare { (site : Site) (v : View) → MayPrepare site v }
     ensures place { (site : Site) (v : View) → MayPlace site v }
@@ -78,7 +81,7 @@ pub fn seats_keep()
     ensures joins { JoinsKeep }
 {}
 
-/// A step of any kind but the one that makes a change leaves what every key has as it was.
+/// A step of any kind but the two that make a change leaves what every key has as it was.
 pub fn other_steps_keep_pairs()
     ensures { OtherStepsKeepPairs }
 {}

@@ -179,6 +179,6 @@ module _ (site : Site) (v : View) where
 
   pub may_move : MayMove site v
   may_move = record {
-    copy = λ s b r c t k x word lock low_b low source target stood made value takes still. may_copy s b r c t k x word lock low source target stood made value takes still;
+    copy = λ s b r c t k x word lock low source target stood made value takes still. may_copy s b r c t k x word lock low source target stood made value takes still;
     clear = λ m x word lock low source target stood stands apart frees alone. may_clear m x word lock low source target stood stands apart frees alone;
   }
