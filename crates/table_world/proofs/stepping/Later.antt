@@ -1,0 +1,76 @@
+-- No step takes back what its caller has seen, and each reply is at a place not before that.
+use Rattle.std.proofs.Common.{◌≡◌, inl, inr, ℕ, ◌%◌, ◌^◌, ◌≤◌, Bool, true, false, Option, None, Some, List, [], ◌∷◌, ◌++◌, refl, sym, ap, ◌∙◌, arith, append-nil}
+use Rattle.std.specs.Prelude.{nat_lt, ◌==◌}
+use Rattle.trace.specs.Events.{Words}
+use Rattle.image_layout.specs.Volatile.{counter_word}
+use Rattle.map_model.specs.declared.call.Call.{Call}
+use Rattle.map_model.specs.declared.entry.Entry.{Entry}
+use Rattle.table_world.specs.Site.{Site}
+use Rattle.table_world.specs.Views.{Answer, View, At}
+use Rattle.table_world.specs.Invariant.{IsAnswer, Holds}
+use Rattle.table_world.specs.Kinds.{Kind, peeks, asks_power, finds_room, refuses, places, looks, notes_word, validates, learns, meets_lock, tries, stores, copies, clears, repays, publishes, stashes, flushes, fences, draws_place, unlocks, cuts_power, wanted, with_answer, with_look, with_count, with_lock, all_again, marked, view_after}
+use Rattle.table_world.specs.Wants.{word_of}
+use Rattle.table_world.proofs.NotedLists.{marked_to, again_all}
+use Rattle.table_world.specs.Later.{IsLater, RepliesComeLater}
+
+same : (v w : View) → w.own ≡ v.own → w.seen ≡ v.seen → IsLater v w
+same v w own seen = record { rest = []; own = own ∙ sym (append-nil v.own); places = λ e q. absurd q; seen = omega (arith, seen) }
+
+one : (v w : View) (e : Entry) → w.own ≡ v.own ++ e ∷ [] → v.seen ≤ e.place → v.seen ≤ w.seen → IsLater v w
+one v w e own place seen = record {
+  rest = e ∷ [];
+  own = own;
+  places = λ x q. elim q [ inl is ↦ (let n = ap (λ (z : Entry). z.place) is in omega (arith, n, place)) | inr none ↦ absurd none ];
+  seen = seen;
+}
+
+module _ (site : Site) (words : Words) (views : List View) (j : ℕ) (v : View) (h : Holds site words views) (at : At views j v) where
+  at_counter : (n : ℕ) → words (counter_word site.shape) ≡ n → v.seen ≤ n
+  at_counter n is = let c = h.history.counter in let s = h.history.within j v at in omega (arith, c, s, is)
+
+  look : (t : Bool) (lock n : ℕ) → IsLater v (with_look t lock n v)
+  look true lock n = same v _ refl refl
+  look false lock n = same v _ refl refl
+
+  count : (t : Bool) (call : Call) (n : ℕ) → words (counter_word site.shape) ≡ n → IsLater v (with_count t call n v)
+  count true call n is = same v _ refl refl
+  count false call n is = one v _ _ refl (at_counter n is) (at_counter n is)
+
+  lock_won : (t : Bool) (lock free : ℕ) → IsLater v (with_lock t lock free v)
+  lock_won true lock free = same v _ refl refl
+  lock_won false lock free = same v _ refl refl
+
+  answer : (lock : ℕ) (t : Bool) (o : Option Answer) → all_again (marked lock (words lock) v.notes) ≡ t → v.answer ≡ o
+      → IsLater v (with_answer t o (record v { notes = marked lock (words lock) v.notes }))
+  answer lock false o again is = same v _ refl refl
+  answer lock true None again is = same v _ refl refl
+  answer lock true (Some a) again is =
+      let good : IsAnswer site h.log v.seen a = h.notes.answered j v a at is (marked_to words lock v.notes (again_all words (marked lock (words lock) v.notes) again)) in
+      one v _ _ refl good.after_seen good.after_seen
+
+  later_at : (kind : Kind) → IsLater v (view_after site.shape kind (words (word_of site.shape (wanted site.shape kind))) v)
+  later_at (peeks i) = same v _ refl refl
+  later_at asks_power = same v _ refl refl
+  later_at (finds_room call) = count (nat_lt (words (counter_word site.shape)) (2 ^ 63)) call (words (counter_word site.shape)) refl
+  later_at (refuses call reply) = one v _ _ refl (at_counter _ refl) (at_counter _ refl)
+  later_at (places k a) = same v _ refl refl
+  later_at (looks lock) = look (words lock % 2 == 0) lock (words lock)
+  later_at (notes_word lock i) = same v _ refl refl
+  later_at (validates lock) = answer lock (all_again (marked lock (words lock) v.notes)) v.answer refl refl
+  later_at (learns i) = same v _ refl refl
+  later_at (meets_lock lock) = same v _ refl refl
+  later_at (tries lock free) = lock_won (words lock == free) lock free
+  later_at (stores i x) = same v _ refl refl
+  later_at (copies i x m) = same v _ refl refl
+  later_at (clears i x m) = same v _ refl refl
+  later_at (repays i x o) = same v _ refl refl
+  later_at (publishes i x call) = same v _ refl refl
+  later_at (stashes i x call o) = same v _ refl refl
+  later_at (flushes l) = same v _ refl refl
+  later_at fences = same v _ refl refl
+  later_at (draws_place call) = one v _ _ refl (at_counter _ refl) (let s = at_counter (words (counter_word site.shape)) refl in omega (arith, s))
+  later_at (unlocks lock next) = same v _ refl refl
+  later_at cuts_power = same v _ refl refl
+
+pub replies_come_later : RepliesComeLater
+replies_come_later site words views j v kind h at = later_at site words views j v h at kind

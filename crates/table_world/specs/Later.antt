@@ -1,0 +1,22 @@
+-- What a caller has seen only grows, and its replies come at places not before that.
+use Rattle.std.specs.Prelude.{◌≡◌, ℕ, ◌≤◌, List, ◌++◌}
+use Rattle.trace.specs.Events.{Words}
+use Rattle.map_model.specs.declared.entry.Entry.{Entry}
+use Rattle.table_world.specs.Site.{Site}
+use Rattle.table_world.specs.Views.{View, Has, At}
+use Rattle.table_world.specs.Invariant.{Holds}
+use Rattle.table_world.specs.Kinds.{Kind, view_after}
+use Rattle.table_world.specs.Laws.{found_by}
+
+-- a view is a later one of another: it has these replies more, each at a place not before what the other had seen, and it has
+-- seen no less
+pub record IsLater (before after : View) : Type 0 where
+  pub rest : List Entry
+  pub own : after.own ≡ before.own ++ rest
+  pub places : (e : Entry) → Has e rest → before.seen ≤ e.place
+  pub seen : before.seen ≤ after.seen
+
+-- A STEP leaves a later view
+abbrev pub RepliesComeLater : Type 0
+RepliesComeLater = (site : Site) (words : Words) (views : List View) (j : ℕ) (v : View) (kind : Kind) → Holds site words views → At views j v
+    → IsLater v (view_after site.shape kind (found_by site kind words) v)

@@ -1,0 +1,49 @@
+-- A view is cut in two, and two are joined: so it is where words alone are shared, for a new caller's pass, for what is
+-- told from caller to caller, and at the end of a pass.
+use Rattle.std.specs.Prelude.{◌≢◌, ℕ, ◌+◌, ◌-◌, ◌≤◌, max, ◌||◌, List, [], ◌∷◌, ◌++◌, None, set}
+use Rattle.trace.specs.Events.{Words}
+use Rattle.table_world.specs.Site.{Site}
+use Rattle.table_world.specs.Views.{View, At}
+use Rattle.table_world.specs.Invariant.{Holds}
+use Rattle.table_world.specs.World.{fresh_view}
+
+-- the view that is cut off for n callers: it has seen what the other has
+abbrev pub cut_off : View → ℕ → View
+cut_off v n = record (fresh_view n) { seen = v.seen }
+
+-- what is left of the other, which has to look at the commit counter again
+abbrev pub left_of : View → ℕ → View
+left_of v n = record v { callers = v.callers - n; room = 0 }
+
+-- the view that takes in another: all that the other holds, knows, owes and has planned
+abbrev pub joined : View → View → View
+joined v w = record v {
+  held = v.held ++ w.held;
+  known = v.known ++ w.known;
+  dirty = v.dirty ++ w.dirty;
+  flushed = v.flushed ++ w.flushed;
+  planned = v.planned ++ w.planned;
+  moving = v.moving ++ w.moving;
+  owed = v.owed ++ w.owed;
+  notes = [];
+  answer = None;
+  seen = max v.seen w.seen;
+  callers = v.callers + w.callers;
+  room = v.room + w.room;
+  spent_locks = v.spent_locks ++ w.spent_locks;
+  stored_power = v.stored_power || w.stored_power;
+}
+
+-- the view that was taken in: its replies stay, as its caller's
+abbrev pub spent : View → View
+spent w = record w { held = []; known = []; dirty = []; flushed = []; planned = []; moving = []; owed = []; notes = []; answer = None; callers = 0; room = 0 }
+
+-- A VIEW THAT IS CUT IN TWO keeps the invariant; the new one takes the next seat
+abbrev pub CutsKeep : Type 0
+CutsKeep = (site : Site) (words : Words) (views : List View) (j : ℕ) (v : View) (n : ℕ) → Holds site words views → At views j v → n ≤ v.callers
+    → Holds site words (set views j (left_of v n) ++ cut_off v n ∷ [])
+
+-- TWO VIEWS THAT ARE JOINED keep it
+abbrev pub JoinsKeep : Type 0
+JoinsKeep = (site : Site) (words : Words) (views : List View) (j i : ℕ) (v w : View) → Holds site words views → At views j v → At views i w → i ≢ j
+    → Holds site words (set (set views j (joined v w)) i (spent w))
