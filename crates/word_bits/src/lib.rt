@@ -3,7 +3,7 @@
 //! Bits are counted from 0, the lowest. `specs/Bits.antt` says what a number of bits is.
 #![tactic(auto)]
 
-ghost use Rattle.std.specs.Prelude.{◌≡◌, ◌==◌, ◌<◌, ◌+◌, ◌*◌, ◌^◌};
+ghost use Rattle.std.specs.Prelude.{◌≡◌, ◌==◌, ℕ, ◌<◌, ◌+◌, ◌*◌, ◌^◌, slice_index};
 ghost use Rattle.word_bits.specs.Bits.{bits, bit};
 
 /// The number that `count` bits of a word make, from bit `low` upwards.
@@ -39,6 +39,13 @@ pub fn mask(i: u32) -> u64
     ensures { result ≡ Rattle.word_bits.specs.Bits.mask i }
 {
     if i < 64 { 1 << i } else { 0 }
+}
+
+/// Each of these words is of 64 bits.
+pub fn each_fits(words: &[u64])
+    ensures { (i : ℕ) → slice_index words.now i < 2 ^ 64 }
+{
+    let _ = words;
 }
 
 #[cfg(test)]
