@@ -1,4 +1,5 @@
 pub mod HeadWord
 pub mod Head
 pub mod Sides
+pub mod Prefixes
 pub mod Written

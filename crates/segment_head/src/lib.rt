@@ -1,7 +1,7 @@
 //! The header of a segment: its version, its state, and which hashes it covers.
 //! A [`Head`] is read from one word of the image, and written back; [`Head::sibling`] is the header of the
-//! segment that a split fills; [`word`] has the functions of those who hold the word as it is. `specs/HeadWord.antt` says
-//! what each bit of the word means.
+//! segment that a split fills; [`word`] and [`prefix`] have the functions of those who hold the word as it is.
+//! `specs/HeadWord.antt` says what each bit of the word means.
 #![tactic(auto)]
 
 ghost use Rattle.std.specs.Prelude.{◌≡◌, ◌<◌, ◌+◌, ◌*◌, IfSome, IfNone, IsNone, ◌^◌};
@@ -11,6 +11,7 @@ ghost use Rattle.segment_head.specs.Sides.{IsOneSideOf, CoversOnes};
 ghost use Rattle.segment_head.specs.Written.{spare_in};
 
 mod laws;
+pub mod prefix;
 pub mod word;
 
 use crate::word::{FREE, FRESH, NORMAL, SPLITTING, depth_of, pattern_of, state_of, version_of};

@@ -2,7 +2,7 @@
 //! and a state byte that is none of the four.
 
 ghost use Rattle.std.specs.Prelude.{◌≡◌, ◌↔◌, ◌⊎◌, IsTrue};
-ghost use Rattle.segment_head.specs.HeadWord.{version_in, state_in, depth_in, pattern_in, is_live, HasLiveState};
+ghost use Rattle.segment_head.specs.HeadWord.{version_in, state_in, depth_in, pattern_in, is_live, HasLiveState, normal};
 
 /// The state byte of a segment that holds nothing, and may be taken by a split.
 pub const FREE: u8 = 0;
@@ -48,4 +48,11 @@ pub fn is_live(h1: u64) -> bool
 {
     let state = state_of(h1);
     state == NORMAL || state == SPLITTING
+}
+
+/// Whether the segment is normal, and covers every hash.
+pub fn is_whole_table(h1: u64) -> bool
+    ensures { IsTrue result ↔ ((state_in h1 ≡ normal) × (depth_in h1 ≡ 0)) }
+{
+    state_of(h1) == NORMAL && depth_of(h1) == 0
 }

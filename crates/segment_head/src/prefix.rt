@@ -1,0 +1,49 @@
+//! Which hashes a segment covers, as a depth and a pattern.
+
+ghost use Rattle.std.specs.Prelude.{◌≡◌, ◌+◌, ◌*◌, ◌^◌, ◌<◌, ◌≤◌, ◌↔◌, IsTrue};
+ghost use Rattle.hash_word.specs.Hash.{Covers};
+ghost use Rattle.segment_head.specs.HeadWord.{depth_in, pattern_in};
+ghost use Rattle.segment_head.specs.Prefixes.{IsSidePrefix};
+
+use crate::word::{depth_of, pattern_of};
+use hash_word::covers;
+
+/// The top bits of the hashes that a segment covers: as many as its depth, and these are its pattern.
+#[derive(Clone, Copy, Debug, PartialEq, Eq)]
+pub struct Prefix {
+    /// How many bits.
+    pub depth: u8,
+    /// What they are.
+    pub pattern: u32,
+}
+
+/// The prefix in a header word.
+pub fn prefix_in(header: u64) -> Prefix
+    ensures depth { result.depth ≡ depth_in header }
+    ensures pattern { result.pattern ≡ pattern_in header }
+{
+    Prefix {
+        depth: depth_of(header),
+        pattern: pattern_of(header),
+    }
+}
+
+/// Whether a prefix is that of the 1-side of another, with zeros alone behind it.
+pub fn is_side(whole: Prefix, side: Prefix) -> bool
+    requires whole { whole.depth ≤ 16 }
+    requires side { side.depth ≤ 16 }
+    ensures { IsTrue result ↔ IsSidePrefix whole side }
+{
+    whole.depth < side.depth
+        && u64::from(side.pattern)
+            == (2 * u64::from(whole.pattern) + 1) << (side.depth - whole.depth - 1)
+}
+
+/// Whether a hash is in the 1-side of a prefix.
+pub fn in_one_side(prefix: Prefix, hash: u64) -> bool
+    requires depth { prefix.depth ≤ 16 }
+    requires pattern { prefix.pattern < 2 ^ prefix.depth }
+    ensures { IsTrue result ↔ Covers (prefix.depth + 1) (2 * prefix.pattern + 1) hash }
+{
+    covers(prefix.depth + 1, 2 * prefix.pattern + 1, hash)
+}
