@@ -1,6 +1,18 @@
-//! No two parts of an image share a word.
+//! A geometry is in range, and no two parts of an image share a word.
 
+ghost use Rattle.image_layout.specs.Places.{IsShape};
 ghost use Rattle.image_layout.specs.Parts.{PartsWithin, PartsApart};
+
+use crate::Geometry;
+
+/// A geometry's three numbers are in their ranges.
+pub fn shape_in_range(geometry: &Geometry)
+    ensures { IsShape geometry.now }
+{
+    let _ = geometry.segments();
+    let _ = geometry.depth();
+    let _ = geometry.kind();
+}
 
 /// Each part of an image lies within its words.
 pub fn parts_within()

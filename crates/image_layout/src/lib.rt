@@ -8,7 +8,7 @@ mod laws;
 mod shape;
 pub mod state;
 
-pub use laws::{parts_apart, parts_within};
+pub use laws::{parts_apart, parts_within, shape_in_range};
 pub use shape::{BLOCK, BUCKETS, GeoFault, Geometry, HOMES, ROOT_WORD, STASH_BUCKETS, STATE_WORD};
 
 #[cfg(test)]

@@ -4,6 +4,7 @@ ghost use Rattle.std.specs.Prelude.{◌≡◌, ◌<◌, ◌≤◌, ◌+◌, ◌*
 ghost use Rattle.image_layout.specs.Volatile.{counter_word, power_word};
 ghost use Rattle.image_layout.specs.Places.{IsShape, first_segment, words_of, entry_at, head_at, bucket_at, block, homes, stash_buckets, buckets, segment_words, most_words};
 
+use bucket_meta::words::BUCKET_WORDS;
 use std::error::Error;
 use std::fmt;
 use std::marker::Model;
@@ -13,7 +14,7 @@ pub const ROOT_WORD: u64 = 8;
 /// The word of the image's version and of the clean marker.
 pub const STATE_WORD: u64 = 16;
 /// How many words the front of an image, a header and a bucket have.
-pub const BLOCK: u64 = 32;
+pub const BLOCK: u64 = BUCKET_WORDS as u64;
 /// How many buckets of a segment are homes.
 pub const HOMES: u8 = 64;
 /// How many stash buckets a segment has, behind its homes.
