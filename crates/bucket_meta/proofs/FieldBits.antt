@@ -1,4 +1,4 @@
--- The words say of each slot and overflow place what the bits of the fields say, before and after a change of one slot, and a bit of a field is set or cleared alone.
+-- The words say of each record slot and note slot what the bits of the fields say, before and after a change of one slot, and a bit of a field is set or cleared alone.
 use Rattle.std.proofs.Common.{◌≡◌, ◌≢◌, ℕ, ◌-◌, ◌*◌, ◌%◌, ◌^◌, ◌<◌, List, ap, sym, ◌∙◌, inl, inr, zero-add, arith, length, length-set, bit_and, bit_or}
 use Rattle.std.specs.Prelude.{slice_index, slice_set}
 use Rattle.std.proofs.lemmas.List.{get_or-set_same, get_or-set_other}

@@ -1,5 +1,5 @@
 -- A word of fingerprints with one byte replaced has that byte there, and the others as they were.
-use Rattle.std.proofs.Common.{◌≡◌, ◌≢◌, ℕ, zero, suc, ◌-◌, ◌*◌, ◌%◌, ◌^◌, ◌<◌, ◌≤◌, inl, inr, cond, List, refl, sym, ◌∙◌, ap, subst, arith, length, slice_index, slice_set, get_or-set_same, get_or-set_other, length-set}
+use Rattle.std.proofs.Common.{◌≡◌, ◌≢◌, ℕ, zero, suc, ◌-◌, ◌*◌, ◌/◌, ◌%◌, ◌^◌, ◌<◌, ◌≤◌, inl, inr, cond, List, refl, sym, ◌∙◌, ap, subst, arith, length, slice_index, slice_set, get_or-set_same, get_or-set_other, length-set}
 use Rattle.std.specs.Int.{w64, to_le_bytes, from_le_bytes}
 use Rattle.std.proofs.lemmas.Bool.{cases_eq, cases_lt, lt-ltb, le-ltb}
 use Rattle.std.proofs.lemmas.Nat.{le_bytes_8}
@@ -55,7 +55,7 @@ module _ (w slot f : ℕ) (fits : f < 256) where
   byte_here : (t : ℕ) → t < 8 → t ≡ slot % 8 → bits (8 * t) 8 (with_finger w slot f) ≡ f
   byte_here t near e = set_byte t near ∙ (ap (slice_index set_bytes) e ∙ set_here)
 
-  byte_there : (t : ℕ) → t < 8 → t ≢ slot % 8 → bits (8 * t) 8 (with_finger w slot f) ≡ bits (8 * t) 8 w
+  pub byte_there : (t : ℕ) → t < 8 → t ≢ slot % 8 → bits (8 * t) 8 (with_finger w slot f) ≡ bits (8 * t) 8 w
   byte_there t near apart = set_byte t near ∙ (set_there t apart ∙ byte_is w t near)
 
   -- among the fingerprints of a bucket
@@ -104,3 +104,10 @@ finger_below w slot f fits =
     let b6 = set_small w slot f fits 6 in
     let b7 = set_small w slot f fits 7 in
     omega (arith, b0, b1, b2, b3, b4, b5, b6, b7)
+
+-- the last two bytes of word 3 are those of overflow notes, and stay
+pub upper_kept : (w slot f : ℕ) → f < 256 → 8 ≤ slot → slot < 14 → with_finger w slot f / 2 ^ 48 % 2 ^ 16 ≡ w / 2 ^ 48 % 2 ^ 16
+upper_kept w slot f fits high slots =
+    let b6 = byte_there w slot f fits 6 (omega arith) (λ e. omega (arith, e, high, slots)) in
+    let b7 = byte_there w slot f fits 7 (omega arith) (λ e. omega (arith, e, high, slots)) in
+    omega (arith, b6, b7)

@@ -7,3 +7,5 @@ pub mod Found
 pub mod Marks
 pub mod Fingers
 pub mod ZeroBits
+pub mod Uppers
+pub mod Freed

@@ -4,7 +4,7 @@ use Rattle.std.specs.Int.{bit_not, w64}
 use Rattle.bucket_meta.specs.Bucket.{overflow_count}
 use Rattle.word_bits.specs.Bits.{bit, mask}
 use Rattle.word_bits.proofs.OneBit.{set_same, set_other, clear_same, clear_other}
-use Rattle.bucket_meta.specs.Marks.{inserted_mark, removed_mark, TakesSlot, FreesSlot, SameNotes}
+use Rattle.bucket_meta.specs.Marks.{inserted_mark, removed_mark, TakesSlot, TakesSlotAsMember, FreesSlot, SameNotes}
 
 module _ (w s : ℕ) (within : s < 14) where
   low : s < 64
@@ -21,6 +21,16 @@ module _ (w s : ℕ) (within : s < 14) where
       taken = λ t slot apart. clear_other (bit_or w (mask s)) (14 + s) t high (omega (arith, slot)) (λ e. omega (arith, e, slot)) ∙ set_other w s t low apart;
       members = λ t slot apart. clear_other (bit_or w (mask s)) (14 + s) (14 + t) high (omega (arith, slot)) (λ e. apart (omega (arith, e)))
           ∙ set_other w s (14 + t) low (λ e. omega (arith, e, within));
+    };
+  }
+
+  pub takes_slot_as_member : TakesSlotAsMember w s
+  takes_slot_as_member = record {
+    taken = set_other (bit_or w (mask s)) (14 + s) s high (λ e. omega (arith, e)) ∙ set_same w s low;
+    is_member = set_same (bit_or w (mask s)) (14 + s) high;
+    others = record {
+      taken = λ t slot apart. set_other (bit_or w (mask s)) (14 + s) t high (λ e. omega (arith, e, slot)) ∙ set_other w s t low apart;
+      members = λ t slot apart. set_other (bit_or w (mask s)) (14 + s) (14 + t) high (λ e. apart (omega (arith, e))) ∙ set_other w s (14 + t) low (λ e. omega (arith, e, within));
     };
   }
 

@@ -6,9 +6,9 @@ use Rattle.word_bits.specs.Bits.{bits, bit}
 abbrev pub record_slots : ℕ
 record_slots = 14
 
--- how many overflow places it has
-abbrev pub overflow_places : ℕ
-overflow_places = 4
+-- how many note slots it has
+abbrev pub note_slots : ℕ
+note_slots = 4
 
 -- 1 where the bucket is locked
 abbrev pub lock_of : ℕ → ℕ
@@ -30,7 +30,7 @@ member s w1 = bit (14 + s) w1
 abbrev pub finger : ℕ → ℕ → ℕ → ℕ
 finger s w2 w3 = if nat_lt s 8 then bits (8 * s) 8 w2 else bits (8 * (s - 8)) 8 w3
 
--- 1 where overflow place i, of 4, holds the note of a record that stands in the stash
+-- 1 where note slot i, of 4, holds the note of a record that stands in the stash
 abbrev pub note_used : ℕ → ℕ → ℕ
 note_used i w1 = bit (28 + i) w1
 

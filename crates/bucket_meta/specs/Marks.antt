@@ -1,12 +1,16 @@
 -- What is stored of a slot that is taken or freed: the metadata word, and the word of its fingerprint; and what each of them leaves.
-use Rattle.std.specs.Prelude.{◌≡◌, ◌≢◌, ℕ, ◌+◌, ◌%◌, ◌<◌, nat_lt, slice_set, if◌then◌else◌, bit_or, bit_and}
+use Rattle.std.specs.Prelude.{◌≡◌, ◌≢◌, ℕ, ◌+◌, ◌/◌, ◌%◌, ◌^◌, ◌<◌, nat_lt, slice_set, if◌then◌else◌, bit_or, bit_and}
 use Rattle.std.specs.Int.{bit_not, w64, to_le_bytes, from_le_bytes}
 use Rattle.word_bits.specs.Bits.{mask}
-use Rattle.bucket_meta.specs.Bucket.{allocated, member, finger, note_used, overflow_count, record_slots, overflow_places}
+use Rattle.bucket_meta.specs.Bucket.{allocated, member, finger, note_used, overflow_count, record_slots, note_slots}
 
 -- the metadata word where the slot has a record that is at home: its allocation bit set, its membership bit not
 abbrev pub inserted_mark : ℕ → ℕ → ℕ
 inserted_mark w1 slot = bit_and (bit_or w1 (mask slot)) (bit_not w64 (mask (14 + slot)))
+
+-- the metadata word where the slot has a record that stands in its probing bucket: both bits set
+abbrev pub member_mark : ℕ → ℕ → ℕ
+member_mark w1 slot = bit_or (bit_or w1 (mask slot)) (mask (14 + slot))
 
 -- the metadata word where the slot has no record: both bits not set
 abbrev pub removed_mark : ℕ → ℕ → ℕ
@@ -25,9 +29,9 @@ pub record SameButSlot (r w x : ℕ) : Type 0 where
   pub taken : (t : ℕ) → t < record_slots → t ≢ r → allocated t x ≡ allocated t w
   pub members : (t : ℕ) → t < record_slots → t ≢ r → member t x ≡ member t w
 
--- metadata word x says of the stash what w1 says: which overflow places hold a note, and how many records have none
+-- metadata word x says of the stash what w1 says: which note slots hold a note, and how many records have none
 pub record SameNotes (w1 x : ℕ) : Type 0 where
-  pub notes : (i : ℕ) → i < overflow_places → note_used i x ≡ note_used i w1
+  pub notes : (i : ℕ) → i < note_slots → note_used i x ≡ note_used i w1
   pub count : overflow_count x ≡ overflow_count w1
 
 -- an insert's metadata word has its slot taken by a record that is at home, and says of the others what was said before
@@ -36,11 +40,21 @@ pub record TakesSlot (w1 slot : ℕ) : Type 0 where
   pub at_home : member slot (inserted_mark w1 slot) ≡ 0
   pub others : SameButSlot slot w1 (inserted_mark w1 slot)
 
+-- where a record comes to its probing bucket, the metadata word has its slot taken by a member
+pub record TakesSlotAsMember (w1 slot : ℕ) : Type 0 where
+  pub taken : allocated slot (member_mark w1 slot) ≡ 1
+  pub is_member : member slot (member_mark w1 slot) ≡ 1
+  pub others : SameButSlot slot w1 (member_mark w1 slot)
+
 -- a remove's metadata word has its slot free, and says of the others what was said before
 pub record FreesSlot (w1 slot : ℕ) : Type 0 where
   pub is_free : allocated slot (removed_mark w1 slot) ≡ 0
   pub no_member : member slot (removed_mark w1 slot) ≡ 0
   pub others : SameButSlot slot w1 (removed_mark w1 slot)
+
+-- a metadata word says the same above the slots' bits, where the overflow notes are
+abbrev pub KeepsUpper : ℕ → ℕ → Type 0
+KeepsUpper w1 x = x / 2 ^ 28 ≡ w1 / 2 ^ 28
 
 -- words of fingerprints x2 and x3 have the slot's fingerprint, and those of the others as words w2 and w3
 pub record SetsFinger (w2 w3 x2 x3 slot f : ℕ) : Type 0 where

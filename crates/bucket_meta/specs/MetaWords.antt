@@ -1,7 +1,7 @@
 -- What the fields of a `Meta` say of the words that it was read from or written to.
 use Rattle.std.specs.Prelude.{◌≡◌, ℕ, ◌<◌, ◌^◌, slice_index}
 use Rattle.bucket_meta.specs.declared.metadata.Meta.{Meta}
-use Rattle.bucket_meta.specs.Bucket.{finger, note_finger, record_slots, overflow_places}
+use Rattle.bucket_meta.specs.Bucket.{finger, note_finger, record_slots, note_slots}
 use Rattle.word_bits.specs.Bits.{bits}
 
 -- the fields are those of words 1 to 3 of a bucket
@@ -13,7 +13,7 @@ pub record IsMetaOf (m : Meta) (w1 w2 w3 : ℕ) : Type 0 where
   pub oindex : m.oindex ≡ bits 36 4 w1
   pub ocount : m.ocount ≡ bits 40 5 w1
   pub fps : (s : ℕ) → s < record_slots → slice_index m.fps s ≡ finger s w2 w3
-  pub ofps : (i : ℕ) → i < overflow_places → slice_index m.ofps i ≡ note_finger i w1 w3
+  pub ofps : (i : ℕ) → i < note_slots → slice_index m.ofps i ≡ note_finger i w1 w3
 
 -- words of 64 bits, where bits 61 to 63 of the first are 0
 pub record AreMetaWords (w1 w2 w3 : ℕ) : Type 0 where

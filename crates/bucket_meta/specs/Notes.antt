@@ -1,27 +1,33 @@
 -- Overflow notes: what home buckets remember of their records that stand in the stash.
 use Rattle.std.specs.Prelude.{◌≡◌, ℕ, zero, suc, ◌+◌, ◌≤◌, ◌==◌, ◌&&◌, List, [], ◌∷◌, ◌++◌, length, filter, if◌then◌else◌}
 use Rattle.std.specs.List.{flat_map}
+use Rattle.bucket_meta.specs.Bucket.{note_used, note_member}
 
 -- the numbers below n
 abbrev pub numbers_below : ℕ → List ℕ
 numbers_below zero = []
 numbers_below (suc n) = numbers_below n ++ n ∷ []
 
--- a note, or a record in the stash, as its fingerprint and its stash bucket
-abbrev pub Note : Type 0
-Note = ℕ × ℕ
+-- an overflow note, or a record in the stash, as its fingerprint and its stash bucket
+abbrev pub OverflowNote : Type 0
+OverflowNote = ℕ × ℕ
 
-abbrev pub how_often : Note → List Note → ℕ
+abbrev pub how_often : OverflowNote → List OverflowNote → ℕ
 how_often note notes = length (filter (λ other. (other.0 == note.0) && (other.1 == note.1)) notes)
 
--- the notes on the four overflow places of a bucket that are its own home's (side 0), or those of the home that has
+-- a note slot of a bucket has a note for records of this side
+pub record IsNoteOn (w1 side i : ℕ) : Type 0 where
+  pub used : note_used i w1 ≡ 1
+  pub on_side : note_member i w1 ≡ side
+
+-- the notes on the four note slots of a bucket that are its own home's (side 0), or those of the home that has
 -- it as its probing bucket (side 1), where each place is used or not, is of a side, and has a fingerprint and an index
-abbrev pub notes_on : (used side_of finger_on index_on : ℕ → ℕ) → ℕ → List Note
+abbrev pub notes_on : (used side_of finger_on index_on : ℕ → ℕ) → ℕ → List OverflowNote
 notes_on used side_of finger_on index_on side =
     flat_map (λ i. if (used i == 1) && (side_of i == side) then (finger_on i, index_on i) ∷ [] else []) (numbers_below 4)
 
 -- notes and a count are exact for the records of one home that stand in the stash: the notes name different ones
 -- of them, and the count is the number of the others
-pub record AreExact (notes : List Note) (count : ℕ) (stashed : List Note) : Type 0 where
-  pub names_different : (note : Note) → how_often note notes ≤ how_often note stashed
+pub record AreExact (notes : List OverflowNote) (count : ℕ) (stashed : List OverflowNote) : Type 0 where
+  pub names_different : (note : OverflowNote) → how_often note notes ≤ how_often note stashed
   pub counts_others : count + length notes ≡ length stashed

@@ -1,10 +1,11 @@
 //! Words and fields determine each other, and the words that are stored of one slot leave the others.
 
-ghost use Rattle.std.specs.Prelude.{◌≡◌, ℕ, ◌<◌, ◌≤◌, slice_index};
+ghost use Rattle.std.specs.Prelude.{◌≡◌, ℕ, ◌^◌, ◌<◌, ◌≤◌, slice_index};
 ghost use Rattle.word_bits.specs.Bits.{bits};
 ghost use Rattle.bucket_meta.specs.MetaWords.{WordsGiveMeta, MetaGivesWords};
-ghost use Rattle.bucket_meta.specs.Marks.{inserted_mark, removed_mark, with_finger, TakesSlot, FreesSlot, SetsFinger, SameNotes};
-ghost use Rattle.bucket_meta.specs.Bucket.{record_slots};
+ghost use Rattle.bucket_meta.specs.Marks.{inserted_mark, member_mark, removed_mark, with_finger, TakesSlot, TakesSlotAsMember, FreesSlot, SetsFinger, SameNotes, KeepsUpper};
+ghost use Rattle.bucket_meta.specs.NoteWords.{freed_mark, freed_fingers, FreesPlace};
+ghost use Rattle.bucket_meta.specs.Bucket.{note_slots, record_slots};
 
 use crate::Meta;
 
@@ -33,10 +34,11 @@ pub fn written_of_read(words: [u64; 3]) -> [u64; 3]
     Meta::read(words).write()
 }
 
-/// The metadata word of an insert has its slot taken, and the one of a remove has it free; all that they say of the other
-/// slots is as it was.
+/// The metadata word of an insert has its slot taken, by a member where it says so, and the one of a remove has it free; all that
+/// they say of the other slots is as it was.
 pub fn marks_change_one_slot()
     ensures inserted { (w1 slot : ℕ) → slot < record_slots → TakesSlot w1 slot }
+    ensures member { (w1 slot : ℕ) → slot < record_slots → TakesSlotAsMember w1 slot }
     ensures removed { (w1 slot : ℕ) → slot < record_slots → FreesSlot w1 slot }
 {}
 
@@ -44,6 +46,19 @@ pub fn marks_change_one_slot()
 pub fn marks_keep_notes()
     ensures inserted { (w1 slot : ℕ) → slot < record_slots → SameNotes w1 (inserted_mark w1 slot) }
     ensures removed { (w1 slot : ℕ) → slot < record_slots → SameNotes w1 (removed_mark w1 slot) }
+{}
+
+/// Nor does one change anything above the bits of the slots.
+pub fn marks_keep_the_upper_part()
+    ensures inserted { (w1 slot : ℕ) → w1 < 2 ^ 64 → slot < record_slots → KeepsUpper w1 (inserted_mark w1 slot) }
+    ensures member { (w1 slot : ℕ) → w1 < 2 ^ 64 → slot < record_slots → KeepsUpper w1 (member_mark w1 slot) }
+    ensures removed { (w1 slot : ℕ) → w1 < 2 ^ 64 → slot < record_slots → KeepsUpper w1 (removed_mark w1 slot) }
+{}
+
+/// The words with a note's place freed have that place free, and say of the other places, of the count and of the record slots
+/// what they said.
+pub fn notes_are_freed()
+    ensures { (w1 w3 i : ℕ) → w1 < 2 ^ 64 → i < note_slots → FreesPlace w1 w3 (freed_mark w1 i) (freed_fingers w3 i) i }
 {}
 
 /// A word of fingerprints with a slot's changed has that one there, and those of the other slots as they were.

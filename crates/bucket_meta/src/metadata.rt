@@ -9,24 +9,24 @@ use word_bits::{bits_of, with_bits};
 /// What the three words of metadata of a bucket say.
 ///
 /// Bit `s` of `alloc` and of `member` is of record slot `s`, of 14; bit `i` of `used`, `omember` and
-/// `oindex` is of overflow place `i`, of 4.
+/// `oindex` is of note slot `i`, of 4.
 #[derive(Clone, Copy, Debug, PartialEq, Eq)]
 pub struct Meta {
     /// The record slots that have a record.
     pub alloc: u16,
     /// The record slots whose record stands in its probing bucket.
     pub member: u16,
-    /// The overflow places that hold the note of a record in the stash.
+    /// The note slots that hold the note of a record in the stash.
     pub used: u8,
-    /// The overflow places whose note is of a record whose probing bucket this is.
+    /// The note slots whose note is of a record whose probing bucket this is.
     pub omember: u8,
-    /// For each overflow place, the stash bucket that its note names.
+    /// For each note slot, the stash bucket that its note names.
     pub oindex: u8,
     /// How many records of this bucket stand in the stash without a note.
     pub ocount: u8,
     /// The fingerprints of the record slots.
     pub fps: [u8; 14],
-    /// The fingerprints of the overflow places.
+    /// The fingerprints of the note slots.
     pub ofps: [u8; 4],
     pub ghost alloc_fits: { alloc < 2 ^ 14 },
     pub ghost member_fits: { member < 2 ^ 14 },

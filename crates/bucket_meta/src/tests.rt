@@ -81,3 +81,20 @@ fn places_and_clears_a_member(rt: HostRuntime) {
     assert_eq!(rt; meta.write(), [0, 0xAB, 0]);
     assert_eq!(rt; meta.free_slot(), Some(0));
 }
+
+#[test]
+fn visits_the_stash_buckets_that_notes_name(rt: HostRuntime) {
+    // A note of the home's own with fingerprint 0xA1 in stash bucket 1, and one of the home before with 0xC3 in stash bucket 0.
+    let w1 = (0x5 << 28) + (0x4 << 32) + (0x1 << 36) + (0xC3 << 45);
+    let w3 = 0xA1 << 48;
+    let counted = w1 + (1 << 40);
+    assert_eq!(rt; words::must_visit(w1, w3, 0, 0, 0xA1, 1), true);
+    assert_eq!(rt; words::must_visit(w1, w3, 0, 0, 0xA1, 0), false);
+    assert_eq!(rt; words::must_visit(w1, w3, 0, 0, 0xC3, 0), false);
+    assert_eq!(rt; words::must_visit(0, 0, w1, w3, 0xC3, 0), true);
+    assert_eq!(rt; words::must_visit(0, 0, w1, w3, 0xC3, 1), false);
+    assert_eq!(rt; words::must_visit(0, 0, w1, w3, 0xA1, 1), false);
+    assert_eq!(rt; words::must_visit(counted, w3, 0, 0, 0xEE, 0), true);
+    assert_eq!(rt; words::must_visit(counted, w3, 0, 0, 0xEE, 1), true);
+    assert_eq!(rt; words::must_visit(0, 0, counted, w3, 0xEE, 0), false);
+}

@@ -2,17 +2,23 @@
 //! that loads and stores single words looks at them and changes them here.
 
 ghost use Rattle.std.specs.Prelude.{◌≡◌, ◌≢◌, ◌==◌, ℕ, ◌<◌, ◌≤◌, ◌↔◌, IfSome, IfNone, IsTrue, slice_index, slice_set};
-ghost use Rattle.bucket_meta.specs.Bucket.{lock_of, allocated, member, finger, note_used, note_member, note_index, note_finger, overflow_count, record_slots, overflow_places};
+ghost use Rattle.bucket_meta.specs.Bucket.{lock_of, allocated, member, finger, note_used, note_member, note_index, note_finger, overflow_count, record_slots, note_slots};
 ghost use Rattle.bucket_meta.specs.Search.{is_taken, IsThere, lowest_with, lowest_free};
-ghost use Rattle.bucket_meta.specs.Marks.{inserted_mark, removed_mark, finger_place, with_finger};
+ghost use Rattle.bucket_meta.specs.Notes.{IsNoteOn};
+ghost use Rattle.bucket_meta.specs.Marks.{inserted_mark, member_mark, removed_mark, finger_place, with_finger};
+ghost use Rattle.bucket_meta.specs.Visits.{is_note, is_named, must_visit};
+ghost use Rattle.bucket_meta.specs.NoteWords.{note_place, finger_bits, freed_mark, freed_fingers, lowered_count};
 
 use word_bits::{bits_of, is_set, mask};
+
+/// How many words a bucket has.
+pub const BUCKET_WORDS: usize = 32;
 
 /// How many record slots a bucket has.
 pub const SLOTS: u8 = 14;
 
-/// How many overflow places a bucket has.
-pub const PLACES: u8 = 4;
+/// How many note slots a bucket has.
+pub const NOTE_SLOTS: u8 = 4;
 
 /// Whether a lock word says that its bucket is locked.
 pub fn is_locked(w0: u64) -> bool
@@ -60,7 +66,7 @@ pub fn finger_of(w2: u64, w3: u64, slot: u8) -> u8
 
 /// The lowest taken slot with this key, among a bucket's words by their numbers in it.
 #[tactic(auto, using(crate::proofs::Search::with_found, crate::proofs::Search::with_bit, crate::proofs::Search::with_key, crate::proofs::Search::with_end))]
-pub fn lowest_with(words: &[u64; 32], key: u64) -> Option<u8>
+pub fn lowest_with(words: &[u64; BUCKET_WORDS], key: u64) -> Option<u8>
     ensures is { result ≡ lowest_with words.now key }
     ensures there { IfSome result (λ slot. (slot < record_slots) × IsThere words.now key slot) }
     ensures nowhere { IfNone result ((slot : ℕ) → slot < record_slots → IsThere words.now key slot → ⊥) }
@@ -96,6 +102,14 @@ pub fn inserted_mark(w1: u64, slot: u8) -> u64
     (w1 | mask(slot)) & !mask(14 + slot)
 }
 
+/// The metadata word with the slot taken, by a record that stands in its probing bucket.
+pub fn member_mark(w1: u64, slot: u8) -> u64
+    ensures { result ≡ member_mark w1 slot }
+{
+    let slot = u32::from(slot);
+    w1 | mask(slot) | mask(14 + slot)
+}
+
 /// The metadata word with the slot free.
 pub fn removed_mark(w1: u64, slot: u8) -> u64
     ensures { result ≡ removed_mark w1 slot }
@@ -121,53 +135,61 @@ pub fn with_finger(word: u64, slot: u8, finger: u8) -> u64
     u64::from_le_bytes(bytes)
 }
 
-/// A bucket's words with one changed; a number past them changes none.
-pub fn with_word(words: &[u64; 32], at: u8, value: u64) -> [u64; 32]
-    ensures { result ≡ slice_set words.now at value }
+/// Puts a word among a bucket's words, where they stand; a number past them changes none.
+pub fn set_word(words: &mut [u64; BUCKET_WORDS], at: u8, value: u64)
+    ensures { words.new ≡ slice_set words.old at value }
 {
-    let mut changed = *words;
-    if at < 32 {
-        changed[usize::from(at)] = value;
+    let at = usize::from(at);
+    if at < BUCKET_WORDS {
+        words[at] = value;
     }
-    changed
 }
 
 // ---- overflow notes
 
-/// Whether an overflow place holds a note.
-pub fn has_note(w1: u64, place: u8) -> bool
-    requires { place < overflow_places }
-    ensures { result ≡ (note_used place w1 == 1) }
+/// Whether a note slot holds a note.
+pub fn has_note(w1: u64, note_slot: u8) -> bool
+    requires { note_slot < note_slots }
+    ensures { result ≡ (note_used note_slot w1 == 1) }
 {
-    is_set(w1, 28 + u32::from(place))
+    is_set(w1, 28 + u32::from(note_slot))
 }
 
-/// Whether the note on an overflow place is of a record whose probing bucket this is.
-pub fn is_note_of_member(w1: u64, place: u8) -> bool
-    requires { place < overflow_places }
-    ensures { result ≡ (note_member place w1 == 1) }
+/// Whether the note on a note slot is of a record whose probing bucket this is.
+pub fn is_note_of_member(w1: u64, note_slot: u8) -> bool
+    requires { note_slot < note_slots }
+    ensures { result ≡ (note_member note_slot w1 == 1) }
 {
-    is_set(w1, 32 + u32::from(place))
+    is_set(w1, 32 + u32::from(note_slot))
 }
 
-/// The stash bucket that the note on an overflow place names, 0 or 1.
-pub fn note_index_of(w1: u64, place: u8) -> u8
-    requires { place < overflow_places }
-    ensures is { result ≡ note_index place w1 }
+/// Whether a note slot holds a note of this side: 0 for records whose home this bucket is, 1 for those whose probing bucket
+/// it is.
+pub fn is_note_on(w1: u64, note_slot: u8, side: u64) -> bool
+    requires { note_slot < note_slots }
+    ensures { IsTrue result ↔ IsNoteOn w1 side note_slot }
+{
+    has_note(w1, note_slot) && u64::from(is_note_of_member(w1, note_slot)) == side
+}
+
+/// The stash bucket that the note on a note slot names, 0 or 1.
+pub fn note_index_of(w1: u64, note_slot: u8) -> u8
+    requires { note_slot < note_slots }
+    ensures is { result ≡ note_index note_slot w1 }
     ensures stash { result < 2 }
 {
-    bits_of(w1, 36 + u32::from(place), 1) as u8
+    bits_of(w1, 36 + u32::from(note_slot), 1) as u8
 }
 
-/// The fingerprint of the note on an overflow place: 0 and 1 stand in word 3 of the bucket, 2 and 3 in word 1.
-pub fn note_finger_of(w1: u64, w3: u64, place: u8) -> u8
-    requires { place < overflow_places }
-    ensures { result ≡ note_finger place w1 w3 }
+/// The fingerprint of the note on a note slot: 0 and 1 stand in word 3 of the bucket, 2 and 3 in word 1.
+pub fn note_finger_of(w1: u64, w3: u64, note_slot: u8) -> u8
+    requires { note_slot < note_slots }
+    ensures { result ≡ note_finger note_slot w1 w3 }
 {
-    if place < 2 {
-        bits_of(w3, 48 + 8 * u32::from(place), 8) as u8
+    if note_slot < 2 {
+        bits_of(w3, 48 + 8 * u32::from(note_slot), 8) as u8
     } else {
-        bits_of(w1, 45 + 8 * u32::from(place - 2), 8) as u8
+        bits_of(w1, 45 + 8 * u32::from(note_slot - 2), 8) as u8
     }
 }
 
@@ -179,9 +201,106 @@ pub fn overflow_count_of(w1: u64) -> u8
     bits_of(w1, 40, 5) as u8
 }
 
-/// Whether no overflow place holds a note.
+/// Whether no note slot holds a note.
 pub fn has_no_note(w1: u64) -> bool
-    ensures { IsTrue result ↔ ((i : ℕ) → i < overflow_places → note_used i w1 ≡ 0) }
+    ensures { IsTrue result ↔ ((i : ℕ) → i < note_slots → note_used i w1 ≡ 0) }
 {
-    bits_of(w1, 28, u32::from(PLACES)) == 0
+    bits_of(w1, 28, u32::from(NOTE_SLOTS)) == 0
+}
+
+/// 1 where the note on an note slot is of a record whose probing bucket this is, else 0.
+fn note_side_of(w1: u64, place: u8) -> u8
+    requires { place < note_slots }
+    ensures { result ≡ note_member place w1 }
+{
+    bits_of(w1, 32 + u32::from(place), 1) as u8
+}
+
+/// Whether an note slot has a note of this side, fingerprint and stash bucket.
+fn is_note(w1: u64, w3: u64, side: u8, finger: u8, index: u8, place: u8) -> bool
+    requires { place < note_slots }
+    ensures { result ≡ is_note w1 w3 side finger index place }
+{
+    has_note(w1, place)
+        && note_side_of(w1, place) == side
+        && note_index_of(w1, place) == index
+        && note_finger_of(w1, w3, place) == finger
+}
+
+/// Whether one of the four has, by words 1 and 3 of the bucket.
+fn is_named(w1: u64, w3: u64, side: u8, finger: u8, index: u8) -> bool
+    ensures { result ≡ is_named w1 w3 side finger index }
+{
+    is_note(w1, w3, side, finger, index, 0)
+        || is_note(w1, w3, side, finger, index, 1)
+        || is_note(w1, w3, side, finger, index, 2)
+        || is_note(w1, w3, side, finger, index, 3)
+}
+
+/// Whether stash bucket `index`, 0 or 1, is to be visited for a fingerprint, by words 1 and 3 of the home bucket, `w1` and
+/// `w3`, and of the probing bucket, `u1` and `u3`: the home has records there without a note, or a note names both.
+pub fn must_visit(w1: u64, w3: u64, u1: u64, u3: u64, finger: u8, index: u8) -> bool
+    ensures { result ≡ must_visit w1 w3 u1 u3 finger index }
+{
+    overflow_count_of(w1) > 0
+        || is_named(w1, w3, 0, finger, index)
+        || is_named(u1, u3, 1, finger, index)
+}
+
+/// The lowest note slot with a note of this side, fingerprint and stash bucket.
+pub fn note_place(w1: u64, w3: u64, side: u8, finger: u8, index: u8) -> Option<u8>
+    ensures is { result ≡ note_place w1 w3 side finger index }
+    ensures within { IfSome result (λ place. place < note_slots) }
+{
+    if is_note(w1, w3, side, finger, index, 0) {
+        Some(0)
+    } else if is_note(w1, w3, side, finger, index, 1) {
+        Some(1)
+    } else if is_note(w1, w3, side, finger, index, 2) {
+        Some(2)
+    } else if is_note(w1, w3, side, finger, index, 3) {
+        Some(3)
+    } else {
+        None
+    }
+}
+
+/// The bits of the metadata word that have the fingerprint of an note slot.
+fn finger_bits(place: u8) -> u64
+    ensures { result ≡ finger_bits place }
+{
+    match place {
+        2 => 0xFF << 45,
+        3 => 0xFF << 53,
+        _ => 0,
+    }
+}
+
+/// The metadata word with an note slot freed: all that it has of it is 0.
+pub fn freed_mark(w1: u64, place: u8) -> u64
+    ensures { result ≡ freed_mark w1 place }
+{
+    let place_bits = u32::from(place);
+    w1 & !mask(28 + place_bits)
+        & !mask(32 + place_bits)
+        & !mask(36 + place_bits)
+        & !finger_bits(place)
+}
+
+/// Word 3 with that place freed: the fingerprints of places 0 and 1 stand there, and become 0.
+pub fn freed_fingers(w3: u64, place: u8) -> u64
+    ensures { result ≡ freed_fingers w3 place }
+{
+    match place {
+        0 => with_finger(w3, 6, 0),
+        1 => with_finger(w3, 7, 0),
+        _ => w3,
+    }
+}
+
+/// The metadata word with one less of the records that stand in the stash without a note; there has to be one.
+pub fn lowered_count(w1: u64) -> u64
+    ensures { result ≡ lowered_count w1 }
+{
+    w1.saturating_sub(1 << 40)
 }
