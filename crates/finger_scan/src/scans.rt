@@ -3,6 +3,7 @@
 ghost use Rattle.std.specs.Prelude.{◌^◌, ◌<◌};
 ghost use Rattle.finger_scan.specs.Scan.{IsScanOf};
 
+use bucket_meta::words;
 use std::simd::prelude::*;
 
 /// The record slots of a bucket, as a set.
@@ -12,7 +13,7 @@ const SLOTS: u64 = 0x3FFF;
 ///
 /// The fingerprints are compared as lanes of one vector of 16. The last two lanes are no slots, and
 /// are left out of the answer.
-pub fn scan(fps: [u8; 14], byte: u8) -> u16
+pub fn scan(fps: [u8; words::SLOTS as usize], byte: u8) -> u16
     ensures scan { IsScanOf fps byte result }
     ensures within { result < 2 ^ 14 }
 {
@@ -25,7 +26,7 @@ pub fn scan(fps: [u8; 14], byte: u8) -> u16
 }
 
 /// What [`scan`] gives, by a loop over the fingerprints.
-pub fn scan_plain(fps: [u8; 14], byte: u8) -> u16
+pub fn scan_plain(fps: [u8; words::SLOTS as usize], byte: u8) -> u16
     ensures scan { IsScanOf fps byte result }
     ensures within { result < 2 ^ 14 }
 {

@@ -7,10 +7,10 @@ use Rattle.std.proofs.lemmas.List.Elements.{filter-append}
 use Rattle.std.proofs.lemmas.Nat.Bits.{bit_at-zero}
 use Rattle.bucket_meta.specs.declared.metadata.Meta.{Meta}
 use Rattle.word_bits.specs.Bits.{bit}
-use Rattle.bucket_meta.specs.Notes.{Note, AreExact}
+use Rattle.bucket_meta.specs.Notes.{OverflowNote, AreExact}
 use Rattle.stash.specs.Exact.{notes_at, notes_of, IsExactFor}
 use Rattle.stash.specs.Noted.{IsNotedIn, IsNotedInSegment, AreNotedInOrder}
-use Rattle.stash.specs.Places.{place_at, IsBare}
+use Rattle.stash.specs.NoteSlots.{note_slot_at, IsBare}
 use Rattle.stash.specs.Segment.{Stashed, of_home, bucket, IsExactSegment}
 use Rattle.hash_word.specs.Hash.{probing_of}
 use Rattle.stash.proofs.Counts.{same_pieces}
@@ -22,7 +22,7 @@ use Rattle.stash.proofs.Pieces.{piece, piece_of_unused}
 pub of_home-append : (a b : List Stashed) (home : ℕ) → of_home (a ++ b) home ≡ of_home a home ++ of_home b home
 of_home-append a b home =
     let passes : Stashed → Bool = λ entry. entry.0 == home in
-    let note_in_stash : Stashed → Note = λ entry. (entry.1, entry.2) in
+    let note_in_stash : Stashed → OverflowNote = λ entry. (entry.1, entry.2) in
     ap (λ entries. map note_in_stash entries) (filter-append passes a b) ∙ map-append note_in_stash (filter passes a) (filter passes b)
 
 own_alone : (home finger index : ℕ) → of_home ((home, finger, index) ∷ []) home ≡ (finger, index) ∷ []
@@ -80,18 +80,18 @@ changed_two R metas home next own probe b d long home_in next_in apart at_home a
     ]
 
 -- the data of a home whose notes, count and records are as they were is exact as it was
-exact_along : (home home2 probe probe2 : Meta) (stashed stashed2 : List Note) → notes_at home2 0 ≡ notes_at home 0 → notes_at probe2 1 ≡ notes_at probe 1
+exact_along : (home home2 probe probe2 : Meta) (stashed stashed2 : List OverflowNote) → notes_at home2 0 ≡ notes_at home 0 → notes_at probe2 1 ≡ notes_at probe 1
     → home2.ocount ≡ home.ocount → stashed2 ≡ stashed → IsExactFor home probe stashed → IsExactFor home2 probe2 stashed2
 exact_along home home2 probe probe2 stashed stashed2 own other count records exact =
-    let P : List Note → Type 0 = λ notes. AreExact notes home2.ocount stashed2 in
+    let P : List OverflowNote → Type 0 = λ notes. AreExact notes home2.ocount stashed2 in
     let Q : ℕ → Type 0 = λ n. AreExact (notes_of home probe) n stashed2 in
-    let R : List Note → Type 0 = λ held. AreExact (notes_of home probe) home.ocount held in
+    let R : List OverflowNote → Type 0 = λ held. AreExact (notes_of home probe) home.ocount held in
     let notes : notes_of home2 probe2 ≡ notes_of home probe = ap (λ front. front ++ notes_at probe2 1) own ∙ ap (λ back. notes_at home 0 ++ back) other in
     subst P (sym notes) (subst Q (sym count) (subst R (sym records) exact))
 
 -- a home's bucket and its probing bucket after one more of its records was noted
-pub record IsNoted (own probe own2 probe2 : Meta) (note : Note) : Type 0 where
-  pub exact : (stashed : List Note) → IsExactFor own probe stashed → IsExactFor own2 probe2 (note ∷ stashed)
+pub record IsNoted (own probe own2 probe2 : Meta) (note : OverflowNote) : Type 0 where
+  pub exact : (stashed : List OverflowNote) → IsExactFor own probe stashed → IsExactFor own2 probe2 (note ∷ stashed)
   pub home_before : notes_at own2 1 ≡ notes_at own 1
   pub home_after : notes_at probe2 0 ≡ notes_at probe 0
   pub count_after : probe2.ocount ≡ probe.ocount
@@ -128,7 +128,7 @@ noted_own : (metas : List Meta) (home next : ℕ) (own probe own2 probe2 : Meta)
     → (records : List Stashed) (d : Meta) → IsExactFor (bucket metas home d) (bucket metas next d) (of_home records home)
     → IsExactFor (bucket (set (set metas home own2) next probe2) home d) (bucket (set (set metas home own2) next probe2) next d) (of_home (records ++ (home, finger, index) ∷ []) home)
 noted_own metas home next own probe own2 probe2 finger index long home_in next_in apart is_own is_probe noted records d exact =
-    let note : Note = (finger, index) in
+    let note : OverflowNote = (finger, index) in
     let held = of_home records home in
     let later = set (set metas home own2) next probe2 in
     let own_now = home_now metas home next own2 probe2 d long home_in next_in apart in
@@ -196,8 +196,8 @@ count_at_most metas records b d exact within =
 
 bare_notes : (meta : Meta) (side : ℕ) → IsBare meta → notes_at meta side ≡ []
 bare_notes meta side bare =
-    same_pieces (λ i. []) (λ i. piece side (place_at meta i)) 4
-    (λ i within. piece_of_unused side (place_at meta i) (ap (λ n. bit i n) bare.used ∙ bit_at-zero i))
+    same_pieces (λ i. []) (λ i. piece side (note_slot_at meta i)) 4
+    (λ i within. piece_of_unused side (note_slot_at meta i) (ap (λ n. bit i n) bare.used ∙ bit_at-zero i))
 
 pub exact_bare : (metas : List Meta) → ((b : ℕ) (d : Meta) → b < 64 → IsBare (bucket metas b d)) → IsExactSegment metas []
 exact_bare metas bare b d within =
@@ -205,12 +205,12 @@ exact_bare metas bare b d within =
     let probe = bucket metas (probing_of b) d in
     let none : notes_of home probe ≡ [] =
     ap (λ front. front ++ notes_at probe 1) (bare_notes home 0 (bare b d within)) ∙ bare_notes probe 1 (bare (probing_of b) d (next_within b)) in
-    let P : List Note → Type 0 = λ notes. AreExact notes home.ocount [] in
+    let P : List OverflowNote → Type 0 = λ notes. AreExact notes home.ocount [] in
     subst P (sym none) (record { names_different = λ note. omega arith; counts_others = omega (arith, (bare b d within).ocount) })
 
 -- ---- records noted in turn
 
-noted_along : (own own' probe probe' own2 own2' probe2 probe2' : Meta) (note : Note) → own' ≡ own → probe' ≡ probe → own2' ≡ own2 → probe2' ≡ probe2
+noted_along : (own own' probe probe' own2 own2' probe2 probe2' : Meta) (note : OverflowNote) → own' ≡ own → probe' ≡ probe → own2' ≡ own2 → probe2' ≡ probe2
     → IsNotedIn own probe own2 probe2 note → IsNotedIn own' probe' own2' probe2' note
 noted_along own own' probe probe' own2 own2' probe2 probe2' note a b c d noted =
     let P : Meta → Type 0 = λ m. IsNotedIn m probe own2 probe2 note in

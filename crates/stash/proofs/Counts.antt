@@ -4,28 +4,28 @@ use Rattle.std.specs.List.{flat_map}
 use Rattle.std.proofs.lemmas.Bool.{cases_lt}
 use Rattle.std.proofs.lemmas.Grind.{flat_map-append}
 use Rattle.std.proofs.lemmas.List.Elements.{filter-append}
-use Rattle.bucket_meta.specs.Notes.{Note, how_often, numbers_below}
+use Rattle.bucket_meta.specs.Notes.{OverflowNote, how_often, numbers_below}
 
 -- a number of a list that is the sum of those of its two parts
-pub record IsSum (f : List Note → ℕ) : Type 0 where
+pub record IsSum (f : List OverflowNote → ℕ) : Type 0 where
   pub none : f [] ≡ 0
-  pub both : (a b : List Note) → f (a ++ b) ≡ f a + f b
+  pub both : (a b : List OverflowNote) → f (a ++ b) ≡ f a + f b
 
-pub how_often-append : (note : Note) (a b : List Note) → how_often note (a ++ b) ≡ how_often note a + how_often note b
+pub how_often-append : (note : OverflowNote) (a b : List OverflowNote) → how_often note (a ++ b) ≡ how_often note a + how_often note b
 how_often-append note a b =
     ap length (filter-append (λ other. (other.0 == note.0) && (other.1 == note.1)) a b) ∙ length-append _ _
 
-pub how_often-is_sum : (note : Note) → IsSum (how_often note)
+pub how_often-is_sum : (note : OverflowNote) → IsSum (how_often note)
 how_often-is_sum note = record { none = refl; both = how_often-append note }
 
 pub length-is_sum : IsSum length
 length-is_sum = record { none = refl; both = λ a b. length-append a b }
 
 -- the pieces below n + 1 are those below n, and then piece n
-pub pieces_more : (p : ℕ → List Note) (n : ℕ) → flat_map p (numbers_below (suc n)) ≡ flat_map p (numbers_below n) ++ p n
+pub pieces_more : (p : ℕ → List OverflowNote) (n : ℕ) → flat_map p (numbers_below (suc n)) ≡ flat_map p (numbers_below n) ++ p n
 pieces_more p n = flat_map-append p (numbers_below n) (n ∷ []) ∙ ap (λ last. flat_map p (numbers_below n) ++ last) (append-nil (p n))
 
-pub same_pieces : (p q : ℕ → List Note) (n : ℕ) → ((i : ℕ) → i < n → q i ≡ p i) → flat_map q (numbers_below n) ≡ flat_map p (numbers_below n)
+pub same_pieces : (p q : ℕ → List OverflowNote) (n : ℕ) → ((i : ℕ) → i < n → q i ≡ p i) → flat_map q (numbers_below n) ≡ flat_map p (numbers_below n)
 same_pieces p q zero same = refl
 same_pieces p q (suc n) same =
     let before : flat_map q (numbers_below n) ≡ flat_map p (numbers_below n) = same_pieces p q n (λ i within. same i (omega arith)) in
@@ -33,7 +33,7 @@ same_pieces p q (suc n) same =
     pieces_more q n ∙ ap (λ front. front ++ q n) before ∙ ap (λ piece. flat_map p (numbers_below n) ++ piece) last ∙ sym (pieces_more p n)
 
 -- where one piece of those below n is changed, the number changes by what that piece gives
-pub changed_piece : (f : List Note → ℕ) → IsSum f → (p q : ℕ → List Note) (k n : ℕ) → k < n → ((i : ℕ) → i < n → i ≢ k → q i ≡ p i)
+pub changed_piece : (f : List OverflowNote → ℕ) → IsSum f → (p q : ℕ → List OverflowNote) (k n : ℕ) → k < n → ((i : ℕ) → i < n → i ≢ k → q i ≡ p i)
     → f (flat_map q (numbers_below n)) + f (p k) ≡ f (flat_map p (numbers_below n)) + f (q k)
 changed_piece f is p q k zero within same = absurd (omega arith)
 changed_piece f is p q k (suc n) within same =
@@ -54,14 +54,14 @@ changed_piece f is p q k (suc n) within same =
     ]
 
 -- what no piece gives, the list does not
-pub no_piece : (f : List Note → ℕ) → IsSum f → (p : ℕ → List Note) (n : ℕ) → ((i : ℕ) → i < n → f (p i) ≡ 0) → f (flat_map p (numbers_below n)) ≡ 0
+pub no_piece : (f : List OverflowNote → ℕ) → IsSum f → (p : ℕ → List OverflowNote) (n : ℕ) → ((i : ℕ) → i < n → f (p i) ≡ 0) → f (flat_map p (numbers_below n)) ≡ 0
 no_piece f is p zero nothing = is.none
 no_piece f is p (suc n) nothing =
     let all : f (flat_map p (numbers_below (suc n))) ≡ f (flat_map p (numbers_below n)) + f (p n) = ap f (pieces_more p n) ∙ is.both _ _ in
     omega (arith, all, no_piece f is p n (λ i within. nothing i (omega arith)), nothing n (omega arith))
 
 -- a piece gives no more than the list
-pub piece_at_most : (f : List Note → ℕ) → IsSum f → (p : ℕ → List Note) (k n : ℕ) → k < n → f (p k) ≤ f (flat_map p (numbers_below n))
+pub piece_at_most : (f : List OverflowNote → ℕ) → IsSum f → (p : ℕ → List OverflowNote) (k n : ℕ) → k < n → f (p k) ≤ f (flat_map p (numbers_below n))
 piece_at_most f is p k zero within = absurd (omega arith)
 piece_at_most f is p k (suc n) within =
     let all : f (flat_map p (numbers_below (suc n))) ≡ f (flat_map p (numbers_below n)) + f (p n) = ap f (pieces_more p n) ∙ is.both _ _ in

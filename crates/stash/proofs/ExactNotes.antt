@@ -2,26 +2,26 @@
 use Rattle.std.proofs.Common.{◌≡◌, ◌≢◌, ℕ, ◌+◌, ◌-◌, ◌≤◌, ◌<◌, ◌⊎◌, List, [], ◌∷◌, ◌++◌, length, ap, sym, ◌∙◌, refl, inl, inr, arith}
 use Rattle.std.proofs.Math.Nat.{eq-zero-or-pos}
 use Rattle.std.proofs.lemmas.Bool.Decides.{eqb_tells}
-use Rattle.bucket_meta.specs.Notes.{Note, how_often, AreExact}
+use Rattle.bucket_meta.specs.Notes.{OverflowNote, how_often, AreExact}
 use Rattle.stash.proofs.Counts.{IsSum, how_often-append, how_often-is_sum, length-is_sum}
 
 -- one list has what the other has and this note once more
-pub record IsOneMore (more less : List Note) (note : Note) : Type 0 where
-  pub often : (other : Note) → how_often other more ≡ how_often other less + how_often other (note ∷ [])
+pub record IsOneMore (more less : List OverflowNote) (note : OverflowNote) : Type 0 where
+  pub often : (other : OverflowNote) → how_often other more ≡ how_often other less + how_often other (note ∷ [])
   pub longer : length more ≡ length less + 1
 
-pub one_more_by_sums : (more less : List Note) (note : Note) → ((f : List Note → ℕ) → IsSum f → f more ≡ f less + f (note ∷ [])) → IsOneMore more less note
+pub one_more_by_sums : (more less : List OverflowNote) (note : OverflowNote) → ((f : List OverflowNote → ℕ) → IsSum f → f more ≡ f less + f (note ∷ [])) → IsOneMore more less note
 one_more_by_sums more less note sums =
     record { often = λ other. sums (how_often other) (how_often-is_sum other); longer = sums length length-is_sum }
 
-abbrev pair : ℕ → ℕ → Note
+abbrev pair : ℕ → ℕ → OverflowNote
 pair finger index = (finger, index)
 
 same_parts : (f i g j : ℕ) → g ≡ f → j ≡ i → pair f i ≡ pair g j
 same_parts f i g j fingers indexes = cc
 
 -- whether two notes are one is seen by how often the one is in a list of the other
-pub same_or_other : (a b : Note) → ((a ≡ b) × (how_often a (b ∷ []) ≡ 1)) ⊎ ((a ≢ b) × (how_often a (b ∷ []) ≡ 0))
+pub same_or_other : (a b : OverflowNote) → ((a ≡ b) × (how_often a (b ∷ []) ≡ 1)) ⊎ ((a ≢ b) × (how_often a (b ∷ []) ≡ 0))
 same_or_other a b =
     elim (eqb_tells b.0 a.0) [
       | inr fingers ↦ inr (λ e. fingers.1 (ap (λ n. n.0) (sym e)), rw (fingers.0) refl)
@@ -32,11 +32,11 @@ same_or_other a b =
           ]
     ]
 
-pub often_head : (other note : Note) (notes : List Note) → how_often other (note ∷ notes) ≡ how_often other (note ∷ []) + how_often other notes
+pub often_head : (other note : OverflowNote) (notes : List OverflowNote) → how_often other (note ∷ notes) ≡ how_often other (note ∷ []) + how_often other notes
 often_head other note notes = how_often-append other (note ∷ []) notes
 
 -- a list with a note in it is one more than some list
-pub taken : (note : Note) (notes : List Note) → 0 < how_often note notes → (rest : List Note) × IsOneMore notes rest note
+pub taken : (note : OverflowNote) (notes : List OverflowNote) → 0 < how_often note notes → (rest : List OverflowNote) × IsOneMore notes rest note
 taken note [] some = absurd (omega arith)
 taken note (first ∷ notes) some =
     elim (same_or_other note first) [
@@ -61,7 +61,7 @@ taken note (first ∷ notes) some =
     ]
 
 -- a list that has no note more often than another is not longer
-pub not_longer : (few many : List Note) → ((note : Note) → how_often note few ≤ how_often note many) → length few ≤ length many
+pub not_longer : (few many : List OverflowNote) → ((note : OverflowNote) → how_often note few ≤ how_often note many) → length few ≤ length many
 not_longer [] many less = omega arith
 not_longer (first ∷ few) many less =
     let once : how_often first (first ∷ []) ≡ 1 = elim (same_or_other first first) [ inl same ↦ same.1 | inr differs ↦ absurd (differs.0 refl) ] in
@@ -70,13 +70,13 @@ not_longer (first ∷ few) many less =
     omega (arith, inner, rest.1.longer)
 
 -- where no record is without a note, each record in the stash is named
-pub each_is_named : (notes stashed : List Note) (count : ℕ) (note : Note) → AreExact notes count stashed → count ≡ 0 → 0 < how_often note stashed → 0 < how_often note notes
+pub each_is_named : (notes stashed : List OverflowNote) (count : ℕ) (note : OverflowNote) → AreExact notes count stashed → count ≡ 0 → 0 < how_often note stashed → 0 < how_often note notes
 each_is_named notes stashed count note exact none some =
     elim (eq-zero-or-pos (how_often note notes)) [
       | inr named ↦ named
       | inl unnamed ↦
           let rest = taken note stashed some in
-          let less : (other : Note) → how_often other notes ≤ how_often other rest.0 =
+          let less : (other : OverflowNote) → how_often other notes ≤ how_often other rest.0 =
           (λ other. elim (same_or_other other note) [
             | inl same ↦
                 let no_other : how_often other notes ≡ 0 = ap (λ n. how_often n notes) same.0 ∙ unnamed in
@@ -88,7 +88,7 @@ each_is_named notes stashed count note exact none some =
 
 -- ---- a record comes to the stash
 
-pub exact_with_note : (more notes : List Note) (count : ℕ) (note : Note) (stashed : List Note) → IsOneMore more notes note
+pub exact_with_note : (more notes : List OverflowNote) (count : ℕ) (note : OverflowNote) (stashed : List OverflowNote) → IsOneMore more notes note
     → AreExact notes count stashed → AreExact more count (note ∷ stashed)
 exact_with_note more notes count note stashed one exact =
     record {
@@ -96,7 +96,7 @@ exact_with_note more notes count note stashed one exact =
       counts_others = omega (arith, one.longer, exact.counts_others);
     }
 
-pub exact_with_count : (notes : List Note) (count : ℕ) (note : Note) (stashed : List Note) → AreExact notes count stashed → AreExact notes (count + 1) (note ∷ stashed)
+pub exact_with_count : (notes : List OverflowNote) (count : ℕ) (note : OverflowNote) (stashed : List OverflowNote) → AreExact notes count stashed → AreExact notes (count + 1) (note ∷ stashed)
 exact_with_count notes count note stashed exact =
     record {
       names_different = λ other. omega (arith, exact.names_different other, often_head other note stashed);
@@ -105,7 +105,7 @@ exact_with_count notes count note stashed exact =
 
 -- ---- a record leaves the stash
 
-pub exact_without_note : (notes fewer : List Note) (count : ℕ) (note : Note) (rest : List Note) → IsOneMore notes fewer note
+pub exact_without_note : (notes fewer : List OverflowNote) (count : ℕ) (note : OverflowNote) (rest : List OverflowNote) → IsOneMore notes fewer note
     → AreExact notes count (note ∷ rest) → AreExact fewer count rest
 exact_without_note notes fewer count note rest one exact =
     record {
@@ -113,7 +113,7 @@ exact_without_note notes fewer count note rest one exact =
       counts_others = omega (arith, one.longer, exact.counts_others);
     }
 
-pub exact_without_count : (notes : List Note) (count : ℕ) (note : Note) (rest : List Note) → how_often note notes ≡ 0 → 0 < count
+pub exact_without_count : (notes : List OverflowNote) (count : ℕ) (note : OverflowNote) (rest : List OverflowNote) → how_often note notes ≡ 0 → 0 < count
     → AreExact notes count (note ∷ rest) → AreExact notes (count - 1) rest
 exact_without_count notes count note rest unnamed some exact =
     record {
@@ -128,7 +128,7 @@ exact_without_count notes count note rest unnamed some exact =
 
 -- ---- the order of the records does not matter
 
-pub exact_moves : (notes : List Note) (count : ℕ) (note : Note) (stashed : List Note) → AreExact notes count (note ∷ stashed) → AreExact notes count (stashed ++ note ∷ [])
+pub exact_moves : (notes : List OverflowNote) (count : ℕ) (note : OverflowNote) (stashed : List OverflowNote) → AreExact notes count (note ∷ stashed) → AreExact notes count (stashed ++ note ∷ [])
 exact_moves notes count note stashed exact =
     record {
       names_different = λ other. omega (arith, exact.names_different other, often_head other note stashed, how_often-append other stashed (note ∷ []));

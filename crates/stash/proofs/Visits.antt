@@ -5,9 +5,9 @@ use Rattle.std.proofs.Math.Nat.{eq-zero-or-pos}
 use Rattle.std.specs.Prelude.{slice_index_or}
 use Rattle.bucket_meta.specs.declared.metadata.Meta.{Meta}
 use Rattle.word_bits.specs.Bits.{bit}
-use Rattle.bucket_meta.specs.Notes.{Note, how_often}
+use Rattle.bucket_meta.specs.Notes.{OverflowNote, how_often}
 use Rattle.stash.specs.Exact.{notes_at}
-use Rattle.stash.specs.Places.{IsNoteAt, IsLowest, HoldsNowhere}
+use Rattle.stash.specs.NoteSlots.{IsNoteAt, IsLowest, HoldsNowhere}
 use Rattle.stash.proofs.Counts.{how_often-append}
 use Rattle.stash.proofs.ExactNotes.{same_or_other, often_head}
 use Rattle.stash.proofs.Homes.{not_held, held}
@@ -15,14 +15,14 @@ use Rattle.stash.proofs.Homes.{not_held, held}
 pub each_stash : (P : ℕ → Type 0) → P 0 → P 1 → (k : ℕ) → k < 2 → P k
 each_stash P p0 p1 = below_more P 1 (below_more P 0 (below_none P) p0) p1
 
-pub has_by_place : (found : Option ℕ) (answer : Bool) (meta : Meta) (side : ℕ) (note : Note) → answer ≡ is_some found
+pub has_by_note_slot : (found : Option ℕ) (answer : Bool) (meta : Meta) (side : ℕ) (note : OverflowNote) → answer ≡ is_some found
     → MatchOption found (HoldsNowhere (IsNoteAt meta side note)) (IsLowest (IsNoteAt meta side note)) → IsTrue answer ↔ (0 < how_often note (notes_at meta side))
-has_by_place None answer meta side note e nowhere =
+has_by_note_slot None answer meta side note e nowhere =
     (λ yes. absurd (cc (e, yes)), λ some. absurd (omega (arith, some, not_held meta side note nowhere)))
-has_by_place (Some k) answer meta side note e lowest =
+has_by_note_slot (Some k) answer meta side note e lowest =
     (λ yes. held meta side k note lowest.here lowest.within, λ some. e)
 
-pub named_by_second : (note : Note) (first second : List Note) (x y : Bool) → x ≡ false → (IsTrue x ↔ (0 < how_often note first)) → (IsTrue y ↔ (0 < how_often note second))
+pub named_by_second : (note : OverflowNote) (first second : List OverflowNote) (x y : Bool) → x ≡ false → (IsTrue x ↔ (0 < how_often note first)) → (IsTrue y ↔ (0 < how_often note second))
     → IsTrue y ↔ (0 < how_often note (first ++ second))
 named_by_second note first second x y lacks by_first by_second =
     let both = how_often-append note first second in
@@ -46,7 +46,7 @@ set_of_two P first second first_fits second_fits by_first by_second =
     (λ one. by_first.0 (sym low ∙ one), λ holds. low ∙ by_first.1 holds)
     (λ one. by_second.0 (sym high ∙ one), λ holds. high ∙ by_second.1 holds)
 
-often_at : (note : Note) (notes : List Note) (k : ℕ) → k < length notes → slice_index_or notes k note ≡ note → 0 < how_often note notes
+often_at : (note : OverflowNote) (notes : List OverflowNote) (k : ℕ) → k < length notes → slice_index_or notes k note ≡ note → 0 < how_often note notes
 often_at note [] k within here = absurd (omega arith)
 often_at note (first ∷ notes) zero within here =
     elim (same_or_other note first) [
@@ -55,5 +55,5 @@ often_at note (first ∷ notes) zero within here =
     ]
 often_at note (first ∷ notes) (suc k) within here = omega (arith, often_head note first notes, often_at note notes k (omega arith) here)
 
-pub often_contained : (note : Note) (notes : List Note) → Contains notes note → 0 < how_often note notes
+pub often_contained : (note : OverflowNote) (notes : List OverflowNote) → Contains notes note → 0 < how_often note notes
 often_contained note notes there = often_at note notes there.0 there.1 there.2

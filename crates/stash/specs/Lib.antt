@@ -1,4 +1,4 @@
-pub mod Places
+pub mod NoteSlots
 pub mod Exact
 pub mod Segment
 pub mod Noted

@@ -1,18 +1,18 @@
 -- Exact overflow data of a whole segment, of 64 buckets.
 use Rattle.std.specs.Prelude.{ℕ, ◌<◌, ◌==◌, List, slice_index_or, filter, map}
 use Rattle.bucket_meta.specs.declared.metadata.Meta.{Meta}
-use Rattle.bucket_meta.specs.Notes.{Note}
+use Rattle.bucket_meta.specs.Notes.{OverflowNote}
 use Rattle.hash_word.specs.Hash.{probing_of}
 use Rattle.image_layout.specs.Places.{homes, stash_buckets}
 use Rattle.stash.specs.Exact.{IsExactFor}
-use Rattle.stash.specs.Places.{SameSlots}
+use Rattle.stash.specs.NoteSlots.{SameSlots}
 
 -- a record in the stash, as its home bucket, its fingerprint and its stash bucket
 abbrev pub Stashed : Type 0
 Stashed = ℕ × ℕ × ℕ
 
 -- the records of one home
-abbrev pub of_home : List Stashed → ℕ → List Note
+abbrev pub of_home : List Stashed → ℕ → List OverflowNote
 of_home records home = map (λ entry. (entry.1, entry.2)) (filter (λ entry. entry.0 == home) records)
 
 -- a record of one of the 64 homes that stands in one of the stash buckets

@@ -4,8 +4,8 @@
 //! [`rebuild`] makes those of a whole segment anew. `specs/Exact.antt` says what exact means.
 #![tactic(auto)]
 
+mod note_slots;
 mod notes;
-mod places;
 mod segment;
 
 pub use notes::{must_visit, note, unnote};

@@ -2,12 +2,12 @@
 
 ghost use Rattle.std.specs.Prelude.{◌≡◌, ◌≢◌, ℕ, ◌+◌, ◌-◌, ◌^◌, ◌<◌, ◌↔◌, IsTrue, List, ◌∷◌, Contains};
 ghost use Rattle.word_bits.specs.Bits.{bit};
-ghost use Rattle.bucket_meta.specs.Notes.{Note, how_often};
+ghost use Rattle.bucket_meta.specs.Notes.{OverflowNote, how_often};
 ghost use Rattle.stash.specs.Exact.{greatest_count, notes_at, notes_of, IsExactFor, IsNamed, IsNotedOrCounted};
 ghost use Rattle.image_layout.specs.Places.{stash_buckets};
-ghost use Rattle.stash.specs.Places.{IsUnused, IsNoteAt, IsLowest, HoldsNowhere, SameSlots, PlaceBecomes, CountBecomes, note_place, freed_place};
+ghost use Rattle.stash.specs.NoteSlots.{IsUnused, IsNoteAt, IsLowest, HoldsNowhere, SameSlots, NoteSlotBecomes, CountBecomes, filled_note_slot, freed_note_slot};
 
-use crate::places::{fill, free, place_of, unused_place};
+use crate::note_slots::{fill, free, note_slot_of, unused_note_slot};
 use bucket_meta::Meta;
 
 /// The membership bit of a note in its home bucket.
@@ -20,20 +20,20 @@ const BOTH: u8 = 3;
 
 /// Notes a record that went into stash bucket `index`, 0 or 1, in its home bucket and its probing bucket.
 ///
-/// The note takes the lowest unused overflow place of the home bucket, else the lowest unused one of the
-/// probing bucket, and every field of that place is overwritten. Where all eight are used, the home's count of
+/// The note takes the lowest unused note slot of the home bucket, else the lowest unused one of the
+/// probing bucket, and every field of that note slot is overwritten. Where all eight are used, the home's count of
 /// records without a note is raised.
 pub fn note(home: &mut Meta, probe: &mut Meta, finger: u8, index: u8)
     requires stash { index < stash_buckets }
     requires room { home.old.ocount < greatest_count }
 
-    ensures in_home { (place : ℕ) → IsLowest (IsUnused home.old) place
-        → PlaceBecomes home.old home.new place (note_place 0 (finger, index)) × (probe.new ≡ probe.old) }
-    ensures in_probe { HoldsNowhere (IsUnused home.old) → (place : ℕ) → IsLowest (IsUnused probe.old) place
-        → PlaceBecomes probe.old probe.new place (note_place 1 (finger, index)) × (home.new ≡ home.old) }
+    ensures in_home { (note_slot : ℕ) → IsLowest (IsUnused home.old) note_slot
+        → NoteSlotBecomes home.old home.new note_slot (filled_note_slot 0 (finger, index)) × (probe.new ≡ probe.old) }
+    ensures in_probe { HoldsNowhere (IsUnused home.old) → (note_slot : ℕ) → IsLowest (IsUnused probe.old) note_slot
+        → NoteSlotBecomes probe.old probe.new note_slot (filled_note_slot 1 (finger, index)) × (home.new ≡ home.old) }
     ensures counted { HoldsNowhere (IsUnused home.old) → HoldsNowhere (IsUnused probe.old)
         → CountBecomes home.old home.new (home.old.ocount + 1) × (probe.new ≡ probe.old) }
-    ensures exact { (stashed : List Note) → IsExactFor home.old probe.old stashed
+    ensures exact { (stashed : List OverflowNote) → IsExactFor home.old probe.old stashed
         → IsExactFor home.new probe.new ((finger, index) ∷ stashed) }
 
     // What is said of other homes, and of the record slots, stays.
@@ -43,12 +43,12 @@ pub fn note(home: &mut Meta, probe: &mut Meta, finger: u8, index: u8)
     ensures home_slots { SameSlots home.old home.new }
     ensures probe_slots { SameSlots probe.old probe.new }
 {
-    if let Some(place) = unused_place(home) {
-        fill(home, place, OF_HOME, finger, index);
+    if let Some(note_slot) = unused_note_slot(home) {
+        fill(home, note_slot, OF_HOME, finger, index);
         return;
     }
-    if let Some(place) = unused_place(probe) {
-        fill(probe, place, OF_PROBE, finger, index);
+    if let Some(note_slot) = unused_note_slot(probe) {
+        fill(probe, note_slot, OF_PROBE, finger, index);
         return;
     }
     home.ocount += 1;
@@ -56,20 +56,20 @@ pub fn note(home: &mut Meta, probe: &mut Meta, finger: u8, index: u8)
 
 /// Takes away the note of a record that left stash bucket `index`, from its home bucket or its probing bucket.
 ///
-/// The lowest overflow place of the home bucket with this note is freed, else the lowest one of the probing
-/// bucket, and every field of a freed place is 0. Where neither has the note, the home's count of records
+/// The lowest note slot of the home bucket with this note is freed, else the lowest one of the probing
+/// bucket, and every field of a freed note slot is 0. Where neither has the note, the home's count of records
 /// without a note is lowered.
 pub fn unnote(home: &mut Meta, probe: &mut Meta, finger: u8, index: u8)
     requires { IsNotedOrCounted home.old probe.old (finger, index) }
 
-    ensures in_home { (place : ℕ) → IsLowest (IsNoteAt home.old 0 (finger, index)) place
-        → PlaceBecomes home.old home.new place freed_place × (probe.new ≡ probe.old) }
+    ensures in_home { (note_slot : ℕ) → IsLowest (IsNoteAt home.old 0 (finger, index)) note_slot
+        → NoteSlotBecomes home.old home.new note_slot freed_note_slot × (probe.new ≡ probe.old) }
     ensures in_probe { HoldsNowhere (IsNoteAt home.old 0 (finger, index))
-        → (place : ℕ) → IsLowest (IsNoteAt probe.old 1 (finger, index)) place
-        → PlaceBecomes probe.old probe.new place freed_place × (home.new ≡ home.old) }
+        → (note_slot : ℕ) → IsLowest (IsNoteAt probe.old 1 (finger, index)) note_slot
+        → NoteSlotBecomes probe.old probe.new note_slot freed_note_slot × (home.new ≡ home.old) }
     ensures counted { HoldsNowhere (IsNoteAt home.old 0 (finger, index)) → HoldsNowhere (IsNoteAt probe.old 1 (finger, index))
         → CountBecomes home.old home.new (home.old.ocount - 1) × (probe.new ≡ probe.old) }
-    ensures exact { (rest : List Note) → IsExactFor home.old probe.old ((finger, index) ∷ rest)
+    ensures exact { (rest : List OverflowNote) → IsExactFor home.old probe.old ((finger, index) ∷ rest)
         → IsExactFor home.new probe.new rest }
 
     // What is said of other homes, and of the record slots, stays.
@@ -79,12 +79,12 @@ pub fn unnote(home: &mut Meta, probe: &mut Meta, finger: u8, index: u8)
     ensures home_slots { SameSlots home.old home.new }
     ensures probe_slots { SameSlots probe.old probe.new }
 {
-    if let Some(place) = place_of(home, OF_HOME, finger, index) {
-        free(home, place);
+    if let Some(note_slot) = note_slot_of(home, OF_HOME, finger, index) {
+        free(home, note_slot);
         return;
     }
-    if let Some(place) = place_of(probe, OF_PROBE, finger, index) {
-        free(probe, place);
+    if let Some(note_slot) = note_slot_of(probe, OF_PROBE, finger, index) {
+        free(probe, note_slot);
         return;
     }
     home.ocount -= 1;
@@ -94,7 +94,7 @@ pub fn unnote(home: &mut Meta, probe: &mut Meta, finger: u8, index: u8)
 fn has_note(meta: &Meta, member: u8, finger: u8, index: u8) -> bool
     ensures { IsTrue result ↔ (0 < how_often (finger, index) (notes_at meta.now member)) }
 {
-    place_of(meta, member, finger, index).is_some()
+    note_slot_of(meta, member, finger, index).is_some()
 }
 
 /// Whether a note of the home names this fingerprint and stash bucket `index`.
@@ -121,7 +121,7 @@ pub fn must_visit(home: &Meta, probe: &Meta, finger: u8) -> u8
     ensures counted { 0 < home.now.ocount → result ≡ 2 ^ stash_buckets - 1 }
     ensures named { home.now.ocount ≡ 0 → (k : ℕ) → k < stash_buckets
         → (bit k result ≡ 1) ↔ IsNamed home.now probe.now (finger, k) }
-    ensures exact { (stashed : List Note) (k : ℕ) → k < stash_buckets → IsExactFor home.now probe.now stashed
+    ensures exact { (stashed : List OverflowNote) (k : ℕ) → k < stash_buckets → IsExactFor home.now probe.now stashed
         → Contains stashed (finger, k) → bit k result ≡ 1 }
 {
     if home.ocount > 0 {

@@ -6,12 +6,14 @@ ghost use Rattle.stash.specs.Exact.{greatest_count};
 ghost use Rattle.image_layout.specs.Places.{homes, stash_buckets};
 ghost use Rattle.bucket_meta.specs.Bucket.{record_slots};
 ghost use Rattle.stash.specs.Noted.{IsNotedInSegment, IsCleared, IsRebuilt};
-ghost use Rattle.stash.specs.Places.{SameSlots, IsBare};
+ghost use Rattle.stash.specs.NoteSlots.{SameSlots, IsBare};
 ghost use Rattle.stash.specs.Segment.{Stashed, IsStashed, IsExactSegment, SameSlotsInAll, bucket};
 
 use crate::notes::note;
 use bucket_meta::Meta;
+use bucket_meta::words::NOTE_SLOTS;
 use hash_word::probing;
+use image_layout::HOMES;
 
 /// Makes all that a bucket says of the stash 0.
 fn clear_notes(meta: &mut Meta)
@@ -22,11 +24,11 @@ fn clear_notes(meta: &mut Meta)
     meta.omember = 0;
     meta.oindex = 0;
     meta.ocount = 0;
-    meta.ofps = [0; 4];
+    meta.ofps = [0; NOTE_SLOTS as usize];
 }
 
 /// Makes all that the buckets say of the stash 0.
-fn clear_all(metas: &mut [Meta; 64])
+fn clear_all(metas: &mut [Meta; HOMES as usize])
     ensures { IsCleared metas.old metas.new }
 {
     for meta in metas.iter_mut() {
@@ -35,7 +37,7 @@ fn clear_all(metas: &mut [Meta; 64])
 }
 
 /// Notes a record of one home that stands in stash bucket `index`.
-fn note_in(metas: &mut [Meta; 64], home: u8, finger: u8, index: u8)
+fn note_in(metas: &mut [Meta; HOMES as usize], home: u8, finger: u8, index: u8)
     requires home { home < homes }
     requires stash { index < stash_buckets }
     requires room { (d : MetaValue) → (bucket metas.old home d).ocount < greatest_count }
@@ -58,7 +60,7 @@ fn note_in(metas: &mut [Meta; 64], home: u8, finger: u8, index: u8)
 /// All that the buckets say of the stash becomes 0, and then each record is noted, in the order given: a record
 /// is its home bucket (0 to 63), its fingerprint and its stash bucket (0 or 1). The two stash buckets have room
 /// for 28 records.
-pub fn rebuild(metas: &mut [Meta; 64], stashed: &[(u8, u8, u8)])
+pub fn rebuild(metas: &mut [Meta; HOMES as usize], stashed: &[(u8, u8, u8)])
     requires within { All IsStashed stashed.now }
     requires room { length stashed.now ≤ record_slots * stash_buckets }
     ensures rebuilt { IsRebuilt metas.old metas.new stashed.now }

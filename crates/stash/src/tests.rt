@@ -5,6 +5,7 @@ ghost use Rattle.stash.specs.Segment.{IsStashed};
 
 use super::*;
 use bucket_meta::Meta;
+use image_layout::HOMES;
 use std::process::Abort;
 
 /// Keys 28 to 55, whose home is bucket 0 and whose fingerprint is the key: the first 14 stand in stash bucket 0
@@ -45,7 +46,7 @@ fn take(rt: &impl Abort, home: &mut Meta, probe: &mut Meta, finger: u8, index: u
 #[test]
 fn rebuilds_a_full_stash(rt: HostRuntime) {
     let (home, probe) = two_full_buckets();
-    let mut metas = [Meta::read([0, 0, 0]); 64];
+    let mut metas = [Meta::read([0, 0, 0]); HOMES as usize];
     metas[0] = home;
     metas[1] = probe;
     rebuild(&mut metas, &full_stash());
@@ -102,7 +103,7 @@ fn notes_and_takes_away_one_by_one(rt: HostRuntime) {
     assert_eq!(rt;
         home.write(),
         first,
-        "key 28 had place 0 of its home bucket"
+        "key 28 had note slot 0 of its home bucket"
     );
     take(&rt, &mut home, &mut probe, 32, 0);
     let second = [
@@ -113,7 +114,7 @@ fn notes_and_takes_away_one_by_one(rt: HostRuntime) {
     assert_eq!(rt;
         probe.write(),
         second,
-        "key 32 had place 0 of its probing bucket"
+        "key 32 had note slot 0 of its probing bucket"
     );
 }
 
@@ -124,7 +125,7 @@ fn visits_what_notes_name(rt: HostRuntime) {
     assert_eq!(rt;
         must_visit(&home, &probe, 0),
         0,
-        "unused places name nothing"
+        "unused note slots name nothing"
     );
     add(&rt, &mut home, &mut probe, 7, 1);
     assert_eq!(rt; must_visit(&home, &probe, 7), 2);
@@ -139,7 +140,11 @@ fn visits_what_notes_name(rt: HostRuntime) {
     add(&rt, &mut home, &mut probe, 5, 0);
     add(&rt, &mut home, &mut probe, 5, 0);
     add(&rt, &mut home, &mut probe, 9, 1);
-    assert_eq!(rt; probe.omember, 1, "the home bucket's places are used up");
+    assert_eq!(rt;
+        probe.omember,
+        1,
+        "the home bucket's note slots are used up"
+    );
     assert_eq!(rt; must_visit(&home, &probe, 9), 2);
     assert_eq!(rt;
         must_visit(&probe, &empty, 9),

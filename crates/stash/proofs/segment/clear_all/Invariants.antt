@@ -1,6 +1,6 @@
 use Rattle.std.proofs.Common.{ℕ, ◌<◌}
 use Rattle.bucket_meta.specs.declared.metadata.Meta.{Meta}
-use Rattle.stash.specs.Places.{IsBare}
+use Rattle.stash.specs.NoteSlots.{IsBare}
 use Rattle.stash.specs.Segment.{SameSlotsInAll, bucket}
 use Rattle.stash.proofs.segment.clear_all.Given as goal
 
