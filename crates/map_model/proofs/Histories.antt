@@ -4,7 +4,7 @@ use Rattle.std.proofs.lemmas.Bool.Decides.{eqb_tells}
 use Rattle.std.proofs.lemmas.Grind.{flat_map-append}
 use Rattle.std.specs.List.{filter, AllByRecursion}
 use Rattle.map_model.specs.declared.entry.Entry.{Entry}
-use Rattle.map_model.specs.Map.{Map, is_change, after}
+use Rattle.map_model.specs.Map.{Map, is_done, after}
 use Rattle.map_model.specs.Weave.{all_of, draws, drew_at, weave}
 use Rattle.map_model.specs.Legal.{IsReplyOf, replay, InOrder, IsPlace, IsLegal, IsNext, seen_of, seen_after}
 use Rattle.map_model.specs.ByPlaces.{draws_below, map_at, IsLegalByPlaces}
@@ -68,7 +68,7 @@ module _ (start : Map) (lists : List (List Entry)) where
   replay-weave legal = replay-weave_ordered legal.callers legal.places
 
 -- ---- one more entry of one caller
-InOrder-push : (serial seen : ℕ) (es : List Entry) (e : Entry) → InOrder serial seen es → e.serial ≡ serial + length es → e.drew ≡ is_change e.reply → seen_of seen es ≤ e.place
+InOrder-push : (serial seen : ℕ) (es : List Entry) (e : Entry) → InOrder serial seen es → e.serial ≡ serial + length es → e.drew ≡ is_done e.reply → seen_of seen es ≤ e.place
     → InOrder serial seen (es ++ e ∷ [])
 InOrder-push serial seen [] e order numbered drew sees = (omega arith, drew, sees, tt)
 InOrder-push serial seen (x ∷ es) e order numbered drew sees = (order.0, order.1, order.2, InOrder-push (suc serial) (seen_after x) es e order.3 (omega arith) drew sees)

@@ -2,7 +2,7 @@
 use Rattle.std.proofs.Common.{◌≡◌, ℕ, suc, ◌≤◌, ◌+◌, true, false, cond, List, [], ◌∷◌, ◌++◌, length, refl, sym, ap, subst, ◌∙◌, arith, append-nil}
 use Rattle.std.specs.List.{AllByRecursion}
 use Rattle.map_model.specs.declared.entry.Entry.{Entry}
-use Rattle.map_model.specs.Map.{Map, is_change, after}
+use Rattle.map_model.specs.Map.{Map, is_done, after}
 use Rattle.map_model.specs.Weave.{all_of, draws, weave}
 use Rattle.map_model.specs.Legal.{IsReplyOf, replay, IsPlace, IsLegal, IsNext, seen_of, seen_after}
 use Rattle.map_model.specs.ByPlaces.{map_at}
@@ -29,7 +29,7 @@ seen_of-within start es legal = within (draws es) 0 es (omega arith) (subst (λ 
     within count seen (f ∷ fs) so_far places = within count (seen_after f) fs places.0 places.1
 
 -- so an entry at the number of draws comes after all that was seen
-pub IsNext-at_draws : (start : Map) (es : List Entry) (e : Entry) → IsLegal start (es ∷ []) → e.serial ≡ suc (length es) → e.drew ≡ is_change e.reply → e.place ≡ draws es → IsNext es e
+pub IsNext-at_draws : (start : Map) (es : List Entry) (e : Entry) → IsLegal start (es ∷ []) → e.serial ≡ suc (length es) → e.drew ≡ is_done e.reply → e.place ≡ draws es → IsNext es e
 IsNext-at_draws start es e legal serial drew place = record { serial = serial; drew = drew; after_seen = (let seen = seen_of-within start es legal in omega arith) }
 
 -- how many draws there are with one more entry

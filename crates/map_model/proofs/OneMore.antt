@@ -5,7 +5,7 @@ use Rattle.std.proofs.lemmas.Bool.{eqb-true}
 use Rattle.std.proofs.lemmas.Bool.Decides.{eqb_tells}
 use Rattle.std.specs.List.{filter, AllByRecursion}
 use Rattle.map_model.specs.declared.entry.Entry.{Entry}
-use Rattle.map_model.specs.Map.{Map, is_change, after}
+use Rattle.map_model.specs.Map.{Map, is_done, after}
 use Rattle.map_model.specs.Weave.{draws, drew_at}
 use Rattle.map_model.specs.Legal.{IsPlace, IsReplyOf, replay}
 use Rattle.map_model.specs.ByPlaces.{draws_below, map_at, IsRightAtPlace}
@@ -133,7 +133,7 @@ module _ (before behind : List Entry) (e : Entry) where
         moved x within r = subst (λ m. IsReplyOf m x.call x.reply) (sym (map_at-one_more start x.place within)) r
 
     -- after all draws, the map is what the new entry makes of the one before
-    pub map_at-all_draws : (start : Map) → AllByRecursion (IsPlace (draws old)) old → ((n : ℕ) → n < draws old → length (filter (drew_at n) old) ≡ 1) → e.drew ≡ is_change e.reply
+    pub map_at-all_draws : (start : Map) → AllByRecursion (IsPlace (draws old)) old → ((n : ℕ) → n < draws old → length (filter (drew_at n) old) ≡ 1) → e.drew ≡ is_done e.reply
         → map_at start new (draws new) ≡ after (map_at start old (draws old)) e.call e.reply
     map_at-all_draws start places once drew_for_change =
         elim e.drew as (λ b. e.drew ≡ b → map_at start new (draws new) ≡ after (map_at start old (draws old)) e.call e.reply) [

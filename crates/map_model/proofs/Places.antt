@@ -5,7 +5,7 @@ use Rattle.std.proofs.lemmas.Bool.Decides.{eqb_tells}
 use Rattle.std.specs.Prelude.{eqb}
 use Rattle.std.specs.List.{filter, AllByRecursion}
 use Rattle.map_model.specs.declared.entry.Entry.{Entry}
-use Rattle.map_model.specs.Map.{Map, is_change}
+use Rattle.map_model.specs.Map.{Map, is_done}
 use Rattle.map_model.specs.Weave.{drew_at, loaded_at, at_place, weave_below}
 use Rattle.map_model.specs.Legal.{replay, AreReplies}
 use Rattle.map_model.specs.ByPlaces.{draws_below, map_at}
@@ -39,7 +39,7 @@ stands_only all n e h = elim (Has-append_cases (filter (loaded_at n) all) (filte
 -- ---- the map along the weave
 -- an entry drew exactly where it changes the map
 abbrev pub DrewForChange : Entry → Type 0
-DrewForChange e = e.drew ≡ is_change e.reply
+DrewForChange e = e.drew ≡ is_done e.reply
 
 module _ (start : Map) (all : List Entry) (drew_for_change : AllByRecursion DrewForChange all) where
   loaded-quiet : (n : ℕ) → AllByRecursion IsQuiet (filter (loaded_at n) all)

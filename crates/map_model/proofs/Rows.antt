@@ -2,7 +2,7 @@
 use Rattle.std.proofs.Common.{◌≡◌, ◌≤◌, false, cond, List, [], ◌∷◌, ◌++◌, length, refl, sym, ap, subst, ◌∙◌, arith}
 use Rattle.std.specs.List.{AllByRecursion}
 use Rattle.map_model.specs.declared.entry.Entry.{Entry}
-use Rattle.map_model.specs.Map.{Map, is_change, after, changed}
+use Rattle.map_model.specs.Map.{Map, is_done, after, changed}
 use Rattle.map_model.specs.Legal.{IsReplyOf, replay, AreReplies}
 
 pub replay-append : (m : Map) (es fs : List Entry) → replay m (es ++ fs) ≡ replay (replay m es) fs
@@ -21,7 +21,7 @@ AreReplies-parts m (e ∷ es) fs both =
 
 -- ---- entries that change nothing
 abbrev pub IsQuiet : Entry → Type 0
-IsQuiet e = is_change e.reply ≡ false
+IsQuiet e = is_done e.reply ≡ false
 
 pub after-quiet : (m : Map) (e : Entry) → IsQuiet e → after m e.call e.reply ≡ m
 after-quiet m e quiet = ap (λ b. cond b (changed m e.call) m) quiet

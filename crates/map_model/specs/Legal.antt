@@ -6,7 +6,7 @@ use Rattle.map_model.specs.declared.call.Call.TheVariants.{Get, Insert, Update, 
 use Rattle.map_model.specs.declared.entry.Reply.{Reply}
 use Rattle.map_model.specs.declared.entry.Reply.TheVariants.{Found, Absent, Done, Exists, Full, Deep, Spent}
 use Rattle.map_model.specs.declared.entry.Entry.{Entry}
-use Rattle.map_model.specs.Map.{Map, reply_of, is_change, after}
+use Rattle.map_model.specs.Map.{Map, reply_of, is_done, after}
 use Rattle.map_model.specs.Weave.{all_of, draws, drew_at, weave}
 
 -- the calls that may be refused for want of room
@@ -52,7 +52,7 @@ seen_after e = if e.drew then suc e.place else e.place
 abbrev pub InOrder : ℕ → ℕ → List Entry → Type 0
 InOrder serial seen [] = ⊤
 InOrder serial seen (e ∷ es) =
-    (e.serial ≡ serial) × (e.drew ≡ is_change e.reply) × (seen ≤ e.place) × InOrder (suc serial) (seen_after e) es
+    (e.serial ≡ serial) × (e.drew ≡ is_done e.reply) × (seen ≤ e.place) × InOrder (suc serial) (seen_after e) es
 
 -- with so many draws in all, a drawn place is below that number, and a loaded one at most that number
 abbrev pub IsPlace : ℕ → Entry → Type 0
@@ -73,5 +73,5 @@ seen_of seen (e ∷ es) = seen_of (seen_after e) es
 -- an entry that may come next in a caller's list
 pub record IsNext (list : List Entry) (e : Entry) : Type 0 where
   pub serial : e.serial ≡ suc (length list)
-  pub drew : e.drew ≡ is_change e.reply
+  pub drew : e.drew ≡ is_done e.reply
   pub after_seen : seen_of 0 list ≤ e.place

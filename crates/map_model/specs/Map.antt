@@ -37,15 +37,15 @@ reply_of m (Insert k v) = if contains_key m k then Exists else Done
 reply_of m (Update k v) = if contains_key m k then Done else Absent
 reply_of m (Remove k) = if contains_key m k then Done else Absent
 
--- whether a reply says that the map was changed: only Done does
-abbrev pub is_change : Reply → Bool
-is_change (Found v) = false
-is_change Absent = false
-is_change Done = true
-is_change Exists = false
-is_change Full = false
-is_change Deep = false
-is_change Spent = false
+-- whether a reply is Done, which says that the map was changed: no other reply does
+abbrev pub is_done : Reply → Bool
+is_done (Found v) = false
+is_done Absent = false
+is_done Done = true
+is_done Exists = false
+is_done Full = false
+is_done Deep = false
+is_done Spent = false
 
 -- what a call makes of the map where it is done
 abbrev pub changed : Map → Call → Map
@@ -56,4 +56,4 @@ changed m (Remove k) = remove m k
 
 -- the map after a call and its reply: a reply that is no change keeps it
 abbrev pub after : Map → Call → Reply → Map
-after m call reply = if is_change reply then changed m call else m
+after m call reply = if is_done reply then changed m call else m

@@ -1,7 +1,11 @@
 // The calls.
 
-ghost use Rattle.std.specs.Prelude.{◌≡◌};
+ghost use Rattle.std.specs.Prelude.{◌≡◌, IfSome, IsNone};
 ghost use Rattle.map_model.specs.Map.{key_of, value_of};
+ghost use Rattle.map_model.specs.Legal.{IsChange};
+ghost use Rattle.map_model.specs.Changes.{call_of, change_of};
+
+use crate::change::{Change, Deed};
 
 /// A call on the table.
 #[derive(Clone, Copy, Debug, PartialEq, Eq)]
@@ -34,5 +38,20 @@ impl Call {
             Call::Insert(_, value) | Call::Update(_, value) => value,
             Call::Get(_) | Call::Remove(_) => 0,
         }
+    }
+
+    /// The change that the call is; a get is none.
+    pub fn change(self) -> Option<Change>
+        ensures is { result ≡ change_of self }
+        ensures same { IfSome result (λ change. call_of change ≡ self) }
+        ensures none { IsNone result → IsChange self → ⊥ }
+    {
+        let (key, deed) = match self {
+            Call::Get(_) => return None,
+            Call::Insert(key, value) => (key, Deed::Insert(value)),
+            Call::Update(key, value) => (key, Deed::Update(value)),
+            Call::Remove(key) => (key, Deed::Remove),
+        };
+        Some(Change { key, deed })
     }
 }

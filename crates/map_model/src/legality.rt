@@ -2,7 +2,7 @@
 ghost use Rattle.std.specs.Prelude.{◌≡◌, ◌↔◌, map, All, IsTrue, IfOk};
 ghost use Rattle.std.specs.List.{AllByRecursion};
 ghost use Rattle.std.specs.FinMap.{from_entries};
-ghost use Rattle.map_model.specs.Map.{is_change};
+ghost use Rattle.map_model.specs.Map.{is_done};
 ghost use Rattle.map_model.specs.Weave.{all_of, draws};
 ghost use Rattle.map_model.specs.Legal.{InOrder, IsPlace, IsLegal};
 ghost use Rattle.map_model.specs.Apart.{IsRightWoven};

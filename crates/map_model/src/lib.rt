@@ -6,6 +6,7 @@
 
 mod by_place;
 pub mod call;
+pub mod change;
 pub mod entry;
 pub mod laws;
 pub mod legality;
@@ -14,6 +15,7 @@ pub mod no_memory;
 mod plain_map;
 
 pub use call::Call;
+pub use change::{Change, Deed};
 pub use entry::{Entry, Reply, Stop};
 pub use laws::{
     drawn_keeps_legal, later_entries_keep, legal_by_places, loaded_keeps_legal, weave_leaves_draws,

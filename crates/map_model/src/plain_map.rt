@@ -1,7 +1,7 @@
 //! The plain map itself, to try a history on.
 ghost use Rattle.std.specs.Prelude.{◌≡◌, ◌↔◌, IsTrue, IfOk, OnOk};
 ghost use Rattle.std.specs.FinMap as map;
-ghost use Rattle.map_model.specs.Map.{reply_of, is_change, after};
+ghost use Rattle.map_model.specs.Map.{reply_of, is_done, after};
 ghost use Rattle.map_model.specs.Legal.{IsReplyOf, AreReplies};
 
 use crate::call::Call;
@@ -32,7 +32,7 @@ impl Model for PlainMap {
 
 /// Whether a reply says that the map was changed.
 pub fn changes(reply: Reply) -> bool
-    ensures { result ≡ is_change reply }
+    ensures { result ≡ is_done reply }
 {
     matches!(reply, Reply::Done)
 }
