@@ -5,7 +5,7 @@ use Rattle.map_model.specs.declared.call.Call.{Call}
 use Rattle.map_model.specs.declared.call.Call.TheVariants.{Get, Insert, Update, Remove}
 use Rattle.script_text.specs.declared.line.Line.{Line}
 use Rattle.script_text.specs.declared.line.Line.TheVariants.{Call as CallLine, Step, Until, At, Close, Cut}
-use Rattle.script_text.specs.declared.line.Event.TheVariants.{Store, Exchange, Flush, Fence, Draw, End}
+use Rattle.script_text.specs.declared.line.Counted.TheVariants.{Store, Exchange, Flush, Fence, Draw, End}
 use Rattle.script_text.specs.declared.line.Mode.{Mode}
 use Rattle.script_text.specs.declared.line.Mode.TheVariants.{Play, Serve}
 use Rattle.script_text.specs.declared.run_form.Aim.{Aim}

@@ -24,7 +24,7 @@ mod word;
 
 pub use callers::MOST_CALLERS;
 pub use fault::ScriptFault;
-pub use line::{Event, Line, Mode};
+pub use line::{Counted, Line, Mode};
 pub use number::number_of;
 pub use parsing::{MOST_BYTES, MOST_LINES, parse};
 pub use phase::Phase;

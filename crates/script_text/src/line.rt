@@ -13,7 +13,7 @@ pub enum Mode {
 
 /// What a schedule counts of what a caller does.
 #[derive(Clone, Copy, Debug, PartialEq, Eq)]
-pub enum Event {
+pub enum Counted {
     /// A store to a word.
     Store,
     /// An exchange of a word that compares first, whether it won or lost.
@@ -38,7 +38,7 @@ pub enum Line {
     /// This caller does so many events, fewer where its calls run out.
     Step(u8, u64),
     /// This caller runs until it did so many more events of this kind.
-    Until(u8, Event, u64),
+    Until(u8, Counted, u64),
     /// This caller runs until its next store to this word of the image is done.
     At(u8, u64),
     /// The calls run out, and then the image is closed.

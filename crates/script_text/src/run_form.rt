@@ -3,7 +3,7 @@ ghost use Rattle.std.specs.Prelude.{◌≡◌};
 ghost use Rattle.script_text.specs.Readings.{aim_named, run_line, says_run, says_until};
 
 use crate::callers::may_have_runs;
-use crate::line::{Event, Line};
+use crate::line::{Counted, Line};
 use crate::reading::Reading;
 
 const STORE: &[u8] = b"store";
@@ -26,7 +26,7 @@ pub(crate) enum Aim {
     // So many events.
     Steps,
     // So many events of this kind.
-    Events(Event),
+    Events(Counted),
     // A store to a place.
     Place,
 }
@@ -36,17 +36,17 @@ fn aim_of(name: &[u8]) -> Option<Aim>
     ensures { result ≡ aim_named name.now }
 {
     if name == STORE {
-        Some(Aim::Events(Event::Store))
+        Some(Aim::Events(Counted::Store))
     } else if name == EXCHANGE {
-        Some(Aim::Events(Event::Exchange))
+        Some(Aim::Events(Counted::Exchange))
     } else if name == FLUSH {
-        Some(Aim::Events(Event::Flush))
+        Some(Aim::Events(Counted::Flush))
     } else if name == FENCE {
-        Some(Aim::Events(Event::Fence))
+        Some(Aim::Events(Counted::Fence))
     } else if name == DRAW {
-        Some(Aim::Events(Event::Draw))
+        Some(Aim::Events(Counted::Draw))
     } else if name == END {
-        Some(Aim::Events(Event::End))
+        Some(Aim::Events(Counted::End))
     } else if name == AT {
         Some(Aim::Place)
     } else {
