@@ -71,9 +71,9 @@ pub record IsSession (shape : Shape) (first last : List ℕ) (scripts : List (Li
   pub opening : Map
   pub opening_pairs : HasPairsOf shape (slice_index first) opening
   pub legal : IsLegal opening (map history_of tolds)
-  -- the image that is left is sound and of the same kind, and holds that history's map, open calls whole or absent
+  -- the image that is left is sound and of the same shape, and holds that history's map, open calls whole or absent
   pub sound : IsSoundImage shape last
-  pub same_kind : (i : ℕ) → i < 4 → slice_index last i ≡ slice_index first i
+  pub same_shape : (i : ℕ) → i < 4 → slice_index last i ≡ slice_index first i
   pub after_close : ending.closed ≡ true → IsClosed shape last scripts tolds (replay opening (weave (map history_of tolds)))
   pub after_cut : ending.closed ≡ false → IsLeft shape (slice_index last) (replay opening (weave (map history_of tolds))) (undrawn scripts tolds)
   -- refusals had their causes

@@ -48,11 +48,11 @@ module _ (shape : Shape) (word : ImageWords) (s : ℕ) where
   none_in : (b side : ℕ) → (HasNote (word_in shape word s b 1) side → ⊥) → notes_in shape word s b side ≡ []
   none_in b side none =
       all_empty (piece b side) 4
-      (λ i h. nothing_there _ _ _ _ _ (λ used at. none (record { place = i; within = h; used = used; on_side = at })))
+      (λ i h. nothing_there _ _ _ _ _ (λ used at. none (record { note_slot = i; within = h; used = used; on_side = at })))
 
   no_note : (b side : ℕ) → length (notes_in shape word s b side) ≡ 0 → HasNote (word_in shape word s b 1) side → ⊥
   no_note b side none n =
-      something_there _ _ _ _ _ (each_empty (piece b side) 4 none n.place n.within) n.used n.on_side
+      something_there _ _ _ _ _ (each_empty (piece b side) 4 none n.note_slot n.within) n.used n.on_side
 
   abbrev stashed_piece : ℕ → ℕ → ℕ → List (ℕ × ℕ)
   stashed_piece b k r =

@@ -9,10 +9,10 @@ use Rattle.sound_image.specs.Records.{word_in, slot_hash}
 -- the first metadata word of a bucket has a note on this side: 0 for the bucket's own records, 1 for those of the
 -- bucket before it
 pub record HasNote (w1 side : ℕ) : Type 0 where
-  pub place : ℕ
-  pub within : place < 4
-  pub used : note_used place w1 ≡ 1
-  pub on_side : note_member place w1 ≡ side
+  pub note_slot : ℕ
+  pub within : note_slot < 4
+  pub used : note_used note_slot w1 ≡ 1
+  pub on_side : note_member note_slot w1 ≡ side
 
 module _ (shape : Shape) (word : ImageWords) where
   -- nothing is noted or counted of the records of home b

@@ -3,7 +3,7 @@ use Rattle.std.specs.Prelude.{◌≡◌, ℕ, ◌+◌, ◌<◌, ◌==◌, ◌&&�
 use Rattle.std.specs.List.{flat_map}
 use Rattle.hash_word.specs.declared.Kind.TheVariants.{Identity, Mix}
 use Rattle.hash_word.specs.Hash.{hash_of, home_of, finger_of, probing_of}
-use Rattle.bucket_meta.specs.Notes.{Note, numbers_below, notes_on, AreExact}
+use Rattle.bucket_meta.specs.Notes.{OverflowNote, numbers_below, notes_on, AreExact}
 use Rattle.bucket_meta.specs.Bucket.{allocated, note_used, note_member, note_index, note_finger, overflow_count, record_slots}
 use Rattle.image_layout.specs.Places.{Shape, homes, buckets, bucket_at, key_at, value_at}
 use Rattle.sound_image.specs.Segments.{ImageWords, frame_of, Owns}
@@ -55,16 +55,16 @@ module _ (shape : Shape) (word : ImageWords) where
 
   -- OVERFLOW NOTES of a home bucket
   -- the notes in bucket b of records that have it as their home (side 0) or as their probing bucket (side 1)
-  abbrev pub notes_in : ℕ → ℕ → ℕ → List Note
+  abbrev pub notes_in : ℕ → ℕ → ℕ → List OverflowNote
   notes_in s b side =
       notes_on (λ i. note_used i (word_in s b 1)) (λ i. note_member i (word_in s b 1)) (λ i. note_finger i (word_in s b 1) (word_in s b 3))
       (λ i. note_index i (word_in s b 1)) side
 
-  abbrev pub notes_of : ℕ → ℕ → List Note
+  abbrev pub notes_of : ℕ → ℕ → List OverflowNote
   notes_of s b = notes_in s b 0 ++ notes_in s (probing_of b) 1
 
   -- the records of home b in stash bucket k
-  abbrev pub stashed_in : ℕ → ℕ → ℕ → List Note
+  abbrev pub stashed_in : ℕ → ℕ → ℕ → List OverflowNote
   stashed_in s b k =
       flat_map
       (λ r. if (allocated r (word_in s (homes + k) 1) == 1) && (home_of (slot_hash s (homes + k) r) == b)
@@ -72,7 +72,7 @@ module _ (shape : Shape) (word : ImageWords) where
       else [])
       (numbers_below record_slots)
 
-  abbrev pub stashed_of : ℕ → ℕ → List Note
+  abbrev pub stashed_of : ℕ → ℕ → List OverflowNote
   stashed_of s b = stashed_in s b 0 ++ stashed_in s b 1
 
   -- the notes and the count of home b are exact for its records in the stash
