@@ -1,11 +1,3 @@
 pub mod segments
-pub mod WordCores
 pub mod Slots
 pub mod Finding
-pub mod SameCores
-pub mod OneSegment
-pub mod TableSound
-pub mod Pairs
-pub mod stores
-pub mod OneChange
-pub mod WorkedTable

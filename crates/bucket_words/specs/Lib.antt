@@ -5,6 +5,4 @@ pub mod Hits
 pub mod Standing
 pub mod TableChanges
 pub mod HomeNotes
-pub mod Tables
 pub mod Core
-pub mod Changes

@@ -4,7 +4,7 @@ ghost use Rattle.std.specs.Prelude.{◌≡◌, ℕ, ◌+◌, ◌/◌, ◌^◌, �
 ghost use Rattle.trace.specs.Events.{Words, with_word};
 ghost use Rattle.hash_word.specs.Hash.{home_of, finger_of, probing_of};
 ghost use Rattle.bucket_meta.specs.Bucket.{overflow_count, record_slots};
-ghost use Rattle.bucket_meta.specs.Notes.{Note, AreExact};
+ghost use Rattle.bucket_meta.specs.Notes.{OverflowNote, AreExact};
 ghost use Rattle.image_layout.specs.Places.{Shape, bucket_at, homes, stash_buckets, buckets};
 ghost use Rattle.sound_image.specs.Records.{key_hash, word_in, notes_of, stashed_of, HasExactNotes};
 ghost use Rattle.bucket_words.specs.Buckets.{IsTaken};
@@ -39,11 +39,11 @@ pub fn exact_notes_tell_of_the_stash()
 pub fn stash_records_are_noted()
     ensures comes { (shape : Shape) (word other : Words) (s c r k : ℕ) → c < stash_buckets → r < record_slots → ChangesSlot shape word other s (homes + c) r k
         → (IsTaken word (bucket_at shape s (homes + c)) r → ⊥) → Hit shape other s (homes + c) r k
-        → (notes : List Note) (count : ℕ) → AreExact notes count (stashed_of shape word s (home_of (key_hash shape k)))
+        → (notes : List OverflowNote) (count : ℕ) → AreExact notes count (stashed_of shape word s (home_of (key_hash shape k)))
         → AreExact ((finger_of (key_hash shape k), c) ∷ notes) count (stashed_of shape other s (home_of (key_hash shape k))) }
     ensures leaves { (shape : Shape) (word other : Words) (s c r k : ℕ) → c < stash_buckets → r < record_slots → ChangesSlot shape word other s (homes + c) r k
         → Hit shape word s (homes + c) r k → (IsTaken other (bucket_at shape s (homes + c)) r → ⊥)
-        → (notes : List Note) (count : ℕ) → AreExact notes count (stashed_of shape word s (home_of (key_hash shape k)))
+        → (notes : List OverflowNote) (count : ℕ) → AreExact notes count (stashed_of shape word s (home_of (key_hash shape k)))
         → AreExact notes count ((finger_of (key_hash shape k), c) ∷ stashed_of shape other s (home_of (key_hash shape k))) }
     ensures others { (shape : Shape) (word other : Words) (s b r k : ℕ) → ChangesSlot shape word other s b r k
         → (q d : ℕ) → q < shape.segments → (q ≡ s → homes ≤ b → d ≡ home_of (key_hash shape k) → ⊥) → stashed_of shape other q d ≡ stashed_of shape word q d }

@@ -1,5 +1,5 @@
 -- Words of the same cores have the same structure and the same slots in each bucket of each segment.
-use Rattle.std.proofs.Common.{◌≡◌, ℕ, ◌+◌, ◌-◌, ◌*◌, ◌/◌, ◌%◌, ◌<◌, ◌≤◌, Bool, true, false, Option, None, Some, refl, ap, sym, ◌∙◌, arith, inl, inr}
+use Rattle.std.proofs.Common.{◌≡◌, ℕ, zero, suc, ◌+◌, ◌-◌, ◌*◌, ◌/◌, ◌%◌, ◌<◌, ◌≤◌, Bool, true, false, Option, None, Some, refl, ap, sym, ◌∙◌, arith, inl, inr}
 use Rattle.std.specs.Prelude.{◌||◌, if◌then◌else◌}
 use Rattle.std.proofs.lemmas.Bool.{lt-ltb, le-ltb, eq-eqb, ne_eqb}
 use Rattle.trace.specs.Events.{Words}
@@ -7,7 +7,6 @@ use Rattle.bucket_meta.specs.Bucket.{record_slots}
 use Rattle.image_layout.specs.Places.{Shape, first_segment, bucket_at, words_of, block, buckets}
 use Rattle.sound_image.proofs.LowBits.{same_allocated, same_member, same_finger}
 use Rattle.bucket_words.specs.Core.{core_in_bucket, group_of, core_of, core}
-use Rattle.bucket_words.proofs.WordCores.{record_is_whole}
 use Rattle.bucket_words.specs.Slots.{SameSlot}
 use Rattle.sound_image.specs.Records.{key_hash}
 use Rattle.bucket_words.specs.Owners.{IsStructure, owner_of, SameOwners}
@@ -17,6 +16,13 @@ use Rattle.bucket_words.specs.TableChanges.{KeepsTable}
 use Rattle.bucket_words.proofs.segments.Places.{owner_kept, owner_within}
 use Rattle.bucket_words.proofs.segments.Finding.{from_same}
 use Rattle.bucket_words.proofs.segments.NoSlot.{keeps}
+
+record_is_whole : (n x : ℕ) → 4 ≤ n → core_in_bucket n x ≡ x
+record_is_whole zero x h = absurd (omega arith)
+record_is_whole (suc zero) x h = absurd (omega arith)
+record_is_whole (suc (suc zero)) x h = absurd (omega arith)
+record_is_whole (suc (suc (suc zero))) x h = absurd (omega arith)
+record_is_whole (suc (suc (suc (suc n)))) x h = refl
 
 by_first : (a b c : Bool) (x y : ℕ) → a ≡ true → (if a || b || c then x else y) ≡ x
 by_first a b c x y e = rw e refl

@@ -8,7 +8,7 @@ use Rattle.image_layout.specs.Places.{Shape, bucket_at, buckets}
 use Rattle.sound_image.specs.Records.{key_hash}
 use Rattle.bucket_words.specs.Buckets.{value_in, find_below}
 use Rattle.bucket_words.proofs.Finding.{Hits, cases_hits, find_here, find_before, find_zero, find_by_slots}
-use Rattle.bucket_words.proofs.Slots.{SameSlots}
+use Rattle.bucket_words.specs.Slots.{SameSlots}
 use Rattle.bucket_words.specs.Owners.{owner_of}
 use Rattle.bucket_words.specs.Hits.{Hit, HasNone, find_from, find_by, find}
 use Rattle.bucket_words.specs.Standing.{IsTable}

@@ -3,7 +3,7 @@ use Rattle.std.proofs.Common.{◌≡◌, ℕ, zero, suc, ◌+◌, ◌/◌, ◌^�
 use Rattle.std.specs.Prelude.{◌==◌, ◌&&◌, if◌then◌else◌}
 use Rattle.std.proofs.lemmas.Bool.{cases_eq}
 use Rattle.hash_word.specs.Hash.{probing_of}
-use Rattle.bucket_meta.specs.Notes.{Note, notes_on, AreExact}
+use Rattle.bucket_meta.specs.Notes.{OverflowNote, notes_on, AreExact}
 use Rattle.bucket_meta.specs.Bucket.{note_used, note_member, note_index, note_finger, overflow_count}
 use Rattle.stash.proofs.Counts.{same_pieces}
 use Rattle.trace.specs.Events.{Words, with_word}
@@ -12,7 +12,7 @@ use Rattle.sound_image.specs.Records.{word_in, notes_in, notes_of, stashed_of, H
 use Rattle.bucket_words.specs.HomeNotes.{SameHomeNotes}
 use Rattle.bucket_words.proofs.segments.Places.{other_word, this_word}
 
-abbrev pub notes_by : ℕ → ℕ → ℕ → List Note
+abbrev pub notes_by : ℕ → ℕ → ℕ → List OverflowNote
 notes_by w1 w3 side = notes_on (λ i. note_used i w1) (λ i. note_member i w1) (λ i. note_finger i w1 w3) (λ i. note_index i w1) side
 
 module _ (shape : Shape) (word other : Words) (s b : ℕ) where
@@ -65,7 +65,7 @@ module _ (w x : ℕ) (same : x / 2 ^ 28 ≡ w / 2 ^ 28) where
   pub count_same : overflow_count x ≡ overflow_count w
   count_same = omega (arith, same)
 
-  abbrev note_piece : ℕ → ℕ → ℕ → ℕ → ℕ → List Note
+  abbrev note_piece : ℕ → ℕ → ℕ → ℕ → ℕ → List OverflowNote
   note_piece side u m f n = if (u == 1) && (m == side) then (f, n) ∷ [] else []
 
   pub overflow_same : (w3 side : ℕ) → notes_by x w3 side ≡ notes_by w w3 side

@@ -3,7 +3,7 @@ use Rattle.std.proofs.Common.{◌≡◌, ℕ, zero, suc, ◌+◌, ◌<◌, ◌�
 use Rattle.std.specs.Prelude.{◌==◌, ◌&&◌, if◌then◌else◌}
 use Rattle.std.proofs.lemmas.Bool.{cases_eq, eq-eqb, ne_eqb}
 use Rattle.hash_word.specs.Hash.{home_of, finger_of}
-use Rattle.bucket_meta.specs.Notes.{Note, how_often, AreExact}
+use Rattle.bucket_meta.specs.Notes.{OverflowNote, how_often, AreExact}
 use Rattle.bucket_meta.specs.Bucket.{allocated, overflow_count, record_slots}
 use Rattle.stash.proofs.Counts.{IsSum, same_pieces, changed_piece, piece_at_most, how_often-is_sum, length-is_sum, how_often-append}
 use Rattle.stash.proofs.ExactNotes.{same_or_other, often_head, each_is_named}
@@ -18,7 +18,7 @@ use Rattle.bucket_words.specs.TableChanges.{ChangesSlot}
 use Rattle.bucket_words.proofs.segments.OneSlot.{cases_place, new_key, old_key}
 
 -- what a slot of stash bucket c gives home d, by its allocation bit and its key: its note, or nothing
-abbrev pub piece_by : Shape → ℕ → ℕ → ℕ → ℕ → List Note
+abbrev pub piece_by : Shape → ℕ → ℕ → ℕ → ℕ → List OverflowNote
 piece_by shape d c bit key = if (bit == 1) && (home_of (key_hash shape key) == d) then (finger_of (key_hash shape key), c) ∷ [] else []
 
 pub taken_piece : (shape : Shape) (d c bit key : ℕ) → bit ≡ 1 → home_of (key_hash shape key) ≡ d → piece_by shape d c bit key ≡ (finger_of (key_hash shape key), c) ∷ []
@@ -33,11 +33,11 @@ other_piece shape d c bit key apart = elim (cases_eq bit 1) [
   | inr n ↦ free_piece shape d c bit key n
 ]
 
-once_there : (note : Note) → how_often note (note ∷ []) ≡ 1
+once_there : (note : OverflowNote) → how_often note (note ∷ []) ≡ 1
 once_there note = elim (same_or_other note note) [ inl same ↦ same.1 | inr differs ↦ absurd (differs.0 refl) ]
 
 module _ (shape : Shape) (word : Words) (s : ℕ) where
-  abbrev pub pieces : ℕ → ℕ → ℕ → List Note
+  abbrev pub pieces : ℕ → ℕ → ℕ → List OverflowNote
   pieces d c t = piece_by shape d c (allocated t (word_in shape word s (homes + c) 1)) (word (key_at shape s (homes + c) t))
 
   -- A RECORD IN THE STASH is one of its home's there
@@ -49,7 +49,7 @@ module _ (shape : Shape) (word : Words) (s : ℕ) where
 
   in_bucket : (c t k : ℕ) → Hit shape word s (homes + c) t k → 0 < how_often (finger_of (key_hash shape k), c) (stashed_in shape word s (home_of (key_hash shape k)) c)
   in_bucket c t k h =
-      let note : Note = (finger_of (key_hash shape k), c) in
+      let note : OverflowNote = (finger_of (key_hash shape k), c) in
       let most = piece_at_most (how_often note) (how_often-is_sum note) (pieces (home_of (key_hash shape k)) c) t 14 h.slot in
       let one : how_often note (pieces (home_of (key_hash shape k)) c t) ≡ 1 = ap (how_often note) (hit_piece c t k h) ∙ once_there note in
       omega (arith, most, one)
@@ -131,10 +131,10 @@ module _ (shape : Shape) (word other : Words) (s c r k : ℕ) (small : c < stash
   abbrev home : ℕ
   home = home_of (key_hash shape k)
 
-  abbrev note : Note
+  abbrev note : OverflowNote
   note = (finger_of (key_hash shape k), c)
 
-  module _ (f : List Note → ℕ) (is : IsSum f) where
+  module _ (f : List OverflowNote → ℕ) (is : IsSum f) where
     in_this : f (stashed_in shape other s home c) + f (pieces shape word s home c r) ≡ f (stashed_in shape word s home c) + f (pieces shape other s home c r)
     in_this = changed_piece f is (pieces shape word s home c) (pieces shape other s home c) r 14 slot
         (λ t below apart. piece_same shape word other s home c t (change.others s (homes + c) t change.segment (omega (arith, small)) below (λ _ _ e. apart e)))
@@ -162,7 +162,7 @@ module _ (shape : Shape) (word other : Words) (s c r k : ℕ) (small : c < stash
 
   -- A RECORD COMES TO THE STASH
   module _ (free : IsTaken word (bucket_at shape s (homes + c)) r → ⊥) (there : Hit shape other s (homes + c) r k) where
-    pub one_more : (f : List Note → ℕ) → IsSum f → f (stashed_of shape other s home) ≡ f (stashed_of shape word s home) + f (note ∷ [])
+    pub one_more : (f : List OverflowNote → ℕ) → IsSum f → f (stashed_of shape other s home) ≡ f (stashed_of shape word s home) + f (note ∷ [])
     one_more f is =
         let before : f (pieces shape word s home c r) ≡ 0 =
         ap f (free_piece shape home c (allocated r (word_in shape word s (homes + c) 1)) (word (key_at shape s (homes + c) r)) free) ∙ is.none in
@@ -170,7 +170,7 @@ module _ (shape : Shape) (word other : Words) (s c r k : ℕ) (small : c < stash
         omega (arith, before, after, in_both f is)
 
     -- its note is owed
-    pub comes : (notes : List Note) (count : ℕ) → AreExact notes count (stashed_of shape word s home) → AreExact (note ∷ notes) count (stashed_of shape other s home)
+    pub comes : (notes : List OverflowNote) (count : ℕ) → AreExact notes count (stashed_of shape word s home) → AreExact (note ∷ notes) count (stashed_of shape other s home)
     comes notes count exact = record {
       names_different = λ n.
           let more = one_more (how_often n) (how_often-is_sum n) in
@@ -185,7 +185,7 @@ module _ (shape : Shape) (word other : Words) (s c r k : ℕ) (small : c < stash
 
   -- A RECORD LEAVES THE STASH
   module _ (there : Hit shape word s (homes + c) r k) (free : IsTaken other (bucket_at shape s (homes + c)) r → ⊥) where
-    pub one_less : (f : List Note → ℕ) → IsSum f → f (stashed_of shape word s home) ≡ f (stashed_of shape other s home) + f (note ∷ [])
+    pub one_less : (f : List OverflowNote → ℕ) → IsSum f → f (stashed_of shape word s home) ≡ f (stashed_of shape other s home) + f (note ∷ [])
     one_less f is =
         let after : f (pieces shape other s home c r) ≡ 0 =
         ap f (free_piece shape home c (allocated r (word_in shape other s (homes + c) 1)) (other (key_at shape s (homes + c) r)) free) ∙ is.none in
@@ -193,7 +193,7 @@ module _ (shape : Shape) (word other : Words) (s c r k : ℕ) (small : c < stash
         omega (arith, before, after, in_both f is)
 
     -- its note is to be taken away
-    pub leaves : (notes : List Note) (count : ℕ) → AreExact notes count (stashed_of shape word s home) → AreExact notes count (note ∷ stashed_of shape other s home)
+    pub leaves : (notes : List OverflowNote) (count : ℕ) → AreExact notes count (stashed_of shape word s home) → AreExact notes count (note ∷ stashed_of shape other s home)
     leaves notes count exact = record {
       names_different = λ n.
           let less = one_less (how_often n) (how_often-is_sum n) in
