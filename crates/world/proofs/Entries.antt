@@ -8,7 +8,7 @@ use Rattle.image_layout.specs.Places.{Shape}
 use Rattle.map_model.specs.declared.call.Call.{Call}
 use Rattle.map_model.specs.declared.call.Call.TheVariants.{Get}
 use Rattle.map_model.specs.declared.entry.Entry.{Entry}
-use Rattle.map_model.specs.Map.{is_change, shown}
+use Rattle.map_model.specs.Map.{is_done, shown}
 use Rattle.map_model.specs.Weave.{drew_at}
 use Rattle.map_model.specs.Legal.{InOrder, seen_of, seen_after}
 use Rattle.world.specs.Views.{View, Has, At}
@@ -16,7 +16,7 @@ use Rattle.world.specs.History.{Change, Log, map_now, map_when, MayReply, HasFul
 use Rattle.world.specs.Invariant.{total}
 
 -- ---- replies in order
-pub in_order_more : (serial seen : ℕ) (es : List Entry) (e : Entry) → InOrder serial seen es → e.serial ≡ serial + length es → e.drew ≡ is_change e.reply → seen_of seen es ≤ e.place
+pub in_order_more : (serial seen : ℕ) (es : List Entry) (e : Entry) → InOrder serial seen es → e.serial ≡ serial + length es → e.drew ≡ is_done e.reply → seen_of seen es ≤ e.place
     → InOrder serial seen (es ++ e ∷ [])
 in_order_more serial seen [] e order numbered drew sees = (omega (arith, numbered), drew, sees, tt)
 in_order_more serial seen (x ∷ es) e order numbered drew sees = (order.0, order.1, order.2, in_order_more (suc serial) (seen_after x) es e order.3 (omega (arith, numbered)) drew sees)
@@ -90,7 +90,7 @@ pub shown_may : (a : Option ℕ) (k : ℕ) → MayReply a (Get k) (shown a)
 shown_may None k = refl
 shown_may (Some v) k = refl
 
-pub shown_keeps : (a : Option ℕ) → is_change (shown a) ≡ false
+pub shown_keeps : (a : Option ℕ) → is_done (shown a) ≡ false
 shown_keeps None = refl
 shown_keeps (Some v) = refl
 

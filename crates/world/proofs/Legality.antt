@@ -12,7 +12,7 @@ use Rattle.map_model.specs.declared.call.Call.TheVariants.{Get, Insert, Update, 
 use Rattle.map_model.specs.declared.entry.Reply.{Reply}
 use Rattle.map_model.specs.declared.entry.Reply.TheVariants.{Found, Absent, Done, Exists, Full, Deep, Spent}
 use Rattle.map_model.specs.declared.entry.Entry.{Entry}
-use Rattle.map_model.specs.Map.{Map, key_of, shown, reply_of, is_change, changed}
+use Rattle.map_model.specs.Map.{Map, key_of, shown, reply_of, is_done, changed}
 use Rattle.map_model.specs.Weave.{all_of, draws, drew_at, weave}
 use Rattle.map_model.specs.Legal.{IsReplyOf, replay, InOrder, IsPlace, IsLegal, seen_after}
 use Rattle.map_model.specs.ByPlaces.{draws_below, map_at, IsRightAtPlace}
@@ -47,7 +47,7 @@ pub not_shown : (a : Option ℕ) → Done ≡ shown a → ⊥
 not_shown None e = cc
 not_shown (Some v) e = cc
 
-change_is_done : (reply : Reply) → is_change reply ≡ true → reply ≡ Done
+change_is_done : (reply : Reply) → is_done reply ≡ true → reply ≡ Done
 change_is_done (Found v) e = absurd (cc)
 change_is_done Absent e = absurd (cc)
 change_is_done Done e = refl
@@ -109,9 +109,9 @@ all_in_order : (views : List View) → ((j : ℕ) (v : View) → At views j v �
 all_in_order [] h = tt
 all_in_order (v ∷ views) h = (h 0 v refl, all_in_order views (λ j u a. h (suc j) u a))
 
-order_drew : (serial seen : ℕ) (es : List Entry) (e : Entry) → InOrder serial seen es → Has e es → e.drew ≡ is_change e.reply
+order_drew : (serial seen : ℕ) (es : List Entry) (e : Entry) → InOrder serial seen es → Has e es → e.drew ≡ is_done e.reply
 order_drew serial seen [] e o h = absurd h
-order_drew serial seen (x ∷ es) e o h = elim h [ inl q ↦ subst (λ (z : Entry). z.drew ≡ is_change z.reply) (sym q) o.1 | inr r ↦ order_drew (suc serial) (seen_after x) es e o.3 r ]
+order_drew serial seen (x ∷ es) e o h = elim h [ inl q ↦ subst (λ (z : Entry). z.drew ≡ is_done z.reply) (sym q) o.1 | inr r ↦ order_drew (suc serial) (seen_after x) es e o.3 r ]
 
 only_one : (es : List Entry) → length es ≡ 1 → (e : Entry) × (es ≡ e ∷ [])
 only_one [] one = absurd (omega (arith, one))
@@ -128,7 +128,7 @@ module _ (site : Site) (words : Words) (views : List View) (log : Log) (o : Hist
   right : (e : Entry) → IsIn all e → IsRight site.shape site.start log e
   right e h = let w = whose views e h in o.right w.0 w.1 e w.2 w.3
 
-  drew_for_change : (e : Entry) → IsIn all e → e.drew ≡ is_change e.reply
+  drew_for_change : (e : Entry) → IsIn all e → e.drew ≡ is_done e.reply
   drew_for_change e h = let w = whose views e h in order_drew 1 0 w.1.own e (o.in_order w.0 w.1 w.2) w.3
 
   -- what the replay of the draws has is what the history had
@@ -139,7 +139,7 @@ module _ (site : Site) (words : Words) (views : List View) (log : Log) (o : Hist
       let parts = Has-filter_parts (drew_at n) all e (subst (λ (es : List Entry). IsIn es e) (sym one.1) (inl refl)) in
       let tests = and-parts e.drew (eqb e.place n) parts.0 in
       let place : e.place ≡ n = eqb-true e.place n tests.1 in
-      let change : is_change e.reply ≡ true = sym (drew_for_change e parts.1) ∙ tests.0 in
+      let change : is_done e.reply ≡ true = sym (drew_for_change e parts.1) ∙ tests.0 in
       let r = right e parts.1 in
       let m = map_at start all n in
       let done : Done ≡ reply_by (get m (key_of e.call)) e.call =

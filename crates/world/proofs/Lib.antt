@@ -1,10 +1,11 @@
-pub mod stepping
 pub mod Grounds
 pub mod Tables
 pub mod Lists
 pub mod Seats
 pub mod Entries
 pub mod NotedLists
+pub mod holding
 pub mod invariant
 pub mod device
 pub mod Legality
+pub mod stepping

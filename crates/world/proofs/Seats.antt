@@ -11,7 +11,7 @@ use Rattle.image_layout.specs.Volatile.{counter_word}
 use Rattle.map_model.specs.declared.call.Call.{Call}
 use Rattle.map_model.specs.Map.{key_of}
 use Rattle.bucket_words.specs.Core.{core_of}
-use Rattle.world.specs.Site.{Site, IsSite, IsLockWord, IsUnder}
+use Rattle.world.specs.Site.{Site, IsLockWord, IsUnder}
 use Rattle.world.specs.Views.{View, Has, At, HasLock, IsGuarded}
 use Rattle.world.specs.Invariant.{Locks}
 use Rattle.world.specs.Kinds.{without, not_under, on_line, off_line, loosened, of_other_keys}
@@ -40,7 +40,7 @@ module _ (views : List View) (j : ℕ) (v w : View) (at : At views j v) where
       (λ (n : i ≢ j). (u, set_there views j i u w n a, p))
 
 -- ---- who holds a word
-module _ (site : Site) (is : IsSite site) (words : Words) (views : List View) (l : Locks site words views) where
+module _ (site : Site) (words : Words) (views : List View) (l : Locks site words views) where
   pub lock_of : (j : ℕ) (v : View) (lock : ℕ) → At views j v → HasLock v.held lock → IsLockWord site.shape lock
   lock_of j v lock a h = (l.locked j v lock h.0 a h.1).0
 
@@ -50,7 +50,7 @@ module _ (site : Site) (is : IsSite site) (words : Words) (views : List View) (l
       l.alone i j u v g.0 g.1.0 h.1.0 a b g.1.1 (subst (λ (z : ℕ). Has (z, h.1.0) v.held) e h.1.1)
 
   pub guarded_within : (j : ℕ) (v : View) (n : ℕ) → At views j v → IsGuarded v.held n → n < words_of site.shape
-  guarded_within j v n a g = under_within site.shape g.0 n (lock_of j v g.0 a g.1) g.2 is.front.one_segment
+  guarded_within j v n a g = under_within site.shape g.0 n (lock_of j v g.0 a g.1) g.2
 
   pub guarded_no_lock : (j : ℕ) (v : View) (n lock : ℕ) → At views j v → IsGuarded v.held n → IsLockWord site.shape lock → n ≡ lock → ⊥
   guarded_no_lock j v n lock a g k e = lock_apart site.shape g.0 lock (lock_of j v g.0 a g.1) k (subst (λ (z : ℕ). IsUnder g.0 z) e g.2)

@@ -1,40 +1,35 @@
 -- What tables are by the cores of their words, as the parts of the invariant use it.
-use Rattle.std.proofs.Common.{◌≡◌, ℕ, zero, suc, ◌+◌, ◌<◌, ◌≤◌, refl, cond, sym, ap, ◌∙◌, subst, arith}
+use Rattle.std.proofs.Common.{◌≡◌, ℕ, ◌+◌, ◌<◌, refl, cond, sym, ap, ◌∙◌, subst, arith, inl, inr, ◌⊎◌, Some}
+use Rattle.hash_word.specs.Hash.{home_of, probing_of}
 use Rattle.trace.specs.Events.{Words, with_word}
 use Rattle.trace.proofs.Replaced.{cases_at, replaced_other}
-use Rattle.image_layout.specs.Places.{words_of, bucket_at, buckets}
+use Rattle.image_layout.specs.Places.{words_of, bucket_at}
 use Rattle.image_layout.specs.Volatile.{counter_word, power_word}
-use Rattle.bucket_words.proofs.WordCores.{core_before}
-use Rattle.bucket_words.proofs.Slots.{kept_bucket}
-use Rattle.bucket_words.proofs.SameCores.{slots_of_cores, table_of_cores, find_of_home}
-use Rattle.bucket_words.specs.Core.{core_of, core}
-use Rattle.bucket_words.specs.Tables.{IsHomeTable, home_at, find}
-use Rattle.world.specs.Site.{Site, IsSite, IsLockWord, IsUnder}
-use Rattle.world.proofs.Grounds.{home_is_lock, lock_within, lock_core}
+use Rattle.sound_image.specs.Records.{key_hash}
+use Rattle.bucket_words.specs.Core.{core_of, core, SameCoresIn}
+use Rattle.bucket_words.specs.Owners.{HasStructure, SameOwners, owner_of, home_at}
+use Rattle.bucket_words.specs.Standing.{IsTable}
+use Rattle.bucket_words.specs.Hits.{Hit, find}
+use Rattle.bucket_words.specs.TableChanges.{KeepsTable}
+use Rattle.bucket_words.proofs.segments.Places.{owner_kept, home_kept}
+use Rattle.bucket_words.proofs.segments.Deciding.{find_places as places_decide}
+use Rattle.bucket_words.proofs.segments.Cores.{keeps_of_cores, find_of_cores, core_structure, structure_within, hit_of_cores}
+use Rattle.world.specs.Site.{Site, IsLockWord, IsUnder}
+use Rattle.world.proofs.Grounds.{lock_within, lock_core}
 
 -- ---- over a site
-module _ (site : Site) (is : IsSite site) where
-  pub one_segment : site.shape.segments ≡ 1
-  one_segment = is.front.one_segment
+module _ (site : Site) where
+  -- words of the cores of a table are one, with the same pairs
+  pub same_keeps : (word other : Words) → ((i : ℕ) → i < words_of site.shape → core site.shape word i ≡ core site.shape other i) → IsTable site.shape word
+      → KeepsTable site.shape word other
+  same_keeps word other same table = keeps_of_cores site.shape word other table same
 
-  pub same_table : (word other : Words) → ((i : ℕ) → core site.shape word i ≡ core site.shape other i) → IsHomeTable site.shape site.front word → IsHomeTable site.shape site.front other
-  same_table word other same table = table_of_cores site.shape is.shape.some word other site.front same table
+  pub same_table : (word other : Words) → ((i : ℕ) → core site.shape word i ≡ core site.shape other i) → IsTable site.shape word → IsTable site.shape other
+  same_table word other same table = (same_keeps word other (λ i _. same i) table).table
 
   -- what a key has depends on the cores of the image's words
   pub same_find : (word other : Words) (k : ℕ) → ((i : ℕ) → i < words_of site.shape → core site.shape word i ≡ core site.shape other i) → find site.shape word k ≡ find site.shape other k
-  same_find word other k same = sym (find_of_home site.shape is.shape.some word other k
-      (λ n near. same (home_at site.shape k + n) (let w = lock_within site.shape (home_at site.shape k) (home_is_lock site.shape k) one_segment in omega (arith, w, near))))
-
-  -- and on those that lie under its home lock
-  pub find_under : (word other : Words) (k : ℕ) → ((i : ℕ) → IsUnder (home_at site.shape k) i → core site.shape word i ≡ core site.shape other i) → find site.shape word k ≡ find site.shape other k
-  find_under word other k same = sym (find_of_home site.shape is.shape.some word other k at)
-    where
-      at : (n : ℕ) → n < 32 → core site.shape word (home_at site.shape k + n) ≡ core site.shape other (home_at site.shape k + n)
-      at zero near = let e : home_at site.shape k + 0 ≡ home_at site.shape k = omega arith in
-          subst (λ (z : ℕ). core site.shape word z ≡ core site.shape other z) (sym e)
-          (lock_core site.shape (home_at site.shape k) (word (home_at site.shape k)) (home_is_lock site.shape k) one_segment
-          ∙ sym (lock_core site.shape (home_at site.shape k) (other (home_at site.shape k)) (home_is_lock site.shape k) one_segment))
-      at (suc n) near = same (home_at site.shape k + suc n) (omega arith, omega (arith, near))
+  same_find word other k same = sym (find_of_cores site.shape word other same k)
 
   -- a store that keeps its word's core keeps all cores
   pub cores_replaced : (words : Words) (i x : ℕ) → core_of site.shape i x ≡ core_of site.shape i (words i)
@@ -49,7 +44,7 @@ module _ (site : Site) (is : IsSite site) where
 
   -- so does one to a lock word
   pub lock_cores : (words : Words) (lock x : ℕ) → IsLockWord site.shape lock → (n : ℕ) → core site.shape (with_word words lock x) n ≡ core site.shape words n
-  lock_cores words lock x l = cores_replaced words lock x (lock_core site.shape lock x l one_segment ∙ sym (lock_core site.shape lock (words lock) l one_segment))
+  lock_cores words lock x l = cores_replaced words lock x (lock_core site.shape lock x l ∙ sym (lock_core site.shape lock (words lock) l))
 
   -- a draw changes no word of the image
   pub counter_cores : (words : Words) (x n : ℕ) → n < words_of site.shape → core site.shape (with_word words (counter_word site.shape) x) n ≡ core site.shape words n
@@ -58,15 +53,39 @@ module _ (site : Site) (is : IsSite site) where
   pub power_cores : (words : Words) (x n : ℕ) → n < words_of site.shape → core site.shape (with_word words (power_word site.shape) x) n ≡ core site.shape words n
   power_cores words x n within = ap (core_of site.shape n) (replaced_other words (power_word site.shape) x n (λ e. omega (arith, within, e)))
 
-  -- whether words are a table depends on the cores of the image's words
-  pub table_below : (word other : Words) → ((i : ℕ) → i < words_of site.shape → core site.shape word i ≡ core site.shape other i)
-      → IsHomeTable site.shape site.front word → IsHomeTable site.shape site.front other
-  table_below word other same table = record {
-    same_front = λ i below. sym (core_before site.shape i (other i) below) ∙ (sym (same i (let w = within 0 (omega arith) in omega (arith, below, w)))
-        ∙ (core_before site.shape i (word i) below ∙ table.same_front i below));
-    buckets = λ b near. kept_bucket site.shape word other b
-        (slots_of_cores site.shape is.shape.some word other b near (λ n inside. same (bucket_at site.shape 0 b + n) (let w = within b near in omega (arith, inside, w)))) (table.buckets b near);
-  }
-    where
-      within : (b : ℕ) → b < buckets → bucket_at site.shape 0 b + 32 ≤ words_of site.shape
-      within b near = lock_within site.shape (bucket_at site.shape 0 b) (b, near, refl) one_segment
+  -- words that have the structure of the front have the same owners
+  pub same_owner : (word other : Words) → HasStructure site.shape site.front word → HasStructure site.shape site.front other → SameOwners site.shape word other
+  same_owner word other w o = owner_kept site.shape word other (λ i s. o i s ∙ sym (w i s))
+
+  -- the structure is the cores', and so are the owners
+  pub core_structure_same : (word other : Words) → ((i : ℕ) → i < words_of site.shape → core site.shape other i ≡ core site.shape word i) → HasStructure site.shape word other
+  core_structure_same word other same i s = sym (core_structure site.shape i (other i) s) ∙ same i (structure_within site.shape i s) ∙ core_structure site.shape i (word i) s
+
+  pub core_owner : (word other : Words) → ((i : ℕ) → i < words_of site.shape → core site.shape other i ≡ core site.shape word i) → SameOwners site.shape word other
+  core_owner word other same = owner_kept site.shape word other (core_structure_same word other same)
+
+  -- and the places of homes
+  pub same_home : (word other : Words) → ((i : ℕ) → i < words_of site.shape → core site.shape other i ≡ core site.shape word i) → (k : ℕ) → home_at site.shape other k ≡ home_at site.shape word k
+  same_home word other same k = home_kept site.shape word other (core_owner word other same) k
+
+  -- a record stands in all words of the same cores
+  pub same_hit : (word other : Words) → ((i : ℕ) → i < words_of site.shape → core site.shape word i ≡ core site.shape other i) → (s b r k : ℕ) → Hit site.shape word s b r k → Hit site.shape other s b r k
+  same_hit word other same s b r k h = hit_of_cores site.shape word other s b h.segment h.bucket
+      (λ n _ inside. same (bucket_at site.shape s b + n) (let w = lock_within site.shape (bucket_at site.shape s b) (s, b, h.segment, h.bucket, refl) in omega (arith, w, inside))) r k h
+
+  -- WHAT A KEY HAS depends on the buckets where it may stand
+  module _ (word other : Words) (w : IsTable site.shape word) (o : IsTable site.shape other) (s k : ℕ)
+      (own : owner_of site.shape word (key_hash site.shape k) ≡ Some s) (own' : owner_of site.shape other (key_hash site.shape k) ≡ Some s)
+      (home : (i : ℕ) → IsUnder (bucket_at site.shape s (home_of (key_hash site.shape k))) i → core site.shape word i ≡ core site.shape other i)
+      (probing : (i : ℕ) → IsUnder (bucket_at site.shape s (probing_of (home_of (key_hash site.shape k)))) i → core site.shape word i ≡ core site.shape other i)
+      (stash : (c : ℕ) → c < 2 → ((i : ℕ) → IsUnder (bucket_at site.shape s (64 + c)) i → core site.shape word i ≡ core site.shape other i)
+      ⊎ (((t : ℕ) → Hit site.shape word s (64 + c) t k → ⊥) × ((t : ℕ) → Hit site.shape other s (64 + c) t k → ⊥))) where
+    under_bucket : (b : ℕ) → ((i : ℕ) → IsUnder (bucket_at site.shape s b) i → core site.shape word i ≡ core site.shape other i) → SameCoresIn site.shape word other s b
+    under_bucket b same n above inside = same (bucket_at site.shape s b + n) (omega (arith, above), omega (arith, inside))
+
+    pub find_places : find site.shape other k ≡ find site.shape word k
+    find_places = places_decide site.shape word other w o s k own own' (under_bucket (home_of (key_hash site.shape k)) home) (under_bucket (probing_of (home_of (key_hash site.shape k))) probing)
+        (λ c small. elim (stash c small) [
+          | inl same ↦ inl (under_bucket (64 + c) same)
+          | inr none ↦ inr none
+        ])

@@ -2,6 +2,8 @@
 pub mod KeepLocks
 pub mod KeepKnown
 pub mod KeepMedia
+pub mod KeepCopies
+pub mod KeepOverflow
 pub mod KeepPlans
 pub mod KeepHistory
 pub mod KeepRoom

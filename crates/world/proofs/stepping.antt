@@ -1,8 +1,10 @@
 -- What a step and its answer say, what it leaves as it was, and what a caller may do.
 pub mod Answers
 pub mod Steps
-pub mod Holders
+pub mod Readers
 pub mod Reseated
 pub mod Pairs
 pub mod SpentLocks
 pub mod Later
+pub mod Noting
+pub mod Telling

@@ -1,68 +1,203 @@
--- What the holder of a lock has to know of a bucket to make a store there, to refuse a call, or to answer a get: said over
--- the words that it knows, as the conditions of the kinds of step ask it.
-use Rattle.std.specs.Prelude.{◌≡◌, ℕ, ◌+◌, ◌*◌, ◌<◌}
-use Rattle.bucket_meta.specs.Bucket.{allocated, member, finger, record_slots}
-use Rattle.hash_word.specs.Hash.{home_of}
-use Rattle.trace.specs.Events.{Words}
-use Rattle.image_layout.specs.Places.{Shape, bucket_at}
-use Rattle.sound_image.specs.Records.{key_hash}
-use Rattle.map_model.specs.declared.call.Call.{Call}
+-- What the holder of locks has to know of buckets to make a store there, said over the words that it knows.
+use Rattle.std.specs.Prelude.{◌≡◌, ◌≢◌, ◌≤◌, ℕ, ◌+◌, ◌*◌, ◌/◌, ◌%◌, ◌^◌, ◌<◌, ◌⊎◌, [], true, false, None, Some, List}
+use Rattle.bucket_meta.specs.Bucket.{allocated, member, overflow_count, record_slots}
+use Rattle.bucket_meta.specs.Notes.{AreExact}
+use Rattle.bucket_words.specs.Core.{core_of}
+use Rattle.hash_word.specs.Hash.{home_of, probing_of, finger_of}
+use Rattle.trace.specs.Events.{Words, with_word}
+use Rattle.image_layout.specs.Places.{Shape, bucket_at, block, homes, stash_buckets, buckets}
+use Rattle.sound_image.specs.Records.{key_hash, word_in, notes_in, notes_of}
 use Rattle.map_model.specs.declared.call.Call.TheVariants.{Insert, Update, Remove}
+use Rattle.map_model.specs.declared.call.Call.{Call}
 use Rattle.map_model.specs.declared.entry.Reply.{Reply}
 use Rattle.map_model.specs.Map.{key_of}
-use Rattle.bucket_words.specs.Buckets.{value_in}
-use Rattle.bucket_words.specs.Tables.{home_at, find}
-use Rattle.bucket_words.specs.Core.{core_of}
-use Rattle.bucket_words.specs.Changes.{IsReady, Stands}
-use Rattle.bucket_meta.specs.Marks.{SameButSlot}
-use Rattle.world.specs.Site.{Site, IsUnder}
-use Rattle.world.specs.Views.{Note, View, Has, HasLock, IsLoose}
 use Rattle.world.specs.History.{MayReply}
-use Rattle.world.specs.Kinds.{places, IsHarmless, IsPublishing, IsUnplanned, IsKnownReply, May}
+use Rattle.bucket_words.specs.Buckets.{IsTaken, value_in, finger_in}
+use Rattle.bucket_meta.specs.Marks.{SameButSlot}
+use Rattle.bucket_words.specs.HomeNotes.{IsUnnoted}
+use Rattle.bucket_words.specs.Hits.{Hit}
+use Rattle.bucket_words.specs.Standing.{StandsAt}
+use Rattle.bucket_words.specs.TableChanges.{IsReadyAt}
+use Rattle.world.specs.Site.{Site, IsUnder}
+use Rattle.world.specs.Views.{Move, Owed, View, Has, HasLock, IsLoose, IsFirm}
+use Rattle.world.specs.Kinds.{draws_place, stores, repays, publishes, stashes, copies, clears}
+use Rattle.world.specs.Conditions.{HoldsHome, IsUnplanned, IsKnownReply, OwesNone, May, IsOwedOf, IsKept}
 
 -- a view knows word i, and does not have it loose
 pub record KnowsWord (v : View) (i x : ℕ) : Type 0 where
   pub known : Has (i, x) v.known
   pub firm : (y : ℕ) → IsLoose v (i, y) → ⊥
 
--- so it knows the 31 words behind the lock word of bucket b: they are those of `word`
-abbrev pub KnowsBucket : Shape → View → ℕ → Words → Type 0
-KnowsBucket shape v b word = (i : ℕ) → IsUnder (bucket_at shape 0 b) i → KnowsWord v i (word i)
+-- it holds the lock of bucket b of segment s, and knows the 31 words behind it: they are those of `word`
+pub record KnowsBucket (shape : Shape) (v : View) (s b : ℕ) (word : Words) : Type 0 where
+  pub lock : HasLock v.held (bucket_at shape s b)
+  pub words : (i : ℕ) → IsUnder (bucket_at shape s b) i → KnowsWord v i (word i)
 
--- the stores that change no pair
+-- it holds the lock of bucket b of segment s, and knows the three words of metadata behind it: they are those of `word`
+pub record KnowsMeta (shape : Shape) (v : View) (s b : ℕ) (word : Words) : Type 0 where
+  pub lock : HasLock v.held (bucket_at shape s b)
+  pub words : (n : ℕ) → 1 ≤ n → n ≤ 3 → KnowsWord v (bucket_at shape s b + n) (word (bucket_at shape s b + n))
+
+-- a store to word m, of 2 to 31, of bucket b leaves the taken slots and their fingerprints as they are, and the overflow parts of word 3
+pub record SparesTaken (word : Words) (at m x : ℕ) : Type 0 where
+  pub from : 2 ≤ m
+  pub inside : m < block
+  pub keys : (t : ℕ) → t < record_slots → IsTaken word at t → 4 + 2 * t ≢ m
+  pub values : (t : ℕ) → t < record_slots → IsTaken word at t → 5 + 2 * t ≢ m
+  pub fingers : (t : ℕ) → t < record_slots → IsTaken word at t → finger_in (with_word word (at + m) x) at t ≡ finger_in word at t
+  pub overflow : m ≡ 3 → x / 2 ^ 48 % 2 ^ 16 ≡ word (at + 3) / 2 ^ 48 % 2 ^ 16
+
+-- the stores that change no pair: to the key, the value and the fingerprint of a free slot. The words of the slot itself may be
+-- loose: it is enough that the words of metadata are not
 pub record MayPrepare (site : Site) (v : View) : Type 0 where
-  -- to the key or the value of a slot that is free
-  pub key : (b r w1 x : ℕ) → r < record_slots → KnowsWord v (bucket_at site.shape 0 b + 1) w1 → allocated r w1 ≡ 0
-      → IsHarmless site v (bucket_at site.shape 0 b + 4 + 2 * r) x
-  pub value : (b r w1 x : ℕ) → r < record_slots → KnowsWord v (bucket_at site.shape 0 b + 1) w1 → allocated r w1 ≡ 0
-      → IsHarmless site v (bucket_at site.shape 0 b + 5 + 2 * r) x
-  -- of fingerprints that keep those of all taken slots
-  pub low_fingers : (b w1 w2 w3 x : ℕ) → KnowsWord v (bucket_at site.shape 0 b + 1) w1 → KnowsWord v (bucket_at site.shape 0 b + 2) w2
-      → KnowsWord v (bucket_at site.shape 0 b + 3) w3 → ((t : ℕ) → t < record_slots → allocated t w1 ≡ 1 → finger t x w3 ≡ finger t w2 w3)
-      → IsHarmless site v (bucket_at site.shape 0 b + 2) x
-  pub high_fingers : (b w1 w2 w3 x : ℕ) → KnowsWord v (bucket_at site.shape 0 b + 1) w1 → KnowsWord v (bucket_at site.shape 0 b + 2) w2
-      → KnowsWord v (bucket_at site.shape 0 b + 3) w3 → ((t : ℕ) → t < record_slots → allocated t w1 ≡ 1 → finger t w2 x ≡ finger t w2 w3)
-      → IsHarmless site v (bucket_at site.shape 0 b + 3) x
-  -- that keep the core of a word
-  pub same_core : (i x y : ℕ) → KnowsWord v i y → core_of site.shape i x ≡ core_of site.shape i y → IsHarmless site v i x
+  pub store : (s b m x : ℕ) (word : Words) → s < site.shape.segments → b < buckets → KnowsMeta site.shape v s b word → SparesTaken word (bucket_at site.shape s b) m x
+      → May site (stores (bucket_at site.shape s b + m) x) v
 
--- the one store that makes a change
-pub record MayPublish (site : Site) (v : View) : Type 0 where
-  pub insert : (b r k a x : ℕ) (word : Words) → KnowsBucket site.shape v b word → IsReady site.shape word b r k → value_in word (bucket_at site.shape 0 b) r ≡ a
-      → SameButSlot r (word (bucket_at site.shape 0 b + 1)) x → allocated r x ≡ 1 → member r x ≡ 0
-      → IsPublishing site v (Insert k a) (bucket_at site.shape 0 b + 1) x
-  pub update : (b r k a : ℕ) (word : Words) → KnowsBucket site.shape v b word → Stands site.shape word b r k
-      → IsPublishing site v (Update k a) (bucket_at site.shape 0 b + 5 + 2 * r) a
-  pub remove : (b r k x : ℕ) (word : Words) → KnowsBucket site.shape v b word → Stands site.shape word b r k
-      → SameButSlot r (word (bucket_at site.shape 0 b + 1)) x → allocated r x ≡ 0
-      → IsPublishing site v (Remove k) (bucket_at site.shape 0 b + 1) x
+-- the search for a key found nothing: in its home and probing bucket, and in each stash bucket that it had to visit
+pub record FoundNone (site : Site) (v : View) (word : Words) (s k : ℕ) : Type 0 where
+  pub led : HoldsHome site v s k
+  pub unplanned : IsUnplanned site v k
+  pub owes : OwesNone site v s (home_of (key_hash site.shape k))
+  pub home : KnowsBucket site.shape v s (home_of (key_hash site.shape k)) word
+  pub probing : KnowsBucket site.shape v s (probing_of (home_of (key_hash site.shape k))) word
+  pub not_home : (t : ℕ) → Hit site.shape word s (home_of (key_hash site.shape k)) t k → ⊥
+  pub not_probing : (t : ℕ) → Hit site.shape word s (probing_of (home_of (key_hash site.shape k))) t k → ⊥
+  pub stash : (c : ℕ) → c < stash_buckets → (KnowsBucket site.shape v s (homes + c) word × ((t : ℕ) → Hit site.shape word s (homes + c) t k → ⊥))
+      ⊎ IsUnnoted site.shape word s (home_of (key_hash site.shape k)) (finger_of (key_hash site.shape k)) c
+
+-- the search for a key found it in slot r of bucket b
+pub record FoundAt (site : Site) (v : View) (word : Words) (s b r k : ℕ) : Type 0 where
+  pub led : HoldsHome site v s k
+  pub unplanned : IsUnplanned site v k
+  pub still : v.moving ≡ []
+  pub home : KnowsBucket site.shape v s (home_of (key_hash site.shape k)) word
+  pub probing : KnowsBucket site.shape v s (probing_of (home_of (key_hash site.shape k))) word
+  pub there : KnowsBucket site.shape v s b word
+  pub hit : Hit site.shape word s b r k
+
+-- metadata word x says that slot r is taken, and all else as w says it
+pub record TakesSlot (shape : Shape) (b r k w x : ℕ) : Type 0 where
+  pub others : SameButSlot r w x
+  pub taken : allocated r x ≡ 1
+  pub stands : StandsAt shape b k (member r x)
+  pub overflow : x / 2 ^ 28 ≡ w / 2 ^ 28
+
+-- it says that slot r is free, and all else as w says it
+pub record FreesSlot (r w x : ℕ) : Type 0 where
+  pub others : SameButSlot r w x
+  pub free : allocated r x ≡ 0
+  pub overflow : x / 2 ^ 28 ≡ w / 2 ^ 28
+
+-- the stores by which a record appears whose key stood nowhere
+pub record MayPlace (site : Site) (v : View) : Type 0 where
+  -- an insert in the home or the probing bucket
+  pub insert : (s b r k a x : ℕ) (word : Words) → FoundNone site v word s k → b < homes → KnowsBucket site.shape v s b word → IsReadyAt site.shape word s b r k
+      → value_in word (bucket_at site.shape s b) r ≡ a → TakesSlot site.shape b r k (word (bucket_at site.shape s b + 1)) x
+      → May site (publishes (bucket_at site.shape s b + 1) x (Insert k a)) v
+  -- and in the stash, for which a note is owed
+  pub stash : (s c r k a x : ℕ) (word : Words) → FoundNone site v word s k → c < stash_buckets → KnowsBucket site.shape v s (homes + c) word → IsReadyAt site.shape word s (homes + c) r k
+      → value_in word (bucket_at site.shape s (homes + c)) r ≡ a → TakesSlot site.shape (homes + c) r k (word (bucket_at site.shape s (homes + c) + 1)) x
+      → May site (stashes (bucket_at site.shape s (homes + c) + 1) x (Insert k a) (record {
+        segment = s;
+        home = home_of (key_hash site.shape k);
+        added = true;
+        note = (finger_of (key_hash site.shape k), c);
+        notes = notes_of site.shape word s (home_of (key_hash site.shape k));
+        count = overflow_count (word_in site.shape word s (home_of (key_hash site.shape k)) 1);
+      })) v
+
+-- the stores to a record that was found
+pub record MayChange (site : Site) (v : View) : Type 0 where
+  -- an update wherever the record stands, and a remove in the home or the probing bucket
+  pub update : (s b r k a : ℕ) (word : Words) → FoundAt site v word s b r k → May site (publishes (bucket_at site.shape s b + 5 + 2 * r) a (Update k a)) v
+  pub remove : (s b r k x : ℕ) (word : Words) → FoundAt site v word s b r k → b < homes → FreesSlot r (word (bucket_at site.shape s b + 1)) x
+      → May site (publishes (bucket_at site.shape s b + 1) x (Remove k)) v
+
+-- a remove of a record in the stash, for which a note is owed
+pub record MayUnstash (site : Site) (v : View) : Type 0 where
+  pub remove : (s c r k x : ℕ) (word : Words) → FoundAt site v word s (homes + c) r k → OwesNone site v s (home_of (key_hash site.shape k)) → c < stash_buckets
+      → FreesSlot r (word (bucket_at site.shape s (homes + c) + 1)) x
+      → May site (stashes (bucket_at site.shape s (homes + c) + 1) x (Remove k) (record {
+        segment = s;
+        home = home_of (key_hash site.shape k);
+        added = false;
+        note = (finger_of (key_hash site.shape k), c);
+        notes = notes_of site.shape word s (home_of (key_hash site.shape k));
+        count = overflow_count (word_in site.shape word s (home_of (key_hash site.shape k)) 1);
+      })) v
 
 -- the replies that change nothing
 pub record MayTell (site : Site) (v : View) : Type 0 where
-  -- by the words of the key's home bucket, under its lock
-  pub refusal : (call : Call) (reply : Reply) (word : Words) → KnowsBucket site.shape v (home_of (key_hash site.shape (key_of call))) word
-      → HasLock v.held (home_at site.shape (key_of call)) → IsUnplanned site v (key_of call) → MayReply (find site.shape word (key_of call)) call reply
-      → IsKnownReply site v call reply
-  -- by the noted words of the key's home bucket
-  pub answer : (k : ℕ) (word : Words) (note : Note) → Has note v.notes → note.lock ≡ home_at site.shape k
-      → ((i : ℕ) → IsUnder (home_at site.shape k) i → Has (i, word i) note.words) → May site (places k (find site.shape word k)) v
+  pub absent : (call : Call) (reply : Reply) (s : ℕ) (word : Words) → FoundNone site v word s (key_of call) → s < site.shape.segments → MayReply None call reply → IsKnownReply site v call reply
+  pub present : (call : Call) (reply : Reply) (s b r : ℕ) (word : Words) → FoundAt site v word s b r (key_of call)
+      → MayReply (Some (value_in word (bucket_at site.shape s b) r)) call reply → IsKnownReply site v call reply
+
+-- what a store to a metadata word of the home or the probing bucket of a home leaves of the notes of its two neighbours
+pub record KeepsNeighbours (shape : Shape) (word other : Words) (s b : ℕ) : Type 0 where
+  pub home_before : notes_in shape other s b 1 ≡ notes_in shape word s b 1
+  pub home_after : notes_in shape other s (probing_of b) 0 ≡ notes_in shape word s (probing_of b) 0
+  pub count_after : overflow_count (word_in shape other s (probing_of b) 1) ≡ overflow_count (word_in shape word s (probing_of b) 1)
+
+-- such a store to word n of bucket c by one who owes a note
+pub record TouchesNote (site : Site) (v : View) (word : Words) (o : Owed) (c n x : ℕ) : Type 0 where
+  pub owed : Has o v.owed
+  pub segment : o.segment < site.shape.segments
+  pub near : o.home < homes
+  pub home : KnowsBucket site.shape v o.segment o.home word
+  pub probing : KnowsBucket site.shape v o.segment (probing_of o.home) word
+  pub bucket : (c ≡ o.home) ⊎ (c ≡ probing_of o.home)
+  pub meta : (n ≡ 1) ⊎ (n ≡ 3)
+  pub same_core : core_of site.shape (bucket_at site.shape o.segment c + n) x ≡ core_of site.shape (bucket_at site.shape o.segment c + n) (word (bucket_at site.shape o.segment c + n))
+  pub neighbours : KeepsNeighbours site.shape word (with_word word (bucket_at site.shape o.segment c + n) x) o.segment o.home
+
+-- the stores of a note that is owed
+pub record MayRepay (site : Site) (v : View) : Type 0 where
+  -- one of the stores of a note, and the last one, after which the notes are exact for whatever records the notes of before were to be
+  pub part : (o : Owed) (c n x : ℕ) (word : Words) → TouchesNote site v word o c n x → May site (stores (bucket_at site.shape o.segment c + n) x) v
+  pub last : (o : Owed) (c n x : ℕ) (word : Words) → TouchesNote site v word o c n x
+      → ((stashed : List (ℕ × ℕ)) → IsOwedOf o.added o.note o.notes o.count stashed
+      → AreExact (notes_of site.shape (with_word word (bucket_at site.shape o.segment c + n) x) o.segment o.home)
+      (overflow_count (word_in site.shape (with_word word (bucket_at site.shape o.segment c + n) x) o.segment o.home 1)) stashed)
+      → May site (repays (bucket_at site.shape o.segment c + n) x o) v
+
+-- the draw of a change: what is held and firm, and what of the stash is not held
+pub record DrawsWell (site : Site) (v : View) (call : Call) (s : ℕ) (word : Words) : Type 0 where
+  pub planned : Has call v.planned
+  pub room : 0 < v.room
+  pub led : HoldsHome site v s (key_of call)
+  pub firm : IsFirm v (bucket_at site.shape s (home_of (key_hash site.shape (key_of call))))
+  pub probing : IsKept site v (bucket_at site.shape s (probing_of (home_of (key_hash site.shape (key_of call)))))
+  pub home_words : KnowsBucket site.shape v s (home_of (key_hash site.shape (key_of call))) word
+  pub probing_words : KnowsBucket site.shape v s (probing_of (home_of (key_hash site.shape (key_of call)))) word
+
+-- the view owes the home nothing, or the note of a record that left, with the notes that are known
+abbrev pub OwesAsKnown : Site → View → Words → ℕ → ℕ → Type 0
+OwesAsKnown site v word s b = OwesNone site v s b
+    ⊎ ((o : Owed) × Has o v.owed × (o.segment ≡ s) × (o.home ≡ b) × (o.added ≡ false) × (o.notes ≡ notes_of site.shape word s b) × (o.count ≡ overflow_count (word_in site.shape word s b 1)))
+
+-- the draws of a change
+pub record MayDraw (site : Site) (v : View) : Type 0 where
+  -- where the key stands in a bucket that is known
+  pub shown : (call : Call) (s b r : ℕ) (word : Words) → DrawsWell site v call s word → KnowsBucket site.shape v s b word → Hit site.shape word s b r (key_of call) → v.moving ≡ []
+      → ((c : ℕ) → c < stash_buckets → IsKept site v (bucket_at site.shape s (homes + c)) ⊎ (HasLock v.held (bucket_at site.shape s (homes + c)) → ⊥)) → May site (draws_place call) v
+  -- where the notes name no record of it in the stash buckets that are not held
+  pub unnoted : (call : Call) (s : ℕ) (word : Words) → DrawsWell site v call s word → OwesAsKnown site v word s (home_of (key_hash site.shape (key_of call)))
+      → ((c : ℕ) → c < stash_buckets → IsKept site v (bucket_at site.shape s (homes + c))
+      ⊎ ((HasLock v.held (bucket_at site.shape s (homes + c)) → ⊥) × IsUnnoted site.shape word s (home_of (key_hash site.shape (key_of call))) (finger_of (key_hash site.shape (key_of call))) c))
+      → May site (draws_place call) v
+
+-- the two stores by which a record is moved
+pub record MayMove (site : Site) (v : View) : Type 0 where
+  -- the copy of a record of bucket b in bucket c
+  pub copy : (s b r c t k x : ℕ) (word : Words) → HasLock v.held (bucket_at site.shape s (home_of (key_hash site.shape k))) → c < homes
+      → KnowsBucket site.shape v s b word → KnowsBucket site.shape v s c word → Hit site.shape word s b r k → IsReadyAt site.shape word s c t k
+      → value_in word (bucket_at site.shape s c) t ≡ value_in word (bucket_at site.shape s b) r → TakesSlot site.shape c t k (word (bucket_at site.shape s c + 1)) x
+      → v.moving ≡ []
+      → May site (copies (bucket_at site.shape s c + 1) x (record { segment = s; key = k; from_bucket = b; from_slot = r; to_bucket = c; to_slot = t })) v
+  -- and the clearing of its source
+  pub clear : (m : Move) (x : ℕ) (word : Words) → HasLock v.held (bucket_at site.shape m.segment (home_of (key_hash site.shape m.key))) → m.from_bucket < homes
+      → KnowsBucket site.shape v m.segment m.from_bucket word → KnowsBucket site.shape v m.segment m.to_bucket word
+      → Hit site.shape word m.segment m.from_bucket m.from_slot m.key → Hit site.shape word m.segment m.to_bucket m.to_slot m.key
+      → (m.to_bucket ≡ m.from_bucket → m.to_slot ≡ m.from_slot → ⊥) → FreesSlot m.from_slot (word (bucket_at site.shape m.segment m.from_bucket + 1)) x
+      → ((n : Move) → Has n v.moving → n ≡ m)
+      → May site (clears (bucket_at site.shape m.segment m.from_bucket + 1) x m) v

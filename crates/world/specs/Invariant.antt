@@ -1,5 +1,5 @@
 -- What holds of the newest words and of all views between any two events, from the end of a restart to the close. It is
--- said object by object: locks, words, planned changes, history, media, notes, room, spent numbers, power.
+-- said object by object: locks, words, planned changes, history, copies, overflow data, media, notes, room, spent numbers, power.
 use Rattle.std.specs.Prelude.{◌≡◌, ◌≢◌, ℕ, ◌+◌, ◌%◌, ◌^◌, ◌<◌, ◌≤◌, true, Some, List, [], ◌∷◌, ◌⊎◌, length, filter}
 use Rattle.trace.specs.Events.{Words}
 use Rattle.image_layout.specs.Volatile.{counter_word, power_word}
@@ -9,9 +9,15 @@ use Rattle.map_model.specs.declared.entry.Entry.{Entry}
 use Rattle.map_model.specs.Map.{key_of}
 use Rattle.map_model.specs.Weave.{draws, drew_at}
 use Rattle.map_model.specs.Legal.{InOrder, seen_of}
-use Rattle.bucket_words.specs.Tables.{IsHomeTable, home_at, find}
+use Rattle.image_layout.specs.Places.{bucket_at, homes, stash_buckets}
+use Rattle.sound_image.specs.Records.{key_hash, HasExactNotes}
+use Rattle.map_model.specs.declared.call.Call.TheVariants.{Remove}
+use Rattle.bucket_words.specs.Standing.{IsTable}
+use Rattle.bucket_words.specs.Hits.{Hit, find}
+use Rattle.bucket_words.specs.Owners.{HasStructure, owner_of, home_at}
+use Rattle.world.specs.Conditions.{IsOwed, IsMoveOf, HoldsMove}
 use Rattle.world.specs.Site.{Site, IsSite, IsLockWord, IsSpentLock, HasSpentLock, IsUnder}
-use Rattle.world.specs.Views.{Note, Answer, View, Has, At, HasLock, IsGuarded, IsLoose}
+use Rattle.world.specs.Views.{Note, Answer, Move, Owed, View, Has, At, HasLock, IsGuarded, IsLoose}
 use Rattle.world.specs.History.{Log, map_now, map_when, result_of, reply_by, IsRight}
 use Rattle.world.specs.Media.{IsPossible, Stands}
 
@@ -34,7 +40,10 @@ pub record KnownWords (words : Words) (views : List View) : Type 0 where
 -- PLANNED CHANGES: its view holds the lock of the key's home, the newest words have what the change leaves, and over the
 -- history it is still to be answered as done
 pub record Plans (site : Site) (words : Words) (views : List View) (log : Log) : Type 0 where
-  pub held : (j : ℕ) (v : View) (call : Call) → At views j v → Has call v.planned → HasLock v.held (home_at site.shape (key_of call))
+  pub held : (j : ℕ) (v : View) (call : Call) → At views j v → Has call v.planned → HasLock v.held (home_at site.shape words (key_of call))
+  -- and the locks of the buckets in which the key stands
+  pub places : (j : ℕ) (v : View) (call : Call) → At views j v → Has call v.planned → (s b r : ℕ) → owner_of site.shape words (key_hash site.shape (key_of call)) ≡ Some s
+      → Hit site.shape words s b r (key_of call) → HasLock v.held (bucket_at site.shape s b)
   pub stored : (j : ℕ) (v : View) (call : Call) → At views j v → Has call v.planned → find site.shape words (key_of call) ≡ result_of call
   pub fits : (j : ℕ) (v : View) (call : Call) → At views j v → Has call v.planned → Done ≡ reply_by (map_now site.start log (key_of call)) call
 
@@ -49,9 +58,37 @@ pub record History (site : Site) (words : Words) (views : List View) (log : Log)
   pub drawn : total (λ v. draws v.own) views ≡ length log
   pub each_once : (n : ℕ) → n < length log → total (λ v. length (filter (drew_at n) v.own)) views ≡ 1
 
+-- a view that holds a lock has a remove of the key stored and not drawn
+abbrev pub IsRemoving : List View → ℕ → ℕ → Type 0
+IsRemoving views k lock = (j : ℕ) × (u : View) × At views j u × Has (Remove k) u.planned × HasLock u.held lock
+
+-- a view has a record under way from one of two places to the other
+abbrev pub IsMoving : List View → ℕ → ℕ → ℕ → ℕ → ℕ → ℕ → Type 0
+IsMoving views s k b r c t = (j : ℕ) × (u : View) × (m : Move) × At views j u × Has m u.moving × IsMoveOf m s k b r c t
+
+-- COPIES: in the newest words a key stands once in a segment, or one view that holds the lock of its home has it under way
+pub record Copies (site : Site) (words : Words) (views : List View) : Type 0 where
+  pub once : (s b r c t k : ℕ) → Hit site.shape words s b r k → Hit site.shape words s c t k → ((b ≡ c) × (r ≡ t)) ⊎ IsMoving views s k b r c t
+  pub held : (j : ℕ) (v : View) (m : Move) → At views j v → Has m v.moving → HoldsMove site.shape v.held m
+
+-- nobody owes a note of home b
+abbrev pub NobodyOwes : List View → ℕ → ℕ → Type 0
+NobodyOwes views s b = (j : ℕ) (v : View) (o : Owed) → At views j v → Has o v.owed → o.segment ≡ s → o.home ≡ b → ⊥
+
+-- OVERFLOW DATA: in the newest words the notes of a home are exact where nobody owes it one; and who does holds its lock
+pub record Overflow (site : Site) (words : Words) (views : List View) : Type 0 where
+  pub exact : (s b : ℕ) → s < site.shape.segments → b < homes → NobodyOwes views s b → HasExactNotes site.shape words s b
+  pub owes : (j : ℕ) (v : View) (o : Owed) → At views j v → Has o v.owed → IsOwed site.shape words o
+  pub held : (j : ℕ) (v : View) (o : Owed) → At views j v → Has o v.owed → HasLock v.held (bucket_at site.shape o.segment o.home)
+  pub fits : (j : ℕ) (v : View) (o : Owed) → At views j v → Has o v.owed → (o.segment < site.shape.segments) × (o.home < homes)
+
 -- MEDIA: whatever a cut may leave is a table, and has for each key what the history or one planned change gives it
 pub record Media (site : Site) (words : Words) (views : List View) (log : Log) : Type 0 where
-  pub table : (medium : Words) → IsPossible site words views medium → IsHomeTable site.shape site.front medium
+  pub structure : (medium : Words) → IsPossible site words views medium → HasStructure site.shape site.front medium
+  pub table : (medium : Words) → IsPossible site words views medium → IsTable site.shape medium
+  -- a record in the stash stands there in the newest words too, or the holder of that lock is removing it
+  pub stashed : (medium : Words) → IsPossible site words views medium → (s c t k : ℕ) → c < stash_buckets → owner_of site.shape medium (key_hash site.shape k) ≡ Some s
+      → Hit site.shape medium s (homes + c) t k → Hit site.shape words s (homes + c) t k ⊎ IsRemoving views k (bucket_at site.shape s (homes + c))
   pub stands : (medium : Words) → IsPossible site words views medium → (k : ℕ) → Stands site views log k (find site.shape medium k)
 
 -- a note: the lock word has not fallen below the free value, and while it still is that value the noted words are the
@@ -104,6 +141,8 @@ pub record Holds (site : Site) (words : Words) (views : List View) : Type 0 wher
   pub known : KnownWords words views
   pub plans : Plans site words views log
   pub history : History site words views log
+  pub copies : Copies site words views
+  pub overflow : Overflow site words views
   pub media : Media site words views log
   pub notes : Notes site words views log
   pub room : Room site views log

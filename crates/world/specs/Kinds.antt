@@ -1,24 +1,20 @@
--- The kinds of step: why an event is made, with its numbers. For each: which event it is, what the stepping view becomes,
--- and what it asks of that view alone.
-use Rattle.std.specs.Prelude.{◌≡◌, ◌≢◌, ◌-◌, ◌==◌, ◌&&◌, ℕ, suc, ◌+◌, ◌%◌, ◌^◌, ◌<◌, nat_lt, Bool, true, false, ⊤, Option, None, Some, List, [], ◌∷◌, ◌++◌, ◌⊎◌, length, if◌then◌else◌}
+-- The kinds of step: why an event is made, with its numbers. For each: which event it is, and what the stepping view becomes.
+use Rattle.std.specs.Prelude.{◌-◌, ◌==◌, ◌&&◌, ℕ, suc, ◌+◌, ◌%◌, ◌^◌, nat_lt, Bool, true, false, Option, None, Some, List, [], ◌∷◌, ◌++◌, length, if◌then◌else◌}
 use Rattle.op_core.specs.declared.want.Want.{Want}
 use Rattle.op_core.specs.declared.want.Want.TheVariants.{Load, Store, Exchange, Flush, Fence, Draw, Power}
-use Rattle.trace.specs.Events.{Words, line_of, with_word}
-use Rattle.image_layout.specs.Places.{Shape}
+use Rattle.trace.specs.Events.{line_of}
+use Rattle.image_layout.specs.Places.{Shape, block}
 use Rattle.image_layout.specs.Volatile.{counter_word, power_word}
 use Rattle.map_model.specs.declared.call.Call.{Call}
 use Rattle.map_model.specs.declared.call.Call.TheVariants.{Get}
 use Rattle.map_model.specs.declared.entry.Reply.{Reply}
 use Rattle.map_model.specs.declared.entry.Reply.TheVariants.{Done, Spent}
 use Rattle.map_model.specs.declared.entry.Entry.{Entry}
-use Rattle.map_model.specs.Map.{key_of, shown, is_change}
-use Rattle.map_model.specs.Legal.{IsChange, seen_after}
-use Rattle.bucket_words.specs.Tables.{IsHomeTable, home_at, find}
+use Rattle.map_model.specs.Map.{key_of, shown}
+use Rattle.map_model.specs.Legal.{seen_after}
 use Rattle.bucket_words.specs.Core.{core_of}
-use Rattle.bucket_words.specs.Changes.{KeepsTable, ChangesKey}
-use Rattle.world.specs.Site.{Site, IsLockWord, IsUnder}
-use Rattle.world.specs.Views.{Note, Answer, View, Has, HasLock, IsGuarded, IsLoose, IsFirm}
-use Rattle.world.specs.History.{Log, change_of, result_of, reply_by, MayReply, HasRoomCause}
+use Rattle.world.specs.Views.{Note, Answer, Move, Owed, View}
+use Rattle.world.specs.History.{Log, change_of}
 
 pub data Kind : Type 0 where
   -- a load of any word, of which nothing is kept
@@ -46,8 +42,15 @@ pub data Kind : Type 0 where
   tries : (lock free : ℕ) → Kind
   -- a store under one's own lock that changes no pair
   stores : (word value : ℕ) → Kind
+  -- such a store by which a record stands a second time, and one that clears its source
+  copies : (word value : ℕ) (move : Move) → Kind
+  clears : (word value : ℕ) (move : Move) → Kind
+  -- such a store after which a note that was owed is stored, or taken away
+  repays : (word value : ℕ) (owed : Owed) → Kind
   -- the one store that makes a change
   publishes : (word value : ℕ) (call : Call) → Kind
+  -- such a store by which a record comes to the stash or leaves it, so that a note is owed
+  stashes : (word value : ℕ) (call : Call) (owed : Owed) → Kind
   flushes : (line : ℕ) → Kind
   fences : Kind
   -- a change draws its place
@@ -71,7 +74,11 @@ wanted shape (learns i) = Load i
 wanted shape (meets_lock lock) = Load lock
 wanted shape (tries lock free) = Exchange lock free (free + 1)
 wanted shape (stores i x) = Store i x
+wanted shape (copies i x m) = Store i x
+wanted shape (clears i x m) = Store i x
+wanted shape (repays i x o) = Store i x
 wanted shape (publishes i x call) = Store i x
+wanted shape (stashes i x call o) = Store i x
 wanted shape (flushes l) = Flush l
 wanted shape fences = Fence
 wanted shape (draws_place call) = Draw
@@ -87,7 +94,7 @@ without i (p ∷ ps) = if p.0 == i then without i ps else p ∷ without i ps
 -- the pairs of words that do not lie under a lock
 abbrev pub not_under : ℕ → List (ℕ × ℕ) → List (ℕ × ℕ)
 not_under lock [] = []
-not_under lock (p ∷ ps) = if nat_lt lock p.0 && nat_lt p.0 (lock + 32) then not_under lock ps else p ∷ not_under lock ps
+not_under lock (p ∷ ps) = if nat_lt lock p.0 && nat_lt p.0 (lock + block) then not_under lock ps else p ∷ not_under lock ps
 
 -- the pairs of words of a line, and the others
 abbrev pub on_line : ℕ → List (ℕ × ℕ) → List (ℕ × ℕ)
@@ -106,6 +113,16 @@ loosened shape i old new dirty = if core_of shape i old == core_of shape i new t
 abbrev pub of_other_keys : ℕ → List Call → List Call
 of_other_keys k [] = []
 of_other_keys k (call ∷ calls) = if key_of call == k then of_other_keys k calls else call ∷ of_other_keys k calls
+
+-- the moves of other records
+abbrev pub of_other_records : Move → List Move → List Move
+of_other_records m [] = []
+of_other_records m (n ∷ moves) = if (n.segment == m.segment) && (n.key == m.key) then of_other_records m moves else n ∷ of_other_records m moves
+
+-- what is owed for other homes
+abbrev pub of_other_homes : Owed → List Owed → List Owed
+of_other_homes o [] = []
+of_other_homes o (n ∷ owed) = if (n.segment == o.segment) && (n.home == o.home) then of_other_homes o owed else n ∷ of_other_homes o owed
 
 -- the notes of a bucket with one word more
 abbrev pub with_noted : ℕ → ℕ → ℕ → List Note → List Note
@@ -137,8 +154,9 @@ abbrev pub with_reply : View → Entry → View
 with_reply v e = record v { own = v.own ++ e ∷ []; seen = seen_after e; notes = []; answer = None }
 
 -- a view with a store's word known
-abbrev pub with_store : Shape → ℕ → ℕ → ℕ → View → View
-with_store shape i old new v = record v { known = (i, new) ∷ without i v.known; dirty = loosened shape i old new v.dirty }
+abbrev pub with_store : Shape → ℕ → ℕ → ℕ → List Call → List Move → List Owed → View → View
+with_store shape i old new calls moves owed v =
+    record v { known = (i, new) ∷ without i v.known; dirty = loosened shape i old new v.dirty; planned = calls; moving = moves; owed = owed }
 
 -- a view whose notes are all good gives its answer
 abbrev pub with_answer : Bool → Option Answer → View → View
@@ -193,8 +211,12 @@ view_after shape (validates lock) n v = validated (record v { notes = marked loc
 view_after shape (learns i) n v = record v { known = (i, n) ∷ v.known }
 view_after shape (meets_lock lock) n v = record v { spent_locks = with_spent (n == 2 ^ 64 - 2) lock v.spent_locks }
 view_after shape (tries lock free) n v = with_lock (n == free) lock free v
-view_after shape (stores i x) n v = with_store shape i n x v
-view_after shape (publishes i x call) n v = record v { known = (i, x) ∷ without i v.known; dirty = loosened shape i n x v.dirty; planned = call ∷ v.planned }
+view_after shape (stores i x) n v = with_store shape i n x v.planned v.moving v.owed v
+view_after shape (copies i x m) n v = with_store shape i n x v.planned (m ∷ v.moving) v.owed v
+view_after shape (clears i x m) n v = with_store shape i n x v.planned (of_other_records m v.moving) v.owed v
+view_after shape (repays i x o) n v = with_store shape i n x v.planned v.moving (of_other_homes o v.owed) v
+view_after shape (publishes i x call) n v = with_store shape i n x (call ∷ v.planned) v.moving v.owed v
+view_after shape (stashes i x call o) n v = with_store shape i n x (call ∷ v.planned) v.moving (o ∷ v.owed) v
 view_after shape (flushes l) n v = record v { dirty = off_line l v.dirty; flushed = on_line l v.dirty ++ v.flushed }
 view_after shape fences n v = record v { flushed = [] }
 view_after shape (draws_place call) n v = with_draw call n v
@@ -205,67 +227,3 @@ view_after shape cuts_power n v = record v { stored_power = true }
 abbrev pub log_after : Kind → Log → Log
 log_after (draws_place call) log = change_of call ∷ log
 log_after _ log = log
-
--- ---- what a kind asks of the stepping view alone
-module _ (site : Site) where
-  -- a medium has the words that a view knows and has not loose. What a cut leaves has their cores alone; since those
-  -- decide, it is enough to speak of media that have them whole
-  abbrev pub Agrees : View → Words → Type 0
-  Agrees v medium = (i x : ℕ) → Has (i, x) v.known → ((y : ℕ) → IsLoose v (i, y) → ⊥) → medium i ≡ x
-
-  -- words are those that were noted
-  abbrev pub AgreesWithNotes : List Note → Words → Type 0
-  AgreesWithNotes notes words = (note : Note) (i x : ℕ) → Has note notes → Has (i, x) note.words → words i ≡ x
-
-  -- whatever table agrees with the view, the store leaves it a table with the same pairs
-  abbrev pub IsHarmless : View → ℕ → ℕ → Type 0
-  IsHarmless v i x = (medium : Words) → IsHomeTable site.shape site.front medium → Agrees v medium
-      → KeepsTable site.shape site.front medium (with_word medium i x)
-
-  -- whatever table agrees with the view, the call is to be answered as done there, and the store makes its change alone
-  abbrev pub IsPublishing : View → Call → ℕ → ℕ → Type 0
-  IsPublishing v call i x = (medium : Words) → IsHomeTable site.shape site.front medium → Agrees v medium
-      → (Done ≡ reply_by (find site.shape medium (key_of call)) call)
-      × ChangesKey site.shape site.front medium (with_word medium i x) (key_of call) (result_of call)
-
-  -- no change of this key is planned
-  abbrev pub IsUnplanned : View → ℕ → Type 0
-  IsUnplanned v k = (call : Call) → Has call v.planned → key_of call ≡ k → ⊥
-
-  -- a reply that may stand whatever the key has, or that is right by what the holder of the key's lock knows
-  abbrev pub IsKnownReply : View → Call → Reply → Type 0
-  IsKnownReply v call reply = ((a : Option ℕ) → MayReply a call reply)
-      ⊎ (HasLock v.held (home_at site.shape (key_of call)) × IsUnplanned v (key_of call)
-      × ((medium : Words) → IsHomeTable site.shape site.front medium → Agrees v medium → MayReply (find site.shape medium (key_of call)) call reply))
-
-  -- a reply for want of room has its cause in whatever map has, for the keys of which the view holds the lock, what the view
-  -- knows that they have
-  abbrev pub IsKnownCause : View → Call → Reply → Type 0
-  IsKnownCause v call reply = (m : ℕ → Option ℕ) (medium : Words) → IsHomeTable site.shape site.front medium → Agrees v medium
-      → ((k : ℕ) → HasLock v.held (home_at site.shape k) → IsUnplanned v k → m k ≡ find site.shape medium k) → HasRoomCause site.shape m call reply
-
-  -- a reply that a number is spent comes from who found a lock word of the last version
-  abbrev pub IsKnownSpent : View → Reply → Type 0
-  IsKnownSpent v reply = reply ≡ Spent → (lock : ℕ) × Has lock v.spent_locks
-
-  abbrev pub May : Kind → View → Type 0
-  May (peeks i) v = ⊤
-  May asks_power v = ⊤
-  May (finds_room call) v = IsChange call × (0 < v.callers)
-  May (refuses call reply) v = (is_change reply ≡ false) × IsKnownReply v call reply × IsKnownCause v call reply × IsKnownSpent v reply
-  May (places k a) v = ((note : Note) × Has note v.notes × (note.lock ≡ home_at site.shape k))
-      × ((words : Words) → IsHomeTable site.shape site.front words → AgreesWithNotes v.notes words → find site.shape words k ≡ a)
-  May (looks lock) v = IsLockWord site.shape lock
-  May (notes_word lock i) v = IsUnder lock i
-  May (validates lock) v = ⊤
-  May (learns i) v = IsGuarded v.held i
-  May (meets_lock lock) v = IsLockWord site.shape lock
-  May (tries lock free) v = IsLockWord site.shape lock × (free % 2 ≡ 0) × (free ≢ 2 ^ 64 - 2)
-  May (stores i x) v = IsGuarded v.held i × IsHarmless v i x
-  May (publishes i x call) v = IsGuarded v.held i × HasLock v.held (home_at site.shape (key_of call)) × IsUnplanned v (key_of call) × IsPublishing v call i x
-  May (flushes l) v = ⊤
-  May fences v = ⊤
-  May (draws_place call) v = Has call v.planned × IsFirm v (home_at site.shape (key_of call)) × (0 < v.room)
-  May (unlocks lock next) v = (x : ℕ) × Has (lock, x) v.held × IsFirm v lock
-      × ((call : Call) → Has call v.planned → home_at site.shape (key_of call) ≡ lock → ⊥) × (next ≡ x + 1)
-  May cuts_power v = ⊤

@@ -8,14 +8,16 @@ use Rattle.trace.specs.Events.{Words, with_word, value}
 use Rattle.trace.specs.Media.{IsPossible as DevicePossible}
 use Rattle.op_core.specs.declared.want.Want.{Want}
 use Rattle.image_layout.specs.Places.{Shape, words_of}
+use Rattle.bucket_words.specs.Standing.{IsTable}
+use Rattle.bucket_words.specs.Owners.{HasStructure}
+use Rattle.bucket_words.specs.Hits.{find}
 use Rattle.image_layout.specs.Volatile.{power_word}
-use Rattle.sound_image.specs.Rules.{FollowsRules}
-use Rattle.bucket_words.specs.Tables.{IsHomeTable, find}
 use Rattle.world.specs.Site.{Site}
 use Rattle.world.specs.Views.{View, At}
 use Rattle.world.specs.History.{Log, map_now}
 use Rattle.world.specs.Wants.{word_of, left_by, words_after}
-use Rattle.world.specs.Kinds.{Kind, cuts_power, wanted, view_after, May}
+use Rattle.world.specs.Kinds.{Kind, cuts_power, wanted, view_after}
+use Rattle.world.specs.Conditions.{May}
 use Rattle.world.specs.Entering.{Enters}
 use Rattle.world.specs.Media.{IsPossible, Stands}
 use Rattle.world.specs.Invariant.{History, Holds}
@@ -39,11 +41,11 @@ module _ (site : Site) (kind : Kind) where
   Keeps = (words : Words) (views : List View) (j : ℕ) (v : View) → Holds site words views → At views j v → May site kind v
       → Holds site (words_by j words) (views_by j v words views)
 
--- what a cut may leave is a table, hence follows the seven rules of a sound image, and has for each key what the history
+-- what a cut may leave has the structure that it had, is a table, and has for each key what the history
 -- gives it, or what one change that is stored and not drawn does
 pub record IsGoodMedium (site : Site) (views : List View) (log : Log) (medium : Words) : Type 0 where
-  pub table : IsHomeTable site.shape site.front medium
-  pub rules : FollowsRules site.shape medium
+  pub structure : HasStructure site.shape site.front medium
+  pub table : IsTable site.shape medium
   pub stands : (k : ℕ) → Stands site views log k (find site.shape medium k)
 
 -- WHATEVER A CUT MAY LEAVE IS GOOD, over one history in which all replies are right

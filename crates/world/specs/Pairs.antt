@@ -1,16 +1,18 @@
 -- What a step does to the pairs of the table.
 use Rattle.std.specs.Prelude.{◌≡◌, ℕ, ⊤, List}
 use Rattle.trace.specs.Events.{Words}
-use Rattle.bucket_words.specs.Tables.{find}
+use Rattle.bucket_words.specs.Hits.{find}
 use Rattle.world.specs.Site.{Site}
 use Rattle.world.specs.Views.{View, At}
-use Rattle.world.specs.Kinds.{Kind, publishes, May}
+use Rattle.world.specs.Kinds.{Kind, publishes, stashes}
+use Rattle.world.specs.Conditions.{May}
 use Rattle.world.specs.Invariant.{Holds}
 use Rattle.world.specs.Laws.{words_by}
 
--- the one kind of step that makes a change
+-- the two kinds of step that make a change
 abbrev pub IsPublishingKind : Kind → Type 0
 IsPublishingKind (publishes i x call) = ⊤
+IsPublishingKind (stashes i x call o) = ⊤
 IsPublishingKind kind = ⊥
 
 -- EACH OTHER STEP leaves what every key has as it was, whatever number its caller has

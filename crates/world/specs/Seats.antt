@@ -23,6 +23,8 @@ joined v w = record v {
   dirty = v.dirty ++ w.dirty;
   flushed = v.flushed ++ w.flushed;
   planned = v.planned ++ w.planned;
+  moving = v.moving ++ w.moving;
+  owed = v.owed ++ w.owed;
   notes = [];
   answer = None;
   seen = max v.seen w.seen;
@@ -34,7 +36,7 @@ joined v w = record v {
 
 -- the view that was taken in: its replies stay, as its caller's
 abbrev pub spent : View → View
-spent w = record w { held = []; known = []; dirty = []; flushed = []; planned = []; notes = []; answer = None; callers = 0; room = 0 }
+spent w = record w { held = []; known = []; dirty = []; flushed = []; planned = []; moving = []; owed = []; notes = []; answer = None; callers = 0; room = 0 }
 
 -- A VIEW THAT IS CUT IN TWO keeps the invariant; the new one takes the next seat
 abbrev pub CutsKeep : Type 0

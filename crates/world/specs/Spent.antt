@@ -4,7 +4,8 @@ use Rattle.trace.specs.Events.{Words}
 use Rattle.world.specs.Site.{Site, IsSpentLock}
 use Rattle.world.specs.Views.{View, At}
 use Rattle.world.specs.Invariant.{Holds}
-use Rattle.world.specs.Kinds.{Kind, May}
+use Rattle.world.specs.Kinds.{Kind}
+use Rattle.world.specs.Conditions.{May}
 use Rattle.world.specs.Laws.{words_by}
 
 -- EACH STEP leaves such a word

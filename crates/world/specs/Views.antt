@@ -23,6 +23,25 @@ pub record Answer : Type 0 where
   pub value : Option ℕ
   pub place : ℕ
 
+-- a copy of a record that stands, and whose source is not cleared yet
+pub record Move : Type 0 where
+  pub segment : ℕ
+  pub key : ℕ
+  pub from_bucket : ℕ
+  pub from_slot : ℕ
+  pub to_bucket : ℕ
+  pub to_slot : ℕ
+
+-- a note that is still to be stored, or to be taken away, since a record came to the stash or left it; with the notes of its
+-- home and the count as they were then
+pub record Owed : Type 0 where
+  pub segment : ℕ
+  pub home : ℕ
+  pub added : Bool
+  pub note : ℕ × ℕ
+  pub notes : List (ℕ × ℕ)
+  pub count : ℕ
+
 pub record View : Type 0 where
   -- the locks that it holds: the lock word, and its value, which is odd
   pub held : List (ℕ × ℕ)
@@ -34,6 +53,10 @@ pub record View : Type 0 where
   pub flushed : List (ℕ × ℕ)
   -- the changes that it stored and has not drawn a place for
   pub planned : List Call
+  -- the records that it copied and has not cleared at their sources
+  pub moving : List Move
+  -- the notes that it owes
+  pub owed : List Owed
   pub notes : List Note
   pub answer : Option Answer
   -- its replies, in their order

@@ -2,9 +2,12 @@
 use Rattle.std.specs.Prelude.{◌≡◌, ℕ, zero, suc, ◌<◌, ◌%◌, List, [], ◌∷◌, None, false}
 use Rattle.trace.specs.Events.{Words, Trace, value}
 use Rattle.trace.specs.Steps.{HadSinceSettled}
-use Rattle.image_layout.specs.Places.{Shape, words_of}
+use Rattle.image_layout.specs.Places.{Shape, words_of, homes}
 use Rattle.image_layout.specs.Volatile.{counter_word, power_word}
-use Rattle.bucket_words.specs.Tables.{IsHomeTable, find}
+use Rattle.bucket_words.specs.Standing.{IsTable}
+use Rattle.bucket_words.specs.Owners.{HasStructure}
+use Rattle.bucket_words.specs.Hits.{Hit, find}
+use Rattle.sound_image.specs.Records.{HasExactNotes}
 use Rattle.world.specs.Site.{Site, IsSite, IsLockWord}
 use Rattle.world.specs.Views.{View, At}
 use Rattle.world.specs.Wants.{word_of, event_of, words_after}
@@ -47,6 +50,8 @@ fresh_view callers = record {
   dirty = [];
   flushed = [];
   planned = [];
+  moving = [];
+  owed = [];
   notes = [];
   answer = None;
   own = [];
@@ -63,7 +68,10 @@ pub record Begins (site : Site) (start : Words) (world : World) : Type 0 where
   pub site_is : IsSite site
   pub words_are : world.words ≡ value start world.trace
   pub settled : (i y : ℕ) → i < words_of site.shape → HadSinceSettled start world.trace i y → y ≡ world.words i
-  pub table : IsHomeTable site.shape site.front world.words
+  pub structure : HasStructure site.shape site.front world.words
+  pub table : IsTable site.shape world.words
+  pub once : (s b r c t k : ℕ) → Hit site.shape world.words s b r k → Hit site.shape world.words s c t k → (b ≡ c) × (r ≡ t)
+  pub exact : (s b : ℕ) → s < site.shape.segments → b < homes → HasExactNotes site.shape world.words s b
   pub pairs : (k : ℕ) → find site.shape world.words k ≡ site.start k
   pub free : (lock : ℕ) → IsLockWord site.shape lock → world.words lock % 2 ≡ 0
   pub counter : world.words (counter_word site.shape) ≡ 0

@@ -1,9 +1,10 @@
 //! The laws of the world. The functions do nothing: each stands for the law that its contract says.
 
-ghost use Rattle.world.specs.Site.{Site, IsSite};
+ghost use Rattle.world.specs.Site.{Site};
 ghost use Rattle.world.specs.Views.{View};
+ghost use Rattle.world.specs.Readers.{MayAnswer};
+ghost use Rattle.world.specs.Holders.{MayPrepare, MayPlace, MayChange, MayTell, MayRepay, MayDraw, MayUnstash, MayMove};
 ghost use Rattle.world.specs.Kinds.{Kind};
-ghost use Rattle.world.specs.Holders.{MayPrepare, MayPublish, MayTell};
 ghost use Rattle.world.specs.Pairs.{OtherStepsKeepPairs};
 ghost use Rattle.world.specs.Seats.{CutsKeep, JoinsKeep};
 ghost use Rattle.world.specs.Later.{RepliesComeLater};
@@ -15,7 +16,8 @@ pub fn each_step_keeps()
     ensures { (site : Site) (kind : Kind) → Keeps site kind }
 {}
 
-/// Whatever a power cut may leave is a table, and stands in the history in which all replies are right.
+/// Whatever a power cut may leave has the structure that it had, is a table, and stands in the history in which all replies are
+/// right.
 pub fn media_stand()
     ensures { MediaStand }
 {}
@@ -54,11 +56,23 @@ pub fn device_leaves_what_views_say()
     ensures { DeviceLeaves }
 {}
 
-/// What the holder of a lock has to know of a bucket for its stores, for refusals, and a reader for an answer.
+/// What the holder of locks has to know of buckets: to prepare a slot; to place a record in its home, its probing bucket or the
+/// stash; to change one that it found, or to take it away, from the stash too; to tell what a key has; to draw the place of a
+/// change; to store or take away a note that it owes; and to move a record, by a copy and the clearing of its source.
 pub fn holders_may()
-    ensures prepare { (site : Site) → IsSite site → (v : View) → MayPrepare site v }
-    ensures publish { (site : Site) → IsSite site → (v : View) → MayPublish site v }
-    ensures tell { (site : Site) → IsSite site → (v : View) → MayTell site v }
+    ensures prepare { (site : Site) (v : View) → MayPrepare site v }
+    ensures place { (site : Site) (v : View) → MayPlace site v }
+    ensures change { (site : Site) (v : View) → MayChange site v }
+    ensures tell { (site : Site) (v : View) → MayTell site v }
+    ensures unstash { (site : Site) (v : View) → MayUnstash site v }
+    ensures draw { (site : Site) (v : View) → MayDraw site v }
+    ensures repay { (site : Site) (v : View) → MayRepay site v }
+    ensures moves { (site : Site) (v : View) → MayMove site v }
+{}
+
+/// What a reader has to note of buckets to place an answer.
+pub fn readers_may()
+    ensures { (site : Site) (v : View) → MayAnswer site v }
 {}
 
 /// A view that is cut in two, and two that are joined, keep the invariant.
@@ -67,7 +81,7 @@ pub fn seats_keep()
     ensures joins { JoinsKeep }
 {}
 
-/// A step of any kind but the one that makes a change leaves what every key has as it was.
+/// A step of any kind but the two that make a change leaves what every key has as it was.
 pub fn other_steps_keep_pairs()
     ensures { OtherStepsKeepPairs }
 {}

@@ -21,7 +21,8 @@ use Rattle.world.specs.Site.{Site, IsLockWord}
 use Rattle.world.specs.Views.{Answer, View, Has, At, IsGuarded, IsLoose}
 use Rattle.world.specs.Media.{MayLeave}
 use Rattle.world.specs.Invariant.{Holds}
-use Rattle.world.specs.Kinds.{Kind, peeks, asks_power, finds_room, refuses, places, looks, notes_word, validates, learns, meets_lock, tries, stores, publishes, flushes, fences, draws_place, unlocks, cuts_power, wanted, on_line, off_line, loosened, marked, all_again, with_answer, with_look, with_count, with_lock, with_draw, May}
+use Rattle.world.specs.Kinds.{Kind, peeks, asks_power, finds_room, refuses, places, looks, notes_word, validates, learns, meets_lock, tries, stores, copies, clears, repays, publishes, stashes, flushes, fences, draws_place, unlocks, cuts_power, wanted, on_line, off_line, loosened, marked, all_again, with_answer, with_look, with_count, with_lock, with_draw}
+use Rattle.world.specs.Conditions.{May}
 use Rattle.world.specs.Wants.{event_of}
 use Rattle.world.specs.Tied.{IsFlushed, Tied}
 use Rattle.world.specs.Laws.{found_by, views_by}
@@ -282,7 +283,7 @@ module _ (site : Site) (start : Words) (es : Trace) (views : List View) (j : ℕ
   guarded c u n y a has = h.known.loose c u n y a (inr has)
 
   inside : (n y : ℕ) → Has (n, y) v.flushed → n < words_of site.shape
-  inside n y has = guarded_within site h.site_is words views h.locks j v n at (guarded j v n y at has)
+  inside n y has = guarded_within site words views h.locks j v n at (guarded j v n y at has)
 
   -- a store that changes the word's core makes its old value loose
   loses : (i x : ℕ) → (core_of site.shape i (words i) ≡ core_of site.shape i x) ⊎ Has (i, words i) (loosened site.shape i (words i) x v.dirty)
@@ -301,15 +302,15 @@ module _ (site : Site) (start : Words) (es : Trace) (views : List View) (j : ℕ
   tied_store i x w dirty same g = tied_write site start es views j v w at o (stored j i x) i x (λ n y q. q) refl (λ c e. absurd (cc)) same
       (λ p d. subst (λ (z : List (ℕ × ℕ)). Has p z) (sym dirty) (more_dirty i x p d))
       (λ _. elim (loses i x) [ inl e ↦ inl e | inr d ↦ inr (subst (λ (z : List (ℕ × ℕ)). Has (i, words i) z) (sym dirty) d) ])
-      inside (λ c u y ne a has. ne (one_guard site h.site_is words views h.locks c j u v i a at (guarded c u i y a has) g))
+      inside (λ c u y ne a has. ne (one_guard site words views h.locks c j u v i a at (guarded c u i y a has) g))
 
   -- a lock word has no core
   tied_lock : (e : Event) (lock x : ℕ) (w : View) → ((n y : ℕ) → Writes words e n y → (n ≡ lock) × (y ≡ x)) → value start (e ∷ es) ≡ with_word words lock x → ((c : ℕ) → e ≡ fenced c → ⊥)
       → IsLockWord site.shape lock → KeepsLoose w v → Tied site start (e ∷ es) (set views j w)
   tied_lock e lock x w writes becomes none is same = tied_write site start es views j v w at o e lock x writes becomes none same.1
       (λ p d. subst (λ (z : List (ℕ × ℕ)). Has p z) (sym same.0) d)
-      (λ _. inl (lock_core site.shape lock (words lock) is h.site_is.front.one_segment ∙ sym (lock_core site.shape lock x is h.site_is.front.one_segment)))
-      inside (λ c u y ne a has. guarded_no_lock site h.site_is words views h.locks c u lock lock a (guarded c u lock y a has) is refl)
+      (λ _. inl (lock_core site.shape lock (words lock) is ∙ sym (lock_core site.shape lock x is)))
+      inside (λ c u y ne a has. guarded_no_lock site words views h.locks c u lock lock a (guarded c u lock y a has) is refl)
 
   tied_try : (lock free : ℕ) → IsLockWord site.shape lock → (t : Bool) → Tied site start (cond t (exchanged j lock (free + 1)) (loaded j lock) ∷ es) (set views j (with_lock t lock free v))
   tied_try lock free is true = tied_lock (exchanged j lock (free + 1)) lock (free + 1) (with_lock true lock free v) (λ n y q. q) refl (λ c e. absurd (cc)) is (refl, refl)
@@ -318,7 +319,7 @@ module _ (site : Site) (start : Words) (es : Trace) (views : List View) (j : ℕ
   tied_draw : (call : Call) (n : ℕ) → Tied site start (drawn j (counter_word site.shape) ∷ es) (set views j (with_draw call n v))
   tied_draw call n = tied_write site start es views j v (with_draw call n v) at o (drawn j (counter_word site.shape)) (counter_word site.shape) ((words (counter_word site.shape) + 1) % 2 ^ 64)
       (λ n y q. q) refl (λ c e. absurd (cc)) refl (λ p d. d) (λ within. absurd (omega (arith, within))) inside
-      (λ c u y ne a has. guarded_no_counter site h.site_is words views h.locks c u (counter_word site.shape) a (guarded c u (counter_word site.shape) y a has) refl)
+      (λ c u y ne a has. guarded_no_counter site words views h.locks c u (counter_word site.shape) a (guarded c u (counter_word site.shape) y a has) refl)
 
   calm : (i : ℕ) (w : View) → KeepsLoose w v → Tied site start (loaded j i ∷ es) (set views j w)
   calm i w same = tied_load site start es views j v w at o i same
@@ -335,12 +336,16 @@ module _ (site : Site) (start : Words) (es : Trace) (views : List View) (j : ℕ
   keep_tied (learns i) may = calm _ _ (refl, refl)
   keep_tied (meets_lock lock) may = calm _ _ (refl, refl)
   keep_tied (tries lock free) may = tied_try lock free may.0 (eqb (words lock) free)
-  keep_tied (stores i x) may = tied_store i x _ refl refl may.0
-  keep_tied (publishes i x call) may = tied_store i x _ refl refl may.0
+  keep_tied (stores i x) may = tied_store i x _ refl refl may.0.guarded
+  keep_tied (copies i x m) may = tied_store i x _ refl refl may.0.guarded
+  keep_tied (clears i x m) may = tied_store i x _ refl refl may.0.guarded
+  keep_tied (repays i x o) may = tied_store i x _ refl refl may.0.guarded
+  keep_tied (publishes i x call) may = tied_store i x _ refl refl may.0.guarded
+  keep_tied (stashes i x call o) may = tied_store i x _ refl refl may.0.guarded
   keep_tied (flushes l) may = tied_flush site start es views j v at o l
   keep_tied fences may = tied_fence site start es views j v at o
   keep_tied (draws_place call) may = tied_draw call _
   keep_tied (unlocks lock next) may = tied_lock (stored j lock next) lock next _ (λ n y q. q) refl (λ c e. absurd (cc)) (h.locks.locked j v lock may.0 at may.1).0 (refl, refl)
   keep_tied cuts_power may = tied_write site start es views j v _ at o (stored j (power_word site.shape) 1) (power_word site.shape) 1
       (λ n y q. q) refl (λ c e. absurd (cc)) refl (λ p d. d) (λ within. absurd (omega (arith, within))) inside
-      (λ c u y ne a has. let w = guarded_within site h.site_is words views h.locks c u (power_word site.shape) a (guarded c u (power_word site.shape) y a has) in omega (arith, w))
+      (λ c u y ne a has. let w = guarded_within site words views h.locks c u (power_word site.shape) a (guarded c u (power_word site.shape) y a has) in omega (arith, w))

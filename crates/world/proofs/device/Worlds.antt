@@ -1,5 +1,5 @@
 -- The world: one step does what its event says and keeps it well, and a restart leaves it well.
-use Rattle.std.proofs.Common.{◌≡◌, ℕ, zero, suc, ◌*◌, ◌<◌, ◌≤◌, Bool, true, false, cond, eqb, List, [], ◌∷◌, set, inl, inr, refl, sym, ap, ◌∙◌, subst, arith}
+use Rattle.std.proofs.Common.{◌≡◌, ℕ, zero, suc, ◌+◌, ◌*◌, ◌<◌, ◌≤◌, Bool, true, false, cond, eqb, List, [], ◌∷◌, set, inl, inr, refl, sym, ap, ◌∙◌, subst, arith}
 use mathlib.Core.Option.{some-injective, some-ne-none}
 use Rattle.op_core.specs.declared.want.Want.TheVariants.{Load, Store, Exchange, Flush, Fence, Draw, Power, Done}
 use Rattle.trace.specs.Events.{Words, with_word, Trace, value, after}
@@ -15,12 +15,13 @@ use Rattle.world.specs.Wants.{word_of, event_of}
 use Rattle.world.specs.Media.{MayLeave, IsPossible}
 use Rattle.map_model.specs.Weave.{draws}
 use Rattle.map_model.specs.Legal.{InOrder, seen_of}
-use Rattle.world.specs.Kinds.{Kind, wanted, view_after, May}
+use Rattle.world.specs.Kinds.{Kind, wanted, view_after}
+use Rattle.world.specs.Conditions.{May}
 use Rattle.world.specs.Invariant.{Holds}
 use Rattle.world.specs.Tied.{Tied}
 use Rattle.world.specs.World.{World, changed_at, IsWell, fresh_view, Begins}
 use Rattle.world.specs.Laws.{found_by, words_by, views_by, ChangesOneWord, DoesItsEvent, KeepsWell, BeginsWell, DeviceLeaves}
-use Rattle.world.proofs.Tables.{table_below, same_find}
+use Rattle.world.proofs.Tables.{same_keeps, core_structure_same, same_hit, same_find}
 use Rattle.world.proofs.Entries.{total_none}
 use Rattle.world.proofs.invariant.Keeps.{keeps_all}
 use Rattle.world.proofs.device.Ties.{keep_tied}
@@ -100,6 +101,7 @@ module _ (site : Site) (start : Words) (world : World) (b : Begins site start wo
       loose = λ j v i x at h. absurd (not_loose j v (i, x) at h);
     };
     plans = record {
+      places = λ j v c at h s b n own hit. absurd (none (λ v. v.planned) (λ _. refl) j v c at h);
       held = λ j v c at h. absurd (none (λ v. v.planned) (λ _. refl) j v c at h);
       stored = λ j v c at h. absurd (none (λ v. v.planned) (λ _. refl) j v c at h);
       fits = λ j v c at h. absurd (none (λ v. v.planned) (λ _. refl) j v c at h);
@@ -113,9 +115,21 @@ module _ (site : Site) (start : Words) (world : World) (b : Begins site start wo
       drawn = total_none (λ v. draws v.own) world.views (is_fresh (λ v. draws v.own ≡ 0) (λ n. refl));
       each_once = λ n below. absurd (omega (arith, below));
     };
+    copies = record {
+      once = λ s a r c t k x y. inl (b.once s a r c t k x y);
+      held = λ j v m at h. absurd (none (λ v. v.moving) (λ _. refl) j v m at h);
+    };
+    overflow = record {
+      exact = λ s a seg near _. b.exact s a seg near;
+      owes = λ j v o at h. absurd (none (λ v. v.owed) (λ _. refl) j v o at h);
+      held = λ j v o at h. absurd (none (λ v. v.owed) (λ _. refl) j v o at h);
+      fits = λ j v o at h. absurd (none (λ v. v.owed) (λ _. refl) j v o at h);
+    };
     media = record {
-      table = λ m p. table_below site b.site_is world.words m (λ i within. sym (cores m p i within)) b.table;
-      stands = λ m p k. inl (same_find site b.site_is m world.words k (cores m p) ∙ b.pairs k);
+      structure = λ m p i s. core_structure_same site world.words m (cores m p) i s ∙ b.structure i s;
+      table = λ m p. (same_keeps site world.words m (λ i within. sym (cores m p i within)) b.table).table;
+      stashed = λ m p s c t k small own hit. inl (same_hit site m world.words (cores m p) s (64 + c) t k hit);
+      stands = λ m p k. inl (same_find site m world.words k (cores m p) ∙ b.pairs k);
     };
     notes = record {
       noted = λ j v n at h. absurd (none (λ v. v.notes) (λ _. refl) j v n at h);

@@ -11,21 +11,22 @@ use Rattle.map_model.specs.declared.call.Call.TheVariants.{Get}
 use Rattle.map_model.specs.declared.entry.Reply.{Reply}
 use Rattle.map_model.specs.declared.entry.Reply.TheVariants.{Done, Spent}
 use Rattle.map_model.specs.declared.entry.Entry.{Entry}
-use Rattle.map_model.specs.Map.{key_of, is_change, shown}
+use Rattle.map_model.specs.Map.{key_of, is_done, shown}
 use Rattle.map_model.specs.Weave.{draws, drew_at}
 use Rattle.map_model.specs.Legal.{IsChange, InOrder, seen_of, seen_after}
 use Rattle.world.specs.Site.{Site, IsLockWord}
 use Rattle.world.specs.Views.{Answer, View, Has, At}
 use Rattle.world.specs.History.{Log, map_now, map_when, MayReply, HasRoomCause, IsRight, change_of}
 use Rattle.world.specs.Invariant.{total, History, IsAnswer, Holds}
-use Rattle.world.specs.Kinds.{Kind, peeks, asks_power, finds_room, refuses, places, looks, notes_word, validates, learns, meets_lock, tries, stores, publishes, flushes, fences, draws_place, unlocks, cuts_power, marked, all_again, next_entry, with_reply, with_answer, with_look, with_count, with_lock, with_draw, log_after, IsKnownReply, IsKnownCause, May}
+use Rattle.world.specs.Kinds.{Kind, peeks, asks_power, finds_room, refuses, places, looks, notes_word, validates, learns, meets_lock, tries, stores, copies, clears, repays, publishes, stashes, flushes, fences, draws_place, unlocks, cuts_power, marked, all_again, next_entry, with_reply, with_answer, with_look, with_count, with_lock, with_draw, log_after}
+use Rattle.world.specs.Conditions.{IsKnownReply, IsKnownCause, May}
 use Rattle.world.specs.Laws.{words_by, views_by}
 use Rattle.world.proofs.Grounds.{lock_within}
 use Rattle.world.proofs.Lists.{total_set, has_joined}
 use Rattle.world.proofs.Seats.{each, guarded_no_counter}
 use Rattle.world.proofs.Entries.{in_order_more, seen_of_more, count_more, count_none, total_none, drew_here, when_now, when_more, right_more, shown_may, shown_keeps, shown_cause, cause_alike}
 use Rattle.world.proofs.NotedLists.{marked_to, again_all}
-use Rattle.world.proofs.invariant.KeepMedia.{newest, newest_agrees, held_is_map}
+use Rattle.world.proofs.holding.Beside.{newest_is, holds_home, held_is_map, slot_is_pair, slots_differ}
 
 abbrev drew_of : ℕ → View → ℕ
 drew_of n v = length (filter (drew_at n) v.own)
@@ -61,7 +62,7 @@ history_same site words us views j v w log at o same own seen = record {
 module _ (site : Site) (words us : Words) (views : List View) (j : ℕ) (v w : View) (log log' : Log) (at : At views j v) (o : History site words views log) (e : Entry)
     (counter : us (counter_word site.shape) ≡ length log') (more : (x : Entry) → IsRight site.shape site.start log x → IsRight site.shape site.start log' x)
     (own : w.own ≡ v.own ++ e ∷ []) (seen : w.seen ≡ seen_after e)
-    (serial : e.serial ≡ suc (length v.own)) (drew : e.drew ≡ is_change e.reply) (later : v.seen ≤ e.place)
+    (serial : e.serial ≡ suc (length v.own)) (drew : e.drew ≡ is_done e.reply) (later : v.seen ≤ e.place)
     (right : IsRight site.shape site.start log' e) (count : length log' ≡ length log + cond e.drew 1 0) (place : e.drew ≡ true → e.place ≡ length log) where
   once_at : (n : ℕ) → n < length log' → total (drew_of n) (set views j w) ≡ 1
   once_at n below =
@@ -107,7 +108,7 @@ module _ (site : Site) (words : Words) (views : List View) (j : ℕ) (v : View) 
   elsewhere i x w other own seen = history_same site words (with_word words i x) views j v w h.log at h.history (replaced_other words i x (counter_word site.shape) other) own seen
 
   no_lock : (lock : ℕ) → IsLockWord site.shape lock → counter_word site.shape ≡ lock → ⊥
-  no_lock lock is e = let near = lock_within site.shape lock is h.site_is.front.one_segment in omega (arith, near, e)
+  no_lock lock is e = let near = lock_within site.shape lock is in omega (arith, near, e)
 
   tried : (lock free : ℕ) → IsLockWord site.shape lock → (t : Bool) → History site (after (cond t (exchanged j lock (free + 1)) (loaded j lock)) words) (set views j (with_lock t lock free v)) h.log
   tried lock free is true = elsewhere lock (free + 1) (with_lock true lock free v) (no_lock lock is) refl refl
@@ -115,14 +116,14 @@ module _ (site : Site) (words : Words) (views : List View) (j : ℕ) (v : View) 
 
   -- a reply that changes nothing, at a place that the history has reached
   replied : (w : View) (call : Call) (reply : Reply) (place : ℕ) → w.own ≡ v.own ++ next_entry v call reply place false ∷ [] → w.seen ≡ place
-      → is_change reply ≡ false → v.seen ≤ place → place ≤ length h.log → MayReply (map_when site.start h.log place (key_of call)) call reply
+      → is_done reply ≡ false → v.seen ≤ place → place ≤ length h.log → MayReply (map_when site.start h.log place (key_of call)) call reply
       → HasRoomCause site.shape (map_when site.start h.log place) call reply → History site words (set views j w) h.log
   replied w call reply place own seen keeps later within may cause =
       history_more site words words views j v w h.log h.log at h.history (next_entry v call reply place false) h.history.counter (λ x r. r) own seen refl (sym keeps) later
       (record { within = within; reply = may; cause = cause; drew = λ d. absurd (cc) }) (omega arith) (λ d. absurd (cc))
 
   counted : (w : View) (call : Call) (reply : Reply) (n : ℕ) → n ≡ words (counter_word site.shape) → w.own ≡ v.own ++ next_entry v call reply n false ∷ [] → w.seen ≡ n
-      → is_change reply ≡ false → MayReply (map_now site.start h.log (key_of call)) call reply → HasRoomCause site.shape (map_now site.start h.log) call reply → History site words (set views j w) h.log
+      → is_done reply ≡ false → MayReply (map_now site.start h.log (key_of call)) call reply → HasRoomCause site.shape (map_now site.start h.log) call reply → History site words (set views j w) h.log
   counted w call reply n is own seen keeps may cause =
       let c = h.history.counter in
       let s = h.history.within j v at in
@@ -130,15 +131,18 @@ module _ (site : Site) (words : Words) (views : List View) (j : ℕ) (v : View) 
       (subst (λ (a : Option ℕ). MayReply a call reply) (sym (when_now site.start h.log n (key_of call) (is ∙ c))) may)
       (cause_alike site.shape _ _ call reply (λ k. sym (when_now site.start h.log n k (is ∙ c))) cause)
 
-  refused : (call : Call) (reply : Reply) → is_change reply ≡ false → IsKnownReply site v call reply → IsKnownCause site v call reply
+  refused : (call : Call) (reply : Reply) → is_done reply ≡ false → IsKnownReply site v call reply → IsKnownCause site v call reply
       → History site words (set views j (with_reply v (next_entry v call reply (words (counter_word site.shape)) false))) h.log
   refused call reply keeps known caused = counted _ call reply (words (counter_word site.shape)) refl refl refl keeps (elim known [
     | inl any ↦ any (map_now site.start h.log (key_of call))
-    | inr k ↦ subst (λ (a : Option ℕ). MayReply a call reply) (held_is_map site words views j v h at (key_of call) k.0 k.1)
-        (k.2 words (h.media.table words (newest site words views)) (newest_agrees site words views j v h at))
+    | inr k ↦ subst (λ (a : Option ℕ). MayReply a call reply) (held_is_map site words views j v h at (key_of call) (holds_home site words views j v h at k.0 (key_of call) k.1) k.2)
+        (k.3 words (newest_is site words views j v h at))
   ])
-      (caused (map_now site.start h.log) words (h.media.table words (newest site words views)) (newest_agrees site words views j v h at)
-      (λ k held none. sym (held_is_map site words views j v h at k held none)))
+      (caused (map_now site.start h.log) words (newest_is site words views j v h at) (record {
+        known = λ k held none. sym (held_is_map site words views j v h at k held none);
+        records = λ s b r k lock none own hit. slot_is_pair site words views j v h at s b r k lock none own hit;
+        differ = λ s b r c t k lock still hit other. slots_differ site words views j v h at s b r c t k lock still hit other;
+      }))
 
   room : (call : Call) → IsChange call → (t : Bool) → History site words (set views j (with_count t call (words (counter_word site.shape)) v)) h.log
   room call change true = calm (with_count true call (words (counter_word site.shape)) v) refl refl
@@ -191,8 +195,12 @@ module _ (site : Site) (words : Words) (views : List View) (j : ℕ) (v : View) 
   keep_history (learns i) may = calm _ refl refl
   keep_history (meets_lock lock) may = calm _ refl refl
   keep_history (tries lock free) may = tried lock free may.0 (eqb (words lock) free)
-  keep_history (stores i x) may = elsewhere i x _ (λ e. guarded_no_counter site h.site_is words views h.locks j v i at may.0 (sym e)) refl refl
-  keep_history (publishes i x call) may = elsewhere i x _ (λ e. guarded_no_counter site h.site_is words views h.locks j v i at may.0 (sym e)) refl refl
+  keep_history (stores i x) may = elsewhere i x _ (λ e. guarded_no_counter site words views h.locks j v i at may.0.guarded (sym e)) refl refl
+  keep_history (copies i x m) may = elsewhere i x _ (λ e. guarded_no_counter site words views h.locks j v i at may.0.guarded (sym e)) refl refl
+  keep_history (clears i x m) may = elsewhere i x _ (λ e. guarded_no_counter site words views h.locks j v i at may.0.guarded (sym e)) refl refl
+  keep_history (repays i x o) may = elsewhere i x _ (λ e. guarded_no_counter site words views h.locks j v i at may.0.guarded (sym e)) refl refl
+  keep_history (publishes i x call) may = elsewhere i x _ (λ e. guarded_no_counter site words views h.locks j v i at may.0.guarded (sym e)) refl refl
+  keep_history (stashes i x call o) may = elsewhere i x _ (λ e. guarded_no_counter site words views h.locks j v i at may.0.guarded (sym e)) refl refl
   keep_history (flushes l) may = calm _ refl refl
   keep_history fences may = calm _ refl refl
   keep_history (draws_place call) may = drawn call may.0

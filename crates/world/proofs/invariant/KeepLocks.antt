@@ -12,7 +12,8 @@ use Rattle.world.specs.Site.{Site, IsLockWord}
 use Rattle.world.specs.Views.{Answer, View, Has, At, HasLock, IsGuarded}
 use Rattle.world.specs.Invariant.{Locks, Holds}
 use Rattle.map_model.specs.declared.call.Call.{Call}
-use Rattle.world.specs.Kinds.{Kind, peeks, asks_power, finds_room, refuses, places, looks, notes_word, validates, learns, meets_lock, tries, stores, publishes, flushes, fences, draws_place, unlocks, cuts_power, without, marked, all_again, with_answer, with_look, with_count, with_lock, May}
+use Rattle.world.specs.Kinds.{Kind, peeks, asks_power, finds_room, refuses, places, looks, notes_word, validates, learns, meets_lock, tries, stores, copies, clears, repays, publishes, stashes, flushes, fences, draws_place, unlocks, cuts_power, without, marked, all_again, with_answer, with_look, with_count, with_lock}
+use Rattle.world.specs.Conditions.{May}
 use Rattle.world.specs.Laws.{words_by, views_by}
 use Rattle.world.proofs.Grounds.{lock_within}
 use Rattle.world.proofs.Lists.{set_here}
@@ -113,7 +114,7 @@ module _ (site : Site) (words : Words) (views : List View) (j : ℕ) (v : View) 
 
   stored : (i x : ℕ) (w : View) → w.held ≡ v.held → IsGuarded v.held i → Locks site (with_word words i x) (set views j w)
   stored i x w held g = locks_same site words (with_word words i x) views j v w at h.locks held
-      (λ lock is. replaced_other words i x lock (λ e. guarded_no_lock site h.site_is words views h.locks j v i lock at g is (sym e)))
+      (λ lock is. replaced_other words i x lock (λ e. guarded_no_lock site words views h.locks j v i lock at g is (sym e)))
 
   tried : (lock free : ℕ) → IsLockWord site.shape lock → free % 2 ≡ 0 → (t : Bool) → eqb (words lock) free ≡ t
       → Locks site (after (cond t (exchanged j lock (free + 1)) (loaded j lock)) words) (set views j (with_lock t lock free v))
@@ -123,7 +124,7 @@ module _ (site : Site) (words : Words) (views : List View) (j : ℕ) (v : View) 
   drawn : (w : View) → w.held ≡ v.held → (x : ℕ) → Locks site (with_word words (counter_word site.shape) x) (set views j w)
   drawn w held x = locks_same site words (with_word words (counter_word site.shape) x) views j v w at h.locks held
       (λ lock is. replaced_other words (counter_word site.shape) x lock
-      (λ e. let near = lock_within site.shape lock is h.site_is.front.one_segment in omega (arith, near, e)))
+      (λ e. let near = lock_within site.shape lock is in omega (arith, near, e)))
 
   pub keep_locks : (kind : Kind) → May site kind v → Locks site (words_by site kind j words) (views_by site kind j v words views)
   keep_locks (peeks i) may = calm _ refl
@@ -137,11 +138,15 @@ module _ (site : Site) (words : Words) (views : List View) (j : ℕ) (v : View) 
   keep_locks (learns i) may = calm _ refl
   keep_locks (meets_lock lock) may = calm _ refl
   keep_locks (tries lock free) may = tried lock free may.0 may.1 (eqb (words lock) free) refl
-  keep_locks (stores i x) may = stored i x _ refl may.0
-  keep_locks (publishes i x call) may = stored i x _ refl may.0
+  keep_locks (stores i x) may = stored i x _ refl may.0.guarded
+  keep_locks (copies i x m) may = stored i x _ refl may.0.guarded
+  keep_locks (clears i x m) may = stored i x _ refl may.0.guarded
+  keep_locks (repays i x o) may = stored i x _ refl may.0.guarded
+  keep_locks (publishes i x call) may = stored i x _ refl may.0.guarded
+  keep_locks (stashes i x call o) may = stored i x _ refl may.0.guarded
   keep_locks (flushes l) may = calm _ refl
   keep_locks fences may = calm _ refl
   keep_locks (draws_place call) may = drawn _ refl _
-  keep_locks (unlocks lock next) may = locks_freed site words views j v _ at h.locks lock may.0 next may.1 may.4 refl
+  keep_locks (unlocks lock next) may = locks_freed site words views j v _ at h.locks lock may.0 next may.1 may.6 refl
   keep_locks cuts_power may = locks_same site words (with_word words (power_word site.shape) 1) views j v _ at h.locks refl
-      (λ lock is. replaced_other words (power_word site.shape) 1 lock (λ e. let near = lock_within site.shape lock is h.site_is.front.one_segment in omega (arith, near, e)))
+      (λ lock is. replaced_other words (power_word site.shape) 1 lock (λ e. let near = lock_within site.shape lock is in omega (arith, near, e)))

@@ -7,20 +7,25 @@ use native.Mathlib.Decide.{ℕ_discrete}
 use Rattle.trace.specs.Events.{Words, with_word, after}
 use Rattle.trace.specs.Events.Event.{loaded, exchanged}
 use Rattle.trace.proofs.Replaced.{replaced_same, replaced_other}
+use Rattle.image_layout.specs.Places.{bucket_at}
+use Rattle.hash_word.specs.Hash.{home_of}
+use Rattle.sound_image.specs.Records.{key_hash}
 use Rattle.image_layout.specs.Volatile.{counter_word, power_word}
 use Rattle.map_model.specs.declared.call.Call.{Call}
-use Rattle.bucket_words.specs.Tables.{home_at}
+use Rattle.std.specs.Option.{unwrap_or}
+use Rattle.bucket_words.specs.Owners.{home_at}
 use Rattle.world.specs.Site.{Site, IsLockWord, IsUnder}
 use Rattle.world.specs.Views.{Note, Answer, View, Has, At, IsGuarded}
 use Rattle.world.specs.History.{Log, Change, change_of}
 use Rattle.world.specs.Invariant.{IsNote, IsUnmoved, IsAnswer, Notes, Holds}
-use Rattle.world.specs.Kinds.{Kind, peeks, asks_power, finds_room, refuses, places, looks, notes_word, validates, learns, meets_lock, tries, stores, publishes, flushes, fences, draws_place, unlocks, cuts_power, with_noted, unmarked, marked, all_again, next_entry, with_reply, with_answer, with_look, with_count, with_lock, with_draw, log_after, May}
+use Rattle.world.specs.Kinds.{Kind, peeks, asks_power, finds_room, refuses, places, looks, notes_word, validates, learns, meets_lock, tries, stores, copies, clears, repays, publishes, stashes, flushes, fences, draws_place, unlocks, cuts_power, with_noted, unmarked, marked, all_again, next_entry, with_reply, with_answer, with_look, with_count, with_lock, with_draw, log_after}
+use Rattle.world.specs.Conditions.{IsNow, May}
 use Rattle.world.specs.Laws.{words_by, views_by}
 use Rattle.world.proofs.Grounds.{one_lock, lock_apart, lock_within}
 use Rattle.world.proofs.Seats.{each, guarded_no_lock}
 use Rattle.world.proofs.Entries.{when_now, when_more}
 use Rattle.world.proofs.NotedLists.{noted_from, noted_to, marked_from, marked_to, unmarked_from, unmarked_to}
-use Rattle.world.proofs.invariant.KeepMedia.{newest, free_is_map}
+use Rattle.world.proofs.holding.Beside.{newest, free_is_map}
 
 -- what words may become of a noted bucket: its lock word does not fall, and while it is the free value nothing changed
 abbrev pub Rises : Words → Words → Note → Type 0
@@ -93,7 +98,7 @@ module _ (site : Site) (words : Words) (views : List View) (j : ℕ) (v : View) 
   stored : (i x : ℕ) → IsGuarded v.held i → (n : Note) → IsNote site words n → Rises words (with_word words i x) n
   stored i x g n f =
       let l = h.locks.locked j v g.0 g.1.0 at g.1.1 in
-      let lock : with_word words i x n.lock ≡ words n.lock = replaced_other words i x n.lock (λ e. guarded_no_lock site h.site_is words views h.locks j v i n.lock at g f.lock (sym e)) in (
+      let lock : with_word words i x n.lock ≡ words n.lock = replaced_other words i x n.lock (λ e. guarded_no_lock site words views h.locks j v i n.lock at g f.lock (sym e)) in (
         omega (arith, lock),
         (λ e. (
           sym lock ∙ e,
@@ -132,7 +137,7 @@ module _ (site : Site) (words : Words) (views : List View) (j : ℕ) (v : View) 
 
   drawn : (call : Call) (n x : ℕ) → Notes site (with_word words (counter_word site.shape) x) (set views j (with_draw call n v)) (change_of call ∷ h.log)
   drawn call n x = notes_law site words _ views h.log (change_of call ∷ h.log) j v _ at h.notes
-      (λ n f. let near = lock_within site.shape n.lock f.lock h.site_is.front.one_segment in
+      (λ n f. let near = lock_within site.shape n.lock f.lock in
       let same : with_word words (counter_word site.shape) x n.lock ≡ words n.lock = replaced_other words (counter_word site.shape) x n.lock (λ e. omega (arith, near, e)) in
       (omega (arith, same), (λ e. (sym same ∙ e, (λ m q. replaced_other words (counter_word site.shape) x m (λ s. let u = q.1 in omega (arith, near, u, s)))))))
       (λ seen a r. answer_more site h.log (change_of call) seen a r) (none_noted site _ (change_of call ∷ h.log) (with_draw call n v) refl refl)
@@ -197,17 +202,32 @@ module _ (site : Site) (words : Words) (views : List View) (j : ℕ) (v : View) 
       some_same : {b : Answer} → Some (record { key = k; value = a; place = words (counter_word site.shape) }) ≡ Some b → record { key = k; value = a; place = words (counter_word site.shape) } ≡ b
       some_same e = cc
 
+      both_ways : (a b x free : ℕ) → a ≡ b → a ≡ x → x % 2 ≡ 1 → b ≡ free → free % 2 ≡ 0 → ⊥
+      both_ways a b x free e f odd g even = omega (arith, e, f, odd, g, even)
+
       right : ((n : Note) → Has n v.notes → words n.lock ≡ n.free) → IsAnswer site h.log v.seen (record { key = k; value = a; place = words (counter_word site.shape) })
       right free =
-          let n = may.0.0 in
-          let f = mine.0 n may.0.1 in
-          let even : words (home_at site.shape k) % 2 ≡ 0 = ap (λ (z : ℕ). words z % 2) (sym may.0.2) ∙ (ap (λ (z : ℕ). z % 2) (free n may.0.1) ∙ f.free) in
+          let n = may.1.0 in
+          let f = mine.0 n may.1.1 in
+          let now : IsNow site v.notes words = record {
+            structure = h.media.structure words (newest site words views);
+            table = h.media.table words (newest site words views);
+            agrees = λ o i x has in_words. (mine.0 o has).same (free o has) i x in_words;
+            exact = λ s b o seg near has place. h.overflow.exact s b seg near (λ i u q a owes e f.
+                let held = h.overflow.held i u q a owes in
+                let same : bucket_at site.shape q.segment q.home ≡ o.lock = ap (λ z. bucket_at site.shape z q.home) e ∙ (ap (bucket_at site.shape s) f ∙ sym place) in
+                let l = h.locks.locked i u (bucket_at site.shape q.segment q.home) held.0 a held.1 in
+                both_ways (words (bucket_at site.shape q.segment q.home)) (words o.lock) held.0 o.free (ap words same) l.1 l.2 (free o has) (mine.0 o has).free);
+          } in
+          let told = may.2 words now in
+          let place : n.lock ≡ home_at site.shape words k = may.1.2 ∙ ap (λ z. bucket_at site.shape (unwrap_or z 0) (home_of (key_hash site.shape k))) (sym told.0) in
+          let even : words (home_at site.shape words k) % 2 ≡ 0 = ap (λ (z : ℕ). words z % 2) (sym place) ∙ (ap (λ (z : ℕ). z % 2) (free n may.1.1) ∙ f.free) in
           let c = h.history.counter in
           record {
             within = omega (arith, c);
             had = when_now site.start h.log (words (counter_word site.shape)) k c
                 ∙ (sym (free_is_map site words views h k even)
-                ∙ may.1 words (h.media.table words (newest site words views)) (λ o i x has in_words. (mine.0 o has).same (free o has) i x in_words));
+                ∙ told.1);
             after_seen = (let s = h.history.within j v at in omega (arith, c, s));
           }
 
@@ -227,14 +247,18 @@ module _ (site : Site) (words : Words) (views : List View) (j : ℕ) (v : View) 
   keep_notes (learns i) may = calm _ mine
   keep_notes (meets_lock lock) may = calm _ mine
   keep_notes (tries lock free) may = tried lock free may.0 (eqb (words lock) free) refl
-  keep_notes (stores i x) may = moved _ _ refl refl refl (stored i x may.0)
-  keep_notes (publishes i x call) may = moved _ _ refl refl refl (stored i x may.0)
+  keep_notes (stores i x) may = moved _ _ refl refl refl (stored i x may.0.guarded)
+  keep_notes (copies i x m) may = moved _ _ refl refl refl (stored i x may.0.guarded)
+  keep_notes (clears i x m) may = moved _ _ refl refl refl (stored i x may.0.guarded)
+  keep_notes (repays i x o) may = moved _ _ refl refl refl (stored i x may.0.guarded)
+  keep_notes (publishes i x call) may = moved _ _ refl refl refl (stored i x may.0.guarded)
+  keep_notes (stashes i x call o) may = moved _ _ refl refl refl (stored i x may.0.guarded)
   keep_notes (flushes l) may = calm _ mine
   keep_notes fences may = calm _ mine
   keep_notes (draws_place call) may = drawn call _ _
-  keep_notes (unlocks lock next) may = let l = h.locks.locked j v lock may.0 at may.1 in let e = may.4 in let now = l.1 in
+  keep_notes (unlocks lock next) may = let l = h.locks.locked j v lock may.0 at may.1 in let e = may.6 in let now = l.1 in
       moved _ _ refl refl refl (relocked lock next l.0 (omega (arith, now, e)))
   keep_notes cuts_power may = moved _ _ refl refl refl
-      (λ n f. let near = lock_within site.shape n.lock f.lock h.site_is.front.one_segment in
+      (λ n f. let near = lock_within site.shape n.lock f.lock in
       let same : with_word words (power_word site.shape) 1 n.lock ≡ words n.lock = replaced_other words (power_word site.shape) 1 n.lock (λ e. omega (arith, near, e)) in
       (omega (arith, same), (λ e. (sym same ∙ e, (λ m q. replaced_other words (power_word site.shape) 1 m (λ s. let u = q.1 in omega (arith, near, u, s)))))))

@@ -8,7 +8,8 @@ use Rattle.map_model.specs.declared.call.Call.{Call}
 use Rattle.world.specs.Site.{Site, IsLockWord}
 use Rattle.world.specs.Views.{Answer, View, At, IsGuarded}
 use Rattle.world.specs.Invariant.{Powered, Holds}
-use Rattle.world.specs.Kinds.{Kind, peeks, asks_power, finds_room, refuses, places, looks, notes_word, validates, learns, meets_lock, tries, stores, publishes, flushes, fences, draws_place, unlocks, cuts_power, marked, with_answer, with_look, with_count, with_lock, May}
+use Rattle.world.specs.Kinds.{Kind, peeks, asks_power, finds_room, refuses, places, looks, notes_word, validates, learns, meets_lock, tries, stores, copies, clears, repays, publishes, stashes, flushes, fences, draws_place, unlocks, cuts_power, marked, with_answer, with_look, with_count, with_lock}
+use Rattle.world.specs.Conditions.{May}
 use Rattle.world.specs.Laws.{words_by, views_by}
 use Rattle.world.proofs.Grounds.{lock_within}
 use Rattle.world.proofs.Lists.{set_here}
@@ -29,10 +30,10 @@ module _ (site : Site) (words : Words) (views : List View) (j : ℕ) (v : View) 
   elsewhere i x w other = calm (with_word words i x) w (replaced_other words i x power (λ q. other (sym q)))
 
   lock_apart : (lock : ℕ) → IsLockWord site.shape lock → lock ≡ power → ⊥
-  lock_apart lock is same = let near = lock_within site.shape lock is h.site_is.front.one_segment in omega (arith, near, same)
+  lock_apart lock is same = let near = lock_within site.shape lock is in omega (arith, near, same)
 
   guarded_apart : (i : ℕ) → IsGuarded v.held i → i ≡ power → ⊥
-  guarded_apart i g same = let near = guarded_within site h.site_is words views h.locks j v i at g in omega (arith, near, same)
+  guarded_apart i g same = let near = guarded_within site words views h.locks j v i at g in omega (arith, near, same)
 
   tried : (lock free : ℕ) → IsLockWord site.shape lock → (t : Bool) → Powered site (after (cond t (exchanged j lock (free + 1)) (loaded j lock)) words) (set views j (with_lock t lock free v))
   tried lock free is true = elsewhere lock (free + 1) _ (lock_apart lock is) refl
@@ -63,8 +64,12 @@ module _ (site : Site) (words : Words) (views : List View) (j : ℕ) (v : View) 
   keep_powered (learns i) may = calm words _ refl refl
   keep_powered (meets_lock lock) may = calm words _ refl refl
   keep_powered (tries lock free) may = tried lock free may.0 (eqb (words lock) free)
-  keep_powered (stores i x) may = elsewhere i x _ (guarded_apart i may.0) refl
-  keep_powered (publishes i x call) may = elsewhere i x _ (guarded_apart i may.0) refl
+  keep_powered (stores i x) may = elsewhere i x _ (guarded_apart i may.0.guarded) refl
+  keep_powered (copies i x m) may = elsewhere i x _ (guarded_apart i may.0.guarded) refl
+  keep_powered (clears i x m) may = elsewhere i x _ (guarded_apart i may.0.guarded) refl
+  keep_powered (repays i x o) may = elsewhere i x _ (guarded_apart i may.0.guarded) refl
+  keep_powered (publishes i x call) may = elsewhere i x _ (guarded_apart i may.0.guarded) refl
+  keep_powered (stashes i x call o) may = elsewhere i x _ (guarded_apart i may.0.guarded) refl
   keep_powered (flushes l) may = calm words _ refl refl
   keep_powered fences may = calm words _ refl refl
   keep_powered (draws_place call) may = elsewhere (counter_word site.shape) ((words (counter_word site.shape) + 1) % 2 ^ 64) _ (λ e. omega (arith, e)) refl

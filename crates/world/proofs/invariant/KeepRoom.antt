@@ -9,7 +9,8 @@ use Rattle.world.specs.Site.{Site}
 use Rattle.world.specs.Views.{Answer, View, At}
 use Rattle.world.specs.History.{Log}
 use Rattle.world.specs.Invariant.{total, Room, Holds}
-use Rattle.world.specs.Kinds.{Kind, peeks, asks_power, finds_room, refuses, places, looks, notes_word, validates, learns, meets_lock, tries, stores, publishes, flushes, fences, draws_place, unlocks, cuts_power, marked, all_again, with_answer, with_look, with_count, with_lock, with_draw, log_after, May}
+use Rattle.world.specs.Kinds.{Kind, peeks, asks_power, finds_room, refuses, places, looks, notes_word, validates, learns, meets_lock, tries, stores, copies, clears, repays, publishes, stashes, flushes, fences, draws_place, unlocks, cuts_power, marked, all_again, with_answer, with_look, with_count, with_lock, with_draw, log_after}
+use Rattle.world.specs.Conditions.{May}
 use Rattle.world.specs.Laws.{views_by}
 use Rattle.world.proofs.Lists.{total_set, total_most}
 use Rattle.world.proofs.Seats.{each}
@@ -72,10 +73,14 @@ module _ (site : Site) (words : Words) (views : List View) (j : ℕ) (v : View) 
   keep_room (meets_lock lock) may = calm _ refl refl
   keep_room (tries lock free) may = tried lock free (eqb (words lock) free)
   keep_room (stores i x) may = calm _ refl refl
+  keep_room (copies i x m) may = calm _ refl refl
+  keep_room (clears i x m) may = calm _ refl refl
+  keep_room (repays i x o) may = calm _ refl refl
   keep_room (publishes i x call) may = calm _ refl refl
+  keep_room (stashes i x call o) may = calm _ refl refl
   keep_room (flushes l) may = calm _ refl refl
   keep_room fences may = calm _ refl refl
-  keep_room (draws_place call) may = let r = h.room.few in let some = may.2 in
+  keep_room (draws_place call) may = let r = h.room.few in let some = may.1 in
       room_law site views j v (with_draw call (words (counter_word site.shape)) v) h.log _ at h.room refl (omega arith) (omega (arith, r, some))
   keep_room (unlocks lock next) may = calm _ refl refl
   keep_room cuts_power may = calm _ refl refl

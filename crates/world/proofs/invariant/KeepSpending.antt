@@ -13,7 +13,8 @@ use Rattle.world.specs.Site.{Site, IsSpentLock, HasSpentLock}
 use Rattle.world.specs.Views.{Answer, View, Has, At}
 use Rattle.world.specs.History.{Log}
 use Rattle.world.specs.Invariant.{Spending, Holds}
-use Rattle.world.specs.Kinds.{Kind, peeks, asks_power, finds_room, refuses, places, looks, notes_word, validates, learns, meets_lock, tries, stores, publishes, flushes, fences, draws_place, unlocks, cuts_power, marked, all_again, next_entry, with_answer, with_look, with_count, with_spent, with_lock, log_after, May, view_after}
+use Rattle.world.specs.Kinds.{Kind, peeks, asks_power, finds_room, refuses, places, looks, notes_word, validates, learns, meets_lock, tries, stores, copies, clears, repays, publishes, stashes, flushes, fences, draws_place, unlocks, cuts_power, marked, all_again, next_entry, with_answer, with_look, with_count, with_spent, with_lock, log_after, view_after}
+use Rattle.world.specs.Conditions.{May}
 use Rattle.world.specs.Laws.{found_by, words_by, views_by}
 use Rattle.world.proofs.Lists.{has_joined}
 use Rattle.world.proofs.Seats.{each}
@@ -131,7 +132,11 @@ module _ (site : Site) (words : Words) (views : List View) (j : ℕ) (v : View) 
       own_by true = refl
       own_by false = refl
   keep_spending (stores i x) may = calm (stores i x) may refl refl refl
+  keep_spending (copies i x m) may = calm (copies i x m) may refl refl refl
+  keep_spending (clears i x m) may = calm (clears i x m) may refl refl refl
+  keep_spending (repays i x o) may = calm (repays i x o) may refl refl refl
   keep_spending (publishes i x call) may = calm (publishes i x call) may refl refl refl
+  keep_spending (stashes i x call o) may = calm (stashes i x call o) may refl refl refl
   keep_spending (flushes l) may = calm (flushes l) may refl refl refl
   keep_spending fences may = calm fences may refl refl refl
   keep_spending (draws_place call) may = replied (draws_place call) may (next_entry v call Done n true) (omega arith) refl refl

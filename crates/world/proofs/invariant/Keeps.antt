@@ -7,6 +7,8 @@ use Rattle.world.proofs.invariant.KeepKnown.{keep_known}
 use Rattle.world.proofs.invariant.KeepPlans.{keep_plans}
 use Rattle.world.proofs.invariant.KeepHistory.{keep_history}
 use Rattle.world.proofs.invariant.KeepMedia.{keep_media}
+use Rattle.world.proofs.invariant.KeepCopies.{keep_copies}
+use Rattle.world.proofs.invariant.KeepOverflow.{keep_overflow}
 use Rattle.world.proofs.invariant.KeepNotes.{keep_notes}
 use Rattle.world.proofs.invariant.KeepRoom.{keep_room}
 use Rattle.world.proofs.invariant.KeepSpending.{keep_spending}
@@ -20,6 +22,8 @@ keeps_all site kind words views j v h at may = record {
   known = keep_known site words views j v h at kind may;
   plans = keep_plans site words views j v h at kind may;
   history = keep_history site words views j v h at kind may;
+  copies = keep_copies site words views j v h at kind may;
+  overflow = keep_overflow site words views j v h at kind may;
   media = keep_media site words views j v h at kind may;
   notes = keep_notes site words views j v h at kind may;
   room = keep_room site words views j v h at kind may;

@@ -8,7 +8,7 @@ use Rattle.map_model.specs.declared.entry.Entry.{Entry}
 use Rattle.world.specs.Site.{Site}
 use Rattle.world.specs.Views.{Answer, View, At}
 use Rattle.world.specs.Invariant.{IsAnswer, Holds}
-use Rattle.world.specs.Kinds.{Kind, peeks, asks_power, finds_room, refuses, places, looks, notes_word, validates, learns, meets_lock, tries, stores, publishes, flushes, fences, draws_place, unlocks, cuts_power, wanted, with_answer, with_look, with_count, with_lock, all_again, marked, view_after}
+use Rattle.world.specs.Kinds.{Kind, peeks, asks_power, finds_room, refuses, places, looks, notes_word, validates, learns, meets_lock, tries, stores, copies, clears, repays, publishes, stashes, flushes, fences, draws_place, unlocks, cuts_power, wanted, with_answer, with_look, with_count, with_lock, all_again, marked, view_after}
 use Rattle.world.specs.Wants.{word_of}
 use Rattle.world.proofs.NotedLists.{marked_to, again_all}
 use Rattle.world.specs.Later.{IsLater, RepliesComeLater}
@@ -61,7 +61,11 @@ module _ (site : Site) (words : Words) (views : List View) (j : ℕ) (v : View) 
   later_at (meets_lock lock) = same v _ refl refl
   later_at (tries lock free) = lock_won (words lock == free) lock free
   later_at (stores i x) = same v _ refl refl
+  later_at (copies i x m) = same v _ refl refl
+  later_at (clears i x m) = same v _ refl refl
+  later_at (repays i x o) = same v _ refl refl
   later_at (publishes i x call) = same v _ refl refl
+  later_at (stashes i x call o) = same v _ refl refl
   later_at (flushes l) = same v _ refl refl
   later_at fences = same v _ refl refl
   later_at (draws_place call) = one v _ _ refl (at_counter _ refl) (let s = at_counter (words (counter_word site.shape)) refl in omega (arith, s))

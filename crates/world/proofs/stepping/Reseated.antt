@@ -7,12 +7,14 @@ use mathlib.Core.Logic.{dite}
 use mathlib.Core.Option.{some-injective, some-ne-none}
 use native.Mathlib.Decide.{ℕ_discrete}
 use Rattle.trace.specs.Events.{Words}
+use Rattle.image_layout.specs.Places.{bucket_at}
 use Rattle.map_model.specs.declared.call.Call.{Call}
+use Rattle.map_model.specs.declared.call.Call.TheVariants.{Remove}
 use Rattle.map_model.specs.declared.entry.Entry.{Entry}
 use Rattle.map_model.specs.Weave.{draws, drew_at}
 use Rattle.map_model.specs.Legal.{InOrder, seen_of}
 use Rattle.world.specs.Site.{Site}
-use Rattle.world.specs.Views.{Note, View, Has, At, IsGuarded, IsLoose}
+use Rattle.world.specs.Views.{Note, Move, Owed, View, Has, At, IsGuarded, IsLoose}
 use Rattle.world.specs.Media.{IsPossible}
 use Rattle.world.specs.Invariant.{total, IsAnswer, Holds}
 use Rattle.world.specs.Seats.{cut_off, left_of, joined, spent, CutsKeep, JoinsKeep}
@@ -42,11 +44,15 @@ pub record Reseats (views views' : List View) : Type 0 where
   pub known : (i : ℕ) (u : View) (p : ℕ × ℕ) → At views' i u → Has p u.known → From views goes i u (λ o. Has p o.known)
   pub loose : (i : ℕ) (u : View) (p : ℕ × ℕ) → At views' i u → IsLoose u p → From views goes i u (λ o. IsLoose o p)
   pub planned : (i : ℕ) (u : View) (c : Call) → At views' i u → Has c u.planned → From views goes i u (λ o. Has c o.planned)
+  pub moving : (i : ℕ) (u : View) (m : Move) → At views' i u → Has m u.moving → From views goes i u (λ o. Has m o.moving)
+  pub owed : (i : ℕ) (u : View) (d : Owed) → At views' i u → Has d u.owed → From views goes i u (λ o. Has d o.owed)
   pub notes : (i : ℕ) (u : View) → At views' i u → KeepsNotes views u
   pub own : (i : ℕ) (u : View) → At views' i u → KeepsOwn views u
   pub seen : (i : ℕ) (u : View) → At views' i u → (j : ℕ) × (o : View) × At views j o × (u.seen ≤ o.seen)
   pub locks_stay : (j : ℕ) (o : View) (p : ℕ × ℕ) → At views j o → Has p o.held → (u : View) × At views' (goes j) u × Has p u.held
   pub planned_stays : (j : ℕ) (o : View) (c : Call) → At views j o → Has c o.planned → (u : View) × At views' (goes j) u × Has c u.planned
+  pub moving_stays : (j : ℕ) (o : View) (m : Move) → At views j o → Has m o.moving → (u : View) × At views' (goes j) u × Has m u.moving
+  pub owed_stays : (j : ℕ) (o : View) (d : Owed) → At views j o → Has d o.owed → (u : View) × At views' (goes j) u × Has d u.owed
   pub draws : total (λ v. draws v.own) views' ≡ total (λ v. draws v.own) views
   pub drew : (n : ℕ) → total (λ v. length (filter (drew_at n) v.own)) views' ≡ total (λ v. length (filter (drew_at n) v.own)) views
   pub callers : total (λ v. v.callers) views' ≡ total (λ v. v.callers) views
@@ -80,6 +86,7 @@ module _ (site : Site) (words : Words) (views views' : List View) (h : Holds sit
       loose = λ j v i x at q. (let f = r.loose j v (i, x) at q in guarded v f.old i f.locks (h.known.loose f.seat f.old i x f.at f.has));
     };
     plans = record {
+      places = λ j v c at q s b n own hit. (let f = r.planned j v c at q in let l = h.plans.places f.seat f.old c f.at f.has s b n own hit in (l.0, f.locks _ l.1));
       held = λ j v c at q. (let f = r.planned j v c at q in let l = h.plans.held f.seat f.old c f.at f.has in (l.0, f.locks _ l.1));
       stored = λ j v c at q. (let f = r.planned j v c at q in h.plans.stored f.seat f.old c f.at f.has);
       fits = λ j v c at q. (let f = r.planned j v c at q in h.plans.fits f.seat f.old c f.at f.has);
@@ -102,8 +109,29 @@ module _ (site : Site) (words : Words) (views views' : List View) (h : Holds sit
       drawn = r.draws ∙ h.history.drawn;
       each_once = λ n below. r.drew n ∙ h.history.each_once n below;
     };
+    copies = record {
+      once = λ s b n c t k x y. elim (h.copies.once s b n c t k x y) [
+        | inl e ↦ inl e
+        | inr o ↦ (let q = r.moving_stays o.0 o.1 o.2 o.3 o.4 in inr (r.goes o.0, q.0, o.2, q.1, q.2, o.5))
+      ];
+      held = λ j v m at q. (let f = r.moving j v m at q in let l = h.copies.held f.seat f.old m f.at f.has in
+          ((l.0.0, f.locks _ l.0.1), (l.1.0, f.locks _ l.1.1), (l.2.0, f.locks _ l.2.1)));
+    };
+    overflow = record {
+      exact = λ s b seg near none. h.overflow.exact s b seg near (λ j o d at has. (let q = r.owed_stays j o d at has in none (r.goes j) q.0 d q.1 q.2));
+      owes = λ j v d at q. (let f = r.owed j v d at q in h.overflow.owes f.seat f.old d f.at f.has);
+      held = λ j v d at q. (let f = r.owed j v d at q in let l = h.overflow.held f.seat f.old d f.at f.has in (l.0, f.locks _ l.1));
+      fits = λ j v d at q. (let f = r.owed j v d at q in h.overflow.fits f.seat f.old d f.at f.has);
+    };
     media = record {
+      structure = λ m p. h.media.structure m (fewer m p);
       table = λ m p. h.media.table m (fewer m p);
+      stashed = λ m p s c t k small own hit. elim (h.media.stashed m (fewer m p) s c t k small own hit) [
+        | inl e ↦ inl e
+        | inr o ↦ (let a = r.planned_stays o.0 o.1 (Remove k) o.2 o.3 in let b = r.locks_stay o.0 o.1 (bucket_at site.shape s (64 + c), o.4.0) o.2 o.4.1 in
+            let e : b.0 ≡ a.0 = same_at views' (r.goes o.0) b.0 a.0 b.1 a.1 in
+            inr (r.goes o.0, a.0, a.1, a.2, (o.4.0, subst (λ (z : View). Has (bucket_at site.shape s (64 + c), o.4.0) z.held) e b.2)))
+      ];
       stands = λ m p k. elim (h.media.stands m (fewer m p) k) [
         | inl e ↦ inl e
         | inr s ↦ (let t = r.planned_stays s.0 s.1 s.2 s.3 s.4 in inr (r.goes s.0, t.0, s.2, t.1, t.2, s.5, s.6))
@@ -190,11 +218,19 @@ module _ (views : List View) (j : ℕ) (v : View) (n : ℕ) (at : At views j v) 
     planned = λ i u c a q. new_views (λ i u. Has c u.planned → From views (λ i. i) i u (λ o. Has c o.planned))
         (λ q. record { seat = j; old = v; at = at; went = refl; locks = λ p l. l; has = q })
         (λ i u ne a q. record { seat = i; old = u; at = a; went = refl; locks = λ p l. l; has = q }) (λ i q. absurd q) i u a q;
+    moving = λ i u c a q. new_views (λ i u. Has c u.moving → From views (λ i. i) i u (λ o. Has c o.moving))
+        (λ q. record { seat = j; old = v; at = at; went = refl; locks = λ p l. l; has = q })
+        (λ i u ne a q. record { seat = i; old = u; at = a; went = refl; locks = λ p l. l; has = q }) (λ i q. absurd q) i u a q;
+    owed = λ i u c a q. new_views (λ i u. Has c u.owed → From views (λ i. i) i u (λ o. Has c o.owed))
+        (λ q. record { seat = j; old = v; at = at; went = refl; locks = λ p l. l; has = q })
+        (λ i u ne a q. record { seat = i; old = u; at = a; went = refl; locks = λ p l. l; has = q }) (λ i q. absurd q) i u a q;
     notes = new_views (λ i u. KeepsNotes views u) (inr (j, v, at, refl, refl, refl)) (λ i u ne a. inr (i, u, a, refl, refl, refl)) (λ i. inl (refl, refl));
     own = new_views (λ i u. KeepsOwn views u) (inr (j, v, at, refl, omega arith)) (λ i u ne a. inr (i, u, a, refl, omega arith)) (λ i. inl refl);
     seen = new_views (λ i u. (j : ℕ) × (o : View) × At views j o × (u.seen ≤ o.seen)) (j, v, at, omega arith) (λ i u ne a. (i, u, a, omega arith)) (λ i. (j, v, at, omega arith));
     locks_stay = λ i o p a q. still (λ z. Has p z.held) (λ q. q) i o a q;
     planned_stays = λ i o c a q. still (λ z. Has c z.planned) (λ q. q) i o a q;
+    moving_stays = λ i o c a q. still (λ z. Has c z.moving) (λ q. q) i o a q;
+    owed_stays = λ i o c a q. still (λ z. Has c z.owed) (λ q. q) i o a q;
     draws = same_total (λ v. draws v.own) (omega arith);
     drew = λ m. same_total (λ v. length (filter (drew_at m) v.own)) (omega arith);
     callers = same_total (λ v. v.callers) (omega (arith, fits));
@@ -298,6 +334,12 @@ module _ (views : List View) (j i : ℕ) (v w : View) (at : At views j v) (at' :
     planned = λ n u c a q. joint_views (λ n u. Has c u.planned → From views goes n u (λ o. Has c o.planned))
         (λ q. elim (has_joined v.planned w.planned c q) [ inl l ↦ of_v (λ o. Has c o.planned) l | inr l ↦ of_w (λ o. Has c o.planned) l ])
         (λ q. absurd q) (λ n u ne ne' a q. of_other (λ o. Has c o.planned) n u ne' a q) n u a q;
+    moving = λ n u c a q. joint_views (λ n u. Has c u.moving → From views goes n u (λ o. Has c o.moving))
+        (λ q. elim (has_joined v.moving w.moving c q) [ inl l ↦ of_v (λ o. Has c o.moving) l | inr l ↦ of_w (λ o. Has c o.moving) l ])
+        (λ q. absurd q) (λ n u ne ne' a q. of_other (λ o. Has c o.moving) n u ne' a q) n u a q;
+    owed = λ n u c a q. joint_views (λ n u. Has c u.owed → From views goes n u (λ o. Has c o.owed))
+        (λ q. elim (has_joined v.owed w.owed c q) [ inl l ↦ of_v (λ o. Has c o.owed) l | inr l ↦ of_w (λ o. Has c o.owed) l ])
+        (λ q. absurd q) (λ n u ne ne' a q. of_other (λ o. Has c o.owed) n u ne' a q) n u a q;
     notes = joint_views (λ n u. KeepsNotes views u) (inl (refl, refl)) (inl (refl, refl)) (λ n u ne ne' a. inr (n, u, a, refl, refl, refl));
     own = joint_views (λ n u. KeepsOwn views u) (inr (j, v, at, refl, le-max_left v.seen w.seen)) (inr (i, w, at', refl, omega arith)) (λ n u ne ne' a. inr (n, u, a, refl, omega arith));
     seen = joint_views (λ n u. (j : ℕ) × (o : View) × At views j o × (u.seen ≤ o.seen))
@@ -305,6 +347,8 @@ module _ (views : List View) (j i : ℕ) (v w : View) (at : At views j v) (at' :
         (i, w, at', omega arith) (λ n u ne ne' a. (n, u, a, omega arith));
     locks_stay = λ n o p a q. stays (λ z. Has p z.held) (λ q. before v.held w.held p q) (λ q. behind v.held w.held p q) n o a q;
     planned_stays = λ n o c a q. stays (λ z. Has c z.planned) (λ q. before v.planned w.planned c q) (λ q. behind v.planned w.planned c q) n o a q;
+    moving_stays = λ n o c a q. stays (λ z. Has c z.moving) (λ q. before v.moving w.moving c q) (λ q. behind v.moving w.moving c q) n o a q;
+    owed_stays = λ n o c a q. stays (λ z. Has c z.owed) (λ q. before v.owed w.owed c q) (λ q. behind v.owed w.owed c q) n o a q;
     draws = joint_total (λ v. draws v.own) refl;
     drew = λ m. joint_total (λ v. length (filter (drew_at m) v.own)) refl;
     callers = joint_total (λ v. v.callers) (omega arith);

@@ -8,7 +8,8 @@ use Rattle.image_layout.specs.Volatile.{counter_word, power_word}
 use Rattle.world.specs.Site.{Site, IsLockWord}
 use Rattle.world.specs.Views.{View, At, IsGuarded}
 use Rattle.world.specs.Invariant.{Holds}
-use Rattle.world.specs.Kinds.{Kind, peeks, asks_power, finds_room, refuses, places, looks, notes_word, validates, learns, meets_lock, tries, stores, publishes, flushes, fences, draws_place, unlocks, cuts_power, May}
+use Rattle.world.specs.Kinds.{Kind, peeks, asks_power, finds_room, refuses, places, looks, notes_word, validates, learns, meets_lock, tries, stores, copies, clears, repays, publishes, stashes, flushes, fences, draws_place, unlocks, cuts_power}
+use Rattle.world.specs.Conditions.{May}
 use Rattle.world.specs.Laws.{words_by}
 use Rattle.world.specs.Spent.{SpentLocksStay}
 use Rattle.world.proofs.Grounds.{lock_within}
@@ -17,7 +18,7 @@ use Rattle.world.proofs.Seats.{guarded_no_lock}
 module _ (site : Site) (words : Words) (views : List View) (j : ℕ) (v : View) (h : Holds site words views) (at : At views j v) (lock : ℕ) (is : IsLockWord site.shape lock)
     (spent : words lock ≡ 2 ^ 64 - 2) where
   stored : (i x : ℕ) → IsGuarded v.held i → with_word words i x lock ≡ 2 ^ 64 - 2
-  stored i x g = replaced_other words i x lock (λ e. guarded_no_lock site h.site_is words views h.locks j v i lock at g is (sym e)) ∙ spent
+  stored i x g = replaced_other words i x lock (λ e. guarded_no_lock site words views h.locks j v i lock at g is (sym e)) ∙ spent
 
   behind : (i x : ℕ) → (lock ≡ i → ⊥) → with_word words i x lock ≡ 2 ^ 64 - 2
   behind i x other = replaced_other words i x lock other ∙ spent
@@ -38,13 +39,17 @@ module _ (site : Site) (words : Words) (views : List View) (j : ℕ) (v : View) 
   spent_stays (learns i) may = spent
   spent_stays (meets_lock l) may = spent
   spent_stays (tries l free) may = tried l free may.2 (eqb (words l) free) refl
-  spent_stays (stores i x) may = stored i x may.0
-  spent_stays (publishes i x call) may = stored i x may.0
+  spent_stays (stores i x) may = stored i x may.0.guarded
+  spent_stays (copies i x m) may = stored i x may.0.guarded
+  spent_stays (clears i x m) may = stored i x may.0.guarded
+  spent_stays (repays i x o) may = stored i x may.0.guarded
+  spent_stays (publishes i x call) may = stored i x may.0.guarded
+  spent_stays (stashes i x call o) may = stored i x may.0.guarded
   spent_stays (flushes l) may = spent
   spent_stays fences may = spent
-  spent_stays (draws_place call) may = behind (counter_word site.shape) _ (λ e. let near = lock_within site.shape lock is h.site_is.front.one_segment in omega (arith, near, e))
+  spent_stays (draws_place call) may = behind (counter_word site.shape) _ (λ e. let near = lock_within site.shape lock is in omega (arith, near, e))
   spent_stays (unlocks l next) may = behind l next (λ same. let k = h.locks.locked j v l may.0 at may.1 in let now = ap words same in absurd (omega (arith, k.1, k.2, now, spent)))
-  spent_stays cuts_power may = behind (power_word site.shape) 1 (λ e. let near = lock_within site.shape lock is h.site_is.front.one_segment in omega (arith, near, e))
+  spent_stays cuts_power may = behind (power_word site.shape) 1 (λ e. let near = lock_within site.shape lock is in omega (arith, near, e))
 
 pub spent_locks_stay : SpentLocksStay
 spent_locks_stay site words views j v kind lock h at may s = (s.0, spent_stays site words views j v h at lock s.0 s.1 kind may)

@@ -11,8 +11,9 @@ use Rattle.map_model.specs.Map.{shown}
 use Rattle.world.specs.Site.{Site, IsLockWord}
 use Rattle.world.specs.Views.{Answer, View, At, IsGuarded}
 use Rattle.world.specs.Wants.{words_after}
-use Rattle.world.specs.Kinds.{Kind, peeks, asks_power, finds_room, refuses, places, looks, notes_word, validates, learns, meets_lock, tries, stores, publishes, flushes, fences, draws_place, unlocks, cuts_power}
-use Rattle.world.specs.Kinds.{wanted, with_look, with_count, with_lock, with_answer, next_entry, marked, all_again, May}
+use Rattle.world.specs.Kinds.{Kind, peeks, asks_power, finds_room, refuses, places, looks, notes_word, validates, learns, meets_lock, tries, stores, copies, clears, repays, publishes, stashes, flushes, fences, draws_place, unlocks, cuts_power}
+use Rattle.world.specs.Kinds.{wanted, with_look, with_count, with_lock, with_answer, next_entry, marked, all_again}
+use Rattle.world.specs.Conditions.{May}
 use Rattle.world.specs.Entering.{Enters}
 use Rattle.world.specs.Invariant.{Holds}
 use Rattle.world.specs.Laws.{StepsEnter, CallersStay, PowerStays}
@@ -79,11 +80,11 @@ module _ (site : Site) (words : Words) (views : List View) (j : ℕ) (v : View) 
   elsewhere i x other = replaced_other words i x power (λ q. other (sym q))
 
   lock_apart : (lock : ℕ) → IsLockWord site.shape lock → lock ≢ power
-  lock_apart lock is same = let low = lock_within site.shape lock is h.site_is.front.one_segment in omega (arith, low, same)
+  lock_apart lock is same = let low = lock_within site.shape lock is in omega (arith, low, same)
 
   guarded_apart : (i : ℕ) → IsGuarded v.held i → i ≢ power
   guarded_apart i g same =
-      let low = under_within site.shape g.0 i (h.locks.locked j v g.0 g.1.0 at g.1.1).0 g.2 h.site_is.front.one_segment in omega (arith, low, same)
+      let low = under_within site.shape g.0 i (h.locks.locked j v g.0 g.1.0 at g.1.1).0 g.2 in omega (arith, low, same)
 
   tried : (t : Bool) (lock x : ℕ) → lock ≢ power → after (cond t (exchanged c lock x) (loaded c lock)) words power ≡ words power
   tried true lock x other = elsewhere lock x other
@@ -101,8 +102,12 @@ module _ (site : Site) (words : Words) (views : List View) (j : ℕ) (v : View) 
   by_kind (learns i) other may = refl
   by_kind (meets_lock lock) other may = refl
   by_kind (tries lock free) other may = tried (eqb (words lock) free) lock (free + 1) (lock_apart lock may.0)
-  by_kind (stores i x) other may = elsewhere i x (guarded_apart i may.0)
-  by_kind (publishes i x call) other may = elsewhere i x (guarded_apart i may.0)
+  by_kind (stores i x) other may = elsewhere i x (guarded_apart i may.0.guarded)
+  by_kind (copies i x m) other may = elsewhere i x (guarded_apart i may.0.guarded)
+  by_kind (clears i x m) other may = elsewhere i x (guarded_apart i may.0.guarded)
+  by_kind (repays i x o) other may = elsewhere i x (guarded_apart i may.0.guarded)
+  by_kind (publishes i x call) other may = elsewhere i x (guarded_apart i may.0.guarded)
+  by_kind (stashes i x call o) other may = elsewhere i x (guarded_apart i may.0.guarded)
   by_kind (flushes l) other may = refl
   by_kind fences other may = refl
   by_kind (draws_place call) other may = elsewhere (counter_word site.shape) ((words (counter_word site.shape) + 1) % 2 ^ 64) (λ q. omega (arith, q))

@@ -1,5 +1,0 @@
-use Rattle.table_world.proofs.stepping.Readers.{may_answer}
-use Rattle.table_world.proofs.laws.readers_may.Goals as goal
-
-pub returns : goal.returns
-returns c site v = may_answer site v

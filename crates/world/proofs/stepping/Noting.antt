@@ -1,0 +1,135 @@
+-- What each note is after a step, by the note that it was; and that whatever agrees with more notes agrees with fewer.
+use Rattle.std.proofs.Common.{◌≡◌, ◌≢◌, ℕ, Bool, true, false, cond, ◌&&◌, eqb, List, [], ◌∷◌, inl, inr, refl, sym, ap, ◌∙◌}
+use Rattle.std.proofs.lemmas.Bool.{cases_Bool, eqb-true, eq-eqb, ne_eqb}
+use Rattle.map_model.proofs.Places.{and-parts}
+use Rattle.trace.specs.Events.{Words}
+use Rattle.world.specs.Site.{Site}
+use Rattle.world.specs.Views.{Note, Has}
+use Rattle.world.specs.Kinds.{with_noted, unmarked, marked, all_again}
+use Rattle.world.specs.Conditions.{IsNow}
+
+pub never : {A : Type 0} → false ≡ true → A
+never e = absurd (cc)
+
+-- ---- one word more
+abbrev pub noted_one : ℕ → ℕ → ℕ → Note → Note
+noted_one lock i x n = cond (eqb n.lock lock) (record n { words = (i, x) ∷ n.words }) n
+
+pub noted_to : (lock i x : ℕ) (notes : List Note) (n : Note) → Has n notes → Has (noted_one lock i x n) (with_noted lock i x notes)
+noted_to lock i x [] n h = absurd h
+noted_to lock i x (m ∷ notes) n h = elim h [ inl e ↦ inl (ap (noted_one lock i x) e) | inr r ↦ inr (noted_to lock i x notes n r) ]
+
+pub noted_from : (lock i x : ℕ) (notes : List Note) (o : Note) → Has o (with_noted lock i x notes) → (n : Note) × Has n notes × (o ≡ noted_one lock i x n)
+noted_from lock i x [] o h = absurd h
+noted_from lock i x (m ∷ notes) o h = elim h [ inl e ↦ (m, inl refl, e) | inr r ↦ (let s = noted_from lock i x notes o r in (s.0, inr s.1, s.2)) ]
+
+module _ (lock i x : ℕ) (n : Note) where
+  same_lock_by : (b : Bool) → (cond b (record n { words = (i, x) ∷ n.words }) n).lock ≡ n.lock
+  same_lock_by true = refl
+  same_lock_by false = refl
+
+  pub one_lock : (noted_one lock i x n).lock ≡ n.lock
+  one_lock = same_lock_by (eqb n.lock lock)
+
+  same_free_by : (b : Bool) → (cond b (record n { words = (i, x) ∷ n.words }) n).free ≡ n.free
+  same_free_by true = refl
+  same_free_by false = refl
+
+  pub one_free : (noted_one lock i x n).free ≡ n.free
+  one_free = same_free_by (eqb n.lock lock)
+
+  words_by : (b : Bool) (p : ℕ × ℕ) → Has p n.words → Has p (cond b (record n { words = (i, x) ∷ n.words }) n).words
+  words_by true p h = inr h
+  words_by false p h = h
+
+  pub one_words : (p : ℕ × ℕ) → Has p n.words → Has p (noted_one lock i x n).words
+  one_words p h = words_by (eqb n.lock lock) p h
+
+  pub one_here : n.lock ≡ lock → noted_one lock i x n ≡ record n { words = (i, x) ∷ n.words }
+  one_here e = ap (λ b. cond b (record n { words = (i, x) ∷ n.words }) n) (eq-eqb n.lock lock e)
+
+-- ---- words that may be the newest with the notes afterwards may be it with those before
+module _ (site : Site) (m : Words) where
+  pub now_noted : (lock i x : ℕ) (notes : List Note) → IsNow site (with_noted lock i x notes) m → IsNow site notes m
+  now_noted lock i x notes a = record {
+    structure = a.structure;
+    table = a.table;
+    agrees = λ n j y h w. a.agrees (noted_one lock i x n) j y (noted_to lock i x notes n h) (one_words lock i x n (j, y) w);
+    exact = λ s b n segment home h e. a.exact s b (noted_one lock i x n) segment home (noted_to lock i x notes n h) (one_lock lock i x n ∙ e);
+  }
+
+  pub now_more : (new : Note) (notes : List Note) → IsNow site (new ∷ notes) m → IsNow site notes m
+  now_more new notes a = record {
+    structure = a.structure;
+    table = a.table;
+    agrees = λ n j y h w. a.agrees n j y (inr h) w;
+    exact = λ s b n segment home h e. a.exact s b n segment home (inr h) e;
+  }
+
+-- ---- no mark
+pub unmarked_to : (notes : List Note) (n : Note) → Has n notes → Has (record n { again = false }) (unmarked notes)
+unmarked_to [] n h = absurd h
+unmarked_to (m ∷ notes) n h = elim h [ inl e ↦ inl (ap (λ (z : Note). record z { again = false }) e) | inr r ↦ inr (unmarked_to notes n r) ]
+
+-- ---- a lock word found again
+abbrev pub marked_one : ℕ → ℕ → Note → Note
+marked_one lock x n = cond (eqb n.lock lock && eqb n.free x) (record n { again = true }) n
+
+pub marked_to : (lock x : ℕ) (notes : List Note) (n : Note) → Has n notes → Has (marked_one lock x n) (marked lock x notes)
+marked_to lock x [] n h = absurd h
+marked_to lock x (m ∷ notes) n h = elim h [ inl e ↦ inl (ap (marked_one lock x) e) | inr r ↦ inr (marked_to lock x notes n r) ]
+
+pub marked_from : (lock x : ℕ) (notes : List Note) (o : Note) → Has o (marked lock x notes) → (n : Note) × Has n notes × (o ≡ marked_one lock x n)
+marked_from lock x [] o h = absurd h
+marked_from lock x (m ∷ notes) o h = elim h [ inl e ↦ (m, inl refl, e) | inr r ↦ (let s = marked_from lock x notes o r in (s.0, inr s.1, s.2)) ]
+
+module _ (lock x : ℕ) (n : Note) where
+  mark_lock_by : (b : Bool) → (cond b (record n { again = true }) n).lock ≡ n.lock
+  mark_lock_by true = refl
+  mark_lock_by false = refl
+
+  pub mark_lock : (marked_one lock x n).lock ≡ n.lock
+  mark_lock = mark_lock_by (eqb n.lock lock && eqb n.free x)
+
+  mark_free_by : (b : Bool) → (cond b (record n { again = true }) n).free ≡ n.free
+  mark_free_by true = refl
+  mark_free_by false = refl
+
+  pub mark_free : (marked_one lock x n).free ≡ n.free
+  mark_free = mark_free_by (eqb n.lock lock && eqb n.free x)
+
+  pub mark_here : n.lock ≡ lock → n.free ≡ x → (marked_one lock x n).again ≡ true
+  mark_here e f = ap (λ b. (cond (b && eqb n.free x) (record n { again = true }) n).again) (eq-eqb n.lock lock e)
+      ∙ ap (λ b. (cond b (record n { again = true }) n).again) (eq-eqb n.free x f)
+
+  apart_by : (b : Bool) → (b ≡ true → n.lock ≡ lock) → (n.lock ≡ lock → ⊥) → (cond (b && eqb n.free x) (record n { again = true }) n).again ≡ n.again
+  apart_by true is other = absurd (other (is refl))
+  apart_by false is other = refl
+
+  pub mark_there : (n.lock ≡ lock → ⊥) → (marked_one lock x n).again ≡ n.again
+  mark_there other = apart_by (eqb n.lock lock) (λ t. eqb-true n.lock lock t) other
+
+-- ---- whether all are marked
+pub all_marked : (notes : List Note) → ((n : Note) → Has n notes → n.again ≡ true) → all_again notes ≡ true
+all_marked [] all = refl
+all_marked (m ∷ notes) all = ap (λ b. b && all_again notes) (all m (inl refl)) ∙ all_marked notes (λ n h. all n (inr h))
+
+pub one_unmarked : (notes : List Note) (n : Note) → Has n notes → n.again ≡ false → all_again notes ≡ false
+one_unmarked notes n h f = elim (cases_Bool (all_again notes)) [
+  | inr unlike ↦ unlike
+  | inl t ↦ never (sym f ∙ marked_in notes t n h)
+]
+  where
+    marked_in : (notes : List Note) → all_again notes ≡ true → (n : Note) → Has n notes → n.again ≡ true
+    marked_in [] t n h = absurd h
+    marked_in (m ∷ notes) t n h = let p = and-parts m.again (all_again notes) t in elim h [
+      | inl e ↦ ap (λ (z : Note). z.again) e ∙ p.0
+      | inr r ↦ marked_in notes p.1 n r
+    ]
+
+pub mark_unlike : (lock x : ℕ) (n : Note) → n.free ≢ x → (marked_one lock x n).again ≡ n.again
+mark_unlike lock x n other = ap (λ b. (cond (eqb n.lock lock && b) (record n { again = true }) n).again) (ne_eqb n.free x other) ∙ by (eqb n.lock lock)
+  where
+    by : (b : Bool) → (cond (b && false) (record n { again = true }) n).again ≡ n.again
+    by true = refl
+    by false = refl
