@@ -25,7 +25,11 @@ use Rattle.part.specs.Outcomes.{Outcome, off, finished}
 use Rattle.part.specs.Part.{IsPart}
 use Rattle.part.specs.Causes.{HasCause, EndsByCause}
 use Rattle.part.specs.Then.{Passes}
-use Rattle.part.specs.Count.{wanted_in, taken, outcome_of, outcome_in, count_part, has_counted, first_outcome, first_count, begun_again, two_counts}
+use Rattle.part.specs.Count.{wanted_in, taken, outcome_of, outcome_in, count_part, has_counted, first_outcome, first_count, begun_again, two_counts, one_or_two, two_or_one, two_or_one_counts}
+use Rattle.part.specs.Either.{one, other, either_part}
+use Rattle.part.specs.Renamed.{IsNamed}
+use Rattle.part.proofs.Eithers.{either_is_part, either_ends_by_cause}
+use Rattle.part.proofs.Renaming.{renamed_is_part, renamed_ends_by_cause}
 use Rattle.part.proofs.Thens.{then_is_part, then_ends_by_cause}
 
 -- ---- one count
@@ -86,7 +90,18 @@ passes = record {
 }
 
 pub two_are_a_part : CallersStay → IsPart first_count → IsPart count_part → IsPart two_counts
-two_are_a_part callers one other = then_is_part callers first_count count_part begun_again 2 one other passes
+two_are_a_part callers before after = then_is_part callers first_count count_part begun_again 2 before after passes
 
 pub two_end_by_cause : EndsByCause first_count → EndsByCause count_part → EndsByCause two_counts
-two_end_by_cause one other = then_ends_by_cause first_count count_part begun_again 2 passes one other
+two_end_by_cause before after = then_ends_by_cause first_count count_part begun_again 2 passes before after
+
+-- ---- two counts or one
+each_named : IsNamed (either_part count_part two_counts) one_or_two two_or_one
+each_named (one op) = refl
+each_named (other counts) = refl
+
+pub two_or_one_are_a_part : IsPart count_part → IsPart two_counts → IsPart two_or_one_counts
+two_or_one_are_a_part count counts = renamed_is_part (either_part count_part two_counts) one_or_two two_or_one each_named (either_is_part count_part two_counts count counts)
+
+pub two_or_one_end_by_cause : EndsByCause count_part → EndsByCause two_counts → EndsByCause two_or_one_counts
+two_or_one_end_by_cause count counts = renamed_ends_by_cause (either_part count_part two_counts) one_or_two two_or_one each_named (either_ends_by_cause count_part two_counts count counts)

@@ -70,7 +70,6 @@ module _ {M : Type 0} (callers : CallersStay) (p : Part M) (next : M → M) (is 
     time = record { falls = λ op a i. fewer_on (p.taken op a) (p.left op) (is.time.falls op a i) (p.hands_on (p.taken op a)) refl; most = is.time.most };
     within = λ site here call op before v good s. is.within site here call op before v good (suits_one p next site here call op before v s);
     words = λ site here call op before v s. is.words site here call op before v (suits_one p next site here call op before v s);
-    notes = λ site here call op before v b good s near. is.notes site here call op before v b good (suits_one p next site here call op before v s) near;
     flushes = record {
       most = is.flushes.most;
       flushes = λ op a l i f. waits_on (p.taken op a) (p.waiting op + 1) (is.flushes.flushes op a l i f) (p.hands_on (p.taken op a)) refl;

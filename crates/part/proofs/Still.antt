@@ -77,7 +77,8 @@ module _ (shape : Shape) (is : IsShape shape) (hash : ℕ) (fits : hash < 2 ^ 64
 
   near : (bucket : ℕ) → IsBucketOf hash bucket → bucket < buckets
   near bucket (inl home) = subst (λ n. n < buckets) (sym home) (omega arith)
-  near bucket (inr probing) = subst (λ n. n < buckets) (sym probing) (omega arith)
+  near bucket (inr (inl probing)) = subst (λ n. n < buckets) (sym probing) (omega arith)
+  near bucket (inr (inr stash)) = stash.1
 
   lock_by : (segment bucket : ℕ) → bucket < buckets → (b : Bool) → nat_lt segment shape.segments ≡ b → (if b then bucket_at shape segment bucket else root_word) < words_of shape
   lock_by segment bucket close true low = let under = ltb-true segment shape.segments low in omega (arith, under, close)

@@ -17,7 +17,7 @@ use Rattle.world.specs.Attempts.{EntersReply}
 use Rattle.world.specs.Laws.{CallersStay}
 use Rattle.part.specs.Doings.{Doings, with_event_of}
 use Rattle.part.specs.Outcomes.{Outcome, replied, reply_of}
-use Rattle.part.specs.Part.{Part, Suits, KeepsSuits, EndsBare, AsksWithin, PutsWords, KeepsNotes, PlansItsCall, KeepsPower, IsPart}
+use Rattle.part.specs.Part.{Part, Suits, KeepsSuits, EndsBare, AsksWithin, PutsWords, PlansItsCall, KeepsPower, IsPart}
 use Rattle.part.specs.Causes.{StepsByCause, EndsByCause}
 use Rattle.part.specs.Then.{Then, first, second, passed, wanted, taken, Stands, outcome, Remembers, HasMade, left, waiting, hands_on, then_part, Passes}
 
@@ -117,10 +117,6 @@ module _ {A B : Type 0} (callers : CallersStay) (a : Part A) (b : Part B) (next 
   puts site here call (first x) before v s = is_a.words site here call x before v (suits_first a b next most site here call x before v s)
   puts site here call (second y) before v s = is_b.words site here call y before v (suits_second a b next most site here call y before v s)
 
-  notes : KeepsNotes (then_part a b next most)
-  notes site here call (first x) before v k is s near = is_a.notes site here call x before v k is (suits_first a b next most site here call x before v s) near
-  notes site here call (second y) before v k is s near = is_b.notes site here call y before v k is (suits_second a b next most site here call y before v s) near
-
   plans : PlansItsCall (then_part a b next most)
   plans site here call (first x) before v planned s = is_a.plans site here call x before v planned (suits_first a b next most site here call x before v s)
   plans site here call (second y) before v planned s = is_b.plans site here call y before v planned (suits_second a b next most site here call y before v s)
@@ -136,7 +132,6 @@ module _ {A B : Type 0} (callers : CallersStay) (a : Part A) (b : Part B) (next 
     time = record { falls = falls; most = most_left };
     within = within;
     words = puts;
-    notes = notes;
     flushes = record { most = most_waiting; flushes = flush_adds; keeps = waits; ends = none_waits };
     made = record { stays = stays; done = done };
     plans = plans;

@@ -2,10 +2,10 @@
 use Rattle.std.proofs.Common.{◌≡◌, ℕ, ◌<◌, ◌⊎◌, inl, inr, set, sym, subst}
 use Rattle.op_core.specs.declared.want.Want.{Want}
 use Rattle.image_layout.specs.Volatile.{power_word}
-use Rattle.bucket_words.specs.Tables.{find}
+use Rattle.bucket_words.specs.Hits.{find}
 use Rattle.world.specs.Site.{Site}
 use Rattle.world.specs.Wants.{word_of, words_after}
-use Rattle.world.specs.Kinds.{Kind, publishes, view_after}
+use Rattle.world.specs.Kinds.{Kind, publishes, stashes, view_after}
 use Rattle.world.specs.Invariant.{Holds}
 use Rattle.world.specs.Laws.{Keeps, CallersStay, PowerStays}
 use Rattle.world.specs.Pairs.{IsPublishingKind, OtherStepsKeepPairs}
@@ -15,6 +15,7 @@ use Rattle.part.specs.Turns.{TurnKeeps}
 -- a step makes a change or does not
 publishing_or_not : (kind : Kind) → IsPublishingKind kind ⊎ (IsPublishingKind kind → ⊥)
 publishing_or_not (publishes i x call) = inl tt
+publishing_or_not (stashes i x call o) = inl tt
 publishing_or_not kind = inr (λ f. f)
 
 module _ {M : Type 0} (p : Part M) (part : IsPart p) (each : (site : Site) (kind : Kind) → Keeps site kind) (callers : CallersStay) (others : OtherStepsKeepPairs) (powers : PowerStays) where

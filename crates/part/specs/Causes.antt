@@ -10,7 +10,7 @@ use Rattle.hash_word.specs.Hash.{home_of, probing_of}
 use Rattle.bucket_meta.specs.Bucket.{allocated, record_slots}
 use Rattle.trace.specs.Events.{Words}
 use Rattle.segment_head.specs.HeadWord.{version_in, state_in, depth_in, is_live, free}
-use Rattle.image_layout.specs.Places.{Shape, IsShape, root_word, head_at, bucket_at}
+use Rattle.image_layout.specs.Places.{Shape, IsShape, root_word, head_at, bucket_at, homes, buckets}
 use Rattle.image_layout.specs.Volatile.{counter_word, power_word}
 use Rattle.sound_image.specs.Records.{key_hash}
 use Rattle.way.specs.Ways.{entry_word, head_word, bucket_word}
@@ -19,7 +19,6 @@ use Rattle.map_model.specs.declared.entry.Reply.{Reply}
 use Rattle.map_model.specs.declared.entry.Reply.TheVariants.{Full, Deep, Spent}
 use Rattle.map_model.specs.Map.{key_of}
 use Rattle.map_model.specs.Legal.{IsInsert}
-use Rattle.bucket_words.specs.Tables.{home_at}
 use Rattle.world.specs.declared.site.Site.{Site as Here}
 use Rattle.world.specs.Site.{Site}
 use Rattle.world.specs.Views.{View, At, Has, HasLock}
@@ -29,9 +28,9 @@ use Rattle.part.specs.Doings.{Doings, with_event_of, IsStill}
 use Rattle.part.specs.Outcomes.{Outcome, replied, again, stale, off, finished}
 use Rattle.part.specs.Part.{Part, Suits, finds, next}
 
--- the home bucket of a hash, or the one after it
+-- the home bucket of a hash, the one after it, or a stash bucket
 abbrev pub IsBucketOf : ℕ → ℕ → Type 0
-IsBucketOf hash b = (b ≡ home_of hash) ⊎ (b ≡ probing_of (home_of hash))
+IsBucketOf hash b = (b ≡ home_of hash) ⊎ ((b ≡ probing_of (home_of hash)) ⊎ ((homes ≤ b) × (b < buckets)))
 
 -- ---- words by which an attempt finds its bucket, by its key's hash and what it loaded
 module _ (shape : Shape) (hash : ℕ) (loads : List (ℕ × ℕ)) where
@@ -50,7 +49,7 @@ module _ (shape : Shape) (hash : ℕ) (loads : List (ℕ × ℕ)) where
       ⊎ (((root : ℕ) × IsDepth root × (word ≡ entry_word shape hash root))
       ⊎ ((segment : ℕ) × IsNamed segment × (word ≡ head_word shape segment)))
 
-  -- the lock word of one of the two buckets of the key's hash, in a segment that was named
+  -- the lock word of one of the buckets of the key's hash, in a segment that was named
   abbrev pub IsLockThere : ℕ → Type 0
   IsLockThere word = (segment : ℕ) × IsNamed segment × (b : ℕ) × IsBucketOf hash b × (word ≡ bucket_word shape segment b)
 
@@ -65,11 +64,11 @@ module _ (shape : Shape) (words : Words) (did : Doings) (call : Call) where
   hash_for = key_hash shape (key_of call)
 
   -- ---- busy
-  -- the lock word of one of the two buckets of the call's key
+  -- the lock word of one of the buckets of the call's key, in a segment of the image that was named
   abbrev pub IsOwnLock : ℕ → Type 0
-  IsOwnLock word = (b : ℕ) × IsBucketOf hash_for b × (word ≡ bucket_at shape 0 b)
+  IsOwnLock word = (segment : ℕ) × IsNamed shape hash_for did.loads segment × (segment < shape.segments) × (b : ℕ) × IsBucketOf hash_for b × (word ≡ bucket_at shape segment b)
 
-  -- one of the two is taken, and not by this attempt
+  -- one of them is taken, and not by this attempt
   pub record IsTaken (word value : ℕ) : Type 0 where
     pub own : IsOwnLock word
     pub newest : words word ≡ value
@@ -86,14 +85,16 @@ module _ (shape : Shape) (words : Words) (did : Doings) (call : Call) where
     pub by_others : Has word did.changed → ⊥
 
   -- ---- no room
-  -- the attempt loaded the metadata word of the home bucket, by which all record slots are taken, and the key word of each slot,
-  -- none of which is the key of this insert
+  -- the attempt loaded the metadata word of the home bucket, in a segment that was named, by which all record slots are taken, and
+  -- the key word of each slot, none of which is the key of this insert
   pub record FindsNoRoom : Type 0 where
     pub insert : IsInsert call
+    pub segment : ℕ
+    pub named : IsNamed shape hash_for did.loads segment
     pub meta : ℕ
-    pub loaded : Has (home_at shape (key_of call) + 1, meta) did.loads
+    pub loaded : Has (bucket_at shape segment (home_of hash_for) + 1, meta) did.loads
     pub taken : (slot : ℕ) → slot < record_slots → allocated slot meta ≡ 1
-    pub others : (slot : ℕ) → slot < record_slots → (key : ℕ) × Has (home_at shape (key_of call) + (4 + 2 * slot), key) did.loads × (key ≢ key_of call)
+    pub others : (slot : ℕ) → slot < record_slots → (key : ℕ) × Has (bucket_at shape segment (home_of hash_for) + (4 + 2 * slot), key) did.loads × (key ≢ key_of call)
 
   -- the attempt loaded the header word of the segment in a slot, with this value
   abbrev pub WasHead : ℕ → ℕ → Type 0
@@ -108,7 +109,7 @@ module _ (shape : Shape) (words : Words) (did : Doings) (call : Call) where
   NoSlotIsFree = (slot : ℕ) → slot < shape.segments → (head : ℕ) × WasHead slot head × (state_in head ≢ free)
 
   -- ---- spent
-  -- the commit counter has no place left, or the attempt loaded one of the two lock words as free with its last version
+  -- the commit counter has no place left, or the attempt loaded one of the lock words as free with its last version
   abbrev pub IsSpent : Type 0
   IsSpent = (2 ^ 63 ≤ words (counter_word shape)) ⊎ ((lock : ℕ) × IsOwnLock lock × Has (lock, 2 ^ 64 - 2) did.loads)
 

@@ -20,6 +20,8 @@ use Rattle.part.specs.declared.count.CountOp.{CountOp}
 use Rattle.part.specs.Outcomes.{Outcome, off, finished}
 use Rattle.part.specs.Part.{Part}
 use Rattle.part.specs.Then.{Then, then_part}
+use Rattle.part.specs.Either.{Either, one, other, either_part}
+use Rattle.part.specs.Renamed.{renamed_part}
 
 -- ---- the machine
 -- a count that has done nothing yet
@@ -103,3 +105,18 @@ begun_again op = begun op.site
 
 abbrev pub two_counts : Part (Then CountOp CountOp)
 two_counts = then_part first_count count_part begun_again 2
+
+-- ---- two counts or one, where two come first
+abbrev pub TwoOrOne : Type 0
+TwoOrOne = Either (Then CountOp CountOp) CountOp
+
+abbrev pub one_or_two : TwoOrOne → Either CountOp (Then CountOp CountOp)
+one_or_two (one counts) = other counts
+one_or_two (other op) = one op
+
+abbrev pub two_or_one : Either CountOp (Then CountOp CountOp) → TwoOrOne
+two_or_one (one op) = other op
+two_or_one (other counts) = one counts
+
+abbrev pub two_or_one_counts : Part TwoOrOne
+two_or_one_counts = renamed_part (either_part count_part two_counts) one_or_two two_or_one

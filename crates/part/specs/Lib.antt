@@ -3,6 +3,8 @@ pub mod Doings
 pub mod Outcomes
 pub mod Part
 pub mod Then
+pub mod Either
+pub mod Renamed
 pub mod Onward
 pub mod Turns
 pub mod Causes

@@ -6,20 +6,20 @@ use Rattle.op_core.specs.declared.want.Want.TheVariants.{Flush, Fence, Done}
 use Rattle.op_core.specs.declared.want.Ans.{Ans}
 use Rattle.op_core.specs.Answers.{IsAnswer}
 use Rattle.trace.specs.Events.{Words}
-use Rattle.image_layout.specs.Places.{buckets}
 use Rattle.map_model.specs.declared.call.Call.{Call}
 use Rattle.map_model.specs.declared.entry.Reply.TheVariants as reply
 use Rattle.world.specs.declared.site.Site.{Site as Here}
 use Rattle.world.specs.Site.{Site, IsSite}
 use Rattle.world.specs.Views.{View, Has, At}
 use Rattle.world.specs.Wants.{answer_to, word_of}
-use Rattle.world.specs.Kinds.{Kind, cuts_power, wanted as wanted_by, view_after, May}
+use Rattle.world.specs.Kinds.{Kind, cuts_power, wanted as wanted_by, view_after}
+use Rattle.world.specs.Conditions.{May}
 use Rattle.world.specs.Invariant.{Holds}
 use Rattle.world.specs.Attempts.{HoldsOnly, EntersReply}
 use Rattle.world.specs.Pairs.{IsPublishingKind}
 use Rattle.part.specs.Doings.{Doings}
 use Rattle.part.specs.Outcomes.{Outcome, replied, reply_of}
-use Rattle.part.specs.Asks.{IsWithin, PutsWord, LeavesNotes}
+use Rattle.part.specs.Asks.{IsWithin, PutsWord}
 
 pub record Part (M : Type 0) : Type 1 where
   -- the event that it wants, and what an answer makes of it
@@ -94,10 +94,6 @@ module _ {M : Type 0} (p : Part M) where
   abbrev pub PutsWords : Type 0
   PutsWords = (site : Site) (here : Here) (call : Call) (op : M) (before v : View) → Suits site here call op before v → PutsWord (p.wanted op)
 
-  -- it changes no overflow note
-  abbrev pub KeepsNotes : Type 0
-  KeepsNotes = (site : Site) (here : Here) (call : Call) (op : M) (before v : View) (b : ℕ) → IsSite site → Suits site here call op before v → b < buckets → LeavesNotes site.shape v b (p.wanted op)
-
   -- each flush is counted among the lines that wait, no event but a fence lets one go, and at the end none waits
   pub record FlushesFew : Type 0 where
     pub most : (op : M) → p.waiting op ≤ p.most_waiting
@@ -126,7 +122,6 @@ module _ {M : Type 0} (p : Part M) where
     pub time : EndsInTime
     pub within : AsksWithin
     pub words : PutsWords
-    pub notes : KeepsNotes
     pub flushes : FlushesFew
     pub made : EndsAsDone
     pub plans : PlansItsCall

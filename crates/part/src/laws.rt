@@ -4,7 +4,7 @@ ghost use Rattle.part.specs.Part.{IsPart};
 ghost use Rattle.part.specs.Turns.{TurnKeeps};
 ghost use Rattle.part.specs.Doings.{NothingIsStill, OwnEventsKeepStill};
 ghost use Rattle.part.specs.Causes.{EndsByCause, AloneNothingMoves, AloneNeverMoved};
-ghost use Rattle.part.specs.Count.{count_part, first_count, two_counts};
+ghost use Rattle.part.specs.Count.{count_part, first_count, two_counts, two_or_one_counts};
 
 /// What an attempt loaded is still so, or it changed that itself: so it is at the beginning, and after each event of its own,
 /// whichever it is. So nothing moves for a caller while nobody else steps.
@@ -34,6 +34,16 @@ pub fn two_counts_are_a_part()
     world::steps_add_one_reply();
     counts_are_parts();
     first_counts_are_parts();
+}
+
+/// Either two counts or one, under names of its own, is a part, whose outcomes have their causes: by the laws of either of two parts,
+/// and of a part under other names.
+pub fn two_counts_or_one_are_a_part()
+    ensures part { IsPart two_or_one_counts }
+    ensures causes { EndsByCause two_or_one_counts }
+{
+    counts_are_parts();
+    two_counts_are_a_part();
 }
 
 /// A turn of a caller that counts twice keeps the invariant, the pairs and the power word, and leaves a view that suits the counts, or
