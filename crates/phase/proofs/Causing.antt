@@ -1,0 +1,122 @@
+-- What a way keeps was loaded, and each end of a way, and of a way again, has its cause.
+use Rattle.std.proofs.Common.{◌≡◌, ℕ, Bool, true, false, List, [], ◌∷◌, ◌++◌, inl, inr, refl, sym, ◌∙◌, subst}
+use Rattle.std.specs.Prelude.{◌==◌, ◌&&◌, nat_lt, nat_le, not, if◌then◌else◌}
+use Rattle.std.proofs.lemmas.Bool.{eqb-false, leb-true, and_parts, not-true}
+use Rattle.segment_head.specs.HeadWord.{version_in, is_live}
+use Rattle.trace.specs.Events.{Words}
+use Rattle.image_layout.specs.Places.{Shape, root_word}
+use Rattle.way.specs.Ways.{entry_word, head_word, is_covering}
+use Rattle.sound_image.specs.Records.{key_hash}
+use Rattle.map_model.specs.declared.call.Call.{Call}
+use Rattle.map_model.specs.Map.{key_of}
+use Rattle.world.specs.declared.site.Site.{Site as Here}
+use Rattle.world.specs.Views.{Has}
+use Rattle.part.specs.Doings.{Doings}
+use Rattle.part.specs.Causes.{IsNamed, IsOnWay}
+use Rattle.phase.specs.declared.walk.Path.{Path}
+use Rattle.phase.specs.declared.walk.Walk.TheVariants.{Power, Root, Entry, Head}
+use Rattle.phase.specs.declared.walk.Walked.{Walked}
+use Rattle.phase.specs.declared.walk.Walked.TheVariants.{On, There, Off, Amiss, Stale}
+use Rattle.phase.specs.declared.back.Back.{Back}
+use Rattle.phase.specs.declared.back.Back.TheVariants as back
+use Rattle.phase.specs.declared.back.Backed.TheVariants as backed
+use Rattle.phase.specs.Backs.{back_word, back_before, back_on}
+use Rattle.phase.specs.Causes.{WasNamed, WasFound, RemembersWalked, HasWalkCause, HasBackCause}
+use Rattle.phase.specs.Laws.{WalkRemembers, WalkHasCauses, BackHasCauses}
+use Rattle.phase.proofs.locks.Choosing.{by_test, by_both}
+
+-- ---- what was loaded stays so with more
+pub has_more : (more loads : List (ℕ × ℕ)) (p : ℕ × ℕ) → Has p loads → Has p (more ++ loads)
+has_more [] loads p has = has
+has_more (x ∷ more) loads p has = inr (has_more more loads p has)
+
+module _ (shape : Shape) (hash : ℕ) (more loads : List (ℕ × ℕ)) where
+  pub named_more : (root segment : ℕ) → WasNamed shape hash loads root segment → WasNamed shape hash (more ++ loads) root segment
+  named_more root segment r = ((has_more more loads (root_word, root) r.0.0, r.0.1), has_more more loads (entry_word shape hash root, segment) r.1)
+
+  pub found_more : (path : Path) → WasFound shape hash loads path → WasFound shape hash (more ++ loads) path
+  found_more path r = (named_more path.root path.segment r.0, has_more more loads (head_word shape path.segment, path.head) r.1)
+
+-- the segment of a path was named
+pub found_named : (shape : Shape) (hash : ℕ) (loads : List (ℕ × ℕ)) (path : Path) → WasFound shape hash loads path → IsNamed shape hash loads path.segment
+found_named shape hash loads path r = (path.root, r.0.0, r.0.1)
+
+-- ---- the way
+pub walk_remembers : WalkRemembers
+walk_remembers here hash loads Power n r = by_both (RemembersWalked here.geometry hash loads) (n == 0) (On Root) Off tt tt
+walk_remembers here hash loads Root n r =
+    by_test (RemembersWalked here.geometry hash ((root_word, n) ∷ loads)) (nat_le n here.geometry.depth) (On (Entry n)) (Amiss root_word n)
+    (λ t. (inl refl, leb-true n here.geometry.depth t)) (λ f. tt)
+walk_remembers here hash loads (Entry root) n r =
+    by_both (RemembersWalked here.geometry hash ((entry_word here.geometry hash root, n) ∷ loads)) (nat_lt n here.geometry.segments) (On (Head root n)) (Amiss (entry_word here.geometry hash root) n)
+    ((inr r.0, r.1), inl refl) tt
+walk_remembers here hash loads (Head root segment) n r =
+    let next : Walked = There (record { root = root; segment = segment; head = n }) in
+    let ill : Walked = Amiss (head_word here.geometry segment) n in
+    let fit = is_live n && is_covering n hash in
+    let Kept : Walked → Type 0 = RemembersWalked here.geometry hash ((head_word here.geometry segment, n) ∷ loads) in
+    by_both Kept (is_live n && not (version_in n == here.version)) (Stale segment (version_in n)) (if fit then next else ill) tt
+    (by_both Kept fit next ill (((inr r.0.0, r.0.1), inr r.1), inl refl) tt)
+
+pub walk_caused : WalkHasCauses
+walk_caused here hash words did call same Power r n is =
+    by_test (HasWalkCause here hash words did call Power) (n == 0) (On Root) Off (λ t. tt) (λ f. (refl, λ zero. eqb-false n 0 f (is ∙ zero)))
+walk_caused here hash words did call same Root r n is =
+    by_both (HasWalkCause here hash words did call Root) (nat_le n here.geometry.depth) (On (Entry n)) (Amiss root_word n) tt tt
+walk_caused here hash words did call same (Entry root) r n is =
+    by_both (HasWalkCause here hash words did call (Entry root)) (nat_lt n here.geometry.segments) (On (Head root n)) (Amiss (entry_word here.geometry hash root) n) tt tt
+walk_caused here hash words did call same (Head root segment) r n is =
+    let next : Walked = There (record { root = root; segment = segment; head = n }) in
+    let ill : Walked = Amiss (head_word here.geometry segment) n in
+    let fit = is_live n && is_covering n hash in
+    let named : IsNamed here.geometry hash did.loads segment = (root, r.0, r.1) in
+    by_test (HasWalkCause here hash words did call (Head root segment)) (is_live n && not (version_in n == here.version)) (Stale segment (version_in n)) (if fit then next else ill)
+    (λ t.
+    let p = and_parts (is_live n) (not (version_in n == here.version)) t in
+    record {
+      named = subst (λ m. IsNamed here.geometry m did.loads segment) same named;
+      head = n;
+      looked = (refl, sym is);
+      live = p.0;
+      found = refl;
+      other = eqb-false (version_in n) here.version (not-true (version_in n == here.version) p.1);
+    })
+    (λ f. by_both (HasWalkCause here hash words did call (Head root segment)) fit next ill tt tt)
+
+-- ---- the way again
+module _ (here : Here) (hash : ℕ) (loads : List (ℕ × ℕ)) (path : Path) (r : WasFound here.geometry hash loads path) where
+  back_kept : (at : Back) → Has (back_word here hash path at, back_before path at) loads
+  back_kept back.Root = r.0.0.0
+  back_kept back.Entry = r.0.1
+  back_kept back.Head = r.1
+
+  back_on_way : (at : Back) → IsOnWay here.geometry hash loads (back_word here hash path at)
+  back_on_way back.Root = inl refl
+  back_on_way back.Entry = inr (inl (path.root, r.0.0, refl))
+  back_on_way back.Head = inr (inr (path.segment, found_named here.geometry hash loads path r, refl))
+
+on_caused : (here : Here) (hash : ℕ) (words : Words) (did : Doings) (call : Call) (path : Path) (at : Back) → HasBackCause here hash words did call path at (back_on at)
+on_caused here hash words did call path back.Root = tt
+on_caused here hash words did call path back.Entry = tt
+on_caused here hash words did call path back.Head = tt
+
+module _ (here : Here) (hash : ℕ) (words : Words) (did : Doings) (call : Call) (same : hash ≡ key_hash here.geometry (key_of call)) (path : Path)
+    (r : WasFound here.geometry hash did.loads path) (at : Back) (not_own : Has (back_word here hash path at) did.changed → ⊥) (n : ℕ) (is : n ≡ words (back_word here hash path at)) where
+  moved_caused : (n == back_before path at) ≡ false → HasBackCause here hash words did call path at (backed.Moved (back_word here hash path at) (back_before path at) n)
+  moved_caused e = (
+    (refl, sym is),
+    record {
+      watched = inl (subst (λ m. IsOnWay here.geometry m did.loads (back_word here hash path at)) same (back_on_way here hash did.loads path r at));
+      loaded = back_kept here hash did.loads path r at;
+      newest = sym is;
+      differ = λ equal. eqb-false n (back_before path at) e (sym equal);
+      by_others = not_own;
+    },
+  )
+
+  back_by : (t : Bool) → (n == back_before path at) ≡ t → HasBackCause here hash words did call path at (if t then back_on at else backed.Moved (back_word here hash path at) (back_before path at) n)
+  back_by true e = on_caused here hash words did call path at
+  back_by false e = moved_caused e
+
+pub back_caused : BackHasCauses
+back_caused here hash words did call same path r at not_own n is = back_by here hash words did call same path r at not_own n is (n == back_before path at) refl

@@ -1,0 +1,13 @@
+-- Each clause is a lemma.
+use Rattle.phase.proofs.Backing.{back_fits, back_falls}
+use Rattle.phase.proofs.Asking.{back_within}
+use Rattle.phase.proofs.laws.ways_lead_again.Goals as goal
+
+pub returns-clause-fits : goal.returns-clause-fits
+returns-clause-fits c = back_fits
+
+pub returns-clause-falls : goal.returns-clause-falls
+returns-clause-falls c = back_falls
+
+pub returns-clause-within : goal.returns-clause-within
+returns-clause-within c = back_within

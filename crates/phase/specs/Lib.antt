@@ -1,0 +1,16 @@
+pub mod Walks
+pub mod Backs
+pub mod Loads
+pub mod Stands
+pub mod Causes
+pub mod Laws
+pub mod Places
+pub mod Takes
+pub mod Helds
+pub mod Makes
+pub mod Buckets
+pub mod Taking
+pub mod Giving
+pub mod Knows
+pub mod Making
+pub mod Finding

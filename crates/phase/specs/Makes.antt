@@ -1,0 +1,50 @@
+-- The stores of one record, up to where they are settled: what is wanted, and what comes after.
+use Rattle.std.specs.Prelude.{ℕ, ◌+◌, ◌*◌, nat_lt, if◌then◌else◌}
+use Rattle.bucket_meta.specs.Marks.{finger_place}
+use Rattle.trace.specs.Events.{line_of}
+use Rattle.op_core.specs.declared.want.Want.{Want}
+use Rattle.op_core.specs.declared.want.Want.TheVariants.{Store, Flush, Fence}
+use Rattle.phase.specs.declared.make.Record.{Record}
+use Rattle.phase.specs.declared.make.Make.{Make}
+use Rattle.phase.specs.declared.make.Make.TheVariants.{Key, Value, Fingers, FlushFingers, FlushRecord, FenceRecord, Publish, FlushPublished, FencePublished}
+use Rattle.phase.specs.declared.make.Made.{Made}
+use Rattle.phase.specs.declared.make.Made.TheVariants.{On, Settled}
+
+-- ---- the words of a record in the bucket of a lock word
+module _ (lock : ℕ) (written : Record) where
+  abbrev pub key_at : ℕ
+  key_at = lock + 4 + 2 * written.slot
+
+  abbrev pub value_at : ℕ
+  value_at = lock + 5 + 2 * written.slot
+
+  -- the word of its fingerprint
+  abbrev pub fingers_at : ℕ
+  fingers_at = lock + finger_place written.slot
+
+  -- the word whose store makes the change
+  abbrev pub published_at : ℕ
+  published_at = lock + written.published
+
+  abbrev pub make_wanted : Make → Want
+  make_wanted Key = Store key_at written.key
+  make_wanted Value = Store value_at written.value
+  make_wanted Fingers = Store fingers_at written.fingers
+  make_wanted FlushFingers = Flush (line_of fingers_at)
+  make_wanted FlushRecord = Flush (line_of key_at)
+  make_wanted FenceRecord = Fence
+  make_wanted Publish = Store published_at written.mark
+  make_wanted FlushPublished = Flush (line_of published_at)
+  make_wanted FencePublished = Fence
+
+-- the line of the fingerprints is the record's too for slots 0 and 1
+abbrev pub make_taken : ℕ → Make → Made
+make_taken slot Key = On Value
+make_taken slot Value = On Fingers
+make_taken slot Fingers = On FlushFingers
+make_taken slot FlushFingers = if nat_lt slot 2 then On FenceRecord else On FlushRecord
+make_taken slot FlushRecord = On FenceRecord
+make_taken slot FenceRecord = On Publish
+make_taken slot Publish = On FlushPublished
+make_taken slot FlushPublished = On FencePublished
+make_taken slot FencePublished = Settled

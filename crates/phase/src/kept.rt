@@ -1,0 +1,77 @@
+//! The words of the buckets that are locked, and what a change keeps that found no room.
+
+ghost use Rattle.std.specs.Prelude.{◌≡◌};
+ghost use Rattle.phase.specs.Buckets.{no_words, with_words, words_in};
+
+use crate::held::Held;
+use crate::place::Place;
+use map_model::Change;
+use world::Site;
+
+/// The 32 words of each bucket that was loaded, by their numbers in it; the lock word is left out, and is 0.
+#[derive(Clone, Copy, Debug, PartialEq, Eq)]
+pub struct Buckets {
+    /// Those of the home bucket.
+    pub home: [u64; 32],
+    /// Those of the probing bucket.
+    pub probing: [u64; 32],
+    /// Those of the first stash bucket, where it is visited.
+    pub first: [u64; 32],
+    /// Those of the second one, where it is visited.
+    pub second: [u64; 32],
+}
+
+impl Buckets {
+    /// No bucket was loaded.
+    pub fn none() -> Buckets
+        ensures { result ≡ no_words }
+    {
+        Buckets {
+            home: [0; 32],
+            probing: [0; 32],
+            first: [0; 32],
+            second: [0; 32],
+        }
+    }
+
+    /// Puts the words of a bucket in their place.
+    pub fn put(&mut self, place: Place, words: [u64; 32])
+        ensures { self.new ≡ with_words place words self.old }
+    {
+        match place {
+            Place::Home => self.home = words,
+            Place::Probing => self.probing = words,
+            Place::First => self.first = words,
+            Place::Second => self.second = words,
+        }
+    }
+
+    /// The words of a bucket.
+    pub fn of(&self, place: Place) -> [u64; 32]
+        ensures { result ≡ words_in self.now place }
+    {
+        match place {
+            Place::Home => self.home,
+            Place::Probing => self.probing,
+            Place::First => self.first,
+            Place::Second => self.second,
+        }
+    }
+}
+
+/// What a change hands on that found no room: it keeps its locks, and another machine goes on with them.
+#[derive(Clone, Copy, Debug, PartialEq, Eq)]
+pub struct Kept {
+    /// Where it runs.
+    pub site: Site,
+    /// The change.
+    pub change: Change,
+    /// The hash of its key.
+    pub hash: u64,
+    /// The slot of the segment.
+    pub segment: u64,
+    /// The locks that are held.
+    pub held: Held,
+    /// The words of their buckets.
+    pub buckets: Buckets,
+}

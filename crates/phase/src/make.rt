@@ -1,0 +1,115 @@
+//! The stores of one record, up to where they are settled: its key, value and fingerprint, and then the one store that makes the
+//! change.
+
+ghost use Rattle.std.specs.Prelude.{◌≡◌, ◌≤◌, ◌+◌, ◌*◌};
+ghost use Rattle.image_layout.specs.Places.{most_words};
+ghost use Rattle.phase.specs.Makes.{make_wanted, make_taken};
+
+use bucket_meta::words::finger_place;
+use op_core::Want;
+use trace::line_of;
+
+/// What is stored of one record. The lock word of its bucket is not in it: it is told beside.
+#[derive(Clone, Copy, Debug, PartialEq, Eq)]
+pub struct Record {
+    /// The record slot, 0 to 13.
+    pub slot: u8,
+    /// The key.
+    pub key: u64,
+    /// The value.
+    pub value: u64,
+    /// The word of fingerprints, with that of the record in it.
+    pub fingers: u64,
+    /// The number in the bucket of the word whose store makes the change: 1, or that of the value for an update.
+    pub published: u8,
+    /// What is stored there.
+    pub mark: u64,
+}
+
+/// Where the stores are. A new record goes through all of them; an update, a remove and a clearing begin at `Publish`.
+#[derive(Clone, Copy, Debug, PartialEq, Eq)]
+pub enum Make {
+    /// Stores the key in the free slot.
+    Key,
+    /// Stores the value beside it.
+    Value,
+    /// Stores the word of its fingerprint.
+    Fingers,
+    /// Flushes the line of the fingerprint.
+    FlushFingers,
+    /// Flushes the line of the record, where it is another.
+    FlushRecord,
+    /// Waits for both.
+    FenceRecord,
+    /// Makes the one store by which the record counts, has another value, or counts no more.
+    Publish,
+    /// Flushes its line.
+    FlushPublished,
+    /// Waits for it.
+    FencePublished,
+}
+
+/// What comes after.
+#[derive(Clone, Copy, Debug, PartialEq, Eq)]
+pub enum Made {
+    /// The next of them.
+    On(Make),
+    /// All are settled.
+    Settled,
+}
+
+/// The key word of a record slot, in the bucket of this lock word; the value word stands behind it.
+fn key_at(lock: u64, slot: u8) -> u64
+    requires { lock ≤ most_words }
+    ensures is { result ≡ lock + 4 + 2 * slot }
+    ensures most { result ≤ 2 * most_words }
+{
+    lock + 4 + 2 * u64::from(slot)
+}
+
+/// A word of a bucket by its number there.
+fn word_at(lock: u64, number: u8) -> u64
+    requires { lock ≤ most_words }
+    ensures { result ≡ lock + number }
+{
+    lock + u64::from(number)
+}
+
+/// The event that is wanted, in the bucket of this lock word.
+pub fn make_want(lock: u64, written: &Record, make: Make) -> Want
+    requires { lock ≤ most_words }
+    ensures { result ≡ make_wanted lock written.now make }
+{
+    let key = key_at(lock, written.slot);
+    let fingers = lock + finger_place(written.slot) as u64;
+    let published = word_at(lock, written.published);
+    match make {
+        Make::Key => Want::Store(key, written.key),
+        Make::Value => Want::Store(key + 1, written.value),
+        Make::Fingers => Want::Store(fingers, written.fingers),
+        Make::FlushFingers => Want::Flush(line_of(fingers)),
+        Make::FlushRecord => Want::Flush(line_of(key)),
+        Make::FenceRecord | Make::FencePublished => Want::Fence,
+        Make::Publish => Want::Store(published, written.mark),
+        Make::FlushPublished => Want::Flush(line_of(published)),
+    }
+}
+
+/// What comes after a store, a flush or a fence was done. The record's line is that of the fingerprints for slots 0 and 1.
+pub fn make_next(slot: u8, make: Make) -> Made
+    ensures { result ≡ make_taken slot make }
+{
+    let next = match make {
+        Make::Key => Make::Value,
+        Make::Value => Make::Fingers,
+        Make::Fingers => Make::FlushFingers,
+        Make::FlushFingers if slot < 2 => Make::FenceRecord,
+        Make::FlushFingers => Make::FlushRecord,
+        Make::FlushRecord => Make::FenceRecord,
+        Make::FenceRecord => Make::Publish,
+        Make::Publish => Make::FlushPublished,
+        Make::FlushPublished => Make::FencePublished,
+        Make::FencePublished => return Made::Settled,
+    };
+    Made::On(next)
+}

@@ -1,0 +1,44 @@
+//! The buckets in which a key may stand.
+
+ghost use Rattle.std.specs.Prelude.{◌≡◌, ◌<◌, ◌≤◌};
+ghost use Rattle.image_layout.specs.Places.{buckets, most_words};
+ghost use Rattle.phase.specs.Places.{bucket_of, lock_word};
+
+use hash_word::{home, probing};
+use image_layout::HOMES;
+use way::bucket_word;
+use world::Site;
+
+/// One of the buckets in which a key may stand, in the order in which they are locked and looked at.
+#[derive(Clone, Copy, Debug, PartialEq, Eq)]
+pub enum Place {
+    /// The home bucket.
+    Home,
+    /// The probing bucket.
+    Probing,
+    /// The first stash bucket.
+    First,
+    /// The second one.
+    Second,
+}
+
+/// The number of the bucket in its segment, for a hash.
+pub fn bucket_of(place: Place, hash: u64) -> u8
+    ensures is { result ≡ bucket_of hash place }
+    ensures within { result < buckets }
+{
+    match place {
+        Place::Home => home(hash),
+        Place::Probing => probing(home(hash)),
+        Place::First => HOMES,
+        Place::Second => HOMES + 1,
+    }
+}
+
+/// Its lock word, for a hash and the segment in a slot; the root's word where there is no such slot.
+pub fn lock_word(site: &Site, hash: u64, segment: u64, place: Place) -> u64
+    ensures is { result ≡ lock_word site.now hash segment place }
+    ensures most { result ≤ most_words }
+{
+    bucket_word(&site.geometry, segment, bucket_of(place, hash))
+}
