@@ -1,117 +1,185 @@
--- Each event of a get leaves fewer to do, so there is an end of them.
+-- Each event of a get leaves fewer to do.
 use Rattle.std.proofs.Common.{◌≡◌, ◌≢◌, ℕ, ◌+◌, ◌-◌, ◌<◌, ◌≤◌, Bool, true, false, List, [], ◌∷◌, length, refl, arith}
-use Rattle.std.specs.Prelude.{if◌then◌else◌, nat_lt, nat_le, ◌==◌, ◌&&◌, ◌%◌, not, replicate}
-use Rattle.std.proofs.lemmas.Bool.{ltb-true, ltb-false}
-use Rattle.segment_head.specs.HeadWord.{version_in, is_live}
-use Rattle.image_layout.specs.Places.{root_word}
-use Rattle.read_op.specs.declared.step.ReadEnd.TheVariants as ends
+use Rattle.std.specs.Prelude.{if◌then◌else◌, ◌==◌, ◌%◌}
 use Rattle.op_core.specs.declared.want.Want.TheVariants.{Done}
 use Rattle.op_core.specs.declared.want.Ans.TheVariants.{Value}
-use Rattle.read_op.specs.declared.step.Found.{Found}
-use Rattle.read_op.specs.declared.step.Path.{Path}
-use Rattle.read_op.specs.declared.step.Second.{Second}
-use Rattle.read_op.specs.declared.step.Second.TheVariants as again
+use Rattle.phase.specs.declared.walk.Walk.{Walk}
+use Rattle.phase.specs.declared.walk.Walk.TheVariants as walk
+use Rattle.phase.specs.declared.walk.Walked.{Walked}
+use Rattle.phase.specs.declared.walk.Walked.TheVariants as walked
+use Rattle.phase.specs.declared.back.Back.{Back}
+use Rattle.phase.specs.declared.back.Back.TheVariants as back
+use Rattle.phase.specs.declared.back.Backed.{Backed}
+use Rattle.phase.specs.declared.back.Backed.TheVariants as backed
+use Rattle.phase.specs.declared.load.Loaded.{Loaded}
+use Rattle.phase.specs.declared.load.Loaded.TheVariants as loaded
+use Rattle.phase.specs.Walks.{walk_taken}
+use Rattle.phase.specs.Backs.{back_taken}
+use Rattle.phase.specs.Loads.{load_taken}
+use Rattle.phase.specs.Stands.{walk_left, walked_left, back_left, backed_left, loaded_left}
+use Rattle.phase.proofs.Walking.{walk_falls}
+use Rattle.phase.proofs.Loading.{load_falls}
+use Rattle.phase.proofs.Backing.{back_falls}
+use Rattle.phase.specs.declared.place.Place.{Place}
+use Rattle.phase.specs.declared.place.Place.TheVariants.{Home, Probing, First, Second}
+use Rattle.read_op.specs.declared.step.Seen.{Seen}
 use Rattle.read_op.specs.declared.step.ReadStep.{ReadStep}
-use Rattle.read_op.specs.declared.step.ReadStep.TheVariants.{Power, Root, Entry, Head, Lock, Fill, Count, Check, Ended}
+use Rattle.read_op.specs.declared.step.ReadStep.TheVariants.{Way, Look, Fill, Count, Check, Relook, Ended}
+use Rattle.read_op.specs.declared.step.Task.{Task}
 use Rattle.read_op.specs.declared.op.ReadOp.{ReadOp}
-use Rattle.way.specs.Ways.{entry_word, head_word, is_covering}
-use Rattle.read_op.specs.Steps.{begun, wanted, taken, wanted_in, next_in, checked, value_of, moved, busy, end_of, lock_word}
-use Rattle.read_op.specs.Budget.{most_events, left, left_again, Falls, EndsInTime, after_all}
+use Rattle.read_op.specs.Places.{free_at}
+use Rattle.read_op.specs.Steps.{begun, wanted, wanted_in, taken, next_in, walked_to, visit_first, visit_second, with_free, looked, read_all, read_probing, with_value, filled, backed_to, relook_first, relook_second, relook_next, relooked, busy, moved, end_of, lock_of}
+use Rattle.read_op.specs.Budget.{most_events, left, left_of_look, left_behind, left_of_relook, Falls, EndsInTime, after_all}
 
-both_most : (n : ℕ) (b : Bool) (s t : ReadStep) → left s ≤ n → left t ≤ n → left (if b then s else t) ≤ n
+pub both_most : (n : ℕ) (b : Bool) (s t : ReadStep) → left s ≤ n → left t ≤ n → left (if b then s else t) ≤ n
 both_most n true s t p q = p
 both_most n false s t p q = q
 
-checked_lowers : (op : ReadOp) (found : Found) (place : ℕ) (at : Second) (seen : ℕ) → left (checked op found place at seen) ≤ left_again at - 1
-checked_lowers op found place again.Root seen = both_most 3 (seen == found.path.root) (Check found place again.Entry) (moved root_word found.path.root seen) (omega arith) (omega arith)
-checked_lowers op found place again.Entry seen =
-    both_most 2 (seen == found.path.segment) (Check found place again.Head) (moved (entry_word op.site.geometry op.hash found.path.root) found.path.segment seen) (omega arith) (omega arith)
-checked_lowers op found place again.Head seen =
-    both_most 1 (seen == found.path.head) (Check found place again.Lock) (moved (head_word op.site.geometry found.path.segment) found.path.head seen) (omega arith) (omega arith)
-checked_lowers op found place again.Lock seen =
-    let lock = lock_word op.site op.hash found.path.segment in
-    let last : ReadStep = if seen == found.free then Ended (end_of found place) else moved lock found.free seen in
-    both_most 0 (seen % 2 == 1) (busy lock seen) last (omega arith)
-    (both_most 0 (seen == found.free) (Ended (end_of found place)) (moved lock found.free seen) (omega arith) (omega arith))
+walked_most : (x : Walked) → left (walked_to x) ≤ 136 + walked_left x
+walked_most (walked.On w) = omega arith
+walked_most (walked.There path) = omega arith
+walked_most walked.Off = omega arith
+walked_most (walked.Amiss word seen) = omega arith
+walked_most (walked.Stale segment version) = omega arith
 
-filled_lowers : (op : ReadOp) (path : Path) (free : ℕ) (words : List ℕ) (next : ℕ) (b : Bool) → nat_lt next 31 ≡ b
-    → left (if b then Fill path free words (next + 1) else Count (record { path = path; free = free; value = value_of words op.key })) ≤ 6 + (31 - next) - 1
-filled_lowers op path free words next true is = let low = ltb-true next 31 is in omega (arith, low)
-filled_lowers op path free words next false is = let high = ltb-false next 31 is in omega (arith, high)
+second_most : (s : Seen) → left (visit_second s) ≤ 40
+second_most s = both_most 40 s.second (Look s Second) (Count s) (omega arith) (omega arith)
 
-lowers : (op : ReadOp) (s : ReadStep) (seen : ℕ) → left (next_in op s seen) ≤ left s - 1
-lowers op Power seen = both_most 40 (seen == 0) Root (Ended ends.Off) (omega arith) (omega arith)
-lowers op Root seen = both_most 39 (nat_le seen op.site.geometry.depth) (Entry seen) (moved root_word seen seen) (omega arith) (omega arith)
-lowers op (Entry root) seen =
-    both_most 38 (nat_lt seen op.site.geometry.segments) (Head root seen) (moved (entry_word op.site.geometry op.hash root) seen seen) (omega arith) (omega arith)
-lowers op (Head root segment) seen =
-    let next : ReadStep = Lock (record { root = root; segment = segment; head = seen }) in
-    let ill : ReadStep = moved (head_word op.site.geometry segment) seen seen in
-    let fits = is_live seen && is_covering seen op.hash in
-    both_most 37 (is_live seen && not (version_in seen == op.site.version)) (Ended (ends.Stale segment (version_in seen))) (if fits then next else ill) (omega arith)
-    (both_most 37 fits next ill (omega arith) (omega arith))
-lowers op (Lock path) seen =
-    both_most 36 (seen % 2 == 0) (Fill path seen (replicate 32 0) 1) (busy (lock_word op.site op.hash path.segment) seen) (omega arith) (omega arith)
-lowers op (Fill path free words next) seen = filled_lowers op path free _ next (nat_lt next 31) refl
-lowers op (Count found) seen = omega arith
-lowers op (Check found place at) seen = checked_lowers op found place at seen
-lowers op (Ended end) seen = omega arith
+first_most : (s : Seen) → left (visit_first s) ≤ 72
+first_most s = let rest = second_most s in both_most 72 s.first (Look s First) (visit_second s) (omega arith) (omega (arith, rest))
 
--- no get has more left than at its beginning
-most_again : (at : Second) → left_again at ≤ 4
-most_again again.Root = omega arith
-most_again again.Entry = omega arith
-most_again again.Head = omega arith
-most_again again.Lock = omega arith
+all_most : (key hash : ℕ) (s : Seen) (p : Place) (words : List ℕ) → left (read_all key hash s p words) ≤ left_behind p
+all_most key hash s Home words = omega arith
+all_most key hash s Probing words = first_most (read_probing key hash s words)
+all_most key hash s First words = second_most (with_value key s words)
+all_most key hash s Second words = omega arith
+
+filled_most : (key hash : ℕ) (s : Seen) (p : Place) (x : Loaded) → left (filled key hash s p x) ≤ left_behind p + loaded_left x
+filled_most key hash s p (loaded.On load) = omega arith
+filled_most key hash s p (loaded.All words) = let most = all_most key hash s p words in omega (arith, most)
+
+looked_most : (s : Seen) (p : Place) → left (looked s p) < left_of_look p
+looked_most s Home = omega arith
+looked_most s Probing = omega arith
+looked_most s First = omega arith
+looked_most s Second = omega arith
+
+some_look : (p : Place) → 0 < left_of_look p
+some_look Home = omega arith
+some_look Probing = omega arith
+some_look First = omega arith
+some_look Second = omega arith
+
+backed_most : (s : Seen) (placed : ℕ) (x : Backed) → left (backed_to s placed x) ≤ 4 + backed_left x
+backed_most s placed (backed.On b) = omega arith
+backed_most s placed backed.Same = omega arith
+backed_most s placed (backed.Moved word before after) = omega arith
+
+relook_second_most : (s : Seen) (placed : ℕ) → left (relook_second s placed) ≤ 1
+relook_second_most s placed = both_most 1 s.second (Relook s placed Second) (Ended (end_of s.value placed)) (omega arith) (omega arith)
+
+relook_first_most : (s : Seen) (placed : ℕ) → left (relook_first s placed) ≤ 2
+relook_first_most s placed = let rest = relook_second_most s placed in both_most 2 s.first (Relook s placed First) (relook_second s placed) (omega arith) (omega (arith, rest))
+
+relook_most : (s : Seen) (placed : ℕ) (p : Place) → left (relook_next s placed p) + 1 ≤ left_of_relook p
+relook_most s placed Home = omega arith
+relook_most s placed Probing = let most = relook_first_most s placed in omega (arith, most)
+relook_most s placed First = let most = relook_second_most s placed in omega (arith, most)
+relook_most s placed Second = omega arith
+
+relooked_most : (task : Task) (s : Seen) (placed : ℕ) (p : Place) (n : ℕ) → left (relooked task s placed p n) ≤ left_of_relook p - 1
+relooked_most task s placed p n =
+    let next = relook_most s placed p in
+    both_most (left_of_relook p - 1) (n % 2 == 1) (busy (lock_of task s p) n) (if n == free_at s.free p then relook_next s placed p else moved (lock_of task s p) (free_at s.free p) n) (omega arith)
+    (both_most (left_of_relook p - 1) (n == free_at s.free p) (relook_next s placed p) (moved (lock_of task s p) (free_at s.free p) n) (omega (arith, next)) (omega arith))
+
+some_relook : (p : Place) → 0 < left_of_relook p
+some_relook Home = omega arith
+some_relook Probing = omega arith
+some_relook First = omega arith
+some_relook Second = omega arith
+
+-- each event leaves one less at least; none, where none was left
+lowers : (task : Task) (s : ReadStep) (n : ℕ) → left (next_in task s n) ≤ left s - 1
+lowers task (Way w) n =
+    let most = walked_most (walk_taken task.site task.hash w n) in let low = walk_falls task.site task.hash w n in omega (arith, most, low)
+lowers task (Look s p) n =
+    let next = looked_most (with_free s p n) p in let some = some_look p in
+    both_most (left_of_look p - 1) (n % 2 == 0) (looked (with_free s p n) p) (busy (lock_of task s p) n) (omega (arith, next, some)) (omega arith)
+lowers task (Fill s p load) n = let most = filled_most task.key task.hash s p (load_taken load n) in let low = load_falls load n in omega (arith, most, low)
+lowers task (Count s) n = omega arith
+lowers task (Check s placed at) n =
+    let most = backed_most s placed (back_taken task.site task.hash s.path at n) in let low = back_falls task.site task.hash s.path at n in omega (arith, most, low)
+lowers task (Relook s placed p) n = let most = relooked_most task s placed p n in let some = some_relook p in omega (arith, most, some)
+lowers task (Ended end) n = omega arith
+
+some_left : (task : Task) (s : ReadStep) → wanted_in task s ≢ Done → 0 < left s
+some_left task (Way w) asks = omega arith
+some_left task (Look s p) asks = some_look p
+some_left task (Fill s p load) asks = omega arith
+some_left task (Count s) asks = omega arith
+some_left task (Check s placed at) asks = omega arith
+some_left task (Relook s placed p) asks = some_relook p
+some_left task (Ended end) asks = absurd (asks refl)
+
+pub falls : Falls
+falls op n asks = let some = some_left op.task op.step asks in let low = lowers op.task op.step n in omega (arith, some, low)
+
+-- ---- at most so many are left
+most_look : (p : Place) → left_of_look p ≤ 136
+most_look Home = omega arith
+most_look Probing = omega arith
+most_look First = omega arith
+most_look Second = omega arith
+
+most_behind : (p : Place) → left_behind p ≤ 103
+most_behind Home = omega arith
+most_behind Probing = omega arith
+most_behind First = omega arith
+most_behind Second = omega arith
+
+most_relook : (p : Place) → left_of_relook p ≤ 4
+most_relook Home = omega arith
+most_relook Probing = omega arith
+most_relook First = omega arith
+most_relook Second = omega arith
+
+most_walk : (w : Walk) → walk_left w ≤ 4
+most_walk walk.Power = omega arith
+most_walk walk.Root = omega arith
+most_walk (walk.Entry root) = omega arith
+most_walk (walk.Head root segment) = omega arith
+
+most_back : (at : Back) → back_left at ≤ 3
+most_back back.Root = omega arith
+most_back back.Entry = omega arith
+most_back back.Head = omega arith
 
 most_in : (s : ReadStep) → left s ≤ most_events
-most_in Power = omega arith
-most_in Root = omega arith
-most_in (Entry root) = omega arith
-most_in (Head root segment) = omega arith
-most_in (Lock path) = omega arith
-most_in (Fill path free words next) = omega arith
-most_in (Count found) = omega arith
-most_in (Check found place at) = let a = most_again at in omega (arith, a)
+most_in (Way w) = let most = most_walk w in omega (arith, most)
+most_in (Look s p) = let most = most_look p in omega (arith, most)
+most_in (Fill s p load) = let most = most_behind p in omega (arith, most)
+most_in (Count s) = omega arith
+most_in (Check s placed at) = let most = most_back at in omega (arith, most)
+most_in (Relook s placed p) = let most = most_relook p in omega (arith, most)
 most_in (Ended end) = omega arith
 
 pub most : (op : ReadOp) → left op.step ≤ most_events
 most op = most_in op.step
 
-some_again : (at : Second) → 0 < left_again at
-some_again again.Root = omega arith
-some_again again.Entry = omega arith
-some_again again.Head = omega arith
-some_again again.Lock = omega arith
-
-some_left : (op : ReadOp) (s : ReadStep) → wanted_in op s ≢ Done → 0 < left s
-some_left op Power wants = omega arith
-some_left op Root wants = omega arith
-some_left op (Entry root) wants = omega arith
-some_left op (Head root segment) wants = omega arith
-some_left op (Lock path) wants = omega arith
-some_left op (Fill path free words next) wants = omega arith
-some_left op (Count found) wants = omega arith
-some_left op (Check found place at) wants = some_again at
-some_left op (Ended end) wants = absurd (wants refl)
-
-pub falls : Falls
-falls op seen wants = let some = some_left op op.step wants in let low = lowers op op.step seen in omega (arith, some, low)
-
-none_left : (op : ReadOp) (s : ReadStep) → left s ≤ 0 → wanted_in op s ≡ Done
-none_left op Power most = absurd (omega (arith, most))
-none_left op Root most = absurd (omega (arith, most))
-none_left op (Entry root) most = absurd (omega (arith, most))
-none_left op (Head root segment) most = absurd (omega (arith, most))
-none_left op (Lock path) most = absurd (omega (arith, most))
-none_left op (Fill path free words next) most = absurd (omega (arith, most))
-none_left op (Count found) most = absurd (omega (arith, most))
-none_left op (Check found place at) most = let some = some_again at in absurd (omega (arith, some, most))
-none_left op (Ended end) most = refl
+-- ---- so it ends in time: with none left, nothing is wanted
+none_left : (task : Task) (s : ReadStep) → left s ≤ 0 → wanted_in task s ≡ Done
+none_left task (Way w) low = absurd (omega (arith, low))
+none_left task (Look s p) low = absurd (let some = some_look p in omega (arith, some, low))
+none_left task (Fill s p load) low = absurd (omega (arith, low))
+none_left task (Count s) low = absurd (omega (arith, low))
+none_left task (Check s placed at) low = absurd (omega (arith, low))
+none_left task (Relook s placed p) low = absurd (let some = some_relook p in omega (arith, some, low))
+none_left task (Ended end) low = refl
 
 runs_out : (seen : List ℕ) (op : ReadOp) → left op.step ≤ length seen → wanted (after_all op seen) ≡ Done
-runs_out [] op most = none_left op op.step most
-runs_out (value ∷ rest) op most = let low = lowers op op.step value in runs_out rest (taken op (Value value)) (omega (arith, low, most))
+runs_out [] op low = none_left op.task op.step low
+runs_out (value ∷ rest) op low = let next = lowers op.task op.step value in runs_out rest (taken op (Value value)) (omega (arith, next, low))
 
 pub ends_in_time : EndsInTime
-ends_in_time key site seen most = runs_out seen (begun key site) most
+ends_in_time key site seen low = runs_out seen (begun key site) low

@@ -1,10 +1,11 @@
 pub mod LastTaken
+pub mod Places
 pub mod Falling
-pub mod Asked
+pub mod Opening
 pub mod Fitting
 pub mod Stepping
-pub mod Loading
-pub mod Causing
 pub mod Ending
+pub mod Keeping
+pub mod Asked
 pub mod Sounding
-mod parts
+pub mod parts

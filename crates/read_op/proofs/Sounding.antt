@@ -1,108 +1,189 @@
--- By what a get ends in a world whose invariant holds.
-use Rattle.std.proofs.Common.{◌≡◌, ◌≢◌, ℕ, ◌+◌, ◌%◌, ◌^◌, ◌<◌, ◌≤◌, inl, inr, true, false, cond, List, [], sym, ◌∙◌, ap, subst, arith}
-use Rattle.std.specs.Prelude.{◌==◌, ◌&&◌, ◌||◌, nat_lt, nat_le}
-use Rattle.std.proofs.lemmas.Bool.{cases_lt, eq-eqb, lt-ltb, le-ltb, false≢true}
-use Rattle.hash_word.specs.Hash.{home_of, index_of}
-use Rattle.segment_head.specs.HeadWord.{version_in, state_in, pattern_in, normal, splitting, is_live}
-use Rattle.op_core.specs.declared.want.Want.TheVariants.{Load, Done}
-use Rattle.op_core.specs.declared.why.Why.TheVariants.{Busy, Moved}
+-- By what an answer comes; and in a world, whose lock is found taken, and that no current segment is stale.
+use Rattle.std.proofs.Common.{◌≡◌, ◌≢◌, ℕ, ◌%◌, Bool, true, false, Option, None, Some, List, [], inl, refl, sym, ◌∙◌, ap, subst, arith}
+use Rattle.std.specs.Prelude.{◌==◌, ⊤, if◌then◌else◌}
+use Rattle.std.proofs.lemmas.Bool.{eqb-true, eqb-false}
+use Rattle.op_core.specs.declared.want.Want.TheVariants.{Load as LoadWord, Done}
+use Rattle.op_core.specs.declared.why.Why.TheVariants.{Busy}
 use Rattle.trace.specs.Events.{Words}
-use Rattle.image_layout.specs.Places.{IsShape, root_word, state_word, head_at, bucket_at, words_of}
-use Rattle.image_layout.specs.Volatile.{counter_word}
-use Rattle.bucket_words.specs.Tables.{home_at}
 use Rattle.world.specs.Site.{Site, IsLockWord}
 use Rattle.world.specs.Views.{View, At, HasLock}
 use Rattle.world.specs.Wants.{word_of}
 use Rattle.world.specs.Invariant.{Holds}
 use Rattle.world.specs.Laws.{found_by}
-use Rattle.world.proofs.Grounds.{home_is_lock}
 use Rattle.world.proofs.Lists.{same_at}
+use Rattle.phase.specs.declared.walk.Walk.{Walk}
+use Rattle.phase.specs.declared.walk.Walked.{Walked}
+use Rattle.phase.specs.declared.walk.Walked.TheVariants as walked
+use Rattle.phase.specs.declared.back.Backed.{Backed}
+use Rattle.phase.specs.declared.back.Backed.TheVariants as backed
+use Rattle.phase.specs.Walks.{walk_taken}
+use Rattle.phase.specs.Backs.{back_taken}
+use Rattle.phase.specs.Loads.{load_taken}
+use Rattle.phase.proofs.Walking.{walk_never_stale}
+use Rattle.phase.specs.declared.place.Place.{Place}
+use Rattle.phase.specs.declared.place.Place.TheVariants.{Home, Probing, First, Second}
+use Rattle.read_op.specs.declared.step.Seen.{Seen}
 use Rattle.read_op.specs.declared.step.ReadEnd.TheVariants as ends
 use Rattle.read_op.specs.declared.step.ReadStep.{ReadStep}
-use Rattle.read_op.specs.declared.step.ReadStep.TheVariants.{Power, Root, Entry, Head, Lock, Fill, Count, Check, Ended}
+use Rattle.read_op.specs.declared.step.ReadStep.TheVariants.{Way, Look, Fill, Count, Check, Relook, Ended}
+use Rattle.read_op.specs.declared.step.Task.{Task}
 use Rattle.read_op.specs.declared.op.ReadOp.{ReadOp}
-use Rattle.way.specs.Ways.{is_covering, head_word}
-use Rattle.read_op.specs.Steps.{wanted, lock_word}
-use Rattle.read_op.specs.Fits.{IsIn, Suits, suits_in, kind_in, finds}
-use Rattle.read_op.specs.Causes.{IsWatched, IsAmiss, EndsSo, IsAnothers, IsSoundEnd, EndsSoundly, NeverStale, NeverBusy}
-use Rattle.read_op.proofs.Fitting.{home_lock, wants_in}
-use Rattle.read_op.proofs.Stepping.{root_is, entry_is, table}
-use Rattle.read_op.proofs.Asked.{watched_within}
-use Rattle.read_op.proofs.Causing.{ends_by_cause}
+use Rattle.read_op.specs.Places.{free_at}
+use Rattle.read_op.specs.Steps.{wanted, wanted_in, next_in, walked_to, with_free, looked, filled, backed_to, relook_first, relook_second, relook_next, busy, moved, end_of, lock_of}
+use Rattle.read_op.specs.Fits.{IsIn, kind_of, suits_in, Suits}
+use Rattle.read_op.specs.Causes.{FindsSame, AnswersBySame, IsAnothers, BusyIsAnothers, NeverBusy, NeverStale}
+use Rattle.read_op.proofs.Opening.{IsOpen, looked_open, filled_open}
+use Rattle.read_op.proofs.Fitting.{wants_in, lock_word_is}
 
-module _ (site : Site) (op : ReadOp) (is : IsIn site op) (words : Words) (views : List View) (j : ℕ) (v : View) (h : Holds site words views) (at : At views j v) where
-  root_zero : words root_word ≡ 0
-  root_zero = root_is site op is words views j v h at
+-- ---- an answer
+module _ (step : ReadStep) (n : ℕ) where
+  -- if it is an answer, it comes by a lock word that is as it was
+  abbrev SameIf : ReadStep → Type 0
+  SameIf (Ended (ends.Found x place)) = FindsSame step n (Some x) place
+  SameIf (Ended (ends.Absent place)) = FindsSame step n None place
+  SameIf next = ⊤
 
-  -- the only segment's header
-  head : ℕ
-  head = site.front (head_at site.shape 0 + 1)
+  same_of : (value : Option ℕ) (place : ℕ) → SameIf (Ended (end_of value place)) → FindsSame step n value place
+  same_of (Some x) place f = f
+  same_of None place f = f
 
-  some_segment : 0 < op.site.geometry.segments
-  some_segment = subst (λ g. 0 < g.segments) (sym is.shape) (let one = h.site_is.front.one_segment in omega (arith, one))
+  to_same : (value : Option ℕ) (place : ℕ) → FindsSame step n value place → SameIf (Ended (end_of value place))
+  to_same (Some x) place f = f
+  to_same None place f = f
 
-  few_segments : op.site.geometry.segments ≤ 1
-  few_segments = subst (λ g. g.segments ≤ 1) (sym is.shape) (let one = h.site_is.front.one_segment in omega (arith, one))
+  by_same : (b : Bool) (s t : ReadStep) → (b ≡ true → SameIf s) → (b ≡ false → SameIf t) → SameIf (if b then s else t)
+  by_same true s t p q = p refl
+  by_same false s t p q = q refl
 
-  head_is : (segment : ℕ) → segment ≡ 0 → words (head_word op.site.geometry segment) ≡ site.front (head_at site.shape 0 + 1)
-  head_is segment first =
-      ap (λ n. words (head_word op.site.geometry n)) first
-      ∙ (ap (λ b. words (cond b (head_at op.site.geometry 0 + 1) root_word)) (lt-ltb 0 op.site.geometry.segments some_segment)
-      ∙ (ap (λ g. words (head_at g 0 + 1)) is.shape
-      ∙ (table site op is words views j v h at).same_front (head_at site.shape 0 + 1) (omega arith)))
+  open_same : (s : ReadStep) → IsOpen s → SameIf s
+  open_same (Ended end) goes = absurd goes
+  open_same s goes = tt
 
-  is_alive : is_live (site.front (head_at site.shape 0 + 1)) ≡ true
-  is_alive = let state = h.site_is.front.is_normal in
-      ap (λ b. b || (state_in (site.front (head_at site.shape 0 + 1)) == splitting)) (eq-eqb (state_in (site.front (head_at site.shape 0 + 1))) normal state)
+walked_same : (step : ReadStep) (n : ℕ) (x : Walked) → SameIf step n (walked_to x)
+walked_same step n (walked.On w) = tt
+walked_same step n (walked.There path) = tt
+walked_same step n walked.Off = tt
+walked_same step n (walked.Amiss word seen) = tt
+walked_same step n (walked.Stale segment version) = tt
 
-  covers_all : is_covering (site.front (head_at site.shape 0 + 1)) op.hash ≡ true
-  covers_all =
-      let fits = is.fits in
-      let top : index_of 0 op.hash ≡ 0 = omega (arith, fits) in
-      ap (λ d. nat_le d 64 && (index_of d op.hash == pattern_in (site.front (head_at site.shape 0 + 1)))) h.site_is.front.no_depth
-      ∙ eq-eqb (index_of 0 op.hash) (pattern_in (site.front (head_at site.shape 0 + 1))) (top ∙ sym h.site_is.front.no_pattern)
+backed_same : (step : ReadStep) (n : ℕ) (s : Seen) (placed : ℕ) (x : Backed) → SameIf step n (backed_to s placed x)
+backed_same step n s placed (backed.On at) = tt
+backed_same step n s placed backed.Same = tt
+backed_same step n s placed (backed.Moved word before after) = tt
 
-  -- no first look finds what no table has
-  never_amiss : (s : ReadStep) → suits_in op.site op.hash op.key site s v → IsAmiss op s (found_by site (kind_in op s) words) s → ⊥
-  never_amiss Power suits amiss = elim amiss [ ]
-  never_amiss Root suits amiss = let zero = root_zero in omega (arith, amiss, zero)
-  never_amiss (Entry root) suits amiss =
-      let zero = entry_is site op is words views j v h at root suits.1 in
-      let some = some_segment in
-      omega (arith, amiss, zero, some)
-  never_amiss (Head root segment) suits (inl dead) = false≢true (sym dead ∙ (ap is_live (head_is segment suits.1) ∙ is_alive))
-  never_amiss (Head root segment) suits (inr other) = false≢true (sym other ∙ (ap (λ n. is_covering n op.hash) (head_is segment suits.1) ∙ covers_all))
-  never_amiss (Lock path) suits amiss = elim amiss [ ]
-  never_amiss (Fill path free ws next) suits amiss = elim amiss [ ]
-  never_amiss (Count found) suits amiss = elim amiss [ ]
-  never_amiss (Check found place again) suits amiss = elim amiss [ ]
-  never_amiss (Ended end) suits amiss = elim amiss [ ]
+module _ (s : Seen) (placed : ℕ) (p : Place) (n : ℕ) (same : n ≡ free_at s.free p) (even : n % 2 ≢ 1) where
+  abbrev here : ReadStep
+  here = Relook s placed p
 
-  -- what is found is the word that is loaded
-  finds_word : (wanted op ≢ Done) → (word : ℕ) → wanted op ≡ Load word → finds site op words ≡ words word
-  finds_word wants word loads = ap (λ w. words (word_of site.shape w)) (sym (wants_in op site is op.step wants) ∙ loads)
+  answered : SameIf here n (Ended (end_of s.value placed))
+  answered = to_same here n s.value placed (record { seen = s; last = p; at_last = refl; same = same; even = even; value_is = refl })
 
-  -- a lock word of a named segment that is odd is that of the only segment
-  home_of_odd : (segment : ℕ) → words (lock_word op.site op.hash segment) % 2 ≡ 1 → lock_word op.site op.hash segment ≡ home_at site.shape op.key
-  home_of_odd segment odd = elim (cases_lt segment op.site.geometry.segments) [
-    | inl within ↦ let few = few_segments in home_lock site op h.site_is is segment (omega (arith, within, few))
-    | inr beyond ↦
-        let none : nat_lt segment op.site.geometry.segments ≡ false = le-ltb segment op.site.geometry.segments beyond in
-        let zero = root_zero in
-        let even : words (lock_word op.site op.hash segment) ≡ 0 = ap (λ b. words (cond b (bucket_at op.site.geometry segment (home_of op.hash)) root_word)) none ∙ zero in
-        absurd (omega (arith, odd, even))
-  ]
+  second_same : SameIf here n (relook_second s placed)
+  second_same = by_same here n s.second (Relook s placed Second) (Ended (end_of s.value placed)) (λ t. tt) (λ f. answered)
 
-  -- a live header of a named segment is that of the only segment
-  only_live : (segment : ℕ) → is_live (words (head_word op.site.geometry segment)) ≡ true → segment ≡ 0
-  only_live segment live = elim (cases_lt segment op.site.geometry.segments) [
-    | inl within ↦ let few = few_segments in omega (arith, within, few)
-    | inr beyond ↦
-        let none : nat_lt segment op.site.geometry.segments ≡ false = le-ltb segment op.site.geometry.segments beyond in
-        let zero : words (head_word op.site.geometry segment) ≡ 0 = ap (λ b. words (cond b (head_at op.site.geometry segment + 1) root_word)) none ∙ root_zero in
-        let dead : is_live (words (head_word op.site.geometry segment)) ≡ false = ap is_live zero in
-        absurd (false≢true (sym dead ∙ live))
-  ]
+  first_same : SameIf here n (relook_first s placed)
+  first_same = by_same here n s.first (Relook s placed First) (relook_second s placed) (λ t. tt) (λ f. second_same)
+
+  next_same : (q : Place) → SameIf here n (relook_next s placed q)
+  next_same Home = tt
+  next_same Probing = first_same
+  next_same First = second_same
+  next_same Second = answered
+
+same_in : (task : Task) (s : ReadStep) (n : ℕ) → wanted_in task s ≢ Done → SameIf s n (next_in task s n)
+same_in task (Way w) n asks = walked_same (Way w) n (walk_taken task.site task.hash w n)
+same_in task (Look s p) n asks =
+    by_same (Look s p) n (n % 2 == 0) (looked (with_free s p n) p) (busy (lock_of task s p) n) (λ t. open_same (Look s p) n (looked (with_free s p n) p) (looked_open (with_free s p n) p)) (λ f. tt)
+same_in task (Fill s p load) n asks =
+    open_same (Fill s p load) n (filled task.key task.hash s p (load_taken load n)) (filled_open task.key task.hash s p (load_taken load n))
+same_in task (Count s) n asks = tt
+same_in task (Check s placed at) n asks = backed_same (Check s placed at) n s placed (back_taken task.site task.hash s.path at n)
+same_in task (Relook s placed p) n asks =
+    by_same (Relook s placed p) n (n % 2 == 1) (busy (lock_of task s p) n) (if n == free_at s.free p then relook_next s placed p else moved (lock_of task s p) (free_at s.free p) n) (λ t. tt)
+    (λ odd. by_same (Relook s placed p) n (n == free_at s.free p) (relook_next s placed p) (moved (lock_of task s p) (free_at s.free p) n)
+    (λ t. next_same s placed p n (eqb-true n (free_at s.free p) t) (eqb-false (n % 2) 1 odd) p) (λ f. tt))
+same_in task (Ended end) n asks = absurd (asks refl)
+
+pub answers_by_same : AnswersBySame
+answers_by_same op n value place asks so = same_of op.step n value place (subst (SameIf op.step n) so (same_in op.task op.step n asks))
+
+-- ---- a lock that is found taken
+module _ (site : Site) (task : Task) (is : IsIn site task) (v : View) where
+  module _ (step : ReadStep) (n : ℕ) where
+    -- if that is the end, the event loaded a lock word of the image, which is odd
+    abbrev BusyIf : ReadStep → Type 0
+    BusyIf (Ended (ends.Again (Busy word value))) = (wanted_in task step ≡ LoadWord word) × IsLockWord site.shape word × (n ≡ value) × (value % 2 ≡ 1)
+    BusyIf next = ⊤
+
+    by_busy : (b : Bool) (s t : ReadStep) → (b ≡ true → BusyIf s) → (b ≡ false → BusyIf t) → BusyIf (if b then s else t)
+    by_busy true s t p q = p refl
+    by_busy false s t p q = q refl
+
+    open_busy : (s : ReadStep) → IsOpen s → BusyIf s
+    open_busy (Ended end) goes = absurd goes
+    open_busy s goes = tt
+
+    walked_busy : (x : Walked) → BusyIf (walked_to x)
+    walked_busy (walked.On w) = tt
+    walked_busy (walked.There path) = tt
+    walked_busy walked.Off = tt
+    walked_busy (walked.Amiss word seen) = tt
+    walked_busy (walked.Stale segment version) = tt
+
+    backed_busy : (s : Seen) (placed : ℕ) (x : Backed) → BusyIf (backed_to s placed x)
+    backed_busy s placed (backed.On at) = tt
+    backed_busy s placed backed.Same = tt
+    backed_busy s placed (backed.Moved word before after) = tt
+
+    end_busy : (a : Option ℕ) (placed : ℕ) → BusyIf (Ended (end_of a placed))
+    end_busy (Some x) placed = tt
+    end_busy None placed = tt
+
+    second_busy : (s : Seen) (placed : ℕ) → BusyIf (relook_second s placed)
+    second_busy s placed = by_busy s.second (Relook s placed Second) (Ended (end_of s.value placed)) (λ t. tt) (λ f. end_busy s.value placed)
+
+    first_busy : (s : Seen) (placed : ℕ) → BusyIf (relook_first s placed)
+    first_busy s placed = by_busy s.first (Relook s placed First) (relook_second s placed) (λ t. tt) (λ f. second_busy s placed)
+
+    next_busy : (s : Seen) (placed : ℕ) (p : Place) → BusyIf (relook_next s placed p)
+    next_busy s placed Home = tt
+    next_busy s placed Probing = first_busy s placed
+    next_busy s placed First = second_busy s placed
+    next_busy s placed Second = end_busy s.value placed
+
+  -- an even number is not odd
+  odd_of : (n : ℕ) → (n % 2 == 0) ≡ false → n % 2 ≡ 1
+  odd_of n f = let other = eqb-false (n % 2) 0 f in omega (arith, other)
+
+  busy_in : (s : ReadStep) (n : ℕ) → wanted_in task s ≢ Done → suits_in site task s v → BusyIf s n (next_in task s n)
+  busy_in (Way w) n asks suits = walked_busy (Way w) n (walk_taken task.site task.hash w n)
+  busy_in (Look s p) n asks suits =
+      by_busy (Look s p) n (n % 2 == 0) (looked (with_free s p n) p) (busy (lock_of task s p) n)
+      (λ t. open_busy (Look s p) n (looked (with_free s p n) p) (looked_open (with_free s p n) p))
+      (λ f. (refl, lock_word_is site task is s p suits.0.led.within, refl, odd_of n f))
+  busy_in (Fill s p load) n asks suits =
+      open_busy (Fill s p load) n (filled task.key task.hash s p (load_taken load n)) (filled_open task.key task.hash s p (load_taken load n))
+  busy_in (Count s) n asks suits = tt
+  busy_in (Check s placed at) n asks suits = backed_busy (Check s placed at) n s placed (back_taken task.site task.hash s.path at n)
+  busy_in (Relook s placed p) n asks suits =
+      by_busy (Relook s placed p) n (n % 2 == 1) (busy (lock_of task s p) n) (if n == free_at s.free p then relook_next s placed p else moved (lock_of task s p) (free_at s.free p) n)
+      (λ t. (refl, lock_word_is site task is s p suits.0.led.within, refl, eqb-true (n % 2) 1 t))
+      (λ f. by_busy (Relook s placed p) n (n == free_at s.free p) (relook_next s placed p) (moved (lock_of task s p) (free_at s.free p) n) (λ t. next_busy (Relook s placed p) n s placed p) (λ g. tt))
+  busy_in (Ended end) n asks suits = absurd (asks refl)
+
+-- ---- in a world
+module _ (site : Site) (op : ReadOp) (words : Words) (views : List View) (j : ℕ) (v : View) (h : Holds site words views) (at : At views j v) (is : IsIn site op.task) (suits : Suits site op v)
+    (asks : wanted op ≢ Done) where
+  abbrev found : ℕ
+  found = found_by site (kind_of op) words
+
+  found_is : found ≡ words (word_of site.shape (wanted op))
+  found_is = ap (λ w. words (word_of site.shape w)) (sym (wants_in op.task site is op.step asks))
+
+  busy_found : (word value : ℕ) → next_in op.task op.step found ≡ Ended (ends.Again (Busy word value)) → IsLockWord site.shape word × (words word ≡ value) × (value % 2 ≡ 1)
+  busy_found word value so =
+      let b = subst (BusyIf site op.task is v op.step found) so (busy_in site op.task is v op.step found asks suits) in
+      (b.1, sym (found_is ∙ ap (λ w. words (word_of site.shape w)) b.0) ∙ b.2, b.3)
 
   -- a lock word that is odd is another's, where this caller holds no lock
   held_elsewhere : v.held ≡ [] → (lock : ℕ) → IsLockWord site.shape lock → words lock % 2 ≡ 1 → IsAnothers views j v lock
@@ -120,55 +201,76 @@ module _ (site : Site) (op : ReadOp) (is : IsIn site op) (words : Words) (views 
         holds = holder.3;
       }
 
-  -- a watched word is not the commit counter
-  not_counter : (word : ℕ) → IsWatched op op.step word → word ≢ counter_word site.shape
-  not_counter word watched counts =
-      let below = watched_within op (subst IsShape (sym is.shape) h.site_is.shape) is.fits op.step word watched in
-      let same = ap words_of is.shape in
-      omega (arith, below, same, counts)
-
-  module _ (suits : Suits site op v) (wants : wanted op ≢ Done) where
-    busy_in_world : (word value : ℕ) → EndsSo site op words (ends.Again (Busy word value))
-        → IsLockWord site.shape word × (word ≡ home_at site.shape op.key) × (words word ≡ value) × (value % 2 ≡ 1)
-    busy_in_world word value so =
-        let c = ends_by_cause op (finds site op words) (ends.Again (Busy word value)) wants so in
-        let found : words word ≡ value = sym (finds_word wants word c.loads) ∙ c.finds in
-        let odd : words (lock_word op.site op.hash c.segment) % 2 ≡ 1 = subst (λ w. words w % 2 ≡ 1) c.is_home (ap (λ x. x % 2) found ∙ c.odd) in
-        let home : word ≡ home_at site.shape op.key = c.is_home ∙ home_of_odd c.segment odd in
-        (subst (IsLockWord site.shape) (sym home) (home_is_lock site.shape op.key), home, found, c.odd)
-
-    stale_in_world : (segment byte : ℕ) → EndsSo site op words (ends.Stale segment byte)
-        → (segment ≡ 0) × (byte ≡ site.front state_word % 2 ^ 8) × (byte ≢ op.site.version)
-    stale_in_world segment byte so =
-        let c = ends_by_cause op (finds site op words) (ends.Stale segment byte) wants so in
-        let found = finds_word wants (head_word op.site.geometry segment) c.loads in
-        let first : segment ≡ 0 = only_live segment (ap is_live (sym found) ∙ c.live) in
-        (first, sym c.version ∙ (ap version_in (found ∙ head_is segment first) ∙ h.site_is.front.same_version), c.other)
-
-    ends_in_world : v.held ≡ [] → IsSoundEnd site op words views j v
-    ends_in_world nothing = record {
-      busy = λ word value so.
-          let b = busy_in_world word value so in
-          (b.0, b.1, b.2, b.3, held_elsewhere nothing word b.0 (ap (λ x. x % 2) b.2 ∙ b.3));
-      moved = λ word before after so. elim (ends_by_cause op (finds site op words) (ends.Again (Moved word before after)) wants so) [
-        | inl c ↦ (c.was, c.watched, sym (finds_word wants word c.loads) ∙ c.finds, c.differ, not_counter word c.watched)
-        | inr c ↦ absurd (never_amiss op.step suits c.amiss)
-      ];
-      stale = stale_in_world;
-    }
-
-pub ends_soundly : EndsSoundly
-ends_soundly site op words views j v h at is suits nothing wants = ends_in_world site op is words views j v h at suits wants nothing
-
-pub never_stale : NeverStale
-never_stale site op words views j v h at is suits wants current segment byte so =
-    let stale = stale_in_world site op is words views j v h at suits wants segment byte so in
-    stale.2 (stale.1 ∙ sym current)
+pub busy_is_anothers : BusyIsAnothers
+busy_is_anothers site op words views j v h at is suits nothing asks word value so =
+    let b = busy_found site op words views j v h at is suits asks word value so in
+    (b.0, b.1, b.2, held_elsewhere site op words views j v h at is suits asks nothing word b.0 (ap (λ x. x % 2) b.1 ∙ b.2))
 
 pub never_busy : NeverBusy
-never_busy site op words views j v h at is suits wants free word value so =
-    let busy = busy_in_world site op is words views j v h at suits wants word value so in
-    let even = free word busy.0 in
-    let found = busy.2 in
-    let odd = busy.3 in
+never_busy site op words views j v h at is suits asks free word value so =
+    let b = busy_found site op words views j v h at is suits asks word value so in
+    let even = free word b.0 in
+    let found = b.1 in
+    let odd = b.2 in
     omega (arith, even, found, odd)
+
+-- ---- a stale segment
+module _ (task : Task) where
+  -- it is no such end
+  abbrev NoStale : ReadStep → Type 0
+  NoStale (Ended (ends.Stale segment byte)) = ⊥
+  NoStale next = ⊤
+
+  both_fresh : (b : Bool) (s t : ReadStep) → NoStale s → NoStale t → NoStale (if b then s else t)
+  both_fresh true s t p q = p
+  both_fresh false s t p q = q
+
+  open_fresh : (s : ReadStep) → IsOpen s → NoStale s
+  open_fresh (Ended end) goes = absurd goes
+  open_fresh s goes = tt
+
+  walked_fresh : (x : Walked) → ((segment byte : ℕ) → x ≡ walked.Stale segment byte → ⊥) → NoStale (walked_to x)
+  walked_fresh (walked.On w) none = tt
+  walked_fresh (walked.There path) none = tt
+  walked_fresh walked.Off none = tt
+  walked_fresh (walked.Amiss word seen) none = tt
+  walked_fresh (walked.Stale segment version) none = absurd (none segment version refl)
+
+  backed_fresh : (s : Seen) (placed : ℕ) (x : Backed) → NoStale (backed_to s placed x)
+  backed_fresh s placed (backed.On at) = tt
+  backed_fresh s placed backed.Same = tt
+  backed_fresh s placed (backed.Moved word before after) = tt
+
+  end_fresh : (a : Option ℕ) (placed : ℕ) → NoStale (Ended (end_of a placed))
+  end_fresh (Some x) placed = tt
+  end_fresh None placed = tt
+
+  second_fresh : (s : Seen) (placed : ℕ) → NoStale (relook_second s placed)
+  second_fresh s placed = both_fresh s.second (Relook s placed Second) (Ended (end_of s.value placed)) tt (end_fresh s.value placed)
+
+  next_fresh : (s : Seen) (placed : ℕ) (p : Place) → NoStale (relook_next s placed p)
+  next_fresh s placed Home = tt
+  next_fresh s placed Probing = both_fresh s.first (Relook s placed First) (relook_second s placed) tt (second_fresh s placed)
+  next_fresh s placed First = second_fresh s placed
+  next_fresh s placed Second = end_fresh s.value placed
+
+  fresh_in : (s : ReadStep) (n : ℕ) → wanted_in task s ≢ Done → ((w : Walk) → s ≡ Way w → (segment byte : ℕ) → walk_taken task.site task.hash w n ≡ walked.Stale segment byte → ⊥) → NoStale (next_in task s n)
+  fresh_in (Way w) n asks none = walked_fresh (walk_taken task.site task.hash w n) (none w refl)
+  fresh_in (Look s p) n asks none =
+      both_fresh (n % 2 == 0) (looked (with_free s p n) p) (busy (lock_of task s p) n) (open_fresh (looked (with_free s p n) p) (looked_open (with_free s p n) p)) tt
+  fresh_in (Fill s p load) n asks none = open_fresh (filled task.key task.hash s p (load_taken load n)) (filled_open task.key task.hash s p (load_taken load n))
+  fresh_in (Count s) n asks none = tt
+  fresh_in (Check s placed at) n asks none = backed_fresh s placed (back_taken task.site task.hash s.path at n)
+  fresh_in (Relook s placed p) n asks none =
+      both_fresh (n % 2 == 1) (busy (lock_of task s p) n) (if n == free_at s.free p then relook_next s placed p else moved (lock_of task s p) (free_at s.free p) n) tt
+      (both_fresh (n == free_at s.free p) (relook_next s placed p) (moved (lock_of task s p) (free_at s.free p) n) (next_fresh s placed p) tt)
+  fresh_in (Ended end) n asks none = absurd (asks refl)
+
+pub never_stale : NeverStale
+never_stale site op words views j v h at is suits asks current segment byte so =
+    let n : ℕ = found_by site (kind_of op) words in
+    let found : n ≡ words (word_of site.shape (wanted op)) = found_is site op words views j v h at is suits asks in
+    let none : (w : Walk) → op.step ≡ Way w → (s b : ℕ) → walk_taken op.task.site op.task.hash w n ≡ walked.Stale s b → ⊥ = λ w at_way.
+    walk_never_stale site op.task.hash op.task.site is.shape words (h.media.structure words (λ i within. inl refl)) current w
+    (subst (λ s. suits_in site op.task s v) at_way suits).0 n (found ∙ ap (λ s. words (word_of site.shape (wanted_in op.task s))) at_way) in
+    absurd (subst (NoStale op.task) so (fresh_in op.task op.step n asks none))

@@ -1,277 +1,306 @@
--- Each step of a get keeps its view suited, adds an entry if and only if it answers, and leaves locks and words alone.
-use Rattle.std.proofs.Common.{◌≡◌, ◌≢◌, ℕ, zero, suc, ◌+◌, ◌*◌, ◌%◌, ◌<◌, ◌≤◌, inl, inr, Bool, true, false, cond, Option, Some, None, List, [], ◌∷◌, refl, sym, ◌∙◌, ap, subst, arith, slice_index, slice_set, ◌++◌, get_or-set_same, get_or-set_other, length-set}
-use Rattle.std.specs.Prelude.{◌==◌, ◌&&◌, nat_lt, nat_le, not, replicate, if◌then◌else◌}
-use Rattle.std.proofs.lemmas.Bool.{cases_eq, eq-eqb, ne_eqb, le-leb, ltb-true, ltb-false}
-use Rattle.hash_word.specs.Hash.{index_of}
-use Rattle.bucket_meta.specs.Bucket.{allocated}
-use Rattle.segment_head.specs.HeadWord.{version_in, is_live}
+-- Each step of a get keeps its view suited.
+use Rattle.std.proofs.Common.{◌≡◌, ◌⊎◌, ℕ, ◌+◌, ◌%◌, ◌<◌, ◌≤◌, Bool, true, false, Option, None, Some, List, [], ◌∷◌, inl, inr, refl, sym, ◌∙◌, ap, subst, arith, slice_index}
+use Rattle.std.specs.Prelude.{nat_lt, if◌then◌else◌}
+use Rattle.std.specs.Option.{option_or}
+use Rattle.hash_word.specs.Hash.{home_of, finger_of}
 use Rattle.trace.specs.Events.{Words}
-use Rattle.image_layout.specs.Places.{root_word, entry_at}
+use Rattle.bucket_meta.specs.Bucket.{record_slots}
+use Rattle.bucket_meta.specs.Visits.{must_visit}
 use Rattle.bucket_words.specs.Buckets.{find_below}
-use Rattle.bucket_words.specs.Tables.{IsHomeTable}
-use Rattle.op_core.specs.declared.why.Why.{Why}
-use Rattle.op_core.specs.declared.want.Want.TheVariants.{Done}
 use Rattle.world.specs.Site.{Site}
-use Rattle.world.specs.Views.{Note, Answer, View, Has, At}
-use Rattle.map_model.specs.declared.call.Call.TheVariants.{Get}
-use Rattle.map_model.specs.Map.{shown}
-use Rattle.world.specs.Kinds.{next_entry, with_reply, view_after, with_look, with_noted, with_answer, marked, all_again, unmarked}
-use Rattle.world.specs.Invariant.{Holds}
-use Rattle.world.specs.Laws.{found_by}
-use Rattle.world.specs.Attempts.{HasNoMore}
-use Rattle.read_op.specs.declared.step.Path.{Path}
-use Rattle.read_op.specs.declared.step.Found.{Found}
-use Rattle.read_op.specs.declared.step.ReadEnd.TheVariants as ends
-use Rattle.read_op.specs.declared.step.Second.{Second}
-use Rattle.read_op.specs.declared.step.Second.TheVariants as again
-use Rattle.read_op.specs.declared.step.ReadStep.{ReadStep}
-use Rattle.read_op.specs.declared.step.ReadStep.TheVariants.{Power, Root, Entry, Head, Lock, Fill, Count, Check, Ended}
-use Rattle.read_op.specs.declared.op.ReadOp.{ReadOp}
-use Rattle.way.specs.Ways.{entry_word, head_word, is_covering}
-use Rattle.read_op.specs.Steps.{wanted_in, next_in, checked, lock_word, value_of, moved, busy, end_by}
-use Rattle.read_op.specs.Fits.{IsIn, kind_in, kind_again, note_of, IsBare, IsFilling, IsChecking, suits_in, OwesTheSame, EntersAnswer, KeepsSuits}
-use Rattle.read_op.proofs.Fitting.{home_lock}
+use Rattle.world.specs.Views.{Note, View, Has}
+use Rattle.world.specs.Kinds.{with_noted, unmarked}
+use Rattle.world.specs.Conditions.{IsNow}
+use Rattle.world.proofs.NotedLists.{unmarked_from}
+use Rattle.phase.specs.declared.walk.Walk.{Walk}
+use Rattle.phase.specs.declared.walk.Walk.TheVariants as walk
+use Rattle.phase.specs.declared.walk.Walked.{Walked}
+use Rattle.phase.specs.declared.walk.Walked.TheVariants as walked
+use Rattle.phase.specs.declared.back.Back.TheVariants as back
+use Rattle.phase.specs.declared.back.Backed.{Backed}
+use Rattle.phase.specs.declared.back.Backed.TheVariants as backed
+use Rattle.phase.specs.declared.load.Load.{Load}
+use Rattle.phase.specs.declared.load.Loaded.{Loaded}
+use Rattle.phase.specs.declared.load.Loaded.TheVariants as loaded
+use Rattle.phase.specs.Loads.{load_begun, load_taken}
+use Rattle.phase.specs.Stands.{Leads, HasWalked, IsBare, HasBegun, HasLoaded}
+use Rattle.phase.proofs.Loading.{load_begins, load_stands, same_below}
+use Rattle.phase.specs.declared.place.Place.{Place}
+use Rattle.phase.specs.declared.place.Place.TheVariants.{Home, Probing, First, Second}
+use Rattle.read_op.specs.declared.step.Seen.{Seen}
+use Rattle.read_op.specs.declared.step.ReadStep.TheVariants.{Look, Fill, Count, Check}
+use Rattle.read_op.specs.declared.step.Task.{Task}
+use Rattle.read_op.specs.Places.{free_at, index}
+use Rattle.read_op.specs.Steps.{value_of, walked_to, visit_first, visit_second, with_free, looked, with_value, read_home, read_probing, read_all, filled, backed_to, lock_of}
+use Rattle.read_op.specs.Fits.{IsIn, is_asked, Upto, noted_by, Tells, IsSkipped, Skips, IsFilling, IsReading, FillsAt, IsChecked, IsAnswering, suits_in}
+use Rattle.world.proofs.stepping.Noting.{noted_one, noted_to, noted_from, one_lock, one_free, one_here, now_noted, now_more, unmarked_to}
+use Rattle.read_op.proofs.Places.{few, near_asked, free_other, upto_more, upto_less, upto_up}
+use Rattle.world.proofs.stepping.Telling.{unvisited}
+use Rattle.read_op.proofs.Fitting.{lock_at}
 
--- ---- the words of a bucket, in a list
-one_slot : (r k a a' b b' c c' : ℕ) (rest rest' : Option ℕ) → a ≡ a' → b ≡ b' → c ≡ c' → rest ≡ rest'
-    → (if (allocated r a == 1) && (b == k) then Some c else rest) ≡ (if (allocated r a' == 1) && (b' == k) then Some c' else rest')
-one_slot r k a a' b b' c c' rest rest' p q s t =
-    ap (λ x. if (allocated r x == 1) && (b == k) then Some c else rest) p
-    ∙ (ap (λ x. if (allocated r a' == 1) && (x == k) then Some c else rest) q
-    ∙ (ap (λ x. if (allocated r a' == 1) && (b' == k) then Some x else rest) s
-    ∙ ap (λ x. if (allocated r a' == 1) && (b' == k) then Some c' else x) t))
+-- ---- two values, of which the first counts
+else_none : (a b : Option ℕ) → option_or a b ≡ None → (a ≡ None) × (b ≡ None)
+else_none None b e = (refl, e)
+else_none (Some x) b e = absurd (cc)
 
-same_below : (m : Words) (ws : List ℕ) (lock k n : ℕ) → n ≤ 14 → ((i : ℕ) → 1 ≤ i → i < 32 → m (lock + i) ≡ slice_index ws i)
-    → find_below m lock k n ≡ find_below (λ i. slice_index ws i) 0 k n
-unfolding find_below
-same_below m ws lock k zero most same = refl
-same_below m ws lock k (suc r) most same =
-    let key : lock + 4 + 2 * r ≡ lock + (4 + 2 * r) = omega arith in
-    let value : lock + 5 + 2 * r ≡ lock + (5 + 2 * r) = omega arith in
-    one_slot r k (m (lock + 1)) (slice_index ws 1) (m (lock + 4 + 2 * r)) (slice_index ws (4 + 2 * r)) (m (lock + 5 + 2 * r)) (slice_index ws (5 + 2 * r)) _ _
-    (same 1 (omega arith) (omega arith))
-    (ap m key ∙ same (4 + 2 * r) (omega arith) (omega (arith, most)))
-    (ap m value ∙ same (5 + 2 * r) (omega arith) (omega (arith, most)))
-    (same_below m ws lock k r (omega (arith, most)) same)
+else_some : (a b : Option ℕ) (x : ℕ) → option_or a b ≡ Some x → (a ≡ Some x) ⊎ (b ≡ Some x)
+else_some None b x e = inr e
+else_some (Some y) b x e = inl e
 
--- ---- one step
-module _ (site : Site) (op : ReadOp) (is : IsIn site op) (words : Words) (views : List View) (j : ℕ) (v : View) (h : Holds site words views) (at : At views j v) where
-  record Kept (s : ReadStep) (u : View) : Type 0 where
-    suits : suits_in op.site op.hash op.key site s u
-    owes : OwesTheSame v u
-    answers : EntersAnswer op.key s v u
+no_value : {x : ℕ} → None ≡ Some x → ⊥
+no_value e = cc
 
-  both : (P : ReadStep → Type 0) (b : Bool) (s t : ReadStep) → P s → P t → P (cond b s t)
-  both P true s t p q = p
-  both P false s t p q = q
+begun_of : (w : Walk) (u : View) → IsBare u → HasBegun w u
+begun_of walk.Power u b = tt
+begun_of walk.Root u b = b
+begun_of (walk.Entry root) u b = b
+begun_of (walk.Head root segment) u b = b
 
-  same_v : OwesTheSame v v
-  same_v = record { held = refl; known = refl; dirty = refl; flushed = refl; planned = refl }
+none_zero : (s : Seen) (q : Place) → Upto s 0 q → ⊥
+none_zero s q u = let low = u.low in omega (arith, low)
 
-  quiet_v : HasNoMore v v
-  quiet_v = record { own = refl; seen = refl }
+module _ (site : Site) (task : Task) (is : IsIn site task) where
+  -- ---- the way
+  pub walked_suits : (u : View) (x : Walked) → HasWalked site task.hash x → IsBare u → suits_in site task (walked_to x) u
+  walked_suits u (walked.On w) has bare = (has, begun_of w u bare)
+  walked_suits u (walked.There path) has bare = (
+    record {
+      led = has;
+      noted_at = record {
+        from = λ n h. absurd (subst (Has n) bare.notes h);
+        to = λ q l. absurd (none_zero _ q l);
+      };
+      knows = record { none = λ e q l. absurd (none_zero _ q l); some = λ x e. absurd (no_value e) };
+    },
+    tt,
+  )
+  walked_suits u walked.Off has bare = tt
+  walked_suits u (walked.Amiss word seen) has bare = absurd has
+  walked_suits u (walked.Stale segment version) has bare = tt
 
-  -- an attempt that is to be made again, or that found a segment stale
-  again_v : (why : Why) → Kept (Ended (ends.Again why)) v
-  again_v why = record { suits = tt; owes = same_v; answers = quiet_v }
+  -- ---- a look at a lock word
+  module _ (notes : List Note) (s s' : Seen) (p : Place) (n k : ℕ) where
+    abbrev new : Note
+    new = record { lock = lock_of task s p; free = n; words = []; again = false }
 
-  stale_v : (segment byte : ℕ) → Kept (Ended (ends.Stale segment byte)) v
-  stale_v segment byte = record { suits = tt; owes = same_v; answers = quiet_v }
+    look_more : ((q : Place) → lock_of task s' q ≡ lock_of task s q) → ((q : Place) → index q < index p → free_at s'.free q ≡ free_at s.free q) → free_at s'.free p ≡ n
+        → ((q : Place) → is_asked s' q ≡ is_asked s q) → s'.value ≡ s.value → Leads site task.hash s'.path.segment → is_asked s p ≡ true
+        → IsReading site notes task s (index p) k → IsReading site (new ∷ notes) task s' (index p + 1) k
+    look_more locks frees here asks value led asked r = record {
+      led = led;
+      noted_at = record {
+        from = λ m h. elim h [
+          | inl e ↦ (p, record { low = omega arith; asked = asks p ∙ asked }, ap (λ (z : Note). z.lock) e ∙ sym (locks p), ap (λ (z : Note). z.free) e ∙ sym here)
+          | inr old ↦
+              let f = r.noted_at.from m old in
+              let low = f.1.low in
+              (f.0, record { low = omega (arith, low); asked = asks f.0 ∙ f.1.asked }, f.2 ∙ sym (locks f.0), f.3 ∙ sym (frees f.0 low))
+        ];
+        to = λ q u. elim (upto_more s p q (record { low = u.low; asked = sym (asks q) ∙ u.asked })) [
+          | inl e ↦ (new, inl refl, ap (lock_of task s) (sym e) ∙ sym (locks q))
+          | inr old ↦ (let t = r.noted_at.to q old in (t.0, inr t.1, t.2 ∙ sym (locks q)))
+        ];
+      };
+      knows = record {
+        none = λ e q u m a. ap (λ l. find_below m l task.key record_slots) (locks q)
+            ∙ r.knows.none (sym value ∙ e) q (record { low = u.low; asked = sym (asks q) ∙ u.asked }) m (now_more site m new notes a);
+        some = λ x e. let t = r.knows.some x (sym value ∙ e) in
+            (t.0, λ m a. ap (λ l. find_below m l task.key record_slots) (locks t.0) ∙ t.1 m (now_more site m new notes a));
+      };
+    }
 
-  pub table : IsHomeTable site.shape site.front words
-  table = h.media.table words (λ i within. inl refl)
+  begins_at : (notes : List Note) (s : Seen) (k r : ℕ) (p : Place) → IsReading site notes task s k r → Upto s k p → IsFilling site notes task s p load_begun
+  begins_at notes s k r p reading u = let t = reading.noted_at.to p u in record { note = t.0; has = t.1; lock = t.2; loads = load_begins (lock_of task s p) t.0.words }
 
-  pub root_is : words root_word ≡ 0
-  root_is = table.same_front root_word (omega arith) ∙ h.site_is.front.root
+  pub look_suits : (v : View) (s : Seen) (p : Place) (n : ℕ) → suits_in site task (Look s p) v
+      → suits_in site task (looked (with_free s p n) p) (record v { notes = record { lock = lock_of task s p; free = n; words = []; again = false } ∷ v.notes })
+  look_suits v s Home n (r, beside) =
+      (look_more v.notes s (with_free s Home n) Home n 0 (λ q. refl) (λ q low. free_other s Home q n low) refl (λ q. refl) refl r.led refl r, tt)
+  look_suits v s Probing n (r, beside) =
+      let reading = look_more v.notes s (with_free s Probing n) Probing n 0 (λ q. refl) (λ q low. free_other s Probing q n low) refl (λ q. refl) refl r.led refl r in
+      (reading, tt, begins_at _ _ 2 0 Home reading (record { low = omega arith; asked = refl }))
+  look_suits v s First n (r, beside) =
+      let reading = look_more v.notes s (with_free s First n) First n 2 (λ q. refl) (λ q low. free_other s First q n low) refl (λ q. refl) refl r.led beside.1 r in (
+        reading,
+        ((λ out m a. beside.0.0 out m (now_more site m _ v.notes a), λ out m a. beside.0.1 out m (now_more site m _ v.notes a)), beside.1),
+        begins_at _ _ 3 2 First reading (record { low = omega arith; asked = beside.1 }),
+      )
+  look_suits v s Second n (r, beside) =
+      let reading = look_more v.notes s (with_free s Second n) Second n 3 (λ q. refl) (λ q low. free_other s Second q n low) refl (λ q. refl) refl r.led beside.1 r in (
+        reading,
+        ((λ out m a. beside.0.0 out m (now_more site m _ v.notes a), λ out m a. beside.0.1 out m (now_more site m _ v.notes a)), beside.1),
+        begins_at _ _ 4 3 Second reading (record { low = omega arith; asked = beside.1 }),
+      )
 
-  pub entry_is : (root : ℕ) → root ≡ 0 → words (entry_word op.site.geometry op.hash root) ≡ 0
-  entry_is root first =
-      let low : entry_at 0 (index_of 0 op.hash) ≡ 32 = let fits = is.fits in omega (arith, fits) in
-      ap (λ n. words (entry_word op.site.geometry op.hash n)) first
-      ∙ (ap (λ b. words (cond b (entry_at 0 (index_of 0 op.hash)) root_word)) (le-leb 0 op.site.geometry.depth (omega arith))
-      ∙ (ap words low ∙ (table.same_front 32 (omega arith) ∙ h.site_is.front.entry)))
-
-  look : (path : Path) → path.segment ≡ 0 → IsBare op.site op.hash op.key v → (n : ℕ) (b : Bool)
-      → Kept (cond b (Fill path n (replicate 32 0) 1) (busy (lock_word op.site op.hash path.segment) n)) (with_look b (lock_word op.site op.hash path.segment) n v)
-  look path first bare n false = record { suits = tt; owes = record { held = refl; known = refl; dirty = refl; flushed = refl; planned = refl }; answers = record { own = refl; seen = refl } }
-  look path first bare n true = record {
-    suits = record {
-      noted = [];
-      note = ap (λ ns. note_of op.site op.hash op.key path.segment n [] ∷ ns) bare.notes;
-      same = λ i from low. absurd (omega (arith, from, low));
-      whole = refl;
-      from = omega arith;
-      last = omega arith;
-      first_segment = first;
+  -- ---- where a bucket is not visited
+  reading_skip : (notes : List Note) (s : Seen) (p : Place) → is_asked s p ≡ false → IsReading site notes task s (index p) (index p) → IsReading site notes task s (index p + 1) (index p + 1)
+  reading_skip notes s p out r = record {
+    led = r.led;
+    noted_at = record {
+      from = λ n h. let f = r.noted_at.from n h in (f.0, upto_up s (index p) (index p + 1) f.0 (omega arith) f.1, f.2, f.3);
+      to = λ q u. r.noted_at.to q (upto_less s p q out u);
     };
-    owes = record { held = refl; known = refl; dirty = refl; flushed = refl; planned = refl };
-    answers = record { own = refl; seen = refl };
+    knows = record { none = λ e q u. r.knows.none e q (upto_less s p q out u); some = r.knows.some };
   }
 
-  -- ---- a word of the bucket
-  module _ (path : Path) (free : ℕ) (ws : List ℕ) (next : ℕ) (f : IsFilling op.site op.hash op.key v path free ws next) where
+  second_suits : (v : View) (s : Seen) → IsReading site v.notes task s 3 3 → Skips site v.notes task s → suits_in site task (visit_second s) v
+  second_suits v s r skips = by s.second refl
+    where
+      by : (b : Bool) → s.second ≡ b → suits_in site task (if b then Look s Second else Count s) v
+      by true e = (r, (skips, e))
+      by false e = (reading_skip v.notes s Second e r, skips)
+
+  first_suits : (v : View) (s : Seen) → IsReading site v.notes task s 2 2 → Skips site v.notes task s → suits_in site task (visit_first s) v
+  first_suits v s r skips = by s.first refl
+    where
+      by : (b : Bool) → s.first ≡ b → suits_in site task (if b then Look s First else visit_second s) v
+      by true e = (r, (skips, e))
+      by false e = second_suits v s (reading_skip v.notes s First e r) skips
+
+  -- ---- a bucket that was read
+  read_more : (notes : List Note) (s s' : Seen) (p : Place) (k : ℕ) (a : Option ℕ) → ((q : Place) → lock_of task s' q ≡ lock_of task s q) → ((q : Place) → free_at s'.free q ≡ free_at s.free q)
+      → ((q : Place) → index q < k → is_asked s' q ≡ is_asked s q) → s'.value ≡ option_or a s.value → Leads site task.hash s'.path.segment → index p + 1 ≤ k
+      → Tells site notes task.key (lock_of task s p) a → IsReading site notes task s k (index p) → IsReading site notes task s' k (index p + 1)
+  read_more notes s s' p k a locks frees asks value led most tell r = record {
+    led = led;
+    noted_at = record {
+      from = λ n h. let f = r.noted_at.from n h in (f.0, record { low = f.1.low; asked = asks f.0 f.1.low ∙ f.1.asked }, f.2 ∙ sym (locks f.0), f.3 ∙ sym (frees f.0));
+      to = λ q u. let t = r.noted_at.to q (record { low = u.low; asked = sym (asks q u.low) ∙ u.asked }) in (t.0, t.1, t.2 ∙ sym (locks q));
+    };
+    knows = record {
+      none = λ e q u.
+          let both = else_none a s.value (sym value ∙ e) in
+          let low : index q < k = (let low = u.low in omega (arith, low, most)) in
+          elim (upto_more s p q (record { low = u.low; asked = sym (asks q low) ∙ u.asked })) [
+            | inl same ↦ λ m ag. ap (λ l. find_below m l task.key record_slots) (locks q ∙ ap (lock_of task s) same) ∙ tell m ag ∙ both.0
+            | inr old ↦ λ m ag. ap (λ l. find_below m l task.key record_slots) (locks q) ∙ r.knows.none both.1 q old m ag
+          ];
+      some = λ x e. elim (else_some a s.value x (sym value ∙ e)) [
+        | inl here ↦ (p, λ m ag. ap (λ l. find_below m l task.key record_slots) (locks p) ∙ tell m ag ∙ here)
+        | inr old ↦ (let t = r.knows.some x old in (t.0, λ m ag. ap (λ l. find_below m l task.key record_slots) (locks t.0) ∙ t.1 m ag))
+      ];
+    };
+  }
+
+  -- ---- a word of a bucket
+  module _ (v : View) (s : Seen) (p : Place) (load : Load) (n : ℕ) (r : IsReading site v.notes task s (noted_by p) (index p)) (f : IsFilling site v.notes task s p load) where
     abbrev lock : ℕ
-    lock = lock_word op.site op.hash path.segment
+    lock = lock_of task s p
 
-    abbrev n : ℕ
-    n = words (lock + next % 32)
+    abbrev i : ℕ
+    i = lock + load.next % 32
 
-    abbrev noted : List (ℕ × ℕ)
-    noted = (lock + next % 32, n) ∷ f.noted
-
-    abbrev filled_words : List ℕ
-    filled_words = slice_set ws next n
-
-    abbrev after_word : View
-    after_word = record v { notes = with_noted lock (lock + next % 32) n v.notes }
-
-    note_is : after_word.notes ≡ note_of op.site op.hash op.key path.segment free noted ∷ []
-    note_is = ap (with_noted lock (lock + next % 32) n) f.note
-        ∙ ap (λ b. (cond b (note_of op.site op.hash op.key path.segment free noted) (note_of op.site op.hash op.key path.segment free f.noted)) ∷ []) (eq-eqb lock lock refl)
-
-    has_all : (i : ℕ) → 1 ≤ i → i < next + 1 → Has (lock + i, slice_index filled_words i) noted
-    has_all i from low = elim (cases_eq i next) [
-      | inl e ↦
-          let whole = f.whole in let last = f.last in
-          let place : lock + i ≡ lock + next % 32 = omega (arith, e, last) in
-          let got : slice_index filled_words i ≡ n = ap (slice_index filled_words) e ∙ get_or-set_same ws next n 0 (omega (arith, whole, last)) in
-          inl (ap (λ x. (x, slice_index filled_words i)) place ∙ ap (λ y. (lock + next % 32, y)) got)
-      | inr other ↦
-          inr (subst (λ x. Has (lock + i, x) f.noted) (sym (get_or-set_other ws next i n 0 other)) (f.same i from (omega (arith, low, other))))
-    ]
-
-    fill_by : (b : Bool) → nat_lt next 31 ≡ b
-        → Kept (cond b (Fill path free filled_words (next + 1)) (Count (record { path = path; free = free; value = value_of filled_words op.key }))) after_word
-    fill_by true low = record {
-      suits = record {
-        noted = noted;
-        note = note_is;
-        same = has_all;
-        whole = length-set ws next n ∙ f.whole;
-        from = omega arith;
-        last = (let under = ltb-true next 31 low in omega (arith, under));
-        first_segment = f.first_segment;
-      };
-      owes = record { held = refl; known = refl; dirty = refl; flushed = refl; planned = refl };
-      answers = record { own = refl; seen = refl };
-    }
-    fill_by false high = record {
-      suits = record {
-        noted = noted;
-        note = note_is;
-        first_segment = f.first_segment;
-        tells = λ m agrees.
-            let over = ltb-false next 31 high in
-            let last = f.last in
-            let home = home_lock site op h.site_is is path.segment f.first_segment in
-            let all : (i : ℕ) → 1 ≤ i → i < 32 → m (lock + i) ≡ slice_index filled_words i = λ i from low.
-            agrees (note_of op.site op.hash op.key path.segment free noted) (lock + i) (slice_index filled_words i)
-            (subst (λ ns. Has (note_of op.site op.hash op.key path.segment free noted) ns) (sym note_is) (inl refl))
-            (has_all i from (omega (arith, low, over))) in
-            ap (λ l. find_below m l op.key 14) (sym home) ∙ same_below m filled_words lock op.key 14 (omega arith) all;
-      };
-      owes = record { held = refl; known = refl; dirty = refl; flushed = refl; planned = refl };
-      answers = record { own = refl; seen = refl };
-    }
-
-  -- ---- the last look
-  module _ (found : Found) (place : ℕ) (c : IsChecking op.site op.hash op.key v found place) where
-    abbrev home : ℕ
-    home = lock_word op.site op.hash found.path.segment
+    abbrev notes : List Note
+    notes = with_noted lock i n v.notes
 
     abbrev note : Note
-    note = note_of op.site op.hash op.key found.path.segment found.free c.noted
+    note = record (f.note) { words = (i, n) ∷ f.note.words }
 
-    abbrev answer : Answer
-    answer = record { key = op.key; value = found.value; place = place }
+    has : Has note notes
+    has = subst (λ (z : Note). Has z notes) (one_here lock i n f.note f.lock) (noted_to lock i n v.notes f.note f.has)
 
-    has_note : Has note v.notes
-    has_note = subst (λ ns. Has note ns) (sym c.note) (inl refl)
+    reading : IsReading site notes task s (noted_by p) (index p)
+    reading = record {
+      led = r.led;
+      noted_at = record {
+        from = λ o h.
+            let b = noted_from lock i n v.notes o h in
+            let g = r.noted_at.from b.0 b.1 in
+            (g.0, g.1, ap (λ (z : Note). z.lock) b.2 ∙ one_lock lock i n b.0 ∙ g.2, ap (λ (z : Note). z.free) b.2 ∙ one_free lock i n b.0 ∙ g.3);
+        to = λ q u. let t = r.noted_at.to q u in (noted_one lock i n t.0, noted_to lock i n v.notes t.0 t.1, one_lock lock i n t.0 ∙ t.2);
+      };
+      knows = record {
+        none = λ e q u m a. r.knows.none e q u m (now_noted site m lock i n v.notes a);
+        some = λ x e. let t = r.knows.some x e in (t.0, λ m a. t.1 m (now_noted site m lock i n v.notes a));
+      };
+    }
 
-    free_is_even : found.free % 2 ≡ 0
-    free_is_even = (h.notes.noted j v note at has_note).free
+    skips_still : Skips site v.notes task s → Skips site notes task s
+    skips_still k = (λ out m a. k.0 out m (now_noted site m lock i n v.notes a), λ out m a. k.1 out m (now_noted site m lock i n v.notes a))
 
-    -- what the machine makes of its tests, and the world of its own
-    abbrev End : Bool → Bool → Bool → Bool → ℕ → Type 0
-    End same found_free odd is_free seen =
-        Kept (cond odd (busy home seen) (cond is_free (Ended (end_by found.value place)) (moved home found.free seen)))
-        (with_answer (all_again ((cond (same && found_free) (record note { again = true }) note) ∷ [])) (Some answer)
-        (record v { notes = (cond (same && found_free) (record note { again = true }) note) ∷ []; answer = Some answer }))
+    beside_still : (q : Place) → FillsAt site v.notes task s q → FillsAt site notes task s q
+    beside_still Home b = tt
+    beside_still Probing b = λ m a. b m (now_noted site m lock i n v.notes a)
+    beside_still First b = (skips_still b.0, b.1)
+    beside_still Second b = (skips_still b.0, b.1)
 
-    good_end : (value : Option ℕ) (u : View) → OwesTheSame v u → ((x : ℕ) → value ≡ Some x → EntersAnswer op.key (Ended (ends.Found x place)) v u)
-        → (value ≡ None → EntersAnswer op.key (Ended (ends.Absent place)) v u) → Kept (Ended (end_by value place)) u
-    good_end (Some x) u owes some none = record { suits = tt; owes = owes; answers = some x refl }
-    good_end None u owes some none = record { suits = tt; owes = owes; answers = none refl }
+    loads : HasLoaded lock note.words (load_taken load n)
+    loads = load_stands lock f.note.words load n f.loads
 
-    answered : (seen : ℕ) → End true true false true seen
-    answered seen =
-        let told = record v { notes = record note { again = true } ∷ []; answer = Some answer } in
-        good_end found.value (with_reply told (next_entry told (Get op.key) (shown found.value) place false))
-        (record { held = refl; known = refl; dirty = refl; flushed = refl; planned = refl })
-        (λ x is. record { own = ap (λ z. v.own ++ next_entry v (Get op.key) (shown z) place false ∷ []) is; seen = refl })
-        (λ is. record { own = ap (λ z. v.own ++ next_entry v (Get op.key) (shown z) place false ∷ []) is; seen = refl })
+    module _ (ws : List ℕ) (all : (j : ℕ) → 1 ≤ j → j < 32 → Has (lock + j, slice_index ws j) note.words) where
+      word_at : (m : Words) → IsNow site notes m → (j : ℕ) → 1 ≤ j → j < 32 → m (lock + j) ≡ slice_index ws j
+      word_at m a j from low = a.agrees note (lock + j) (slice_index ws j) has (all j from low)
 
-    unanswered : (odd : Bool) (seen : ℕ) → End true false odd false seen
-    unanswered true seen = record { suits = tt; owes = record { held = refl; known = refl; dirty = refl; flushed = refl; planned = refl }; answers = record { own = refl; seen = refl } }
-    unanswered false seen = record { suits = tt; owes = record { held = refl; known = refl; dirty = refl; flushed = refl; planned = refl }; answers = record { own = refl; seen = refl } }
+      tell : Tells site notes task.key lock (value_of ws task.key)
+      tell m a = same_below m ws lock task.key record_slots (omega arith) (word_at m a)
 
-    ended : (seen : ℕ) → End (home == home) (found.free == seen) (seen % 2 == 1) (seen == found.free) seen
-    ended seen = subst (λ x. End x (found.free == seen) (seen % 2 == 1) (seen == found.free) seen) (sym (eq-eqb home home refl)) (elim (cases_eq found.free seen) [
-      | inl same ↦
-          let even = free_is_even in
-          subst (λ x. End true x (seen % 2 == 1) (seen == found.free) seen) (sym (eq-eqb found.free seen same))
-          (subst (λ x. End true true x (seen == found.free) seen) (sym (ne_eqb (seen % 2) 1 (λ e. omega (arith, e, same, even))))
-          (subst (λ x. End true true false x seen) (sym (eq-eqb seen found.free (sym same))) (answered seen)))
-      | inr other ↦
-          subst (λ x. End true x (seen % 2 == 1) (seen == found.free) seen) (sym (ne_eqb found.free seen other))
-          (subst (λ x. End true false (seen % 2 == 1) x seen) (sym (ne_eqb seen found.free (λ e. other (sym e)))) (unanswered (seen % 2 == 1) seen))
-    ])
+  all_suits : (v : View) (s : Seen) (p : Place) (load : Load) (n : ℕ) (r : IsReading site v.notes task s (noted_by p) (index p)) → FillsAt site v.notes task s p
+      → (f : IsFilling site v.notes task s p load) (ws : List ℕ)
+      → ((j : ℕ) → 1 ≤ j → j < 32 → Has (lock_of task s p + j, slice_index ws j) ((lock_of task s p + load.next % 32, n) ∷ f.note.words))
+      → suits_in site task (read_all task.key task.hash s p ws) (record v { notes = with_noted (lock_of task s p) (lock_of task s p + load.next % 32) n v.notes })
+  all_suits v s Home load n r beside f ws all =
+      let R = read_more (notes v s Home load n r f) s (read_home task.key s ws) Home 2 (value_of ws task.key) (λ q. refl) (λ q. refl) (λ q low. refl) refl r.led (omega arith)
+      (tell v s Home load n r f ws all) (reading v s Home load n r f) in (
+        R,
+        (λ m a. (word_at v s Home load n r f ws all m a 1 (omega arith) (omega arith), word_at v s Home load n r f ws all m a 3 (omega arith) (omega arith))),
+        begins_at _ _ 2 1 Probing R (record { low = omega arith; asked = refl }),
+      )
+  all_suits v s Probing load n r beside f ws all =
+      let s' : Seen = read_probing task.key task.hash s ws in
+      let R = read_more (notes v s Probing load n r f) s s' Probing 2 (value_of ws task.key) (λ q. refl) (λ q. refl)
+      (λ q low. near_asked s' q low ∙ sym (near_asked s q low)) refl r.led (omega arith) (tell v s Probing load n r f ws all) (reading v s Probing load n r f) in
+      let meta = beside_still v s Probing load n r f Probing beside in
+      let home = lock_at site task is s Home r.led.within in
+      let probing = lock_at site task is s Probing r.led.within in
+      let skip : (c : ℕ) (out : Bool) → (out ≡ false → must_visit s.meta s.fingers (slice_index ws 1) (slice_index ws 3) (finger_of task.hash) c ≡ false)
+      → IsSkipped site (notes v s Probing load n r f) task s' out c = λ c out is_out gone m a.
+      unvisited site.shape m s.path.segment (home_of task.hash) c (finger_of task.hash) s.meta s.fingers (slice_index ws 1) (slice_index ws 3)
+      (ap (λ l. m (l + 1)) (sym home) ∙ (meta m a).0) (ap (λ l. m (l + 3)) (sym home) ∙ (meta m a).1)
+      (ap (λ l. m (l + 1)) (sym probing) ∙ word_at v s Probing load n r f ws all m a 1 (omega arith) (omega arith))
+      (ap (λ l. m (l + 3)) (sym probing) ∙ word_at v s Probing load n r f ws all m a 3 (omega arith) (omega arith)) (is_out gone) in
+      first_suits _ s' R (skip 0 s'.first (λ e. e), skip 1 s'.second (λ e. e))
+  all_suits v s First load n r beside f ws all =
+      let R = read_more (notes v s First load n r f) s (with_value task.key s ws) First 3 (value_of ws task.key) (λ q. refl) (λ q. refl) (λ q low. refl) refl r.led (omega arith)
+      (tell v s First load n r f ws all) (reading v s First load n r f) in
+      second_suits _ (with_value task.key s ws) R (skips_still v s First load n r f beside.0)
+  all_suits v s Second load n r beside f ws all = (
+    read_more (notes v s Second load n r f) s (with_value task.key s ws) Second 4 (value_of ws task.key) (λ q. refl) (λ q. refl) (λ q low. refl) refl r.led (omega arith)
+        (tell v s Second load n r f ws all) (reading v s Second load n r f),
+    skips_still v s Second load n r f beside.0,
+  )
 
-    again_kept : (second : Second) (seen : ℕ) → Kept (checked op found place second seen) (view_after site.shape (kind_again op found second) seen v)
-    again_kept again.Root seen = both (λ s. Kept s v) (seen == found.path.root) (Check found place again.Entry) (moved root_word found.path.root seen)
-        (record { suits = c; owes = same_v; answers = quiet_v }) (again_v _)
-    again_kept again.Entry seen = both (λ s. Kept s v) (seen == found.path.segment) (Check found place again.Head) (moved (entry_word op.site.geometry op.hash found.path.root) found.path.segment seen)
-        (record { suits = c; owes = same_v; answers = quiet_v }) (again_v _)
-    again_kept again.Head seen = both (λ s. Kept s v) (seen == found.path.head) (Check found place again.Lock) (moved (head_word op.site.geometry found.path.segment) found.path.head seen)
-        (record { suits = c; owes = same_v; answers = quiet_v }) (again_v _)
-    again_kept again.Lock seen =
-        let M : List Note → Option Answer → Type 0 = λ notes told. Kept (checked op found place again.Lock seen)
-        (with_answer (all_again (marked home seen notes)) told (record v { notes = marked home seen notes; answer = told })) in
-        subst (λ told. M v.notes told) (sym c.answer) (subst (λ notes. M notes (Some answer)) (sym c.note) (ended seen))
+  pub fill_suits : (v : View) (s : Seen) (p : Place) (load : Load) (n : ℕ) → suits_in site task (Fill s p load) v
+      → suits_in site task (filled task.key task.hash s p (load_taken load n)) (record v { notes = with_noted (lock_of task s p) (lock_of task s p + load.next % 32) n v.notes })
+  fill_suits v s p load n (r, beside, f) = by (load_taken load n) (loads v s p load n r f)
+    where
+      by : (x : Loaded) → HasLoaded (lock_of task s p) ((lock_of task s p + load.next % 32, n) ∷ f.note.words) x
+          → suits_in site task (filled task.key task.hash s p x) (record v { notes = with_noted (lock_of task s p) (lock_of task s p + load.next % 32) n v.notes })
+      by (loaded.On next) l = (reading v s p load n r f, beside_still v s p load n r f p beside, record { note = note v s p load n r f; has = has v s p load n r f; lock = f.lock; loads = l })
+      by (loaded.All ws) l = all_suits v s p load n r beside f ws l
 
-  step_in : (s : ReadStep) → suits_in op.site op.hash op.key site s v → wanted_in op s ≢ Done
-      → Kept (next_in op s (found_by site (kind_in op s) words)) (view_after site.shape (kind_in op s) (found_by site (kind_in op s) words) v)
-  step_in Power suits wants =
-      let n = found_by site (kind_in op Power) words in
-      let owes : OwesTheSame v (record v { notes = []; answer = None }) = record { held = refl; known = refl; dirty = refl; flushed = refl; planned = refl } in
-      both (λ s. Kept s (record v { notes = []; answer = None })) (n == 0) Root (Ended ends.Off)
-      (record { suits = record { notes = refl; answer = refl }; owes = owes; answers = record { own = refl; seen = refl } })
-      (record { suits = tt; owes = owes; answers = record { own = refl; seen = refl } })
-  step_in Root bare wants =
-      let n = words root_word in
-      both (λ s. Kept s v) (nat_le n op.site.geometry.depth) (Entry n) (moved root_word n n) (record { suits = (bare, root_is); owes = same_v; answers = quiet_v }) (again_v _)
-  step_in (Entry root) (bare, first) wants =
-      let n = words (entry_word op.site.geometry op.hash root) in
-      both (λ s. Kept s v) (nat_lt n op.site.geometry.segments) (Head root n) (moved (entry_word op.site.geometry op.hash root) n n)
-      (record { suits = (bare, entry_is root first); owes = same_v; answers = quiet_v }) (again_v _)
-  step_in (Head root segment) (bare, first) wants =
-      let n = words (head_word op.site.geometry segment) in
-      let next : ReadStep = Lock (record { root = root; segment = segment; head = n }) in
-      let ill : ReadStep = moved (head_word op.site.geometry segment) n n in
-      let fits = is_live n && is_covering n op.hash in
-      both (λ s. Kept s v) (is_live n && not (version_in n == op.site.version)) (Ended (ends.Stale segment (version_in n))) (cond fits next ill) (stale_v _ _)
-      (both (λ s. Kept s v) fits next ill (record { suits = (bare, first); owes = same_v; answers = quiet_v }) (again_v _))
-  step_in (Lock path) (bare, first) wants = let n = words (lock_word op.site op.hash path.segment) in look path first bare n (n % 2 == 0)
-  step_in (Fill path free ws next) f wants = fill_by path free ws next f (nat_lt next 31) refl
-  step_in (Count found) t wants = record {
-    suits = record { noted = t.noted; note = ap unmarked t.note; answer = refl };
-    owes = record { held = refl; known = refl; dirty = refl; flushed = refl; planned = refl };
-    answers = record { own = refl; seen = refl };
-  }
-  step_in (Check found place second) c wants = again_kept found place c second _
-  step_in (Ended end) suits wants = absurd (wants refl)
+  -- ---- the counter
+  none_again : (q : Place) → nat_lt (index q) 0 ≡ false
+  none_again Home = refl
+  none_again Probing = refl
+  none_again First = refl
+  none_again Second = refl
 
-pub keeps_suits : KeepsSuits
-keeps_suits site op words views j v h at is suits wants =
-    let kept = step_in site op is words views j v h at op.step suits wants in
-    record { is_in = record { shape = is.shape; hash = is.hash; fits = is.fits }; suits = kept.suits; owes = kept.owes; answers = kept.answers }
+  pub count_suits : (v : View) (s : Seen) (n : ℕ) → suits_in site task (Count s) v
+      → suits_in site task (Check s n back.Root) (record v { notes = unmarked v.notes; answer = Some (record { key = task.key; value = s.value; place = n }) })
+  count_suits v s n (r, skips) = (
+    record {
+      led = r.led;
+      from = λ o h.
+          let b = unmarked_from v.notes o h in
+          let f = r.noted_at.from b.0 b.1 in
+          (f.0, f.1.asked, ap (λ (z : Note). z.lock) b.2 ∙ f.2, ap (λ (z : Note). z.free) b.2 ∙ f.3, ap (λ (z : Note). z.again) b.2 ∙ sym (none_again f.0));
+      to = λ q asked. let t = r.noted_at.to q (record { low = few q; asked = asked }) in (record (t.0) { again = false }, unmarked_to v.notes t.0 t.1, t.2);
+    },
+    refl,
+  )
+
+  -- ---- the way again
+  pub check_suits : (v : View) (s : Seen) (placed : ℕ) (x : Backed) → IsChecked site v.notes task s 0 × IsAnswering task s placed v → suits_in site task (backed_to s placed x) v
+  check_suits v s placed (backed.On b) c = c
+  check_suits v s placed backed.Same c = (c.0, c.1, refl)
+  check_suits v s placed (backed.Moved word before after) c = tt

@@ -1,5 +1,5 @@
--- A get is a part of a call, and each of its outcomes has its cause.
-pub mod GetIsPart
+-- A get as a part of a call.
 pub mod Beginning
 pub mod Remembering
 pub mod Deciding
+pub mod GetIsPart

@@ -1,38 +1,52 @@
--- How many events a get takes at most, whatever values they find.
-use Rattle.std.specs.Prelude.{◌≡◌, ◌≢◌, ℕ, ◌+◌, ◌-◌, ◌<◌, ◌≤◌, ◌^◌, List, [], ◌∷◌, length}
+-- How many events a get takes at most, whatever values they find; and that it asks for words of the memory alone.
+use Rattle.std.specs.Prelude.{◌≡◌, ◌≢◌, ℕ, ◌+◌, ◌<◌, ◌≤◌, ◌^◌, List, [], ◌∷◌, length}
 use Rattle.op_core.specs.declared.want.Want.TheVariants.{Done}
 use Rattle.op_core.specs.declared.want.Ans.TheVariants.{Value}
 use Rattle.image_layout.specs.Places.{IsShape}
 use Rattle.image_layout.specs.Volatile.{all_words_of}
 use Rattle.world.specs.declared.site.Site.{Site}
 use Rattle.world.specs.Wants.{word_of}
-use Rattle.read_op.specs.declared.step.Second.{Second}
-use Rattle.read_op.specs.declared.step.Second.TheVariants as again
+use Rattle.phase.specs.Stands.{walk_left, back_left, load_left}
+use Rattle.phase.specs.declared.place.Place.{Place}
+use Rattle.phase.specs.declared.place.Place.TheVariants.{Home, Probing, First, Second}
 use Rattle.read_op.specs.declared.step.ReadStep.{ReadStep}
-use Rattle.read_op.specs.declared.step.ReadStep.TheVariants.{Power, Root, Entry, Head, Lock, Fill, Count, Check, Ended}
+use Rattle.read_op.specs.declared.step.ReadStep.TheVariants.{Way, Look, Fill, Count, Check, Relook, Ended}
 use Rattle.read_op.specs.declared.op.ReadOp.{ReadOp}
 use Rattle.read_op.specs.Steps.{begun, wanted, taken}
 
--- a get makes at most so many events
+-- a get makes at most so many events: 74 without the stash, and 33 for each stash bucket
 abbrev pub most_events : ℕ
-most_events = 41
+most_events = 140
 
-abbrev pub left_again : Second → ℕ
-left_again again.Root = 4
-left_again again.Entry = 3
-left_again again.Head = 2
-left_again again.Lock = 1
+-- from the look at a lock word on
+abbrev pub left_of_look : Place → ℕ
+left_of_look Home = 136
+left_of_look Probing = 135
+left_of_look First = 72
+left_of_look Second = 40
+
+-- behind the last word of a bucket
+abbrev pub left_behind : Place → ℕ
+left_behind Home = 103
+left_behind Probing = 72
+left_behind First = 40
+left_behind Second = 8
+
+-- from the second look at a lock word on
+abbrev pub left_of_relook : Place → ℕ
+left_of_relook Home = 4
+left_of_relook Probing = 3
+left_of_relook First = 2
+left_of_relook Second = 1
 
 -- at most so many events are left
 abbrev pub left : ReadStep → ℕ
-left Power = most_events
-left Root = 40
-left (Entry root) = 39
-left (Head root segment) = 38
-left (Lock path) = 37
-left (Fill path free words next) = 6 + (31 - next)
-left (Count found) = 5
-left (Check found place at) = left_again at
+left (Way walk) = 136 + walk_left walk
+left (Look seen place) = left_of_look place
+left (Fill seen place load) = left_behind place + load_left load
+left (Count seen) = 8
+left (Check seen placed back) = 4 + back_left back
+left (Relook seen placed place) = left_of_relook place
 left (Ended end) = 0
 
 -- a get that wants something has fewer events left after it, whatever value that finds
@@ -50,4 +64,4 @@ EndsInTime = (key : ℕ) (site : Site) (seen : List ℕ) → most_events ≤ len
 
 -- in any state a get asks for a word of the image or one behind it alone
 abbrev pub AsksWithin : Type 0
-AsksWithin = (op : ReadOp) → IsShape op.site.geometry → op.hash < 2 ^ 64 → word_of op.site.geometry (wanted op) < all_words_of op.site.geometry
+AsksWithin = (op : ReadOp) → IsShape op.task.site.geometry → op.task.hash < 2 ^ 64 → word_of op.task.site.geometry (wanted op) < all_words_of op.task.site.geometry

@@ -1,143 +1,194 @@
 -- How a get fits the world: the kind of each of its events, the view that its caller has in each step, and what each
 -- event does to that view.
-use Rattle.std.specs.Prelude.{◌≡◌, ◌≢◌, ℕ, ◌+◌, ◌%◌, ◌^◌, ◌<◌, ◌≤◌, ⊤, None, Some, List, [], ◌∷◌, length, slice_index, false}
+use Rattle.std.specs.Prelude.{◌≡◌, ◌≢◌, ℕ, ◌+◌, ◌%◌, ◌^◌, ◌<◌, nat_lt, ⊤, Bool, true, false, Option, None, Some, List}
 use Rattle.op_core.specs.declared.want.Want.TheVariants.{Done}
 use Rattle.op_core.specs.declared.want.Ans.TheVariants.{Value}
+use Rattle.hash_word.specs.Hash.{home_of, finger_of}
 use Rattle.trace.specs.Events.{Words}
-use Rattle.image_layout.specs.Places.{root_word}
+use Rattle.bucket_meta.specs.Bucket.{record_slots}
 use Rattle.image_layout.specs.Volatile.{counter_word}
 use Rattle.map_model.specs.declared.call.Call.TheVariants.{Get}
 use Rattle.map_model.specs.declared.entry.Reply.TheVariants as reply
 use Rattle.sound_image.specs.Records.{key_hash}
-use Rattle.bucket_words.specs.Tables.{find}
+use Rattle.bucket_words.specs.Buckets.{find_below}
+use Rattle.bucket_words.specs.HomeNotes.{IsUnnoted}
 use Rattle.world.specs.declared.site.Site.{Site as Here}
 use Rattle.world.specs.Site.{Site, IsSite}
 use Rattle.world.specs.Views.{Note, View, Has, At}
-use Rattle.world.specs.Kinds.{Kind, peeks, asks_power, looks, notes_word, places, validates, wanted as wanted_by, view_after, AgreesWithNotes, May}
+use Rattle.world.specs.Kinds.{Kind, peeks, looks, notes_word, places, validates, wanted as wanted_by, view_after}
+use Rattle.world.specs.Conditions.{IsNow, May}
 use Rattle.world.specs.Invariant.{Holds}
 use Rattle.world.specs.Laws.{found_by}
 use Rattle.world.specs.Attempts.{HasNoMore, HasOneMore}
-use Rattle.read_op.specs.declared.step.Path.{Path}
-use Rattle.read_op.specs.declared.step.Found.{Found}
+use Rattle.phase.specs.declared.load.Load.{Load}
+use Rattle.phase.specs.Stands.{walk_kind, back_kind, IsStraight, Leads, IsWalking, HasBegun, IsLoading}
+use Rattle.phase.specs.declared.place.Place.{Place}
+use Rattle.phase.specs.declared.place.Place.TheVariants.{Home, Probing, First, Second}
+use Rattle.read_op.specs.declared.step.Seen.{Seen}
 use Rattle.read_op.specs.declared.step.ReadEnd.TheVariants as ends
-use Rattle.read_op.specs.declared.step.Second.{Second}
-use Rattle.read_op.specs.declared.step.Second.TheVariants as again
 use Rattle.read_op.specs.declared.step.ReadStep.{ReadStep}
-use Rattle.read_op.specs.declared.step.ReadStep.TheVariants.{Power, Root, Entry, Head, Lock, Fill, Count, Check, Ended}
+use Rattle.read_op.specs.declared.step.ReadStep.TheVariants.{Way, Look, Fill, Count, Check, Relook, Ended}
+use Rattle.read_op.specs.declared.step.Task.{Task}
 use Rattle.read_op.specs.declared.op.ReadOp.{ReadOp}
-use Rattle.way.specs.Ways.{entry_word, head_word}
-use Rattle.read_op.specs.Steps.{begun, wanted, taken, lock_word}
+use Rattle.read_op.specs.Places.{free_at, index}
+use Rattle.read_op.specs.Steps.{begun, wanted, taken, lock_of}
 
--- the get runs in this image, and its hash is its key's
-pub record IsIn (site : Site) (op : ReadOp) : Type 0 where
-  pub shape : op.site.geometry ≡ site.shape
-  pub hash : op.hash ≡ key_hash site.shape op.key
-  pub fits : op.hash < 2 ^ 64
+-- ---- sets of buckets
+-- those that are looked at in all
+abbrev pub asked_by : Bool → Bool → Place → Bool
+asked_by first second Home = true
+asked_by first second Probing = true
+asked_by first second First = first
+asked_by first second Second = second
 
-module _ (op : ReadOp) where
-  -- THE KIND of a second look
-  abbrev pub kind_again : Found → Second → Kind
-  kind_again found again.Root = peeks root_word
-  kind_again found again.Entry = peeks (entry_word op.site.geometry op.hash found.path.root)
-  kind_again found again.Head = peeks (head_word op.site.geometry found.path.segment)
-  kind_again found again.Lock = validates (lock_word op.site op.hash found.path.segment)
+abbrev pub is_asked : Seen → Place → Bool
+is_asked s q = asked_by s.first s.second q
 
-  -- the kind of the next event; where none is wanted it is a look at the counter
+-- those of them before the k-th
+pub record Upto (s : Seen) (k : ℕ) (q : Place) : Type 0 where
+  pub low : index q < k
+  pub asked : is_asked s q ≡ true
+
+-- how many lock words are noted while a bucket is loaded
+abbrev pub noted_by : Place → ℕ
+noted_by Home = 2
+noted_by Probing = 2
+noted_by First = 3
+noted_by Second = 4
+
+-- how many buckets were read when the lock word of one is looked at
+abbrev pub read_by : Place → ℕ
+read_by Home = 0
+read_by Probing = 0
+read_by First = 2
+read_by Second = 3
+
+-- ---- kinds
+module _ (task : Task) where
+  -- THE KIND of the next event; where none is wanted it is a look at the counter
   abbrev pub kind_in : ReadStep → Kind
-  kind_in Power = asks_power
-  kind_in Root = peeks root_word
-  kind_in (Entry root) = peeks (entry_word op.site.geometry op.hash root)
-  kind_in (Head root segment) = peeks (head_word op.site.geometry segment)
-  kind_in (Lock path) = looks (lock_word op.site op.hash path.segment)
-  kind_in (Fill path free words next) = notes_word (lock_word op.site op.hash path.segment) (lock_word op.site op.hash path.segment + next % 32)
-  kind_in (Count found) = places op.key found.value
-  kind_in (Check found place at) = kind_again found at
-  kind_in (Ended end) = peeks (counter_word op.site.geometry)
+  kind_in (Way walk) = walk_kind task.site task.hash walk
+  kind_in (Look s p) = looks (lock_of task s p)
+  kind_in (Fill s p load) = notes_word (lock_of task s p) (lock_of task s p + load.next % 32)
+  kind_in (Count s) = places task.key s.value
+  kind_in (Check s placed back) = back_kind task.site task.hash s.path back
+  kind_in (Relook s placed p) = validates (lock_of task s p)
+  kind_in (Ended end) = peeks (counter_word task.site.geometry)
 
 -- THE KIND of the event that a get wants next
 abbrev pub kind_of : ReadOp → Kind
-kind_of op = kind_in op op.step
+kind_of op = kind_in op.task op.step
 
--- a get of this key and hash, in this place
-module _ (here : Here) (hash key : ℕ) where
-  -- the lock word of a segment's home bucket
-  abbrev pub lock_in : ℕ → ℕ
-  lock_in segment = lock_word here hash segment
+-- ---- what notes say. It is said of all words that may be the newest while the noted locks are free, so it stays when more is
+-- noted
+module _ (site : Site) (notes : List Note) where
+  -- the bucket of this lock word has this at the key
+  abbrev pub Tells : ℕ → ℕ → Option ℕ → Type 0
+  Tells key lock a = (m : Words) → IsNow site notes m → find_below m lock key record_slots ≡ a
 
-  -- a note of the home bucket, whose lock word was not looked at again
-  abbrev pub note_of : ℕ → ℕ → List (ℕ × ℕ) → Note
-  note_of segment free noted = record { lock = lock_in segment; free = free; words = noted; again = false }
+  -- the notes are those of the buckets before the k-th
+  pub record NotedAt (task : Task) (s : Seen) (k : ℕ) : Type 0 where
+    pub from : (n : Note) → Has n notes → (q : Place) × Upto s k q × (n.lock ≡ lock_of task s q) × (n.free ≡ free_at s.free q)
+    pub to : (q : Place) → Upto s k q → (n : Note) × Has n notes × (n.lock ≡ lock_of task s q)
 
-  -- the view has this note alone
-  abbrev pub HasNote : View → ℕ → ℕ → List (ℕ × ℕ) → Type 0
-  HasNote v segment free noted = v.notes ≡ note_of segment free noted ∷ []
+  -- the value is what the buckets before the k-th have
+  pub record Knows (task : Task) (s : Seen) (k : ℕ) : Type 0 where
+    pub none : s.value ≡ None → (q : Place) → Upto s k q → Tells task.key (lock_of task s q) None
+    pub some : (x : ℕ) → s.value ≡ Some x → (q : Place) × Tells task.key (lock_of task s q) (Some x)
 
-  -- the view has no notes
-  pub record IsBare (v : View) : Type 0 where
-    pub notes : v.notes ≡ []
-    pub answer : v.answer ≡ None
+  -- a stash bucket that is not visited has no note
+  abbrev pub IsSkipped : Task → Seen → Bool → ℕ → Type 0
+  IsSkipped task s visited c = visited ≡ false → (m : Words) → IsNow site notes m → IsUnnoted site.shape m s.path.segment (home_of task.hash) (finger_of task.hash) c
 
-  -- the words that were loaded are noted
-  pub record IsFilling (v : View) (path : Path) (free : ℕ) (words : List ℕ) (next : ℕ) : Type 0 where
-    pub noted : List (ℕ × ℕ)
-    pub note : HasNote v path.segment free noted
-    pub same : (i : ℕ) → 1 ≤ i → i < next → Has (lock_in path.segment + i, slice_index words i) noted
-    pub whole : length words ≡ 32
-    pub from : 1 ≤ next
-    pub last : next ≤ 31
-    pub first_segment : path.segment ≡ 0
+  abbrev pub Skips : Task → Seen → Type 0
+  Skips task s = IsSkipped task s s.first 0 × IsSkipped task s s.second 1
 
-  -- whatever words agree with the notes have the value at the key
-  pub record IsTelling (site : Site) (v : View) (found : Found) : Type 0 where
-    pub noted : List (ℕ × ℕ)
-    pub note : HasNote v found.path.segment found.free noted
-    pub tells : (words : Words) → AgreesWithNotes site v.notes words → find site.shape words key ≡ found.value
-    pub first_segment : found.path.segment ≡ 0
+  -- words 1 and 3 of the home bucket are kept
+  abbrev pub KeepsMeta : Task → Seen → Type 0
+  KeepsMeta task s = (m : Words) → IsNow site notes m → (m (lock_of task s Home + 1) ≡ s.meta) × (m (lock_of task s Home + 3) ≡ s.fingers)
 
-  -- what is to be answered is noted
-  pub record IsChecking (v : View) (found : Found) (place : ℕ) : Type 0 where
-    pub noted : List (ℕ × ℕ)
-    pub note : HasNote v found.path.segment found.free noted
-    pub answer : v.answer ≡ Some (record { key = key; value = found.value; place = place })
+  -- a bucket's words are loaded and noted
+  pub record IsFilling (task : Task) (s : Seen) (p : Place) (load : Load) : Type 0 where
+    pub note : Note
+    pub has : Has note notes
+    pub lock : note.lock ≡ lock_of task s p
+    pub loads : IsLoading (lock_of task s p) note.words load
 
-  -- THE VIEW of each step
-  abbrev pub suits_in : Site → ReadStep → View → Type 0
-  suits_in site Power v = ⊤
-  suits_in site Root v = IsBare v
-  suits_in site (Entry root) v = IsBare v × (root ≡ 0)
-  suits_in site (Head root segment) v = IsBare v × (segment ≡ 0)
-  suits_in site (Lock path) v = IsBare v × (path.segment ≡ 0)
-  suits_in site (Fill path free words next) v = IsFilling v path free words next
-  suits_in site (Count found) v = IsTelling site v found
-  suits_in site (Check found place at) v = IsChecking v found place
-  suits_in site (Ended end) v = ⊤
+  -- the lock words of so many buckets are noted, and all words of so many
+  pub record IsReading (task : Task) (s : Seen) (noted read : ℕ) : Type 0 where
+    pub led : Leads site task.hash s.path.segment
+    pub noted_at : NotedAt task s noted
+    pub knows : Knows task s read
+
+  -- what holds beside, of each bucket, when its lock word is looked at
+  abbrev pub LooksAt : Task → Seen → Place → Type 0
+  LooksAt task s Home = ⊤
+  LooksAt task s Probing = ⊤
+  LooksAt task s First = Skips task s × (s.first ≡ true)
+  LooksAt task s Second = Skips task s × (s.second ≡ true)
+
+  -- and while it is loaded
+  abbrev pub FillsAt : Task → Seen → Place → Type 0
+  FillsAt task s Home = ⊤
+  FillsAt task s Probing = KeepsMeta task s
+  FillsAt task s First = Skips task s × (s.first ≡ true)
+  FillsAt task s Second = Skips task s × (s.second ≡ true)
+
+  -- all is noted, and of the lock words before the k-th it is noted that they were the same again
+  pub record IsChecked (task : Task) (s : Seen) (k : ℕ) : Type 0 where
+    pub led : Leads site task.hash s.path.segment
+    pub from : (n : Note) → Has n notes → (q : Place) × (is_asked s q ≡ true) × (n.lock ≡ lock_of task s q) × (n.free ≡ free_at s.free q) × (n.again ≡ nat_lt (index q) k)
+    pub to : (q : Place) → is_asked s q ≡ true → (n : Note) × Has n notes × (n.lock ≡ lock_of task s q)
+
+-- what is to be answered is noted
+abbrev pub IsAnswering : Task → Seen → ℕ → View → Type 0
+IsAnswering task s placed v = v.answer ≡ Some (record { key = task.key; value = s.value; place = placed })
+
+-- THE VIEW of each step
+abbrev pub suits_in : Site → Task → ReadStep → View → Type 0
+suits_in site task (Way walk) v = IsWalking site task.hash walk × HasBegun walk v
+suits_in site task (Look s p) v = IsReading site v.notes task s (index p) (read_by p) × LooksAt site v.notes task s p
+suits_in site task (Fill s p load) v = IsReading site v.notes task s (noted_by p) (index p) × FillsAt site v.notes task s p × IsFilling site v.notes task s p load
+suits_in site task (Count s) v = IsReading site v.notes task s 4 4 × Skips site v.notes task s
+suits_in site task (Check s placed back) v = IsChecked site v.notes task s 0 × IsAnswering task s placed v
+suits_in site task (Relook s placed p) v = IsChecked site v.notes task s (index p) × IsAnswering task s placed v × (is_asked s p ≡ true)
+suits_in site task (Ended end) v = ⊤
 
 -- the view suits the get
 abbrev pub Suits : Site → ReadOp → View → Type 0
-Suits site op v = suits_in op.site op.hash op.key site op.step v
+Suits site op v = suits_in site op.task op.step v
+
+-- the get runs in this image, and its hash is its key's
+pub record IsIn (site : Site) (task : Task) : Type 0 where
+  pub shape : task.site.geometry ≡ site.shape
+  pub hash : task.hash ≡ key_hash site.shape task.key
+  pub fits : task.hash < 2 ^ 64
 
 -- ---- the laws
 -- a get that has done nothing yet, of a key whose hash has 64 bits, is in the image where it runs, and suits any view
 abbrev pub BeginsSuited : Type 0
-BeginsSuited = (site : Site) (here : Here) (key : ℕ) → here.geometry ≡ site.shape → (begun key here).hash < 2 ^ 64
-    → IsIn site (begun key here) × ((v : View) → Suits site (begun key here) v)
+BeginsSuited = (site : Site) (here : Here) (key : ℕ) → here.geometry ≡ site.shape → (begun key here).task.hash < 2 ^ 64
+    → IsIn site (begun key here).task × ((v : View) → Suits site (begun key here) v)
 
 module _ (site : Site) (op : ReadOp) where
   -- what a get wants is what its kind wants
   abbrev pub WantsByKind : Type 0
-  WantsByKind = IsIn site op → wanted op ≢ Done → wanted op ≡ wanted_by site.shape (kind_of op)
+  WantsByKind = IsIn site op.task → wanted op ≢ Done → wanted op ≡ wanted_by site.shape (kind_of op)
 
   -- a view that suits may take the step
   abbrev pub MayStep : View → Type 0
-  MayStep v = IsSite site → IsIn site op → Suits site op v → May site (kind_of op) v
+  MayStep v = IsSite site → IsIn site op.task → Suits site op v → May site (kind_of op) v
 
--- the view has its locks and unsettled words, and its planned changes, as before
+-- the view has its locks, its known and unsettled words, its planned changes, its records under way and the notes that it owes, as
+-- before
 pub record OwesTheSame (v after : View) : Type 0 where
   pub held : after.held ≡ v.held
   pub known : after.known ≡ v.known
   pub dirty : after.dirty ≡ v.dirty
   pub flushed : after.flushed ≡ v.flushed
   pub planned : after.planned ≡ v.planned
+  pub moving : after.moving ≡ v.moving
+  pub owed : after.owed ≡ v.owed
 
 -- WHAT IS ANSWERED is entered by the last event, and by that alone
 abbrev pub EntersAnswer : ℕ → ReadStep → View → View → Type 0
@@ -159,11 +210,11 @@ module _ (site : Site) (op : ReadOp) (words : Words) where
   -- A STEP of a get that wants something keeps the view suited, adds an entry if and only if it answers, and leaves locks
   -- and words alone
   pub record StepsWell (v : View) : Type 0 where
-    pub is_in : IsIn site next_op
+    pub is_in : IsIn site next_op.task
     pub suits : Suits site next_op (next_view v)
     pub owes : OwesTheSame v (next_view v)
-    pub answers : EntersAnswer op.key next_op.step v (next_view v)
+    pub answers : EntersAnswer op.task.key next_op.step v (next_view v)
 
 abbrev pub KeepsSuits : Type 0
 KeepsSuits = (site : Site) (op : ReadOp) (words : Words) (views : List View) (j : ℕ) (v : View) → Holds site words views → At views j v
-    → IsIn site op → Suits site op v → wanted op ≢ Done → StepsWell site op words v
+    → IsStraight site → IsIn site op.task → Suits site op v → wanted op ≢ Done → StepsWell site op words v

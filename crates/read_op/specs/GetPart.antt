@@ -1,26 +1,31 @@
 -- A get as a part of a call.
-use Rattle.std.specs.Prelude.{◌≡◌, ℕ, ◌%◌, ◌^◌, ◌<◌, ◌≤◌, ⊤, false, Option, None, Some, []}
+use Rattle.std.specs.Prelude.{◌≡◌, ℕ, ◌%◌, ◌^◌, ◌<◌, ⊤, false, Option, None, Some, List, []}
 use Rattle.op_core.specs.declared.want.Want.TheVariants.{Done}
+use Rattle.image_layout.specs.Volatile.{counter_word}
 use Rattle.map_model.specs.declared.call.Call.{Call}
 use Rattle.map_model.specs.declared.call.Call.TheVariants.{Get}
 use Rattle.map_model.specs.declared.entry.Reply.TheVariants as reply
 use Rattle.world.specs.declared.site.Site.{Site as Here}
 use Rattle.world.specs.Site.{Site, IsSite}
-use Rattle.world.specs.Views.{View}
+use Rattle.world.specs.Views.{View, Has}
 use Rattle.world.specs.Attempts.{HoldsOnly}
 use Rattle.part.specs.Doings.{Doings, nothing_done}
 use Rattle.part.specs.Outcomes.{Outcome, replied, again, stale, off, finished}
 use Rattle.part.specs.Part.{Part}
-use Rattle.read_op.specs.declared.step.Path.{Path}
+use Rattle.phase.specs.Stands.{IsStraight}
+use Rattle.phase.specs.Causes.{WasFound, RemembersWalk}
+use Rattle.phase.specs.declared.place.Place.{Place}
+use Rattle.read_op.specs.declared.step.Seen.{Seen}
 use Rattle.read_op.specs.declared.step.ReadEnd.{ReadEnd}
 use Rattle.read_op.specs.declared.step.ReadEnd.TheVariants as ends
 use Rattle.read_op.specs.declared.step.ReadStep.{ReadStep}
-use Rattle.read_op.specs.declared.step.ReadStep.TheVariants.{Entry, Head, Lock, Fill, Count, Check, Ended}
+use Rattle.read_op.specs.declared.step.ReadStep.TheVariants.{Way, Look, Fill, Count, Check, Relook, Ended}
+use Rattle.read_op.specs.declared.step.Task.{Task}
 use Rattle.read_op.specs.declared.op.ReadOp.{ReadOp}
-use Rattle.read_op.specs.Steps.{begun, wanted, taken}
+use Rattle.read_op.specs.Places.{free_at, index}
+use Rattle.read_op.specs.Steps.{begun, wanted, taken, lock_of}
 use Rattle.read_op.specs.Budget.{most_events, left}
-use Rattle.read_op.specs.Fits.{IsIn, Suits, kind_of}
-use Rattle.read_op.specs.Causes.{IsWithin, kept}
+use Rattle.read_op.specs.Fits.{Upto, noted_by, kind_of, IsIn, Suits}
 
 abbrev pub outcome_of : ReadEnd → Outcome
 outcome_of (ends.Found value place) = replied (reply.Found value) place
@@ -33,31 +38,39 @@ abbrev pub outcome_in : ReadStep → Option Outcome
 outcome_in (Ended end) = Some (outcome_of end)
 outcome_in step = None
 
--- it gets the call's key, in this image, and its caller holds and owes nothing
+-- it gets the call's key, in this image, whose directory names the owner of each hash, and its caller holds and owes nothing
 pub record Stands (site : Site) (here : Here) (call : Call) (op : ReadOp) (v : View) : Type 0 where
-  pub same : call ≡ Get op.key
-  pub at : op.site ≡ here
-  pub is_in : IsIn site op
+  pub same : call ≡ Get op.task.key
+  pub at : op.task.site ≡ here
+  pub straight : IsStraight site
+  pub is_in : IsIn site op.task
   pub suits : Suits site op v
   pub nothing : HoldsOnly [] v
 
--- what it keeps is in range: the root depth is not above the greatest, and the value of the lock word is free
-abbrev pub IsKeptWell : ReadOp → Path → ℕ → Type 0
-IsKeptWell op path free = (path.root ≤ op.site.geometry.depth) × (free % 2 ≡ 0)
+-- ---- what it remembers
+module _ (task : Task) (loads : List (ℕ × ℕ)) where
+  -- the way to the segment was loaded, and the lock words of the buckets before the k-th, which had free values
+  pub record RemembersSeen (s : Seen) (k : ℕ) : Type 0 where
+    pub path : WasFound task.site.geometry task.hash loads s.path
+    pub free : (q : Place) → Upto s k q → Has (lock_of task s q, free_at s.free q) loads × (free_at s.free q % 2 ≡ 0)
 
-abbrev pub InRange : ReadOp → ReadStep → Type 0
-InRange op (Entry root) = root ≤ op.site.geometry.depth
-InRange op (Head root segment) = root ≤ op.site.geometry.depth
-InRange op (Lock path) = path.root ≤ op.site.geometry.depth
-InRange op (Fill path free words next) = IsKeptWell op path free
-InRange op (Count found) = IsKeptWell op found.path found.free
-InRange op (Check found place at) = IsKeptWell op found.path found.free
-InRange op s = ⊤
+  -- and all lock words, and the place
+  pub record RemembersPlaced (s : Seen) (placed : ℕ) : Type 0 where
+    pub seen : RemembersSeen s 4
+    pub place : Has (counter_word task.site.geometry, placed) loads
 
--- all that it keeps was loaded and is in range, and it changed nothing
+  abbrev pub RemembersIn : ReadStep → Type 0
+  RemembersIn (Way walk) = RemembersWalk task.site.geometry task.hash loads walk
+  RemembersIn (Look s p) = RemembersSeen s (index p)
+  RemembersIn (Fill s p load) = RemembersSeen s (noted_by p)
+  RemembersIn (Count s) = RemembersSeen s 4
+  RemembersIn (Check s placed back) = RemembersPlaced s placed
+  RemembersIn (Relook s placed p) = RemembersPlaced s placed
+  RemembersIn (Ended end) = ⊤
+
+-- all that it keeps was loaded, and it changed nothing
 pub record Remembers (site : Site) (op : ReadOp) (did : Doings) : Type 0 where
-  pub within : IsWithin (kept op) did.loads
-  pub in_range : InRange op op.step
+  pub kept : RemembersIn op.task did.loads op.step
   pub none : did.changed ≡ []
 
 abbrev pub get_part : Part ReadOp
@@ -77,10 +90,14 @@ get_part = record {
 }
 
 -- ---- where it begins and ends
--- a get of a key that is a word, by a caller that holds and owes nothing
+-- a get of a key that is a word, in an image whose directory names the owner of each hash, by a caller that holds and owes nothing
 abbrev pub BeginsAsPart : Type 0
-BeginsAsPart = (site : Site) (here : Here) (key : ℕ) (v : View) → IsSite site → here.geometry ≡ site.shape → key < 2 ^ 64 → HoldsOnly [] v
+BeginsAsPart = (site : Site) (here : Here) (key : ℕ) (v : View) → IsSite site → IsStraight site → here.geometry ≡ site.shape → key < 2 ^ 64 → HoldsOnly [] v
     → Stands site here (Get key) (begun key here) v
+
+-- nothing is decided there
+abbrev pub BeginsUndecided : Type 0
+BeginsUndecided = (here : Here) (key : ℕ) → outcome_in (begun key here).step ≡ None
 
 -- it remembers what it did, which is nothing
 abbrev pub BeginsRemembering : Type 0

@@ -1,34 +1,42 @@
 -- What a get wants in each step, and what an answer makes of it.
-use Rattle.std.specs.Prelude.{◌==◌, ◌&&◌, ℕ, ◌+◌, ◌%◌, nat_le, nat_lt, not, if◌then◌else◌, Bool, true, false, Option, Some, None, List, slice_index, slice_set, replicate}
-use Rattle.hash_word.specs.Hash.{home_of}
-use Rattle.segment_head.specs.HeadWord.{version_in, is_live}
-use Rattle.bucket_meta.specs.Bucket.{record_slots}
-use Rattle.image_layout.specs.Places.{root_word}
+use Rattle.std.specs.Prelude.{◌==◌, ℕ, ◌+◌, ◌%◌, Bool, true, false, if◌then◌else◌, Option, Some, None, List, slice_index}
+use Rattle.std.specs.Option.{option_or}
+use Rattle.hash_word.specs.Hash.{finger_of}
 use Rattle.image_layout.specs.Volatile.{counter_word}
 use Rattle.sound_image.specs.Records.{key_hash}
-use Rattle.way.specs.Ways.{entry_word, head_word, bucket_word, is_covering}
-use Rattle.bucket_words.specs.Buckets.{find_below}
 use Rattle.op_core.specs.declared.want.Want.{Want}
-use Rattle.op_core.specs.declared.want.Want.TheVariants.{Load, Power as LoadPower, Done}
+use Rattle.op_core.specs.declared.want.Want.TheVariants.{Load as LoadWord, Done}
 use Rattle.op_core.specs.declared.want.Ans.{Ans}
 use Rattle.op_core.specs.declared.want.Ans.TheVariants.{Value}
 use Rattle.op_core.specs.declared.why.Why.TheVariants.{Busy, Moved}
+use Rattle.bucket_words.specs.Buckets.{find_below}
+use Rattle.bucket_meta.specs.Bucket.{record_slots}
+use Rattle.bucket_meta.specs.Visits.{must_visit}
 use Rattle.world.specs.declared.site.Site.{Site}
-use Rattle.read_op.specs.declared.step.Path.{Path}
-use Rattle.read_op.specs.declared.step.Found.{Found}
+use Rattle.phase.specs.declared.walk.Path.{Path}
+use Rattle.phase.specs.declared.walk.Walk.TheVariants.{Power}
+use Rattle.phase.specs.declared.walk.Walked.{Walked}
+use Rattle.phase.specs.declared.walk.Walked.TheVariants as walked
+use Rattle.phase.specs.declared.back.Back.TheVariants.{Root}
+use Rattle.phase.specs.declared.back.Backed.{Backed}
+use Rattle.phase.specs.declared.back.Backed.TheVariants as backed
+use Rattle.phase.specs.declared.load.Loaded.{Loaded}
+use Rattle.phase.specs.declared.load.Loaded.TheVariants as loaded
+use Rattle.phase.specs.Walks.{walk_wanted, walk_taken}
+use Rattle.phase.specs.Backs.{back_word, back_taken}
+use Rattle.phase.specs.Loads.{load_begun, load_taken}
+use Rattle.phase.specs.declared.place.Place.{Place}
+use Rattle.phase.specs.declared.place.Place.TheVariants.{Home, Probing, First, Second}
+use Rattle.read_op.specs.declared.step.Seen.{Seen}
 use Rattle.read_op.specs.declared.step.ReadEnd.{ReadEnd}
 use Rattle.read_op.specs.declared.step.ReadEnd.TheVariants as ends
-use Rattle.read_op.specs.declared.step.Second.{Second}
-use Rattle.read_op.specs.declared.step.Second.TheVariants as again
 use Rattle.read_op.specs.declared.step.ReadStep.{ReadStep}
-use Rattle.read_op.specs.declared.step.ReadStep.TheVariants.{Power, Root, Entry, Head, Lock, Fill, Count, Check, Ended}
+use Rattle.read_op.specs.declared.step.ReadStep.TheVariants.{Way, Look, Fill, Count, Check, Relook, Ended}
+use Rattle.read_op.specs.declared.step.Task.{Task}
 use Rattle.read_op.specs.declared.op.ReadOp.{ReadOp}
+use Rattle.phase.specs.Places.{lock_word}
+use Rattle.read_op.specs.Places.{free_at}
 
--- the lock word of the home bucket of a hash; the root's word where a number is out of range
-abbrev pub lock_word : Site → ℕ → ℕ → ℕ
-lock_word site hash segment = bucket_word site.geometry segment (home_of hash)
-
--- ---- what it makes of the words
 -- what a key has in a bucket of these words
 abbrev pub value_of : List ℕ → ℕ → Option ℕ
 value_of words key = find_below (λ i. slice_index words i) 0 key record_slots
@@ -40,96 +48,141 @@ moved word before after = Ended (ends.Again (Moved word before after))
 abbrev pub busy : ℕ → ℕ → ReadStep
 busy word seen = Ended (ends.Again (Busy word seen))
 
--- a place, and what the key has there
-abbrev pub end_by : Option ℕ → ℕ → ReadEnd
-end_by (Some value) place = ends.Found value place
-end_by None place = ends.Absent place
+-- what it ends with if all words were found the same
+abbrev pub end_of : Option ℕ → ℕ → ReadEnd
+end_of (Some value) place = ends.Found value place
+end_of None place = ends.Absent place
 
-abbrev pub end_of : Found → ℕ → ReadEnd
-end_of found place = end_by found.value place
+-- ---- the way
+-- nothing was seen in a segment yet
+abbrev pub seen_none : Path → Seen
+seen_none path = record { path = path; free = record { home = 0; probing = 0; first = 0; second = 0 }; meta = 0; fingers = 0; first = false; second = false; value = None }
 
--- ---- the steps
+abbrev pub walked_to : Walked → ReadStep
+walked_to (walked.On walk) = Way walk
+walked_to (walked.There path) = Look (seen_none path) Home
+walked_to walked.Off = Ended ends.Off
+walked_to (walked.Amiss word seen) = moved word seen seen
+walked_to (walked.Stale segment version) = Ended (ends.Stale segment version)
+
+-- ---- looks at lock words
+abbrev pub visit_second : Seen → ReadStep
+visit_second seen = if seen.second then Look seen Second else Count seen
+
+abbrev pub visit_first : Seen → ReadStep
+visit_first seen = if seen.first then Look seen First else visit_second seen
+
+abbrev pub with_free : Seen → Place → ℕ → Seen
+with_free seen Home free = record seen { free = record (seen.free) { home = free } }
+with_free seen Probing free = record seen { free = record (seen.free) { probing = free } }
+with_free seen First free = record seen { free = record (seen.free) { first = free } }
+with_free seen Second free = record seen { free = record (seen.free) { second = free } }
+
+abbrev pub looked : Seen → Place → ReadStep
+looked seen Home = Look seen Probing
+looked seen Probing = Fill seen Home load_begun
+looked seen First = Fill seen First load_begun
+looked seen Second = Fill seen Second load_begun
+
+-- ---- buckets
+module _ (key : ℕ) where
+  -- the value in the bucket that was loaded last counts, where there is one
+  abbrev pub with_value : Seen → List ℕ → Seen
+  with_value seen words = record seen { value = option_or (value_of words key) seen.value }
+
+  abbrev pub read_home : Seen → List ℕ → Seen
+  read_home seen words = record (with_value seen words) { meta = slice_index words 1; fingers = slice_index words 3 }
+
+  module _ (hash : ℕ) where
+    abbrev pub read_probing : Seen → List ℕ → Seen
+    read_probing seen words = record (with_value seen words) {
+      first = must_visit seen.meta seen.fingers (slice_index words 1) (slice_index words 3) (finger_of hash) 0;
+      second = must_visit seen.meta seen.fingers (slice_index words 1) (slice_index words 3) (finger_of hash) 1;
+    }
+
+    abbrev pub read_all : Seen → Place → List ℕ → ReadStep
+    read_all seen Home words = Fill (read_home seen words) Probing load_begun
+    read_all seen Probing words = visit_first (read_probing seen words)
+    read_all seen First words = visit_second (with_value seen words)
+    read_all seen Second words = Count (with_value seen words)
+
+    abbrev pub filled : Seen → Place → Loaded → ReadStep
+    filled seen place (loaded.On load) = Fill seen place load
+    filled seen place (loaded.All words) = read_all seen place words
+
+-- ---- the way again, and lock words again
+abbrev pub backed_to : Seen → ℕ → Backed → ReadStep
+backed_to seen placed (backed.On back) = Check seen placed back
+backed_to seen placed backed.Same = Relook seen placed Home
+backed_to seen placed (backed.Moved word before after) = moved word before after
+
+abbrev pub relook_second : Seen → ℕ → ReadStep
+relook_second seen placed = if seen.second then Relook seen placed Second else Ended (end_of seen.value placed)
+
+abbrev pub relook_first : Seen → ℕ → ReadStep
+relook_first seen placed = if seen.first then Relook seen placed First else relook_second seen placed
+
+abbrev pub relook_next : Seen → ℕ → Place → ReadStep
+relook_next seen placed Home = Relook seen placed Probing
+relook_next seen placed Probing = relook_first seen placed
+relook_next seen placed First = relook_second seen placed
+relook_next seen placed Second = Ended (end_of seen.value placed)
+
+-- ---- the machine
 -- a get that has done nothing yet
 abbrev pub begun : ℕ → Site → ReadOp
-begun key site = record { key = key; hash = key_hash site.geometry key; site = site; step = Power }
+begun key site = record { task = record { key = key; hash = key_hash site.geometry key; site = site }; step = Way Power }
 
-module _ (op : ReadOp) where
-  -- a second look
-  abbrev pub wanted_again : Found → Second → Want
-  wanted_again found again.Root = Load root_word
-  wanted_again found again.Entry = Load (entry_word op.site.geometry op.hash found.path.root)
-  wanted_again found again.Head = Load (head_word op.site.geometry found.path.segment)
-  wanted_again found again.Lock = Load (lock_word op.site op.hash found.path.segment)
+module _ (task : Task) where
+  -- the lock word of a bucket
+  abbrev pub lock_of : Seen → Place → ℕ
+  lock_of seen place = lock_word task.site task.hash seen.path.segment place
 
+  -- THE EVENT that it wants
   abbrev pub wanted_in : ReadStep → Want
-  wanted_in Power = LoadPower
-  wanted_in Root = Load root_word
-  wanted_in (Entry root) = Load (entry_word op.site.geometry op.hash root)
-  wanted_in (Head root segment) = Load (head_word op.site.geometry segment)
-  wanted_in (Lock path) = Load (lock_word op.site op.hash path.segment)
-  wanted_in (Fill path free words next) = Load (lock_word op.site op.hash path.segment + next % 32)
-  wanted_in (Count found) = Load (counter_word op.site.geometry)
-  wanted_in (Check found place at) = wanted_again found at
+  wanted_in (Way walk) = walk_wanted task.site task.hash walk
+  wanted_in (Look seen place) = LoadWord (lock_of seen place)
+  wanted_in (Fill seen place load) = LoadWord (lock_of seen place + load.next % 32)
+  wanted_in (Count seen) = LoadWord (counter_word task.site.geometry)
+  wanted_in (Check seen placed back) = LoadWord (back_word task.site task.hash seen.path back)
+  wanted_in (Relook seen placed place) = LoadWord (lock_of seen place)
   wanted_in (Ended end) = Done
 
-  -- a header that was seen first
-  abbrev pub head_taken : ℕ → ℕ → ℕ → ReadStep
-  head_taken root segment head =
-      if is_live head && not (version_in head == op.site.version) then Ended (ends.Stale segment (version_in head))
-      else if is_live head && is_covering head op.hash then Lock (record { root = root; segment = segment; head = head })
-      else moved (head_word op.site.geometry segment) head head
+  -- a lock word that was seen again
+  abbrev pub relooked : Seen → ℕ → Place → ℕ → ReadStep
+  relooked seen placed place value =
+      if value % 2 == 1 then busy (lock_of seen place) value
+      else if value == free_at seen.free place then relook_next seen placed place
+      else moved (lock_of seen place) (free_at seen.free place) value
 
-  -- a bucket's words, the next one among them
-  abbrev pub filled : Path → ℕ → List ℕ → ℕ → ReadStep
-  filled path free words next =
-      if nat_lt next 31 then Fill path free words (next + 1)
-      else Count (record { path = path; free = free; value = value_of words op.key })
-
-  -- a lock word that was seen last
-  abbrev pub lock_checked : Found → ℕ → ℕ → ReadStep
-  lock_checked found place seen =
-      if seen % 2 == 1 then busy (lock_word op.site op.hash found.path.segment) seen
-      else if seen == found.free then Ended (end_of found place)
-      else moved (lock_word op.site op.hash found.path.segment) found.free seen
-
-  -- a word that was seen again
-  abbrev pub checked : Found → ℕ → Second → ℕ → ReadStep
-  checked found place again.Root seen = if seen == found.path.root then Check found place again.Entry else moved root_word found.path.root seen
-  checked found place again.Entry seen =
-      if seen == found.path.segment then Check found place again.Head
-      else moved (entry_word op.site.geometry op.hash found.path.root) found.path.segment seen
-  checked found place again.Head seen =
-      if seen == found.path.head then Check found place again.Lock
-      else moved (head_word op.site.geometry found.path.segment) found.path.head seen
-  checked found place again.Lock seen = lock_checked found place seen
-
-  -- a word that was seen
+  -- WHAT A VALUE makes of it
   abbrev pub next_in : ReadStep → ℕ → ReadStep
-  next_in Power seen = if seen == 0 then Root else Ended ends.Off
-  next_in Root seen = if nat_le seen op.site.geometry.depth then Entry seen else moved root_word seen seen
-  next_in (Entry root) seen =
-      if nat_lt seen op.site.geometry.segments then Head root seen else moved (entry_word op.site.geometry op.hash root) seen seen
-  next_in (Head root segment) seen = head_taken root segment seen
-  next_in (Lock path) seen =
-      if seen % 2 == 0 then Fill path seen (replicate 32 0) 1 else busy (lock_word op.site op.hash path.segment) seen
-  next_in (Fill path free words next) seen = filled path free (slice_set words next seen) next
-  next_in (Count found) seen = Check found seen again.Root
-  next_in (Check found place at) seen = checked found place at seen
-  next_in (Ended end) seen = Ended end
+  next_in (Way walk) x = walked_to (walk_taken task.site task.hash walk x)
+  next_in (Look seen place) x = if x % 2 == 0 then looked (with_free seen place x) place else busy (lock_of seen place) x
+  next_in (Fill seen place load) x = filled task.key task.hash seen place (load_taken load x)
+  next_in (Count seen) x = Check seen x Root
+  next_in (Check seen placed back) x = backed_to seen placed (back_taken task.site task.hash seen.path back x)
+  next_in (Relook seen placed place) x = relooked seen placed place x
+  next_in (Ended end) x = Ended end
 
--- whether the words of the bucket are being loaded
+-- the step behind the last word of a bucket
+abbrev pub read_on : Task → ReadStep → ReadStep
+read_on task (Fill seen place load) = read_all task.key task.hash seen place load.words
+read_on task step = step
+
+-- whether the words of a bucket are being loaded
 abbrev pub is_filling : ReadStep → Bool
-is_filling (Fill path free words next) = true
+is_filling (Fill seen place load) = true
 is_filling step = false
 
 abbrev pub next_of : ReadOp → ℕ → ReadStep
-next_of op seen = next_in op op.step seen
+next_of op seen = next_in op.task op.step seen
 
 -- the event that a get wants
 abbrev pub wanted : ReadOp → Want
-wanted op = wanted_in op op.step
+wanted op = wanted_in op.task op.step
 
--- the get that an answer leaves: a value that was loaded leads on, and any other answer leaves it as it is
+-- the get that an answer leaves: a value that was loaded leads on, and any other answer leaves it as it was
 abbrev pub taken : ReadOp → Ans → ReadOp
 taken op (Value seen) = record op { step = next_of op seen }
 taken op ans = op

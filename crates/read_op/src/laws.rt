@@ -1,15 +1,15 @@
 //! The laws of a get. The functions do nothing: each stands for the law that its contract says.
 
-ghost use Rattle.std.specs.Prelude.{ℕ, ◌≤◌};
+ghost use Rattle.std.specs.Prelude.{◌≤◌};
 ghost use Rattle.world.specs.Site.{Site as Image};
 ghost use Rattle.world.specs.Views.{View};
 ghost use Rattle.read_op.specs.declared.op.ReadOp.{ReadOp};
 ghost use Rattle.part.specs.Part.{IsPart};
-ghost use Rattle.part.specs.Causes.{EndsByCause as HasOutcomesByCause};
-ghost use Rattle.read_op.specs.GetPart.{get_part, BeginsAsPart, BeginsRemembering, EndsAsSaid, NeverFinished};
+ghost use Rattle.part.specs.Causes.{EndsByCause};
+ghost use Rattle.read_op.specs.GetPart.{get_part, BeginsAsPart, BeginsUndecided, BeginsRemembering, EndsAsSaid, NeverFinished};
 ghost use Rattle.read_op.specs.Fits.{BeginsSuited, WantsByKind, MayStep, KeepsSuits};
 ghost use Rattle.read_op.specs.Budget.{most_events, left, Falls, EndsInTime, AsksWithin};
-ghost use Rattle.read_op.specs.Causes.{ReadsAlone, EndsByCause, KeepsLoads, EndsSoundly, NeverStale, NeverBusy};
+ghost use Rattle.read_op.specs.Causes.{ReadsAlone, AnswersBySame, BusyIsAnothers, NeverBusy, NeverStale};
 
 /// Each event leaves fewer to do, of at most `most_events`, so that a get ends after that many.
 pub fn ends_in_time()
@@ -32,11 +32,13 @@ pub fn fits_the_world()
 {}
 
 /// A get is a part of a call: it fits the world, ends in time, asks for words of the image alone, and stores nothing; and each of
-/// its outcomes has its cause, in what its attempt did. It begins with a view that suits it, and at its end it tells its outcome.
+/// its outcomes has its cause, in what its attempt did. It begins with a view that suits it, undecided, having done nothing, and
+/// at its end it tells its outcome.
 pub fn gets_are_parts()
     ensures part { IsPart get_part }
-    ensures causes { HasOutcomesByCause get_part }
+    ensures causes { EndsByCause get_part }
     ensures begins { BeginsAsPart }
+    ensures undecided { BeginsUndecided }
     ensures remembers { BeginsRemembering }
     ensures ends { EndsAsSaid }
     ensures finished { NeverFinished }
@@ -47,13 +49,13 @@ pub fn gets_are_parts()
     ends_have_causes();
 }
 
-/// Each end of a get has its cause: what the event by which it comes loaded and found, and what was loaded before it. A get
-/// only reads, so the change that it finds between two looks at a word is not its own.
+/// A get only reads, so the change that it finds between two looks at a word is not its own; and its answer comes by a lock word
+/// that was free and is as it was. In a world, a lock that is found taken is another caller's: there is none where no lock is
+/// taken; and no segment is stale where all have the site's version.
 pub fn ends_have_causes()
     ensures reads { ReadsAlone }
-    ensures causes { EndsByCause }
-    ensures loads { KeepsLoads }
-    ensures in_world { EndsSoundly }
-    ensures current { NeverStale }
+    ensures answers { AnswersBySame }
+    ensures others { BusyIsAnothers }
     ensures alone { NeverBusy }
+    ensures current { NeverStale }
 {}

@@ -1,29 +1,32 @@
 //! The machine.
 
-ghost use Rattle.std.specs.Prelude.{◌≡◌, ◌↔◌, IsTrue, false, List, ℕ, ◌==◌, ◌||◌, ◌&&◌, ◌<◌, ◌^◌, nat_le};
+ghost use Rattle.std.specs.Prelude.{◌≡◌, ◌↔◌, IsTrue, false, ◌<◌, ◌≤◌, ◌^◌};
 ghost use Rattle.op_core.specs.declared.want.Want.TheVariants as want;
 ghost use Rattle.op_core.specs.declared.want.Ans.TheVariants.{Value};
-ghost use Rattle.read_op.specs.declared.step.ReadStep.TheVariants.{Ended, Fill};
-ghost use Rattle.read_op.specs.Steps.{begun, wanted, taken, wanted_again, moved, busy, head_taken, filled, checked, lock_checked, end_of, is_filling, next_of};
+ghost use Rattle.image_layout.specs.Places.{most_words};
+ghost use Rattle.phase.specs.Loads.{load_begun};
+ghost use Rattle.read_op.specs.declared.step.ReadStep.TheVariants as steps;
+ghost use Rattle.read_op.specs.declared.step.ReadStep.TheVariants.{Ended};
+ghost use Rattle.read_op.specs.Steps.{begun, seen_none, wanted, taken, moved, busy, end_of, walked_to, visit_first, visit_second, with_free, looked, with_value, read_home, read_probing, read_all, relook_first, relook_second, relook_next, relooked, backed_to, is_filling, read_on, next_of, lock_of};
 
-use crate::slots::{set_word, value_of};
-use crate::step::{Found, Path, ReadEnd, ReadStep, Second};
-use crate::words::lock_word;
-use image_layout::ROOT_WORD;
+use crate::place::{Free, free_at};
+use crate::slots::value_of;
+use crate::step::{ReadEnd, ReadStep, Seen, Task};
+use bucket_meta::words::must_visit;
+use hash_word::finger;
 use op_core::{Ans, Machine, Want, Why};
-use segment_head::word::{is_live, version_of};
-use way::{entry_word, head_word, is_covering, key_hash};
+use phase::{
+    Back, Backed, Load, Path, Place, Walk, Walked, back_next, back_want, load_put, load_want,
+    lock_word, walk_next, walk_want,
+};
+use way::key_hash;
 use world::Site;
 
-/// A get over the home bucket alone, one attempt.
+/// A get over the home bucket, the probing bucket and the stash, one attempt.
 #[derive(Clone, Copy, Debug, PartialEq, Eq)]
 pub struct ReadOp {
-    /// The key.
-    pub key: u64,
-    /// Its hash.
-    pub hash: u64,
-    /// Where the get runs.
-    pub site: Site,
+    /// What stays the same.
+    pub task: Task,
     /// Where it stands.
     pub step: ReadStep,
 }
@@ -47,12 +50,254 @@ fn busy(word: u64, seen: u64) -> ReadStep
 }
 
 /// What a get ends with if all words were found the same.
-fn end_of(found: &Found, place: u64) -> ReadEnd
-    ensures { result ≡ end_of found.now place }
+fn end_of(value: Option<u64>, place: u64) -> ReadEnd
+    ensures { result ≡ end_of value place }
 {
-    match found.value {
+    match value {
         Some(value) => ReadEnd::Found(value, place),
         None => ReadEnd::Absent(place),
+    }
+}
+
+// ---- the way
+
+/// Nothing was seen in a segment yet.
+fn seen_none(path: Path) -> Seen
+    ensures { result ≡ seen_none path }
+{
+    Seen {
+        path,
+        free: Free {
+            home: 0,
+            probing: 0,
+            first: 0,
+            second: 0,
+        },
+        meta: 0,
+        fingers: 0,
+        first: false,
+        second: false,
+        value: None,
+    }
+}
+
+/// The step after a word on the way.
+fn walked_to(walked: Walked) -> ReadStep
+    ensures { result ≡ walked_to walked }
+{
+    match walked {
+        Walked::On(walk) => ReadStep::Way(walk),
+        Walked::There(path) => look(seen_none(path), Place::Home),
+        Walked::Off => ReadStep::Ended(ReadEnd::Off),
+        Walked::Amiss { word, seen } => moved(word, seen, seen),
+        Walked::Stale { segment, version } => ReadStep::Ended(ReadEnd::Stale(segment, version)),
+    }
+}
+
+// ---- looks at lock words
+
+/// The step that looks at the lock word of a bucket.
+fn look(seen: Seen, place: Place) -> ReadStep
+    ensures { result ≡ steps.Look seen place }
+{
+    ReadStep::Look { seen, place }
+}
+
+/// The step that begins to load a bucket's words.
+fn fill(seen: Seen, place: Place) -> ReadStep
+    ensures { result ≡ steps.Fill seen place load_begun }
+{
+    ReadStep::Fill {
+        seen,
+        place,
+        load: Load::begin(),
+    }
+}
+
+/// The step where the second stash bucket is next.
+fn visit_second(seen: Seen) -> ReadStep
+    ensures { result ≡ visit_second seen }
+{
+    if seen.second {
+        look(seen, Place::Second)
+    } else {
+        ReadStep::Count { seen }
+    }
+}
+
+/// The step where the first one is next.
+fn visit_first(seen: Seen) -> ReadStep
+    ensures { result ≡ visit_first seen }
+{
+    if seen.first {
+        look(seen, Place::First)
+    } else {
+        visit_second(seen)
+    }
+}
+
+/// What was seen, with the free value of a lock word.
+fn with_free(seen: Seen, place: Place, free: u64) -> Seen
+    ensures { result ≡ with_free seen place free }
+{
+    let mut with = seen;
+    match place {
+        Place::Home => with.free.home = free,
+        Place::Probing => with.free.probing = free,
+        Place::First => with.free.first = free,
+        Place::Second => with.free.second = free,
+    }
+    with
+}
+
+/// The step after a lock word that was free: both of home and probing bucket come before the words of either.
+fn looked(seen: Seen, place: Place) -> ReadStep
+    ensures { result ≡ looked seen place }
+{
+    match place {
+        Place::Home => look(seen, Place::Probing),
+        Place::Probing => fill(seen, Place::Home),
+        Place::First => fill(seen, Place::First),
+        Place::Second => fill(seen, Place::Second),
+    }
+}
+
+// ---- buckets
+
+/// What was seen, with what the key has in a bucket of these words.
+fn with_value(seen: Seen, key: u64, words: &[u64; 32]) -> Seen
+    ensures { result ≡ with_value key seen words.now }
+{
+    let mut with = seen;
+    with.value = value_of(words, key).or(seen.value);
+    with
+}
+
+/// What was seen, once the home bucket is loaded.
+fn read_home(seen: Seen, key: u64, words: &[u64; 32]) -> Seen
+    ensures { result ≡ read_home key seen words.now }
+{
+    let mut with = with_value(seen, key, words);
+    with.meta = words[1];
+    with.fingers = words[3];
+    with
+}
+
+/// What was seen, once the probing bucket is loaded too.
+fn read_probing(seen: Seen, key: u64, hash: u64, words: &[u64; 32]) -> Seen
+    ensures { result ≡ read_probing key hash seen words.now }
+{
+    let mut with = with_value(seen, key, words);
+    with.first = must_visit(seen.meta, seen.fingers, words[1], words[3], finger(hash), 0);
+    with.second = must_visit(seen.meta, seen.fingers, words[1], words[3], finger(hash), 1);
+    with
+}
+
+/// The step after the last word of a bucket.
+fn read_all(seen: Seen, place: Place, key: u64, hash: u64, words: &[u64; 32]) -> ReadStep
+    ensures { result ≡ read_all key hash seen place words.now }
+{
+    match place {
+        Place::Home => fill(read_home(seen, key, words), Place::Probing),
+        Place::Probing => visit_first(read_probing(seen, key, hash, words)),
+        Place::First => visit_second(with_value(seen, key, words)),
+        Place::Second => ReadStep::Count {
+            seen: with_value(seen, key, words),
+        },
+    }
+}
+
+// ---- the way again, and lock words again
+
+/// The step that looks at a lock word again.
+fn relook(seen: Seen, placed: u64, place: Place) -> ReadStep
+    ensures { result ≡ steps.Relook seen placed place }
+{
+    ReadStep::Relook {
+        seen,
+        placed,
+        place,
+    }
+}
+
+/// The step after a word on the way that was looked at again.
+fn backed_to(seen: Seen, placed: u64, backed: Backed) -> ReadStep
+    ensures { result ≡ backed_to seen placed backed }
+{
+    match backed {
+        Backed::On(back) => ReadStep::Check { seen, placed, back },
+        Backed::Same => relook(seen, placed, Place::Home),
+        Backed::Moved {
+            word,
+            before,
+            after,
+        } => moved(word, before, after),
+    }
+}
+
+/// The end with what was found.
+fn answer(seen: &Seen, placed: u64) -> ReadStep
+    ensures { result ≡ Ended (end_of seen.now.value placed) }
+{
+    ReadStep::Ended(end_of(seen.value, placed))
+}
+
+/// The step where the second stash bucket's lock word is next to be looked at again.
+fn relook_second(seen: Seen, placed: u64) -> ReadStep
+    ensures { result ≡ relook_second seen placed }
+{
+    if seen.second {
+        relook(seen, placed, Place::Second)
+    } else {
+        answer(&seen, placed)
+    }
+}
+
+/// The step where the first one's is.
+fn relook_first(seen: Seen, placed: u64) -> ReadStep
+    ensures { result ≡ relook_first seen placed }
+{
+    if seen.first {
+        relook(seen, placed, Place::First)
+    } else {
+        relook_second(seen, placed)
+    }
+}
+
+/// The step after a lock word that was the same.
+fn relook_next(seen: Seen, placed: u64, place: Place) -> ReadStep
+    ensures { result ≡ relook_next seen placed place }
+{
+    match place {
+        Place::Home => relook(seen, placed, Place::Probing),
+        Place::Probing => relook_first(seen, placed),
+        Place::First => relook_second(seen, placed),
+        Place::Second => answer(&seen, placed),
+    }
+}
+
+impl Task {
+    /// The lock word of a bucket.
+    fn lock(&self, seen: &Seen, place: &Place) -> u64
+        ensures is { result ≡ lock_of self.now seen.now place.now }
+        ensures most { result ≤ most_words }
+    {
+        lock_word(&self.site, self.hash, seen.path.segment, *place)
+    }
+
+    /// The step after a lock word that was looked at again.
+    fn relooked(&self, seen: Seen, placed: u64, place: Place, value: u64) -> ReadStep
+        ensures { result ≡ relooked self.now seen placed place value }
+    {
+        let lock = self.lock(&seen, &place);
+        let free = free_at(&seen.free, &place);
+        if value % 2 == 1 {
+            busy(lock, value)
+        } else if value == free {
+            relook_next(seen, placed, place)
+        } else {
+            moved(lock, free, value)
+        }
     }
 }
 
@@ -60,13 +305,15 @@ impl ReadOp {
     /// A get of a key, which has done nothing yet.
     pub fn new(key: u64, version_v: Site) -> ReadOp
         ensures is { result ≡ begun key version_v }
-        ensures fits { result.hash < 2 ^ 64 }
+        ensures fits { result.task.hash < 2 ^ 64 }
     {
         ReadOp {
-            key,
-            hash: key_hash(&version_v.geometry, key),
-            site: version_v,
-            step: ReadStep::Power,
+            task: Task {
+                key,
+                hash: key_hash(&version_v.geometry, key),
+                site: version_v,
+            },
+            step: ReadStep::Way(Walk::Power),
         }
     }
 
@@ -88,147 +335,60 @@ impl ReadOp {
         }
     }
 
-    /// The word that is looked at again.
-    fn word_again(&self, found: &Found, at: Second) -> u64
-        ensures { want.Load result ≡ wanted_again self.now found.now at }
-    {
-        match at {
-            Second::Root => ROOT_WORD,
-            Second::Entry => entry_word(&self.site.geometry, self.hash, found.path.root),
-            Second::Head => head_word(&self.site.geometry, found.path.segment),
-            Second::Lock => lock_word(&self.site, self.hash, found.path.segment),
-        }
-    }
-
-    /// The step after the first look at the header.
-    fn after_head(&self, root: u64, segment: u64, head: u64) -> ReadStep
-        ensures { result ≡ head_taken self.now root segment head }
-    {
-        let version = version_of(head);
-        if is_live(head) && version != self.site.version {
-            ReadStep::Ended(ReadEnd::Stale(segment, version))
-        } else if is_live(head) && is_covering(head, self.hash) {
-            ReadStep::Lock {
-                path: Path {
-                    root,
-                    segment,
-                    head,
-                },
-            }
-        } else {
-            moved(head_word(&self.site.geometry, segment), head, head)
-        }
-    }
-
-    /// The step after the last look at the lock word.
-    fn after_lock(&self, found: Found, place: u64, seen: u64) -> ReadStep
-        ensures { result ≡ lock_checked self.now found place seen }
-    {
-        let lock = lock_word(&self.site, self.hash, found.path.segment);
-        if seen % 2 == 1 {
-            busy(lock, seen)
-        } else if seen == found.free {
-            ReadStep::Ended(end_of(&found, place))
-        } else {
-            moved(lock, found.free, seen)
-        }
-    }
-
-    /// The step after a second look.
-    fn after_again(&self, found: Found, place: u64, at: Second, seen: u64) -> ReadStep
-        ensures { result ≡ checked self.now found place at seen }
-    {
-        let (before, next) = match at {
-            Second::Root => (found.path.root, Second::Entry),
-            Second::Entry => (found.path.segment, Second::Head),
-            Second::Head => (found.path.head, Second::Lock),
-            Second::Lock => return self.after_lock(found, place, seen),
-        };
-        if seen == before {
-            ReadStep::Check {
-                found,
-                place,
-                at: next,
-            }
-        } else {
-            moved(self.word_again(&found, at), before, seen)
-        }
-    }
-
-    /// The step after a value was loaded that is no word of the bucket.
+    /// The step after a value was loaded that is no word of a bucket.
     fn after(&self, value: u64) -> ReadStep
         requires { is_filling self.now.step ≡ false }
         ensures { result ≡ next_of self.now value }
     {
-        let geometry = &self.site.geometry;
+        let task = &self.task;
         match self.step {
-            ReadStep::Power if value == 0 => ReadStep::Root,
-            ReadStep::Power => ReadStep::Ended(ReadEnd::Off),
-            ReadStep::Root if value <= geometry.depth() => ReadStep::Entry { root: value },
-            ReadStep::Root => moved(ROOT_WORD, value, value),
-            ReadStep::Entry { root } if value < geometry.segments() => ReadStep::Head {
-                root,
-                segment: value,
-            },
-            ReadStep::Entry { root } => moved(
-                entry_word(&self.site.geometry, self.hash, root),
-                value,
-                value,
-            ),
-            ReadStep::Head { root, segment } => self.after_head(root, segment, value),
-            ReadStep::Lock { path } if value % 2 == 0 => ReadStep::Fill {
-                path,
-                free: value,
-                words: [0; 32],
-                next: 1,
-            },
-            ReadStep::Lock { path } => busy(lock_word(&self.site, self.hash, path.segment), value),
+            ReadStep::Way(walk) => walked_to(walk_next(&task.site, task.hash, &walk, value)),
+            ReadStep::Look { seen, place } if value % 2 == 0 => {
+                looked(with_free(seen, place, value), place)
+            }
+            ReadStep::Look { seen, place } => busy(task.lock(&seen, &place), value),
             ReadStep::Fill { .. } => unreachable!(),
-            ReadStep::Count { found } => ReadStep::Check {
-                found,
-                place: value,
-                at: Second::Root,
+            ReadStep::Count { seen } => ReadStep::Check {
+                seen,
+                placed: value,
+                back: Back::Root,
             },
-            ReadStep::Check { found, place, at } => self.after_again(found, place, at, value),
+            ReadStep::Check { seen, placed, back } => {
+                backed_to(
+                    seen,
+                    placed,
+                    back_next(&task.site, task.hash, &seen.path, &back, value),
+                )
+            }
+            ReadStep::Relook {
+                seen,
+                placed,
+                place,
+            } => task.relooked(seen, placed, place, value),
             ReadStep::Ended(_) => self.step,
         }
     }
 
-    /// After a word of the bucket: the next one is to be loaded, or all are there.
-    fn after_word(&mut self, path: Path, free: u64, next: u8)
-        ensures { (words : List ℕ) → self.old.step ≡ Fill path free words next
-            → self.new ≡ record self.old { step = filled self.old path free words next } }
+    // The next two are calls of their own, since what they need to make a step would else be got ready at each word of a
+    // bucket too, and these are most events.
+
+    /// All words of a bucket are loaded.
+    #[inline(never)]
+    fn read_on(&mut self)
+        ensures { self.new ≡ record self.old { step = read_on self.old.task self.old.step } }
     {
-        if next < 31 {
-            if let ReadStep::Fill { next: at, .. } = &mut self.step {
-                *at = next + 1;
-            }
-        } else if let ReadStep::Fill { words, .. } = &self.step {
-            let value = value_of(words, self.key);
-            self.step = ReadStep::Count {
-                found: Found { path, free, value },
-            };
+        if let ReadStep::Fill { seen, place, load } = &self.step {
+            self.step = read_all(*seen, *place, self.task.key, self.task.hash, &load.words);
         }
     }
 
-    /// A value was loaded. A word of the bucket is put among the others where they stand.
-    fn take_value(&mut self, value: u64)
+    /// A value was loaded that is no word of a bucket.
+    #[inline(never)]
+    fn go_on(&mut self, value: u64)
+        requires { is_filling self.old.step ≡ false }
         ensures { self.new ≡ taken self.old (Value value) }
     {
-        match self.step {
-            ReadStep::Fill {
-                path,
-                free,
-                next,
-                ..
-            } => {
-                if let ReadStep::Fill { words, .. } = &mut self.step {
-                    set_word(words, next, value);
-                }
-                self.after_word(path, free, next);
-            }
-            _ => self.step = self.after(value),
-        }
+        self.step = self.after(value);
     }
 }
 
@@ -238,28 +398,29 @@ impl Machine for ReadOp {
     ghost taken = { taken };
 
     fn want(&self) -> Want {
+        let task = &self.task;
         match &self.step {
-            ReadStep::Power => Want::Power,
-            ReadStep::Root => Want::Load(ROOT_WORD),
-            ReadStep::Entry { root } => Want::Load(entry_word(
-                &self.site.geometry,
-                self.hash,
-                *root,
-            )),
-            ReadStep::Head { segment, .. } => Want::Load(head_word(&self.site.geometry, *segment)),
-            ReadStep::Lock { path } => Want::Load(lock_word(&self.site, self.hash, path.segment)),
-            ReadStep::Fill { path, next, .. } => {
-                Want::Load(lock_word(&self.site, self.hash, path.segment) + u64::from(next % 32))
+            ReadStep::Way(walk) => walk_want(&task.site, task.hash, walk),
+            ReadStep::Look { seen, place } => Want::Load(task.lock(seen, place)),
+            ReadStep::Fill { seen, place, load } => load_want(task.lock(seen, place), load),
+            ReadStep::Count { .. } => Want::Load(task.site.geometry.counter_word()),
+            ReadStep::Check { seen, back, .. } => {
+                back_want(&task.site, task.hash, &seen.path, back)
             }
-            ReadStep::Count { .. } => Want::Load(self.site.geometry.counter_word()),
-            ReadStep::Check { found, at, .. } => Want::Load(self.word_again(found, *at)),
+            ReadStep::Relook { seen, place, .. } => Want::Load(task.lock(seen, place)),
             ReadStep::Ended(_) => Want::Done,
         }
     }
 
     fn take(&mut self, ans: Ans) {
         if let Ans::Value(value) = ans {
-            self.take_value(value);
+            if let ReadStep::Fill { load, .. } = &mut self.step {
+                if !load_put(load, value) {
+                    self.read_on();
+                }
+            } else {
+                self.go_on(value);
+            }
         }
     }
 }

@@ -1,18 +1,9 @@
 //! What a key has among the words of a bucket.
 
-ghost use Rattle.std.specs.Prelude.{◌≡◌, slice_set};
+ghost use Rattle.std.specs.Prelude.{◌≡◌};
 ghost use Rattle.read_op.specs.Steps.{value_of};
 
 use bucket_meta::words::{SLOTS, is_taken};
-
-/// A word of a bucket is put among its words, where they stand; a number past them changes none.
-pub fn set_word(words: &mut [u64; 32], at: u8, value: u64)
-    ensures { words.new ≡ slice_set words.old at value }
-{
-    if at < 32 {
-        words[usize::from(at)] = value;
-    }
-}
 
 /// What a key has in a bucket of these words: the value of the last record slot that is taken and has the key.
 #[tactic(auto, using(crate::proofs::LastTaken::at_first, crate::proofs::LastTaken::has_key, crate::proofs::LastTaken::is_free, crate::proofs::LastTaken::has_other))]

@@ -1,6 +1,20 @@
 //! Where a get stands, and how it ends.
 
+use crate::place::Free;
 use op_core::Why;
+use phase::{Back, Load, Path, Place, Walk};
+use world::Site;
+
+/// What stays the same in an attempt.
+#[derive(Clone, Copy, Debug, PartialEq, Eq)]
+pub struct Task {
+    /// The key.
+    pub key: u64,
+    /// Its hash.
+    pub hash: u64,
+    /// Where the get runs.
+    pub site: Site,
+}
 
 /// How an attempt of a get ended.
 #[derive(Clone, Copy, Debug, PartialEq, Eq)]
@@ -17,89 +31,68 @@ pub enum ReadEnd {
     Off,
 }
 
-/// How the segment of a key was found: three values, as they were seen first.
+/// What was seen so far in a segment.
 #[derive(Clone, Copy, Debug, PartialEq, Eq)]
-pub struct Path {
-    /// The root depth.
-    pub root: u64,
-    /// The directory entry: the slot of the segment.
-    pub segment: u64,
-    /// The header of the segment.
-    pub head: u64,
-}
-
-/// What is to be answered if all words are found the same again.
-#[derive(Clone, Copy, Debug, PartialEq, Eq)]
-pub struct Found {
+pub struct Seen {
     /// How the segment was found.
     pub path: Path,
-    /// The value of the lock word, which was free.
-    pub free: u64,
-    /// What the key has in its home bucket.
+    /// The free values of the lock words.
+    pub free: Free,
+    /// Words 1 and 3 of the home bucket, until the probing bucket is loaded.
+    pub meta: u64,
+    /// The other one.
+    pub fingers: u64,
+    /// Whether the first stash bucket is to be visited.
+    pub first: bool,
+    /// Whether the second one is.
+    pub second: bool,
+    /// What the key has in the buckets that were loaded.
     pub value: Option<u64>,
-}
-
-/// Which word is looked at for the second time.
-#[derive(Clone, Copy, Debug, PartialEq, Eq)]
-pub enum Second {
-    /// The root depth.
-    Root,
-    /// The directory entry.
-    Entry,
-    /// The header of the segment.
-    Head,
-    /// The lock word of the home bucket, the last of all.
-    Lock,
 }
 
 /// Which event a get does next, and what it knows by then.
 #[derive(Clone, Copy, Debug, PartialEq, Eq)]
 pub enum ReadStep {
-    /// The power word is to be loaded.
-    Power,
-    /// The root depth is to be loaded.
-    Root,
-    /// The directory entry of the key is to be loaded.
-    Entry {
-        /// The root depth.
-        root: u64,
+    /// On the way to the segment.
+    Way(Walk),
+    /// The lock word of a bucket is to be loaded.
+    Look {
+        /// What was seen.
+        seen: Seen,
+        /// Which bucket.
+        place: Place,
     },
-    /// The header of the segment is to be loaded.
-    Head {
-        /// The root depth.
-        root: u64,
-        /// The slot of the segment.
-        segment: u64,
-    },
-    /// The lock word of the home bucket is to be loaded.
-    Lock {
-        /// How the segment was found.
-        path: Path,
-    },
-    /// Another word of the home bucket is to be loaded.
+    /// The other words of a bucket are loaded.
     Fill {
-        /// How the segment was found.
-        path: Path,
-        /// The value of the lock word, which was free.
-        free: u64,
-        /// The words of the bucket that were loaded so far, each at its number.
-        words: [u64; 32],
-        /// The number of the next one, 1 to 31.
-        next: u8,
+        /// What was seen.
+        seen: Seen,
+        /// Which bucket.
+        place: Place,
+        /// Its words.
+        load: Load,
     },
     /// The commit counter is to be loaded.
     Count {
-        /// What is to be answered.
-        found: Found,
+        /// What was seen.
+        seen: Seen,
     },
-    /// A word is to be loaded again.
+    /// The words on the way are looked at again.
     Check {
-        /// What is to be answered.
-        found: Found,
+        /// What was seen.
+        seen: Seen,
         /// The value of the commit counter.
-        place: u64,
+        placed: u64,
         /// Which word.
-        at: Second,
+        back: Back,
+    },
+    /// A lock word is looked at again.
+    Relook {
+        /// What was seen.
+        seen: Seen,
+        /// The value of the commit counter.
+        placed: u64,
+        /// Which bucket.
+        place: Place,
     },
     /// Nothing more is to be done.
     Ended(ReadEnd),

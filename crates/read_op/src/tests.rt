@@ -1,25 +1,33 @@
-// A get over the words of a new table of one segment in which `1 insert 5 7` was done.
+// A get over the words of a table of one segment in which key 5 stands in its home bucket with value 7, and key 6 in the first
+// stash bucket with value 9.
 use super::*;
 use image_layout::Geometry;
 use op_core::{Ans, Machine, Want, Why};
 use std::test::Fail;
 use world::Site;
 
-// A word of that table: the counter is word 2208, and the power word 2209.
-fn word(i: u64) -> u64 {
+// A word of that table, with this metadata word of the home bucket: the counter is word 2208, and the power word 2209.
+fn word(meta: u64, i: u64) -> u64 {
     match i {
         65 => 257,
-        96 | 128 => 2,
-        97 | 2208 => 1,
+        96 | 128 | 2144 | 2176 => 2,
+        97 => meta,
+        2145 | 2208 => 1,
         98 | 100 => 5,
         101 => 7,
+        2146 | 2148 => 6,
+        2149 => 9,
         _ => 0,
     }
 }
 
 // Runs a get of a key to its end, where from event `from` on word `changed` has the value `value`. How it ended, and
 // after how many events.
-fn run(geometry: Geometry, key: u64, from: u64, changed: u64, value: u64) -> (ReadEnd, u64) {
+fn run(key: u64, meta: u64, from: u64, changed: u64, value: u64) -> (ReadEnd, u64) {
+    let geometry = match Geometry::new(1, 0, 0) {
+        Ok(geometry) => geometry,
+        Err(_) => return (ReadEnd::Off, 150),
+    };
     let mut op = ReadOp::new(
         key,
         Site {
@@ -38,40 +46,70 @@ fn run(geometry: Geometry, key: u64, from: u64, changed: u64, value: u64) -> (Re
         let seen = if asked == changed && events >= from {
             value
         } else {
-            word(asked)
+            word(meta, asked)
         };
         op.take(Ans::Value(seen));
     }
     (ReadEnd::Off, 150)
 }
 
+// The metadata word of the home bucket, in which slot 0 is taken: alone, with one record in the stash that has no note, and
+// with a note of fingerprint 6 in the first stash bucket, and of fingerprint 0 in the second.
+const PLAIN: u64 = 1;
+
+const COUNTED: u64 = 1 + (1 << 40);
+
+const FIRST: u64 = 1 + (1 << 30) + (6 << 45);
+
+const SECOND: u64 = 1 + (1 << 28) + (1 << 36);
+
+fn moved(word: u64, before: u64, after: u64) -> ReadEnd {
+    ReadEnd::Again(Why::Moved {
+        word,
+        before,
+        after,
+    })
+}
+
+fn busy(word: u64, seen: u64) -> ReadEnd {
+    ReadEnd::Again(Why::Busy { word, seen })
+}
+
 #[test]
-fn gets_of_one_pair(rt: HostRuntime) -> Result<(), Fail> {
-    let g = Geometry::new(1, 0, 0)?;
-    assert_eq!(rt; run(g, 5, 0, 3, 0), (ReadEnd::Found(7, 1), 41));
-    assert_eq!(rt; run(g, 6, 0, 3, 0), (ReadEnd::Absent(1), 41));
+fn gets_of_two_pairs(rt: HostRuntime) -> Result<(), Fail> {
+    assert_eq!(rt; run(5, PLAIN, 0, 3, 0), (ReadEnd::Found(7, 1), 74));
+    assert_eq!(rt; run(7, PLAIN, 0, 3, 0), (ReadEnd::Absent(1), 74));
+    assert_eq!(rt; run(6, FIRST, 0, 3, 0), (ReadEnd::Found(9, 1), 107));
+    assert_eq!(rt; run(0, SECOND, 0, 3, 0), (ReadEnd::Absent(1), 107));
+    assert_eq!(rt; run(6, COUNTED, 0, 3, 0), (ReadEnd::Found(9, 1), 140));
+    assert_eq!(rt; run(5, COUNTED, 0, 3, 0), (ReadEnd::Found(7, 1), 140));
+    assert_eq!(rt; run(7, COUNTED, 0, 3, 0), (ReadEnd::Absent(1), 140));
     Ok(())
 }
 
 #[test]
-fn gets_that_end_early(rt: HostRuntime) -> Result<(), Fail> {
-    let g = Geometry::new(1, 0, 0)?;
-    let moved = |word, before, after| ReadEnd::Again(Why::Moved {
-        word,
-        before,
-        after,
-    });
-    let busy = ReadEnd::Again(Why::Busy { word: 96, seen: 3 });
-    assert_eq!(rt; run(g, 5, 0, 2209, 1), (ReadEnd::Off, 1));
-    assert_eq!(rt; run(g, 5, 0, 96, 3), (busy, 5));
-    assert_eq!(rt; run(g, 5, 20, 96, 3), (busy, 41));
-    assert_eq!(rt; run(g, 5, 20, 96, 4), (moved(96, 2, 4), 41));
-    assert_eq!(rt; run(g, 5, 20, 8, 1), (moved(8, 0, 1), 38));
-    assert_eq!(rt; run(g, 5, 20, 32, 1), (moved(32, 0, 1), 39));
-    assert_eq!(rt; run(g, 5, 20, 65, 513), (moved(65, 257, 513), 40));
-    assert_eq!(rt; run(g, 5, 0, 65, 258), (ReadEnd::Stale(0, 2), 4));
-    assert_eq!(rt; run(g, 5, 0, 65, 1), (moved(65, 1, 1), 4));
-    assert_eq!(rt; run(g, 5, 0, 8, 1), (moved(8, 1, 1), 2));
-    assert_eq!(rt; run(g, 5, 0, 32, 1), (moved(32, 1, 1), 3));
+fn gets_that_end_on_the_way(rt: HostRuntime) -> Result<(), Fail> {
+    assert_eq!(rt; run(5, PLAIN, 0, 2209, 1), (ReadEnd::Off, 1));
+    assert_eq!(rt; run(5, PLAIN, 0, 65, 258), (ReadEnd::Stale(0, 2), 4));
+    assert_eq!(rt; run(5, PLAIN, 0, 65, 1), (moved(65, 1, 1), 4));
+    assert_eq!(rt; run(5, PLAIN, 0, 8, 1), (moved(8, 1, 1), 2));
+    assert_eq!(rt; run(5, PLAIN, 0, 32, 1), (moved(32, 1, 1), 3));
+    assert_eq!(rt; run(5, PLAIN, 20, 8, 1), (moved(8, 0, 1), 70));
+    assert_eq!(rt; run(5, PLAIN, 20, 32, 1), (moved(32, 0, 1), 71));
+    assert_eq!(rt; run(5, PLAIN, 20, 65, 513), (moved(65, 257, 513), 72));
+    Ok(())
+}
+
+#[test]
+fn gets_that_end_at_a_lock(rt: HostRuntime) -> Result<(), Fail> {
+    assert_eq!(rt; run(5, PLAIN, 0, 96, 3), (busy(96, 3), 5));
+    assert_eq!(rt; run(5, PLAIN, 0, 128, 3), (busy(128, 3), 6));
+    assert_eq!(rt; run(5, COUNTED, 0, 2144, 3), (busy(2144, 3), 69));
+    assert_eq!(rt; run(5, COUNTED, 0, 2176, 3), (busy(2176, 3), 101));
+    assert_eq!(rt; run(5, PLAIN, 20, 96, 3), (busy(96, 3), 73));
+    assert_eq!(rt; run(5, PLAIN, 20, 96, 4), (moved(96, 2, 4), 73));
+    assert_eq!(rt; run(5, PLAIN, 20, 128, 4), (moved(128, 2, 4), 74));
+    assert_eq!(rt; run(5, COUNTED, 80, 2144, 4), (moved(2144, 2, 4), 139));
+    assert_eq!(rt; run(5, COUNTED, 120, 2176, 4), (moved(2176, 2, 4), 140));
     Ok(())
 }

@@ -1,225 +1,219 @@
 -- Where the event of a get decides its outcome, the cause is there.
-use Rattle.std.proofs.Common.{◌≡◌, ◌≢◌, ℕ, ◌+◌, ◌%◌, ◌≤◌, inl, inr, ◌==◌, Bool, true, false, cond, Option, None, Some, List, [], ◌∷◌, slice_set, refl, sym, ◌∙◌, ap, subst, arith}
-use Rattle.std.specs.Prelude.{nat_lt, replicate}
-use Rattle.std.proofs.lemmas.Bool.{eqb-false}
+use Rattle.std.proofs.Common.{◌≡◌, ◌≢◌, ℕ, ◌%◌, ◌<◌, inl, inr, Bool, true, false, Option, None, Some, List, [], refl, sym, ◌∙◌, ap, subst, arith}
+use Rattle.std.specs.Prelude.{◌==◌, if◌then◌else◌}
+use Rattle.std.proofs.lemmas.Bool.{eqb-true, eqb-false}
 use Rattle.std.proofs.lemmas.Option.{none-some, same_Some}
+use Rattle.op_core.specs.declared.want.Want.{Want}
 use Rattle.op_core.specs.declared.want.Want.TheVariants as want
 use Rattle.op_core.specs.declared.want.Ans.{Ans}
 use Rattle.op_core.specs.declared.want.Ans.TheVariants.{Value}
-use Rattle.op_core.specs.declared.why.Why.{Why}
 use Rattle.op_core.specs.declared.why.Why.TheVariants.{Busy, Moved}
-use Rattle.hash_word.specs.Hash.{home_of}
 use Rattle.trace.specs.Events.{Words}
-use Rattle.image_layout.specs.Places.{root_word}
+use Rattle.image_layout.specs.Places.{Shape}
 use Rattle.sound_image.specs.Records.{key_hash}
 use Rattle.map_model.specs.declared.call.Call.{Call}
+use Rattle.map_model.specs.declared.call.Call.TheVariants.{Get}
 use Rattle.map_model.specs.Map.{key_of}
-use Rattle.bucket_words.specs.Tables.{home_at}
-use Rattle.way.specs.Ways.{entry_word, head_word, bucket_word}
 use Rattle.world.specs.declared.site.Site.{Site as Here}
 use Rattle.world.specs.Site.{Site}
 use Rattle.world.specs.Views.{View, At, Has, HasLock}
 use Rattle.world.specs.Wants.{answer_to, word_of}
 use Rattle.world.specs.Invariant.{Holds}
-use Rattle.world.proofs.stepping.Answers.{load_value}
+use Rattle.world.proofs.stepping.Answers.{load_asked, load_value}
 use Rattle.part.specs.Doings.{Doings}
-use Rattle.part.specs.Outcomes.{Outcome}
+use Rattle.part.specs.Outcomes.{Outcome, again, stale, off}
 use Rattle.part.specs.Part.{Suits}
-use Rattle.part.specs.Causes.{IsNamed, IsWatched, Looked, HasCause, EndsByCause}
-use Rattle.read_op.specs.declared.step.Path.{Path}
-use Rattle.read_op.specs.declared.step.Found.{Found}
-use Rattle.read_op.specs.declared.step.Second.{Second}
-use Rattle.read_op.specs.declared.step.Second.TheVariants as again
-use Rattle.read_op.specs.declared.step.ReadEnd.{ReadEnd}
+use Rattle.part.specs.Causes.{IsBucketOf, IsNamed, HasAgainCause, HasCause, EndsByCause}
+use Rattle.phase.specs.declared.walk.Walk.{Walk}
+use Rattle.phase.specs.declared.walk.Walked.{Walked}
+use Rattle.phase.specs.declared.walk.Walked.TheVariants as walked
+use Rattle.phase.specs.declared.back.Back.{Back}
+use Rattle.phase.specs.declared.back.Backed.{Backed}
+use Rattle.phase.specs.declared.back.Backed.TheVariants as backed
+use Rattle.phase.specs.Walks.{walk_wanted, walk_taken}
+use Rattle.phase.specs.Backs.{back_word, back_taken}
+use Rattle.phase.specs.Loads.{load_taken}
+use Rattle.phase.specs.Stands.{IsStraight, HasWalked}
+use Rattle.phase.specs.Causes.{WasFound, HasWalkCause, HasBackCause}
+use Rattle.phase.proofs.Causing.{found_named, walk_caused, back_caused}
+use Rattle.phase.specs.declared.place.Place.{Place}
+use Rattle.phase.specs.declared.place.Place.TheVariants.{Home, Probing, First, Second}
+use Rattle.read_op.specs.declared.step.Seen.{Seen}
 use Rattle.read_op.specs.declared.step.ReadEnd.TheVariants as ends
 use Rattle.read_op.specs.declared.step.ReadStep.{ReadStep}
-use Rattle.read_op.specs.declared.step.ReadStep.TheVariants.{Power, Root, Entry, Head, Lock, Fill, Count, Check, Ended}
+use Rattle.read_op.specs.declared.step.ReadStep.TheVariants.{Way, Look, Fill, Count, Check, Relook, Ended}
+use Rattle.read_op.specs.declared.step.Task.{Task}
 use Rattle.read_op.specs.declared.op.ReadOp.{ReadOp}
-use Rattle.read_op.specs.Steps.{wanted, taken, wanted_in, next_in, value_of, moved, busy, end_by}
-use Rattle.read_op.specs.Fits.{finds}
-use Rattle.read_op.specs.Causes.{IsWithin, kept, kept_in, Caused, IsSoundEnd}
-use Rattle.read_op.specs.GetPart.{outcome_of, outcome_in, Stands, InRange, Remembers, get_part}
-use Rattle.read_op.proofs.Fitting.{wants_by_kind}
-use Rattle.read_op.proofs.Causing.{ends_by_cause, loads_alone}
-use Rattle.read_op.proofs.Sounding.{ends_soundly}
-use Rattle.read_op.proofs.Ending.{has_ended}
+use Rattle.phase.specs.Places.{bucket_of}
+use Rattle.read_op.specs.Places.{free_at}
+use Rattle.read_op.specs.Steps.{wanted, taken, wanted_in, next_in, walked_to, with_free, looked, filled, backed_to, relook_first, relook_second, relook_next, busy, moved, end_of, lock_of}
+use Rattle.read_op.specs.Fits.{IsIn, suits_in}
+use Rattle.read_op.specs.GetPart.{outcome_of, outcome_in, RemembersIn, Remembers, get_part}
+use Rattle.read_op.proofs.Places.{few, lock_is}
+use Rattle.read_op.proofs.Opening.{IsOpen, looked_open, filled_open, open_undecided, has_ended}
+use Rattle.read_op.proofs.Asked.{reads_alone}
+use Rattle.read_op.proofs.Keeping.{has_walked}
 use Rattle.read_op.proofs.parts.Remembering.{remembers_next}
 
-within_has : (xs ys : List (ℕ × ℕ)) → IsWithin xs ys → (p : ℕ × ℕ) → Has p xs → Has p ys
-within_has [] ys w p has = absurd has
-within_has (x ∷ xs) [] w p has = absurd w
-within_has (x ∷ xs) (y ∷ ys) (inl here) p (inl is) = inl (is ∙ here.0)
-within_has (x ∷ xs) (y ∷ ys) (inl here) p (inr has) = inr (within_has xs ys here.1 p has)
-within_has (x ∷ xs) (y ∷ ys) (inr later) p has = inr (within_has (x ∷ xs) ys later p has)
+-- its buckets are those of its key's hash
+bucket_is : (hash : ℕ) (p : Place) → IsBucketOf hash (bucket_of hash p)
+bucket_is hash Home = inl refl
+bucket_is hash Probing = inr (inl refl)
+bucket_is hash First = inr (inr (omega arith, omega arith))
+bucket_is hash Second = inr (inr (omega arith, omega arith))
 
-same_load : (i word : ℕ) → want.Load i ≡ want.Load word → word ≡ i
-same_load i word is = cc
+-- ---- for a get of this key, in this image, whose attempt did this
+module _ (task : Task) (words : Words) (did : Doings) (call : Call) (hash_is : task.hash ≡ key_hash task.site.geometry (key_of call)) (none : did.changed ≡ []) where
+  abbrev g : Shape
+  g = task.site.geometry
 
-filling_goes : (b : Bool) (path : Path) (free next : ℕ) (words : List ℕ) (found : Found) (e : ReadEnd) → cond b (Fill path free words next) (Count found) ≡ Ended e → ⊥
-filling_goes true path free next words found e is = absurd (cc)
-filling_goes false path free next words found e is = absurd (cc)
+  abbrev Caused : Want → Outcome → Type 0
+  Caused event outcome = HasCause g words did call event task.site outcome
 
-no_again : (o : Option ℕ) (place : ℕ) (why : Why) → Ended (end_by o place) ≡ Ended (ends.Again why) → ⊥
-no_again None place why is = absurd (cc)
-no_again (Some x) place why is = absurd (cc)
+  -- if an outcome is decided there, it has its cause
+  abbrev CausedIf : Want → ReadStep → Type 0
+  CausedIf event s = (outcome : Outcome) → outcome_in s ≡ Some outcome → Caused event outcome
 
--- the word that a get is told to have moved, by its step
-module _ (op : ReadOp) (loads : List (ℕ × ℕ)) (word old new n : ℕ) where
-  abbrev Watched : Type 0
-  Watched = IsWatched op.site.geometry op.hash loads word old new
+  both_caused : (event : Want) (b : Bool) (s t : ReadStep) → (b ≡ true → CausedIf event s) → (b ≡ false → CausedIf event t) → CausedIf event (if b then s else t)
+  both_caused event true s t p q = p refl
+  both_caused event false s t p q = q refl
 
-  abbrev Told : ReadStep → Type 0
-  Told s = s ≡ Ended (ends.Again (Moved word old new))
+  open_caused : (event : Want) (s : ReadStep) → IsOpen s → CausedIf event s
+  open_caused event s goes outcome some = absurd (none-some outcome (sym (open_undecided s goes) ∙ some))
 
-  abbrev Among : ReadStep → Type 0
-  Among s = (p : ℕ × ℕ) → Has p (kept_in op s) → Has p loads
+  so : (event : Want) (outcome : Outcome) → Caused event outcome → (told : Outcome) → Some outcome ≡ Some told → Caused event told
+  so event outcome cause told some = subst (Caused event) (same_Some outcome told some) cause
 
-  abbrev entry_kept : ℕ → ℕ → ℕ × ℕ
-  entry_kept root segment = (entry_word op.site.geometry op.hash root, segment)
+  not_own : (word : ℕ) → Has word did.changed → ⊥
+  not_own word has = subst (λ cs. Has word cs) none has
 
-  -- a lock word that was free, and is told to have moved, is free again
-  lock_told : (lock free place : ℕ) (value : Option ℕ) (b c : Bool) → (n % 2 == 1) ≡ b → free % 2 ≡ 0
-      → Told (cond b (busy lock n) (cond c (Ended (end_by value place)) (moved lock free n))) → (old % 2 ≡ 0) × (new % 2 ≡ 0)
-  lock_told lock free place value true c odd even told = absurd (cc)
-  lock_told lock free place value false true odd even told = absurd (no_again value place (Moved word old new) told)
-  lock_told lock free place value false false odd even told =
-      let was : free ≡ old = cc in
-      let is : n ≡ new = cc in
-      let other = eqb-false (n % 2) 1 odd in
-      (omega (arith, even, was), omega (arith, other, is))
+  -- ---- the way
+  walked_caused : (w : Walk) (x : Walked) → ((word seen : ℕ) → x ≡ walked.Amiss word seen → ⊥) → HasWalkCause task.site task.hash words did call w x
+      → CausedIf (walk_wanted task.site task.hash w) (walked_to x)
+  walked_caused w (walked.On next) good cause told some = absurd (none-some told some)
+  walked_caused w (walked.There path) good cause told some = absurd (none-some told some)
+  walked_caused w walked.Off good cause told some = so (walk_wanted task.site task.hash w) off cause told some
+  walked_caused w (walked.Amiss word seen) good cause told some = absurd (good word seen refl)
+  walked_caused w (walked.Stale segment byte) good cause told some = so (walk_wanted task.site task.hash w) (stale segment byte) cause told some
 
-  locking_told : (path : Path) (words : List ℕ) (next lock : ℕ) (b : Bool) → Told (cond b (Fill path n words next) (busy lock n)) → ⊥
-  locking_told path words next lock true told = absurd (cc)
-  locking_told path words next lock false told = absurd (cc)
+  -- ---- the way again
+  backed_caused : (s : Seen) (placed : ℕ) (at : Back) (x : Backed) → HasBackCause task.site task.hash words did call s.path at x
+      → CausedIf (want.Load (back_word task.site task.hash s.path at)) (backed_to s placed x)
+  backed_caused s placed at (backed.On next) cause told some = absurd (none-some told some)
+  backed_caused s placed at backed.Same cause told some = absurd (none-some told some)
+  backed_caused s placed at (backed.Moved word before after) cause told some =
+      so (want.Load (back_word task.site task.hash s.path at)) (again (Moved word before after)) cause told some
 
-  check_watched : (found : Found) (place : ℕ) (at : Second) → (Has (root_word, found.path.root) loads × (found.path.root ≤ op.site.geometry.depth))
-      → Has (entry_kept found.path.root found.path.segment) loads → found.free % 2 ≡ 0 → wanted_in op (Check found place at) ≡ want.Load word
-      → Told (next_in op (Check found place at) n) → Watched
-  check_watched found place again.Root root entry even asks told = inl (inl (same_load root_word word asks))
-  check_watched found place again.Entry root entry even asks told =
-      inl (inr (inl (found.path.root, root, same_load (entry_word op.site.geometry op.hash found.path.root) word asks)))
-  check_watched found place again.Head root entry even asks told =
-      inl (inr (inr (found.path.segment, (found.path.root, root, entry), same_load (head_word op.site.geometry found.path.segment) word asks)))
-  check_watched found place again.Lock root entry even asks told =
-      let lock : ℕ = bucket_word op.site.geometry found.path.segment (home_of op.hash) in
-      let both = lock_told lock found.free place found.value (n % 2 == 1) (n == found.free) refl even told in
-      inr ((found.path.segment, (found.path.root, root, entry), home_of op.hash, inl refl, same_load lock word asks), both.0, both.1)
+  -- ---- a lock word
+  module _ (s : Seen) (p : Place) (n : ℕ) (found : n ≡ words (lock_of task s p)) (path : WasFound g task.hash did.loads s.path) where
+    named : IsNamed g (key_hash g (key_of call)) did.loads s.path.segment
+    named = subst (λ m. IsNamed g m did.loads s.path.segment) hash_is (found_named g task.hash did.loads s.path path)
 
-  get_watched : (s : ReadStep) → Among s → InRange op s → wanted_in op s ≡ want.Load word → Told (next_in op s n) → Watched
-  get_watched Power among low asks told = absurd (cc)
-  get_watched Root among low asks told = inl (inl (same_load root_word word asks))
-  get_watched (Entry root) among low asks told =
-      inl (inr (inl (root, (among (root_word, root) (inl refl), low), same_load (entry_word op.site.geometry op.hash root) word asks)))
-  get_watched (Head root segment) among low asks told = inl (inr (inr (
-    segment,
-    (root, (among (root_word, root) (inr (inl refl)), low), among (entry_kept root segment) (inl refl)),
-    same_load (head_word op.site.geometry segment) word asks,
-  )))
-  get_watched (Lock path) among low asks told =
-      absurd (locking_told path (replicate 32 0) 1 (bucket_word op.site.geometry path.segment (home_of op.hash)) (n % 2 == 0) told)
-  get_watched (Fill path free words next) among low asks told =
-      let filled = slice_set words next n in
-      absurd (filling_goes (nat_lt next 31) path free (next + 1) filled (record { path = path; free = free; value = value_of filled op.key }) (ends.Again (Moved word old new)) told)
-  get_watched (Count found) among low asks told = absurd (cc)
-  get_watched (Check found place at) among low asks told =
-      check_watched found place at (among (root_word, found.path.root) (inr (inr (inr (inr (inl refl))))), low.0)
-      (among (entry_kept found.path.root found.path.segment) (inr (inr (inr (inl refl))))) low.1 asks told
-  get_watched (Ended end) among low asks told = absurd (cc)
+    of_key : IsBucketOf (key_hash g (key_of call)) (bucket_of task.hash p)
+    of_key = subst (λ m. IsBucketOf m (bucket_of task.hash p)) hash_is (bucket_is task.hash p)
 
--- ---- in a world, for the caller with this view, whose attempt did this
--- an outcome is that of an end
-ended_so : (s : ReadStep) (outcome : Outcome) → outcome_in s ≡ Some outcome → (end : ReadEnd) × (s ≡ Ended end) × (outcome_of end ≡ outcome)
-ended_so (Ended end) outcome some = (end, refl, same_Some (outcome_of end) outcome some)
-ended_so s outcome some = absurd (none-some outcome some)
-
-module _ (site : Site) (here : Here) (call : Call) (words : Words) (views : List View) (j : ℕ) (op : ReadOp) (before v : View) (h : Holds site words views) (at : At views j v)
-    (suits : Suits get_part site here call op before v) (asks : wanted op ≢ want.Done) (did : Doings) (r : Remembers site op did) where
-  abbrev hash_here : ℕ
-  hash_here = key_hash site.shape (key_of call)
-
-  abbrev read : ℕ
-  read = finds site op words
-
-  abbrev found : ℕ
-  found = words (word_of site.shape (wanted op))
-
-  stands : Stands site here call op v
-  stands = suits.stands
-
-  read_is : read ≡ found
-  read_is = ap (λ x. words (word_of site.shape x)) (sym (wants_by_kind site op stands.is_in asks))
-
-  hash_is : op.hash ≡ hash_here
-  hash_is = stands.is_in.hash ∙ ap (λ c. key_hash site.shape (key_of c)) (sym stands.same)
-
-  among : (p : ℕ × ℕ) → Has p (kept op) → Has p did.loads
-  among = within_has (kept op) did.loads r.within
-
-  moved_loads : (word old new : ℕ) → Caused op read (ends.Again (Moved word old new)) → wanted op ≡ want.Load word
-  moved_loads word old new (inl c) = c.loads
-  moved_loads word old new (inr c) = c.loads
-
-  looked : (word seen : ℕ) → wanted op ≡ want.Load word → words word ≡ seen → Looked site.shape words did call (wanted op) word seen
-  looked word seen loads newest = subst (λ w. Looked site.shape words did call w word seen) (sym loads) (refl, newest)
-
-  sound : IsSoundEnd site op words views j v
-  sound = ends_soundly site op words views j v h at stands.is_in stands.suits stands.nothing.held asks
-
-  -- the words of this image, by the key of this call
-  here_named : (segment : ℕ) → IsNamed op.site.geometry op.hash did.loads segment → IsNamed site.shape hash_here did.loads segment
-  here_named segment named = subst (λ m. IsNamed site.shape m did.loads segment) hash_is (subst (λ g. IsNamed g op.hash did.loads segment) stands.is_in.shape named)
-
-  by_end : (end : ReadEnd) → (taken op (Value read)).step ≡ Ended end → HasCause site.shape words did call (wanted op) here (outcome_of end)
-  by_end (ends.Found value place) so = tt
-  by_end (ends.Absent place) so = tt
-  by_end (ends.Again (Busy word value)) so =
-      let b = sound.busy word value so in (
-        looked word value (ends_by_cause op read (ends.Again (Busy word value)) asks so).loads b.2,
-        record {
-          own = (home_of hash_here, inl refl, b.1 ∙ ap (λ c. home_at site.shape (key_of c)) (sym stands.same));
-          newest = b.2;
-          odd = b.3;
-          by_others = λ has. subst (λ cs. Has word cs) r.none has;
-        },
-      )
-  by_end (ends.Again (Moved word old new)) so =
-      let m = sound.moved word old new so in
-      let loads = moved_loads word old new (ends_by_cause op read (ends.Again (Moved word old new)) asks so) in (
-        looked word new loads m.2,
-        record {
-          watched = subst (λ m. IsWatched site.shape m did.loads word old new) hash_is (subst (λ g. IsWatched g op.hash did.loads word old new) stands.is_in.shape
-              (get_watched op did.loads word old new read op.step among r.in_range loads so));
-          loaded = among (word, old) m.0;
-          newest = m.2;
-          differ = m.3;
-          by_others = λ has. subst (λ cs. Has word cs) r.none has;
-        },
-      )
-  by_end (ends.Stale segment byte) so =
-      let c = ends_by_cause op read (ends.Stale segment byte) asks so in
-      let root : ℕ = c.first_look.0 in
-      let low : root ≤ op.site.geometry.depth = subst (λ s. InRange op s) c.first_look.1 r.in_range in
-      let kept_there : (p : ℕ × ℕ) → Has p (kept_in op (Head root segment)) → Has p did.loads = subst (λ s. (p : ℕ × ℕ) → Has p (kept_in op s) → Has p did.loads) c.first_look.1 among in
-      let loads : wanted op ≡ want.Load (head_word site.shape segment) = c.loads ∙ ap (λ g. want.Load (head_word g segment)) stands.is_in.shape in
-      let newest : words (head_word site.shape segment) ≡ read = sym (ap (λ w. words (word_of site.shape w)) loads) ∙ sym read_is in
+    busy_cause : n % 2 ≡ 1 → s.path.segment < g.segments → HasAgainCause g words did call (want.Load (lock_of task s p)) (Busy (lock_of task s p) n)
+    busy_cause odd within = (
+      (refl, sym found),
       record {
-        named = here_named segment (root, (kept_there (root_word, root) (inr (inl refl)), low), kept_there (entry_word op.site.geometry op.hash root, segment) (inl refl));
-        head = read;
-        looked = looked (head_word site.shape segment) read loads newest;
-        live = c.live;
-        found = c.version;
-        other = λ same. c.other (same ∙ ap (λ (s : Here). s.version) (sym stands.at));
-      }
-  by_end ends.Off so =
-      let c = ends_by_cause op read ends.Off asks so in
-      (c.loads, λ zero. c.off (read_is ∙ (ap (λ w. words (word_of site.shape w)) c.loads ∙ zero)))
+        own = (s.path.segment, named, within, bucket_of task.hash p, of_key, lock_is task s p within);
+        newest = sym found;
+        odd = odd;
+        by_others = not_own (lock_of task s p);
+      },
+    )
 
-  caused : (outcome : Outcome) → outcome_in (taken op (answer_to (wanted op) found)).step ≡ Some outcome → HasCause site.shape words did call (wanted op) here outcome
-  caused outcome some =
-      let e = ended_so (taken op (answer_to (wanted op) found)).step outcome some in
-      let so : (taken op (Value read)).step ≡ Ended e.0 = subst (λ n. (taken op (Value n)).step ≡ Ended e.0) (sym read_is)
-      (subst (λ a. (taken op a).step ≡ Ended e.0) (load_value (wanted op) found (loads_alone op asks)) e.1) in
-      subst (HasCause site.shape words did call (wanted op) here) e.2 (by_end e.0 so)
+    moved_cause : n % 2 ≢ 1 → n ≢ free_at s.free p → Has (lock_of task s p, free_at s.free p) did.loads × (free_at s.free p % 2 ≡ 0)
+        → HasAgainCause g words did call (want.Load (lock_of task s p)) (Moved (lock_of task s p) (free_at s.free p) n)
+    moved_cause even other was = (
+      (refl, sym found),
+      record {
+        watched = inr ((s.path.segment, named, bucket_of task.hash p, of_key, refl), was.1, omega (arith, even));
+        loaded = was.0;
+        newest = sym found;
+        differ = λ same. other (sym same);
+        by_others = not_own (lock_of task s p);
+      },
+    )
+
+    busy_told : n % 2 ≡ 1 → s.path.segment < g.segments → CausedIf (want.Load (lock_of task s p)) (busy (lock_of task s p) n)
+    busy_told odd within = so (want.Load (lock_of task s p)) (again (Busy (lock_of task s p) n)) (busy_cause odd within)
+
+    moved_told : n % 2 ≢ 1 → n ≢ free_at s.free p → Has (lock_of task s p, free_at s.free p) did.loads × (free_at s.free p % 2 ≡ 0)
+        → CausedIf (want.Load (lock_of task s p)) (moved (lock_of task s p) (free_at s.free p) n)
+    moved_told even other was = so (want.Load (lock_of task s p)) (again (Moved (lock_of task s p) (free_at s.free p) n)) (moved_cause even other was)
+
+  -- ---- an answer
+  end_caused : (event : Want) (a : Option ℕ) (placed : ℕ) → CausedIf event (Ended (end_of a placed))
+  end_caused event (Some x) placed told some = so event (outcome_of (ends.Found x placed)) tt told some
+  end_caused event None placed told some = so event (outcome_of (ends.Absent placed)) tt told some
+
+  second_caused : (event : Want) (s : Seen) (placed : ℕ) → CausedIf event (relook_second s placed)
+  second_caused event s placed =
+      both_caused event s.second (Relook s placed Second) (Ended (end_of s.value placed)) (λ t. open_caused event (Relook s placed Second) tt) (λ f. end_caused event s.value placed)
+
+  first_caused : (event : Want) (s : Seen) (placed : ℕ) → CausedIf event (relook_first s placed)
+  first_caused event s placed =
+      both_caused event s.first (Relook s placed First) (relook_second s placed) (λ t. open_caused event (Relook s placed First) tt) (λ f. second_caused event s placed)
+
+  next_caused : (event : Want) (s : Seen) (placed : ℕ) (p : Place) → CausedIf event (relook_next s placed p)
+  next_caused event s placed Home = open_caused event (Relook s placed Probing) tt
+  next_caused event s placed Probing = first_caused event s placed
+  next_caused event s placed First = second_caused event s placed
+  next_caused event s placed Second = end_caused event s.value placed
+
+-- ---- in a world, for the caller with this view
+module _ (site : Site) (task : Task) (is : IsIn site task) (straight : IsStraight site) (words : Words) (views : List View) (j : ℕ) (v : View) (h : Holds site words views) (at : At views j v)
+    (did : Doings) (call : Call) (same : call ≡ Get task.key) (none : did.changed ≡ []) where
+  hash_here : task.hash ≡ key_hash task.site.geometry (key_of call)
+  hash_here = is.hash ∙ (ap (λ x. key_hash x task.key) (sym is.shape) ∙ ap (λ c. key_hash task.site.geometry (key_of c)) (sym same))
+
+  within_here : (segment : ℕ) → segment < site.shape.segments → segment < task.site.geometry.segments
+  within_here segment low = subst (λ (x : Shape). segment < x.segments) (sym is.shape) low
+
+  abbrev Decided : ReadStep → ReadStep → Type 0
+  Decided s t = CausedIf task words did call hash_here none (wanted_in task s) t
+
+  step_caused : (s : ReadStep) (n : ℕ) → n ≡ words (word_of site.shape (wanted_in task s)) → suits_in site task s v → RemembersIn task did.loads s → wanted_in task s ≢ want.Done
+      → Decided s (next_in task s n)
+  step_caused (Way w) n found suits r asks =
+      let x : Walked = walk_taken task.site task.hash w n in
+      let has : HasWalked site task.hash x = has_walked site task is straight words views j v h at w n found suits in
+      let here : n ≡ words (word_of task.site.geometry (walk_wanted task.site task.hash w)) = found ∙ ap (λ (z : Shape). words (word_of z (walk_wanted task.site task.hash w))) (sym is.shape) in
+      walked_caused task words did call hash_here none w x (λ word seen e. subst (HasWalked site task.hash) e has) (walk_caused task.site task.hash words did call hash_here w r n here)
+  step_caused (Look s p) n found suits r asks =
+      both_caused task words did call hash_here none (want.Load (lock_of task s p)) (n % 2 == 0) (looked (with_free s p n) p) (busy (lock_of task s p) n)
+      (λ t. open_caused task words did call hash_here none (want.Load (lock_of task s p)) (looked (with_free s p n) p) (looked_open (with_free s p n) p))
+      (λ f. busy_told task words did call hash_here none s p n found r.path (let other = eqb-false (n % 2) 0 f in omega (arith, other)) (within_here s.path.segment suits.0.led.within))
+  step_caused (Fill s p load) n found suits r asks =
+      let next : ReadStep = filled task.key task.hash s p (load_taken load n) in
+      open_caused task words did call hash_here none (wanted_in task (Fill s p load)) next (filled_open task.key task.hash s p (load_taken load n))
+  step_caused (Count s) n found suits r asks = open_caused task words did call hash_here none (wanted_in task (Count s)) (next_in task (Count s) n) tt
+  step_caused (Check s placed back) n found suits r asks =
+      backed_caused task words did call hash_here none s placed back (back_taken task.site task.hash s.path back n)
+      (back_caused task.site task.hash words did call hash_here s.path r.seen.path back (not_own task words did call hash_here none (back_word task.site task.hash s.path back)) n found)
+  step_caused (Relook s placed p) n found suits r asks =
+      let event : Want = want.Load (lock_of task s p) in
+      let path = r.seen.path in
+      both_caused task words did call hash_here none event (n % 2 == 1) (busy (lock_of task s p) n) (if n == free_at s.free p then relook_next s placed p else moved (lock_of task s p) (free_at s.free p) n)
+      (λ t. busy_told task words did call hash_here none s p n found path (eqb-true (n % 2) 1 t) (within_here s.path.segment suits.0.led.within))
+      (λ f. both_caused task words did call hash_here none event (n == free_at s.free p) (relook_next s placed p) (moved (lock_of task s p) (free_at s.free p) n)
+      (λ t. next_caused task words did call hash_here none event s placed p)
+      (λ g. moved_told task words did call hash_here none s p n found path (eqb-false (n % 2) 1 f) (eqb-false n (free_at s.free p) g) (r.seen.free p (record { low = few p; asked = suits.2 }))))
+  step_caused (Ended end) n found suits r asks = absurd (asks refl)
+
+caused : (site : Site) (here : Here) (call : Call) (words : Words) (views : List View) (j : ℕ) (op : ReadOp) (before v : View) → Holds site words views → At views j v
+    → Suits get_part site here call op before v → wanted op ≢ want.Done → (did : Doings) → Remembers site op did → (outcome : Outcome)
+    → outcome_in (taken op (answer_to (wanted op) (words (word_of site.shape (wanted op))))).step ≡ Some outcome → HasCause site.shape words did call (wanted op) here outcome
+caused site here call words views j op before v h at s asks did r outcome some =
+    let st = s.stands in
+    let found : ℕ = words (word_of site.shape (wanted op)) in
+    let told : outcome_in (next_in op.task op.step found) ≡ Some outcome =
+    subst (λ a. outcome_in (taken op a).step ≡ Some outcome) (load_value (wanted op) found (load_asked (wanted op) (reads_alone op) asks)) some in
+    let cause : HasCause op.task.site.geometry words did call (wanted op) op.task.site outcome =
+    step_caused site op.task st.is_in st.straight words views j v h at did call st.same r.none op.step found refl st.suits r.kept asks outcome told in
+    subst (λ shape. HasCause shape words did call (wanted op) here outcome) st.is_in.shape
+    (subst (λ z. HasCause op.task.site.geometry words did call (wanted op) z outcome) st.at cause)
 
 stays_in : (op : ReadOp) (s : ReadStep) (a : Ans) (outcome : Outcome) → outcome_in s ≡ Some outcome → outcome_in (taken (record op { step = s }) a).step ≡ Some outcome
 stays_in op (Ended end) (Value n) outcome some = some
@@ -229,10 +223,10 @@ stays_in op s a outcome some = absurd (none-some outcome some)
 pub get_ends_by_cause : EndsByCause get_part
 get_ends_by_cause = record {
   steps = λ site here call words views j op before v did h at s asks small r. record {
-    remembers = remembers_next op site (words (word_of site.shape (wanted op))) did r;
+    remembers = remembers_next op site (words (word_of site.shape (wanted op))) did asks r;
     caused = λ outcome none some. caused site here call words views j op before v h at s asks did r outcome some;
     not_own = λ word value none some has. (let none : HasLock [] word = subst (λ locks. HasLock locks word) s.stands.nothing.held has in none.1);
   };
   stays = λ op a outcome some. stays_in op op.step a outcome some;
-  decided = λ site here call op v s done closed. let ended = has_ended op op.step done in (outcome_of ended.0, ap outcome_in ended.1);
+  decided = λ site here call op v s done closed. let ended = has_ended op.task op.step done in (outcome_of ended.0, ap outcome_in ended.1);
 }

@@ -1,30 +1,171 @@
--- A get remembers what its attempt did, after each of its events.
-use Rattle.std.proofs.Common.{◌≡◌, ℕ, ◌==◌, Bool, true, false, cond, ◌≤◌, ◌%◌, ◌+◌, ◌&&◌, not, nat_le, nat_lt, replicate, List, [], ◌++◌, slice_set, refl, sym, ◌∙◌, ap, subst}
-use Rattle.std.proofs.lemmas.Bool.{eqb-true, leb-true}
+-- A get remembers what its attempt loaded, after each of its events.
+use Rattle.std.proofs.Common.{◌≡◌, ◌≢◌, ℕ, ◌+◌, ◌%◌, ◌<◌, Bool, true, false, inl, inr, List, [], ◌∷◌, ◌++◌, refl, sym, ◌∙◌, ap, subst, arith}
+use Rattle.std.specs.Prelude.{◌==◌, if◌then◌else◌}
+use Rattle.std.proofs.lemmas.Bool.{eqb-true}
 use Rattle.op_core.specs.declared.want.Want.{Want}
 use Rattle.op_core.specs.declared.want.Want.TheVariants as want
 use Rattle.op_core.specs.declared.want.Ans.{Ans}
-use Rattle.op_core.specs.declared.want.Ans.TheVariants.{Value, Won, Lost, Drawn, Passed}
+use Rattle.op_core.specs.declared.want.Ans.TheVariants.{Value}
 use Rattle.op_core.specs.Answers.{IsReading, load_of, change_of}
-use Rattle.segment_head.specs.HeadWord.{version_in, is_live}
-use Rattle.image_layout.specs.Places.{root_word}
+use Rattle.image_layout.specs.Volatile.{counter_word}
 use Rattle.world.specs.Site.{Site}
+use Rattle.world.specs.Views.{Has}
 use Rattle.world.specs.Wants.{answer_to}
+use Rattle.world.proofs.stepping.Answers.{load_asked, load_value}
 use Rattle.part.specs.Doings.{Doings, with_event_of}
-use Rattle.read_op.specs.declared.step.Path.{Path}
-use Rattle.read_op.specs.declared.step.Found.{Found}
-use Rattle.read_op.specs.declared.step.ReadEnd.TheVariants as ends
-use Rattle.read_op.specs.declared.step.Second.{Second}
-use Rattle.read_op.specs.declared.step.Second.TheVariants as again
+use Rattle.phase.specs.declared.walk.Path.{Path}
+use Rattle.phase.specs.declared.walk.Walked.{Walked}
+use Rattle.phase.specs.declared.walk.Walked.TheVariants as walked
+use Rattle.phase.specs.declared.back.Backed.{Backed}
+use Rattle.phase.specs.declared.back.Backed.TheVariants as backed
+use Rattle.phase.specs.declared.load.Loaded.{Loaded}
+use Rattle.phase.specs.declared.load.Loaded.TheVariants as loaded
+use Rattle.phase.specs.Walks.{walk_wanted, walk_taken}
+use Rattle.phase.specs.Backs.{back_word, back_taken}
+use Rattle.phase.specs.Loads.{load_taken}
+use Rattle.phase.specs.Causes.{WasFound, RemembersWalked}
+use Rattle.phase.proofs.Causing.{found_more, walk_remembers}
+use Rattle.read_op.specs.declared.place.Free.{Free}
+use Rattle.phase.specs.declared.place.Place.{Place}
+use Rattle.phase.specs.declared.place.Place.TheVariants.{Home, Probing, First, Second}
+use Rattle.read_op.specs.declared.step.Seen.{Seen}
 use Rattle.read_op.specs.declared.step.ReadStep.{ReadStep}
-use Rattle.read_op.specs.declared.step.ReadStep.TheVariants.{Power, Root, Entry, Head, Lock, Fill, Count, Check, Ended}
+use Rattle.read_op.specs.declared.step.ReadStep.TheVariants.{Way, Look, Fill, Count, Check, Relook, Ended}
+use Rattle.read_op.specs.declared.step.Task.{Task}
 use Rattle.read_op.specs.declared.op.ReadOp.{ReadOp}
-use Rattle.read_op.specs.Steps.{wanted, wanted_in, taken, next_in, moved, busy, lock_word, end_of, value_of}
-use Rattle.way.specs.Ways.{is_covering, entry_word, head_word}
-use Rattle.read_op.specs.Causes.{IsWithin, kept_in, kept}
-use Rattle.read_op.specs.GetPart.{InRange, Remembers}
-use Rattle.read_op.proofs.Loading.{step_within}
-use Rattle.read_op.proofs.Causing.{reads_alone}
+use Rattle.phase.specs.Places.{lock_word}
+use Rattle.read_op.specs.Places.{free_at, index}
+use Rattle.read_op.specs.Steps.{wanted, wanted_in, taken, next_in, walked_to, visit_first, visit_second, with_free, looked, with_value, read_home, read_probing, read_all, filled, backed_to, relook_second, relook_next, busy, moved, end_of, lock_of}
+use Rattle.read_op.specs.Fits.{is_asked, Upto, noted_by}
+use Rattle.read_op.specs.GetPart.{RemembersSeen, RemembersPlaced, RemembersIn, Remembers}
+use Rattle.read_op.proofs.Places.{near_asked, free_other, upto_more, upto_less}
+use Rattle.read_op.proofs.Asked.{reads_alone}
+
+module _ (task : Task) where
+  -- ---- with one word more
+  seen_more : (x : ℕ × ℕ) (loads : List (ℕ × ℕ)) (s : Seen) (k : ℕ) → RemembersSeen task loads s k → RemembersSeen task (x ∷ loads) s k
+  seen_more x loads s k r = record {
+    path = found_more task.site.geometry task.hash (x ∷ []) loads s.path r.path;
+    free = λ q u. let f = r.free q u in (inr f.0, f.1);
+  }
+
+  placed_more : (x : ℕ × ℕ) (loads : List (ℕ × ℕ)) (s : Seen) (placed : ℕ) → RemembersPlaced task loads s placed → RemembersPlaced task (x ∷ loads) s placed
+  placed_more x loads s placed r = record { seen = seen_more x loads s 4 r.seen; place = inr r.place }
+
+  module _ (loads : List (ℕ × ℕ)) where
+    either_in : (b : Bool) (s t : ReadStep) → (b ≡ true → RemembersIn task loads s) → (b ≡ false → RemembersIn task loads t) → RemembersIn task loads (if b then s else t)
+    either_in true s t p q = p refl
+    either_in false s t p q = q refl
+
+    -- ---- the way
+    none_before : (s : Seen) (q : Place) → Upto s 0 q → ⊥
+    none_before s q u = let low = u.low in omega (arith, low)
+
+    walked_in : (x : Walked) → RemembersWalked task.site.geometry task.hash loads x → RemembersIn task loads (walked_to x)
+    walked_in (walked.On w) r = r
+    walked_in (walked.There path) r = record { path = r; free = λ q u. absurd (none_before _ q u) }
+    walked_in walked.Off r = tt
+    walked_in (walked.Amiss word seen) r = tt
+    walked_in (walked.Stale segment version) r = tt
+
+    -- ---- what was seen, with the same way and the same free values
+    seen_same : (s s' : Seen) (k : ℕ) → s'.path ≡ s.path → s'.free ≡ s.free → ((q : Place) → index q < k → is_asked s' q ≡ is_asked s q) → RemembersSeen task loads s k → RemembersSeen task loads s' k
+    seen_same s s' k path free asks r = record {
+      path = subst (λ p. WasFound task.site.geometry task.hash loads p) (sym path) r.path;
+      free = λ q u.
+          let f = r.free q (record { low = u.low; asked = sym (asks q u.low) ∙ u.asked }) in
+          subst (λ p. Has (lock_word task.site task.hash p.segment q, free_at s'.free q) loads × (free_at s'.free q % 2 ≡ 0)) (sym path)
+          (subst (λ (z : Free). Has (lock_of task s q, free_at z q) loads × (free_at z q % 2 ≡ 0)) (sym free) f);
+    }
+
+    -- where one is not asked
+    seen_skip : (s : Seen) (p : Place) → is_asked s p ≡ false → RemembersSeen task loads s (index p) → RemembersSeen task loads s (index p + 1)
+    seen_skip s p out r = record { path = r.path; free = λ q u. r.free q (upto_less s p q out u) }
+
+    second_in : (s : Seen) → RemembersSeen task loads s 3 → RemembersIn task loads (visit_second s)
+    second_in s r = either_in s.second (Look s Second) (Count s) (λ t. r) (λ f. seen_skip s Second f r)
+
+    first_in : (s : Seen) → RemembersSeen task loads s 2 → RemembersIn task loads (visit_first s)
+    first_in s r = either_in s.first (Look s First) (visit_second s) (λ t. r) (λ f. second_in s (seen_skip s First f r))
+
+    -- ---- a bucket that was read
+    all_in : (s : Seen) (p : Place) (ws : List ℕ) → RemembersSeen task loads s (noted_by p) → RemembersIn task loads (read_all task.key task.hash s p ws)
+    all_in s Home ws r = seen_same s (read_home task.key s ws) 2 refl refl (λ q low. refl) r
+    all_in s Probing ws r =
+        let s' : Seen = read_probing task.key task.hash s ws in
+        first_in s' (seen_same s s' 2 refl refl (λ q low. near_asked s' q low ∙ sym (near_asked s q low)) r)
+    all_in s First ws r = second_in (with_value task.key s ws) (seen_same s (with_value task.key s ws) 3 refl refl (λ q low. refl) r)
+    all_in s Second ws r = seen_same s (with_value task.key s ws) 4 refl refl (λ q low. refl) r
+
+    filled_in : (s : Seen) (p : Place) (x : Loaded) → RemembersSeen task loads s (noted_by p) → RemembersIn task loads (filled task.key task.hash s p x)
+    filled_in s p (loaded.On load) r = r
+    filled_in s p (loaded.All ws) r = all_in s p ws r
+
+    -- ---- the way again, and lock words again
+    backed_in : (s : Seen) (placed : ℕ) (x : Backed) → RemembersPlaced task loads s placed → RemembersIn task loads (backed_to s placed x)
+    backed_in s placed (backed.On at) r = r
+    backed_in s placed backed.Same r = r
+    backed_in s placed (backed.Moved word before after) r = tt
+
+    relook_second_in : (s : Seen) (placed : ℕ) → RemembersPlaced task loads s placed → RemembersIn task loads (relook_second s placed)
+    relook_second_in s placed r = either_in s.second (Relook s placed Second) (Ended (end_of s.value placed)) (λ t. r) (λ f. tt)
+
+    relook_in : (s : Seen) (placed : ℕ) (p : Place) → RemembersPlaced task loads s placed → RemembersIn task loads (relook_next s placed p)
+    relook_in s placed Home r = r
+    relook_in s placed Probing r = either_in s.first (Relook s placed First) (relook_second s placed) (λ t. r) (λ f. relook_second_in s placed r)
+    relook_in s placed First r = relook_second_in s placed r
+    relook_in s placed Second r = tt
+
+    -- ---- a look at a lock word
+    module _ (s : Seen) (p : Place) (n : ℕ) (even : n % 2 ≡ 0) (r : RemembersSeen task loads s (index p)) where
+      abbrev more : List (ℕ × ℕ)
+      more = (lock_of task s p, n) ∷ loads
+
+      look_more : (s' : Seen) → s'.path ≡ s.path → ((q : Place) → index q < index p → free_at s'.free q ≡ free_at s.free q) → free_at s'.free p ≡ n → ((q : Place) → is_asked s' q ≡ is_asked s q)
+          → RemembersSeen task more s' (index p + 1)
+      look_more s' path frees here asks =
+          let locks : (q : Place) → lock_of task s' q ≡ lock_of task s q = λ q. ap (λ (z : Path). lock_word task.site task.hash z.segment q) path in
+          record {
+            path = subst (λ z. WasFound task.site.geometry task.hash more z) (sym path) (found_more task.site.geometry task.hash ((lock_of task s p, n) ∷ []) loads s.path r.path);
+            free = λ q u. elim (upto_more s p q (record { low = u.low; asked = sym (asks q) ∙ u.asked })) [
+              | inl e ↦
+                  subst (λ (z : Place). Has (lock_of task s' z, free_at s'.free z) more × (free_at s'.free z % 2 ≡ 0)) (sym e)
+                  (inl (ap (λ l. (l, free_at s'.free p)) (locks p) ∙ ap (λ x. (lock_of task s p, x)) here), ap (λ x. x % 2) here ∙ even)
+              | inr old ↦
+                  let f = r.free q old in
+                  let same = frees q old.low in (
+                    inr (subst (λ l. Has (l, free_at s'.free q) loads) (sym (locks q)) (subst (λ x. Has (lock_of task s q, x) loads) (sym same) f.0)),
+                    ap (λ x. x % 2) same ∙ f.1,
+                  )
+            ];
+          }
+
+    look_in : (s : Seen) (p : Place) (n : ℕ) → n % 2 ≡ 0 → RemembersSeen task loads s (index p) → RemembersIn task ((lock_of task s p, n) ∷ loads) (looked (with_free s p n) p)
+    look_in s Home n even r = look_more s Home n even r (with_free s Home n) refl (λ q low. free_other s Home q n low) refl (λ q. refl)
+    look_in s Probing n even r = look_more s Probing n even r (with_free s Probing n) refl (λ q low. free_other s Probing q n low) refl (λ q. refl)
+    look_in s First n even r = look_more s First n even r (with_free s First n) refl (λ q low. free_other s First q n low) refl (λ q. refl)
+    look_in s Second n even r = look_more s Second n even r (with_free s Second n) refl (λ q low. free_other s Second q n low) refl (λ q. refl)
+
+  -- ---- an event that found a value
+  remembers_in : (loads : List (ℕ × ℕ)) (s : ReadStep) (n : ℕ) → wanted_in task s ≢ want.Done → RemembersIn task loads s
+      → RemembersIn task (load_of (wanted_in task s) (Value n) ++ loads) (next_in task s n)
+  remembers_in loads (Way w) n asks r =
+      walked_in (load_of (walk_wanted task.site task.hash w) (Value n) ++ loads) (walk_taken task.site task.hash w n) (walk_remembers task.site task.hash loads w n r)
+  remembers_in loads (Look s p) n asks r =
+      either_in ((lock_of task s p, n) ∷ loads) (n % 2 == 0) (looked (with_free s p n) p) (busy (lock_of task s p) n) (λ t. look_in loads s p n (eqb-true (n % 2) 0 t) r) (λ f. tt)
+  remembers_in loads (Fill s p load) n asks r =
+      filled_in ((lock_of task s p + load.next % 32, n) ∷ loads) s p (load_taken load n) (seen_more (lock_of task s p + load.next % 32, n) loads s (noted_by p) r)
+  remembers_in loads (Count s) n asks r =
+      record { seen = seen_more (counter_word task.site.geometry, n) loads s 4 r; place = inl refl }
+  remembers_in loads (Check s placed at) n asks r =
+      let x : ℕ × ℕ = (back_word task.site task.hash s.path at, n) in
+      backed_in (x ∷ loads) s placed (back_taken task.site task.hash s.path at n) (placed_more x loads s placed r)
+  remembers_in loads (Relook s placed p) n asks r =
+      let x : ℕ × ℕ = (lock_of task s p, n) in
+      let more : List (ℕ × ℕ) = x ∷ loads in
+      either_in more (n % 2 == 1) (busy (lock_of task s p) n) (if n == free_at s.free p then relook_next s placed p else moved (lock_of task s p) (free_at s.free p) n) (λ t. tt)
+      (λ f. either_in more (n == free_at s.free p) (relook_next s placed p) (moved (lock_of task s p) (free_at s.free p) n) (λ t. relook_in more s placed p (placed_more x loads s placed r)) (λ g. tt))
+  remembers_in loads (Ended end) n asks r = absurd (asks refl)
 
 reading_changes : (w : Want) (a : Ans) → IsReading w → change_of w a ≡ []
 reading_changes (want.Load i) a r = refl
@@ -32,97 +173,10 @@ reading_changes want.Power a r = refl
 reading_changes want.Done a r = refl
 reading_changes w a r = absurd r
 
-module _ (op : ReadOp) where
-  abbrev next_by : ReadStep → Ans → ReadStep
-  next_by s (Value n) = next_in op s n
-  next_by s a = s
-
-  taken_kept : (a : Ans) → kept (taken op a) ≡ kept_in op (next_by op.step a)
-  taken_kept (Value n) = refl
-  taken_kept Won = refl
-  taken_kept (Lost n) = refl
-  taken_kept (Drawn n) = refl
-  taken_kept Passed = refl
-
-  power_within : (loads : List (ℕ × ℕ)) (b : Bool) → IsWithin (kept_in op (cond b Root (Ended ends.Off))) loads
-  power_within loads true = tt
-  power_within loads false = tt
-
-  abbrev Within : ReadStep → ℕ → List (ℕ × ℕ) → Type 0
-  Within s n loads = IsWithin (kept_in op (next_by s (answer_to (wanted_in op s) n))) (load_of (wanted_in op s) (answer_to (wanted_in op s) n) ++ loads)
-
-  again_within : (found : Found) (place : ℕ) (at : Second) (n : ℕ) (loads : List (ℕ × ℕ)) → IsWithin (kept_in op (Check found place at)) loads
-      → Within (Check found place at) n loads
-  again_within found place again.Root n loads w = step_within op loads (Check found place again.Root) n w
-  again_within found place again.Entry n loads w = step_within op loads (Check found place again.Entry) n w
-  again_within found place again.Head n loads w = step_within op loads (Check found place again.Head) n w
-  again_within found place again.Lock n loads w = step_within op loads (Check found place again.Lock) n w
-
-  next_within : (s : ReadStep) (n : ℕ) (loads : List (ℕ × ℕ)) → IsWithin (kept_in op s) loads → Within s n loads
-  next_within Power n loads w = power_within loads (n == 0)
-  next_within Root n loads w = step_within op loads Root n w
-  next_within (Entry root) n loads w = step_within op loads (Entry root) n w
-  next_within (Head root segment) n loads w = step_within op loads (Head root segment) n w
-  next_within (Lock path) n loads w = step_within op loads (Lock path) n w
-  next_within (Fill path free words next) n loads w = step_within op loads (Fill path free words next) n w
-  next_within (Count found) n loads w = step_within op loads (Count found) n w
-  next_within (Check found place at) n loads w = again_within found place at n loads w
-  next_within (Ended end) n loads w = w
-
-  -- ---- it stays in range
-  range_taken : (a : Ans) → InRange op (next_by op.step a) → InRange (taken op a) (taken op a).step
-  range_taken (Value n) r = r
-  range_taken a r = r
-
-  either_range : (b : Bool) (s u : ReadStep) → InRange op s → InRange op u → InRange op (cond b s u)
-  either_range true s u p q = p
-  either_range false s u p q = q
-
-  first_range : (n : ℕ) (b : Bool) → nat_le n op.site.geometry.depth ≡ b → InRange op (cond b (Entry n) (moved root_word n n))
-  first_range n true is = leb-true n op.site.geometry.depth is
-  first_range n false is = tt
-
-  first_free : (path : Path) (n : ℕ) (b : Bool) → (n % 2 == 0) ≡ b → path.root ≤ op.site.geometry.depth
-      → InRange op (cond b (Fill path n (replicate 32 0) 1) (busy (lock_word op.site op.hash path.segment) n))
-  first_free path n true is r = (r, eqb-true (n % 2) 0 is)
-  first_free path n false is r = tt
-
-  again_range : (found : Found) (place : ℕ) (at : Second) (n : ℕ) → InRange op (Check found place at)
-      → InRange op (next_by (Check found place at) (answer_to (wanted_in op (Check found place at)) n))
-  again_range found place again.Root n r = either_range (n == found.path.root) (Check found place again.Entry) (moved root_word found.path.root n) r tt
-  again_range found place again.Entry n r =
-      either_range (n == found.path.segment) (Check found place again.Head) (moved (entry_word op.site.geometry op.hash found.path.root) found.path.segment n) r tt
-  again_range found place again.Head n r =
-      either_range (n == found.path.head) (Check found place again.Lock) (moved (head_word op.site.geometry found.path.segment) found.path.head n) r tt
-  again_range found place again.Lock n r =
-      let lock : ℕ = lock_word op.site op.hash found.path.segment in
-      let same : ReadStep = cond (n == found.free) (Ended (end_of found place)) (moved lock found.free n) in
-      either_range (n % 2 == 1) (busy lock n) same tt (either_range (n == found.free) (Ended (end_of found place)) (moved lock found.free n) tt tt)
-
-  next_range : (s : ReadStep) (n : ℕ) → InRange op s → InRange op (next_by s (answer_to (wanted_in op s) n))
-  next_range Power n r = either_range (n == 0) Root (Ended ends.Off) tt tt
-  next_range Root n r = first_range n (nat_le n op.site.geometry.depth) refl
-  next_range (Entry root) n r =
-      either_range (nat_lt n op.site.geometry.segments) (Head root n) (moved (entry_word op.site.geometry op.hash root) n n) r tt
-  next_range (Head root segment) n r =
-      let next : ReadStep = Lock (record { root = root; segment = segment; head = n }) in
-      let ill : ReadStep = moved (head_word op.site.geometry segment) n n in
-      let fits = is_live n && is_covering n op.hash in
-      either_range (is_live n && not (version_in n == op.site.version)) (Ended (ends.Stale segment (version_in n))) (cond fits next ill) tt (either_range fits next ill r tt)
-  next_range (Lock path) n r =
-      first_free path n (n % 2 == 0) refl r
-  next_range (Fill path free words next) n r =
-      let filled = slice_set words next n in
-      either_range (nat_lt next 31) (Fill path free filled (next + 1)) (Count (record { path = path; free = free; value = value_of filled op.key })) r r
-  next_range (Count found) n r = r
-  next_range (Check found place at) n r = again_range found place at n r
-  next_range (Ended end) n r = tt
-
-  pub remembers_next : (site : Site) (n : ℕ) (did : Doings) → Remembers site op did → Remembers site (taken op (answer_to (wanted op) n)) (with_event_of (wanted op) (answer_to (wanted op) n) did)
-  remembers_next site n did r =
-      let a : Ans = answer_to (wanted op) n in
-      record {
-        within = subst (λ ks. IsWithin ks (load_of (wanted op) a ++ did.loads)) (sym (taken_kept a)) (next_within op.step n did.loads r.within);
-        in_range = range_taken a (next_range op.step n r.in_range);
-        none = ap (λ cs. cs ++ did.changed) (reading_changes (wanted op) a (reads_alone op)) ∙ r.none;
-      }
+pub remembers_next : (op : ReadOp) (site : Site) (n : ℕ) (did : Doings) → wanted op ≢ want.Done → Remembers site op did
+    → Remembers site (taken op (answer_to (wanted op) n)) (with_event_of (wanted op) (answer_to (wanted op) n) did)
+remembers_next op site n did asks r =
+    subst (λ a. Remembers site (taken op a) (with_event_of (wanted op) a did)) (sym (load_value (wanted op) n (load_asked (wanted op) (reads_alone op) asks))) (record {
+      kept = remembers_in op.task did.loads op.step n asks r.kept;
+      none = ap (λ cs. cs ++ did.changed) (reading_changes (wanted op) (Value n) (reads_alone op)) ∙ r.none;
+    })

@@ -1,3 +1,4 @@
+-- By the step.
 use Rattle.read_op.proofs.Asked.{asks_within}
 use Rattle.read_op.proofs.laws.asks_within.Goals as goal
 

@@ -1,3 +1,4 @@
+-- By the step.
 use Rattle.read_op.proofs.Falling.{falls, most, ends_in_time}
 use Rattle.read_op.proofs.laws.ends_in_time.Goals as goal
 

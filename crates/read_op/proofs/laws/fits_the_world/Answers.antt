@@ -1,5 +1,6 @@
+-- Each clause is a lemma.
 use Rattle.read_op.proofs.Fitting.{begins_suited, wants_by_kind, may_step}
-use Rattle.read_op.proofs.Stepping.{keeps_suits}
+use Rattle.read_op.proofs.Keeping.{keeps_suits}
 use Rattle.read_op.proofs.laws.fits_the_world.Goals as goal
 
 pub returns-clause-begins : goal.returns-clause-begins

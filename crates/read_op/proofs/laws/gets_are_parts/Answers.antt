@@ -1,8 +1,8 @@
 -- By the laws of a get.
 use Rattle.read_op.proofs.parts.GetIsPart.{get_is_part}
 use Rattle.read_op.proofs.parts.Deciding.{get_ends_by_cause}
-use Rattle.read_op.proofs.parts.Beginning.{begins_as_part, begins_remembering, never_finished}
-use Rattle.read_op.proofs.Ending.{has_ended}
+use Rattle.read_op.proofs.parts.Beginning.{begins_as_part, begins_undecided, begins_remembering, never_finished}
+use Rattle.read_op.proofs.Opening.{has_ended}
 use Rattle.read_op.proofs.laws.gets_are_parts.Goals as goal
 
 pub returns-clause-part : goal.returns-clause-part
@@ -16,11 +16,14 @@ returns-clause-causes c = get_ends_by_cause
 pub returns-clause-begins : goal.returns-clause-begins
 returns-clause-begins c = begins_as_part c.fits_the_world.ensures.begins
 
+pub returns-clause-undecided : goal.returns-clause-undecided
+returns-clause-undecided c = begins_undecided
+
 pub returns-clause-remembers : goal.returns-clause-remembers
 returns-clause-remembers c = begins_remembering
 
 pub returns-clause-ends : goal.returns-clause-ends
-returns-clause-ends c = λ op done. has_ended op op.step done
+returns-clause-ends c = λ op done. has_ended op.task op.step done
 
 pub returns-clause-finished : goal.returns-clause-finished
 returns-clause-finished c = never_finished
