@@ -1,7 +1,10 @@
-mod points
-pub mod Ending
-pub mod Near
-mod suiting
-mod Searching
-mod causing
-mod parts
+pub mod Over
+pub mod Falling
+pub mod finding
+pub mod keeping
+pub mod permitting
+pub mod parts
+pub mod refusing
+pub mod causing
+pub mod whole
+pub mod Ends

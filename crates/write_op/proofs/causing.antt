@@ -1,5 +1,5 @@
--- Each end of a change has its cause.
+-- What a change remembers, and by what each of its outcomes comes.
+pub mod Heads
 pub mod Recalling
-pub mod Caused
-pub mod Others
-pub mod Sound
+pub mod Deciding
+pub mod ByCause

@@ -1,8 +1,6 @@
--- A change is a part of a call, and so is one that goes on to its refusal; and each of its outcomes has its cause.
-pub mod ChangeAsks
-pub mod Planning
-pub mod ChangeIsPart
-pub mod Beginning
-pub mod Watching
-pub mod Deciding
-pub mod WholeChange
+-- A change as a part of a call.
+pub mod Fitting
+pub mod Wording
+pub mod Putting
+pub mod Parting
+pub mod Parted

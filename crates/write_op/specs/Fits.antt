@@ -1,94 +1,354 @@
--- How a change stands in the world of many callers: of which kind each of its events is, and which numbers it has.
-use Rattle.std.specs.Prelude.{◌≡◌, ℕ, ◌+◌, ◌-◌, ◌*◌, ◌%◌, ◌^◌, ◌<◌, ◌≤◌, nat_le, Option, None, Some, List, slice_index, if◌then◌else◌, ⊤}
+-- How a change fits the world: the kind of each of its events, and the view that its caller has in each step.
+use Rattle.std.specs.Prelude.{◌≡◌, ℕ, ◌+◌, ◌%◌, ◌^◌, ◌<◌, nat_le, ⊤, Bool, true, false, Option, None, Some, List, [], ◌∷◌, length, slice_index, if◌then◌else◌}
+use Rattle.bucket_meta.specs.Bucket.{overflow_count, record_slots, allocated}
+use Rattle.bucket_meta.specs.Search.{lowest_with, lowest_free}
+use Rattle.hash_word.specs.Hash.{home_of, finger_of}
+use Rattle.trace.specs.Events.{Words, with_word}
+use Rattle.image_layout.specs.Places.{Shape, root_word}
+use Rattle.sound_image.specs.Records.{key_hash, notes_of, word_in}
 use Rattle.map_model.specs.declared.call.Call.{Call}
-use Rattle.map_model.specs.declared.call.Call.TheVariants.{Get, Insert, Update, Remove}
-use Rattle.map_model.specs.declared.entry.Reply.TheVariants.{Absent, Exists, Spent}
-use Rattle.trace.specs.Events.{line_of}
-use Rattle.image_layout.specs.Places.{root_word}
-use Rattle.hash_word.specs.Hash.{finger_of}
-use Rattle.world.specs.Kinds.{Kind}
-use Rattle.world.specs.Kinds.Kind.{peeks, asks_power, finds_room, refuses, learns, meets_lock, tries, stores, publishes, flushes, fences, draws_place, unlocks}
-use Rattle.write_op.specs.declared.control.Side.TheVariants.{Home, Probing}
-use Rattle.write_op.specs.declared.control.Held.TheVariants.{OnlyHome, OnlyProbing, Both}
-use Rattle.write_op.specs.declared.control.Point.{Point}
-use Rattle.write_op.specs.declared.control.Point.TheVariants.{StoreKey, StoreValue, StoreFinger, FlushFinger, FlushRecord, FenceRecord, Publish, FlushPublished, FencePublished, DrawPlace}
-use Rattle.write_op.specs.declared.control.Step.{Step}
-use Rattle.write_op.specs.declared.control.Step.TheVariants.{AskPower, LoadRoot, LoadEntry, LoadHead, LookAt, TryLock, RootAgain, EntryAgain, HeadAgain, LoadWord, LoadCount, Make, CountSpent, CountFull, GiveBack, Ended}
-use Rattle.write_op.specs.declared.control.Kept.{Kept}
-use Rattle.write_op.specs.declared.control.Task.{Task}
-use Rattle.write_op.specs.declared.machine.WriteOp.{WriteOp}
-use Rattle.bucket_meta.specs.Marks.{finger_place, with_finger}
-use Rattle.bucket_meta.specs.Search.{lowest_with}
-use Rattle.way.specs.Ways.{entry_word, head_word}
-use Rattle.write_op.specs.Ways.{lock_word}
-use Rattle.write_op.specs.Wanted.{home_word, published_word, published_value, free_of}
-use Rattle.map_model.specs.Map.{key_of, value_of}
-use Rattle.write_op.specs.Taken.{no_room}
+use Rattle.map_model.specs.declared.change.Deed.{Deed}
+use Rattle.map_model.specs.declared.change.Change.{Change}
+use Rattle.map_model.specs.declared.change.Deed.TheVariants.{Insert, Update, Remove}
+use Rattle.map_model.specs.declared.entry.Reply.TheVariants as reply
+use Rattle.map_model.specs.Changes.{call_of}
+use Rattle.world.specs.declared.site.Site.{Site as Here}
+use Rattle.world.specs.Site.{Site, IsSite}
+use Rattle.world.specs.Views.{Owed, View, Has}
+use Rattle.world.specs.Kinds.{Kind, peeks, finds_room, refuses, learns, stores, repays, publishes, stashes, draws_place}
+use Rattle.world.specs.Attempts.{HoldsOnly}
+use Rattle.bucket_words.specs.Hits.{Hit}
+use Rattle.phase.specs.declared.place.Place.{Place}
+use Rattle.phase.specs.declared.place.Place.TheVariants.{Home, Probing, First, Second}
+use Rattle.phase.specs.declared.take.Take.{Take}
+use Rattle.phase.specs.declared.load.Load.{Load}
+use Rattle.phase.specs.declared.make.Make.{Make}
+use Rattle.phase.specs.declared.make.Make.TheVariants.{Key, Value, Fingers as FingersOf, FlushFingers, FlushRecord, FenceRecord, Publish, FlushPublished, FencePublished}
+use Rattle.phase.specs.declared.make.Made.{Made}
+use Rattle.phase.specs.declared.held.Held.{Held}
+use Rattle.phase.specs.declared.kept.Buckets.{Buckets}
+use Rattle.phase.specs.Places.{bucket_of}
+use Rattle.phase.specs.Helds.{none_held, free_of}
+use Rattle.phase.specs.Buckets.{words_in}
+use Rattle.phase.specs.Stands.{walk_kind, back_kind, IsStraight, Leads, IsWalking, IsLoading}
+use Rattle.phase.specs.Taking.{take_kind, IsTaking}
+use Rattle.phase.specs.Giving.{IsLocated, IsHeld, IsQuiet, IsOfHeld, HoldsLocks, give_kind}
+use Rattle.phase.specs.Knows.{Knows, HasNoneLoose, IsWhole}
+use Rattle.phase.specs.Making.{make_kind, with_record, with_mark, IsNew, IsMaking}
+use Rattle.phase.specs.Finding.{words_of}
+use Rattle.write_op.specs.declared.search.NoteWords.{NoteWords}
+use Rattle.write_op.specs.declared.step.Task.{Task}
+use Rattle.write_op.specs.declared.step.Spot.{Spot}
+use Rattle.write_op.specs.declared.step.Seen.{Seen}
+use Rattle.write_op.specs.declared.step.NoteWord.{NoteWord}
+use Rattle.write_op.specs.declared.step.NoteWord.TheVariants.{Mark, Fingers}
+use Rattle.write_op.specs.declared.step.WriteEnd.{WriteEnd}
+use Rattle.write_op.specs.declared.step.WriteEnd.TheVariants as ends
+use Rattle.write_op.specs.declared.step.WriteStep.{WriteStep}
+use Rattle.write_op.specs.declared.step.WriteStep.TheVariants.{Way, Lock, Check, Fill, Count, Draw, Unnote, CountSpent, Give, Ended}
+use Rattle.write_op.specs.declared.step.WriteStep.TheVariants as step
+use Rattle.write_op.specs.declared.step.Stage.{Stage}
+use Rattle.write_op.specs.declared.op.WriteOp.{WriteOp}
+use Rattle.part.specs.Outcomes.{Outcome, replied, again, stale, off}
+use Rattle.write_op.specs.Search.{found, room_in, visits, record_at, brought, stash_index, leaves_note, unnoted, has_finger}
+use Rattle.write_op.specs.Steps.{lock_of, end_of, kept_in, begun}
+use Rattle.write_op.specs.Keeps.{KeepsAll}
 
--- the load of the commit counter under both locks, by where the key stands: it answers a refusal, or finds room
-abbrev pub count_inserting : Call → Option ℕ → Kind
-count_inserting call (Some found) = refuses call Exists
-count_inserting call None = finds_room call
+-- ---- the words of the buckets that are locked
+module _ (task : Task) (seen : Seen) where
+  -- as they were loaded, among any others
+  abbrev pub loaded : Words
+  loaded = words_of task.site task.hash seen.path.segment seen.buckets
 
-abbrev pub count_changing : Call → Option ℕ → Kind
-count_changing call (Some found) = finds_room call
-count_changing call None = refuses call Absent
+  -- with the record that an insert prepares: just before the one store that makes the change
+  abbrev pub prepared_by : Deed → Words
+  prepared_by (Insert value) = with_record (lock_of task seen seen.place) seen.written loaded
+  prepared_by (Update value) = loaded
+  prepared_by Remove = loaded
 
-abbrev pub count_kind : Call → List ℕ → Kind
-count_kind (Get key) words = finds_room (Get key)
-count_kind (Insert key value) words = count_inserting (Insert key value) (lowest_with words key)
-count_kind (Update key value) words = count_changing (Update key value) (lowest_with words key)
-count_kind (Remove key) words = count_changing (Remove key) (lowest_with words key)
+  abbrev pub prepared : Words
+  prepared = prepared_by task.change.deed
 
-abbrev pub made_kind : Task → Kept → Point → Kind
-made_kind t k StoreKey = stores (home_word t k (4 + 2 * k.slot)) (key_of t.call)
-made_kind t k StoreValue = stores (home_word t k (5 + 2 * k.slot)) (value_of t.call)
-made_kind t k StoreFinger =
-    stores (home_word t k (finger_place k.slot)) (with_finger (slice_index k.words (finger_place k.slot)) k.slot (finger_of t.hash))
-made_kind t k FlushFinger = flushes (line_of (home_word t k (finger_place k.slot)))
-made_kind t k FlushRecord = flushes (line_of (home_word t k (4 + 2 * k.slot)))
-made_kind t k FenceRecord = fences
-made_kind t k Publish = publishes (home_word t k (published_word t.call k.slot)) (published_value t.call k) t.call
-made_kind t k FlushPublished = flushes (line_of (home_word t k (published_word t.call k.slot)))
-made_kind t k FencePublished = fences
-made_kind t k DrawPlace = draws_place t.call
+  -- and with that store
+  abbrev pub changed : Words
+  changed = with_mark (lock_of task seen seen.place) seen.written prepared
 
--- the kind of the event that is wanted, by the value that it will find: a commit counter of 2^63 or more is answered as
--- spent, whatever the key has
-abbrev pub kind_at : Task → Kept → Step → ℕ → Kind
-kind_at t k AskPower n = asks_power
-kind_at t k LoadRoot n = peeks root_word
-kind_at t k LoadEntry n = peeks (entry_word t.site.geometry t.hash k.root)
-kind_at t k LoadHead n = peeks (head_word t.site.geometry k.segment)
-kind_at t k (LookAt side) n = meets_lock (lock_word t k side)
-kind_at t k (TryLock side) n = tries (lock_word t k side) (free_of k side)
-kind_at t k RootAgain n = peeks root_word
-kind_at t k EntryAgain n = peeks (entry_word t.site.geometry t.hash k.root)
-kind_at t k HeadAgain n = peeks (head_word t.site.geometry k.segment)
-kind_at t k (LoadWord at) n = learns (home_word t k at)
-kind_at t k LoadCount n = if nat_le (2 ^ 63) n then finds_room t.call else count_kind t.call k.words
-kind_at t k (Make point) n = made_kind t k point
-kind_at t k (CountSpent side) n = refuses t.call Spent
-kind_at t k CountFull n = refuses t.call (no_room t.site)
-kind_at t k (GiveBack OnlyHome end) n = unlocks (lock_word t k Home) ((free_of k Home + 2) % 2 ^ 64)
-kind_at t k (GiveBack OnlyProbing end) n = unlocks (lock_word t k Probing) ((free_of k Probing + 2) % 2 ^ 64)
-kind_at t k (GiveBack Both end) n = unlocks (lock_word t k Home) ((free_of k Home + 2) % 2 ^ 64)
-kind_at t k (Ended end) n = peeks root_word
+  -- the note that is owed since the record left the stash
+  abbrev pub owed : Owed
+  owed = record {
+    segment = seen.path.segment;
+    home = home_of task.hash;
+    added = false;
+    note = (finger_of task.hash, stash_index seen.place);
+    notes = notes_of task.site.geometry loaded seen.path.segment (home_of task.hash);
+    count = overflow_count (word_in task.site.geometry loaded seen.path.segment (home_of task.hash) 1);
+  }
+
+  -- ---- THE KIND of each event
+  abbrev pub publish_by : Bool → ℕ → ℕ → Kind
+  publish_by true i x = stashes i x (call_of task.change) owed
+  publish_by false i x = publishes i x (call_of task.change)
+
+  -- a remove of a record in the stash owes its note
+  abbrev pub publish_kind : ℕ → ℕ → Kind
+  publish_kind = publish_by (leaves_note task.change.deed seen.place)
+
+  -- the load of the commit counter under all locks, by where the key stands: it answers a refusal, or finds room
+  abbrev pub inserting_kind : Option Spot → Kind
+  inserting_kind (Some there) = refuses (call_of task.change) reply.Exists
+  inserting_kind None = finds_room (call_of task.change)
+
+  abbrev pub changing_kind : Option Spot → Kind
+  changing_kind (Some there) = finds_room (call_of task.change)
+  changing_kind None = refuses (call_of task.change) reply.Absent
+
+  abbrev pub deciding_kind : Deed → Kind
+  deciding_kind (Insert value) = inserting_kind (found seen task.change.key)
+  deciding_kind (Update value) = changing_kind (found seen task.change.key)
+  deciding_kind Remove = changing_kind (found seen task.change.key)
+
+  -- a counter of 2^63 or more is answered as spent, whatever the key has
+  abbrev pub count_kind : ℕ → Kind
+  count_kind n = if nat_le (2 ^ 63) n then finds_room (call_of task.change) else deciding_kind task.change.deed
+
+  -- the last store of a note repays what is owed
+  abbrev pub mark_kind : Bool → ℕ → ℕ → Kind
+  mark_kind true i x = stores i x
+  mark_kind false i x = repays i x owed
+
+  abbrev pub note_kind : NoteWord → NoteWords → Kind
+  note_kind Mark note = mark_kind (has_finger seen note) (lock_of task seen note.place + 1) note.mark
+  note_kind Fingers note = repays (lock_of task seen note.place + 3) note.fingers owed
+
+  abbrev pub kind_at : WriteStep → ℕ → Kind
+  kind_at (Way walk) n = walk_kind task.site task.hash walk
+  kind_at (Lock place take) n = take_kind (lock_of task seen place) take
+  kind_at (Check back) n = back_kind task.site task.hash seen.path back
+  kind_at (Fill place load) n = learns (lock_of task seen place + load.next % 32)
+  kind_at Count n = count_kind n
+  kind_at (step.Make make) n = make_kind publish_kind (lock_of task seen seen.place) seen.written make
+  kind_at Draw n = draws_place (call_of task.change)
+  kind_at (Unnote part place) n = note_kind part (unnoted task.hash seen)
+  kind_at CountSpent n = refuses (call_of task.change) reply.Spent
+  kind_at (Give held end) n = give_kind task.site task.hash seen.path.segment held
+  kind_at (Ended end) n = peeks root_word
 
 abbrev pub kind_of : WriteOp → ℕ → Kind
-kind_of op n = kind_at op.task op.kept op.step n
+kind_of op n = kind_at op.task op.stage.seen op.stage.step n
 
--- a free lock word that may be exchanged: its version is not the last
-abbrev pub IsFree : ℕ → Type 0
-IsFree free = (free % 2 ≡ 0) × (free + 2 < 2 ^ 64)
+-- ---- sets of buckets
+-- the order in which they are locked and loaded
+abbrev pub index : Place → ℕ
+index Home = 0
+index Probing = 1
+index First = 2
+index Second = 3
 
-abbrev pub StepFits : Kept → Step → Type 0
-StepFits k (TryLock side) = IsFree (free_of k side)
-StepFits k (LoadWord at) = (1 ≤ at) × (at ≤ 31)
-StepFits k (CountSpent side) = free_of k side ≡ 2 ^ 64 - 2
-StepFits k s = ⊤
+-- those that are locked in all
+abbrev pub asked_by : Bool → Bool → Place → Bool
+asked_by first second Home = true
+asked_by first second Probing = true
+asked_by first second First = first
+asked_by first second Second = second
 
--- what an exchange expects is a free value with a next version, a word that is loaded is one of the bucket behind its lock, and
--- a lock that is taken for spent is free with its last version
-abbrev pub Fits : WriteOp → Type 0
-Fits op = StepFits op.kept op.step
+abbrev pub is_asked : Seen → Place → Bool
+is_asked seen place = asked_by seen.first seen.second place
+
+-- those of them before the n-th
+pub record Upto (seen : Seen) (n : ℕ) (place : Place) : Type 0 where
+  pub low : index place < n
+  pub asked : is_asked seen place ≡ true
+
+-- how many are locked before the lock of a bucket, and before its words
+abbrev pub locked_by : Place → ℕ
+locked_by Home = 2
+locked_by Probing = 2
+locked_by First = 3
+locked_by Second = 4
+
+abbrev pub loaded_by : Place → ℕ
+loaded_by Home = 0
+loaded_by Probing = 0
+loaded_by First = 2
+loaded_by Second = 3
+
+-- the locks that are held are those before the n-th, and no others
+pub record HoldsUpto (seen : Seen) (n : ℕ) : Type 0 where
+  pub these : (place : Place) → Upto seen n place → IsHeld seen.held place
+  pub others : (place : Place) → (Upto seen n place → ⊥) → free_of seen.held place ≡ None
+
+-- the stash buckets are visited that the words of home and probing bucket name
+pub record IsVisiting (task : Task) (seen : Seen) : Type 0 where
+  pub first : seen.first ≡ visits task.hash seen.buckets 0
+  pub second : seen.second ≡ visits task.hash seen.buckets 1
+
+abbrev pub IsInserting : Deed → Type 0
+IsInserting (Insert value) = ⊤
+IsInserting (Update value) = ⊥
+IsInserting Remove = ⊥
+
+-- ---- what is held, known and owed
+module _ (site : Site) (task : Task) (seen : Seen) where
+  -- THE LOCKS before the n-th are held in the segment that owns the key, and the words of the buckets before the m-th are known
+  pub record HasLoaded (n m : ℕ) (v : View) : Type 0 where
+    pub leads : Leads site task.hash seen.path.segment
+    pub locks : HoldsLocks task.site task.hash seen.path.segment seen.held v
+    pub upto : HoldsUpto seen n
+    pub whole : (place : Place) → Upto seen m place → IsWhole (lock_of task seen place) (words_in seen.buckets place) v
+
+  -- what holds beside, of each bucket
+  abbrev pub VisitsAt : Place → Type 0
+  VisitsAt Home = ⊤
+  VisitsAt Probing = ⊤
+  VisitsAt First = IsVisiting task seen × (seen.first ≡ true)
+  VisitsAt Second = IsVisiting task seen × (seen.second ≡ true)
+
+  -- all locks are held, and all words of their buckets are known or are to be as they were stored
+  pub record HasAll (v : View) : Type 0 where
+    pub leads : Leads site task.hash seen.path.segment
+    pub locks : HoldsLocks task.site task.hash seen.path.segment seen.held v
+    pub upto : HoldsUpto seen 4
+    pub visits : IsVisiting task seen
+    pub still : v.moving ≡ []
+
+  -- THE SPOT IS RIGHT: an insert whose key stands nowhere takes a free slot of the bucket, and the others change the slot with the key
+  abbrev pub IsSpot : Deed → Option Spot → Type 0
+  IsSpot (Insert value) there = (there ≡ None) × (room_in seen.buckets ≡ Some (record { place = seen.place; slot = seen.written.slot }))
+  IsSpot (Update value) there = there ≡ Some (record { place = seen.place; slot = seen.written.slot })
+  IsSpot Remove there = there ≡ Some (record { place = seen.place; slot = seen.written.slot })
+
+  pub record IsChosen : Type 0 where
+    pub spot : IsSpot task.change.deed (found seen task.change.key)
+    pub written : seen.written ≡ record_at task seen.buckets (record { place = seen.place; slot = seen.written.slot })
+
+  -- ---- what is planned and owed
+  -- the change is planned from the one store that makes it to its draw
+  abbrev pub planned_at : Make → List Call
+  planned_at FlushPublished = call_of task.change ∷ []
+  planned_at FencePublished = call_of task.change ∷ []
+  planned_at make = []
+
+  -- and a note that is owed is so until it is taken away
+  abbrev pub owed_by : Bool → List Owed
+  owed_by true = owed task seen ∷ []
+  owed_by false = []
+
+  abbrev pub owed_then : List Owed
+  owed_then = owed_by (leaves_note task.change.deed seen.place)
+
+  abbrev pub owed_at : Make → List Owed
+  owed_at FlushPublished = owed_then
+  owed_at FencePublished = owed_then
+  owed_at make = []
+
+  pub record IsChanging (make : Make) (v : View) : Type 0 where
+    pub all : HasAll v
+    pub chosen : IsChosen
+    -- an insert alone prepares a record
+    pub inserts : IsNew make → IsInserting task.change.deed
+    pub making : IsMaking (lock_of task seen seen.place) seen.written (IsOfHeld task.site task.hash seen.path.segment seen.held) (loaded task seen) (prepared task seen) make v
+    pub room : 0 < v.room
+    pub planned : v.planned ≡ planned_at make
+    pub owes : v.owed ≡ owed_at make
+
+  pub record IsDrawing (v : View) : Type 0 where
+    pub all : HasAll v
+    pub chosen : IsChosen
+    pub knows : Knows (IsOfHeld task.site task.hash seen.path.segment seen.held) (changed task seen) v
+    pub settled : HasNoneLoose v
+    pub room : 0 < v.room
+    pub planned : v.planned ≡ call_of task.change ∷ []
+    pub owes : v.owed ≡ owed_then
+
+  -- the words at each store of a note
+  abbrev pub words_of_note : NoteWord → Words
+  words_of_note Mark = changed task seen
+  words_of_note Fingers = with_word (changed task seen) (lock_of task seen (unnoted task.hash seen).place + 1) (unnoted task.hash seen).mark
+
+  pub record IsUnnoting (part : NoteWord) (v : View) : Type 0 where
+    pub all : HasAll v
+    pub chosen : IsChosen
+    pub leaves : leaves_note task.change.deed seen.place ≡ true
+    pub knows : Knows (IsOfHeld task.site task.hash seen.path.segment seen.held) (words_of_note part) v
+    pub settled : HasNoneLoose v
+    pub planned : v.planned ≡ []
+    pub owes : v.owed ≡ owed task seen ∷ []
+
+  -- ---- while locks are given back
+  pub record IsGiving (held : Held) (v : View) : Type 0 where
+    pub located : IsLocated site task.site seen.path.segment
+    pub locks : HoldsLocks task.site task.hash seen.path.segment held v
+    pub quiet : IsQuiet v
+
+  -- a lock word was found free with the last version
+  abbrev pub FoundSpent : View → Type 0
+  FoundSpent v = (lock : ℕ) × Has lock v.spent_locks
+
+  -- at the ends: all locks are kept where no slot is free, and else all is as at the beginning
+  abbrev pub SuitsEnd : WriteEnd → View → Type 0
+  SuitsEnd ends.NoSlot v = KeepsAll site (kept_in task seen) v
+  SuitsEnd end v = HoldsOnly [] v
+
+  -- THE VIEW in each step
+  abbrev pub SuitsStep : WriteStep → View → Type 0
+  SuitsStep (Way walk) v = HoldsOnly [] v × IsWalking site task.hash walk × (seen.held ≡ none_held)
+  SuitsStep (Lock place take) v = HasLoaded (index place) (loaded_by place) v × IsQuiet v × VisitsAt place × IsTaking take
+  SuitsStep (Check back) v = HasLoaded 2 0 v × IsQuiet v
+  SuitsStep (Fill place load) v = HasLoaded (locked_by place) (index place) v × IsQuiet v × VisitsAt place × IsLoading (lock_of task seen place) v.known load
+  SuitsStep Count v = HasLoaded 4 4 v × IsQuiet v × IsVisiting task seen
+  SuitsStep (step.Make make) v = IsChanging make v
+  SuitsStep Draw v = IsDrawing v
+  SuitsStep (Unnote part place) v = IsUnnoting part v
+  SuitsStep CountSpent v = IsGiving seen.held v × FoundSpent v
+  SuitsStep (Give held end) v = IsGiving held v
+  SuitsStep (Ended end) v = SuitsEnd end v
+
+-- THE VIEW of a stage
+abbrev pub SuitsStage : Site → Task → Stage → View → Type 0
+SuitsStage site task stage v = SuitsStep site task stage.seen stage.step v
+
+-- the change runs in this image, in which no split is under way, and its hash is its key's
+pub record IsIn (site : Site) (task : Task) : Type 0 where
+  pub shape : task.site.geometry ≡ site.shape
+  pub straight : IsStraight site
+  pub hash : task.hash ≡ key_hash site.shape task.change.key
+  pub fits : task.hash < 2 ^ 64
+
+-- what it keeps are words, and a bucket has 32 of them
+pub record AreWords (words : List ℕ) : Type 0 where
+  pub small : (i : ℕ) → slice_index words i < 2 ^ 64
+  pub whole : length words ≡ 32
+
+abbrev pub HasWordsAt : WriteStep → Type 0
+HasWordsAt (Fill place load) = AreWords load.words
+HasWordsAt more = ⊤
+
+pub record HasWords (task : Task) (seen : Seen) (at : WriteStep) : Type 0 where
+  pub key : task.change.key < 2 ^ 64
+  pub value : brought task.change.deed < 2 ^ 64
+  pub buckets : (place : Place) → AreWords (words_in seen.buckets place)
+  pub load : HasWordsAt at
+
+-- it makes the call's change
+pub record ChangeStands (site : Site) (here : Here) (call : Call) (op : WriteOp) (v : View) : Type 0 where
+  pub same : call_of op.task.change ≡ call
+  pub at : op.task.site ≡ here
+  pub is_in : IsIn site op.task
+  pub has : HasWords op.task op.stage.seen op.stage.step
+  pub view : SuitsStep site op.task op.stage.seen op.stage.step v
+
+-- ---- as a part of a call
+-- where no slot was found nothing is decided
+abbrev pub outcome_of : WriteEnd → Option Outcome
+outcome_of (ends.Replied answer place) = Some (replied answer place)
+outcome_of ends.NoSlot = None
+outcome_of (ends.Again why) = Some (again why)
+outcome_of (ends.Stale segment version) = Some (stale segment version)
+outcome_of ends.Off = Some off
+
+-- the locks may still be given back, and a note be taken away
+abbrev pub outcome_at : WriteStep → Option Outcome
+outcome_at (Unnote part place) = Some (replied reply.Done place)
+outcome_at (Give held end) = outcome_of (end_of end)
+outcome_at (Ended end) = outcome_of end
+outcome_at more = None

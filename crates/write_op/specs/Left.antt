@@ -1,65 +1,89 @@
--- How many events a change still makes at most.
-use Rattle.std.specs.Prelude.{◌≡◌, ℕ, ◌+◌, ◌-◌}
-use Rattle.op_core.specs.declared.want.Want.TheVariants as want
-use Rattle.write_op.specs.declared.control.Side.TheVariants.{Home, Probing}
-use Rattle.write_op.specs.declared.control.Held.TheVariants.{OnlyHome, OnlyProbing, Both}
-use Rattle.write_op.specs.declared.control.WriteEnd.{WriteEnd}
-use Rattle.write_op.specs.declared.control.WriteEnd.TheVariants.{NoSlot}
-use Rattle.write_op.specs.declared.control.Point.{Point}
-use Rattle.write_op.specs.declared.control.Point.TheVariants.{StoreKey, StoreValue, StoreFinger, FlushFinger, FlushRecord, FenceRecord, Publish, FlushPublished, FencePublished, DrawPlace}
-use Rattle.write_op.specs.declared.control.Step.{Step}
-use Rattle.write_op.specs.declared.control.Step.TheVariants.{AskPower, LoadRoot, LoadEntry, LoadHead, LookAt, TryLock, RootAgain, EntryAgain, HeadAgain, LoadWord, LoadCount, Make, CountSpent, CountFull, GiveBack, Ended}
-use Rattle.write_op.specs.declared.machine.WriteOp.{WriteOp}
-use Rattle.write_op.specs.Taken.{wanted, end_of}
+-- How many events a change still makes at most, how many lines wait for its fence, and from when on its change is made.
+use Rattle.std.specs.Prelude.{ℕ, ◌+◌, ⊤}
+use Rattle.map_model.specs.declared.entry.Reply.{Reply}
+use Rattle.map_model.specs.declared.entry.Reply.TheVariants.{Done}
+use Rattle.phase.specs.declared.place.Place.{Place}
+use Rattle.phase.specs.declared.place.Place.TheVariants.{Home, Probing, First, Second}
+use Rattle.phase.specs.declared.make.Make.{Make}
+use Rattle.phase.specs.declared.make.Make.TheVariants.{FlushRecord, FenceRecord, FlushPublished, FencePublished}
+use Rattle.phase.specs.Stands.{walk_left, back_left, load_left}
+use Rattle.phase.specs.Taking.{take_left}
+use Rattle.phase.specs.Making.{make_left}
+use Rattle.phase.specs.Giving.{give_left}
+use Rattle.write_op.specs.declared.step.WriteEnd.{WriteEnd}
+use Rattle.write_op.specs.declared.step.WriteEnd.TheVariants as ends
+use Rattle.write_op.specs.declared.step.Ending.{Ending}
+use Rattle.write_op.specs.declared.step.Ending.TheVariants as ending
+use Rattle.write_op.specs.declared.step.NoteWord.{NoteWord}
+use Rattle.write_op.specs.declared.step.NoteWord.TheVariants.{Mark, Fingers}
+use Rattle.write_op.specs.declared.step.WriteStep.{WriteStep}
+use Rattle.write_op.specs.declared.step.WriteStep.TheVariants.{Way, Lock, Check, Fill, Count, Draw, Unnote, CountSpent, Give, Ended}
+use Rattle.write_op.specs.declared.step.WriteStep.TheVariants as step
 
--- an attempt makes at most so many events, with those of the refusal to which an insert may go on that found no slot
+-- ---- events
+-- an attempt makes at most so many: 4 on the way, 2 for each of four locks, 3 on the way again, 31 for each of four buckets, the
+-- counter, 9 stores, flushes and fences, the draw, 2 stores of a note, and four locks back
 abbrev pub most_events : ℕ
-most_events = 55
+most_events = 156
 
--- a refusal, of three events, may follow where no slot was found
-abbrev pub left_after : WriteEnd → ℕ
-left_after NoSlot = 3
-left_after end = 0
+-- behind the lock of a bucket, and behind its words
+abbrev pub left_behind_lock : Place → ℕ
+left_behind_lock Home = 150
+left_behind_lock Probing = 148
+left_behind_lock First = 81
+left_behind_lock Second = 48
 
-abbrev pub left_at : Point → ℕ
-left_at StoreKey = 12
-left_at StoreValue = 11
-left_at StoreFinger = 10
-left_at FlushFinger = 9
-left_at FlushRecord = 8
-left_at FenceRecord = 7
-left_at Publish = 6
-left_at FlushPublished = 5
-left_at FencePublished = 4
-left_at DrawPlace = 3
+abbrev pub left_behind : Place → ℕ
+left_behind Home = 114
+left_behind Probing = 83
+left_behind First = 50
+left_behind Second = 17
 
-abbrev pub left_in : Step → ℕ
-left_in AskPower = most_events
-left_in LoadRoot = 54
-left_in LoadEntry = 53
-left_in LoadHead = 52
-left_in (LookAt Home) = 51
-left_in (TryLock Home) = 50
-left_in (LookAt Probing) = 49
-left_in (TryLock Probing) = 48
-left_in RootAgain = 47
-left_in EntryAgain = 46
-left_in HeadAgain = 45
-left_in (LoadWord at) = 14 + (31 - at)
-left_in LoadCount = 13
-left_in (Make point) = left_at point
-left_in (CountSpent Home) = 1
-left_in (CountSpent Probing) = 2
-left_in CountFull = 3
-left_in (GiveBack OnlyHome end) = 1 + left_after end
-left_in (GiveBack OnlyProbing end) = 1 + left_after end
-left_in (GiveBack Both end) = 2 + left_after end
-left_in (Ended end) = left_after end
+abbrev pub left_of_note : NoteWord → ℕ
+left_of_note Mark = 6
+left_of_note Fingers = 5
 
--- at most so many events are left
-abbrev pub left : WriteOp → ℕ
-left op = left_in op.step
+abbrev pub left_at : WriteStep → ℕ
+left_at (Way walk) = 152 + walk_left walk
+left_at (Lock place take) = left_behind_lock place + take_left take
+left_at (Check back) = 145 + back_left back
+left_at (Fill place load) = left_behind place + load_left load
+left_at Count = 17
+left_at (step.Make make) = 7 + make_left make
+left_at Draw = 7
+left_at (Unnote part place) = left_of_note part
+left_at CountSpent = 5
+left_at (Give held end) = give_left held
+left_at (Ended end) = 0
 
--- a change that wants nothing more has ended as it says
-abbrev pub EndsAsSaid : Type 0
-EndsAsSaid = (op : WriteOp) → wanted op ≡ want.Done → op.step ≡ Ended (end_of op)
+-- ---- lines that are flushed and not fenced
+abbrev pub most_waiting : ℕ
+most_waiting = 2
+
+abbrev pub waiting_of : Make → ℕ
+waiting_of FlushRecord = 1
+waiting_of FenceRecord = 2
+waiting_of FencePublished = 1
+waiting_of make = 0
+
+abbrev pub waiting_at : WriteStep → ℕ
+waiting_at (step.Make make) = waiting_of make
+waiting_at more = 0
+
+-- ---- the one store that makes the change was done
+abbrev pub IsPublished : Make → Type 0
+IsPublished FlushPublished = ⊤
+IsPublished FencePublished = ⊤
+IsPublished make = ⊥
+
+abbrev pub IsDone : Reply → Type 0
+IsDone Done = ⊤
+IsDone other = ⊥
+
+abbrev pub HasMadeAt : WriteStep → Type 0
+HasMadeAt (step.Make make) = IsPublished make
+HasMadeAt Draw = ⊤
+HasMadeAt (Unnote part place) = ⊤
+HasMadeAt (Give held (ending.Replied answer place)) = IsDone answer
+HasMadeAt (Ended (ends.Replied answer place)) = IsDone answer
+HasMadeAt more = ⊥

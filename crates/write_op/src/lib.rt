@@ -1,27 +1,23 @@
-//! A change of one key, as a machine: an insert, an update or a remove in the key's home bucket, which holds the locks of
-//! the home and the probing bucket while it changes them.
+//! A change over home, probing and stash buckets, as a machine made of phases: an insert, an update or a remove.
 //!
-//! [`WriteOp`] asks for one event at a time. `control` has its control points; `path` says which words it looks at, and
-//! `bucket_meta::words` what is stored of a slot; `asking` is what it wants at each point, and `taking` what an answer makes of it.
-//! `specs/` says the same by cases.
+//! [`WriteOp`] asks for one event at a time: the way to the segment, the locks of home and probing bucket, the way again, their
+//! words, each stash bucket that has to be visited, the commit counter; then the stores, the draw, and the locks back. `step` has
+//! its steps; `asking` is what it wants in each, and `taking` what an answer makes of it; `search` is what the loaded words say.
+//! [`RefuseOp`] goes on with an insert that found no slot. `specs/` says the same by cases.
 #![tactic(auto)]
 
 mod asking;
-mod causes;
-pub mod control;
 mod laws;
-pub mod machine;
-mod path;
+pub mod op;
+pub mod refuse;
+mod search;
+pub mod step;
 mod taking;
 
-pub use causes::ends_have_causes;
-pub use control::WriteEnd;
-pub use laws::{
-    attempt_ends, changes_are_parts, events_have_kinds, fits_the_world, flushes_are_few,
-    numbers_stay_in_range, refusals_leave_pairs, spent_locks_stay, stores_are_words,
-    stores_keep_notes, whole_changes_are_parts, words_are_inside,
-};
-pub use machine::WriteOp;
+pub use laws::{changes_are_parts, ends_tell, refusals_are_parts, whole_changes_are_parts};
+pub use op::WriteOp;
+pub use refuse::{RefuseOp, RefuseStep};
+pub use step::{Ending, NoteWord, Seen, Spot, Stage, Task, WriteEnd, WriteStep};
 
 #[cfg(test)]
 mod tests;

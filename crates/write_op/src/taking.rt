@@ -1,256 +1,350 @@
 //! What an answer makes of a change.
 
-ghost use Rattle.std.specs.Prelude.{◌≡◌, slice_set};
-ghost use Rattle.write_op.specs.Taken.{moved, seen_at, give_up, after_head, after_look, after_loss, again, chosen, decided, after_count, no_room, made, gave_back, kept_after, step_after};
+ghost use Rattle.std.specs.Prelude.{◌≡◌, ◌<◌, IfSome};
+ghost use Rattle.bucket_meta.specs.Bucket.{record_slots};
+ghost use Rattle.write_op.specs.Steps.{end_of, giving, give, answered, amiss, arrived, walked_to, locked, locked_to, backed_to, visit_first, visit_second, filled, filled_with, making, inserting, changing, decided, counted, made_to, drawn_to, unnoted_to, next_in, IsElsewhere};
 
-use crate::asking::free_of;
-use crate::control::{Held, Kept, Point, Side, Step, Task, WriteEnd};
-use crate::path::{Sight, lock_word, look_at_head};
-use bucket_meta::words::{lowest_free, lowest_with};
-use image_layout::ROOT_WORD;
-use map_model::{Call, Reply};
+use crate::asking::lock_of;
+use crate::search::{found, has_finger, leaves_note, record_at, room_in, unnoted, visits};
+use crate::step::{Ending, NoteWord, Seen, Spot, Stage, Task, WriteEnd, WriteStep};
+use map_model::{Deed, Reply};
 use op_core::{Ans, Why};
-use way::{entry_word, head_word};
-use world::Site;
+use phase::{
+    Back, Backed, Held, Load, Made, Make, Path, Place, Take, Taken, Walked, back_next, give_next,
+    given, load_put, make_next, take_next, walk_next,
+};
+use segment_head::word::{NORMAL, state_of};
+use way::head_word;
 
 /// From this many changes on, the commit counter gives no place.
 const SPENT_COUNT: u64 = 1 << 63;
-/// The free lock word of the last version.
-const SPENT_LOCK: u64 = u64::MAX - 1;
-/// The last word of a bucket.
-const LAST_WORD: u8 = 31;
 
-/// The end of an attempt that found another value at its second look at a word.
-fn moved(word: u64, before: u64, after: u64) -> WriteEnd
-    ensures { result ≡ moved word before after }
+// ---- ends
+
+/// The end that comes once all locks are given back.
+pub fn end_of(ending: Ending) -> WriteEnd
+    ensures { result ≡ end_of ending }
 {
-    WriteEnd::Again(Why::Moved {
+    match ending {
+        Ending::Replied(reply, place) => WriteEnd::Replied(reply, place),
+        Ending::Again(why) => WriteEnd::Again(why),
+    }
+}
+
+/// The step in which these locks are given back, one after another; where there is none, the end.
+fn giving(held: Held, ending: Ending) -> WriteStep
+    ensures { result ≡ giving held ending }
+{
+    match give_next(&held) {
+        Some(_) => WriteStep::Give(held, ending),
+        None => WriteStep::Ended(end_of(ending)),
+    }
+}
+
+/// The locks that are held are to be given back, and then the change ends so.
+fn give(stage: &mut Stage, ending: Ending)
+    ensures { stage.new ≡ give stage.old.seen ending }
+{
+    stage.step = giving(stage.seen.held, ending);
+}
+
+/// The change is answered, with this place.
+fn answered(stage: &mut Stage, place: u64, reply: Reply)
+    ensures { stage.new ≡ answered stage.old.seen place reply }
+{
+    give(stage, Ending::Replied(reply, place));
+}
+
+/// The end of an attempt that can do nothing with the value of a word.
+fn amiss(word: u64, seen: u64) -> WriteStep
+    ensures { result ≡ amiss word seen }
+{
+    WriteStep::Ended(WriteEnd::Again(Why::Moved {
         word,
-        before,
-        after,
-    })
+        before: seen,
+        after: seen,
+    }))
 }
 
-/// The end of an attempt that can do nothing with the value of a word. No answer of a sound table comes here.
-fn seen_at(word: u64, seen: u64) -> Step
-    ensures { result ≡ seen_at word seen }
-{
-    Step::Ended(moved(word, seen, seen))
-}
+// ---- the way
 
-/// The end at a bucket that is not locked: the lock that was taken before goes back first.
-fn give_up(side: Side, end: WriteEnd) -> Step
-    ensures { result ≡ give_up side end }
+/// The segment is found: a change can use it if its header is a normal one.
+fn arrived(task: &Task, stage: &mut Stage, path: Path)
+    ensures { stage.new ≡ arrived task.now stage.old.seen path }
 {
-    match side {
-        Side::Home => Step::Ended(end),
-        Side::Probing => Step::GiveBack(Held::OnlyHome, end),
-    }
-}
-
-/// After the first look at a header.
-fn after_head(sight: Sight, segment: u64, word: u64, head: u64) -> Step
-    ensures { result ≡ after_head sight segment word head }
-{
-    match sight {
-        Sight::Good => Step::LookAt(Side::Home),
-        Sight::Late(byte) => Step::Ended(WriteEnd::Stale(segment, byte)),
-        Sight::Other => seen_at(word, head),
-    }
-}
-
-/// After the first look at a lock word.
-fn after_look(side: Side, word: u64, seen: u64) -> Step
-    ensures { result ≡ after_look side word seen }
-{
-    if seen % 2 == 1 {
-        give_up(side, WriteEnd::Again(Why::Busy { word, seen }))
-    } else if seen == SPENT_LOCK {
-        Step::CountSpent(side)
+    if state_of(path.head) == NORMAL {
+        stage.seen.path = path;
+        stage.step = WriteStep::Lock(Place::Home, Take::Look);
     } else {
-        Step::TryLock(side)
+        stage.step = amiss(head_word(&task.site.geometry, path.segment), path.head);
     }
 }
 
-/// After an exchange that found another value.
-fn after_loss(side: Side, word: u64, free: u64, seen: u64) -> Step
-    ensures { result ≡ after_loss side word free seen }
+/// After a word on the way.
+fn walked_to(task: &Task, stage: &mut Stage, walked: Walked)
+    ensures { stage.new ≡ walked_to task.now stage.old.seen walked }
 {
-    if seen % 2 == 1 {
-        give_up(side, WriteEnd::Again(Why::Busy { word, seen }))
+    match walked {
+        Walked::On(walk) => stage.step = WriteStep::Way(walk),
+        Walked::There(path) => arrived(task, stage, path),
+        Walked::Off => stage.step = WriteStep::Ended(WriteEnd::Off),
+        Walked::Amiss { word, seen } => stage.step = amiss(word, seen),
+        Walked::Stale { segment, version } => {
+            stage.step = WriteStep::Ended(WriteEnd::Stale(segment, version));
+        }
+    }
+}
+
+// ---- locks
+
+/// The step after the lock of a bucket is taken.
+fn locked(place: Place) -> WriteStep
+    ensures { result ≡ locked place }
+{
+    match place {
+        Place::Home => WriteStep::Lock(Place::Probing, Take::Look),
+        Place::Probing => WriteStep::Check(Back::Root),
+        Place::First | Place::Second => WriteStep::Fill(place, Load::begin()),
+    }
+}
+
+/// After a look at a lock word, or an exchange of it.
+fn locked_to(stage: &mut Stage, place: Place, lock: u64, taken: Taken)
+    ensures { stage.new ≡ locked_to stage.old.seen place lock taken }
+{
+    match taken {
+        Taken::On(take) => stage.step = WriteStep::Lock(place, take),
+        Taken::Held { free } => {
+            stage.seen.held = stage.seen.held.with(place, free);
+            stage.step = locked(place);
+        }
+        Taken::Busy { seen } => give(stage, Ending::Again(Why::Busy { word: lock, seen })),
+        Taken::Moved { before, after } => give(
+            stage,
+            Ending::Again(Why::Moved {
+                word: lock,
+                before,
+                after,
+            }),
+        ),
+        Taken::Spent => stage.step = WriteStep::CountSpent,
+    }
+}
+
+// ---- the way again
+
+/// After a word on the way that was looked at again.
+fn backed_to(stage: &mut Stage, backed: Backed)
+    ensures { stage.new ≡ backed_to stage.old.seen backed }
+{
+    match backed {
+        Backed::On(back) => stage.step = WriteStep::Check(back),
+        Backed::Same => stage.step = WriteStep::Fill(Place::Home, Load::begin()),
+        Backed::Moved {
+            word,
+            before,
+            after,
+        } => give(
+            stage,
+            Ending::Again(Why::Moved {
+                word,
+                before,
+                after,
+            }),
+        ),
+    }
+}
+
+// ---- buckets
+
+/// The step where the second stash bucket is next, if it is to be visited.
+fn visit_second(seen: &Seen) -> WriteStep
+    ensures { result ≡ visit_second seen.now }
+{
+    if seen.second {
+        WriteStep::Lock(Place::Second, Take::Look)
     } else {
-        give_up(side, moved(word, free, seen))
+        WriteStep::Count
     }
 }
 
-/// After the second look at a word.
-fn again(same: Step, word: u64, before: u64, after: u64) -> Step
-    ensures { result ≡ again same word before after }
+/// The step where the first one is next.
+fn visit_first(seen: &Seen) -> WriteStep
+    ensures { result ≡ visit_first seen.now }
 {
-    if before == after {
-        same
+    if seen.first {
+        WriteStep::Lock(Place::First, Take::Look)
     } else {
-        Step::GiveBack(Held::Both, moved(word, before, after))
+        visit_second(seen)
     }
 }
 
-/// The slot that a call changes among the words of its home bucket.
-fn chosen(call: Call, words: &[u64; 32]) -> Option<u8>
-    ensures { result ≡ chosen call words.now }
+/// After the last word of a bucket, whose words were put in.
+fn filled(hash: u64, stage: &mut Stage, place: Place)
+    ensures { stage.new ≡ filled hash stage.old.seen place }
 {
-    match call {
-        Call::Insert(..) => lowest_free(words[1]),
-        Call::Get(key) | Call::Update(key, _) | Call::Remove(key) => lowest_with(words, key),
+    match place {
+        Place::Home => stage.step = WriteStep::Fill(Place::Probing, Load::begin()),
+        Place::Probing => {
+            let first = visits(hash, &stage.seen.buckets, 0);
+            let second = visits(hash, &stage.seen.buckets, 1);
+            stage.seen.first = first;
+            stage.seen.second = second;
+            stage.step = visit_first(&stage.seen);
+        }
+        Place::First => stage.step = visit_second(&stage.seen),
+        Place::Second => stage.step = WriteStep::Count,
     }
 }
 
-/// What a change does with the words of its home bucket, after this many changes.
-fn decided(call: Call, words: &[u64; 32], count: u64) -> Step
-    ensures { result ≡ decided call words.now count }
+/// After the last word of a bucket.
+fn filled_with(hash: u64, stage: &mut Stage, place: Place, words: [u64; 32])
+    ensures { stage.new ≡ filled_with hash stage.old.seen place words }
 {
-    let reply = match (call, lowest_with(words, call.key()), chosen(call, words)) {
-        (Call::Get(_), _, _) => return Step::GiveBack(Held::Both, WriteEnd::Off),
-        (Call::Insert(..), Some(_), _) => Reply::Exists,
-        (Call::Insert(..), None, Some(_)) => return Step::Make(Point::StoreKey),
-        (Call::Insert(..), None, None) => return Step::Ended(WriteEnd::NoSlot),
-        (_, Some(_), _) => return Step::Make(Point::Publish),
-        (_, None, _) => Reply::Absent,
-    };
-    Step::GiveBack(Held::Both, WriteEnd::Replied(reply, count))
+    stage.seen.buckets.put(place, words);
+    filled(hash, stage, place);
 }
 
-/// After the load of the commit counter under both locks.
-fn after_count(call: Call, words: &[u64; 32], count: u64) -> Step
-    ensures { result ≡ after_count call words.now count }
+// ---- what is done, by where the key stands and where a slot is free, after so many changes
+
+/// The record in this spot is stored, from this point on.
+fn making(task: &Task, stage: &mut Stage, spot: Spot, make: Make)
+    requires { spot.slot < record_slots }
+    ensures { stage.new ≡ making task.now stage.old.seen spot make }
+{
+    stage.seen.written = record_at(task, &stage.seen.buckets, spot);
+    stage.seen.place = spot.place;
+    stage.step = WriteStep::Make(make);
+}
+
+/// An insert is made where its key stands nowhere and a slot is free.
+fn inserting(task: &Task, stage: &mut Stage, count: u64, there: Option<Spot>, room: Option<Spot>)
+    requires { IfSome room (λ spot. spot.slot < record_slots) }
+    ensures { stage.new ≡ inserting task.now stage.old.seen count there room }
+{
+    match (there, room) {
+        (Some(_), _) => answered(stage, count, Reply::Exists),
+        (None, Some(spot)) => making(task, stage, spot, Make::Key),
+        (None, None) => stage.step = WriteStep::Ended(WriteEnd::NoSlot),
+    }
+}
+
+/// An update or a remove is made where its key stands.
+fn changing(task: &Task, stage: &mut Stage, count: u64, there: Option<Spot>)
+    requires { IfSome there (λ spot. spot.slot < record_slots) }
+    ensures { stage.new ≡ changing task.now stage.old.seen count there }
+{
+    match there {
+        Some(spot) => making(task, stage, spot, Make::Publish),
+        None => answered(stage, count, Reply::Absent),
+    }
+}
+
+/// What is done under all locks.
+fn decided(task: &Task, stage: &mut Stage, count: u64)
+    ensures { stage.new ≡ decided task.now stage.old.seen count task.now.change.deed }
+{
+    let there = found(&stage.seen, task.change.key);
+    match task.change.deed {
+        Deed::Insert(_) => {
+            let room = room_in(&stage.seen.buckets);
+            inserting(task, stage, count, there, room);
+        }
+        Deed::Update(_) | Deed::Remove => changing(task, stage, count, there),
+    }
+}
+
+/// After the load of the commit counter under all locks.
+fn counted(task: &Task, stage: &mut Stage, count: u64)
+    ensures { stage.new ≡ counted task.now stage.old.seen count }
 {
     if count >= SPENT_COUNT {
-        Step::GiveBack(Held::Both, WriteEnd::Replied(Reply::Spent, count))
+        answered(stage, count, Reply::Spent);
     } else {
-        decided(call, words, count)
+        decided(task, stage, count);
     }
 }
 
-/// The reply to an insert that found no room: the table does not grow, and one of depth 0 may not.
-fn no_room(site: &Site) -> Reply
-    ensures { result ≡ no_room site.now }
-{
-    if site.geometry.depth() == 0 {
-        Reply::Deep
-    } else {
-        Reply::Full
-    }
-}
+// ---- stores, the draw, and the note
 
-/// After a point of the stores. The record's line is that of the fingerprints for slots 0 and 1.
-fn made(slot: u8, point: Point, ans: Ans) -> Step
-    ensures { result ≡ made slot point ans }
+/// After a store, a flush or a fence.
+fn made_to(stage: &mut Stage, made: Made)
+    ensures { stage.new ≡ made_to stage.old.seen made }
 {
-    let next = match (point, ans) {
-        (Point::StoreKey, Ans::Passed) => Point::StoreValue,
-        (Point::StoreValue, Ans::Passed) => Point::StoreFinger,
-        (Point::StoreFinger, Ans::Passed) => Point::FlushFinger,
-        (Point::FlushFinger, Ans::Passed) if slot < 2 => Point::FenceRecord,
-        (Point::FlushFinger, Ans::Passed) => Point::FlushRecord,
-        (Point::FlushRecord, Ans::Passed) => Point::FenceRecord,
-        (Point::FenceRecord, Ans::Passed) => Point::Publish,
-        (Point::Publish, Ans::Passed) => Point::FlushPublished,
-        (Point::FlushPublished, Ans::Passed) => Point::FencePublished,
-        (Point::FencePublished, Ans::Passed) => Point::DrawPlace,
-        (Point::DrawPlace, Ans::Drawn(place)) => {
-            return Step::GiveBack(Held::Both, WriteEnd::Replied(Reply::Done, place));
-        }
-        (point, _) => point,
+    stage.step = match made {
+        Made::On(make) => WriteStep::Make(make),
+        Made::Settled => WriteStep::Draw,
     };
-    Step::Make(next)
 }
 
-/// After a lock was given back.
-fn gave_back(held: Held, end: WriteEnd) -> Step
-    ensures { result ≡ gave_back held end }
+/// After the draw.
+fn drawn_to(task: &Task, stage: &mut Stage, place: u64)
+    ensures { stage.new ≡ drawn_to task.now stage.old.seen place }
 {
-    match held {
-        Held::OnlyHome | Held::OnlyProbing => Step::Ended(end),
-        Held::Both => Step::GiveBack(Held::OnlyProbing, end),
+    if leaves_note(task.change.deed, stage.seen.place) {
+        stage.step = WriteStep::Unnote(NoteWord::Mark, place);
+    } else {
+        answered(stage, place, Reply::Done);
     }
 }
 
-/// A word of a bucket is put among its words, where they stand; a number past them changes none.
-fn set_word(words: &mut [u64; 32], at: u8, value: u64)
-    ensures { words.new ≡ slice_set words.old at value }
+/// After a store that took a note away.
+fn unnoted_to(task: &Task, stage: &mut Stage, part: NoteWord, place: u64)
+    ensures { stage.new ≡ unnoted_to task.now stage.old.seen part place }
 {
-    if at < 32 {
-        words[usize::from(at)] = value;
+    match part {
+        NoteWord::Mark if has_finger(&stage.seen, &unnoted(task.hash, &stage.seen)) => {
+            stage.step = WriteStep::Unnote(NoteWord::Fingers, place);
+        }
+        NoteWord::Mark | NoteWord::Fingers => answered(stage, place, Reply::Done),
     }
 }
 
-/// What is kept after an answer, where it stands.
-pub fn keep(task: &Task, kept: &mut Kept, step: Step, ans: Ans)
-    ensures { kept.new ≡ kept_after task.now kept.old step ans }
+/// After an answer to any step but the load of a bucket's words.
+fn take_at(task: &Task, stage: &mut Stage, ans: Ans)
+    requires { IsElsewhere stage.old.step }
+    ensures { stage.new ≡ next_in task.now stage.old.seen stage.old.step ans }
 {
-    match (step, ans) {
-        (Step::LoadRoot, Ans::Value(root)) => kept.root = root,
-        (Step::LoadEntry, Ans::Value(segment)) => kept.segment = segment,
-        (Step::LoadHead, Ans::Value(head)) => kept.head = head,
-        (Step::LookAt(Side::Home), Ans::Value(free)) => kept.home_free = free,
-        (Step::LookAt(Side::Probing), Ans::Value(free)) => kept.probing_free = free,
-        (Step::LoadWord(at), Ans::Value(value)) => set_word(&mut kept.words, at, value),
-        (Step::LoadCount, Ans::Value(_)) => {
-            if let Some(slot) = chosen(task.call, &kept.words) {
-                kept.slot = slot;
-            }
+    match (stage.step, ans) {
+        (WriteStep::Way(walk), Ans::Value(value)) => {
+            let walked = walk_next(&task.site, task.hash, &walk, value);
+            walked_to(task, stage, walked);
+        }
+        (WriteStep::Lock(place, take), ans) => {
+            let lock = lock_of(task, &stage.seen, place);
+            locked_to(stage, place, lock, take_next(&take, ans));
+        }
+        (WriteStep::Check(back), Ans::Value(value)) => {
+            let backed = back_next(&task.site, task.hash, &stage.seen.path, &back, value);
+            backed_to(stage, backed);
+        }
+        (WriteStep::Count, Ans::Value(count)) => counted(task, stage, count),
+        (WriteStep::Make(make), Ans::Passed) => {
+            let made = make_next(stage.seen.written.slot, make);
+            made_to(stage, made);
+        }
+        (WriteStep::Draw, Ans::Drawn(place)) => drawn_to(task, stage, place),
+        (WriteStep::Unnote(part, place), Ans::Passed) => unnoted_to(task, stage, part, place),
+        (WriteStep::CountSpent, Ans::Value(count)) => answered(stage, count, Reply::Spent),
+        (WriteStep::Give(held, ending), Ans::Passed) => {
+            stage.step = giving(given(&held), ending);
         }
         _ => {}
     }
 }
 
-/// Where a change is after an answer. An answer of another kind than was asked for leaves it where it is.
-pub fn step_after(task: &Task, kept: &Kept, step: Step, ans: Ans) -> Step
-    ensures { result ≡ step_after task.now kept.now step ans }
+/// After an answer. One of another kind than was asked for leaves the change where it is.
+pub fn take_in(task: &Task, stage: &mut Stage, ans: Ans)
+    ensures { stage.new ≡ next_in task.now stage.old.seen stage.old.step ans }
 {
-    let geometry = &task.site.geometry;
-    match (step, ans) {
-        (Step::AskPower, Ans::Value(0)) => Step::LoadRoot,
-        (Step::AskPower, Ans::Value(_)) => Step::Ended(WriteEnd::Off),
-        (Step::LoadRoot, Ans::Value(root)) if root <= geometry.depth() => Step::LoadEntry,
-        (Step::LoadRoot, Ans::Value(root)) => seen_at(ROOT_WORD, root),
-        (Step::LoadEntry, Ans::Value(segment)) if segment < geometry.segments() => Step::LoadHead,
-        (Step::LoadEntry, Ans::Value(segment)) => {
-            seen_at(entry_word(geometry, task.hash, kept.root), segment)
+    if let WriteStep::Fill(place, load) = &mut stage.step {
+        if let Ans::Value(value) = ans {
+            if !load_put(load, value) {
+                let (place, words) = (*place, load.words);
+                filled_with(task.hash, stage, place, words);
+            }
         }
-        (Step::LoadHead, Ans::Value(head)) => {
-            let sight = look_at_head(task.site.version, task.hash, head);
-            after_head(sight, kept.segment, head_word(geometry, kept.segment), head)
-        }
-        (Step::LookAt(side), Ans::Value(seen)) => after_look(
-            side,
-            lock_word(task, kept, side),
-            seen,
-        ),
-        (Step::TryLock(Side::Home), Ans::Won) => Step::LookAt(Side::Probing),
-        (Step::TryLock(Side::Probing), Ans::Won) => Step::RootAgain,
-        (Step::TryLock(side), Ans::Lost(seen)) => {
-            after_loss(side, lock_word(task, kept, side), free_of(kept, side), seen)
-        }
-        (Step::RootAgain, Ans::Value(root)) => again(Step::EntryAgain, ROOT_WORD, kept.root, root),
-        (Step::EntryAgain, Ans::Value(segment)) => {
-            let word = entry_word(geometry, task.hash, kept.root);
-            again(Step::HeadAgain, word, kept.segment, segment)
-        }
-        (Step::HeadAgain, Ans::Value(head)) => {
-            let word = head_word(geometry, kept.segment);
-            again(Step::LoadWord(1), word, kept.head, head)
-        }
-        (Step::LoadWord(at), Ans::Value(_)) if at < LAST_WORD => Step::LoadWord(at + 1),
-        (Step::LoadWord(_), Ans::Value(_)) => Step::LoadCount,
-        (Step::LoadCount, Ans::Value(count)) => after_count(task.call, &kept.words, count),
-        (Step::CountSpent(side), Ans::Value(count)) => {
-            give_up(side, WriteEnd::Replied(Reply::Spent, count))
-        }
-        (Step::CountFull, Ans::Value(count)) => {
-            Step::GiveBack(Held::Both, WriteEnd::Replied(no_room(&task.site), count))
-        }
-        (Step::Make(point), ans) => made(kept.slot, point, ans),
-        (Step::GiveBack(held, end), Ans::Passed) => gave_back(held, end),
-        (step, _) => step,
+    } else {
+        take_at(task, stage, ans);
     }
 }

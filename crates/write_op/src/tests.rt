@@ -1,25 +1,46 @@
-// Calls on the words of a fresh image with one segment, and on such words that another caller holds.
+// Changes on the words of a new image with one segment, and on such words that another caller changes.
 use super::*;
 use image_layout::Geometry;
-use map_model::{Call, Reply};
+use map_model::{Change, Deed, Reply};
 use op_core::{Ans, Machine, Want, Why};
+use phase::{Held, Kept};
 use std::test::Fail;
 use world::Site;
 
-/// A small memory: the words of an image, and those behind it.
+/// The commit counter's word.
+const COUNTER: usize = 2208;
+/// The lock words of the home bucket of key 5, of its probing bucket, and of both stash buckets.
+const LOCKS: [u64; 4] = [96, 128, 2144, 2176];
+/// The metadata word of a home bucket of which one record stands in the stash without a note.
+const COUNTED: u64 = 1 << 40;
+
+/// A small memory: the words of an image and those behind it, and a word that another caller stores before an event.
 #[derive(Drop)]
 struct Memory {
     words: [u64; 2213],
     power: u64,
+    events: u64,
+    other: (u64, u64, u64),
 }
-
-/// The commit counter's word.
-const COUNTER: usize = 2208;
 
 fn fresh() -> Memory {
     let mut words = [0; 2213];
     words[65] = 257;
-    Memory { words, power: 0 }
+    Memory {
+        words,
+        power: 0,
+        events: 0,
+        other: (u64::MAX, 0, 0),
+    }
+}
+
+/// A memory with these words in it.
+fn with(pairs: &[(u64, u64)]) -> Memory {
+    let mut memory = fresh();
+    for (at, value) in pairs {
+        memory.set(*at, *value);
+    }
+    memory
 }
 
 impl Memory {
@@ -38,6 +59,11 @@ impl Memory {
     }
 
     fn answer(&mut self, want: Want) -> Ans {
+        let (before, at, value) = self.other;
+        if self.events == before {
+            self.set(at, value);
+        }
+        self.events = self.events.wrapping_add(1);
         match want {
             Want::Load(at) => Ans::Value(self.word(at)),
             Want::Store(at, value) => {
@@ -63,25 +89,18 @@ impl Memory {
         }
     }
 
-    /// Runs a change to its end, which comes within 55 events.
-    fn run(&mut self, call: Call) -> Result<WriteEnd, Fail> {
-        let mut op = match call {
-            Call::Get(_) => return Ok(WriteEnd::Off),
-            Call::Insert(..) | Call::Update(..) | Call::Remove(_) => WriteOp::new(call, site()?),
-        };
-        for _ in 0..55u8 {
+    /// Runs a change of key 5 to its end: how it ended, and after how many events.
+    fn run(&mut self, deed: Deed) -> Result<(WriteEnd, u64), Fail> {
+        let mut op = WriteOp::new(Change { key: 5, deed }, site()?);
+        self.events = 0;
+        for _ in 0..200u8 {
             let want = op.want();
+            if want == Want::Done {
+                return Ok((op.end(), self.events));
+            }
             op.take(self.answer(want));
         }
-        Ok(end_of(op))
-    }
-}
-
-fn end_of(op: WriteOp) -> WriteEnd {
-    if op.want() == Want::Done {
-        op.end()
-    } else {
-        WriteEnd::Off
+        Ok((WriteEnd::Off, 200))
     }
 }
 
@@ -93,111 +112,20 @@ fn site() -> Result<Site, Fail> {
     })
 }
 
-#[test]
-fn calls_one_after_another(rt: HostRuntime) -> Result<(), Fail> {
-    let mut memory = fresh();
-    let first = memory.run(Call::Insert(5, 7))?;
-    assert_eq!(rt; first, WriteEnd::Replied(Reply::Done, 0));
-    for (at, value) in [
-        (96u64, 2),
-        (97, 1),
-        (98, 5),
-        (99, 0),
-        (100, 5),
-        (101, 7),
-        (128, 2),
-        (2208, 1),
-    ] {
-        assert_eq!(rt; memory.word(at), value, "at {at}");
-    }
-    let table = [
-        (Call::Insert(5, 8), Reply::Exists, 1),
-        (Call::Update(5, 9), Reply::Done, 1),
-        (Call::Remove(5), Reply::Done, 2),
-        (Call::Remove(5), Reply::Absent, 3),
-        (Call::Update(5, 9), Reply::Absent, 3),
-    ];
-    for (call, reply, place) in table {
-        let end = memory.run(call)?;
-        assert_eq!(rt; end, WriteEnd::Replied(reply, place));
-    }
-    for (at, value) in [(96u64, 12), (97, 0), (98, 5), (100, 5), (101, 9), (128, 12)] {
-        assert_eq!(rt; memory.word(at), value, "at {at}");
-    }
-    Ok(())
-}
-
-#[test]
-fn calls_that_are_not_made(rt: HostRuntime) -> Result<(), Fail> {
-    let table = [
-        (
-            96u64,
-            3,
-            WriteEnd::Again(Why::Busy { word: 96, seen: 3 }),
-            3,
-            0,
-        ),
-        (
-            128,
-            3,
-            WriteEnd::Again(Why::Busy { word: 128, seen: 3 }),
-            2,
-            3,
-        ),
-        (
-            96,
-            u64::MAX - 1,
-            WriteEnd::Replied(Reply::Spent, 0),
-            u64::MAX - 1,
-            0,
-        ),
-        (
-            128,
-            u64::MAX - 1,
-            WriteEnd::Replied(Reply::Spent, 0),
-            2,
-            u64::MAX - 1,
-        ),
-        (
-            2208,
-            1 << 63,
-            WriteEnd::Replied(Reply::Spent, 1 << 63),
-            2,
-            2,
-        ),
-        (97, 0x3FFF, WriteEnd::NoSlot, 1, 1),
-        (65, 258, WriteEnd::Stale(0, 2), 0, 0),
-        (
-            8,
-            1,
-            WriteEnd::Again(Why::Moved {
-                word: 8,
-                before: 1,
-                after: 1,
-            }),
-            0,
-            0,
-        ),
-    ];
-    for (at, value, end, home, probing) in table {
-        let mut memory = fresh();
-        memory.set(at, value);
-        let found = memory.run(Call::Insert(5, 7))?;
-        assert_eq!(rt; found, end, "at {at}");
-        assert_eq!(rt; memory.word(96), home, "home at {at}");
-        assert_eq!(rt; memory.word(128), probing, "probing at {at}");
-    }
-    let mut memory = fresh();
-    memory.power = 1;
-    let found = memory.run(Call::Insert(5, 7))?;
-    assert_eq!(rt; found, WriteEnd::Off);
-    Ok(())
+fn replied(reply: Reply, place: u64) -> WriteEnd {
+    WriteEnd::Replied(reply, place)
 }
 
 #[test]
 fn events_of_an_insert(rt: HostRuntime) -> Result<(), Fail> {
     let mut memory = fresh();
-    let mut op = WriteOp::new(Call::Insert(5, 7), site()?);
+    let mut op = WriteOp::new(
+        Change {
+            key: 5,
+            deed: Deed::Insert(7),
+        },
+        site()?,
+    );
     let before = [
         Want::Power,
         Want::Load(8),
@@ -215,9 +143,11 @@ fn events_of_an_insert(rt: HostRuntime) -> Result<(), Fail> {
         assert_eq!(rt; op.want(), want);
         op.take(memory.answer(want));
     }
-    for at in 97..128u64 {
-        assert_eq!(rt; op.want(), Want::Load(at));
-        op.take(memory.answer(Want::Load(at)));
+    for at in 97..160u64 {
+        if at != 128 {
+            assert_eq!(rt; op.want(), Want::Load(at));
+            op.take(memory.answer(Want::Load(at)));
+        }
     }
     let after = [
         Want::Load(2208),
@@ -238,54 +168,293 @@ fn events_of_an_insert(rt: HostRuntime) -> Result<(), Fail> {
         assert_eq!(rt; op.want(), want);
         op.take(memory.answer(want));
     }
+    let end = fresh().run(Deed::Insert(7))?;
+    assert_eq!(rt; end, (replied(Reply::Done, 0), 85));
     Ok(())
 }
 
-/// The answer to an event, the first 0, by a memory whose home bucket has 14 records and not the key.
-fn full_answer(event: u8) -> Ans {
-    match event {
-        3 | 10 => Ans::Value(257),
-        4 => Ans::Value(4),
-        5 | 7 => Ans::Won,
-        6 => Ans::Value(6),
-        11 => Ans::Value(0x3FFF),
-        42 => Ans::Value(9),
-        _ => Ans::Value(0),
+#[test]
+fn changes_one_after_another(rt: HostRuntime) -> Result<(), Fail> {
+    let mut memory = fresh();
+    let table = [
+        (Deed::Update(9), Reply::Absent, 0, 76),
+        (Deed::Insert(7), Reply::Done, 0, 85),
+        (Deed::Insert(8), Reply::Exists, 1, 76),
+        (Deed::Update(9), Reply::Done, 1, 80),
+        (Deed::Remove, Reply::Done, 2, 80),
+        (Deed::Remove, Reply::Absent, 3, 76),
+    ];
+    for (deed, reply, place, events) in table {
+        let end = memory.run(deed)?;
+        assert_eq!(rt; end, (replied(reply, place), events));
     }
-}
-
-/// The refusal of an insert that found no slot; any other state stays.
-fn refused(op: WriteOp) -> WriteOp {
-    if op.want() == Want::Done && op.end() == WriteEnd::NoSlot {
-        op.refuse()
-    } else {
-        op
+    for (at, value) in [
+        (96u64, 12),
+        (97, 0),
+        (98, 5),
+        (99, 0),
+        (100, 5),
+        (101, 9),
+        (128, 12),
+        (2208, 3),
+    ] {
+        assert_eq!(rt; memory.word(at), value, "at {at}");
     }
+    Ok(())
 }
 
 #[test]
-fn full_bucket_is_refused(rt: HostRuntime) -> Result<(), Fail> {
-    for (segments, depth, reply) in [(1u64, 0u64, Reply::Deep), (2, 1, Reply::Full)] {
-        let here = Site {
-            geometry: Geometry::new(segments, depth, 0)?,
-            ..site()?
-        };
-        let counter = here.geometry.words();
-        let mut op = WriteOp::new(Call::Insert(5, 7), here);
-        for event in 0..43u8 {
-            op.take(full_answer(event));
-        }
-        assert_eq!(rt; end_of(op), WriteEnd::NoSlot);
-        op = refused(op);
-        assert_eq!(rt; op.want(), Want::Load(counter));
-        op.take(Ans::Value(10));
-        let first = op.want();
-        op.take(Ans::Passed);
-        let second = op.want();
-        op.take(Ans::Passed);
-        assert!(rt; matches!(first, Want::Store(_, 6)));
-        assert!(rt; matches!(second, Want::Store(_, 8)));
-        assert_eq!(rt; end_of(op), WriteEnd::Replied(reply, 10));
+fn record_of_a_second_line(rt: HostRuntime) -> Result<(), Fail> {
+    let mut memory = with(&[(97, 3)]);
+    let end = memory.run(Deed::Insert(7))?;
+    assert_eq!(rt; end, (replied(Reply::Done, 0), 86));
+    assert_eq!(rt; memory.word(97), 7);
+    assert_eq!(rt; memory.word(104), 5);
+    assert_eq!(rt; memory.word(105), 7);
+    assert_eq!(rt; memory.word(98), 5 << 16);
+    Ok(())
+}
+
+/// What a record of key 5 leaves: its words, where it stands, those of its notes, and what of these is left by its removal.
+#[derive(Clone, Copy)]
+struct Standing {
+    /// The lock word of the bucket, its metadata word, and the events up to the load of the counter.
+    lock: u64,
+    mark: u64,
+    events: u64,
+    /// Two more words of home and probing bucket.
+    notes: [(u64, u64); 2],
+    /// How many stores take the note away.
+    stores: u64,
+    /// How many locks are given back.
+    locks: u64,
+}
+
+/// In the home bucket, the probing bucket, and in the stash: by a note of the home bucket, one of the probing bucket, one that
+/// has its fingerprint in the metadata word, and by the count.
+fn standings() -> [Standing; 6] {
+    let plain = [(97, 0), (99, 0)];
+    let of_home = [(97, 1 << 28), (99, 5 << 48)];
+    let of_probing = [(129, (1 << 28) + (1 << 32) + (1 << 36)), (131, 5 << 48)];
+    let of_third = [(97, (1 << 30) + (1 << 38) + (5 << 45)), (99, 0)];
+    let counted = [(97, COUNTED), (99, 0)];
+    [
+        stands_in(96, 1, 74, plain, 0, 2),
+        stands_in(128, 1 + (1 << 14), 74, plain, 0, 2),
+        stands_in(2144, 1, 107, of_home, 2, 3),
+        stands_in(2176, 1, 107, of_probing, 2, 3),
+        stands_in(2176, 1, 107, of_third, 1, 3),
+        stands_in(2176, 1, 140, counted, 1, 4),
+    ]
+}
+
+fn stands_in(
+    lock: u64,
+    mark: u64,
+    events: u64,
+    notes: [(u64, u64); 2],
+    stores: u64,
+    locks: u64,
+) -> Standing {
+    Standing {
+        lock,
+        mark,
+        events,
+        notes,
+        stores,
+        locks,
     }
+}
+
+/// A memory with this record of key 5, of value 7.
+fn holding(there: &Standing) -> Memory {
+    let mut memory = with(&there.notes);
+    for (at, value) in [(1, there.mark), (2, 5), (4, 5), (5, 7)] {
+        memory.set(there.lock.wrapping_add(at), value);
+    }
+    memory
+}
+
+#[test]
+fn record_is_found_everywhere(rt: HostRuntime) -> Result<(), Fail> {
+    for there in &standings() {
+        let mut memory = holding(there);
+        let end = memory.run(Deed::Insert(8))?;
+        let back = there.events.wrapping_add(there.locks);
+        assert_eq!(rt; end, (replied(Reply::Exists, 0), back));
+        assert_eq!(rt; memory.word(there.lock), 2);
+        let end = memory.run(Deed::Update(9))?;
+        assert_eq!(rt; end, (replied(Reply::Done, 0), back.wrapping_add(4)));
+        assert_eq!(rt; memory.word(there.lock.wrapping_add(5)), 9);
+        let end = memory.run(Deed::Remove)?;
+        let events = back.wrapping_add(4).wrapping_add(there.stores);
+        assert_eq!(rt; end, (replied(Reply::Done, 1), events));
+        assert_eq!(rt; memory.word(there.lock.wrapping_add(1)), 0);
+        for (at, _) in there.notes {
+            assert_eq!(rt; memory.word(at), 0, "at {at}");
+        }
+        let end = memory.run(Deed::Remove)?;
+        assert_eq!(rt; end, (replied(Reply::Absent, 2), 76));
+    }
+    Ok(())
+}
+
+#[test]
+fn each_lock_is_another_s(rt: HostRuntime) -> Result<(), Fail> {
+    let looks = [4u64, 6, 73, 106];
+    for (lock, look) in LOCKS.into_iter().zip(looks) {
+        let mut memory = with(&[(97, COUNTED), (lock, 3)]);
+        let (end, _) = memory.run(Deed::Insert(7))?;
+        let busy = Why::Busy {
+            word: lock,
+            seen: 3,
+        };
+        assert_eq!(rt; end, WriteEnd::Again(busy));
+        for (after, value) in [(3u64, 3u64), (4, 4)] {
+            let mut memory = with(&[(97, COUNTED)]);
+            memory.other = (look.wrapping_add(1), lock, after);
+            let (end, _) = memory.run(Deed::Insert(7))?;
+            let moved = Why::Moved {
+                word: lock,
+                before: 0,
+                after,
+            };
+            let why = if after == 3 { busy } else { moved };
+            assert_eq!(rt; end, WriteEnd::Again(why));
+            assert_eq!(rt; memory.word(lock), value);
+            for other in LOCKS {
+                if other != lock {
+                    let given = if other < lock { 2 } else { 0 };
+                    assert_eq!(rt; memory.word(other), given, "at {other}");
+                }
+            }
+        }
+    }
+    Ok(())
+}
+
+#[test]
+fn each_number_is_spent(rt: HostRuntime) -> Result<(), Fail> {
+    for lock in LOCKS {
+        let mut memory = with(&[(97, COUNTED), (lock, u64::MAX - 1), (2208, 6)]);
+        let (end, _) = memory.run(Deed::Insert(7))?;
+        assert_eq!(rt; end, replied(Reply::Spent, 6));
+        assert_eq!(rt; memory.word(lock), u64::MAX - 1);
+    }
+    let mut memory = with(&[(2208, 1 << 63)]);
+    let end = memory.run(Deed::Insert(7))?;
+    assert_eq!(rt; end, (replied(Reply::Spent, 1 << 63), 76));
+    assert_eq!(rt; memory.word(96), 2);
+    Ok(())
+}
+
+#[test]
+fn way_is_amiss(rt: HostRuntime) -> Result<(), Fail> {
+    let table = [(8u64, 1), (32, 1), (65, 513), (65, 1)];
+    for (word, value) in table {
+        let end = with(&[(word, value)]).run(Deed::Remove)?;
+        let why = Why::Moved {
+            word,
+            before: value,
+            after: value,
+        };
+        assert_eq!(rt; end.0, WriteEnd::Again(why), "at {word}");
+    }
+    let end = with(&[(65, 258)]).run(Deed::Remove)?;
+    assert_eq!(rt; end, (WriteEnd::Stale(0, 2), 4));
+    let mut memory = fresh();
+    memory.power = 1;
+    let end = memory.run(Deed::Remove)?;
+    assert_eq!(rt; end, (WriteEnd::Off, 1));
+    for (event, word, before) in [(8u64, 8u64, 0), (9, 32, 0), (10, 65, 257)] {
+        let mut memory = fresh();
+        memory.other = (event, word, 3);
+        let (end, _) = memory.run(Deed::Remove)?;
+        let why = Why::Moved {
+            word,
+            before,
+            after: 3,
+        };
+        assert_eq!(rt; end, WriteEnd::Again(why));
+        assert_eq!(rt; memory.word(96), 2);
+        assert_eq!(rt; memory.word(128), 2);
+    }
+    Ok(())
+}
+
+/// What an insert of key 5 keeps in a memory where it finds no slot.
+fn kept_in(memory: &mut Memory) -> Result<Kept, Fail> {
+    let mut op = WriteOp::new(
+        Change {
+            key: 5,
+            deed: Deed::Insert(7),
+        },
+        site()?,
+    );
+    for _ in 0..140u8 {
+        let want = op.want();
+        op.take(memory.answer(want));
+    }
+    Ok(op.kept())
+}
+
+#[test]
+fn full_home_is_handed_on_and_refused(rt: HostRuntime) -> Result<(), Fail> {
+    let mut memory = with(&[(97, 0x3FFF)]);
+    let end = memory.run(Deed::Insert(7))?;
+    assert_eq!(rt; end, (WriteEnd::NoSlot, 74));
+    assert_eq!(rt; memory.word(96), 1);
+    assert_eq!(rt; memory.word(128), 1);
+    let mut memory = with(&[(97, COUNTED + 0x3FFF), (2144, 4), (2208, 6)]);
+    let kept = kept_in(&mut memory)?;
+    let held = Held {
+        home: Some(0),
+        probing: Some(0),
+        first: Some(4),
+        second: Some(0),
+    };
+    assert_eq!(rt; kept.held, held);
+    assert_eq!(rt; kept.segment, 0);
+    assert_eq!(rt; kept.buckets.home[1], COUNTED + 0x3FFF);
+    let mut op = RefuseOp::new(kept);
+    for want in [
+        Want::Load(2208),
+        Want::Store(96, 2),
+        Want::Store(128, 2),
+        Want::Store(2144, 6),
+        Want::Store(2176, 2),
+    ] {
+        assert_eq!(rt; op.want(), want);
+        op.take(memory.answer(want));
+    }
+    let end = if op.want() == Want::Done {
+        op.end()
+    } else {
+        WriteEnd::Off
+    };
+    assert_eq!(rt; end, replied(Reply::Deep, 6));
+    Ok(())
+}
+
+#[test]
+fn wider_image_is_full(rt: HostRuntime) -> Result<(), Fail> {
+    let mut memory = with(&[(97, 0x3FFF)]);
+    let kept = Kept {
+        site: Site {
+            geometry: Geometry::new(2, 1, 0)?,
+            ..site()?
+        },
+        ..kept_in(&mut memory)?
+    };
+    let mut op = RefuseOp::new(kept);
+    op.take(Ans::Value(10));
+    op.take(Ans::Passed);
+    op.take(Ans::Passed);
+    let end = if op.want() == Want::Done {
+        op.end()
+    } else {
+        WriteEnd::Off
+    };
+    assert_eq!(rt; end, replied(Reply::Full, 10));
     Ok(())
 }

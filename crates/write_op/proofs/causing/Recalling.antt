@@ -1,294 +1,329 @@
--- What a change keeps was loaded by the events of its attempt.
-use Rattle.std.proofs.Common.{◌≡◌, ℕ, ◌+◌, ◌-◌, ◌%◌, ◌^◌, ◌<◌, ◌≤◌, inl, inr, Bool, true, false, cond, Option, Some, None, List, [], ◌∷◌, ◌++◌, refl, sym, ◌∙◌, ap, subst, arith, length, length-set, slice_index, slice_set, get_or-set_same, get_or-set_other}
-use Rattle.std.specs.Prelude.{◌==◌, nat_le, nat_lt}
-use Rattle.std.proofs.lemmas.Bool.{cases_eq, eqb-true, ltb-true, ltb-false}
-use Rattle.image_layout.specs.Places.{root_word}
+-- What a change keeps was loaded, at each of its steps, and before its stores it changed its locks alone.
+use Rattle.std.proofs.Common.{◌≡◌, ◌≢◌, ◌⊎◌, ℕ, ◌+◌, ◌-◌, ◌%◌, ◌^◌, ◌<◌, ◌≤◌, Bool, true, false, Option, None, Some, List, [], ◌∷◌, ◌++◌, inl, inr, refl, sym, ap, ◌∙◌, subst, arith, slice_index}
+use Rattle.std.specs.Prelude.{⊤, ◌==◌, nat_le, if◌then◌else◌}
+use Rattle.op_core.specs.declared.want.Want.{Want}
+use Rattle.op_core.specs.declared.want.Want.TheVariants as want
 use Rattle.op_core.specs.declared.want.Ans.{Ans}
 use Rattle.op_core.specs.declared.want.Ans.TheVariants.{Value, Won, Lost, Drawn, Passed}
-use Rattle.op_core.specs.declared.why.Why.TheVariants.{Busy}
-use Rattle.op_core.specs.Answers.{load_of}
-use Rattle.map_model.specs.declared.call.Call.{Call}
-use Rattle.map_model.specs.declared.call.Call.TheVariants.{Get, Insert, Update, Remove}
+use Rattle.op_core.specs.Answers.{load_of, change_of}
+use Rattle.segment_head.specs.HeadWord.{state_in, normal}
+use Rattle.image_layout.specs.Places.{head_at}
+use Rattle.image_layout.specs.Volatile.{counter_word}
+use Rattle.way.specs.Ways.{head_word}
+use Rattle.map_model.specs.declared.change.Deed.{Deed}
+use Rattle.map_model.specs.declared.change.Deed.TheVariants.{Insert, Update, Remove}
 use Rattle.map_model.specs.declared.entry.Reply.TheVariants as reply
-use Rattle.map_model.specs.Legal.{IsInsert}
+use Rattle.world.specs.Site.{Site}
 use Rattle.world.specs.Views.{Has}
-use Rattle.world.specs.declared.site.Site.{Site}
-use Rattle.write_op.specs.declared.path.Sight.{Sight}
-use Rattle.write_op.specs.declared.path.Sight.TheVariants.{Good, Late, Other}
-use Rattle.write_op.specs.declared.control.Side.TheVariants.{Home, Probing}
-use Rattle.write_op.specs.declared.control.Held.TheVariants.{OnlyHome, OnlyProbing, Both}
-use Rattle.write_op.specs.declared.control.Point.{Point}
-use Rattle.write_op.specs.declared.control.Point.TheVariants.{StoreKey, StoreValue, StoreFinger, FlushFinger, FlushRecord, FenceRecord, Publish, FlushPublished, FencePublished, DrawPlace}
-use Rattle.write_op.specs.declared.control.Held.{Held}
-use Rattle.write_op.specs.declared.control.WriteEnd.{WriteEnd}
-use Rattle.write_op.specs.declared.control.WriteEnd.TheVariants.{Replied, NoSlot, Again, Stale, Off}
-use Rattle.write_op.specs.declared.control.Step.{Step}
-use Rattle.write_op.specs.declared.control.Step.TheVariants.{AskPower, LoadRoot, LoadEntry, LoadHead, LookAt, TryLock, RootAgain, EntryAgain, HeadAgain, LoadWord, LoadCount, Make, CountSpent, CountFull, GiveBack, Ended}
-use Rattle.write_op.specs.declared.control.Kept.{Kept}
-use Rattle.write_op.specs.declared.control.Task.{Task}
-use Rattle.write_op.specs.declared.machine.WriteOp.{WriteOp}
-use Rattle.bucket_meta.specs.Search.{IsThere, slot_with, slot_free}
-use Rattle.way.specs.Ways.{entry_word, head_word}
-use Rattle.write_op.specs.Ways.{lock_word, sight_of}
-use Rattle.write_op.specs.Wanted.{home_word, wanted_of}
-use Rattle.map_model.specs.Map.{key_of}
-use Rattle.write_op.specs.Taken.{begun, wanted, taken, moved, seen_at, after_head, after_look, again, chosen, inserting, changing, decided, made, gave_back, with_slot, kept_after, step_after}
-use Rattle.write_op.specs.Causes.{after_all, loads_of, AreAmong, kept_in, whole_way, way, way_home, KeepsBelow, FindsKey, FindsNoKey, FindsNoRoom, KnowsIn, Remembers, KeepsLoads, RefusalRemembers}
-use Rattle.bucket_meta.proofs.Found.{found_with, none_with, none_free}
+use Rattle.world.specs.Wants.{answer_to}
+use Rattle.part.specs.Doings.{Doings, with_event_of}
+use Rattle.phase.specs.declared.place.Place.{Place}
+use Rattle.phase.specs.declared.place.Place.TheVariants.{Home, Probing, First, Second}
+use Rattle.phase.specs.declared.walk.Path.{Path}
+use Rattle.phase.specs.declared.walk.Walk.{Walk}
+use Rattle.phase.specs.declared.walk.Walk.TheVariants as walk
+use Rattle.phase.specs.declared.walk.Walked.{Walked}
+use Rattle.phase.specs.declared.walk.Walked.TheVariants as walked
+use Rattle.phase.specs.declared.take.Take.{Take}
+use Rattle.phase.specs.declared.take.Take.TheVariants.{Look, Try}
+use Rattle.phase.specs.declared.take.Taken.{Taken}
+use Rattle.phase.specs.declared.take.Taken.TheVariants as taking
+use Rattle.phase.specs.declared.back.Back.{Back}
+use Rattle.phase.specs.declared.back.Backed.{Backed}
+use Rattle.phase.specs.declared.back.Backed.TheVariants as backed
+use Rattle.phase.specs.declared.load.Load.{Load}
+use Rattle.phase.specs.declared.load.Loaded.{Loaded}
+use Rattle.phase.specs.declared.load.Loaded.TheVariants as loaded
+use Rattle.phase.specs.declared.make.Make.{Make}
+use Rattle.phase.specs.declared.make.Made.{Made}
+use Rattle.phase.specs.declared.make.Made.TheVariants as made
+use Rattle.phase.specs.declared.held.Held.{Held}
+use Rattle.phase.specs.Walks.{walk_wanted, walk_taken}
+use Rattle.phase.specs.Takes.{take_wanted, take_looked, take_lost, take_taken}
+use Rattle.phase.specs.Backs.{back_word, back_taken}
+use Rattle.phase.specs.Loads.{load_taken}
+use Rattle.phase.specs.Makes.{make_taken}
+use Rattle.phase.specs.Helds.{with_held, free_of, give_next, given}
+use Rattle.phase.specs.Stands.{HasLoaded as HasLoadedWords}
+use Rattle.phase.specs.Taking.{RemembersTaken}
+use Rattle.phase.specs.Giving.{IsHeld}
+use Rattle.phase.specs.Buckets.{with_words}
+use Rattle.phase.specs.Causes.{WasFound, RemembersWalk, RemembersWalked}
+use Rattle.phase.proofs.locks.Giving.{no_some}
+use Rattle.phase.proofs.Causing.{found_more, walk_remembers}
+use Rattle.phase.proofs.locks.Taking.{take_remembers}
+use Rattle.phase.proofs.Loading.{load_begins, load_stands}
+use Rattle.write_op.specs.declared.step.Task.{Task}
+use Rattle.write_op.specs.declared.step.Spot.{Spot}
+use Rattle.write_op.specs.declared.step.Seen.{Seen}
+use Rattle.write_op.specs.declared.step.Ending.{Ending}
+use Rattle.write_op.specs.declared.step.Ending.TheVariants as ending
+use Rattle.write_op.specs.declared.step.NoteWord.{NoteWord}
+use Rattle.write_op.specs.declared.step.NoteWord.TheVariants.{Mark, Fingers}
+use Rattle.write_op.specs.declared.step.WriteStep.{WriteStep}
+use Rattle.write_op.specs.declared.step.WriteStep.TheVariants.{Way, Lock, Check, Fill, Count, Draw, Unnote, CountSpent, Give, Ended}
+use Rattle.write_op.specs.declared.step.WriteStep.TheVariants as step
+use Rattle.write_op.specs.declared.step.Stage.{Stage}
+use Rattle.write_op.specs.Search.{found, room_in, leaves_note, unnoted, has_finger}
+use Rattle.write_op.specs.Steps.{go, given_by, giving, give, answered, amiss, walked_to, locked_to, backed_to, visit_second, visit_first, with_visits, filled_with, filled_to, inserting, changing, decided, made_to, drawn_to, unnoted_to, lock_of, wanted_in, next_in}
+use Rattle.write_op.specs.ChangePart.{WasThere, ChangedLocks, LoadedHome, LoadedBefore, LoadedWith, RemembersIn}
+use Rattle.write_op.proofs.finding.Places.{held_this, held_other, one_place}
+use Rattle.write_op.proofs.keeping.Stepping.{walk_answer}
 
--- ---- lists of loads
-pub has_more : (x : ℕ × ℕ) (more loads : List (ℕ × ℕ)) → Has x loads → Has x (more ++ loads)
-has_more x [] loads h = h
-has_more x (y ∷ more) loads h = inr (has_more x more loads h)
+has_more : (more loads : List (ℕ × ℕ)) (p : ℕ × ℕ) → Has p loads → Has p (more ++ loads)
+has_more [] loads p has = has
+has_more (x ∷ more) loads p has = inr (has_more more loads p has)
 
-among_more : (ps more loads : List (ℕ × ℕ)) → AreAmong ps loads → AreAmong ps (more ++ loads)
-among_more [] more loads h = tt
-among_more (p ∷ ps) more loads h = (has_more p more loads h.0, among_more ps more loads h.1)
+walk_changes : (task : Task) (w : Walk) (a : Ans) → change_of (walk_wanted task.site task.hash w) a ≡ []
+walk_changes task walk.Power a = refl
+walk_changes task walk.Root a = refl
+walk_changes task (walk.Entry root) a = refl
+walk_changes task (walk.Head root segment) a = refl
 
--- ---- what is found in a bucket
-pub both_by : (P : Step → Type 0) (b : Bool) (s u : Step) → (b ≡ true → P s) → (b ≡ false → P u) → P (cond b s u)
-both_by P true s u p q = p refl
-both_by P false s u p q = q refl
+module _ (site : Site) (task : Task) where
+  -- what a stage remembers
+  abbrev pub Recalls : Stage → Doings → Type 0
+  Recalls stage d = RemembersIn site task stage.seen d stage.step
 
-module _ (t : Task) (k : Kept) (loads : List (ℕ × ℕ)) (all : KeepsBelow t k 32 loads) (key : ℕ) (same : key_of t.call ≡ key) where
-  pub key_there : (s : ℕ) → slot_with k.words key 0 14 ≡ Some s → FindsKey t k loads
-  key_there s is =
-      let f = found_with k.words key s is in
-      record { slot = s; within = f.1; there = subst (λ z. IsThere k.words z s) (sym same) f.0; loaded = all }
+  both : (d : Doings) (b : Bool) (s t : Stage) → Recalls s d → Recalls t d → Recalls (if b then s else t) d
+  both d true s t p q = p
+  both d false s t p q = q
 
-  pub key_nowhere : slot_with k.words key 0 14 ≡ None → FindsNoKey t k loads
-  key_nowhere is =
-      record { nowhere = λ s low there. none_with k.words key is s low (subst (λ z. IsThere k.words z s) same there); loaded = all }
+  either : (seen : Seen) (d : Doings) (b : Bool) (s t : WriteStep) → RemembersIn site task seen d s → RemembersIn site task seen d t → RemembersIn site task seen d (if b then s else t)
+  either seen d true s t p q = p
+  either seen d false s t p q = q
 
-  pub no_room_there : IsInsert t.call → slot_with k.words key 0 14 ≡ None → slot_free (slice_index k.words 1) 0 14 ≡ None → FindsNoRoom t k loads
-  no_room_there inserts is free =
-      record { inserts = inserts; absent = key_nowhere is; full = none_free (slice_index k.words 1) free }
+  -- ---- with more that was loaded
+  module _ (seen : Seen) (d e : Doings) (more : List (ℕ × ℕ)) (is : e.loads ≡ more ++ d.loads) where
+    there_more : WasThere site task seen d → WasThere site task seen e
+    there_more r = (
+      subst (λ l. WasFound task.site.geometry task.hash l seen.path) (sym is) (found_more task.site.geometry task.hash more d.loads seen.path r.0),
+      r.1,
+    )
 
--- ---- one event
-pub record Recalls (t : Task) (k : Kept) (s : Step) (loads : List (ℕ × ℕ)) : Type 0 where
-  pub whole : length k.words ≡ 32
-  pub way : AreAmong (kept_in t k s) loads
-  pub knows : KnowsIn t k s loads
+    home_more : LoadedHome site task seen d → LoadedHome site task seen e
+    home_more r j from low = subst (λ l. Has (lock_of task seen Home + j, slice_index seen.buckets.home j) l) (sym is) (has_more more d.loads _ (r j from low))
 
-module _ (t : Task) (k : Kept) (loads : List (ℕ × ℕ)) where
-  -- what is known still is after more loads
-  below_more : (n : ℕ) (more : List (ℕ × ℕ)) → KeepsBelow t k n loads → KeepsBelow t k n (more ++ loads)
-  below_more n more below i from low = has_more _ more loads (below i from low)
+    before_more : (place : Place) → LoadedBefore site task seen d place → LoadedBefore site task seen e place
+    before_more Home r = tt
+    before_more Probing r = tt
+    before_more First r = home_more r
+    before_more Second r = home_more r
 
-  room_more : (more : List (ℕ × ℕ)) → FindsNoRoom t k loads → FindsNoRoom t k (more ++ loads)
-  room_more more f = record { inserts = f.inserts; absent = record { nowhere = f.absent.nowhere; loaded = below_more 32 more f.absent.loaded }; full = f.full }
+  -- ---- locks back
+  by_next : (seen : Seen) (d : Doings) (next : Option (Place × ℕ)) (held : Held) (end : Ending) → RemembersIn site task seen d (given_by next held end)
+  by_next seen d (Some next) held end = tt
+  by_next seen d None held (ending.Replied answer place) = tt
+  by_next seen d None held (ending.Again why) = tt
 
-  abbrev Next : Kept → Step → List (ℕ × ℕ) → Type 0
-  Next k' s more = Recalls t k' s (more ++ loads)
+  giving_recalls : (seen : Seen) (d : Doings) (held : Held) (end : Ending) → RemembersIn site task seen d (giving held end)
+  giving_recalls seen d held end = by_next seen d (give_next held) held end
 
-  whole_recalls : (s : Step) → Recalls t k s loads → (more : List (ℕ × ℕ)) (next : Step) → AreAmong (kept_in t k next) (more ++ loads) → KnowsIn t k next (more ++ loads) → Next k next more
-  whole_recalls s r more next way knows = record { whole = r.whole; way = way; knows = knows }
+  -- ---- the way
+  module _ (seen : Seen) (d : Doings) (none : d.changed ≡ []) where
+    walked_recalls : (x : Walked) → RemembersWalked task.site.geometry task.hash d.loads x
+        → ((path : Path) → x ≡ walked.There path → path.head ≡ site.front (head_at site.shape path.segment + 1)) → Recalls (walked_to task seen x) d
+    walked_recalls (walked.On w) r head = (r, none)
+    walked_recalls (walked.There path) r head =
+        both d (state_in path.head == normal) (go (record seen { path = path }) (Lock Home Look)) (go seen (amiss (head_word task.site.geometry path.segment) path.head))
+        ((r, head path refl), (λ word has. absurd (subst (λ (l : List ℕ). Has word l) none has)), tt, tt) tt
+    walked_recalls walked.Off r head = tt
+    walked_recalls (walked.Amiss word value) r head = tt
+    walked_recalls (walked.Stale segment version) r head = tt
 
-module _ (t : Task) (k : Kept) (loads : List (ℕ × ℕ)) (whole : length k.words ≡ 32) where
-  -- at the counter, by the call
-  slot_made : (o : Option ℕ) (point : Point) → AreAmong (whole_way t k) loads → Recalls t (with_slot k o) (Make point) loads
-  slot_made (Some s) point way = record { whole = whole; way = way; knows = tt }
-  slot_made None point way = record { whole = whole; way = way; knows = tt }
+  -- ---- a lock
+  module _ (seen : Seen) (place : Place) (d : Doings) (there : WasThere site task seen d) (before : LoadedBefore site task seen d place) where
+    -- by what was made of it
+    abbrev Changed : Taken → Type 0
+    Changed (taking.On take) = ChangedLocks site task seen d
+    Changed (taking.Held free) = ChangedLocks site task (record seen { held = with_held place free seen.held }) d
+    Changed more = ⊤
 
-  slot_whole : (o : Option ℕ) → length (with_slot k o).words ≡ 32
-  slot_whole (Some s) = whole
-  slot_whole None = whole
+    held_recalls : (p : Place) (free : ℕ) → p ≡ place → ChangedLocks site task (record seen { held = with_held p free seen.held }) d → LoadedBefore site task seen d p
+        → Recalls (locked_to seen p (lock_of task seen p) (taking.Held free)) d
+    held_recalls Home free same changed b = (there, changed, tt, tt)
+    held_recalls Probing free same changed b = (there, changed)
+    held_recalls First free same changed b = (there, changed, b)
+    held_recalls Second free same changed b = (there, changed, b)
 
-  slot_back : (o : Option ℕ) (r : Rattle.map_model.specs.declared.entry.Reply.Reply) (count : ℕ) → Recalls t (with_slot k o) (GiveBack Both (Replied r count)) loads
-  slot_back o r count = record { whole = slot_whole o; way = tt; knows = tt }
+    locked_recalls : (x : Taken) → RemembersTaken (lock_of task seen place) d.loads x → Changed x → Recalls (locked_to seen place (lock_of task seen place) x) d
+    locked_recalls (taking.On take) r changed = (there, changed, r, before)
+    locked_recalls (taking.Held free) r changed = held_recalls place free refl changed before
+    locked_recalls (taking.Busy value) r changed = giving_recalls seen d seen.held _
+    locked_recalls (taking.Moved first after) r changed = giving_recalls seen d seen.held _
+    locked_recalls taking.Spent r changed = (there, (place, r))
 
-  inserted : (value key count : ℕ) (p q : Option ℕ) → slot_with k.words key 0 14 ≡ p → slot_free (slice_index k.words 1) 0 14 ≡ q → key_of t.call ≡ key → IsInsert t.call
-      → AreAmong (whole_way t k) loads → KeepsBelow t k 32 loads → Recalls t (with_slot k q) (inserting count p q) loads
-  inserted value key count (Some found) q is free same inserts way all = slot_back q reply.Exists count
-  inserted value key count None (Some slot) is free same inserts way all = record { whole = whole; way = way; knows = tt }
-  inserted value key count None None is free same inserts way all = record { whole = whole; way = way; knows = no_room_there t k loads all key same inserts is free }
+  -- which words were changed then
+  module _ (seen : Seen) (place : Place) (d : Doings) (out : free_of seen.held place ≡ None) (changed : ChangedLocks site task seen d) where
+    abbrev lock : ℕ
+    lock = lock_of task seen place
 
-  changed : (count : ℕ) (p : Option ℕ) → AreAmong (whole_way t k) loads → Recalls t (with_slot k p) (changing count p) loads
-  changed count (Some found) way = record { whole = whole; way = way; knows = tt }
-  changed count None way = record { whole = whole; way = tt; knows = tt }
+    still_held : (p : Place) (free : ℕ) → IsHeld seen.held p → IsHeld (with_held place free seen.held) p
+    still_held p free (value, is) = (
+      value,
+      held_other seen.held free place p (λ e. no_some (sym out ∙ ap (free_of seen.held) (sym (one_place p place e)) ∙ is)) ∙ is,
+    )
 
-  decided_recalls : (call : Call) (count : ℕ) → t.call ≡ call → AreAmong (whole_way t k) loads → KeepsBelow t k 32 loads → Recalls t (with_slot k (chosen call k.words)) (decided call k.words count) loads
-  decided_recalls (Get key) count same way all = record { whole = slot_whole (chosen (Get key) k.words); way = tt; knows = tt }
-  decided_recalls (Insert key value) count same way all =
-      inserted value key count (slot_with k.words key 0 14) (slot_free (slice_index k.words 1) 0 14) refl refl (ap key_of same) (subst IsInsert (sym same) tt) way all
-  decided_recalls (Update key value) count same way all = changed count (slot_with k.words key 0 14) way
-  decided_recalls (Remove key) count same way all = changed count (slot_with k.words key 0 14) way
+    won : (free : ℕ) (e : Doings) → e.changed ≡ lock ∷ d.changed → ChangedLocks site task (record seen { held = with_held place free seen.held }) e
+    won free e is word has = elim (subst (λ (l : List ℕ). Has word l) is has) [
+      | inl same ↦ (place, (free, held_this seen.held free place), same)
+      | inr old ↦ let was = changed word old in (was.0, still_held was.0 free was.1, was.2)
+    ]
 
-  counted : (count : ℕ) (b : Bool) → AreAmong (whole_way t k) loads → KeepsBelow t k 32 loads
-      → Recalls t (with_slot k (chosen t.call k.words)) (cond b (GiveBack Both (Replied reply.Spent count)) (decided t.call k.words count)) loads
-  counted count true way all = slot_back (chosen t.call k.words) reply.Spent count
-  counted count false way all = decided_recalls t.call count refl way all
+    look_changed : (n : ℕ) (e : Doings) → e.changed ≡ d.changed → (odd spent : Bool)
+        → (there : WasThere site task seen e) (b : LoadedBefore site task seen e place) → Changed seen place e there b (if odd then taking.Busy n else if spent then taking.Spent else taking.On (Try n))
+    look_changed n e is true spent there b = tt
+    look_changed n e is false true there b = tt
+    look_changed n e is false false there b = λ word has. changed word (subst (λ (l : List ℕ). Has word l) is has)
 
-  -- a word of the bucket
-  word_loaded : (at n : ℕ) (b : Bool) → nat_lt at 31 ≡ b → 1 ≤ at → AreAmong (whole_way t k) loads → KeepsBelow t k at loads
-      → Recalls t (record k { words = slice_set k.words at n }) (cond b (LoadWord (at + 1)) LoadCount) ((home_word t k at, n) ∷ loads)
-  word_loaded at n b test from way below =
-      let new : List ℕ = slice_set k.words at n in
-      let size : length new ≡ 32 = length-set k.words at n ∙ whole in
-      let all : (i : ℕ) → 1 ≤ i → i < at + 1 → i < 32 → Has (lock_word t k Home + i, slice_index new i) ((lock_word t k Home + at, n) ∷ loads) = λ i low near small. elim (cases_eq i at) [
-        | inl e ↦ (let got : slice_index new i ≡ n = ap (slice_index new) e ∙ get_or-set_same k.words at n 0 (omega (arith, whole, e, small)) in
-            inl (ap (λ z. (lock_word t k Home + z, slice_index new i)) e ∙ ap (λ y. (lock_word t k Home + at, y)) got))
-        | inr apart ↦ inr (subst (λ y. Has (lock_word t k Home + i, y) loads) (sym (get_or-set_other k.words at i n 0 apart)) (below i low (omega (arith, near, apart))))
-      ] in
-      by b test size all
-    where
-      by : (b : Bool) → nat_lt at 31 ≡ b → length (slice_set k.words at n) ≡ 32
-          → ((i : ℕ) → 1 ≤ i → i < at + 1 → i < 32 → Has (lock_word t k Home + i, slice_index (slice_set k.words at n) i) ((lock_word t k Home + at, n) ∷ loads))
-          → Recalls t (record k { words = slice_set k.words at n }) (cond b (LoadWord (at + 1)) LoadCount) ((home_word t k at, n) ∷ loads)
-      by true test size all = let low = ltb-true at 31 test in record {
-        whole = size;
-        way = among_more (whole_way t k) ((home_word t k at, n) ∷ []) loads way;
-        knows = ((λ i from near. all i from near (omega (arith, near, low))), omega arith);
-      }
-      by false test size all = let high = ltb-false at 31 test in record {
-        whole = size;
-        way = among_more (whole_way t k) ((home_word t k at, n) ∷ []) loads way;
-        knows = λ i from near. all i from (omega (arith, near, high)) near;
-      }
+    lost_changed : (free n : ℕ) (e : Doings) (odd : Bool) (there : WasThere site task seen e) (b : LoadedBefore site task seen e place)
+        → Changed seen place e there b (if odd then taking.Busy n else taking.Moved free n)
+    lost_changed free n e true there b = tt
+    lost_changed free n e false there b = tt
 
-module _ (t : Task) (k : Kept) (loads : List (ℕ × ℕ)) where
-  head_recalls : (sight : Sight) (word n : ℕ) → length k.words ≡ 32 → AreAmong (way t k) loads → Recalls t k (after_head sight k.segment word n) loads
-  head_recalls Good word n whole way = record { whole = whole; way = way; knows = tt }
-  head_recalls (Late byte) word n whole way = record { whole = whole; way = tt; knows = tt }
-  head_recalls Other word n whole way = record { whole = whole; way = tt; knows = tt }
+  -- ---- the way again
+  backed_recalls : (seen : Seen) (d : Doings) → WasThere site task seen d → ChangedLocks site task seen d → (x : Backed) → Recalls (backed_to seen x) d
+  backed_recalls seen d there changed (backed.On back) = (there, changed)
+  backed_recalls seen d there changed backed.Same = (there, changed, load_begins _ _)
+  backed_recalls seen d there changed (backed.Moved word before after) = giving_recalls seen d seen.held _
 
-  again_recalls : (next : Step) (word old n : ℕ) → length k.words ≡ 32 → Recalls t k next loads → Recalls t k (again next word old n) loads
-  again_recalls next word old n whole r = both_by (λ s. Recalls t k s loads) (old == n) next (GiveBack Both (moved word old n)) (λ _. r) (λ _. record { whole = whole; way = tt; knows = tt })
+  -- ---- buckets
+  module _ (d : Doings) where
+    second_recalls : (seen : Seen) → WasThere site task seen d → ChangedLocks site task seen d → LoadedHome site task seen d → RemembersIn site task seen d (visit_second seen)
+    second_recalls seen there changed home = either seen d seen.second (Lock Second Look) Count (there, changed, tt, home) (there, home)
 
-  look_home : (word n : ℕ) → length k.words ≡ 32 → k.home_free ≡ n → AreAmong (way_home t k) loads → Recalls t k (after_look Home word n) loads
-  look_home word n whole same way =
-      both_by (λ s. Recalls t k s loads) (n % 2 == 1) (Ended (Again (Busy word n))) (cond (n == 2 ^ 64 - 2) (CountSpent Home) (TryLock Home))
-      (λ _. record { whole = whole; way = tt; knows = tt })
-      (λ _. both_by (λ s. Recalls t k s loads) (n == 2 ^ 64 - 2) (CountSpent Home) (TryLock Home)
-      (λ is. record { whole = whole; way = way; knows = same ∙ eqb-true n (2 ^ 64 - 2) is })
-      (λ _. record { whole = whole; way = way; knows = tt }))
+    first_recalls : (seen : Seen) → WasThere site task seen d → ChangedLocks site task seen d → LoadedHome site task seen d → RemembersIn site task seen d (visit_first seen)
+    first_recalls seen there changed home = either seen d seen.first (Lock First Look) (visit_second seen) (there, changed, tt, home) (second_recalls seen there changed home)
 
-  look_probing : (word n : ℕ) → length k.words ≡ 32 → k.probing_free ≡ n → AreAmong (whole_way t k) loads → Recalls t k (after_look Probing word n) loads
-  look_probing word n whole same way =
-      both_by (λ s. Recalls t k s loads) (n % 2 == 1) (GiveBack OnlyHome (Again (Busy word n))) (cond (n == 2 ^ 64 - 2) (CountSpent Probing) (TryLock Probing))
-      (λ _. record { whole = whole; way = tt; knows = tt })
-      (λ _. both_by (λ s. Recalls t k s loads) (n == 2 ^ 64 - 2) (CountSpent Probing) (TryLock Probing)
-      (λ is. record { whole = whole; way = way; knows = same ∙ eqb-true n (2 ^ 64 - 2) is })
-      (λ _. record { whole = whole; way = way; knows = tt }))
+    all_recalls : (seen : Seen) (place : Place) (words : List ℕ) → WasThere site task seen d → ChangedLocks site task seen d → LoadedHome site task (record seen { buckets = with_words place words seen.buckets }) d
+        → Recalls (filled_with task.hash seen place words) d
+    all_recalls seen Home words there changed home = (there, changed, home)
+    all_recalls seen Probing words there changed home = first_recalls (with_visits task.hash (record seen { buckets = with_words Probing words seen.buckets })) there changed home
+    all_recalls seen First words there changed home = second_recalls (record seen { buckets = with_words First words seen.buckets }) there changed home
+    all_recalls seen Second words there changed home = (there, home)
 
-  made_recalls : (point : Point) (a : Ans) → Recalls t k (Make point) loads → Recalls t k (made k.slot point a) loads
-  made_recalls StoreKey Passed r = record { whole = r.whole; way = r.way; knows = tt }
-  made_recalls StoreValue Passed r = record { whole = r.whole; way = r.way; knows = tt }
-  made_recalls StoreFinger Passed r = record { whole = r.whole; way = r.way; knows = tt }
-  made_recalls FlushFinger Passed r = both_by (λ s. Recalls t k s loads) (nat_lt k.slot 2) (Make FenceRecord) (Make FlushRecord)
-      (λ _. record { whole = r.whole; way = r.way; knows = tt }) (λ _. record { whole = r.whole; way = r.way; knows = tt })
-  made_recalls FlushRecord Passed r = record { whole = r.whole; way = r.way; knows = tt }
-  made_recalls FenceRecord Passed r = record { whole = r.whole; way = r.way; knows = tt }
-  made_recalls Publish Passed r = record { whole = r.whole; way = r.way; knows = tt }
-  made_recalls FlushPublished Passed r = record { whole = r.whole; way = r.way; knows = tt }
-  made_recalls FencePublished Passed r = record { whole = r.whole; way = r.way; knows = tt }
-  made_recalls DrawPlace (Drawn place) r = record { whole = r.whole; way = tt; knows = tt }
-  made_recalls point a r = r
+  module _ (seen : Seen) (place : Place) (load : Load) (n : ℕ) (d : Doings) where
+    abbrev after : Doings
+    after = record { loads = (lock_of task seen place + load.next % 32, n) ∷ d.loads; changed = d.changed }
 
-given_recalls : (t : Task) (k : Kept) (held : Held) (end : WriteEnd) (loads : List (ℕ × ℕ)) → Recalls t k (GiveBack held end) loads → Recalls t k (gave_back held end) loads
-given_recalls t k held NoSlot loads r = absurd r.knows
-given_recalls t k OnlyHome (Replied x place) loads r = record { whole = r.whole; way = tt; knows = tt }
-given_recalls t k OnlyHome (Again why) loads r = record { whole = r.whole; way = tt; knows = tt }
-given_recalls t k OnlyHome (Stale segment byte) loads r = record { whole = r.whole; way = tt; knows = tt }
-given_recalls t k OnlyHome Off loads r = record { whole = r.whole; way = tt; knows = tt }
-given_recalls t k OnlyProbing (Replied x place) loads r = record { whole = r.whole; way = tt; knows = tt }
-given_recalls t k OnlyProbing (Again why) loads r = record { whole = r.whole; way = tt; knows = tt }
-given_recalls t k OnlyProbing (Stale segment byte) loads r = record { whole = r.whole; way = tt; knows = tt }
-given_recalls t k OnlyProbing Off loads r = record { whole = r.whole; way = tt; knows = tt }
-given_recalls t k Both (Replied x place) loads r = record { whole = r.whole; way = tt; knows = tt }
-given_recalls t k Both (Again why) loads r = record { whole = r.whole; way = tt; knows = tt }
-given_recalls t k Both (Stale segment byte) loads r = record { whole = r.whole; way = tt; knows = tt }
-given_recalls t k Both Off loads r = record { whole = r.whole; way = tt; knows = tt }
+    there_after : WasThere site task seen d → WasThere site task seen after
+    there_after r = there_more seen d after ((lock_of task seen place + load.next % 32, n) ∷ []) refl r
 
-gives_load : (t : Task) (k : Kept) (held : Held) (end : WriteEnd) (a : Ans) → load_of (wanted_of t k (GiveBack held end)) a ≡ []
-gives_load t k OnlyHome end a = refl
-gives_load t k OnlyProbing end a = refl
-gives_load t k Both end a = refl
+    home_after : LoadedHome site task seen d → LoadedHome site task seen after
+    home_after r = home_more seen d after ((lock_of task seen place + load.next % 32, n) ∷ []) refl r
 
-gives_recalls : (t : Task) (k : Kept) (held : Held) (end : WriteEnd) (a : Ans) (loads : List (ℕ × ℕ)) → Recalls t k (GiveBack held end) loads
-    → Recalls t (kept_after t k (GiveBack held end) a) (step_after t k (GiveBack held end) a) loads
-gives_recalls t k held end Passed loads r = given_recalls t k held end loads r
-gives_recalls t k held end a loads r = r
+  fill_recalls : (seen : Seen) (place : Place) (load : Load) (n : ℕ) (d : Doings) (there : WasThere site task seen d) (changed : ChangedLocks site task seen d) → LoadedWith site task seen d place load
+      → (x : Loaded) → (place ≡ Home → HasLoadedWords (lock_of task seen Home) (after seen place load n d).loads x) → Recalls (filled_to task.hash seen place x) (after seen place load n d)
+  fill_recalls seen Home load n d there changed with_ (loaded.On next) has = (there_after seen Home load n d there, changed, has refl)
+  fill_recalls seen Home load n d there changed with_ (loaded.All words) has = all_recalls (after seen Home load n d) seen Home words (there_after seen Home load n d there) changed (has refl)
+  fill_recalls seen Probing load n d there changed with_ (loaded.On next) has = (there_after seen Probing load n d there, changed, home_after seen Probing load n d with_)
+  fill_recalls seen Probing load n d there changed with_ (loaded.All words) has = all_recalls (after seen Probing load n d) seen Probing words (there_after seen Probing load n d there) changed (home_after seen Probing load n d with_)
+  fill_recalls seen First load n d there changed with_ (loaded.On next) has = (there_after seen First load n d there, changed, home_after seen First load n d with_)
+  fill_recalls seen First load n d there changed with_ (loaded.All words) has = all_recalls (after seen First load n d) seen First words (there_after seen First load n d there) changed (home_after seen First load n d with_)
+  fill_recalls seen Second load n d there changed with_ (loaded.On next) has = (there_after seen Second load n d there, changed, home_after seen Second load n d with_)
+  fill_recalls seen Second load n d there changed with_ (loaded.All words) has = all_recalls (after seen Second load n d) seen Second words (there_after seen Second load n d there) changed (home_after seen Second load n d with_)
 
--- an event in the stores loads nothing
-stores_load : (t : Task) (k : Kept) (point : Point) (a : Ans) → load_of (wanted_of t k (Make point)) a ≡ []
-stores_load t k StoreKey a = refl
-stores_load t k StoreValue a = refl
-stores_load t k StoreFinger a = refl
-stores_load t k FlushFinger a = refl
-stores_load t k FlushRecord a = refl
-stores_load t k FenceRecord a = refl
-stores_load t k Publish a = refl
-stores_load t k FlushPublished a = refl
-stores_load t k FencePublished a = refl
-stores_load t k DrawPlace a = refl
+  -- ---- what is done
+  module _ (seen : Seen) (d : Doings) where
+    module _ (there : WasThere site task seen d) (home : LoadedHome site task seen d) where
+      inserting_recalls : (count : ℕ) (key room : Option Spot) → Recalls (inserting task seen count key room) d
+      inserting_recalls count (Some spot) room = giving_recalls seen d seen.held _
+      inserting_recalls count None (Some spot) = tt
+      inserting_recalls count None None = (there, home)
 
-pub step_recalls : (t : Task) (k : Kept) (s : Step) (a : Ans) (loads : List (ℕ × ℕ)) → Recalls t k s loads
-    → Recalls t (kept_after t k s a) (step_after t k s a) (load_of (wanted_of t k s) a ++ loads)
-step_recalls t k AskPower (Value v) loads r = both_by (λ s. Recalls t k s loads) (v == 0) LoadRoot (Ended Off)
-    (λ _. record { whole = r.whole; way = tt; knows = tt }) (λ _. record { whole = r.whole; way = tt; knows = tt })
-step_recalls t k LoadRoot (Value v) loads r = both_by (λ s. Recalls t (record k { root = v }) s ((root_word, v) ∷ loads)) (nat_le v t.site.geometry.depth) LoadEntry (seen_at root_word v)
-    (λ _. record { whole = r.whole; way = (inl refl, tt); knows = tt }) (λ _. record { whole = r.whole; way = tt; knows = tt })
-step_recalls t k LoadEntry (Value v) loads r =
-    let word : ℕ = entry_word t.site.geometry t.hash k.root in
-    both_by (λ s. Recalls t (record k { segment = v }) s ((entry_word t.site.geometry t.hash k.root, v) ∷ loads)) (nat_lt v t.site.geometry.segments) LoadHead (seen_at word v)
-    (λ _. record { whole = r.whole; way = (inl refl, (inr r.way.0, tt)); knows = tt }) (λ _. record { whole = r.whole; way = tt; knows = tt })
-step_recalls t k LoadHead (Value v) loads r =
-    head_recalls t (record k { head = v }) ((head_word t.site.geometry k.segment, v) ∷ loads) (sight_of t.site.version t.hash v) (head_word t.site.geometry k.segment) v r.whole
-    (inl refl, (inr r.way.0, (inr r.way.1.0, tt)))
-step_recalls t k (LookAt Home) (Value v) loads r =
-    look_home t (record k { home_free = v }) ((lock_word t k Home, v) ∷ loads) (lock_word t k Home) v r.whole refl (inl refl, (inr r.way.0, (inr r.way.1.0, (inr r.way.1.1.0, tt))))
-step_recalls t k (LookAt Probing) (Value v) loads r =
-    look_probing t (record k { probing_free = v }) ((lock_word t k Probing, v) ∷ loads) (lock_word t k Probing) v r.whole refl
-    (inl refl, (inr r.way.0, (inr r.way.1.0, (inr r.way.1.1.0, (inr r.way.1.1.1.0, tt)))))
-step_recalls t k (TryLock Home) Won loads r = record { whole = r.whole; way = r.way; knows = tt }
-step_recalls t k (TryLock Probing) Won loads r = record { whole = r.whole; way = r.way; knows = tt }
-step_recalls t k (TryLock Home) (Lost v) loads r = both_by (λ s. Recalls t k s loads) (v % 2 == 1) (Ended (Again (Busy (lock_word t k Home) v))) (Ended (moved (lock_word t k Home) k.home_free v))
-    (λ _. record { whole = r.whole; way = tt; knows = tt }) (λ _. record { whole = r.whole; way = tt; knows = tt })
-step_recalls t k (TryLock Probing) (Lost v) loads r =
-    both_by (λ s. Recalls t k s loads) (v % 2 == 1) (GiveBack OnlyHome (Again (Busy (lock_word t k Probing) v))) (GiveBack OnlyHome (moved (lock_word t k Probing) k.probing_free v))
-    (λ _. record { whole = r.whole; way = tt; knows = tt }) (λ _. record { whole = r.whole; way = tt; knows = tt })
-step_recalls t k RootAgain (Value v) loads r =
-    again_recalls t k ((root_word, v) ∷ loads) EntryAgain root_word k.root v r.whole (record { whole = r.whole; way = among_more (whole_way t k) ((root_word, v) ∷ []) loads r.way; knows = tt })
-step_recalls t k EntryAgain (Value v) loads r =
-    again_recalls t k ((entry_word t.site.geometry t.hash k.root, v) ∷ loads) HeadAgain (entry_word t.site.geometry t.hash k.root) k.segment v r.whole
-    (record { whole = r.whole; way = among_more (whole_way t k) ((entry_word t.site.geometry t.hash k.root, v) ∷ []) loads r.way; knows = tt })
-step_recalls t k HeadAgain (Value v) loads r =
-    again_recalls t k ((head_word t.site.geometry k.segment, v) ∷ loads) (LoadWord 1) (head_word t.site.geometry k.segment) k.head v r.whole (record {
-      whole = r.whole;
-      way = among_more (whole_way t k) ((head_word t.site.geometry k.segment, v) ∷ []) loads r.way;
-      knows = ((λ i from low. absurd (omega (arith, from, low))), omega arith);
-    })
-step_recalls t k (LoadWord at) (Value v) loads r = word_loaded t k loads r.whole at v (nat_lt at 31) refl r.knows.1 r.way r.knows.0
-step_recalls t k LoadCount (Value v) loads r =
-    let word : ℕ = Rattle.image_layout.specs.Volatile.counter_word t.site.geometry in
-    counted t k ((word, v) ∷ loads) r.whole v (nat_le (2 ^ 63) v) (among_more (whole_way t k) ((word, v) ∷ []) loads r.way) (below_more t k loads 32 ((word, v) ∷ []) r.knows)
-step_recalls t k (CountSpent Home) (Value v) loads r = record { whole = r.whole; way = tt; knows = tt }
-step_recalls t k (CountSpent Probing) (Value v) loads r = record { whole = r.whole; way = tt; knows = tt }
-step_recalls t k CountFull (Value v) loads r = record { whole = r.whole; way = tt; knows = tt }
-step_recalls t k (Make point) a loads r = subst (λ more. Recalls t k (made k.slot point a) (more ++ loads)) (sym (stores_load t k point a)) (made_recalls t k loads point a r)
-step_recalls t k (GiveBack held end) a loads r =
-    subst (λ more. Recalls t (kept_after t k (GiveBack held end) a) (step_after t k (GiveBack held end) a) (more ++ loads)) (sym (gives_load t k held end a))
-    (gives_recalls t k held end a loads r)
-step_recalls t k s a loads r = r
+      changing_recalls : (count : ℕ) (key : Option Spot) → Recalls (changing task seen count key) d
+      changing_recalls count (Some spot) = tt
+      changing_recalls count None = giving_recalls seen d seen.held _
 
-pub recalls : (op : WriteOp) (loads : List (ℕ × ℕ)) → Remembers op loads → Recalls op.task op.kept op.step loads
-recalls op loads r = record { whole = r.whole; way = r.way; knows = r.knows }
+      decided_recalls : (count : ℕ) (deed : Deed) → Recalls (decided task seen count deed) d
+      decided_recalls count (Insert value) = inserting_recalls count (found seen task.change.key) (room_in seen.buckets)
+      decided_recalls count (Update value) = changing_recalls count (found seen task.change.key)
+      decided_recalls count Remove = changing_recalls count (found seen task.change.key)
 
-all_recall : (answers : List Ans) (op : WriteOp) (loads : List (ℕ × ℕ)) → Remembers op loads → Remembers (after_all op answers) (loads_of op answers loads)
-all_recall [] op loads r = r
-all_recall (a ∷ rest) op loads r =
-    let next = step_recalls op.task op.kept op.step a loads (recalls op loads r) in
-    all_recall rest (taken op a) (load_of (wanted op) a ++ loads) (record { whole = next.whole; way = next.way; knows = next.knows })
+    made_recalls : (x : Made) → Recalls (made_to seen x) d
+    made_recalls (made.On m) = tt
+    made_recalls made.Settled = tt
 
-begins_recall : (call : Call) (site : Site) → Remembers (begun call site) []
-begins_recall (Get key) site = record { whole = refl; way = tt; knows = tt }
-begins_recall (Insert key value) site = record { whole = refl; way = tt; knows = tt }
-begins_recall (Update key value) site = record { whole = refl; way = tt; knows = tt }
-begins_recall (Remove key) site = record { whole = refl; way = tt; knows = tt }
+    make_recalls : (m : Make) (a : Ans) → Recalls (next_in task seen (step.Make m) a) d
+    make_recalls m Passed = made_recalls (make_taken seen.written.slot m)
+    make_recalls m a = tt
 
-pub keeps_loads : KeepsLoads
-keeps_loads call site answers = all_recall answers (begun call site) [] (begins_recall call site)
+    draw_recalls : (n : ℕ) → Recalls (drawn_to task seen n) d
+    draw_recalls n = both d (leaves_note task.change.deed seen.place) (go seen (Unnote Mark n)) (answered seen n reply.Done) tt (giving_recalls seen d seen.held _)
 
-pub refusal_remembers : RefusalRemembers
-refusal_remembers op loads r is = record { whole = r.whole; way = subst (λ z. AreAmong (kept_in op.task op.kept z) loads) is r.way; knows = subst (λ z. KnowsIn op.task op.kept z loads) is r.knows }
+    unnoted_recalls : (part : NoteWord) (n : ℕ) → Recalls (unnoted_to task seen part n) d
+    unnoted_recalls Mark n = both d (has_finger seen (unnoted task.hash seen)) (go seen (Unnote Fingers n)) (answered seen n reply.Done) tt (giving_recalls seen d seen.held _)
+    unnoted_recalls Fingers n = giving_recalls seen d seen.held _
+
+    unnote_recalls : (part : NoteWord) (place : ℕ) (a : Ans) → Recalls (next_in task seen (Unnote part place) a) d
+    unnote_recalls part place Passed = unnoted_recalls part place
+    unnote_recalls part place a = tt
+
+    give_recalls : (held : Held) (end : Ending) (a : Ans) → Recalls (next_in task seen (Give held end) a) d
+    give_recalls held end Passed = giving_recalls seen d (given held) end
+    give_recalls held end a = tt
+
+  -- ---- an event
+  abbrev After : Seen → WriteStep → ℕ → Doings → Doings
+  After seen s n d = with_event_of (wanted_in task seen s) (answer_to (wanted_in task seen s) n) d
+
+  abbrev pub RecallsNext : Seen → WriteStep → ℕ → Doings → Type 0
+  RecallsNext seen s n d = Recalls (next_in task seen s (answer_to (wanted_in task seen s) n)) (After seen s n d)
+
+  pub way_next : (seen : Seen) (w : Walk) (n : ℕ) (d : Doings) → RemembersIn site task seen d (Way w)
+      → ((path : Path) → walk_taken task.site task.hash w n ≡ walked.There path → path.head ≡ site.front (head_at site.shape path.segment + 1)) → RecallsNext seen (Way w) n d
+  way_next seen w n d r head =
+      subst (λ (a : Ans). Recalls (next_in task seen (Way w) a) (with_event_of (walk_wanted task.site task.hash w) a d)) (sym (walk_answer task.site task.hash w n))
+      (walked_recalls seen (with_event_of (walk_wanted task.site task.hash w) (Value n) d) (ap (λ l. l ++ d.changed) (walk_changes task w (Value n)) ∙ r.1) (walk_taken task.site task.hash w n)
+      (walk_remembers task.site task.hash d.loads w n r.0) head)
+
+  look_next : (seen : Seen) (place : Place) (n : ℕ) (d : Doings) → free_of seen.held place ≡ None → RemembersIn site task seen d (Lock place Look) → RecallsNext seen (Lock place Look) n d
+  look_next seen place n d out r =
+      let lock : ℕ = lock_of task seen place in
+      let e : Doings = record { loads = (lock, n) ∷ d.loads; changed = d.changed } in
+      let there = there_more seen d e ((lock, n) ∷ []) refl r.0 in
+      let before = before_more seen d e ((lock, n) ∷ []) refl place r.3 in
+      locked_recalls seen place e there before (take_looked n) (take_remembers lock d.loads Look (Value n) tt) (look_changed seen place d out r.1 n e refl (n % 2 == 1) (n == 2 ^ 64 - 2) there before)
+
+  try_by : (seen : Seen) (place : Place) (free n : ℕ) (d : Doings) → free_of seen.held place ≡ None → RemembersIn site task seen d (Lock place (Try free)) → (b : Bool)
+      → Recalls (next_in task seen (Lock place (Try free)) (if b then Won else Lost n)) (with_event_of (take_wanted (lock_of task seen place) (Try free)) (if b then Won else Lost n) d)
+  try_by seen place free n d out r true =
+      let e : Doings = record { loads = d.loads; changed = lock_of task seen place ∷ d.changed } in
+      let there = there_more seen d e [] refl r.0 in
+      let before = before_more seen d e [] refl place r.3 in
+      locked_recalls seen place e there before (taking.Held free) r.2 (won seen place d out r.1 free e refl)
+  try_by seen place free n d out r false =
+      let e : Doings = record { loads = d.loads; changed = d.changed } in
+      let there = there_more seen d e [] refl r.0 in
+      let before = before_more seen d e [] refl place r.3 in
+      locked_recalls seen place e there before (take_lost free n) (take_remembers (lock_of task seen place) d.loads (Try free) (Lost n) r.2) (lost_changed seen place d out r.1 free n e (n % 2 == 1) there before)
+
+  fill_next : (seen : Seen) (place : Place) (load : Load) (n : ℕ) (d : Doings) → RemembersIn site task seen d (Fill place load) → RecallsNext seen (Fill place load) n d
+  fill_next seen Home load n d r = fill_recalls seen Home load n d r.0 r.1 r.2 (load_taken load n) (λ e. load_stands (lock_of task seen Home) d.loads load n r.2)
+  fill_next seen Probing load n d r = fill_recalls seen Probing load n d r.0 r.1 r.2 (load_taken load n) (λ e. absurd (let z : Probing ≡ Home = e in cc))
+  fill_next seen First load n d r = fill_recalls seen First load n d r.0 r.1 r.2 (load_taken load n) (λ e. absurd (let z : First ≡ Home = e in cc))
+  fill_next seen Second load n d r = fill_recalls seen Second load n d r.0 r.1 r.2 (load_taken load n) (λ e. absurd (let z : Second ≡ Home = e in cc))
+
+  -- WHAT IS REMEMBERED at each step but the first ones is kept by its event
+  pub recalls_next : (seen : Seen) (s : WriteStep) (n : ℕ) (d : Doings) → RemembersIn site task seen d s → wanted_in task seen s ≢ want.Done
+      → ((w : Walk) → s ≡ Way w → (path : Path) → walk_taken task.site task.hash w n ≡ walked.There path → path.head ≡ site.front (head_at site.shape path.segment + 1))
+      → ((place : Place) (take : Take) → s ≡ Lock place take → free_of seen.held place ≡ None) → RecallsNext seen s n d
+  recalls_next seen (Way w) n d r asks head out = way_next seen w n d r (head w refl)
+  recalls_next seen (Lock place Look) n d r asks head out = look_next seen place n d (out place Look refl) r
+  recalls_next seen (Lock place (Try free)) n d r asks head out = try_by seen place free n d (out place (Try free) refl) r (n == free)
+  recalls_next seen (Check back) n d r asks head out =
+      let x : ℕ × ℕ = (back_word task.site task.hash seen.path back, n) in
+      let e : Doings = record { loads = x ∷ d.loads; changed = d.changed } in
+      backed_recalls seen e (there_more seen d e (x ∷ []) refl r.0) r.1 (back_taken task.site task.hash seen.path back n)
+  recalls_next seen (Fill place load) n d r asks head out = fill_next seen place load n d r
+  recalls_next seen Count n d r asks head out =
+      let x : ℕ × ℕ = (counter_word task.site.geometry, n) in
+      let e : Doings = record { loads = x ∷ d.loads; changed = d.changed } in
+      both e (nat_le (2 ^ 63) n) (answered seen n reply.Spent) (decided task seen n task.change.deed) (giving_recalls seen e seen.held _)
+      (decided_recalls seen e (there_more seen d e (x ∷ []) refl r.0) (home_more seen d e (x ∷ []) refl r.1) n task.change.deed)
+  recalls_next seen (step.Make m) n d r asks head out = make_recalls seen _ m _
+  recalls_next seen Draw n d r asks head out = draw_recalls seen _ n
+  recalls_next seen (Unnote part place) n d r asks head out = unnote_recalls seen _ part place _
+  recalls_next seen CountSpent n d r asks head out = giving_recalls seen (After seen CountSpent n d) seen.held _
+  recalls_next seen (Give held end) n d r asks head out = give_recalls seen _ held end _
+  recalls_next seen (Ended end) n d r asks head out = absurd (asks refl)

@@ -1,28 +1,25 @@
--- By the laws of a change.
-use Rattle.write_op.proofs.parts.ChangeIsPart.{change_is_part}
-use Rattle.write_op.proofs.parts.Deciding.{change_ends_by_cause}
+-- A change is a part of a call.
+use Rattle.write_op.proofs.parts.Parted.{change_is_part, begins_as_part, begins_undecided, begins_remembering, hands_on_all, never_finished}
+use Rattle.write_op.proofs.causing.ByCause.{change_ends_by_cause}
 use Rattle.write_op.proofs.laws.changes_are_parts.Goals as goal
 
 pub returns-clause-part : goal.returns-clause-part
-returns-clause-part c = change_is_part (record {
-  kinds = c.events_have_kinds.ensures;
-  may = c.fits_the_world.ensures.may;
-  keeps = c.fits_the_world.ensures.keeps;
-  has = c.stores_are_words.ensures.keeps;
-  puts = c.stores_are_words.ensures.asks;
-  inside = c.words_are_inside.ensures.asks;
-  notes = c.stores_keep_notes.ensures;
-  ends = c.attempt_ends.ensures.ends;
-  falls = c.attempt_ends.ensures.falls;
-  most = c.attempt_ends.ensures.most;
-  few = c.flushes_are_few.ensures.most;
-  flushes = c.flushes_are_few.ensures.flushes;
-  waits = c.flushes_are_few.ensures.keeps;
-  none_waits = c.flushes_are_few.ensures.ends;
-  makes = c.refusals_leave_pairs.ensures.makes;
-  stays = c.refusals_leave_pairs.ensures.stays;
-  done = c.refusals_leave_pairs.ensures.ends;
-})
+returns-clause-part c = change_is_part
 
 pub returns-clause-causes : goal.returns-clause-causes
-returns-clause-causes c = change_ends_by_cause c.attempt_ends.ensures.ends
+returns-clause-causes c = change_ends_by_cause
+
+pub returns-clause-undecided : goal.returns-clause-undecided
+returns-clause-undecided c = begins_undecided
+
+pub returns-clause-begins : goal.returns-clause-begins
+returns-clause-begins c = begins_as_part
+
+pub returns-clause-remembers : goal.returns-clause-remembers
+returns-clause-remembers c = begins_remembering
+
+pub returns-clause-hands_on : goal.returns-clause-hands_on
+returns-clause-hands_on c = hands_on_all
+
+pub returns-clause-finished : goal.returns-clause-finished
+returns-clause-finished c = never_finished

@@ -1,0 +1,192 @@
+-- The load of the commit counter under all locks keeps the view suited: it answers a refusal, or finds room for the change.
+use Rattle.std.proofs.Common.{◌≡◌, ◌⊎◌, ℕ, suc, ◌+◌, ◌^◌, ◌<◌, ◌≤◌, Bool, true, false, cond, Option, None, Some, List, [], ◌∷◌, inl, inr, refl, sym, ap, ◌∙◌, subst, arith, slice_index}
+use Rattle.std.specs.Prelude.{nat_le, nat_lt, if◌then◌else◌}
+use Rattle.std.proofs.lemmas.Bool.{lt-ltb, le-ltb, leb-true, leb-false}
+use Rattle.bucket_meta.specs.Search.{lowest_free}
+use Rattle.trace.specs.Events.{Words}
+use Rattle.image_layout.specs.Places.{Shape}
+use Rattle.map_model.specs.declared.call.Call.{Call}
+use Rattle.map_model.specs.declared.change.Deed.{Deed}
+use Rattle.map_model.specs.declared.change.Deed.TheVariants.{Insert, Update, Remove}
+use Rattle.map_model.specs.declared.entry.Reply.{Reply}
+use Rattle.map_model.specs.declared.entry.Reply.TheVariants as reply
+use Rattle.map_model.specs.Map.{is_done}
+use Rattle.map_model.specs.Legal.{IsInsert}
+use Rattle.map_model.specs.Changes.{doing, call_of}
+use Rattle.world.specs.Site.{Site}
+use Rattle.world.specs.Views.{View, Has, IsLoose}
+use Rattle.world.specs.Kinds.{finds_room, next_entry, with_reply, with_count, view_after}
+use Rattle.world.specs.Attempts.{HasNoMore, EntersReply}
+use Rattle.part.specs.Outcomes.{reply_of}
+use Rattle.phase.specs.declared.place.Place.{Place}
+use Rattle.phase.specs.declared.place.Place.TheVariants.{Home}
+use Rattle.phase.specs.declared.make.Make.{Make}
+use Rattle.phase.specs.declared.make.Make.TheVariants.{Key, Publish}
+use Rattle.phase.specs.Giving.{IsQuiet, IsOfHeld, HoldsLocks}
+use Rattle.phase.specs.Knows.{Knows, HasNoneLoose}
+use Rattle.phase.specs.Making.{IsMaking, IsNew}
+use Rattle.phase.proofs.locks.Making.{make_knows}
+use Rattle.write_op.specs.declared.step.Task.{Task}
+use Rattle.write_op.specs.declared.step.Spot.{Spot}
+use Rattle.write_op.specs.declared.step.Seen.{Seen}
+use Rattle.write_op.specs.declared.step.Ending.TheVariants as ending
+use Rattle.write_op.specs.declared.step.WriteEnd.TheVariants as ends
+use Rattle.write_op.specs.declared.step.WriteStep.{WriteStep}
+use Rattle.write_op.specs.declared.step.WriteStep.TheVariants as step
+use Rattle.write_op.specs.declared.step.Stage.{Stage}
+use Rattle.write_op.specs.Search.{found, room_in, record_at, spot_or}
+use Rattle.write_op.specs.Steps.{go, giving, answered, making, inserting, changing, decided, counted, kept_in, lock_of}
+use Rattle.write_op.specs.Keeps.{KeepsAll}
+use Rattle.write_op.specs.Fits.{loaded, prepared_by, prepared, inserting_kind, changing_kind, deciding_kind, count_kind, IsVisiting, HasLoaded, IsInserting, IsSpot, planned_at, owed_at, IsChanging, IsGiving, SuitsStage, IsIn}
+use Rattle.write_op.proofs.keeping.Going.{located, give_suits}
+use Rattle.write_op.proofs.finding.Finding.{holds_buckets, nowhere}
+use Rattle.write_op.proofs.finding.Searching.{or_none}
+use Rattle.write_op.proofs.keeping.Entering.{reply_at, giving_outcome, one_more, none_more}
+
+-- nothing is loose where nothing is unsettled
+pub none_loose : (v : View) → IsQuiet v → HasNoneLoose v
+none_loose v q p loose = elim loose [
+  | inl d ↦ subst (λ (l : List (ℕ × ℕ)). Has p l) q.dirty d
+  | inr f ↦ subst (λ (l : List (ℕ × ℕ)). Has p l) q.flushed f
+]
+
+-- a stage that a view suits, with its reply entered
+abbrev pub Goes : Site → Task → View → Stage → View → Type 0
+Goes site task before stage u = SuitsStage site task stage u × EntersReply (call_of task.change) (reply_at stage.step) before u
+
+module _ (site : Site) (task : Task) (is : IsIn site task) (seen : Seen) (before v : View) (same : HasNoMore before v) where
+  -- ---- refusals
+  pub refused : IsGiving site task seen seen.held v → (r : Reply) (n : ℕ) → is_done r ≡ false
+      → Goes site task before (answered seen n r) (with_reply v (next_entry v (call_of task.change) r n false))
+  refused g r n plain =
+      let u : View = with_reply v (next_entry v (call_of task.change) r n false) in (
+        give_suits site task is seen (ending.Replied r n) u (record {
+          located = g.located;
+          locks = record { locks = g.locks.locks; free = g.locks.free; known = g.locks.known };
+          quiet = record { dirty = g.quiet.dirty; flushed = g.quiet.flushed; planned = g.quiet.planned; moving = g.quiet.moving; owed = g.quiet.owed };
+        }),
+        subst (λ (o : Option (Reply × ℕ)). EntersReply (call_of task.change) o before u) (sym (ap reply_of (giving_outcome seen.held (ending.Replied r n))))
+            (one_more (call_of task.change) before v r n plain same),
+      )
+
+  -- ---- room
+  module _ (some : 0 < v.callers) (h : HasLoaded site task seen 4 4 v) (q : IsQuiet v) (vis : IsVisiting task seen) where
+    abbrev with_room : View
+    with_room = record v { room = v.callers }
+
+    gives : IsGiving site task seen seen.held v
+    gives = record { located = located site task is seen h.leads; locks = h.locks; quiet = q }
+
+    room_quiet : IsQuiet with_room
+    room_quiet = record { dirty = q.dirty; flushed = q.flushed; planned = q.planned; moving = q.moving; owed = q.owed }
+
+    room_loaded : HasLoaded site task seen 4 4 with_room
+    room_loaded = record {
+      leads = h.leads;
+      locks = record { locks = h.locks.locks; free = h.locks.free; known = h.locks.known };
+      upto = h.upto;
+      whole = h.whole;
+    }
+
+    no_more : (s : Stage) → reply_at s.step ≡ None → EntersReply (call_of task.change) (reply_at s.step) before with_room
+    no_more s quiet = none_more (call_of task.change) before v (reply_at s.step) with_room quiet same refl refl
+
+    -- the spot is chosen
+    module _ (spot : Spot) (right : IsSpot site task (record seen { place = spot.place; written = record_at task seen.buckets spot }) task.change.deed (found seen task.change.key)) where
+      abbrev chosen : Seen
+      chosen = record seen { place = spot.place; written = record_at task seen.buckets spot }
+
+      abbrev lock : ℕ
+      lock = lock_of task seen spot.place
+
+      abbrev knows : Knows (IsOfHeld task.site task.hash seen.path.segment seen.held) (loaded task seen) with_room
+      knows = (holds_buckets site task is seen with_room room_loaded).knows
+
+      changes : (m : Make) → IsMaking lock chosen.written (IsOfHeld task.site task.hash seen.path.segment seen.held) (loaded task seen) (prepared task chosen) m with_room
+          → planned_at site task chosen m ≡ [] → owed_at site task chosen m ≡ [] → (IsNew m → IsInserting task.change.deed) → IsChanging site task chosen m with_room
+      changes m making plans owes inserts = record {
+        all = record {
+          leads = h.leads;
+          locks = record { locks = h.locks.locks; free = h.locks.free; known = h.locks.known };
+          upto = record { these = λ p u. h.upto.these p (record { low = u.low; asked = u.asked }); others = λ p out. h.upto.others p (λ u. out (record { low = u.low; asked = u.asked })) };
+          visits = record { first = vis.first; second = vis.second };
+          still = q.moving;
+        };
+        chosen = record { spot = right; written = refl };
+        inserts = inserts;
+        making = making;
+        room = some;
+        planned = q.planned ∙ sym plans;
+        owes = q.owed ∙ sym owes;
+      }
+
+      -- an insert prepares the record
+      key_goes : (value : ℕ) → task.change.deed ≡ Insert value → Goes site task before (making task seen spot Key) with_room
+      key_goes value deed =
+          let begins = (make_knows (IsOfHeld task.site task.hash seen.path.segment seen.held)).new lock chosen.written (loaded task seen) with_room knows (none_loose with_room room_quiet) in (
+            changes Key
+                (subst (λ (d : Deed). IsMaking lock chosen.written (IsOfHeld task.site task.hash seen.path.segment seen.held) (loaded task seen) (prepared_by task chosen d) Key with_room) (sym deed) begins)
+                refl refl (λ new. subst IsInserting (sym deed) tt),
+            no_more (go chosen (step.Make Key)) refl,
+          )
+
+      -- the others begin at the one store
+      publish_goes : prepared task chosen ≡ loaded task seen → Goes site task before (making task seen spot Publish) with_room
+      publish_goes plain =
+          let begins = (make_knows (IsOfHeld task.site task.hash seen.path.segment seen.held)).change lock chosen.written (loaded task seen) (loaded task seen) with_room knows (none_loose with_room room_quiet) in (
+            changes Publish
+                (subst (λ (w : Words). IsMaking lock chosen.written (IsOfHeld task.site task.hash seen.path.segment seen.held) (loaded task seen) w Publish with_room) (sym plain) begins)
+                refl refl (λ new. absurd new),
+            no_more (go chosen (step.Make Publish)) refl,
+          )
+
+    -- no slot is free
+    kept_goes : (value : ℕ) → task.change.deed ≡ Insert value → found seen task.change.key ≡ None → room_in seen.buckets ≡ None
+        → Goes site task before (go seen (step.Ended ends.NoSlot)) with_room
+    kept_goes value deed none full = (
+      record {
+        insert = subst (λ (d : Deed). IsInsert (doing task.change.key d)) (sym deed) tt;
+        holds = holds_buckets site task is seen with_room room_loaded;
+        quiet = room_quiet;
+        nowhere = nowhere site task seen (located site task is seen h.leads) h.upto vis none;
+        full = (or_none Home (lowest_free (slice_index seen.buckets.home 1)) None full).0;
+        room = some;
+      },
+      no_more (go seen (step.Ended ends.NoSlot)) refl,
+    )
+
+    module _ (n : ℕ) (small : nat_lt n (2 ^ 63) ≡ true) where
+      room_is : with_room ≡ with_count (nat_lt n (2 ^ 63)) (call_of task.change) n v
+      room_is = ap (λ b. with_count b (call_of task.change) n v) (sym small)
+
+      insert_by : (value : ℕ) → task.change.deed ≡ Insert value → (there room : Option Spot) → found seen task.change.key ≡ there → room_in seen.buckets ≡ room
+          → Goes site task before (inserting task seen n there room) (view_after site.shape (inserting_kind task seen there) n v)
+      insert_by value deed (Some spot) room e f = refused gives reply.Exists n refl
+      insert_by value deed None (Some spot) e f = subst (Goes site task before (making task seen spot Key)) room_is
+          (key_goes spot (subst (λ (d : Deed). IsSpot site task (record seen { place = spot.place; written = record_at task seen.buckets spot }) d (found seen task.change.key)) (sym deed) (e, f)) value deed)
+      insert_by value deed None None e f = subst (Goes site task before (go seen (step.Ended ends.NoSlot))) room_is (kept_goes value deed e f)
+
+      change_by : (d : Deed) → task.change.deed ≡ d → (there : Option Spot) → found seen task.change.key ≡ there
+          → ((spot : Spot) → found seen task.change.key ≡ Some spot → IsSpot site task (record seen { place = spot.place; written = record_at task seen.buckets spot }) d (found seen task.change.key))
+          → ((spot : Spot) → prepared_by task (record seen { place = spot.place; written = record_at task seen.buckets spot }) d ≡ loaded task seen)
+          → Goes site task before (changing task seen n there) (view_after site.shape (changing_kind task seen there) n v)
+      change_by d deed (Some spot) e right same_words = subst (Goes site task before (making task seen spot Publish)) room_is
+          (publish_goes spot (subst (λ (z : Deed). IsSpot site task (record seen { place = spot.place; written = record_at task seen.buckets spot }) z (found seen task.change.key)) (sym deed) (right spot e))
+          (ap (prepared_by task (record seen { place = spot.place; written = record_at task seen.buckets spot })) deed ∙ same_words spot))
+      change_by d deed None e right same_words = refused gives reply.Absent n refl
+
+      decided_goes : (d : Deed) → task.change.deed ≡ d → Goes site task before (decided task seen n d) (view_after site.shape (deciding_kind task seen d) n v)
+      decided_goes (Insert value) deed = insert_by value deed (found seen task.change.key) (room_in seen.buckets) refl refl
+      decided_goes (Update value) deed = change_by (Update value) deed (found seen task.change.key) refl (λ spot e. e) (λ spot. refl)
+      decided_goes Remove deed = change_by Remove deed (found seen task.change.key) refl (λ spot e. e) (λ spot. refl)
+
+    count_by : (n : ℕ) (b : Bool) → nat_le (2 ^ 63) n ≡ b
+        → Goes site task before (if b then answered seen n reply.Spent else decided task seen n task.change.deed)
+        (view_after site.shape (if b then finds_room (call_of task.change) else deciding_kind task seen task.change.deed) n v)
+    count_by n true test =
+        subst (λ c. Goes site task before (answered seen n reply.Spent) (with_count c (call_of task.change) n v)) (sym (le-ltb n (2 ^ 63) (leb-true (2 ^ 63) n test)))
+        (refused gives reply.Spent n refl)
+    count_by n false test = decided_goes n (lt-ltb n (2 ^ 63) (leb-false (2 ^ 63) n test)) task.change.deed refl
+
+    pub count_goes : (n : ℕ) → Goes site task before (counted task seen n) (view_after site.shape (count_kind task seen n) n v)
+    count_goes n = count_by n (nat_le (2 ^ 63) n) refl

@@ -1,0 +1,83 @@
+-- The draw keeps the view suited: its reply is entered, and the locks go back, but that a note may be owed.
+use Rattle.std.proofs.Common.{◌≡◌, ◌⊎◌, ℕ, suc, ◌+◌, ◌<◌, Bool, true, false, cond, Option, None, Some, List, [], ◌∷◌, ◌++◌, length, inl, inr, refl, sym, ap, ◌∙◌, subst, arith}
+use Rattle.std.specs.Prelude.{if◌then◌else◌, ◌==◌}
+use Rattle.std.proofs.lemmas.Bool.{eq-eqb}
+use Rattle.map_model.specs.declared.call.Call.{Call}
+use Rattle.map_model.specs.declared.entry.Reply.TheVariants as reply
+use Rattle.map_model.specs.Map.{key_of}
+use Rattle.map_model.specs.Changes.{call_of}
+use Rattle.world.specs.Site.{Site}
+use Rattle.world.specs.Views.{View, Has, IsLoose}
+use Rattle.world.specs.Kinds.{of_other_keys, with_draw}
+use Rattle.world.specs.Attempts.{HasNoMore, HasOneMore, EntersReply}
+use Rattle.part.specs.Outcomes.{reply_of}
+use Rattle.phase.specs.Giving.{IsQuiet}
+use Rattle.phase.proofs.locks.Giving.{nothing_left}
+use Rattle.write_op.specs.declared.step.Task.{Task}
+use Rattle.write_op.specs.declared.step.Seen.{Seen}
+use Rattle.write_op.specs.declared.step.Ending.TheVariants as ending
+use Rattle.write_op.specs.declared.step.NoteWord.TheVariants.{Mark}
+use Rattle.write_op.specs.declared.step.WriteStep.TheVariants.{Unnote}
+use Rattle.write_op.specs.Search.{leaves_note}
+use Rattle.write_op.specs.Steps.{go, answered, drawn_to}
+use Rattle.write_op.specs.Fits.{owed_by, IsDrawing, IsIn}
+use Rattle.write_op.proofs.keeping.Going.{located, give_suits}
+use Rattle.write_op.proofs.keeping.Entering.{reply_at, giving_outcome}
+use Rattle.write_op.proofs.keeping.Counting.{Goes}
+
+-- what is planned of a key alone is drawn
+own_drawn : (call : Call) → of_other_keys (key_of call) (call ∷ []) ≡ []
+own_drawn call = ap (λ b. if b then [] else call ∷ []) (eq-eqb (key_of call) (key_of call) refl)
+
+module _ (site : Site) (task : Task) (is : IsIn site task) (seen : Seen) (before v : View) (same : HasNoMore before v) (d : IsDrawing site task seen v) (n : ℕ) where
+  abbrev call : Call
+  call = call_of task.change
+
+  abbrev after : View
+  after = with_draw call n v
+
+  drawn : after.planned ≡ []
+  drawn = ap (of_other_keys (key_of call)) d.planned ∙ own_drawn call
+
+  entered : HasOneMore call reply.Done n before after
+  entered = record {
+    own = ap (λ o. o ++ record { serial = suc (length o); call = call; reply = reply.Done; place = n; drew = true } ∷ []) same.own;
+    seen = refl;
+  }
+
+  no_dirty : v.dirty ≡ []
+  no_dirty = nothing_left v.dirty (λ p h. d.settled p (inl h))
+
+  no_flushed : v.flushed ≡ []
+  no_flushed = nothing_left v.flushed (λ p h. d.settled p (inr h))
+
+  by : (b : Bool) → leaves_note task.change.deed seen.place ≡ b → Goes site task before (if b then go seen (Unnote Mark n) else answered seen n reply.Done) after
+  by true e = (
+    record {
+      all = record {
+        leads = d.all.leads;
+        locks = record { locks = d.all.locks.locks; free = d.all.locks.free; known = d.all.locks.known };
+        upto = d.all.upto;
+        visits = d.all.visits;
+        still = d.all.still;
+      };
+      chosen = d.chosen;
+      leaves = e;
+      knows = d.knows;
+      settled = d.settled;
+      planned = drawn;
+      owes = d.owes ∙ ap (owed_by site task seen) e;
+    },
+    entered,
+  )
+  by false e = (
+    give_suits site task is seen (ending.Replied reply.Done n) after (record {
+      located = located site task is seen d.all.leads;
+      locks = record { locks = d.all.locks.locks; free = d.all.locks.free; known = d.all.locks.known };
+      quiet = record { dirty = no_dirty; flushed = no_flushed; planned = drawn; moving = d.all.still; owed = d.owes ∙ ap (owed_by site task seen) e };
+    }),
+    subst (λ o. EntersReply call o before after) (sym (ap reply_of (giving_outcome seen.held (ending.Replied reply.Done n)))) entered,
+  )
+
+  pub draw_goes : Goes site task before (drawn_to task seen n) after
+  draw_goes = by (leaves_note task.change.deed seen.place) refl

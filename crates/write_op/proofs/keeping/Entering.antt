@@ -1,0 +1,124 @@
+-- Which replies are entered: none before the outcome is decided, and then the one that it is.
+use Rattle.std.proofs.Common.{◌≡◌, ◌≢◌, ℕ, suc, ◌+◌, ◌<◌, Bool, true, false, cond, Option, None, Some, List, [], ◌∷◌, ◌++◌, length, refl, sym, ap, ◌∙◌, subst}
+use Rattle.std.specs.Prelude.{if◌then◌else◌, ◌==◌}
+use Rattle.op_core.specs.declared.want.Want.TheVariants.{Done as DoneWant}
+use Rattle.op_core.specs.declared.why.Why.{Why}
+use Rattle.op_core.specs.declared.why.Why.TheVariants.{Busy, Moved}
+use Rattle.segment_head.specs.HeadWord.{state_in, normal}
+use Rattle.way.specs.Ways.{head_word}
+use Rattle.map_model.specs.declared.call.Call.{Call}
+use Rattle.map_model.specs.declared.entry.Reply.{Reply}
+use Rattle.map_model.specs.declared.entry.Reply.TheVariants as reply
+use Rattle.map_model.specs.Map.{is_done}
+use Rattle.map_model.specs.Changes.{call_of}
+use Rattle.world.specs.Views.{View}
+use Rattle.world.specs.Kinds.{next_entry, with_reply}
+use Rattle.world.specs.Attempts.{HasNoMore, HasOneMore, EntersReply}
+use Rattle.part.specs.Outcomes.{Outcome, replied, reply_of}
+use Rattle.phase.specs.declared.place.Place.{Place}
+use Rattle.phase.specs.declared.place.Place.TheVariants.{Home, Probing, First, Second}
+use Rattle.phase.specs.declared.walk.Walked.{Walked}
+use Rattle.phase.specs.declared.walk.Walked.TheVariants as walked
+use Rattle.phase.specs.declared.take.Take.TheVariants.{Look}
+use Rattle.phase.specs.declared.take.Taken.{Taken}
+use Rattle.phase.specs.declared.take.Taken.TheVariants as taking
+use Rattle.phase.specs.declared.back.Backed.{Backed}
+use Rattle.phase.specs.declared.back.Backed.TheVariants as backed
+use Rattle.phase.specs.declared.load.Loaded.{Loaded}
+use Rattle.phase.specs.declared.load.Loaded.TheVariants as loaded
+use Rattle.phase.specs.declared.held.Held.{Held}
+use Rattle.phase.specs.Helds.{give_next}
+use Rattle.write_op.specs.declared.step.Task.{Task}
+use Rattle.write_op.specs.declared.step.Seen.{Seen}
+use Rattle.write_op.specs.declared.step.Ending.{Ending}
+use Rattle.write_op.specs.declared.step.Ending.TheVariants as ending
+use Rattle.write_op.specs.declared.step.WriteStep.{WriteStep}
+use Rattle.write_op.specs.declared.step.WriteStep.TheVariants.{Lock, Count}
+use Rattle.write_op.specs.declared.step.Stage.{Stage}
+use Rattle.write_op.specs.Steps.{go, end_of, given_by, giving, give, amiss, walked_to, locked, locked_to, backed_to, visit_second, visit_first, with_visits, filled, filled_to}
+use Rattle.write_op.specs.Fits.{outcome_of, outcome_at}
+
+-- the reply that is decided
+abbrev pub reply_at : WriteStep → Option (Reply × ℕ)
+reply_at s = reply_of (outcome_at s)
+
+-- ---- locks back
+by_next : (next : Option (Place × ℕ)) (held : Held) (end : Ending) → outcome_at (given_by next held end) ≡ outcome_of (end_of end)
+by_next (Some next) held end = refl
+by_next None held end = refl
+
+pub giving_outcome : (held : Held) (end : Ending) → outcome_at (giving held end) ≡ outcome_of (end_of end)
+giving_outcome held end = by_next (give_next held) held end
+
+giving_again : (held : Held) (why : Why) → reply_at (giving held (ending.Again why)) ≡ None
+giving_again held why = ap reply_of (giving_outcome held (ending.Again why))
+
+-- ---- nothing is entered on the way, at the locks, and while buckets are loaded
+either_quiet : (b : Bool) (s t : WriteStep) → reply_at s ≡ None → reply_at t ≡ None → reply_at (if b then s else t) ≡ None
+either_quiet true s t p q = p
+either_quiet false s t p q = q
+
+both_quiet : (b : Bool) (s t : Stage) → reply_at s.step ≡ None → reply_at t.step ≡ None → reply_at (if b then s else t).step ≡ None
+both_quiet true s t p q = p
+both_quiet false s t p q = q
+
+pub walked_quiet : (task : Task) (seen : Seen) (x : Walked) → reply_at (walked_to task seen x).step ≡ None
+walked_quiet task seen (walked.On w) = refl
+walked_quiet task seen (walked.There path) = both_quiet (state_in path.head == normal) (go (record seen { path = path }) (Lock Home Look))
+    (go seen (amiss (head_word task.site.geometry path.segment) path.head)) refl refl
+walked_quiet task seen walked.Off = refl
+walked_quiet task seen (walked.Amiss word value) = refl
+walked_quiet task seen (walked.Stale segment version) = refl
+
+locked_quiet : (place : Place) → reply_at (locked place) ≡ None
+locked_quiet Home = refl
+locked_quiet Probing = refl
+locked_quiet First = refl
+locked_quiet Second = refl
+
+pub taken_quiet : (seen : Seen) (place : Place) (lock : ℕ) (x : Taken) → reply_at (locked_to seen place lock x).step ≡ None
+taken_quiet seen place lock (taking.On take) = refl
+taken_quiet seen place lock (taking.Held free) = locked_quiet place
+taken_quiet seen place lock (taking.Busy value) = giving_again seen.held (Busy lock value)
+taken_quiet seen place lock (taking.Moved before after) = giving_again seen.held (Moved lock before after)
+taken_quiet seen place lock taking.Spent = refl
+
+pub backed_quiet : (seen : Seen) (x : Backed) → reply_at (backed_to seen x).step ≡ None
+backed_quiet seen (backed.On back) = refl
+backed_quiet seen backed.Same = refl
+backed_quiet seen (backed.Moved word before after) = giving_again seen.held (Moved word before after)
+
+second_quiet : (seen : Seen) → reply_at (visit_second seen) ≡ None
+second_quiet seen = either_quiet seen.second (Lock Second Look) Count refl refl
+
+first_quiet : (seen : Seen) → reply_at (visit_first seen) ≡ None
+first_quiet seen = either_quiet seen.first (Lock First Look) (visit_second seen) refl (second_quiet seen)
+
+all_quiet : (hash : ℕ) (seen : Seen) (place : Place) → reply_at (filled hash seen place).step ≡ None
+all_quiet hash seen Home = refl
+all_quiet hash seen Probing = first_quiet (with_visits hash seen)
+all_quiet hash seen First = second_quiet seen
+all_quiet hash seen Second = refl
+
+pub filled_quiet : (hash : ℕ) (seen : Seen) (place : Place) (x : Loaded) → reply_at (filled_to hash seen place x).step ≡ None
+filled_quiet hash seen place (loaded.On load) = refl
+filled_quiet hash seen place (loaded.All words) = all_quiet hash _ place
+
+-- ---- what is entered
+module _ (call : Call) (before v : View) where
+  -- nothing more
+  pub none_more : (o : Option (Reply × ℕ)) (u : View) → o ≡ None → HasNoMore before v → u.own ≡ v.own → u.seen ≡ v.seen → EntersReply call o before u
+  none_more o u none same own seen = subst (λ (r : Option (Reply × ℕ)). EntersReply call r before u) (sym none) (record { own = own ∙ same.own; seen = seen ∙ same.seen })
+
+  -- a reply that changes nothing
+  pub one_more : (r : Reply) (place : ℕ) → is_done r ≡ false → HasNoMore before v → HasOneMore call r place before (with_reply v (next_entry v call r place false))
+  one_more r place plain same = record {
+    own = ap (λ o. o ++ record { serial = suc (length o); call = call; reply = r; place = place; drew = false } ∷ []) same.own
+        ∙ ap (λ d. before.own ++ next_entry before call r place d ∷ []) (sym plain);
+    seen = ap (λ d. cond d (suc place) place) (sym plain);
+  }
+
+  -- what was entered before, while locks are given back
+  pub same_more : (o : Option (Reply × ℕ)) (u : View) → EntersReply call o before v → u.own ≡ v.own → u.seen ≡ v.seen → EntersReply call o before u
+  same_more None u e own seen = record { own = own ∙ e.own; seen = seen ∙ e.seen }
+  same_more (Some r) u e own seen = record { own = own ∙ e.own; seen = seen ∙ e.seen }

@@ -1,0 +1,103 @@
+-- THE STEPS, one by one: what an answer makes of each is suited, and each may be taken.
+use Rattle.std.proofs.Common.{◌≡◌, ◌≢◌, ◌⊎◌, ℕ, ◌+◌, ◌%◌, ◌^◌, ◌<◌, ◌≤◌, Option, None, Some, List, [], ◌∷◌, inl, inr, refl, sym, ap, ◌∙◌, subst}
+use Rattle.op_core.specs.declared.want.Want.TheVariants as want
+use Rattle.op_core.specs.declared.want.Ans.{Ans}
+use Rattle.op_core.specs.declared.want.Ans.TheVariants.{Value, Passed}
+use Rattle.trace.specs.Events.{Words}
+use Rattle.map_model.specs.declared.entry.Reply.{Reply}
+use Rattle.map_model.specs.declared.entry.Reply.TheVariants as reply
+use Rattle.map_model.specs.Changes.{call_of}
+use Rattle.world.specs.Site.{Site}
+use Rattle.world.specs.Views.{Owed, View, At, Has}
+use Rattle.world.specs.Wants.{answer_to, word_of}
+use Rattle.world.specs.Kinds.{view_after}
+use Rattle.world.specs.Conditions.{May}
+use Rattle.world.specs.Invariant.{Holds}
+use Rattle.world.specs.Attempts.{EntersReply}
+use Rattle.phase.specs.declared.place.Place.{Place}
+use Rattle.phase.specs.declared.make.Make.{Make}
+use Rattle.phase.specs.declared.make.Make.TheVariants.{Key, Value as ValueOf, Fingers as FingersOf, FlushFingers, FlushRecord, FenceRecord, Publish, FlushPublished, FencePublished}
+use Rattle.phase.specs.Walks.{walk_taken}
+use Rattle.phase.specs.Backs.{back_taken}
+use Rattle.phase.specs.Helds.{give_next}
+use Rattle.phase.specs.Buckets.{words_in}
+use Rattle.phase.specs.Making.{make_kind}
+use Rattle.phase.proofs.Walking.{walk_may}
+use Rattle.phase.proofs.locks.Taking.{take_fits}
+use Rattle.phase.proofs.locks.Giving.{is_lock, give_stands}
+use Rattle.write_op.specs.declared.search.NoteWords.{NoteWords}
+use Rattle.write_op.specs.declared.step.Task.{Task}
+use Rattle.write_op.specs.declared.step.Seen.{Seen}
+use Rattle.write_op.specs.declared.step.NoteWord.{NoteWord}
+use Rattle.write_op.specs.declared.step.NoteWord.TheVariants.{Mark, Fingers}
+use Rattle.write_op.specs.declared.step.WriteStep.{WriteStep}
+use Rattle.write_op.specs.declared.step.WriteStep.TheVariants.{Way, Lock, Check, Fill, Count, Draw, Unnote, CountSpent, Give, Ended}
+use Rattle.write_op.specs.declared.step.WriteStep.TheVariants as step
+use Rattle.write_op.specs.Search.{unnoted}
+use Rattle.write_op.specs.Steps.{backed_to, lock_of, note_wanted, wanted_in, next_in}
+use Rattle.write_op.specs.Fits.{owed, publish_kind, kind_at, IsChanging, IsUnnoting, SuitsStep, AreWords, IsIn}
+use Rattle.write_op.proofs.keeping.Going.{located, backed_suits}
+use Rattle.write_op.proofs.keeping.Entering.{reply_at, backed_quiet}
+use Rattle.write_op.proofs.keeping.Counting.{Goes, refused, count_goes}
+use Rattle.write_op.proofs.keeping.Storing.{make_goes}
+use Rattle.write_op.proofs.keeping.Drawing.{draw_goes}
+use Rattle.write_op.proofs.keeping.Repaying.{unnote_goes}
+use Rattle.write_op.proofs.permitting.Permitting.{spent_may, count_may}
+use Rattle.write_op.proofs.permitting.Publishing.{other_may, publish_may}
+use Rattle.write_op.proofs.permitting.Drawn.{draw_may}
+use Rattle.write_op.proofs.permitting.Unnoting.{unnote_may}
+use Rattle.write_op.proofs.keeping.Stepping.{walk_answer, make_answer, give_answer, quietly, way_goes, fill_guard, fill_goes, lock_goes, give_goes}
+
+note_answer : (task : Task) (seen : Seen) (part : NoteWord) (note : NoteWords) (n : ℕ) → answer_to (note_wanted task seen part note) n ≡ Passed
+note_answer task seen Mark note n = refl
+note_answer task seen Fingers note n = refl
+
+module _ (site : Site) (task : Task) (is : IsIn site task) (words : Words) (views : List View) (j : ℕ) (before v : View) (h : Holds site words views) (at : At views j v) (some : 0 < v.callers) (seen : Seen)
+    (small : (place : Place) → AreWords (words_in seen.buckets place)) where
+  pub step_in : (s : WriteStep) (n : ℕ) → n < 2 ^ 64 → n ≡ words (word_of site.shape (wanted_in task seen s)) → SuitsStep site task seen s v
+      → EntersReply (call_of task.change) (reply_at s) before v → wanted_in task seen s ≢ want.Done
+      → Goes site task before (next_in task seen s (answer_to (wanted_in task seen s) n)) (view_after site.shape (kind_at task seen s n) n v)
+  step_in (Way w) n low found suits enters asks = subst (λ (a : Ans). Goes site task before (next_in task seen (Way w) a) (view_after site.shape (kind_at task seen (Way w) n) n v)) (sym (walk_answer task.site task.hash w n))
+      (way_goes site task is words views j before v h at some seen w n found suits enters)
+  step_in (Lock place t) n low found suits enters asks = lock_goes site task is words views j before v h at some seen place t n low suits enters
+  step_in (Check back) n low found suits enters asks = quietly site task is words views j before v h at some seen (backed_to seen (back_taken task.site task.hash seen.path back n)) v
+      (backed_suits site task is seen v suits.0 suits.1 (back_taken task.site task.hash seen.path back n)) (backed_quiet seen (back_taken task.site task.hash seen.path back n)) enters refl refl
+  step_in (Fill place load) n low found suits enters asks = fill_goes site task is words views j before v h at some seen place load n suits enters
+  step_in Count n low found suits enters asks = count_goes site task is seen before v enters some suits.0 suits.1 suits.2 n
+  step_in (step.Make m) n low found suits enters asks =
+      subst (λ (a : Ans). Goes site task before (next_in task seen (step.Make m) a) (view_after site.shape (kind_at task seen (step.Make m) n) n v)) (sym (make_answer (lock_of task seen seen.place) seen.written m n))
+      (make_goes site task is seen before v enters n m suits)
+  step_in Draw n low found suits enters asks = draw_goes site task is seen before v enters suits n
+  step_in (Unnote part place) n low found suits enters asks =
+      subst (λ (a : Ans). Goes site task before (next_in task seen (Unnote part place) a) (view_after site.shape (kind_at task seen (Unnote part place) n) n v)) (sym (note_answer task seen part (unnoted task.hash seen) n))
+      (unnote_goes site task is seen before v words views j h at small part suits place n found enters)
+  step_in CountSpent n low found suits enters asks = refused site task is seen before v enters suits.0 reply.Spent n refl
+  step_in (Give held end) n low found suits enters asks =
+      subst (λ (a : Ans). Goes site task before (next_in task seen (Give held end) a) (view_after site.shape (kind_at task seen (Give held end) n) n v)) (sym (give_answer task.site task.hash seen.path.segment (give_next held) n))
+      (give_goes site task is words views j before v h at some seen held end n suits enters)
+  step_in (Ended end) n low found suits enters asks = absurd (asks refl)
+
+  make_may : (m : Make) → IsChanging site task seen m v → May site (make_kind (publish_kind task seen) (lock_of task seen seen.place) seen.written m) v
+  make_may Key c = other_may site task is seen v Key c (λ e. cc)
+  make_may ValueOf c = other_may site task is seen v ValueOf c (λ e. cc)
+  make_may FingersOf c = other_may site task is seen v FingersOf c (λ e. cc)
+  make_may FlushFingers c = other_may site task is seen v FlushFingers c (λ e. cc)
+  make_may FlushRecord c = other_may site task is seen v FlushRecord c (λ e. cc)
+  make_may FenceRecord c = other_may site task is seen v FenceRecord c (λ e. cc)
+  make_may Publish c = publish_may site task is seen v c small
+  make_may FlushPublished c = other_may site task is seen v FlushPublished c (λ e. cc)
+  make_may FencePublished c = other_may site task is seen v FencePublished c (λ e. cc)
+
+  pub may_in : (s : WriteStep) (n : ℕ) → SuitsStep site task seen s v → wanted_in task seen s ≢ want.Done → May site (kind_at task seen s n) v
+  may_in (Way w) n suits asks = walk_may task.site task.hash site w v
+  may_in (Lock place t) n suits asks = take_fits.may site (lock_of task seen place) t v (is_lock site task.site task.hash seen.path.segment (located site task is seen suits.0.leads) place) suits.3
+  may_in (Check back) n suits asks = tt
+  may_in (Fill place load) n suits asks = fill_guard site task is words views j before v h at some seen place load suits
+  may_in Count n suits asks = count_may site task is seen v some suits.0 suits.1 suits.2 n
+  may_in (step.Make m) n suits asks = make_may m suits
+  may_in Draw n suits asks = draw_may site task is seen v suits small
+  may_in (Unnote part place) n suits asks = unnote_may site task is seen v part suits small words
+      (h.overflow.owes j v (owed task seen) at (subst (λ (l : List Owed). Has (owed task seen) l) (sym suits.owes) (inl refl)))
+  may_in CountSpent n suits asks = spent_may site task seen v suits.1
+  may_in (Give held end) n suits asks = give_stands.may site task.site task.hash seen.path.segment held v suits.locks suits.quiet
+  may_in (Ended end) n suits asks = absurd (asks refl)

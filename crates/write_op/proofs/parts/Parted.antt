@@ -1,0 +1,299 @@
+-- A CHANGE IS A PART of a call: its laws one by one.
+use Rattle.std.proofs.Common.{◌≡◌, ◌≢◌, ◌⊎◌, ℕ, ◌+◌, ◌*◌, ◌%◌, ◌^◌, ◌<◌, ◌≤◌, Bool, true, false, Option, None, Some, List, [], ◌∷◌, inl, inr, refl, sym, ap, ◌∙◌, subst, arith}
+use Rattle.std.specs.Prelude.{⊤, nat_le, if◌then◌else◌}
+use Rattle.std.proofs.lemmas.Option.{none-some, same_Some}
+use Rattle.op_core.specs.declared.want.Want.{Want}
+use Rattle.op_core.specs.declared.want.Want.TheVariants as want
+use Rattle.op_core.specs.declared.want.Ans.{Ans}
+use Rattle.op_core.specs.Answers.{IsWord}
+use Rattle.trace.specs.Events.{Words}
+use Rattle.image_layout.specs.Places.{Shape, IsShape, words_of}
+use Rattle.map_model.specs.declared.call.Call.{Call}
+use Rattle.map_model.specs.declared.change.Change.{Change}
+use Rattle.map_model.specs.declared.change.Deed.{Deed}
+use Rattle.map_model.specs.declared.change.Deed.TheVariants.{Insert, Update, Remove}
+use Rattle.map_model.specs.Changes.{call_of}
+use Rattle.sound_image.specs.Records.{key_hash}
+use Rattle.sound_image.proofs.Hashes.{key_hash-fits}
+use Rattle.world.specs.declared.site.Site.{Site as Here}
+use Rattle.world.specs.Site.{Site, IsSite}
+use Rattle.world.specs.Views.{View, Has, At}
+use Rattle.world.specs.Wants.{answer_to, word_of}
+use Rattle.world.specs.Kinds.{Kind, finds_room, cuts_power, wanted as wanted_by, view_after}
+use Rattle.world.specs.Conditions.{May}
+use Rattle.world.specs.Invariant.{Holds}
+use Rattle.world.specs.Attempts.{HoldsOnly, EntersReply}
+use Rattle.world.specs.Pairs.{IsPublishingKind}
+use Rattle.world.proofs.stepping.Answers.{is_word}
+use Rattle.part.specs.Asks.{IsWithin}
+use Rattle.part.specs.Outcomes.{Outcome, finished, reply_of}
+use Rattle.part.specs.Part.{Suits, KeepsSuits, PlansItsCall, IsPart}
+use Rattle.phase.specs.declared.place.Place.{Place}
+use Rattle.phase.specs.declared.place.Place.TheVariants as place
+use Rattle.phase.specs.declared.walk.Walk.{Walk}
+use Rattle.phase.specs.declared.walk.Walk.TheVariants as walk
+use Rattle.phase.specs.declared.take.Take.{Take}
+use Rattle.phase.specs.declared.take.Take.TheVariants.{Look, Try}
+use Rattle.phase.specs.declared.make.Make.{Make}
+use Rattle.phase.specs.declared.make.Make.TheVariants as make
+use Rattle.phase.specs.Helds.{give_next}
+use Rattle.phase.specs.Buckets.{words_in, no_words}
+use Rattle.phase.specs.Stands.{IsStraight, walk_kind}
+use Rattle.phase.specs.Taking.{take_kind}
+use Rattle.phase.specs.Giving.{give_kind_of}
+use Rattle.write_op.specs.declared.search.NoteWords.{NoteWords}
+use Rattle.write_op.specs.declared.step.Task.{Task}
+use Rattle.write_op.specs.declared.step.Spot.{Spot}
+use Rattle.write_op.specs.declared.step.Seen.{Seen}
+use Rattle.write_op.specs.declared.step.Ending.{Ending}
+use Rattle.write_op.specs.declared.step.Ending.TheVariants as ending
+use Rattle.write_op.specs.declared.step.NoteWord.{NoteWord}
+use Rattle.write_op.specs.declared.step.NoteWord.TheVariants.{Mark, Fingers}
+use Rattle.write_op.specs.declared.step.WriteEnd.{WriteEnd}
+use Rattle.write_op.specs.declared.step.WriteEnd.TheVariants as ends
+use Rattle.write_op.specs.declared.step.WriteStep.{WriteStep}
+use Rattle.write_op.specs.declared.step.WriteStep.TheVariants.{Way, Lock, Check, Fill, Count, Draw, Unnote, CountSpent, Give, Ended}
+use Rattle.write_op.specs.declared.step.WriteStep.TheVariants as step
+use Rattle.write_op.specs.declared.op.WriteOp.{WriteOp}
+use Rattle.write_op.specs.Search.{found, leaves_note, brought, unnoted, has_finger}
+use Rattle.write_op.specs.Steps.{begun, lock_of, wanted, taken, wanted_in, next_in, end_of, is_without_slot, kept_in}
+use Rattle.write_op.specs.Keeps.{KeepsAll}
+use Rattle.write_op.specs.Fits.{publish_by, publish_kind, inserting_kind, changing_kind, deciding_kind, mark_kind, note_kind, kind_at, kind_of, planned_at, SuitsStep, ChangeStands, AreWords, outcome_of, outcome_at}
+use Rattle.write_op.specs.ChangePart.{change_part, BeginsAsPart, BeginsUndecided, BeginsRemembering, HandsOnAll, NeverFinished}
+use Rattle.write_op.proofs.Falling.{change_falls, most_at}
+use Rattle.write_op.proofs.parts.Fitting.{wants_in}
+use Rattle.write_op.proofs.keeping.Walking.{step_in, may_in}
+use Rattle.write_op.proofs.parts.Wording.{none_words, words_after}
+use Rattle.write_op.proofs.parts.Putting.{puts_word, asks_within}
+use Rattle.write_op.proofs.parts.Parting.{HasFlush, HasFence, makes_in, stays_in, done_in, bare_in, few_in, flush_in, keeps_in, none_waits}
+
+-- ---- EACH STEP
+steps : KeepsSuits change_part
+steps site here call words views j op before v h at s asks =
+    let task : Task = op.task in
+    let seen : Seen = op.stage.seen in
+    let st : ChangeStands site here call op v = s.stands in
+    let n : ℕ = words (word_of site.shape (wanted op)) in
+    let a : Ans = answer_to (wanted op) n in
+    let u : View = view_after site.shape (kind_of op n) n v in
+    let enters = subst (λ c. EntersReply c (reply_of (outcome_at op.stage.step)) before v) (sym st.same) s.enters in
+    let goes = λ (small : n < 2 ^ 64). step_in site task st.is_in words views j before v h at s.callers seen st.has.buckets op.stage.step n small refl st.view enters asks in
+    record {
+      wants = wants_in site task seen st.is_in v op.stage.step n st.view asks;
+      may = may_in site task st.is_in words views j before v h at s.callers seen st.has.buckets op.stage.step n st.view asks;
+      stands = λ small. let all = words_after task seen st.has.buckets op.stage.step a (is_word (wanted op) n small) st.has.load in record {
+        same = st.same;
+        at = st.at;
+        is_in = st.is_in;
+        has = record { key = st.has.key; value = st.has.value; buckets = all.0; load = all.1 };
+        view = (goes small).0;
+      };
+      enters = λ small. subst (λ c. EntersReply c (reply_of (outcome_at (next_in task seen op.stage.step a).step)) before u) st.same (goes small).1;
+      makes = makes_in task seen op.stage.step n;
+    }
+
+-- ---- what is planned
+none_has : {X : Type 0} (xs : List X) (x : X) → xs ≡ [] → Has x xs → ⊥
+none_has xs x none h = subst (λ zs. Has x zs) none h
+
+one_has : (call x : Call) → Has x (call ∷ []) → x ≡ call
+one_has call x h = elim h [ inl e ↦ e | inr n ↦ absurd n ]
+
+module _ (site : Site) (task : Task) (seen : Seen) (before v : View) (x : Call) where
+  abbrev Plans : Type 0
+  Plans = (x ≡ call_of task.change) × (v.own ≡ before.own)
+
+  make_planned : (m : Make) → Has x (planned_at site task seen m) → x ≡ call_of task.change
+  make_planned make.FlushPublished h = one_has (call_of task.change) x h
+  make_planned make.FencePublished h = one_has (call_of task.change) x h
+  make_planned m h = absurd h
+
+  end_planned : (end : WriteEnd) → SuitsStep site task seen (Ended end) v → Has x v.planned → ⊥
+  end_planned ends.NoSlot suits h = none_has v.planned x suits.quiet.planned h
+  end_planned (ends.Replied answer place) suits h = none_has v.planned x suits.planned h
+  end_planned (ends.Again why) suits h = none_has v.planned x suits.planned h
+  end_planned (ends.Stale segment version) suits h = none_has v.planned x suits.planned h
+  end_planned ends.Off suits h = none_has v.planned x suits.planned h
+
+  planned_in : (s : WriteStep) → SuitsStep site task seen s v → EntersReply (call_of task.change) (reply_of (outcome_at s)) before v → Has x v.planned → Plans
+  planned_in (Way w) suits enters h = absurd (none_has v.planned x suits.0.planned h)
+  planned_in (Lock place t) suits enters h = absurd (none_has v.planned x suits.1.planned h)
+  planned_in (Check back) suits enters h = absurd (none_has v.planned x suits.1.planned h)
+  planned_in (Fill place load) suits enters h = absurd (none_has v.planned x suits.1.planned h)
+  planned_in Count suits enters h = absurd (none_has v.planned x suits.1.planned h)
+  planned_in (step.Make m) suits enters h = (make_planned m (subst (λ calls. Has x calls) suits.planned h), enters.own)
+  planned_in Draw suits enters h = (one_has (call_of task.change) x (subst (λ calls. Has x calls) suits.planned h), enters.own)
+  planned_in (Unnote part place) suits enters h = absurd (none_has v.planned x suits.planned h)
+  planned_in CountSpent suits enters h = absurd (none_has v.planned x suits.0.quiet.planned h)
+  planned_in (Give held end) suits enters h = absurd (none_has v.planned x suits.quiet.planned h)
+  planned_in (Ended end) suits enters h = absurd (end_planned end suits h)
+
+plans : PlansItsCall change_part
+plans site here call op before v planned s h =
+    let st : ChangeStands site here call op v = s.stands in
+    let enters = subst (λ c. EntersReply c (reply_of (outcome_at op.stage.step)) before v) (sym st.same) s.enters in
+    let got = planned_in site op.task op.stage.seen before v planned op.stage.step st.view enters h in
+    (got.0 ∙ st.same, got.1)
+
+-- ---- the power
+abbrev Cuts : Kind → Type 0
+Cuts cuts_power = ⊤
+Cuts k = ⊥
+
+module _ (task : Task) (seen : Seen) where
+  walk_on : (w : Walk) → Cuts (walk_kind task.site task.hash w) → ⊥
+  walk_on walk.Power p = p
+  walk_on walk.Root p = p
+  walk_on (walk.Entry root) p = p
+  walk_on (walk.Head root segment) p = p
+
+  take_on : (lock : ℕ) (t : Take) → Cuts (take_kind lock t) → ⊥
+  take_on lock Look p = p
+  take_on lock (Try free) p = p
+
+  inserting_on : (there : Option Spot) → Cuts (inserting_kind task seen there) → ⊥
+  inserting_on (Some spot) p = p
+  inserting_on None p = p
+
+  changing_on : (there : Option Spot) → Cuts (changing_kind task seen there) → ⊥
+  changing_on (Some spot) p = p
+  changing_on None p = p
+
+  deciding_on : (d : Deed) → Cuts (deciding_kind task seen d) → ⊥
+  deciding_on (Insert value) p = inserting_on (found seen task.change.key) p
+  deciding_on (Update value) p = changing_on (found seen task.change.key) p
+  deciding_on Remove p = changing_on (found seen task.change.key) p
+
+  count_on : (b : Bool) → Cuts (if b then finds_room (call_of task.change) else deciding_kind task seen task.change.deed) → ⊥
+  count_on true p = p
+  count_on false p = deciding_on task.change.deed p
+
+  mark_on : (b : Bool) (i x : ℕ) → Cuts (mark_kind task seen b i x) → ⊥
+  mark_on true i x p = p
+  mark_on false i x p = p
+
+  note_on : (part : NoteWord) (n : NoteWords) → Cuts (note_kind task seen part n) → ⊥
+  note_on Mark n p = mark_on (has_finger seen n) (lock_of task seen n.place + 1) n.mark p
+  note_on Fingers n p = p
+
+  give_on : (next : Option (Place × ℕ)) → Cuts (give_kind_of task.site task.hash seen.path.segment next) → ⊥
+  give_on (Some next) p = p
+  give_on None p = p
+
+  publish_on : (b : Bool) (i x : ℕ) → Cuts (publish_by task seen b i x) → ⊥
+  publish_on true i x p = p
+  publish_on false i x p = p
+
+  make_on : (m : Make) (n : ℕ) → Cuts (kind_at task seen (step.Make m) n) → ⊥
+  make_on make.Publish n p = publish_on (leaves_note task.change.deed seen.place) (lock_of task seen seen.place + seen.written.published) seen.written.mark p
+  make_on make.Key n p = p
+  make_on make.Value n p = p
+  make_on make.Fingers n p = p
+  make_on make.FlushFingers n p = p
+  make_on make.FlushRecord n p = p
+  make_on make.FenceRecord n p = p
+  make_on make.FlushPublished n p = p
+  make_on make.FencePublished n p = p
+
+  on_in : (s : WriteStep) (n : ℕ) → Cuts (kind_at task seen s n) → ⊥
+  on_in (Way w) n p = walk_on w p
+  on_in (Lock place t) n p = take_on (lock_of task seen place) t p
+  on_in (Check back) n p = p
+  on_in (Fill place load) n p = p
+  on_in Count n p = count_on (nat_le (2 ^ 63) n) p
+  on_in (step.Make m) n p = make_on m n p
+  on_in Draw n p = p
+  on_in (Unnote part place) n p = note_on part (unnoted task.hash seen) p
+  on_in CountSpent n p = p
+  on_in (Give held end) n p = give_on (give_next held) p
+  on_in (Ended end) n p = p
+
+-- ---- A CHANGE IS A PART
+is_fence : (w : Want) → HasFence w → w ≡ want.Fence
+is_fence want.Fence f = refl
+is_fence w f = absurd f
+
+within : (site : Site) (here : Here) (call : Call) (op : WriteOp) (v : View) → IsSite site → ChangeStands site here call op v → IsWithin site.shape (wanted op)
+within site here call op v good st =
+    subst (λ (g : Shape). IsWithin g (wanted op)) st.is_in.shape (asks_within site op.task st.is_in op.stage.seen (subst (λ (g : Shape). IsShape g) (sym st.is_in.shape) good.shape) v op.stage.step st.view)
+
+pub change_is_part : IsPart change_part
+change_is_part = record {
+  steps = steps;
+  ends = λ site here call op v st over closed. bare_in site op.task op.stage.seen v op.stage.step st.view over closed;
+  time = record { falls = change_falls; most = λ op. most_at op.stage.step };
+  within = λ site here call op before v good s. within site here call op v good s.stands;
+  words = λ site here call op before v s.
+      puts_word site op.task s.stands.is_in op.stage.seen v s.stands.has.buckets s.stands.has.key s.stands.has.value op.stage.step s.stands.view;
+  flushes = record {
+    most = λ op. few_in op.stage.step;
+    flushes = λ op a l is e. flush_in op.task op.stage.seen op.stage.step a is (subst (λ (w : Want). HasFlush w) (sym e) tt);
+    keeps = λ op a is no_fence. keeps_in op.task op.stage.seen op.stage.step a is (λ f. no_fence (is_fence (wanted op) f));
+    ends = λ op over. none_waits op.task op.stage.seen op.stage.step over;
+  };
+  made = record {
+    stays = λ op a is made. stays_in op.task op.stage.seen op.stage.step a made;
+    done = λ op made over. done_in op.task op.stage.seen op.stage.step made over;
+  };
+  plans = plans;
+  power = λ op n e. on_in op.task op.stage.seen op.stage.step n (subst (λ (k : Kind). Cuts k) (sym e) tt);
+}
+
+-- ---- where it begins, and how it never ends
+buckets_none : (place : Place) → AreWords (words_in no_words place)
+buckets_none place.Home = none_words
+buckets_none place.Probing = none_words
+buckets_none place.First = none_words
+buckets_none place.Second = none_words
+
+pub begins_as_part : BeginsAsPart
+begins_as_part site here change v good straight same key value nothing = record {
+  same = refl;
+  at = refl;
+  is_in = record { shape = same; straight = straight; hash = ap (λ (g : Shape). key_hash g change.key) same; fits = key_hash-fits here.geometry change.key key };
+  has = record { key = key; value = value; buckets = buckets_none; load = tt };
+  view = (nothing, tt, refl);
+}
+
+pub begins_remembering : BeginsRemembering
+begins_remembering site here change unsplit = record { unsplit = unsplit; kept = (tt, refl) }
+
+pub begins_undecided : BeginsUndecided
+begins_undecided here change = refl
+
+-- where it hands on
+end_hands : (site : Site) (task : Task) (seen : Seen) (v : View) (end : WriteEnd) → SuitsStep site task seen (Ended end) v → is_without_slot (Ended end) ≡ true
+    → KeepsAll site (kept_in task seen) v
+end_hands site task seen v ends.NoSlot suits is = suits
+end_hands site task seen v (ends.Replied answer place) suits is = absurd (let f : false ≡ true = is in cc)
+end_hands site task seen v (ends.Again why) suits is = absurd (let f : false ≡ true = is in cc)
+end_hands site task seen v (ends.Stale segment version) suits is = absurd (let f : false ≡ true = is in cc)
+end_hands site task seen v ends.Off suits is = absurd (let f : false ≡ true = is in cc)
+
+hands_in : (site : Site) (task : Task) (seen : Seen) (v : View) (s : WriteStep) → SuitsStep site task seen s v → is_without_slot s ≡ true → KeepsAll site (kept_in task seen) v
+hands_in site task seen v (Ended end) suits is = end_hands site task seen v end suits is
+hands_in site task seen v s suits is = absurd (let f : false ≡ true = is in cc)
+
+pub hands_on_all : HandsOnAll
+hands_on_all site here call op v st is = hands_in site op.task op.stage.seen v op.stage.step st.view is
+
+-- and never
+finishes : (end : WriteEnd) → outcome_of end ≡ Some finished → ⊥
+finishes (ends.Replied answer place) is = absurd (cc)
+finishes ends.NoSlot is = absurd (cc)
+finishes (ends.Again why) is = absurd (cc)
+finishes (ends.Stale segment version) is = absurd (cc)
+finishes ends.Off is = absurd (cc)
+
+given_finishes : (end : Ending) → outcome_of (end_of end) ≡ Some finished → ⊥
+given_finishes (ending.Replied answer place) is = absurd (cc)
+given_finishes (ending.Again why) is = absurd (cc)
+
+never_in : (s : WriteStep) → outcome_at s ≡ Some finished → ⊥
+never_in (Unnote part place) some = absurd (cc)
+never_in (Give held end) some = given_finishes end some
+never_in (Ended end) some = finishes end some
+never_in s some = none-some finished some
+
+pub never_finished : NeverFinished
+never_finished op some = never_in op.stage.step some

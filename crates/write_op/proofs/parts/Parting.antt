@@ -1,0 +1,298 @@
+-- A CHANGE IS A PART of a call.
+use Rattle.std.proofs.Common.{◌≡◌, ◌≢◌, ◌⊎◌, ℕ, ◌+◌, ◌%◌, ◌^◌, ◌<◌, ◌≤◌, Bool, true, false, Option, None, Some, List, [], ◌∷◌, inl, inr, refl, sym, ap, ◌∙◌, subst, arith, IsTrue}
+use Rattle.std.specs.Prelude.{⊤, nat_le, nat_lt, if◌then◌else◌}
+use Rattle.op_core.specs.declared.want.Want.{Want}
+use Rattle.op_core.specs.declared.want.Want.TheVariants as want
+use Rattle.op_core.specs.declared.want.Ans.{Ans}
+use Rattle.op_core.specs.declared.want.Ans.TheVariants.{Value, Won, Lost, Drawn, Passed}
+use Rattle.op_core.specs.Answers.{IsAnswer}
+use Rattle.trace.specs.Events.{Words}
+use Rattle.image_layout.specs.Places.{words_of}
+use Rattle.map_model.specs.declared.call.Call.{Call}
+use Rattle.map_model.specs.declared.change.Deed.{Deed}
+use Rattle.map_model.specs.declared.change.Deed.TheVariants.{Insert, Update, Remove}
+use Rattle.map_model.specs.declared.entry.Reply.{Reply}
+use Rattle.map_model.specs.declared.entry.Reply.TheVariants as reply
+use Rattle.map_model.specs.Changes.{call_of}
+use Rattle.world.specs.declared.site.Site.{Site as Here}
+use Rattle.world.specs.Site.{Site}
+use Rattle.world.specs.Views.{View, At, Has}
+use Rattle.world.specs.Wants.{answer_to, word_of}
+use Rattle.world.specs.Kinds.{Kind, finds_room, cuts_power, view_after}
+use Rattle.world.specs.Pairs.{IsPublishingKind}
+use Rattle.world.specs.Invariant.{Holds}
+use Rattle.world.specs.Attempts.{HoldsOnly, HasNoMore, EntersReply}
+use Rattle.world.proofs.stepping.Answers.{is_word}
+use Rattle.part.specs.Asks.{IsWithin}
+use Rattle.part.specs.Outcomes.{Outcome, replied, reply_of}
+use Rattle.part.specs.Part.{Suits, StepsWell, KeepsSuits, EndsBare, IsPart}
+use Rattle.phase.specs.declared.place.Place.{Place}
+use Rattle.phase.specs.declared.walk.Walk.{Walk}
+use Rattle.phase.specs.declared.walk.Walk.TheVariants as walk
+use Rattle.phase.specs.declared.take.Take.{Take}
+use Rattle.phase.specs.declared.take.Take.TheVariants.{Look, Try}
+use Rattle.phase.specs.declared.make.Record.{Record}
+use Rattle.phase.specs.declared.make.Make.{Make}
+use Rattle.phase.specs.declared.make.Make.TheVariants as make
+use Rattle.phase.specs.declared.make.Made.TheVariants as made
+use Rattle.phase.specs.declared.held.Held.{Held}
+use Rattle.phase.specs.Helds.{give_next, give_wanted_of, given}
+use Rattle.phase.specs.Walks.{walk_wanted}
+use Rattle.phase.specs.Takes.{take_wanted}
+use Rattle.phase.specs.Makes.{make_wanted, make_taken}
+use Rattle.phase.specs.Stands.{walk_kind}
+use Rattle.phase.specs.Taking.{take_kind}
+use Rattle.phase.specs.Giving.{give_kind_of}
+use Rattle.phase.proofs.locks.Giving.{give_stands}
+use Rattle.write_op.specs.declared.search.NoteWords.{NoteWords}
+use Rattle.write_op.specs.declared.step.Task.{Task}
+use Rattle.write_op.specs.declared.step.Spot.{Spot}
+use Rattle.write_op.specs.declared.step.Seen.{Seen}
+use Rattle.write_op.specs.declared.step.Ending.{Ending}
+use Rattle.write_op.specs.declared.step.Ending.TheVariants as ending
+use Rattle.write_op.specs.declared.step.NoteWord.{NoteWord}
+use Rattle.write_op.specs.declared.step.NoteWord.TheVariants.{Mark, Fingers}
+use Rattle.write_op.specs.declared.step.WriteEnd.{WriteEnd}
+use Rattle.write_op.specs.declared.step.WriteEnd.TheVariants as ends
+use Rattle.write_op.specs.declared.step.WriteStep.{WriteStep}
+use Rattle.write_op.specs.declared.step.WriteStep.TheVariants.{Way, Lock, Check, Fill, Count, Draw, Unnote, CountSpent, Give, Ended}
+use Rattle.write_op.specs.declared.step.WriteStep.TheVariants as step
+use Rattle.write_op.specs.declared.step.Stage.{Stage}
+use Rattle.write_op.specs.declared.op.WriteOp.{WriteOp}
+use Rattle.write_op.specs.Search.{found, leaves_note, unnoted, has_finger}
+use Rattle.write_op.specs.Steps.{go, given_by, giving, answered, made_to, lock_of, note_wanted, wanted, taken, wanted_in, next_in, is_over, is_without_slot}
+use Rattle.write_op.specs.Left.{left_at, most_events, waiting_of, waiting_at, most_waiting, IsPublished, IsDone, HasMadeAt}
+use Rattle.write_op.specs.Fits.{inserting_kind, changing_kind, deciding_kind, count_kind, mark_kind, note_kind, publish_by, kind_at, kind_of, planned_at, SuitsStep, SuitsStage, HasWords, ChangeStands, outcome_of, outcome_at}
+use Rattle.write_op.specs.ChangePart.{change_part}
+use Rattle.write_op.proofs.Over.{over_done}
+use Rattle.write_op.proofs.Falling.{change_falls, most_at}
+use Rattle.write_op.proofs.parts.Fitting.{wants_in}
+use Rattle.write_op.proofs.keeping.Walking.{step_in, may_in}
+use Rattle.write_op.proofs.parts.Wording.{words_after}
+use Rattle.write_op.proofs.parts.Putting.{puts_word, asks_within}
+
+no : IsTrue false → ⊥
+no e = let f : false ≡ true = e in cc
+
+-- ---- the one store
+module _ (task : Task) (seen : Seen) where
+  -- a kind that makes no change
+  abbrev IsPlain : Kind → Type 0
+  IsPlain k = IsPublishingKind k → ⊥
+
+  plain_walk : (w : Walk) → IsPlain (walk_kind task.site task.hash w)
+  plain_walk walk.Power p = p
+  plain_walk walk.Root p = p
+  plain_walk (walk.Entry root) p = p
+  plain_walk (walk.Head root segment) p = p
+
+  plain_take : (lock : ℕ) (t : Take) → IsPlain (take_kind lock t)
+  plain_take lock Look p = p
+  plain_take lock (Try free) p = p
+
+  plain_inserting : (there : Option Spot) → IsPlain (inserting_kind task seen there)
+  plain_inserting (Some spot) p = p
+  plain_inserting None p = p
+
+  plain_changing : (there : Option Spot) → IsPlain (changing_kind task seen there)
+  plain_changing (Some spot) p = p
+  plain_changing None p = p
+
+  plain_deciding : (d : Deed) → IsPlain (deciding_kind task seen d)
+  plain_deciding (Insert value) = plain_inserting (found seen task.change.key)
+  plain_deciding (Update value) = plain_changing (found seen task.change.key)
+  plain_deciding Remove = plain_changing (found seen task.change.key)
+
+  plain_count : (b : Bool) → IsPlain (if b then finds_room (call_of task.change) else deciding_kind task seen task.change.deed)
+  plain_count true p = p
+  plain_count false p = plain_deciding task.change.deed p
+
+  plain_mark : (b : Bool) (i x : ℕ) → IsPlain (mark_kind task seen b i x)
+  plain_mark true i x p = p
+  plain_mark false i x p = p
+
+  plain_note : (part : NoteWord) (n : NoteWords) → IsPlain (note_kind task seen part n)
+  plain_note Mark n p = plain_mark (has_finger seen n) (lock_of task seen n.place + 1) n.mark p
+  plain_note Fingers n p = p
+
+  plain_give : (next : Option (Place × ℕ)) → IsPlain (give_kind_of task.site task.hash seen.path.segment next)
+  plain_give (Some next) p = p
+  plain_give None p = p
+
+  abbrev Makes : WriteStep → ℕ → Type 0
+  Makes s n = IsPublishingKind (kind_at task seen s n) → (HasMadeAt s → ⊥) × HasMadeAt (next_in task seen s (answer_to (wanted_in task seen s) n)).step
+
+  make_makes : (m : Make) (n : ℕ) → Makes (step.Make m) n
+  make_makes make.Key n p = absurd p
+  make_makes make.Value n p = absurd p
+  make_makes make.Fingers n p = absurd p
+  make_makes make.FlushFingers n p = absurd p
+  make_makes make.FlushRecord n p = absurd p
+  make_makes make.FenceRecord n p = absurd p
+  make_makes make.Publish n p = ((λ was. was), tt)
+  make_makes make.FlushPublished n p = absurd p
+  make_makes make.FencePublished n p = absurd p
+
+  pub makes_in : (s : WriteStep) (n : ℕ) → Makes s n
+  makes_in (Way w) n p = absurd (plain_walk w p)
+  makes_in (Lock place t) n p = absurd (plain_take (lock_of task seen place) t p)
+  makes_in (Check back) n p = absurd p
+  makes_in (Fill place load) n p = absurd p
+  makes_in Count n p = absurd (plain_count (nat_le (2 ^ 63) n) p)
+  makes_in (step.Make m) n p = make_makes m n p
+  makes_in Draw n p = absurd p
+  makes_in (Unnote part place) n p = absurd (plain_note part (unnoted task.hash seen) p)
+  makes_in CountSpent n p = absurd p
+  makes_in (Give held end) n p = absurd (plain_give (give_next held) p)
+  makes_in (Ended end) n p = absurd p
+
+  -- ---- and it stays made
+  either_made : (b : Bool) (s t : Stage) → HasMadeAt s.step → HasMadeAt t.step → HasMadeAt (if b then s else t).step
+  either_made true s t p q = p
+  either_made false s t p q = q
+
+  given_made : (next : Option (Place × ℕ)) (held : Held) (answer : Reply) (place : ℕ) → IsDone answer → HasMadeAt (given_by next held (ending.Replied answer place))
+  given_made (Some next) held answer place d = d
+  given_made None held answer place d = d
+
+  giving_made : (held : Held) (answer : Reply) (place : ℕ) → IsDone answer → HasMadeAt (giving held (ending.Replied answer place))
+  giving_made held answer place d = given_made (give_next held) held answer place d
+
+  unnoted_made : (part : NoteWord) (place : ℕ) → HasMadeAt (next_in task seen (Unnote part place) Passed).step
+  unnoted_made Mark place = either_made (has_finger seen (unnoted task.hash seen)) (go seen (Unnote Fingers place)) (answered seen place reply.Done) tt (giving_made seen.held reply.Done place tt)
+  unnoted_made Fingers place = giving_made seen.held reply.Done place tt
+
+  make_stays : (m : Make) (a : Ans) → IsPublished m → HasMadeAt (next_in task seen (step.Make m) a).step
+  make_stays make.FlushPublished Passed d = tt
+  make_stays make.FencePublished Passed d = tt
+  make_stays make.FlushPublished a d = tt
+  make_stays make.FencePublished a d = tt
+  make_stays m a d = absurd d
+
+  end_stays : (end : Ending) (held : Held) (a : Ans) → HasMadeAt (Give held end) → HasMadeAt (next_in task seen (Give held end) a).step
+  end_stays (ending.Replied answer place) held Passed d = giving_made (given held) answer place d
+  end_stays (ending.Replied answer place) held a d = d
+  end_stays (ending.Again why) held a d = absurd d
+
+  pub stays_in : (s : WriteStep) (a : Ans) → HasMadeAt s → HasMadeAt (next_in task seen s a).step
+  stays_in (step.Make m) a d = make_stays m a d
+  stays_in Draw (Drawn n) d = either_made (leaves_note task.change.deed seen.place) (go seen (Unnote Mark n)) (answered seen n reply.Done) tt (giving_made seen.held reply.Done n tt)
+  stays_in Draw a d = tt
+  stays_in (Unnote part place) Passed d = unnoted_made part place
+  stays_in (Unnote part place) a d = tt
+  stays_in (Give held end) a d = end_stays end held a d
+  stays_in (Ended end) a d = d
+  stays_in s a d = absurd d
+
+-- and ends as done
+is_done : (answer : Reply) → IsDone answer → answer ≡ reply.Done
+is_done reply.Done d = refl
+is_done answer d = absurd d
+
+end_done : (end : WriteEnd) → HasMadeAt (Ended end) → (place : ℕ) × (outcome_of end ≡ Some (replied reply.Done place))
+end_done (ends.Replied answer place) d = (place, ap (λ r. Some (replied r place)) (is_done answer d))
+end_done end d = absurd d
+
+give_done : (end : Ending) (held : Held) → HasMadeAt (Give held end) → (place : ℕ) × (outcome_at (Give held end) ≡ Some (replied reply.Done place))
+give_done (ending.Replied answer place) held d = (place, ap (λ r. Some (replied r place)) (is_done answer d))
+give_done (ending.Again why) held d = absurd d
+
+pub done_in : (task : Task) (seen : Seen) (s : WriteStep) → HasMadeAt s → wanted_in task seen s ≡ want.Done → (place : ℕ) × (outcome_at s ≡ Some (replied reply.Done place))
+done_in task seen (Ended end) d over = end_done end d
+done_in task seen (Give held end) d over = give_done end held d
+done_in task seen s d over = absurd (no ((over_done task seen s).1 over))
+
+-- ---- ends
+end_bare : (site : Site) (task : Task) (seen : Seen) (v : View) (end : WriteEnd) → SuitsStep site task seen (Ended end) v → is_without_slot (Ended end) ≡ false → HoldsOnly [] v
+end_bare site task seen v ends.NoSlot suits closed = absurd (let f : true ≡ false = closed in cc)
+end_bare site task seen v (ends.Replied answer place) suits closed = suits
+end_bare site task seen v (ends.Again why) suits closed = suits
+end_bare site task seen v (ends.Stale segment version) suits closed = suits
+end_bare site task seen v ends.Off suits closed = suits
+
+pub bare_in : (site : Site) (task : Task) (seen : Seen) (v : View) (s : WriteStep) → SuitsStep site task seen s v → wanted_in task seen s ≡ want.Done → is_without_slot s ≡ false → HoldsOnly [] v
+bare_in site task seen v (Ended end) suits over closed = end_bare site task seen v end suits closed
+bare_in site task seen v (Give held end) suits over closed = give_stands.ends task.site task.hash seen.path.segment held v suits.locks suits.quiet over
+bare_in site task seen v s suits over closed = absurd (no ((over_done task seen s).1 over))
+
+-- ---- lines that wait
+few_of : (m : Make) → waiting_of m ≤ most_waiting
+few_of make.FlushRecord = omega arith
+few_of make.FenceRecord = omega arith
+few_of make.FencePublished = omega arith
+few_of m = omega arith
+
+pub few_in : (s : WriteStep) → waiting_at s ≤ most_waiting
+few_in (step.Make m) = few_of m
+few_in s = omega arith
+
+abbrev pub HasFlush : Want → Type 0
+HasFlush (want.Flush l) = ⊤
+HasFlush w = ⊥
+
+abbrev pub HasFence : Want → Type 0
+HasFence want.Fence = ⊤
+HasFence w = ⊥
+
+by_line : (b : Bool) (seen : Seen) → 1 ≤ waiting_at (made_to seen (if b then made.On make.FenceRecord else made.On make.FlushRecord)).step
+by_line true seen = omega arith
+by_line false seen = omega arith
+
+walk_no_flush : (here : Here) (hash : ℕ) (w : Walk) → HasFlush (walk_wanted here hash w) → ⊥
+walk_no_flush here hash walk.Power p = p
+walk_no_flush here hash walk.Root p = p
+walk_no_flush here hash (walk.Entry root) p = p
+walk_no_flush here hash (walk.Head root segment) p = p
+
+take_no_flush : (lock : ℕ) (t : Take) → HasFlush (take_wanted lock t) → ⊥
+take_no_flush lock Look p = p
+take_no_flush lock (Try free) p = p
+
+give_no_flush : (here : Here) (hash segment : ℕ) (next : Option (Place × ℕ)) → HasFlush (give_wanted_of here hash segment next) → ⊥
+give_no_flush here hash segment (Some next) p = p
+give_no_flush here hash segment None p = p
+
+note_no_flush : (task : Task) (seen : Seen) (part : NoteWord) (n : NoteWords) → HasFlush (note_wanted task seen part n) → ⊥
+note_no_flush task seen Mark n p = p
+note_no_flush task seen Fingers n p = p
+
+module _ (task : Task) (seen : Seen) where
+  abbrev Waits : WriteStep → Ans → ℕ → Type 0
+  Waits s a k = waiting_at s + k ≤ waiting_at (next_in task seen s a).step
+
+  make_flush : (m : Make) (a : Ans) → IsAnswer (wanted_in task seen (step.Make m)) a → HasFlush (wanted_in task seen (step.Make m)) → Waits (step.Make m) a 1
+  make_flush make.FlushFingers Passed i f = by_line (nat_lt seen.written.slot 2) seen
+  make_flush make.FlushRecord Passed i f = omega arith
+  make_flush make.FlushPublished Passed i f = omega arith
+  make_flush make.FlushFingers a i f = absurd i
+  make_flush make.FlushRecord a i f = absurd i
+  make_flush make.FlushPublished a i f = absurd i
+  make_flush m a i f = absurd f
+
+  pub flush_in : (s : WriteStep) (a : Ans) → IsAnswer (wanted_in task seen s) a → HasFlush (wanted_in task seen s) → Waits s a 1
+  flush_in (Way w) a i f = absurd (walk_no_flush task.site task.hash w f)
+  flush_in (Lock place t) a i f = absurd (take_no_flush (lock_of task seen place) t f)
+  flush_in (Check back) a i f = absurd f
+  flush_in (Fill place load) a i f = absurd f
+  flush_in Count a i f = absurd f
+  flush_in (step.Make m) a i f = make_flush m a i f
+  flush_in Draw a i f = absurd f
+  flush_in (Unnote part place) a i f = absurd (note_no_flush task seen part (unnoted task.hash seen) f)
+  flush_in CountSpent a i f = absurd f
+  flush_in (Give held end) a i f = absurd (give_no_flush task.site task.hash seen.path.segment (give_next held) f)
+  flush_in (Ended end) a i f = absurd f
+
+  make_keeps : (m : Make) (a : Ans) → IsAnswer (wanted_in task seen (step.Make m)) a → (HasFence (wanted_in task seen (step.Make m)) → ⊥) → waiting_of m ≤ waiting_at (next_in task seen (step.Make m) a).step
+  make_keeps make.FenceRecord a i f = absurd (f tt)
+  make_keeps make.FencePublished a i f = absurd (f tt)
+  make_keeps make.FlushRecord Passed i f = omega arith
+  make_keeps make.FlushRecord a i f = absurd i
+  make_keeps m a i f = omega arith
+
+  pub keeps_in : (s : WriteStep) (a : Ans) → IsAnswer (wanted_in task seen s) a → (HasFence (wanted_in task seen s) → ⊥) → waiting_at s ≤ waiting_at (next_in task seen s a).step
+  keeps_in (step.Make m) a i f = make_keeps m a i f
+  keeps_in s a i f = omega arith
+
+  pub none_waits : (s : WriteStep) → wanted_in task seen s ≡ want.Done → waiting_at s ≡ 0
+  none_waits (step.Make m) over = absurd (no ((over_done task seen (step.Make m)).1 over))
+  none_waits s over = refl

@@ -1,0 +1,271 @@
+-- A change puts words alone into the memory, and asks for words of the image and those right behind it.
+use Rattle.std.proofs.Common.{◌≡◌, ◌∙◌, ℕ, ◌+◌, ◌*◌, ◌-◌, ◌/◌, ◌%◌, ◌^◌, ◌<◌, ◌≤◌, Bool, true, false, Option, Some, None, List, refl, sym, ap, subst, arith, slice_index}
+use Rattle.std.specs.Prelude.{⊤, ◌==◌, bit_and, if◌then◌else◌}
+use Rattle.std.proofs.lemmas.Nat.{and_le_l}
+use Rattle.std.specs.Int.{bit_not, w64}
+use Rattle.hash_word.specs.Hash.{finger_of}
+use Rattle.word_bits.specs.Bits.{mask}
+use Rattle.bucket_meta.specs.Bucket.{record_slots}
+use Rattle.bucket_meta.specs.Marks.{finger_place}
+use Rattle.bucket_meta.specs.NoteWords.{note_place, freed_mark, freed_fingers, lowered_count, finger_bits}
+use Rattle.bucket_meta.proofs.Fingers.{finger_below}
+use Rattle.bucket_meta.proofs.Uppers.{inserted_fits, member_fits, removed_fits}
+use Rattle.trace.specs.Events.{line_of}
+use Rattle.image_layout.specs.Places.{Shape, IsShape, bucket_at, words_of, buckets}
+use Rattle.image_layout.specs.Volatile.{all_words_of}
+use Rattle.op_core.specs.declared.want.Want.{Want}
+use Rattle.op_core.specs.declared.want.Want.TheVariants as want
+use Rattle.map_model.specs.declared.change.Deed.{Deed}
+use Rattle.map_model.specs.declared.change.Deed.TheVariants.{Insert, Update, Remove}
+use Rattle.world.specs.declared.site.Site.{Site as Here}
+use Rattle.world.specs.Site.{Site}
+use Rattle.world.specs.Views.{View}
+use Rattle.world.specs.Wants.{word_of}
+use Rattle.part.specs.Asks.{IsWithin, PutsWord}
+use Rattle.phase.specs.declared.place.Place.{Place}
+use Rattle.phase.specs.declared.place.Place.TheVariants.{Home, Probing, First, Second}
+use Rattle.phase.specs.declared.walk.Walk.{Walk}
+use Rattle.phase.specs.declared.walk.Walk.TheVariants as walk
+use Rattle.phase.specs.declared.take.Take.{Take}
+use Rattle.phase.specs.declared.take.Take.TheVariants.{Look, Try}
+use Rattle.phase.specs.declared.make.Record.{Record}
+use Rattle.phase.specs.declared.make.Make.{Make}
+use Rattle.phase.specs.declared.make.Make.TheVariants as make
+use Rattle.phase.specs.Places.{bucket_of, lock_word}
+use Rattle.phase.specs.Walks.{walk_wanted}
+use Rattle.phase.specs.Takes.{take_wanted}
+use Rattle.phase.specs.Makes.{make_wanted, key_at, fingers_at, published_at}
+use Rattle.phase.specs.Helds.{give_next, give_wanted_of}
+use Rattle.phase.specs.Buckets.{words_in}
+use Rattle.phase.proofs.locks.Giving.{lock_at, bucket_near}
+use Rattle.phase.proofs.locks.Storing.{place_near}
+use Rattle.phase.proofs.Asking.{walk_within, back_within, lock_within}
+use Rattle.write_op.specs.declared.search.NoteWords.{NoteWords}
+use Rattle.write_op.specs.declared.step.Task.{Task}
+use Rattle.write_op.specs.declared.step.Seen.{Seen}
+use Rattle.write_op.specs.declared.step.NoteWord.{NoteWord}
+use Rattle.write_op.specs.declared.step.NoteWord.TheVariants.{Mark, Fingers}
+use Rattle.write_op.specs.declared.step.WriteStep.{WriteStep}
+use Rattle.write_op.specs.declared.step.WriteStep.TheVariants.{Way, Lock, Check, Fill, Count, Draw, Unnote, CountSpent, Give, Ended}
+use Rattle.write_op.specs.declared.step.WriteStep.TheVariants as step
+use Rattle.write_op.specs.Search.{brought, published_word, published_mark, taken_mark, stash_index, freed_or, unnoted}
+use Rattle.write_op.specs.Steps.{lock_of, note_wanted, wanted_in}
+use Rattle.write_op.specs.Fits.{HasAll, IsChosen, SuitsStep, AreWords, HasWords, IsIn}
+use Rattle.write_op.proofs.finding.Chosen.{slot_low, written_is}
+use Rattle.write_op.proofs.permitting.Publishing.{located_all, key_is, value_is, mark_is, word_is}
+
+-- the number that an event leaves in its word, where it stores or exchanges one
+abbrev number_of : Want → ℕ
+number_of (want.Store i x) = x
+number_of (want.Exchange i a b) = b
+number_of w = 0
+
+less : (n m : ℕ) → n < 2 ^ 64 → bit_and n m < 2 ^ 64
+less n m fits = let most = and_le_l n m in omega (arith, fits, most)
+
+-- ---- marks
+freed_small : (w i : ℕ) → w < 2 ^ 64 → freed_mark w i < 2 ^ 64
+freed_small w i fits = less _ (bit_not w64 (finger_bits i)) (less _ (bit_not w64 (mask (36 + i))) (less _ (bit_not w64 (mask (32 + i))) (less w (bit_not w64 (mask (28 + i))) fits)))
+
+either_small : (b : Bool) (x y : ℕ) → x < 2 ^ 64 → y < 2 ^ 64 → (if b then x else y) < 2 ^ 64
+either_small true x y p q = p
+either_small false x y p q = q
+
+fingers_small : (w i : ℕ) → w < 2 ^ 64 → freed_fingers w i < 2 ^ 64
+fingers_small w i fits = either_small (i == 0) _ _ (finger_below w 6 0 (omega arith)) (either_small (i == 1) _ w (finger_below w 7 0 (omega arith)) fits)
+
+pub record IsSmall (n : NoteWords) : Type 0 where
+  pub mark : n.mark < 2 ^ 64
+  pub fingers : n.fingers < 2 ^ 64
+
+freed_or_small : (place : Place) (words : List ℕ) (a : Option ℕ) (rest : NoteWords) → AreWords words → IsSmall rest → IsSmall (freed_or place words a rest)
+freed_or_small place words (Some i) rest w r = record { mark = freed_small (slice_index words 1) i (w.small 1); fingers = fingers_small (slice_index words 3) i (w.small 3) }
+freed_or_small place words None rest w r = r
+
+module _ (task : Task) (seen : Seen) (all : (p : Place) → AreWords (words_in seen.buckets p)) where
+  abbrev counted : NoteWords
+  counted = record { place = Home; mark = lowered_count (slice_index seen.buckets.home 1); fingers = slice_index seen.buckets.home 3 }
+
+  counted_small : IsSmall counted
+  counted_small = record { mark = (let w = (all Home).small 1 in omega (arith, w)); fingers = (all Home).small 3 }
+
+  abbrev in_home : Option ℕ
+  in_home = note_place (slice_index seen.buckets.home 1) (slice_index seen.buckets.home 3) 0 (finger_of task.hash) (stash_index seen.place)
+
+  abbrev in_probing : Option ℕ
+  in_probing = note_place (slice_index seen.buckets.probing 1) (slice_index seen.buckets.probing 3) 1 (finger_of task.hash) (stash_index seen.place)
+
+  note_small : IsSmall (unnoted task.hash seen)
+  note_small = freed_or_small Home seen.buckets.home in_home (freed_or Probing seen.buckets.probing in_probing counted) (all Home)
+      (freed_or_small Probing seen.buckets.probing in_probing counted (all Probing) counted_small)
+
+  taken_small : (place : Place) (w slot : ℕ) → w < 2 ^ 64 → slot < record_slots → taken_mark place w slot < 2 ^ 64
+  taken_small Home w slot fits low = inserted_fits w slot fits low
+  taken_small Probing w slot fits low = member_fits w slot fits low
+  taken_small First w slot fits low = inserted_fits w slot fits low
+  taken_small Second w slot fits low = inserted_fits w slot fits low
+
+  mark_small : (d : Deed) (place : Place) (w slot : ℕ) → brought d < 2 ^ 64 → w < 2 ^ 64 → slot < record_slots → published_mark d place w slot < 2 ^ 64
+  mark_small (Insert value) place w slot value_fits fits low = taken_small place w slot fits low
+  mark_small (Update value) place w slot value_fits fits low = value_fits
+  mark_small Remove place w slot value_fits fits low = removed_fits w slot fits low
+
+take_small : (lock : ℕ) (t : Take) → number_of (take_wanted lock t) < 2 ^ 64
+take_small lock Look = omega arith
+take_small lock (Try free) = omega arith
+
+walk_small : (here : Here) (hash : ℕ) (w : Walk) → number_of (walk_wanted here hash w) < 2 ^ 64
+walk_small here hash walk.Power = omega arith
+walk_small here hash walk.Root = omega arith
+walk_small here hash (walk.Entry root) = omega arith
+walk_small here hash (walk.Head root segment) = omega arith
+
+give_small : (here : Here) (hash segment : ℕ) (next : Option (Place × ℕ)) → number_of (give_wanted_of here hash segment next) < 2 ^ 64
+give_small here hash segment (Some next) = omega arith
+give_small here hash segment None = omega arith
+
+module _ (site : Site) (task : Task) (is : IsIn site task) (seen : Seen) (v : View) (all : (p : Place) → AreWords (words_in seen.buckets p)) (key : task.change.key < 2 ^ 64) (value : brought task.change.deed < 2 ^ 64) where
+  make_small : (m : Make) → HasAll site task seen v → IsChosen site task seen → number_of (make_wanted (lock_of task seen seen.place) seen.written m) < 2 ^ 64
+  make_small make.Key a c = subst (λ x. x < 2 ^ 64) (sym (key_is site task is seen v a c)) key
+  make_small make.Value a c = subst (λ x. x < 2 ^ 64) (sym (value_is site task is seen v a c task.change.deed refl)) value
+  make_small make.Fingers a c = subst (λ (w : Record). w.fingers < 2 ^ 64) (sym (written_is site task seen a.upto c))
+      (finger_below (slice_index (words_in seen.buckets seen.place) (finger_place seen.written.slot)) seen.written.slot (finger_of task.hash) (omega arith))
+  make_small make.FlushFingers a c = omega arith
+  make_small make.FlushRecord a c = omega arith
+  make_small make.FenceRecord a c = omega arith
+  make_small make.Publish a c = subst (λ x. x < 2 ^ 64) (sym (mark_is site task is seen v a c task.change.deed refl))
+      (mark_small task seen all task.change.deed seen.place (slice_index (words_in seen.buckets seen.place) 1) seen.written.slot value ((all seen.place).small 1) (slot_low site task seen a.upto c))
+  make_small make.FlushPublished a c = omega arith
+  make_small make.FencePublished a c = omega arith
+
+  note_by : (part : NoteWord) → number_of (note_wanted task seen part (unnoted task.hash seen)) < 2 ^ 64
+  note_by Mark = (note_small task seen all).mark
+  note_by Fingers = (note_small task seen all).fingers
+
+  small_in : (s : WriteStep) → SuitsStep site task seen s v → number_of (wanted_in task seen s) < 2 ^ 64
+  small_in (Way w) suits = walk_small task.site task.hash w
+  small_in (Lock place t) suits = take_small (lock_of task seen place) t
+  small_in (Check back) suits = omega arith
+  small_in (Fill place load) suits = omega arith
+  small_in Count suits = omega arith
+  small_in (step.Make m) suits = make_small m suits.all suits.chosen
+  small_in Draw suits = omega arith
+  small_in (Unnote part place) suits = note_by part
+  small_in CountSpent suits = omega arith
+  small_in (Give held end) suits = give_small task.site task.hash seen.path.segment (give_next held)
+  small_in (Ended end) suits = omega arith
+
+  pub puts_word : (s : WriteStep) → SuitsStep site task seen s v → PutsWord (wanted_in task seen s)
+  puts_word s suits =
+      let small = small_in s suits in
+      record {
+        stores = λ i x e. subst (λ w. number_of w < 2 ^ 64) e small;
+        exchanges = λ i a b e. subst (λ w. number_of w < 2 ^ 64) e small;
+      }
+
+-- ---- words of the image
+module _ (site : Site) (task : Task) (is : IsIn site task) (seen : Seen) (shape : IsShape task.site.geometry) where
+  abbrev g : Shape
+  g = task.site.geometry
+
+  -- a word of one of the buckets
+  here_within : (p : Place) (n : ℕ) → n < 32 → lock_of task seen p + n < all_words_of g
+  here_within p n low = let w = lock_within task.site task.hash seen.path.segment shape p n low in omega (arith, w)
+
+  published_by : (v : View) → HasAll site task seen v → IsChosen site task seen → (d : Deed) → task.change.deed ≡ d → seen.written.published < 32
+  published_by v a c (Insert value) e = let w = word_is site task is seen v a c (Insert value) e in omega (arith, w)
+  published_by v a c (Update value) e = let w = word_is site task is seen v a c (Update value) e in let low = slot_low site task seen a.upto c in omega (arith, w, low)
+  published_by v a c Remove e = let w = word_is site task is seen v a c Remove e in omega (arith, w)
+
+  published_low : (v : View) → HasAll site task seen v → IsChosen site task seen → seen.written.published < 32
+  published_low v a c = published_by v a c task.change.deed refl
+
+  make_within : (v : View) (m : Make) → HasAll site task seen v → IsChosen site task seen → word_of g (make_wanted (lock_of task seen seen.place) seen.written m) < all_words_of g
+  make_within v make.Key a c = let low = slot_low site task seen a.upto c in let w = here_within seen.place (4 + 2 * seen.written.slot) (omega (arith, low)) in omega (arith, w)
+  make_within v make.Value a c = let low = slot_low site task seen a.upto c in let w = here_within seen.place (5 + 2 * seen.written.slot) (omega (arith, low)) in omega (arith, w)
+  make_within v make.Fingers a c = let near = place_near seen.written.slot in here_within seen.place (finger_place seen.written.slot) (let z = near.1 in omega (arith, z))
+  make_within v make.FlushFingers a c = let near = place_near seen.written.slot in let w = here_within seen.place (finger_place seen.written.slot) (let z = near.1 in omega (arith, z)) in omega (arith, w)
+  make_within v make.FlushRecord a c = let low = slot_low site task seen a.upto c in let w = here_within seen.place (4 + 2 * seen.written.slot) (omega (arith, low)) in omega (arith, w)
+  make_within v make.FenceRecord a c = omega arith
+  make_within v make.Publish a c = here_within seen.place seen.written.published (published_low v a c)
+  make_within v make.FlushPublished a c = let w = here_within seen.place seen.written.published (published_low v a c) in omega (arith, w)
+  make_within v make.FencePublished a c = omega arith
+
+  note_within : (part : NoteWord) (n : NoteWords) → word_of g (note_wanted task seen part n) < all_words_of g
+  note_within Mark n = here_within n.place 1 (omega arith)
+  note_within Fingers n = here_within n.place 3 (omega arith)
+
+  take_within : (p : Place) (t : Take) → word_of g (take_wanted (lock_of task seen p) t) < all_words_of g
+  take_within p Look = let w = here_within p 0 (omega arith) in omega (arith, w)
+  take_within p (Try free) = let w = here_within p 0 (omega arith) in omega (arith, w)
+
+  give_within : (next : Option (Place × ℕ)) → word_of g (give_wanted_of task.site task.hash seen.path.segment next) < all_words_of g
+  give_within (Some next) = let w = here_within next.0 0 (omega arith) in omega (arith, w)
+  give_within None = omega arith
+
+  within_in : (v : View) (s : WriteStep) → SuitsStep site task seen s v → word_of g (wanted_in task seen s) < all_words_of g
+  within_in v (Way w) suits = walk_within task.site task.hash shape is.fits w
+  within_in v (Lock place t) suits = take_within place t
+  within_in v (Check back) suits = let low = back_within task.site task.hash shape is.fits seen.path back in omega (arith, low)
+  within_in v (Fill place load) suits = here_within place (load.next % 32) (omega arith)
+  within_in v Count suits = omega arith
+  within_in v (step.Make m) suits = make_within v m suits.all suits.chosen
+  within_in v Draw suits = omega arith
+  within_in v (Unnote part place) suits = note_within part (unnoted task.hash seen)
+  within_in v CountSpent suits = omega arith
+  within_in v (Give held end) suits = give_within (give_next held)
+  within_in v (Ended end) suits = omega arith
+
+  -- a line that is flushed
+  abbrev HasLine : Want → Type 0
+  HasLine (want.Flush l) = 8 * l + 8 ≤ words_of g
+  HasLine w = ⊤
+
+  line_here : (v : View) → HasAll site task seen v → (p : Place) (k : ℕ) → k < 32 → 8 * line_of (lock_of task seen p + k) + 8 ≤ words_of g
+  line_here v a p k low =
+      let e = lock_at site task.site task.hash seen.path.segment (located_all site task is seen v a) p in
+      let w = lock_within task.site task.hash seen.path.segment shape p 31 (omega arith) in
+      let even : lock_of task seen p % 32 ≡ 0 = omega (arith, e) in
+      omega (arith, even, w, low)
+
+  make_line : (v : View) (m : Make) → HasAll site task seen v → IsChosen site task seen → HasLine (make_wanted (lock_of task seen seen.place) seen.written m)
+  make_line v make.FlushFingers a c = let near = place_near seen.written.slot in line_here v a seen.place (finger_place seen.written.slot) (let z = near.1 in omega (arith, z))
+  make_line v make.FlushRecord a c =
+      let low = slot_low site task seen a.upto c in
+      subst (λ x. 8 * line_of x + 8 ≤ words_of g) (omega arith) (line_here v a seen.place (4 + 2 * seen.written.slot) (omega (arith, low)))
+  make_line v make.FlushPublished a c = line_here v a seen.place seen.written.published (published_low v a c)
+  make_line v m a c = tt
+
+  walk_line : (w : Walk) → HasLine (walk_wanted task.site task.hash w)
+  walk_line walk.Power = tt
+  walk_line walk.Root = tt
+  walk_line (walk.Entry root) = tt
+  walk_line (walk.Head root segment) = tt
+
+  take_line : (p : Place) (t : Take) → HasLine (take_wanted (lock_of task seen p) t)
+  take_line p Look = tt
+  take_line p (Try free) = tt
+
+  note_line : (part : NoteWord) (n : NoteWords) → HasLine (note_wanted task seen part n)
+  note_line Mark n = tt
+  note_line Fingers n = tt
+
+  give_line : (next : Option (Place × ℕ)) → HasLine (give_wanted_of task.site task.hash seen.path.segment next)
+  give_line (Some next) = tt
+  give_line None = tt
+
+  line_in : (v : View) (s : WriteStep) → SuitsStep site task seen s v → HasLine (wanted_in task seen s)
+  line_in v (Way w) suits = walk_line w
+  line_in v (Lock place t) suits = take_line place t
+  line_in v (Check back) suits = tt
+  line_in v (Fill place load) suits = tt
+  line_in v Count suits = tt
+  line_in v (step.Make m) suits = make_line v m suits.all suits.chosen
+  line_in v Draw suits = tt
+  line_in v (Unnote part place) suits = note_line part (unnoted task.hash seen)
+  line_in v CountSpent suits = tt
+  line_in v (Give held end) suits = give_line (give_next held)
+  line_in v (Ended end) suits = tt
+
+  pub asks_within : (v : View) (s : WriteStep) → SuitsStep site task seen s v → IsWithin g (wanted_in task seen s)
+  asks_within v s suits = record { word = within_in v s suits; line = λ l e. subst HasLine e (line_in v s suits) }

@@ -1,0 +1,189 @@
+-- What a change keeps and stores are words, and the words that it asks for lie in the image or right behind it.
+use Rattle.std.proofs.Common.{◌≡◌, ◌∙◌, ℕ, zero, suc, ◌+◌, ◌*◌, ◌-◌, ◌/◌, ◌%◌, ◌^◌, ◌<◌, ◌≤◌, Bool, true, false, inl, inr, Option, Some, None, List, refl, sym, ap, subst, arith, length, slice_index, slice_set, get_or-set_same, get_or-set_other, length-set}
+use Rattle.std.specs.Prelude.{◌==◌, replicate, bit_and, bit_or, nat_lt, nat_le, if◌then◌else◌}
+use Rattle.std.specs.Int.{bit_not, w64}
+use Rattle.std.proofs.lemmas.Bool.{cases_eq, cases_lt}
+use Rattle.std.proofs.lemmas.List.{set_past}
+use Rattle.std.proofs.lemmas.Nat.{and_le_l, and_le_r}
+use Rattle.hash_word.specs.Hash.{finger_of}
+use Rattle.word_bits.specs.Bits.{mask}
+use Rattle.bucket_meta.specs.Bucket.{record_slots}
+use Rattle.bucket_meta.specs.Marks.{finger_place}
+use Rattle.bucket_meta.specs.NoteWords.{note_place, freed_mark, freed_fingers, lowered_count}
+use Rattle.bucket_meta.proofs.Fingers.{finger_below}
+use Rattle.bucket_meta.proofs.Uppers.{inserted_fits, member_fits, removed_fits}
+use Rattle.segment_head.specs.HeadWord.{state_in, normal}
+use Rattle.way.specs.Ways.{head_word}
+use Rattle.op_core.specs.declared.want.Want.{Want}
+use Rattle.op_core.specs.declared.want.Want.TheVariants as want
+use Rattle.op_core.specs.declared.want.Ans.{Ans}
+use Rattle.op_core.specs.declared.want.Ans.TheVariants.{Value, Passed, Drawn}
+use Rattle.op_core.specs.Answers.{IsWord}
+use Rattle.map_model.specs.declared.change.Deed.{Deed}
+use Rattle.map_model.specs.declared.change.Deed.TheVariants.{Insert, Update, Remove}
+use Rattle.map_model.specs.declared.entry.Reply.TheVariants as reply
+use Rattle.phase.specs.declared.place.Place.{Place}
+use Rattle.phase.specs.declared.place.Place.TheVariants.{Home, Probing, First, Second}
+use Rattle.phase.specs.declared.walk.Path.{Path}
+use Rattle.phase.specs.declared.walk.Walked.{Walked}
+use Rattle.phase.specs.declared.walk.Walked.TheVariants as walked
+use Rattle.phase.specs.declared.take.Take.TheVariants.{Look}
+use Rattle.phase.specs.declared.take.Taken.{Taken}
+use Rattle.phase.specs.declared.take.Taken.TheVariants as taking
+use Rattle.phase.specs.declared.back.Backed.{Backed}
+use Rattle.phase.specs.declared.back.Backed.TheVariants as backed
+use Rattle.phase.specs.declared.load.Load.{Load}
+use Rattle.phase.specs.declared.load.Loaded.{Loaded}
+use Rattle.phase.specs.declared.load.Loaded.TheVariants as loaded
+use Rattle.phase.specs.declared.make.Make.{Make}
+use Rattle.phase.specs.declared.make.Make.TheVariants.{Key, Publish}
+use Rattle.phase.specs.declared.make.Made.{Made}
+use Rattle.phase.specs.declared.make.Made.TheVariants as made
+use Rattle.phase.specs.declared.held.Held.{Held}
+use Rattle.phase.specs.Helds.{give_next, given}
+use Rattle.phase.specs.Walks.{walk_taken}
+use Rattle.phase.specs.Takes.{take_taken}
+use Rattle.phase.specs.Backs.{back_taken}
+use Rattle.phase.specs.Loads.{load_begun, load_taken}
+use Rattle.phase.specs.Makes.{make_taken}
+use Rattle.phase.specs.Buckets.{with_words, words_in}
+use Rattle.write_op.specs.declared.step.Task.{Task}
+use Rattle.write_op.specs.declared.step.Spot.{Spot}
+use Rattle.write_op.specs.declared.step.Seen.{Seen}
+use Rattle.write_op.specs.declared.step.Ending.{Ending}
+use Rattle.write_op.specs.declared.step.Ending.TheVariants as ending
+use Rattle.write_op.specs.declared.step.NoteWord.{NoteWord}
+use Rattle.write_op.specs.declared.step.NoteWord.TheVariants.{Mark, Fingers}
+use Rattle.write_op.specs.declared.step.WriteStep.{WriteStep}
+use Rattle.write_op.specs.declared.step.WriteStep.TheVariants.{Way, Lock, Check, Fill, Count, Draw, Unnote, CountSpent, Give, Ended}
+use Rattle.write_op.specs.declared.step.WriteStep.TheVariants as step
+use Rattle.write_op.specs.declared.step.Stage.{Stage}
+use Rattle.write_op.specs.Search.{found, room_in, leaves_note, unnoted, has_finger}
+use Rattle.write_op.specs.Steps.{go, given_by, giving, give, answered, amiss, walked_to, locked, locked_to, lock_of, backed_to, visit_second, visit_first, with_visits, filled, filled_with, filled_to, making, inserting, changing, decided, counted, made_to, drawn_to, unnoted_to, next_in}
+use Rattle.write_op.specs.Fits.{index, AreWords, HasWordsAt}
+use Rattle.write_op.proofs.finding.Places.{one_place, words_this, words_other}
+
+-- ---- what is kept
+set_below : (words : List ℕ) (at v : ℕ) → v < 2 ^ 64 → ((i : ℕ) → slice_index words i < 2 ^ 64) → (i : ℕ) → slice_index (slice_set words at v) i < 2 ^ 64
+set_below words at v small all i = elim (cases_lt at (length words)) [
+  | inl near ↦ elim (cases_eq i at) [
+    | inl e ↦ (let got : slice_index (slice_set words at v) i ≡ v = ap (slice_index (slice_set words at v)) e ∙ get_or-set_same words at v 0 near in subst (λ x. x < 2 ^ 64) (sym got) small)
+    | inr apart ↦ subst (λ x. x < 2 ^ 64) (sym (get_or-set_other words at i v 0 apart)) (all i)
+  ]
+  | inr far ↦ subst (λ ws. slice_index ws i < 2 ^ 64) (sym (set_past words at v far)) (all i)
+]
+
+abbrev Words : Stage → Type 0
+Words st = ((p : Place) → AreWords (words_in st.seen.buckets p)) × HasWordsAt st.step
+
+zeros : (n i : ℕ) → slice_index (replicate n 0) i ≡ 0
+zeros zero i = refl
+zeros (suc n) zero = refl
+zeros (suc n) (suc i) = zeros n i
+
+pub none_words : AreWords (replicate 32 0)
+none_words = record { small = λ i. subst (λ x. x < 2 ^ 64) (sym (zeros 32 i)) (omega arith); whole = refl }
+
+set_words : (words : List ℕ) (at v : ℕ) → v < 2 ^ 64 → AreWords words → AreWords (slice_set words at v)
+set_words words at v small a = record { small = set_below words at v small a.small; whole = length-set words at v ∙ a.whole }
+
+either_words : (b : Bool) (s t : WriteStep) → HasWordsAt s → HasWordsAt t → HasWordsAt (if b then s else t)
+either_words true s t p q = p
+either_words false s t p q = q
+
+both_words : (b : Bool) (s t : Stage) → Words s → Words t → Words (if b then s else t)
+both_words true s t p q = p
+both_words false s t p q = q
+
+by_next : (next : Option (Place × ℕ)) (held : Held) (end : Ending) → HasWordsAt (given_by next held end)
+by_next (Some next) held end = tt
+by_next None held end = tt
+
+module _ (task : Task) (seen : Seen) (all : (p : Place) → AreWords (words_in seen.buckets p)) where
+  give_words : (end : Ending) → Words (give seen end)
+  give_words end = (all, by_next (give_next seen.held) seen.held end)
+
+  walked_words : (x : Walked) → Words (walked_to task seen x)
+  walked_words (walked.On w) = (all, tt)
+  walked_words (walked.There path) = both_words (state_in path.head == normal) (go (record seen { path = path }) (Lock Home Look))
+      (go seen (amiss (head_word task.site.geometry path.segment) path.head)) (all, tt) (all, tt)
+  walked_words walked.Off = (all, tt)
+  walked_words (walked.Amiss word value) = (all, tt)
+  walked_words (walked.Stale segment version) = (all, tt)
+
+  locked_words : (place : Place) → HasWordsAt (locked place)
+  locked_words Home = tt
+  locked_words Probing = tt
+  locked_words First = none_words
+  locked_words Second = none_words
+
+  taken_words : (place : Place) (lock : ℕ) (x : Taken) → Words (locked_to seen place lock x)
+  taken_words place lock (taking.On take) = (all, tt)
+  taken_words place lock (taking.Held free) = (all, locked_words place)
+  taken_words place lock (taking.Busy value) = give_words _
+  taken_words place lock (taking.Moved before after) = give_words _
+  taken_words place lock taking.Spent = (all, tt)
+
+  backed_words : (x : Backed) → Words (backed_to seen x)
+  backed_words (backed.On back) = (all, tt)
+  backed_words backed.Same = (all, none_words)
+  backed_words (backed.Moved word before after) = give_words _
+
+  second_words : (s : Seen) → HasWordsAt (visit_second s)
+  second_words s = either_words s.second (Lock Second Look) Count tt tt
+
+  first_words : (s : Seen) → HasWordsAt (visit_first s)
+  first_words s = either_words s.first (Lock First Look) (visit_second s) tt (second_words s)
+
+  put_words : (place : Place) (words : List ℕ) → AreWords words → (p : Place) → AreWords (words_in (with_words place words seen.buckets) p)
+  put_words place words a p = elim (cases_eq (index p) (index place)) [
+    | inl e ↦ subst (λ (q : Place). AreWords (words_in (with_words place words seen.buckets) q)) (sym (one_place p place e)) (subst AreWords (sym (words_this seen.buckets words place)) a)
+    | inr other ↦ subst AreWords (sym (words_other seen.buckets words place p other)) (all p)
+  ]
+
+  filled_words : (place : Place) (words : List ℕ) → AreWords words → Words (filled_with task.hash seen place words)
+  filled_words Home words a = (put_words Home words a, none_words)
+  filled_words Probing words a = (put_words Probing words a, first_words (with_visits task.hash (record seen { buckets = with_words Probing words seen.buckets })))
+  filled_words First words a = (put_words First words a, second_words (record seen { buckets = with_words First words seen.buckets }))
+  filled_words Second words a = (put_words Second words a, tt)
+
+  load_by : (place : Place) (load : Load) (n : ℕ) → AreWords (slice_set load.words load.next n) → (b : Bool)
+      → Words (filled_to task.hash seen place (if b then loaded.On (record { words = slice_set load.words load.next n; next = load.next + 1 }) else loaded.All (slice_set load.words load.next n)))
+  load_by place load n a true = (all, a)
+  load_by place load n a false = filled_words place (slice_set load.words load.next n) a
+
+  inserting_words : (count : ℕ) (there room : Option Spot) → Words (inserting task seen count there room)
+  inserting_words count (Some there) room = give_words _
+  inserting_words count None (Some spot) = (all, tt)
+  inserting_words count None None = (all, tt)
+
+  changing_words : (count : ℕ) (there : Option Spot) → Words (changing task seen count there)
+  changing_words count (Some there) = (all, tt)
+  changing_words count None = give_words _
+
+  decided_words : (count : ℕ) (d : Deed) → Words (decided task seen count d)
+  decided_words count (Insert value) = inserting_words count (found seen task.change.key) (room_in seen.buckets)
+  decided_words count (Update value) = changing_words count (found seen task.change.key)
+  decided_words count Remove = changing_words count (found seen task.change.key)
+
+  made_words : (x : Made) → Words (made_to seen x)
+  made_words (made.On m) = (all, tt)
+  made_words made.Settled = (all, tt)
+
+  unnoted_words : (part : NoteWord) (place : ℕ) → Words (unnoted_to task seen part place)
+  unnoted_words Mark place = both_words (has_finger seen (unnoted task.hash seen)) (go seen (Unnote Fingers place)) (answered seen place reply.Done) (all, tt) (give_words _)
+  unnoted_words Fingers place = give_words _
+
+  -- an answer that is a word leaves words
+  pub words_after : (s : WriteStep) (a : Ans) → IsWord a → HasWordsAt s → Words (next_in task seen s a)
+  words_after (Way w) (Value n) small has = walked_words (walk_taken task.site task.hash w n)
+  words_after (Lock place take) a small has = taken_words place (lock_of task seen place) (take_taken take a)
+  words_after (Check back) (Value n) small has = backed_words (back_taken task.site task.hash seen.path back n)
+  words_after (Fill place load) (Value n) small has = load_by place load n (set_words load.words load.next n small has) (nat_lt load.next 31)
+  words_after Count (Value n) small has = both_words (nat_le (2 ^ 63) n) (answered seen n reply.Spent) (decided task seen n task.change.deed) (give_words _) (decided_words n task.change.deed)
+  words_after (step.Make m) Passed small has = made_words (make_taken seen.written.slot m)
+  words_after Draw (Drawn n) small has = both_words (leaves_note task.change.deed seen.place) (go seen (Unnote Mark n)) (answered seen n reply.Done) (all, tt) (give_words _)
+  words_after (Unnote part place) Passed small has = unnoted_words part place
+  words_after CountSpent (Value n) small has = give_words _
+  words_after (Give held end) Passed small has = (all, by_next (give_next (given held)) (given held) end)
+  words_after s a small has = (all, has)

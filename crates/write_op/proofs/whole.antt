@@ -1,0 +1,2 @@
+-- A change and its refusal, as one part of a call.
+pub mod WholeChange

@@ -1,0 +1,120 @@
+-- What the loaded words say: where the key stands, which stash buckets are to be visited, where a slot is free, what is
+-- stored of a record, and how the note of one is taken away that leaves the stash.
+use Rattle.std.specs.Prelude.{◌==◌, ◌&&◌, ℕ, ◌+◌, ◌*◌, Bool, true, false, Option, None, Some, List, slice_index, if◌then◌else◌}
+use Rattle.hash_word.specs.Hash.{finger_of}
+use Rattle.bucket_meta.specs.Search.{lowest_with, lowest_free}
+use Rattle.bucket_meta.specs.Marks.{inserted_mark, member_mark, removed_mark, finger_place, with_finger}
+use Rattle.bucket_meta.specs.NoteWords.{note_place, freed_mark, freed_fingers, lowered_count}
+use Rattle.bucket_meta.specs.Visits.{must_visit}
+use Rattle.map_model.specs.declared.change.Deed.{Deed}
+use Rattle.map_model.specs.declared.change.Deed.TheVariants.{Insert, Update, Remove}
+use Rattle.phase.specs.declared.place.Place.{Place}
+use Rattle.phase.specs.declared.place.Place.TheVariants.{Home, Probing, First, Second}
+use Rattle.phase.specs.declared.kept.Buckets.{Buckets}
+use Rattle.phase.specs.declared.make.Record.{Record}
+use Rattle.phase.specs.Buckets.{words_in}
+use Rattle.write_op.specs.declared.step.Task.{Task}
+use Rattle.write_op.specs.declared.step.Spot.{Spot}
+use Rattle.write_op.specs.declared.step.Seen.{Seen}
+use Rattle.write_op.specs.declared.search.NoteWords.{NoteWords}
+
+-- ---- where the key stands, and where a slot is free
+-- this slot of a bucket, or else what is found behind it
+abbrev pub spot_or : Place → Option ℕ → Option Spot → Option Spot
+spot_or place (Some slot) rest = Some (record { place = place; slot = slot })
+spot_or place None rest = rest
+
+-- the slot of a key, in a bucket that is visited
+abbrev pub slot_in : Bool → List ℕ → ℕ → Option ℕ
+slot_in true words key = lowest_with words key
+slot_in false words key = None
+
+-- the first slot with the key: in the home bucket, the probing bucket, and the stash buckets that are visited
+abbrev pub found : Seen → ℕ → Option Spot
+found seen key =
+    spot_or Home (slot_in true seen.buckets.home key)
+    (spot_or Probing (slot_in true seen.buckets.probing key)
+    (spot_or First (slot_in seen.first seen.buckets.first key)
+    (spot_or Second (slot_in seen.second seen.buckets.second key) None)))
+
+-- the free slot that a new record takes, so far in its home bucket alone
+abbrev pub room_in : Buckets → Option Spot
+room_in buckets = spot_or Home (lowest_free (slice_index buckets.home 1)) None
+
+-- whether a stash bucket is to be visited, by the words of home and probing bucket
+abbrev pub visits : ℕ → Buckets → ℕ → Bool
+visits hash buckets index =
+    must_visit (slice_index buckets.home 1) (slice_index buckets.home 3) (slice_index buckets.probing 1) (slice_index buckets.probing 3) (finger_of hash) index
+
+-- ---- what is stored of a record
+-- a record that stands in its probing bucket has the membership bit too
+abbrev pub taken_mark : Place → ℕ → ℕ → ℕ
+taken_mark Home w1 slot = inserted_mark w1 slot
+taken_mark Probing w1 slot = member_mark w1 slot
+taken_mark First w1 slot = inserted_mark w1 slot
+taken_mark Second w1 slot = inserted_mark w1 slot
+
+-- the word whose store makes the change, by its number in the bucket
+abbrev pub published_word : Deed → ℕ → ℕ
+published_word (Insert value) slot = 1
+published_word (Update value) slot = 5 + 2 * slot
+published_word Remove slot = 1
+
+-- what is stored there
+abbrev pub published_mark : Deed → Place → ℕ → ℕ → ℕ
+published_mark (Insert value) place w1 slot = taken_mark place w1 slot
+published_mark (Update value) place w1 slot = value
+published_mark Remove place w1 slot = removed_mark w1 slot
+
+-- the value that a change brings, and 0 where it brings none
+abbrev pub brought : Deed → ℕ
+brought (Insert value) = value
+brought (Update value) = value
+brought Remove = 0
+
+-- what is stored of the record of a change, in a slot of a bucket with these words
+abbrev pub record_in : Task → Place → List ℕ → ℕ → Record
+record_in task place words slot = record {
+  slot = slot;
+  key = task.change.key;
+  value = brought task.change.deed;
+  fingers = with_finger (slice_index words (finger_place slot)) slot (finger_of task.hash);
+  published = published_word task.change.deed slot;
+  mark = published_mark task.change.deed place (slice_index words 1) slot;
+}
+
+abbrev pub record_at : Task → Buckets → Spot → Record
+record_at task buckets spot = record_in task spot.place (words_in buckets spot.place) spot.slot
+
+-- ---- the note of a record that leaves the stash
+-- a stash bucket, by its number among them
+abbrev pub stash_index : Place → ℕ
+stash_index Home = 0
+stash_index Probing = 0
+stash_index First = 0
+stash_index Second = 1
+
+-- a remove from there leaves a note that is to be taken away
+abbrev pub leaves_note : Deed → Place → Bool
+leaves_note Remove First = true
+leaves_note Remove Second = true
+leaves_note deed place = false
+
+-- words 1 and 3 of a bucket without the note on a place, or else what is made instead
+abbrev pub freed_or : Place → List ℕ → Option ℕ → NoteWords → NoteWords
+freed_or place words (Some i) rest = record { place = place; mark = freed_mark (slice_index words 1) i; fingers = freed_fingers (slice_index words 3) i }
+freed_or place words None rest = rest
+
+-- the lowest note of it in the home bucket goes, else that in the probing bucket, and else one of those that are counted
+abbrev pub unnoted_by : List ℕ → List ℕ → ℕ → ℕ → NoteWords
+unnoted_by home probing finger index =
+    freed_or Home home (note_place (slice_index home 1) (slice_index home 3) 0 finger index)
+    (freed_or Probing probing (note_place (slice_index probing 1) (slice_index probing 3) 1 finger index)
+    (record { place = Home; mark = lowered_count (slice_index home 1); fingers = slice_index home 3 }))
+
+abbrev pub unnoted : ℕ → Seen → NoteWords
+unnoted hash seen = unnoted_by seen.buckets.home seen.buckets.probing (finger_of hash) (stash_index seen.place)
+
+-- whether its fingerprint word changes too
+abbrev pub has_finger : Seen → NoteWords → Bool
+has_finger seen note = if slice_index (words_in seen.buckets note.place) 3 == note.fingers then false else true

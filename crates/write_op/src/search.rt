@@ -1,0 +1,231 @@
+//! What the loaded words say: where the key stands, which stash buckets are to be visited, where a slot is free, what is stored
+//! of a record, and how the note of one is taken away that leaves the stash.
+
+ghost use Rattle.std.specs.Prelude.{◌≡◌, ℕ, ◌<◌, IfSome};
+ghost use Rattle.bucket_meta.specs.Bucket.{record_slots};
+ghost use Rattle.write_op.specs.Search.{spot_or, slot_in, found, room_in, visits, taken_mark, published_word, published_mark, brought, record_in, record_at, stash_index, leaves_note, freed_or, unnoted_by, unnoted, has_finger};
+
+use crate::step::{Seen, Spot, Task};
+use bucket_meta::words::{
+    finger_place, freed_fingers, freed_mark, inserted_mark, lowered_count, lowest_free,
+    lowest_with, member_mark, must_visit, note_place, removed_mark, with_finger,
+};
+use hash_word::finger;
+use map_model::Deed;
+use phase::{Buckets, Place, Record};
+
+// ---- where the key stands, and where a slot is free
+
+/// This slot of a bucket, or else what is found behind it.
+fn spot_or(place: Place, slot: Option<u8>, rest: Option<Spot>) -> Option<Spot>
+    requires slot { IfSome slot (λ slot. slot < record_slots) }
+    requires rest { IfSome rest (λ spot. spot.slot < record_slots) }
+    ensures is { result ≡ spot_or place slot rest }
+    ensures within { IfSome result (λ spot. spot.slot < record_slots) }
+{
+    match slot {
+        Some(slot) => Some(Spot { place, slot }),
+        None => rest,
+    }
+}
+
+/// The slot of a key, in a bucket that is visited.
+fn slot_in(visited: bool, words: &[u64; 32], key: u64) -> Option<u8>
+    ensures is { result ≡ slot_in visited words.now key }
+    ensures within { IfSome result (λ slot. slot < record_slots) }
+{
+    if visited {
+        lowest_with(words, key)
+    } else {
+        None
+    }
+}
+
+/// The first slot with a key: in the home bucket, the probing bucket, and the stash buckets that are visited.
+pub fn found(seen: &Seen, key: u64) -> Option<Spot>
+    ensures is { result ≡ found seen.now key }
+    ensures within { IfSome result (λ spot. spot.slot < record_slots) }
+{
+    let second = slot_in(seen.second, &seen.buckets.second, key);
+    let first = slot_in(seen.first, &seen.buckets.first, key);
+    let probing = slot_in(true, &seen.buckets.probing, key);
+    let home = slot_in(true, &seen.buckets.home, key);
+    let rest = spot_or(Place::First, first, spot_or(Place::Second, second, None));
+    spot_or(Place::Home, home, spot_or(Place::Probing, probing, rest))
+}
+
+/// The free slot that a new record takes, so far in its home bucket alone.
+pub fn room_in(buckets: &Buckets) -> Option<Spot>
+    ensures is { result ≡ room_in buckets.now }
+    ensures within { IfSome result (λ spot. spot.slot < record_slots) }
+{
+    spot_or(Place::Home, lowest_free(buckets.home[1]), None)
+}
+
+/// Whether a stash bucket is to be visited, 0 or 1, by the words of home and probing bucket.
+pub fn visits(hash: u64, buckets: &Buckets, index: u8) -> bool
+    ensures { result ≡ visits hash buckets.now index }
+{
+    let (home, probing) = (&buckets.home, &buckets.probing);
+    must_visit(
+        home[1],
+        home[3],
+        probing[1],
+        probing[3],
+        finger(hash),
+        index,
+    )
+}
+
+// ---- what is stored of a record
+
+/// The metadata word with a slot taken; a record that stands in its probing bucket has the membership bit too.
+fn taken_mark(place: Place, w1: u64, slot: u8) -> u64
+    ensures { result ≡ taken_mark place w1 slot }
+{
+    match place {
+        Place::Probing => member_mark(w1, slot),
+        Place::Home | Place::First | Place::Second => inserted_mark(w1, slot),
+    }
+}
+
+/// The word whose store makes the change, by its number in the bucket.
+fn published_word(deed: Deed, slot: u8) -> u8
+    requires { slot < record_slots }
+    ensures { result ≡ published_word deed slot }
+{
+    match deed {
+        Deed::Update(_) => 5 + 2 * slot,
+        Deed::Insert(_) | Deed::Remove => 1,
+    }
+}
+
+/// What is stored there.
+fn published_mark(deed: Deed, place: Place, w1: u64, slot: u8) -> u64
+    ensures { result ≡ published_mark deed place w1 slot }
+{
+    match deed {
+        Deed::Insert(_) => taken_mark(place, w1, slot),
+        Deed::Update(value) => value,
+        Deed::Remove => removed_mark(w1, slot),
+    }
+}
+
+/// The value that a change brings, and 0 where it brings none.
+fn brought(deed: Deed) -> u64
+    ensures { result ≡ brought deed }
+{
+    match deed {
+        Deed::Insert(value) | Deed::Update(value) => value,
+        Deed::Remove => 0,
+    }
+}
+
+/// What is stored of the record of a change, in a slot of a bucket with these words.
+fn record_in(task: &Task, place: Place, words: &[u64; 32], slot: u8) -> Record
+    requires { slot < record_slots }
+    ensures { result ≡ record_in task.now place words.now slot }
+{
+    let deed = task.change.deed;
+    Record {
+        slot,
+        key: task.change.key,
+        value: brought(deed),
+        fingers: with_finger(words[finger_place(slot)], slot, finger(task.hash)),
+        published: published_word(deed, slot),
+        mark: published_mark(deed, place, words[1], slot),
+    }
+}
+
+/// What is stored of the record of a change in this spot.
+pub fn record_at(task: &Task, buckets: &Buckets, spot: Spot) -> Record
+    requires { spot.slot < record_slots }
+    ensures { result ≡ record_at task.now buckets.now spot }
+{
+    let words = buckets.of(spot.place);
+    record_in(task, spot.place, &words, spot.slot)
+}
+
+// ---- the note of a record that leaves the stash
+
+/// Words 1 and 3 of a bucket in which the note of a record is taken away.
+#[derive(Clone, Copy, Debug, PartialEq, Eq)]
+pub struct NoteWords {
+    /// Which bucket.
+    pub place: Place,
+    /// Its metadata word.
+    pub mark: u64,
+    /// Its word 3, which has the fingerprints of two notes.
+    pub fingers: u64,
+}
+
+/// The number of a stash bucket among them.
+fn stash_index(place: Place) -> u8
+    ensures { result ≡ stash_index place }
+{
+    match place {
+        Place::Home | Place::Probing | Place::First => 0,
+        Place::Second => 1,
+    }
+}
+
+/// Whether a change in this bucket leaves a note that is to be taken away.
+pub fn leaves_note(deed: Deed, place: Place) -> bool
+    ensures { result ≡ leaves_note deed place }
+{
+    match (deed, place) {
+        (Deed::Remove, Place::First | Place::Second) => true,
+        _ => false,
+    }
+}
+
+/// Words 1 and 3 of a bucket without the note on an note slot, or else what is made instead.
+fn freed_or(place: Place, words: &[u64; 32], at: Option<u8>, rest: NoteWords) -> NoteWords
+    ensures { result ≡ freed_or place words.now at rest }
+{
+    match at {
+        Some(at) => NoteWords {
+            place,
+            mark: freed_mark(words[1], at),
+            fingers: freed_fingers(words[3], at),
+        },
+        None => rest,
+    }
+}
+
+/// What takes away a note of this fingerprint and stash bucket: the lowest one in the home bucket goes, else that in the probing
+/// bucket, and else one of those that are counted.
+fn unnoted_by(home: &[u64; 32], probing: &[u64; 32], finger: u8, index: u8) -> NoteWords
+    ensures { result ≡ unnoted_by home.now probing.now finger index }
+{
+    let counted = NoteWords {
+        place: Place::Home,
+        mark: lowered_count(home[1]),
+        fingers: home[3],
+    };
+    let in_probing = note_place(probing[1], probing[3], 1, finger, index);
+    let in_home = note_place(home[1], home[3], 0, finger, index);
+    let rest = freed_or(Place::Probing, probing, in_probing, counted);
+    freed_or(Place::Home, home, in_home, rest)
+}
+
+/// What takes away the note of the record that was removed.
+pub fn unnoted(hash: u64, seen: &Seen) -> NoteWords
+    ensures { result ≡ unnoted hash seen.now }
+{
+    let index = stash_index(seen.place);
+    unnoted_by(
+        &seen.buckets.home,
+        &seen.buckets.probing,
+        finger(hash),
+        index,
+    )
+}
+
+/// Whether word 3 changes too.
+pub fn has_finger(seen: &Seen, note: &NoteWords) -> bool
+    ensures { result ≡ has_finger seen.now note.now }
+{
+    let words = seen.buckets.of(note.place);
+    words[3] != note.fingers
+}
