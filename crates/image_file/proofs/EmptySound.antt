@@ -100,7 +100,7 @@ module _ (shape : Shape) (words : List ℕ) (i : IsFormatted shape words) where
   formatted-no_record s b r h = absurd (omega (arith, h.is_allocated, ap (allocated r) (meta_is s b 1) ∙ bits_of_zero r 1))
 
   no_note : (s b side : ℕ) → HasNote (word_in shape word s b 1) side → ⊥
-  no_note s b side n = absurd (omega (arith, n.used, ap (note_used n.place) (meta_is s b 1) ∙ bits_of_zero (28 + n.place) 1))
+  no_note s b side n = absurd (omega (arith, n.used, ap (note_used n.note_slot) (meta_is s b 1) ∙ bits_of_zero (28 + n.note_slot) 1))
 
   exact_notes : (s b : ℕ) → HasExactNotes shape word s b
   exact_notes s b =

@@ -20,11 +20,11 @@ use Rattle.image_layout.specs.Places.{Shape, key_at}
 use Rattle.sound_image.specs.Segments.{ImageWords, Frame, frame_of, depth_at, pattern_at, Owns}
 use Rattle.sound_image.specs.Records.{key_hash, slot_key, slot_value, slot_hash, HasRecord, HasPair}
 use Rattle.sound_image.specs.Rules.{KeysHaveOneValue}
-use Rattle.image_rules.specs.declared.place.Place.{Place}
+use Rattle.image_rules.specs.declared.record_slot.RecordSlot.{RecordSlot}
 use Rattle.sound_image.specs.Image.{IsSoundImage}
 use Rattle.image_rules.specs.Divided.{IsDivided}
-use Rattle.image_rules.specs.Slots.{IsPlace, IsTaken, IsStanding}
-use Rattle.image_rules.specs.Own.{place_at, pair_at, IsOwnAt, IsFirstAt}
+use Rattle.image_rules.specs.Slots.{IsRecordSlot, IsTaken, IsStanding}
+use Rattle.image_rules.specs.Own.{record_slot_at, pair_at, IsOwnAt, IsFirstAt}
 use Rattle.image_file.specs.Pairs.{live_slots, keys_of, ArePairs, HasPairBelow, ArePairsBelow}
 use Rattle.image_rules.proofs.covered.Owners.{shares}
 
@@ -86,15 +86,15 @@ distinct_nil : IsDistinct eqb []
 unfolding IsDistinct
 distinct_nil = tt
 
--- PLACES by their numbers
-pub place_number : (s b r : ℕ) → b < 66 → r < 14 → place_at (924 * s + 14 * b + r) ≡ record { segment = s; bucket = b; slot = r }
-place_number s b r bucket slot =
+-- RECORD SLOTS by their numbers
+pub record_slot_number : (s b r : ℕ) → b < 66 → r < 14 → record_slot_at (924 * s + 14 * b + r) ≡ record { segment = s; bucket = b; slot = r }
+record_slot_number s b r bucket slot =
     let segment : (924 * s + 14 * b + r) / 924 ≡ s = omega arith in
     let in_segment : (924 * s + 14 * b + r) % 924 / 14 ≡ b = omega arith in
     let in_bucket : (924 * s + 14 * b + r) % 14 ≡ r = omega arith in
     λ j. record { segment = segment j; bucket = in_segment j; slot = in_bucket j }
 
-pub in_image : (shape : Shape) (n : ℕ) → n < 924 * shape.segments → IsPlace shape (place_at n)
+pub in_image : (shape : Shape) (n : ℕ) → n < 924 * shape.segments → IsRecordSlot shape (record_slot_at n)
 in_image shape n below = record { segment = omega arith; bucket = omega arith; slot = omega arith }
 
 -- ONE OWNER of a hash
@@ -121,7 +121,7 @@ module _ (shape : Shape) (word : ImageWords) where
       record { each = λ n below. absurd (omega (arith, below)); others = λ pair there. absurd (no_pair pair there); once = distinct_nil }
 
   there_at : (n : ℕ) → n < 924 * shape.segments → IsOwnAt shape word n
-      → HasRecord shape word (place_at n).segment (place_at n).bucket (place_at n).slot
+      → HasRecord shape word (record_slot_at n).segment (record_slot_at n).bucket (record_slot_at n).slot
   there_at n below own =
       let is = in_image shape n below in
       record { segment = is.segment; bucket = is.bucket; slot = is.slot; is_allocated = own.taken }
@@ -133,45 +133,45 @@ module _ (shape : Shape) (word : ImageWords) where
   own_at : (s b r : ℕ) → b < 66 → r < 14 → IsTaken shape word s b r → Owns (frame_of shape word) s (slot_hash shape word s b r)
       → IsOwnAt shape word (924 * s + 14 * b + r)
   own_at s b r bucket slot taken owned =
-      let same = place_number s b r bucket slot in
+      let same = record_slot_number s b r bucket slot in
       record {
-        taken = subst (λ (p : Place). IsTaken shape word p.segment p.bucket p.slot) (sym same) taken;
-        owned = subst (λ (p : Place). Owns (frame_of shape word) p.segment (slot_hash shape word p.segment p.bucket p.slot)) (sym same) owned;
+        taken = subst (λ (p : RecordSlot). IsTaken shape word p.segment p.bucket p.slot) (sym same) taken;
+        owned = subst (λ (p : RecordSlot). Owns (frame_of shape word) p.segment (slot_hash shape word p.segment p.bucket p.slot)) (sym same) owned;
       }
 
   pair_of : (s b r : ℕ) → b < 66 → r < 14 → pair_at shape word (924 * s + 14 * b + r) ≡ (slot_key shape word s b r, slot_value shape word s b r)
   pair_of s b r bucket slot =
-      ap (λ (p : Place). (slot_key shape word p.segment p.bucket p.slot, slot_value shape word p.segment p.bucket p.slot)) (place_number s b r bucket slot)
+      ap (λ (p : RecordSlot). (slot_key shape word p.segment p.bucket p.slot, slot_value shape word p.segment p.bucket p.slot)) (record_slot_number s b r bucket slot)
 
   module _ (i : IsStanding shape word) (values : (w : ℕ) → KeysHaveOneValue shape word w) (n : ℕ) (below : n < 924 * shape.segments)
       (pairs : List (ℕ × ℕ)) (are : ArePairsBelow shape word n pairs) where
     -- a record that has one of its key before it: its pair is there
     module _ (own : IsOwnAt shape word n) (none : Contains pairs (pair_at shape word n) → ⊥) (c t : ℕ)
-        (there : HasRecord shape word (place_at n).segment c t)
-        (less : key_at shape (place_at n).segment c t < key_at shape (place_at n).segment (place_at n).bucket (place_at n).slot)
-        (same : slot_key shape word (place_at n).segment c t ≡ slot_key shape word (place_at n).segment (place_at n).bucket (place_at n).slot) where
-      same_hash : slot_hash shape word (place_at n).segment c t ≡ slot_hash shape word (place_at n).segment (place_at n).bucket (place_at n).slot
+        (there : HasRecord shape word (record_slot_at n).segment c t)
+        (less : key_at shape (record_slot_at n).segment c t < key_at shape (record_slot_at n).segment (record_slot_at n).bucket (record_slot_at n).slot)
+        (same : slot_key shape word (record_slot_at n).segment c t ≡ slot_key shape word (record_slot_at n).segment (record_slot_at n).bucket (record_slot_at n).slot) where
+      same_hash : slot_hash shape word (record_slot_at n).segment c t ≡ slot_hash shape word (record_slot_at n).segment (record_slot_at n).bucket (record_slot_at n).slot
       same_hash = ap (key_hash shape) same
 
-      earlier_own : IsOwnAt shape word (924 * (place_at n).segment + 14 * c + t)
+      earlier_own : IsOwnAt shape word (924 * (record_slot_at n).segment + 14 * c + t)
       earlier_own =
-          own_at (place_at n).segment c t there.bucket there.slot there.is_allocated
-          (subst (Owns (frame_of shape word) (place_at n).segment) (sym same_hash) own.owned)
+          own_at (record_slot_at n).segment c t there.bucket there.slot there.is_allocated
+          (subst (Owns (frame_of shape word) (record_slot_at n).segment) (sym same_hash) own.owned)
 
-      earlier : 924 * (place_at n).segment + 14 * c + t < n
+      earlier : 924 * (record_slot_at n).segment + 14 * c + t < n
       earlier = omega (arith, less, there.bucket, there.slot)
 
-      same_value : slot_value shape word (place_at n).segment c t ≡ slot_value shape word (place_at n).segment (place_at n).bucket (place_at n).slot
+      same_value : slot_value shape word (record_slot_at n).segment c t ≡ slot_value shape word (record_slot_at n).segment (record_slot_at n).bucket (record_slot_at n).slot
       same_value =
-          values (key_at shape (place_at n).segment (place_at n).bucket (place_at n).slot) (place_at n).segment (place_at n).bucket (place_at n).slot
+          values (key_at shape (record_slot_at n).segment (record_slot_at n).bucket (record_slot_at n).slot) (record_slot_at n).segment (record_slot_at n).bucket (record_slot_at n).slot
           (record { record_there = there_at n below own; owned = own.owned }) refl c t there less same
 
-      pair_same : pair_at shape word (924 * (place_at n).segment + 14 * c + t) ≡ pair_at shape word n
-      pair_same = pair_of (place_at n).segment c t there.bucket there.slot ∙ (λ j. (same j, same_value j))
+      pair_same : pair_at shape word (924 * (record_slot_at n).segment + 14 * c + t) ≡ pair_at shape word n
+      pair_same = pair_of (record_slot_at n).segment c t there.bucket there.slot ∙ (λ j. (same j, same_value j))
 
       no_twin : ⊥
       no_twin =
-          none (subst (λ (pair : ℕ × ℕ). Contains pairs pair) pair_same (are.each (924 * (place_at n).segment + 14 * c + t) earlier earlier_own))
+          none (subst (λ (pair : ℕ × ℕ). Contains pairs pair) pair_same (are.each (924 * (record_slot_at n).segment + 14 * c + t) earlier earlier_own))
 
     contained_anyway : (IsFirstAt shape word n → ⊥) → IsOwnAt shape word n → Contains pairs (pair_at shape word n)
     contained_anyway other own =
@@ -196,31 +196,31 @@ module _ (shape : Shape) (word : ImageWords) where
     -- a record that has none before it: no pair has its key
     module _ (first : IsFirstAt shape word n) where
       module _ (m : ℕ) (lower : m < n) (own : IsOwnAt shape word m)
-          (same : slot_key shape word (place_at m).segment (place_at m).bucket (place_at m).slot
-          ≡ slot_key shape word (place_at n).segment (place_at n).bucket (place_at n).slot) where
-        hash_same : slot_hash shape word (place_at m).segment (place_at m).bucket (place_at m).slot
-            ≡ slot_hash shape word (place_at n).segment (place_at n).bucket (place_at n).slot
+          (same : slot_key shape word (record_slot_at m).segment (record_slot_at m).bucket (record_slot_at m).slot
+          ≡ slot_key shape word (record_slot_at n).segment (record_slot_at n).bucket (record_slot_at n).slot) where
+        hash_same : slot_hash shape word (record_slot_at m).segment (record_slot_at m).bucket (record_slot_at m).slot
+            ≡ slot_hash shape word (record_slot_at n).segment (record_slot_at n).bucket (record_slot_at n).slot
         hash_same = ap (key_hash shape) same
 
-        segment_same : (place_at m).segment ≡ (place_at n).segment
+        segment_same : (record_slot_at m).segment ≡ (record_slot_at n).segment
         segment_same =
-            one_owner shape word i.divided (place_at m).segment (place_at n).segment
-            (slot_hash shape word (place_at n).segment (place_at n).bucket (place_at n).slot)
-            (subst (Owns (frame_of shape word) (place_at m).segment) hash_same own.owned) first.own.owned
+            one_owner shape word i.divided (record_slot_at m).segment (record_slot_at n).segment
+            (slot_hash shape word (record_slot_at n).segment (record_slot_at n).bucket (record_slot_at n).slot)
+            (subst (Owns (frame_of shape word) (record_slot_at m).segment) hash_same own.owned) first.own.owned
 
-        twin_there : HasRecord shape word (place_at n).segment (place_at m).bucket (place_at m).slot
+        twin_there : HasRecord shape word (record_slot_at n).segment (record_slot_at m).bucket (record_slot_at m).slot
         twin_there =
-            subst (λ (s : ℕ). HasRecord shape word s (place_at m).bucket (place_at m).slot) segment_same (there_at m (omega arith) own)
+            subst (λ (s : ℕ). HasRecord shape word s (record_slot_at m).bucket (record_slot_at m).slot) segment_same (there_at m (omega arith) own)
 
-        twin_key : slot_key shape word (place_at n).segment (place_at m).bucket (place_at m).slot
-            ≡ slot_key shape word (place_at n).segment (place_at n).bucket (place_at n).slot
-        twin_key = ap (λ (s : ℕ). slot_key shape word s (place_at m).bucket (place_at m).slot) (sym segment_same) ∙ same
+        twin_key : slot_key shape word (record_slot_at n).segment (record_slot_at m).bucket (record_slot_at m).slot
+            ≡ slot_key shape word (record_slot_at n).segment (record_slot_at n).bucket (record_slot_at n).slot
+        twin_key = ap (λ (s : ℕ). slot_key shape word s (record_slot_at m).bucket (record_slot_at m).slot) (sym segment_same) ∙ same
 
         impossible : ⊥
         impossible =
-            first.first (place_at m).bucket (place_at m).slot twin_there (omega (arith, lower, segment_same)) twin_key
+            first.first (record_slot_at m).bucket (record_slot_at m).slot twin_there (omega (arith, lower, segment_same)) twin_key
 
-      key_new : (pair : ℕ × ℕ) → Contains pairs pair → pair.0 ≢ slot_key shape word (place_at n).segment (place_at n).bucket (place_at n).slot
+      key_new : (pair : ℕ × ℕ) → Contains pairs pair → pair.0 ≢ slot_key shape word (record_slot_at n).segment (record_slot_at n).bucket (record_slot_at n).slot
       key_new pair there same =
           let has = are.others pair there in
           impossible has.n has.below has.own (ap (λ (p : ℕ × ℕ). p.0) has.is ∙ same)
@@ -258,9 +258,9 @@ module _ (shape : Shape) (word : ImageWords) where
           (λ (there : Contains pairs (k, v)).
               let has = are.others (k, v) there in
               record {
-                s = (place_at has.n).segment;
-                b = (place_at has.n).bucket;
-                r = (place_at has.n).slot;
+                s = (record_slot_at has.n).segment;
+                b = (record_slot_at has.n).bucket;
+                r = (record_slot_at has.n).slot;
                 own = record { record_there = there_at has.n has.below has.own; owned = has.own.owned };
                 key_is = ap (λ (pair : ℕ × ℕ). pair.0) has.is;
                 value_is = ap (λ (pair : ℕ × ℕ). pair.1) has.is;

@@ -8,8 +8,7 @@ ghost use Rattle.image_rules.specs.Stage.{PassesRule8, MayBePlayed};
 
 use crate::medium::Medium;
 use crate::words::Words;
-use image_layout::{Geometry, STATE_WORD, state};
-use image_rules::shape_in_range;
+use image_layout::{Geometry, STATE_WORD, shape_in_range, state};
 use map_model::NoMemory;
 use segment_head::{Head, State};
 use std::alloc::Global;

@@ -12,9 +12,10 @@ use crate::formatted::{FORMAT, MAGIC};
 use crate::medium::Medium;
 use crate::words::{WORD_BYTES, Words, word_at};
 use image_layout::Geometry;
-use image_rules::{Scope, each_fits, first_breach};
+use image_rules::{Scope, first_breach};
 use map_model::NoMemory;
 use std::alloc::Global;
+use word_bits::each_fits;
 
 /// How many bytes the words in front of an image have, which are about the whole.
 const FRONT_BYTES: usize = 256;

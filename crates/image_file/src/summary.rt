@@ -12,7 +12,7 @@ ghost use Rattle.image_file.specs.Pairs.{live_slots, keys_of, ArePairs, ArePairs
 
 use crate::medium::Medium;
 use image_layout::{Geometry, ROOT_WORD, STATE_WORD, state};
-use image_rules::{RECORD_SLOTS, pair_in};
+use image_rules::{RECORD_SLOTS, is_first_at, pair_in};
 use map_model::NoMemory;
 use segment_head::word::is_live;
 use std::alloc::Global;
@@ -55,7 +55,7 @@ fn count_pairs(geometry: &Geometry, words: &[u64]) -> u64
 {
     let mut count = 0;
     for n in 0..RECORD_SLOTS * geometry.segments() {
-        if let Some(_) = pair_in(geometry, words, n) {
+        if is_first_at(geometry, words, n) {
             count += 1;
         }
     }

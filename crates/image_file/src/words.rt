@@ -5,10 +5,10 @@ ghost use Rattle.sound_image.specs.Image.{image_bytes};
 ghost use Rattle.image_file.specs.Fault.{word_in_file};
 
 use byteorder::{ByteOrder, LittleEndian};
-use image_rules::each_fits;
 use map_model::NoMemory;
 use std::alloc::Global;
 use std::marker::Model;
+use word_bits::each_fits;
 
 /// How many bytes of its file a word takes, the lowest first.
 pub(crate) const WORD_BYTES: usize = 8;

@@ -8,7 +8,7 @@ use Rattle.sound_image.specs.Rules.{FollowsRules}
 use Rattle.image_rules.specs.declared.breach.Rule.{Rule}
 use Rattle.image_rules.specs.declared.breach.Rule.TheVariants.{Numbers, Owners, Entries, Records, Values, Versions, Repaired, Served}
 use Rattle.image_rules.specs.declared.breach.Scope.{Scope}
-use Rattle.image_rules.specs.Breach.{IsLeast, turn_of, StageHoldsAt, HoldsAt, IsFirstBreach}
+use Rattle.image_rules.specs.Breach.{IsLeast, rank_of, StageHoldsAt, HoldsAt, IsFirstBreach}
 use Rattle.image_rules.specs.Divided.{IsDivided}
 
 -- A RULE BY ITS TURN
@@ -19,48 +19,48 @@ rule_at n =
     if n == 2 then Owners else (
     if n == 3 then Entries else (if n == 4 then Records else (if n == 5 then Values else (if n == 6 then Versions else Repaired))))))
 
-in_turn : (r : Rule) → rule_at (turn_of r) ≡ r
-in_turn Numbers = refl
-in_turn Served = refl
-in_turn Owners = refl
-in_turn Entries = refl
-in_turn Records = refl
-in_turn Values = refl
-in_turn Versions = refl
-in_turn Repaired = refl
+by_rank : (r : Rule) → rule_at (rank_of r) ≡ r
+by_rank Numbers = refl
+by_rank Served = refl
+by_rank Owners = refl
+by_rank Entries = refl
+by_rank Records = refl
+by_rank Values = refl
+by_rank Versions = refl
+by_rank Repaired = refl
 
-has_turn : (r : Rule) → turn_of r < 8
-has_turn Numbers = omega arith
-has_turn Served = omega arith
-has_turn Owners = omega arith
-has_turn Entries = omega arith
-has_turn Records = omega arith
-has_turn Values = omega arith
-has_turn Versions = omega arith
-has_turn Repaired = omega arith
+has_rank : (r : Rule) → rank_of r < 8
+has_rank Numbers = omega arith
+has_rank Served = omega arith
+has_rank Owners = omega arith
+has_rank Entries = omega arith
+has_rank Records = omega arith
+has_rank Values = omega arith
+has_rank Versions = omega arith
+has_rank Repaired = omega arith
 
 module _ (shape : Shape) (word : ImageWords) (scope : Scope) where
-  -- each rule of an earlier turn holds
+  -- each rule of a lower rank holds
   abbrev pub Known : ℕ → Type 0
-  Known turn = (r : Rule) (w : ℕ) → turn_of r < turn → HoldsAt shape word scope r w
+  Known rank = (r : Rule) (w : ℕ) → rank_of r < rank → HoldsAt shape word scope r w
 
   pub no_rules : Known 0
   no_rules r w less = absurd (omega (arith, less))
 
   -- and this one does too
-  pub and_rule : (next : Rule) → Known (turn_of next) → ((w : ℕ) → HoldsAt shape word scope next w) → Known (turn_of next + 1)
+  pub and_rule : (next : Rule) → Known (rank_of next) → ((w : ℕ) → HoldsAt shape word scope next w) → Known (rank_of next + 1)
   and_rule next known holds r w less =
-      ⊎_elim (λ (earlier : turn_of r < turn_of next). known r w earlier)
-      (λ (later : turn_of next ≤ turn_of r).
-      let same : turn_of next ≡ turn_of r = omega (arith, later, less) in
-      subst (λ (r : Rule). HoldsAt shape word scope r w) (sym (in_turn next) ∙ ap rule_at same ∙ in_turn r) (holds w))
-      (cases_lt (turn_of r) (turn_of next))
+      ⊎_elim (λ (earlier : rank_of r < rank_of next). known r w earlier)
+      (λ (later : rank_of next ≤ rank_of r).
+      let same : rank_of next ≡ rank_of r = omega (arith, later, less) in
+      subst (λ (r : Rule). HoldsAt shape word scope r w) (sym (by_rank next) ∙ ap rule_at same ∙ by_rank r) (holds w))
+      (cases_lt (rank_of r) (rank_of next))
 
-  pub breaks : (r : Rule) (w : ℕ) → Known (turn_of r) → IsLeast (HoldsAt shape word scope r) w → IsFirstBreach shape word scope r w
+  pub breaks : (r : Rule) (w : ℕ) → Known (rank_of r) → IsLeast (HoldsAt shape word scope r) w → IsFirstBreach shape word scope r w
   breaks r w known least = record { least = least; rules_before = known }
 
   pub all_hold : Known 8 → (r : Rule) (w : ℕ) → HoldsAt shape word scope r w
-  all_hold known r w = known r w (has_turn r)
+  all_hold known r w = known r w (has_rank r)
 
   -- what is known of an image in which each hash has one owner
   pub of_divided : IsDivided shape word → ((w : ℕ) → StageHoldsAt shape word scope w) → Known 3

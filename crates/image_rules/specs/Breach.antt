@@ -25,16 +25,16 @@ number_of rule.Versions = 6
 number_of rule.Repaired = 7
 number_of rule.Served = 8
 
--- how many rules are looked at before it
-abbrev pub turn_of : Rule → ℕ
-turn_of rule.Numbers = 0
-turn_of rule.Served = 1
-turn_of rule.Owners = 2
-turn_of rule.Entries = 3
-turn_of rule.Records = 4
-turn_of rule.Values = 5
-turn_of rule.Versions = 6
-turn_of rule.Repaired = 7
+-- its rank: how many rules are looked at before it
+abbrev pub rank_of : Rule → ℕ
+rank_of rule.Numbers = 0
+rank_of rule.Served = 1
+rank_of rule.Owners = 2
+rank_of rule.Entries = 3
+rank_of rule.Records = 4
+rank_of rule.Values = 5
+rank_of rule.Versions = 6
+rank_of rule.Repaired = 7
 
 module _ (shape : Shape) (word : ImageWords) where
   -- what the last rule says of a word, if it is looked at
@@ -56,4 +56,4 @@ module _ (shape : Shape) (word : ImageWords) where
   -- the rule is broken at word w, and at no word before it; and each rule that is looked at before it holds
   pub record IsFirstBreach (scope : Scope) (broken : Rule) (w : ℕ) : Type 0 where
     pub least : IsLeast (HoldsAt scope broken) w
-    pub rules_before : (r : Rule) (v : ℕ) → turn_of r < turn_of broken → HoldsAt scope r v
+    pub rules_before : (r : Rule) (v : ℕ) → rank_of r < rank_of broken → HoldsAt scope r v

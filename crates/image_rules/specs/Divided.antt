@@ -1,9 +1,9 @@
 -- What is known of an image whose first rules hold: its numbers are in their ranges, and each hash has one owner.
-use Rattle.std.specs.Prelude.{◌≡◌, ℕ, suc, ◌+◌, ◌-◌, ◌*◌, ◌^◌, ◌<◌}
+use Rattle.std.specs.Prelude.{◌≡◌, ℕ, suc, ◌^◌, ◌<◌}
 use Rattle.image_layout.specs.Places.{Shape, IsShape}
 use Rattle.sound_image.specs.Segments.{ImageWords, Frame, depth_at, pattern_at, InOneSide, HasReadySide}
 use Rattle.sound_image.specs.Rules.{NumbersFit, HashesAreOwned}
-use Rattle.image_rules.specs.declared.heads.Prefix.{Prefix}
+use Rattle.segment_head.specs.declared.prefix.Prefix.{Prefix}
 
 -- the words are of 64 bits, and the numbers of the shape and of the image are in their ranges
 pub record IsNumbered (shape : Shape) (word : ImageWords) : Type 0 where
@@ -25,11 +25,6 @@ pub record IsPrefixOf (frame : Frame) (s : ℕ) (prefix : Prefix) : Type 0 where
 pub record IsNamed (frame : Frame) (s n : ℕ) : Type 0 where
   pub named : frame.link s ≡ suc n
   pub slot : n < frame.segments
-
--- the side is deeper, and its pattern is that of the 1-side of the whole, followed by zeros alone
-pub record IsSidePrefix (whole side : Prefix) : Type 0 where
-  pub deeper : whole.depth < side.depth
-  pub zeros : side.pattern ≡ (2 * whole.pattern + 1) * 2 ^ (side.depth - whole.depth - 1)
 
 -- a segment has a ready side, and the hash is in its 1-side
 pub record IsGivenAway (frame : Frame) (s h : ℕ) : Type 0 where

@@ -4,7 +4,7 @@ use Rattle.std.specs.Prelude.{◌≡◌, ℕ, ◌+◌, ◌-◌, ◌*◌, ◌^◌
 use Rattle.hash_word.specs.Hash.{index_of}
 use Rattle.sound_image.specs.Segments.{Frame, depth_at, pattern_at, IsLive, CoversHash, IsLiveFor, Owns, InOneSide, HasReadySide}
 use Rattle.sound_image.specs.Directory.{SharesWell}
-use Rattle.image_rules.specs.declared.heads.Prefix.{Prefix}
+use Rattle.segment_head.specs.declared.prefix.Prefix.{Prefix}
 
 -- the leaf is under a prefix: its hashes begin with it
 pub record IsUnder (greatest : ℕ) (prefix : Prefix) (leaf : ℕ) : Type 0 where

@@ -3,52 +3,47 @@ use Rattle.std.specs.Prelude.{◌≡◌, ℕ, ◌+◌, ◌<◌, ◌≤◌, ◌==
 use Rattle.std.specs.List.{flat_map}
 use Rattle.hash_word.specs.Hash.{home_of, finger_of}
 use Rattle.bucket_meta.specs.Bucket.{allocated, note_used, note_member, note_index, note_finger}
-use Rattle.bucket_meta.specs.Notes.{Note, numbers_below, how_often}
+use Rattle.bucket_meta.specs.Notes.{OverflowNote, numbers_below, how_often, IsNoteOn}
 use Rattle.image_layout.specs.Places.{Shape, homes}
 use Rattle.sound_image.specs.Segments.{ImageWords}
 use Rattle.sound_image.specs.Records.{word_in, slot_hash, notes_of, stashed_of}
-use Rattle.image_rules.specs.declared.place.Place.{Place}
-use Rattle.image_rules.specs.declared.notes.Note.{Note as Sought}
-
--- a place of a bucket has a note for records of this side
-pub record IsNoteOn (w1 side i : ℕ) : Type 0 where
-  pub used : note_used i w1 ≡ 1
-  pub on_side : note_member i w1 ≡ side
+use Rattle.image_rules.specs.declared.record_slot.RecordSlot.{RecordSlot}
+use Rattle.image_rules.specs.declared.notes.OverflowNote.{OverflowNote as Sought}
 
 -- the note is the one that is sought; each is where none is
-abbrev pub matches : Option Sought → Note → Bool
+abbrev pub matches : Option Sought → OverflowNote → Bool
 matches None note = true
 matches (Some sought) note = (note.0 == sought.finger) && (note.1 == sought.index)
 
-abbrev pub how_many : Option Sought → List Note → ℕ
+abbrev pub how_many : Option Sought → List OverflowNote → ℕ
 how_many sought notes = length (filter (matches sought) notes)
 
--- the note on a place of a bucket, if there is one for records of this side
-abbrev pub piece_on : ℕ → ℕ → ℕ → ℕ → List Note
+-- the note on a note slot of a bucket, if there is one for records of this side
+abbrev pub piece_on : ℕ → ℕ → ℕ → ℕ → List OverflowNote
 piece_on w1 w3 side i = if (note_used i w1 == 1) && (note_member i w1 == side) then (note_finger i w1 w3, note_index i w1) ∷ [] else []
 
--- those on its places below a limit
-abbrev pub noted : ℕ → ℕ → ℕ → ℕ → List Note
+-- those on its note slots below a limit
+abbrev pub noted : ℕ → ℕ → ℕ → ℕ → List OverflowNote
 noted w1 w3 side limit = flat_map (λ i. piece_on w1 w3 side i) (numbers_below limit)
 
 module _ (shape : Shape) (word : ImageWords) where
-  -- the place has a record of home b
-  pub record IsStashed (b : ℕ) (place : Place) : Type 0 where
-    pub taken : allocated place.slot (word_in shape word place.segment place.bucket 1) ≡ 1
-    pub home : home_of (slot_hash shape word place.segment place.bucket place.slot) ≡ b
+  -- the record slot has a record of home b
+  pub record IsStashed (b : ℕ) (record_slot : RecordSlot) : Type 0 where
+    pub taken : allocated record_slot.slot (word_in shape word record_slot.segment record_slot.bucket 1) ≡ 1
+    pub home : home_of (slot_hash shape word record_slot.segment record_slot.bucket record_slot.slot) ≡ b
 
   -- the record in a slot of stash bucket k, if there is one of home b
-  abbrev pub piece_in : ℕ → ℕ → ℕ → ℕ → List Note
+  abbrev pub piece_in : ℕ → ℕ → ℕ → ℕ → List OverflowNote
   piece_in s b k r =
       if (allocated r (word_in shape word s (homes + k) 1) == 1) && (home_of (slot_hash shape word s (homes + k) r) == b)
       then (finger_of (slot_hash shape word s (homes + k) r), k) ∷ []
       else []
 
   -- those in its slots below a limit
-  abbrev pub stashed_below : ℕ → ℕ → ℕ → ℕ → List Note
+  abbrev pub stashed_below : ℕ → ℕ → ℕ → ℕ → List OverflowNote
   stashed_below s b k limit = flat_map (λ r. piece_in s b k r) (numbers_below limit)
 
-  -- if there is a note of home b on a place of bucket c, of one side, it stands at most as often among its notes as its
+  -- if there is a note of home b on a note slot of bucket c, of one side, it stands at most as often among its notes as its
   -- record does in the stash
   abbrev pub IsNamed : ℕ → ℕ → ℕ → ℕ → ℕ → Type 0
   IsNamed s b c side i =
@@ -56,6 +51,6 @@ module _ (shape : Shape) (word : ImageWords) where
       → how_often (note_finger i (word_in shape word s c 1) (word_in shape word s c 3), note_index i (word_in shape word s c 1)) (notes_of shape word s b)
       ≤ how_often (note_finger i (word_in shape word s c 1) (word_in shape word s c 3), note_index i (word_in shape word s c 1)) (stashed_of shape word s b)
 
-  -- so is each on a place below a limit
+  -- so is each on a note slot below a limit
   abbrev pub AreNamed : ℕ → ℕ → ℕ → ℕ → ℕ → Type 0
   AreNamed s b c side limit = (i : ℕ) → i < limit → IsNamed s b c side i

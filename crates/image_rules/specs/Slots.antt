@@ -6,16 +6,16 @@ use Rattle.image_layout.specs.Places.{Shape, bucket_at, key_at, homes, buckets, 
 use Rattle.sound_image.specs.Segments.{ImageWords, frame_of, Owns}
 use Rattle.sound_image.specs.Records.{word_in, slot_key, slot_value, slot_hash, HasRecord, HasOwnRecord, HasExactNotes}
 use Rattle.sound_image.specs.Rules.{StandsRight, SameValueAsBefore, NotBefore, RecordsStandRight}
-use Rattle.image_rules.specs.declared.place.Place.{Place}
+use Rattle.image_rules.specs.declared.record_slot.RecordSlot.{RecordSlot}
 use Rattle.image_rules.specs.declared.records.RecordRule.{RecordRule}
 use Rattle.image_rules.specs.declared.records.RecordRule.TheVariants.{Home, Stand, Value, Once}
 use Rattle.image_rules.specs.Divided.{IsDivided}
 
 -- an image of this shape has the record slot
-pub record IsPlace (shape : Shape) (place : Place) : Type 0 where
-  pub segment : place.segment < shape.segments
-  pub bucket : place.bucket < buckets
-  pub slot : place.slot < record_slots
+pub record IsRecordSlot (shape : Shape) (record_slot : RecordSlot) : Type 0 where
+  pub segment : record_slot.segment < shape.segments
+  pub bucket : record_slot.bucket < buckets
+  pub slot : record_slot.slot < record_slots
 
 module _ (shape : Shape) (word : ImageWords) where
   -- slot r of bucket b of segment s has a record
@@ -49,38 +49,38 @@ module _ (shape : Shape) (word : ImageWords) where
   Follows Once s b r = Owns (frame_of shape word) s (slot_hash shape word s b r) × NotBefore shape word s b r
 
   -- what a rule allows of two records of a key: to have one value, or nothing
-  abbrev pub Agrees : RecordRule → Place → Place → Type 0
-  Agrees Home place other = ⊥
-  Agrees Stand place other = ⊥
-  Agrees Value place other =
-      slot_value shape word other.segment other.bucket other.slot ≡ slot_value shape word place.segment place.bucket place.slot
-  Agrees Once place other = ⊥
+  abbrev pub Agrees : RecordRule → RecordSlot → RecordSlot → Type 0
+  Agrees Home record_slot other = ⊥
+  Agrees Stand record_slot other = ⊥
+  Agrees Value record_slot other =
+      slot_value shape word other.segment other.bucket other.slot ≡ slot_value shape word record_slot.segment record_slot.bucket record_slot.slot
+  Agrees Once record_slot other = ⊥
 
-  -- another place of the segment has a record of the same key
-  pub record IsTwin (place other : Place) : Type 0 where
-    pub same_segment : other.segment ≡ place.segment
+  -- another record slot of the segment has a record of the same key
+  pub record IsTwin (record_slot other : RecordSlot) : Type 0 where
+    pub same_segment : other.segment ≡ record_slot.segment
     pub taken : IsTaken other.segment other.bucket other.slot
-    pub same_key : slot_key shape word other.segment other.bucket other.slot ≡ slot_key shape word place.segment place.bucket place.slot
+    pub same_key : slot_key shape word other.segment other.bucket other.slot ≡ slot_key shape word record_slot.segment record_slot.bucket record_slot.slot
 
-  -- the place in the same segment
-  abbrev pub beside : Place → ℕ → ℕ → Place
-  beside place c t = record { segment = place.segment; bucket = c; slot = t }
+  -- the record slot in the same segment
+  abbrev pub beside : RecordSlot → ℕ → ℕ → RecordSlot
+  beside record_slot c t = record { segment = record_slot.segment; bucket = c; slot = t }
 
   -- records of the same key in slots of bucket c below a limit agree with it
-  abbrev pub AgreeBelow : RecordRule → Place → ℕ → ℕ → Type 0
-  AgreeBelow rule place c limit = (t : ℕ) → t < limit → IsTwin place (beside place c t) → Agrees rule place (beside place c t)
+  abbrev pub AgreeBelow : RecordRule → RecordSlot → ℕ → ℕ → Type 0
+  AgreeBelow rule record_slot c limit = (t : ℕ) → t < limit → IsTwin record_slot (beside record_slot c t) → Agrees rule record_slot (beside record_slot c t)
 
   -- those of bucket c before it agree with it
-  abbrev pub AgreeIn : RecordRule → Place → ℕ → Type 0
-  AgreeIn rule place c =
-      (t : ℕ) → t < record_slots → key_at shape place.segment c t < key_at shape place.segment place.bucket place.slot → IsTwin place (beside place c t)
-      → Agrees rule place (beside place c t)
+  abbrev pub AgreeIn : RecordRule → RecordSlot → ℕ → Type 0
+  AgreeIn rule record_slot c =
+      (t : ℕ) → t < record_slots → key_at shape record_slot.segment c t < key_at shape record_slot.segment record_slot.bucket record_slot.slot → IsTwin record_slot (beside record_slot c t)
+      → Agrees rule record_slot (beside record_slot c t)
 
   -- those of the segment before it agree with it
-  abbrev pub AgreeBefore : RecordRule → Place → Type 0
-  AgreeBefore rule place =
-      (c t : ℕ) → HasRecord shape word place.segment c t → key_at shape place.segment c t < key_at shape place.segment place.bucket place.slot
-      → slot_key shape word place.segment c t ≡ slot_key shape word place.segment place.bucket place.slot → Agrees rule place (beside place c t)
+  abbrev pub AgreeBefore : RecordRule → RecordSlot → Type 0
+  AgreeBefore rule record_slot =
+      (c t : ℕ) → HasRecord shape word record_slot.segment c t → key_at shape record_slot.segment c t < key_at shape record_slot.segment record_slot.bucket record_slot.slot
+      → slot_key shape word record_slot.segment c t ≡ slot_key shape word record_slot.segment record_slot.bucket record_slot.slot → Agrees rule record_slot (beside record_slot c t)
 
   -- THE FIRST RECORD of which a rule does not hold
   -- the rule holds of each record of a bucket in a slot below a limit

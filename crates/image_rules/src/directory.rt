@@ -9,13 +9,14 @@ ghost use Rattle.image_rules.specs.Breach.{IsLeast};
 ghost use Rattle.image_rules.specs.Divided.{IsNumbered, IsDivided};
 ghost use Rattle.image_rules.specs.Steps.{IsStep};
 
-use crate::heads::{in_one_side, is_live, prefix_of, ready_side};
+use crate::heads::{is_live, prefix_of, ready_side};
 use crate::leaves::power;
 use hash_word::covers;
 use image_layout::{Geometry, ROOT_WORD};
+use segment_head::prefix::in_one_side;
 
 /// Where a hash is looked for after a segment.
-#[derive(Clone, Copy, Debug, PartialEq, Eq)]
+#[derive(Clone, Copy)]
 pub(crate) enum Step {
     /// The segment is its owner.
     Owner,

@@ -1,24 +1,15 @@
 //! Segments by their headers: which are live, which hashes they cover, and which of these they own.
 
-ghost use Rattle.std.specs.Prelude.{◌≡◌, ℕ, ◌+◌, ◌*◌, ◌^◌, ◌<◌, ◌≤◌, ◌↔◌, IfSome, IfNone, IsTrue, length, slice_index};
-ghost use Rattle.hash_word.specs.Hash.{Covers};
-ghost use Rattle.segment_head.specs.HeadWord.{version_in, depth_in, pattern_in};
+ghost use Rattle.std.specs.Prelude.{◌≡◌, ℕ, ◌^◌, ◌<◌, ◌≤◌, ◌↔◌, IfSome, IfNone, IsTrue, length, slice_index};
+ghost use Rattle.segment_head.specs.HeadWord.{version_in};
 ghost use Rattle.image_layout.specs.Places.{words_of, most_depth};
 ghost use Rattle.sound_image.specs.Segments.{frame_of, state_at, IsLive, IsReadySide, HasReadySide, Owns};
-ghost use Rattle.image_rules.specs.Divided.{IsNumbered, IsDivided, IsPrefixOf, IsNamed, IsSidePrefix, IsGivenAway};
+ghost use Rattle.image_rules.specs.Divided.{IsNumbered, IsDivided, IsPrefixOf, IsNamed, IsGivenAway};
 
 use hash_word::covers;
 use image_layout::Geometry;
+use segment_head::prefix::{Prefix, in_one_side, is_side, prefix_in};
 use segment_head::word::{self, SPLITTING};
-
-/// The top bits of the hashes that a segment covers: as many as its depth, and these are its pattern.
-#[derive(Clone, Copy, Debug, PartialEq, Eq)]
-pub(crate) struct Prefix {
-    /// How many bits.
-    pub depth: u8,
-    /// What they are.
-    pub pattern: u32,
-}
 
 /// The header word of a segment.
 pub(crate) fn header_of(geometry: &Geometry, words: &[u64], s: u64) -> u64
@@ -56,17 +47,6 @@ pub(crate) fn is_live(geometry: &Geometry, words: &[u64], s: u64) -> bool
     word::is_live(header_of(geometry, words, s))
 }
 
-/// The prefix in a header word.
-fn prefix_in(header: u64) -> Prefix
-    ensures depth { result.depth ≡ depth_in header }
-    ensures pattern { result.pattern ≡ pattern_in header }
-{
-    Prefix {
-        depth: word::depth_of(header),
-        pattern: word::pattern_of(header),
-    }
-}
-
 /// The prefix of a live segment.
 pub(crate) fn prefix_of(geometry: &Geometry, words: &[u64], s: u64) -> Prefix
     requires whole { length words.now ≡ words_of geometry.now }
@@ -96,17 +76,6 @@ fn named_slot(geometry: &Geometry, words: &[u64], s: u64) -> Option<u64>
     }
 }
 
-/// Whether a prefix is that of the 1-side of another, with zeros alone behind it.
-fn is_side(whole: Prefix, side: Prefix) -> bool
-    requires whole { whole.depth ≤ most_depth }
-    requires side { side.depth ≤ most_depth }
-    ensures { IsTrue result ↔ IsSidePrefix whole side }
-{
-    whole.depth < side.depth
-        && u64::from(side.pattern)
-            == (2 * u64::from(whole.pattern) + 1) << (side.depth - whole.depth - 1)
-}
-
 /// The ready side of a segment that is splitting, if it has one.
 pub(crate) fn ready_side(geometry: &Geometry, words: &[u64], s: u64) -> Option<u64>
     requires whole { length words.now ≡ words_of geometry.now }
@@ -131,15 +100,6 @@ pub(crate) fn ready_side(geometry: &Geometry, words: &[u64], s: u64) -> Option<u
     } else {
         None
     }
-}
-
-/// Whether a hash is in the 1-side of a prefix.
-pub(crate) fn in_one_side(prefix: Prefix, hash: u64) -> bool
-    requires depth { prefix.depth ≤ most_depth }
-    requires pattern { prefix.pattern < 2 ^ prefix.depth }
-    ensures { IsTrue result ↔ Covers (prefix.depth + 1) (2 * prefix.pattern + 1) hash }
-{
-    covers(prefix.depth + 1, 2 * prefix.pattern + 1, hash)
 }
 
 /// Whether a segment gives a hash that it covers away: to its ready side.

@@ -11,9 +11,10 @@ ghost use Rattle.image_rules.specs.Breach.{IsLeast};
 ghost use Rattle.image_rules.specs.Divided.{IsNumbered};
 ghost use Rattle.image_rules.specs.Leaves.{IsUnder, AreRaised, AreDeepest, AreSeen, HasTwin, OwnsItsPart, ShareWellBelow, IsFirstAtFault};
 
-use crate::heads::{Prefix, is_live, prefix_of, ready_side};
+use crate::heads::{is_live, prefix_of, ready_side};
 use image_layout::{Geometry, ROOT_WORD};
 use map_model::NoMemory;
+use segment_head::prefix::Prefix;
 use std::alloc::Global;
 
 /// Two to the power `bits`, at most 17: how many patterns have so many bits.

@@ -2,22 +2,21 @@
 
 ghost use Rattle.std.specs.Prelude.{◌≡◌, ℕ, ◌<◌, ◌≤◌, ◌↔◌, IsTrue, length, slice_index};
 ghost use Rattle.image_layout.specs.Places.{words_of, homes, stash_buckets, buckets, block};
-ghost use Rattle.bucket_meta.specs.Bucket.{note_used, note_member, note_index, note_finger, record_slots, overflow_places};
+ghost use Rattle.bucket_meta.specs.Bucket.{note_used, note_member, note_index, note_finger, record_slots, note_slots};
 ghost use Rattle.sound_image.specs.Records.{word_in, notes_of, stashed_of, HasExactNotes};
-ghost use Rattle.image_rules.specs.Noted.{IsNoteOn, matches, how_many, piece_on, noted, IsStashed, piece_in, stashed_below, IsNamed, AreNamed};
-ghost use Rattle.image_rules.specs.Slots.{IsPlace};
+ghost use Rattle.image_rules.specs.Noted.{matches, how_many, piece_on, noted, IsStashed, piece_in, stashed_below, IsNamed, AreNamed};
+ghost use Rattle.image_rules.specs.Slots.{IsRecordSlot};
 
-use crate::place::{Place, bucket_word, is_empty, is_taken};
+use crate::record_slot::{RecordSlot, bucket_word, is_empty, is_taken};
 use crate::records::hash_in;
 use bucket_meta::words::{
-    PLACES, SLOTS, has_no_note, has_note, is_note_of_member, note_finger_of, note_index_of,
-    overflow_count_of,
+    NOTE_SLOTS, SLOTS, has_no_note, is_note_on, note_finger_of, note_index_of, overflow_count_of,
 };
 use image_layout::{Geometry, HOMES};
 
-/// A note, or a record in the stash: its fingerprint, and its stash bucket.
+/// An overflow note, or a record in the stash: its fingerprint, and its stash bucket.
 #[derive(Clone, Copy, Debug, PartialEq, Eq)]
-pub(crate) struct Note {
+pub(crate) struct OverflowNote {
     /// The fingerprint.
     pub finger: u8,
     /// The stash bucket, 0 or 1.
@@ -35,28 +34,20 @@ fn meta_in(geometry: &Geometry, words: &[u64], s: u64, b: u8, i: u8) -> u64
     words[bucket_word(geometry, s, b) + usize::from(i)]
 }
 
-/// Whether there is a note on a place of a bucket, for records of this side.
-fn is_note(meta: u64, place: u8, side: u64) -> bool
-    requires { place < overflow_places }
-    ensures { IsTrue result ↔ IsNoteOn meta side place }
+/// The note on a note slot of a bucket.
+fn note_on(w1: u64, w3: u64, note_slot: u8) -> OverflowNote
+    requires { note_slot < note_slots }
+    ensures finger { result.finger ≡ note_finger note_slot w1 w3 }
+    ensures index { result.index ≡ note_index note_slot w1 }
 {
-    has_note(meta, place) && u64::from(is_note_of_member(meta, place)) == side
-}
-
-/// The note on a place of a bucket.
-fn note_on(w1: u64, w3: u64, place: u8) -> Note
-    requires { place < overflow_places }
-    ensures finger { result.finger ≡ note_finger place w1 w3 }
-    ensures index { result.index ≡ note_index place w1 }
-{
-    Note {
-        finger: note_finger_of(w1, w3, place),
-        index: note_index_of(w1, place),
+    OverflowNote {
+        finger: note_finger_of(w1, w3, note_slot),
+        index: note_index_of(w1, note_slot),
     }
 }
 
 /// Whether a note is the one that is sought; each is where none is.
-fn is_sought(sought: Option<Note>, note: Note) -> bool
+fn is_sought(sought: Option<OverflowNote>, note: OverflowNote) -> bool
     ensures { result ≡ matches sought (note.finger, note.index) }
 {
     match sought {
@@ -65,16 +56,16 @@ fn is_sought(sought: Option<Note>, note: Note) -> bool
     }
 }
 
-/// One if there is a note on a place of a bucket, for records of this side, that is the one that is sought.
-fn count_at(w1: u64, w3: u64, side: u64, place: u8, sought: Option<Note>) -> u8
-    requires { place < overflow_places }
-    ensures is { result ≡ how_many sought (piece_on w1 w3 side place) }
+/// One if there is a note on a note slot of a bucket, for records of this side, that is the one that is sought.
+fn count_at(w1: u64, w3: u64, side: u64, note_slot: u8, sought: Option<OverflowNote>) -> u8
+    requires { note_slot < note_slots }
+    ensures is { result ≡ how_many sought (piece_on w1 w3 side note_slot) }
     ensures most { result ≤ 1 }
 {
-    if !is_note(w1, place, side) {
+    if !is_note_on(w1, note_slot, side) {
         return 0;
     }
-    if is_sought(sought, note_on(w1, w3, place)) {
+    if is_sought(sought, note_on(w1, w3, note_slot)) {
         1
     } else {
         0
@@ -82,24 +73,25 @@ fn count_at(w1: u64, w3: u64, side: u64, place: u8, sought: Option<Note>) -> u8
 }
 
 /// How many notes on one side of a bucket are the one that is sought.
-fn count_on(w1: u64, w3: u64, side: u64, sought: Option<Note>) -> u8
-    ensures is { result ≡ how_many sought (noted w1 w3 side overflow_places) }
-    ensures most { result ≤ overflow_places }
+fn count_on(w1: u64, w3: u64, side: u64, sought: Option<OverflowNote>) -> u8
+    ensures is { result ≡ how_many sought (noted w1 w3 side note_slots) }
+    ensures most { result ≤ note_slots }
 {
     let mut count = 0;
-    for place in 0..PLACES {
-        count += count_at(w1, w3, side, place, sought);
+    for note_slot in 0..NOTE_SLOTS {
+        count += count_at(w1, w3, side, note_slot, sought);
     }
     count
 }
 
 /// Whether slot `slot` of stash bucket `k` has a record of home bucket `b`.
-fn is_stashed(geometry: &Geometry, words: &[u64], b: u8, place: Place) -> bool
+fn is_stashed(geometry: &Geometry, words: &[u64], b: u8, record_slot: RecordSlot) -> bool
     requires whole { length words.now ≡ words_of geometry.now }
-    requires place { IsPlace geometry.now place }
-    ensures { IsTrue result ↔ IsStashed geometry.now (slice_index words.now) b place }
+    requires record_slot { IsRecordSlot geometry.now record_slot }
+    ensures { IsTrue result ↔ IsStashed geometry.now (slice_index words.now) b record_slot }
 {
-    is_taken(geometry, words, place) && hash_word::home(hash_in(geometry, words, place)) == b
+    is_taken(geometry, words, record_slot)
+        && hash_word::home(hash_in(geometry, words, record_slot)) == b
 }
 
 /// One if a slot of stash bucket `k` has a record of home bucket `b` that is the one that is sought.
@@ -110,7 +102,7 @@ fn count_slot(
     b: u8,
     k: u8,
     slot: u8,
-    sought: Option<Note>,
+    sought: Option<OverflowNote>,
 ) -> u8
     requires whole { length words.now ≡ words_of geometry.now }
     requires segment { s < geometry.now.segments }
@@ -119,16 +111,16 @@ fn count_slot(
     ensures is { result ≡ how_many sought (piece_in geometry.now (slice_index words.now) s b k slot) }
     ensures most { result ≤ 1 }
 {
-    let place = Place {
+    let record_slot = RecordSlot {
         segment: s,
         bucket: HOMES + k,
         slot,
     };
-    if !is_stashed(geometry, words, b, place) {
+    if !is_stashed(geometry, words, b, record_slot) {
         return 0;
     }
-    let finger = hash_word::finger(hash_in(geometry, words, place));
-    if is_sought(sought, Note { finger, index: k }) {
+    let finger = hash_word::finger(hash_in(geometry, words, record_slot));
+    if is_sought(sought, OverflowNote { finger, index: k }) {
         1
     } else {
         0
@@ -136,7 +128,14 @@ fn count_slot(
 }
 
 /// How many records of home bucket `b` in stash bucket `k` are the one that is sought.
-fn count_in(geometry: &Geometry, words: &[u64], s: u64, b: u8, k: u8, sought: Option<Note>) -> u8
+fn count_in(
+    geometry: &Geometry,
+    words: &[u64],
+    s: u64,
+    b: u8,
+    k: u8,
+    sought: Option<OverflowNote>,
+) -> u8
     requires whole { length words.now ≡ words_of geometry.now }
     requires segment { s < geometry.now.segments }
     requires stash { k < stash_buckets }
@@ -154,7 +153,13 @@ fn count_in(geometry: &Geometry, words: &[u64], s: u64, b: u8, k: u8, sought: Op
 }
 
 /// How many notes of home bucket `b` are the one that is sought.
-fn count_notes(geometry: &Geometry, words: &[u64], s: u64, b: u8, sought: Option<Note>) -> u8
+fn count_notes(
+    geometry: &Geometry,
+    words: &[u64],
+    s: u64,
+    b: u8,
+    sought: Option<OverflowNote>,
+) -> u8
     requires whole { length words.now ≡ words_of geometry.now }
     requires segment { s < geometry.now.segments }
     requires bucket { b < homes }
@@ -178,7 +183,13 @@ fn count_notes(geometry: &Geometry, words: &[u64], s: u64, b: u8, sought: Option
 }
 
 /// How many records of home bucket `b` in the stash are the one that is sought.
-fn count_stashed(geometry: &Geometry, words: &[u64], s: u64, b: u8, sought: Option<Note>) -> u8
+fn count_stashed(
+    geometry: &Geometry,
+    words: &[u64],
+    s: u64,
+    b: u8,
+    sought: Option<OverflowNote>,
+) -> u8
     requires whole { length words.now ≡ words_of geometry.now }
     requires segment { s < geometry.now.segments }
     ensures is { result ≡ how_many sought (stashed_of geometry.now (slice_index words.now) s b) }
@@ -187,21 +198,29 @@ fn count_stashed(geometry: &Geometry, words: &[u64], s: u64, b: u8, sought: Opti
     count_in(geometry, words, s, b, 0, sought) + count_in(geometry, words, s, b, 1, sought)
 }
 
-/// Whether a note of home bucket `b` on a place of bucket `c`, if there is one on this side, stands at most as often among
+/// Whether a note of home bucket `b` on a note slot of bucket `c`, if there is one on this side, stands at most as often among
 /// all its notes as its record does in the stash.
-fn is_named(geometry: &Geometry, words: &[u64], s: u64, b: u8, c: u8, side: u64, place: u8) -> bool
+fn is_named(
+    geometry: &Geometry,
+    words: &[u64],
+    s: u64,
+    b: u8,
+    c: u8,
+    side: u64,
+    note_slot: u8,
+) -> bool
     requires whole { length words.now ≡ words_of geometry.now }
     requires segment { s < geometry.now.segments }
     requires bucket { b < homes }
     requires other { c < homes }
-    requires place { place < overflow_places }
-    ensures { IsTrue result ↔ IsNamed geometry.now (slice_index words.now) s b c side place }
+    requires note_slot { note_slot < note_slots }
+    ensures { IsTrue result ↔ IsNamed geometry.now (slice_index words.now) s b c side note_slot }
 {
     let w1 = meta_in(geometry, words, s, c, 1);
-    if !is_note(w1, place, side) {
+    if !is_note_on(w1, note_slot, side) {
         return true;
     }
-    let note = note_on(w1, meta_in(geometry, words, s, c, 3), place);
+    let note = note_on(w1, meta_in(geometry, words, s, c, 3), note_slot);
     let noted = count_notes(geometry, words, s, b, Some(note));
     let stashed = count_stashed(geometry, words, s, b, Some(note));
     if noted > stashed {
@@ -217,10 +236,10 @@ fn are_named(geometry: &Geometry, words: &[u64], s: u64, b: u8, c: u8, side: u64
     requires segment { s < geometry.now.segments }
     requires bucket { b < homes }
     requires other { c < homes }
-    ensures { IsTrue result ↔ AreNamed geometry.now (slice_index words.now) s b c side overflow_places }
+    ensures { IsTrue result ↔ AreNamed geometry.now (slice_index words.now) s b c side note_slots }
 {
-    for place in 0..PLACES {
-        if !is_named(geometry, words, s, b, c, side, place) {
+    for note_slot in 0..NOTE_SLOTS {
+        if !is_named(geometry, words, s, b, c, side, note_slot) {
             return false;
         }
     }

@@ -1,11 +1,11 @@
 //! The pairs of an image, by record slots.
 
-ghost use Rattle.std.specs.Prelude.{◌≡◌, ◌*◌, ◌<◌, length, slice_index, IfSome, IfNone};
+ghost use Rattle.std.specs.Prelude.{◌≡◌, ◌*◌, ◌<◌, ◌↔◌, length, slice_index, IfSome, IfNone, IsTrue};
 ghost use Rattle.image_layout.specs.Places.{words_of, buckets, most_segments};
 ghost use Rattle.image_rules.specs.Slots.{IsStanding};
-ghost use Rattle.image_rules.specs.Own.{place_at, pair_at, IsFirstAt, segment_slots};
+ghost use Rattle.image_rules.specs.Own.{record_slot_at, pair_at, IsFirstAt, segment_slots};
 
-use crate::place::{Place, is_taken, key_in, value_in};
+use crate::record_slot::{RecordSlot, is_taken, key_in, value_in};
 use crate::records::{RecordRule, is_own};
 use bucket_meta::words::SLOTS;
 use image_layout::{BUCKETS, Geometry};
@@ -17,15 +17,33 @@ const BUCKET_SLOTS: u64 = SLOTS as u64;
 pub const RECORD_SLOTS: u64 = BUCKETS as u64 * BUCKET_SLOTS;
 
 /// Record slot `n` of an image, of the 924 of each segment, bucket by bucket.
-fn place_of(n: u64) -> Place
+fn record_slot_of(n: u64) -> RecordSlot
     requires { n < segment_slots * most_segments }
-    ensures { result ≡ place_at n }
+    ensures { result ≡ record_slot_at n }
 {
-    Place {
+    RecordSlot {
         segment: n / RECORD_SLOTS,
         bucket: (n % RECORD_SLOTS / BUCKET_SLOTS) as u8,
         slot: (n % BUCKET_SLOTS) as u8,
     }
+}
+
+/// Whether record slot `n` has a record that is its segment's own and the first of its key there.
+pub fn is_first_at(geometry: &Geometry, words: &[u64], n: u64) -> bool
+    requires whole { length words.now ≡ words_of geometry.now }
+    requires standing { IsStanding geometry.now (slice_index words.now) }
+    requires slot { n < segment_slots * geometry.now.segments }
+    ensures { IsTrue result ↔ IsFirstAt geometry.now (slice_index words.now) n }
+{
+    let _ = geometry.segments();
+    let record_slot = record_slot_of(n);
+    if !is_taken(geometry, words, record_slot) {
+        return false;
+    }
+    if !is_own(geometry, words, record_slot) {
+        return false;
+    }
+    RecordRule::Once.agree_before(geometry, words, record_slot)
 }
 
 /// The pair in record slot `n`, if it has a record that is its segment's own and the first of its key there.
@@ -37,14 +55,14 @@ pub fn pair_in(geometry: &Geometry, words: &[u64], n: u64) -> Option<(u64, u64)>
     ensures none { IfNone result (IsFirstAt geometry.now (slice_index words.now) n → ⊥) }
 {
     let _ = geometry.segments();
-    let place = place_of(n);
-    if is_taken(geometry, words, place)
-        && is_own(geometry, words, place)
-        && RecordRule::Once.agree_before(geometry, words, place)
+    let record_slot = record_slot_of(n);
+    if is_taken(geometry, words, record_slot)
+        && is_own(geometry, words, record_slot)
+        && RecordRule::Once.agree_before(geometry, words, record_slot)
     {
         Some((
-            key_in(geometry, words, place),
-            value_in(geometry, words, place),
+            key_in(geometry, words, record_slot),
+            value_in(geometry, words, record_slot),
         ))
     } else {
         None

@@ -8,16 +8,16 @@ ghost use Rattle.sound_image.specs.Segments.{frame_of, Owns};
 ghost use Rattle.sound_image.specs.Records.{slot_hash};
 ghost use Rattle.sound_image.specs.Rules.{StandsRight};
 ghost use Rattle.image_rules.specs.Divided.{IsDivided};
-ghost use Rattle.image_rules.specs.Slots.{IsPlace, IsTwin, Needs, IsStandingIn, Agrees, AgreeBelow, AgreeIn, AgreeBefore, beside, Follows, FollowBelow, IsFirstBroken, BucketsFollow, IsFirstKey, SegmentsFollow, IsFirstOfAll};
+ghost use Rattle.image_rules.specs.Slots.{IsRecordSlot, IsTwin, Needs, IsStandingIn, Agrees, AgreeBelow, AgreeIn, AgreeBefore, beside, Follows, FollowBelow, IsFirstBroken, BucketsFollow, IsFirstKey, SegmentsFollow, IsFirstOfAll};
 
 use crate::heads::owns;
-use crate::place::{Place, bucket_word, is_empty, is_taken, key_in, value_in};
+use crate::record_slot::{RecordSlot, bucket_word, is_empty, is_taken, key_in, value_in};
 use bucket_meta::words::{SLOTS, finger_of, is_member};
 use image_layout::{BUCKETS, Geometry, HOMES};
 use way::key_hash;
 
 /// One thing that a rule says of each record.
-#[derive(Clone, Copy, Debug, PartialEq, Eq)]
+#[derive(Clone, Copy)]
 pub(crate) enum RecordRule {
     /// It stands in its home bucket.
     Home,
@@ -30,103 +30,116 @@ pub(crate) enum RecordRule {
 }
 
 /// The hash of the key in a record slot.
-pub(crate) fn hash_in(geometry: &Geometry, words: &[u64], place: Place) -> u64
+pub(crate) fn hash_in(geometry: &Geometry, words: &[u64], record_slot: RecordSlot) -> u64
     requires whole { length words.now ≡ words_of geometry.now }
-    requires place { IsPlace geometry.now place }
-    ensures { result ≡ slot_hash geometry.now (slice_index words.now) place.segment place.bucket place.slot }
+    requires record_slot { IsRecordSlot geometry.now record_slot }
+    ensures { result ≡ slot_hash geometry.now (slice_index words.now) record_slot.segment record_slot.bucket record_slot.slot }
 {
-    key_hash(geometry, key_in(geometry, words, place))
+    key_hash(geometry, key_in(geometry, words, record_slot))
 }
 
 /// Whether a record stands in its home bucket without the membership bit, in its probing bucket with it, or in the stash;
 /// and with the fingerprint of its key.
-fn stands_right(geometry: &Geometry, words: &[u64], place: Place) -> bool
+fn stands_right(geometry: &Geometry, words: &[u64], record_slot: RecordSlot) -> bool
     requires whole { length words.now ≡ words_of geometry.now }
-    requires place { IsPlace geometry.now place }
-    ensures { IsTrue result ↔ StandsRight geometry.now (slice_index words.now) place.segment place.bucket place.slot }
+    requires record_slot { IsRecordSlot geometry.now record_slot }
+    ensures { IsTrue result ↔ StandsRight geometry.now (slice_index words.now) record_slot.segment record_slot.bucket record_slot.slot }
 {
-    let at = bucket_word(geometry, place.segment, place.bucket);
-    let hash = hash_in(geometry, words, place);
-    if finger_of(words[at + 2], words[at + 3], place.slot) != hash_word::finger(hash) {
+    let at = bucket_word(geometry, record_slot.segment, record_slot.bucket);
+    let hash = hash_in(geometry, words, record_slot);
+    if finger_of(words[at + 2], words[at + 3], record_slot.slot) != hash_word::finger(hash) {
         return false;
     }
     let home = hash_word::home(hash);
-    let own = if is_member(words[at + 1], place.slot) {
+    let own = if is_member(words[at + 1], record_slot.slot) {
         hash_word::probing(home)
     } else {
         home
     };
-    place.bucket == own || place.bucket >= HOMES
+    record_slot.bucket == own || record_slot.bucket >= HOMES
 }
 
 /// Whether a record stands in its home bucket.
-fn is_at_home(geometry: &Geometry, words: &[u64], place: Place) -> bool
+fn is_at_home(geometry: &Geometry, words: &[u64], record_slot: RecordSlot) -> bool
     requires whole { length words.now ≡ words_of geometry.now }
-    requires place { IsPlace geometry.now place }
-    ensures { IsTrue result ↔ (place.bucket ≡ home_of (slot_hash geometry.now (slice_index words.now) place.segment place.bucket place.slot)) }
+    requires record_slot { IsRecordSlot geometry.now record_slot }
+    ensures { IsTrue result ↔ (record_slot.bucket ≡ home_of (slot_hash geometry.now (slice_index words.now) record_slot.segment record_slot.bucket record_slot.slot)) }
 {
-    hash_word::home(hash_in(geometry, words, place)) == place.bucket
+    hash_word::home(hash_in(geometry, words, record_slot)) == record_slot.bucket
 }
 
 /// Whether a segment owns the record in one of its slots.
-pub(crate) fn is_own(geometry: &Geometry, words: &[u64], place: Place) -> bool
+pub(crate) fn is_own(geometry: &Geometry, words: &[u64], record_slot: RecordSlot) -> bool
     requires whole { length words.now ≡ words_of geometry.now }
     requires divided { IsDivided geometry.now (slice_index words.now) }
-    requires place { IsPlace geometry.now place }
-    ensures { IsTrue result ↔ Owns (frame_of geometry.now (slice_index words.now)) place.segment (slot_hash geometry.now (slice_index words.now) place.segment place.bucket place.slot) }
+    requires record_slot { IsRecordSlot geometry.now record_slot }
+    ensures { IsTrue result ↔ Owns (frame_of geometry.now (slice_index words.now)) record_slot.segment (slot_hash geometry.now (slice_index words.now) record_slot.segment record_slot.bucket record_slot.slot) }
 {
     owns(
         geometry,
         words,
-        place.segment,
-        hash_in(geometry, words, place),
+        record_slot.segment,
+        hash_in(geometry, words, record_slot),
     )
 }
 
-/// Whether two places of a segment have records of one key.
-fn is_twin(geometry: &Geometry, words: &[u64], place: Place, other: Place) -> bool
+/// Whether two record slots of a segment have records of one key.
+fn is_twin(geometry: &Geometry, words: &[u64], record_slot: RecordSlot, other: RecordSlot) -> bool
     requires whole { length words.now ≡ words_of geometry.now }
-    requires place { IsPlace geometry.now place }
-    requires other { IsPlace geometry.now other }
-    requires segment { other.segment ≡ place.segment }
-    ensures { IsTrue result ↔ IsTwin geometry.now (slice_index words.now) place other }
+    requires record_slot { IsRecordSlot geometry.now record_slot }
+    requires other { IsRecordSlot geometry.now other }
+    requires segment { other.segment ≡ record_slot.segment }
+    ensures { IsTrue result ↔ IsTwin geometry.now (slice_index words.now) record_slot other }
 {
     is_taken(geometry, words, other)
-        && key_in(geometry, words, other) == key_in(geometry, words, place)
+        && key_in(geometry, words, other) == key_in(geometry, words, record_slot)
 }
 
 impl RecordRule {
     /// Whether the rule allows two records of a key.
-    fn agrees(self, geometry: &Geometry, words: &[u64], place: Place, other: Place) -> bool
+    fn agrees(
+        self,
+        geometry: &Geometry,
+        words: &[u64],
+        record_slot: RecordSlot,
+        other: RecordSlot,
+    ) -> bool
         requires whole { length words.now ≡ words_of geometry.now }
-        requires place { IsPlace geometry.now place }
-        requires other { IsPlace geometry.now other }
-        ensures { IsTrue result ↔ Agrees geometry.now (slice_index words.now) self place other }
+        requires record_slot { IsRecordSlot geometry.now record_slot }
+        requires other { IsRecordSlot geometry.now other }
+        ensures { IsTrue result ↔ Agrees geometry.now (slice_index words.now) self record_slot other }
     {
         match self {
             RecordRule::Value => {
-                value_in(geometry, words, other) == value_in(geometry, words, place)
+                value_in(geometry, words, other) == value_in(geometry, words, record_slot)
             }
             RecordRule::Home | RecordRule::Stand | RecordRule::Once => false,
         }
     }
 
     /// Whether the rule allows the records of the key in slots of bucket `c` below a limit.
-    fn agree_below(self, geometry: &Geometry, words: &[u64], place: Place, c: u8, limit: u8) -> bool
+    fn agree_below(
+        self,
+        geometry: &Geometry,
+        words: &[u64],
+        record_slot: RecordSlot,
+        c: u8,
+        limit: u8,
+    ) -> bool
         requires whole { length words.now ≡ words_of geometry.now }
-        requires place { IsPlace geometry.now place }
+        requires record_slot { IsRecordSlot geometry.now record_slot }
         requires bucket { c < buckets }
         requires limit { limit ≤ record_slots }
-        ensures { IsTrue result ↔ AgreeBelow geometry.now (slice_index words.now) self place c limit }
+        ensures { IsTrue result ↔ AgreeBelow geometry.now (slice_index words.now) self record_slot c limit }
     {
         for slot in 0..limit {
-            let other = Place {
+            let other = RecordSlot {
                 bucket: c,
                 slot,
-                ..place
+                ..record_slot
             };
-            if is_twin(geometry, words, place, other)
-                && !self.agrees(geometry, words, place, other)
+            if is_twin(geometry, words, record_slot, other)
+                && !self.agrees(geometry, words, record_slot, other)
             {
                 return false;
             }
@@ -135,62 +148,69 @@ impl RecordRule {
     }
 
     /// Whether the rule allows the records of the key in bucket `c` that are before this one.
-    fn agree_in(self, geometry: &Geometry, words: &[u64], place: Place, c: u8) -> bool
+    fn agree_in(self, geometry: &Geometry, words: &[u64], record_slot: RecordSlot, c: u8) -> bool
         requires whole { length words.now ≡ words_of geometry.now }
-        requires place { IsPlace geometry.now place }
+        requires record_slot { IsRecordSlot geometry.now record_slot }
         requires bucket { c < buckets }
-        ensures { IsTrue result ↔ AgreeIn geometry.now (slice_index words.now) self place c }
+        ensures { IsTrue result ↔ AgreeIn geometry.now (slice_index words.now) self record_slot c }
     {
-        let limit = if c < place.bucket {
+        let limit = if c < record_slot.bucket {
             SLOTS
-        } else if c == place.bucket {
-            place.slot
+        } else if c == record_slot.bucket {
+            record_slot.slot
         } else {
             0
         };
-        self.agree_below(geometry, words, place, c, limit)
+        self.agree_below(geometry, words, record_slot, c, limit)
     }
 
     /// Whether the rule allows the records of the key that are before this one in its segment, whose own it is. Those
     /// are the segment's own too, so they stand in their home bucket, in their probing bucket or in the stash, which are
     /// those of this one.
-    pub(crate) fn agree_before(self, geometry: &Geometry, words: &[u64], place: Place) -> bool
+    pub(crate) fn agree_before(
+        self,
+        geometry: &Geometry,
+        words: &[u64],
+        record_slot: RecordSlot,
+    ) -> bool
         requires whole { length words.now ≡ words_of geometry.now }
-        requires standing { IsStandingIn geometry.now (slice_index words.now) place.segment }
-        requires place { IsPlace geometry.now place }
-        requires own { Owns (frame_of geometry.now (slice_index words.now)) place.segment (slot_hash geometry.now (slice_index words.now) place.segment place.bucket place.slot) }
-        ensures { IsTrue result ↔ AgreeBefore geometry.now (slice_index words.now) self place }
+        requires standing { IsStandingIn geometry.now (slice_index words.now) record_slot.segment }
+        requires record_slot { IsRecordSlot geometry.now record_slot }
+        requires own { Owns (frame_of geometry.now (slice_index words.now)) record_slot.segment (slot_hash geometry.now (slice_index words.now) record_slot.segment record_slot.bucket record_slot.slot) }
+        ensures { IsTrue result ↔ AgreeBefore geometry.now (slice_index words.now) self record_slot }
     {
-        let home = hash_word::home(hash_in(geometry, words, place));
-        if !self.agree_in(geometry, words, place, home) {
+        let home = hash_word::home(hash_in(geometry, words, record_slot));
+        if !self.agree_in(geometry, words, record_slot, home) {
             return false;
         }
-        if !self.agree_in(geometry, words, place, hash_word::probing(home)) {
+        if !self.agree_in(geometry, words, record_slot, hash_word::probing(home)) {
             return false;
         }
-        if !self.agree_in(geometry, words, place, HOMES) {
+        if !self.agree_in(geometry, words, record_slot, HOMES) {
             return false;
         }
-        self.agree_in(geometry, words, place, HOMES + 1)
+        self.agree_in(geometry, words, record_slot, HOMES + 1)
     }
 
     /// Whether the rule holds of the record in a slot.
-    fn holds(self, geometry: &Geometry, words: &[u64], place: Place) -> bool
+    fn holds(self, geometry: &Geometry, words: &[u64], record_slot: RecordSlot) -> bool
         requires whole { length words.now ≡ words_of geometry.now }
-        requires needs { Needs geometry.now (slice_index words.now) self place.segment }
-        requires place { IsPlace geometry.now place }
-        ensures { IsTrue result ↔ Follows geometry.now (slice_index words.now) self place.segment place.bucket place.slot }
+        requires needs { Needs geometry.now (slice_index words.now) self record_slot.segment }
+        requires record_slot { IsRecordSlot geometry.now record_slot }
+        ensures { IsTrue result ↔ Follows geometry.now (slice_index words.now) self record_slot.segment record_slot.bucket record_slot.slot }
     {
         match self {
-            RecordRule::Home => is_at_home(geometry, words, place),
+            RecordRule::Home => is_at_home(geometry, words, record_slot),
             RecordRule::Stand => {
-                !is_own(geometry, words, place) || stands_right(geometry, words, place)
+                !is_own(geometry, words, record_slot) || stands_right(geometry, words, record_slot)
             }
             RecordRule::Value => {
-                !is_own(geometry, words, place) || self.agree_before(geometry, words, place)
+                !is_own(geometry, words, record_slot)
+                    || self.agree_before(geometry, words, record_slot)
             }
             RecordRule::Once => {
-                is_own(geometry, words, place) && self.agree_before(geometry, words, place)
+                is_own(geometry, words, record_slot)
+                    && self.agree_before(geometry, words, record_slot)
             }
         }
     }
@@ -214,12 +234,12 @@ impl RecordRule {
             return None;
         }
         for slot in 0..SLOTS {
-            let place = Place {
+            let record_slot = RecordSlot {
                 segment: s,
                 bucket: b,
                 slot,
             };
-            if is_taken(geometry, words, place) && !self.holds(geometry, words, place) {
+            if is_taken(geometry, words, record_slot) && !self.holds(geometry, words, record_slot) {
                 return Some(slot);
             }
         }

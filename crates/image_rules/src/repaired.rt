@@ -11,7 +11,7 @@ ghost use Rattle.image_rules.specs.Repairs.{IsRepairedSegmentAt, IsBrokenSegment
 
 use crate::heads::{is_live, state_of, version_of};
 use crate::notes::has_exact_notes;
-use crate::place::bucket_word;
+use crate::record_slot::bucket_word;
 use crate::records::RecordRule;
 use bucket_meta::words::is_locked;
 use image_layout::{BUCKETS, Geometry, HOMES, STATE_WORD, state};

@@ -2,7 +2,6 @@
 
 ghost use Rattle.std.specs.Prelude.{◌≡◌, ℕ, ◌+◌, ◌%◌, ◌^◌, ◌<◌, ◌≤◌, ◌↔◌, IfSome, IfNone, IsTrue, length, slice_index};
 ghost use Rattle.image_layout.specs.Places.{words_of};
-ghost use Rattle.segment_head.specs.HeadWord.{state_in, depth_in, normal};
 ghost use Rattle.sound_image.specs.Segments.{frame_of};
 ghost use Rattle.sound_image.specs.Directory.{HeadInRange, LinkInRange};
 ghost use Rattle.sound_image.specs.Rules.{NumbersFit, RecordsStandRight, KeysHaveOneValue, VersionsArePast};
@@ -14,7 +13,7 @@ ghost use Rattle.image_rules.specs.Slots.{IsStanding};
 use crate::heads::{header_of, version_of};
 use crate::records::RecordRule;
 use image_layout::{Geometry, ROOT_WORD, STATE_WORD, state};
-use segment_head::word::{FREE, FRESH, NORMAL, depth_of, pattern_of, state_of};
+use segment_head::word::{FREE, FRESH, depth_of, is_whole_table, pattern_of, state_of};
 
 /// The word of the number of slots for segments.
 const SEGMENTS_WORD: u64 = 2;
@@ -64,13 +63,6 @@ pub(crate) fn rule_one(geometry: &Geometry, words: &[u64]) -> Option<u64>
         }
     }
     None
-}
-
-/// Whether a segment is normal, and covers every hash.
-fn is_whole_table(header: u64) -> bool
-    ensures { IsTrue result ↔ ((state_in header ≡ normal) × (depth_in header ≡ 0)) }
-{
-    state_of(header) == NORMAL && depth_of(header) == 0
 }
 
 /// The least word at which rule 8 is broken: the present program does not serve the image.

@@ -4,7 +4,7 @@ use Rattle.std.specs.Prelude.{slice_index, slice_set}
 use Rattle.std.proofs.lemmas.Bool.{cases_lt, cases_eq}
 use Rattle.hash_word.specs.Hash.{top, Covers, index_of}
 use Rattle.sound_image.specs.Segments.{Frame, depth_at, pattern_at, IsLive, CoversHash, IsLiveFor}
-use Rattle.image_rules.specs.declared.heads.Prefix.{Prefix}
+use Rattle.segment_head.specs.declared.prefix.Prefix.{Prefix}
 use Rattle.image_rules.specs.Divided.{IsPrefixOf}
 use Rattle.image_rules.specs.Leaves.{AreRaised, IsDeepest, AreDeepest, HasPrefix, HasTwin, AreSeen}
 use Rattle.image_rules.proofs.covered.Tops.{covered_under, under_covered, node-depth, node-pattern}

@@ -5,7 +5,7 @@ use Rattle.image_layout.specs.Places.{Shape, head_at}
 use Rattle.sound_image.specs.Segments.{ImageWords, Frame, frame_of, state_at, depth_at, pattern_at, IsLive, CoversHash, InOneSide, IsReadySide, HasReadySide, Owns}
 use Rattle.sound_image.specs.Directory.{HeadInRange, SharesWell}
 use Rattle.hash_word.specs.Hash.{Covers}
-use Rattle.image_rules.specs.declared.heads.Prefix.{Prefix}
+use Rattle.segment_head.specs.declared.prefix.Prefix.{Prefix}
 use Rattle.image_rules.specs.Divided.{IsNumbered, IsDivided, IsPrefixOf, IsGivenAway}
 
 not_free : (frame : Frame) (s : ℕ) → IsLive frame s → state_at frame s ≡ free → ⊥

@@ -11,7 +11,7 @@ use Rattle.hash_word.specs.Hash.{top, Covers, index_of}
 use Rattle.sound_image.specs.Segments.{ImageWords, Frame, frame_of, depth_at, pattern_at, IsLive, CoversHash, IsLiveFor, Owns, InOneSide, HasReadySide}
 use Rattle.sound_image.specs.Directory.{HasOwners, SharesWell}
 use Rattle.sound_image.specs.Rules.{HashesAreOwned}
-use Rattle.image_rules.specs.declared.heads.Prefix.{Prefix}
+use Rattle.segment_head.specs.declared.prefix.Prefix.{Prefix}
 use Rattle.image_rules.specs.Breach.{IsLeast}
 use Rattle.image_rules.specs.Divided.{IsNumbered, IsPrefixOf}
 use Rattle.image_rules.specs.Leaves.{IsUnder, AreDeepest, HasTwin, OwnsItsPart, ShareWellBelow, IsFirstAtFault}

@@ -5,7 +5,7 @@ use Rattle.std.proofs.lemmas.Nat.{pow_pos, pow-add, shr-shr, shl-shr}
 use Rattle.std.proofs.Math.Nat.{div-eq_of_lt-le, div-mul-le_self, lt-div-mul-add, mul-le-mul_right, mul-lt-mul_of_pos_right}
 use Rattle.image_layout.proofs.Areas.{power_le, power_double}
 use Rattle.hash_word.specs.Hash.{top, index_of, Covers}
-use Rattle.image_rules.specs.declared.heads.Prefix.{Prefix}
+use Rattle.segment_head.specs.declared.prefix.Prefix.{Prefix}
 use Rattle.image_rules.specs.Leaves.{IsUnder}
 
 -- FEWER TOP BITS

@@ -1,5 +1,5 @@
--- Notes and stash records by their numbers: one place more counts one note more at most, and what stands among notes
--- stands on one of their places.
+-- Notes and stash records by their numbers: one note slot more counts one note more at most, and what stands among notes
+-- stands on one of their note slots.
 use Rattle.std.proofs.Common.{◌≡◌, ◌≢◌, ℕ, zero, suc, ◌+◌, ◌<◌, ◌≤◌, refl, sym, ap, subst, ◌∙◌, arith, ⊎_elim, Bool, true, false, List, [], ◌∷◌, ◌++◌, length, length-append, add-one}
 use Rattle.std.specs.Prelude.{◌==◌, ◌&&◌, filter, None, Some, if◌then◌else◌}
 use Rattle.std.specs.List.{flat_map}
@@ -10,54 +10,54 @@ use Rattle.std.proofs.lemmas.List.Concat.{flat_map-append}
 use Rattle.std.proofs.lemmas.List.Elements.{filter-append}
 use Rattle.hash_word.specs.Hash.{probing_of}
 use Rattle.bucket_meta.specs.Bucket.{note_used, note_member, note_index, note_finger, overflow_count}
-use Rattle.bucket_meta.specs.Notes.{Note, numbers_below, how_often}
+use Rattle.bucket_meta.specs.Notes.{OverflowNote, numbers_below, how_often}
 use Rattle.image_layout.specs.Places.{Shape}
 use Rattle.sound_image.specs.Segments.{ImageWords}
 use Rattle.sound_image.specs.Records.{word_in, notes_in, notes_of, stashed_of, HasExactNotes}
-use Rattle.image_rules.specs.declared.notes.Note.{Note as Sought}
+use Rattle.image_rules.specs.declared.notes.OverflowNote.{OverflowNote as Sought}
 use Rattle.image_rules.specs.Noted.{how_many, piece_on, noted, AreNamed}
 
 -- ONE PLACE MORE
-pub count_more : (f : ℕ → List Note) (p : Note → Bool) (n : ℕ)
+pub count_more : (f : ℕ → List OverflowNote) (p : OverflowNote → Bool) (n : ℕ)
     → length (filter p (flat_map f (numbers_below (n + 1)))) ≡ length (filter p (flat_map f (numbers_below n))) + length (filter p (f n))
 count_more f p n =
     ap (λ (m : ℕ). length (filter p (flat_map f (numbers_below m)))) (add-one n)
-    ∙ ap (λ (xs : List Note). length (filter p xs))
-    (flat_map-append f (numbers_below n) (n ∷ []) ∙ ap (λ (xs : List Note). flat_map f (numbers_below n) ++ xs) (append-nil (f n)))
+    ∙ ap (λ (xs : List OverflowNote). length (filter p xs))
+    (flat_map-append f (numbers_below n) (n ∷ []) ∙ ap (λ (xs : List OverflowNote). flat_map f (numbers_below n) ++ xs) (append-nil (f n)))
     ∙ ap length (filter-append p (flat_map f (numbers_below n)) (f n)) ∙ length-append (filter p (flat_map f (numbers_below n))) (filter p (f n))
 
-pub count_both : (p : Note → Bool) (xs ys : List Note) → length (filter p (xs ++ ys)) ≡ length (filter p xs) + length (filter p ys)
+pub count_both : (p : OverflowNote → Bool) (xs ys : List OverflowNote) → length (filter p (xs ++ ys)) ≡ length (filter p xs) + length (filter p ys)
 count_both p xs ys = ap length (filter-append p xs ys) ∙ length-append (filter p xs) (filter p ys)
 
 -- a piece that is there only where two tests pass
-nothing_there : (a b c d : ℕ) (xs : List Note) → ((a ≡ b) × (c ≡ d) → ⊥) → (if (a == b) && (c == d) then xs else []) ≡ []
+nothing_there : (a b c d : ℕ) (xs : List OverflowNote) → ((a ≡ b) × (c ≡ d) → ⊥) → (if (a == b) && (c == d) then xs else []) ≡ []
 nothing_there a b c d xs never = by_cases (λ e f. never (e, f))
   where
     by_cases : (a ≡ b → c ≡ d → ⊥) → (if (a == b) && (c == d) then xs else []) ≡ []
     by_cases never = grind (arith, nat_tests)
 
-all_there : (a b c d : ℕ) (xs : List Note) → a ≡ b → c ≡ d → (if (a == b) && (c == d) then xs else []) ≡ xs
+all_there : (a b c d : ℕ) (xs : List OverflowNote) → a ≡ b → c ≡ d → (if (a == b) && (c == d) then xs else []) ≡ xs
 all_there a b c d xs e f = grind (arith, nat_tests)
 
-pub counts_none : (p : Note → Bool) (a b c d : ℕ) (x : Note) → ((a ≡ b) × (c ≡ d) → ⊥) → length (filter p (if (a == b) && (c == d) then x ∷ [] else [])) ≡ 0
-counts_none p a b c d x never = ap (λ (xs : List Note). length (filter p xs)) (nothing_there a b c d (x ∷ []) never)
+pub counts_none : (p : OverflowNote → Bool) (a b c d : ℕ) (x : OverflowNote) → ((a ≡ b) × (c ≡ d) → ⊥) → length (filter p (if (a == b) && (c == d) then x ∷ [] else [])) ≡ 0
+counts_none p a b c d x never = ap (λ (xs : List OverflowNote). length (filter p xs)) (nothing_there a b c d (x ∷ []) never)
 
-pub counts_one : (p : Note → Bool) (a b c d : ℕ) (x : Note) → a ≡ b → c ≡ d → p x ≡ true → length (filter p (if (a == b) && (c == d) then x ∷ [] else [])) ≡ 1
+pub counts_one : (p : OverflowNote → Bool) (a b c d : ℕ) (x : OverflowNote) → a ≡ b → c ≡ d → p x ≡ true → length (filter p (if (a == b) && (c == d) then x ∷ [] else [])) ≡ 1
 counts_one p a b c d x e f is =
-    ap (λ (xs : List Note). length (filter p xs)) (all_there a b c d (x ∷ []) e f) ∙ ap (λ (t : Bool). length (if t then x ∷ [] else [])) is
+    ap (λ (xs : List OverflowNote). length (filter p xs)) (all_there a b c d (x ∷ []) e f) ∙ ap (λ (t : Bool). length (if t then x ∷ [] else [])) is
 
-pub counts_other : (p : Note → Bool) (a b c d : ℕ) (x : Note) → a ≡ b → c ≡ d → p x ≡ false
+pub counts_other : (p : OverflowNote → Bool) (a b c d : ℕ) (x : OverflowNote) → a ≡ b → c ≡ d → p x ≡ false
     → length (filter p (if (a == b) && (c == d) then x ∷ [] else [])) ≡ 0
 counts_other p a b c d x e f is =
-    ap (λ (xs : List Note). length (filter p xs)) (all_there a b c d (x ∷ []) e f) ∙ ap (λ (t : Bool). length (if t then x ∷ [] else [])) is
+    ap (λ (xs : List OverflowNote). length (filter p xs)) (all_there a b c d (x ∷ []) e f) ∙ ap (λ (t : Bool). length (if t then x ∷ [] else [])) is
 
 -- WHERE NOTHING IS SOUGHT all are counted
-pub all_counted : (notes : List Note) → how_many None notes ≡ length notes
+pub all_counted : (notes : List OverflowNote) → how_many None notes ≡ length notes
 all_counted [] = refl
 all_counted (x ∷ notes) = ap suc (all_counted notes)
 
--- WHAT STANDS AMONG NOTES stands on one of their places
-pub has_piece : (f : ℕ → List Note) (p : Note → Bool) (n : ℕ) → 0 < length (filter p (flat_map f (numbers_below n)))
+-- WHAT STANDS AMONG NOTES stands on one of their note slots
+pub has_piece : (f : ℕ → List OverflowNote) (p : OverflowNote → Bool) (n : ℕ) → 0 < length (filter p (flat_map f (numbers_below n)))
     → (i : ℕ) × (i < n) × (0 < length (filter p (f i)))
 has_piece f p zero some = absurd (omega (arith, some))
 has_piece f p (suc n) some =
@@ -70,10 +70,10 @@ has_piece f p (suc n) some =
     (front.0, omega (arith, front.1), front.2))
     (cases_lt 0 (length (filter p (f n))))
 
-abbrev same_note : Note → Note → Bool
+abbrev same_note : OverflowNote → OverflowNote → Bool
 same_note note other = (other.0 == note.0) && (other.1 == note.1)
 
-piece_says : (a b c d : ℕ) (x note : Note) → 0 < length (filter (same_note note) (if (a == b) && (c == d) then x ∷ [] else []))
+piece_says : (a b c d : ℕ) (x note : OverflowNote) → 0 < length (filter (same_note note) (if (a == b) && (c == d) then x ∷ [] else []))
     → (a ≡ b) × (c ≡ d) × (x.0 ≡ note.0) × (x.1 ≡ note.1)
 piece_says a b c d x note some =
     ⊎_elim
@@ -81,7 +81,7 @@ piece_says a b c d x note some =
     ⊎_elim
     (λ (f : c ≡ d).
     let only : 0 < length (filter (same_note note) (x ∷ [])) =
-    subst (λ (xs : List Note). 0 < length (filter (same_note note) xs)) (all_there a b c d (x ∷ []) e f) some in
+    subst (λ (xs : List OverflowNote). 0 < length (filter (same_note note) xs)) (all_there a b c d (x ∷ []) e f) some in
     ⊎_elim
     (λ (g : x.0 ≡ note.0).
     ⊎_elim (λ (h : x.1 ≡ note.1). (e, f, g, h)) (λ (other : x.1 ≢ note.1). absurd (no_match (λ _ h. other h) only)) (cases_eq x.1 note.1))
@@ -102,8 +102,8 @@ piece_says a b c d x note some =
         absurd (omega (arith, only, none))
 
 module _ (shape : Shape) (word : ImageWords) (s b : ℕ) where
-  -- a note among those of one side is at most as often in the stash, if each on its places is
-  named_on : (c side : ℕ) → AreNamed shape word s b c side 4 → (note : Note)
+  -- a note among those of one side is at most as often in the stash, if each on its note slots is
+  named_on : (c side : ℕ) → AreNamed shape word s b c side 4 → (note : OverflowNote)
       → 0 < how_often note (noted (word_in shape word s c 1) (word_in shape word s c 3) side 4)
       → how_often note (notes_of shape word s b) ≤ how_often note (stashed_of shape word s b)
   named_on c side named note some =
@@ -112,7 +112,7 @@ module _ (shape : Shape) (word : ImageWords) (s b : ℕ) where
       (note_finger at.0 (word_in shape word s c 1) (word_in shape word s c 3), note_index at.0 (word_in shape word s c 1)) note at.2 in
       let same : (note_finger at.0 (word_in shape word s c 1) (word_in shape word s c 3), note_index at.0 (word_in shape word s c 1)) ≡ note =
       λ j. (says.2 j, says.3 j) in
-      subst (λ (n : Note). how_often n (notes_of shape word s b) ≤ how_often n (stashed_of shape word s b)) same
+      subst (λ (n : OverflowNote). how_often n (notes_of shape word s b) ≤ how_often n (stashed_of shape word s b)) same
       (named at.0 at.1 (record { used = says.0; on_side = says.1 }))
 
   pub counts-exact : overflow_count (word_in shape word s b 1) + how_many None (notes_of shape word s b) ≡ how_many None (stashed_of shape word s b)
@@ -138,14 +138,14 @@ module _ (shape : Shape) (word : ImageWords) (s b : ℕ) where
   exact-named exact c side i below on = exact.names_different _
 
 -- THE NOTE that is sought
-pub sought_often : (sought : Sought) (f k : ℕ) → sought.finger ≡ f → sought.index ≡ k → (notes : List Note)
+pub sought_often : (sought : Sought) (f k : ℕ) → sought.finger ≡ f → sought.index ≡ k → (notes : List OverflowNote)
     → how_many (Some sought) notes ≡ how_often (f, k) notes
 sought_often sought f k finger index notes =
     let same : (sought.finger, sought.index) ≡ (f, k) = λ j. (finger j, index j) in
-    ap (λ (n : Note). how_often n notes) same
+    ap (λ (n : OverflowNote). how_often n notes) same
 
 -- where no piece counts, none does in all
-pub none_counted : (f : ℕ → List Note) (p : Note → Bool) (n : ℕ) → ((i : ℕ) → i < n → length (filter p (f i)) ≡ 0)
+pub none_counted : (f : ℕ → List OverflowNote) (p : OverflowNote → Bool) (n : ℕ) → ((i : ℕ) → i < n → length (filter p (f i)) ≡ 0)
     → length (filter p (flat_map f (numbers_below n))) ≡ 0
 none_counted f p n none =
     ⊎_elim (λ (some : 0 < length (filter p (flat_map f (numbers_below n)))).

@@ -3,7 +3,7 @@ use Rattle.std.proofs.Common.{◌*◌, ◌<◌, ◌++◌, ◌∷◌, [], refl, a
 use Rattle.image_rules.specs.Own.{pair_at}
 use Rattle.image_file.proofs.Listed.{none_below, one_added, one_skipped}
 use Rattle.image_file.proofs.summary.count_pairs.Goals as goal
-use Rattle.image_file.proofs.summary.count_pairs.Goals.{in-Some, in_default}
+use Rattle.image_file.proofs.summary.count_pairs.Goals.{then-is_first_at, else-is_first_at}
 
 pub loop-n-init : goal.loop-n-init
 loop-n-init c = record { counted = ([], none_below c.args.geometry.now (slice_index c.args.words.now), refl); few = omega arith }
@@ -15,22 +15,22 @@ loop-n-preserved c =
     let below : c.loop-n.n < 924 * shape.segments = omega (arith, c.loop-n-test.true, c.segments-n-end.ensures.is) in
     let before = c.loop-n.invariant.counted in
     let few = c.loop-n.invariant.few in
-    elim c.match-pair_in.branch [
-      | in-Some w ↦
+    elim c.if-is_first_at.branch [
+      | then-is_first_at w ↦
           let longer = length-append before.0 (pair_at shape word c.loop-n.n ∷ []) in
           record {
             counted = (
               before.0 ++ pair_at shape word c.loop-n.n ∷ [],
-              one_added shape word c.requires.standing c.requires.values c.loop-n.n below before.0 before.1 w.in-Some.ensures.some.0,
+              one_added shape word c.requires.standing c.requires.values c.loop-n.n below before.0 before.1 (w.if-is_first_at.ensures.0 refl),
               omega (arith, longer, before.2, w.count-is),
             );
             few = omega (arith, few, w.count-is);
           }
-      | in_default w ↦
+      | else-is_first_at w ↦
           record {
             counted = (
               before.0,
-              one_skipped shape word c.requires.standing c.requires.values c.loop-n.n below before.0 before.1 w.in_default.ensures.none,
+              one_skipped shape word c.requires.standing c.requires.values c.loop-n.n below before.0 before.1 (λ first. absurd (let no = w.if-is_first_at.ensures.1 first in cc)),
               omega (arith, before.2, w.count-is),
             );
             few = omega (arith, few, w.count-is);

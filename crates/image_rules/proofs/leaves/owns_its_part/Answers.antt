@@ -2,7 +2,7 @@
 use Rattle.std.proofs.Common.{◌≡◌, ℕ, ◌+◌, ◌*◌, ◌^◌, ◌<◌, ◌≤◌, ◌∙◌, refl, sym, subst, arith, true, false, slice_index}
 use Rattle.image_layout.proofs.Areas.{power_double}
 use Rattle.sound_image.specs.Segments.{frame_of, HasReadySide}
-use Rattle.image_rules.specs.declared.heads.Prefix.{Prefix}
+use Rattle.segment_head.specs.declared.prefix.Prefix.{Prefix}
 use Rattle.image_rules.specs.Leaves.{AreDeepest}
 use Rattle.image_rules.proofs.covered.Owners.{side_depth}
 use Rattle.image_rules.proofs.covered.Parts.{whole-part, part-whole, sides-part, part-zeros, part-ones}

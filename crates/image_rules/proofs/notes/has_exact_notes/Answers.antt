@@ -1,7 +1,7 @@
 -- The count and the notes of both buckets are looked at.
 use Rattle.std.proofs.Common.{ℕ, refl, sym, subst, arith, slice_index}
 use Rattle.hash_word.specs.Hash.{probing_of}
-use Rattle.bucket_meta.specs.Bucket.{overflow_places}
+use Rattle.bucket_meta.specs.Bucket.{note_slots}
 use Rattle.image_rules.specs.Noted.{AreNamed}
 use Rattle.image_rules.proofs.Answered.{never, untrue}
 use Rattle.image_rules.proofs.stashed.Counts.{counts-exact, exact-count, exact-named}
@@ -34,10 +34,10 @@ returns c = (
   (λ last. counts-exact c.args.geometry.now (slice_index c.args.words.now) c.args.s c.args.b
       (omega (arith, c.meta_in.ensures, c.count_notes-noted.ensures.is, c.count_stashed.ensures.is, c.if-unnoted-noted.false))
       (c.if-not-are_named.ensures.0 refl)
-      (subst (λ (n : ℕ). AreNamed c.args.geometry.now (slice_index c.args.words.now) c.args.s c.args.b n 1 overflow_places) c.probing.ensures.of
+      (subst (λ (n : ℕ). AreNamed c.args.geometry.now (slice_index c.args.words.now) c.args.s c.args.b n 1 note_slots) c.probing.ensures.of
       (c.are_named-2.ensures.0 last))),
   (λ exact. c.are_named-2.ensures.1
-      (subst (λ (n : ℕ). AreNamed c.args.geometry.now (slice_index c.args.words.now) c.args.s c.args.b n 1 overflow_places) (sym c.probing.ensures.of)
+      (subst (λ (n : ℕ). AreNamed c.args.geometry.now (slice_index c.args.words.now) c.args.s c.args.b n 1 note_slots) (sym c.probing.ensures.of)
       (exact-named c.args.geometry.now (slice_index c.args.words.now) c.args.s c.args.b exact (probing_of c.args.b) 1))),
 )
 

@@ -19,9 +19,9 @@ returns c last =
     let unnoted : IsUnnoted shape word s c.args.b =
     record {
       no_count = omega (arith, c.meta_in-own.ensures, c.overflow_count_of.ensures.is, c.if-overflow_count_of-gt0.false);
-      none_here = λ n. let used = subst (λ w. note_used n.place w ≡ 1) (sym c.meta_in-own.ensures) n.used in
-          absurd (omega (arith, used, c.if-not-has_no_note.ensures.0 refl n.place n.within));
-      none_beside = λ n. let used = subst (λ w. note_used n.place w ≡ 1) (sym beside) n.used in
-          absurd (omega (arith, used, c.if-not-has_no_note-2.ensures.0 refl n.place n.within));
+      none_here = λ n. let used = subst (λ w. note_used n.note_slot w ≡ 1) (sym c.meta_in-own.ensures) n.used in
+          absurd (omega (arith, used, c.if-not-has_no_note.ensures.0 refl n.note_slot n.within));
+      none_beside = λ n. let used = subst (λ w. note_used n.note_slot w ≡ 1) (sym beside) n.used in
+          absurd (omega (arith, used, c.if-not-has_no_note-2.ensures.0 refl n.note_slot n.within));
     } in
     unnoted-exact shape word s c.args.b (λ k r two slot taken home. each k two r slot taken) unnoted

@@ -10,9 +10,9 @@ returns-else-not-is_own-2 c =
     let shape = c.args.geometry.now in
     let word = slice_index c.args.words.now in
     let says = c.agree_before.ensures in
-    let agree : IsTrue c.agree_before.result ↔ AgreeBefore shape word Value c.args.place =
-    subst (λ (rule : RecordRule). IsTrue c.agree_before.result ↔ AgreeBefore shape word rule c.args.place) c.in-Value.is says in
-    subst (λ (rule : RecordRule). IsTrue c.agree_before.result ↔ Follows shape word rule c.args.place.segment c.args.place.bucket c.args.place.slot)
+    let agree : IsTrue c.agree_before.result ↔ AgreeBefore shape word Value c.args.record_slot =
+    subst (λ (rule : RecordRule). IsTrue c.agree_before.result ↔ AgreeBefore shape word rule c.args.record_slot) c.in-Value.is says in
+    subst (λ (rule : RecordRule). IsTrue c.agree_before.result ↔ Follows shape word rule c.args.record_slot.segment c.args.record_slot.bucket c.args.record_slot.slot)
     (sym c.in-Value.is) (λ holds own. agree.0 holds, λ follows. agree.1 (follows (c.if-not-is_own-2.ensures.0 refl)))
 
 pub returns-then-is_own : goal.returns-then-is_own
@@ -20,7 +20,7 @@ returns-then-is_own c =
     let shape = c.args.geometry.now in
     let word = slice_index c.args.words.now in
     let says = c.agree_before-then-is_own.ensures in
-    let agree : IsTrue c.agree_before-then-is_own.result ↔ AgreeBefore shape word Once c.args.place =
-    subst (λ (rule : RecordRule). IsTrue c.agree_before-then-is_own.result ↔ AgreeBefore shape word rule c.args.place) c.in-Once.is says in
-    subst (λ (rule : RecordRule). IsTrue c.agree_before-then-is_own.result ↔ Follows shape word rule c.args.place.segment c.args.place.bucket c.args.place.slot)
+    let agree : IsTrue c.agree_before-then-is_own.result ↔ AgreeBefore shape word Once c.args.record_slot =
+    subst (λ (rule : RecordRule). IsTrue c.agree_before-then-is_own.result ↔ AgreeBefore shape word rule c.args.record_slot) c.in-Once.is says in
+    subst (λ (rule : RecordRule). IsTrue c.agree_before-then-is_own.result ↔ Follows shape word rule c.args.record_slot.segment c.args.record_slot.bucket c.args.record_slot.slot)
     (sym c.in-Once.is) (λ holds. (c.if-is_own.ensures.0 refl, agree.0 holds), λ follows. agree.1 follows.1)

@@ -4,14 +4,14 @@ ghost use Rattle.std.specs.Prelude.{◌≡◌, ℕ, ◌+◌, ◌<◌, ◌≤◌,
 ghost use Rattle.bucket_meta.specs.Bucket.{record_slots};
 ghost use Rattle.image_layout.specs.Places.{bucket_at, words_of, buckets, block, most_words};
 ghost use Rattle.sound_image.specs.Records.{slot_key, slot_value};
-ghost use Rattle.image_rules.specs.Slots.{IsPlace, IsTaken};
+ghost use Rattle.image_rules.specs.Slots.{IsRecordSlot, IsTaken};
 
 use bucket_meta::words;
 use image_layout::Geometry;
 
 /// A record slot.
 #[derive(Clone, Copy, Debug, PartialEq, Eq)]
-pub struct Place {
+pub struct RecordSlot {
     /// The slot of its segment.
     pub segment: u64,
     /// Its bucket in the segment, 0 to 65 with the stash buckets.
@@ -32,14 +32,14 @@ pub(crate) fn bucket_word(geometry: &Geometry, s: u64, b: u8) -> usize
 }
 
 /// Whether a record slot has a record.
-pub(crate) fn is_taken(geometry: &Geometry, words: &[u64], place: Place) -> bool
+pub(crate) fn is_taken(geometry: &Geometry, words: &[u64], record_slot: RecordSlot) -> bool
     requires whole { length words.now ≡ words_of geometry.now }
-    requires place { IsPlace geometry.now place }
-    ensures { IsTrue result ↔ IsTaken geometry.now (slice_index words.now) place.segment place.bucket place.slot }
+    requires record_slot { IsRecordSlot geometry.now record_slot }
+    ensures { IsTrue result ↔ IsTaken geometry.now (slice_index words.now) record_slot.segment record_slot.bucket record_slot.slot }
 {
     words::is_taken(
-        words[bucket_word(geometry, place.segment, place.bucket) + 1],
-        place.slot,
+        words[bucket_word(geometry, record_slot.segment, record_slot.bucket) + 1],
+        record_slot.slot,
     )
 }
 
@@ -54,19 +54,23 @@ pub(crate) fn is_empty(geometry: &Geometry, words: &[u64], s: u64, b: u8) -> boo
 }
 
 /// The key in a record slot.
-pub(crate) fn key_in(geometry: &Geometry, words: &[u64], place: Place) -> u64
+pub(crate) fn key_in(geometry: &Geometry, words: &[u64], record_slot: RecordSlot) -> u64
     requires whole { length words.now ≡ words_of geometry.now }
-    requires place { IsPlace geometry.now place }
-    ensures { result ≡ slot_key geometry.now (slice_index words.now) place.segment place.bucket place.slot }
+    requires record_slot { IsRecordSlot geometry.now record_slot }
+    ensures { result ≡ slot_key geometry.now (slice_index words.now) record_slot.segment record_slot.bucket record_slot.slot }
 {
-    words[bucket_word(geometry, place.segment, place.bucket) + 4 + 2 * usize::from(place.slot)]
+    words[bucket_word(geometry, record_slot.segment, record_slot.bucket)
+        + 4
+        + 2 * usize::from(record_slot.slot)]
 }
 
 /// The value in a record slot.
-pub(crate) fn value_in(geometry: &Geometry, words: &[u64], place: Place) -> u64
+pub(crate) fn value_in(geometry: &Geometry, words: &[u64], record_slot: RecordSlot) -> u64
     requires whole { length words.now ≡ words_of geometry.now }
-    requires place { IsPlace geometry.now place }
-    ensures { result ≡ slot_value geometry.now (slice_index words.now) place.segment place.bucket place.slot }
+    requires record_slot { IsRecordSlot geometry.now record_slot }
+    ensures { result ≡ slot_value geometry.now (slice_index words.now) record_slot.segment record_slot.bucket record_slot.slot }
 {
-    words[bucket_word(geometry, place.segment, place.bucket) + 5 + 2 * usize::from(place.slot)]
+    words[bucket_word(geometry, record_slot.segment, record_slot.bucket)
+        + 5
+        + 2 * usize::from(record_slot.slot)]
 }

@@ -1,7 +1,7 @@
 -- Each of its slots is free.
 use Rattle.std.proofs.Common.{◌≡◌, ℕ, ◌+◌, sym, subst, arith, slice_index}
 use Rattle.bucket_meta.specs.Bucket.{allocated}
-use Rattle.image_rules.proofs.place.is_empty.Goals as goal
+use Rattle.image_rules.proofs.record_slot.is_empty.Goals as goal
 
 pub returns : goal.returns
 returns c is r slot taken =
