@@ -1,6 +1,7 @@
 -- What a restart writes, and so what a cut in it may leave: the words that were there, or those with the marker cleared.
 use Rattle.std.proofs.Common.{◌≡◌, ◌≢◌, ◌⊎◌, ℕ, zero, suc, ◌%◌, ◌^◌, ◌<◌, ◌≤◌, List, [], length, inl, inr, refl, sym, ap, subst, ◌∙◌, arith}
 use Rattle.std.specs.Prelude.{slice_index, ⊤}
+use Rattle.std.specs.FinMap.{get}
 use Rattle.std.proofs.lemmas.Bool.{cases_eq, cases_lt}
 use Rattle.std.proofs.lemmas.List.{get_or_past}
 use mathlib.Core.Path.{fun_ext}
@@ -11,16 +12,14 @@ use Rattle.image_layout.specs.Places.{Shape, state_word, words_of}
 use Rattle.sound_image.specs.Segments.{ImageWords}
 use Rattle.sound_image.specs.Rules.{FollowsRules}
 use Rattle.sound_image.specs.Left.{HasPairsOf}
-use Rattle.bucket_words.proofs.TableSound.{follows_rules}
 use Rattle.world.specs.Wants.{answer_to, word_of, event_of, words_after}
 use Rattle.restart_op.specs.declared.restart.RestartStep.{RestartStep}
 use Rattle.restart_op.specs.declared.restart.RestartStep.TheVariants.{Load, Store, Flush, Fence, Ended}
 use Rattle.restart_op.specs.Restart.{begun, wanted, taken, wanted_in, next_in}
 use Rattle.restart_op.specs.Course.{Course, after_events}
 use Rattle.restart_op.specs.Restarted.{IsPlayableImage, restarted, HasTheSame, RestartKeeps}
-use Rattle.restart_op.proofs.Facts.{clean_table}
-use Rattle.restart_op.proofs.Same.{AgreeButForState, has_there}
-use Rattle.restart_op.proofs.Opened.{open_front, home_table}
+use Rattle.restart_op.proofs.Same.{AgreeButForState}
+use Rattle.restart_op.proofs.Opened.{open_rules, open_has}
 
 module _ (shape : Shape) (start : Words) where
   abbrev version : ℕ
@@ -96,30 +95,36 @@ module _ (shape : Shape) (words medium : List ℕ) (image : IsPlayableImage shap
   }
 
   -- or those with the marker cleared
-  opened : AgreeButForState word left → left state_word ≡ word state_word % 2 ^ 8 → HasTheSame shape words medium
-  opened agree state =
-      let t = clean_table shape words image in
-      let fits = image.sound.each_fits in
-      let early : (i : ℕ) → i < 4 → left i ≡ word i = λ i low. sym (agree i (λ at. omega (arith, low, at))) in
-      record {
-        sound = record {
-          in_range = image.sound.in_range;
-          whole = whole;
-          each_fits = λ i. elim (cases_eq i state_word) [
-            | inl e ↦ subst (λ n. n < 2 ^ 64) (sym (ap left e)) (omega (arith, state))
-            | inr other ↦ subst (λ n. n < 2 ^ 64) (agree i other) (fits i)
-          ];
-          says_shape = record {
-            magic_word = early 0 (omega arith) ∙ image.sound.says_shape.magic_word;
-            format = early 1 (omega arith) ∙ image.sound.says_shape.format;
-            segments = early 2 (omega arith) ∙ image.sound.says_shape.segments;
-            depth = early 3 (omega arith) ∙ image.sound.says_shape.depth;
-          };
-          follows = follows_rules shape left left (open_front shape word left t fits agree state) (home_table shape word left t fits agree state);
+  module _ (agree : (i : ℕ) → i ≢ state_word → left i ≡ word i) (state : left state_word ≡ word state_word % 2 ^ 8) where
+    within : AgreeButForState shape word left
+    within i _ other = agree i other
+
+    early : (i : ℕ) → i < 4 → left i ≡ word i
+    early i low = agree i (λ at. omega (arith, low, at))
+
+    fits : (i : ℕ) → left i < 2 ^ 64
+    fits i = elim (cases_eq i state_word) [
+      | inl e ↦ subst (λ n. n < 2 ^ 64) (sym (ap left e)) (omega (arith, state))
+      | inr other ↦ subst (λ n. n < 2 ^ 64) (sym (agree i other)) (image.sound.each_fits i)
+    ]
+
+    opened : HasTheSame shape words medium
+    opened = record {
+      sound = record {
+        in_range = image.sound.in_range;
+        whole = whole;
+        each_fits = fits;
+        says_shape = record {
+          magic_word = early 0 (omega arith) ∙ image.sound.says_shape.magic_word;
+          format = early 1 (omega arith) ∙ image.sound.says_shape.format;
+          segments = early 2 (omega arith) ∙ image.sound.says_shape.segments;
+          depth = early 3 (omega arith) ∙ image.sound.says_shape.depth;
         };
-        pairs = λ m has k. has_there shape word left agree k _ (has k);
-        front = early;
-      }
+        follows = open_rules shape words image left within state fits;
+      };
+      pairs = λ m has k. open_has shape words image left within state fits k (get m k) (has k);
+      front = early;
+    }
 
   left_by : ((i : ℕ) → i < words_of shape → (left i ≡ word i) ⊎ ((i ≡ state_word) × (left i ≡ word state_word % 2 ^ 8))) → HasTheSame shape words medium
   left_by each =
@@ -132,7 +137,7 @@ module _ (shape : Shape) (words medium : List ℕ) (image : IsPlayableImage shap
           | inl e ↦ subst (λ n. left n ≡ word n) (sym e) same
           | inr other ↦ elsewhere i other
         ]))
-        | inr here ↦ opened (λ i other. sym (elsewhere i other)) here.1
+        | inr here ↦ opened elsewhere here.1
       ]
 
 pub restart_keeps : RestartKeeps

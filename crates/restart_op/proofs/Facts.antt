@@ -1,36 +1,92 @@
--- What is used of an image that is restarted, from the rules that it passes.
-use Rattle.std.proofs.Common.{◌≡◌, ℕ, ◌+◌, List, inl, refl, arith}
+-- What is used of an image that is restarted: it is a table at rest, whose structure is sound, and whose live segments take calls.
+use Rattle.std.proofs.Common.{◌≡◌, ℕ, ◌+◌, ◌^◌, ◌<◌, ◌≤◌, ◌⊎◌, List, inl, inr, refl, sym, subst, ◌∙◌, arith}
 use Rattle.std.specs.Prelude.{slice_index}
-use Rattle.hash_word.specs.Hash.{home_of}
-use Rattle.segment_head.specs.HeadWord.{version_in, normal}
-use Rattle.image_layout.specs.Places.{Shape, head_at}
-use Rattle.sound_image.specs.Segments.{ImageWords, frame_of, image_version, IsClean, state_at, depth_at}
-use Rattle.sound_image.specs.Records.{slot_hash, HasRecord}
-use Rattle.sound_image.specs.Rules.{FollowsRules}
+use Rattle.std.proofs.lemmas.Bool.{cases_lt}
+use Rattle.bucket_meta.specs.Bucket.{record_slots}
+use Rattle.image_layout.specs.Places.{Shape, state_word, head_at, bucket_at, key_at}
+use Rattle.sound_image.specs.Segments.{ImageWords, Frame, frame_of, IsClean, IsLive, Owns}
+use Rattle.sound_image.specs.Records.{key_hash}
+use Rattle.sound_image.specs.Rules.{IsCleanAndCurrent, CleanMeansRepaired, FollowsRules}
+use Rattle.sound_image.proofs.Hashes.{key_hash-fits}
+use Rattle.segment_table.specs.Claims.{HasSoundFrame}
+use Rattle.segment_table.proofs.frames.Deciding.{live}
+use Rattle.segment_table.proofs.frames.SoundFrames.{owner_claims}
+use Rattle.segment_table.proofs.frames.Owner.{claimer_found}
+use Rattle.bucket_words.specs.Hits.{Hit}
+use Rattle.bucket_words.specs.Standing.{IsTable}
+use Rattle.restart_op.specs.AtRest.{IsAtRest, TakesCalls, HasOwnRecords}
 use Rattle.restart_op.specs.Restarted.{IsPlayableImage}
+use Rattle.restart_op.proofs.Rules.{record_of, frame_of_rules, table_of_rules}
 
-pub record IsCleanTable (shape : Shape) (word : ImageWords) : Type 0 where
-  pub follows : FollowsRules shape word
-  pub one_segment : shape.segments ≡ 1
-  pub root : (frame_of shape word).root ≡ 0
-  pub is_normal : state_at (frame_of shape word) 0 ≡ normal
-  pub no_depth : depth_at (frame_of shape word) 0 ≡ 0
-  pub home : (b r : ℕ) → HasRecord shape word 0 b r → b ≡ home_of (slot_hash shape word 0 b r)
-  -- the two that say that it may be played on as it is
-  pub clean : IsClean (frame_of shape word)
-  pub same_version : version_in (word (head_at shape 0 + 1)) ≡ image_version (frame_of shape word)
+-- of two places in a segment one is before the other, or they are one
+cases_order : (shape : Shape) (s b r c t : ℕ) → r < record_slots → t < record_slots
+    → (key_at shape s b r < key_at shape s c t) ⊎ (key_at shape s c t < key_at shape s b r) ⊎ ((b ≡ c) × (r ≡ t))
+cases_order shape s b r c t l m = elim (cases_lt (key_at shape s b r) (key_at shape s c t)) [
+  | inl less ↦ inl less
+  | inr more ↦ elim (cases_lt (key_at shape s c t) (key_at shape s b r)) [
+    | inl less ↦ inr (inl less)
+    | inr same ↦ inr (inr (omega (arith, more, same, l, m), omega (arith, more, same, l, m)))
+  ]
+]
 
-pub clean_table : (shape : Shape) (words : List ℕ) → IsPlayableImage shape words → IsCleanTable shape (slice_index words)
-clean_table shape words image =
-    let one : shape.segments ≡ 1 = (image.serves 2).one_segment refl in
-    let whole = (image.serves (head_at shape 0 + 1)).first refl in
-    record {
-      follows = image.sound.follows;
-      one_segment = one;
-      root = (image.serves 8).root refl;
-      is_normal = whole.is_normal;
-      no_depth = whole.no_depth;
-      home = λ b r there. (image.serves _).home 0 b r there refl;
-      clean = (image.untouched 16).clean refl;
-      same_version = (image.untouched (head_at shape 0 + 1)).current 0 (omega (arith, one)) refl (inl whole.is_normal);
+module _ (shape : Shape) (words : List ℕ) (image : IsPlayableImage shape words) where
+  abbrev word : ImageWords
+  word = slice_index words
+
+  abbrev frame : Frame
+  frame = frame_of shape word
+
+  rules : FollowsRules shape word
+  rules = image.sound.follows
+
+  pub frame_is : HasSoundFrame shape word
+  frame_is = frame_of_rules shape word image.sound.in_range rules
+
+  pub table_is : IsTable shape word
+  table_is = table_of_rules shape word rules
+
+  -- ---- the live segments
+  is_clean : IsClean frame
+  is_clean = (image.untouched state_word).clean refl
+
+  repaired : (w : ℕ) → CleanMeansRepaired shape word w
+  repaired w = (rules 7 w).seven refl
+
+  module _ (s : ℕ) (slot : s < shape.segments) (lives : IsLive frame s) where
+    is_current : IsCleanAndCurrent shape word s
+    is_current = record { clean = is_clean; slot = slot; live = lives; same_version = (image.untouched (head_at shape s + 1)).current s slot refl lives }
+
+    pub takes_calls : TakesCalls shape word s
+    takes_calls = record { is_normal = (repaired (head_at shape s + 1)).head s is_current refl; same_version = is_current.same_version }
+
+    never_before : (b r c t k : ℕ) → Hit shape word s b r k → Hit shape word s c t k → key_at shape s b r < key_at shape s c t → ⊥
+    never_before b r c t k h g less =
+        (repaired (key_at shape s c t)).once s c t is_current (record_of shape word s c t k g) refl b r (record_of shape word s b r k h) less (h.key ∙ sym g.key)
+
+    live_at_rest : IsAtRest shape word s
+    live_at_rest = record {
+      free = λ b near. (repaired (bucket_at shape s b)).lock s b is_current near refl;
+      once = λ b r c t k h g. elim (cases_order shape s b r c t h.slot g.slot) [
+        | inl less ↦ absurd (never_before b r c t k h g less)
+        | inr e ↦ elim e [
+          | inl less ↦ absurd (never_before c t b r k g h less)
+          | inr same ↦ same
+        ]
+      ];
+      exact = λ b near. (repaired (bucket_at shape s b + 1)).notes s b is_current near refl;
     }
+
+  pub own_records : HasOwnRecords shape word
+  own_records s b r k lives h =
+      let most : shape.depth ≤ 16 = image.sound.in_range.depth in
+      let fits : key_hash shape k < 2 ^ 64 = subst (λ (n : ℕ). key_hash shape n < 2 ^ 64) h.key (key_hash-fits shape (word (key_at shape s b r)) (image.sound.each_fits (key_at shape s b r))) in
+      let owns : Owns frame s (key_hash shape k) = subst (λ (n : ℕ). Owns frame s (key_hash shape n)) h.key
+      ((repaired (key_at shape s b r)).own s b r (is_current s h.segment lives) (record_of shape word s b r k h) refl) in
+      claimer_found shape.depth frame most frame_is s (key_hash shape k) fits (owner_claims shape.depth most frame frame_is s (key_hash shape k) fits owns)
+
+  -- ---- each slot
+  pub at_rest : (s : ℕ) → s < shape.segments → IsAtRest shape word s
+  at_rest s slot = elim (live frame s) [
+    | inl lives ↦ live_at_rest s slot lives
+    | inr none ↦ image.unused s slot none
+  ]

@@ -1,7 +1,10 @@
+pub mod Frames
+pub mod Rules
+pub mod OneSegment
+pub mod Pairs
 pub mod Facts
-pub mod FromSound
-pub mod Opened
 pub mod Same
+pub mod Opened
 pub mod Cuts
 pub mod Beginning
 pub mod closes

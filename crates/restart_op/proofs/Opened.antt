@@ -1,60 +1,70 @@
--- A clean table with its marker cleared is a table whose front is open.
-use Rattle.std.proofs.Common.{◌≡◌, ℕ, ◌+◌, ◌*◌, ◌%◌, ◌^◌, ◌<◌, ◌≤◌, refl, sym, ap, subst, ◌∙◌, arith}
-use Rattle.segment_head.specs.HeadWord.{version_in, state_in, depth_in, pattern_in}
-use Rattle.bucket_meta.specs.Bucket.{note_used, overflow_count}
-use Rattle.image_layout.specs.Places.{Shape, state_word, head_at, bucket_at, buckets}
-use Rattle.sound_image.specs.Segments.{ImageWords}
-use Rattle.bucket_words.specs.Tables.{IsOpenFront, IsHomeTable}
-use Rattle.bucket_words.proofs.Slots.{same_words, kept_bucket}
-use Rattle.restart_op.specs.Notes.{HasNoNotes}
-use Rattle.restart_op.proofs.Facts.{IsCleanTable}
-use Rattle.restart_op.proofs.Same.{AgreeButForState}
-use Rattle.restart_op.proofs.FromSound.{version_fits, no_pattern, link, entry_is, no_notes, unlocked, home_bucket}
+-- An image that is restarted, with its marker cleared: a table at rest with the same pairs, on an open structure.
+use Rattle.std.proofs.Common.{◌≡◌, ℕ, ◌%◌, ◌^◌, ◌<◌, List, Option, sym, ◌∙◌, arith}
+use Rattle.std.specs.Prelude.{slice_index}
+use Rattle.trace.specs.Events.{Words}
+use Rattle.image_layout.specs.Places.{Shape, state_word}
+use Rattle.image_layout.specs.StateWord.{marker_in}
+use Rattle.sound_image.specs.Records.{HasAt}
+use Rattle.sound_image.specs.Rules.{FollowsRules}
+use Rattle.segment_table.specs.Claims.{HasSoundFrame}
+use Rattle.bucket_words.specs.Hits.{find}
+use Rattle.bucket_words.specs.Standing.{IsTable}
+use Rattle.restart_op.specs.AtRest.{IsAtRest, IsOpenStructure, HasOwnRecords}
+use Rattle.restart_op.specs.Restarted.{IsPlayableImage}
+use Rattle.restart_op.proofs.Facts.{frame_is, table_is, takes_calls, own_records, at_rest}
+use Rattle.restart_op.proofs.Frames.{live_back, sound_frame}
+use Rattle.restart_op.proofs.Frames as frames
+use Rattle.restart_op.proofs.Rules.{unmarked_rules}
+use Rattle.restart_op.proofs.Pairs as pairs
+use Rattle.restart_op.proofs.Same.{AgreeButForState, same_structure, kept, same_rest, same_own}
 
-module _ (shape : Shape) (word other : ImageWords) (t : IsCleanTable shape word) (fits : (i : ℕ) → word i < 2 ^ 64) (agree : AgreeButForState word other)
-    (state : other state_word ≡ word state_word % 2 ^ 8) where
-  -- a word of a segment
-  same_part : (s n i : ℕ) → head_at shape s + n ≡ i → other i ≡ word i
-  same_part s n i place = sym (agree i (λ at. omega (arith, place, at)))
+module _ (shape : Shape) (words : List ℕ) (image : IsPlayableImage shape words) (other : Words) (agree : AgreeButForState shape (slice_index words) other)
+    (state : other state_word ≡ slice_index words state_word % 2 ^ 8) where
+  abbrev word : Words
+  word = slice_index words
 
-  same_header : other (head_at shape 0 + 1) ≡ word (head_at shape 0 + 1)
-  same_header = same_part 0 1 (head_at shape 0 + 1) refl
+  version : other state_word % 2 ^ 8 ≡ word state_word % 2 ^ 8
+  version = omega (arith, state)
 
-  same_version : other state_word % 2 ^ 8 ≡ word state_word % 2 ^ 8
-  same_version = omega (arith, state)
+  not_clean : marker_in (other state_word) ≡ 0
+  not_clean = omega (arith, state)
 
-  pub open_front : IsOpenFront shape other
-  open_front = record {
-    one_segment = t.one_segment;
-    root = sym (agree 8 (λ at. omega (arith, at))) ∙ t.root;
-    version_fits = subst (λ n. 1 ≤ n) (sym same_version) (version_fits shape word t fits);
-    not_clean = omega (arith, state);
-    entry = sym (agree 32 (λ at. omega (arith, at))) ∙ entry_is shape word t fits;
-    same_version = ap version_in same_header ∙ t.same_version ∙ sym same_version;
-    is_normal = ap state_in same_header ∙ t.is_normal;
-    no_depth = ap depth_in same_header ∙ t.no_depth;
-    no_pattern = ap pattern_in same_header ∙ no_pattern shape word t fits;
-    link = subst (λ n. n ≤ 1) (sym (same_part 0 2 (head_at shape 0 + 2) refl)) (link shape word t fits);
+  open_frame : HasSoundFrame shape other
+  open_frame = sound_frame shape word other (same_structure shape word other agree) version image.sound.in_range (frame_is shape words image)
+
+  pub open_structure : IsOpenStructure shape other
+  open_structure = record {
+    frame = open_frame;
+    not_clean = not_clean;
+    takes_calls = λ s slot live.
+        frames.takes_calls shape word other (same_structure shape word other agree) version s slot
+        (takes_calls shape words image s slot (live_back shape word other (same_structure shape word other agree) s slot live));
   }
 
-  pub home_table : IsHomeTable shape other other
-  home_table = record {
-    same_front = λ i below. refl;
-    buckets = λ b within.
-        kept_bucket shape word other b
-        (same_words word other (bucket_at shape 0 b) (λ n inside. same_part 0 (32 + 32 * b + n) (bucket_at shape 0 b + n) (omega arith)))
-        (home_bucket shape word t fits b within);
-  }
+  pub open_table : IsTable shape other
+  open_table = (kept shape word other agree (table_is shape words image)).table
 
-  pub opened_no_notes : HasNoNotes shape other
-  opened_no_notes b low =
-      let same : word (bucket_at shape 0 b + 1) ≡ other (bucket_at shape 0 b + 1) = sym (same_part 0 (32 + 32 * b + 1) (bucket_at shape 0 b + 1) (omega arith)) in
-      let none = no_notes shape word t fits b low in
-      (λ i within. ap (note_used i) (sym same) ∙ none.0 i within, ap overflow_count (sym same) ∙ none.1)
+  pub open_rest : (s : ℕ) → s < shape.segments → IsAtRest shape other s
+  open_rest s slot = same_rest shape word other agree s slot (at_rest shape words image s slot)
 
-  -- every lock is free
-  pub opened_free : (b : ℕ) → b < buckets → other (bucket_at shape 0 b) % 2 ≡ 0
-  opened_free b within =
-      let free = unlocked shape word t fits b within in
-      let same = same_part 0 (32 + 32 * b) (bucket_at shape 0 b) (omega arith) in
-      omega (arith, free, same)
+  pub open_own : HasOwnRecords shape other
+  open_own = same_own shape word other agree (own_records shape words image)
+
+  same_find : (k : ℕ) → find shape other k ≡ find shape word k
+  same_find k = (kept shape word other agree (table_is shape words image)).pairs k
+
+  module _ (fits : (i : ℕ) → other i < 2 ^ 64) where
+    pub open_rules : FollowsRules shape other
+    open_rules = unmarked_rules shape other image.sound.in_range open_frame open_table fits not_clean
+
+    -- what the image has at a key is what is found there with the marker cleared
+    pub open_found : (k : ℕ) (a : Option ℕ) → HasAt shape word k a → find shape other k ≡ a
+    open_found k a has =
+        same_find k ∙ pairs.found_of_has shape image.sound.in_range word (frame_is shape words image) image.sound.each_fits (table_is shape words image) k a has
+
+    pub open_has : (k : ℕ) (a : Option ℕ) → HasAt shape word k a → HasAt shape other k a
+    open_has k a has = pairs.has_of_found shape image.sound.in_range other open_frame fits open_table k a (open_found k a has)
+
+    pub had_there : (k : ℕ) (a : Option ℕ) → find shape other k ≡ a → HasAt shape word k a
+    had_there k a found =
+        pairs.has_of_found shape image.sound.in_range word (frame_is shape words image) image.sound.each_fits (table_is shape words image) k a (sym (same_find k) ∙ found)

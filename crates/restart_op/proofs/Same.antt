@@ -1,28 +1,65 @@
--- Images that differ in the state word alone have the same pairs.
-use Rattle.std.proofs.Common.{◌≡◌, ◌≢◌, ℕ, ◌+◌, Option, sym, ap, arith}
-use Rattle.bucket_meta.specs.Bucket.{allocated}
-use Rattle.image_layout.specs.Places.{Shape, state_word, head_at, bucket_at, key_at, value_at}
-use Rattle.sound_image.specs.Segments.{ImageWords}
-use Rattle.sound_image.specs.Records.{HasAt}
-use Rattle.sound_image.proofs.SameRecords.{HasSameRecords}
-use Rattle.sound_image.proofs.SameRecords as same
+-- Words of an image that differ in the state word alone have the same structure, records, notes and pairs.
+use Rattle.std.proofs.Common.{◌≡◌, ◌≢◌, ℕ, ◌+◌, ◌<◌, sym, ap, ◌∙◌, arith}
+use Rattle.bucket_meta.specs.Bucket.{lock_of, overflow_count, record_slots}
+use Rattle.hash_word.specs.Hash.{probing_of}
+use Rattle.trace.specs.Events.{Words}
+use Rattle.image_layout.specs.Places.{Shape, state_word, words_of, bucket_at, block, homes, buckets}
+use Rattle.sound_image.specs.Records.{key_hash}
+use Rattle.bucket_words.specs.Slots.{SameSlot}
+use Rattle.bucket_words.specs.Hits.{Hit}
+use Rattle.bucket_words.specs.HomeNotes.{SameHomeNotes}
+use Rattle.bucket_words.specs.Standing.{IsTable}
+use Rattle.bucket_words.specs.TableChanges.{KeepsTable}
+use Rattle.bucket_words.proofs.Slots.{same_words}
+use Rattle.bucket_words.proofs.segments.Cores.{structure_within, within_image}
+use Rattle.bucket_words.proofs.segments.Noted.{notes_same, exact_same}
+use Rattle.bucket_words.proofs.segments.Stashed.{stashed_same}
+use Rattle.bucket_words.proofs.segments.NoSlot.{keeps}
+use Rattle.restart_op.specs.AtRest.{IsAtRest, HasOwnRecords}
+use Rattle.restart_op.proofs.Frames.{SameStructure, live_back, owners}
 
--- every word but the state word is the same
-abbrev pub AgreeButForState : ImageWords → ImageWords → Type 0
-AgreeButForState word other = (i : ℕ) → i ≢ state_word → word i ≡ other i
+-- every word of the image but the state word is the same
+abbrev pub AgreeButForState : Shape → Words → Words → Type 0
+AgreeButForState shape word other = (i : ℕ) → i < words_of shape → i ≢ state_word → other i ≡ word i
 
-pub turned : (word other : ImageWords) → AgreeButForState word other → AgreeButForState other word
-turned word other agree i elsewhere = sym (agree i elsewhere)
+module _ (shape : Shape) (word other : Words) (agree : AgreeButForState shape word other) where
+  pub same_structure : SameStructure shape word other
+  same_structure i is elsewhere = agree i (structure_within shape i is) elsewhere
 
-module _ (shape : Shape) (word other : ImageWords) (agree : AgreeButForState word other) where
-  same_records : HasSameRecords shape word other
-  same_records = record {
-    header = λ s. agree (head_at shape s + 1) (λ at. omega (arith, at));
-    taken = λ s b r segment bucket slot. ap (allocated r) (agree (bucket_at shape s b + 1) (λ at. omega (arith, at)));
-    key = λ s b r bucket slot. agree (key_at shape s b r) (λ at. omega (arith, at));
-    value = λ s b r bucket slot. agree (value_at shape s b r) (λ at. omega (arith, at));
+  in_bucket : (s b n : ℕ) → s < shape.segments → b < buckets → n < block → other (bucket_at shape s b + n) ≡ word (bucket_at shape s b + n)
+  in_bucket s b n slot near inside = agree (bucket_at shape s b + n) (within_image shape s b n slot near inside) (λ e. omega (arith, e))
+
+  slots : (s b t : ℕ) → s < shape.segments → b < buckets → t < record_slots → SameSlot word other (bucket_at shape s b) t
+  slots s b t slot near below = same_words word other (bucket_at shape s b) (λ n inside. in_bucket s b n slot near inside) t below
+
+  pub kept : IsTable shape word → KeepsTable shape word other
+  kept table = keeps shape word other table (owners shape word other same_structure) slots
+
+  hit_back : (s b r k : ℕ) → Hit shape other s b r k → Hit shape word s b r k
+  hit_back s b r k h =
+      let same = slots s b r h.segment h.bucket h.slot in
+      let taken = sym same.taken ∙ h.taken in
+      record { segment = h.segment; bucket = h.bucket; slot = h.slot; taken = taken; key = sym (same.key taken) ∙ h.key }
+
+  same_notes : (s b : ℕ) → s < shape.segments → b < homes → SameHomeNotes shape word other s b
+  same_notes s b slot near = record {
+    notes = notes_same shape word other s b (λ n above below. in_bucket s b n slot (omega (arith, near)) (omega (arith, below)))
+        (λ n above below. in_bucket s (probing_of b) n slot (omega arith) (omega (arith, below)));
+    count = ap overflow_count (in_bucket s b 1 slot (omega (arith, near)) (omega arith));
+    stashed = stashed_same shape word other s b (λ c t small below. slots s (homes + c) t slot (omega (arith, small)) below);
   }
 
-  -- what one has at a key the other has
-  pub has_there : (k : ℕ) (a : Option ℕ) → HasAt shape word k a → HasAt shape other k a
-  has_there = same.has_there shape word other same_records
+  pub same_rest : (s : ℕ) → s < shape.segments → IsAtRest shape word s → IsAtRest shape other s
+  same_rest s slot rest = record {
+    free = λ b near. ap lock_of (first b near) ∙ rest.free b near;
+    once = λ b r c t k h g. rest.once b r c t k (hit_back s b r k h) (hit_back s c t k g);
+    exact = λ b near. exact_same shape word other s b (same_notes s b slot near) (rest.exact b near);
+  }
+    where
+      first : (b : ℕ) → b < buckets → other (bucket_at shape s b) ≡ word (bucket_at shape s b)
+      first b near = agree (bucket_at shape s b) (omega (arith, slot, near)) (λ e. omega (arith, e))
+
+  pub same_own : HasOwnRecords shape word → HasOwnRecords shape other
+  same_own own s b r k live h =
+      owners shape word other same_structure (key_hash shape k)
+      ∙ own s b r k (live_back shape word other same_structure s h.segment live) (hit_back s b r k h)

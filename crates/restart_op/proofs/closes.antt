@@ -2,6 +2,5 @@
 pub mod CloseAlong
 pub mod CloseLines
 pub mod CloseEnding
-pub mod MarkedTable
 pub mod ClosePhases
 pub mod CloseKeeping

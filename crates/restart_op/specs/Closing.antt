@@ -11,7 +11,8 @@ use Rattle.image_layout.specs.Places.{Shape, IsShape, state_word, words_of}
 use Rattle.sound_image.specs.Segments.{frame_of, IsClean}
 use Rattle.sound_image.specs.Image.{magic, format_word, IsSoundImage}
 use Rattle.sound_image.specs.Left.{HasPairsOf}
-use Rattle.bucket_words.specs.Tables.{find}
+use Rattle.bucket_words.specs.Owners.{IsStructure}
+use Rattle.bucket_words.specs.Hits.{find}
 use Rattle.world.specs.Site.{Site}
 use Rattle.world.specs.Views.{View, At}
 use Rattle.world.specs.Wants.{answer_to}
@@ -21,7 +22,7 @@ use Rattle.restart_op.specs.declared.close.CloseStep.TheVariants.{Flush, Fence, 
 use Rattle.restart_op.specs.declared.close.CloseOp.{CloseOp}
 use Rattle.restart_op.specs.Course.{Course, after_events}
 use Rattle.restart_op.specs.Close.{lines_of, begun, wanted, taken}
-use Rattle.restart_op.specs.Notes.{HasNoNotes}
+use Rattle.restart_op.specs.AtRest.{IsOpenStructure, HasOwnRecords}
 use Rattle.restart_op.specs.Restarted.{IsPlayableImage, site_of, world_of}
 
 -- ---- a close and its events
@@ -61,12 +62,14 @@ FewWait = (shape : Shape) (words : Words) (trace : Trace) → pending 0 trace �
     → length (pending 0 (close_after shape words trace n).trace) ≤ 8
 
 -- ---- before a close
--- a view holds no lock and owes nothing
+-- a view holds no lock, has no record under way, and owes nothing
 pub record OwesNothing (v : View) : Type 0 where
   pub held : v.held ≡ []
   pub dirty : v.dirty ≡ []
   pub flushed : v.flushed ≡ []
   pub planned : v.planned ≡ []
+  pub moving : v.moving ≡ []
+  pub owed : v.owed ≡ []
 
 -- the first four words say what the image is and how it is laid out
 pub record SaysShapeInFront (shape : Shape) (front : Words) : Type 0 where
@@ -79,13 +82,15 @@ pub record SaysShapeInFront (shape : Shape) (front : Words) : Type 0 where
 abbrev pub HaveFit : Words → Trace → Type 0
 HaveFit start es = (i t : ℕ) → value_at start es t i < 2 ^ 64
 
--- the world is well, and all callers are done: nobody holds or owes anything, and nothing is noted of the stash
+-- the world is well, and all callers are done: nobody holds or owes anything. Its structure is one on which callers run, and
+-- no record stands in a segment that does not own it
 pub record IsQuiet (site : Site) (start : Words) (world : World) : Type 0 where
   pub well : IsWell site start world
   pub nothing : (j : ℕ) (v : View) → At world.views j v → OwesNothing v
   pub fits : HaveFit start world.trace
   pub says : SaysShapeInFront site.shape site.front
-  pub no_notes : HasNoNotes site.shape world.words
+  pub structure : IsOpenStructure site.shape site.front
+  pub own : HasOwnRecords site.shape world.words
   pub fenced : pending 0 world.trace ≡ []
 
 -- values fit where those that an event writes do
@@ -97,6 +102,11 @@ FitsByEvents = (start : Words) (e : Event) (es : Trace) → ((i x : ℕ) → Wri
 abbrev pub QuietAfterRestart : Type 0
 QuietAfterRestart = (shape : Shape) (words : List ℕ) (callers : ℕ) → IsPlayableImage shape words → callers < 2 ^ 32
     → IsQuiet (site_of shape words callers) (slice_index words) (world_of shape words callers)
+
+-- where there is one slot, no record stands in a segment that does not own it
+abbrev pub OneSegmentOwns : Type 0
+OneSegmentOwns = (site : Site) (start : Words) (world : World) → IsWell site start world → site.shape.segments ≡ 1 → IsOpenStructure site.shape site.front
+    → HaveFit start world.trace → HasOwnRecords site.shape world.words
 
 -- ---- what it keeps
 -- a medium is a sound image with the pairs of these words, and says its shape as they do
@@ -130,3 +140,9 @@ abbrev pub CloseMarks : Type 0
 CloseMarks = (site : Site) (start : Words) (world : World) → IsQuiet site start world → (n : ℕ)
     → wanted (close_after site.shape world.words world.trace n).op ≡ Done
     → (close_after site.shape world.words world.trace n).words ≡ with_word world.words state_word (world.words state_word + 2 ^ 8)
+
+-- and leaves the structure of the site, but for the marker
+abbrev pub CloseKeepsStructure : Type 0
+CloseKeepsStructure = (site : Site) (start : Words) (world : World) → IsQuiet site start world → (n : ℕ)
+    → wanted (close_after site.shape world.words world.trace n).op ≡ Done → (i : ℕ) → IsStructure site.shape i → i ≢ state_word
+    → (close_after site.shape world.words world.trace n).words i ≡ site.front i

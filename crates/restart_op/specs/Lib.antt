@@ -1,5 +1,5 @@
 pub mod Course
-pub mod Notes
+pub mod AtRest
 pub mod Restart
 pub mod Budget
 pub mod Restarted

@@ -4,12 +4,15 @@ use Rattle.std.specs.FinMap.{get}
 use Rattle.segment_head.specs.HeadWord.{version_in}
 use Rattle.trace.specs.Events.{Words}
 use Rattle.trace.specs.Media.{IsPossible}
-use Rattle.image_layout.specs.Places.{Shape, state_word, head_at, words_of}
+use Rattle.image_layout.specs.Places.{Shape, IsShape, state_word, head_at, words_of, homes}
 use Rattle.map_model.specs.Map.{Map}
+use Rattle.sound_image.specs.Segments.{frame_of, IsLive}
+use Rattle.sound_image.specs.Records.{HasExactNotes}
 use Rattle.sound_image.specs.Image.{IsSoundImage}
 use Rattle.sound_image.specs.Left.{HasPairsOf}
-use Rattle.image_rules.specs.Stage.{PassesRule8, MayBePlayed}
-use Rattle.bucket_words.specs.Tables.{find}
+use Rattle.segment_table.specs.Claims.{HasSoundFrame}
+use Rattle.image_rules.specs.Stage.{MayBePlayed}
+use Rattle.bucket_words.specs.Hits.{find}
 use Rattle.op_core.specs.declared.want.Want.TheVariants.{Done}
 use Rattle.world.specs.Site.{Site}
 use Rattle.world.specs.Views.{View, At}
@@ -17,13 +20,14 @@ use Rattle.world.specs.World.{World, fresh_view, Begins}
 use Rattle.restart_op.specs.declared.restart.RestartStep.TheVariants.{Ended}
 use Rattle.restart_op.specs.Restart.{begun, wanted, taken, started_with}
 use Rattle.restart_op.specs.Course.{Course, after_events}
-use Rattle.restart_op.specs.Notes.{HasNoNotes}
+use Rattle.restart_op.specs.AtRest.{IsAtRest, IsOpenStructure}
 
--- an image that is restarted: a sound one that the program serves, and may play: it is clean, and its segment has its version
+-- an image that is restarted: a sound one that may be played, that is, it is clean, and each live segment has its version.
+-- Of a slot without a live segment the rules say nothing, and it is to be at rest as the others are
 pub record IsPlayableImage (shape : Shape) (words : List ℕ) : Type 0 where
   pub sound : IsSoundImage shape words
-  pub serves : PassesRule8 shape (slice_index words)
   pub untouched : MayBePlayed shape (slice_index words)
+  pub unused : (s : ℕ) → s < shape.segments → (IsLive (frame_of shape (slice_index words)) s → ⊥) → IsAtRest shape (slice_index words) s
 
 -- a restart of these words after so many of its events
 abbrev pub restarted : (shape : Shape) → List ℕ → ℕ → Course wanted taken shape
@@ -73,19 +77,32 @@ abbrev pub KeepsPairs : Type 0
 KeepsPairs = (shape : Shape) (words : List ℕ) (m : Map) → IsPlayableImage shape words
     → HasPairsOf shape (slice_index words) m ↔ ((k : ℕ) → get m k ≡ find shape (words_at_end shape words) k)
 
--- a restart that has ended answers the version that the state word has, and the header of the one segment
+-- a restart that has ended answers the version that the state word has, and the header of each live segment
 pub record IsStarted (shape : Shape) (words : List ℕ) : Type 0 where
   pub version : ℕ
   pub ended : (restarted shape words 4).op.step ≡ Ended (started_with version)
   pub wants_no_more : wanted (restarted shape words 4).op ≡ Done
   pub state : words_at_end shape words state_word ≡ version
-  pub current : version_in (words_at_end shape words (head_at shape 0 + 1)) ≡ version
+  pub current : (s : ℕ) → s < shape.segments → IsLive (frame_of shape (words_at_end shape words)) s → version_in (words_at_end shape words (head_at shape s + 1)) ≡ version
   pub some : 1 ≤ version
   pub fits : version < 2 ^ 8
 
 abbrev pub EndsStarted : Type 0
 EndsStarted = (shape : Shape) (words : List ℕ) → IsPlayableImage shape words → IsStarted shape words
 
--- no bucket of the words at the end notes anything of the stash
-abbrev pub EndsUnnoted : Type 0
-EndsUnnoted = (shape : Shape) (words : List ℕ) → IsPlayableImage shape words → HasNoNotes shape (words_at_end shape words)
+-- the notes of each home are exact at the end, for its records in the stash
+abbrev pub EndsExact : Type 0
+EndsExact = (shape : Shape) (words : List ℕ) → IsPlayableImage shape words → (s b : ℕ) → s < shape.segments → b < homes → HasExactNotes shape (words_at_end shape words) s b
+
+-- and the structure is one on which callers run
+abbrev pub EndsOpen : Type 0
+EndsOpen = (shape : Shape) (words : List ℕ) → IsPlayableImage shape words → IsOpenStructure shape (words_at_end shape words)
+
+-- ---- where there is one slot
+-- a sound image that may be played is restarted, in whatever buckets its records stand
+abbrev pub OneSegmentIsPlayable : Type 0
+OneSegmentIsPlayable = (shape : Shape) (words : List ℕ) → shape.segments ≡ 1 → IsSoundImage shape words → MayBePlayed shape (slice_index words) → IsPlayableImage shape words
+
+-- its segment is live
+abbrev pub OneSegmentIsLive : Type 0
+OneSegmentIsLive = (shape : Shape) (word : Words) → IsShape shape → shape.segments ≡ 1 → HasSoundFrame shape word → IsLive (frame_of shape word) 0

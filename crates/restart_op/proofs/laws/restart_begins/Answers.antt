@@ -1,5 +1,5 @@
 -- The laws are lemmas.
-use Rattle.restart_op.proofs.Beginning.{restart_begins, has_seats, keeps_pairs, ends_started, ends_unnoted}
+use Rattle.restart_op.proofs.Beginning.{restart_begins, has_seats, keeps_pairs, ends_started, ends_exact, ends_open}
 use Rattle.restart_op.proofs.laws.restart_begins.Goals as goal
 
 pub returns-clause-begins : goal.returns-clause-begins
@@ -14,5 +14,8 @@ returns-clause-pairs c = keeps_pairs
 pub returns-clause-started : goal.returns-clause-started
 returns-clause-started c = ends_started
 
-pub returns-clause-no_notes : goal.returns-clause-no_notes
-returns-clause-no_notes c = ends_unnoted
+pub returns-clause-exact : goal.returns-clause-exact
+returns-clause-exact c = ends_exact
+
+pub returns-clause-structure : goal.returns-clause-structure
+returns-clause-structure c = ends_open
