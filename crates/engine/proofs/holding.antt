@@ -1,9 +1,9 @@
 -- What holds of the core between any two turns.
 pub mod Planned
 pub mod Told
-pub mod Unnoted
 pub mod Scripted
 pub mod Turning
+pub mod Served
 pub mod Beginnings
 pub mod Opening
 pub mod Quiet

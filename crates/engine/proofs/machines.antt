@@ -3,3 +3,4 @@ pub mod Ops
 pub mod Begins
 pub mod Engines
 pub mod Pairs
+pub mod Notes

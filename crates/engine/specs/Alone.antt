@@ -6,14 +6,13 @@ use Rattle.op_core.specs.declared.why.Why.TheVariants.{Busy}
 use Rattle.image_layout.specs.Places.{Shape}
 use Rattle.map_model.specs.declared.call.Call.{Call}
 use Rattle.map_model.specs.declared.entry.Reply.{Reply}
-use Rattle.restart_op.specs.Restarted.{IsPlayableImage}
 use Rattle.engine.specs.declared.engine.Engine.{Engine}
 use Rattle.part.specs.Doings.{Doings, nothing_done, IsStill}
 use Rattle.part.specs.Outcomes.{Outcome, again, reply_of}
 use Rattle.engine.specs.Engine.{begun, wanted, end_of, outcome_of_end}
 use Rattle.engine.specs.OpPart.{op_part}
 use Rattle.engine.specs.Core.{Caller, Core, current}
-use Rattle.engine.specs.Laws.{opened, AreScripts}
+use Rattle.engine.specs.Laws.{IsServedImage, opened, AreScripts}
 use Rattle.engine.specs.Causes.{Watched, watched, engine_next, watched_turn, watched_run, Decides}
 
 -- ---- outcomes
@@ -49,7 +48,7 @@ pub record IsAlone (shape : Shape) (j : ℕ) (w : Watched) : Type 0 where
   pub still : IsStill shape w.core.words (w.doings j)
   pub calm : (c : Caller) (e : Engine) (why : Why) → slice_get w.core.callers j ≡ Some c → c.engine ≡ Some e → op_part.outcome e.op ≡ Some (again why) → ⊥
 
--- ---- the laws, along all turns from an image that may be played
+-- ---- the laws, along all turns from an image that is served
 module _ (shape : Shape) (words : List ℕ) (scripts : List (List Call)) where
   abbrev pub at_start : Watched
   at_start = watched (opened shape words scripts)
@@ -59,7 +58,7 @@ module _ (shape : Shape) (words : List ℕ) (scripts : List (List Call)) where
   along turns = watched_run shape turns at_start
 
 abbrev pub AlongTurns : (Shape → List ℕ → List (List Call) → List ℕ → Type 0) → Type 0
-AlongTurns P = (shape : Shape) (words : List ℕ) → IsPlayableImage shape words → (scripts : List (List Call)) → AreScripts scripts → (turns : List ℕ) → P shape words scripts turns
+AlongTurns P = (shape : Shape) (words : List ℕ) → IsServedImage shape words → (scripts : List (List Call)) → AreScripts scripts → (turns : List ℕ) → P shape words scripts turns
 
 -- WHO FINDS A LOCK TAKEN is told so by another caller's, that is in the midst of an attempt
 pub record IsOthers (core : Core) (j : ℕ) : Type 0 where

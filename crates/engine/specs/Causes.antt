@@ -11,12 +11,11 @@ use Rattle.world.specs.Wants.{answer_to, word_of}
 use Rattle.part.specs.Doings.{Doings, nothing_done, with_event_of}
 use Rattle.part.specs.Outcomes.{Outcome, replied, again}
 use Rattle.part.specs.Causes.{HasReplyCause, HasAgainCause}
-use Rattle.restart_op.specs.Restarted.{IsPlayableImage}
 use Rattle.engine.specs.declared.engine.Engine.{Engine}
 use Rattle.engine.specs.Engine.{begun, wanted, taken, end_of, outcome_of_end}
 use Rattle.engine.specs.OpPart.{op_part}
 use Rattle.engine.specs.Core.{Caller, Core, current, turn, run}
-use Rattle.engine.specs.Laws.{opened, AreScripts}
+use Rattle.engine.specs.Laws.{IsServedImage, opened, AreScripts}
 
 -- ---- what an attempt did
 -- with what an event did, by what the engine wants after it: where that is nothing more the attempt has ended, and the next has
@@ -103,8 +102,8 @@ abbrev pub CausesAreThere : Shape → Watched → Type 0
 CausesAreThere shape w = (j : ℕ) (caller : Caller) (call : Call) (e : Engine) (outcome : Outcome) → slice_get w.core.callers j ≡ Some caller
     → current caller ≡ Some call → caller.engine ≡ Some e → Decides shape w.core.words e outcome → HasCause shape w.core.words (w.doings j) call (wanted e) outcome
 
--- EACH END HAS ITS CAUSE, over all turns: from every sound image that may be played, whatever calls up to 64 callers have, and
+-- EACH END HAS ITS CAUSE, over all turns: from every image that is served, whatever calls up to 64 callers have, and
 -- whatever turns they take
 abbrev pub EndsHaveCauses : Type 0
-EndsHaveCauses = (shape : Shape) (words : List ℕ) → IsPlayableImage shape words → (scripts : List (List Call)) → AreScripts scripts
+EndsHaveCauses = (shape : Shape) (words : List ℕ) → IsServedImage shape words → (scripts : List (List Call)) → AreScripts scripts
     → (turns : List ℕ) → CausesAreThere shape (watched_run shape turns (watched (opened shape words scripts)))

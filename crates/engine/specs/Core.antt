@@ -10,7 +10,7 @@ use Rattle.map_model.specs.declared.call.Call.{Call}
 use Rattle.map_model.specs.declared.entry.Reply.{Reply}
 use Rattle.map_model.specs.declared.entry.Reply.TheVariants as reply
 use Rattle.map_model.specs.declared.entry.Entry.{Entry}
-use Rattle.map_model.specs.Map.{is_change}
+use Rattle.map_model.specs.Map.{is_done}
 use Rattle.session.specs.Transcript.{Told}
 use Rattle.session.specs.Callers.{history_of}
 use Rattle.world.specs.declared.site.Site.{Site}
@@ -41,12 +41,12 @@ engine_for site None = None
 engine_for site (Some call) = Some (begun site call)
 
 -- a caller that has done nothing yet
-abbrev pub fresh : Site → List Call → Caller
-fresh site calls = record { site = site; calls = calls; entries = []; engine = engine_for site (slice_get calls 0); begun = false; drew = None }
+abbrev pub idle : Site → List Call → Caller
+idle site calls = record { site = site; calls = calls; entries = []; engine = engine_for site (slice_get calls 0); begun = false; drew = None }
 
 -- the entry of a call of the caller
 abbrev pub entry_of : Caller → Call → Reply → ℕ → Entry
-entry_of c call r place = record { serial = suc (length c.entries); call = call; reply = r; place = place; drew = is_change r }
+entry_of c call r place = record { serial = suc (length c.entries); call = call; reply = r; place = place; drew = is_done r }
 
 -- after the event with this answer, the entry of its call where that has drawn
 abbrev pub drawn_by : Caller → Call → Ans → Option Entry
@@ -71,13 +71,13 @@ ended c call (Some r) = with_entry c (entry_of c call r.0 r.1)
 ended c call None = record c { engine = Some (begun c.site call); begun = true; drew = None }
 
 -- the caller goes on, or its attempt has ended
-abbrev pub settled : Caller → Call → Engine → Want → Caller
-settled c call e want.Done = ended c call (reply_of_end (end_of e))
-settled c call e want = record c { engine = Some e; begun = true }
+abbrev pub gone_on : Caller → Call → Engine → Want → Caller
+gone_on c call e want.Done = ended c call (reply_of_end (end_of e))
+gone_on c call e want = record c { engine = Some e; begun = true }
 
 -- the caller after an event of its engine in this call was answered so
 abbrev pub answered : Caller → Call → Engine → Ans → Caller
-answered c call e ans = settled (record c { drew = drawn_by c call ans }) call (taken e ans) (wanted (taken e ans))
+answered c call e ans = gone_on (record c { drew = drawn_by c call ans }) call (taken e ans) (wanted (taken e ans))
 
 -- what the caller was told
 abbrev pub open_of : Bool → Option Entry → Option (Option Entry)
@@ -136,4 +136,4 @@ histories core = map history_of (tolds_of core)
 abbrev pub callers_from : Shape → ℕ → ℕ → List (List Call) → List Caller
 callers_from shape version number [] = []
 callers_from shape version number (calls ∷ scripts) =
-    fresh (record { geometry = shape; version = version; caller = number }) calls ∷ callers_from shape version (suc number) scripts
+    idle (record { geometry = shape; version = version; caller = number }) calls ∷ callers_from shape version (suc number) scripts

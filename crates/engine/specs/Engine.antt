@@ -1,9 +1,11 @@
 -- The engine of one caller: the machine of its call, one event after another.
-use Rattle.std.specs.Prelude.{ℕ, Bool, true, false, Option, Some}
+use Rattle.std.specs.Prelude.{ℕ, Bool, true, false, Option, None, Some}
 use Rattle.op_core.specs.declared.want.Want.{Want}
 use Rattle.op_core.specs.declared.want.Ans.{Ans}
 use Rattle.map_model.specs.declared.call.Call.{Call}
-use Rattle.map_model.specs.declared.call.Call.TheVariants.{Get, Insert, Update, Remove}
+use Rattle.map_model.specs.declared.change.Change.{Change}
+use Rattle.map_model.specs.Map.{key_of}
+use Rattle.map_model.specs.Changes.{change_of}
 use Rattle.map_model.specs.declared.entry.Reply.{Reply}
 use Rattle.world.specs.declared.site.Site.{Site}
 use Rattle.world.specs.Kinds.{Kind}
@@ -12,24 +14,25 @@ use Rattle.read_op.specs.declared.step.ReadEnd.{ReadEnd}
 use Rattle.read_op.specs.declared.step.ReadEnd.TheVariants as read_end
 use Rattle.read_op.specs.declared.step.ReadStep.{ReadStep}
 use Rattle.read_op.specs.declared.step.ReadStep.TheVariants as read_step
-use Rattle.read_op.specs.Steps.{begun as read_begun, wanted as read_wanted, taken as read_taken}
-use Rattle.read_op.specs.Fits.{kind_of as read_kind}
+use Rattle.read_op.specs.Steps.{begun as read_begun}
 use Rattle.read_op.specs.GetPart.{outcome_of as get_outcome}
-use Rattle.write_op.specs.Taken.{begun as write_begun, wanted as write_wanted, end_of as write_end_of}
-use Rattle.write_op.specs.Fits.{kind_of as write_kind}
-use Rattle.write_op.specs.ChangePart.{whole_taken, outcome_of as change_outcome}
+use Rattle.write_op.specs.Steps.{begun as write_begun, end_at as write_end_at}
+use Rattle.write_op.specs.Refuse.{end_of as refusal_end}
+use Rattle.write_op.specs.Fits.{outcome_of as change_outcome}
 use Rattle.engine.specs.declared.engine.Op.{Op}
-use Rattle.engine.specs.declared.engine.Op.TheVariants.{Read, Write}
+use Rattle.engine.specs.declared.engine.Op.TheVariants.{Read, Write, Refuse}
 use Rattle.engine.specs.declared.engine.End.{End}
 use Rattle.engine.specs.declared.engine.End.TheVariants as ends
 use Rattle.engine.specs.declared.engine.Engine.{Engine}
+use Rattle.engine.specs.OpPart.{op_part}
 
--- the machine of a call
+-- the machine of a call: that of the change that it is, or else that of a get of its key
+abbrev pub op_by : Site → ℕ → Option Change → Op
+op_by site key (Some change) = Write (write_begun change site)
+op_by site key None = Read (read_begun key site)
+
 abbrev pub op_of : Site → Call → Op
-op_of site (Get k) = Read (read_begun k site)
-op_of site (Insert k v) = Write (write_begun (Insert k v) site)
-op_of site (Update k v) = Write (write_begun (Update k v) site)
-op_of site (Remove k) = Write (write_begun (Remove k) site)
+op_of site call = op_by site (key_of call) (change_of call)
 
 -- the engine of a machine
 abbrev pub running : Op → Engine
@@ -40,20 +43,12 @@ abbrev pub begun : Site → Call → Engine
 begun site call = running (op_of site call)
 
 -- the event that it wants
-abbrev pub wanted_by_op : Op → Want
-wanted_by_op (Read op) = read_wanted op
-wanted_by_op (Write op) = write_wanted op
-
 abbrev pub wanted : Engine → Want
-wanted e = wanted_by_op e.op
+wanted e = op_part.wanted e.op
 
 -- what an answer makes of it: an insert that found no slot goes on to its refusal
-abbrev pub taken_by_op : Op → Ans → Op
-taken_by_op (Read op) ans = Read (read_taken op ans)
-taken_by_op (Write op) ans = Write (whole_taken op ans)
-
 abbrev pub taken : Engine → Ans → Engine
-taken e ans = record { op = taken_by_op e.op ans }
+taken e ans = running (op_part.taken e.op ans)
 
 -- its end, where it wants nothing more; else that of a power that is off
 abbrev pub read_end_at : ReadStep → ReadEnd
@@ -62,7 +57,8 @@ read_end_at step = read_end.Off
 
 abbrev pub end_of_op : Op → End
 end_of_op (Read op) = ends.Read (read_end_at op.step)
-end_of_op (Write op) = ends.Write (write_end_of op)
+end_of_op (Write op) = ends.Write (write_end_at op.stage.step)
+end_of_op (Refuse op) = ends.Write (refusal_end op)
 
 abbrev pub end_of : Engine → End
 end_of e = end_of_op e.op
@@ -85,9 +81,5 @@ abbrev pub is_again : End → Bool
 is_again end = says_again (outcome_of_end end)
 
 -- the kind of its next event in the world of many callers, by the value that the event finds
-abbrev pub kind_of_op : Op → ℕ → Kind
-kind_of_op (Read op) n = read_kind op
-kind_of_op (Write op) n = write_kind op n
-
 abbrev pub kind_of : Engine → ℕ → Kind
-kind_of e n = kind_of_op e.op n
+kind_of e n = op_part.kind e.op n

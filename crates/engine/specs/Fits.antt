@@ -8,10 +8,12 @@ use Rattle.world.specs.declared.site.Site.{Site as Here}
 use Rattle.world.specs.Site.{Site, IsSite}
 use Rattle.world.specs.Views.{View, At}
 use Rattle.world.specs.Wants.{answer_to, word_of}
-use Rattle.world.specs.Kinds.{wanted as wanted_by, view_after, May}
+use Rattle.world.specs.Kinds.{wanted as wanted_by, view_after}
+use Rattle.world.specs.Conditions.{May}
 use Rattle.world.specs.Invariant.{Holds}
 use Rattle.world.specs.Attempts.{HoldsOnly, EntersReply}
 use Rattle.part.specs.Part.{Suits as SuitsPart}
+use Rattle.restart_op.specs.AtRest.{IsOpenStructure}
 use Rattle.engine.specs.declared.engine.Engine.{Engine}
 use Rattle.engine.specs.Engine.{begun, wanted, taken, end_of, reply_of_end, kind_of}
 use Rattle.engine.specs.OpPart.{op_part}
@@ -32,9 +34,14 @@ pub record HasEnded (call : Call) (e : Engine) (before v : View) : Type 0 where
 abbrev pub IsWordCall : Call → Type 0
 IsWordCall call = (key_of call < 2 ^ 64) × (value_of call < 2 ^ 64)
 
+-- so far a site is served whose structure is one on which callers run, and has one slot for a segment
+pub record IsServed (site : Site) : Type 0 where
+  pub structure : IsOpenStructure site.shape site.front
+  pub one : site.shape.segments ≡ 1
+
 -- a call begins with any view that holds and owes nothing
 abbrev pub BeginsSuited : Type 0
-BeginsSuited = (site : Site) (here : Here) (call : Call) (v : View) → IsSite site → here.geometry ≡ site.shape → IsWordCall call
+BeginsSuited = (site : Site) (here : Here) (call : Call) (v : View) → IsSite site → IsServed site → here.geometry ≡ site.shape → IsWordCall call
     → HoldsOnly [] v → 0 < v.callers → Suits site here call (begun here call) v v
 
 module _ (site : Site) (e : Engine) (words : Words) where

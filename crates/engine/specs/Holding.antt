@@ -2,7 +2,6 @@
 use Rattle.std.specs.Prelude.{◌^◌, map, take, ◌≤◌, ◌≡◌, ℕ, ◌<◌, false, Option, None, Some, List, [], ◌∷◌, ◌++◌, ◌⊎◌, length, replicate}
 use Rattle.std.specs.List.{AllByRecursion, AllZip}
 use Rattle.std.specs.FinMap.{get}
-use Rattle.restart_op.specs.Notes.{HasNoNotes}
 use Rattle.restart_op.specs.Closing.{SaysShapeInFront, HaveFit, IsQuiet}
 use Rattle.trace.specs.Progress.{pending}
 use Rattle.trace.specs.Events.{Words}
@@ -19,7 +18,7 @@ use Rattle.world.specs.Views.{View, At, Has}
 use Rattle.world.specs.World.{World, IsWell, fresh_view}
 use Rattle.world.specs.Attempts.{HoldsOnly}
 use Rattle.engine.specs.declared.engine.Engine.{Engine}
-use Rattle.engine.specs.Fits.{Suits, IsWordCall}
+use Rattle.engine.specs.Fits.{Suits, IsWordCall, IsServed}
 use Rattle.engine.specs.Core.{Caller, Core, call_at, current, turn, run, callers_from}
 use Rattle.engine.specs.Good.{IsGood}
 
@@ -93,7 +92,7 @@ pub record CoreHolds (site : Site) (start : Words) (core : Core) : Type 0 where
   pub well : IsWell site start (world_of core views)
   pub fits : HaveFit start core.trace
   pub says : SaysShapeInFront site.shape site.front
-  pub no_notes : HasNoNotes site.shape core.words
+  pub served : IsServed site
   -- caller 0 has nothing flushed that it has not fenced
   pub fenced : pending 0 core.trace ≡ []
   pub each : AllZip (CallerFits site) core.callers views
@@ -120,5 +119,5 @@ RunKeeps = (site : Site) (start : Words) (core : Core) (turns : List ℕ) → Co
 -- begin holds
 abbrev pub CoreBegins : Type 0
 CoreBegins = (site : Site) (start : Words) (core : Core) (version : ℕ) (scripts : List (List Call))
-    → IsQuiet site start (world_of core (replicate (length scripts) (fresh_view 1))) → AllByRecursion (AllByRecursion IsWordCall) scripts
+    → IsQuiet site start (world_of core (replicate (length scripts) (fresh_view 1))) → site.shape.segments ≡ 1 → AllByRecursion (AllByRecursion IsWordCall) scripts
     → core.callers ≡ callers_from site.shape version 1 scripts → CoreHolds site start core

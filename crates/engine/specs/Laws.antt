@@ -1,6 +1,6 @@
 -- The law of all turns: whatever turns the callers take, their replies are one legal history, and whatever a power cut may
 -- leave is sound and holds that history's map, open calls whole or absent.
-use Rattle.std.specs.Prelude.{◌≡◌, ℕ, ◌≤◌, None, List, [], ◌∷◌, map, length, slice_index}
+use Rattle.std.specs.Prelude.{◌≡◌, ℕ, ◌<◌, ◌≤◌, None, List, [], ◌∷◌, map, length, slice_index}
 use Rattle.std.specs.List.{AllByRecursion}
 use Rattle.std.specs.FinMap.{get}
 use Rattle.map_model.specs.declared.call.Call.{Call}
@@ -8,9 +8,10 @@ use Rattle.map_model.specs.declared.entry.Entry.{Entry}
 use Rattle.map_model.specs.Map.{Map}
 use Rattle.map_model.specs.Weave.{weave}
 use Rattle.map_model.specs.Legal.{AreReplies, replay}
-use Rattle.image_layout.specs.Places.{Shape, state_word}
+use Rattle.image_layout.specs.Places.{Shape, state_word, homes}
+use Rattle.sound_image.specs.Records.{HasExactNotes}
 use Rattle.sound_image.specs.Left.{HasPairsOf}
-use Rattle.bucket_words.specs.Tables.{find}
+use Rattle.bucket_words.specs.Hits.{find}
 use Rattle.trace.specs.Events.{Words}
 use Rattle.world.specs.Site.{Site}
 use Rattle.restart_op.specs.Restarted.{IsPlayableImage, restarted, words_at_end, site_of}
@@ -28,6 +29,11 @@ opened shape words scripts = record {
   callers = callers_from shape (words_at_end shape words state_word) 1 scripts;
 }
 
+-- so far an image is served that may be restarted, and that has one slot for a segment
+pub record IsServedImage (shape : Shape) (words : List ℕ) : Type 0 where
+  pub playable : IsPlayableImage shape words
+  pub one : shape.segments ≡ 1
+
 -- up to 64 callers, whose keys and values are words
 pub record AreScripts (scripts : List (List Call)) : Type 0 where
   pub few : length scripts ≤ 64
@@ -35,13 +41,13 @@ pub record AreScripts (scripts : List (List Call)) : Type 0 where
 
 -- the core after a restart holds
 abbrev pub OpenedHolds : Type 0
-OpenedHolds = (shape : Shape) (words : List ℕ) (scripts : List (List Call)) → IsPlayableImage shape words → AreScripts scripts
+OpenedHolds = (shape : Shape) (words : List ℕ) (scripts : List (List Call)) → IsServedImage shape words → AreScripts scripts
     → CoreHolds (site_of shape words (length scripts)) (slice_index words) (opened shape words scripts)
 
--- THE LAW OF ALL TURNS: from every sound image that may be played, whatever calls up to 64 callers have, and whatever
+-- THE LAW OF ALL TURNS: from every image that is served, whatever calls up to 64 callers have, and whatever
 -- turns they take, the core is good
 abbrev pub TurnsKeep : Type 0
-TurnsKeep = (shape : Shape) (words : List ℕ) → IsPlayableImage shape words
+TurnsKeep = (shape : Shape) (words : List ℕ) → IsServedImage shape words
     → (opening : Map) → HasPairsOf shape (slice_index words) opening
     → (scripts : List (List Call)) → AreScripts scripts
     → (turns : List ℕ) → IsGood shape (slice_index words) opening (run shape turns (opened shape words scripts))
@@ -59,7 +65,7 @@ pub record IsRightAlone (opening : Map) (core : Core) : Type 0 where
 
 -- ONE CALLER ALONE, whose calls the core runs one after another
 abbrev pub TurnsAlone : Type 0
-TurnsAlone = (shape : Shape) (words : List ℕ) → IsPlayableImage shape words
+TurnsAlone = (shape : Shape) (words : List ℕ) → IsServedImage shape words
     → (opening : Map) → HasPairsOf shape (slice_index words) opening
     → (calls : List Call) → AllByRecursion IsWordCall calls
     → (turns : List ℕ) → IsRightAlone opening (run shape turns (opened shape words (calls ∷ [])))
@@ -71,6 +77,11 @@ NoneRuns core = AllByRecursion (λ c. c.engine ≡ None) core.callers
 -- WHERE NO ENGINE RUNS the world is quiet, so that it may be closed
 abbrev pub ThroughIsQuiet : Type 0
 ThroughIsQuiet = (site : Site) (start : Words) (core : Core) (h : CoreHolds site start core) → NoneRuns core → IsQuiet site start (world_of core h.views)
+
+-- the notes of each home are exact for its records in the stash
+abbrev pub ThroughIsExact : Type 0
+ThroughIsExact = (site : Site) (start : Words) (core : Core) → CoreHolds site start core → NoneRuns core
+    → (s b : ℕ) → s < site.shape.segments → b < homes → HasExactNotes site.shape core.words s b
 
 -- and the newest words have the map of the history
 abbrev pub ThroughHasMap : Type 0

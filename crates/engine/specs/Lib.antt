@@ -1,5 +1,5 @@
-pub mod Engine
 pub mod OpPart
+pub mod Engine
 pub mod Fits
 pub mod Core
 pub mod Left

@@ -8,7 +8,7 @@ use map_model::{Call, Reply};
 use op_core::{Ans, Machine, Want};
 use read_op::{ReadEnd, ReadOp};
 use world::Site;
-use write_op::{WriteEnd, WriteOp};
+use write_op::{RefuseOp, WriteEnd, WriteOp};
 
 /// The machines that an engine runs.
 #[derive(Clone, Copy)]
@@ -17,6 +17,8 @@ pub enum Op {
     Read(ReadOp),
     /// An insert, an update or a remove.
     Write(WriteOp),
+    /// An insert that found no slot.
+    Refuse(RefuseOp),
 }
 
 /// How an attempt ended: the end of its last machine.
@@ -24,7 +26,7 @@ pub enum Op {
 pub enum End {
     /// Of a get.
     Read(ReadEnd),
-    /// Of a change.
+    /// Of a change, or of its refusal.
     Write(WriteEnd),
 }
 
@@ -70,11 +72,9 @@ impl Engine {
     pub fn of(call: Call, site: Site) -> Engine
         ensures { result ≡ begun site call }
     {
-        Engine::new(match call {
-            Call::Get(key) => Op::Read(ReadOp::new(key, site)),
-            Call::Insert(..) | Call::Update(..) | Call::Remove(_) => {
-                Op::Write(WriteOp::new(call, site))
-            }
+        Engine::new(match call.change() {
+            Some(change) => Op::Write(WriteOp::new(change, site)),
+            None => Op::Read(ReadOp::new(call.key(), site)),
         })
     }
 
@@ -85,6 +85,7 @@ impl Engine {
         match &self.op {
             Op::Read(op) => op.want(),
             Op::Write(op) => op.want(),
+            Op::Refuse(op) => op.want(),
         }
     }
 
@@ -97,9 +98,10 @@ impl Engine {
             Op::Write(op) => {
                 op.take(ans);
                 if op.hands_on() {
-                    *op = op.refuse();
+                    self.op = Op::Refuse(RefuseOp::new(op.kept()));
                 }
             }
+            Op::Refuse(op) => op.take(ans),
         }
     }
 
@@ -110,6 +112,7 @@ impl Engine {
         match &self.op {
             Op::Read(op) => op.is_done(),
             Op::Write(op) => op.is_done(),
+            Op::Refuse(op) => op.is_done(),
         }
     }
 
@@ -121,6 +124,7 @@ impl Engine {
         match self.op {
             Op::Read(op) => End::Read(op.end()),
             Op::Write(op) => End::Write(op.end()),
+            Op::Refuse(op) => End::Write(op.end()),
         }
     }
 }

@@ -15,7 +15,7 @@ ghost use Rattle.part.specs.Part.{IsPart};
 ghost use Rattle.part.specs.Causes.{EndsByCause};
 ghost use Rattle.engine.specs.OpPart.{op_part};
 ghost use Rattle.engine.specs.Causes.{EndsAreDecided};
-ghost use Rattle.engine.specs.Fits.{BeginsSuited, KeepsSuits};
+ghost use Rattle.engine.specs.Fits.{IsServed, BeginsSuited, KeepsSuits};
 ghost use Rattle.engine.specs.Left.{most_events, left, waiting};
 ghost use Rattle.engine.specs.Pairs.{LeavesOrMakes, BeginsUnmade, StaysMade, EndsAsDone, TurnLeavesOrMakes};
 ghost use Rattle.engine.specs.Asks.{AsksWithin, AsksWords, KeepsNotes};
@@ -25,12 +25,12 @@ ghost use Rattle.engine.specs.Asks.{AsksWithin, AsksWords, KeepsNotes};
 pub fn calls_are_parts()
     ensures part { IsPart op_part }
     ensures causes { EndsByCause op_part }
-    ensures remembers { (site : Image) (here : Site) (call : Call) → op_part.Remembers site (begun here call).op nothing_done }
+    ensures remembers { (site : Image) (here : Site) (call : Call) → IsServed site → op_part.Remembers site (begun here call).op nothing_done }
     ensures finished { (e : Engine) → op_part.outcome e.op ≡ Some finished → ⊥ }
     ensures ends { EndsAreDecided }
 {
     read_op::gets_are_parts();
-    write_op::attempt_ends();
+    write_op::ends_tell();
     write_op::whole_changes_are_parts();
 }
 
@@ -69,7 +69,8 @@ pub fn stores_are_words()
     calls_are_parts();
 }
 
-/// A metadata word that an engine stores has the overflow notes of the word before, which its caller knows, and it exchanges none.
+/// Beside any other callers an event of an engine leaves what each home has noted of the stash, and its records there, but for a
+/// home to which its caller owes a note, before the event or after it.
 pub fn stores_keep_notes()
     ensures { KeepsNotes }
 {

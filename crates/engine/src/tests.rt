@@ -40,14 +40,14 @@ fn run(geometry: Geometry, call: Call, taken: u64, power: u64) -> (Option<(Reply
             caller: 1,
         },
     );
-    for events in 0..56 {
+    for events in 0..100 {
         let want = engine.next();
         if want == Want::Done {
             return (engine.end().reply(), events);
         }
         engine.take(answer(want, taken, power));
     }
-    (None, 56)
+    (None, 100)
 }
 
 #[test]
@@ -55,24 +55,24 @@ fn calls_of_one_pair(rt: HostRuntime) -> Result<(), Fail> {
     let g = Geometry::new(1, 0, 0)?;
     assert_eq!(rt;
         run(g, Call::Get(5), 1, 0),
-        (Some((Reply::Found(7), 1)), 41)
+        (Some((Reply::Found(7), 1)), 74)
     );
-    assert_eq!(rt; run(g, Call::Get(6), 1, 0), (Some((Reply::Absent, 1)), 41));
+    assert_eq!(rt; run(g, Call::Get(6), 1, 0), (Some((Reply::Absent, 1)), 74));
     assert_eq!(rt;
         run(g, Call::Insert(5, 8), 1, 0),
-        (Some((Reply::Exists, 1)), 45)
+        (Some((Reply::Exists, 1)), 76)
     );
     assert_eq!(rt;
         run(g, Call::Insert(6, 8), 1, 0),
-        (Some((Reply::Done, 1)), 54)
+        (Some((Reply::Done, 1)), 85)
     );
     assert_eq!(rt;
         run(g, Call::Update(5, 8), 1, 0),
-        (Some((Reply::Done, 1)), 49)
+        (Some((Reply::Done, 1)), 80)
     );
     assert_eq!(rt;
         run(g, Call::Remove(6), 1, 0),
-        (Some((Reply::Absent, 1)), 45)
+        (Some((Reply::Absent, 1)), 76)
     );
     Ok(())
 }
@@ -82,7 +82,7 @@ fn insert_into_a_full_bucket(rt: HostRuntime) -> Result<(), Fail> {
     let g = Geometry::new(1, 0, 0)?;
     assert_eq!(rt;
         run(g, Call::Insert(6, 8), 0x3FFF, 0),
-        (Some((Reply::Deep, 1)), 46)
+        (Some((Reply::Deep, 1)), 77)
     );
     Ok(())
 }
@@ -101,7 +101,7 @@ fn insert_into_a_later_slot(rt: HostRuntime) -> Result<(), Fail> {
     let g = Geometry::new(1, 0, 0)?;
     assert_eq!(rt;
         run(g, Call::Insert(6, 8), 3, 0),
-        (Some((Reply::Done, 1)), 55)
+        (Some((Reply::Done, 1)), 86)
     );
     let way = [
         Want::Power,
@@ -140,7 +140,7 @@ fn insert_into_a_later_slot(rt: HostRuntime) -> Result<(), Fail> {
             caller: 1,
         },
     );
-    let words = (97..128u64).map(|i| Want::Load(i));
+    let words = (97..128u64).chain(129..160).map(|i| Want::Load(i));
     for want in way.into_iter().chain(words).chain(change) {
         assert_eq!(rt; engine.next(), want);
         engine.take(answer(want, 3, 0));

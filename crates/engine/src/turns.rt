@@ -1,7 +1,7 @@
 //! The laws of the callers' turns. The functions do nothing: each stands for the law that its contract says.
 
 ghost use Rattle.engine.specs.Holding.{CallsStay, TurnKeeps, RunKeeps, HoldingIsGood, CoreBegins};
-ghost use Rattle.engine.specs.Laws.{OpenedHolds, TurnsKeep, CallsAreScripts, TurnsAlone, ThroughIsQuiet, ThroughHasMap};
+ghost use Rattle.engine.specs.Laws.{OpenedHolds, TurnsKeep, CallsAreScripts, TurnsAlone, ThroughIsQuiet, ThroughIsExact, ThroughHasMap};
 ghost use Rattle.engine.specs.Sessions.{CutIsSession, CloseIsSession};
 
 use crate::laws;
@@ -17,7 +17,6 @@ pub fn turn_keeps()
     laws::calls_are_parts();
     laws::fits_the_world();
     laws::stores_are_words();
-    laws::stores_keep_notes();
 }
 
 /// A core that holds is good: the replies are one legal history, and whatever a power cut may leave holds its map.
@@ -26,7 +25,6 @@ pub fn holding_is_good()
 {
     world::entries_are_legal();
     world::device_leaves_what_views_say();
-    bucket_words::tables_are_sound();
     laws::calls_are_parts();
 }
 
@@ -57,12 +55,14 @@ pub fn turns_keep()
     holding_is_good();
 }
 
-/// Where no engine runs the world may be closed, and the newest words have the map of the history.
+/// Where no engine runs the world may be closed, the notes of each home are exact, and the newest words have the map of the history.
 pub fn through_is_quiet()
     ensures quiet { ThroughIsQuiet }
+    ensures exact { ThroughIsExact }
     ensures map { ThroughHasMap }
 {
     world::entries_are_legal();
+    restart_op::close_begins();
 }
 
 /// The replies to a caller that runs alone are, one after another, those of a plain map.
@@ -77,6 +77,7 @@ pub fn cut_is_session()
     ensures { CutIsSession }
 {
     turns_keep();
+    restart_op::one_segment_is_enough();
 }
 
 /// A run that ends by a close is a session: each call has its reply, and the one image that is left has the map's pairs.
@@ -88,5 +89,6 @@ pub fn close_is_session()
     turn_keeps();
     through_is_quiet();
     restart_op::restart_begins();
+    restart_op::one_segment_is_enough();
     restart_op::close_keeps();
 }

@@ -1,21 +1,21 @@
 -- Where the next event of a caller decides the outcome of its attempt, the cause is there.
-use Rattle.std.proofs.Common.{◌≡◌, ℕ, suc, ◌+◌, ◌%◌, ◌^◌, ◌<◌, inl, inr, true, false, cond, Some, List, ◌∷◌, length, slice_get, slice_index, refl, sym, ◌∙◌, ap, subst, arith}
-use Rattle.std.specs.Prelude.{nat_lt}
-use Rattle.std.proofs.lemmas.Bool.{cases_lt, lt-ltb, le-ltb, false≢true}
+use Rattle.std.proofs.Common.{◌≡◌, ℕ, suc, ◌+◌, ◌%◌, ◌^◌, ◌<◌, ◌⊎◌, inl, inr, Bool, true, false, cond, Some, List, ◌∷◌, length, slice_get, slice_index, refl, sym, ◌∙◌, ap, subst, arith}
+use Rattle.std.specs.Prelude.{nat_lt, ◌==◌, ◌||◌}
+use Rattle.std.proofs.lemmas.Bool.{cases_lt, lt-ltb, le-ltb, eqb-true, false≢true}
 use Rattle.std.proofs.lemmas.Option.{same_Some}
 use mathlib.Core.Option.{some-injective}
 use Rattle.op_core.specs.declared.want.Want.{Want}
 use Rattle.op_core.specs.declared.why.Why.TheVariants.{Busy}
 use Rattle.trace.specs.Events.{Words}
 use Rattle.trace.proofs.Moments.{value_at_now}
-use Rattle.segment_head.specs.HeadWord.{version_in, is_live}
+use Rattle.segment_head.specs.HeadWord.{version_in, state_in, is_live, HasLiveState, normal, splitting}
 use Rattle.image_layout.specs.Places.{Shape, root_word, state_word, head_at}
 use Rattle.image_layout.specs.Volatile.{power_word}
 use Rattle.map_model.specs.declared.call.Call.{Call}
 use Rattle.way.specs.Ways.{head_word}
 use Rattle.world.specs.declared.site.Site.{Site as Here}
 use Rattle.world.specs.Site.{Site}
-use Rattle.bucket_words.specs.Tables.{IsHomeTable}
+use Rattle.bucket_words.specs.Owners.{HasStructure}
 use Rattle.world.specs.Views.{View, At, HasLock}
 use Rattle.world.specs.Wants.{word_of}
 use Rattle.world.specs.Invariant.{Holds}
@@ -25,13 +25,14 @@ use Rattle.part.specs.Doings.{Doings}
 use Rattle.part.specs.Outcomes.{Outcome, replied, again, stale, off, finished}
 use Rattle.part.specs.Part.{IsPart}
 use Rattle.part.specs.Causes.{IsStale, HasCause as HasPartCause, StepsByCause, EndsByCause}
-use Rattle.restart_op.specs.Restarted.{IsPlayableImage, words_at_end, site_of, EndsStarted}
+use Rattle.restart_op.specs.AtRest.{IsOpenStructure}
+use Rattle.restart_op.specs.Restarted.{words_at_end, site_of, EndsStarted}
 use Rattle.engine.specs.declared.engine.Engine.{Engine}
 use Rattle.engine.specs.Engine.{wanted}
 use Rattle.engine.specs.OpPart.{op_part}
 use Rattle.engine.specs.Core.{Caller, Core, current, run}
 use Rattle.engine.specs.Holding.{IsCalling, DoesCall, CallerFits, CoreHolds, TurnKeeps}
-use Rattle.engine.specs.Laws.{opened, OpenedHolds, AreScripts}
+use Rattle.engine.specs.Laws.{IsServedImage, opened, OpenedHolds, AreScripts}
 use Rattle.engine.specs.Causes.{Watched, watched, watched_run, Decides, HasCause, EndsHaveCauses}
 use Rattle.engine.proofs.Places.{zip_at}
 use Rattle.engine.proofs.holding.Turning.{run_keeps}
@@ -39,35 +40,53 @@ use Rattle.engine.proofs.holding.Powered.{run_powered, restart_powered}
 use Rattle.engine.proofs.attempts.Doing.{watching, RemembersNothing, IsDoing, run_does, begin_doing}
 
 -- ---- no segment is stale to a caller that has the image's version
-live_zero : is_live 0 ≡ true → ⊥
-live_zero live = absurd (false≢true live)
+-- the test of a live segment says that it is one
+one_of : (a b : Bool) → (a || b) ≡ true → (a ≡ true) ⊎ (b ≡ true)
+one_of true b e = inl refl
+one_of false b e = inr e
 
-module _ (site : Site) (words : Words) (views : List View) (h : Holds site words views) where
-  table : IsHomeTable site.shape site.front words
-  table = h.media.table words (λ i within. inl refl)
+live_state : (head : ℕ) → is_live head ≡ true → HasLiveState head
+live_state head live = elim (one_of (state_in head == normal) (state_in head == splitting) live) [
+  | inl e ↦ inl (eqb-true (state_in head) normal e)
+  | inr e ↦ inr (eqb-true (state_in head) splitting e)
+]
 
-  root_zero : words root_word ≡ 0
-  root_zero = table.same_front root_word (omega arith) ∙ h.site_is.front.root
+-- a small number is no header of a live segment
+small_is_dead : (head : ℕ) → head < 2 ^ 8 → is_live head ≡ true → ⊥
+small_is_dead head small live =
+    let none : state_in head ≡ 0 = omega (arith, small) in
+    absurd (false≢true (subst (λ n. ((n == normal) || (n == splitting)) ≡ true) none live))
 
-  -- the header of a segment is that of the only one, or no segment's
-  head_is : (segment : ℕ) → segment < site.shape.segments → words (head_word site.shape segment) ≡ site.front (head_at site.shape 0 + 1)
-  head_is segment within =
-      let one = h.site_is.front.one_segment in
-      let first : segment ≡ 0 = omega (arith, one, within) in
-      ap (λ b. words (cond b (head_at site.shape segment + 1) root_word)) (lt-ltb segment site.shape.segments within)
-      ∙ (ap (λ n. words (head_at site.shape n + 1)) first ∙ table.same_front (head_at site.shape 0 + 1) (omega arith))
+module _ (site : Site) (words : Words) (views : List View) (h : Holds site words views) (opened : IsOpenStructure site.shape site.front) where
+  structure : HasStructure site.shape site.front words
+  structure = h.media.structure words (λ i within. inl refl)
 
-  none_beyond : (segment : ℕ) → nat_lt segment site.shape.segments ≡ false → words (head_word site.shape segment) ≡ 0
-  none_beyond segment none = ap (λ b. words (cond b (head_at site.shape segment + 1) root_word)) none ∙ root_zero
+  root_small : words root_word < 2 ^ 8
+  root_small =
+      let same = structure root_word (inl (omega arith)) in
+      let low = opened.frame.root in
+      let most = h.site_is.shape.depth in
+      omega (arith, same, low, most)
+
+  -- the header of a segment is that of a slot, or no segment's
+  head_is : (segment : ℕ) → segment < site.shape.segments → words (head_word site.shape segment) ≡ site.front (head_at site.shape segment + 1)
+  head_is segment within = ap (λ b. words (cond b (head_at site.shape segment + 1) root_word)) (lt-ltb segment site.shape.segments within)
+      ∙ structure (head_at site.shape segment + 1) (inr (segment, 1, within, omega arith, refl))
+
+  none_beyond : (segment : ℕ) → nat_lt segment site.shape.segments ≡ false → words (head_word site.shape segment) ≡ words root_word
+  none_beyond segment none = ap (λ b. words (cond b (head_at site.shape segment + 1) root_word)) none
 
   never_stale : (did : Doings) (call : Call) (event : Want) (version segment byte : ℕ) → version ≡ site.front state_word % 2 ^ 8 → IsStale site.shape words did call event version segment byte → ⊥
   never_stale did call event version segment byte current c =
       let newest : words (head_word site.shape segment) ≡ c.head = (finds_newest site.shape words event (head_word site.shape segment) c.head c.looked).1 in
       elim (cases_lt segment site.shape.segments) [
-        | inl within ↦ c.other (sym c.found ∙ (ap version_in (sym newest ∙ head_is segment within) ∙ (h.site_is.front.same_version ∙ sym current)))
+        | inl within ↦
+            let head : c.head ≡ site.front (head_at site.shape segment + 1) = sym newest ∙ head_is segment within in
+            c.other (sym c.found ∙ (ap version_in head
+            ∙ ((opened.takes_calls segment within (live_state (site.front (head_at site.shape segment + 1)) (subst (λ n. is_live n ≡ true) head c.live))).same_version ∙ sym current)))
         | inr beyond ↦
-            let zero : c.head ≡ 0 = sym newest ∙ none_beyond segment (le-ltb segment site.shape.segments beyond) in
-            live_zero (subst (λ n. is_live n ≡ true) zero c.live)
+            let root : words root_word ≡ c.head = sym (none_beyond segment (le-ltb segment site.shape.segments beyond)) ∙ newest in
+            small_is_dead c.head (subst (λ n. n < 2 ^ 8) root root_small) c.live
       ]
 
   -- so the cause of a part's outcome is one of an engine's
@@ -104,7 +123,7 @@ module _ (laws : CallCauses) (keeps : TurnKeeps) (site : Site) (start : Words) (
   core_cause outcome powered decides =
       let same : seen.2.call ≡ call = same_Some seen.2.call call (sym seen.2.is_current ∙ calls) in
       subst (λ x. HasCause site.shape core.words d x (wanted e) outcome) same
-      (cause_of site core.words (fresh_view 0 ∷ h.views) h.well.holds powered d seen.2.call (wanted e) c.site (doing.version_is ∙ current_is) outcome
+      (cause_of site core.words (fresh_view 0 ∷ h.views) h.well.holds h.served.structure powered d seen.2.call (wanted e) c.site (doing.version_is ∙ current_is) outcome
       (λ is. laws.never (Rattle.engine.specs.Causes.engine_next site.shape core.words e) (decides.decides ∙ ap Some is)) (step.caused outcome decides.undecided decides.decides))
 
   -- who finds a lock taken does not hold it
@@ -113,7 +132,7 @@ module _ (laws : CallCauses) (keeps : TurnKeeps) (site : Site) (start : Words) (
       step.not_own word value decides.undecided decides.decides (subst (λ (u : View). HasLock u.held word) (some-injective v seen.0 (sym at ∙ seen.1)) has)
 
 -- after any turns
-module _ (opens : OpenedHolds) (keeps : TurnKeeps) (shape : Shape) (words : List ℕ) (image : IsPlayableImage shape words)
+module _ (opens : OpenedHolds) (keeps : TurnKeeps) (shape : Shape) (words : List ℕ) (image : IsServedImage shape words)
     (scripts : List (List Call)) (are : AreScripts scripts) (turns : List ℕ) where
   abbrev pub site_there : Site
   site_there = site_of shape words (length scripts)
@@ -138,14 +157,14 @@ module _ (opens : OpenedHolds) (keeps : TurnKeeps) (shape : Shape) (words : List
 
   module _ (laws : CallCauses) (started : EndsStarted) (j : ℕ) (c : Caller) (call : Call) (e : Engine) (at : slice_get there.core.callers j ≡ Some c) (calls : current c ≡ Some call) (runs : c.engine ≡ Some e) where
     is_current : version ≡ version % 2 ^ 8
-    is_current = let s = started shape words image in let state = s.state in let fits = s.fits in omega (arith, state, fits)
+    is_current = let s = started shape words image.playable in let state = s.state in let fits = s.fits in omega (arith, state, fits)
 
     doing : IsDoing laws.causes laws.begins keeps site_there (slice_index words) version c (there.doings j)
-    doing = run_does laws.causes laws.begins keeps site_there (slice_index words) version (watched first) turns begins
-        (λ i x is. begin_doing laws.causes laws.begins keeps site_there (slice_index words) version shape 1 scripts i x is) j c at
+    doing = run_does laws.causes laws.begins keeps site_there (slice_index words) version begins.served (watched first) turns begins
+        (λ i x is. begin_doing laws.causes laws.begins keeps site_there (slice_index words) version begins.served shape 1 scripts i x is) j c at
 
     powered : there.core.words (power_word shape) ≡ 0
-    powered = subst (λ (core : Core). core.words (power_word shape) ≡ 0) same (run_powered laws.part keeps site_there (slice_index words) first turns begins (restart_powered shape words image))
+    powered = subst (λ (core : Core). core.words (power_word shape) ≡ 0) same (run_powered laws.part keeps site_there (slice_index words) first turns begins (restart_powered shape words image.playable))
 
     pub cause_there : (outcome : Outcome) → Decides shape there.core.words e outcome → HasCause shape there.core.words (there.doings j) call (wanted e) outcome
     cause_there outcome decides = core_cause laws keeps site_there (slice_index words) there.core holds_there version is_current j c call e (there.doings j) at calls runs doing outcome powered decides

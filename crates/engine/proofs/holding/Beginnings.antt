@@ -7,8 +7,8 @@ use Rattle.world.specs.declared.site.Site.{Site as Here}
 use Rattle.world.specs.Site.{Site, IsSite}
 use Rattle.world.specs.World.{fresh_view}
 use Rattle.world.specs.Attempts.{HoldsOnly}
-use Rattle.engine.specs.Fits.{IsWordCall, BeginsSuited}
-use Rattle.engine.specs.Core.{fresh, engine_for, callers_from}
+use Rattle.engine.specs.Fits.{IsWordCall, IsServed, BeginsSuited}
+use Rattle.engine.specs.Core.{idle, engine_for, callers_from}
 use Rattle.engine.specs.Holding.{CallerFits, CoreBegins}
 
 word_at : (calls : List Call) → AllByRecursion IsWordCall calls → (n : ℕ) (call : Call) → slice_get calls n ≡ Some call → IsWordCall call
@@ -17,11 +17,11 @@ word_at (x ∷ calls) all zero call is = subst IsWordCall (same_Some x call is) 
 word_at (x ∷ calls) all (suc n) call is = word_at calls all.1 n call is
 
 holds_nothing : (n : ℕ) → HoldsOnly [] (fresh_view n)
-holds_nothing n = record { held = refl; known = refl; dirty = refl; flushed = refl; planned = refl }
+holds_nothing n = record { held = refl; known = refl; dirty = refl; flushed = refl; planned = refl; moving = refl; owed = refl }
 
-module _ (begins : BeginsSuited) (site : Site) (is_site : IsSite site) where
+module _ (begins : BeginsSuited) (site : Site) (is_site : IsSite site) (served : IsServed site) where
   module _ (here : Here) (place : here.geometry ≡ site.shape) (calls : List Call) (all : AllByRecursion IsWordCall calls) where
-    first : (o : Option Call) → slice_get calls 0 ≡ o → CallerFits site (record (fresh here calls) { engine = engine_for here o }) (fresh_view 1)
+    first : (o : Option Call) → slice_get calls 0 ≡ o → CallerFits site (record (idle here calls) { engine = engine_for here o }) (fresh_view 1)
     first None is = record {
       place = place;
       words = word_at calls all;
@@ -41,7 +41,7 @@ module _ (begins : BeginsSuited) (site : Site) (is_site : IsSite site) where
         is_current = is;
         before = fresh_view 1;
         own_before = refl;
-        suits = begins site here call (fresh_view 1) is_site place (word_at calls all 0 call is) (holds_nothing 1) (omega arith);
+        suits = begins site here call (fresh_view 1) is_site served place (word_at calls all 0 call is) (holds_nothing 1) (omega arith);
         entries = inl refl;
         drew = λ _. refl;
         planned = λ _. refl;
@@ -49,23 +49,23 @@ module _ (begins : BeginsSuited) (site : Site) (is_site : IsSite site) where
       };
     }
 
-    fresh_fits : CallerFits site (fresh here calls) (fresh_view 1)
-    fresh_fits = first (slice_get calls 0) refl
+    idle_fits : CallerFits site (idle here calls) (fresh_view 1)
+    idle_fits = first (slice_get calls 0) refl
 
   all_fit : (version number : ℕ) (scripts : List (List Call)) → AllByRecursion (AllByRecursion IsWordCall) scripts
       → AllZip (CallerFits site) (callers_from site.shape version number scripts) (replicate (length scripts) (fresh_view 1))
   all_fit version number [] all = tt
   all_fit version number (calls ∷ scripts) all =
-      (fresh_fits (record { geometry = site.shape; version = version; caller = number }) refl calls all.0, all_fit version (suc number) scripts all.1)
+      (idle_fits (record { geometry = site.shape; version = version; caller = number }) refl calls all.0, all_fit version (suc number) scripts all.1)
 
 pub core_begins : BeginsSuited → CoreBegins
-core_begins begins site start core version scripts quiet words is = record {
+core_begins begins site start core version scripts quiet one words is = record {
   views = replicate (length scripts) (fresh_view 1);
   well = quiet.well;
   fits = quiet.fits;
   says = quiet.says;
-  no_notes = quiet.no_notes;
+  served = record { structure = quiet.structure; one = one };
   fenced = quiet.fenced;
   each = subst (λ callers. AllZip (CallerFits site) callers (replicate (length scripts) (fresh_view 1))) (sym is)
-      (all_fit begins site quiet.well.holds.site_is version 1 scripts words);
+      (all_fit begins site quiet.well.holds.site_is (record { structure = quiet.structure; one = one }) version 1 scripts words);
 }

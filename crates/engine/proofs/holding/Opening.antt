@@ -12,14 +12,15 @@ use Rattle.engine.specs.Laws.{CallsAreScripts, opened, OpenedHolds, TurnsKeep}
 pub opened_holds : CoreBegins → QuietAfterRestart → OpenedHolds
 opened_holds begins quiet shape words scripts image are =
     begins (site_of shape words (length scripts)) (slice_index words) (opened shape words scripts) (words_at_end shape words state_word) scripts
-    (quiet shape words (length scripts) image (let few = are.few in omega (arith, few))) are.words refl
+    (quiet shape words (length scripts) image.playable (let few = are.few in omega (arith, few)))
+    image.one are.words refl
 
 pub turns_keep : OpenedHolds → RunKeeps → HoldingIsGood → KeepsPairs → TurnsKeep
 turns_keep opens keeps good pairs shape words image opening has scripts are turns =
     let site = site_of shape words (length scripts) in
     good site (slice_index words) (run shape turns (opened shape words scripts)) opening
     (keeps site (slice_index words) (opened shape words scripts) turns (opens shape words scripts image are))
-    ((pairs shape words opening image).0 has)
+    ((pairs shape words opening image.playable).0 has)
 
 opened_calls : (shape : Shape) (version number : ℕ) (scripts : List (List Call)) → map (λ (c : Caller). c.calls) (callers_from shape version number scripts) ≡ scripts
 opened_calls shape version number [] = refl

@@ -12,7 +12,7 @@ use Rattle.world.specs.Site.{Site}
 use Rattle.world.specs.Views.{View}
 use Rattle.engine.specs.declared.engine.Engine.{Engine}
 use Rattle.engine.specs.Engine.{end_of, reply_of_end}
-use Rattle.engine.specs.Core.{Caller, open_of, told_of, ended, settled}
+use Rattle.engine.specs.Core.{Caller, open_of, told_of, ended, gone_on}
 use Rattle.engine.specs.Holding.{DoesCall, CallerFits}
 use Rattle.engine.proofs.Places.{one_more}
 
@@ -45,9 +45,9 @@ ended_calls : (c : Caller) (call : Call) (o : Option (Reply × ℕ)) → (ended 
 ended_calls c call None = refl
 ended_calls c call (Some r) = refl
 
-pub settled_calls : (c : Caller) (call : Call) (e : Engine) (w : Want) → (settled c call e w).calls ≡ c.calls
-settled_calls c call e want.Done = ended_calls c call (reply_of_end (end_of e))
-settled_calls c call e w = refl
+pub gone_on_calls : (c : Caller) (call : Call) (e : Engine) (w : Want) → (gone_on c call e w).calls ≡ c.calls
+gone_on_calls c call e want.Done = ended_calls c call (reply_of_end (end_of e))
+gone_on_calls c call e w = refl
 
 pub calls_set : (callers : List Caller) (j : ℕ) (c after : Caller) → slice_get callers j ≡ Some c → after.calls ≡ c.calls
     → map (λ (c : Caller). c.calls) (slice_set callers j after) ≡ map (λ (c : Caller). c.calls) callers

@@ -9,7 +9,8 @@ use Rattle.map_model.specs.declared.entry.Reply.TheVariants as reply
 use Rattle.map_model.specs.declared.entry.Entry.{Entry}
 use Rattle.world.specs.Site.{Site}
 use Rattle.world.specs.Views.{View, Has}
-use Rattle.world.specs.Kinds.{Kind, finds_room, refuses, validates, draws_place, wanted as wanted_by, view_after, May}
+use Rattle.world.specs.Kinds.{Kind, finds_room, refuses, validates, draws_place, wanted as wanted_by, view_after}
+use Rattle.world.specs.Conditions.{May}
 use Rattle.world.specs.Wants.{answer_to}
 use Rattle.world.specs.Entering.{IsMadeBy}
 use Rattle.world.proofs.stepping.Steps.{steps_enter}

@@ -5,7 +5,7 @@ use Rattle.std.proofs.lemmas.Option.{none-some, same_Some}
 use Rattle.op_core.specs.declared.want.Ans.{Ans}
 use Rattle.op_core.specs.declared.want.Ans.TheVariants.{Value, Won, Lost, Drawn, Passed}
 use Rattle.map_model.specs.declared.entry.Reply.TheVariants as reply
-use Rattle.engine.proofs.holding.Scripted.{replied_more, within_more, calls_set, settled_calls}
+use Rattle.engine.proofs.holding.Scripted.{replied_more, within_more, calls_set, gone_on_calls}
 use Rattle.trace.specs.Events.Event.{loaded, exchanged}
 use Rattle.trace.specs.Progress.{pending}
 use Rattle.op_core.specs.declared.want.Want.{Want}
@@ -17,7 +17,7 @@ use Rattle.map_model.specs.declared.call.Call.{Call}
 use Rattle.map_model.specs.declared.entry.Reply.{Reply}
 use Rattle.map_model.specs.declared.entry.Entry.{Entry}
 use Rattle.world.specs.Site.{Site, IsSite}
-use Rattle.map_model.specs.Map.{is_change}
+use Rattle.map_model.specs.Map.{is_done}
 use Rattle.world.specs.Views.{View, At}
 use Rattle.world.specs.Kinds.{Kind, view_after}
 use Rattle.world.specs.Wants.{answer_to, word_of, left_by, event_of, words_after}
@@ -28,11 +28,10 @@ use Rattle.part.specs.Part.{IsPart}
 use Rattle.engine.specs.declared.engine.Engine.{Engine}
 use Rattle.engine.specs.OpPart.{op_part}
 use Rattle.engine.specs.Engine.{taken, wanted, end_of, reply_of_end, kind_of}
-use Rattle.engine.specs.Fits.{IsWordCall, Suits, HasEnded, BeginsSuited, finds, next_engine, StepsWell, KeepsSuits}
-use Rattle.engine.specs.Core.{Caller, Core, call_at, current, engine_for, entry_of, drawn_by, ended, settled, answered, with_event, turn_of_call, turn_of_caller, turn}
-use Rattle.engine.specs.Asks.{AsksWords, KeepsNotes}
+use Rattle.engine.specs.Fits.{IsWordCall, IsServed, Suits, HasEnded, BeginsSuited, finds, next_engine, StepsWell, KeepsSuits}
+use Rattle.engine.specs.Core.{Caller, Core, call_at, current, engine_for, entry_of, drawn_by, ended, gone_on, answered, with_event, turn_of_call, turn_of_caller, turn}
+use Rattle.engine.specs.Asks.{AsksWords}
 use Rattle.engine.specs.Holding.{HasEntries, IsCalling, DoesCall, CallerFits, world_of, CoreHolds, CallsStay, TurnKeeps, RunKeeps}
-use Rattle.engine.proofs.holding.Unnoted.{stay_unnoted}
 use Rattle.engine.proofs.holding.Planned.{planned_is, at_most_one}
 use Rattle.engine.proofs.holding.Told.{entries_after}
 use Rattle.engine.proofs.Places.{zip_at, zip_set, one_more}
@@ -92,7 +91,7 @@ fenced_still shape want.Power n j es = refl
 fenced_still shape want.Done n j es = refl
 
 -- ---- a caller
-module _ (begins : BeginsSuited) (site : Site) (is_site : IsSite site) (c : Caller) (place : c.site.geometry ≡ site.shape)
+module _ (begins : BeginsSuited) (site : Site) (is_site : IsSite site) (served : IsServed site) (c : Caller) (place : c.site.geometry ≡ site.shape)
     (words : (n : ℕ) (call : Call) → call_at c n ≡ Some call → IsWordCall call) (call : Call) (is_current : current c ≡ Some call)
     (replied : map (λ (e : Entry). e.call) c.entries ≡ take (length c.entries) c.calls) (within : length c.entries ≤ length c.calls)
     (before w : View) (own_before : before.own ≡ c.entries) (drew : Option Entry) (drew_call : (e : Entry) → drew ≡ Some e → e.call ≡ call) where
@@ -149,7 +148,7 @@ module _ (begins : BeginsSuited) (site : Site) (is_site : IsSite site) (c : Call
         is_current = ap (λ n. slice_get c.calls n) (one_more c.entries e) ∙ is;
         before = w;
         own_before = own;
-        suits = begins site c.site following w is_site place (words (suc (length c.entries)) following is) nothing callers;
+        suits = begins site c.site following w is_site served place (words (suc (length c.entries)) following is) nothing callers;
         entries = inl own;
         drew = λ _. refl;
         planned = λ _. nothing.planned;
@@ -169,7 +168,7 @@ module _ (begins : BeginsSuited) (site : Site) (is_site : IsSite site) (c : Call
         is_current = is_current;
         before = w;
         own_before = enters.own ∙ own_before;
-        suits = begins site c.site call w is_site place (words (length c.entries) call is_current) nothing callers;
+        suits = begins site c.site call w is_site served place (words (length c.entries) call is_current) nothing callers;
         entries = inl (enters.own ∙ own_before);
         drew = λ _. refl;
         planned = λ _. nothing.planned;
@@ -177,18 +176,18 @@ module _ (begins : BeginsSuited) (site : Site) (is_site : IsSite site) (c : Call
       };
     }
     ended_fits (Some r) enters = next (entry_of c call r.0 r.1) refl (call_at c (suc (length c.entries))) refl
-        (enters.own ∙ ap (λ (es : List Entry). es ++ record { serial = suc (length es); call = call; reply = r.0; place = r.1; drew = is_change r.0 } ∷ []) own_before)
+        (enters.own ∙ ap (λ (es : List Entry). es ++ record { serial = suc (length es); call = call; reply = r.0; place = r.1; drew = is_done r.0 } ∷ []) own_before)
 
-  settled_fits : (e : Engine) (asked : Want) → wanted e ≡ asked → (wanted e ≢ want.Done → Suits site c.site call e before w) → (wanted e ≡ want.Done → HasEnded call e before w)
-      → (Suits site c.site call e before w → HasEntries c.entries drew w.own) → CallerFits site (settled drawn call e asked) w
-  settled_fits e want.Done is suits ends has = let end = ends is in ended_fits end.nothing end.callers (reply_of_end (end_of e)) end.enters
-  settled_fits e (want.Load i) is suits ends has = (let s = suits (λ q. let z : want.Load i ≡ want.Done = sym is ∙ q in cc) in goes_on e s (has s))
-  settled_fits e (want.Store i x) is suits ends has = (let s = suits (λ q. let z : want.Store i x ≡ want.Done = sym is ∙ q in cc) in goes_on e s (has s))
-  settled_fits e (want.Exchange i a b) is suits ends has = (let s = suits (λ q. let z : want.Exchange i a b ≡ want.Done = sym is ∙ q in cc) in goes_on e s (has s))
-  settled_fits e (want.Flush l) is suits ends has = (let s = suits (λ q. let z : want.Flush l ≡ want.Done = sym is ∙ q in cc) in goes_on e s (has s))
-  settled_fits e want.Fence is suits ends has = (let s = suits (λ q. let z : want.Fence ≡ want.Done = sym is ∙ q in cc) in goes_on e s (has s))
-  settled_fits e want.Draw is suits ends has = (let s = suits (λ q. let z : want.Draw ≡ want.Done = sym is ∙ q in cc) in goes_on e s (has s))
-  settled_fits e want.Power is suits ends has = (let s = suits (λ q. let z : want.Power ≡ want.Done = sym is ∙ q in cc) in goes_on e s (has s))
+  gone_on_fits : (e : Engine) (asked : Want) → wanted e ≡ asked → (wanted e ≢ want.Done → Suits site c.site call e before w) → (wanted e ≡ want.Done → HasEnded call e before w)
+      → (Suits site c.site call e before w → HasEntries c.entries drew w.own) → CallerFits site (gone_on drawn call e asked) w
+  gone_on_fits e want.Done is suits ends has = let end = ends is in ended_fits end.nothing end.callers (reply_of_end (end_of e)) end.enters
+  gone_on_fits e (want.Load i) is suits ends has = (let s = suits (λ q. let z : want.Load i ≡ want.Done = sym is ∙ q in cc) in goes_on e s (has s))
+  gone_on_fits e (want.Store i x) is suits ends has = (let s = suits (λ q. let z : want.Store i x ≡ want.Done = sym is ∙ q in cc) in goes_on e s (has s))
+  gone_on_fits e (want.Exchange i a b) is suits ends has = (let s = suits (λ q. let z : want.Exchange i a b ≡ want.Done = sym is ∙ q in cc) in goes_on e s (has s))
+  gone_on_fits e (want.Flush l) is suits ends has = (let s = suits (λ q. let z : want.Flush l ≡ want.Done = sym is ∙ q in cc) in goes_on e s (has s))
+  gone_on_fits e want.Fence is suits ends has = (let s = suits (λ q. let z : want.Fence ≡ want.Done = sym is ∙ q in cc) in goes_on e s (has s))
+  gone_on_fits e want.Draw is suits ends has = (let s = suits (λ q. let z : want.Draw ≡ want.Done = sym is ∙ q in cc) in goes_on e s (has s))
+  gone_on_fits e want.Power is suits ends has = (let s = suits (λ q. let z : want.Power ≡ want.Done = sym is ∙ q in cc) in goes_on e s (has s))
 
 -- ---- turns, one after another
 pub run_keeps : TurnKeeps → RunKeeps
@@ -200,7 +199,7 @@ calls_kept : (shape : Shape) (j : ℕ) (core : Core) (c : Caller) (is : slice_ge
 calls_kept shape j core c is call e =
     let found : ℕ = core.words (word_of shape (wanted e)) in
     calls_set core.callers j c (answered c call e (answer_to (wanted e) found)) is
-    (settled_calls (record c { drew = drawn_by c call (answer_to (wanted e) found) }) call (taken e (answer_to (wanted e) found)) (wanted (taken e (answer_to (wanted e) found))))
+    (gone_on_calls (record c { drew = drawn_by c call (answer_to (wanted e) found) }) call (taken e (answer_to (wanted e) found)) (wanted (taken e (answer_to (wanted e) found))))
 
 by_call : (shape : Shape) (j : ℕ) (core : Core) (c : Caller) (is : slice_get core.callers j ≡ Some c) (call : Option Call) (engine : Option Engine)
     → map (λ (c : Caller). c.calls) (turn_of_call shape j core c call engine).callers ≡ map (λ (c : Caller). c.calls) core.callers
@@ -221,7 +220,7 @@ calls_stay shape core [] = refl
 calls_stay shape core (c ∷ turns) = calls_stay shape (turn shape c core) turns ∙ turn_calls shape c core
 
 -- ---- the core
-module _ (part : IsPart op_part) (begins : BeginsSuited) (keeps : KeepsSuits) (are_words : AsksWords) (keep_notes : KeepsNotes) (steps : KeepsWell) (one_word : ChangesOneWord)
+module _ (part : IsPart op_part) (begins : BeginsSuited) (keeps : KeepsSuits) (are_words : AsksWords) (steps : KeepsWell) (one_word : ChangesOneWord)
     (site : Site) (start : Words) (core : Core) (h : CoreHolds site start core) where
   now_fits : (i : ℕ) → core.words i < 2 ^ 64
   now_fits i = subst (λ x. x < 2 ^ 64) (value_at_now start core.trace i ∙ sym (ap (λ (ws : Words). ws i) h.well.words_are)) (h.fits i (length core.trace))
@@ -262,7 +261,7 @@ module _ (part : IsPart op_part) (begins : BeginsSuited) (keeps : KeepsSuits) (a
           (left_fits site.shape (wanted e) n a.stores a.exchanges (now_fits (word_of site.shape (wanted e)))) (now_fits i))
 
       caller_after : CallerFits site (answered c calling.call e (answer_to (wanted e) n)) (view_after site.shape kind n v)
-      caller_after = settled_fits begins site h.well.holds.site_is c fits.place fits.words calling.call calling.is_current fits.replied fits.within calling.before (view_after site.shape kind n v)
+      caller_after = gone_on_fits begins site h.well.holds.site_is h.served c fits.place fits.words calling.call calling.is_current fits.replied fits.within calling.before (view_after site.shape kind n v)
           calling.own_before (drawn_by c calling.call (answer_to (wanted e) n)) (drawn_call c calling.call calling.drew_call (answer_to (wanted e) n)) (next_engine site e core.words) (wanted (next_engine site e core.words)) refl well_step.suits well_step.ends
           (λ s. subst (λ w. HasEntries c.entries (drawn_by c calling.call (answer_to w n)) (view_after site.shape kind n v).own) (sym well_step.wants)
           (entries_after site c calling.call v n calling.entries
@@ -277,7 +276,7 @@ module _ (part : IsPart op_part) (begins : BeginsSuited) (keeps : KeepsSuits) (a
         well = well_after;
         fits = values_fit start _ core.trace h.fits (λ i. subst (λ (ws : Words). ws i < 2 ^ 64) well_after.words_are (word_after i));
         says = h.says;
-        no_notes = stay_unnoted site e core.words (fresh_view 0 ∷ h.views) (suc j) v h.well.holds at (λ b within. keep_notes site c.site calling.call e calling.before v b h.well.holds.site_is calling.suits within) (suc j) h.no_notes;
+        served = h.served;
         fenced = fenced_still site.shape (wanted e) n j core.trace ∙ h.fenced;
         each = zip_set (CallerFits site) core.callers h.views j (answered c calling.call e (answer_to (wanted e) n)) v (view_after site.shape kind n) h.each at caller_after;
       }
@@ -294,5 +293,5 @@ module _ (part : IsPart op_part) (begins : BeginsSuited) (keeps : KeepsSuits) (a
   turned zero = h
   turned (suc j) = by_caller j (slice_get core.callers j) refl
 
-pub turn_keeps : IsPart op_part → BeginsSuited → KeepsSuits → AsksWords → KeepsNotes → KeepsWell → ChangesOneWord → TurnKeeps
-turn_keeps part begins keeps are_words keep_notes steps one_word site start core c h = turned part begins keeps are_words keep_notes steps one_word site start core h c
+pub turn_keeps : IsPart op_part → BeginsSuited → KeepsSuits → AsksWords → KeepsWell → ChangesOneWord → TurnKeeps
+turn_keeps part begins keeps are_words steps one_word site start core c h = turned part begins keeps are_words steps one_word site start core h c

@@ -21,16 +21,17 @@ use Rattle.part.specs.Outcomes.{Outcome, replied, again}
 use Rattle.part.specs.Part.{IsPart}
 use Rattle.part.specs.Causes.{EndsByCause}
 use Rattle.part.proofs.Still.{nothing_still, own_events_keep_still, alone_nothing_moves}
-use Rattle.restart_op.specs.Restarted.{IsPlayableImage, words_at_end, site_of}
+use Rattle.restart_op.specs.Restarted.{words_at_end, site_of}
 use Rattle.engine.specs.declared.engine.Engine.{Engine}
 use Rattle.engine.specs.Engine.{begun, wanted, end_of, reply_of_end}
 use Rattle.engine.specs.OpPart.{op_part}
-use Rattle.engine.specs.Core.{Caller, call_at, current, engine_for, fresh, callers_from, drawn_by, ended, settled, answered, with_event, turn_of_call, turn_of_caller}
+use Rattle.engine.specs.Core.{Caller, call_at, current, engine_for, idle, callers_from, drawn_by, ended, gone_on, answered, with_event, turn_of_call, turn_of_caller}
 use Rattle.engine.specs.Holding.{IsCalling, DoesCall, CallerFits, TurnKeeps}
-use Rattle.engine.specs.Laws.{OpenedHolds, AreScripts}
+use Rattle.engine.specs.Laws.{IsServedImage, OpenedHolds, AreScripts}
 use Rattle.engine.specs.Causes.{doings_by, with_doings, Watched, answer_now, engine_next, doings_of_call, doings_of_caller, watched_turn, Decides, BeginsUndecided, DecidedStays, EndsAreDecided, HasCause, EndsHaveCauses, watched_run}
 use Rattle.engine.specs.Alone.{IsTold, IsBetween, IsRestingBy, IsResting, IsAlone, IsNext, at_start, along, BusyIsOthers, AllRestAtStart, AloneAtStart, RestingIsAlone, OwnTurnsStayAlone, AloneNeverAgain, EndsAreTold, EndsTell, EndedRests, OthersStayResting}
 use Rattle.engine.proofs.Places.{zip_at, set_cases}
+use Rattle.engine.proofs.machines.Ops.{never_hands_on}
 use Rattle.engine.proofs.attempts.Deciding.{holds_there}
 use Rattle.engine.proofs.attempts.Doing.{set_there}
 
@@ -85,9 +86,9 @@ module _ (P : Outcome → Type 0) where
     ended_holds c call None e outcome is decided = begun_holds c.site (Some call) e outcome is decided
     ended_holds c call (Some r) e outcome is decided = begun_holds c.site (call_at c (suc (length c.entries))) e outcome is decided
 
-    settled_holds : (c : Caller) (call : Call) (next : Engine) (asked : Want) → ((outcome : Outcome) → op_part.outcome next.op ≡ Some outcome → P outcome) → Holds (settled c call next asked)
-    settled_holds c call next want.Done good e outcome is decided = ended_holds c call (reply_of_end (end_of next)) e outcome is decided
-    settled_holds c call next asked good e outcome is decided = good outcome (subst (λ (x : Engine). op_part.outcome x.op ≡ Some outcome) (sym (same_Some next e is)) decided)
+    gone_on_holds : (c : Caller) (call : Call) (next : Engine) (asked : Want) → ((outcome : Outcome) → op_part.outcome next.op ≡ Some outcome → P outcome) → Holds (gone_on c call next asked)
+    gone_on_holds c call next want.Done good e outcome is decided = ended_holds c call (reply_of_end (end_of next)) e outcome is decided
+    gone_on_holds c call next asked good e outcome is decided = good outcome (subst (λ (x : Engine). op_part.outcome x.op ≡ Some outcome) (sym (same_Some next e is)) decided)
 
 -- who stands at another place stands there as before
 others_there : (shape : Shape) (w : Watched) (i j : ℕ) (d : Caller) → i ≢ j → slice_get (watched_turn shape (suc j) w).core.callers i ≡ Some d → slice_get w.core.callers i ≡ Some d
@@ -132,7 +133,7 @@ fresh_rests : (shape : Shape) (version number : ℕ) (scripts : List (List Call)
 fresh_rests shape version number [] j c at = absurd (none-some c at)
 fresh_rests shape version number (calls ∷ scripts) zero c at =
     let here : Here = record { geometry = shape; version = version; caller = number } in
-    subst (λ x. IsRestingBy x nothing_done) (same_Some (fresh here calls) c at) (engine_rests (fresh here calls) (slice_get calls 0) refl)
+    subst (λ x. IsRestingBy x nothing_done) (same_Some (idle here calls) c at) (engine_rests (idle here calls) (slice_get calls 0) refl)
 fresh_rests shape version number (calls ∷ scripts) (suc j) c at = fresh_rests shape version (suc number) scripts j c at
 
 pub others_stay_resting : OthersStayResting
@@ -149,7 +150,7 @@ module _ (P : Outcome → Type 0) (first : BeginsUndecided) (shape : Shape) (w :
       let a : Ans = answer_now shape w.core.words e in
       let after : Engine = engine_next shape w.core.words e in
       subst (Holds P) (set_there w.core.callers j (answered c call e a) d c there is)
-      (settled_holds P first (record c { drew = drawn_by c call a }) call after (wanted after) (next e (record { caller = c; there = there; call = call; calls = calls; runs = runs })))
+      (gone_on_holds P first (record c { drew = drawn_by c call a }) call after (wanted after) (next e (record { caller = c; there = there; call = call; calls = calls; runs = runs })))
 
   by_caller : (d : Caller) (o : Option Caller) → slice_get w.core.callers j ≡ o → slice_get (turn_of_caller shape j w.core o).callers j ≡ Some d → Holds P d
   by_caller d None there is = before d is
@@ -175,7 +176,7 @@ told_by shape words did call event (again why) has = inr (why, refl)
 told_by shape words did call event outcome has = absurd has
 
 module _ (causes : EndsHaveCauses) (first : BeginsUndecided) (stays : DecidedStays)
-    (shape : Shape) (words : List ℕ) (image : IsPlayableImage shape words) (scripts : List (List Call)) (are : AreScripts scripts) where
+    (shape : Shape) (words : List ℕ) (image : IsServedImage shape words) (scripts : List (List Call)) (are : AreScripts scripts) where
   abbrev at : List ℕ → Watched
   at turns = along shape words scripts turns
 
@@ -232,7 +233,7 @@ module _ (causes : EndsHaveCauses) (first : BeginsUndecided) (stays : DecidedSta
           let o = busy shape words image scripts are turns j n.caller n.call e word value n.there n.calls n.runs decides in
           o.midst (alone.others o.place o.caller o.elsewhere o.there)
       never_by (Moved word before after) decides =
-          alone_nothing_moves shape w.core.words (w.doings j) n.call word before after image.sound.in_range key_fits alone.still
+          alone_nothing_moves shape w.core.words (w.doings j) n.call word before after image.playable.sound.in_range key_fits alone.still
           (causes shape words image scripts are turns j n.caller n.call e (again (Moved word before after)) n.there n.calls n.runs decides).1
 
       next_calm : (outcome : Outcome) → op_part.outcome (engine_next shape w.core.words e).op ≡ Some outcome → IsCalm outcome
@@ -269,7 +270,7 @@ ends_tell part causes opens keeps says shape words image scripts are turns j e n
     let calling : IsCalling site n.caller e z.0 = subst (λ o. DoesCall site n.caller o z.0) n.runs z.2.does in
     let step = part.steps site n.caller.site calling.call w.core.words (fresh_view 0 ∷ h.views) (suc j) e.op calling.before z.0 h.well.holds z.1 calling.suits.suits calling.suits.asks in
     let small = subst (λ x. x < 2 ^ 64) (value_at_now (slice_index words) w.core.trace (word_of shape (wanted e)) ∙ sym (ap (λ (ws : Words). ws (word_of shape (wanted e))) h.well.words_are)) (h.fits (word_of shape (wanted e)) (length w.core.trace)) in
-    let d = causes.decided site n.caller.site calling.call (engine_next shape w.core.words e).op _ (step.stands small) done refl in
+    let d = causes.decided site n.caller.site calling.call (engine_next shape w.core.words e).op _ (step.stands small) done (never_hands_on (engine_next shape w.core.words e).op) in
     (d.0, d.1, sym (says (engine_next shape w.core.words e) done) ∙ d.1)
 
 pub all_rest_at_start : AllRestAtStart
@@ -325,7 +326,7 @@ module _ (shape : Shape) (w : Watched) (j : ℕ) (e : Engine) (n : IsNext w j e)
   rests_by done d is =
       let drawn : Caller = record n.caller { drew = drawn_by n.caller n.call a } in
       subst (λ x. IsRestingBy x (by_event.doings j)) (set_there w.core.callers j (answered n.caller n.call e a) d n.caller n.there is)
-      (subst (λ asked. IsRestingBy (settled drawn n.call next asked) (by_event.doings j)) (sym done)
+      (subst (λ asked. IsRestingBy (gone_on drawn n.call next asked) (by_event.doings j)) (sym done)
       (subst (λ did. IsRestingBy (ended drawn n.call (reply_of_end (end_of next))) did) (sym (ap (λ b. cond b new (w.doings j)) (eq-eqb j j refl) ∙ ap (λ asked. doings_by asked (wanted e) a (w.doings j)) done))
       (ended_rested drawn n.call (reply_of_end (end_of next)))))
 

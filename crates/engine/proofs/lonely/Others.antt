@@ -10,17 +10,17 @@ use Rattle.map_model.specs.declared.call.Call.{Call}
 use Rattle.world.specs.Site.{Site, IsLockWord}
 use Rattle.world.specs.Views.{View, At, HasLock}
 use Rattle.world.specs.World.{fresh_view}
-use Rattle.restart_op.specs.Restarted.{IsPlayableImage, site_of, EndsStarted}
+use Rattle.restart_op.specs.Restarted.{site_of, EndsStarted}
 use Rattle.map_model.specs.Map.{key_of}
 use Rattle.engine.specs.declared.engine.Engine.{Engine}
 use Rattle.part.specs.Doings.{Doings}
 use Rattle.part.specs.Outcomes.{again}
 use Rattle.part.specs.Causes.{IsBucketOf, IsOwnLock, IsTaken}
-use Rattle.write_op.specs.ChangePart.{BeginsBare}
+use Rattle.write_op.specs.WholeChange.{WholeBeginsBare}
 use Rattle.engine.specs.Engine.{begun}
 use Rattle.engine.specs.Core.{Caller, current}
 use Rattle.engine.specs.Holding.{IsCalling, DoesCall, CallerFits, CoreHolds, TurnKeeps}
-use Rattle.engine.specs.Laws.{OpenedHolds, AreScripts}
+use Rattle.engine.specs.Laws.{IsServedImage, OpenedHolds, AreScripts}
 use Rattle.engine.specs.Causes.{Watched, Decides, EndsHaveCauses}
 use Rattle.engine.specs.Alone.{IsBetween, along, IsOthers, BusyIsOthers}
 use Rattle.engine.proofs.sessions.Goodness.{caller_at}
@@ -28,23 +28,24 @@ use Rattle.engine.proofs.machines.Begins.{begins_bare}
 use Rattle.engine.proofs.attempts.Deciding.{CallCauses, holds_there, not_own_there}
 
 -- ---- a caller between two attempts holds nothing
-between_holds : BeginsBare → (site : Site) (c : Caller) (v : View) → CallerFits site c v → IsBetween c → v.held ≡ []
+between_holds : WholeBeginsBare → (site : Site) (c : Caller) (v : View) → CallerFits site c v → IsBetween c → v.held ≡ []
 between_holds bare site c v fits (inl none) = (subst (λ o. DoesCall site c o v) none fits.does).nothing.held
 between_holds bare site c v fits (inr p) =
     let calling : IsCalling site c (begun c.site p.0) v = subst (λ o. DoesCall site c o v) p.1 fits.does in
     begins_bare bare site c.site calling.call p.0 v calling.suits.suits.stands
 
--- ---- the two locks of a call
+-- ---- the locks of a call
 near : (hash b : ℕ) → IsBucketOf hash b → b < buckets
 near hash b (inl home) = subst (λ n. n < buckets) (sym home) (omega arith)
-near hash b (inr probing) = subst (λ n. n < buckets) (sym probing) (omega arith)
+near hash b (inr (inl probing)) = subst (λ n. n < buckets) (sym probing) (omega arith)
+near hash b (inr (inr stash)) = stash.1
 
 own_is_lock : (shape : Shape) (words : Words) (did : Doings) (call : Call) (word : ℕ) → IsOwnLock shape words did call word → IsLockWord shape word
-own_is_lock shape words did call word own = (own.0, near (key_hash shape (key_of call)) own.0 own.1, own.2)
+own_is_lock shape words did call word (segment, named, within, b, is, at) = (segment, b, within, near (key_hash shape (key_of call)) b is, at)
 
 -- ---- after any turns
-module _ (laws : CallCauses) (bare : BeginsBare) (opens : OpenedHolds) (keeps : TurnKeeps) (started : EndsStarted) (causes : EndsHaveCauses)
-    (shape : Shape) (words : List ℕ) (image : IsPlayableImage shape words) (scripts : List (List Call)) (are : AreScripts scripts) (turns : List ℕ) where
+module _ (laws : CallCauses) (bare : WholeBeginsBare) (opens : OpenedHolds) (keeps : TurnKeeps) (started : EndsStarted) (causes : EndsHaveCauses)
+    (shape : Shape) (words : List ℕ) (image : IsServedImage shape words) (scripts : List (List Call)) (are : AreScripts scripts) (turns : List ℕ) where
   abbrev w : Watched
   w = along shape words scripts turns
 
@@ -52,7 +53,7 @@ module _ (laws : CallCauses) (bare : BeginsBare) (opens : OpenedHolds) (keeps : 
   h = holds_there opens keeps shape words image scripts are turns
 
   in_range : IsShape shape
-  in_range = image.sound.in_range
+  in_range = image.playable.sound.in_range
 
   module _ (j : ℕ) (c : Caller) (call : Call) (e : Engine) (there : slice_get w.core.callers j ≡ Some c) (calls : current c ≡ Some call) (runs : c.engine ≡ Some e) where
     taken_by : (word value : ℕ) → Decides shape w.core.words e (again (Busy word value)) → IsTaken shape w.core.words (w.doings j) call word value
@@ -83,6 +84,6 @@ module _ (laws : CallCauses) (bare : BeginsBare) (opens : OpenedHolds) (keeps : 
           | inr other ↦ other_seat k v at has other
         ]
 
-pub busy_others : CallCauses → BeginsBare → OpenedHolds → TurnKeeps → EndsStarted → EndsHaveCauses → BusyIsOthers
+pub busy_others : CallCauses → WholeBeginsBare → OpenedHolds → TurnKeeps → EndsStarted → EndsHaveCauses → BusyIsOthers
 busy_others laws bare opens keeps started causes shape words image scripts are turns j c call e word value there calls runs decides =
     busy_is_others laws bare opens keeps started causes shape words image scripts are turns j c call e there calls runs word value decides

@@ -1,5 +1,5 @@
 -- The laws of an engine, by those of the one part that its machines are.
-use Rattle.std.proofs.Common.{◌<◌, refl, sym, ap, subst, ◌∙◌}
+use Rattle.std.proofs.Common.{◌<◌, sym, ap, subst, ◌∙◌}
 use Rattle.world.specs.Views.{View}
 use Rattle.world.specs.Kinds.{view_after}
 use Rattle.world.specs.Laws.{CallersStay}
@@ -10,9 +10,10 @@ use Rattle.engine.specs.declared.engine.Engine.{Engine}
 use Rattle.engine.specs.Engine.{kind_of}
 use Rattle.engine.specs.OpPart.{op_part}
 use Rattle.engine.specs.Fits.{finds, next_engine, KeepsSuits}
-use Rattle.engine.specs.Asks.{AsksWithin, AsksWords, KeepsNotes}
+use Rattle.engine.specs.Asks.{AsksWithin, AsksWords}
 use Rattle.engine.specs.Pairs.{EndsAsDone}
 use Rattle.engine.specs.Causes.{EndsAreDecided}
+use Rattle.engine.proofs.machines.Ops.{never_hands_on}
 
 module _ (part : IsPart op_part) (says : EndsAreDecided) where
   pub keeps_suits : CallersStay → KeepsSuits
@@ -26,7 +27,7 @@ module _ (part : IsPart op_part) (says : EndsAreDecided) where
         may = w.may;
         suits = λ asks. record { asks = asks; suits = record { stands = w.stands small; enters = w.enters small; callers = some } };
         ends = λ done. record {
-          nothing = part.ends site here call after.op now (w.stands small) done refl;
+          nothing = part.ends site here call after.op now (w.stands small) done (never_hands_on after.op);
           callers = some;
           enters = subst (λ o. EntersReply call (reply_of o) before now) (says after done) (w.enters small);
         };
@@ -41,6 +42,3 @@ module _ (part : IsPart op_part) where
 
   pub asks_words : AsksWords
   asks_words site here call e before v s = part.words site here call e.op before v s.suits
-
-  pub keeps_notes : KeepsNotes
-  keeps_notes site here call e before v b is s near = part.notes site here call e.op before v b is s.suits near

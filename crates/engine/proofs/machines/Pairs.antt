@@ -2,11 +2,11 @@
 use Rattle.std.proofs.Common.{◌≡◌, ◌⊎◌, ℕ, zero, suc, inl, inr, ◌∷◌, slice_get, Option, None, Some, refl, sym, subst}
 use Rattle.op_core.specs.declared.want.Want.{Want}
 use Rattle.trace.specs.Events.{Words}
-use Rattle.bucket_words.specs.Tables.{find}
+use Rattle.bucket_words.specs.Hits.{find}
 use Rattle.world.specs.Site.{Site}
 use Rattle.world.specs.Views.{View, At}
 use Rattle.world.specs.Wants.{words_after}
-use Rattle.world.specs.Kinds.{Kind, publishes}
+use Rattle.world.specs.Kinds.{Kind, publishes, stashes}
 use Rattle.world.specs.World.{fresh_view}
 use Rattle.world.specs.Pairs.{IsPublishingKind, OtherStepsKeepPairs}
 use Rattle.part.specs.Part.{IsPart}
@@ -22,6 +22,7 @@ use Rattle.engine.proofs.Places.{zip_at}
 -- a step makes a change or does not
 publishing_or_not : (kind : Kind) → IsPublishingKind kind ⊎ (IsPublishingKind kind → ⊥)
 publishing_or_not (publishes i x call) = inl tt
+publishing_or_not (stashes i x call o) = inl tt
 publishing_or_not kind = inr (λ f. f)
 
 pub leaves_or_makes : IsPart op_part → OtherStepsKeepPairs → LeavesOrMakes

@@ -1,5 +1,5 @@
 -- A run that ends by a close is a session.
-use Rattle.std.proofs.Common.{◌≡◌, ℕ, zero, suc, ◌+◌, ◌-◌, ◌^◌, ◌<◌, ◌≤◌, List, [], ◌∷◌, length, map, slice_get, slice_index, slice_index_or, None, inl, inr, refl, sym, ap, ◌∙◌, subst, arith}
+use Rattle.std.proofs.Common.{◌≡◌, ℕ, zero, suc, ◌-◌, ◌^◌, ◌<◌, ◌≤◌, List, [], ◌∷◌, length, map, slice_get, slice_index, slice_index_or, None, inl, inr, refl, sym, ap, ◌∙◌, subst, arith}
 use Rattle.std.specs.List.{AllByRecursion, AllZip}
 use Rattle.std.proofs.lemmas.Option.{none-some}
 use Rattle.trace.specs.Events.{Words, with_word}
@@ -8,18 +8,20 @@ use Rattle.bucket_meta.specs.Bucket.{version_of}
 use Rattle.map_model.specs.declared.call.Call.{Call}
 use Rattle.map_model.specs.declared.entry.Entry.{Entry}
 use Rattle.map_model.specs.Weave.{all_of}
-use Rattle.image_layout.specs.Places.{Shape, head_at, bucket_at, state_word}
+use Rattle.image_layout.specs.Places.{Shape, bucket_at, state_word}
+use Rattle.sound_image.specs.Segments.{frame_of, IsLive}
+use Rattle.restart_op.proofs.Rules.{frame_of_rules}
 use Rattle.session.specs.Callers.{FollowsScript, IsAnswered}
 use Rattle.session.specs.Session.{HasSpentBucket}
 use Rattle.world.specs.Site.{Site, HasSpentLock}
 use Rattle.world.specs.Views.{View}
-use Rattle.restart_op.specs.Restarted.{site_of, KeepsPairs}
+use Rattle.restart_op.specs.Restarted.{site_of, KeepsPairs, OneSegmentIsLive}
 use Rattle.restart_op.specs.Closing.{IsClosed, CloseKeeps, CloseSettles, CloseMarks}
 use Rattle.engine.specs.Core.{Caller, run, told_of, tolds_of, histories, open_of}
 use Rattle.engine.specs.Holding.{DoesCall, CallerFits, world_of, RunKeeps}
 use Rattle.engine.specs.Laws.{opened, OpenedHolds, TurnsKeep, CallsAreScripts, ThroughIsQuiet, ThroughHasMap}
 use Rattle.engine.specs.Sessions.{CloseIsSession}
-use Rattle.engine.proofs.sessions.CutSession.{same_kind, none_free}
+use Rattle.engine.proofs.sessions.CutSession.{same_shape, none_free}
 
 -- ---- all calls are answered
 past_end : (calls : List Call) (n : ℕ) → slice_get calls n ≡ None → n ≤ length calls → n ≡ length calls
@@ -45,29 +47,34 @@ holds_at P (x ∷ es) e all zero low is = subst P is all.0
 holds_at P (x ∷ es) e all (suc k) low is = holds_at P es e all.1 k (omega (arith, low)) is
 
 -- ---- a lock word of the last version stays through a close
-module _ (shape : Shape) (words after : Words) (medium : List ℕ) (x : ℕ) (shut : IsClosed shape after medium) (marked : after ≡ with_word words state_word x) where
+module _ (is_live : OneSegmentIsLive) (shape : Shape) (one : shape.segments ≡ 1) (words after : Words) (medium : List ℕ) (x : ℕ) (shut : IsClosed shape after medium)
+    (marked : after ≡ with_word words state_word x) where
   spent_bucket : HasSpentLock shape words → HasSpentBucket shape medium
   spent_bucket lock =
-      let b = lock.1.0.0 in
-      let one : shape.segments ≡ 1 = (shut.served.serves 2).one_segment refl in
-      let at = lock.1.0.2 in
-      let low = lock.1.0.1 in
-      let there : slice_index medium (bucket_at shape 0 b) ≡ 2 ^ 64 - 2 =
-      shut.settled (bucket_at shape 0 b) (omega (arith, one, low))
-      ∙ (ap (λ (ws : Words). ws (bucket_at shape 0 b)) marked
-      ∙ (replaced_other words state_word x (bucket_at shape 0 b) (λ q. omega (arith, q))
+      let s = lock.1.0.0 in
+      let b = lock.1.0.1 in
+      let slot = lock.1.0.2 in
+      let low = lock.1.0.3 in
+      let at = lock.1.0.4 in
+      let first : 0 ≡ s = omega (arith, one, slot) in
+      let sound = shut.served.sound in
+      let there : slice_index medium (bucket_at shape s b) ≡ 2 ^ 64 - 2 =
+      shut.settled (bucket_at shape s b) (omega (arith, slot, low))
+      ∙ (ap (λ (ws : Words). ws (bucket_at shape s b)) marked
+      ∙ (replaced_other words state_word x (bucket_at shape s b) (λ q. omega (arith, q))
       ∙ (ap words (sym at) ∙ lock.1.1))) in
       record {
-        s = 0;
+        s = s;
         b = b;
-        slot = omega (arith, one);
+        slot = slot;
         bucket = low;
-        live = inl ((shut.served.serves (head_at shape 0 + 1)).first refl).is_normal;
+        live = subst (IsLive (frame_of shape (slice_index medium))) first
+            (is_live shape (slice_index medium) sound.in_range one (frame_of_rules shape (slice_index medium) sound.in_range sound.follows));
         spent = ap version_of there;
       }
 
-pub close_is_session : TurnsKeep → CallsAreScripts → OpenedHolds → RunKeeps → ThroughIsQuiet → ThroughHasMap → KeepsPairs → CloseKeeps → CloseSettles → CloseMarks → CloseIsSession
-close_is_session keep are opens keeps is_quiet has_map pairs close_keeps settles marks shape words image opening has scripts fit turns none n ended medium whole possible scheduled =
+pub close_is_session : TurnsKeep → CallsAreScripts → OpenedHolds → RunKeeps → ThroughIsQuiet → ThroughHasMap → KeepsPairs → OneSegmentIsLive → CloseKeeps → CloseSettles → CloseMarks → CloseIsSession
+close_is_session keep are opens keeps is_quiet has_map pairs is_live close_keeps settles marks shape words image opening has scripts fit turns none n ended medium whole possible scheduled =
     let core = run shape turns (opened shape words scripts) in
     let site = site_of shape words (length scripts) in
     let good = keep shape words image opening has scripts fit turns in
@@ -85,17 +92,17 @@ close_is_session keep are opens keeps is_quiet has_map pairs close_keeps settles
       opening_pairs = has;
       legal = good.legal;
       sound = kept.sound;
-      same_kind = same_kind shape words medium image.sound.says_shape kept.sound.says_shape;
+      same_shape = same_shape shape words medium image.playable.sound.says_shape kept.sound.says_shape;
       after_close = λ is. record {
         answered = subst (λ css. AllZip IsAnswered css (tolds_of core)) calls (all_answered site core.callers h.views h.each none);
         clean = shut.clean;
-        pairs = kept.pairs _ (has_map site (slice_index words) core opening h ((pairs shape words opening image).0 has) none);
+        pairs = kept.pairs _ (has_map site (slice_index words) core opening h ((pairs shape words opening image.playable).0 has) none);
       };
       after_cut = λ cut. absurd (let z = cut in cc);
       had_no_room = good.had_no_room;
-      none_free = λ e there full s low is_free. absurd (none_free shape words image s low is_free);
+      none_free = λ e there full s low is_free. absurd (none_free is_live shape words image s low is_free);
       spent = λ e there is few may. elim (holds_at _ (all_of (histories core)) e good.spent there.0 there.1 there.2 is) [
         | inl many ↦ absurd (omega (arith, many, few))
-        | inr lock ↦ spent_bucket shape core.words _ medium _ shut marked lock
+        | inr lock ↦ spent_bucket is_live shape image.one core.words _ medium _ shut marked lock
       ];
     }

@@ -1,5 +1,5 @@
 -- A core that holds is good.
-use Rattle.std.proofs.Common.{◌≡◌, ℕ, zero, suc, ◌^◌, ◌<◌, ◌≤◌, ◌⊎◌, ◌↔◌, Bool, true, false, cond, List, [], ◌∷◌, ◌++◌, length, map, slice_get, slice_index, Contains, Option, None, Some, inl, inr, refl, sym, ap, ◌∙◌, subst, arith}
+use Rattle.std.proofs.Common.{◌≡◌, ℕ, zero, suc, ◌^◌, ◌<◌, ◌≤◌, ◌⊎◌, ◌%◌, Bool, true, false, cond, List, [], ◌∷◌, ◌++◌, length, map, slice_get, slice_index, Contains, Option, None, Some, inl, inr, refl, sym, ap, ◌∙◌, subst, arith}
 use mathlib.Core.Option.{some-injective, some-ne-none}
 use Rattle.std.specs.List.{AllZip}
 use Rattle.std.specs.Cmp.{nat_cmp_total, unsigned_tied}
@@ -10,7 +10,8 @@ use Rattle.std.proofs.lemmas.List.Elements.{Contains-append_left, Contains-appen
 use Rattle.std.proofs.lemmas.Option.{none-some, same_Some}
 use Rattle.trace.specs.Events.{Words}
 use Rattle.trace.specs.Media.{IsPossible as DevicePossible}
-use Rattle.image_layout.specs.Places.{Shape, IsShape, words_of}
+use Rattle.image_layout.specs.Places.{state_word, words_of}
+use Rattle.image_layout.specs.StateWord.{marker_in}
 use Rattle.map_model.specs.declared.call.Call.{Call}
 use Rattle.map_model.specs.declared.call.Call.TheVariants.{Get, Insert, Update, Remove}
 use Rattle.map_model.specs.declared.entry.Reply.TheVariants as reply
@@ -18,12 +19,14 @@ use Rattle.map_model.specs.declared.entry.Entry.{Entry}
 use Rattle.map_model.specs.Map.{Map, key_of, reply_of, changed, after}
 use Rattle.map_model.specs.Weave.{weave}
 use Rattle.map_model.specs.Legal.{replay}
-use Rattle.sound_image.specs.Rules.{FollowsRules}
 use Rattle.sound_image.specs.Records.{HasAt}
 use Rattle.sound_image.specs.Image.{IsSoundImage}
 use Rattle.sound_image.specs.Left.{AgreesAt}
 use Rattle.session.specs.Callers.{undrawn_call, undrawn}
-use Rattle.bucket_words.specs.Tables.{IsOpenFront, IsHomeTable, find}
+use Rattle.segment_table.specs.Claims.{HasSoundFrame}
+use Rattle.bucket_words.specs.Owners.{HasStructure}
+use Rattle.bucket_words.specs.Hits.{find}
+use Rattle.bucket_words.specs.Standing.{IsTable}
 use Rattle.world.specs.Site.{Site}
 use Rattle.world.specs.Views.{View, Has, At}
 use Rattle.world.specs.History.{result_of, reply_by}
@@ -31,6 +34,9 @@ use Rattle.world.specs.Media.{IsPossible}
 use Rattle.world.specs.World.{fresh_view}
 use Rattle.world.specs.Laws.{EntriesAreLegal, DeviceLeaves}
 use Rattle.world.proofs.Legality.{same_reply, not_shown}
+use Rattle.restart_op.proofs.Frames.{sound_frame}
+use Rattle.restart_op.proofs.Rules.{unmarked_rules}
+use Rattle.restart_op.proofs.Pairs.{has_of_found}
 use Rattle.engine.specs.Core.{Caller, Core, current, open_of, told_of, tolds_of, histories}
 use Rattle.engine.specs.Good.{IsGood}
 use Rattle.engine.specs.Holding.{HasEntries, DoesCall, CallerFits, world_of, CoreHolds, HoldingIsGood}
@@ -41,14 +47,6 @@ use Rattle.engine.specs.OpPart.{op_part}
 use Rattle.engine.proofs.Places.{one_more}
 use Rattle.engine.proofs.holding.Scripted.{all_follow}
 use Rattle.engine.proofs.sessions.Cut.{told_had, told_spent, told_legal, IsLegalWith}
-
--- what the tables' law says
-abbrev pub TablesFollow : Type 0
-TablesFollow = (shape : Shape) (front word : Words) → IsShape shape → IsOpenFront shape front → IsHomeTable shape front word → FollowsRules shape word
-
-abbrev pub PairsAreFound : Type 0
-PairsAreFound = (shape : Shape) (front word : Words) → IsShape shape → IsOpenFront shape front → IsHomeTable shape front word
-    → ((i : ℕ) → word i < 2 ^ 64) → (k : ℕ) (a : Option ℕ) → HasAt shape word k a ↔ (find shape word k ≡ a)
 
 -- ---- a change of the map
 changed_has : (m : Map) (call : Call) → reply.Done ≡ reply_by (get m (key_of call)) call → get (changed m call) (key_of call) ≡ result_of call
@@ -113,7 +111,7 @@ undrawn_has (x ∷ callers) (suc j) c call is open_here =
     (undrawn_has callers j c call is open_here)
 
 -- ---- the core
-module _ (part : IsPart op_part) (legal : EntriesAreLegal) (leaves : DeviceLeaves) (follow : TablesFollow) (found : PairsAreFound)
+module _ (part : IsPart op_part) (legal : EntriesAreLegal) (leaves : DeviceLeaves)
     (site : Site) (start : Words) (core : Core) (opening : Map) (h : CoreHolds site start core) (same : (k : ℕ) → get opening k ≡ site.start k) where
   abbrev now : Map
   now = replay opening (weave (histories core))
@@ -128,8 +126,14 @@ module _ (part : IsPart op_part) (legal : EntriesAreLegal) (leaves : DeviceLeave
     by_views : IsPossible site core.words (fresh_view 0 ∷ h.views) word
     by_views = leaves site start (world_of core h.views) word h.well possible
 
-    table : IsHomeTable site.shape site.front word
+    structure : HasStructure site.shape site.front word
+    structure = h.well.holds.media.structure word by_views
+
+    table : IsTable site.shape word
     table = h.well.holds.media.table word by_views
+
+    frame : HasSoundFrame site.shape word
+    frame = sound_frame site.shape site.front word (λ i is _. structure i is) (ap (λ n. n % 2 ^ 8) (structure state_word (inl (omega arith)))) h.well.holds.site_is.shape h.served.structure.frame
 
     each_fits : (i : ℕ) → word i < 2 ^ 64
     each_fits i = elim (cases_lt i (words_of site.shape)) [
@@ -138,7 +142,7 @@ module _ (part : IsPart op_part) (legal : EntriesAreLegal) (leaves : DeviceLeave
     ]
 
     front_is : (i : ℕ) → i < 4 → word i ≡ site.front i
-    front_is i low = table.same_front i (omega (arith, low))
+    front_is i low = structure i (inl (omega (arith, low)))
 
     is_sound : IsSoundImage site.shape medium
     is_sound = record {
@@ -151,11 +155,11 @@ module _ (part : IsPart op_part) (legal : EntriesAreLegal) (leaves : DeviceLeave
         segments = front_is 2 (omega arith) ∙ h.says.segments;
         depth = front_is 3 (omega arith) ∙ h.says.depth;
       };
-      follows = follow site.shape site.front word h.well.holds.site_is.shape h.well.holds.site_is.front table;
+      follows = unmarked_rules site.shape word h.well.holds.site_is.shape frame table each_fits (ap marker_in (structure state_word (inl (omega arith))) ∙ h.served.structure.not_clean);
     }
 
     has_at : (k : ℕ) (a : Option ℕ) → find site.shape word k ≡ a → HasAt site.shape word k a
-    has_at k a is = (found site.shape site.front word h.well.holds.site_is.shape h.well.holds.site_is.front table each_fits k a).1 is
+    has_at k a is = has_of_found site.shape h.well.holds.site_is.shape word frame each_fits table k a is
 
     abbrev IsLeftAt : ℕ → Type 0
     IsLeftAt k = AgreesAt site.shape word now k ⊎ ((call : Call) × Contains (undrawn (map (λ c. c.calls) core.callers) (tolds_of core)) call × (key_of call ≡ k)
@@ -194,5 +198,5 @@ module _ (part : IsPart op_part) (legal : EntriesAreLegal) (leaves : DeviceLeave
     spent = told_spent site core h.views h.each (spent_had site core.words (fresh_view 0 ∷ h.views) h.well.holds);
   }
 
-pub holding_is_good : IsPart op_part → EntriesAreLegal → DeviceLeaves → TablesFollow → PairsAreFound → HoldingIsGood
-holding_is_good part legal leaves follow found site start core opening h same = is_good part legal leaves follow found site start core opening h same
+pub holding_is_good : IsPart op_part → EntriesAreLegal → DeviceLeaves → HoldingIsGood
+holding_is_good part legal leaves site start core opening h same = is_good part legal leaves site start core opening h same

@@ -16,4 +16,4 @@ pub returns-clause-finished : goal.returns-clause-finished
 returns-clause-finished c = never_finished c.gets_are_parts.ensures.finished c.whole_changes_are_parts.ensures.finished
 
 pub returns-clause-ends : goal.returns-clause-ends
-returns-clause-ends c = ends_are_decided c.gets_are_parts.ensures.ends c.attempt_ends.ensures.ends
+returns-clause-ends c = ends_are_decided c.gets_are_parts.ensures.ends c.ends_tell.ensures.change c.ends_tell.ensures.refusal

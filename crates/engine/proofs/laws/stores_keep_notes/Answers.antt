@@ -1,5 +1,5 @@
--- By the law of a part.
-use Rattle.engine.proofs.machines.Engines.{keeps_notes}
+-- By the law of a part, and what the kind of each event asks.
+use Rattle.engine.proofs.machines.Notes.{keeps_notes}
 use Rattle.engine.proofs.laws.stores_keep_notes.Goals as goal
 
 pub returns : goal.returns
