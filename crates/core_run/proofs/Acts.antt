@@ -7,7 +7,7 @@ use Rattle.std.proofs.Math.Seq.{take-append_seam, take-append-add}
 use Rattle.std.proofs.lemmas.Option.{none-some}
 use Rattle.image_layout.specs.Places.{Shape}
 use Rattle.map_model.specs.declared.call.Call.{Call}
-use Rattle.script_text.specs.declared.line.Event.TheVariants as event
+use Rattle.script_text.specs.declared.line.Counted.TheVariants as counted
 use Rattle.script_text.specs.declared.line.Line.{Line}
 use Rattle.script_text.specs.declared.line.Line.TheVariants as line
 use Rattle.restart_op.specs.Close.{begun as close_begun}
@@ -196,8 +196,8 @@ module _ (shape : Shape) where
     round_comes : (c : ℕ) (callers : List Caller) (s : State) → ComesBy s (round shape most c callers s)
     round_comes c [] s = comes_at_once s
     round_comes c (caller ∷ callers) s =
-        let one : State = drive shape most c (Kind event.End) 1 s in
-        comes_on s one (round shape most (suc c) callers one) (drive_comes most c (Kind event.End) 1 s) (round_comes (suc c) callers one)
+        let one : State = drive shape most c (Kind counted.End) 1 s in
+        comes_on s one (round shape most (suc c) callers one) (drive_comes most c (Kind counted.End) 1 s) (round_comes (suc c) callers one)
 
     rounds_comes : (n : ℕ) (s : State) → ComesBy s (rounds shape most n s)
     rounds_comes zero s = comes_at_once s

@@ -53,12 +53,12 @@ module _ (lists : List (List Entry)) (none : all_of lists ≡ []) where
   }
 
 -- two sound images of a shape begin with the same four words
-pub same_kind : (shape : Shape) (one other : List ℕ) → IsSoundImage shape one → IsSoundImage shape other → (i : ℕ) → i < 4 → slice_index one i ≡ slice_index other i
-same_kind shape one other a b zero low = a.says_shape.magic_word ∙ sym b.says_shape.magic_word
-same_kind shape one other a b (suc zero) low = a.says_shape.format ∙ sym b.says_shape.format
-same_kind shape one other a b (suc (suc zero)) low = a.says_shape.segments ∙ sym b.says_shape.segments
-same_kind shape one other a b (suc (suc (suc zero))) low = a.says_shape.depth ∙ sym b.says_shape.depth
-same_kind shape one other a b (suc (suc (suc (suc i)))) low = absurd (omega (arith, low))
+pub same_shape : (shape : Shape) (one other : List ℕ) → IsSoundImage shape one → IsSoundImage shape other → (i : ℕ) → i < 4 → slice_index one i ≡ slice_index other i
+same_shape shape one other a b zero low = a.says_shape.magic_word ∙ sym b.says_shape.magic_word
+same_shape shape one other a b (suc zero) low = a.says_shape.format ∙ sym b.says_shape.format
+same_shape shape one other a b (suc (suc zero)) low = a.says_shape.segments ∙ sym b.says_shape.segments
+same_shape shape one other a b (suc (suc (suc zero))) low = a.says_shape.depth ∙ sym b.says_shape.depth
+same_shape shape one other a b (suc (suc (suc (suc i)))) low = absurd (omega (arith, low))
 
 -- ---- during a close
 module _ (quiet : ThroughIsQuiet) (maps : ThroughHasMap) (pairs : KeepsPairs) (cuts : CloseKeeps) (t : Task) (is : IsTask t) (opening : Map)
@@ -73,7 +73,7 @@ module _ (quiet : ThroughIsQuiet) (maps : ThroughHasMap) (pairs : KeepsPairs) (c
   pub pairs_at : (medium : List ℕ) → IsKept (site_in t) before.words medium → HasPairsOf t.shape (slice_index medium) (replay opening (weave (histories before)))
   pairs_at medium kept =
       kept.pairs (replay opening (weave (histories before)))
-      (maps (site_in t) (start_of t) before opening o.holds ((pairs t.shape t.first opening is.served).0 has) none)
+      (maps (site_in t) (start_of t) before opening o.holds ((pairs t.shape t.first opening is.served.playable).0 has) none)
 
 -- ---- at any time
 module _ (good : HoldingIsGood) (quiet : ThroughIsQuiet) (maps : ThroughHasMap) (restarts : RestartKeeps) (pairs : KeepsPairs) (cuts : CloseKeeps)
@@ -89,10 +89,10 @@ module _ (good : HoldingIsGood) (quiet : ThroughIsQuiet) (maps : ThroughHasMap) 
       subst IsGoodCore (sym (same_restart t op core r)) (record {
         legal = none_legal lists none opening (none_in_order t.shape 1 t.scripts);
         media = λ medium whole possible.
-            let same = restarts t.shape t.first medium r.events is.served whole possible in
+            let same = restarts t.shape t.first medium r.events is.served.playable whole possible in
             record {
               sound = same.sound;
-              same_kind = same.front;
+              same_shape = same.front;
               left = λ k. inl (subst (λ (es : List Entry). HasPairsOf t.shape (slice_index medium) (replay opening es)) (sym (none_woven lists none)) (same.pairs opening has) k);
             };
         had_no_room = subst (λ (es : List Entry). HadNoRooms t.shape opening es) (sym none) tt;
@@ -100,7 +100,7 @@ module _ (good : HoldingIsGood) (quiet : ThroughIsQuiet) (maps : ThroughHasMap) 
       })
 
   open_is_good : (core : Core) → IsOpen t core → IsGood t.shape (start_of t) opening core
-  open_is_good core o = good (site_in t) (start_of t) core opening o.holds ((pairs t.shape t.first opening is.served).0 has)
+  open_is_good core o = good (site_in t) (start_of t) core opening o.holds ((pairs t.shape t.first opening is.served.playable).0 has)
 
   open_good : (core : Core) → IsOpen t core → IsGoodCore core
   open_good core o =
@@ -111,7 +111,7 @@ module _ (good : HoldingIsGood) (quiet : ThroughIsQuiet) (maps : ThroughHasMap) 
             let sound = g.media.sound medium whole possible in
             record {
               sound = sound;
-              same_kind = same_kind t.shape medium t.first sound is.served.sound;
+              same_shape = same_shape t.shape medium t.first sound is.served.playable.sound;
               left = subst (λ (scripts : List (List Call)). IsLeft t.shape (slice_index medium) (replay opening (weave (histories core))) (undrawn scripts (tolds_of core))) o.scripts
                   (g.media.left medium whole possible);
             };
@@ -128,7 +128,7 @@ module _ (good : HoldingIsGood) (quiet : ThroughIsQuiet) (maps : ThroughHasMap) 
         let kept = kept_at quiet maps pairs cuts t is opening has r.before r.was_open r.run_out r.events medium whole possible in
         record {
           sound = kept.sound;
-          same_kind = same_kind t.shape medium t.first kept.sound is.served.sound;
+          same_shape = same_shape t.shape medium t.first kept.sound is.served.playable.sound;
           left = λ k. inl (pairs_at quiet maps pairs cuts t is opening has r.before r.was_open r.run_out medium kept k);
         };
   })

@@ -23,7 +23,7 @@ use Rattle.core_run.specs.States.{entries_of, IsGoodMoment, IsGoodMedium, Moment
 use Rattle.core_run.specs.Ends.{RunsAreWell}
 use Rattle.core_run.specs.Opening.{opening_of}
 use Rattle.core_run.specs.Sessions.{end_state, RunsAreSessions}
-use Rattle.core_run.proofs.Opening.{first_is_live, one_segment, opening-HasPairsOf}
+use Rattle.core_run.proofs.Opening.{is_live, opening-HasPairsOf}
 use Rattle.core_run.proofs.events.Newest.{IsNewest, is_newest}
 use Rattle.core_run.proofs.Leaving.{words_listed, newest_length, cut_length, cut_is_possible}
 
@@ -59,23 +59,21 @@ module _ (moments : MomentsAreGood) (closed : ClosedIsClosed) (follow : ToldsFol
   after_close None at_none q = let c = is_closed (at_none refl) in record { answered = c.answered; clean = c.clean; pairs = c.pairs }
   after_close (Some choice) at_none q = absurd (let z = q in cc)
 
-  -- a lock that is spent is that of a bucket of the one segment, which is live
-  lock_within : (first b n : ℕ) → n ≡ 1 → b < buckets → first + 2144 * 0 + 32 + 32 * b < first + 2144 * n
-  lock_within first b n q h = omega (arith, q, h)
+  -- a lock that is spent is that of a bucket of a live segment
+  lock_within : (first s b n : ℕ) → s < n → b < buckets → first + 2144 * s + 32 + 32 * b < first + 2144 * n
+  lock_within first s b n q h = omega (arith, q, h)
 
   spent_bucket : IsSoundImage t.shape (left_by None) → HasSpentLock t.shape s.core.words → HasSpentBucket t.shape (left_by None)
-  spent_bucket sound (lock, ((b, within, at), is_last)) =
-      let single = one_segment t.shape t.first is.served in
-      record {
-        s = 0;
-        b = b;
-        slot = omega (arith, single);
-        bucket = within;
-        live = first_is_live t.shape (left_by None) single sound;
-        spent = ap (λ w. version_of w)
-            (words_listed t.shape s.core.words (bucket_at t.shape 0 b) (lock_within _ b t.shape.segments single within)
-            ∙ ap (λ i. s.core.words i) (sym at) ∙ is_last);
-      }
+  spent_bucket sound (lock, ((q, b, slot, within, at), is_last)) = record {
+    s = q;
+    b = b;
+    slot = slot;
+    bucket = within;
+    live = is_live t.shape (left_by None) is.served.one sound q slot;
+    spent = ap (λ w. version_of w)
+        (words_listed t.shape s.core.words (bucket_at t.shape q b) (lock_within _ q b t.shape.segments slot within)
+        ∙ ap (λ i. s.core.words i) (sym at) ∙ is_last);
+  }
 
   spent : (cut : Option ℕ) → (cut ≡ None → s.keeper ≡ Closed) → (e : Entry) → Contains (entries_of s.core) e → e.reply ≡ Spent → draws (entries_of s.core) < 2 ^ 63
       → (true ≡ true → not (is_some cut) ≡ true) → HasSpentBucket t.shape (left_by cut)
@@ -98,7 +96,7 @@ module _ (moments : MomentsAreGood) (closed : ClosedIsClosed) (follow : ToldsFol
         opening_pairs = has;
         legal = good.legal;
         sound = medium.sound;
-        same_kind = medium.same_kind;
+        same_shape = medium.same_shape;
         after_close = after_close cut at_none;
         after_cut = λ _. medium.left;
         had_no_room = good.had_no_room;

@@ -1,8 +1,6 @@
 -- The pairs of a served image are the map that its records make, slot by slot.
 use Rattle.std.proofs.Common.{◌≡◌, ◌≢◌, ℕ, zero, suc, ◌+◌, ◌*◌, ◌/◌, ◌%◌, ◌<◌, ◌≤◌, ◌⊎◌, refl, sym, ap, subst, ◌∙◌, arith, inl, inr, ⊎_elim, List, cond, eq-eqb, ◌-◌, ◌^◌, Bool, true, false, Option, None, Some}
 use Rattle.std.specs.Prelude.{◌==◌, if◌then◌else◌, slice_index}
-use Rattle.std.proofs.Math.Nat.{div-eq_of_lt}
-use Rattle.std.proofs.lemmas.Nat.{pow_pos}
 use Rattle.std.specs.FinMap.{get, insert, get-empty, get-insert}
 use Rattle.std.specs.Cmp.{unsigned_tied}
 use Rattle.std.proofs.lemmas.Cmp.{nat_cmp_total}
@@ -13,10 +11,8 @@ use Rattle.bucket_meta.specs.Bucket.{allocated}
 use Rattle.image_layout.specs.Places.{Shape}
 use Rattle.map_model.specs.Map.{Map}
 use Rattle.sound_image.proofs.Hashes.{key_hash-fits}
-use Rattle.hash_word.specs.Hash.{index_of}
-use Rattle.image_layout.specs.Places.{root_word, entry_at}
-use Rattle.image_rules.specs.Stage.{segments_word}
-use Rattle.restart_op.specs.Restarted.{IsPlayableImage}
+use Rattle.restart_op.proofs.Rules.{frame_of_rules}
+use Rattle.engine.specs.Laws.{IsServedImage}
 use Rattle.sound_image.specs.Image.{IsSoundImage}
 use Rattle.sound_image.specs.Segments.{ImageWords, Frame, frame_of, depth_at, IsLive, IsLiveFor, Owns}
 use Rattle.sound_image.specs.Records.{word_in, slot_key, slot_value, HasRecord, HasPair, HasAt}
@@ -119,33 +115,26 @@ module _ (shape : Shape) (words : List ℕ) (one_segment : shape.segments ≡ 1)
   is_first : (s : ℕ) → s < shape.segments → s ≡ 0
   is_first s h = omega (arith, one_segment, h)
 
-  -- a sound image has an owner of each hash, and that is its one segment
-  live_for : IsSoundImage shape words → (h : ℕ) → h < 2 ^ 64 → index_of frame.root h < 2 ^ frame.root → IsLiveFor frame h 0
-  live_for sound h fits within =
-      let place = index_of frame.root h in
-      let at = (sound.follows 2 (entry_at frame.root place)).two refl in
-      let owner = at.entry place within refl h fits refl in
-      subst (λ s. IsLiveFor frame h s) (is_first owner.0 owner.1.slot) owner.1
+  module _ (sound : IsSoundImage shape words) where
+    -- a sound image has an owner of each hash, and that is its one segment
+    live_for : (h : ℕ) → h < 2 ^ 64 → IsLiveFor frame h 0
+    live_for h fits =
+        let claims = (frame_of_rules shape word sound.in_range sound.follows).some h fits in
+        subst (λ s. IsLiveFor frame h s) (is_first claims.0 claims.1.live.slot) claims.1.live
 
-  pub first_is_live : IsSoundImage shape words → IsLive frame 0
-  first_is_live sound =
-      let none : index_of frame.root 0 ≡ 0 = div-eq_of_lt (pow_pos (64 - frame.root)) in
-      (live_for sound 0 (omega arith) (subst (λ n. n < 2 ^ frame.root) (sym none) (pow_pos frame.root))).live
+    owns : (h : ℕ) → h < 2 ^ 64 → Owns frame 0 h
+    owns h fits = record {
+      own = live_for h fits;
+      deepest = λ s o. subst (λ s. depth_at frame s ≤ depth_at frame 0) (sym (is_first s o.slot)) (omega arith);
+    }
 
-  owns : IsSoundImage shape words → frame.root ≡ 0 → (h : ℕ) → h < 2 ^ 64 → Owns frame 0 h
-  owns sound root h fits =
-      let within : index_of frame.root h < 2 ^ frame.root = subst (λ g. index_of g h < 2 ^ g) (sym root) (omega (arith, fits)) in
-      record {
-        own = live_for sound h fits within;
-        deepest = λ s o. subst (λ s. depth_at frame s ≤ depth_at frame 0) (sym (is_first s o.slot)) (omega arith);
-      }
+    -- whatever slot there is, its segment is live
+    pub is_live : (s : ℕ) → s < shape.segments → IsLive frame s
+    is_live s slot = subst (λ s. IsLive frame s) (sym (is_first s slot)) (live_for 0 (omega arith)).live
 
-module _ (shape : Shape) (words : List ℕ) (image : IsPlayableImage shape words) where
+module _ (shape : Shape) (words : List ℕ) (image : IsServedImage shape words) where
   abbrev image_word : ImageWords
   image_word = slice_index words
-
-  pub one_segment : shape.segments ≡ 1
-  one_segment = (image.serves segments_word).one_segment refl
 
   taken : (n : ℕ) → (n == 1) ≡ true → n ≡ 1
   taken n e = grind (arith, nat_tests)
@@ -155,21 +144,21 @@ module _ (shape : Shape) (words : List ℕ) (image : IsPlayableImage shape words
 
   pair_from_slot : (k v : ℕ) → IsAmong shape image_word 924 k v → HasPair shape image_word k v
   pair_from_slot k v a =
-      let segments = one_segment in
+      let segments = image.one in
       let there : HasRecord shape image_word 0 (a.slot / 14) (a.slot % 14) =
       record { segment = omega arith; bucket = omega (arith, a.below); slot = omega arith; is_allocated = taken _ a.there } in
       record {
         s = 0;
         b = a.slot / 14;
         r = a.slot % 14;
-        own = record { record_there = there; owned = owns shape words one_segment image.sound ((image.serves root_word).root refl) _ (key_hash-fits shape _ (image.sound.each_fits _)) };
+        own = record { record_there = there; owned = owns shape words image.one image.playable.sound _ (key_hash-fits shape _ (image.playable.sound.each_fits _)) };
         key_is = a.key;
         value_is = a.value;
       }
 
   slot_from_pair : (k v : ℕ) → HasPair shape image_word k v → IsAmong shape image_word 924 k v
   slot_from_pair k v p =
-      let first : p.s ≡ 0 = is_first shape words one_segment p.s p.own.record_there.segment in
+      let first : p.s ≡ 0 = is_first shape words image.one p.s p.own.record_there.segment in
       let there : HasRecord shape image_word 0 p.b p.r = subst (λ s. HasRecord shape image_word s p.b p.r) first p.own.record_there in
       let bucket : (14 * p.b + p.r) / 14 ≡ p.b = omega (arith, there.slot) in
       let slot : (14 * p.b + p.r) % 14 ≡ p.r = omega (arith, there.slot) in

@@ -1,11 +1,12 @@
 -- Each row of the worked run, by computing the definitions on it.
 use Rattle.std.proofs.Common.{◌≡◌, refl}
 use Rattle.std.specs.Prelude.{[], ◌∷◌}
-use Rattle.script_text.specs.declared.line.Event.TheVariants.{Store, Exchange, Flush, Fence, Draw, End}
+use Rattle.script_text.specs.declared.line.Counted.TheVariants.{Store, Exchange, Flush, Fence, Draw, End}
 use Rattle.script_text.specs.declared.line.Line.TheVariants.{Step, Until, At, Close, Cut}
-use Rattle.write_op.specs.declared.control.Step.TheVariants.{LoadWord, LoadCount}
+use Rattle.phase.specs.declared.place.Place.TheVariants.{Home, Probing}
+use Rattle.write_op.specs.declared.step.WriteStep.TheVariants.{Count}
 use Rattle.bucket_meta.specs.Search.{slot_with, slot_free}
-use Rattle.core_run.specs.WorkedRun.{StopsInRestart, StopsOnTheWay, StopsInChange, ClosesAfter, at_first, at_end, after_line, standing, before_change}
+use Rattle.core_run.specs.WorkedRun.{StopsInRestart, StopsOnTheWay, StopsInChange, ClosesAfter, at_first, at_end, after_line, standing, loading, before_change}
 
 pub step_0_1 : StopsInRestart (Step 0 1, 1)
 step_0_1 = refl
@@ -34,62 +35,71 @@ until_1_exchange_1 = refl
 pub until_1_exchange_2 : StopsOnTheWay (Until 1 Exchange 2, 8)
 until_1_exchange_2 = refl
 
-pub then_step_1_3 : StopsInChange (Step 1 3, 46)
+pub then_step_1_3 : StopsInChange (Step 1 3, 77)
 then_step_1_3 = refl
 
-pub then_until_1_store_1 : StopsInChange (Until 1 Store 1, 44)
+pub then_until_1_store_1 : StopsInChange (Until 1 Store 1, 75)
 then_until_1_store_1 = refl
 
-pub then_until_1_store_4 : StopsInChange (Until 1 Store 4, 49)
+pub then_until_1_store_4 : StopsInChange (Until 1 Store 4, 80)
 then_until_1_store_4 = refl
 
-pub then_until_1_flush_1 : StopsInChange (Until 1 Flush 1, 47)
+pub then_until_1_flush_1 : StopsInChange (Until 1 Flush 1, 78)
 then_until_1_flush_1 = refl
 
-pub then_until_1_flush_2 : StopsInChange (Until 1 Flush 2, 50)
+pub then_until_1_flush_2 : StopsInChange (Until 1 Flush 2, 81)
 then_until_1_flush_2 = refl
 
-pub then_until_1_fence_1 : StopsInChange (Until 1 Fence 1, 48)
+pub then_until_1_fence_1 : StopsInChange (Until 1 Fence 1, 79)
 then_until_1_fence_1 = refl
 
-pub then_until_1_fence_2 : StopsInChange (Until 1 Fence 2, 51)
+pub then_until_1_fence_2 : StopsInChange (Until 1 Fence 2, 82)
 then_until_1_fence_2 = refl
 
-pub then_until_1_draw_1 : StopsInChange (Until 1 Draw 1, 52)
+pub then_until_1_draw_1 : StopsInChange (Until 1 Draw 1, 83)
 then_until_1_draw_1 = refl
 
-pub then_until_1_end_1 : StopsInChange (Until 1 End 1, 54)
+pub then_until_1_end_1 : StopsInChange (Until 1 End 1, 85)
 then_until_1_end_1 = refl
 
-pub then_until_1_exchange_1 : StopsInChange (Until 1 Exchange 1, 54)
+pub then_until_1_exchange_1 : StopsInChange (Until 1 Exchange 1, 85)
 then_until_1_exchange_1 = refl
 
-pub then_at_1_97 : StopsInChange (At 1 97, 49)
+pub then_at_1_97 : StopsInChange (At 1 97, 80)
 then_at_1_97 = refl
 
-pub then_at_1_96 : StopsInChange (At 1 96, 53)
+pub then_at_1_96 : StopsInChange (At 1 96, 84)
 then_at_1_96 = refl
 
-pub then_at_1_99 : StopsInChange (At 1 99, 54)
+pub then_at_1_99 : StopsInChange (At 1 99, 85)
 then_at_1_99 = refl
 
-pub locked : after_line (Step 1 11) at_first ≡ standing 11 (LoadWord 1)
+pub locked : after_line (Step 1 11) at_first ≡ standing 11 (loading Home 0)
 locked = refl
 
-pub loaded_ten : after_line (Step 1 10) (standing 11 (LoadWord 1)) ≡ standing 21 (LoadWord 11)
-loaded_ten = refl
+pub home_ten : after_line (Step 1 10) (standing 11 (loading Home 0)) ≡ standing 21 (loading Home 10)
+home_ten = refl
 
-pub loaded_twenty : after_line (Step 1 10) (standing 21 (LoadWord 11)) ≡ standing 31 (LoadWord 21)
-loaded_twenty = refl
+pub home_twenty : after_line (Step 1 10) (standing 21 (loading Home 10)) ≡ standing 31 (loading Home 20)
+home_twenty = refl
 
-pub loaded_all : after_line (Step 1 11) (standing 31 (LoadWord 21)) ≡ standing 42 LoadCount
-loaded_all = refl
+pub home_all : after_line (Step 1 11) (standing 31 (loading Home 20)) ≡ standing 42 (loading Probing 0)
+home_all = refl
 
-pub counted : after_line (Step 1 1) (standing 42 LoadCount) ≡ before_change
+pub probing_ten : after_line (Step 1 10) (standing 42 (loading Probing 0)) ≡ standing 52 (loading Probing 10)
+probing_ten = refl
+
+pub probing_twenty : after_line (Step 1 10) (standing 52 (loading Probing 10)) ≡ standing 62 (loading Probing 20)
+probing_twenty = refl
+
+pub probing_all : after_line (Step 1 11) (standing 62 (loading Probing 20)) ≡ standing 73 Count
+probing_all = refl
+
+pub counted : after_line (Step 1 1) (standing 73 Count) ≡ before_change
 unfolding slot_with slot_free
 counted = refl
 
-pub closing : ClosesAfter 54 (after_line Close before_change)
+pub closing : ClosesAfter 85 (after_line Close before_change)
 closing = record { begun = refl; run_out = refl }
 
 pub at_cut : after_line (Cut 2) before_change ≡ before_change

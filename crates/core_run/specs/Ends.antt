@@ -1,6 +1,6 @@
 -- A run of one script ends: whatever is done keeps a state of it, each call ends, and the close does.
 use Rattle.std.specs.Prelude.{◌≡◌, ℕ, ◌+◌, ◌<◌, ◌≤◌, ⊤, false, None, List}
-use Rattle.script_text.specs.declared.line.Event.TheVariants as event
+use Rattle.script_text.specs.declared.line.Counted.TheVariants as counted
 use Rattle.script_text.specs.declared.line.Line.{Line}
 use Rattle.restart_op.specs.declared.restart.RestartOp.{RestartOp}
 use Rattle.engine.specs.Core.{Caller}
@@ -68,7 +68,7 @@ pub record HasAnswered (before after : State) : Type 0 where
 
 abbrev pub CallEnds : Type 0
 CallEnds = (t : Task) (most : ℕ) (s : State) → IsForOne t → most_of t ≤ most → IsRun t s → s.keeper ≡ Open → 0 < all_behind s.core.callers
-    → HasAnswered s (drive t.shape most 1 (Kind event.End) 1 s)
+    → HasAnswered s (drive t.shape most 1 (Kind counted.End) 1 s)
 
 -- ALL CALLS have ended
 pub record HasRunOut (t : Task) (most : ℕ) (s : State) : Type 0 where

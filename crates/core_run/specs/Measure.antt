@@ -42,25 +42,25 @@ owner_depth_below shape words hash (suc s) =
 abbrev pub bits : Shape → Words → ℕ → ℕ
 bits shape words hash = shape.depth - owner_depth_below shape words hash shape.segments
 
--- ---- ends without a reply, of an attempt that is alone
-pub data Outcome : Type 0 where
+-- ---- a step that a call has come on without a reply: how an attempt that is alone ended
+pub data Step : Type 0 where
   -- of the call's own machine
-  found_stale : Outcome
-  needs_split : Outcome
+  found_stale : Step
+  needs_split : Step
   -- of the part that goes between
-  has_repaired : Outcome
-  has_split : Outcome
-  has_room : Outcome
+  has_repaired : Step
+  has_split : Step
+  has_room : Step
 
 -- 1 while the call's own machine runs, and 0 while the part between does
-abbrev pub stage_before : Outcome → ℕ
+abbrev pub stage_before : Step → ℕ
 stage_before found_stale = 1
 stage_before needs_split = 1
 stage_before has_repaired = 0
 stage_before has_split = 0
 stage_before has_room = 0
 
-abbrev pub stage_after : Outcome → ℕ
+abbrev pub stage_after : Step → ℕ
 stage_after o = 1 - stage_before o
 
 -- at most so many attempts of the call end without a reply from here on
@@ -76,8 +76,8 @@ pub record LeavesNoMore (shape : Shape) (hash : ℕ) (before after : Words) : Ty
 abbrev pub joined : Doings → Doings → Doings
 joined last did = record { loads = did.loads ++ last.loads; changed = did.changed ++ last.changed }
 
--- THE CAUSE OF ROOM: another has changed a word since the attempt that found no room
-pub record HasRoomCause (shape : Shape) (words : Words) (last did : Doings) : Type 0 where
+-- ROOM CAME: another has changed a word since the attempt that found no room
+pub record RoomCame (shape : Shape) (words : Words) (last did : Doings) : Type 0 where
   pub word : ℕ
   pub was : ℕ
   pub within : word < words_of shape
@@ -86,12 +86,12 @@ pub record HasRoomCause (shape : Shape) (words : Words) (last did : Doings) : Ty
   pub by_others : Has word (joined last did).changed → ⊥
 
 module _ (shape : Shape) (hash : ℕ) (before after : Words) (last did : Doings) where
-  abbrev pub Owes : Outcome → Type 0
+  abbrev pub Owes : Step → Type 0
   Owes found_stale = LeavesNoMore shape hash before after
   Owes needs_split = LeavesNoMore shape hash before after
   Owes has_repaired = (stale shape after + 1 ≤ stale shape before) × (bits shape after hash ≤ bits shape before hash)
   Owes has_split = (stale shape after ≤ stale shape before) × (bits shape after hash + 1 ≤ bits shape before hash)
-  Owes has_room = HasRoomCause shape after last did
+  Owes has_room = RoomCame shape after last did
 
 -- ---- the number of events of a line, as a sum of named bounds
 -- the most events of one attempt of each part

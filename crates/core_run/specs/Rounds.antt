@@ -1,7 +1,7 @@
 -- The end rule for up to 64 callers: in its first round each turn ends an attempt, so that all callers rest after it; and from
 -- then on each turn ends a call.
 use Rattle.std.specs.Prelude.{◌≡◌, ℕ, suc, ◌+◌, ◌*◌, ◌≤◌, ⊤, false, Some, List, slice_get}
-use Rattle.script_text.specs.declared.line.Event.TheVariants as event
+use Rattle.script_text.specs.declared.line.Counted.TheVariants as counted
 use Rattle.map_model.specs.declared.call.Call.{Call}
 use Rattle.engine.specs.Core.{Caller, Core, current}
 use Rattle.engine.specs.Laws.{NoneRuns}
@@ -42,7 +42,7 @@ pub record StandsOpen (t : Task) (Among : ℕ → Type 0) (most_behind : ℕ) (s
 module _ (t : Task) (most : ℕ) where
   -- A TURN of the end rule
   abbrev pub end_turn : ℕ → State → State
-  end_turn c s = drive t.shape most c (Kind event.End) 1 s
+  end_turn c s = drive t.shape most c (Kind counted.End) 1 s
 
   abbrev pub one_round : State → State
   one_round s = round t.shape most 1 s.core.callers s

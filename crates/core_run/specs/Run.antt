@@ -9,8 +9,8 @@ use Rattle.image_layout.specs.Places.{Shape, words_of}
 use Rattle.map_model.specs.declared.call.Call.{Call}
 use Rattle.map_model.specs.declared.entry.Reply.{Reply}
 use Rattle.map_model.specs.declared.entry.Stop.{Stop}
-use Rattle.script_text.specs.declared.line.Event.{Event}
-use Rattle.script_text.specs.declared.line.Event.TheVariants as event
+use Rattle.script_text.specs.declared.line.Counted.{Counted}
+use Rattle.script_text.specs.declared.line.Counted.TheVariants as counted
 use Rattle.script_text.specs.declared.line.Line.{Line}
 use Rattle.script_text.specs.declared.line.Line.TheVariants as line
 use Rattle.restart_op.specs.Close.{begun as close_begun}
@@ -59,13 +59,13 @@ abbrev pub ends_call : Option End → Bool
 ends_call None = false
 ends_call (Some end) = is_some_reply (reply_of_end end)
 
-abbrev pub is_of_kind : Event → Deed → Bool
-is_of_kind event.Store d = is_store d.want
-is_of_kind event.Exchange d = is_exchange d.want
-is_of_kind event.Flush d = is_flush d.want
-is_of_kind event.Fence d = is_fence d.want
-is_of_kind event.Draw d = is_draw d.want
-is_of_kind event.End d = ends_call d.end
+abbrev pub is_of_kind : Counted → Deed → Bool
+is_of_kind counted.Store d = is_store d.want
+is_of_kind counted.Exchange d = is_exchange d.want
+is_of_kind counted.Flush d = is_flush d.want
+is_of_kind counted.Fence d = is_fence d.want
+is_of_kind counted.Draw d = is_draw d.want
+is_of_kind counted.End d = ends_call d.end
 
 abbrev pub counts : Goal → Deed → Bool
 counts AnyEvent d = true
@@ -102,7 +102,7 @@ module _ (shape : Shape) where
     -- one turn of each caller from c on, each till its call ends
     abbrev pub round : ℕ → List Caller → State → State
     round c [] s = s
-    round c (caller ∷ callers) s = round (suc c) callers (drive most c (Kind event.End) 1 s)
+    round c (caller ∷ callers) s = round (suc c) callers (drive most c (Kind counted.End) 1 s)
 
     abbrev pub has_call : Option Call → Bool
     has_call None = false

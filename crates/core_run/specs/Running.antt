@@ -14,25 +14,26 @@ use Rattle.world.specs.Wants.{word_of}
 use Rattle.restart_op.specs.declared.restart.RestartOp.{RestartOp}
 use Rattle.restart_op.specs.declared.close.CloseOp.{CloseOp}
 use Rattle.restart_op.specs.Close.{wanted as close_wanted}
-use Rattle.restart_op.specs.Restarted.{IsPlayableImage, restarted, site_of}
+use Rattle.restart_op.specs.Restarted.{restarted, site_of}
 use Rattle.restart_op.specs.Closing.{close_after}
 use Rattle.engine.specs.declared.engine.Engine.{Engine}
 use Rattle.engine.specs.Left.{waiting}
 use Rattle.engine.specs.Fits.{IsWordCall}
 use Rattle.engine.specs.Core.{Caller, current, Core}
 use Rattle.engine.specs.Holding.{CoreHolds}
+use Rattle.engine.specs.Laws.{IsServedImage}
 use Rattle.core_run.specs.declared.keeper.Keeper.{Keeper}
 use Rattle.core_run.specs.declared.keeper.Keeper.TheVariants.{Restarting, Open, Closing, Closed}
 use Rattle.core_run.specs.State.{State, Deed, deed, waiting_from}
 
--- what is run: a sound image that may be played, and the calls of callers 1, 2 and so on, 64 at the most
+-- what is run: a sound image that is served, and the calls of callers 1, 2 and so on, 64 at the most
 pub record Task : Type 0 where
   pub shape : Shape
   pub first : List ℕ
   pub scripts : List (List Call)
 
 pub record IsTask (t : Task) : Type 0 where
-  pub served : IsPlayableImage t.shape t.first
+  pub served : IsServedImage t.shape t.first
   pub few : length t.scripts ≤ 64
   pub words : AllByRecursion (AllByRecursion IsWordCall) t.scripts
 

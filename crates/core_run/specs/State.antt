@@ -16,7 +16,7 @@ use Rattle.restart_op.specs.Close.{wanted as close_wanted, taken as close_taken}
 use Rattle.engine.specs.declared.engine.End.{End}
 use Rattle.engine.specs.declared.engine.Engine.{Engine}
 use Rattle.engine.specs.Engine.{wanted, taken, end_of}
-use Rattle.engine.specs.Core.{Caller, fresh, current, Core, with_event}
+use Rattle.engine.specs.Core.{Caller, idle, current, Core, with_event}
 use Rattle.core_run.specs.declared.keeper.Keeper.{Keeper}
 use Rattle.core_run.specs.declared.keeper.Keeper.TheVariants.{Restarting, Open, Closing, Closed}
 
@@ -42,7 +42,7 @@ waiting_from shape number (calls ∷ scripts) = waiting shape number calls ∷ w
 
 -- the callers once it is
 abbrev pub awake : ℕ → Caller → Caller
-awake version c = fresh (record c.site { version = version }) c.calls
+awake version c = idle (record c.site { version = version }) c.calls
 
 -- THE BEGINNING, over an image with these words
 abbrev pub beginning : Shape → Words → List (List Call) → State

@@ -33,11 +33,11 @@ abbrev pub CloseMayBegin : Type 0
 CloseMayBegin = (t : Task) (core : Core) → IsTask t → IsOpen t core → NoneRuns core
     → IsRunning t (record { keeper = Closing (close_begun t.shape); core = core })
 
--- a medium that a power cut may leave is a sound image of the same kind, and holds the map of the history so far, each open
+-- a medium that a power cut may leave is a sound image of the same shape, and holds the map of the history so far, each open
 -- call whole or absent
 pub record IsGoodMedium (t : Task) (opening : Map) (core : Core) (medium : List ℕ) : Type 0 where
   pub sound : IsSoundImage t.shape medium
-  pub same_kind : (i : ℕ) → i < 4 → slice_index medium i ≡ slice_index t.first i
+  pub same_shape : (i : ℕ) → i < 4 → slice_index medium i ≡ slice_index t.first i
   pub left : IsLeft t.shape (slice_index medium) (replay opening (weave (histories core))) (undrawn t.scripts (tolds_of core))
 
 -- the entries of all callers so far, those of open calls that drew among them

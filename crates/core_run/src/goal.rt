@@ -1,6 +1,6 @@
 //! What a line of a schedule counts.
 
-use script_text::Event;
+use script_text::Counted;
 
 /// What a line of a schedule counts of a caller's events.
 #[derive(Clone, Copy, Debug, PartialEq, Eq)]
@@ -8,7 +8,7 @@ pub enum Goal {
     /// Each event.
     AnyEvent,
     /// Those of a kind.
-    Kind(Event),
+    Kind(Counted),
     /// Stores to this word.
     StoreTo(u64),
 }

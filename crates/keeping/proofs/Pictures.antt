@@ -1,5 +1,5 @@
 -- The image of a memory, word by word; and what a trace says of a memory of which caller 0 waits for nothing.
-use Rattle.std.proofs.Common.{◌≡◌, ℕ, ◌<◌, ◌≤◌, inl, inr, List, [], ◌∷◌, length, refl, sym, ap, subst, ◌∙◌, arith}
+use Rattle.std.proofs.Common.{◌≡◌, ℕ, ◌+◌, ◌<◌, ◌≤◌, inl, inr, List, [], ◌∷◌, length, refl, sym, ap, subst, ◌∙◌, arith}
 use Rattle.std.specs.Prelude.{slice_index, Contains, Any}
 use Rattle.std.proofs.lemmas.Bool.{eq-eqb, cases_lt}
 use Rattle.std.proofs.lemmas.List.{get_or_past, ext_get_or}
@@ -11,11 +11,12 @@ use Rattle.trace.proofs.Listed.{contains_of_has}
 use Rattle.trace.specs.Listed.{Has}
 use Rattle.trace.proofs.Media.{settled_may}
 use Rattle.trace.proofs.SettledValues.{is_settled}
-use Rattle.image_layout.specs.Places.{Shape, state_word, words_of}
+use Rattle.bucket_meta.specs.Bucket.{allocated}
+use Rattle.image_layout.specs.Places.{Shape, state_word, words_of, head_at, bucket_at, key_at, value_at}
 use Rattle.std.specs.FinMap.{get}
 use Rattle.map_model.specs.Map.{Map}
 use Rattle.sound_image.specs.Left.{HasPairsOf}
-use Rattle.restart_op.proofs.Same.{AgreeButForState, has_there}
+use Rattle.sound_image.proofs.SameRecords.{HasSameRecords, has_there}
 use Rattle.pm_trace.specs.declared.flushes.Flush.{Flush}
 use Rattle.pm_trace.specs.Memory.{Memory, flushes_of, unfenced}
 use Rattle.pm_trace.specs.TraceOf.{IsTraceOf}
@@ -31,6 +32,19 @@ image_whole m = length-map-range_with_len (slice_index m.newest) 0 (words_of m.s
 
 pub image_past : (m : Memory) (i : ℕ) → words_of m.shape ≤ i → slice_index (image_of m) i ≡ 0
 image_past m i past = let whole = image_whole m in get_or_past (image_of m) i 0 (omega (arith, whole, past))
+
+-- every word but the state word is the same
+abbrev pub AgreeButForState : Words → Words → Type 0
+AgreeButForState word other = (i : ℕ) → (i ≡ state_word → ⊥) → word i ≡ other i
+
+-- so all records are
+same_records : (shape : Shape) (word other : Words) → AgreeButForState word other → HasSameRecords shape word other
+same_records shape word other agree = record {
+  header = λ s. agree (head_at shape s + 1) (λ at. omega (arith, at));
+  taken = λ s b r segment bucket slot. ap (allocated r) (agree (bucket_at shape s b + 1) (λ at. omega (arith, at)));
+  key = λ s b r bucket slot. agree (key_at shape s b r) (λ at. omega (arith, at));
+  value = λ s b r bucket slot. agree (value_at shape s b r) (λ at. omega (arith, at));
+}
 
 -- memories that differ in the state word alone have images that do
 pub images_agree : (old new : Memory) → new.shape ≡ old.shape
@@ -48,7 +62,8 @@ pub pairs_kept : (old new : Memory) → new.shape ≡ old.shape
     → HasPairsOf old.shape (slice_index (image_of old)) m → HasPairsOf new.shape (slice_index (image_of new)) m
 pairs_kept old new shape others m has =
     subst (λ (s : Shape). HasPairsOf s (slice_index (image_of new)) m) (sym shape)
-    (λ k. has_there old.shape (slice_index (image_of old)) (slice_index (image_of new)) (images_agree old new shape others) k (get m k) (has k))
+    (λ k. has_there old.shape (slice_index (image_of old)) (slice_index (image_of new))
+    (same_records old.shape (slice_index (image_of old)) (slice_index (image_of new)) (images_agree old new shape others)) k (get m k) (has k))
 
 -- ---- what is pending
 none_has : {X : Type 0} (x : X) (xs : List X) → length xs ≡ 0 → Has x xs → ⊥

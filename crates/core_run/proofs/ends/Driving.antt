@@ -7,7 +7,7 @@ use Rattle.std.proofs.lemmas.Option.{none-some, slice_get_within, slice_get_case
 use Rattle.map_model.specs.declared.call.Call.{Call}
 use Rattle.map_model.specs.declared.entry.Reply.{Reply}
 use Rattle.image_layout.specs.Places.{Shape, IsShape}
-use Rattle.script_text.specs.declared.line.Event.TheVariants as event
+use Rattle.script_text.specs.declared.line.Counted.TheVariants as counted
 use Rattle.script_text.specs.declared.line.Line.{Line}
 use Rattle.script_text.specs.declared.line.Line.TheVariants as line
 use Rattle.part.specs.Outcomes.{Outcome, replied}
@@ -244,13 +244,13 @@ module _ (wells : DeedsAreWell) (stays : AloneStays) (replies : AloneReplies) (l
 
   -- what is left of a call after an event of it
   call_on : (m : ℕ) (s : State) → IsRun t s → s.keeper ≡ Open → 0 < all_behind s.core.callers → left_for 1 s ≤ suc m
-      → ((u : State) → IsRun t u → u.keeper ≡ Open → 0 < all_behind u.core.callers → left_for 1 u ≤ m → HasAnswered u (drive t.shape m 1 (Kind event.End) 1 u))
+      → ((u : State) → IsRun t u → u.keeper ≡ Open → 0 < all_behind u.core.callers → left_for 1 u ≤ m → HasAnswered u (drive t.shape m 1 (Kind counted.End) 1 u))
       → (d : Deed) → deed t.shape 1 s ≡ Some d → open_deed t.shape 0 Open s.core ≡ Some d → (x : Option End) → d.end ≡ x
-      → HasAnswered s (drive t.shape m 1 (Kind event.End) (if ends_call x then 0 else 1) d.state)
+      → HasAnswered s (drive t.shape m 1 (Kind counted.End) (if ends_call x then 0 else 1) d.state)
   call_on m s r here more few rest d e o (Some end) is_end =
       let l = one_left laws t is s.core (is_open s here r) (is_alone s here r) 0 d o in
-      subst (λ b. HasAnswered s (drive t.shape m 1 (Kind event.End) (if b then 0 else 1) d.state)) (sym (has_reply (reply_of_end end) (told 1 s d r e end is_end)))
-      (subst (HasAnswered s) (sym (drive_none t.shape m 1 (Kind event.End) d.state)) (record { still_open = l.still_open; fewer = l.answers end is_end }))
+      subst (λ b. HasAnswered s (drive t.shape m 1 (Kind counted.End) (if b then 0 else 1) d.state)) (sym (has_reply (reply_of_end end) (told 1 s d r e end is_end)))
+      (subst (HasAnswered s) (sym (drive_none t.shape m 1 (Kind counted.End) d.state)) (record { still_open = l.still_open; fewer = l.answers end is_end }))
   call_on m s r here more few rest d e o None none =
       let l = one_left laws t is s.core (is_open s here r) (is_alone s here r) 0 d o in
       let f = fewer 1 s d r e in
@@ -264,24 +264,24 @@ module _ (wells : DeedsAreWell) (stays : AloneStays) (replies : AloneReplies) (l
       let got = has_deed s.core (is_open s here r) more in
       (got.0, subst (λ k. open_deed t.shape 0 k s.core ≡ Some got.0) (sym here) got.1, got.1)
 
-  answered_by : (m : ℕ) (s : State) → IsRun t s → s.keeper ≡ Open → 0 < all_behind s.core.callers → left_for 1 s ≤ m → HasAnswered s (drive t.shape m 1 (Kind event.End) 1 s)
+  answered_by : (m : ℕ) (s : State) → IsRun t s → s.keeper ≡ Open → 0 < all_behind s.core.callers → left_for 1 s ≤ m → HasAnswered s (drive t.shape m 1 (Kind counted.End) 1 s)
   answered_by zero s r here more few =
       let got = event_of s r here more in let f = fewer 1 s got.0 r got.1 in absurd (omega (arith, f, few))
   answered_by (suc m) s r here more few =
       let got = event_of s r here more in
       let d : Deed = got.0 in
       let e : deed t.shape 1 s ≡ Some d = got.1 in
-      subst (λ x. HasAnswered s (by_deed x s (λ d. drive t.shape m 1 (Kind event.End) (if counts (Kind event.End) d then 0 else 1) d.state))) (sym e)
-      (not_so (HasAnswered s) (ends_in_again d.end) d.state (drive t.shape m 1 (Kind event.End) (if ends_call d.end then 0 else 1) d.state) (never_again d.end (told 1 s d r e))
+      subst (λ x. HasAnswered s (by_deed x s (λ d. drive t.shape m 1 (Kind counted.End) (if counts (Kind counted.End) d then 0 else 1) d.state))) (sym e)
+      (not_so (HasAnswered s) (ends_in_again d.end) d.state (drive t.shape m 1 (Kind counted.End) (if ends_call d.end then 0 else 1) d.state) (never_again d.end (told 1 s d r e))
       (call_on m s r here more few (answered_by m) d e got.2 d.end refl))
 
-  pub call_ends : (most : ℕ) (s : State) → most_of t ≤ most → IsRun t s → s.keeper ≡ Open → 0 < all_behind s.core.callers → HasAnswered s (drive t.shape most 1 (Kind event.End) 1 s)
+  pub call_ends : (most : ℕ) (s : State) → most_of t ≤ most → IsRun t s → s.keeper ≡ Open → 0 < all_behind s.core.callers → HasAnswered s (drive t.shape most 1 (Kind counted.End) 1 s)
   call_ends most s enough r here more = let l = low 1 s r in answered_by most s r here more (omega (arith, l, enough))
 
   -- ---- all calls
   pub round_stays : (most c : ℕ) (callers : List Caller) (s : State) → IsRun t s → IsRun t (round t.shape most c callers s)
   round_stays most c [] s r = r
-  round_stays most c (caller ∷ callers) s r = round_stays most (suc c) callers (drive t.shape most c (Kind event.End) 1 s) (drive_stays most c (Kind event.End) 1 s r)
+  round_stays most c (caller ∷ callers) s r = round_stays most (suc c) callers (drive t.shape most c (Kind counted.End) 1 s) (drive_stays most c (Kind counted.End) 1 s r)
 
   pub rounds_stay : (most n : ℕ) (s : State) → IsRun t s → IsRun t (rounds t.shape most n s)
   rounds_stay most zero s r = r
@@ -296,11 +296,11 @@ module _ (wells : DeedsAreWell) (stays : AloneStays) (replies : AloneReplies) (l
     rounds_end zero s r here few = has_run_out s r here (omega (arith, few))
     rounds_end (suc n) s r here few = elim (cases_lt 0 (all_behind s.core.callers)) [
       | inl more ↦
-          let after_one : State = drive t.shape most 1 (Kind event.End) 1 s in
+          let after_one : State = drive t.shape most 1 (Kind counted.End) 1 s in
           let answered = call_ends most s enough r here more in
           let less_behind = answered.fewer in
           let rest : HasRunOut t most (rounds t.shape most n after_one) =
-          rounds_end n after_one (drive_stays most 1 (Kind event.End) 1 s r) answered.still_open (omega (arith, less_behind, few)) in
+          rounds_end n after_one (drive_stays most 1 (Kind counted.End) 1 s r) answered.still_open (omega (arith, less_behind, few)) in
           let alone = of_one t s.core is.one (is_open s here r) in
           so (HasRunOut t most) (has_calls t.shape most s.core.callers) (rounds t.shape most n (round t.shape most 1 s.core.callers s)) s (has_some t.shape most s.core.callers more)
           (subst (λ cs. HasRunOut t most (rounds t.shape most n (round t.shape most 1 cs s))) (sym alone.callers_are) rest)
@@ -316,7 +316,7 @@ module _ (wells : DeedsAreWell) (stays : AloneStays) (replies : AloneReplies) (l
         let few = behind_low laws falls t is s.core (is_open s here r) in
         let end = rounds_end most s r here (omega (arith, few, enough)) in
         let at_end : State = rounds t.shape most most s in
-        let good = close_low t.shape is.task.served.sound.in_range in
+        let good = close_low t.shape is.task.served.playable.sound.in_range in
         record {
           running = close_may t at_end.core is.task (is_open at_end end.still_open (rounds_stay most most s r)) end.none_runs;
           alone = omega (arith, good);

@@ -5,7 +5,7 @@ use Rattle.std.proofs.lemmas.Bool.{cases_eq}
 use Rattle.std.proofs.lemmas.List.{length-map}
 use Rattle.std.proofs.lemmas.Option.{none-some, same_Some, slice_get_within}
 use Rattle.image_layout.specs.Places.{Shape}
-use Rattle.script_text.specs.declared.line.Event.TheVariants as event
+use Rattle.script_text.specs.declared.line.Counted.TheVariants as counted
 use Rattle.op_core.specs.declared.want.Want.{Want}
 use Rattle.op_core.specs.declared.want.Want.TheVariants as want
 use Rattle.op_core.specs.declared.want.Ans.{Ans}
@@ -22,7 +22,7 @@ use Rattle.engine.specs.declared.engine.End.{End}
 use Rattle.engine.specs.declared.engine.Engine.{Engine}
 use Rattle.engine.specs.Engine.{wanted, end_of, outcome_of_end, reply_of_end, says_again, is_again}
 use Rattle.engine.specs.Left.{left, most_events}
-use Rattle.engine.specs.Core.{Caller, Core, current, entry_of, drawn_by, ended, settled, answered, with_event, turn, turn_of_call, turn_of_caller}
+use Rattle.engine.specs.Core.{Caller, Core, current, entry_of, drawn_by, ended, gone_on, answered, with_event, turn, turn_of_call, turn_of_caller}
 use Rattle.engine.specs.Holding.{IsCalling, DoesCall, CallerFits}
 use Rattle.engine.specs.Laws.{AreScripts}
 use Rattle.engine.specs.Causes.{Watched, answer_now, engine_next, watched_turn}
@@ -40,7 +40,7 @@ use Rattle.core_run.specs.Moments.{Act, event_by, begins_close, after_event, aft
 use Rattle.core_run.specs.Alone.{StandsAlone, behind, all_behind}
 use Rattle.core_run.specs.Rounds.{HaveRested, Nobody, Everybody, StandsOpen, end_turn, one_round, FirstRoundRests, EndsOne, TurnEndsCall, HaveRunOut, RoundsRunOut, EndRuleCloses, HasComeAlong, ComesAlong, EndRuleEnds, CallersDriveEnough}
 use Rattle.core_run.proofs.ends.Choices.{either, so}
-use Rattle.core_run.proofs.ends.Working.{EngineLaws, work, work_of, settled_works, work_low}
+use Rattle.core_run.proofs.ends.Working.{EngineLaws, work, work_of, gone_on_works, work_low}
 use Rattle.core_run.proofs.events.Turned.{view_at}
 use Rattle.core_run.proofs.events.Opened.{opened_at}
 use Rattle.core_run.proofs.ends.Staying.{one_more_turn, behind_set, event_left}
@@ -62,7 +62,7 @@ set_get (y ∷ callers) (suc j) c x is = set_get callers j c x is
 -- ---- how an event leaves its caller
 module _ (shape : Shape) (c : Caller) (call : Call) (e : Engine) where
   -- where the attempt goes on
-  goes_on : (w : Want) → end_by shape e w ≡ None → (current (settled c call e w) ≡ current c) × ((settled c call e w).engine ≡ Some e)
+  goes_on : (w : Want) → end_by shape e w ≡ None → (current (gone_on c call e w) ≡ current c) × ((gone_on c call e w).engine ≡ Some e)
   goes_on want.Done none = absurd (none-some (end_of e) (sym none))
   goes_on w none = (refl, refl)
 
@@ -75,18 +75,18 @@ module _ (shape : Shape) (c : Caller) (call : Call) (e : Engine) where
   ended_low None = omega arith
   ended_low (Some r) = let more = length-append c.entries (entry_of c call r.0 r.1 ∷ []) in omega (arith, more)
 
-  behind_low : (w : Want) → behind (settled c call e w) ≤ behind c
+  behind_low : (w : Want) → behind (gone_on c call e w) ≤ behind c
   behind_low want.Done = ended_low (reply_of_end (end_of e))
   behind_low w = omega arith
 
 -- an end with a reply or in Again ends the turn
 stops_by : (shape : Shape) (m c : ℕ) (u : State) (end : End) → IsTold (outcome_of_end end)
-    → (if is_again end then u else drive shape m c (Kind event.End) (if ends_call (Some end) then 0 else 1) u) ≡ u
+    → (if is_again end then u else drive shape m c (Kind counted.End) (if ends_call (Some end) then 0 else 1) u) ≡ u
 stops_by shape m c u end (inl told) =
-    let stop : drive shape m c (Kind event.End) (if ends_call (Some end) then 0 else 1) u ≡ u
-    = ap (λ b. drive shape m c (Kind event.End) (if b then 0 else 1) u) (has_reply (reply_of_end end) told) ∙ drive_none shape m c (Kind event.End) u in
-    either (λ x. x ≡ u) (is_again end) u (drive shape m c (Kind event.End) (if ends_call (Some end) then 0 else 1) u) refl stop
-stops_by shape m c u end (inr again) = so (λ x. x ≡ u) (is_again end) u (drive shape m c (Kind event.End) (if ends_call (Some end) then 0 else 1) u) (ap says_again again.1) refl
+    let stop : drive shape m c (Kind counted.End) (if ends_call (Some end) then 0 else 1) u ≡ u
+    = ap (λ b. drive shape m c (Kind counted.End) (if b then 0 else 1) u) (has_reply (reply_of_end end) told) ∙ drive_none shape m c (Kind counted.End) u in
+    either (λ x. x ≡ u) (is_again end) u (drive shape m c (Kind counted.End) (if ends_call (Some end) then 0 else 1) u) refl stop
+stops_by shape m c u end (inr again) = so (λ x. x ≡ u) (is_again end) u (drive shape m c (Kind counted.End) (if ends_call (Some end) then 0 else 1) u) (ap says_again again.1) refl
 
 module _ (laws : EngineLaws) (wells : DeedsAreWell) (t : Task) (is : IsTask t) where
   scripts_are : AreScripts t.scripts
@@ -198,17 +198,17 @@ module _ (laws : EngineLaws) (wells : DeedsAreWell) (t : Task) (is : IsTask t) w
 
     abbrev TurnRests : ℕ → Type 0
     TurnRests m = (b : ℕ) (core : Core) → IsOpen t core → HaveRested t core Others → all_behind core.callers ≤ b → (c : Caller) → slice_get core.callers j ≡ Some c
-        → (call : Call) → current c ≡ Some call → (e : Engine) → c.engine ≡ Some e → left e ≤ m → Rests b (drive t.shape m (suc j) (Kind event.End) 1 (at core))
+        → (call : Call) → current c ≡ Some call → (e : Engine) → c.engine ≡ Some e → left e ≤ m → Rests b (drive t.shape m (suc j) (Kind counted.End) 1 (at core))
 
     turn_rests : (m : ℕ) → TurnRests m
     turn_rests zero b core o h low c there call calls e runs few = let less = less_left core o j c there call calls e runs in absurd (omega (arith, less, few))
     turn_rests (suc m) b core o h low c there call calls e runs few =
-        subst (λ q. Rests b (by_deed q (at core) (λ d. drive t.shape m (suc j) (Kind event.End) (if ends_call d.end then 0 else 1) d.state))) (sym (deed_is core o j c there call calls e runs))
+        subst (λ q. Rests b (by_deed q (at core) (λ d. drive t.shape m (suc j) (Kind counted.End) (if ends_call d.end then 0 else 1) d.state))) (sym (deed_is core o j c there call calls e runs))
         (by_end (turn_rests m) (end_by t.shape (next core o j c there call calls e runs) (wanted (next core o j c there call calls e runs))) refl)
       where
         by_end : TurnRests m → (x : Option End) → end_by t.shape (next core o j c there call calls e runs) (wanted (next core o j c there call calls e runs)) ≡ x
             → Rests b (if ends_in_again x then at (core_after core o j c there call calls e runs)
-            else drive t.shape m (suc j) (Kind event.End) (if ends_call x then 0 else 1) (at (core_after core o j c there call calls e runs)))
+            else drive t.shape m (suc j) (Kind counted.End) (if ends_call x then 0 else 1) (at (core_after core o j c there call calls e runs)))
         by_end rest (Some end) q =
             let drops = behind_after core o j c there call calls e runs in
             let done = has_ended t.shape c call (next core o j c there call calls e runs) (wanted (next core o j c there call calls e runs)) refl end q in
@@ -231,18 +231,18 @@ module _ (laws : EngineLaws) (wells : DeedsAreWell) (t : Task) (is : IsTask t) w
   abbrev TurnAnswers : ℕ → ℕ → Type 0
   TurnAnswers j m = (core : Core) → IsOpen t core → StandsAlone t core j → (c : Caller) → slice_get core.callers j ≡ Some c
       → (call : Call) → current c ≡ Some call → (e : Engine) → c.engine ≡ Some e → left e ≤ m
-      → all_behind (drive t.shape m (suc j) (Kind event.End) 1 (at core)).core.callers + 1 ≡ all_behind core.callers
+      → all_behind (drive t.shape m (suc j) (Kind counted.End) 1 (at core)).core.callers + 1 ≡ all_behind core.callers
 
   turn_answers : (j m : ℕ) → TurnAnswers j m
   turn_answers j zero core o a c there call calls e runs few = let less = less_left core o j c there call calls e runs in absurd (omega (arith, less, few))
   turn_answers j (suc m) core o a c there call calls e runs few =
-      subst (λ q. all_behind (by_deed q (at core) (λ d. drive t.shape m (suc j) (Kind event.End) (if ends_call d.end then 0 else 1) d.state)).core.callers + 1 ≡ all_behind core.callers)
+      subst (λ q. all_behind (by_deed q (at core) (λ d. drive t.shape m (suc j) (Kind counted.End) (if ends_call d.end then 0 else 1) d.state)).core.callers + 1 ≡ all_behind core.callers)
       (sym (deed_is core o j c there call calls e runs))
       (by_end (turn_answers j m) (end_by t.shape (next core o j c there call calls e runs) (wanted (next core o j c there call calls e runs))) refl)
     where
       by_end : TurnAnswers j m → (x : Option End) → end_by t.shape (next core o j c there call calls e runs) (wanted (next core o j c there call calls e runs)) ≡ x
           → all_behind (if ends_in_again x then at (core_after core o j c there call calls e runs)
-          else drive t.shape m (suc j) (Kind event.End) (if ends_call x then 0 else 1) (at (core_after core o j c there call calls e runs))).core.callers + 1 ≡ all_behind core.callers
+          else drive t.shape m (suc j) (Kind counted.End) (if ends_call x then 0 else 1) (at (core_after core o j c there call calls e runs))).core.callers + 1 ≡ all_behind core.callers
       by_end rest (Some end) q =
           let l = event_left laws t is core o j a c there call calls e runs in
           subst (λ (s : State). all_behind s.core.callers + 1 ≡ all_behind core.callers) (sym (stops_by t.shape m (suc j) (at (core_after core o j c there call calls e runs)) end (inl (l.told end q))))
@@ -261,9 +261,9 @@ module _ (laws : EngineLaws) (wells : DeedsAreWell) (t : Task) (is : IsTask t) w
     idle : (j : ℕ) (core : Core) → deed t.shape (suc j) (at core) ≡ None → end_turn t most (suc j) (at core) ≡ at core
     idle j core none = by most
       where
-        by : (m : ℕ) → drive t.shape m (suc j) (Kind event.End) 1 (at core) ≡ at core
+        by : (m : ℕ) → drive t.shape m (suc j) (Kind counted.End) 1 (at core) ≡ at core
         by zero = refl
-        by (suc m) = ap (λ q. by_deed q (at core) (λ d. drive t.shape m (suc j) (Kind event.End) (if ends_call d.end then 0 else 1) d.state)) none
+        by (suc m) = ap (λ q. by_deed q (at core) (λ d. drive t.shape m (suc j) (Kind counted.End) (if ends_call d.end then 0 else 1) d.state)) none
 
     -- what a turn of a caller who may have a call leaves
     module _ (j b : ℕ) (core : Core) (o : IsOpen t core) (Others : ℕ → Type 0) (apart : (i : ℕ) → Others i → i ≡ j → ⊥) (h : HaveRested t core Others) (low : all_behind core.callers ≤ b) where
@@ -670,7 +670,7 @@ module _ (laws : EngineLaws) (wells : DeedsAreWell) (t : Task) (is : IsTask t) (
 
       falls_here : ends_in_again deed_here.end ≡ false → work (after laws wells t is core o j c there call calls e runs) < work c
       falls_here calm =
-          let f = (settled_works t.shape laws.low (drawn laws wells t is core o j c there call calls e runs) call engine_after (left e) (wanted engine_after)
+          let f = (gone_on_works t.shape laws.low (drawn laws wells t is core o j c there call calls e runs) call engine_after (left e) (wanted engine_after)
           (less_left laws wells t is core o j c there call calls e runs) (slice_get_within c.calls (length c.entries) call calls) (replies_here calm) refl).falls in
           let w = work_now in
           omega (arith, f, w)

@@ -32,7 +32,7 @@ use Rattle.core_run.specs.State.{State, Deed, by_keeper, restarting, closing, en
 use Rattle.core_run.specs.Running.{Task, IsTask, site_in, AllTold, IsOpen, IsRunningBy, IsRunning}
 use Rattle.core_run.specs.Alone.{StandsAlone, IsAloneBy, IsAlone, IsForOne, behind, all_behind, BeginsAlone, AloneStays, AloneReplies}
 use Rattle.core_run.specs.Run.{events_of_call}
-use Rattle.core_run.proofs.ends.Working.{EngineLaws, work, all_work, work_of, IsWorked, settled_works}
+use Rattle.core_run.proofs.ends.Working.{EngineLaws, work, all_work, work_of, IsWorked, gone_on_works}
 use Rattle.core_run.proofs.events.Turned.{view_at}
 use Rattle.core_run.proofs.events.Opened.{opened_at}
 
@@ -135,7 +135,7 @@ module _ (laws : EngineLaws) (t : Task) (is : IsTask t) where
     calling = let seen = view_at (CallerFits (site_in t)) core.callers o.holds.views j c o.holds.each there in (seen.0, subst (λ q. DoesCall (site_in t) c q seen.0) runs seen.1.does)
 
     worked : IsWorked (behind c) (left e) (end_by t.shape next (wanted next)) after
-    worked = settled_works t.shape laws.low (record c { drew = drawn_by c call ans }) call next (left e) (wanted next)
+    worked = gone_on_works t.shape laws.low (record c { drew = drawn_by c call ans }) call next (left e) (wanted next)
         (laws.less e ans (is_answer (wanted e) (core.words (word_of t.shape (wanted e))) calling.1.suits.asks)) (slice_get_within c.calls (length c.entries) call calls)
         replies refl
 

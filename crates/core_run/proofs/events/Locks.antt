@@ -20,7 +20,7 @@ module _ (shape : Shape) (lock : ℕ) (is : IsLockWord shape lock) where
   step_keeps (Flush line waiting) words = refl
   step_keeps (Fence line) words = refl
   step_keeps Load words = refl
-  step_keeps (Store state) words = ap (λ b. if b then state else words lock) (ne_eqb lock state_word (λ q. let at = is.2 in omega (arith, q, at)))
+  step_keeps (Store state) words = ap (λ b. if b then state else words lock) (ne_eqb lock state_word (λ q. let at = is.4 in omega (arith, q, at)))
   step_keeps FlushState words = refl
   step_keeps FenceState words = refl
   step_keeps Ended words = refl

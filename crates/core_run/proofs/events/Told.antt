@@ -11,7 +11,7 @@ use Rattle.map_model.specs.declared.entry.Entry.{Entry}
 use Rattle.map_model.specs.declared.entry.Reply.{Reply}
 use Rattle.engine.specs.declared.engine.Engine.{Engine}
 use Rattle.engine.specs.Engine.{wanted, taken, end_of, reply_of_end}
-use Rattle.engine.specs.Core.{Caller, current, entry_of, drawn_by, ended, settled, answered}
+use Rattle.engine.specs.Core.{Caller, current, entry_of, drawn_by, ended, gone_on, answered}
 use Rattle.engine.proofs.Places.{one_more}
 use Rattle.core_run.specs.Running.{Task, HasToldInOrder, AllTold}
 
@@ -54,18 +54,18 @@ module _ (t : Task) (version number : ℕ) (c : Caller) (h : HasToldInOrder t ve
     going_told : HasToldInOrder t version number (record c { drew = drew; engine = Some next; begun = true })
     going_told = record { its_calls = h.its_calls; within = h.within; drawn = draws; here = h.here }
 
-    settled_told : (w : Want) → HasToldInOrder t version number (settled (record c { drew = drew }) call next w)
-    settled_told want.Done = ended_told drew (reply_of_end (end_of next))
-    settled_told (want.Load i) = going_told
-    settled_told (want.Store i x) = going_told
-    settled_told (want.Exchange i a b) = going_told
-    settled_told (want.Flush l) = going_told
-    settled_told want.Fence = going_told
-    settled_told want.Draw = going_told
-    settled_told want.Power = going_told
+    gone_on_told : (w : Want) → HasToldInOrder t version number (gone_on (record c { drew = drew }) call next w)
+    gone_on_told want.Done = ended_told drew (reply_of_end (end_of next))
+    gone_on_told (want.Load i) = going_told
+    gone_on_told (want.Store i x) = going_told
+    gone_on_told (want.Exchange i a b) = going_told
+    gone_on_told (want.Flush l) = going_told
+    gone_on_told want.Fence = going_told
+    gone_on_told want.Draw = going_told
+    gone_on_told want.Power = going_told
 
   pub answered_told : (e : Engine) (ans : Ans) → HasToldInOrder t version number (answered c call e ans)
-  answered_told e ans = settled_told (drawn_by c call ans) (taken e ans) (drawn_in ans) (wanted (taken e ans))
+  answered_told e ans = gone_on_told (drawn_by c call ans) (taken e ans) (drawn_in ans) (wanted (taken e ans))
 
 -- the calls of a caller stay
 module _ (c : Caller) (call : Call) where
@@ -73,15 +73,15 @@ module _ (c : Caller) (call : Call) where
   ended_calls None = refl
   ended_calls (Some r) = refl
 
-  pub settled_calls : (e : Engine) (w : Want) → (settled c call e w).calls ≡ c.calls
-  settled_calls e want.Done = ended_calls (reply_of_end (end_of e))
-  settled_calls e (want.Load i) = refl
-  settled_calls e (want.Store i x) = refl
-  settled_calls e (want.Exchange i a b) = refl
-  settled_calls e (want.Flush l) = refl
-  settled_calls e want.Fence = refl
-  settled_calls e want.Draw = refl
-  settled_calls e want.Power = refl
+  pub gone_on_calls : (e : Engine) (w : Want) → (gone_on c call e w).calls ≡ c.calls
+  gone_on_calls e want.Done = ended_calls (reply_of_end (end_of e))
+  gone_on_calls e (want.Load i) = refl
+  gone_on_calls e (want.Store i x) = refl
+  gone_on_calls e (want.Exchange i a b) = refl
+  gone_on_calls e (want.Flush l) = refl
+  gone_on_calls e want.Fence = refl
+  gone_on_calls e want.Draw = refl
+  gone_on_calls e want.Power = refl
 
 -- ---- all callers
 pub set_told : (t : Task) (version number j : ℕ) (callers : List Caller) (x y : Caller) → slice_get callers j ≡ Some x

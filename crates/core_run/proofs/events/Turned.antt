@@ -19,8 +19,8 @@ use Rattle.engine.specs.Holding.{IsCalling, DoesCall, CallerFits, CoreHolds, Tur
 use Rattle.core_run.specs.declared.keeper.Keeper.TheVariants.{Open}
 use Rattle.core_run.specs.State.{engine_deed}
 use Rattle.core_run.specs.Running.{Task, site_in, start_of, WaitsFor, AllTold, IsOpen, MayBeDone, DeedIsWell}
-use Rattle.core_run.proofs.events.Waits.{EnginesWait, own_by, settled_waits, set_waits, waits_at}
-use Rattle.core_run.proofs.events.Told.{answered_told, settled_calls, set_told, set_calls}
+use Rattle.core_run.proofs.events.Waits.{EnginesWait, own_by, gone_on_waits, set_waits, waits_at}
+use Rattle.core_run.proofs.events.Told.{answered_told, gone_on_calls, set_told, set_calls}
 
 -- the view of a caller
 pub view_at : {A B : Type 0} (R : A → B → Type 0) (xs : List A) (ys : List B) (j : ℕ) (x : A) → AllZip R xs ys → slice_get xs j ≡ Some x → (y : B) × R x y
@@ -29,9 +29,9 @@ view_at R (z ∷ xs) [] j x all is = absurd all
 view_at R (z ∷ xs) (y ∷ ys) zero x all is = (y, subst (λ w. R w y) (same_Some z x is) all.0)
 view_at R (z ∷ xs) (y ∷ ys) (suc j) x all is = view_at R xs ys j x all.1 is
 
--- the words in front of the first bucket are those that the restart left
+-- the state word is the one that the restart left
 pub state_stays : (site : Site) (start : Words) (core : Core) → CoreHolds site start core → core.words state_word ≡ site.front state_word
-state_stays site start core h = (h.well.holds.media.table core.words (λ i within. inl refl)).same_front state_word (omega arith)
+state_stays site start core h = h.well.holds.media.structure core.words (λ i within. inl refl) state_word (inl (omega arith))
 
 module _ (keeps : TurnKeeps) (asks : AsksWithin) (waits : EnginesWait) (most : (e : Engine) → waiting e ≤ 2)
     (t : Task) (core : Core) (o : IsOpen t core) (j : ℕ) (c : Caller) (at : slice_get core.callers j ≡ Some c)
@@ -78,7 +78,7 @@ module _ (keeps : TurnKeeps) (asks : AsksWithin) (waits : EnginesWait) (most : (
 
   caller_waits : WaitsFor after.trace (suc j) caller_after.engine
   caller_waits =
-      settled_waits waits after.trace (suc j) (record c { drew = drawn_by c call (answer_to (wanted e) n) }) call (taken e (answer_to (wanted e) n))
+      gone_on_waits waits after.trace (suc j) (record c { drew = drawn_by c call (answer_to (wanted e) n) }) call (taken e (answer_to (wanted e) n))
       (wanted (taken e (answer_to (wanted e) n))) refl
       (own_by waits t.shape e n (suc j) core.trace few (wanted e) refl calling.suits.asks)
 
@@ -86,7 +86,7 @@ module _ (keeps : TurnKeeps) (asks : AsksWithin) (waits : EnginesWait) (most : (
   open_after = record {
     holds = holds_after;
     scripts = set_calls j core.callers c caller_after at
-        (settled_calls (record c { drew = drawn_by c call (answer_to (wanted e) n) }) call (taken e (answer_to (wanted e) n)) (wanted (taken e (answer_to (wanted e) n)))) ∙ o.scripts;
+        (gone_on_calls (record c { drew = drawn_by c call (answer_to (wanted e) n) }) call (taken e (answer_to (wanted e) n)) (wanted (taken e (answer_to (wanted e) n)))) ∙ o.scripts;
     told = subst (λ v. AllTold t v 1 after.callers) (sym same_version)
         (set_told t (core.words state_word) 1 j core.callers c caller_after at
         (λ k h. answered_told t (core.words state_word) k c h call now e (answer_to (wanted e) n)) o.told);
