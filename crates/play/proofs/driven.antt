@@ -1,7 +1,7 @@
--- A table does its events, one after another, line by line.
+-- A run state does its events, one after another, line by line.
 pub mod Devices
 pub mod Seats
-pub mod TableParts
+pub mod RunStateParts
 pub mod Doing
 pub mod Drives
 pub mod Rounds

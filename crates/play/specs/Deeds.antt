@@ -1,4 +1,4 @@
--- What the parts of an event make of a table, for each state that it may be in.
+-- What the parts of an event make of a run state, for each state that it may be in.
 use Rattle.std.specs.Prelude.{◌≡◌, ℕ, ⊤, Option, None, Some, List, [], ◌∷◌, map, slice_get}
 use Rattle.map_model.specs.declared.call.Call.{Call}
 use Rattle.map_model.specs.declared.entry.Entry.{Entry}
@@ -17,9 +17,9 @@ use Rattle.core_run.specs.State.{State, started_by, restart_deed, close_deed, en
 use Rattle.core_run.specs.Running.{Task}
 use Rattle.play.specs.declared.runner.Runner.{Runner}
 use Rattle.play.specs.declared.runner.RunningCall.{RunningCall}
-use Rattle.play.specs.declared.table.Table.{Table}
+use Rattle.play.specs.declared.run_state.RunState.{RunState}
 use Rattle.play.specs.Runners.{running_by, awoken, HaveRoom}
-use Rattle.play.specs.Tables.{IsOf, Stands, IsAfter, HasDone}
+use Rattle.play.specs.RunStates.{IsOf, Stands, IsAfter, HasDone}
 
 -- no caller was told anything yet
 abbrev pub NoneTold : List Kept → Type 0
@@ -38,14 +38,14 @@ running_in (Closing op) runner = None
 running_in Closed runner = None
 
 -- the caller at a place runs this call, and its engine wants this event
-pub record MayGo (place : ℕ) (call : Call) (w : Want) (table : Table) : Type 0 where
+pub record MayGo (place : ℕ) (call : Call) (w : Want) (run_state : RunState) : Type 0 where
   pub runner : Runner
   pub engine : Engine
-  pub is_there : slice_get table.callers.items place ≡ Some runner
+  pub is_there : slice_get run_state.callers.items place ≡ Some runner
   pub is_current : slice_get runner.calls.items runner.ended ≡ Some call
   pub its_engine : runner.engine ≡ Some engine
   pub wants : wanted engine ≡ w
-  pub room : HaveRoom table.callers.items table.lists
+  pub room : HaveRoom run_state.callers.items run_state.lists
 
 -- the keeper and the runners after an event of the restart, by what it wants next
 abbrev pub restarting_keeper : RestartOp → Want → Keeper
@@ -66,17 +66,17 @@ abbrev pub lists_with : List Kept → ℕ → Option Entry → List Kept
 lists_with lists place None = lists
 lists_with lists place (Some e) = with_entry lists place e
 
--- ---- what an event makes of the table, whatever the state
-abbrev pub FollowsRestart : RestartOp → Table → ToldDeed → Table → Type 0
+-- ---- what an event makes of the run state, whatever the state
+abbrev pub FollowsRestart : RestartOp → RunState → ToldDeed → RunState → Type 0
 FollowsRestart op old told new = (t : Task) (s : State) → IsOf t old s → NoneTold old.lists → IsAfter t told (restart_deed t.shape op s.core) new
 
-abbrev pub FollowsClose : CloseOp → Table → ToldDeed → Table → Type 0
+abbrev pub FollowsClose : CloseOp → RunState → ToldDeed → RunState → Type 0
 FollowsClose op old told new = (t : Task) (s : State) → IsOf t old s → IsAfter t told (close_deed t.shape op s.core) new
 
-abbrev pub FollowsCall : ℕ → Call → Engine → Table → ToldDeed → Table → Type 0
+abbrev pub FollowsCall : ℕ → Call → Engine → RunState → ToldDeed → RunState → Type 0
 FollowsCall place call e old told new = (t : Task) (s : State) (caller : Caller) → IsOf t old s → s.keeper ≡ Open
     → slice_get s.core.callers place ≡ Some caller → IsAfter t told (engine_deed t.shape place s.core caller call e) new
 
 -- the deed of a seat
-abbrev pub FollowsDeed : ℕ → Table → Option ToldDeed → Table → Type 0
+abbrev pub FollowsDeed : ℕ → RunState → Option ToldDeed → RunState → Type 0
 FollowsDeed seat old told new = (t : Task) (s : State) → Stands t s old → HasDone t s told (deed t.shape seat s) new

@@ -35,7 +35,7 @@ pub record IsPlay (shape : Shape) (first : List ℕ) (lines : List Line) (left :
   pub run : IsOfRun shape first lines left
   pub session : IsSession shape first left.medium.words (scripts_of lines) (ending_of lines) (transcript_of (tolds_of (lists_of left.lists) left.stops))
 
--- what is left of a table in this state, with one caller: the same, of any state
+-- what is left of a run state that stands for this state, with one caller: the same, of any state
 pub record IsLeftOf (t : Task) (s : State) (choice : Option ℕ) (left : Session) : Type 0 where
   pub same_shape : left.medium.geometry ≡ t.shape
   pub lists : lists_of left.lists ≡ map (λ c. c.entries) s.core.callers

@@ -1,4 +1,4 @@
--- What the runners and lists of a table are: callers of the core.
+-- What the runners and lists of a run state are: callers of the core.
 use Rattle.std.specs.Prelude.{◌≡◌, ℕ, ◌+◌, ⊤, Option, None, Some, List, [], ◌∷◌, ◌++◌, length, slice_get, is_some, Bool, true, false, if◌then◌else◌}
 use Rattle.map_model.specs.declared.entry.Entry.{Entry}
 use Rattle.map_model.specs.Kept.{Kept}

@@ -7,7 +7,7 @@ ghost use Rattle.core_run.specs.Run.{is_of_kind, is_store_to, counts, ends_call,
 use core_run::{Deed, Goal};
 use engine::End;
 use op_core::Want;
-use script_text::Event;
+use script_text::Counted;
 
 /// Whether an attempt ended with the reply to its call.
 fn ends_call(end: Option<End>) -> bool
@@ -20,16 +20,16 @@ fn ends_call(end: Option<End>) -> bool
 }
 
 /// Whether an event is of a kind.
-fn is_of_kind(kind: Event, deed: Deed) -> bool
+fn is_of_kind(kind: Counted, deed: Deed) -> bool
     ensures { (said : SaidDeed) → deed.want ≡ said.want → deed.end ≡ said.end → result ≡ is_of_kind kind said }
 {
     match kind {
-        Event::Store => matches!(deed.want, Want::Store(..)),
-        Event::Exchange => matches!(deed.want, Want::Exchange(..)),
-        Event::Flush => matches!(deed.want, Want::Flush(_)),
-        Event::Fence => matches!(deed.want, Want::Fence),
-        Event::Draw => matches!(deed.want, Want::Draw),
-        Event::End => ends_call(deed.end),
+        Counted::Store => matches!(deed.want, Want::Store(..)),
+        Counted::Exchange => matches!(deed.want, Want::Exchange(..)),
+        Counted::Flush => matches!(deed.want, Want::Flush(_)),
+        Counted::Fence => matches!(deed.want, Want::Fence),
+        Counted::Draw => matches!(deed.want, Want::Draw),
+        Counted::End => ends_call(deed.end),
     }
 }
 

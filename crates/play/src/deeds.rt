@@ -1,4 +1,4 @@
-//! One event of a table.
+//! One event of a run state.
 
 ghost use Rattle.std.specs.Prelude.{◌≡◌, ◌≢◌, ℕ, ◌+◌, ◌-◌, ◌<◌, List, [], Some, All, length, slice_get, map};
 ghost use Rattle.map_model.specs.Kept.{Kept};
@@ -9,23 +9,23 @@ ghost use Rattle.core_run.specs.Running.{Task};
 ghost use Rattle.core_run.specs.State.{State, awake, restart_deed, close_deed, keeper_deed, engine_deed, open_deed, deed};
 ghost use Rattle.play.specs.Runners.{awoken};
 ghost use Rattle.keeping.specs.Asked.{MayBeAsked};
-ghost use Rattle.play.specs.Tables.{IsOf, Stands, StandsSomewhere, IsAfter, HasDone};
+ghost use Rattle.play.specs.RunStates.{IsOf, Stands, StandsSomewhere, IsAfter, HasDone};
 ghost use Rattle.play.specs.Deeds.{MayGo, FollowsRestart, FollowsClose, FollowsCall, FollowsDeed, running_in, restarting_keeper, restarting_runners, closing_keeper};
 
+use crate::run_state::RunState;
 use crate::runner::{Runner, RunningCall};
-use crate::table::Table;
 use core_run::{Deed, Keeper};
 use keeping::event;
 use map_model::Call;
 use op_core::{Machine, Want};
 use restart_op::{CloseOp, RestartOp};
 
-/// Callers begin, on an image of this version.
-fn awake(callers: &mut [Runner], version: u8)
+/// Lets the callers begin, on an image of this version.
+fn wake(callers: &mut [Runner], version: u8)
     ensures { callers.new ≡ map (awoken version) callers.old }
 {
     for place in 0..callers.len() {
-        callers[place].awake(version);
+        callers[place].wake(version);
     }
 }
 
@@ -40,36 +40,36 @@ fn closing(op: CloseOp) -> Keeper
     }
 }
 
-impl Table {
+impl RunState {
     /// The restart goes on, or leaves the image to the callers.
-    fn restarting(&mut self, op: RestartOp)
+    fn continue_restart(&mut self, op: RestartOp)
         ensures keeper { self.new.keeper ≡ restarting_keeper op (restart_wanted op) }
         ensures callers { self.new.callers.items ≡ restarting_runners op (restart_wanted op) self.old.callers.items }
         ensures device { self.new.device ≡ self.old.device }
         ensures lists { self.new.lists ≡ self.old.lists }
     {
         if op.want() == Want::Done {
-            awake(&mut self.callers, op.end().version);
+            wake(&mut self.callers, op.end().version);
             self.keeper = Keeper::Open;
         } else {
             self.keeper = Keeper::Restarting(op);
         }
     }
 
-    /// An event of the restart.
-    fn restart(&mut self, op: RestartOp) -> Deed
+    /// Does an event of the restart.
+    fn do_restart_deed(&mut self, op: RestartOp) -> Deed
         requires { MayBeAsked 0 (restart_wanted op) self.old.device }
         ensures { FollowsRestart op self.old result self.new }
     {
         let want = op.want();
         let mut next = op;
         next.take(event(&mut self.device, 0, want));
-        self.restarting(next);
+        self.continue_restart(next);
         Deed { want, end: None }
     }
 
-    /// An event of the close.
-    fn close(&mut self, op: CloseOp) -> Deed
+    /// Does an event of the close.
+    fn do_close_deed(&mut self, op: CloseOp) -> Deed
         requires { MayBeAsked 0 (close_wanted op) self.old.device }
         ensures { FollowsClose op self.old result self.new }
     {
@@ -80,28 +80,28 @@ impl Table {
         Deed { want, end: None }
     }
 
-    /// An event of caller 0, if it has one left.
-    fn keeper_deed(&mut self) -> Option<Deed>
+    /// Does an event of caller 0, if it has one left.
+    fn do_keeper_deed(&mut self) -> Option<Deed>
         requires { StandsSomewhere self.old }
         ensures { FollowsDeed 0 self.old result self.new }
     {
         core_run::deeds_are_well();
         match self.keeper {
-            Keeper::Restarting(op) => Some(self.restart(op)),
-            Keeper::Closing(op) => Some(self.close(op)),
+            Keeper::Restarting(op) => Some(self.do_restart_deed(op)),
+            Keeper::Closing(op) => Some(self.do_close_deed(op)),
             Keeper::Open | Keeper::Closed => None,
         }
     }
 
-    /// An event of the engine of the caller at a place, in its call.
-    fn call_deed(&mut self, place: usize, call: Call, want: Want) -> Deed
+    /// Does an event of the engine of the caller at a place, in its call.
+    fn do_call_deed(&mut self, place: usize, call: Call, want: Want) -> Deed
         requires runs { MayGo place call want self.old }
         requires few { place < 64 }
         requires may { MayBeAsked (place + 1) want self.old.device }
         ensures { (runs : MayGo place call want self.old) → FollowsCall place call runs.engine self.old result self.new }
     {
         let ans = event(&mut self.device, place as u8 + 1, want);
-        let answered = self.callers[place].answered(call, ans);
+        let answered = self.callers[place].take_answer(call, ans);
         if let Some(entry) = answered.entry {
             self.lists.push(place as u8 + 1, entry);
         }
@@ -121,27 +121,27 @@ impl Table {
         }
     }
 
-    /// An event of the caller at a place, if it has one left.
-    fn caller_deed(&mut self, place: usize) -> Option<Deed>
+    /// Does an event of the caller at a place, if it has one left.
+    fn do_caller_deed(&mut self, place: usize) -> Option<Deed>
         requires { StandsSomewhere self.old }
         ensures { FollowsDeed (place + 1) self.old result self.new }
     {
         core_run::deeds_are_well();
         match self.running(place) {
-            Some(running) => Some(self.call_deed(place, running.call, running.want)),
+            Some(running) => Some(self.do_call_deed(place, running.call, running.want)),
             None => None,
         }
     }
 
-    /// An event of a caller, if it has one left.
-    pub(crate) fn deed(&mut self, seat: u8) -> Option<Deed>
+    /// Does an event of a caller, if it has one left.
+    pub(crate) fn do_deed(&mut self, seat: u8) -> Option<Deed>
         requires { StandsSomewhere self.old }
         ensures { FollowsDeed seat self.old result self.new }
     {
         if seat == 0 {
-            self.keeper_deed()
+            self.do_keeper_deed()
         } else {
-            self.caller_deed(seat as usize - 1)
+            self.do_caller_deed(seat as usize - 1)
         }
     }
 }

@@ -1,4 +1,4 @@
-//! What the lines of a schedule do to a table.
+//! What the lines of a schedule do to a run state.
 
 ghost use Rattle.std.specs.Prelude.{◌≡◌, ℕ, None, Some, List};
 ghost use Rattle.core_run.specs.Running.{Task, IsRunning};
@@ -6,24 +6,24 @@ ghost use Rattle.core_run.specs.State.{State};
 ghost use Rattle.core_run.specs.Run.{drive, restarted, round, rounds, run_out, ready_for, line_done, lines_done, closed};
 ghost use Rattle.core_run.specs.Wells.{RunsThrough, RunsOut};
 ghost use Rattle.play.specs.Runners.{calls_left};
-ghost use Rattle.play.specs.Tables.{Stands, StandsSomewhere, HasTurned, end_state};
+ghost use Rattle.play.specs.RunStates.{Stands, StandsSomewhere, HasTurned, end_state};
 
 use crate::counting::{counts, ends_in_again};
-use crate::table::Table;
+use crate::run_state::RunState;
 use core_run::{Goal, Keeper};
 use restart_op::CloseOp;
-use script_text::{Event, Line};
+use script_text::{Counted, Line};
 
-impl Table {
-    /// One event of a caller, if some are to be counted yet. How many are to be counted then, unless it stops.
-    fn turn(&mut self, seat: u8, goal: Goal, left: u64) -> Option<u64>
+impl RunState {
+    /// Does one event of a caller, if some are to be counted yet. How many are to be counted then, unless it stops.
+    fn take_turn(&mut self, seat: u8, goal: Goal, left: u64) -> Option<u64>
         requires { StandsSomewhere self.old }
         ensures { (t : Task) (s : State) → Stands t s self.old → HasTurned t s seat goal left result self.new }
     {
         if left == 0 {
             return None;
         }
-        let deed = self.deed(seat)?;
+        let deed = self.do_deed(seat)?;
         if ends_in_again(deed.end) {
             return None;
         }
@@ -38,15 +38,15 @@ impl Table {
     {
         let mut left = n;
         for _event in 0..most {
-            match self.turn(seat, goal, left) {
+            match self.take_turn(seat, goal, left) {
                 Some(more) => left = more,
                 None => return,
             }
         }
     }
 
-    /// The restart is brought to its end.
-    fn restarted(&mut self, most: u64)
+    /// Brings the restart to its end.
+    fn end_restart(&mut self, most: u64)
         requires { StandsSomewhere self.old }
         ensures { (t : Task) (s : State) → Stands t s self.old → Stands t (restarted t.shape most s) self.new }
     {
@@ -55,13 +55,13 @@ impl Table {
         }
     }
 
-    /// A turn of each caller, till its call ends.
-    fn round(&mut self, most: u64)
+    /// Gives each caller a turn, till its call ends.
+    fn do_round(&mut self, most: u64)
         requires { StandsSomewhere self.old }
         ensures { (t : Task) (s : State) → Stands t s self.old → Stands t (round t.shape most 1 s.core.callers s) self.new }
     {
         for place in 0..self.callers.len() {
-            self.drive(most, place as u8 + 1, Goal::Kind(Event::End), 1);
+            self.drive(most, place as u8 + 1, Goal::Kind(Counted::End), 1);
         }
     }
 
@@ -77,14 +77,14 @@ impl Table {
         false
     }
 
-    /// Rounds until no call is left.
-    fn rounds(&mut self, most: u64)
+    /// Does rounds until no call is left.
+    fn do_rounds(&mut self, most: u64)
         requires { StandsSomewhere self.old }
         ensures { (t : Task) (s : State) → Stands t s self.old → Stands t (rounds t.shape most most s) self.new }
     {
         for _round in 0..most {
             if self.has_calls() {
-                self.round(most);
+                self.do_round(most);
             } else {
                 return;
             }
@@ -96,61 +96,61 @@ impl Table {
         requires { StandsSomewhere self.old }
         ensures { (t : Task) (s : State) → Stands t s self.old → IsRunning t (run_out t.shape most s) → Stands t (run_out t.shape most s) self.new }
     {
-        self.restarted(most);
+        self.end_restart(most);
         if let Keeper::Open = self.keeper {
-            self.rounds(most);
+            self.do_rounds(most);
             self.keeper = Keeper::Closing(CloseOp::new(self.device.geometry()));
         }
     }
 
     /// A line of a caller above 0 lets the restart end first.
-    fn ready_for(&mut self, most: u64, seat: u8)
+    fn make_ready_for(&mut self, most: u64, seat: u8)
         requires { StandsSomewhere self.old }
         ensures { (t : Task) (s : State) → Stands t s self.old → Stands t (ready_for t.shape most seat s) self.new }
     {
         if seat > 0 {
-            self.restarted(most);
+            self.end_restart(most);
         }
     }
 
     /// A caller that a line names goes on.
-    fn goes_on(&mut self, most: u64, seat: u8, goal: Goal, n: u64)
+    fn go_on(&mut self, most: u64, seat: u8, goal: Goal, n: u64)
         requires { StandsSomewhere self.old }
         ensures { (t : Task) (s : State) → Stands t s self.old
             → Stands t (drive t.shape most seat goal n (ready_for t.shape most seat s)) self.new }
     {
-        self.ready_for(most, seat);
+        self.make_ready_for(most, seat);
         self.drive(most, seat, goal, n);
     }
 
-    /// One line.
-    fn line_done(&mut self, most: u64, line: Line)
+    /// Does one line.
+    fn do_line(&mut self, most: u64, line: Line)
         requires { StandsSomewhere self.old }
         ensures { (t : Task) (s : State) → Stands t s self.old → IsRunning t (line_done t.shape most line s)
             → Stands t (line_done t.shape most line s) self.new }
     {
         match line {
-            Line::Step(seat, n) => self.goes_on(most, seat, Goal::AnyEvent, n),
-            Line::Until(seat, kind, n) => self.goes_on(most, seat, Goal::Kind(kind), n),
-            Line::At(seat, word) => self.goes_on(most, seat, Goal::StoreTo(word), 1),
+            Line::Step(seat, n) => self.go_on(most, seat, Goal::AnyEvent, n),
+            Line::Until(seat, kind, n) => self.go_on(most, seat, Goal::Kind(kind), n),
+            Line::At(seat, word) => self.go_on(most, seat, Goal::StoreTo(word), 1),
             Line::Close => self.run_out(most),
             Line::Call(..) | Line::Fuse(..) | Line::Cut(_) => {}
         }
     }
 
-    /// All lines.
-    pub(crate) fn lines_done(&mut self, most: u64, lines: &[Line])
+    /// Does all lines.
+    pub(crate) fn do_lines(&mut self, most: u64, lines: &[Line])
         requires { (t : Task) × (s : State) × Stands t s self.old × RunsThrough t most lines.now s }
         ensures { (t : Task) (s : State) → Stands t s self.old → RunsThrough t most lines.now s
             → Stands t (lines_done t.shape most lines.now s) self.new }
     {
         for line in lines {
-            self.line_done(most, *line);
+            self.do_line(most, *line);
         }
     }
 
     /// The calls run out, and the close is brought to its end.
-    pub(crate) fn closed(&mut self, most: u64)
+    pub(crate) fn close(&mut self, most: u64)
         requires { (t : Task) × (s : State) × Stands t s self.old × IsRunning t (run_out t.shape most s) }
         ensures { (t : Task) (s : State) → Stands t s self.old → IsRunning t (run_out t.shape most s)
             → Stands t (closed t.shape most s) self.new }
@@ -159,13 +159,13 @@ impl Table {
         self.drive(most, 0, Goal::AnyEvent, most);
     }
 
-    /// The end of a run: a close, where no cut comes before it.
-    pub(crate) fn ended(&mut self, most: u64, cut: Option<u64>)
+    /// Ends a run: by a close, where no cut comes before it.
+    pub(crate) fn end_run(&mut self, most: u64, cut: Option<u64>)
         requires { (t : Task) × (s : State) × Stands t s self.old × RunsOut t most cut s }
         ensures { (t : Task) (s : State) → Stands t s self.old → RunsOut t most cut s → Stands t (end_state t.shape most cut s) self.new }
     {
         match cut {
-            None => self.closed(most),
+            None => self.close(most),
             Some(_) => {}
         }
     }

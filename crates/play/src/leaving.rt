@@ -1,4 +1,4 @@
-//! What a table leaves.
+//! What a run state leaves.
 
 ghost use Rattle.std.specs.Prelude.{◌≡◌, ◌∷◌, List, length, replicate, None};
 ghost use Rattle.trace.specs.Events.{Words, value};
@@ -9,11 +9,11 @@ ghost use Rattle.core_run.specs.Run.{stop_of, medium_words};
 ghost use Rattle.core_run.specs.Running.{Task};
 ghost use Rattle.core_run.specs.State.{State};
 ghost use Rattle.play.specs.Runners.{caller_of};
-ghost use Rattle.play.specs.Tables.{IsOf};
+ghost use Rattle.play.specs.RunStates.{IsOf};
 ghost use Rattle.play.specs.Played.{IsLeftOf};
 
+use crate::run_state::RunState;
 use crate::runner::Runner;
-use crate::table::Table;
 use image_file::Medium;
 use map_model::Stop;
 use pm_trace::Device;
@@ -44,9 +44,9 @@ fn stops_of(runner: &Runner) -> [Option<Stop>; 64]
     stops
 }
 
-impl Table {
+impl RunState {
     /// What it leaves at a cut with this choice, or where it was closed.
-    pub(crate) fn left(self, cut: Option<u64>) -> Session
+    pub(crate) fn into_session(self, cut: Option<u64>) -> Session
         requires { length self.callers.items ≡ 1 }
         ensures left { (t : Task) (s : State) → IsOf t self s → IsLeftOf t s cut result }
         ensures lists { length result.lists ≡ length self.lists }

@@ -11,8 +11,8 @@ mod deeds;
 mod driving;
 mod leaving;
 mod playing;
+mod run_state;
 mod runner;
-mod table;
 
 pub use playing::play;
 

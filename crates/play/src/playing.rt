@@ -2,18 +2,19 @@
 
 ghost use Rattle.std.specs.Prelude.{◌≡◌, ℕ, ◌≤◌, ◌+◌, ◌*◌, ◌<◌, ◌^◌, All, [], ◌∷◌, length, slice_index, IfOk};
 ghost use Rattle.script_text.specs.Calls.{IsLineSoFar};
-ghost use Rattle.restart_op.specs.Restarted.{IsPlayableImage};
+ghost use Rattle.sound_image.specs.Image.{IsSoundImage};
+ghost use Rattle.image_rules.specs.Stage.{MayBePlayed};
 ghost use Rattle.image_layout.specs.Places.{words_of};
 ghost use Rattle.core_run.specs.Run.{cut_of, most_with, most_events};
 ghost use Rattle.core_run.specs.State.{waiting};
 ghost use Rattle.core_run.specs.Wells.{start_state};
 ghost use Rattle.play.specs.Runners.{caller_of};
-ghost use Rattle.play.specs.Tables.{IsOf};
+ghost use Rattle.play.specs.RunStates.{IsOf};
 ghost use Rattle.play.specs.Played.{IsPlay, task_of};
 
 use crate::calls::calls_of_caller;
+use crate::run_state::RunState;
 use crate::runner::Runner;
-use crate::table::Table;
 use core_run::Keeper;
 use image_file::Medium;
 use image_layout::Geometry;
@@ -29,7 +30,7 @@ use world::Site;
 const CALLERS: u8 = 64;
 
 /// For each call the events that an attempt makes at most, and one.
-const EVENTS_OF_CALL: u64 = 56;
+const EVENTS_OF_CALL: u64 = 162;
 
 /// The choice of the power cut with which a script ends, if it does.
 fn cut_of(lines: &[Line]) -> Option<u64>
@@ -70,18 +71,18 @@ fn runner(geometry: Geometry, calls: Vec<Call>) -> Runner
     }
 }
 
-/// The table over an image with the calls of caller 1, before its restart.
-fn begun(alloc: Global, medium: Medium, calls: Vec<Call>) -> Result<Table, NoMemory>
+/// The run state over an image with the calls of caller 1, before its restart.
+fn begin(alloc: Global, medium: Medium, calls: Vec<Call>) -> Result<RunState, NoMemory>
     requires { length medium.words ≡ words_of medium.geometry }
-    ensures is_of { IfOk result (λ table. IsOf (task_of medium.geometry medium.words calls.items) table
+    ensures is_of { IfOk result (λ run_state. IsOf (task_of medium.geometry medium.words calls.items) run_state
         (start_state (task_of medium.geometry medium.words calls.items))) }
-    ensures one { IfOk result (λ table. (length table.callers.items ≡ 1) × (length table.lists ≡ 1)) }
+    ensures one { IfOk result (λ run_state. (length run_state.callers.items ≡ 1) × (length run_state.lists ≡ 1)) }
 {
     let geometry = medium.geometry;
     let lists = Lists::new(alloc, &[calls.len() as u64])?;
     let mut callers = Vec::with_capacity(alloc, 1)?;
     callers.push(runner(geometry, calls))?;
-    Ok(Table {
+    Ok(RunState {
         device: Device::new(alloc, medium, CALLERS)?,
         keeper: Keeper::Restarting(RestartOp::new(geometry)),
         callers,
@@ -89,28 +90,31 @@ fn begun(alloc: Global, medium: Medium, calls: Vec<Call>) -> Result<Table, NoMem
     })
 }
 
-/// Runs a script on an image: its restart, its calls by the lines of the schedule, and a close where no cut ends it. All memory
+/// Runs a script on a sound image of one slot that may be played: its restart, its calls by the lines of the schedule, and a close where no cut ends it. All memory
 /// is taken before the first event.
 ///
 /// # Errors
 ///
 /// `NoMemory` if memory runs out.
 pub fn play(alloc: Global, medium: Medium, script: &Script) -> Result<Session, NoMemory>
-    requires served { IsPlayableImage medium.geometry medium.words }
+    requires sound { IsSoundImage medium.geometry medium.words }
+    requires one { medium.geometry.segments ≡ 1 }
+    requires untouched { MayBePlayed medium.geometry (slice_index medium.words) }
     requires few { length script.now ≤ 1000000 }
     requires so_far { All IsLineSoFar script.now }
     ensures played { IfOk result (IsPlay medium.geometry medium.words script.now) }
     ensures one_list { IfOk result (λ left. length left.lists ≡ 1) }
 {
+    restart_op::one_segment_is_enough();
     core_run::run_begins();
     core_run::lines_are_well();
     core_run::runs_are_sessions();
     let lines = script.as_slice();
     let calls = calls_of_caller(alloc, lines, 1)?;
     let most = most_events(&medium.geometry, calls.len());
-    let mut table = begun(alloc, medium, calls)?;
-    table.lines_done(most, lines);
+    let mut run_state = begin(alloc, medium, calls)?;
+    run_state.do_lines(most, lines);
     let cut = cut_of(lines);
-    table.ended(most, cut);
-    Ok(table.left(cut))
+    run_state.end_run(most, cut);
+    Ok(run_state.into_session(cut))
 }

@@ -16,7 +16,7 @@ use map_model::{Call, Entry, Reply, Stop};
 use op_core::{Ans, Want};
 use world::Site;
 
-/// A caller that runs its calls one after another. Its entries stand in the lists of the table.
+/// A caller that runs its calls one after another. Its entries stand in the lists of the run state.
 #[derive(Drop)]
 pub struct Runner {
     /// Where it runs.
@@ -94,7 +94,7 @@ impl Runner {
     }
 
     /// The caller begins, on an image of this version.
-    pub(crate) fn awake(&mut self, version: u8)
+    pub(crate) fn wake(&mut self, version: u8)
         ensures { self.new ≡ awoken version self.old }
     {
         self.site.version = version;
@@ -144,7 +144,7 @@ impl Runner {
     }
 
     /// Its entry is known, where it drew.
-    fn draws(&mut self, call: Call, ans: Ans)
+    fn keep_drawn(&mut self, call: Call, ans: Ans)
         requires { slice_get self.old.calls.items self.old.ended ≡ Some call }
         ensures drew { (told : List MadeEntry) → length told ≡ self.old.ended → self.new.drew ≡ drawn_by (caller_of self.old told) call ans }
         ensures others { self.new ≡ record self.old { drew = self.new.drew } }
@@ -155,7 +155,7 @@ impl Runner {
     }
 
     /// Its engine takes the answer to its event. How its attempt ended, if it did.
-    fn taken(&mut self, ans: Ans) -> Option<End>
+    fn answer_engine(&mut self, ans: Ans) -> Option<End>
         requires { (e : SaidEngine) × self.old.engine ≡ Some e }
         ensures runner { (e : SaidEngine) → self.old.engine ≡ Some e → self.new ≡ taken_to (taken e ans) self.old }
         ensures end { (e : SaidEngine) → self.old.engine ≡ Some e
@@ -171,7 +171,7 @@ impl Runner {
     }
 
     /// Takes the answer to the event of its engine.
-    pub(crate) fn answered(&mut self, call: Call, ans: Ans) -> Answered
+    pub(crate) fn take_answer(&mut self, call: Call, ans: Ans) -> Answered
         requires current { slice_get self.old.calls.items self.old.ended ≡ Some call }
         requires runs { (e : SaidEngine) × self.old.engine ≡ Some e }
         ensures caller { (e : SaidEngine) → self.old.engine ≡ Some e → (told : List MadeEntry) → length told ≡ self.old.ended
@@ -181,8 +181,8 @@ impl Runner {
         ensures end { (e : SaidEngine) → self.old.engine ≡ Some e
             → result.end ≡ end_by self.old.site.geometry (taken e ans) (wanted (taken e ans)) }
     {
-        self.draws(call, ans);
-        let end = self.taken(ans);
+        self.keep_drawn(call, ans);
+        let end = self.answer_engine(ans);
         let entry = match end {
             Some(end) => self.end_attempt(call, end),
             None => None,

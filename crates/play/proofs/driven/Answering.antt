@@ -10,7 +10,7 @@ use Rattle.map_model.specs.declared.entry.Entry.{Entry}
 use Rattle.engine.specs.declared.engine.End.{End}
 use Rattle.engine.specs.declared.engine.Engine.{Engine}
 use Rattle.engine.specs.Engine.{end_of, reply_of_end}
-use Rattle.engine.specs.Core.{ended, settled}
+use Rattle.engine.specs.Core.{ended, gone_on}
 use Rattle.core_run.specs.State.{end_by}
 use Rattle.play.specs.declared.runner.Runner.{Runner}
 use Rattle.play.specs.Runners.{caller_of, taken_to}
@@ -28,17 +28,17 @@ ended_same : (r : Runner) (drew other : Option Entry) (call : Call) (e : Engine)
 ended_same r drew other call e told None = refl
 ended_same r drew other call e told (Some reply) = refl
 
-pub ended_settles : (shape : Shape) (r : Runner) (drew other : Option Entry) (call : Call) (e : Engine) (told : List Entry) (w : Want) (end : End)
+pub ended_goes_on : (shape : Shape) (r : Runner) (drew other : Option Entry) (call : Call) (e : Engine) (told : List Entry) (w : Want) (end : End)
     → Some end ≡ end_by shape e w
-    → ended (caller_of (taken_to e (record r { drew = drew })) told) call (reply_of_end end) ≡ settled (record (caller_of r told) { drew = other }) call e w
-ended_settles shape r drew other call e told (want.Load i) end is = absurd (cc)
-ended_settles shape r drew other call e told (want.Store i x) end is = absurd (cc)
-ended_settles shape r drew other call e told (want.Exchange i x y) end is = absurd (cc)
-ended_settles shape r drew other call e told (want.Flush l) end is = absurd (cc)
-ended_settles shape r drew other call e told want.Fence end is = absurd (cc)
-ended_settles shape r drew other call e told want.Draw end is = absurd (cc)
-ended_settles shape r drew other call e told want.Power end is = absurd (cc)
-ended_settles shape r drew other call e told want.Done end is =
+    → ended (caller_of (taken_to e (record r { drew = drew })) told) call (reply_of_end end) ≡ gone_on (record (caller_of r told) { drew = other }) call e w
+ended_goes_on shape r drew other call e told (want.Load i) end is = absurd (cc)
+ended_goes_on shape r drew other call e told (want.Store i x) end is = absurd (cc)
+ended_goes_on shape r drew other call e told (want.Exchange i x y) end is = absurd (cc)
+ended_goes_on shape r drew other call e told (want.Flush l) end is = absurd (cc)
+ended_goes_on shape r drew other call e told want.Fence end is = absurd (cc)
+ended_goes_on shape r drew other call e told want.Draw end is = absurd (cc)
+ended_goes_on shape r drew other call e told want.Power end is = absurd (cc)
+ended_goes_on shape r drew other call e told want.Done end is =
     let same : end ≡ end_of e = cc in
     ended_same r drew other call e told (reply_of_end end)
     ∙ ap (λ (x : End). ended (record (caller_of r told) { drew = other }) call (reply_of_end x)) same

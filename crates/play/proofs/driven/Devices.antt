@@ -1,4 +1,4 @@
--- The memory of a table after an event of a caller.
+-- The memory of a run state after an event of a caller.
 use Rattle.std.proofs.Common.{◌≡◌, ℕ, ◌∷◌, ap, ◌∙◌, sym, subst}
 use Rattle.trace.specs.Events.{Words, Event, Trace, value, after}
 use Rattle.op_core.specs.declared.want.Want.{Want}

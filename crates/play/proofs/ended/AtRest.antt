@@ -10,12 +10,12 @@ use Rattle.image_layout.specs.Places.{Shape}
 use Rattle.map_model.specs.declared.call.Call.{Call}
 use Rattle.map_model.specs.declared.entry.Reply.{Reply}
 use Rattle.restart_op.specs.declared.restart.RestartOp.{RestartOp}
-use Rattle.script_text.specs.declared.line.Event.TheVariants as event
+use Rattle.script_text.specs.declared.line.Counted.TheVariants as counted
 use Rattle.script_text.specs.declared.line.Line.{Line}
 use Rattle.script_text.specs.declared.line.Line.TheVariants as line
 use Rattle.engine.specs.declared.engine.Engine.{Engine}
 use Rattle.engine.specs.Engine.{wanted, taken}
-use Rattle.engine.specs.Core.{Caller, current, Core, drawn_by, ended, settled, answered}
+use Rattle.engine.specs.Core.{Caller, current, Core, drawn_by, ended, gone_on, answered}
 use Rattle.core_run.specs.declared.keeper.Keeper.{Keeper}
 use Rattle.core_run.specs.declared.keeper.Keeper.TheVariants.{Restarting, Open, Closing, Closed}
 use Rattle.core_run.specs.declared.goal.Goal.{Goal}
@@ -42,18 +42,18 @@ rest_ended : (c : Caller) (call : Call) (r : Option (Reply × ℕ)) → current 
 rest_ended c call (Some r) is = λ none. refl
 rest_ended c call None is = λ none. no_call (current c) call true is none
 
-rest_settled : (c : Caller) (call : Call) (e : Engine) (w : Want) → current c ≡ Some call → IsAtRest (settled c call e w)
-rest_settled c call e want.Done is = rest_ended c call _ is
-rest_settled c call e (want.Load w) is = λ none. no_call (current c) call true is none
-rest_settled c call e (want.Store w x) is = λ none. no_call (current c) call true is none
-rest_settled c call e (want.Exchange w a b) is = λ none. no_call (current c) call true is none
-rest_settled c call e (want.Flush l) is = λ none. no_call (current c) call true is none
-rest_settled c call e want.Fence is = λ none. no_call (current c) call true is none
-rest_settled c call e want.Draw is = λ none. no_call (current c) call true is none
-rest_settled c call e want.Power is = λ none. no_call (current c) call true is none
+rest_gone_on : (c : Caller) (call : Call) (e : Engine) (w : Want) → current c ≡ Some call → IsAtRest (gone_on c call e w)
+rest_gone_on c call e want.Done is = rest_ended c call _ is
+rest_gone_on c call e (want.Load w) is = λ none. no_call (current c) call true is none
+rest_gone_on c call e (want.Store w x) is = λ none. no_call (current c) call true is none
+rest_gone_on c call e (want.Exchange w a b) is = λ none. no_call (current c) call true is none
+rest_gone_on c call e (want.Flush l) is = λ none. no_call (current c) call true is none
+rest_gone_on c call e want.Fence is = λ none. no_call (current c) call true is none
+rest_gone_on c call e want.Draw is = λ none. no_call (current c) call true is none
+rest_gone_on c call e want.Power is = λ none. no_call (current c) call true is none
 
 rest_answered : (c : Caller) (call : Call) (e : Engine) (a : Ans) → current c ≡ Some call → IsAtRest (answered c call e a)
-rest_answered c call e a is = rest_settled (record c { drew = drawn_by c call a }) call (taken e a) (wanted (taken e a)) is
+rest_answered c call e a is = rest_gone_on (record c { drew = drawn_by c call a }) call (taken e a) (wanted (taken e a)) is
 
 -- ---- all callers
 rest_set : (cs : List Caller) (j : ℕ) (c : Caller) → AreAtRest cs → IsAtRest c → AreAtRest (slice_set cs j c)
@@ -140,7 +140,7 @@ module _ (shape : Shape) where
 
     rest_round : (c : ℕ) (cs : List Caller) (s : State) → RestsIn s → RestsIn (round shape most c cs s)
     rest_round c [] s all = all
-    rest_round c (caller ∷ cs) s all = rest_round (suc c) cs _ (rest_drive most c (Kind event.End) 1 s all)
+    rest_round c (caller ∷ cs) s all = rest_round (suc c) cs _ (rest_drive most c (Kind counted.End) 1 s all)
 
     rest_rounds : (n : ℕ) (s : State) → RestsIn s → RestsIn (rounds shape most n s)
     rest_rounds zero s all = all

@@ -6,7 +6,10 @@ use Rattle.std.proofs.lemmas.Bool.{cases_Bool}
 use Rattle.image_layout.specs.Places.{Shape, words_of}
 use Rattle.map_model.specs.declared.call.Call.{Call}
 use Rattle.map_model.specs.declared.call.Call.TheVariants.{Get, Insert, Update, Remove}
-use Rattle.restart_op.specs.Restarted.{IsPlayableImage}
+use Rattle.sound_image.specs.Image.{IsSoundImage}
+use Rattle.image_rules.specs.Stage.{MayBePlayed}
+use Rattle.restart_op.specs.Restarted.{OneSegmentIsPlayable}
+use Rattle.engine.specs.Laws.{IsServedImage}
 use Rattle.engine.specs.Fits.{IsWordCall}
 use Rattle.reply_text.specs.declared.left.Session.{Session}
 use Rattle.script_text.specs.declared.line.Line.{Line}
@@ -18,8 +21,8 @@ use Rattle.core_run.specs.Running.{Task, IsTask}
 use Rattle.core_run.specs.Ends.{most_of}
 use Rattle.core_run.specs.Sessions.{RunsAreSessions}
 use Rattle.core_run.specs.Wells.{start_state, RunsThrough, RunsOut, RunsWell}
-use Rattle.play.specs.declared.table.Table.{Table}
-use Rattle.play.specs.Tables.{Stands, end_state}
+use Rattle.play.specs.declared.run_state.RunState.{RunState}
+use Rattle.play.specs.RunStates.{Stands, end_state}
 use Rattle.session.specs.Session.{IsSession}
 use Rattle.session.specs.Transcript.{transcript_of}
 use Rattle.core_run.specs.Sessions.{ending_of}
@@ -102,8 +105,13 @@ by_recursion : {A : Type 0} (P : A → Type 0) (xs : List A) → All P xs → Al
 by_recursion P [] all = tt
 by_recursion P (x ∷ xs) all = (all 0 x (omega arith), by_recursion P xs (λ i d h. all (suc i) d (omega arith)))
 
+-- an image of one slot is served where it is sound and may be played
+pub is_served : OneSegmentIsPlayable → (shape : Shape) (first : List ℕ) → shape.segments ≡ 1 → IsSoundImage shape first → MayBePlayed shape (slice_index first)
+    → IsServedImage shape first
+is_served playable shape first one sound untouched = record { playable = playable shape first one sound untouched; one = one }
+
 -- the task of a play is one
-pub is_task : (shape : Shape) (first : List ℕ) (lines : List Line) (calls : List Call) → IsPlayableImage shape first
+pub is_task : (shape : Shape) (first : List ℕ) (lines : List Line) (calls : List Call) → IsServedImage shape first
     → All IsLineSoFar lines → calls ≡ calls_of 1 lines → IsTask (task_of shape first calls)
 is_task shape first lines calls served so_far are = record {
   served = served;
@@ -112,20 +120,20 @@ is_task shape first lines calls served so_far are = record {
       (word_calls 1 lines (by_recursion IsLineSoFar lines so_far), tt);
 }
 
--- the table stands at the end of the run
-pub play_stands : (t : Task) (lines : List Line) (most : ℕ) (cut : Option ℕ) (table after last : Table) → Stands t (start_state t) table → RunsWell t lines
+-- the run state stands at the end of the run
+pub play_stands : (t : Task) (lines : List Line) (most : ℕ) (cut : Option ℕ) (run_state after last : RunState) → Stands t (start_state t) run_state → RunsWell t lines
     → most ≡ most_of t → cut ≡ cut_of lines
-    → ((u : Task) (s : State) → Stands u s table → RunsThrough u most lines s → Stands u (lines_done u.shape most lines s) after)
+    → ((u : Task) (s : State) → Stands u s run_state → RunsThrough u most lines s → Stands u (lines_done u.shape most lines s) after)
     → ((u : Task) (s : State) → Stands u s after → RunsOut u most cut s → Stands u (end_state u.shape most cut s) last)
     → Stands t (end_state t.shape most cut (lines_done t.shape most lines (start_state t))) last
-play_stands t lines most cut table after last begins well many cuts through out =
+play_stands t lines most cut run_state after last begins well many cuts through out =
     let at_lines = through t (start_state t) begins (subst (λ (m : ℕ). RunsThrough t m lines (start_state t)) (sym many) well.through) in
     out t (lines_done t.shape most lines (start_state t)) at_lines
     (subst (λ (o : Option ℕ). RunsOut t most o (lines_done t.shape most lines (start_state t))) (sym cuts)
     (subst (λ (m : ℕ). RunsOut t m (cut_of lines) (lines_done t.shape m lines (start_state t))) (sym many) well.out))
 
 -- and its run is a session
-pub is_play : RunsAreSessions → (shape : Shape) (first : List ℕ) (lines : List Line) (left : Session) → IsPlayableImage shape first → All IsLineSoFar lines
+pub is_play : RunsAreSessions → (shape : Shape) (first : List ℕ) (lines : List Line) (left : Session) → IsServedImage shape first → All IsLineSoFar lines
     → IsOfRun shape first lines left → IsPlay shape first lines left
 is_play sessions shape first lines left served so_far run =
     let t : Task = task_of shape first (calls_of 1 lines) in

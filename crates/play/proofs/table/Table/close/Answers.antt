@@ -1,9 +1,0 @@
-use Rattle.std.proofs.Common.{refl}
-use Rattle.play.proofs.driven.TableParts.{close_left}
-use Rattle.play.proofs.table.Table.close.Goals as goal
-
-pub returns : goal.returns
-returns c t s is =
-    close_left t c.args.self.now _ s c.args.op c.take.new.self c.want-want.result c.event.result is
-    (record { answer = c.event.ensures.answer; follows = c.event.ensures.follows; shape = c.event.ensures.shape; callers = c.event.ensures.callers })
-    c.want-want.ensures c.take.ensures c.closing-self.ensures refl refl
