@@ -2,17 +2,17 @@
 use Rattle.std.proofs.Common.{◌≡◌, ℕ, List, Result, Ok, Err, sym, subst}
 use Rattle.std.specs.Prelude.{IfErr, IsErrAnd}
 use Rattle.image_layout.specs.Places.{Shape}
-use Rattle.dash_top.specs.declared.work.Stop.{Stop}
-use Rattle.dash_top.specs.declared.work.Stop.TheVariants.{Words, Script, Image, Source, Store, NoMemory}
+use Rattle.dash_top.specs.declared.work.Refused.{Refused}
+use Rattle.dash_top.specs.declared.work.Refused.TheVariants.{Words, Script, Image, Source, Store, NoMemory}
 use Rattle.dash_top.specs.Commands.{SaysFormat, ReadsImage, play_words}
-use Rattle.dash_top.specs.Told.{Told, KeepsStore}
+use Rattle.dash_top.specs.Bytes.{Bytes, KeepsStore}
 use Rattle.dash_top.specs.Reading.{HasImageCause}
 use Rattle.dash_top.specs.Work.{HasCause, HasFormatCause, FindsScriptGood, IsRefused, StoreFailed}
 
-module _ (t : Told) (words : List (List ℕ)) (source_old source_new store_old store_new : ℕ) where
+module _ (t : Bytes) (words : List (List ℕ)) (source_old source_new store_old store_new : ℕ) where
   -- of a command that reads the image
-  pub cause_of_reading : (stop : Stop) → ReadsImage words → FindsScriptGood t words → KeepsStore t → HasImageCause t.store_old store_old store_new stop
-      → HasCause t words source_old source_new store_old store_new stop
+  pub cause_of_reading : (refused : Refused) → ReadsImage words → FindsScriptGood t words → KeepsStore t → HasImageCause t.store_old store_old store_new refused
+      → HasCause t words source_old source_new store_old store_new refused
   cause_of_reading Words reads good keeps h = absurd h
   cause_of_reading (Script fault) reads good keeps h = absurd h
   cause_of_reading (Image fault) reads good keeps h = (IsRefused.in_reading reads good h, keeps)
@@ -21,9 +21,9 @@ module _ (t : Told) (words : List (List ℕ)) (source_old source_new store_old s
   cause_of_reading NoMemory reads good keeps h = keeps
 
   -- of a new image
-  pub cause_of_format : {shape : Shape} (stop : Stop) → SaysFormat words shape
-      → HasFormatCause t.store_old t.store_new t.writes_old t.writes_new t.lost store_old store_new stop
-      → HasCause t words source_old source_new store_old store_new stop
+  pub cause_of_format : {shape : Shape} (refused : Refused) → SaysFormat words shape
+      → HasFormatCause t.store_old t.store_new t.writes_old t.writes_new t.lost store_old store_new refused
+      → HasCause t words source_old source_new store_old store_new refused
   cause_of_format Words says h = absurd h
   cause_of_format (Script fault) says h = absurd h
   cause_of_format (Image fault) says h = absurd h
@@ -32,9 +32,9 @@ module _ (t : Told) (words : List (List ℕ)) (source_old source_new store_old s
   cause_of_format NoMemory says h = record { same = h.0; unwritten = h.1 }
 
   -- of a play
-  pub cause_of_play : (stop : Stop) → words ≡ play_words → HasCause t play_words source_old source_new store_old store_new stop
-      → HasCause t words source_old source_new store_old store_new stop
-  cause_of_play stop form h = subst (λ w. HasCause t w source_old source_new store_old store_new stop) (sym form) h
+  pub cause_of_play : (refused : Refused) → words ≡ play_words → HasCause t play_words source_old source_new store_old store_new refused
+      → HasCause t words source_old source_new store_old store_new refused
+  cause_of_play refused form h = subst (λ w. HasCause t w source_old source_new store_old store_new refused) (sym form) h
 
 -- what holds of the error with which a result was made holds of its error
 pub err_of : {T E : Type 0} (P : E → Type 0) (result : Result T E) (e : E) → IsErrAnd result (λ f. f ≡ e) → P e → IfErr result P

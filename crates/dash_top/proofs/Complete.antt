@@ -21,7 +21,7 @@ use Rattle.script_text.proofs.Complete.{no_fault as no_script_fault}
 use Rattle.image_file.proofs.Accepted.{served-no_fault}
 use Rattle.dash_top.specs.Commands.{check_words, list_words, play_words, IsNoCommand, ReadsImage}
 use Rattle.dash_top.specs.Commands.ReadsImage.{for_check, for_list, for_play}
-use Rattle.dash_top.specs.Told.{Told, RefusesImage, RefusesPlay, RefusesScript}
+use Rattle.dash_top.specs.Bytes.{Bytes, RefusesImage, RefusesPlay, RefusesScript}
 use Rattle.dash_top.specs.Top.{HasGoodImage, HasPlayableImage, HasGoodScript, IsGoodCommand}
 use Rattle.dash_top.specs.Top.IsGoodCommand.{good_format, good_check, good_list, good_play}
 use Rattle.dash_top.specs.Work.{Plays, IsDone, IsRefused}
@@ -44,7 +44,7 @@ taken_is_shorter : (now : Option (List ℕ)) (taken all : List ℕ) → Consumes
 taken_is_shorter None taken all h = absurd h
 taken_is_shorter (Some rest) taken all h = rw h (grind (arith, common_steps))
 
-pub good_script_is_taken : (t : Told) (fault : ScriptFault) → RefusesScript t.source_old t.source_new fault → HasGoodScript t → ⊥
+pub good_script_is_taken : (t : Bytes) (fault : ScriptFault) → RefusesScript t.source_old t.source_new fault → HasGoodScript t → ⊥
 good_script_is_taken t fault refused good =
     let taken : Consumes (Some good.script) t.source_new refused.script =
     subst (λ (o : Option (List ℕ)). Consumes o t.source_new refused.script) good.source_tells refused.reads.taken in
@@ -53,7 +53,7 @@ good_script_is_taken t fault refused good =
     let whole : good.script ≡ refused.script = consumed_all t.source_new refused.script good.script taken (refused.reads.to_its_end (omega arith)) in
     refused.not_memory (no_script_fault Play refused.script good.lines fault (subst (λ (x : List ℕ). IsScript Play x good.lines) whole good.good) refused.has_fault)
 
-pub good_image_is_taken : (t : Told) (fault : ImageFault) → RefusesImage t.store_old fault → HasGoodImage t → ⊥
+pub good_image_is_taken : (t : Bytes) (fault : ImageFault) → RefusesImage t.store_old fault → HasGoodImage t → ⊥
 good_image_is_taken t fault refused good =
     let short : length good.start ≤ 282067200 = subst (λ (x : List ℕ). length x ≤ 282067200) (sym good.good.file) (file-le good.good.shape good.good.words good.good.sound) in
     let whole : refused.start ≡ good.start = whole_front t.store_old 282067200 refused.start good.start good.store_tells refused.reads short in
@@ -68,7 +68,7 @@ untouched-no_fault shape word Geometry h may = h
 untouched-no_fault shape word (Unsound rule w) h may = h.1.broken (may w)
 untouched-no_fault shape word NoMemory h may = h
 
-pub good_image_is_played : (t : Told) (fault : ImageFault) → RefusesPlay t.store_old fault → HasPlayableImage t → ⊥
+pub good_image_is_played : (t : Bytes) (fault : ImageFault) → RefusesPlay t.store_old fault → HasPlayableImage t → ⊥
 good_image_is_played t fault refused playable =
     let good = playable.image.good in
     let start = playable.image.start in
@@ -101,7 +101,7 @@ list_is_no_play words h k =
 one_is_not_four : (words : List (List ℕ)) (a b c d e : List ℕ) → words ≡ a ∷ [] → words ≡ b ∷ c ∷ d ∷ e ∷ [] → ⊥
 one_is_not_four words a b c d e h k = cc
 
-pub image_of_good : (t : Told) (words : List (List ℕ)) → ReadsImage words → IsGoodCommand t words → HasGoodImage t
+pub image_of_good : (t : Bytes) (words : List (List ℕ)) → ReadsImage words → IsGoodCommand t words → HasGoodImage t
 image_of_good t words (for_check h) (good_format f) = absurd (one_is_not_four words _ _ f.segments f.depth f.kind h f.says)
 image_of_good t words (for_list h) (good_format f) = absurd (one_is_not_four words _ _ f.segments f.depth f.kind h f.says)
 image_of_good t words (for_play h) (good_format f) = absurd (one_is_not_four words _ _ f.segments f.depth f.kind h f.says)
@@ -109,34 +109,34 @@ image_of_good t words reads (good_check k image) = image
 image_of_good t words reads (good_list k image) = image
 image_of_good t words reads (good_play k playable script) = playable.image
 
-pub playable_of_good : (t : Told) (words : List (List ℕ)) → words ≡ play_words → IsGoodCommand t words → HasPlayableImage t
+pub playable_of_good : (t : Bytes) (words : List (List ℕ)) → words ≡ play_words → IsGoodCommand t words → HasPlayableImage t
 playable_of_good t words h (good_format f) = absurd (one_is_not_four words _ _ f.segments f.depth f.kind h f.says)
 playable_of_good t words h (good_check k image) = absurd (check_is_no_play words k h)
 playable_of_good t words h (good_list k image) = absurd (list_is_no_play words k h)
 playable_of_good t words h (good_play k playable script) = playable
 
-pub script_of_good : (t : Told) (words : List (List ℕ)) → words ≡ play_words → IsGoodCommand t words → HasGoodScript t
+pub script_of_good : (t : Bytes) (words : List (List ℕ)) → words ≡ play_words → IsGoodCommand t words → HasGoodScript t
 script_of_good t words h (good_format f) = absurd (one_is_not_four words _ _ f.segments f.depth f.kind h f.says)
 script_of_good t words h (good_check k image) = absurd (check_is_no_play words k h)
 script_of_good t words h (good_list k image) = absurd (list_is_no_play words k h)
 script_of_good t words h (good_play k image script) = script
 
-pub good_words : (t : Told) (words : List (List ℕ)) → IsNoCommand words → IsGoodCommand t words → ⊥
+pub good_words : (t : Bytes) (words : List (List ℕ)) → IsNoCommand words → IsGoodCommand t words → ⊥
 good_words t words none (good_format f) = none.no_format _ f
 good_words t words none (good_check k image) = none.no_check k
 good_words t words none (good_list k image) = none.no_list k
 good_words t words none (good_play k image script) = none.no_play k
 
 -- SO a good command meets no refusal
-pub good_image : (t : Told) (words : List (List ℕ)) (fault : ImageFault) → IsRefused t words fault → IsGoodCommand t words → ⊥
+pub good_image : (t : Bytes) (words : List (List ℕ)) (fault : ImageFault) → IsRefused t words fault → IsGoodCommand t words → ⊥
 good_image t words fault (in_reading reads script refused) good = good_image_is_taken t fault refused (image_of_good t words reads good)
 good_image t words fault (in_playing form script refused) good = good_image_is_played t fault refused (playable_of_good t words form good)
 
-pub good_script : (t : Told) (words : List (List ℕ)) (fault : ScriptFault) → words ≡ play_words → RefusesScript t.source_old t.source_new fault → IsGoodCommand t words → ⊥
+pub good_script : (t : Bytes) (words : List (List ℕ)) (fault : ScriptFault) → words ≡ play_words → RefusesScript t.source_old t.source_new fault → IsGoodCommand t words → ⊥
 good_script t words fault reads refused good = good_script_is_taken t fault refused (script_of_good t words reads good)
 
 -- what is done at the words of `play` is a play
-pub play_of_done : (t : Told) (words : List (List ℕ)) (text : List ℕ) → words ≡ play_words → IsDone t words text → Plays t text
+pub play_of_done : (t : Bytes) (words : List (List ℕ)) (text : List ℕ) → words ≡ play_words → IsDone t words text → Plays t text
 play_of_done t words text h (by_format f stores once) = absurd (one_is_not_four words _ _ f.segments f.depth f.kind h f.says)
 play_of_done t words text h (by_check k checks keeps) = absurd (check_is_no_play words k h)
 play_of_done t words text h (by_list k lists keeps) = absurd (list_is_no_play words k h)

@@ -5,7 +5,7 @@ use Rattle.std.proofs.lemmas.Grind.{common_steps}
 use Rattle.outside.specs.Storing.{Holds, IsFront}
 use Rattle.sound_image.specs.Image.{image_bytes}
 use Rattle.dash_top.specs.Played.{IsPlayed}
-use Rattle.dash_top.specs.Told.{Told}
+use Rattle.dash_top.specs.Bytes.{Bytes}
 use Rattle.dash_top.specs.Work.{Plays}
 use Rattle.dash_top.specs.Top.{Headline}
 
@@ -25,7 +25,7 @@ appended : (now : Option (List ℕ)) (text before : List ℕ) → Appends (Some 
 appended None text before h = absurd h
 appended (Some all) text before h = ap Some h
 
-pub headline : (t : Told) (sink_old sink_new : Option (List ℕ)) (transcript : List ℕ) → Plays t transcript → Appends sink_old sink_new transcript → Headline t sink_old sink_new
+pub headline : (t : Bytes) (sink_old sink_new : Option (List ℕ)) (transcript : List ℕ) → Plays t transcript → Appends sink_old sink_new transcript → Headline t sink_old sink_new
 headline t sink_old sink_new transcript plays appends start script before store_is source_is sink_is =
     let short : length plays.script ≤ 16777216 = plays.played.script_is.short.few_bytes in
     let script_is : script ≡ plays.script =

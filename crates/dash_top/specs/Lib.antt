@@ -1,7 +1,7 @@
 pub mod Commands
 pub mod Texts
 pub mod Played
-pub mod Told
+pub mod Bytes
 pub mod Reading
 pub mod Work
 pub mod Top

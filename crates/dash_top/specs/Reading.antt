@@ -1,12 +1,12 @@
 -- Why a script or an image could not be read.
 use Rattle.std.specs.Prelude.{ℕ, List, Option, ⊤}
 use Rattle.outside.specs.Causes.{Rose}
-use Rattle.dash_top.specs.declared.work.Stop.{Stop}
-use Rattle.dash_top.specs.declared.work.Stop.TheVariants.{Words, Script, Image, Source, Store, NoMemory}
-use Rattle.dash_top.specs.Told.{RefusesScript, RefusesImage}
+use Rattle.dash_top.specs.declared.work.Refused.{Refused}
+use Rattle.dash_top.specs.declared.work.Refused.TheVariants.{Words, Script, Image, Source, Store, NoMemory}
+use Rattle.dash_top.specs.Bytes.{RefusesScript, RefusesImage}
 
 -- by what the source has left before and after, and by its counts of faults
-abbrev pub HasScriptCause : Option (List ℕ) → Option (List ℕ) → ℕ → ℕ → Stop → Type 0
+abbrev pub HasScriptCause : Option (List ℕ) → Option (List ℕ) → ℕ → ℕ → Refused → Type 0
 HasScriptCause left_old left_new faults_old faults_new Words = ⊥
 HasScriptCause left_old left_new faults_old faults_new (Script fault) = RefusesScript left_old left_new fault
 HasScriptCause left_old left_new faults_old faults_new (Image fault) = ⊥
@@ -15,7 +15,7 @@ HasScriptCause left_old left_new faults_old faults_new Store = ⊥
 HasScriptCause left_old left_new faults_old faults_new NoMemory = ⊤
 
 -- by what the store has, and by its counts of faults
-abbrev pub HasImageCause : Option (List ℕ) → ℕ → ℕ → Stop → Type 0
+abbrev pub HasImageCause : Option (List ℕ) → ℕ → ℕ → Refused → Type 0
 HasImageCause store faults_old faults_new Words = ⊥
 HasImageCause store faults_old faults_new (Script fault) = ⊥
 HasImageCause store faults_old faults_new (Image fault) = RefusesImage store fault

@@ -11,18 +11,18 @@ use Rattle.image_file.specs.Fault.{IsServedFile}
 use Rattle.dash_top.specs.Commands.{check_words, list_words, play_words, SaysFormat, IsNoCommand}
 use Rattle.dash_top.specs.Texts.{usage_text, script_fault_text, image_fault_text}
 use Rattle.dash_top.specs.Played.{IsPlayed}
-use Rattle.dash_top.specs.Told.{Told, KeepsStore, RefusesScript}
+use Rattle.dash_top.specs.Bytes.{Bytes, KeepsStore, RefusesScript}
 use Rattle.dash_top.specs.Work.{IsDone, IsRefused}
 
 -- THE HEADLINE: wherever store, source and sink tell their bytes, the script is all that the source had left, and
 -- the store's bytes, the script, the bytes that the sink took and the store's bytes now are those of its run, a session
-abbrev pub Headline : Told → Option (List ℕ) → Option (List ℕ) → Type 0
+abbrev pub Headline : Bytes → Option (List ℕ) → Option (List ℕ) → Type 0
 Headline t sink_old sink_new =
     (start script before : List ℕ) → t.store_old ≡ Some start → t.source_old ≡ Some script → sink_old ≡ Some before
     → (transcript ending : List ℕ) × (sink_new ≡ Some (before ++ transcript)) × (t.store_new ≡ Some ending) × IsPlayed start script transcript ending
 
 -- WHAT WAS TO BE WRITTEN: the text of each outcome that writes one; a refusal has left the store as it was
-pub data IsText (t : Told) (words : List (List ℕ)) : List ℕ → Type 0 where
+pub data IsText (t : Bytes) (words : List (List ℕ)) : List ℕ → Type 0 where
   of_done : {text : List ℕ} → IsDone t words text → IsText t words text
   of_bad_words : IsNoCommand words → KeepsStore t → IsText t words usage_text
   of_bad_script : {fault : ScriptFault} → words ≡ play_words → RefusesScript t.source_old t.source_new fault → KeepsStore t
@@ -31,24 +31,24 @@ pub data IsText (t : Told) (words : List (List ℕ)) : List ℕ → Type 0 where
 
 -- COMPLETE: a good command meets no refusal; so it is done, or memory was wanting
 -- the store tells the file of a sound image that the program serves
-pub record HasGoodImage (t : Told) : Type 0 where
+pub record HasGoodImage (t : Bytes) : Type 0 where
   pub start : List ℕ
   pub store_tells : t.store_old ≡ Some start
   pub good : IsServedFile start
 
 -- and it may be played
-pub record HasPlayableImage (t : Told) : Type 0 where
+pub record HasPlayableImage (t : Bytes) : Type 0 where
   pub image : HasGoodImage t
   pub untouched : MayBePlayed image.good.shape (slice_index image.good.words)
 
 -- the source tells a script of the grammar
-pub record HasGoodScript (t : Told) : Type 0 where
+pub record HasGoodScript (t : Bytes) : Type 0 where
   pub script : List ℕ
   pub source_tells : t.source_old ≡ Some script
   pub lines : List Line
   pub good : IsScript Play script lines
 
-pub data IsGoodCommand (t : Told) (words : List (List ℕ)) : Type 0 where
+pub data IsGoodCommand (t : Bytes) (words : List (List ℕ)) : Type 0 where
   good_format : {shape : Shape} → SaysFormat words shape → IsGoodCommand t words
   good_check : words ≡ check_words → HasGoodImage t → IsGoodCommand t words
   good_list : words ≡ list_words → HasGoodImage t → IsGoodCommand t words

@@ -13,12 +13,12 @@ use Rattle.image_file.specs.declared.fault.ImageFault.{ImageFault}
 use Rattle.image_file.specs.declared.summary.Summary.{Summary}
 use Rattle.dash_top.specs.declared.work.Output.{Output}
 use Rattle.dash_top.specs.declared.work.Output.TheVariants.{Nothing, Text, Lines}
-use Rattle.dash_top.specs.declared.work.Stop.{Stop}
-use Rattle.dash_top.specs.declared.work.Stop.TheVariants.{Words, Script, Image, Source, Store, NoMemory}
+use Rattle.dash_top.specs.declared.work.Refused.{Refused}
+use Rattle.dash_top.specs.declared.work.Refused.TheVariants.{Words, Script, Image, Source, Store, NoMemory}
 use Rattle.dash_top.specs.Commands.{check_words, list_words, play_words, SaysFormat, IsNoCommand, ReadsImage}
 use Rattle.dash_top.specs.Texts.{check_text, list_text}
 use Rattle.dash_top.specs.Played.{IsPlayed}
-use Rattle.dash_top.specs.Told.{Told, KeepsStore, WritesOnce, LosesWrite, ReadsScript, ReadsGoodScript, RefusesScript, ReadsSound, ReadsPlayable, RefusesImage, RefusesPlay}
+use Rattle.dash_top.specs.Bytes.{Bytes, KeepsStore, WritesOnce, LosesWrite, ReadsScript, ReadsGoodScript, RefusesScript, ReadsSound, ReadsPlayable, RefusesImage, RefusesPlay}
 
 -- WHAT IS DONE
 -- the file of the image of an empty table of this shape stands in the store
@@ -58,7 +58,7 @@ pub record ListsPairs (store : Option (List ℕ)) (text : List ℕ) : Type 0 whe
 
 -- the script and the image that were read, which may be played, the text and what stands in the store now are those of its
 -- run, a session
-pub record Plays (t : Told) (transcript : List ℕ) : Type 0 where
+pub record Plays (t : Bytes) (transcript : List ℕ) : Type 0 where
   pub script : List ℕ
   pub reads_script : ReadsScript t.source_old t.source_new script
   pub shape : Shape
@@ -71,30 +71,30 @@ pub record Plays (t : Told) (transcript : List ℕ) : Type 0 where
   pub played : IsPlayed (image_bytes words) script transcript ending
 
 -- what the words ask for was done, with one write of the store or none, and this is to be written
-pub data IsDone (t : Told) (words : List (List ℕ)) : List ℕ → Type 0 where
+pub data IsDone (t : Bytes) (words : List (List ℕ)) : List ℕ → Type 0 where
   by_format : {shape : Shape} → SaysFormat words shape → StoresNew t.store_old t.store_new shape → WritesOnce t → IsDone t words []
   by_check : {text : List ℕ} → words ≡ check_words → Checks t.store_old text → KeepsStore t → IsDone t words text
   by_list : {text : List ℕ} → words ≡ list_words → ListsPairs t.store_old text → KeepsStore t → IsDone t words text
   by_play : {transcript : List ℕ} → words ≡ play_words → Plays t transcript → WritesOnce t → IsDone t words transcript
 
 -- THE ORDER: the image is read after the script, where there is one, was read to its end and found good
-abbrev pub FindsScriptGood : Told → List (List ℕ) → Type 0
+abbrev pub FindsScriptGood : Bytes → List (List ℕ) → Type 0
 FindsScriptGood t words = words ≡ play_words → ReadsGoodScript t.source_old t.source_new
 
 -- WHY AN IMAGE IS REFUSED: by each command that reads it, or by a play alone, where the others take it
-pub data IsRefused (t : Told) (words : List (List ℕ)) (fault : ImageFault) : Type 0 where
+pub data IsRefused (t : Bytes) (words : List (List ℕ)) (fault : ImageFault) : Type 0 where
   in_reading : ReadsImage words → FindsScriptGood t words → RefusesImage t.store_old fault → IsRefused t words fault
   in_playing : words ≡ play_words → FindsScriptGood t words → RefusesPlay t.store_old fault → IsRefused t words fault
 
 -- WHERE THE STORE FAILED: in a read, and it is as it was; or in its one write, of a new image, or of the image that a
 -- play left which had read script and image and found both good
-pub data StoreFailed (t : Told) (words : List (List ℕ)) : Type 0 where
+pub data StoreFailed (t : Bytes) (words : List (List ℕ)) : Type 0 where
   in_reading : ReadsImage words → FindsScriptGood t words → KeepsStore t → StoreFailed t words
   in_formatting : {shape : Shape} → SaysFormat words shape → LosesWrite t → StoreFailed t words
   in_playing : words ≡ play_words → FindsScriptGood t words → ReadsPlayable t.store_old → LosesWrite t → StoreFailed t words
 
 -- WHY A COMMAND STOPS, by the counts of faults of the source and of the store
-abbrev pub HasCause : Told → List (List ℕ) → ℕ → ℕ → ℕ → ℕ → Stop → Type 0
+abbrev pub HasCause : Bytes → List (List ℕ) → ℕ → ℕ → ℕ → ℕ → Refused → Type 0
 HasCause t words source_old source_new store_old store_new Words = IsNoCommand words × KeepsStore t
 HasCause t words source_old source_new store_old store_new (Script fault) = (words ≡ play_words) × RefusesScript t.source_old t.source_new fault × KeepsStore t
 HasCause t words source_old source_new store_old store_new (Image fault) = IsRefused t words fault × KeepsStore t
@@ -104,7 +104,7 @@ HasCause t words source_old source_new store_old store_new NoMemory = KeepsStore
 
 -- of a new image, by what the store tells, how often it was written and whether that failed: its one write failed, or memory was
 -- wanting before it
-abbrev pub HasFormatCause : Option (List ℕ) → Option (List ℕ) → ℕ → ℕ → Bool → ℕ → ℕ → Stop → Type 0
+abbrev pub HasFormatCause : Option (List ℕ) → Option (List ℕ) → ℕ → ℕ → Bool → ℕ → ℕ → Refused → Type 0
 HasFormatCause store_old store_new writes_old writes_new lost faults_old faults_new Words = ⊥
 HasFormatCause store_old store_new writes_old writes_new lost faults_old faults_new (Script fault) = ⊥
 HasFormatCause store_old store_new writes_old writes_new lost faults_old faults_new (Image fault) = ⊥

@@ -6,10 +6,10 @@ ghost use Rattle.script_text.specs.declared.line.Mode.TheVariants.{Play as PlayM
 ghost use Rattle.script_text.specs.Script.{IsScript};
 ghost use Rattle.script_text.specs.Calls.{IsLineSoFar};
 ghost use Rattle.image_rules.specs.Stage.{PassesRule8};
-ghost use Rattle.dash_top.specs.Told.{ReadsScript, ReadsSound};
+ghost use Rattle.dash_top.specs.Bytes.{ReadsScript, ReadsSound};
 ghost use Rattle.dash_top.specs.Reading.{HasScriptCause, HasImageCause};
 
-use crate::work::Stop;
+use crate::work::Refused;
 use image_file::{ImageFault, Medium, from_bytes};
 use outside::{Source, Store, StoreFault, take_all};
 use script_text::{MOST_BYTES, Mode, Script, ScriptFault, parse};
@@ -19,7 +19,7 @@ use std::alloc::Global;
 pub const MOST_IMAGE_BYTES: u64 = 282_067_200;
 
 /// Reads the script, to its end.
-pub fn read_script<S: Source>(alloc: Global, input: &mut S) -> Result<Script, Stop>
+pub fn read_script<S: Source>(alloc: Global, input: &mut S) -> Result<Script, Refused>
     ensures ok { IfOk result (λ lines. (script : List ℕ) × ReadsScript (S.left input.old) (S.left input.new) script × IsScript PlayMode script lines) }
     ensures few { IfOk result (λ lines. length lines ≤ 1000000) }
     ensures so_far { IfOk result (All IsLineSoFar) }
@@ -27,18 +27,18 @@ pub fn read_script<S: Source>(alloc: Global, input: &mut S) -> Result<Script, St
 {
     let script = match take_all(alloc, input, MOST_BYTES as u64) {
         Ok(script) => script,
-        Err(StoreFault::Failed) => return Err(Stop::Source),
-        Err(StoreFault::NoMemory) => return Err(Stop::NoMemory),
+        Err(StoreFault::Failed) => return Err(Refused::Source),
+        Err(StoreFault::NoMemory) => return Err(Refused::NoMemory),
     };
     match parse(alloc, Mode::Play, &script) {
         Ok(lines) => Ok(lines),
-        Err(ScriptFault::NoMemory) => Err(Stop::NoMemory),
-        Err(fault) => Err(Stop::Script(fault)),
+        Err(ScriptFault::NoMemory) => Err(Refused::NoMemory),
+        Err(fault) => Err(Refused::Script(fault)),
     }
 }
 
 /// Reads the image of the store, which stays.
-pub fn read_image<I: Store>(alloc: Global, image: &mut I) -> Result<Medium, Stop>
+pub fn read_image<I: Store>(alloc: Global, image: &mut I) -> Result<Medium, Refused>
     ensures ok { IfOk result (λ medium. ReadsSound (I.contents image.old) medium.geometry medium.words) }
     ensures served { IfOk result (λ medium. PassesRule8 medium.geometry (slice_index medium.words)) }
     ensures err { IfErr result (HasImageCause (I.contents image.old) (I.faults image.old) (I.faults image.new)) }
@@ -48,12 +48,12 @@ pub fn read_image<I: Store>(alloc: Global, image: &mut I) -> Result<Medium, Stop
 {
     let start = match image.read_all(alloc, MOST_IMAGE_BYTES) {
         Ok(start) => start,
-        Err(StoreFault::Failed) => return Err(Stop::Store),
-        Err(StoreFault::NoMemory) => return Err(Stop::NoMemory),
+        Err(StoreFault::Failed) => return Err(Refused::Store),
+        Err(StoreFault::NoMemory) => return Err(Refused::NoMemory),
     };
     match from_bytes(alloc, &start) {
         Ok(medium) => Ok(medium),
-        Err(ImageFault::NoMemory) => Err(Stop::NoMemory),
-        Err(fault) => Err(Stop::Image(fault)),
+        Err(ImageFault::NoMemory) => Err(Refused::NoMemory),
+        Err(fault) => Err(Refused::Image(fault)),
     }
 }

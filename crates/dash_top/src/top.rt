@@ -3,12 +3,12 @@ ghost use Rattle.std.specs.Prelude.{◌≡◌, ◌≢◌, ℕ, ◌+◌, ◌<◌,
 ghost use Rattle.std.specs.Io.KnownBytes.{Appends};
 ghost use Rattle.outside.specs.Causes.{Rose, AppendsFront};
 ghost use Rattle.outside.specs.Storing.{most_writes};
-ghost use Rattle.outside.specs.declared.gates.Place.TheVariants.{Unmade};
+ghost use Rattle.outside.specs.declared.gates.GateState.TheVariants.{Unmade};
 ghost use Rattle.script_text.specs.declared.fault.ScriptFault.{ScriptFault};
 ghost use Rattle.image_file.specs.declared.fault.ImageFault.{ImageFault};
 ghost use Rattle.dash_top.specs.Commands.{check_words, list_words, play_words, IsNoCommand};
 ghost use Rattle.dash_top.specs.Texts.{usage_text, script_fault_text, image_fault_text};
-ghost use Rattle.dash_top.specs.Told.{told, counts, NoneRose, KeepsStore, RefusesScript};
+ghost use Rattle.dash_top.specs.Bytes.{bytes_told, counts, NoneRose, KeepsStore, RefusesScript};
 ghost use Rattle.dash_top.specs.Work.{IsDone, IsRefused, StoreFailed};
 ghost use Rattle.dash_top.specs.Top.{IsText, Headline, IsGoodCommand};
 
@@ -16,7 +16,7 @@ use crate::status::{
     BAD_IMAGE, BAD_SCRIPT, BAD_WORDS, DONE, NO_MEMORY, SINK_FAILED, SOURCE_FAILED, STORE_FAILED,
 };
 use crate::text::{USAGE, image_fault, script_fault};
-use crate::work::{Stop, perform};
+use crate::work::{Refused, perform};
 use outside::{Failed, Gates, Sink, Source, Store, put_all};
 use std::alloc::Global;
 use std::marker::Sync;
@@ -50,19 +50,19 @@ pub fn dash_run<R: Threads + Wait + Sync, I: Store, S: Source, K: Sink, M: Gates
     out: &mut K,
     _gates: &mut M,
 ) -> u8
-    requires unmade { (caller : ℕ) → 1 ≤ caller → caller ≤ 64 → M.place _gates.old caller ≡ Unmade }
+    requires unmade { (caller : ℕ) → 1 ≤ caller → caller ≤ 64 → M.state _gates.old caller ≡ Unmade }
     requires countable { I.writes image.old < most_writes }
 
     ensures range { result ≤ NO_MEMORY }
 
     // Done: what the words ask for, and its text was written.
     ensures done { result ≡ DONE → (text : List ℕ) × Appends (K.taken out.old) (K.taken out.new) text
-        × IsDone (told (I.contents image.old) (I.contents image.new) (I.writes image.old) (I.writes image.new) (I.lost image.new) (S.left input.old) (S.left input.new)) (map string_bytes words.now) text }
+        × IsDone (bytes_told (I.contents image.old) (I.contents image.new) (I.writes image.old) (I.writes image.new) (I.lost image.new) (S.left input.old) (S.left input.new)) (map string_bytes words.now) text }
 
     // The headline: wherever all three tell their bytes, these are what the run of the script leaves, and a session,
     // whose calls, woven by their places, are one legal history of a plain map that starts with the image's pairs.
     ensures headline { result ≡ DONE → map string_bytes words.now ≡ play_words
-        → Headline (told (I.contents image.old) (I.contents image.new) (I.writes image.old) (I.writes image.new) (I.lost image.new) (S.left input.old) (S.left input.new))
+        → Headline (bytes_told (I.contents image.old) (I.contents image.new) (I.writes image.old) (I.writes image.new) (I.lost image.new) (S.left input.old) (S.left input.new))
         (K.taken out.old) (K.taken out.new) }
 
     // The refusals, each with its cause and its line; an image is refused only after the script, where there is one, was
@@ -72,7 +72,7 @@ pub fn dash_run<R: Threads + Wait + Sync, I: Store, S: Source, K: Sink, M: Gates
         × RefusesScript (S.left input.old) (S.left input.new) fault
         × Appends (K.taken out.old) (K.taken out.new) (script_fault_text fault)) }
     ensures bad_image { result ≡ BAD_IMAGE → ((fault : ImageFault)
-        × IsRefused (told (I.contents image.old) (I.contents image.new) (I.writes image.old) (I.writes image.new) (I.lost image.new) (S.left input.old) (S.left input.new)) (map string_bytes words.now) fault
+        × IsRefused (bytes_told (I.contents image.old) (I.contents image.new) (I.writes image.old) (I.writes image.new) (I.lost image.new) (S.left input.old) (S.left input.new)) (map string_bytes words.now) fault
         × Appends (K.taken out.old) (K.taken out.new) (image_fault_text fault)) }
 
     // The outside failed. Where the store failed in a read, it is as it was; only a `format`, or a `play` that had found
@@ -80,38 +80,38 @@ pub fn dash_run<R: Threads + Wait + Sync, I: Store, S: Source, K: Sink, M: Gates
     ensures source_failed { result ≡ SOURCE_FAILED → (map string_bytes words.now ≡ play_words) × Rose (S.faults input.old) (S.faults input.new) }
     ensures sink_failed { result ≡ SINK_FAILED → Rose (K.faults out.old) (K.faults out.new) }
     ensures store_failed { result ≡ STORE_FAILED → Rose (I.faults image.old) (I.faults image.new)
-        × StoreFailed (told (I.contents image.old) (I.contents image.new) (I.writes image.old) (I.writes image.new) (I.lost image.new) (S.left input.old) (S.left input.new)) (map string_bytes words.now) }
+        × StoreFailed (bytes_told (I.contents image.old) (I.contents image.new) (I.writes image.old) (I.writes image.new) (I.lost image.new) (S.left input.old) (S.left input.new)) (map string_bytes words.now) }
 
     // What is unchanged: the store where nothing was done, and by `check` and `list`; the source but by `play`; and the
     // sink where nothing is to be written. A store that is as it was was not written, and none is written twice. Where
     // the sink failed, it has taken a front of what was to be written.
     ensures store_kept { result ≢ DONE → result ≢ SINK_FAILED → result ≢ STORE_FAILED
-        → KeepsStore (told (I.contents image.old) (I.contents image.new) (I.writes image.old) (I.writes image.new) (I.lost image.new) (S.left input.old) (S.left input.new)) }
+        → KeepsStore (bytes_told (I.contents image.old) (I.contents image.new) (I.writes image.old) (I.writes image.new) (I.lost image.new) (S.left input.old) (S.left input.new)) }
     ensures readers_keep { (map string_bytes words.now ≡ check_words) ⊎ (map string_bytes words.now ≡ list_words)
-        → KeepsStore (told (I.contents image.old) (I.contents image.new) (I.writes image.old) (I.writes image.new) (I.lost image.new) (S.left input.old) (S.left input.new)) }
+        → KeepsStore (bytes_told (I.contents image.old) (I.contents image.new) (I.writes image.old) (I.writes image.new) (I.lost image.new) (S.left input.old) (S.left input.new)) }
     ensures no_second_write { I.writes image.new ≤ I.writes image.old + 1 }
     ensures source_kept { map string_bytes words.now ≢ play_words → (S.left input.new ≡ S.left input.old) × (S.faults input.new ≡ S.faults input.old) }
     ensures sink_kept { (result ≡ SOURCE_FAILED) ⊎ ((result ≡ STORE_FAILED) ⊎ (result ≡ NO_MEMORY)) → K.taken out.new ≡ K.taken out.old }
     ensures sink_front { result ≡ SINK_FAILED → (text : List ℕ) × AppendsFront (K.taken out.old) (K.taken out.new) text
-        × IsText (told (I.contents image.old) (I.contents image.new) (I.writes image.old) (I.writes image.new) (I.lost image.new) (S.left input.old) (S.left input.new)) (map string_bytes words.now) text }
-    ensures gates_kept { (caller : ℕ) → M.place _gates.new caller ≡ M.place _gates.old caller }
+        × IsText (bytes_told (I.contents image.old) (I.contents image.new) (I.writes image.old) (I.writes image.new) (I.lost image.new) (S.left input.old) (S.left input.new)) (map string_bytes words.now) text }
+    ensures gates_kept { (caller : ℕ) → M.state _gates.new caller ≡ M.state _gates.old caller }
 
     // A good command on a good image and script is done, or memory was wanting.
-    ensures complete { IsGoodCommand (told (I.contents image.old) (I.contents image.new) (I.writes image.old) (I.writes image.new) (I.lost image.new) (S.left input.old) (S.left input.new)) (map string_bytes words.now)
+    ensures complete { IsGoodCommand (bytes_told (I.contents image.old) (I.contents image.new) (I.writes image.old) (I.writes image.new) (I.lost image.new) (S.left input.old) (S.left input.new)) (map string_bytes words.now)
         → NoneRose (counts (S.faults input.old) (S.faults input.new) (K.faults out.old) (K.faults out.new) (I.faults image.old) (I.faults image.new))
         → (result ≡ DONE) ⊎ (result ≡ NO_MEMORY) }
 {
     match perform(alloc, words, image, input) {
         Ok(output) => finish(out, DONE, output.as_bytes()),
-        Err(Stop::Words) => finish(out, BAD_WORDS, USAGE.as_bytes()),
-        Err(Stop::Source) => SOURCE_FAILED,
-        Err(Stop::Store) => STORE_FAILED,
-        Err(Stop::NoMemory) => NO_MEMORY,
-        Err(Stop::Script(fault)) => match script_fault(alloc, fault) {
+        Err(Refused::Words) => finish(out, BAD_WORDS, USAGE.as_bytes()),
+        Err(Refused::Source) => SOURCE_FAILED,
+        Err(Refused::Store) => STORE_FAILED,
+        Err(Refused::NoMemory) => NO_MEMORY,
+        Err(Refused::Script(fault)) => match script_fault(alloc, fault) {
             Ok(text) => finish(out, BAD_SCRIPT, text.as_bytes()),
             Err(_) => NO_MEMORY,
         },
-        Err(Stop::Image(fault)) => match image_fault(alloc, fault) {
+        Err(Refused::Image(fault)) => match image_fault(alloc, fault) {
             Ok(text) => finish(out, BAD_IMAGE, text.as_bytes()),
             Err(_) => NO_MEMORY,
         },

@@ -2,7 +2,7 @@
 ghost use Rattle.std.specs.Prelude.{◌≡◌, ◌≢◌, ◌⊎◌, ◌+◌, ◌<◌, ◌≤◌, ℕ, List, OnOk, IfOk, IfErr, map, string_bytes, false};
 ghost use Rattle.outside.specs.Storing.{most_writes};
 ghost use Rattle.dash_top.specs.Commands.{check_words, list_words, play_words};
-ghost use Rattle.dash_top.specs.Told.{told};
+ghost use Rattle.dash_top.specs.Bytes.{bytes_told};
 ghost use Rattle.dash_top.specs.Reading.{HasImageCause};
 ghost use Rattle.dash_top.specs.Work.{StoresNew, Checks, ListsPairs, Plays, IsDone, HasCause, HasFormatCause, output_bytes};
 
@@ -18,9 +18,9 @@ use reply_text::transcript;
 use script_text::ScriptFault;
 use std::alloc::{AllocError, Global};
 
-/// Why a command stopped before all was done.
+/// Why a command is refused: it stops before all is done.
 #[derive(Clone, Copy, Debug, PartialEq, Eq)]
-pub enum Stop {
+pub enum Refused {
     /// The words are none of the commands.
     Words,
     /// The script has this fault, which is not want of memory.
@@ -35,25 +35,25 @@ pub enum Stop {
     NoMemory,
 }
 
-impl From<AllocError> for Stop {
+impl From<AllocError> for Refused {
     ghost use Rattle.std.specs.Prelude.{◌≡◌};
-    ghost use Rattle.dash_top.specs.declared.work.Stop.TheVariants.{NoMemory};
+    ghost use Rattle.dash_top.specs.declared.work.Refused.TheVariants.{NoMemory};
 
     ghost from_gives = { λ _ e. e ≡ NoMemory };
 
-    fn from(_error: AllocError) -> Stop {
-        Stop::NoMemory
+    fn from(_error: AllocError) -> Refused {
+        Refused::NoMemory
     }
 }
 
-impl From<NoMemory> for Stop {
+impl From<NoMemory> for Refused {
     ghost use Rattle.std.specs.Prelude.{◌≡◌};
-    ghost use Rattle.dash_top.specs.declared.work.Stop.TheVariants.{NoMemory};
+    ghost use Rattle.dash_top.specs.declared.work.Refused.TheVariants.{NoMemory};
 
     ghost from_gives = { λ _ e. e ≡ NoMemory };
 
-    fn from(_error: NoMemory) -> Stop {
-        Stop::NoMemory
+    fn from(_error: NoMemory) -> Refused {
+        Refused::NoMemory
     }
 }
 
@@ -82,7 +82,7 @@ impl Output {
 }
 
 // Stores the image of an empty table.
-fn format_image<I: Store>(alloc: Global, image: &mut I, geometry: Geometry) -> Result<(), Stop>
+fn format_image<I: Store>(alloc: Global, image: &mut I, geometry: Geometry) -> Result<(), Refused>
     requires { I.writes image.old < most_writes }
     ensures ok { OnOk result (StoresNew (I.contents image.old) (I.contents image.new) geometry) }
     ensures once { OnOk result (I.writes image.new ≡ I.writes image.old + 1) }
@@ -94,12 +94,12 @@ fn format_image<I: Store>(alloc: Global, image: &mut I, geometry: Geometry) -> R
     let bytes = to_bytes(alloc, &medium)?;
     match image.write_all(&bytes) {
         Ok(()) => Ok(()),
-        Err(Failed) => Err(Stop::Store),
+        Err(Failed) => Err(Refused::Store),
     }
 }
 
 // The line of the image in numbers.
-fn check_image<I: Store>(alloc: Global, image: &mut I) -> Result<String, Stop>
+fn check_image<I: Store>(alloc: Global, image: &mut I) -> Result<String, Refused>
     ensures ok { IfOk result (λ text. Checks (I.contents image.old) (string_bytes text)) }
     ensures err { IfErr result (HasImageCause (I.contents image.old) (I.faults image.old) (I.faults image.new)) }
     ensures keeps { I.contents image.new ≡ I.contents image.old }
@@ -111,7 +111,7 @@ fn check_image<I: Store>(alloc: Global, image: &mut I) -> Result<String, Stop>
 }
 
 // The lines of the image's pairs.
-fn list_image<I: Store>(alloc: Global, image: &mut I) -> Result<String, Stop>
+fn list_image<I: Store>(alloc: Global, image: &mut I) -> Result<String, Refused>
     ensures ok { IfOk result (λ text. ListsPairs (I.contents image.old) (string_bytes text)) }
     ensures err { IfErr result (HasImageCause (I.contents image.old) (I.faults image.old) (I.faults image.new)) }
     ensures keeps { I.contents image.new ≡ I.contents image.old }
@@ -128,25 +128,25 @@ fn play_script<I: Store, S: Source>(
     alloc: Global,
     image: &mut I,
     input: &mut S,
-) -> Result<Vec<u8>, Stop>
+) -> Result<Vec<u8>, Refused>
     requires { I.writes image.old < most_writes }
-    ensures ok { IfOk result (λ lines. Plays (told (I.contents image.old) (I.contents image.new) (I.writes image.old) (I.writes image.new) (I.lost image.new) (S.left input.old) (S.left input.new)) lines.items) }
+    ensures ok { IfOk result (λ lines. Plays (bytes_told (I.contents image.old) (I.contents image.new) (I.writes image.old) (I.writes image.new) (I.lost image.new) (S.left input.old) (S.left input.new)) lines.items) }
     ensures once { IfOk result (λ lines. I.writes image.new ≡ I.writes image.old + 1) }
     ensures kept { IfOk result (λ lines. I.lost image.new ≡ false) }
-    ensures err { IfErr result (HasCause (told (I.contents image.old) (I.contents image.new) (I.writes image.old) (I.writes image.new) (I.lost image.new) (S.left input.old) (S.left input.new))
+    ensures err { IfErr result (HasCause (bytes_told (I.contents image.old) (I.contents image.new) (I.writes image.old) (I.writes image.new) (I.lost image.new) (S.left input.old) (S.left input.new))
         play_words (S.faults input.old) (S.faults input.new) (I.faults image.old) (I.faults image.new)) }
 {
     let script = read_script(alloc, input)?;
     let medium = read_image(alloc, image)?;
     if let Err(fault) = playable(&medium) {
-        return Err(Stop::Image(fault));
+        return Err(Refused::Image(fault));
     }
     let session = play(alloc, medium, &script)?;
     let lines = transcript(alloc, &session)?;
     let ending = to_bytes(alloc, &session.medium)?;
     match image.write_all(&ending) {
         Ok(()) => Ok(lines),
-        Err(Failed) => Err(Stop::Store),
+        Err(Failed) => Err(Refused::Store),
     }
 }
 
@@ -157,11 +157,11 @@ pub fn perform<I: Store, S: Source>(
     words: &[String],
     image: &mut I,
     input: &mut S,
-) -> Result<Output, Stop>
+) -> Result<Output, Refused>
     requires { I.writes image.old < most_writes }
-    ensures ok { IfOk result (λ output. IsDone (told (I.contents image.old) (I.contents image.new) (I.writes image.old) (I.writes image.new) (I.lost image.new) (S.left input.old) (S.left input.new))
+    ensures ok { IfOk result (λ output. IsDone (bytes_told (I.contents image.old) (I.contents image.new) (I.writes image.old) (I.writes image.new) (I.lost image.new) (S.left input.old) (S.left input.new))
         (map string_bytes words.now) (output_bytes output)) }
-    ensures err { IfErr result (HasCause (told (I.contents image.old) (I.contents image.new) (I.writes image.old) (I.writes image.new) (I.lost image.new) (S.left input.old) (S.left input.new))
+    ensures err { IfErr result (HasCause (bytes_told (I.contents image.old) (I.contents image.new) (I.writes image.old) (I.writes image.new) (I.lost image.new) (S.left input.old) (S.left input.new))
         (map string_bytes words.now) (S.faults input.old) (S.faults input.new) (I.faults image.old) (I.faults image.new)) }
     ensures readers_keep { (map string_bytes words.now ≡ check_words) ⊎ (map string_bytes words.now ≡ list_words) → I.contents image.new ≡ I.contents image.old }
     ensures readers_write_nothing { (map string_bytes words.now ≡ check_words) ⊎ (map string_bytes words.now ≡ list_words) → I.writes image.new ≡ I.writes image.old }
@@ -186,6 +186,6 @@ pub fn perform<I: Store, S: Source>(
             let lines = play_script(alloc, image, input)?;
             Ok(Output::Lines(lines))
         }
-        Command::Unknown => Err(Stop::Words),
+        Command::Unknown => Err(Refused::Words),
     }
 }

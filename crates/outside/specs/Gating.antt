@@ -1,9 +1,9 @@
--- Gates, and where each caller's gate is.
+-- Gates, and the state of each caller's gate.
 use Rattle.std.specs.Prelude.{◌≡◌, ◌≢◌, ℕ, ⊤, None, Some, Option, suc, zero}
 use Rattle.outside.specs.declared.gates.Power.{Power}
 use Rattle.outside.specs.declared.gates.Power.TheVariants.{On, Off}
-use Rattle.outside.specs.declared.gates.Place.{Place}
-use Rattle.outside.specs.declared.gates.Place.TheVariants.{Unmade, Made, Back}
+use Rattle.outside.specs.declared.gates.GateState.{GateState}
+use Rattle.outside.specs.declared.gates.GateState.TheVariants.{Unmade, Made, Back}
 
 -- the count of cuts: it rises exactly at the first Off, and only a gate that has not cut answers On
 abbrev pub Cuts : ℕ → Power → ℕ → Type 0
@@ -23,19 +23,19 @@ abbrev pub TellsLeft : Option (Option ℕ) → Option ℕ → Type 0
 TellsLeft None fuse = ⊤
 TellsLeft (Some left) fuse = left ≡ fuse
 
--- this caller's place becomes this one, and every other caller's stays
-pub record Moves (old new : ℕ → Place) (caller : ℕ) (place : Place) : Type 0 where
-  pub here : new caller ≡ place
+-- the state of this caller's gate becomes this one, and every other caller's stays
+pub record Moves (old new : ℕ → GateState) (caller : ℕ) (state : GateState) : Type 0 where
+  pub here : new caller ≡ state
   pub others : (c : ℕ) → c ≢ caller → new c ≡ old c
 
 -- the gate was made, and is not back
-abbrev pub IsMade : Place → Type 0
+abbrev pub IsMade : GateState → Type 0
 IsMade Unmade = ⊥
 IsMade (Made fuse) = ⊤
 IsMade (Back fuse cut) = ⊥
 
 -- the fuse that a gate was made with
-abbrev pub fuse_of : Place → Option ℕ
+abbrev pub fuse_of : GateState → Option ℕ
 fuse_of Unmade = None
 fuse_of (Made fuse) = fuse
 fuse_of (Back fuse cut) = fuse

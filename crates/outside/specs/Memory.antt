@@ -1,8 +1,8 @@
 -- Calls on memory that fail, and gates in memory.
 use Rattle.std.specs.Prelude.{ℕ, ◌<◌, ◌⊎◌, Bool, true, false, List, Contains, slice_index_or}
 use Rattle.outside.specs.Causes.{count_after}
-use Rattle.outside.specs.declared.gates.Place.{Place}
-use Rattle.outside.specs.declared.gates.Place.TheVariants.{Unmade}
+use Rattle.outside.specs.declared.gates.GateState.{GateState}
+use Rattle.outside.specs.declared.gates.GateState.TheVariants.{Unmade}
 
 -- after so many calls, the next one is in the list of those that are to fail
 abbrev pub IsToFail : List ℕ → ℕ → Type 0
@@ -17,6 +17,6 @@ abbrev pub cut_count : Bool → ℕ
 cut_count true = 1
 cut_count false = 0
 
--- a caller's place in the table, and past its end none is made
-abbrev pub place_at : List Place → ℕ → Place
-place_at places caller = slice_index_or places caller Unmade
+-- the state of a caller's gate in the table, and past its end none is made
+abbrev pub state_at : List GateState → ℕ → GateState
+state_at states caller = slice_index_or states caller Unmade

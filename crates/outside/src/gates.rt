@@ -1,7 +1,7 @@
 // Gates: one for each caller, asked before each event whether the power is still on.
 ghost use Rattle.std.specs.Prelude.{◌≡◌, ℕ, Option, nat_lt};
 ghost use Rattle.outside.specs.Gating.{Cuts, Passes, TellsLeft, Moves, IsMade, fuse_of};
-ghost use Rattle.outside.specs.declared.gates.Place.{Place};
+ghost use Rattle.outside.specs.declared.gates.GateState.{GateState};
 
 use std::marker::Send;
 
@@ -14,9 +14,9 @@ pub enum Power {
     Off,
 }
 
-/// Where a caller's gate is.
+/// The state of a caller's gate.
 #[derive(Clone, Copy, Debug, PartialEq, Eq)]
-pub enum Place {
+pub enum GateState {
     /// Not made yet.
     Unmade,
     /// Made with this fuse, and not back.
@@ -25,15 +25,15 @@ pub enum Place {
     Back(Option<u64>, bool),
 }
 
-impl Place {
+impl GateState {
     /// The fuse that the gate was made with; none where it was made without one, or is not made.
     pub fn fuse(self) -> Option<u64>
         ensures { result ≡ fuse_of self }
     {
         match self {
-            Place::Unmade => None,
-            Place::Made(fuse) => fuse,
-            Place::Back(fuse, _) => fuse,
+            GateState::Unmade => None,
+            GateState::Made(fuse) => fuse,
+            GateState::Back(fuse, _) => fuse,
         }
     }
 }
@@ -61,19 +61,19 @@ pub trait Gates {
     /// The gate of one caller, which may go to another thread.
     type One: Gate + Send;
 
-    /// Where each caller's gate is.
-    ghost place: { Self → ℕ → Place };
+    /// The state of each caller's gate.
+    ghost state: { Self → ℕ → GateState };
 
     /// The gate of this caller, with this fuse. It has not cut.
     fn make(&mut self, caller: u8, fuse: Option<u64>) -> Self::One
-        requires { place self.old caller ≡ Place.Unmade }
-        ensures place { Moves (place self.old) (place self.new) caller (Place.Made fuse) }
+        requires { state self.old caller ≡ GateState.Unmade }
+        ensures state { Moves (state self.old) (state self.new) caller (GateState.Made fuse) }
         ensures cuts { Self.One.cuts result ≡ 0 }
         ensures left { TellsLeft (Self.One.left result) fuse };
 
     /// Takes the gate of this caller back, and notes whether it has cut.
     fn back(&mut self, caller: u8, gate: Self::One)
-        requires { IsMade (place self.old caller) }
-        ensures { Moves (place self.old) (place self.new) caller
-            (Place.Back (fuse_of (place self.old caller)) (nat_lt 0 (Self.One.cuts gate))) };
+        requires { IsMade (state self.old caller) }
+        ensures { Moves (state self.old) (state self.new) caller
+            (GateState.Back (fuse_of (state self.old caller)) (nat_lt 0 (Self.One.cuts gate))) };
 }

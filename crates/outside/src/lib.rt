@@ -13,7 +13,7 @@ mod tests;
 pub mod whole;
 
 pub use file::{FileStore, Purpose, Trouble};
-pub use gates::{Gate, Gates, Place, Power};
+pub use gates::{Gate, GateState, Gates, Power};
 pub use memory::{Fuse, Fuses, MemSink, MemSource, MemStore, SureSource};
 pub use parts::{Failed, Sink, Source, Store, StoreFault};
 pub use streams::{StdSink, StdSource};

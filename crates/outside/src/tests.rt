@@ -2,7 +2,7 @@
 mod files;
 
 use crate::{
-    Failed, Fuse, Fuses, Gate, Gates, MemSink, MemSource, MemStore, Place, Power, Sink, Source,
+    Failed, Fuse, Fuses, Gate, GateState, Gates, MemSink, MemSource, MemStore, Power, Sink, Source,
     StdSink, StdSource, Store, StoreFault, put_all, take_all,
 };
 use std::io::{BufWriter, ErrorKind, Read, Write};
@@ -79,12 +79,12 @@ fn fuses_are_made_and_come_back(rt: HostRuntime) -> Result<(), Fail> {
     let mut last = fuses.make(255, None);
     assert_eq!(rt; first.pass(), Power::Off);
     assert_eq!(rt; last.pass(), Power::On);
-    assert_eq!(rt; fuses.places[1], Place::Made(Some(0)));
+    assert_eq!(rt; fuses.states[1], GateState::Made(Some(0)));
     fuses.back(1, first);
     fuses.back(255, last);
-    assert_eq!(rt; fuses.places[1], Place::Back(Some(0), true));
-    assert_eq!(rt; fuses.places[255], Place::Back(None, false));
-    assert_eq!(rt; fuses.places[2], Place::Unmade);
+    assert_eq!(rt; fuses.states[1], GateState::Back(Some(0), true));
+    assert_eq!(rt; fuses.states[255], GateState::Back(None, false));
+    assert_eq!(rt; fuses.states[2], GateState::Unmade);
     Ok(())
 }
 

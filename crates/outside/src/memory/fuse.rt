@@ -1,8 +1,8 @@
 // Gates that let a number of events through.
 ghost use Rattle.std.specs.Prelude.{◌≡◌, ℕ, true, Some};
-ghost use Rattle.outside.specs.Memory.{cut_count, place_at};
+ghost use Rattle.outside.specs.Memory.{cut_count, state_at};
 
-use crate::{Gate, Gates, Place, Power};
+use crate::{Gate, GateState, Gates, Power};
 use std::marker::Send;
 
 /// A gate that lets a number of events through and then cuts; without a number it never cuts.
@@ -40,20 +40,20 @@ impl Gate for Fuse {
 // A fuse is a number and a flag, and refers to nothing outside itself.
 unsafe impl Send for Fuse {}
 
-/// Makes fuses, and keeps where each caller's is. It has a place for each number of 8 bits.
+/// Makes fuses, and keeps the state of each caller's. It has one for each number of 8 bits.
 #[derive(Drop)]
 pub struct Fuses {
-    /// Where each caller's fuse is, by the caller's number.
-    pub places: [Place; 256],
+    /// The state of each caller's fuse, by the caller's number.
+    pub states: [GateState; 256],
 }
 
 impl Fuses {
     /// No caller's fuse is made.
     pub fn new() -> Self
-        ensures { (caller : ℕ) → place_at result.places caller ≡ Place.Unmade }
+        ensures { (caller : ℕ) → state_at result.states caller ≡ GateState.Unmade }
     {
         Fuses {
-            places: [Place::Unmade; 256],
+            states: [GateState::Unmade; 256],
         }
     }
 }
@@ -61,10 +61,10 @@ impl Fuses {
 impl Gates for Fuses {
     type One = Fuse;
 
-    ghost place = { λ f caller. place_at f.places caller };
+    ghost state = { λ f caller. state_at f.states caller };
 
     fn make(&mut self, caller: u8, fuse: Option<u64>) -> Fuse {
-        self.places[caller as usize] = Place::Made(fuse);
+        self.states[caller as usize] = GateState::Made(fuse);
         Fuse {
             left: fuse,
             cut: false,
@@ -72,7 +72,7 @@ impl Gates for Fuses {
     }
 
     fn back(&mut self, caller: u8, gate: Fuse) {
-        let fuse = self.places[caller as usize].fuse();
-        self.places[caller as usize] = Place::Back(fuse, gate.cut);
+        let fuse = self.states[caller as usize].fuse();
+        self.states[caller as usize] = GateState::Back(fuse, gate.cut);
     }
 }

@@ -1,5 +1,6 @@
 use Rattle.std.proofs.Common.{List, ℕ, ◌+◌, subst, refl, sym, ap, ◌∙◌, Option}
 use Rattle.outside.specs.Storing.{Holds}
+use Rattle.image_rules.specs.Stage.{segments_word}
 use Rattle.session.specs.Session.{IsSession}
 use Rattle.core_run.specs.Sessions.{ending_of}
 use Rattle.play.specs.Played.{IsPlay, scripts_of}
@@ -7,7 +8,7 @@ use Rattle.script_text.specs.declared.line.Line.{Line}
 use Rattle.script_text.specs.declared.line.Mode.TheVariants.{Play}
 use Rattle.script_text.specs.Script.{IsScript}
 use Rattle.dash_top.specs.Commands.ReadsImage.{for_play}
-use Rattle.dash_top.specs.Told.{ReadsScript, ReadsGoodScript}
+use Rattle.dash_top.specs.Bytes.{ReadsScript, ReadsGoodScript}
 use Rattle.dash_top.specs.Work.{IsRefused, StoreFailed}
 use Rattle.dash_top.proofs.Causes.{cause_of_reading, err_of}
 use Rattle.dash_top.proofs.Counting.{rose_before}
@@ -17,6 +18,10 @@ use Rattle.dash_top.proofs.work.play_script.Goals as goal
 good_script : {source_old source_new : Option (List ℕ)} (lines : List Line) → ((script : List ℕ) × ReadsScript source_old source_new script × IsScript Play script lines)
     → ReadsGoodScript source_old source_new
 good_script lines read = record { script = read.0; reads = read.1; lines = lines; good = read.2 }
+
+-- the image may be given to a play: it has one slot
+pub play-requires-clause-one : goal.play-requires-clause-one
+play-requires-clause-one g c = (c.in_ok-medium.ensures.served segments_word).one_segment refl
 
 -- DONE
 pub returns-in-Ok-clause-ok : goal.returns-in-Ok-clause-ok

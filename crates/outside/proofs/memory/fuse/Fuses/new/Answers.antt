@@ -1,4 +1,4 @@
--- A table of one value has it at each place, and past its end.
+-- A table of one value has it at each index, and past its end.
 use Rattle.std.proofs.Common.{◌≡◌, ℕ, get_or, length, ◌≤◌, ⊎_elim}
 use Rattle.std.proofs.Math.ListN.{replicate, length-replicate}
 use Rattle.std.proofs.lemmas.List.{get_or-replicate, get_or_past}

@@ -16,7 +16,7 @@ use Rattle.script_text.specs.declared.line.Line.{Line}
 use Rattle.script_text.specs.Script.{IsScript, HasFault as HasScriptFault}
 
 -- the bytes of the store, how often it was written, whether its last write failed, and the bytes that the source has left
-pub record Told : Type 0 where
+pub record Bytes : Type 0 where
   pub store_old : Option (List ℕ)
   pub store_new : Option (List ℕ)
   pub writes_old : ℕ
@@ -25,8 +25,8 @@ pub record Told : Type 0 where
   pub source_old : Option (List ℕ)
   pub source_new : Option (List ℕ)
 
-abbrev pub told : Option (List ℕ) → Option (List ℕ) → ℕ → ℕ → Bool → Option (List ℕ) → Option (List ℕ) → Told
-told store_old store_new writes_old writes_new lost source_old source_new = record {
+abbrev pub bytes_told : Option (List ℕ) → Option (List ℕ) → ℕ → ℕ → Bool → Option (List ℕ) → Option (List ℕ) → Bytes
+bytes_told store_old store_new writes_old writes_new lost source_old source_new = record {
   store_old = store_old;
   store_new = store_new;
   writes_old = writes_old;
@@ -44,17 +44,17 @@ abbrev pub script_limit : ℕ
 script_limit = 16777216
 
 -- the store is as it was, and was not written
-pub record KeepsStore (t : Told) : Type 0 where
+pub record KeepsStore (t : Bytes) : Type 0 where
   pub same : t.store_new ≡ t.store_old
   pub unwritten : t.writes_new ≡ t.writes_old
 
 -- the store was written once, and that did not fail
-pub record WritesOnce (t : Told) : Type 0 where
+pub record WritesOnce (t : Bytes) : Type 0 where
   pub once : t.writes_new ≡ t.writes_old + 1
   pub kept : t.lost ≡ false
 
 -- it was written once, and that failed
-pub record LosesWrite (t : Told) : Type 0 where
+pub record LosesWrite (t : Bytes) : Type 0 where
   pub once : t.writes_new ≡ t.writes_old + 1
   pub failed : t.lost ≡ true
 
