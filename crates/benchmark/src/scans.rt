@@ -1,5 +1,6 @@
 //! Both scans over the same buckets, and the time that they take.
 
+use bucket_meta::words::SLOTS;
 use finger_scan::{scan, scan_plain};
 use std::alloc::{AllocError, Global};
 use std::io::{self, Print};
@@ -7,7 +8,7 @@ use std::num::nearest_usize_to_f64;
 use std::time::{Clock, Duration, Instant};
 
 /// The fingerprints of a bucket.
-type Fingerprints = [u8; 14];
+type Fingerprints = [u8; SLOTS as usize];
 
 /// How many buckets are scanned in one round.
 const BUCKETS: usize = 4096;
@@ -18,7 +19,7 @@ pub(crate) fn buckets(alloc: Global) -> Result<Vec<Fingerprints>, AllocError> {
     let mut buckets = Vec::new(alloc);
     let mut state = 1;
     for _ in 0..BUCKETS {
-        let mut fps = [0; 14];
+        let mut fps = [0; SLOTS as usize];
         for finger in fps.iter_mut() {
             state = next(state);
             *finger = (state >> 59) as u8;

@@ -1,7 +1,7 @@
 -- What a picture of an image counts: the records of each bucket, and the records of a home bucket that its notes and its count say
 -- stand in the stash.
 use Rattle.std.specs.Prelude.{ℕ, ◌+◌, ◌==◌, nat_lt, length, filter, if◌then◌else◌}
-use Rattle.bucket_meta.specs.Bucket.{record_slots, overflow_places, note_used, overflow_count}
+use Rattle.bucket_meta.specs.Bucket.{record_slots, note_slots, note_used, overflow_count}
 use Rattle.bucket_meta.specs.Search.{is_taken}
 use Rattle.bucket_meta.specs.Notes.{numbers_below}
 use Rattle.image_layout.specs.Places.{Shape, bucket_at}
@@ -11,7 +11,7 @@ use Rattle.sound_image.specs.Segments.{ImageWords}
 abbrev pub taken_below : ℕ → ℕ → ℕ
 taken_below n w1 = length (filter (is_taken w1) (numbers_below n))
 
--- how many of the first n overflow places hold a note
+-- how many of the first n note slots hold a note
 abbrev pub notes_below : ℕ → ℕ → ℕ
 notes_below n w1 = length (filter (λ i. note_used i w1 == 1) (numbers_below n))
 
@@ -22,7 +22,7 @@ module _ (shape : Shape) (word : ImageWords) (s b : ℕ) where
 
   -- how many it says that the stash has for it: one a note, and those that are only counted
   abbrev pub stashed : ℕ
-  stashed = notes_below overflow_places (word (bucket_at shape s b + 1)) + overflow_count (word (bucket_at shape s b + 1))
+  stashed = notes_below note_slots (word (bucket_at shape s b + 1)) + overflow_count (word (bucket_at shape s b + 1))
 
 -- the sign of a bucket with so many records: a dot for none, then 1 to 9 and a to e
 abbrev pub sign : ℕ → ℕ

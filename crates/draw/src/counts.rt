@@ -1,11 +1,11 @@
 //! How many records buckets have, and how many the stash has for them.
 
 ghost use Rattle.std.specs.Prelude.{◌≡◌, ℕ, ◌+◌, ◌<◌, ◌≤◌, length, slice_index};
-ghost use Rattle.bucket_meta.specs.Bucket.{record_slots, overflow_places};
+ghost use Rattle.bucket_meta.specs.Bucket.{record_slots, note_slots};
 ghost use Rattle.image_layout.specs.Places.{bucket_at, buckets, words_of};
 ghost use Rattle.draw.specs.Counts.{taken_below, notes_below, filled, stashed, sign};
 
-use bucket_meta::words::{PLACES, SLOTS, has_note, is_taken, overflow_count_of};
+use bucket_meta::words::{NOTE_SLOTS, SLOTS, has_note, is_taken, overflow_count_of};
 use image_layout::Geometry;
 
 /// The metadata word of a bucket.
@@ -32,14 +32,14 @@ fn taken_in(w1: u64) -> u8
     count
 }
 
-/// How many overflow places hold a note, by the metadata word.
+/// How many note slots hold a note, by the metadata word.
 fn notes_in(w1: u64) -> u8
-    ensures is { result ≡ notes_below overflow_places w1 }
-    ensures most { result ≤ overflow_places }
+    ensures is { result ≡ notes_below note_slots w1 }
+    ensures most { result ≤ note_slots }
 {
     let mut count = 0;
-    for place in 0..PLACES {
-        if has_note(w1, place) {
+    for note_slot in 0..NOTE_SLOTS {
+        if has_note(w1, note_slot) {
             count += 1;
         }
     }
