@@ -28,6 +28,14 @@ home_of h = h / 2 ^ 8 % 2 ^ 6
 abbrev pub probing_of : ℕ → ℕ
 probing_of home = (home + 1) % 64
 
+-- the bucket after the probing bucket of a home bucket
+abbrev pub next_of : ℕ → ℕ
+next_of home = (home + 2) % 64
+
+-- the bucket before a home bucket, and the last before the first
+abbrev pub previous_of : ℕ → ℕ
+previous_of home = (home + 63) % 64
+
 -- the top d of the 64 bits
 abbrev pub top : ℕ → ℕ → ℕ
 top d h = h / 2 ^ (64 - d)

@@ -5,7 +5,7 @@
 #![tactic(auto)]
 
 ghost use Rattle.std.specs.Prelude.{◌≡◌, ◌<◌, ◌≤◌, ◌^◌, ◌↔◌, IsTrue};
-ghost use Rattle.hash_word.specs.Hash.{hash_of, home_of, probing_of, finger_of, index_of, Covers};
+ghost use Rattle.hash_word.specs.Hash.{hash_of, home_of, probing_of, next_of, previous_of, finger_of, index_of, Covers};
 
 /// How a key is hashed.
 #[derive(Clone, Copy, Debug, PartialEq, Eq)]
@@ -45,6 +45,24 @@ pub fn probing(home: u8) -> u8
     ensures range { result < 64 }
 {
     (home + 1) % 64
+}
+
+/// The number of the bucket after the probing bucket of a home bucket; the two last ones are followed by the first two.
+pub fn next(home: u8) -> u8
+    requires { home < 64 }
+    ensures of { result ≡ next_of home }
+    ensures range { result < 64 }
+{
+    (home + 2) % 64
+}
+
+/// The number of the bucket before a home bucket: the last one before the first.
+pub fn previous(home: u8) -> u8
+    requires { home < 64 }
+    ensures of { result ≡ previous_of home }
+    ensures range { result < 64 }
+{
+    (home + 63) % 64
 }
 
 /// The fingerprint of a record with this hash: its lowest byte.

@@ -10,6 +10,11 @@ fn splitmix_vectors(rt: HostRuntime) {
     assert_eq!(rt; home(0xE220A8397B1DCDAF), 13);
     assert_eq!(rt; probing(13), 14);
     assert_eq!(rt; probing(63), 0);
+    assert_eq!(rt; next(13), 15);
+    assert_eq!(rt; next(62), 0);
+    assert_eq!(rt; next(63), 1);
+    assert_eq!(rt; previous(13), 12);
+    assert_eq!(rt; previous(0), 63);
     assert_eq!(rt; dir_index(0xE220A8397B1DCDAF, 4), 14);
     assert_eq!(rt; dir_index(0xE220A8397B1DCDAF, 0), 0);
     assert!(rt; covers(4, 14, 0xE220A8397B1DCDAF));
