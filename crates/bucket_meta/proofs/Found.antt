@@ -81,5 +81,8 @@ found_with ws key s is = subst (FindsKey ws key 0 14) is (finds_key ws key 14 0 
 pub none_with : (ws : List ℕ) (key : ℕ) → lowest_with ws key ≡ None → (s : ℕ) → s < 14 → IsThere ws key s → ⊥
 none_with ws key is s low there = subst (FindsKey ws key 0 14) is (finds_key ws key 14 0 14 refl) s (omega arith) low there
 
+pub free_at : (w1 s : ℕ) → lowest_free w1 ≡ Some s → (allocated s w1 ≡ 0) × (s < 14)
+free_at w1 s is = subst (FindsFree w1 0 14) is (finds_free w1 14 0 14 refl)
+
 pub none_free : (w1 : ℕ) → lowest_free w1 ≡ None → (s : ℕ) → s < 14 → allocated s w1 ≡ 1
 none_free w1 is s low = subst (FindsFree w1 0 14) is (finds_free w1 14 0 14 refl) s (omega arith) low

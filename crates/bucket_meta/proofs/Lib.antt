@@ -8,4 +8,5 @@ pub mod Marks
 pub mod Fingers
 pub mod ZeroBits
 pub mod Uppers
-pub mod Freed
+pub mod Filled
+pub mod notes

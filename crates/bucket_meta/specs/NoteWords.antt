@@ -1,5 +1,5 @@
--- Overflow notes in the words of a bucket: where one stands, and the words without it.
-use Rattle.std.specs.Prelude.{◌≡◌, ◌≢◌, ℕ, ◌+◌, ◌-◌, ◌*◌, ◌%◌, ◌^◌, ◌<◌, ◌==◌, Option, None, Some, bit_and, if◌then◌else◌}
+-- Overflow notes in the words of a bucket: where one stands or may be put, and the words with it and without it.
+use Rattle.std.specs.Prelude.{◌≡◌, ◌≢◌, ℕ, ◌+◌, ◌-◌, ◌*◌, ◌%◌, ◌^◌, ◌<◌, ◌==◌, Bool, not, Option, None, Some, bit_and, bit_or, if◌then◌else◌}
 use Rattle.std.specs.Int.{bit_not, w64}
 use Rattle.word_bits.specs.Bits.{mask}
 use Rattle.bucket_meta.specs.Bucket.{note_used, note_member, note_index, note_finger, overflow_count, note_slots}
@@ -42,3 +42,57 @@ pub record FreesPlace (w1 w3 x1 x3 i : ℕ) : Type 0 where
   pub count : overflow_count x1 ≡ overflow_count w1
   pub slots : x1 % 2 ^ 28 ≡ w1 % 2 ^ 28
   pub records : x3 % 2 ^ 48 ≡ w3 % 2 ^ 48
+
+-- ---- a note that is put in
+-- no note stands on note slot i
+abbrev pub is_unused : ℕ → ℕ → Bool
+is_unused w1 i = not (note_used i w1 == 1)
+
+-- the lowest such place
+abbrev pub unused_place : ℕ → Option ℕ
+unused_place w1 =
+    if is_unused w1 0 then Some 0
+    else if is_unused w1 1 then Some 1
+    else if is_unused w1 2 then Some 2
+    else if is_unused w1 3 then Some 3
+    else None
+
+-- a word with bit i set where `on` is 1, and else cleared
+abbrev pub with_bit : ℕ → ℕ → ℕ → ℕ
+with_bit w i on = if on == 1 then bit_or w (mask i) else bit_and w (bit_not w64 (mask i))
+
+-- the metadata word with the fingerprint of note slot i, where that stands there
+abbrev pub with_note_finger : ℕ → ℕ → ℕ → ℕ
+with_note_finger w1 i finger =
+    if i == 2 then bit_or (bit_and w1 (bit_not w64 (finger_bits 2))) (finger * 2 ^ 45)
+    else if i == 3 then bit_or (bit_and w1 (bit_not w64 (finger_bits 3))) (finger * 2 ^ 53)
+    else w1
+
+-- the metadata word where note slot i has a note of this side, fingerprint and stash bucket, whatever it had
+abbrev pub noted_mark : ℕ → ℕ → ℕ → ℕ → ℕ → ℕ
+noted_mark w1 i side finger index = with_note_finger (with_bit (with_bit (with_bit w1 (28 + i) 1) (32 + i) side) (36 + i) index) i finger
+
+-- word 3 with the fingerprint of note slot i, where that stands there
+abbrev pub noted_fingers : ℕ → ℕ → ℕ → ℕ
+noted_fingers w3 i finger = if i == 0 then with_finger w3 6 finger else if i == 1 then with_finger w3 7 finger else w3
+
+-- the metadata word with one record more that stands in the stash without a note
+abbrev pub raised_count : ℕ → ℕ
+raised_count w1 = (w1 + 2 ^ 40) % 2 ^ 64
+
+-- words x1 and x3 say of the places other than i, of the count and of the record slots what w1 and w3 say
+pub record KeepsOtherPlaces (w1 w3 x1 x3 i : ℕ) : Type 0 where
+  pub used : (j : ℕ) → j < note_slots → j ≢ i → note_used j x1 ≡ note_used j w1
+  pub members : (j : ℕ) → j < note_slots → j ≢ i → note_member j x1 ≡ note_member j w1
+  pub indexes : (j : ℕ) → j < note_slots → j ≢ i → note_index j x1 ≡ note_index j w1
+  pub fingers : (j : ℕ) → j < note_slots → j ≢ i → note_finger j x1 x3 ≡ note_finger j w1 w3
+  pub count : overflow_count x1 ≡ overflow_count w1
+  pub slots : x1 % 2 ^ 28 ≡ w1 % 2 ^ 28
+  pub records : x3 % 2 ^ 48 ≡ w3 % 2 ^ 48
+
+-- they have note slot i used for a note of this side and stash bucket, and say of the others what w1 and w3 say
+pub record FillsPlace (w1 w3 x1 x3 i side index : ℕ) : Type 0 where
+  pub is_used : note_used i x1 ≡ 1
+  pub on_side : note_member i x1 ≡ side
+  pub of_index : note_index i x1 ≡ index
+  pub others : KeepsOtherPlaces w1 w3 x1 x3 i

@@ -7,7 +7,7 @@ ghost use Rattle.bucket_meta.specs.Search.{is_taken, IsThere, lowest_with, lowes
 ghost use Rattle.bucket_meta.specs.Notes.{IsNoteOn};
 ghost use Rattle.bucket_meta.specs.Marks.{inserted_mark, member_mark, removed_mark, finger_place, with_finger};
 ghost use Rattle.bucket_meta.specs.Visits.{is_note, is_named, must_visit};
-ghost use Rattle.bucket_meta.specs.NoteWords.{note_place, finger_bits, freed_mark, freed_fingers, lowered_count};
+ghost use Rattle.bucket_meta.specs.NoteWords.{note_place, finger_bits, freed_mark, freed_fingers, lowered_count, is_unused, unused_place, with_bit, with_note_finger, noted_mark, noted_fingers, raised_count};
 
 use word_bits::{bits_of, is_set, mask};
 
@@ -303,4 +303,83 @@ pub fn lowered_count(w1: u64) -> u64
     ensures { result ≡ lowered_count w1 }
 {
     w1.saturating_sub(1 << 40)
+}
+
+/// Whether no note stands on a note slot.
+fn is_unused(w1: u64, place: u8) -> bool
+    requires { place < note_slots }
+    ensures { result ≡ is_unused w1 place }
+{
+    !has_note(w1, place)
+}
+
+/// The lowest note slot on which no note stands.
+pub fn unused_place(w1: u64) -> Option<u8>
+    ensures is { result ≡ unused_place w1 }
+    ensures within { IfSome result (λ place. place < note_slots) }
+{
+    if is_unused(w1, 0) {
+        Some(0)
+    } else if is_unused(w1, 1) {
+        Some(1)
+    } else if is_unused(w1, 2) {
+        Some(2)
+    } else if is_unused(w1, 3) {
+        Some(3)
+    } else {
+        None
+    }
+}
+
+/// A word with a bit set where `on` is 1, and else cleared.
+fn with_bit(word: u64, i: u32, on: u8) -> u64
+    ensures { result ≡ with_bit word i on }
+{
+    if on == 1 {
+        word | mask(i)
+    } else {
+        word & !mask(i)
+    }
+}
+
+/// The metadata word with the fingerprint of a note slot, where that stands there: those of places 2 and 3 do.
+fn with_note_finger(w1: u64, place: u8, finger: u8) -> u64
+    ensures { result ≡ with_note_finger w1 place finger }
+{
+    let finger = u64::from(finger);
+    match place {
+        2 => (w1 & !finger_bits(2)) | (finger * (1 << 45)),
+        3 => (w1 & !finger_bits(3)) | (finger * (1 << 53)),
+        _ => w1,
+    }
+}
+
+/// The metadata word with a note put on a note slot: of this side, 0 for a record whose home this bucket is and 1 for one whose
+/// probing bucket it is, of this fingerprint and this stash bucket, 0 or 1. All that the note slot had is overwritten.
+pub fn noted_mark(w1: u64, place: u8, side: u8, finger: u8, index: u8) -> u64
+    ensures { result ≡ noted_mark w1 place side finger index }
+{
+    let at = u32::from(place);
+    let used = with_bit(w1, 28 + at, 1);
+    let on_side = with_bit(used, 32 + at, side);
+    let of_index = with_bit(on_side, 36 + at, index);
+    with_note_finger(of_index, place, finger)
+}
+
+/// Word 3 with the fingerprint of that note, where it stands there: those of places 0 and 1 do.
+pub fn noted_fingers(w3: u64, place: u8, finger: u8) -> u64
+    ensures { result ≡ noted_fingers w3 place finger }
+{
+    match place {
+        0 => with_finger(w3, 6, finger),
+        1 => with_finger(w3, 7, finger),
+        _ => w3,
+    }
+}
+
+/// The metadata word with one more of the records that stand in the stash without a note; there have to be fewer than 31.
+pub fn raised_count(w1: u64) -> u64
+    ensures { result ≡ raised_count w1 }
+{
+    w1.wrapping_add(1 << 40)
 }

@@ -1,5 +1,5 @@
 -- It is a lemma.
-use Rattle.bucket_meta.proofs.Freed.{frees_place}
+use Rattle.bucket_meta.proofs.notes.Freed.{frees_place}
 use Rattle.bucket_meta.proofs.laws.notes_are_freed.Goals as goal
 
 pub returns : goal.returns

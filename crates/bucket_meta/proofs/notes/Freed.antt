@@ -33,17 +33,17 @@ module _ (w : ℕ) (fits : w < 2 ^ 64) where
       ∙ clear_same w (28 + i) (omega (arith, low))
 
 -- what is above bit 40, and what is below bit 28
-above : (n m : ℕ) → n < 2 ^ 64 → (2 ^ 64 - 1 - m) / 2 ^ 40 ≡ 2 ^ 24 - 1 → bit_and n (2 ^ 64 - 1 - m) / 2 ^ 40 ≡ n / 2 ^ 40
+pub above : (n m : ℕ) → n < 2 ^ 64 → (2 ^ 64 - 1 - m) / 2 ^ 40 ≡ 2 ^ 24 - 1 → bit_and n (2 ^ 64 - 1 - m) / 2 ^ 40 ≡ n / 2 ^ 40
 above n m fits ones =
     let small : n / 2 ^ 40 % 2 ^ 24 ≡ n / 2 ^ 40 = omega (arith, fits) in
     and_shr n (2 ^ 64 - 1 - m) 40 ∙ ap (bit_and (n / 2 ^ 40)) ones ∙ and_mask (n / 2 ^ 40) 24 ∙ small
 
-below : (n m : ℕ) → (2 ^ 64 - 1 - m) % 2 ^ 28 ≡ 2 ^ 28 - 1 → bit_and n (2 ^ 64 - 1 - m) % 2 ^ 28 ≡ n % 2 ^ 28
+pub below : (n m : ℕ) → (2 ^ 64 - 1 - m) % 2 ^ 28 ≡ 2 ^ 28 - 1 → bit_and n (2 ^ 64 - 1 - m) % 2 ^ 28 ≡ n % 2 ^ 28
 below n m ones =
     let small : n % 2 ^ 28 % 2 ^ 28 ≡ n % 2 ^ 28 = omega arith in
     and_mod n (2 ^ 64 - 1 - m) 28 ∙ ap (bit_and (n % 2 ^ 28)) ones ∙ and_mask (n % 2 ^ 28) 28 ∙ small
 
-fits_less : (n m : ℕ) → n < 2 ^ 64 → bit_and n m < 2 ^ 64
+pub fits_less : (n m : ℕ) → n < 2 ^ 64 → bit_and n m < 2 ^ 64
 fits_less n m fits = let most = and_le_l n m in omega (arith, fits, most)
 
 module _ (w : ℕ) (fits : w < 2 ^ 64) where
@@ -110,40 +110,40 @@ module _ (y : ℕ) (fits : y < 2 ^ 64) where
 
 -- ---- what is below bit 45
 module _ (x y : ℕ) (same : x % 2 ^ 45 ≡ y % 2 ^ 45) where
-  low_used : (j : ℕ) → j < 4 → note_used j x ≡ note_used j y
+  pub low_used : (j : ℕ) → j < 4 → note_used j x ≡ note_used j y
   low_used zero l = omega (arith, same)
   low_used (suc zero) l = omega (arith, same)
   low_used (suc (suc zero)) l = omega (arith, same)
   low_used (suc (suc (suc zero))) l = omega (arith, same)
   low_used (suc (suc (suc (suc i)))) l = absurd (omega (arith, l))
 
-  low_member : (j : ℕ) → j < 4 → note_member j x ≡ note_member j y
+  pub low_member : (j : ℕ) → j < 4 → note_member j x ≡ note_member j y
   low_member zero l = omega (arith, same)
   low_member (suc zero) l = omega (arith, same)
   low_member (suc (suc zero)) l = omega (arith, same)
   low_member (suc (suc (suc zero))) l = omega (arith, same)
   low_member (suc (suc (suc (suc i)))) l = absurd (omega (arith, l))
 
-  low_index : (j : ℕ) → j < 4 → note_index j x ≡ note_index j y
+  pub low_index : (j : ℕ) → j < 4 → note_index j x ≡ note_index j y
   low_index zero l = omega (arith, same)
   low_index (suc zero) l = omega (arith, same)
   low_index (suc (suc zero)) l = omega (arith, same)
   low_index (suc (suc (suc zero))) l = omega (arith, same)
   low_index (suc (suc (suc (suc i)))) l = absurd (omega (arith, l))
 
-  low_count : overflow_count x ≡ overflow_count y
+  pub low_count : overflow_count x ≡ overflow_count y
   low_count = omega (arith, same)
 
-  low_slots : x % 2 ^ 28 ≡ y % 2 ^ 28
+  pub low_slots : x % 2 ^ 28 ≡ y % 2 ^ 28
   low_slots = omega (arith, same)
 
-high_count : (y w : ℕ) → y / 2 ^ 40 ≡ w / 2 ^ 40 → overflow_count y ≡ overflow_count w
+pub high_count : (y w : ℕ) → y / 2 ^ 40 ≡ w / 2 ^ 40 → overflow_count y ≡ overflow_count w
 high_count y w same = ap (λ z. z % 2 ^ 5) same
 
-high_third : (y w : ℕ) → y / 2 ^ 40 ≡ w / 2 ^ 40 → bits 45 8 y ≡ bits 45 8 w
+pub high_third : (y w : ℕ) → y / 2 ^ 40 ≡ w / 2 ^ 40 → bits 45 8 y ≡ bits 45 8 w
 high_third y w same = omega (arith, same)
 
-high_fourth : (y w : ℕ) → y / 2 ^ 40 ≡ w / 2 ^ 40 → bits 53 8 y ≡ bits 53 8 w
+pub high_fourth : (y w : ℕ) → y / 2 ^ 40 ≡ w / 2 ^ 40 → bits 53 8 y ≡ bits 53 8 w
 high_fourth y w same = omega (arith, same)
 
 -- ---- together
@@ -174,7 +174,7 @@ module _ (w i : ℕ) (fits : w < 2 ^ 64) (low : i < 4) where
   }
 
 -- ---- the fingerprint of places 0 and 1
-six_bytes : (w x : ℕ) → ((t : ℕ) → t < 6 → bits (8 * t) 8 x ≡ bits (8 * t) 8 w) → x % 2 ^ 48 ≡ w % 2 ^ 48
+pub six_bytes : (w x : ℕ) → ((t : ℕ) → t < 6 → bits (8 * t) 8 x ≡ bits (8 * t) 8 w) → x % 2 ^ 48 ≡ w % 2 ^ 48
 six_bytes w x same =
     let b0 = same 0 (omega arith) in let b1 = same 1 (omega arith) in let b2 = same 2 (omega arith) in
     let b3 = same 3 (omega arith) in let b4 = same 4 (omega arith) in let b5 = same 5 (omega arith) in
