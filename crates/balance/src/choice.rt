@@ -3,6 +3,7 @@
 ghost use Rattle.std.specs.Prelude.{◌≡◌, ◌<◌, ◌≤◌, ◌↔◌, count_ones};
 ghost use Rattle.bucket_meta.specs.Bucket.{record_slots};
 ghost use Rattle.bucket_meta.specs.Slots.{IsFull};
+ghost use Rattle.balance.specs.Choices.{choice_by};
 
 use bucket_meta::Meta;
 use bucket_meta::words::SLOTS;
@@ -20,6 +21,7 @@ pub enum Choice {
 
 /// The bucket with fewer records: `home` where both have as many, and neither where both are full.
 pub fn choose(home: &Meta, probe: &Meta) -> Choice
+    ensures is { result ≡ choice_by (count_ones home.now.alloc) (count_ones probe.now.alloc) }
     ensures home { (result ≡ Choice.Home)
         ↔ ((count_ones home.now.alloc < record_slots) × (count_ones home.now.alloc ≤ count_ones probe.now.alloc)) }
     ensures probe { (result ≡ Choice.Probe)

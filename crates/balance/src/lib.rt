@@ -4,8 +4,10 @@
 #![tactic(auto)]
 
 mod choice;
+mod laws;
 
 pub use choice::{Choice, choose};
+pub use laws::choices_have_room;
 
 #[cfg(test)]
 mod tests;
