@@ -1,5 +1,5 @@
 -- Notes and a count that are exact stay so where a note, or a record without one, is added or taken away.
-use Rattle.std.proofs.Common.{◌≡◌, ◌≢◌, ℕ, ◌+◌, ◌-◌, ◌≤◌, ◌<◌, ◌⊎◌, List, [], ◌∷◌, ◌++◌, length, ap, sym, ◌∙◌, refl, inl, inr, arith}
+use Rattle.std.proofs.Common.{◌≡◌, ◌≢◌, ℕ, ◌+◌, ◌-◌, ◌≤◌, ◌<◌, ◌⊎◌, List, [], ◌∷◌, ◌++◌, length, ap, sym, ◌∙◌, refl, inl, inr, arith, length-append}
 use Rattle.std.proofs.Math.Nat.{eq-zero-or-pos}
 use Rattle.std.proofs.lemmas.Bool.Decides.{eqb_tells}
 use Rattle.bucket_meta.specs.Notes.{OverflowNote, how_often, AreExact}
@@ -13,6 +13,19 @@ pub record IsOneMore (more less : List OverflowNote) (note : OverflowNote) : Typ
 pub one_more_by_sums : (more less : List OverflowNote) (note : OverflowNote) → ((f : List OverflowNote → ℕ) → IsSum f → f more ≡ f less + f (note ∷ [])) → IsOneMore more less note
 one_more_by_sums more less note sums =
     record { often = λ other. sums (how_often other) (how_often-is_sum other); longer = sums length length-is_sum }
+
+-- and it has it once more beside others
+pub more_left : (a b c : List OverflowNote) (note : OverflowNote) → IsOneMore a b note → IsOneMore (a ++ c) (b ++ c) note
+more_left a b c note one = record {
+  often = λ other. (let x = one.often other in let y = how_often-append other a c in let z = how_often-append other b c in omega (arith, x, y, z));
+  longer = (let x = one.longer in let y = length-append a c in let z = length-append b c in omega (arith, x, y, z));
+}
+
+pub more_right : (a b c : List OverflowNote) (note : OverflowNote) → IsOneMore a b note → IsOneMore (c ++ a) (c ++ b) note
+more_right a b c note one = record {
+  often = λ other. (let x = one.often other in let y = how_often-append other c a in let z = how_often-append other c b in omega (arith, x, y, z));
+  longer = (let x = one.longer in let y = length-append c a in let z = length-append c b in omega (arith, x, y, z));
+}
 
 abbrev pair : ℕ → ℕ → OverflowNote
 pair finger index = (finger, index)
