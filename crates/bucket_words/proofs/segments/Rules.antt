@@ -17,12 +17,23 @@ use Rattle.bucket_words.specs.Hits.{Hit, find}
 use Rattle.bucket_words.specs.Standing.{IsTable, IsRight}
 use Rattle.bucket_words.proofs.segments.Finding.{some_none, find_is, find_empty, hit_found}
 
+-- of two places in a segment one is before the other, or they are one
+pub cases_order : (shape : Shape) (s b r c t : ℕ) → r < record_slots → t < record_slots
+    → (key_at shape s b r < key_at shape s c t) ⊎ (key_at shape s c t < key_at shape s b r) ⊎ ((b ≡ c) × (r ≡ t))
+cases_order shape s b r c t l m = elim (cases_lt (key_at shape s b r) (key_at shape s c t)) [
+  | inl less ↦ inl less
+  | inr more ↦ elim (cases_lt (key_at shape s c t) (key_at shape s b r)) [
+    | inl less ↦ inr (inl less)
+    | inr same ↦ inr (inr (omega (arith, more, same, l, m), omega (arith, more, same, l, m)))
+  ]
+]
+
 module _ (shape : Shape) (word : Words) where
   -- a hit is a record, and a record a hit
-  record_of : (s b r k : ℕ) → Hit shape word s b r k → HasRecord shape word s b r
+  pub record_of : (s b r k : ℕ) → Hit shape word s b r k → HasRecord shape word s b r
   record_of s b r k h = record { segment = h.segment; bucket = h.bucket; slot = h.slot; is_allocated = h.taken }
 
-  hit_of : (s b r : ℕ) → HasRecord shape word s b r → Hit shape word s b r (slot_key shape word s b r)
+  pub hit_of : (s b r : ℕ) → HasRecord shape word s b r → Hit shape word s b r (slot_key shape word s b r)
   hit_of s b r h = record { segment = h.segment; bucket = h.bucket; slot = h.slot; taken = h.is_allocated; key = refl }
 
   own_of : (s b r k : ℕ) → Hit shape word s b r k → owner_of shape word (key_hash shape k) ≡ Some s → HasOwnRecord shape word s b r
@@ -35,21 +46,10 @@ module _ (shape : Shape) (word : Words) where
   right_of s b r k e right = subst (λ (z : ℕ). IsRight shape word s b r z) e (record { bucket = right.bucket; fingerprint = right.fingerprint })
 
   -- FROM THE RULES
-  -- of two places one is before the other, or they are one
-  cases_order : (s b r c t : ℕ) → r < record_slots → t < record_slots
-      → (key_at shape s b r < key_at shape s c t) ⊎ (key_at shape s c t < key_at shape s b r) ⊎ ((b ≡ c) × (r ≡ t))
-  cases_order s b r c t l m = elim (cases_lt (key_at shape s b r) (key_at shape s c t)) [
-    | inl less ↦ inl less
-    | inr more ↦ elim (cases_lt (key_at shape s c t) (key_at shape s b r)) [
-      | inl less ↦ inr (inl less)
-      | inr same ↦ inr (inr (omega (arith, more, same, l, m), omega (arith, more, same, l, m)))
-    ]
-  ]
-
   pub from_rules : ((w : ℕ) → RecordsStandRight shape word w × KeysHaveOneValue shape word w) → IsTable shape word
   from_rules rules = record {
     stands = λ s b r k h own. right_of s b r k h.key ((rules (key_at shape s b r)).0 s b r (own_of s b r k h own) refl);
-    one_value = λ s b r c t k h g own. elim (cases_order s b r c t h.slot g.slot) [
+    one_value = λ s b r c t k h g own. elim (cases_order shape s b r c t h.slot g.slot) [
       | inl less ↦ (rules (key_at shape s c t)).1 s c t (own_of s c t k g own) refl b r (record_of s b r k h) less (h.key ∙ sym g.key)
       | inr e ↦ elim e [
         | inl less ↦ sym ((rules (key_at shape s b r)).1 s b r (own_of s b r k h own) refl c t (record_of s c t k g) less (g.key ∙ sym h.key))

@@ -1,6 +1,6 @@
 -- The owner that is computed is the segment that owns the hash.
 use Rattle.std.proofs.Common.{◌≡◌, ◌==◌, ◌&&◌, ◌||◌, ℕ, zero, suc, ◌^◌, ◌<◌, ◌≤◌, ◌⊎◌, inl, inr, Bool, true, false, cond, Option, Some, None, refl, sym, ◌∙◌, ap, subst, arith}
-use Rattle.std.proofs.lemmas.Bool.{cases_Bool, cases_lt, eqb-true, eq-eqb, and_parts, and_from, ltb-true, lt-ltb}
+use Rattle.std.proofs.lemmas.Bool.{cases_Bool, cases_lt, eqb-true, eq-eqb, and_parts, and_from, or_cases, or_left, or_right, ltb-true, lt-ltb}
 use Rattle.std.specs.Prelude.{nat_lt, if◌then◌else◌}
 use Rattle.hash_word.specs.Hash.{top}
 use Rattle.segment_head.specs.HeadWord.{state_in, depth_in, pattern_in, normal, splitting}
@@ -8,17 +8,6 @@ use Rattle.sound_image.specs.Segments.{Frame, depth_at, IsLive, CoversHash, IsLi
 use Rattle.segment_table.specs.Claims.{Claims, IsSoundFrame}
 use Rattle.segment_table.proofs.frames.SoundFrames.{claimer_owns, owner_claims}
 use Rattle.segment_table.specs.Owner.{covers_live, deeper_of, owner_below, owner}
-
-or_one : (a b : Bool) → (a || b) ≡ true → (a ≡ true) ⊎ (b ≡ true)
-or_one true b e = inl refl
-or_one false b e = inr e
-
-or_first : (a b : Bool) → a ≡ true → (a || b) ≡ true
-or_first a b e = ap (λ c. c || b) e
-
-or_second : (a b : Bool) → b ≡ true → (a || b) ≡ true
-or_second true b e = refl
-or_second false b e = e
 
 not_less : (a b : ℕ) → b ≤ a → nat_lt a b ≡ false
 not_less a b most = elim (cases_Bool (nat_lt a b)) [ inl e ↦ absurd (less (ltb-true a b e)) | inr e ↦ e ]
@@ -30,11 +19,11 @@ module _ (frame : Frame) (h : ℕ) where
   test_live : (s : ℕ) → covers_live frame h s ≡ true → IsLive frame s × CoversHash frame s h
   test_live s e =
       let parts = and_parts _ _ e in
-      (elim (or_one _ _ parts.0) [ inl a ↦ inl (eqb-true _ _ a) | inr a ↦ inr (eqb-true _ _ a) ], eqb-true _ _ parts.1)
+      (elim (or_cases _ _ parts.0) [ inl a ↦ inl (eqb-true _ _ a) | inr a ↦ inr (eqb-true _ _ a) ], eqb-true _ _ parts.1)
 
   live_test : (s : ℕ) → IsLiveFor frame h s → covers_live frame h s ≡ true
   live_test s is =
-      and_from _ _ (elim is.live [ inl a ↦ or_first _ _ (eq-eqb _ _ a) | inr a ↦ or_second _ _ (eq-eqb _ _ a) ]) (eq-eqb _ _ is.covers)
+      and_from _ _ (elim is.live [ inl a ↦ or_left _ _ (eq-eqb _ _ a) | inr a ↦ or_right _ _ (eq-eqb _ _ a) ]) (eq-eqb _ _ is.covers)
 
   -- FOUND among the first n slots: a live segment that covers the hash, and the deepest such; or nothing, where there is none
   record IsDeepest (n o : ℕ) : Type 0 where
