@@ -1,5 +1,5 @@
 -- The definitions, computed on worked sessions: what is printed, and what is woven, of one caller and of two.
-use Rattle.std.proofs.Common.{◌≡◌, ℕ, List, [], ◌∷◌, ◌++◌, map, refl, Option, None, Some, Bool, true, false}
+use Rattle.std.proofs.Common.{◌≡◌, ℕ, List, [], ◌∷◌, ◌++◌, refl, Option, None, Some, Bool, true, false}
 use Rattle.std.specs.Prelude.{codes}
 use Rattle.std.specs.Fmt.{digits}
 use Rattle.map_model.specs.declared.call.Call.{Call}

@@ -1,5 +1,5 @@
 -- What a session is: a script run from one image to another, with what it prints.
-use Rattle.std.specs.Prelude.{◌≡◌, ◌≢◌, ℕ, ◌-◌, ◌^◌, ◌<◌, ⊤, Bool, true, false, List, length, map, slice_index, IsSome, Contains}
+use Rattle.std.specs.Prelude.{◌≡◌, ◌≢◌, ℕ, ◌-◌, ◌*◌, ◌^◌, ◌<◌, ⊤, Bool, true, false, List, length, map, slice_index, IsSome, Contains}
 use Rattle.std.specs.List.{AllByRecursion, AllZip}
 use Rattle.std.specs.List.Sorted.{IsStrictlyIncreasing}
 use Rattle.std.specs.FinMap.{get}
@@ -34,9 +34,9 @@ pub record HasAtLeast (n : ℕ) (Passes : ℕ → Type 0) (m : Map) : Type 0 whe
   pub in_map : AllByRecursion (λ k. IsSome (get m k)) keys
   pub pass : AllByRecursion Passes keys
 
--- how many pairs there are at the least where a call finds no room: those of its home bucket
+-- how many pairs there are at the least where a call finds no room: those of its home and its probing bucket, and of both stash buckets
 abbrev pub least_full : ℕ
-least_full = record_slots
+least_full = 4 * record_slots
 
 -- Full stands where the map has at least so many pairs; Deep where it has so many whose hashes have the same top
 -- bits as the call's, so many bits as the image's greatest depth
