@@ -42,6 +42,10 @@ abbrev pub IsMoveOf : Move → ℕ → ℕ → ℕ → ℕ → ℕ → ℕ → T
 IsMoveOf m s k b r c t = (s ≡ m.segment) × (k ≡ m.key)
     × (((b ≡ m.from_bucket) × (r ≡ m.from_slot) × (c ≡ m.to_bucket) × (t ≡ m.to_slot)) ⊎ ((b ≡ m.to_bucket) × (r ≡ m.to_slot) × (c ≡ m.from_bucket) × (t ≡ m.from_slot)))
 
+-- no note is owed of a record that came to the stash: it was stored
+abbrev pub HasNoted : View → Type 0
+HasNoted v = (o : Owed) → Has o v.owed → o.added ≡ false
+
 -- ---- what a view knows
 module _ (site : Site) where
   -- a medium has the words that a view knows and has not loose. What a cut leaves has their cores alone; since those
@@ -233,6 +237,6 @@ module _ (site : Site) where
   May (draws_place call) v = Has call v.planned × (0 < v.room) × ((s : ℕ) × HoldsHome v s (key_of call)
       × IsFirm v (bucket_at site.shape s (home_of (key_hash site.shape (key_of call))))
       × IsKept v (bucket_at site.shape s (probing_of (home_of (key_hash site.shape (key_of call)))))
-      × ((c : ℕ) → c < stash_buckets → IsKept v (bucket_at site.shape s (homes + c)) ⊎ IsUnvisited v s (key_of call) c))
+      × ((c : ℕ) → c < stash_buckets → IsKept v (bucket_at site.shape s (homes + c)) ⊎ IsUnvisited v s (key_of call) c)) × HasNoted v
   May (unlocks lock next) v = (x : ℕ) × Has (lock, x) v.held × IsFirm v lock × (v.planned ≡ []) × (v.moving ≡ []) × (v.owed ≡ []) × (next ≡ x + 1)
   May cuts_power v = ⊤

@@ -21,7 +21,7 @@ use Rattle.bucket_words.specs.TableChanges.{IsReadyAt}
 use Rattle.world.specs.Site.{Site, IsUnder}
 use Rattle.world.specs.Views.{Move, Owed, View, Has, HasLock, IsLoose, IsFirm}
 use Rattle.world.specs.Kinds.{draws_place, stores, repays, publishes, stashes, copies, clears}
-use Rattle.world.specs.Conditions.{HoldsHome, IsUnplanned, IsKnownReply, OwesNone, May, IsOwedOf, IsKept}
+use Rattle.world.specs.Conditions.{HoldsHome, IsUnplanned, IsKnownReply, OwesNone, May, IsOwedOf, IsKept, HasNoted}
 
 -- a view knows word i, and does not have it loose
 pub record KnowsWord (v : View) (i x : ℕ) : Type 0 where
@@ -160,10 +160,11 @@ pub record MayRepay (site : Site) (v : View) : Type 0 where
       (overflow_count (word_in site.shape (with_word word (bucket_at site.shape o.segment c + n) x) o.segment o.home 1)) stashed)
       → May site (repays (bucket_at site.shape o.segment c + n) x o) v
 
--- the draw of a change: what is held and firm, and what of the stash is not held
+-- the draw of a change: what is held and firm, and what of the stash is not held; and that no note is owed of a record that came there
 pub record DrawsWell (site : Site) (v : View) (call : Call) (s : ℕ) (word : Words) : Type 0 where
   pub planned : Has call v.planned
   pub room : 0 < v.room
+  pub noted : HasNoted v
   pub led : HoldsHome site v s (key_of call)
   pub firm : IsFirm v (bucket_at site.shape s (home_of (key_hash site.shape (key_of call))))
   pub probing : IsKept site v (bucket_at site.shape s (probing_of (home_of (key_hash site.shape (key_of call)))))

@@ -68,6 +68,7 @@ module _ (site : Site) (v : View) (call : Call) (s : ℕ) (word : Words) (d : Dr
         | inr q ↦ inr (q.0, λ words n t h. nowhere owes c small q.1 words n t h)
       ],
     ),
+    d.noted,
   )
 
   pub may_shown : (e r : ℕ) → KnowsBucket site.shape v s e word → Hit site.shape word s e r k → v.moving ≡ []
@@ -91,6 +92,7 @@ module _ (site : Site) (v : View) (call : Call) (s : ℕ) (word : Words) (d : Dr
         )
       ],
     ),
+    d.noted,
   )
 
 pub may_draw : (site : Site) (v : View) → MayDraw site v

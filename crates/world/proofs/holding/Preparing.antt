@@ -28,7 +28,7 @@ use Rattle.bucket_words.proofs.segments.Noted.{notes_by}
 use Rattle.bucket_words.proofs.segments.Stashed.{stashed_same}
 
 -- ---- the overflow fingerprints of word 3
-abbrev note_piece : ℕ → ℕ → ℕ → ℕ → ℕ → List OverflowNote
+abbrev pub note_piece : ℕ → ℕ → ℕ → ℕ → ℕ → List OverflowNote
 note_piece side u m f n = if (u == 1) && (m == side) then (f, n) ∷ [] else []
 
 finger_kept : (w1 w3 x i : ℕ) → x / 2 ^ 48 % 2 ^ 16 ≡ w3 / 2 ^ 48 % 2 ^ 16 → i < 4 → note_finger i w1 x ≡ note_finger i w1 w3

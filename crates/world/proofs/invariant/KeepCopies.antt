@@ -28,7 +28,8 @@ other_records_has m n (p ∷ moves) h = elim (cases_Bool (eqb p.segment m.segmen
   | inr f ↦ elim (subst (λ b. Has n (cond b (of_other_records m moves) (p ∷ of_other_records m moves))) f h) [ inl e ↦ inl e | inr r ↦ inr (other_records_has m n moves r) ]
 ]
 
-same_test : (a b c d : ℕ) → (eqb a b && eqb c d) ≡ true → (a ≡ b) × (c ≡ d)
+-- two tests at once
+pub same_test : (a b c d : ℕ) → (eqb a b && eqb c d) ≡ true → (a ≡ b) × (c ≡ d)
 same_test a b c d t = elim (cases_Bool (eqb a b)) [
   | inl e ↦ (eqb-true a b e, eqb-true c d (sym (ap (λ z. z && eqb c d) e) ∙ t))
   | inr e ↦ absurd (let q = ap (λ z. z && eqb c d) e in cc)

@@ -1,7 +1,7 @@
 -- The notes of a home are exact, or one view owes it a note, at each kind of step.
 use Rattle.std.proofs.Common.{◌≡◌, ◌≢◌, ◌⊎◌, ℕ, ◌+◌, ◌*◌, ◌%◌, ◌^◌, ◌<◌, ◌≤◌, List, [], ◌∷◌, set, cond, eqb, ◌&&◌, Bool, true, false, inl, inr, refl, sym, ap, ◌∙◌, subst, arith}
 use Rattle.std.specs.Prelude.{nat_lt}
-use Rattle.std.proofs.lemmas.Bool.{cases_eq, cases_Bool, eq-eqb, eqb-true}
+use Rattle.std.proofs.lemmas.Bool.{cases_eq, cases_Bool, eq-eqb}
 use mathlib.Core.Logic.{dite}
 use native.Mathlib.Decide.{ℕ_discrete}
 use Rattle.trace.specs.Events.{Words, with_word, after}
@@ -22,15 +22,9 @@ use Rattle.world.proofs.Lists.{set_here, set_there}
 use Rattle.world.proofs.Seats.{each, is_v}
 use Rattle.world.proofs.holding.Beside.{newest_is}
 use Rattle.world.proofs.invariant.KeepMedia.{storer}
-use Rattle.world.proofs.invariant.KeepCopies.{look_moving, count_moving, answer_moving}
+use Rattle.world.proofs.invariant.KeepCopies.{same_test, look_moving, count_moving, answer_moving}
 use Rattle.world.proofs.holding.Owing.{same_notes, owed_same}
 use Rattle.bucket_words.proofs.segments.Noted.{exact_same}
-
-same_test : (a b c d : ℕ) → (eqb a b && eqb c d) ≡ true → (a ≡ b) × (c ≡ d)
-same_test a b c d t = elim (cases_Bool (eqb a b)) [
-  | inl e ↦ (eqb-true a b e, eqb-true c d (sym (ap (λ z. z && eqb c d) e) ∙ t))
-  | inr e ↦ absurd (let q = ap (λ z. z && eqb c d) e in cc)
-]
 
 not_test : (a b c d : ℕ) → (eqb a b && eqb c d) ≡ false → a ≡ b → c ≡ d → ⊥
 not_test a b c d f e g = let p : (eqb a b && eqb c d) ≡ true = rw (eq-eqb a b e, eq-eqb c d g) refl in absurd (cc)
