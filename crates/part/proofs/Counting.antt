@@ -1,5 +1,5 @@
 -- Two counts, one after another, are a part, and end by cause.
-use Rattle.std.proofs.Common.{◌≡◌, ◌≢◌, ◌==◌, Bool, true, false, None, Some, [], refl, sym, ◌∙◌, subst, arith}
+use Rattle.std.proofs.Common.{◌≡◌, ◌≢◌, ◌==◌, ℕ, Bool, true, false, inl, Some, [], refl, sym, ◌∙◌, subst}
 use Rattle.std.specs.Prelude.{if◌then◌else◌}
 use Rattle.std.proofs.lemmas.Bool.{eq-eqb}
 use Rattle.std.proofs.lemmas.Option.{none-some, same_Some}
@@ -15,17 +15,16 @@ use Rattle.world.specs.declared.site.Site.{Site as Here}
 use Rattle.world.specs.Site.{Site}
 use Rattle.world.specs.Views.{HasLock}
 use Rattle.world.specs.Wants.{answer_to, word_of}
-use Rattle.world.specs.Laws.{CallersStay}
-use Rattle.part.specs.declared.count.CountEnd.TheVariants.{Counted, Off}
+use Rattle.part.specs.declared.count.CountEnd.TheVariants.{Off}
 use Rattle.part.specs.declared.count.CountStep.{CountStep}
 use Rattle.part.specs.declared.count.CountStep.TheVariants.{AskPower, LoadCounter, Ended}
 use Rattle.part.specs.declared.count.CountOp.{CountOp}
-use Rattle.part.specs.Doings.{Doings}
+use Rattle.part.specs.Doings.{Doings, with_event_of}
 use Rattle.part.specs.Outcomes.{Outcome, off, finished}
 use Rattle.part.specs.Part.{IsPart}
 use Rattle.part.specs.Causes.{HasCause, EndsByCause}
 use Rattle.part.specs.Then.{Passes}
-use Rattle.part.specs.Count.{wanted_in, taken, outcome_of, outcome_in, count_part, has_counted, first_outcome, first_count, begun_again, two_counts, one_or_two, two_or_one, two_or_one_counts}
+use Rattle.part.specs.Count.{wanted_in, taken, outcome_of, outcome_in, HasCounted, BeginsAsPart, BeginsRemembering, BeginsUndecided, count_part, first_count, begun_again, two_counts, one_or_two, two_or_one, two_or_one_counts}
 use Rattle.part.specs.Either.{one, other, either_part}
 use Rattle.part.specs.Renamed.{IsNamed}
 use Rattle.part.proofs.Eithers.{either_is_part, either_ends_by_cause}
@@ -42,12 +41,33 @@ module _ (site : Site) (here : Here) (call : Call) (words : Words) (did : Doings
   asked true is end some = absurd (none-some end some)
   asked false is end some = subst (λ e. Caused want.Power e) (same_Some off end some) (refl, λ zero. absurd (let both = sym (eq-eqb (words (power_word site.shape)) 0 zero) ∙ is in cc))
 
+  -- a count that has counted has loaded the counter
+  abbrev Worked : Shape → CountStep → CountOp → Type 0
+  Worked shape now next = HasCounted next.site.geometry next.step (with_event_of (wanted_in shape now) (answer_to (wanted_in shape now) (words (word_of site.shape (wanted_in shape now)))) did)
+
+  asked_works : (op : CountOp) (b : Bool) → outcome_in (if b then LoadCounter else Ended Off) ≡ Some finished → Worked op.site.geometry AskPower (record op { step = if b then LoadCounter else Ended Off })
+  asked_works op true some = absurd (none-some finished some)
+  asked_works op false some = absurd (let same : off ≡ finished = same_Some off finished some in cc)
+
+  works : (op : CountOp) (s : CountStep) → wanted_in op.site.geometry s ≢ want.Done
+      → outcome_in (taken (record op { step = s }) (answer_to (wanted_in op.site.geometry s) (words (word_of site.shape (wanted_in op.site.geometry s))))).step ≡ Some finished
+      → Worked op.site.geometry s (taken (record op { step = s }) (answer_to (wanted_in op.site.geometry s) (words (word_of site.shape (wanted_in op.site.geometry s)))))
+  works op AskPower asks some = asked_works op (words (power_word site.shape) == 0) some
+  works op LoadCounter asks some = inl refl
+  works op (Ended e) asks some = absurd (asks refl)
+
   by_step : (op : CountOp) (s : CountStep) → wanted_in op.site.geometry s ≢ want.Done → (end : Outcome)
       → outcome_in (taken (record op { step = s }) (answer_to (wanted_in op.site.geometry s) (words (word_of site.shape (wanted_in op.site.geometry s))))).step ≡ Some end
       → Caused (wanted_in op.site.geometry s) end
   by_step op AskPower asks end some = asked (words (power_word site.shape) == 0) refl end some
   by_step op LoadCounter asks end some = subst (λ e. Caused (wanted_in op.site.geometry LoadCounter) e) (same_Some finished end some) tt
   by_step op (Ended e) asks end some = absurd (asks refl)
+
+  -- it changes nothing
+  changes : (shape : Shape) (s : CountStep) (n : ℕ) → did.changed ≡ [] → (with_event_of (wanted_in shape s) (answer_to (wanted_in shape s) n) did).changed ≡ []
+  changes shape AskPower n none = none
+  changes shape LoadCounter n none = none
+  changes shape (Ended e) n none = none
 
 stays : (op : CountOp) (s : CountStep) (a : Ans) (end : Outcome) → outcome_in s ≡ Some end → outcome_in (taken (record op { step = s }) a).step ≡ Some end
 stays op AskPower a end some = absurd (none-some end some)
@@ -63,37 +83,39 @@ ended shape (Ended e) done = (outcome_of e, refl)
 pub ends_by_cause : EndsByCause count_part
 ends_by_cause = record {
   steps = λ site here call words views j op before v did h at s asks small r. record {
-    remembers = tt;
+    remembers = changes site here call words did op.site.geometry op.step (words (word_of site.shape (wanted_in op.site.geometry op.step))) r;
     caused = λ end none some. by_step site here call words did op op.step asks end some;
+    worked = λ none some. works site here call words did op op.step asks some;
     not_own = λ word value none some has. (let none : HasLock [] word = subst (λ locks. HasLock locks word) s.stands.nothing.held has in none.1);
   };
   stays = λ op a end some. stays op op.step a end some;
   decided = λ site here call op v s done closed. ended op.site.geometry op.step done;
+  undecided = λ op h. absurd (let z : false ≡ true = h in cc);
 }
+
+-- ---- where a count begins
+pub begins_as_part : BeginsAsPart
+begins_as_part site here call v same nothing = record { at = refl; shape = same; nothing = nothing }
+
+pub begins_remembering : BeginsRemembering
+begins_remembering site here = refl
+
+pub begins_undecided : BeginsUndecided
+begins_undecided here = refl
 
 -- ---- two counts
--- where the first has counted nothing is decided, as at the beginning of the second
-open_still : (s : CountStep) → has_counted s ≡ true → first_outcome s ≡ None
-open_still AskPower h = refl
-open_still LoadCounter h = refl
-open_still (Ended (Counted n)) h = refl
-open_still (Ended Off) h = absurd (let z = h in cc)
-
-passes : Passes first_count count_part begun_again 2
+passes : Passes first_count count_part begun_again
 passes = record {
-  stands = λ site here call op v s some h. record { at = s.at; shape = s.shape; nothing = s.nothing };
-  decided = λ op h. open_still op.step h;
-  remembers = λ site op did h r. tt;
-  few = λ op. omega arith;
-  waiting = λ op h. omega arith;
-  made = λ op h made. made;
+  stands = λ site here call op v s h. record { at = s.at; shape = s.shape; nothing = s.nothing };
+  undecided = λ op h. refl;
+  remembers = λ site op did h r. r;
 }
 
-pub two_are_a_part : CallersStay → IsPart first_count → IsPart count_part → IsPart two_counts
-two_are_a_part callers before after = then_is_part callers first_count count_part begun_again 2 before after passes
+pub two_are_a_part : IsPart first_count → EndsByCause first_count → IsPart count_part → IsPart two_counts
+two_are_a_part before causes after = then_is_part first_count count_part begun_again before causes after passes
 
 pub two_end_by_cause : EndsByCause first_count → EndsByCause count_part → EndsByCause two_counts
-two_end_by_cause before after = then_ends_by_cause first_count count_part begun_again 2 passes before after
+two_end_by_cause before after = then_ends_by_cause first_count count_part begun_again passes before after
 
 -- ---- two counts or one
 each_named : IsNamed (either_part count_part two_counts) one_or_two two_or_one

@@ -1,5 +1,5 @@
 -- Either of two parts is a part: each law by a line for each of the two.
-use Rattle.std.proofs.Common.{◌≡◌, ◌≢◌, ℕ, ◌+◌, ◌^◌, ◌<◌, ◌≤◌, max, false, List, Some, arith}
+use Rattle.std.proofs.Common.{◌≡◌, ◌≢◌, ℕ, ◌+◌, ◌^◌, ◌<◌, ◌≤◌, max, true, false, List, None, Some, arith}
 use Rattle.std.proofs.Math.Nat.{le-max_left, le-max_right}
 use Rattle.op_core.specs.declared.want.Want.TheVariants.{Flush, Fence, Done}
 use Rattle.op_core.specs.declared.want.Ans.{Ans}
@@ -14,7 +14,7 @@ use Rattle.world.specs.Wants.{word_of}
 use Rattle.world.specs.Invariant.{Holds}
 use Rattle.part.specs.Doings.{Doings}
 use Rattle.part.specs.Outcomes.{Outcome, replied}
-use Rattle.part.specs.Part.{Part, Suits, KeepsSuits, EndsBare, AsksWithin, PutsWords, PlansItsCall, KeepsPower, IsPart}
+use Rattle.part.specs.Part.{Part, Suits, KeepsSuits, EndsBare, AsksWithin, PutsWords, PlansItsCall, HandsOnAtEnd, KeepsPower, IsPart}
 use Rattle.part.specs.Causes.{StepsByCause, EndsByCause}
 use Rattle.part.specs.Either.{Either, one, other, wanted, taken, Stands, outcome, Remembers, HasMade, left, waiting, hands_on, either_part}
 
@@ -82,6 +82,10 @@ module _ {A B : Type 0} (a : Part A) (b : Part B) (is_a : IsPart a) (is_b : IsPa
   plans site here call (one x) before v planned s has = is_a.plans site here call x before v planned (suits_one a b site here call before v x s) has
   plans site here call (other y) before v planned s has = is_b.plans site here call y before v planned (suits_other a b site here call before v y s) has
 
+  hands : HandsOnAtEnd (either_part a b)
+  hands (one x) h = is_a.hands x h
+  hands (other y) h = is_b.hands y h
+
   power : KeepsPower (either_part a b)
   power (one x) n = is_a.power x n
   power (other y) n = is_b.power y n
@@ -96,6 +100,7 @@ module _ {A B : Type 0} (a : Part A) (b : Part B) (is_a : IsPart a) (is_b : IsPa
     flushes = record { most = most_waiting; flushes = flushes; keeps = keeps; ends = none_waits };
     made = record { stays = stays; done = done };
     plans = plans;
+    hands = hands;
     power = power;
   }
 
@@ -105,10 +110,10 @@ module _ {A B : Type 0} (a : Part A) (b : Part B) (by_a : EndsByCause a) (by_b :
       → StepsByCause (either_part a b) site here call words m v did
   caused_steps site here call words views j (one x) before v did h at s asks small r =
       let w = by_a.steps site here call words views j x before v did h at (suits_one a b site here call before v x s) asks small r in
-      record { remembers = w.remembers; caused = w.caused; not_own = w.not_own }
+      record { remembers = w.remembers; caused = w.caused; worked = w.worked; not_own = w.not_own }
   caused_steps site here call words views j (other y) before v did h at s asks small r =
       let w = by_b.steps site here call words views j y before v did h at (suits_other a b site here call before v y s) asks small r in
-      record { remembers = w.remembers; caused = w.caused; not_own = w.not_own }
+      record { remembers = w.remembers; caused = w.caused; worked = w.worked; not_own = w.not_own }
 
   decided_stays : (m : Either A B) (ans : Ans) (end : Outcome) → outcome a b m ≡ Some end → outcome a b (taken a b m ans) ≡ Some end
   decided_stays (one x) ans end some = by_a.stays x ans end some
@@ -119,5 +124,9 @@ module _ {A B : Type 0} (a : Part A) (b : Part B) (by_a : EndsByCause a) (by_b :
   decided site here call (one x) v s done closed = by_a.decided site here call x v s done closed
   decided site here call (other y) v s done closed = by_b.decided site here call y v s done closed
 
+  undecided : (m : Either A B) → hands_on a b m ≡ true → outcome a b m ≡ None
+  undecided (one x) h = by_a.undecided x h
+  undecided (other y) h = by_b.undecided y h
+
   pub either_ends_by_cause : EndsByCause (either_part a b)
-  either_ends_by_cause = record { steps = caused_steps; stays = decided_stays; decided = decided }
+  either_ends_by_cause = record { steps = caused_steps; stays = decided_stays; decided = decided; undecided = undecided }

@@ -1,6 +1,6 @@
 pub mod Thens
-pub mod Onwards
 pub mod Eithers
+pub mod Limiting
 pub mod Renaming
 pub mod Turning
 pub mod Still

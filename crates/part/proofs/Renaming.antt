@@ -61,6 +61,7 @@ module _ {A B : Type 0} (p : Part A) (to : B → A) (from : A → B) (named : Is
         done = λ m made done. is.made.done (to m) made done;
       };
       plans = λ site here call m before v planned s. is.plans site here call (to m) before v planned (suits site here call m before v s);
+      hands = λ m h. is.hands (to m) h;
       power = λ m n. is.power (to m) n;
     }
 
@@ -71,9 +72,11 @@ module _ {A B : Type 0} (p : Part A) (to : B → A) (from : A → B) (named : Is
         let w = by.steps site here call words views j (to m) before v did h seat (suits site here call m before v s) asks small r in
         let after : A = next p site words (to m) in
         let same : p.outcome after ≡ p.outcome (to (from after)) = ap p.outcome (sym (named after)) in
+        let doings : Doings = with_event_of (p.wanted (to m)) (answer_to (p.wanted (to m)) (finds p site words (to m))) did in
         record {
-          remembers = at (λ x. p.Remembers site x (with_event_of (p.wanted (to m)) (answer_to (p.wanted (to m)) (finds p site words (to m))) did)) after w.remembers;
+          remembers = at (λ x. p.Remembers site x doings) after w.remembers;
           caused = λ end none some. w.caused end none (same ∙ some);
+          worked = λ none some. at (λ x. p.HasWorked site x doings) after (w.worked none (same ∙ some));
           not_own = λ word value none some. w.not_own word value none (same ∙ some);
         }
 
@@ -82,4 +85,5 @@ module _ {A B : Type 0} (p : Part A) (to : B → A) (from : A → B) (named : Is
       steps = caused;
       stays = λ m ans end some. at (λ x. p.outcome x ≡ Some end) (p.taken (to m) ans) (by.stays (to m) ans end some);
       decided = λ site here call m v s done closed. by.decided site here call (to m) v s done closed;
+      undecided = λ m h. by.undecided (to m) h;
     }

@@ -16,6 +16,7 @@ use Rattle.image_layout.proofs.Areas.{entry_before}
 use Rattle.way.proofs.Indexes.{index_below}
 use Rattle.sound_image.specs.Records.{key_hash}
 use Rattle.sound_image.proofs.Hashes.{key_hash-fits}
+use Rattle.map_model.specs.declared.call.Call.{Call}
 use Rattle.map_model.specs.Map.{key_of}
 use Rattle.world.specs.Views.{Has}
 use Rattle.world.specs.Wants.{answer_to, word_of, words_after}
@@ -58,6 +59,13 @@ pub own_events_keep_still : OwnEventsKeepStill
 own_events_keep_still shape words did w c still = by_want shape words did c still w
 
 -- ---- words that are watched lie in the image, and are no counter
+pub bucket_near : (call : Call) (hash bucket : ℕ) → IsBucketOf call hash bucket → bucket < buckets
+bucket_near call hash bucket (inl home) = subst (λ n. n < buckets) (sym home) (omega arith)
+bucket_near call hash bucket (inr (inl probing)) = subst (λ n. n < buckets) (sym probing) (omega arith)
+bucket_near call hash bucket (inr (inr (inl stash))) = stash.1
+bucket_near call hash bucket (inr (inr (inr (insert, inl next)))) = subst (λ n. n < buckets) (sym next) (omega arith)
+bucket_near call hash bucket (inr (inr (inr (insert, inr previous)))) = subst (λ n. n < buckets) (sym previous) (omega arith)
+
 module _ (shape : Shape) (is : IsShape shape) (hash : ℕ) (fits : hash < 2 ^ 64) where
   first_within : root_word < words_of shape
   first_within = let some = is.some in omega (arith, some)
@@ -75,32 +83,27 @@ module _ (shape : Shape) (is : IsShape shape) (hash : ℕ) (fits : hash < 2 ^ 64
   head_by segment true low = let under = ltb-true segment shape.segments low in omega (arith, under)
   head_by segment false low = first_within
 
-  near : (bucket : ℕ) → IsBucketOf hash bucket → bucket < buckets
-  near bucket (inl home) = subst (λ n. n < buckets) (sym home) (omega arith)
-  near bucket (inr (inl probing)) = subst (λ n. n < buckets) (sym probing) (omega arith)
-  near bucket (inr (inr stash)) = stash.1
-
   lock_by : (segment bucket : ℕ) → bucket < buckets → (b : Bool) → nat_lt segment shape.segments ≡ b → (if b then bucket_at shape segment bucket else root_word) < words_of shape
   lock_by segment bucket close true low = let under = ltb-true segment shape.segments low in omega (arith, under, close)
   lock_by segment bucket close false low = first_within
 
-module _ (shape : Shape) (is : IsShape shape) (hash : ℕ) (fits : hash < 2 ^ 64) (loads : List (ℕ × ℕ)) where
+module _ (shape : Shape) (is : IsShape shape) (hash : ℕ) (fits : hash < 2 ^ 64) (loads : List (ℕ × ℕ)) (call : Call) where
   on_way : (word : ℕ) → IsOnWay shape hash loads word → word < words_of shape
   on_way word (inl root) = subst (λ n. n < words_of shape) (sym root) (first_within shape is hash fits)
   on_way word (inr (inl p)) = subst (λ n. n < words_of shape) (sym p.2) (entry_by shape is hash fits p.0 _ refl)
   on_way word (inr (inr p)) = subst (λ n. n < words_of shape) (sym p.2) (head_by shape is hash fits p.0 _ refl)
 
-  lock_there : (word : ℕ) → IsLockThere shape hash loads word → word < words_of shape
-  lock_there word p = subst (λ n. n < words_of shape) (sym p.4) (lock_by shape is hash fits p.0 p.2 (near shape is hash fits p.2 p.3) _ refl)
+  lock_there : (word : ℕ) → IsLockThere shape hash loads call word → word < words_of shape
+  lock_there word p = subst (λ n. n < words_of shape) (sym p.4) (lock_by shape is hash fits p.0 p.2 (bucket_near call hash p.2 p.3) _ refl)
 
-  watched_within : (word before after : ℕ) → IsWatched shape hash loads word before after → word < words_of shape
+  watched_within : (word before after : ℕ) → IsWatched shape hash loads call word before after → word < words_of shape
   watched_within word before after (inl way) = on_way word way
   watched_within word before after (inr lock) = lock_there word lock.0
 
 pub alone_nothing_moves : AloneNothingMoves
 alone_nothing_moves shape words did call word before after is small still m =
     let fits = key_hash-fits shape (key_of call) small in
-    elim (still word before m.loaded (let low = watched_within shape is (key_hash shape (key_of call)) fits did.loads word before after m.watched in λ same. omega (arith, low, same))) [
+    elim (still word before m.loaded (let low = watched_within shape is (key_hash shape (key_of call)) fits did.loads call word before after m.watched in λ same. omega (arith, low, same))) [
       | inl same ↦ m.differ (sym same ∙ m.newest)
       | inr own ↦ m.by_others own
     ]

@@ -13,7 +13,7 @@ use Rattle.part.specs.Part.{Part, IsPart, StepsWell, finds, next, next_view}
 use Rattle.part.specs.Turns.{TurnKeeps}
 
 -- a step makes a change or does not
-publishing_or_not : (kind : Kind) → IsPublishingKind kind ⊎ (IsPublishingKind kind → ⊥)
+pub publishing_or_not : (kind : Kind) → IsPublishingKind kind ⊎ (IsPublishingKind kind → ⊥)
 publishing_or_not (publishes i x call) = inl tt
 publishing_or_not (stashes i x call o) = inl tt
 publishing_or_not kind = inr (λ f. f)

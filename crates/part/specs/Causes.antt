@@ -6,8 +6,9 @@ use Rattle.op_core.specs.declared.want.Ans.{Ans}
 use Rattle.op_core.specs.declared.why.Why.{Why}
 use Rattle.op_core.specs.declared.why.Why.TheVariants.{Busy, Moved}
 use Rattle.op_core.specs.Answers.{Finds}
-use Rattle.hash_word.specs.Hash.{home_of, probing_of}
-use Rattle.bucket_meta.specs.Bucket.{allocated, record_slots}
+use Rattle.hash_word.specs.Hash.{home_of, probing_of, next_of, previous_of}
+use Rattle.bucket_meta.specs.Bucket.{record_slots}
+use Rattle.bucket_meta.specs.Slots.{IsFull}
 use Rattle.trace.specs.Events.{Words}
 use Rattle.segment_head.specs.HeadWord.{version_in, state_in, depth_in, is_live, free}
 use Rattle.image_layout.specs.Places.{Shape, IsShape, root_word, head_at, bucket_at, homes, buckets}
@@ -27,10 +28,13 @@ use Rattle.world.specs.Wants.{answer_to, word_of}
 use Rattle.part.specs.Doings.{Doings, with_event_of, IsStill}
 use Rattle.part.specs.Outcomes.{Outcome, replied, again, stale, off, finished}
 use Rattle.part.specs.Part.{Part, Suits, finds, next}
+use Rattle.part.specs.Room.{NothingMoves}
 
--- the home bucket of a hash, the one after it, or a stash bucket
-abbrev pub IsBucketOf : ℕ → ℕ → Type 0
-IsBucketOf hash b = (b ≡ home_of hash) ⊎ ((b ≡ probing_of (home_of hash)) ⊎ ((homes ≤ b) × (b < buckets)))
+-- A BUCKET OF A CALL, by the hash of its key: the home bucket, the one after it, or a stash bucket; and of an insert, which may make
+-- room, the bucket after these two and the one before
+abbrev pub IsBucketOf : Call → ℕ → ℕ → Type 0
+IsBucketOf call hash b = (b ≡ home_of hash) ⊎ ((b ≡ probing_of (home_of hash)) ⊎ (((homes ≤ b) × (b < buckets))
+    ⊎ (IsInsert call × ((b ≡ next_of (home_of hash)) ⊎ (b ≡ previous_of (home_of hash))))))
 
 -- ---- words by which an attempt finds its bucket, by its key's hash and what it loaded
 module _ (shape : Shape) (hash : ℕ) (loads : List (ℕ × ℕ)) where
@@ -49,14 +53,14 @@ module _ (shape : Shape) (hash : ℕ) (loads : List (ℕ × ℕ)) where
       ⊎ (((root : ℕ) × IsDepth root × (word ≡ entry_word shape hash root))
       ⊎ ((segment : ℕ) × IsNamed segment × (word ≡ head_word shape segment)))
 
-  -- the lock word of one of the buckets of the key's hash, in a segment that was named
-  abbrev pub IsLockThere : ℕ → Type 0
-  IsLockThere word = (segment : ℕ) × IsNamed segment × (b : ℕ) × IsBucketOf hash b × (word ≡ bucket_word shape segment b)
+  -- the lock word of one of the buckets of a call, in a segment that was named
+  abbrev pub IsLockThere : Call → ℕ → Type 0
+  IsLockThere call word = (segment : ℕ) × IsNamed segment × (b : ℕ) × IsBucketOf call hash b × (word ≡ bucket_word shape segment b)
 
   -- a word that may be told with these two values: one on the way, or such a lock word, which has them as free, so that two
   -- such values are of two versions
-  abbrev pub IsWatched : ℕ → ℕ → ℕ → Type 0
-  IsWatched word before after = IsOnWay word ⊎ (IsLockThere word × (before % 2 ≡ 0) × (after % 2 ≡ 0))
+  abbrev pub IsWatched : Call → ℕ → ℕ → ℕ → Type 0
+  IsWatched call word before after = IsOnWay word ⊎ (IsLockThere call word × (before % 2 ≡ 0) × (after % 2 ≡ 0))
 
 -- ---- causes
 module _ (shape : Shape) (words : Words) (did : Doings) (call : Call) where
@@ -64,9 +68,9 @@ module _ (shape : Shape) (words : Words) (did : Doings) (call : Call) where
   hash_for = key_hash shape (key_of call)
 
   -- ---- busy
-  -- the lock word of one of the buckets of the call's key, in a segment of the image that was named
+  -- the lock word of one of the buckets of the call, in a segment of the image that was named
   abbrev pub IsOwnLock : ℕ → Type 0
-  IsOwnLock word = (segment : ℕ) × IsNamed shape hash_for did.loads segment × (segment < shape.segments) × (b : ℕ) × IsBucketOf hash_for b × (word ≡ bucket_at shape segment b)
+  IsOwnLock word = (segment : ℕ) × IsNamed shape hash_for did.loads segment × (segment < shape.segments) × (b : ℕ) × IsBucketOf call hash_for b × (word ≡ bucket_at shape segment b)
 
   -- one of them is taken, and not by this attempt
   pub record IsTaken (word value : ℕ) : Type 0 where
@@ -78,31 +82,50 @@ module _ (shape : Shape) (words : Words) (did : Doings) (call : Call) where
   -- ---- moved
   -- such a word has another value than the attempt loaded, and not by this attempt
   pub record HasMoved (word before after : ℕ) : Type 0 where
-    pub watched : IsWatched shape hash_for did.loads word before after
+    pub watched : IsWatched shape hash_for did.loads call word before after
     pub loaded : Has (word, before) did.loads
     pub newest : words word ≡ after
     pub differ : before ≢ after
     pub by_others : Has word did.changed → ⊥
 
   -- ---- no room
-  -- the attempt loaded the metadata word of the home bucket, in a segment that was named, by which all record slots are taken, and
-  -- the key word of each slot, none of which is the key of this insert
-  pub record FindsNoRoom : Type 0 where
+  -- the attempt loaded the first metadata word of a bucket of a segment, with this value
+  abbrev pub WasMeta : ℕ → ℕ → ℕ → Type 0
+  WasMeta segment b meta = Has (bucket_at shape segment b + 1, meta) did.loads
+
+  -- by that word all record slots of the bucket are taken; and it loaded the key word of each slot, none of which is the call's key
+  pub record IsFullOfOthers (segment b meta : ℕ) : Type 0 where
+    pub loaded : WasMeta segment b meta
+    pub full : IsFull meta
+    pub others : (slot : ℕ) → slot < record_slots → (key : ℕ) × Has (bucket_at shape segment b + (4 + 2 * slot), key) did.loads × (key ≢ key_of call)
+
+  -- in a segment of the image that was named, home and probing bucket of this insert's key are full of other records, of which none can
+  -- be moved, by the metadata words of these two, of the next and of the previous bucket; and both stash buckets are full of other records
+  pub record FindsNoRoom (segment : ℕ) : Type 0 where
     pub insert : IsInsert call
-    pub segment : ℕ
     pub named : IsNamed shape hash_for did.loads segment
-    pub meta : ℕ
-    pub loaded : Has (bucket_at shape segment (home_of hash_for) + 1, meta) did.loads
-    pub taken : (slot : ℕ) → slot < record_slots → allocated slot meta ≡ 1
-    pub others : (slot : ℕ) → slot < record_slots → (key : ℕ) × Has (bucket_at shape segment (home_of hash_for) + (4 + 2 * slot), key) did.loads × (key ≢ key_of call)
+    pub within : segment < shape.segments
+    pub home : ℕ
+    pub probing : ℕ
+    pub next : ℕ
+    pub previous : ℕ
+    pub first : ℕ
+    pub second : ℕ
+    pub home_full : IsFullOfOthers segment (home_of hash_for) home
+    pub probing_full : IsFullOfOthers segment (probing_of (home_of hash_for)) probing
+    pub next_loaded : WasMeta segment (next_of (home_of hash_for)) next
+    pub previous_loaded : WasMeta segment (previous_of (home_of hash_for)) previous
+    pub moves : NothingMoves home probing next previous
+    pub first_full : IsFullOfOthers segment homes first
+    pub second_full : IsFullOfOthers segment (homes + 1) second
 
   -- the attempt loaded the header word of the segment in a slot, with this value
   abbrev pub WasHead : ℕ → ℕ → Type 0
   WasHead slot head = Has (head_at shape slot + 1, head) did.loads
 
-  -- the header that it loaded of its segment, one of the image that was named, has such a depth
-  abbrev pub HasDepth : (ℕ → Type 0) → Type 0
-  HasDepth Passes = (segment : ℕ) × IsNamed shape hash_for did.loads segment × (segment < shape.segments) × (head : ℕ) × WasHead segment head × Passes (depth_in head)
+  -- the header that it loaded of a segment has such a depth
+  abbrev pub HasDepth : ℕ → (ℕ → Type 0) → Type 0
+  HasDepth segment Passes = (head : ℕ) × WasHead segment head × Passes (depth_in head)
 
   -- it loaded the header of each slot, and found none free
   abbrev pub NoSlotIsFree : Type 0
@@ -115,8 +138,8 @@ module _ (shape : Shape) (words : Words) (did : Doings) (call : Call) where
 
   -- THE CAUSE of each reply; the other replies are those of the plain map, and have no more
   abbrev pub HasReplyCause : Reply → Type 0
-  HasReplyCause Full = FindsNoRoom × HasDepth (λ depth. depth < shape.depth) × NoSlotIsFree
-  HasReplyCause Deep = FindsNoRoom × HasDepth (λ depth. depth ≡ shape.depth)
+  HasReplyCause Full = (segment : ℕ) × FindsNoRoom segment × HasDepth segment (λ depth. depth < shape.depth) × NoSlotIsFree
+  HasReplyCause Deep = (segment : ℕ) × FindsNoRoom segment × HasDepth segment (λ depth. depth ≡ shape.depth)
   HasReplyCause Spent = IsSpent
   HasReplyCause r = ⊤
 
@@ -145,7 +168,7 @@ module _ (shape : Shape) (words : Words) (did : Doings) (call : Call) where
     abbrev pub IsOff : Type 0
     IsOff = (event ≡ Power) × (words (power_word shape) ≢ 0)
 
-    -- THE CAUSE of each outcome
+    -- THE CAUSE of each outcome; that a machine has done its own work is its part's to say, below
     abbrev pub HasCause : Here → Outcome → Type 0
     HasCause here (replied reply place) = HasReplyCause reply
     HasCause here (again why) = HasAgainCause why
@@ -156,14 +179,16 @@ module _ (shape : Shape) (words : Words) (did : Doings) (call : Call) where
 -- ---- the causes of a part's outcomes
 module _ {M : Type 0} (p : Part M) where
   -- what a machine has remembered it remembers after its next event, with what that did; and where the event decides the outcome, the
-  -- cause is there; and who is told that a lock is taken does not hold it
+  -- cause is there: who has finished has done its work; and who is told that a lock is taken does not hold it
   pub record StepsByCause (site : Site) (here : Here) (call : Call) (words : Words) (op : M) (v : View) (did : Doings) : Type 0 where
     pub remembers : p.Remembers site (next p site words op) (with_event_of (p.wanted op) (answer_to (p.wanted op) (finds p site words op)) did)
     pub caused : (outcome : Outcome) → p.outcome op ≡ None → p.outcome (next p site words op) ≡ Some outcome → HasCause site.shape words did call (p.wanted op) here outcome
+    pub worked : p.outcome op ≡ None → p.outcome (next p site words op) ≡ Some finished
+        → p.HasWorked site (next p site words op) (with_event_of (p.wanted op) (answer_to (p.wanted op) (finds p site words op)) did)
     pub not_own : (word value : ℕ) → p.outcome op ≡ None → p.outcome (next p site words op) ≡ Some (again (Busy word value)) → HasLock v.held word → ⊥
 
-  -- EACH OUTCOME HAS ITS CAUSE, beside any other callers; it stays as it was decided; and where a machine wants nothing more, and does
-  -- not hand on, it is decided
+  -- EACH OUTCOME HAS ITS CAUSE, beside any other callers; it stays as it was decided; where a machine wants nothing more, and does not
+  -- hand on, it is decided, and where it hands on, it is not
   pub record EndsByCause : Type 0 where
     pub steps : (site : Site) (here : Here) (call : Call) (words : Words) (views : List View) (j : ℕ) (op : M) (before v : View) (did : Doings)
         → Holds site words views → At views j v → Suits p site here call op before v → p.wanted op ≢ Done → finds p site words op < 2 ^ 64 → p.Remembers site op did
@@ -171,6 +196,7 @@ module _ {M : Type 0} (p : Part M) where
     pub stays : (op : M) (a : Ans) (outcome : Outcome) → p.outcome op ≡ Some outcome → p.outcome (p.taken op a) ≡ Some outcome
     pub decided : (site : Site) (here : Here) (call : Call) (op : M) (v : View) → p.Stands site here call op v → p.wanted op ≡ Done → p.hands_on op ≡ false
         → (outcome : Outcome) × (p.outcome op ≡ Some outcome)
+    pub undecided : (op : M) → p.hands_on op ≡ true → p.outcome op ≡ None
 
 -- ---- a caller alone
 -- NOTHING MOVES for a caller to whom what it loaded is still so

@@ -1,5 +1,5 @@
 -- A machine that reads the commit counter, in each step, and as a part of a call: it gives the call no reply.
-use Rattle.std.specs.Prelude.{◌≡◌, ℕ, ◌==◌, true, false, ⊤, Bool, Option, None, Some, [], if◌then◌else◌}
+use Rattle.std.specs.Prelude.{◌≡◌, ℕ, ◌==◌, true, false, Bool, Option, None, Some, [], if◌then◌else◌}
 use Rattle.op_core.specs.declared.want.Want.{Want}
 use Rattle.op_core.specs.declared.want.Want.TheVariants.{Load, Power, Done}
 use Rattle.op_core.specs.declared.want.Ans.{Ans}
@@ -9,7 +9,7 @@ use Rattle.image_layout.specs.Volatile.{counter_word}
 use Rattle.map_model.specs.declared.call.Call.{Call}
 use Rattle.world.specs.declared.site.Site.{Site as Here}
 use Rattle.world.specs.Site.{Site}
-use Rattle.world.specs.Views.{View}
+use Rattle.world.specs.Views.{View, Has}
 use Rattle.world.specs.Kinds.{Kind, peeks, asks_power}
 use Rattle.world.specs.Attempts.{HoldsOnly}
 use Rattle.part.specs.declared.count.CountEnd.{CountEnd}
@@ -17,6 +17,7 @@ use Rattle.part.specs.declared.count.CountEnd.TheVariants.{Counted, Off}
 use Rattle.part.specs.declared.count.CountStep.{CountStep}
 use Rattle.part.specs.declared.count.CountStep.TheVariants.{AskPower, LoadCounter, Ended}
 use Rattle.part.specs.declared.count.CountOp.{CountOp}
+use Rattle.part.specs.Doings.{Doings, nothing_done}
 use Rattle.part.specs.Outcomes.{Outcome, off, finished}
 use Rattle.part.specs.Part.{Part}
 use Rattle.part.specs.Then.{Then, then_part}
@@ -70,6 +71,12 @@ pub record Stands (site : Site) (here : Here) (call : Call) (op : CountOp) (v : 
   pub shape : op.site.geometry ≡ site.shape
   pub nothing : HoldsOnly [] v
 
+-- it has loaded the commit counter, with the number that it tells
+abbrev pub HasCounted : Shape → CountStep → Doings → Type 0
+HasCounted shape (Ended (Counted n)) did = Has (counter_word shape, n) did.loads
+HasCounted shape step did = ⊥
+
+-- it changes nothing
 abbrev pub count_part : Part CountOp
 count_part = record {
   wanted = wanted;
@@ -77,7 +84,8 @@ count_part = record {
   kind = λ op n. kind_in op.site.geometry op.step;
   Stands = Stands;
   outcome = λ op. outcome_in op.step;
-  Remembers = λ site op did. ⊤;
+  Remembers = λ site op did. did.changed ≡ [];
+  HasWorked = λ site op did. HasCounted op.site.geometry op.step did;
   HasMade = λ op. ⊥;
   left = λ op. left_in op.step;
   most_events = 2;
@@ -85,6 +93,19 @@ count_part = record {
   most_waiting = 0;
   hands_on = λ op. false;
 }
+
+-- ---- where it begins
+-- in this image, by a caller that holds and owes nothing
+abbrev pub BeginsAsPart : Type 0
+BeginsAsPart = (site : Site) (here : Here) (call : Call) (v : View) → here.geometry ≡ site.shape → HoldsOnly [] v → count_part.Stands site here call (begun here) v
+
+-- it remembers what it did, which is nothing
+abbrev pub BeginsRemembering : Type 0
+BeginsRemembering = (site : Site) (here : Here) → count_part.Remembers site (begun here) nothing_done
+
+-- and nothing is decided
+abbrev pub BeginsUndecided : Type 0
+BeginsUndecided = (here : Here) → count_part.outcome (begun here) ≡ None
 
 -- ---- two of them, one after another
 -- where the first has counted, the second is begun
@@ -104,7 +125,7 @@ abbrev pub begun_again : CountOp → CountOp
 begun_again op = begun op.site
 
 abbrev pub two_counts : Part (Then CountOp CountOp)
-two_counts = then_part first_count count_part begun_again 2
+two_counts = then_part first_count count_part begun_again
 
 -- ---- two counts or one, where two come first
 abbrev pub TwoOrOne : Type 0

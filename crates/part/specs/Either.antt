@@ -41,6 +41,10 @@ module _ {A B : Type 0} (a : Part A) (b : Part B) where
   Remembers site (one x) did = a.Remembers site x did
   Remembers site (other y) did = b.Remembers site y did
 
+  abbrev pub HasWorked : Site → Either A B → Doings → Type 0
+  HasWorked site (one x) did = a.HasWorked site x did
+  HasWorked site (other y) did = b.HasWorked site y did
+
   abbrev pub HasMade : Either A B → Type 0
   HasMade (one x) = a.HasMade x
   HasMade (other y) = b.HasMade y
@@ -65,6 +69,7 @@ module _ {A B : Type 0} (a : Part A) (b : Part B) where
     Stands = Stands;
     outcome = outcome;
     Remembers = Remembers;
+    HasWorked = HasWorked;
     HasMade = HasMade;
     left = left;
     most_events = max a.most_events b.most_events;

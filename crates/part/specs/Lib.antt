@@ -2,10 +2,11 @@ pub mod Asks
 pub mod Doings
 pub mod Outcomes
 pub mod Part
+pub mod Room
 pub mod Then
 pub mod Either
+pub mod Limited
 pub mod Renamed
-pub mod Onward
 pub mod Turns
 pub mod Causes
 pub mod Count

@@ -1,7 +1,8 @@
 -- How an attempt ends, whatever machine makes it.
-use Rattle.std.specs.Prelude.{ℕ, Option, None, Some}
+use Rattle.std.specs.Prelude.{ℕ, ⊤, Option, None, Some}
 use Rattle.op_core.specs.declared.why.Why.{Why}
 use Rattle.map_model.specs.declared.entry.Reply.{Reply}
+use Rattle.map_model.specs.declared.entry.Reply.TheVariants.{Done}
 
 pub data Outcome : Type 0 where
   -- with this reply, at this place
@@ -14,6 +15,11 @@ pub data Outcome : Type 0 where
   off : Outcome
   -- it has done its work, which gives the call no reply
   finished : Outcome
+
+-- a reply that says that something changed
+abbrev pub IsDone : Reply → Type 0
+IsDone Done = ⊤
+IsDone other = ⊥
 
 -- the reply with its place, where that is the outcome
 abbrev pub reply_of : Option Outcome → Option (Reply × ℕ)

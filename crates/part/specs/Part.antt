@@ -1,6 +1,6 @@
 -- WHAT AN ENGINE HAS TO KNOW OF A MACHINE, and nothing else: what it wants and makes of an answer, and why; how its caller's view
 -- stands; how it ends; and how long it goes on. A machine of which the laws below hold is a part of a call.
-use Rattle.std.specs.Prelude.{◌≡◌, ◌≢◌, ℕ, ◌+◌, ◌^◌, ◌<◌, ◌≤◌, Bool, false, Option, Some, List, []}
+use Rattle.std.specs.Prelude.{◌≡◌, ◌≢◌, ℕ, ◌+◌, ◌^◌, ◌<◌, ◌≤◌, Bool, true, false, Option, Some, List, []}
 use Rattle.op_core.specs.declared.want.Want.{Want}
 use Rattle.op_core.specs.declared.want.Want.TheVariants.{Flush, Fence, Done}
 use Rattle.op_core.specs.declared.want.Ans.{Ans}
@@ -33,6 +33,8 @@ pub record Part (M : Type 0) : Type 1 where
   pub outcome : M → Option Outcome
   -- what it remembers of what its attempt did
   pub Remembers : Site → M → Doings → Type 0
+  -- its own work is done, by what its attempt did: the cause of an end that gives the call no reply
+  pub HasWorked : Site → M → Doings → Type 0
   -- the one store that makes its change was done
   pub HasMade : M → Type 0
   -- at most so many events are left, of so many
@@ -111,6 +113,10 @@ module _ {M : Type 0} (p : Part M) where
   PlansItsCall = (site : Site) (here : Here) (call : Call) (op : M) (before v : View) (planned : Call) → Suits site here call op before v → Has planned v.planned
       → (planned ≡ call) × (v.own ≡ before.own)
 
+  -- a machine that hands on wants nothing more
+  abbrev pub HandsOnAtEnd : Type 0
+  HandsOnAtEnd = (op : M) → p.hands_on op ≡ true → p.wanted op ≡ Done
+
   -- it never cuts the power
   abbrev pub KeepsPower : Type 0
   KeepsPower = (op : M) (n : ℕ) → p.kind op n ≢ cuts_power
@@ -125,4 +131,5 @@ module _ {M : Type 0} (p : Part M) where
     pub flushes : FlushesFew
     pub made : EndsAsDone
     pub plans : PlansItsCall
+    pub hands : HandsOnAtEnd
     pub power : KeepsPower

@@ -12,6 +12,7 @@ module _ {A B : Type 0} (p : Part A) (to : B → A) (from : A → B) where
     Stands = λ site here call m v. p.Stands site here call (to m) v;
     outcome = λ m. p.outcome (to m);
     Remembers = λ site m did. p.Remembers site (to m) did;
+    HasWorked = λ site m did. p.HasWorked site (to m) did;
     HasMade = λ m. p.HasMade (to m);
     left = λ m. p.left (to m);
     most_events = p.most_events;

@@ -1,5 +1,5 @@
 -- ONE PART AFTER ANOTHER: where the first hands on, the second goes on from the state that is made of it.
-use Rattle.std.specs.Prelude.{◌≡◌, ℕ, ◌+◌, ◌<◌, ◌≤◌, max, Bool, true, false, Option}
+use Rattle.std.specs.Prelude.{◌≡◌, ℕ, ◌+◌, max, Bool, true, false, Option, None}
 use Rattle.op_core.specs.declared.want.Want.{Want}
 use Rattle.op_core.specs.declared.want.Ans.{Ans}
 use Rattle.map_model.specs.declared.call.Call.{Call}
@@ -16,8 +16,8 @@ pub data Then (A B : Type 0) : Type 0 where
   first : A → Then A B
   second : B → Then A B
 
--- the second goes on from `next` of the first's state, and takes at most `most` events from there
-module _ {A B : Type 0} (a : Part A) (b : Part B) (next : A → B) (most : ℕ) where
+-- the second goes on from `next` of the first's state
+module _ {A B : Type 0} (a : Part A) (b : Part B) (next : A → B) where
   abbrev pub passed : Bool → A → Then A B
   passed true x = second (next x)
   passed false x = first x
@@ -51,12 +51,16 @@ module _ {A B : Type 0} (a : Part A) (b : Part B) (next : A → B) (most : ℕ) 
   Remembers site (first x) did = a.Remembers site x did
   Remembers site (second y) did = b.Remembers site y did
 
+  abbrev pub HasWorked : Site → Then A B → Doings → Type 0
+  HasWorked site (first x) did = a.HasWorked site x did
+  HasWorked site (second y) did = b.HasWorked site y did
+
   abbrev pub HasMade : Then A B → Type 0
   HasMade (first x) = a.HasMade x
   HasMade (second y) = b.HasMade y
 
   abbrev pub left : Then A B → ℕ
-  left (first x) = a.left x + most
+  left (first x) = a.left x + b.most_events
   left (second y) = b.left y
 
   abbrev pub waiting : Then A B → ℕ
@@ -75,20 +79,18 @@ module _ {A B : Type 0} (a : Part A) (b : Part B) (next : A → B) (most : ℕ) 
     Stands = Stands;
     outcome = outcome;
     Remembers = Remembers;
+    HasWorked = HasWorked;
     HasMade = HasMade;
     left = left;
-    most_events = max (a.most_events + most) b.most_events;
+    most_events = a.most_events + b.most_events;
     waiting = waiting;
     most_waiting = max a.most_waiting b.most_waiting;
     hands_on = hands_on;
   }
 
-  -- WHAT THE TWO OWE EACH OTHER where the first hands on: its view stands for the second, which is bounded, has decided what the
-  -- first has, remembers by what the first remembers, and counts the lines that still wait; and a change that was made is made
+  -- WHAT THE FIRST OWES THE SECOND where it hands on: its view stands for the second, which is undecided, and remembers by what the first
+  -- remembers
   pub record Passes : Type 0 where
-    pub stands : (site : Site) (here : Here) (call : Call) (x : A) (v : View) → a.Stands site here call x v → 0 < v.callers → a.hands_on x ≡ true → b.Stands site here call (next x) v
-    pub decided : (x : A) → a.hands_on x ≡ true → a.outcome x ≡ b.outcome (next x)
+    pub stands : (site : Site) (here : Here) (call : Call) (x : A) (v : View) → a.Stands site here call x v → a.hands_on x ≡ true → b.Stands site here call (next x) v
+    pub undecided : (x : A) → a.hands_on x ≡ true → b.outcome (next x) ≡ None
     pub remembers : (site : Site) (x : A) (did : Doings) → a.hands_on x ≡ true → a.Remembers site x did → b.Remembers site (next x) did
-    pub few : (x : A) → b.left (next x) ≤ most
-    pub waiting : (x : A) → a.hands_on x ≡ true → a.waiting x ≤ b.waiting (next x)
-    pub made : (x : A) → a.hands_on x ≡ true → a.HasMade x → b.HasMade (next x)

@@ -4,7 +4,7 @@ ghost use Rattle.part.specs.Part.{IsPart};
 ghost use Rattle.part.specs.Turns.{TurnKeeps};
 ghost use Rattle.part.specs.Doings.{NothingIsStill, OwnEventsKeepStill};
 ghost use Rattle.part.specs.Causes.{EndsByCause, AloneNothingMoves, AloneNeverMoved};
-ghost use Rattle.part.specs.Count.{count_part, first_count, two_counts, two_or_one_counts};
+ghost use Rattle.part.specs.Count.{count_part, BeginsAsPart, BeginsRemembering, BeginsUndecided, first_count, two_counts, two_or_one_counts};
 
 /// What an attempt loaded is still so, or it changed that itself: so it is at the beginning, and after each event of its own,
 /// whichever it is. So nothing moves for a caller while nobody else steps.
@@ -14,10 +14,14 @@ pub fn own_events_move_nothing()
     ensures alone { AloneNothingMoves }
 {}
 
-/// A count is a part of a call, and each of its outcomes has its cause.
+/// A count is a part of a call, and each of its outcomes has its cause. It begins with a view that suits it, remembering that it did
+/// nothing, and with nothing decided.
 pub fn counts_are_parts()
     ensures part { IsPart count_part }
     ensures causes { EndsByCause count_part }
+    ensures begins { BeginsAsPart }
+    ensures remembers { BeginsRemembering }
+    ensures undecided { BeginsUndecided }
 {}
 
 /// A count that hands on where it has counted is one too.
@@ -31,7 +35,6 @@ pub fn two_counts_are_a_part()
     ensures part { IsPart two_counts }
     ensures causes { EndsByCause two_counts }
 {
-    world::steps_add_one_reply();
     counts_are_parts();
     first_counts_are_parts();
 }
