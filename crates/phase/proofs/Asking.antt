@@ -59,6 +59,6 @@ back_within here hash is fits path back.Root = let low = root_within here.geomet
 back_within here hash is fits path back.Entry = let low = entry_within here.geometry is hash path.root fits in omega (arith, low)
 back_within here hash is fits path back.Head = let low = head_within here.geometry is path.segment in omega (arith, low)
 
--- ---- a word of one of the four buckets
+-- ---- a word of one of the six buckets
 pub lock_within : (here : Here) (hash segment : ℕ) → IsShape here.geometry → (place : Place) (n : ℕ) → n < 32 → lock_word here hash segment place + n < words_of here.geometry
 lock_within here hash segment is place n below = bucket_within here.geometry is segment (bucket_of hash place) n (bucket_near hash place) below

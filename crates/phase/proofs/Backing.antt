@@ -1,5 +1,5 @@
 -- The way again.
-use Rattle.std.proofs.Common.{ℕ, ◌<◌, Bool, true, false, refl, arith}
+use Rattle.std.proofs.Common.{ℕ, ◌<◌, ◌≤◌, Bool, true, false, refl, arith}
 use Rattle.std.specs.Prelude.{◌==◌, if◌then◌else◌}
 use Rattle.world.specs.declared.site.Site.{Site as Here}
 use Rattle.phase.specs.declared.walk.Path.{Path}
@@ -29,6 +29,11 @@ some_left : (at : Back) → 0 < back_left at
 some_left Root = omega arith
 some_left Entry = omega arith
 some_left Head = omega arith
+
+pub back_few : (at : Back) → back_left at ≤ 3
+back_few Root = omega arith
+back_few Entry = omega arith
+back_few Head = omega arith
 
 pub back_falls : (here : Here) (hash : ℕ) (path : Path) (at : Back) (n : ℕ) → backed_left (back_taken here hash path at n) < back_left at
 back_falls here hash path at n = back_cases (λ x. backed_left x < back_left at) here hash path at n (on_falls at) (some_left at)

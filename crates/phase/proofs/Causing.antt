@@ -1,7 +1,7 @@
 -- What a way keeps was loaded, and each end of a way, and of a way again, has its cause.
 use Rattle.std.proofs.Common.{◌≡◌, ℕ, Bool, true, false, List, [], ◌∷◌, ◌++◌, inl, inr, refl, sym, ◌∙◌, subst}
 use Rattle.std.specs.Prelude.{◌==◌, ◌&&◌, nat_lt, nat_le, not, if◌then◌else◌}
-use Rattle.std.proofs.lemmas.Bool.{eqb-false, leb-true, and_parts, not-true}
+use Rattle.std.proofs.lemmas.Bool.{eqb-false, leb-true, ltb-true, and_parts, not-true}
 use Rattle.segment_head.specs.HeadWord.{version_in, is_live}
 use Rattle.trace.specs.Events.{Words}
 use Rattle.image_layout.specs.Places.{Shape, root_word}
@@ -32,7 +32,7 @@ has_more (x ∷ more) loads p has = inr (has_more more loads p has)
 
 module _ (shape : Shape) (hash : ℕ) (more loads : List (ℕ × ℕ)) where
   pub named_more : (root segment : ℕ) → WasNamed shape hash loads root segment → WasNamed shape hash (more ++ loads) root segment
-  named_more root segment r = ((has_more more loads (root_word, root) r.0.0, r.0.1), has_more more loads (entry_word shape hash root, segment) r.1)
+  named_more root segment r = ((has_more more loads (root_word, root) r.0.0, r.0.1), has_more more loads (entry_word shape hash root, segment) r.1, r.2)
 
   pub found_more : (path : Path) → WasFound shape hash loads path → WasFound shape hash (more ++ loads) path
   found_more path r = (named_more path.root path.segment r.0, has_more more loads (head_word shape path.segment, path.head) r.1)
@@ -48,15 +48,15 @@ walk_remembers here hash loads Root n r =
     by_test (RemembersWalked here.geometry hash ((root_word, n) ∷ loads)) (nat_le n here.geometry.depth) (On (Entry n)) (Amiss root_word n)
     (λ t. (inl refl, leb-true n here.geometry.depth t)) (λ f. tt)
 walk_remembers here hash loads (Entry root) n r =
-    by_both (RemembersWalked here.geometry hash ((entry_word here.geometry hash root, n) ∷ loads)) (nat_lt n here.geometry.segments) (On (Head root n)) (Amiss (entry_word here.geometry hash root) n)
-    ((inr r.0, r.1), inl refl) tt
+    by_test (RemembersWalked here.geometry hash ((entry_word here.geometry hash root, n) ∷ loads)) (nat_lt n here.geometry.segments) (On (Head root n)) (Amiss (entry_word here.geometry hash root) n)
+    (λ t. ((inr r.0, r.1), inl refl, ltb-true n here.geometry.segments t)) (λ f. tt)
 walk_remembers here hash loads (Head root segment) n r =
     let next : Walked = There (record { root = root; segment = segment; head = n }) in
     let ill : Walked = Amiss (head_word here.geometry segment) n in
     let fit = is_live n && is_covering n hash in
     let Kept : Walked → Type 0 = RemembersWalked here.geometry hash ((head_word here.geometry segment, n) ∷ loads) in
     by_both Kept (is_live n && not (version_in n == here.version)) (Stale segment (version_in n)) (if fit then next else ill) tt
-    (by_both Kept fit next ill (((inr r.0.0, r.0.1), inr r.1), inl refl) tt)
+    (by_both Kept fit next ill (((inr r.0.0, r.0.1), inr r.1, r.2), inl refl) tt)
 
 pub walk_caused : WalkHasCauses
 walk_caused here hash words did call same Power r n is =

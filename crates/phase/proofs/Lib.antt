@@ -1,6 +1,10 @@
+pub mod Asked
 pub mod Walking
 pub mod Backing
 pub mod Loading
 pub mod Causing
 pub mod Asking
+pub mod Handing
+pub mod Wording
+pub mod Wanting
 pub mod locks

@@ -1,5 +1,5 @@
 -- The way: what it wants is of its kind, any view may take it, it keeps what is known, and leaves the view as it was.
-use Rattle.std.proofs.Common.{◌≡◌, ℕ, ◌+◌, ◌^◌, ◌<◌, ◌≤◌, Bool, true, false, inl, inr, ◌⊎◌, refl, sym, ap, ◌∙◌, subst, arith}
+use Rattle.std.proofs.Common.{◌≡◌, ℕ, ◌+◌, ◌^◌, ◌<◌, ◌≤◌, Bool, true, false, Some, inl, inr, ◌⊎◌, refl, sym, ap, ◌∙◌, subst, arith}
 use Rattle.std.specs.Prelude.{◌==◌, ◌&&◌, ◌||◌, nat_lt, nat_le, not, if◌then◌else◌}
 use Rattle.std.proofs.lemmas.Bool.{eq-eqb, le-leb, lt-ltb, ltb-false, leb-false, and_parts, not-true, false≢true}
 use Rattle.hash_word.specs.Hash.{index_of, top}
@@ -11,7 +11,7 @@ use Rattle.sound_image.specs.Segments.{Frame, frame_of, depth_at, Owns}
 use Rattle.segment_table.specs.Claims.{Claims, LeadsToClaimer, arrived, on, named_for}
 use Rattle.segment_table.proofs.frames.SoundFrames.{live_low}
 use Rattle.segment_table.proofs.frames.Owner.{found_owns, claimer_found}
-use Rattle.bucket_words.specs.Owners.{HasStructure}
+use Rattle.bucket_words.specs.Owners.{HasStructure, owner_of}
 use Rattle.bucket_words.proofs.segments.Places.{owner_kept}
 use Rattle.way.specs.Ways.{entry_word, head_word, is_covering}
 use Rattle.way.proofs.Indexes.{index_below}
@@ -213,3 +213,20 @@ one_straight site sound one = record {
 
 pub names_owners : NamesOwners
 names_owners site good straight hash fits words structure = (named_leads site good straight hash fits).owner words structure
+
+-- at most so many events
+pub walk_few : (w : Walk) → walk_left w ≤ 4
+walk_few Power = omega arith
+walk_few Root = omega arith
+walk_few (Entry root) = omega arith
+walk_few (Head root segment) = omega arith
+
+-- ---- in an image of one segment that segment owns each hash
+module _ (site : Site) (good : IsSite site) (straight : IsStraight site) (single : site.shape.segments ≡ 1) (words : Words) (structure : HasStructure site.shape site.front words) where
+  pub only_owner : (segment hash : ℕ) → segment < site.shape.segments → hash < 2 ^ 64 → owner_of site.shape words hash ≡ Some segment
+  only_owner segment hash within fits =
+      let named : ℕ = named_for (frame_of site.shape site.front) hash in
+      let owner = names_owners site good straight hash fits words structure in
+      let owns = found_owns (frame_of site.shape words) hash named owner in
+      let low = owns.own.slot in
+      owner ∙ ap (λ (s : ℕ). Some s) (omega (arith, low, within, single))

@@ -1,11 +1,11 @@
 -- The words of the buckets that are locked, by their places.
 use Rattle.std.specs.Prelude.{ℕ, List, replicate}
 use Rattle.phase.specs.declared.place.Place.{Place}
-use Rattle.phase.specs.declared.place.Place.TheVariants.{Home, Probing, First, Second}
+use Rattle.phase.specs.declared.place.Place.TheVariants.{Home, Probing, First, Second, Next, Previous}
 use Rattle.phase.specs.declared.kept.Buckets.{Buckets}
 
 abbrev pub no_words : Buckets
-no_words = record { home = replicate 32 0; probing = replicate 32 0; first = replicate 32 0; second = replicate 32 0 }
+no_words = record { home = replicate 32 0; probing = replicate 32 0; first = replicate 32 0; second = replicate 32 0; next = replicate 32 0; previous = replicate 32 0 }
 
 -- with the words of one bucket put in
 abbrev pub with_words : Place → List ℕ → Buckets → Buckets
@@ -13,6 +13,8 @@ with_words Home words buckets = record buckets { home = words }
 with_words Probing words buckets = record buckets { probing = words }
 with_words First words buckets = record buckets { first = words }
 with_words Second words buckets = record buckets { second = words }
+with_words Next words buckets = record buckets { next = words }
+with_words Previous words buckets = record buckets { previous = words }
 
 -- the words of a bucket
 abbrev pub words_in : Buckets → Place → List ℕ
@@ -20,3 +22,5 @@ words_in buckets Home = buckets.home
 words_in buckets Probing = buckets.probing
 words_in buckets First = buckets.first
 words_in buckets Second = buckets.second
+words_in buckets Next = buckets.next
+words_in buckets Previous = buckets.previous

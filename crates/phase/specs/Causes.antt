@@ -1,5 +1,5 @@
 -- What a machine remembers of its way, by what its attempt loaded; and by what each end of a phase comes.
-use Rattle.std.specs.Prelude.{ℕ, ⊤, List}
+use Rattle.std.specs.Prelude.{ℕ, ◌<◌, ⊤, List}
 use Rattle.op_core.specs.declared.want.Want.TheVariants.{Load}
 use Rattle.op_core.specs.declared.why.Why.TheVariants as why
 use Rattle.trace.specs.Events.{Words}
@@ -23,9 +23,9 @@ use Rattle.phase.specs.Backs.{back_word}
 
 -- ---- what is kept was loaded
 module _ (shape : Shape) (hash : ℕ) (loads : List (ℕ × ℕ)) where
-  -- the root depth, and the entry at it, which named the segment
+  -- the root depth, and the entry at it, which named the segment, one of the image
   abbrev pub WasNamed : ℕ → ℕ → Type 0
-  WasNamed root segment = IsDepth shape hash loads root × Has (entry_word shape hash root, segment) loads
+  WasNamed root segment = IsDepth shape hash loads root × Has (entry_word shape hash root, segment) loads × (segment < shape.segments)
 
   -- and the header of that segment
   abbrev pub WasFound : Path → Type 0

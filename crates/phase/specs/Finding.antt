@@ -15,14 +15,14 @@ use Rattle.bucket_words.specs.TableChanges.{IsReadyAt}
 use Rattle.world.specs.declared.site.Site.{Site as Here}
 use Rattle.world.specs.Site.{Site}
 use Rattle.world.specs.Views.{Owed, View, Has, HasLock}
-use Rattle.world.specs.Conditions.{IsKept}
+use Rattle.world.specs.Conditions.{IsKept, HasNoted}
 use Rattle.world.specs.Holders.{KnowsBucket, FoundNone, FoundAt, DrawsWell, OwesAsKnown}
 use Rattle.phase.specs.declared.place.Place.{Place}
-use Rattle.phase.specs.declared.place.Place.TheVariants.{Home, Probing, First, Second}
+use Rattle.phase.specs.declared.place.Place.TheVariants.{Home, Probing, First, Second, Next, Previous}
 use Rattle.phase.specs.declared.held.Held.{Held}
 use Rattle.phase.specs.declared.kept.Buckets.{Buckets}
 use Rattle.phase.specs.declared.make.Record.{Record}
-use Rattle.phase.specs.Places.{bucket_of, lock_word}
+use Rattle.phase.specs.Places.{bucket_of, is_third, lock_word}
 use Rattle.phase.specs.Buckets.{words_in}
 use Rattle.phase.specs.Stands.{Leads}
 use Rattle.phase.specs.Giving.{IsLocated, IsHeld, IsQuiet, IsOfHeld, HoldsLocks}
@@ -36,14 +36,16 @@ module _ (here : Here) (hash segment : ℕ) where
       with_loaded (lock_word here hash segment Home) buckets.home
       (with_loaded (lock_word here hash segment Probing) buckets.probing
       (with_loaded (lock_word here hash segment First) buckets.first
-      (with_loaded (lock_word here hash segment Second) buckets.second (λ i. 0))))
+      (with_loaded (lock_word here hash segment Second) buckets.second
+      (with_loaded (lock_word here hash segment Next) buckets.next
+      (with_loaded (lock_word here hash segment Previous) buckets.previous (λ i. 0))))))
 
   -- each bucket whose lock is held was loaded whole
   abbrev pub HasLoadedHeld : Held → Buckets → View → Type 0
   HasLoadedHeld held buckets v = (place : Place) → IsHeld held place → IsWhole (lock_word here hash segment place) (words_in buckets place) v
 
--- THE BUCKETS OF A KEY ARE HELD: home and probing bucket, in the segment that owns the key, and stash buckets perhaps; and of all that
--- are held each word is known, to be that of `word`
+-- THE BUCKETS OF A KEY ARE HELD: home and probing bucket, in the segment that owns the key, and stash buckets and third ones perhaps;
+-- and of all that are held each word is known, to be that of `word`
 pub record HoldsBuckets (site : Site) (here : Here) (hash segment : ℕ) (held : Held) (word : Words) (k : ℕ) (v : View) : Type 0 where
   pub located : IsLocated site here segment
   pub hashed : hash ≡ key_hash site.shape k
@@ -58,9 +60,10 @@ pub record SparesStash (shape : Shape) (hash segment : ℕ) (held : Held) (word 
   pub first : held.first ≡ None → IsUnnoted shape word segment (home_of hash) (finger_of hash) 0
   pub second : held.second ≡ None → IsUnnoted shape word segment (home_of hash) (finger_of hash) 1
 
--- THE KEY STANDS NOWHERE: in none of the buckets that are held, by their words, and so far as notes tell in no other
+-- THE KEY STANDS NOWHERE: in none of the buckets that are held and where it may stand, by their words, and so far as notes tell in no
+-- other
 pub record StandsNowhere (shape : Shape) (hash segment : ℕ) (held : Held) (word : Words) (k : ℕ) : Type 0 where
-  pub places : (place : Place) → IsHeld held place → (t : ℕ) → Hit shape word segment (bucket_of hash place) t k → ⊥
+  pub places : (place : Place) → IsHeld held place → is_third place ≡ false → (t : ℕ) → Hit shape word segment (bucket_of hash place) t k → ⊥
   pub stash : SparesStash shape hash segment held word
 
 -- the lock of a stash bucket is not held
@@ -78,6 +81,11 @@ abbrev pub LoadsAreKnown : Type 0
 LoadsAreKnown = (site : Site) (here : Here) (hash segment : ℕ) (held : Held) (buckets : Buckets) (v : View) → IsLocated site here segment
     → HasLoadedHeld here hash segment held buckets v → Knows (IsOfHeld here hash segment held) (words_of here hash segment buckets) v
 
+-- and what is known of them was loaded, so that another bucket may be loaded beside
+abbrev pub KnownWasLoaded : Type 0
+KnownWasLoaded = (site : Site) (here : Here) (hash segment : ℕ) (held : Held) (buckets : Buckets) (v : View) → IsLocated site here segment
+    → Knows (IsOfHeld here hash segment held) (words_of here hash segment buckets) v → HasLoadedHeld here hash segment held buckets v
+
 -- what the words of a bucket say of a key
 pub record SearchTells : Type 0 where
   pub found : (site : Site) (here : Here) (hash segment : ℕ) (buckets : Buckets) (place : Place) (k r : ℕ) → IsLocated site here segment
@@ -94,7 +102,7 @@ pub record HoldersFind : Type 0 where
   pub at : (site : Site) (here : Here) (hash segment : ℕ) (held : Held) (word : Words) (k : ℕ) (v : View) → HoldsBuckets site here hash segment held word k v → IsQuiet v
       → (place : Place) → IsHeld held place → (r : ℕ) → Hit site.shape word segment (bucket_of hash place) r k → FoundAt site v word segment (bucket_of hash place) r k
   pub draw : (site : Site) (here : Here) (hash segment : ℕ) (held : Held) (word : Words) (call : Call) (v : View) → HoldsBuckets site here hash segment held word (key_of call) v → HasNoneLoose v
-      → Has call v.planned → 0 < v.room → DrawsWell site v call segment word
+      → Has call v.planned → 0 < v.room → HasNoted v → DrawsWell site v call segment word
   -- each stash bucket is held and has nothing loose, or is not held, and then the notes name no record of the key there
   pub kept : (site : Site) (here : Here) (hash segment : ℕ) (held : Held) (word : Words) (k : ℕ) (v : View) → HoldsBuckets site here hash segment held word k v → HasNoneLoose v
       → (c : ℕ) → c < stash_buckets → IsKept site v (bucket_at site.shape segment (homes + c)) ⊎ IsLeft site v segment c

@@ -1,5 +1,5 @@
 -- How the locks that are held fit the world, and how they are given back.
-use Rattle.std.specs.Prelude.{◌≡◌, ◌≢◌, ℕ, ◌+◌, ◌<◌, ⊤, Option, None, Some, List, [], ◌∷◌}
+use Rattle.std.specs.Prelude.{◌≡◌, ◌≢◌, ℕ, ◌+◌, ◌<◌, Option, None, Some, List, [], ◌∷◌}
 use Rattle.op_core.specs.declared.want.Want.TheVariants.{Done}
 use Rattle.image_layout.specs.Places.{Shape, root_word, bucket_at}
 use Rattle.map_model.specs.declared.call.Call.{Call}
@@ -10,10 +10,9 @@ use Rattle.world.specs.Kinds.{Kind, peeks, learns, unlocks, with_store, wanted, 
 use Rattle.world.specs.Conditions.{May}
 use Rattle.world.specs.Attempts.{HoldsOnly}
 use Rattle.phase.specs.declared.place.Place.{Place}
-use Rattle.phase.specs.declared.place.Place.TheVariants.{Home, Probing, First, Second}
 use Rattle.phase.specs.declared.held.Held.{Held}
 use Rattle.phase.specs.Places.{bucket_of, lock_word}
-use Rattle.phase.specs.Helds.{none_held, with_held, free_of, held_list, give_next, give_wanted, given}
+use Rattle.phase.specs.Helds.{none_held, with_held, free_of, give_next, give_wanted, given}
 use Rattle.phase.specs.Taking.{MayBeTaken}
 
 -- the segment is one of the image, which is laid out as the machine's site says
@@ -25,20 +24,6 @@ pub record IsLocated (site : Site) (here : Here) (segment : ℕ) : Type 0 where
 -- the lock of a place is held
 abbrev pub IsHeld : Held → Place → Type 0
 IsHeld held place = (free : ℕ) × (free_of held place ≡ Some free)
-
--- no lock of this place or of a later one is held
-abbrev pub HasNoneFrom : Held → Place → Type 0
-HasNoneFrom held Home = (held.home ≡ None) × (held.probing ≡ None) × (held.first ≡ None) × (held.second ≡ None)
-HasNoneFrom held Probing = (held.probing ≡ None) × (held.first ≡ None) × (held.second ≡ None)
-HasNoneFrom held First = (held.first ≡ None) × (held.second ≡ None)
-HasNoneFrom held Second = held.second ≡ None
-
--- nor of a later one
-abbrev pub HasNoneBehind : Held → Place → Type 0
-HasNoneBehind held Home = HasNoneFrom held Probing
-HasNoneBehind held Probing = HasNoneFrom held First
-HasNoneBehind held First = HasNoneFrom held Second
-HasNoneBehind held Second = ⊤
 
 -- nothing is unsettled, planned, under way or owed
 pub record IsQuiet (v : View) : Type 0 where
@@ -53,9 +38,11 @@ module _ (here : Here) (hash segment : ℕ) (held : Held) where
   abbrev pub IsOfHeld : ℕ → Type 0
   IsOfHeld i = (place : Place) × IsHeld held place × IsUnder (lock_word here hash segment place) i
 
-  -- THESE LOCKS ARE HELD, and no others: each may be given back with its next version, and words are known under them alone
+  -- THESE LOCKS ARE HELD, and no others, in any order: each may be given back with its next version, and words are known under
+  -- them alone
   pub record HoldsLocks (v : View) : Type 0 where
-    pub locks : v.held ≡ held_list here hash segment held
+    pub has : (place : Place) (value : ℕ) → free_of held place ≡ Some value → Has (lock_word here hash segment place, value + 1) v.held
+    pub only : (p : ℕ × ℕ) → Has p v.held → (place : Place) × (value : ℕ) × (free_of held place ≡ Some value) × (p ≡ (lock_word here hash segment place, value + 1))
     pub free : (place : Place) (value : ℕ) → free_of held place ≡ Some value → MayBeTaken value
     pub known : (p : ℕ × ℕ) → Has p v.known → IsGuarded v.held p.0
 
@@ -74,10 +61,10 @@ lock_left (Some free) = 1
 lock_left None = 0
 
 abbrev pub give_left : Held → ℕ
-give_left held = lock_left held.home + lock_left held.probing + lock_left held.first + lock_left held.second
+give_left held = lock_left held.home + lock_left held.probing + lock_left held.first + lock_left held.second + lock_left held.next + lock_left held.previous
 
 -- ---- the laws
--- where a place's lock word stands, and that the four are apart
+-- where a place's lock word stands, and that the six are apart
 pub record PlacesStand : Type 0 where
   pub at : (site : Site) (here : Here) (hash segment : ℕ) (place : Place) → IsLocated site here segment
       → lock_word here hash segment place ≡ bucket_at site.shape segment (bucket_of hash place)
@@ -85,12 +72,12 @@ pub record PlacesStand : Type 0 where
   pub apart : (site : Site) (here : Here) (hash segment : ℕ) (place other : Place) → IsLocated site here segment → place ≢ other
       → lock_word here hash segment place ≢ lock_word here hash segment other
 
--- what is held of the locks: none at first, and one more in front where it was taken; whose lock is held, by the places; and what keeps them
+-- what is held of the locks: none at first, and one more where one was taken that was not held; whose lock is held, by the places; and
+-- what keeps them
 pub record HeldStands : Type 0 where
   pub none : (here : Here) (hash segment : ℕ) (v : View) → HoldsOnly [] v → HoldsLocks here hash segment none_held v
-  pub more : (here : Here) (hash segment : ℕ) (held : Held) (place : Place) (free : ℕ) (v u : View) → HasNoneFrom held place → MayBeTaken free → HoldsLocks here hash segment held v
+  pub more : (here : Here) (hash segment : ℕ) (held : Held) (place : Place) (free : ℕ) (v u : View) → free_of held place ≡ None → MayBeTaken free → HoldsLocks here hash segment held v
       → u ≡ record v { held = (lock_word here hash segment place, free + 1) ∷ v.held } → HoldsLocks here hash segment (with_held place free held) u
-  pub behind : (held : Held) (place : Place) (free : ℕ) → HasNoneFrom held place → HasNoneBehind (with_held place free held) place
   pub has : (here : Here) (hash segment : ℕ) (held : Held) (place : Place) (v : View) → HoldsLocks here hash segment held v → IsHeld held place
       → HasLock v.held (lock_word here hash segment place)
   -- a store under one of them, or a load there, keeps them, and so does what leaves the locks and what is known

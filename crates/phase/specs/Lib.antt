@@ -9,8 +9,12 @@ pub mod Takes
 pub mod Helds
 pub mod Makes
 pub mod Buckets
+pub mod AreWords
 pub mod Taking
 pub mod Giving
 pub mod Knows
 pub mod Making
 pub mod Finding
+pub mod Keeps
+pub mod Third
+pub mod Asked

@@ -154,6 +154,19 @@ abbrev pub made_left : Made → ℕ
 made_left (On make) = make_left make
 made_left Settled = 0
 
+-- ---- lines that are flushed and not fenced
+abbrev pub waiting_of : Make → ℕ
+waiting_of FlushRecord = 1
+waiting_of FenceRecord = 2
+waiting_of FencePublished = 1
+waiting_of make = 0
+
+-- ---- the one store that makes the record count was done
+abbrev pub IsPublished : Make → Type 0
+IsPublished FlushPublished = ⊤
+IsPublished FencePublished = ⊤
+IsPublished make = ⊥
+
 -- ---- the laws
 -- each event is of its kind. The view is but for the words as it was, and changes its plans in the one store alone that makes the
 -- change

@@ -1,11 +1,11 @@
--- The buckets in which a key may stand, and their lock words.
-use Rattle.std.specs.Prelude.{ℕ, ◌+◌}
-use Rattle.hash_word.specs.Hash.{home_of, probing_of}
+-- The buckets of a key, and their lock words.
+use Rattle.std.specs.Prelude.{ℕ, ◌+◌, Bool, true, false}
+use Rattle.hash_word.specs.Hash.{home_of, probing_of, next_of, previous_of}
 use Rattle.image_layout.specs.Places.{homes}
 use Rattle.way.specs.Ways.{bucket_word}
 use Rattle.world.specs.declared.site.Site.{Site as Here}
 use Rattle.phase.specs.declared.place.Place.{Place}
-use Rattle.phase.specs.declared.place.Place.TheVariants.{Home, Probing, First, Second}
+use Rattle.phase.specs.declared.place.Place.TheVariants.{Home, Probing, First, Second, Next, Previous}
 
 -- the number of the bucket, for a hash
 abbrev pub bucket_of : ℕ → Place → ℕ
@@ -13,7 +13,15 @@ bucket_of hash Home = home_of hash
 bucket_of hash Probing = probing_of (home_of hash)
 bucket_of hash First = homes
 bucket_of hash Second = homes + 1
+bucket_of hash Next = next_of (home_of hash)
+bucket_of hash Previous = previous_of (home_of hash)
 
--- its lock word, for a hash and a segment
+-- a third bucket: no key of this hash stands there, and room is made by it
+abbrev pub is_third : Place → Bool
+is_third Next = true
+is_third Previous = true
+is_third place = false
+
+-- the lock word of the bucket, for a hash and a segment
 abbrev pub lock_word : Here → ℕ → ℕ → Place → ℕ
 lock_word here hash segment place = bucket_word here.geometry segment (bucket_of hash place)

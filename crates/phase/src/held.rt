@@ -1,7 +1,7 @@
 //! The locks that are held, by the places of their buckets, and how they are given back.
 
 ghost use Rattle.std.specs.Prelude.{◌≡◌};
-ghost use Rattle.phase.specs.Helds.{none_held, with_held, free_of, give_next, give_wanted, given};
+ghost use Rattle.phase.specs.Helds.{none_held, with_held, without_held, free_of, give_next, give_wanted, given};
 
 use crate::place::{Place, lock_word};
 use op_core::Want;
@@ -18,6 +18,10 @@ pub struct Held {
     pub first: Option<u64>,
     /// That of the second one.
     pub second: Option<u64>,
+    /// That of the bucket after the probing bucket.
+    pub next: Option<u64>,
+    /// That of the bucket before the home bucket.
+    pub previous: Option<u64>,
 }
 
 impl Held {
@@ -30,6 +34,8 @@ impl Held {
             probing: None,
             first: None,
             second: None,
+            next: None,
+            previous: None,
         }
     }
 
@@ -37,22 +43,32 @@ impl Held {
     pub fn with(self, place: Place, free: u64) -> Held
         ensures { result ≡ with_held place free self }
     {
-        let free = Some(free);
+        let mut more = self;
         match place {
-            Place::Home => Held { home: free, ..self },
-            Place::Probing => Held {
-                probing: free,
-                ..self
-            },
-            Place::First => Held {
-                first: free,
-                ..self
-            },
-            Place::Second => Held {
-                second: free,
-                ..self
-            },
+            Place::Home => more.home = Some(free),
+            Place::Probing => more.probing = Some(free),
+            Place::First => more.first = Some(free),
+            Place::Second => more.second = Some(free),
+            Place::Next => more.next = Some(free),
+            Place::Previous => more.previous = Some(free),
         }
+        more
+    }
+
+    /// These without that of a place.
+    pub fn without(self, place: Place) -> Held
+        ensures { result ≡ without_held place self }
+    {
+        let mut fewer = self;
+        match place {
+            Place::Home => fewer.home = None,
+            Place::Probing => fewer.probing = None,
+            Place::First => fewer.first = None,
+            Place::Second => fewer.second = None,
+            Place::Next => fewer.next = None,
+            Place::Previous => fewer.previous = None,
+        }
+        fewer
     }
 
     /// The free value of a place, if its lock is held.
@@ -64,6 +80,8 @@ impl Held {
             Place::Probing => self.probing,
             Place::First => self.first,
             Place::Second => self.second,
+            Place::Next => self.next,
+            Place::Previous => self.previous,
         }
     }
 }
@@ -72,12 +90,20 @@ impl Held {
 pub fn give_next(held: &Held) -> Option<(Place, u64)>
     ensures { result ≡ give_next held.now }
 {
-    match (held.home, held.probing, held.first, held.second) {
-        (Some(free), _, _, _) => Some((Place::Home, free)),
-        (None, Some(free), _, _) => Some((Place::Probing, free)),
-        (None, None, Some(free), _) => Some((Place::First, free)),
-        (None, None, None, Some(free)) => Some((Place::Second, free)),
-        (None, None, None, None) => None,
+    if let Some(free) = held.home {
+        Some((Place::Home, free))
+    } else if let Some(free) = held.probing {
+        Some((Place::Probing, free))
+    } else if let Some(free) = held.first {
+        Some((Place::First, free))
+    } else if let Some(free) = held.second {
+        Some((Place::Second, free))
+    } else if let Some(free) = held.next {
+        Some((Place::Next, free))
+    } else if let Some(free) = held.previous {
+        Some((Place::Previous, free))
+    } else {
+        None
     }
 }
 
@@ -98,13 +124,8 @@ pub fn give_want(site: &Site, hash: u64, segment: u64, held: &Held) -> Want
 pub fn given(held: &Held) -> Held
     ensures { result ≡ given held.now }
 {
-    let mut fewer = *held;
     match give_next(held) {
-        Some((Place::Home, _)) => fewer.home = None,
-        Some((Place::Probing, _)) => fewer.probing = None,
-        Some((Place::First, _)) => fewer.first = None,
-        Some((Place::Second, _)) => fewer.second = None,
-        None => {}
+        Some((place, _)) => held.without(place),
+        None => *held,
     }
-    fewer
 }

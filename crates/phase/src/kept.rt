@@ -19,6 +19,10 @@ pub struct Buckets {
     pub first: [u64; 32],
     /// Those of the second one, where it is visited.
     pub second: [u64; 32],
+    /// Those of the bucket after the probing bucket, where room is made by it.
+    pub next: [u64; 32],
+    /// Those of the bucket before the home bucket, where room is made by it.
+    pub previous: [u64; 32],
 }
 
 impl Buckets {
@@ -31,6 +35,8 @@ impl Buckets {
             probing: [0; 32],
             first: [0; 32],
             second: [0; 32],
+            next: [0; 32],
+            previous: [0; 32],
         }
     }
 
@@ -43,6 +49,8 @@ impl Buckets {
             Place::Probing => self.probing = words,
             Place::First => self.first = words,
             Place::Second => self.second = words,
+            Place::Next => self.next = words,
+            Place::Previous => self.previous = words,
         }
     }
 
@@ -55,11 +63,13 @@ impl Buckets {
             Place::Probing => self.probing,
             Place::First => self.first,
             Place::Second => self.second,
+            Place::Next => self.next,
+            Place::Previous => self.previous,
         }
     }
 }
 
-/// What a change hands on that found no room: it keeps its locks, and another machine goes on with them.
+/// What an insert hands on that found no room: it keeps its locks, and another machine goes on with them.
 #[derive(Clone, Copy, Debug, PartialEq, Eq)]
 pub struct Kept {
     /// Where it runs.

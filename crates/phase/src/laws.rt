@@ -7,7 +7,7 @@ ghost use Rattle.phase.specs.Giving.{PlacesStand, HeldStands, GiveStands, GiveFa
 ghost use Rattle.std.specs.Prelude.{ℕ, List};
 ghost use Rattle.phase.specs.Knows.{IsUnderOne, HoldersLoad, KnowsMore};
 ghost use Rattle.phase.specs.Making.{MakeFits, MakeKnows, MakeHolds, MakeFalls, PreparesRecord};
-ghost use Rattle.phase.specs.Finding.{WordsStand, LoadsAreKnown, SearchTells, HoldersFind, PreparedStandsNowhere, PublishTells};
+ghost use Rattle.phase.specs.Finding.{WordsStand, LoadsAreKnown, KnownWasLoaded, SearchTells, HoldersFind, PreparedStandsNowhere, PublishTells};
 
 /// Where the structure is sound and no split is under way, the directory names the owner of each hash; so a way that ends at a
 /// segment ends at the owner, and finds nothing amiss; nor a stale segment, where all have the site's version. Each event is of a kind that any view may take, which leaves a view as it
@@ -47,7 +47,7 @@ pub fn ends_have_causes()
     ensures back { BackHasCauses }
 {}
 
-/// A lock is taken by a look and an exchange, of which any view may take each; then the view has it in front of those that it held.
+/// A lock is taken by a look and an exchange, of which any view may take each; then the view has it beside those that it held.
 /// Where it is not held the view is as it was, but for the lock words that it found spent. What is kept of it was loaded, and each
 /// end has its cause, where the attempt did not change the lock word itself.
 pub fn locks_are_taken()
@@ -58,7 +58,7 @@ pub fn locks_are_taken()
     ensures causes { TakeHasCauses }
 {}
 
-/// The lock words of the four buckets are apart. Who holds locks by their places, and has nothing unsettled, planned, under way or
+/// The lock words of the six buckets are apart. Who holds locks by their places, and has nothing unsettled, planned, under way or
 /// owed, may give them back one after another, until it holds and knows nothing.
 pub fn locks_are_given_back()
     ensures places { PlacesStand }
@@ -90,6 +90,7 @@ pub fn records_are_made()
 pub fn holders_find()
     ensures words { WordsStand }
     ensures known { LoadsAreKnown }
+    ensures loaded { KnownWasLoaded }
     ensures tells { SearchTells }
     ensures finds { HoldersFind }
     ensures prepared { PreparedStandsNowhere }

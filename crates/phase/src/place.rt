@@ -1,15 +1,16 @@
-//! The buckets in which a key may stand.
+//! The buckets of a key: those in which it may stand, and the two by which room is made for it.
 
 ghost use Rattle.std.specs.Prelude.{◌≡◌, ◌<◌, ◌≤◌};
 ghost use Rattle.image_layout.specs.Places.{buckets, most_words};
 ghost use Rattle.phase.specs.Places.{bucket_of, lock_word};
 
-use hash_word::{home, probing};
+use hash_word::{home, next, previous, probing};
 use image_layout::HOMES;
 use way::bucket_word;
 use world::Site;
 
-/// One of the buckets in which a key may stand, in the order in which they are locked and looked at.
+/// A bucket of a key, in the order in which their locks are given back. The key may stand in the first four, and these are locked
+/// and looked at in this order; the last two are third buckets, by which room is made in the first two.
 #[derive(Clone, Copy, Debug, PartialEq, Eq)]
 pub enum Place {
     /// The home bucket.
@@ -20,6 +21,10 @@ pub enum Place {
     First,
     /// The second one.
     Second,
+    /// The bucket after the probing bucket.
+    Next,
+    /// The bucket before the home bucket.
+    Previous,
 }
 
 /// The number of the bucket in its segment, for a hash.
@@ -32,6 +37,8 @@ pub fn bucket_of(place: Place, hash: u64) -> u8
         Place::Probing => probing(home(hash)),
         Place::First => HOMES,
         Place::Second => HOMES + 1,
+        Place::Next => next(home(hash)),
+        Place::Previous => previous(home(hash)),
     }
 }
 

@@ -19,11 +19,11 @@ use Rattle.bucket_words.proofs.segments.Places.{other_word, this_word}
 use Rattle.world.specs.declared.site.Site.{Site as Here}
 use Rattle.world.specs.Site.{Site, IsUnder}
 use Rattle.world.specs.Views.{Owed, View, Has, HasLock}
-use Rattle.world.specs.Conditions.{IsLed, IsKept, IsUnplanned}
+use Rattle.world.specs.Conditions.{IsLed, IsKept, IsUnplanned, HasNoted}
 use Rattle.world.specs.Holders.{KnowsBucket, FoundNone, FoundAt, DrawsWell, OwesAsKnown}
 use Rattle.world.proofs.Grounds.{one_lock}
 use Rattle.phase.specs.declared.place.Place.{Place}
-use Rattle.phase.specs.declared.place.Place.TheVariants.{Home, Probing, First, Second}
+use Rattle.phase.specs.declared.place.Place.TheVariants.{Home, Probing, First, Second, Next, Previous}
 use Rattle.phase.specs.declared.held.Held.{Held}
 use Rattle.phase.specs.declared.kept.Buckets.{Buckets}
 use Rattle.phase.specs.Places.{bucket_of, lock_word}
@@ -31,7 +31,7 @@ use Rattle.phase.specs.Helds.{free_of}
 use Rattle.phase.specs.Buckets.{words_in}
 use Rattle.phase.specs.Giving.{IsLocated, IsHeld, IsQuiet, IsOfHeld}
 use Rattle.phase.specs.Knows.{Knows, HasNoneLoose, with_loaded}
-use Rattle.phase.specs.Finding.{words_of, HasLoadedHeld, HoldsBuckets, SparesStash, StandsNowhere, IsLeft, WordsStand, LoadsAreKnown, SearchTells, HoldersFind, PreparedStandsNowhere, PublishTells}
+use Rattle.phase.specs.Finding.{words_of, HasLoadedHeld, HoldsBuckets, SparesStash, StandsNowhere, IsLeft, WordsStand, LoadsAreKnown, KnownWasLoaded, SearchTells, HoldersFind, PreparedStandsNowhere, PublishTells}
 use Rattle.phase.proofs.locks.Giving.{nothing_left, bucket_near, lock_at, is_lock, locks_apart, held_has, has_not}
 use Rattle.phase.proofs.locks.Knowing.{loaded_there, loaded_at, under_at, known_bucket}
 use Rattle.phase.proofs.locks.Storing.{hits_back, unnoted_made}
@@ -46,13 +46,19 @@ module _ (site : Site) (here : Here) (hash segment : ℕ) (bs : Buckets) (l : Is
 
   -- those of the last buckets, one after another
   abbrev one : Words
-  one = with_loaded (lock Second) bs.second (λ i. 0)
+  one = with_loaded (lock Previous) bs.previous (λ i. 0)
 
   abbrev two : Words
-  two = with_loaded (lock First) bs.first one
+  two = with_loaded (lock Next) bs.next one
 
   abbrev three : Words
-  three = with_loaded (lock Probing) bs.probing two
+  three = with_loaded (lock Second) bs.second two
+
+  abbrev four : Words
+  four = with_loaded (lock First) bs.first three
+
+  abbrev five : Words
+  five = with_loaded (lock Probing) bs.probing four
 
   -- a word of one bucket is none of another
   away : (place other : Place) → (other ≡ place → ⊥) → (ws : List ℕ) (w : Words) (j : ℕ) → 1 ≤ j → j < 32 → with_loaded (lock other) ws w (lock place + j) ≡ w (lock place + j)
@@ -61,20 +67,38 @@ module _ (site : Site) (here : Here) (hash segment : ℕ) (bs : Buckets) (l : Is
       (one_lock site.shape (lock other) (lock place) (lock place + j) (is_lock site here hash segment l other) (is_lock site here hash segment l place) under (omega (arith, from), omega (arith, low))))
 
   pub words_stand_at : (place : Place) (j : ℕ) → 1 ≤ j → j < 32 → word (lock place + j) ≡ slice_index (words_in bs place) j
-  words_stand_at Home j from low = loaded_at (lock Home) bs.home three j from low
-  words_stand_at Probing j from low = away Probing Home (λ e. cc) bs.home three j from low ∙ loaded_at (lock Probing) bs.probing two j from low
-  words_stand_at First j from low = away First Home (λ e. cc) bs.home three j from low ∙ away First Probing (λ e. cc) bs.probing two j from low ∙ loaded_at (lock First) bs.first one j from low
+  words_stand_at Home j from low = loaded_at (lock Home) bs.home five j from low
+  words_stand_at Probing j from low = away Probing Home (λ e. cc) bs.home five j from low ∙ loaded_at (lock Probing) bs.probing four j from low
+  words_stand_at First j from low = away First Home (λ e. cc) bs.home five j from low ∙ away First Probing (λ e. cc) bs.probing four j from low ∙ loaded_at (lock First) bs.first three j from low
   words_stand_at Second j from low =
-      away Second Home (λ e. cc) bs.home three j from low
-      ∙ away Second Probing (λ e. cc) bs.probing two j from low
-      ∙ away Second First (λ e. cc) bs.first one j from low
-      ∙ loaded_at (lock Second) bs.second (λ i. 0) j from low
+      away Second Home (λ e. cc) bs.home five j from low
+      ∙ away Second Probing (λ e. cc) bs.probing four j from low
+      ∙ away Second First (λ e. cc) bs.first three j from low
+      ∙ loaded_at (lock Second) bs.second two j from low
+  words_stand_at Next j from low =
+      away Next Home (λ e. cc) bs.home five j from low
+      ∙ away Next Probing (λ e. cc) bs.probing four j from low
+      ∙ away Next First (λ e. cc) bs.first three j from low
+      ∙ away Next Second (λ e. cc) bs.second two j from low
+      ∙ loaded_at (lock Next) bs.next one j from low
+  words_stand_at Previous j from low =
+      away Previous Home (λ e. cc) bs.home five j from low
+      ∙ away Previous Probing (λ e. cc) bs.probing four j from low
+      ∙ away Previous First (λ e. cc) bs.first three j from low
+      ∙ away Previous Second (λ e. cc) bs.second two j from low
+      ∙ away Previous Next (λ e. cc) bs.next one j from low
+      ∙ loaded_at (lock Previous) bs.previous (λ i. 0) j from low
 
   pub loads_known : (held : Held) (v : View) → HasLoadedHeld here hash segment held bs v → Knows (IsOfHeld here hash segment held) word v
   loads_known held v loaded i (place, is, under) =
       let at = under_at (lock place) i under in
       subst (λ (z : ℕ). Has (z, word z) v.known) at.0
       (subst (λ x. Has (lock place + (i - lock place), x) v.known) (sym (words_stand_at place (i - lock place) at.1 at.2)) (loaded place is (i - lock place) at.1 at.2))
+
+  -- and what is known was loaded so
+  pub known_loaded : (held : Held) (v : View) → Knows (IsOfHeld here hash segment held) word v → HasLoadedHeld here hash segment held bs v
+  known_loaded held v knows place is j from low =
+      subst (λ x. Has (lock place + j, x) v.known) (words_stand_at place j from low) (knows (lock place + j) (place, is, (omega (arith, from), omega (arith, low))))
 
   -- a bucket's words by its number in the segment
   in_bucket : (place : Place) (j : ℕ) → 1 ≤ j → j < 32 → word (bucket_at site.shape segment (bucket_of hash place) + j) ≡ slice_index (words_in bs place) j
@@ -108,6 +132,9 @@ words_stand site here hash segment bs place l j from low = words_stand_at site h
 
 pub loads_are_known : LoadsAreKnown
 loads_are_known site here hash segment held bs v l loaded = loads_known site here hash segment bs l held v loaded
+
+pub known_was_loaded : KnownWasLoaded
+known_was_loaded site here hash segment held bs v l knows = known_loaded site here hash segment bs l held v knows
 
 pub search_tells : SearchTells
 search_tells = record {
@@ -196,17 +223,17 @@ module _ (site : Site) (here : Here) (hash segment : ℕ) (held : Held) (word : 
       in_stash zero small = by held.first refl
         where
           by : (o : Option ℕ) → held.first ≡ o → (KnowsBucket site.shape v segment 64 word × ((t : ℕ) → Hit site.shape word segment 64 t k → ⊥)) ⊎ IsUnnoted site.shape word segment (home_of hash) (finger_of hash) 0
-          by (Some free) e = inl (bucket_known (firm q) First (free, e), n.places First (free, e))
+          by (Some free) e = inl (bucket_known (firm q) First (free, e), n.places First (free, e) refl)
           by None e = inr (n.stash.first e)
       in_stash (suc zero) small = by held.second refl
         where
           by : (o : Option ℕ) → held.second ≡ o → (KnowsBucket site.shape v segment 65 word × ((t : ℕ) → Hit site.shape word segment 65 t k → ⊥)) ⊎ IsUnnoted site.shape word segment (home_of hash) (finger_of hash) 1
-          by (Some free) e = inl (bucket_known (firm q) Second (free, e), n.places Second (free, e))
+          by (Some free) e = inl (bucket_known (firm q) Second (free, e), n.places Second (free, e) refl)
           by None e = inr (n.stash.second e)
       in_stash (suc (suc c)) small = absurd (omega (arith, small))
 
       nowhere : Nowhere (key_hash site.shape k)
-      nowhere = subst Nowhere h.hashed (record { not_home = n.places Home h.home; not_probing = n.places Probing h.probing; stash = in_stash })
+      nowhere = subst Nowhere h.hashed (record { not_home = n.places Home h.home refl; not_probing = n.places Probing h.probing refl; stash = in_stash })
 
       pub found_none : FoundNone site v word segment k
       found_none = let b = both (firm q) in record {
@@ -232,10 +259,11 @@ module _ (site : Site) (here : Here) (hash segment : ℕ) (held : Held) (word : 
     }
 
 draws : (site : Site) (here : Here) (hash segment : ℕ) (held : Held) (word : Words) (call : Call) (v : View) → HoldsBuckets site here hash segment held word (key_of call) v → HasNoneLoose v
-    → Has call v.planned → 0 < v.room → DrawsWell site v call segment word
-draws site here hash segment held word call v h none planned room = let b = both site here hash segment held word (key_of call) v h none in record {
+    → Has call v.planned → 0 < v.room → HasNoted v → DrawsWell site v call segment word
+draws site here hash segment held word call v h none planned room noted = let b = both site here hash segment held word (key_of call) v h none in record {
   planned = planned;
   room = room;
+  noted = noted;
   led = (led site here hash segment held word (key_of call) v h, b.home_lock);
   firm = λ p loose u. none p loose;
   probing = b.kept;
@@ -269,7 +297,7 @@ home_near hash = omega arith
 
 pub prepared_nowhere : PreparedStandsNowhere
 prepared_nowhere shape hash segment held word k s b lock finger written f n = record {
-  places = λ place is t hit. n.places place is t (hits_back shape word s b lock finger written f segment (bucket_of hash place) t k hit);
+  places = λ place is near t hit. n.places place is near t (hits_back shape word s b lock finger written f segment (bucket_of hash place) t k hit);
   stash = record {
     first = λ e. unnoted_made shape word s b lock finger written f segment (home_of hash) (finger_of hash) 0 (home_near hash) (n.stash.first e);
     second = λ e. unnoted_made shape word s b lock finger written f segment (home_of hash) (finger_of hash) 1 (home_near hash) (n.stash.second e);

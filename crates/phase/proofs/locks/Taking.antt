@@ -93,7 +93,7 @@ take_remembers lock loads (Try free) a r = r
 
 -- ---- causes
 module _ (shape : Shape) (words : Words) (did : Doings) (call : Call) (lock : ℕ) (own : IsOwnLock shape words did call lock) (not_own : Has lock did.changed → ⊥) where
-  there : IsLockThere shape (key_hash shape (key_of call)) did.loads lock
+  there : IsLockThere shape (key_hash shape (key_of call)) did.loads call lock
   there = (own.0, own.1, own.3, own.4, own.5 ∙ sym (ap (λ t. if t then bucket_at shape own.0 own.3 else root_word) (lt-ltb own.0 shape.segments own.2)))
 
   look_caused : (odd spent : Bool) → (words lock % 2 == 1) ≡ odd

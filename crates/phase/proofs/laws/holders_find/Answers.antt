@@ -1,4 +1,4 @@
-use Rattle.phase.proofs.locks.Finding.{words_stand, loads_are_known, search_tells, holders_find, prepared_nowhere, publish_tells}
+use Rattle.phase.proofs.locks.Finding.{words_stand, loads_are_known, known_was_loaded, search_tells, holders_find, prepared_nowhere, publish_tells}
 use Rattle.phase.proofs.laws.holders_find.Goals as goal
 
 pub returns-clause-words : goal.returns-clause-words
@@ -6,6 +6,9 @@ returns-clause-words c = words_stand
 
 pub returns-clause-known : goal.returns-clause-known
 returns-clause-known c = loads_are_known
+
+pub returns-clause-loaded : goal.returns-clause-loaded
+returns-clause-loaded c = known_was_loaded
 
 pub returns-clause-tells : goal.returns-clause-tells
 returns-clause-tells c = search_tells

@@ -1,0 +1,91 @@
+-- The six places: each has its number; and what is said of the buckets that are asked for, before one.
+use Rattle.std.proofs.Common.{◌≡◌, ◌⊎◌, ℕ, zero, suc, ◌+◌, ◌<◌, ◌≤◌, Bool, true, false, inl, inr, refl, sym, ap, ◌∙◌, subst, arith}
+use Rattle.std.proofs.lemmas.Bool.{cases_eq}
+use Rattle.map_model.specs.declared.call.Call.{Call}
+use Rattle.map_model.specs.Legal.{IsInsert}
+use Rattle.part.specs.Causes.{IsBucketOf}
+use Rattle.phase.specs.declared.place.Place.{Place}
+use Rattle.phase.specs.declared.place.Place.TheVariants.{Home, Probing, First, Second, Next, Previous}
+use Rattle.phase.specs.Places.{bucket_of, is_third}
+use Rattle.phase.specs.Asked.{index, asked_by, IsAskedBefore}
+
+-- ---- one place
+abbrev place_at : ℕ → Place
+place_at zero = Home
+place_at (suc zero) = Probing
+place_at (suc (suc zero)) = First
+place_at (suc (suc (suc zero))) = Second
+place_at (suc (suc (suc (suc zero)))) = Next
+place_at (suc (suc (suc (suc (suc n))))) = Previous
+
+place_of : (q : Place) → place_at (index q) ≡ q
+place_of Home = refl
+place_of Probing = refl
+place_of First = refl
+place_of Second = refl
+place_of Next = refl
+place_of Previous = refl
+
+pub one_place : (p q : Place) → index p ≡ index q → p ≡ q
+one_place p q e = sym (place_of p) ∙ ap place_at e ∙ place_of q
+
+pub cases_place : (p q : Place) → (p ≡ q) ⊎ (index p ≡ index q → ⊥)
+cases_place p q = elim (cases_eq (index p) (index q)) [ inl e ↦ inl (one_place p q e) | inr other ↦ inr other ]
+
+never : {A : Type 0} → true ≡ false → A
+never e = cc
+
+-- ---- the bucket is one of the call's
+pub bucket_is : (call : Call) (hash : ℕ) (q : Place) → is_third q ≡ false → IsBucketOf call hash (bucket_of hash q)
+bucket_is call hash Home near = inl refl
+bucket_is call hash Probing near = inr (inl refl)
+bucket_is call hash First near = inr (inr (inl (omega arith, omega arith)))
+bucket_is call hash Second near = inr (inr (inl (omega arith, omega arith)))
+bucket_is call hash Next near = never near
+bucket_is call hash Previous near = never near
+
+-- of an insert each is
+pub bucket_of_insert : (call : Call) (hash : ℕ) → IsInsert call → (q : Place) → IsBucketOf call hash (bucket_of hash q)
+bucket_of_insert call hash insert Next = inr (inr (inr (insert, inl refl)))
+bucket_of_insert call hash insert Previous = inr (inr (inr (insert, inr refl)))
+bucket_of_insert call hash insert q = bucket_is call hash q refl
+
+-- ---- those that are asked for
+module _ (first second : Bool) where
+  pub not_third : (q : Place) → asked_by first second q ≡ true → is_third q ≡ false
+  not_third Next asked = never (sym asked)
+  not_third Previous asked = never (sym asked)
+  not_third q asked = refl
+
+  pub few : (q : Place) → asked_by first second q ≡ true → index q < 4
+  few Home asked = omega arith
+  few Probing asked = omega arith
+  few First asked = omega arith
+  few Second asked = omega arith
+  few Next asked = never (sym asked)
+  few Previous asked = never (sym asked)
+
+  pub near_asked : (q : Place) → index q < 2 → asked_by first second q ≡ true
+  near_asked Home low = refl
+  near_asked Probing low = refl
+  near_asked q low = absurd (omega (arith, low))
+
+  pub none_before : (q : Place) → IsAskedBefore first second 0 q → ⊥
+  none_before q u = let low = u.low in omega (arith, low)
+
+  -- with one more
+  pub upto_more : (p q : Place) → IsAskedBefore first second (index p + 1) q → (q ≡ p) ⊎ IsAskedBefore first second (index p) q
+  upto_more p q u = elim (cases_place q p) [
+    | inl e ↦ inl e
+    | inr other ↦ inr (record { low = (let low = u.low in omega (arith, low, other)); asked = u.asked })
+  ]
+
+  -- where one is not asked for, those before the next are those before it
+  pub upto_less : (p q : Place) → asked_by first second p ≡ false → IsAskedBefore first second (index p + 1) q → IsAskedBefore first second (index p) q
+  upto_less p q out u = elim (upto_more p q u) [
+    | inl e ↦ never (sym (subst (λ (z : Place). asked_by first second z ≡ true) e u.asked) ∙ out)
+    | inr r ↦ r
+  ]
+
+  pub upto_up : (k l : ℕ) (q : Place) → k ≤ l → IsAskedBefore first second k q → IsAskedBefore first second l q
+  upto_up k l q le u = record { low = (let low = u.low in omega (arith, low, le)); asked = u.asked }

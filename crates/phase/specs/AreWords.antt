@@ -1,0 +1,6 @@
+-- What a machine keeps of a bucket are words, and a bucket has 32 of them.
+use Rattle.std.specs.Prelude.{◌≡◌, ℕ, ◌^◌, ◌<◌, List, length, slice_index}
+
+pub record AreWords (words : List ℕ) : Type 0 where
+  pub small : (i : ℕ) → slice_index words i < 2 ^ 64
+  pub whole : length words ≡ 32
