@@ -13,7 +13,7 @@ use Rattle.phase.specs.Places.{bucket_of}
 use Rattle.read_op.specs.Steps.{wanted_in}
 use Rattle.read_op.specs.Budget.{AsksWithin}
 use Rattle.read_op.specs.Causes.{ReadsAlone}
-use Rattle.read_op.proofs.Places.{bucket_near}
+use Rattle.phase.proofs.locks.Giving.{bucket_near}
 
 -- ---- loads alone
 reads_in : (task : Task) (s : ReadStep) → IsReading (wanted_in task s)

@@ -15,11 +15,13 @@ use Rattle.read_op.specs.declared.step.Seen.{Seen}
 use Rattle.read_op.specs.declared.step.ReadStep.{ReadStep}
 use Rattle.read_op.specs.declared.step.ReadStep.TheVariants.{Relook, Ended}
 use Rattle.read_op.specs.declared.step.Task.{Task}
-use Rattle.read_op.specs.Places.{free_at, index}
+use Rattle.phase.specs.Asked.{index}
+use Rattle.phase.proofs.Asked.{one_place, few}
+use Rattle.read_op.specs.Places.{free_at}
 use Rattle.read_op.specs.Steps.{relook_first, relook_second, relook_next, relooked, busy, moved, end_of, lock_of}
 use Rattle.read_op.specs.Fits.{IsIn, is_asked, IsChecked, suits_in, EntersAnswer}
 use Rattle.world.proofs.stepping.Noting.{never, marked_one, marked_to, marked_from, mark_lock, mark_free, mark_here, mark_there, mark_unlike, all_marked, one_unmarked}
-use Rattle.read_op.proofs.Places.{one_place, few, locks_apart}
+use Rattle.read_op.proofs.Places.{locks_apart}
 
 -- ---- numbers
 lt_same : (a b : ℕ) → a ≢ b → nat_lt a b ≡ nat_lt a (b + 1)
@@ -68,7 +70,7 @@ module _ (site : Site) (task : Task) (is : IsIn site task) where
 
   -- ---- whether all are marked
   ends_all : (notes : List Note) (s : Seen) → IsChecked site notes task s 4 → all_again notes ≡ true
-  ends_all notes s c = all_marked notes (λ n h. let f = c.from n h in f.4 ∙ lt-ltb (index f.0) 4 (few f.0))
+  ends_all notes s c = all_marked notes (λ n h. let f = c.from n h in f.4 ∙ lt-ltb (index f.0) 4 (few s.first s.second f.0 f.1))
 
   one_left : (notes : List Note) (s : Seen) (p : Place) → is_asked s p ≡ true → IsChecked site notes task s (index p) → all_again notes ≡ false
   one_left notes s p asked c =
@@ -130,11 +132,12 @@ module _ (site : Site) (task : Task) (is : IsIn site task) where
           by true e = go_to First e c
           by false e = second_kept (checked_skip notes s First e c)
 
-      next_kept : (p : Place) → IsChecked site notes task s (index p + 1) → Kept (relook_next s placed p) (with_answer (all_again notes) (Some answer) told)
-      next_kept Home c = go_to Probing refl c
-      next_kept Probing c = first_kept c
-      next_kept First c = second_kept c
-      next_kept Second c = finish c
+      next_kept : (p : Place) → is_asked s p ≡ true → IsChecked site notes task s (index p + 1) → Kept (relook_next s placed p) (with_answer (all_again notes) (Some answer) told)
+      next_kept Home asked c = go_to Probing refl c
+      next_kept Probing asked c = first_kept c
+      next_kept First asked c = second_kept c
+      next_kept Second asked c = finish c
+      next_kept p asked c = never asked
 
     module _ (s : Seen) (placed : ℕ) (p : Place) (n : ℕ) where
       abbrev lock : ℕ
@@ -158,7 +161,7 @@ module _ (site : Site) (task : Task) (is : IsIn site task) where
                 subst (λ b. Kept (if b then busy lock n else if n == free_at s.free p then relook_next s placed p else moved lock (free_at s.free p) n) u)
                 (sym (ne_eqb (n % 2) 1 (λ odd. omega (arith, odd, e, even))))
                 (subst (λ b. Kept (if b then relook_next s placed p else moved lock (free_at s.free p) n) u) (sym (eq-eqb n (free_at s.free p) e))
-                (next_kept after s placed p (checked_more v.notes s p n e c)))
+                (next_kept after s placed p asked (checked_more v.notes s p n e c)))
             | inr other ↦
                 subst (λ b. Kept (if n % 2 == 1 then busy lock n else if b then relook_next s placed p else moved lock (free_at s.free p) n) u)
                 (sym (ne_eqb n (free_at s.free p) other)) (unlike c asked other (n % 2 == 1))

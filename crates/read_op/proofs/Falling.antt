@@ -3,12 +3,8 @@ use Rattle.std.proofs.Common.{◌≡◌, ◌≢◌, ℕ, ◌+◌, ◌-◌, ◌<�
 use Rattle.std.specs.Prelude.{if◌then◌else◌, ◌==◌, ◌%◌}
 use Rattle.op_core.specs.declared.want.Want.TheVariants.{Done}
 use Rattle.op_core.specs.declared.want.Ans.TheVariants.{Value}
-use Rattle.phase.specs.declared.walk.Walk.{Walk}
-use Rattle.phase.specs.declared.walk.Walk.TheVariants as walk
 use Rattle.phase.specs.declared.walk.Walked.{Walked}
 use Rattle.phase.specs.declared.walk.Walked.TheVariants as walked
-use Rattle.phase.specs.declared.back.Back.{Back}
-use Rattle.phase.specs.declared.back.Back.TheVariants as back
 use Rattle.phase.specs.declared.back.Backed.{Backed}
 use Rattle.phase.specs.declared.back.Backed.TheVariants as backed
 use Rattle.phase.specs.declared.load.Loaded.{Loaded}
@@ -16,10 +12,10 @@ use Rattle.phase.specs.declared.load.Loaded.TheVariants as loaded
 use Rattle.phase.specs.Walks.{walk_taken}
 use Rattle.phase.specs.Backs.{back_taken}
 use Rattle.phase.specs.Loads.{load_taken}
-use Rattle.phase.specs.Stands.{walk_left, walked_left, back_left, backed_left, loaded_left}
-use Rattle.phase.proofs.Walking.{walk_falls}
+use Rattle.phase.specs.Stands.{walked_left, backed_left, loaded_left}
+use Rattle.phase.proofs.Walking.{walk_few, walk_falls}
 use Rattle.phase.proofs.Loading.{load_falls}
-use Rattle.phase.proofs.Backing.{back_falls}
+use Rattle.phase.proofs.Backing.{back_few, back_falls}
 use Rattle.phase.specs.declared.place.Place.{Place}
 use Rattle.phase.specs.declared.place.Place.TheVariants.{Home, Probing, First, Second}
 use Rattle.read_op.specs.declared.step.Seen.{Seen}
@@ -52,7 +48,7 @@ all_most : (key hash : ℕ) (s : Seen) (p : Place) (words : List ℕ) → left (
 all_most key hash s Home words = omega arith
 all_most key hash s Probing words = first_most (read_probing key hash s words)
 all_most key hash s First words = second_most (with_value key s words)
-all_most key hash s Second words = omega arith
+all_most key hash s p words = omega arith
 
 filled_most : (key hash : ℕ) (s : Seen) (p : Place) (x : Loaded) → left (filled key hash s p x) ≤ left_behind p + loaded_left x
 filled_most key hash s p (loaded.On load) = omega arith
@@ -61,14 +57,13 @@ filled_most key hash s p (loaded.All words) = let most = all_most key hash s p w
 looked_most : (s : Seen) (p : Place) → left (looked s p) < left_of_look p
 looked_most s Home = omega arith
 looked_most s Probing = omega arith
-looked_most s First = omega arith
-looked_most s Second = omega arith
+looked_most s p = omega arith
 
 some_look : (p : Place) → 0 < left_of_look p
 some_look Home = omega arith
 some_look Probing = omega arith
 some_look First = omega arith
-some_look Second = omega arith
+some_look p = omega arith
 
 backed_most : (s : Seen) (placed : ℕ) (x : Backed) → left (backed_to s placed x) ≤ 4 + backed_left x
 backed_most s placed (backed.On b) = omega arith
@@ -85,7 +80,7 @@ relook_most : (s : Seen) (placed : ℕ) (p : Place) → left (relook_next s plac
 relook_most s placed Home = omega arith
 relook_most s placed Probing = let most = relook_first_most s placed in omega (arith, most)
 relook_most s placed First = let most = relook_second_most s placed in omega (arith, most)
-relook_most s placed Second = omega arith
+relook_most s placed p = omega arith
 
 relooked_most : (task : Task) (s : Seen) (placed : ℕ) (p : Place) (n : ℕ) → left (relooked task s placed p n) ≤ left_of_relook p - 1
 relooked_most task s placed p n =
@@ -97,7 +92,7 @@ some_relook : (p : Place) → 0 < left_of_relook p
 some_relook Home = omega arith
 some_relook Probing = omega arith
 some_relook First = omega arith
-some_relook Second = omega arith
+some_relook p = omega arith
 
 -- each event leaves one less at least; none, where none was left
 lowers : (task : Task) (s : ReadStep) (n : ℕ) → left (next_in task s n) ≤ left s - 1
@@ -130,37 +125,26 @@ most_look : (p : Place) → left_of_look p ≤ 136
 most_look Home = omega arith
 most_look Probing = omega arith
 most_look First = omega arith
-most_look Second = omega arith
+most_look p = omega arith
 
 most_behind : (p : Place) → left_behind p ≤ 103
 most_behind Home = omega arith
 most_behind Probing = omega arith
 most_behind First = omega arith
-most_behind Second = omega arith
+most_behind p = omega arith
 
 most_relook : (p : Place) → left_of_relook p ≤ 4
 most_relook Home = omega arith
 most_relook Probing = omega arith
 most_relook First = omega arith
-most_relook Second = omega arith
-
-most_walk : (w : Walk) → walk_left w ≤ 4
-most_walk walk.Power = omega arith
-most_walk walk.Root = omega arith
-most_walk (walk.Entry root) = omega arith
-most_walk (walk.Head root segment) = omega arith
-
-most_back : (at : Back) → back_left at ≤ 3
-most_back back.Root = omega arith
-most_back back.Entry = omega arith
-most_back back.Head = omega arith
+most_relook p = omega arith
 
 most_in : (s : ReadStep) → left s ≤ most_events
-most_in (Way w) = let most = most_walk w in omega (arith, most)
+most_in (Way w) = let most = walk_few w in omega (arith, most)
 most_in (Look s p) = let most = most_look p in omega (arith, most)
 most_in (Fill s p load) = let most = most_behind p in omega (arith, most)
 most_in (Count s) = omega arith
-most_in (Check s placed at) = let most = most_back at in omega (arith, most)
+most_in (Check s placed at) = let most = back_few at in omega (arith, most)
 most_in (Relook s placed p) = let most = most_relook p in omega (arith, most)
 most_in (Ended end) = omega arith
 

@@ -28,7 +28,9 @@ use Rattle.read_op.specs.declared.op.ReadOp.{ReadOp}
 use Rattle.phase.specs.Places.{bucket_of}
 use Rattle.read_op.specs.Steps.{wanted_in, lock_of}
 use Rattle.read_op.specs.Fits.{IsIn, kind_in, is_asked, Tells, IsReading, Skips, suits_in, BeginsSuited, WantsByKind, MayStep}
-use Rattle.read_op.proofs.Places.{few, bucket_near, lock_is}
+use Rattle.phase.proofs.Asked.{few}
+use Rattle.phase.proofs.locks.Giving.{bucket_near}
+use Rattle.read_op.proofs.Places.{lock_is}
 
 -- ---- what is wanted
 pub wants_in : (task : Task) (site : Site) → IsIn site task → (s : ReadStep) → wanted_in task s ≢ Done → wanted_in task s ≡ wanted_by site.shape (kind_in task s)
@@ -74,7 +76,7 @@ module _ (site : Site) (task : Task) (is : IsIn site task) where
           → IsUnnoted site.shape m segment (home_of task.hash) (finger_of task.hash) c)
           → (find_below m (bucket_at site.shape segment (homes + c)) task.key record_slots ≡ None) ⊎ IsUnnoted site.shape m segment home (finger_of (key_hash site.shape task.key)) c
       stash q c e none skip = elim (cases_Bool (is_asked s q)) [
-        | inl asked ↦ inl (ap (λ b. find_below m (bucket_at site.shape segment b) task.key record_slots) (sym e) ∙ there q None (r.knows.none none q (record { low = few q; asked = asked })))
+        | inl asked ↦ inl (ap (λ b. find_below m (bucket_at site.shape segment b) task.key record_slots) (sym e) ∙ there q None (r.knows.none none q (record { low = few s.first s.second q asked; asked = asked })))
         | inr skipped ↦ inr (subst (λ h. IsUnnoted site.shape m segment (home_of h) (finger_of h) c) is.hash (skip skipped m now))
       ]
 

@@ -8,4 +8,5 @@ pub mod Ending
 pub mod Keeping
 pub mod Asked
 pub mod Sounding
+pub mod causing
 pub mod parts

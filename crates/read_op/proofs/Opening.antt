@@ -29,8 +29,7 @@ both_open false s t p q = q
 pub looked_open : (s : Seen) (p : Place) → IsOpen (looked s p)
 looked_open s Home = tt
 looked_open s Probing = tt
-looked_open s First = tt
-looked_open s Second = tt
+looked_open s p = tt
 
 second_open : (s : Seen) → IsOpen (visit_second s)
 second_open s = both_open s.second (Look s Second) (Count s) tt tt
@@ -39,7 +38,7 @@ all_open : (key hash : ℕ) (s : Seen) (p : Place) (ws : List ℕ) → IsOpen (r
 all_open key hash s Home ws = tt
 all_open key hash s Probing ws = let t : Seen = read_probing key hash s ws in both_open t.first (Look t First) (visit_second t) tt (second_open t)
 all_open key hash s First ws = second_open (with_value key s ws)
-all_open key hash s Second ws = tt
+all_open key hash s p ws = tt
 
 pub filled_open : (key hash : ℕ) (s : Seen) (p : Place) (x : Loaded) → IsOpen (filled key hash s p x)
 filled_open key hash s p (loaded.On load) = tt

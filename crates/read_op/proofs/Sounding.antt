@@ -88,7 +88,7 @@ module _ (s : Seen) (placed : ℕ) (p : Place) (n : ℕ) (same : n ≡ free_at s
   next_same Home = tt
   next_same Probing = first_same
   next_same First = second_same
-  next_same Second = answered
+  next_same q = answered
 
 same_in : (task : Task) (s : ReadStep) (n : ℕ) → wanted_in task s ≢ Done → SameIf s n (next_in task s n)
 same_in task (Way w) n asks = walked_same (Way w) n (walk_taken task.site task.hash w n)
@@ -149,7 +149,7 @@ module _ (site : Site) (task : Task) (is : IsIn site task) (v : View) where
     next_busy s placed Home = tt
     next_busy s placed Probing = first_busy s placed
     next_busy s placed First = second_busy s placed
-    next_busy s placed Second = end_busy s.value placed
+    next_busy s placed p = end_busy s.value placed
 
   -- an even number is not odd
   odd_of : (n : ℕ) → (n % 2 == 0) ≡ false → n % 2 ≡ 1
@@ -252,7 +252,7 @@ module _ (task : Task) where
   next_fresh s placed Home = tt
   next_fresh s placed Probing = both_fresh s.first (Relook s placed First) (relook_second s placed) tt (second_fresh s placed)
   next_fresh s placed First = second_fresh s placed
-  next_fresh s placed Second = end_fresh s.value placed
+  next_fresh s placed p = end_fresh s.value placed
 
   fresh_in : (s : ReadStep) (n : ℕ) → wanted_in task s ≢ Done → ((w : Walk) → s ≡ Way w → (segment byte : ℕ) → walk_taken task.site task.hash w n ≡ walked.Stale segment byte → ⊥) → NoStale (next_in task s n)
   fresh_in (Way w) n asks none = walked_fresh (walk_taken task.site task.hash w n) (none w refl)

@@ -2,6 +2,7 @@
 use Rattle.std.proofs.Common.{◌≡◌, ◌⊎◌, ℕ, ◌+◌, ◌%◌, ◌<◌, ◌≤◌, Bool, true, false, Option, None, Some, List, [], ◌∷◌, inl, inr, refl, sym, ◌∙◌, ap, subst, arith, slice_index}
 use Rattle.std.specs.Prelude.{nat_lt, if◌then◌else◌}
 use Rattle.std.specs.Option.{option_or}
+use Rattle.std.proofs.lemmas.Bool.{le-ltb}
 use Rattle.hash_word.specs.Hash.{home_of, finger_of}
 use Rattle.trace.specs.Events.{Words}
 use Rattle.bucket_meta.specs.Bucket.{record_slots}
@@ -26,15 +27,18 @@ use Rattle.phase.specs.Loads.{load_begun, load_taken}
 use Rattle.phase.specs.Stands.{Leads, HasWalked, IsBare, HasBegun, HasLoaded}
 use Rattle.phase.proofs.Loading.{load_begins, load_stands, same_below}
 use Rattle.phase.specs.declared.place.Place.{Place}
-use Rattle.phase.specs.declared.place.Place.TheVariants.{Home, Probing, First, Second}
+use Rattle.phase.specs.declared.place.Place.TheVariants.{Home, Probing, First, Second, Next, Previous}
 use Rattle.read_op.specs.declared.step.Seen.{Seen}
 use Rattle.read_op.specs.declared.step.ReadStep.TheVariants.{Look, Fill, Count, Check}
 use Rattle.read_op.specs.declared.step.Task.{Task}
-use Rattle.read_op.specs.Places.{free_at, index}
+use Rattle.phase.specs.Asked.{index, looked_by}
+use Rattle.phase.proofs.locks.Giving.{no_some}
+use Rattle.phase.proofs.Asked.{few, near_asked, none_before, upto_more, upto_less, upto_up}
+use Rattle.read_op.specs.Places.{free_at}
 use Rattle.read_op.specs.Steps.{value_of, walked_to, visit_first, visit_second, with_free, looked, with_value, read_home, read_probing, read_all, filled, backed_to, lock_of}
-use Rattle.read_op.specs.Fits.{IsIn, is_asked, Upto, noted_by, Tells, IsSkipped, Skips, IsFilling, IsReading, FillsAt, IsChecked, IsAnswering, suits_in}
+use Rattle.read_op.specs.Fits.{IsIn, is_asked, Upto, Tells, IsSkipped, Skips, IsFilling, IsReading, FillsAt, IsChecked, IsAnswering, suits_in}
 use Rattle.world.proofs.stepping.Noting.{noted_one, noted_to, noted_from, one_lock, one_free, one_here, now_noted, now_more, unmarked_to}
-use Rattle.read_op.proofs.Places.{few, near_asked, free_other, upto_more, upto_less, upto_up}
+use Rattle.read_op.proofs.Places.{free_other}
 use Rattle.world.proofs.stepping.Telling.{unvisited}
 use Rattle.read_op.proofs.Fitting.{lock_at}
 
@@ -47,17 +51,11 @@ else_some : (a b : Option ℕ) (x : ℕ) → option_or a b ≡ Some x → (a ≡
 else_some None b x e = inr e
 else_some (Some y) b x e = inl e
 
-no_value : {x : ℕ} → None ≡ Some x → ⊥
-no_value e = cc
-
 begun_of : (w : Walk) (u : View) → IsBare u → HasBegun w u
 begun_of walk.Power u b = tt
 begun_of walk.Root u b = b
 begun_of (walk.Entry root) u b = b
 begun_of (walk.Head root segment) u b = b
-
-none_zero : (s : Seen) (q : Place) → Upto s 0 q → ⊥
-none_zero s q u = let low = u.low in omega (arith, low)
 
 module _ (site : Site) (task : Task) (is : IsIn site task) where
   -- ---- the way
@@ -68,9 +66,9 @@ module _ (site : Site) (task : Task) (is : IsIn site task) where
       led = has;
       noted_at = record {
         from = λ n h. absurd (subst (Has n) bare.notes h);
-        to = λ q l. absurd (none_zero _ q l);
+        to = λ q l. absurd (none_before false false q l);
       };
-      knows = record { none = λ e q l. absurd (none_zero _ q l); some = λ x e. absurd (no_value e) };
+      knows = record { none = λ e q l. absurd (none_before false false q l); some = λ x e. absurd (no_some e) };
     },
     tt,
   )
@@ -96,7 +94,7 @@ module _ (site : Site) (task : Task) (is : IsIn site task) where
               let low = f.1.low in
               (f.0, record { low = omega (arith, low); asked = asks f.0 ∙ f.1.asked }, f.2 ∙ sym (locks f.0), f.3 ∙ sym (frees f.0 low))
         ];
-        to = λ q u. elim (upto_more s p q (record { low = u.low; asked = sym (asks q) ∙ u.asked })) [
+        to = λ q u. elim (upto_more s.first s.second p q (record { low = u.low; asked = sym (asks q) ∙ u.asked })) [
           | inl e ↦ (new, inl refl, ap (lock_of task s) (sym e) ∙ sym (locks q))
           | inr old ↦ (let t = r.noted_at.to q old in (t.0, inr t.1, t.2 ∙ sym (locks q)))
         ];
@@ -131,16 +129,18 @@ module _ (site : Site) (task : Task) (is : IsIn site task) where
         ((λ out m a. beside.0.0 out m (now_more site m _ v.notes a), λ out m a. beside.0.1 out m (now_more site m _ v.notes a)), beside.1),
         begins_at _ _ 4 3 Second reading (record { low = omega arith; asked = beside.1 }),
       )
+  look_suits v s Next n (r, beside) = absurd beside
+  look_suits v s Previous n (r, beside) = absurd beside
 
   -- ---- where a bucket is not visited
   reading_skip : (notes : List Note) (s : Seen) (p : Place) → is_asked s p ≡ false → IsReading site notes task s (index p) (index p) → IsReading site notes task s (index p + 1) (index p + 1)
   reading_skip notes s p out r = record {
     led = r.led;
     noted_at = record {
-      from = λ n h. let f = r.noted_at.from n h in (f.0, upto_up s (index p) (index p + 1) f.0 (omega arith) f.1, f.2, f.3);
-      to = λ q u. r.noted_at.to q (upto_less s p q out u);
+      from = λ n h. let f = r.noted_at.from n h in (f.0, upto_up s.first s.second (index p) (index p + 1) f.0 (omega arith) f.1, f.2, f.3);
+      to = λ q u. r.noted_at.to q (upto_less s.first s.second p q out u);
     };
-    knows = record { none = λ e q u. r.knows.none e q (upto_less s p q out u); some = r.knows.some };
+    knows = record { none = λ e q u. r.knows.none e q (upto_less s.first s.second p q out u); some = r.knows.some };
   }
 
   second_suits : (v : View) (s : Seen) → IsReading site v.notes task s 3 3 → Skips site v.notes task s → suits_in site task (visit_second s) v
@@ -171,7 +171,7 @@ module _ (site : Site) (task : Task) (is : IsIn site task) where
       none = λ e q u.
           let both = else_none a s.value (sym value ∙ e) in
           let low : index q < k = (let low = u.low in omega (arith, low, most)) in
-          elim (upto_more s p q (record { low = u.low; asked = sym (asks q low) ∙ u.asked })) [
+          elim (upto_more s.first s.second p q (record { low = u.low; asked = sym (asks q low) ∙ u.asked })) [
             | inl same ↦ λ m ag. ap (λ l. find_below m l task.key record_slots) (locks q ∙ ap (lock_of task s) same) ∙ tell m ag ∙ both.0
             | inr old ↦ λ m ag. ap (λ l. find_below m l task.key record_slots) (locks q) ∙ r.knows.none both.1 q old m ag
           ];
@@ -183,7 +183,7 @@ module _ (site : Site) (task : Task) (is : IsIn site task) where
   }
 
   -- ---- a word of a bucket
-  module _ (v : View) (s : Seen) (p : Place) (load : Load) (n : ℕ) (r : IsReading site v.notes task s (noted_by p) (index p)) (f : IsFilling site v.notes task s p load) where
+  module _ (v : View) (s : Seen) (p : Place) (load : Load) (n : ℕ) (r : IsReading site v.notes task s (looked_by p) (index p)) (f : IsFilling site v.notes task s p load) where
     abbrev lock : ℕ
     lock = lock_of task s p
 
@@ -199,7 +199,7 @@ module _ (site : Site) (task : Task) (is : IsIn site task) where
     has : Has note notes
     has = subst (λ (z : Note). Has z notes) (one_here lock i n f.note f.lock) (noted_to lock i n v.notes f.note f.has)
 
-    reading : IsReading site notes task s (noted_by p) (index p)
+    reading : IsReading site notes task s (looked_by p) (index p)
     reading = record {
       led = r.led;
       noted_at = record {
@@ -223,6 +223,8 @@ module _ (site : Site) (task : Task) (is : IsIn site task) where
     beside_still Probing b = λ m a. b m (now_noted site m lock i n v.notes a)
     beside_still First b = (skips_still b.0, b.1)
     beside_still Second b = (skips_still b.0, b.1)
+    beside_still Next b = b
+    beside_still Previous b = b
 
     loads : HasLoaded lock note.words (load_taken load n)
     loads = load_stands lock f.note.words load n f.loads
@@ -234,7 +236,7 @@ module _ (site : Site) (task : Task) (is : IsIn site task) where
       tell : Tells site notes task.key lock (value_of ws task.key)
       tell m a = same_below m ws lock task.key record_slots (omega arith) (word_at m a)
 
-  all_suits : (v : View) (s : Seen) (p : Place) (load : Load) (n : ℕ) (r : IsReading site v.notes task s (noted_by p) (index p)) → FillsAt site v.notes task s p
+  all_suits : (v : View) (s : Seen) (p : Place) (load : Load) (n : ℕ) (r : IsReading site v.notes task s (looked_by p) (index p)) → FillsAt site v.notes task s p
       → (f : IsFilling site v.notes task s p load) (ws : List ℕ)
       → ((j : ℕ) → 1 ≤ j → j < 32 → Has (lock_of task s p + j, slice_index ws j) ((lock_of task s p + load.next % 32, n) ∷ f.note.words))
       → suits_in site task (read_all task.key task.hash s p ws) (record v { notes = with_noted (lock_of task s p) (lock_of task s p + load.next % 32) n v.notes })
@@ -248,7 +250,7 @@ module _ (site : Site) (task : Task) (is : IsIn site task) where
   all_suits v s Probing load n r beside f ws all =
       let s' : Seen = read_probing task.key task.hash s ws in
       let R = read_more (notes v s Probing load n r f) s s' Probing 2 (value_of ws task.key) (λ q. refl) (λ q. refl)
-      (λ q low. near_asked s' q low ∙ sym (near_asked s q low)) refl r.led (omega arith) (tell v s Probing load n r f ws all) (reading v s Probing load n r f) in
+      (λ q low. near_asked s'.first s'.second q low ∙ sym (near_asked s.first s.second q low)) refl r.led (omega arith) (tell v s Probing load n r f ws all) (reading v s Probing load n r f) in
       let meta = beside_still v s Probing load n r f Probing beside in
       let home = lock_at site task is s Home r.led.within in
       let probing = lock_at site task is s Probing r.led.within in
@@ -268,6 +270,8 @@ module _ (site : Site) (task : Task) (is : IsIn site task) where
         (tell v s Second load n r f ws all) (reading v s Second load n r f),
     skips_still v s Second load n r f beside.0,
   )
+  all_suits v s Next load n r beside f ws all = absurd beside
+  all_suits v s Previous load n r beside f ws all = absurd beside
 
   pub fill_suits : (v : View) (s : Seen) (p : Place) (load : Load) (n : ℕ) → suits_in site task (Fill s p load) v
       → suits_in site task (filled task.key task.hash s p (load_taken load n)) (record v { notes = with_noted (lock_of task s p) (lock_of task s p + load.next % 32) n v.notes })
@@ -280,10 +284,7 @@ module _ (site : Site) (task : Task) (is : IsIn site task) where
 
   -- ---- the counter
   none_again : (q : Place) → nat_lt (index q) 0 ≡ false
-  none_again Home = refl
-  none_again Probing = refl
-  none_again First = refl
-  none_again Second = refl
+  none_again q = le-ltb (index q) 0 (omega arith)
 
   pub count_suits : (v : View) (s : Seen) (n : ℕ) → suits_in site task (Count s) v
       → suits_in site task (Check s n back.Root) (record v { notes = unmarked v.notes; answer = Some (record { key = task.key; value = s.value; place = n }) })
@@ -294,7 +295,7 @@ module _ (site : Site) (task : Task) (is : IsIn site task) where
           let b = unmarked_from v.notes o h in
           let f = r.noted_at.from b.0 b.1 in
           (f.0, f.1.asked, ap (λ (z : Note). z.lock) b.2 ∙ f.2, ap (λ (z : Note). z.free) b.2 ∙ f.3, ap (λ (z : Note). z.again) b.2 ∙ sym (none_again f.0));
-      to = λ q asked. let t = r.noted_at.to q (record { low = few q; asked = asked }) in (record (t.0) { again = false }, unmarked_to v.notes t.0 t.1, t.2);
+      to = λ q asked. let t = r.noted_at.to q (record { low = few s.first s.second q asked; asked = asked }) in (record (t.0) { again = false }, unmarked_to v.notes t.0 t.1, t.2);
     },
     refl,
   )

@@ -23,45 +23,25 @@ use Rattle.world.specs.Attempts.{HasNoMore, HasOneMore}
 use Rattle.phase.specs.declared.load.Load.{Load}
 use Rattle.phase.specs.Stands.{walk_kind, back_kind, IsStraight, Leads, IsWalking, HasBegun, IsLoading}
 use Rattle.phase.specs.declared.place.Place.{Place}
-use Rattle.phase.specs.declared.place.Place.TheVariants.{Home, Probing, First, Second}
+use Rattle.phase.specs.declared.place.Place.TheVariants.{Home, Probing, First, Second, Next, Previous}
+use Rattle.phase.specs.Asked.{index, asked_by, IsAskedBefore, looked_by, loaded_by}
 use Rattle.read_op.specs.declared.step.Seen.{Seen}
 use Rattle.read_op.specs.declared.step.ReadEnd.TheVariants as ends
 use Rattle.read_op.specs.declared.step.ReadStep.{ReadStep}
 use Rattle.read_op.specs.declared.step.ReadStep.TheVariants.{Way, Look, Fill, Count, Check, Relook, Ended}
 use Rattle.read_op.specs.declared.step.Task.{Task}
 use Rattle.read_op.specs.declared.op.ReadOp.{ReadOp}
-use Rattle.read_op.specs.Places.{free_at, index}
+use Rattle.read_op.specs.Places.{free_at}
 use Rattle.read_op.specs.Steps.{begun, wanted, taken, lock_of}
 
 -- ---- sets of buckets
 -- those that are looked at in all
-abbrev pub asked_by : Bool → Bool → Place → Bool
-asked_by first second Home = true
-asked_by first second Probing = true
-asked_by first second First = first
-asked_by first second Second = second
-
 abbrev pub is_asked : Seen → Place → Bool
 is_asked s q = asked_by s.first s.second q
 
 -- those of them before the k-th
-pub record Upto (s : Seen) (k : ℕ) (q : Place) : Type 0 where
-  pub low : index q < k
-  pub asked : is_asked s q ≡ true
-
--- how many lock words are noted while a bucket is loaded
-abbrev pub noted_by : Place → ℕ
-noted_by Home = 2
-noted_by Probing = 2
-noted_by First = 3
-noted_by Second = 4
-
--- how many buckets were read when the lock word of one is looked at
-abbrev pub read_by : Place → ℕ
-read_by Home = 0
-read_by Probing = 0
-read_by First = 2
-read_by Second = 3
+abbrev pub Upto : Seen → ℕ → Place → Type 0
+Upto s k q = IsAskedBefore s.first s.second k q
 
 -- ---- kinds
 module _ (task : Task) where
@@ -120,12 +100,14 @@ module _ (site : Site) (notes : List Note) where
     pub noted_at : NotedAt task s noted
     pub knows : Knows task s read
 
-  -- what holds beside, of each bucket, when its lock word is looked at
+  -- what holds beside, of each bucket, when its lock word is looked at: a third one never is
   abbrev pub LooksAt : Task → Seen → Place → Type 0
   LooksAt task s Home = ⊤
   LooksAt task s Probing = ⊤
   LooksAt task s First = Skips task s × (s.first ≡ true)
   LooksAt task s Second = Skips task s × (s.second ≡ true)
+  LooksAt task s Next = ⊥
+  LooksAt task s Previous = ⊥
 
   -- and while it is loaded
   abbrev pub FillsAt : Task → Seen → Place → Type 0
@@ -133,6 +115,8 @@ module _ (site : Site) (notes : List Note) where
   FillsAt task s Probing = KeepsMeta task s
   FillsAt task s First = Skips task s × (s.first ≡ true)
   FillsAt task s Second = Skips task s × (s.second ≡ true)
+  FillsAt task s Next = ⊥
+  FillsAt task s Previous = ⊥
 
   -- all is noted, and of the lock words before the k-th it is noted that they were the same again
   pub record IsChecked (task : Task) (s : Seen) (k : ℕ) : Type 0 where
@@ -147,8 +131,8 @@ IsAnswering task s placed v = v.answer ≡ Some (record { key = task.key; value 
 -- THE VIEW of each step
 abbrev pub suits_in : Site → Task → ReadStep → View → Type 0
 suits_in site task (Way walk) v = IsWalking site task.hash walk × HasBegun walk v
-suits_in site task (Look s p) v = IsReading site v.notes task s (index p) (read_by p) × LooksAt site v.notes task s p
-suits_in site task (Fill s p load) v = IsReading site v.notes task s (noted_by p) (index p) × FillsAt site v.notes task s p × IsFilling site v.notes task s p load
+suits_in site task (Look s p) v = IsReading site v.notes task s (index p) (loaded_by p) × LooksAt site v.notes task s p
+suits_in site task (Fill s p load) v = IsReading site v.notes task s (looked_by p) (index p) × FillsAt site v.notes task s p × IsFilling site v.notes task s p load
 suits_in site task (Count s) v = IsReading site v.notes task s 4 4 × Skips site v.notes task s
 suits_in site task (Check s placed back) v = IsChecked site v.notes task s 0 × IsAnswering task s placed v
 suits_in site task (Relook s placed p) v = IsChecked site v.notes task s (index p) × IsAnswering task s placed v × (is_asked s p ≡ true)

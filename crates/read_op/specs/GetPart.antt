@@ -1,5 +1,5 @@
 -- A get as a part of a call.
-use Rattle.std.specs.Prelude.{◌≡◌, ℕ, ◌%◌, ◌^◌, ◌<◌, ⊤, false, Option, None, Some, List, []}
+use Rattle.std.specs.Prelude.{◌≡◌, ℕ, ◌%◌, ◌^◌, ◌<◌, ⊤, true, false, Option, None, Some, List, []}
 use Rattle.op_core.specs.declared.want.Want.TheVariants.{Done}
 use Rattle.image_layout.specs.Volatile.{counter_word}
 use Rattle.map_model.specs.declared.call.Call.{Call}
@@ -22,10 +22,11 @@ use Rattle.read_op.specs.declared.step.ReadStep.{ReadStep}
 use Rattle.read_op.specs.declared.step.ReadStep.TheVariants.{Way, Look, Fill, Count, Check, Relook, Ended}
 use Rattle.read_op.specs.declared.step.Task.{Task}
 use Rattle.read_op.specs.declared.op.ReadOp.{ReadOp}
-use Rattle.read_op.specs.Places.{free_at, index}
+use Rattle.phase.specs.Asked.{index, looked_by}
+use Rattle.read_op.specs.Places.{free_at}
 use Rattle.read_op.specs.Steps.{begun, wanted, taken, lock_of}
 use Rattle.read_op.specs.Budget.{most_events, left}
-use Rattle.read_op.specs.Fits.{Upto, noted_by, kind_of, IsIn, Suits}
+use Rattle.read_op.specs.Fits.{is_asked, Upto, kind_of, IsIn, Suits}
 
 abbrev pub outcome_of : ReadEnd → Outcome
 outcome_of (ends.Found value place) = replied (reply.Found value) place
@@ -59,13 +60,14 @@ module _ (task : Task) (loads : List (ℕ × ℕ)) where
     pub seen : RemembersSeen s 4
     pub place : Has (counter_word task.site.geometry, placed) loads
 
+  -- it looks at no bucket but those that are asked for
   abbrev pub RemembersIn : ReadStep → Type 0
   RemembersIn (Way walk) = RemembersWalk task.site.geometry task.hash loads walk
-  RemembersIn (Look s p) = RemembersSeen s (index p)
-  RemembersIn (Fill s p load) = RemembersSeen s (noted_by p)
+  RemembersIn (Look s p) = RemembersSeen s (index p) × (is_asked s p ≡ true)
+  RemembersIn (Fill s p load) = RemembersSeen s (looked_by p) × (is_asked s p ≡ true)
   RemembersIn (Count s) = RemembersSeen s 4
   RemembersIn (Check s placed back) = RemembersPlaced s placed
-  RemembersIn (Relook s placed p) = RemembersPlaced s placed
+  RemembersIn (Relook s placed p) = RemembersPlaced s placed × (is_asked s p ≡ true)
   RemembersIn (Ended end) = ⊤
 
 -- all that it keeps was loaded, and it changed nothing
@@ -81,6 +83,7 @@ get_part = record {
   Stands = Stands;
   outcome = λ op. outcome_in op.step;
   Remembers = Remembers;
+  HasWorked = λ site op did. ⊥;
   HasMade = λ op. ⊥;
   left = λ op. left op.step;
   most_events = most_events;

@@ -26,7 +26,7 @@ use Rattle.phase.specs.Walks.{walk_wanted, walk_taken}
 use Rattle.phase.specs.Backs.{back_word, back_taken}
 use Rattle.phase.specs.Loads.{load_begun, load_taken}
 use Rattle.phase.specs.declared.place.Place.{Place}
-use Rattle.phase.specs.declared.place.Place.TheVariants.{Home, Probing, First, Second}
+use Rattle.phase.specs.declared.place.Place.TheVariants.{Home, Probing, First, Second, Next, Previous}
 use Rattle.read_op.specs.declared.step.Seen.{Seen}
 use Rattle.read_op.specs.declared.step.ReadEnd.{ReadEnd}
 use Rattle.read_op.specs.declared.step.ReadEnd.TheVariants as ends
@@ -65,7 +65,7 @@ walked_to walked.Off = Ended ends.Off
 walked_to (walked.Amiss word seen) = moved word seen seen
 walked_to (walked.Stale segment version) = Ended (ends.Stale segment version)
 
--- ---- looks at lock words
+-- ---- looks at lock words. A third bucket would be looked at like the last one; it never is
 abbrev pub visit_second : Seen → ReadStep
 visit_second seen = if seen.second then Look seen Second else Count seen
 
@@ -77,12 +77,13 @@ with_free seen Home free = record seen { free = record (seen.free) { home = free
 with_free seen Probing free = record seen { free = record (seen.free) { probing = free } }
 with_free seen First free = record seen { free = record (seen.free) { first = free } }
 with_free seen Second free = record seen { free = record (seen.free) { second = free } }
+with_free seen Next free = seen
+with_free seen Previous free = seen
 
 abbrev pub looked : Seen → Place → ReadStep
 looked seen Home = Look seen Probing
 looked seen Probing = Fill seen Home load_begun
-looked seen First = Fill seen First load_begun
-looked seen Second = Fill seen Second load_begun
+looked seen place = Fill seen place load_begun
 
 -- ---- buckets
 module _ (key : ℕ) where
@@ -104,7 +105,7 @@ module _ (key : ℕ) where
     read_all seen Home words = Fill (read_home seen words) Probing load_begun
     read_all seen Probing words = visit_first (read_probing seen words)
     read_all seen First words = visit_second (with_value seen words)
-    read_all seen Second words = Count (with_value seen words)
+    read_all seen place words = Count (with_value seen words)
 
     abbrev pub filled : Seen → Place → Loaded → ReadStep
     filled seen place (loaded.On load) = Fill seen place load
@@ -126,7 +127,7 @@ abbrev pub relook_next : Seen → ℕ → Place → ReadStep
 relook_next seen placed Home = Relook seen placed Probing
 relook_next seen placed Probing = relook_first seen placed
 relook_next seen placed First = relook_second seen placed
-relook_next seen placed Second = Ended (end_of seen.value placed)
+relook_next seen placed place = Ended (end_of seen.value placed)
 
 -- ---- the machine
 -- a get that has done nothing yet

@@ -10,6 +10,7 @@ ghost use Rattle.read_op.specs.GetPart.{get_part, BeginsAsPart, BeginsUndecided,
 ghost use Rattle.read_op.specs.Fits.{BeginsSuited, WantsByKind, MayStep, KeepsSuits};
 ghost use Rattle.read_op.specs.Budget.{most_events, left, Falls, EndsInTime, AsksWithin};
 ghost use Rattle.read_op.specs.Causes.{ReadsAlone, AnswersBySame, BusyIsAnothers, NeverBusy, NeverStale};
+ghost use Rattle.read_op.specs.AnyMemory.{EndsByCauseAnywhere, KeepsLoads};
 
 /// Each event leaves fewer to do, of at most `most_events`, so that a get ends after that many.
 pub fn ends_in_time()
@@ -50,11 +51,14 @@ pub fn gets_are_parts()
 }
 
 /// A get only reads, so the change that it finds between two looks at a word is not its own; and its answer comes by a lock word
-/// that was free and is as it was. In a world, a lock that is found taken is another caller's: there is none where no lock is
+/// that was free and is as it was. Whatever values its events find, each of its ends has its cause in the event by which it comes
+/// and in what was loaded before it, and what it keeps to tell was loaded, in that order. In a world, a lock that is found taken is another caller's: there is none where no lock is
 /// taken; and no segment is stale where all have the site's version.
 pub fn ends_have_causes()
     ensures reads { ReadsAlone }
     ensures answers { AnswersBySame }
+    ensures causes { EndsByCauseAnywhere }
+    ensures loads { KeepsLoads }
     ensures others { BusyIsAnothers }
     ensures alone { NeverBusy }
     ensures current { NeverStale }

@@ -7,7 +7,7 @@ ghost use Rattle.image_layout.specs.Places.{most_words};
 ghost use Rattle.phase.specs.Loads.{load_begun};
 ghost use Rattle.read_op.specs.declared.step.ReadStep.TheVariants as steps;
 ghost use Rattle.read_op.specs.declared.step.ReadStep.TheVariants.{Ended};
-ghost use Rattle.read_op.specs.Steps.{begun, seen_none, wanted, taken, moved, busy, end_of, walked_to, visit_first, visit_second, with_free, looked, with_value, read_home, read_probing, read_all, relook_first, relook_second, relook_next, relooked, backed_to, is_filling, read_on, next_of, lock_of};
+ghost use Rattle.read_op.specs.Steps.{begun, seen_none, wanted, taken, moved, busy, end_of, walked_to, visit_first, visit_second, with_free, looked, with_value, read_home, read_probing, read_all, relook_first, relook_second, relook_next, relooked, backed_to, is_filling, read_on, next_in, lock_of};
 
 use crate::place::{Free, free_at};
 use crate::slots::value_of;
@@ -146,6 +146,7 @@ fn with_free(seen: Seen, place: Place, free: u64) -> Seen
         Place::Probing => with.free.probing = free,
         Place::First => with.free.first = free,
         Place::Second => with.free.second = free,
+        Place::Next | Place::Previous => {}
     }
     with
 }
@@ -157,8 +158,7 @@ fn looked(seen: Seen, place: Place) -> ReadStep
     match place {
         Place::Home => look(seen, Place::Probing),
         Place::Probing => fill(seen, Place::Home),
-        Place::First => fill(seen, Place::First),
-        Place::Second => fill(seen, Place::Second),
+        Place::First | Place::Second | Place::Next | Place::Previous => fill(seen, place),
     }
 }
 
@@ -201,7 +201,7 @@ fn read_all(seen: Seen, place: Place, key: u64, hash: u64, words: &[u64; 32]) ->
         Place::Home => fill(read_home(seen, key, words), Place::Probing),
         Place::Probing => visit_first(read_probing(seen, key, hash, words)),
         Place::First => visit_second(with_value(seen, key, words)),
-        Place::Second => ReadStep::Count {
+        Place::Second | Place::Next | Place::Previous => ReadStep::Count {
             seen: with_value(seen, key, words),
         },
     }
@@ -272,7 +272,7 @@ fn relook_next(seen: Seen, placed: u64, place: Place) -> ReadStep
         Place::Home => relook(seen, placed, Place::Probing),
         Place::Probing => relook_first(seen, placed),
         Place::First => relook_second(seen, placed),
-        Place::Second => answer(&seen, placed),
+        Place::Second | Place::Next | Place::Previous => answer(&seen, placed),
     }
 }
 
@@ -283,6 +283,17 @@ impl Task {
         ensures most { result ≤ most_words }
     {
         lock_word(&self.site, self.hash, seen.path.segment, *place)
+    }
+
+    /// The step after a lock word that was looked at.
+    fn looked_at(&self, seen: Seen, place: Place, value: u64) -> ReadStep
+        ensures { result ≡ next_in self.now (steps.Look seen place) value }
+    {
+        if value % 2 == 0 {
+            looked(with_free(seen, place, value), place)
+        } else {
+            busy(self.lock(&seen, &place), value)
+        }
     }
 
     /// The step after a lock word that was looked at again.
@@ -335,40 +346,6 @@ impl ReadOp {
         }
     }
 
-    /// The step after a value was loaded that is no word of a bucket.
-    fn after(&self, value: u64) -> ReadStep
-        requires { is_filling self.now.step ≡ false }
-        ensures { result ≡ next_of self.now value }
-    {
-        let task = &self.task;
-        match self.step {
-            ReadStep::Way(walk) => walked_to(walk_next(&task.site, task.hash, &walk, value)),
-            ReadStep::Look { seen, place } if value % 2 == 0 => {
-                looked(with_free(seen, place, value), place)
-            }
-            ReadStep::Look { seen, place } => busy(task.lock(&seen, &place), value),
-            ReadStep::Fill { .. } => unreachable!(),
-            ReadStep::Count { seen } => ReadStep::Check {
-                seen,
-                placed: value,
-                back: Back::Root,
-            },
-            ReadStep::Check { seen, placed, back } => {
-                backed_to(
-                    seen,
-                    placed,
-                    back_next(&task.site, task.hash, &seen.path, &back, value),
-                )
-            }
-            ReadStep::Relook {
-                seen,
-                placed,
-                place,
-            } => task.relooked(seen, placed, place, value),
-            ReadStep::Ended(_) => self.step,
-        }
-    }
-
     // The next two are calls of their own, since what they need to make a step would else be got ready at each word of a
     // bucket too, and these are most events.
 
@@ -388,7 +365,38 @@ impl ReadOp {
         requires { is_filling self.old.step ≡ false }
         ensures { self.new ≡ taken self.old (Value value) }
     {
-        self.step = self.after(value);
+        let task = &self.task;
+        match &mut self.step {
+            ReadStep::Way(walk) => match walk_next(&task.site, task.hash, walk, value) {
+                Walked::On(next) => *walk = next,
+                walked => self.step = walked_to(walked),
+            },
+            ReadStep::Look { seen, place } => {
+                self.step = task.looked_at(*seen, *place, value);
+            }
+            ReadStep::Fill { .. } => unreachable!(),
+            ReadStep::Count { seen } => {
+                self.step = ReadStep::Check {
+                    seen: *seen,
+                    placed: value,
+                    back: Back::Root,
+                };
+            }
+            ReadStep::Check { seen, placed, back } => {
+                match back_next(&task.site, task.hash, &seen.path, back, value) {
+                    Backed::On(next) => *back = next,
+                    backed => self.step = backed_to(*seen, *placed, backed),
+                }
+            }
+            ReadStep::Relook {
+                seen,
+                placed,
+                place,
+            } => {
+                self.step = task.relooked(*seen, *placed, *place, value);
+            }
+            ReadStep::Ended(_) => {}
+        }
     }
 }
 

@@ -18,7 +18,7 @@ pub struct Free {
     pub second: u64,
 }
 
-/// The value of one.
+/// The value of one; 0 of a third bucket, whose lock word is not looked at.
 pub fn free_at(free: &Free, place: &Place) -> u64
     ensures { result ≡ free_at free.now place.now }
 {
@@ -27,5 +27,6 @@ pub fn free_at(free: &Free, place: &Place) -> u64
         Place::Probing => free.probing,
         Place::First => free.first,
         Place::Second => free.second,
+        Place::Next | Place::Previous => 0,
     }
 }

@@ -1,5 +1,5 @@
 -- A get is a part of a call.
-use Rattle.std.proofs.Common.{◌≡◌, ◌≢◌, ℕ, ◌<◌, ◌≤◌, List, [], ◌∷◌, ◌++◌, None, refl, sym, ◌∙◌, ap, subst, arith}
+use Rattle.std.proofs.Common.{◌≡◌, ◌≢◌, ℕ, ◌<◌, ◌≤◌, true, false, List, [], ◌∷◌, ◌++◌, None, refl, sym, ◌∙◌, ap, subst, arith}
 use Rattle.op_core.specs.declared.want.Want.TheVariants as want
 use Rattle.op_core.specs.declared.want.Ans.{Ans}
 use Rattle.op_core.specs.declared.want.Ans.TheVariants.{Value}
@@ -140,5 +140,6 @@ module _ (reads : ReadsAlone) (wants : (site : Site) (op : ReadOp) → WantsByKi
     flushes = record { most = λ op. omega arith; flushes = λ op a l i e. absurd (no_flush op l e); keeps = λ op a i e. omega arith; ends = λ op e. refl };
     made = record { stays = λ op a i made. made; done = λ op made e. absurd made };
     plans = λ site here call op before v planned s has. absurd (subst (λ calls. Has planned calls) s.stands.nothing.planned has);
+    hands = λ op h. absurd (let f : false ≡ true = h in cc);
     power = λ op n. cuts_in op.task op.step;
   }

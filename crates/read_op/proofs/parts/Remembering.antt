@@ -1,7 +1,7 @@
 -- A get remembers what its attempt loaded, after each of its events.
-use Rattle.std.proofs.Common.{◌≡◌, ◌≢◌, ℕ, ◌+◌, ◌%◌, ◌<◌, Bool, true, false, inl, inr, List, [], ◌∷◌, ◌++◌, refl, sym, ◌∙◌, ap, subst, arith}
+use Rattle.std.proofs.Common.{◌≡◌, ◌≢◌, ℕ, ◌+◌, ◌%◌, ◌<◌, Bool, true, false, inl, inr, List, [], ◌∷◌, ◌++◌, refl, sym, ◌∙◌, ap, subst}
 use Rattle.std.specs.Prelude.{◌==◌, if◌then◌else◌}
-use Rattle.std.proofs.lemmas.Bool.{eqb-true}
+use Rattle.std.proofs.lemmas.Bool.{eqb-true, false≢true}
 use Rattle.op_core.specs.declared.want.Want.{Want}
 use Rattle.op_core.specs.declared.want.Want.TheVariants as want
 use Rattle.op_core.specs.declared.want.Ans.{Ans}
@@ -34,11 +34,13 @@ use Rattle.read_op.specs.declared.step.ReadStep.TheVariants.{Way, Look, Fill, Co
 use Rattle.read_op.specs.declared.step.Task.{Task}
 use Rattle.read_op.specs.declared.op.ReadOp.{ReadOp}
 use Rattle.phase.specs.Places.{lock_word}
-use Rattle.read_op.specs.Places.{free_at, index}
+use Rattle.phase.specs.Asked.{index, looked_by}
+use Rattle.phase.proofs.Asked.{near_asked, none_before, upto_more, upto_less}
+use Rattle.read_op.specs.Places.{free_at}
 use Rattle.read_op.specs.Steps.{wanted, wanted_in, taken, next_in, walked_to, visit_first, visit_second, with_free, looked, with_value, read_home, read_probing, read_all, filled, backed_to, relook_second, relook_next, busy, moved, end_of, lock_of}
-use Rattle.read_op.specs.Fits.{is_asked, Upto, noted_by}
+use Rattle.read_op.specs.Fits.{is_asked}
 use Rattle.read_op.specs.GetPart.{RemembersSeen, RemembersPlaced, RemembersIn, Remembers}
-use Rattle.read_op.proofs.Places.{near_asked, free_other, upto_more, upto_less}
+use Rattle.read_op.proofs.Places.{free_other}
 use Rattle.read_op.proofs.Asked.{reads_alone}
 
 module _ (task : Task) where
@@ -58,12 +60,9 @@ module _ (task : Task) where
     either_in false s t p q = q refl
 
     -- ---- the way
-    none_before : (s : Seen) (q : Place) → Upto s 0 q → ⊥
-    none_before s q u = let low = u.low in omega (arith, low)
-
     walked_in : (x : Walked) → RemembersWalked task.site.geometry task.hash loads x → RemembersIn task loads (walked_to x)
     walked_in (walked.On w) r = r
-    walked_in (walked.There path) r = record { path = r; free = λ q u. absurd (none_before _ q u) }
+    walked_in (walked.There path) r = (record { path = r; free = λ q u. absurd (none_before false false q u) }, refl)
     walked_in walked.Off r = tt
     walked_in (walked.Amiss word seen) r = tt
     walked_in (walked.Stale segment version) r = tt
@@ -80,41 +79,42 @@ module _ (task : Task) where
 
     -- where one is not asked
     seen_skip : (s : Seen) (p : Place) → is_asked s p ≡ false → RemembersSeen task loads s (index p) → RemembersSeen task loads s (index p + 1)
-    seen_skip s p out r = record { path = r.path; free = λ q u. r.free q (upto_less s p q out u) }
+    seen_skip s p out r = record { path = r.path; free = λ q u. r.free q (upto_less s.first s.second p q out u) }
 
     second_in : (s : Seen) → RemembersSeen task loads s 3 → RemembersIn task loads (visit_second s)
-    second_in s r = either_in s.second (Look s Second) (Count s) (λ t. r) (λ f. seen_skip s Second f r)
+    second_in s r = either_in s.second (Look s Second) (Count s) (λ t. (r, t)) (λ f. seen_skip s Second f r)
 
     first_in : (s : Seen) → RemembersSeen task loads s 2 → RemembersIn task loads (visit_first s)
-    first_in s r = either_in s.first (Look s First) (visit_second s) (λ t. r) (λ f. second_in s (seen_skip s First f r))
+    first_in s r = either_in s.first (Look s First) (visit_second s) (λ t. (r, t)) (λ f. second_in s (seen_skip s First f r))
 
     -- ---- a bucket that was read
-    all_in : (s : Seen) (p : Place) (ws : List ℕ) → RemembersSeen task loads s (noted_by p) → RemembersIn task loads (read_all task.key task.hash s p ws)
-    all_in s Home ws r = seen_same s (read_home task.key s ws) 2 refl refl (λ q low. refl) r
+    all_in : (s : Seen) (p : Place) (ws : List ℕ) → RemembersSeen task loads s (looked_by p) × (is_asked s p ≡ true) → RemembersIn task loads (read_all task.key task.hash s p ws)
+    all_in s Home ws r = (seen_same s (read_home task.key s ws) 2 refl refl (λ q low. refl) r.0, refl)
     all_in s Probing ws r =
         let s' : Seen = read_probing task.key task.hash s ws in
-        first_in s' (seen_same s s' 2 refl refl (λ q low. near_asked s' q low ∙ sym (near_asked s q low)) r)
-    all_in s First ws r = second_in (with_value task.key s ws) (seen_same s (with_value task.key s ws) 3 refl refl (λ q low. refl) r)
-    all_in s Second ws r = seen_same s (with_value task.key s ws) 4 refl refl (λ q low. refl) r
+        first_in s' (seen_same s s' 2 refl refl (λ q low. near_asked s'.first s'.second q low ∙ sym (near_asked s.first s.second q low)) r.0)
+    all_in s First ws r = second_in (with_value task.key s ws) (seen_same s (with_value task.key s ws) 3 refl refl (λ q low. refl) r.0)
+    all_in s Second ws r = seen_same s (with_value task.key s ws) 4 refl refl (λ q low. refl) r.0
+    all_in s p ws r = absurd (false≢true r.1)
 
-    filled_in : (s : Seen) (p : Place) (x : Loaded) → RemembersSeen task loads s (noted_by p) → RemembersIn task loads (filled task.key task.hash s p x)
+    filled_in : (s : Seen) (p : Place) (x : Loaded) → RemembersSeen task loads s (looked_by p) × (is_asked s p ≡ true) → RemembersIn task loads (filled task.key task.hash s p x)
     filled_in s p (loaded.On load) r = r
     filled_in s p (loaded.All ws) r = all_in s p ws r
 
     -- ---- the way again, and lock words again
     backed_in : (s : Seen) (placed : ℕ) (x : Backed) → RemembersPlaced task loads s placed → RemembersIn task loads (backed_to s placed x)
     backed_in s placed (backed.On at) r = r
-    backed_in s placed backed.Same r = r
+    backed_in s placed backed.Same r = (r, refl)
     backed_in s placed (backed.Moved word before after) r = tt
 
     relook_second_in : (s : Seen) (placed : ℕ) → RemembersPlaced task loads s placed → RemembersIn task loads (relook_second s placed)
-    relook_second_in s placed r = either_in s.second (Relook s placed Second) (Ended (end_of s.value placed)) (λ t. r) (λ f. tt)
+    relook_second_in s placed r = either_in s.second (Relook s placed Second) (Ended (end_of s.value placed)) (λ t. (r, t)) (λ f. tt)
 
     relook_in : (s : Seen) (placed : ℕ) (p : Place) → RemembersPlaced task loads s placed → RemembersIn task loads (relook_next s placed p)
-    relook_in s placed Home r = r
-    relook_in s placed Probing r = either_in s.first (Relook s placed First) (relook_second s placed) (λ t. r) (λ f. relook_second_in s placed r)
+    relook_in s placed Home r = (r, refl)
+    relook_in s placed Probing r = either_in s.first (Relook s placed First) (relook_second s placed) (λ t. (r, t)) (λ f. relook_second_in s placed r)
     relook_in s placed First r = relook_second_in s placed r
-    relook_in s placed Second r = tt
+    relook_in s placed p r = tt
 
     -- ---- a look at a lock word
     module _ (s : Seen) (p : Place) (n : ℕ) (even : n % 2 ≡ 0) (r : RemembersSeen task loads s (index p)) where
@@ -127,7 +127,7 @@ module _ (task : Task) where
           let locks : (q : Place) → lock_of task s' q ≡ lock_of task s q = λ q. ap (λ (z : Path). lock_word task.site task.hash z.segment q) path in
           record {
             path = subst (λ z. WasFound task.site.geometry task.hash more z) (sym path) (found_more task.site.geometry task.hash ((lock_of task s p, n) ∷ []) loads s.path r.path);
-            free = λ q u. elim (upto_more s p q (record { low = u.low; asked = sym (asks q) ∙ u.asked })) [
+            free = λ q u. elim (upto_more s.first s.second p q (record { low = u.low; asked = sym (asks q) ∙ u.asked })) [
               | inl e ↦
                   subst (λ (z : Place). Has (lock_of task s' z, free_at s'.free z) more × (free_at s'.free z % 2 ≡ 0)) (sym e)
                   (inl (ap (λ l. (l, free_at s'.free p)) (locks p) ∙ ap (λ x. (lock_of task s p, x)) here), ap (λ x. x % 2) here ∙ even)
@@ -140,34 +140,35 @@ module _ (task : Task) where
             ];
           }
 
-    look_in : (s : Seen) (p : Place) (n : ℕ) → n % 2 ≡ 0 → RemembersSeen task loads s (index p) → RemembersIn task ((lock_of task s p, n) ∷ loads) (looked (with_free s p n) p)
-    look_in s Home n even r = look_more s Home n even r (with_free s Home n) refl (λ q low. free_other s Home q n low) refl (λ q. refl)
-    look_in s Probing n even r = look_more s Probing n even r (with_free s Probing n) refl (λ q low. free_other s Probing q n low) refl (λ q. refl)
-    look_in s First n even r = look_more s First n even r (with_free s First n) refl (λ q low. free_other s First q n low) refl (λ q. refl)
-    look_in s Second n even r = look_more s Second n even r (with_free s Second n) refl (λ q low. free_other s Second q n low) refl (λ q. refl)
+    look_in : (s : Seen) (p : Place) (n : ℕ) → n % 2 ≡ 0 → RemembersSeen task loads s (index p) × (is_asked s p ≡ true) → RemembersIn task ((lock_of task s p, n) ∷ loads) (looked (with_free s p n) p)
+    look_in s Home n even r = (look_more s Home n even r.0 (with_free s Home n) refl (λ q low. free_other s Home q n low) refl (λ q. refl), refl)
+    look_in s Probing n even r = (look_more s Probing n even r.0 (with_free s Probing n) refl (λ q low. free_other s Probing q n low) refl (λ q. refl), refl)
+    look_in s First n even r = (look_more s First n even r.0 (with_free s First n) refl (λ q low. free_other s First q n low) refl (λ q. refl), r.1)
+    look_in s Second n even r = (look_more s Second n even r.0 (with_free s Second n) refl (λ q low. free_other s Second q n low) refl (λ q. refl), r.1)
+    look_in s p n even r = absurd (false≢true r.1)
 
   -- ---- an event that found a value
-  remembers_in : (loads : List (ℕ × ℕ)) (s : ReadStep) (n : ℕ) → wanted_in task s ≢ want.Done → RemembersIn task loads s
+  pub remembers_in : (loads : List (ℕ × ℕ)) (s : ReadStep) (n : ℕ) → RemembersIn task loads s
       → RemembersIn task (load_of (wanted_in task s) (Value n) ++ loads) (next_in task s n)
-  remembers_in loads (Way w) n asks r =
+  remembers_in loads (Way w) n r =
       walked_in (load_of (walk_wanted task.site task.hash w) (Value n) ++ loads) (walk_taken task.site task.hash w n) (walk_remembers task.site task.hash loads w n r)
-  remembers_in loads (Look s p) n asks r =
+  remembers_in loads (Look s p) n r =
       either_in ((lock_of task s p, n) ∷ loads) (n % 2 == 0) (looked (with_free s p n) p) (busy (lock_of task s p) n) (λ t. look_in loads s p n (eqb-true (n % 2) 0 t) r) (λ f. tt)
-  remembers_in loads (Fill s p load) n asks r =
-      filled_in ((lock_of task s p + load.next % 32, n) ∷ loads) s p (load_taken load n) (seen_more (lock_of task s p + load.next % 32, n) loads s (noted_by p) r)
-  remembers_in loads (Count s) n asks r =
+  remembers_in loads (Fill s p load) n r =
+      filled_in ((lock_of task s p + load.next % 32, n) ∷ loads) s p (load_taken load n) (seen_more (lock_of task s p + load.next % 32, n) loads s (looked_by p) r.0, r.1)
+  remembers_in loads (Count s) n r =
       record { seen = seen_more (counter_word task.site.geometry, n) loads s 4 r; place = inl refl }
-  remembers_in loads (Check s placed at) n asks r =
+  remembers_in loads (Check s placed at) n r =
       let x : ℕ × ℕ = (back_word task.site task.hash s.path at, n) in
       backed_in (x ∷ loads) s placed (back_taken task.site task.hash s.path at n) (placed_more x loads s placed r)
-  remembers_in loads (Relook s placed p) n asks r =
+  remembers_in loads (Relook s placed p) n r =
       let x : ℕ × ℕ = (lock_of task s p, n) in
       let more : List (ℕ × ℕ) = x ∷ loads in
       either_in more (n % 2 == 1) (busy (lock_of task s p) n) (if n == free_at s.free p then relook_next s placed p else moved (lock_of task s p) (free_at s.free p) n) (λ t. tt)
-      (λ f. either_in more (n == free_at s.free p) (relook_next s placed p) (moved (lock_of task s p) (free_at s.free p) n) (λ t. relook_in more s placed p (placed_more x loads s placed r)) (λ g. tt))
-  remembers_in loads (Ended end) n asks r = absurd (asks refl)
+      (λ f. either_in more (n == free_at s.free p) (relook_next s placed p) (moved (lock_of task s p) (free_at s.free p) n) (λ t. relook_in more s placed p (placed_more x loads s placed r.0)) (λ g. tt))
+  remembers_in loads (Ended end) n r = tt
 
-reading_changes : (w : Want) (a : Ans) → IsReading w → change_of w a ≡ []
+pub reading_changes : (w : Want) (a : Ans) → IsReading w → change_of w a ≡ []
 reading_changes (want.Load i) a r = refl
 reading_changes want.Power a r = refl
 reading_changes want.Done a r = refl
@@ -177,6 +178,6 @@ pub remembers_next : (op : ReadOp) (site : Site) (n : ℕ) (did : Doings) → wa
     → Remembers site (taken op (answer_to (wanted op) n)) (with_event_of (wanted op) (answer_to (wanted op) n) did)
 remembers_next op site n did asks r =
     subst (λ a. Remembers site (taken op a) (with_event_of (wanted op) a did)) (sym (load_value (wanted op) n (load_asked (wanted op) (reads_alone op) asks))) (record {
-      kept = remembers_in op.task did.loads op.step n asks r.kept;
+      kept = remembers_in op.task did.loads op.step n r.kept;
       none = ap (λ cs. cs ++ did.changed) (reading_changes (wanted op) (Value n) (reads_alone op)) ∙ r.none;
     })
