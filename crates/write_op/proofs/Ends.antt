@@ -1,23 +1,18 @@
--- At its end a machine tells its outcome.
+-- At its end a change tells its outcome.
 use Rattle.std.proofs.Common.{◌≡◌, refl}
 use Rattle.op_core.specs.declared.want.Want.TheVariants.{Done}
 use Rattle.phase.specs.declared.walk.Walk.TheVariants as walk
 use Rattle.phase.specs.declared.take.Take.TheVariants as take
 use Rattle.phase.specs.declared.make.Make.TheVariants.{Key, Value, Fingers, FlushFingers, FlushRecord, FenceRecord, Publish, FlushPublished, FencePublished}
-use Rattle.phase.specs.declared.kept.Kept.{Kept}
 use Rattle.write_op.specs.declared.step.Task.{Task}
 use Rattle.write_op.specs.declared.step.Seen.{Seen}
 use Rattle.write_op.specs.declared.step.NoteWord.TheVariants as note
 use Rattle.write_op.specs.declared.step.WriteStep.{WriteStep}
 use Rattle.write_op.specs.declared.step.WriteStep.TheVariants.{Way, Lock, Check, Fill, Count, Draw, Unnote, CountSpent, Give, Ended}
 use Rattle.write_op.specs.declared.step.WriteStep.TheVariants as step
-use Rattle.write_op.specs.declared.refuse.RefuseStep.{RefuseStep}
-use Rattle.write_op.specs.declared.refuse.RefuseStep.TheVariants as refusal
 use Rattle.write_op.specs.Steps.{wanted_in, end_at}
-use Rattle.write_op.specs.Refuse.{wanted_in as refusal_wanted_in, end_at as refusal_end_at}
 use Rattle.write_op.specs.Fits.{outcome_of, outcome_at}
-use Rattle.write_op.specs.RefusePart.{outcome_at as refusal_outcome_at}
-use Rattle.write_op.specs.Ends.{EndsAsSaid, RefusalEndsAsSaid}
+use Rattle.write_op.specs.Ends.{EndsAsSaid}
 
 ends_at : (task : Task) (seen : Seen) (at : WriteStep) → wanted_in task seen at ≡ Done → outcome_at at ≡ outcome_of (end_at at)
 ends_at task seen (Ended end) done = refl
@@ -47,11 +42,3 @@ ends_at task seen CountSpent done = absurd (let no = done in cc)
 
 pub ends_as_said : EndsAsSaid
 ends_as_said op done = ends_at op.task op.stage.seen op.stage.step done
-
-refusal_ends_at : (kept : Kept) (at : RefuseStep) → refusal_wanted_in kept at ≡ Done → refusal_outcome_at kept at ≡ outcome_of (refusal_end_at kept.site at)
-refusal_ends_at kept refusal.Count done = absurd (let no = done in cc)
-refusal_ends_at kept (refusal.Give held count) done = refl
-refusal_ends_at kept (refusal.Ended count) done = refl
-
-pub refusal_ends_as_said : RefusalEndsAsSaid
-refusal_ends_as_said op done = refusal_ends_at op.kept op.step done

@@ -1,9 +1,8 @@
 -- Each answer of the kind that was asked for leaves a change fewer events.
-use Rattle.std.proofs.Common.{◌≡◌, ◌≢◌, ℕ, ◌+◌, ◌-◌, ◌%◌, ◌^◌, ◌<◌, ◌≤◌, Bool, true, false, Option, Some, None, List, refl, sym, subst, arith}
+use Rattle.std.proofs.Common.{◌≡◌, ℕ, ◌+◌, ◌%◌, ◌^◌, ◌<◌, ◌≤◌, Bool, true, false, Option, Some, None, refl, sym, subst, arith}
 use Rattle.std.specs.Prelude.{if◌then◌else◌, ◌==◌, nat_le}
-use Rattle.op_core.specs.declared.want.Want.TheVariants as want
 use Rattle.op_core.specs.declared.want.Ans.{Ans}
-use Rattle.op_core.specs.declared.want.Ans.TheVariants.{Value, Won, Lost, Drawn, Passed}
+use Rattle.op_core.specs.declared.want.Ans.TheVariants.{Value, Drawn, Passed}
 use Rattle.op_core.specs.Answers.{IsAnswer}
 use Rattle.op_core.specs.declared.why.Why.TheVariants.{Busy, Moved}
 use Rattle.segment_head.specs.HeadWord.{state_in, normal}
@@ -13,8 +12,7 @@ use Rattle.map_model.specs.declared.change.Deed.TheVariants.{Insert, Update, Rem
 use Rattle.map_model.specs.declared.entry.Reply.{Reply}
 use Rattle.map_model.specs.declared.entry.Reply.TheVariants as reply
 use Rattle.phase.specs.declared.place.Place.{Place}
-use Rattle.phase.specs.declared.place.Place.TheVariants.{Home, Probing, First, Second}
-use Rattle.phase.specs.declared.walk.Path.{Path}
+use Rattle.phase.specs.declared.place.Place.TheVariants.{Home, Probing, First, Second, Next, Previous}
 use Rattle.phase.specs.declared.walk.Walk.{Walk}
 use Rattle.phase.specs.declared.walk.Walk.TheVariants as walk
 use Rattle.phase.specs.declared.walk.Walked.{Walked}
@@ -23,33 +21,29 @@ use Rattle.phase.specs.declared.take.Take.{Take}
 use Rattle.phase.specs.declared.take.Take.TheVariants.{Look, Try}
 use Rattle.phase.specs.declared.take.Taken.{Taken}
 use Rattle.phase.specs.declared.take.Taken.TheVariants as taking
-use Rattle.phase.specs.declared.back.Back.{Back}
-use Rattle.phase.specs.declared.back.Back.TheVariants as back
 use Rattle.phase.specs.declared.back.Backed.{Backed}
 use Rattle.phase.specs.declared.back.Backed.TheVariants as backed
 use Rattle.phase.specs.declared.load.Load.{Load}
 use Rattle.phase.specs.declared.load.Loaded.{Loaded}
 use Rattle.phase.specs.declared.load.Loaded.TheVariants as loaded
-use Rattle.phase.specs.declared.make.Record.{Record}
-use Rattle.phase.specs.declared.make.Make.{Make}
-use Rattle.phase.specs.declared.make.Make.TheVariants as make
 use Rattle.phase.specs.declared.make.Made.{Made}
 use Rattle.phase.specs.declared.make.Made.TheVariants as made
 use Rattle.phase.specs.declared.held.Held.{Held}
-use Rattle.phase.specs.Places.{lock_word}
-use Rattle.phase.specs.Helds.{give_next, give_wanted_of, given}
+use Rattle.phase.specs.Helds.{give_next, given}
 use Rattle.phase.specs.Walks.{walk_wanted, walk_taken}
 use Rattle.phase.specs.Takes.{take_taken}
 use Rattle.phase.specs.Backs.{back_word, back_taken}
 use Rattle.phase.specs.Loads.{load_taken}
-use Rattle.phase.specs.Makes.{key_at, value_at, fingers_at, published_at, make_wanted, make_taken}
-use Rattle.phase.specs.Stands.{walk_left, walked_left, back_left, backed_left, load_left, loaded_left}
+use Rattle.phase.specs.Makes.{make_taken}
+use Rattle.phase.specs.Stands.{walked_left, backed_left, load_left, loaded_left}
 use Rattle.phase.specs.Taking.{take_left, taken_left}
-use Rattle.phase.specs.Making.{make_left, made_left}
-use Rattle.phase.specs.Giving.{lock_left, give_left}
-use Rattle.phase.proofs.Walking.{walk_falls}
-use Rattle.phase.proofs.Backing.{back_falls}
+use Rattle.phase.specs.Making.{made_left}
+use Rattle.phase.specs.Giving.{give_left}
+use Rattle.phase.proofs.Walking.{walk_few, walk_falls}
+use Rattle.phase.proofs.Backing.{back_few, back_falls}
 use Rattle.phase.proofs.Loading.{load_falls}
+use Rattle.phase.proofs.Handing.{give_few}
+use Rattle.phase.proofs.Wanting.{load_answered, store_answered, make_answered, give_answered, make_bound}
 use Rattle.phase.proofs.locks.Taking.{take_falls}
 use Rattle.phase.proofs.locks.Making.{make_falls}
 use Rattle.phase.proofs.locks.Giving.{give_falls}
@@ -64,14 +58,13 @@ use Rattle.write_op.specs.declared.step.Ending.TheVariants as ending
 use Rattle.write_op.specs.declared.search.NoteWords.{NoteWords}
 use Rattle.write_op.specs.declared.step.NoteWord.{NoteWord}
 use Rattle.write_op.specs.declared.step.NoteWord.TheVariants.{Mark, Fingers}
-use Rattle.write_op.specs.declared.step.WriteEnd.TheVariants as ends
 use Rattle.write_op.specs.declared.step.WriteStep.{WriteStep}
 use Rattle.write_op.specs.declared.step.WriteStep.TheVariants.{Way, Lock, Check, Fill, Count, Draw, Unnote, CountSpent, Give, Ended}
 use Rattle.write_op.specs.declared.step.WriteStep.TheVariants as step
 use Rattle.write_op.specs.declared.step.Stage.{Stage}
 use Rattle.write_op.specs.declared.op.WriteOp.{WriteOp}
 use Rattle.write_op.specs.Search.{found, room_in, leaves_note, unnoted, has_finger}
-use Rattle.write_op.specs.Steps.{go, end_of, given_by, giving, give, answered, amiss, arrived, walked_to, locked, locked_to, lock_of, backed_to, visit_second, visit_first, with_visits, filled, filled_with, filled_to, making, inserting, changing, decided, counted, made_to, drawn_to, unnoted_to, note_wanted, wanted_in, next_in, wanted, taken}
+use Rattle.write_op.specs.Steps.{go, given_by, giving, give, answered, amiss, walked_to, locked, locked_to, lock_of, backed_to, visit_second, visit_first, with_visits, filled, filled_with, filled_to, inserting, changing, decided, counted, made_to, drawn_to, unnoted_to, note_wanted, wanted_in, next_in, wanted, taken}
 use Rattle.write_op.specs.Left.{left_at, left_behind, left_behind_lock, left_of_note, most_events}
 
 abbrev left_of : Stage → ℕ
@@ -86,14 +79,6 @@ either_most n true s t p q = p
 either_most n false s t p q = q
 
 -- ---- locks back
-one_lock : (o : Option ℕ) → lock_left o ≤ 1
-one_lock (Some free) = omega arith
-one_lock None = omega arith
-
-give_few : (held : Held) → give_left held ≤ 4
-give_few held =
-    let a = one_lock held.home in let b = one_lock held.probing in let c = one_lock held.first in let d = one_lock held.second in omega (arith, a, b, c, d)
-
 by_next : (next : Option (Place × ℕ)) (held : Held) (end : Ending) → left_at (given_by next held end) ≤ give_left held
 by_next (Some next) held end = omega arith
 by_next None held end = omega arith
@@ -101,16 +86,16 @@ by_next None held end = omega arith
 giving_most : (held : Held) (end : Ending) → left_at (giving held end) ≤ give_left held
 giving_most held end = by_next (give_next held) held end
 
-give_most : (seen : Seen) (end : Ending) → left_of (give seen end) ≤ 4
+give_most : (seen : Seen) (end : Ending) → left_of (give seen end) ≤ 6
 give_most seen end = let most = giving_most seen.held end in let few = give_few seen.held in omega (arith, most, few)
 
-answered_most : (seen : Seen) (place : ℕ) (answer : Reply) → left_of (answered seen place answer) ≤ 4
+answered_most : (seen : Seen) (place : ℕ) (answer : Reply) → left_of (answered seen place answer) ≤ 6
 answered_most seen place answer = give_most seen (ending.Replied answer place)
 
 -- ---- the way
-walked_most : (task : Task) (seen : Seen) (x : Walked) → left_of (walked_to task seen x) ≤ 152 + walked_left x
+walked_most : (task : Task) (seen : Seen) (x : Walked) → left_of (walked_to task seen x) ≤ 154 + walked_left x
 walked_most task seen (walked.On w) = omega arith
-walked_most task seen (walked.There path) = both_most 152 (state_in path.head == normal) (go (record seen { path = path }) (Lock Home Look))
+walked_most task seen (walked.There path) = both_most 154 (state_in path.head == normal) (go (record seen { path = path }) (Lock Home Look))
     (go seen (amiss (head_word task.site.geometry path.segment) path.head)) (omega arith) (omega arith)
 walked_most task seen walked.Off = omega arith
 walked_most task seen (walked.Amiss word value) = omega arith
@@ -122,12 +107,16 @@ locked_most Home = omega arith
 locked_most Probing = omega arith
 locked_most First = omega arith
 locked_most Second = omega arith
+locked_most Next = omega arith
+locked_most Previous = omega arith
 
-some_left : (place : Place) → 5 ≤ left_behind_lock place
+some_left : (place : Place) → 7 ≤ left_behind_lock place
 some_left Home = omega arith
 some_left Probing = omega arith
 some_left First = omega arith
 some_left Second = omega arith
+some_left Next = omega arith
+some_left Previous = omega arith
 
 taken_most : (seen : Seen) (place : Place) (lock : ℕ) (x : Taken) → left_of (locked_to seen place lock x) ≤ left_behind_lock place + taken_left x
 taken_most seen place lock (taking.On take) = omega arith
@@ -137,100 +126,74 @@ taken_most seen place lock (taking.Moved before after) = let few = give_most see
 taken_most seen place lock taking.Spent = let some = some_left place in omega (arith, some)
 
 -- ---- the way again
-backed_most : (seen : Seen) (x : Backed) → left_of (backed_to seen x) ≤ 145 + backed_left x
+backed_most : (seen : Seen) (x : Backed) → left_of (backed_to seen x) ≤ 147 + backed_left x
 backed_most seen (backed.On back) = omega arith
 backed_most seen backed.Same = omega arith
 backed_most seen (backed.Moved word before after) = let few = give_most seen (ending.Again (Moved word before after)) in omega (arith, few)
 
 -- ---- buckets
-second_most : (seen : Seen) → left_at (visit_second seen) ≤ 50
-second_most seen = either_most 50 seen.second (Lock Second Look) Count (omega arith) (omega arith)
+second_most : (seen : Seen) → left_at (visit_second seen) ≤ 52
+second_most seen = either_most 52 seen.second (Lock Second Look) Count (omega arith) (omega arith)
 
-first_most : (seen : Seen) → left_at (visit_first seen) ≤ 83
-first_most seen = let rest = second_most seen in either_most 83 seen.first (Lock First Look) (visit_second seen) (omega arith) (omega (arith, rest))
+first_most : (seen : Seen) → left_at (visit_first seen) ≤ 85
+first_most seen = let rest = second_most seen in either_most 85 seen.first (Lock First Look) (visit_second seen) (omega arith) (omega (arith, rest))
 
 filled_most : (hash : ℕ) (seen : Seen) (place : Place) → left_of (filled hash seen place) ≤ left_behind place
 filled_most hash seen Home = omega arith
 filled_most hash seen Probing = first_most (with_visits hash seen)
 filled_most hash seen First = second_most seen
 filled_most hash seen Second = omega arith
+filled_most hash seen Next = omega arith
+filled_most hash seen Previous = omega arith
 
 loaded_most : (hash : ℕ) (seen : Seen) (place : Place) (x : Loaded) → left_of (filled_to hash seen place x) ≤ left_behind place + loaded_left x
 loaded_most hash seen place (loaded.On load) = omega arith
 loaded_most hash seen place (loaded.All words) = let most : left_of (filled_with hash seen place words) ≤ left_behind place = filled_most hash _ place in omega (arith, most)
 
 -- ---- what is done
-inserting_most : (task : Task) (seen : Seen) (count : ℕ) (there room : Option Spot) → left_of (inserting task seen count there room) ≤ 16
+inserting_most : (task : Task) (seen : Seen) (count : ℕ) (there room : Option Spot) → left_of (inserting task seen count there room) ≤ 18
 inserting_most task seen count (Some there) room = let few = answered_most seen count reply.Exists in omega (arith, few)
 inserting_most task seen count None (Some spot) = omega arith
 inserting_most task seen count None None = omega arith
 
-changing_most : (task : Task) (seen : Seen) (count : ℕ) (there : Option Spot) → left_of (changing task seen count there) ≤ 16
+changing_most : (task : Task) (seen : Seen) (count : ℕ) (there : Option Spot) → left_of (changing task seen count there) ≤ 18
 changing_most task seen count (Some there) = omega arith
 changing_most task seen count None = let few = answered_most seen count reply.Absent in omega (arith, few)
 
-decided_most : (task : Task) (seen : Seen) (count : ℕ) (deed : Deed) → left_of (decided task seen count deed) ≤ 16
+decided_most : (task : Task) (seen : Seen) (count : ℕ) (deed : Deed) → left_of (decided task seen count deed) ≤ 18
 decided_most task seen count (Insert value) = inserting_most task seen count (found seen task.change.key) (room_in seen.buckets)
 decided_most task seen count (Update value) = changing_most task seen count (found seen task.change.key)
 decided_most task seen count Remove = changing_most task seen count (found seen task.change.key)
 
-counted_most : (task : Task) (seen : Seen) (count : ℕ) → left_of (counted task seen count) ≤ 16
-counted_most task seen count = both_most 16 (nat_le (2 ^ 63) count) (answered seen count reply.Spent) (decided task seen count task.change.deed)
+counted_most : (task : Task) (seen : Seen) (count : ℕ) → left_of (counted task seen count) ≤ 18
+counted_most task seen count = both_most 18 (nat_le (2 ^ 63) count) (answered seen count reply.Spent) (decided task seen count task.change.deed)
     (let few = answered_most seen count reply.Spent in omega (arith, few)) (decided_most task seen count task.change.deed)
 
 -- ---- stores, the draw, and the note
-made_most : (seen : Seen) (x : Made) → left_of (made_to seen x) ≤ 7 + made_left x
+made_most : (seen : Seen) (x : Made) → left_of (made_to seen x) ≤ 9 + made_left x
 made_most seen (made.On make) = omega arith
 made_most seen made.Settled = omega arith
 
-drawn_most : (task : Task) (seen : Seen) (place : ℕ) → left_of (drawn_to task seen place) ≤ 6
-drawn_most task seen place = both_most 6 (leaves_note task.change.deed seen.place) (go seen (Unnote Mark place)) (answered seen place reply.Done)
+drawn_most : (task : Task) (seen : Seen) (place : ℕ) → left_of (drawn_to task seen place) ≤ 8
+drawn_most task seen place = both_most 8 (leaves_note task.change.deed seen.place) (go seen (Unnote Mark place)) (answered seen place reply.Done)
     (omega arith) (let few = answered_most seen place reply.Done in omega (arith, few))
 
-unnoted_most : (task : Task) (seen : Seen) (place : ℕ) → left_of (unnoted_to task seen Mark place) ≤ 5
-unnoted_most task seen place = both_most 5 (has_finger seen (unnoted task.hash seen)) (go seen (Unnote Fingers place)) (answered seen place reply.Done)
+unnoted_most : (task : Task) (seen : Seen) (place : ℕ) → left_of (unnoted_to task seen Mark place) ≤ 7
+unnoted_most task seen place = both_most 7 (has_finger seen (unnoted task.hash seen)) (go seen (Unnote Fingers place)) (answered seen place reply.Done)
     (omega arith) (let few = answered_most seen place reply.Done in omega (arith, few))
 
 -- ---- each event
--- a load is answered a value, and a store that it passed
-load_answer : (i : ℕ) (a : Ans) → IsAnswer (want.Load i) a → (n : ℕ) × (a ≡ Value n)
-load_answer i (Value n) is = (n, refl)
-load_answer i a is = absurd is
-
+-- a load is answered a value
 walk_answer : (here : Here) (hash : ℕ) (w : Walk) (a : Ans) → IsAnswer (walk_wanted here hash w) a → (n : ℕ) × (a ≡ Value n)
 walk_answer here hash walk.Power (Value n) is = (n, refl)
 walk_answer here hash walk.Power a is = absurd is
-walk_answer here hash walk.Root a is = load_answer root_word a is
-walk_answer here hash (walk.Entry root) a is = load_answer (entry_word here.geometry hash root) a is
-walk_answer here hash (walk.Head root segment) a is = load_answer (head_word here.geometry segment) a is
-
-store_answer : (i x : ℕ) (a : Ans) → IsAnswer (want.Store i x) a → a ≡ Passed
-store_answer i x Passed is = refl
-store_answer i x a is = absurd is
-
-make_answer : (lock : ℕ) (written : Record) (m : Make) (a : Ans) → IsAnswer (make_wanted lock written m) a → a ≡ Passed
-make_answer lock written make.Key a is = store_answer (key_at lock written) written.key a is
-make_answer lock written make.Value a is = store_answer (value_at lock written) written.value a is
-make_answer lock written make.Fingers a is = store_answer (fingers_at lock written) written.fingers a is
-make_answer lock written make.FlushFingers Passed is = refl
-make_answer lock written make.FlushFingers a is = absurd is
-make_answer lock written make.FlushRecord Passed is = refl
-make_answer lock written make.FlushRecord a is = absurd is
-make_answer lock written make.FenceRecord Passed is = refl
-make_answer lock written make.FenceRecord a is = absurd is
-make_answer lock written make.Publish a is = store_answer (published_at lock written) written.mark a is
-make_answer lock written make.FlushPublished Passed is = refl
-make_answer lock written make.FlushPublished a is = absurd is
-make_answer lock written make.FencePublished Passed is = refl
-make_answer lock written make.FencePublished a is = absurd is
+walk_answer here hash walk.Root a is = load_answered root_word a is
+walk_answer here hash (walk.Entry root) a is = load_answered (entry_word here.geometry hash root) a is
+walk_answer here hash (walk.Head root segment) a is = load_answered (head_word here.geometry segment) a is
 
 note_answer : (task : Task) (seen : Seen) (part : NoteWord) (note : NoteWords) (a : Ans) → IsAnswer (note_wanted task seen part note) a → a ≡ Passed
-note_answer task seen Mark note a is = store_answer (lock_of task seen note.place + 1) note.mark a is
-note_answer task seen Fingers note a is = store_answer (lock_of task seen note.place + 3) note.fingers a is
-
-give_answer : (here : Here) (hash segment : ℕ) (next : Option (Place × ℕ)) (a : Ans) → IsAnswer (give_wanted_of here hash segment next) a → a ≡ Passed
-give_answer here hash segment (Some next) a is = store_answer (lock_word here hash segment next.0) ((next.1 + 2) % 2 ^ 64) a is
-give_answer here hash segment None a is = absurd is
+note_answer task seen Mark note a is = store_answered (lock_of task seen note.place + 1) note.mark a is
+note_answer task seen Fingers note a is = store_answered (lock_of task seen note.place + 3) note.fingers a is
 
 module _ (task : Task) (seen : Seen) where
   -- for an answer that is known
@@ -252,35 +215,29 @@ module _ (task : Task) (seen : Seen) where
       let most = taken_most seen place (lock_of task seen place) (take_taken take a) in let low = take_falls (lock_of task seen place) take a is in omega (arith, most, low)
   falls_in (Check back) a is = for_value (Check back)
       (λ n. let most = backed_most seen (back_taken task.site task.hash seen.path back n) in let low = back_falls task.site task.hash seen.path back n in omega (arith, most, low))
-      a (load_answer (back_word task.site task.hash seen.path back) a is)
+      a (load_answered (back_word task.site task.hash seen.path back) a is)
   falls_in (Fill place load) a is = for_value (Fill place load)
       (λ n. let most = loaded_most task.hash seen place (load_taken load n) in let low = load_falls load n in omega (arith, most, low))
-      a (load_answer (lock_of task seen place + load.next % 32) a is)
-  falls_in Count a is = for_value Count (λ n. let most = counted_most task seen n in omega (arith, most)) a (load_answer (counter_word task.site.geometry) a is)
+      a (load_answered (lock_of task seen place + load.next % 32) a is)
+  falls_in Count a is = for_value Count (λ n. let most = counted_most task seen n in omega (arith, most)) a (load_answered (counter_word task.site.geometry) a is)
   falls_in (step.Make m) a is = for_passed (step.Make m)
       (let most = made_most seen (make_taken seen.written.slot m) in let low = make_falls seen.written.slot m in omega (arith, most, low))
-      a (make_answer (lock_of task seen seen.place) seen.written m a is)
+      a (make_answered (lock_of task seen seen.place) seen.written m a is)
   falls_in Draw (Drawn n) is = let most = drawn_most task seen n in omega (arith, most)
   falls_in Draw a is = absurd is
   falls_in (Unnote part place) a is = for_passed (Unnote part place) (note_falls part place) a (note_answer task seen part (unnoted task.hash seen) a is)
-  falls_in CountSpent a is = for_value CountSpent (λ n. let few = answered_most seen n reply.Spent in omega (arith, few)) a (load_answer (counter_word task.site.geometry) a is)
+  falls_in CountSpent a is = for_value CountSpent (λ n. let few = answered_most seen n reply.Spent in omega (arith, few)) a (load_answered (counter_word task.site.geometry) a is)
   falls_in (Give held end) a is = for_passed (Give held end)
       (let most = giving_most (given held) end in
       let low = give_falls task.site task.hash seen.path.segment held (λ e. absurd (subst (λ w. IsAnswer w a) e is)) in omega (arith, most, low))
-      a (give_answer task.site task.hash seen.path.segment (give_next held) a is)
+      a (give_answered task.site task.hash seen.path.segment (give_next held) a is)
   falls_in (Ended end) a is = absurd is
 
 pub change_falls : (op : WriteOp) (a : Ans) → IsAnswer (wanted op) a → left_at (taken op a).stage.step < left_at op.stage.step
 change_falls op a is = falls_in op.task op.stage.seen op.stage.step a is
 
 -- ---- and never more than so many are left
-walk_bound : (w : Walk) → walk_left w ≤ 4
-walk_bound walk.Power = omega arith
-walk_bound walk.Root = omega arith
-walk_bound (walk.Entry root) = omega arith
-walk_bound (walk.Head root segment) = omega arith
-
-take_bound : (place : Place) (t : Take) → left_behind_lock place + take_left t ≤ 152
+take_bound : (place : Place) (t : Take) → left_behind_lock place + take_left t ≤ 154
 take_bound Home Look = omega arith
 take_bound Home (Try free) = omega arith
 take_bound Probing Look = omega arith
@@ -289,37 +246,27 @@ take_bound First Look = omega arith
 take_bound First (Try free) = omega arith
 take_bound Second Look = omega arith
 take_bound Second (Try free) = omega arith
+take_bound Next Look = omega arith
+take_bound Next (Try free) = omega arith
+take_bound Previous Look = omega arith
+take_bound Previous (Try free) = omega arith
 
-back_bound : (b : Back) → back_left b ≤ 3
-back_bound back.Root = omega arith
-back_bound back.Entry = omega arith
-back_bound back.Head = omega arith
-
-fill_bound : (place : Place) (load : Load) → left_behind place + load_left load ≤ 146
+fill_bound : (place : Place) (load : Load) → left_behind place + load_left load ≤ 148
 fill_bound Home load = omega arith
 fill_bound Probing load = omega arith
 fill_bound First load = omega arith
 fill_bound Second load = omega arith
+fill_bound Next load = omega arith
+fill_bound Previous load = omega arith
 
-make_bound : (m : Make) → make_left m ≤ 9
-make_bound make.Key = omega arith
-make_bound make.Value = omega arith
-make_bound make.Fingers = omega arith
-make_bound make.FlushFingers = omega arith
-make_bound make.FlushRecord = omega arith
-make_bound make.FenceRecord = omega arith
-make_bound make.Publish = omega arith
-make_bound make.FlushPublished = omega arith
-make_bound make.FencePublished = omega arith
-
-note_bound : (part : NoteWord) → left_of_note part ≤ 6
+note_bound : (part : NoteWord) → left_of_note part ≤ 8
 note_bound Mark = omega arith
 note_bound Fingers = omega arith
 
 pub most_at : (s : WriteStep) → left_at s ≤ most_events
-most_at (Way w) = let b = walk_bound w in omega (arith, b)
+most_at (Way w) = let b = walk_few w in omega (arith, b)
 most_at (Lock place t) = let b = take_bound place t in omega (arith, b)
-most_at (Check b) = let c = back_bound b in omega (arith, c)
+most_at (Check b) = let c = back_few b in omega (arith, c)
 most_at (Fill place load) = let b = fill_bound place load in omega (arith, b)
 most_at Count = omega arith
 most_at (step.Make m) = let b = make_bound m in omega (arith, b)

@@ -4,7 +4,5 @@ pub mod finding
 pub mod keeping
 pub mod permitting
 pub mod parts
-pub mod refusing
 pub mod causing
-pub mod whole
 pub mod Ends

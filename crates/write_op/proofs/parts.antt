@@ -3,4 +3,5 @@ pub mod Fitting
 pub mod Wording
 pub mod Putting
 pub mod Parting
+pub mod Unmade
 pub mod Parted

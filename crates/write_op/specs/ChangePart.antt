@@ -1,7 +1,7 @@
 -- A change as a part of a call: where an insert finds no slot it keeps its locks, and another part goes on.
-use Rattle.std.specs.Prelude.{◌≡◌, ℕ, ◌+◌, ◌-◌, ◌^◌, ◌<◌, ◌≤◌, ⊤, true, Option, Some, List, [], slice_index, ◌≢◌, None}
+use Rattle.std.specs.Prelude.{◌≡◌, ℕ, ◌+◌, ◌-◌, ◌^◌, ◌<◌, ⊤, false, true, Some, [], ◌≢◌, None}
 use Rattle.segment_head.specs.HeadWord.{state_in, splitting}
-use Rattle.image_layout.specs.Places.{block, head_at}
+use Rattle.image_layout.specs.Places.{head_at}
 use Rattle.map_model.specs.declared.call.Call.{Call}
 use Rattle.map_model.specs.declared.change.Change.{Change}
 use Rattle.map_model.specs.Changes.{call_of}
@@ -13,12 +13,17 @@ use Rattle.part.specs.Doings.{Doings, nothing_done}
 use Rattle.part.specs.Outcomes.{finished}
 use Rattle.part.specs.Part.{Part}
 use Rattle.phase.specs.declared.place.Place.{Place}
-use Rattle.phase.specs.declared.place.Place.TheVariants.{Home, First, Second, Probing}
-use Rattle.phase.specs.declared.load.Load.{Load}
+use Rattle.phase.specs.declared.walk.Path.{Path}
+use Rattle.phase.specs.declared.kept.Kept.{Kept}
+use Rattle.phase.specs.Places.{is_third}
+use Rattle.phase.specs.Buckets.{words_in}
+use Rattle.phase.specs.AreWords.{AreWords}
+use Rattle.phase.specs.Asked.{index, loaded_by}
+use Rattle.phase.specs.Keeps.{WasLoaded, ChangedLocks, KeepsAll, RemembersRoom, HasNoThird}
+use Rattle.phase.specs.Giving.{IsHeld}
 use Rattle.phase.specs.Stands.{IsStraight, IsLoading}
 use Rattle.phase.specs.Causes.{WasFound, RemembersWalk}
 use Rattle.phase.specs.Taking.{RemembersTake}
-use Rattle.phase.specs.Giving.{IsHeld}
 use Rattle.write_op.specs.declared.step.Task.{Task}
 use Rattle.write_op.specs.declared.step.Seen.{Seen}
 use Rattle.write_op.specs.declared.step.WriteEnd.TheVariants.{NoSlot}
@@ -26,61 +31,54 @@ use Rattle.write_op.specs.declared.step.WriteStep.{WriteStep}
 use Rattle.write_op.specs.declared.step.WriteStep.TheVariants.{Way, Lock, Check, Fill, Count, CountSpent, Ended}
 use Rattle.write_op.specs.declared.op.WriteOp.{WriteOp}
 use Rattle.write_op.specs.Search.{brought}
-use Rattle.write_op.specs.Steps.{begun, wanted, taken, lock_of, is_without_slot, kept_of}
-use Rattle.write_op.specs.Keeps.{KeepsAll}
+use Rattle.write_op.specs.Steps.{begun, wanted, taken, lock_of, is_without_slot, kept_in, kept_of}
 use Rattle.write_op.specs.Left.{most_events, left_at, most_waiting, waiting_at, HasMadeAt}
-use Rattle.write_op.specs.Fits.{kind_of, ChangeStands, outcome_at}
+use Rattle.write_op.specs.Fits.{Upto, kind_of, ChangeStands, outcome_at}
 
 -- no split was begun of a segment
 abbrev pub IsUnsplit : Site → Type 0
 IsUnsplit site = (s : ℕ) → s < site.shape.segments → state_in (site.front (head_at site.shape s + 1)) ≢ splitting
 
--- ---- what it remembers of what its attempt did
-module _ (site : Site) (task : Task) (seen : Seen) (did : Doings) where
-  -- the way to the segment was loaded, whose header is that of the structure
+-- the header of the segment at the end of a way is that of the structure
+abbrev pub IsAtHead : Site → Path → Type 0
+IsAtHead site path = path.head ≡ site.front (head_at site.shape path.segment + 1)
+
+-- ---- what it remembers of what its attempt did, on a way that ends so
+module _ (EndsSo : Path → Type 0) (task : Task) (seen : Seen) (did : Doings) where
+  -- the way to the segment was loaded
   abbrev pub WasThere : Type 0
-  WasThere = WasFound task.site.geometry task.hash did.loads seen.path × (seen.path.head ≡ site.front (head_at site.shape seen.path.segment + 1))
+  WasThere = WasFound task.site.geometry task.hash did.loads seen.path × EndsSo seen.path
 
   -- it changed no words but those of locks that it holds
-  abbrev pub ChangedLocks : Type 0
-  ChangedLocks = (word : ℕ) → Has word did.changed → (place : Place) × IsHeld seen.held place × (word ≡ lock_of task seen place)
+  abbrev pub ChangedOwn : Type 0
+  ChangedOwn = ChangedLocks (kept_in task seen) did.changed
 
-  -- the words of the home bucket were loaded
-  abbrev pub LoadedHome : Type 0
-  LoadedHome = (j : ℕ) → 1 ≤ j → j < block → Has (lock_of task seen Home + j, slice_index seen.buckets.home j) did.loads
+  -- the words of each bucket that is asked for before the n-th were loaded
+  abbrev pub LoadedUpto : ℕ → Type 0
+  LoadedUpto n = (place : Place) → Upto seen n place → WasLoaded (kept_in task seen) did.loads place
 
-  -- they were before the lock of a stash bucket is taken
-  abbrev pub LoadedBefore : Place → Type 0
-  LoadedBefore Home = ⊤
-  LoadedBefore Probing = ⊤
-  LoadedBefore First = LoadedHome
-  LoadedBefore Second = LoadedHome
-
-  -- and are being so, or were so before the words of another bucket
-  abbrev pub LoadedWith : Place → Load → Type 0
-  LoadedWith Home load = IsLoading (lock_of task seen Home) did.loads load
-  LoadedWith Probing load = LoadedHome
-  LoadedWith First load = LoadedHome
-  LoadedWith Second load = LoadedHome
+  -- those of each bucket that is held were
+  abbrev pub LoadedHeld : Type 0
+  LoadedHeld = (place : Place) → IsHeld seen.held place → WasLoaded (kept_in task seen) did.loads place
 
   -- a lock word was loaded as free with the last version
   abbrev pub LoadedSpent : Type 0
-  LoadedSpent = (place : Place) × Has (lock_of task seen place, 2 ^ 64 - 2) did.loads
+  LoadedSpent = (place : Place) × (is_third place ≡ false) × Has (lock_of task seen place, 2 ^ 64 - 2) did.loads
 
   abbrev pub RemembersIn : WriteStep → Type 0
   RemembersIn (Way walk) = RemembersWalk task.site.geometry task.hash did.loads walk × (did.changed ≡ [])
-  RemembersIn (Lock place take) = WasThere × ChangedLocks × RemembersTake (lock_of task seen place) did.loads take × LoadedBefore place
-  RemembersIn (Check back) = WasThere × ChangedLocks
-  RemembersIn (Fill place load) = WasThere × ChangedLocks × LoadedWith place load
-  RemembersIn Count = WasThere × LoadedHome
+  RemembersIn (Lock place take) = WasThere × ChangedOwn × RemembersTake (lock_of task seen place) did.loads take × LoadedUpto (loaded_by place) × (is_third place ≡ false)
+  RemembersIn (Check back) = WasThere × ChangedOwn
+  RemembersIn (Fill place load) = WasThere × ChangedOwn × LoadedUpto (index place) × IsLoading (lock_of task seen place) did.loads load
+  RemembersIn Count = WasThere × ChangedOwn × LoadedUpto 4
   RemembersIn CountSpent = WasThere × LoadedSpent
-  RemembersIn (Ended NoSlot) = WasThere × LoadedHome
+  RemembersIn (Ended NoSlot) = WasThere × ChangedOwn × LoadedHeld
   RemembersIn more = ⊤
 
 -- in an image of which no segment is being split: a change is made again at such a segment, and no word moved
 pub record Remembers (site : Site) (op : WriteOp) (did : Doings) : Type 0 where
   pub unsplit : IsUnsplit site
-  pub kept : RemembersIn site op.task op.stage.seen did op.stage.step
+  pub kept : RemembersIn (IsAtHead site) op.task op.stage.seen did op.stage.step
 
 -- A CHANGE AS A PART
 abbrev pub change_part : Part WriteOp
@@ -91,6 +89,7 @@ change_part = record {
   Stands = ChangeStands;
   outcome = λ op. outcome_at op.stage.step;
   Remembers = Remembers;
+  HasWorked = λ site op did. ⊥;
   HasMade = λ op. HasMadeAt op.stage.step;
   left = λ op. left_at op.stage.step;
   most_events = most_events;
@@ -110,14 +109,34 @@ BeginsAsPart = (site : Site) (here : Here) (change : Change) (v : View) → IsSi
 abbrev pub BeginsRemembering : Type 0
 BeginsRemembering = (site : Site) (here : Here) (change : Change) → IsUnsplit site → Remembers site (begun change here) nothing_done
 
+-- it holds nothing where it has done nothing
+abbrev pub BeginsBare : Type 0
+BeginsBare = (site : Site) (here : Here) (call : Call) (change : Change) (v : View) → ChangeStands site here call (begun change here) v → v.held ≡ []
+
 -- and nothing is decided
 abbrev pub BeginsUndecided : Type 0
 BeginsUndecided = (here : Here) (change : Change) → outcome_at (begun change here).stage.step ≡ None
 
--- WHERE IT HANDS ON, its locks are held, the words of their buckets known, its key stands nowhere and its home bucket is full
+-- WHERE IT HANDS ON, what it keeps is the call's insert, of a key and a value that are words, as is what was loaded; its locks are held,
+-- and no third one; the words of their buckets are known, its key stands nowhere, and home and probing bucket are full
+pub record HandsOn (site : Site) (here : Here) (call : Call) (kept : Kept) (v : View) : Type 0 where
+  pub same : call_of kept.change ≡ call
+  pub at : kept.site ≡ here
+  pub straight : IsStraight site
+  pub key : kept.change.key < 2 ^ 64
+  pub value : brought kept.change.deed < 2 ^ 64
+  pub buckets : (place : Place) → AreWords (words_in kept.buckets place)
+  pub keeps : KeepsAll site kept v
+  pub thirds : HasNoThird kept.held
+
 abbrev pub HandsOnAll : Type 0
 HandsOnAll = (site : Site) (here : Here) (call : Call) (op : WriteOp) (v : View) → ChangeStands site here call op v → is_without_slot op.stage.step ≡ true
-    → KeepsAll site (kept_of op) v
+    → HandsOn site here call (kept_of op) v
+
+-- its attempt loaded the way and the words of the buckets that it holds, and changed no words but those of its locks
+abbrev pub HandsOnRemembering : Type 0
+HandsOnRemembering = (site : Site) (op : WriteOp) (did : Doings) → Remembers site op did → is_without_slot op.stage.step ≡ true
+    → RemembersRoom site (kept_of op) did.loads × ChangedLocks (kept_of op) did.changed
 
 -- it never ends but with a reply, or to be made again, stale or off
 abbrev pub NeverFinished : Type 0

@@ -1,33 +1,28 @@
 -- How a change fits the world: the kind of each of its events, and the view that its caller has in each step.
-use Rattle.std.specs.Prelude.{◌≡◌, ℕ, ◌+◌, ◌%◌, ◌^◌, ◌<◌, nat_le, ⊤, Bool, true, false, Option, None, Some, List, [], ◌∷◌, length, slice_index, if◌then◌else◌}
-use Rattle.bucket_meta.specs.Bucket.{overflow_count, record_slots, allocated}
-use Rattle.bucket_meta.specs.Search.{lowest_with, lowest_free}
+use Rattle.std.specs.Prelude.{◌≡◌, ℕ, ◌+◌, ◌%◌, ◌^◌, ◌<◌, nat_le, ⊤, Bool, true, false, Option, None, Some, List, [], ◌∷◌, if◌then◌else◌}
+use Rattle.bucket_meta.specs.Bucket.{overflow_count}
 use Rattle.hash_word.specs.Hash.{home_of, finger_of}
 use Rattle.trace.specs.Events.{Words, with_word}
-use Rattle.image_layout.specs.Places.{Shape, root_word}
+use Rattle.image_layout.specs.Places.{root_word}
 use Rattle.sound_image.specs.Records.{key_hash, notes_of, word_in}
 use Rattle.map_model.specs.declared.call.Call.{Call}
 use Rattle.map_model.specs.declared.change.Deed.{Deed}
-use Rattle.map_model.specs.declared.change.Change.{Change}
 use Rattle.map_model.specs.declared.change.Deed.TheVariants.{Insert, Update, Remove}
 use Rattle.map_model.specs.declared.entry.Reply.TheVariants as reply
 use Rattle.map_model.specs.Changes.{call_of}
 use Rattle.world.specs.declared.site.Site.{Site as Here}
-use Rattle.world.specs.Site.{Site, IsSite}
+use Rattle.world.specs.Site.{Site}
 use Rattle.world.specs.Views.{Owed, View, Has}
 use Rattle.world.specs.Kinds.{Kind, peeks, finds_room, refuses, learns, stores, repays, publishes, stashes, draws_place}
 use Rattle.world.specs.Attempts.{HoldsOnly}
-use Rattle.bucket_words.specs.Hits.{Hit}
 use Rattle.phase.specs.declared.place.Place.{Place}
 use Rattle.phase.specs.declared.place.Place.TheVariants.{Home, Probing, First, Second}
-use Rattle.phase.specs.declared.take.Take.{Take}
-use Rattle.phase.specs.declared.load.Load.{Load}
 use Rattle.phase.specs.declared.make.Make.{Make}
-use Rattle.phase.specs.declared.make.Make.TheVariants.{Key, Value, Fingers as FingersOf, FlushFingers, FlushRecord, FenceRecord, Publish, FlushPublished, FencePublished}
-use Rattle.phase.specs.declared.make.Made.{Made}
+use Rattle.phase.specs.declared.make.Make.TheVariants.{FlushPublished, FencePublished}
 use Rattle.phase.specs.declared.held.Held.{Held}
-use Rattle.phase.specs.declared.kept.Buckets.{Buckets}
-use Rattle.phase.specs.Places.{bucket_of}
+use Rattle.phase.specs.Asked.{index, asked_by, IsAskedBefore, looked_by, loaded_by}
+use Rattle.phase.specs.AreWords.{AreWords}
+use Rattle.phase.specs.Keeps.{KeepsAll, HasNoThird}
 use Rattle.phase.specs.Helds.{none_held, free_of}
 use Rattle.phase.specs.Buckets.{words_in}
 use Rattle.phase.specs.Stands.{walk_kind, back_kind, IsStraight, Leads, IsWalking, IsLoading}
@@ -51,8 +46,7 @@ use Rattle.write_op.specs.declared.step.Stage.{Stage}
 use Rattle.write_op.specs.declared.op.WriteOp.{WriteOp}
 use Rattle.part.specs.Outcomes.{Outcome, replied, again, stale, off}
 use Rattle.write_op.specs.Search.{found, room_in, visits, record_at, brought, stash_index, leaves_note, unnoted, has_finger}
-use Rattle.write_op.specs.Steps.{lock_of, end_of, kept_in, begun}
-use Rattle.write_op.specs.Keeps.{KeepsAll}
+use Rattle.write_op.specs.Steps.{lock_of, end_of, kept_in}
 
 -- ---- the words of the buckets that are locked
 module _ (task : Task) (seen : Seen) where
@@ -137,40 +131,12 @@ abbrev pub kind_of : WriteOp → ℕ → Kind
 kind_of op n = kind_at op.task op.stage.seen op.stage.step n
 
 -- ---- sets of buckets
--- the order in which they are locked and loaded
-abbrev pub index : Place → ℕ
-index Home = 0
-index Probing = 1
-index First = 2
-index Second = 3
-
--- those that are locked in all
-abbrev pub asked_by : Bool → Bool → Place → Bool
-asked_by first second Home = true
-asked_by first second Probing = true
-asked_by first second First = first
-asked_by first second Second = second
-
 abbrev pub is_asked : Seen → Place → Bool
 is_asked seen place = asked_by seen.first seen.second place
 
--- those of them before the n-th
-pub record Upto (seen : Seen) (n : ℕ) (place : Place) : Type 0 where
-  pub low : index place < n
-  pub asked : is_asked seen place ≡ true
-
--- how many are locked before the lock of a bucket, and before its words
-abbrev pub locked_by : Place → ℕ
-locked_by Home = 2
-locked_by Probing = 2
-locked_by First = 3
-locked_by Second = 4
-
-abbrev pub loaded_by : Place → ℕ
-loaded_by Home = 0
-loaded_by Probing = 0
-loaded_by First = 2
-loaded_by Second = 3
+-- those that are asked for before the n-th
+abbrev pub Upto : Seen → ℕ → Place → Type 0
+Upto seen n place = IsAskedBefore seen.first seen.second n place
 
 -- the locks that are held are those before the n-th, and no others
 pub record HoldsUpto (seen : Seen) (n : ℕ) : Type 0 where
@@ -202,6 +168,7 @@ module _ (site : Site) (task : Task) (seen : Seen) where
   VisitsAt Probing = ⊤
   VisitsAt First = IsVisiting task seen × (seen.first ≡ true)
   VisitsAt Second = IsVisiting task seen × (seen.second ≡ true)
+  VisitsAt third = ⊥
 
   -- all locks are held, and all words of their buckets are known or are to be as they were stored
   pub record HasAll (v : View) : Type 0 where
@@ -286,7 +253,7 @@ module _ (site : Site) (task : Task) (seen : Seen) where
 
   -- at the ends: all locks are kept where no slot is free, and else all is as at the beginning
   abbrev pub SuitsEnd : WriteEnd → View → Type 0
-  SuitsEnd ends.NoSlot v = KeepsAll site (kept_in task seen) v
+  SuitsEnd ends.NoSlot v = KeepsAll site (kept_in task seen) v × HasNoThird seen.held
   SuitsEnd end v = HoldsOnly [] v
 
   -- THE VIEW in each step
@@ -294,7 +261,7 @@ module _ (site : Site) (task : Task) (seen : Seen) where
   SuitsStep (Way walk) v = HoldsOnly [] v × IsWalking site task.hash walk × (seen.held ≡ none_held)
   SuitsStep (Lock place take) v = HasLoaded (index place) (loaded_by place) v × IsQuiet v × VisitsAt place × IsTaking take
   SuitsStep (Check back) v = HasLoaded 2 0 v × IsQuiet v
-  SuitsStep (Fill place load) v = HasLoaded (locked_by place) (index place) v × IsQuiet v × VisitsAt place × IsLoading (lock_of task seen place) v.known load
+  SuitsStep (Fill place load) v = HasLoaded (looked_by place) (index place) v × IsQuiet v × VisitsAt place × IsLoading (lock_of task seen place) v.known load
   SuitsStep Count v = HasLoaded 4 4 v × IsQuiet v × IsVisiting task seen
   SuitsStep (step.Make make) v = IsChanging make v
   SuitsStep Draw v = IsDrawing v
@@ -314,11 +281,7 @@ pub record IsIn (site : Site) (task : Task) : Type 0 where
   pub hash : task.hash ≡ key_hash site.shape task.change.key
   pub fits : task.hash < 2 ^ 64
 
--- what it keeps are words, and a bucket has 32 of them
-pub record AreWords (words : List ℕ) : Type 0 where
-  pub small : (i : ℕ) → slice_index words i < 2 ^ 64
-  pub whole : length words ≡ 32
-
+-- what it keeps are words
 abbrev pub HasWordsAt : WriteStep → Type 0
 HasWordsAt (Fill place load) = AreWords load.words
 HasWordsAt more = ⊤

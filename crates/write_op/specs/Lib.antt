@@ -1,10 +1,8 @@
 pub mod Search
 pub mod Steps
-pub mod Refuse
-pub mod Keeps
 pub mod Fits
 pub mod Left
 pub mod ChangePart
-pub mod RefusePart
-pub mod WholeChange
 pub mod Ends
+pub mod Causes
+pub mod AnyMemory

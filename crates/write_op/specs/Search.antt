@@ -1,11 +1,14 @@
 -- What the loaded words say: where the key stands, which stash buckets are to be visited, where a slot is free, what is
 -- stored of a record, and how the note of one is taken away that leaves the stash.
-use Rattle.std.specs.Prelude.{◌==◌, ◌&&◌, ℕ, ◌+◌, ◌*◌, Bool, true, false, Option, None, Some, List, slice_index, if◌then◌else◌}
+use Rattle.std.specs.Prelude.{◌==◌, ℕ, ◌+◌, ◌*◌, Bool, true, false, Option, None, Some, List, slice_index, if◌then◌else◌}
 use Rattle.hash_word.specs.Hash.{finger_of}
 use Rattle.bucket_meta.specs.Search.{lowest_with, lowest_free}
 use Rattle.bucket_meta.specs.Marks.{inserted_mark, member_mark, removed_mark, finger_place, with_finger}
 use Rattle.bucket_meta.specs.NoteWords.{note_place, freed_mark, freed_fingers, lowered_count}
 use Rattle.bucket_meta.specs.Visits.{must_visit}
+use Rattle.balance.specs.declared.choice.Choice.{Choice}
+use Rattle.balance.specs.declared.choice.Choice.TheVariants as choice
+use Rattle.balance.specs.Choices.{choice_of}
 use Rattle.map_model.specs.declared.change.Deed.{Deed}
 use Rattle.map_model.specs.declared.change.Deed.TheVariants.{Insert, Update, Remove}
 use Rattle.phase.specs.declared.place.Place.{Place}
@@ -37,9 +40,16 @@ found seen key =
     (spot_or First (slot_in seen.first seen.buckets.first key)
     (spot_or Second (slot_in seen.second seen.buckets.second key) None)))
 
--- the free slot that a new record takes, so far in its home bucket alone
+-- the lowest free slot of the bucket that is chosen
+abbrev pub room_by : Choice → Buckets → Option Spot
+room_by choice.Home buckets = spot_or Home (lowest_free (slice_index buckets.home 1)) None
+room_by choice.Probe buckets = spot_or Probing (lowest_free (slice_index buckets.probing 1)) None
+room_by choice.Neither buckets = None
+
+-- the slot that a new record takes: in the less full of home and probing bucket, in home where both are as full, and none where both
+-- are full
 abbrev pub room_in : Buckets → Option Spot
-room_in buckets = spot_or Home (lowest_free (slice_index buckets.home 1)) None
+room_in buckets = room_by (choice_of (slice_index buckets.home 1) (slice_index buckets.probing 1)) buckets
 
 -- whether a stash bucket is to be visited, by the words of home and probing bucket
 abbrev pub visits : ℕ → Buckets → ℕ → Bool
@@ -49,10 +59,8 @@ visits hash buckets index =
 -- ---- what is stored of a record
 -- a record that stands in its probing bucket has the membership bit too
 abbrev pub taken_mark : Place → ℕ → ℕ → ℕ
-taken_mark Home w1 slot = inserted_mark w1 slot
 taken_mark Probing w1 slot = member_mark w1 slot
-taken_mark First w1 slot = inserted_mark w1 slot
-taken_mark Second w1 slot = inserted_mark w1 slot
+taken_mark place w1 slot = inserted_mark w1 slot
 
 -- the word whose store makes the change, by its number in the bucket
 abbrev pub published_word : Deed → ℕ → ℕ
@@ -89,10 +97,8 @@ record_at task buckets spot = record_in task spot.place (words_in buckets spot.p
 -- ---- the note of a record that leaves the stash
 -- a stash bucket, by its number among them
 abbrev pub stash_index : Place → ℕ
-stash_index Home = 0
-stash_index Probing = 0
-stash_index First = 0
 stash_index Second = 1
+stash_index place = 0
 
 -- a remove from there leaves a note that is to be taken away
 abbrev pub leaves_note : Deed → Place → Bool

@@ -105,8 +105,7 @@ walked_to task seen (walked.Stale segment version) = go seen (Ended (ends.Stale 
 abbrev pub locked : Place → WriteStep
 locked Home = Lock Probing Look
 locked Probing = Check Root
-locked First = Fill First load_begun
-locked Second = Fill Second load_begun
+locked place = Fill place load_begun
 
 abbrev pub locked_to : Seen → Place → ℕ → Taken → Stage
 locked_to seen place lock (taking.On take) = go seen (Lock place take)
@@ -136,7 +135,7 @@ abbrev pub filled : ℕ → Seen → Place → Stage
 filled hash seen Home = go seen (Fill Probing load_begun)
 filled hash seen Probing = go (with_visits hash seen) (visit_first (with_visits hash seen))
 filled hash seen First = go seen (visit_second seen)
-filled hash seen Second = go seen Count
+filled hash seen place = go seen Count
 
 abbrev pub filled_with : ℕ → Seen → Place → List ℕ → Stage
 filled_with hash seen place words = filled hash (record seen { buckets = with_words place words seen.buckets }) place

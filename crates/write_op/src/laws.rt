@@ -2,10 +2,10 @@
 
 ghost use Rattle.part.specs.Part.{IsPart};
 ghost use Rattle.part.specs.Causes.{EndsByCause};
-ghost use Rattle.write_op.specs.ChangePart.{change_part, BeginsAsPart, BeginsRemembering, BeginsUndecided, HandsOnAll, NeverFinished};
-ghost use Rattle.write_op.specs.RefusePart.{refuse_part, RefusalNeverFinished};
-ghost use Rattle.write_op.specs.Ends.{EndsAsSaid, RefusalEndsAsSaid};
-ghost use Rattle.write_op.specs.WholeChange.{whole_change, WholeBeginsAsPart, WholeBeginsRemembering, WholeBeginsBare, WholeBeginsUndecided, WholeNeverFinished, WholeNeverHandsOn};
+ghost use Rattle.write_op.specs.ChangePart.{change_part, BeginsAsPart, BeginsBare, BeginsRemembering, BeginsUndecided, HandsOnAll, HandsOnRemembering, NeverFinished};
+ghost use Rattle.write_op.specs.AnyMemory.{EventsHaveKinds, KeepsLoads};
+ghost use Rattle.write_op.specs.Causes.{PublishesThere, MadeOnlySo, InsertsWhereFewer, RepliesAsSeen, NeverBusy, NeverStale};
+ghost use Rattle.write_op.specs.Ends.{EndsAsSaid};
 
 /// A change is a part of a call, by the laws of `part`: each event is of its kind, which its caller's view may take beside any
 /// other callers, and the view after it suits the next step; it ends in time, asks for words of the image, puts words there, leaves
@@ -16,39 +16,41 @@ pub fn changes_are_parts()
     ensures part { IsPart change_part }
     ensures causes { EndsByCause change_part }
     ensures begins { BeginsAsPart }
+    ensures bare { BeginsBare }
     ensures undecided { BeginsUndecided }
     ensures remembers { BeginsRemembering }
     ensures hands_on { HandsOnAll }
+    ensures handed { HandsOnRemembering }
     ensures finished { NeverFinished }
 {}
 
-/// The refusal of an insert that found no slot is one too, in an image of one segment: all keys of a full home bucket are in the map,
-/// and the one segment has the depth that the reply tells. It never ends but with a reply.
-pub fn refusals_are_parts()
-    ensures part { IsPart refuse_part }
-    ensures causes { EndsByCause refuse_part }
-    ensures finished { RefusalNeverFinished }
+/// An event is of a kind that makes a change exactly at the one store of the record that makes it, and nothing but that store makes the
+/// change, however it is answered. A new record comes to the lowest free slot of its home bucket, where that has no more records than
+/// the probing bucket by the words that are kept, and else of that. So an attempt that ends otherwise than as done left all pairs as they were.
+pub fn changes_are_made_once()
+    ensures publishes { PublishesThere }
+    ensures only { MadeOnlySo }
+    ensures chooses { InsertsWhereFewer }
 {}
 
-/// So is a change that goes on to its refusal where no slot is free, by the law of one part after another. It begins with a view that
-/// suits it, undecided, having done and holding nothing; and it does not hand on.
-pub fn whole_changes_are_parts()
-    ensures part { IsPart whole_change }
-    ensures causes { EndsByCause whole_change }
-    ensures begins { WholeBeginsAsPart }
-    ensures undecided { WholeBeginsUndecided }
-    ensures remembers { WholeBeginsRemembering }
-    ensures bare { WholeBeginsBare }
-    ensures finished { WholeNeverFinished }
-    ensures hands_on { WholeNeverHandsOn }
-{
-    world::steps_add_one_reply();
-    changes_are_parts();
-    refusals_are_parts();
-}
+/// Each reply is told as it was seen: that the key exists, or is absent, by the words of the buckets that were loaded, with the
+/// commit counter's value as its place; and that the change is done by its draw, with the place that was drawn.
+pub fn replies_are_as_seen()
+    ensures { RepliesAsSeen }
+{}
 
-/// Where a change or its refusal wants nothing more, the end that it tells is the outcome that was decided.
+/// Whatever words its events find, each of them is of its kind, and what a change keeps was loaded by its attempt, which changed its
+/// locks alone before its stores.
+/// In a world, beside any other callers: where nobody else has a lock none is found taken, and where each live segment has the
+/// site's version none is stale.
+pub fn ends_have_causes()
+    ensures kinds { EventsHaveKinds }
+    ensures loads { KeepsLoads }
+    ensures alone { NeverBusy }
+    ensures current { NeverStale }
+{}
+
+/// Where a change wants nothing more, the end that it tells is the outcome that was decided.
 pub fn ends_tell()
-    ensures change { EndsAsSaid }
-    ensures refusal { RefusalEndsAsSaid }
+    ensures { EndsAsSaid }
 {}

@@ -62,14 +62,14 @@ fn is_over(step: &WriteStep) -> bool
 }
 
 impl WriteOp {
-    /// A change that has done nothing yet.
-    pub fn new(change: Change, here: Site) -> WriteOp
-        ensures { result ≡ begun change here }
+    /// A change that has done nothing yet, to be run there.
+    pub fn new(change: Change, version_v: Site) -> WriteOp
+        ensures { result ≡ begun change version_v }
     {
-        let hash = key_hash(&here.geometry, change.key);
+        let hash = key_hash(&version_v.geometry, change.key);
         WriteOp {
             task: Task {
-                site: here,
+                site: version_v,
                 change,
                 hash,
             },

@@ -1,11 +1,14 @@
 //! What the loaded words say: where the key stands, which stash buckets are to be visited, where a slot is free, what is stored
 //! of a record, and how the note of one is taken away that leaves the stash.
 
-ghost use Rattle.std.specs.Prelude.{◌≡◌, ℕ, ◌<◌, IfSome};
+ghost use Rattle.std.specs.Prelude.{◌≡◌, ℕ, ◌<◌, IfSome, slice_index};
 ghost use Rattle.bucket_meta.specs.Bucket.{record_slots};
+ghost use Rattle.bucket_meta.specs.MetaWords.{IsMetaOf};
 ghost use Rattle.write_op.specs.Search.{spot_or, slot_in, found, room_in, visits, taken_mark, published_word, published_mark, brought, record_in, record_at, stash_index, leaves_note, freed_or, unnoted_by, unnoted, has_finger};
 
 use crate::step::{Seen, Spot, Task};
+use balance::{Choice, choose};
+use bucket_meta::Meta;
 use bucket_meta::words::{
     finger_place, freed_fingers, freed_mark, inserted_mark, lowered_count, lowest_free,
     lowest_with, member_mark, must_visit, note_place, removed_mark, with_finger,
@@ -54,12 +57,24 @@ pub fn found(seen: &Seen, key: u64) -> Option<Spot>
     spot_or(Place::Home, home, spot_or(Place::Probing, probing, rest))
 }
 
-/// The free slot that a new record takes, so far in its home bucket alone.
+/// The metadata of a bucket, by its words.
+fn meta_of(words: &[u64; 32]) -> Meta
+    ensures { IsMetaOf result (slice_index words.now 1) (slice_index words.now 2) (slice_index words.now 3) }
+{
+    Meta::read([words[1], words[2], words[3]])
+}
+
+/// The slot that a new record takes: the lowest free one of the less full of home and probing bucket, of home where both are as
+/// full, and none where both are full.
 pub fn room_in(buckets: &Buckets) -> Option<Spot>
     ensures is { result ≡ room_in buckets.now }
     ensures within { IfSome result (λ spot. spot.slot < record_slots) }
 {
-    spot_or(Place::Home, lowest_free(buckets.home[1]), None)
+    match choose(&meta_of(&buckets.home), &meta_of(&buckets.probing)) {
+        Choice::Home => spot_or(Place::Home, lowest_free(buckets.home[1]), None),
+        Choice::Probe => spot_or(Place::Probing, lowest_free(buckets.probing[1]), None),
+        Choice::Neither => None,
+    }
 }
 
 /// Whether a stash bucket is to be visited, 0 or 1, by the words of home and probing bucket.
@@ -85,7 +100,9 @@ fn taken_mark(place: Place, w1: u64, slot: u8) -> u64
 {
     match place {
         Place::Probing => member_mark(w1, slot),
-        Place::Home | Place::First | Place::Second => inserted_mark(w1, slot),
+        Place::Home | Place::First | Place::Second | Place::Next | Place::Previous => {
+            inserted_mark(w1, slot)
+        }
     }
 }
 
@@ -164,8 +181,8 @@ fn stash_index(place: Place) -> u8
     ensures { result ≡ stash_index place }
 {
     match place {
-        Place::Home | Place::Probing | Place::First => 0,
         Place::Second => 1,
+        Place::Home | Place::Probing | Place::First | Place::Next | Place::Previous => 0,
     }
 }
 

@@ -104,7 +104,9 @@ fn locked(place: Place) -> WriteStep
     match place {
         Place::Home => WriteStep::Lock(Place::Probing, Take::Look),
         Place::Probing => WriteStep::Check(Back::Root),
-        Place::First | Place::Second => WriteStep::Fill(place, Load::begin()),
+        Place::First | Place::Second | Place::Next | Place::Previous => {
+            WriteStep::Fill(place, Load::begin())
+        }
     }
 }
 
@@ -193,11 +195,12 @@ fn filled(hash: u64, stage: &mut Stage, place: Place)
             stage.step = visit_first(&stage.seen);
         }
         Place::First => stage.step = visit_second(&stage.seen),
-        Place::Second => stage.step = WriteStep::Count,
+        Place::Second | Place::Next | Place::Previous => stage.step = WriteStep::Count,
     }
 }
 
-/// After the last word of a bucket.
+/// After the last word of a bucket; a call of its own for the same reason.
+#[inline(never)]
 fn filled_with(hash: u64, stage: &mut Stage, place: Place, words: [u64; 32])
     ensures { stage.new ≡ filled_with hash stage.old.seen place words }
 {
@@ -240,7 +243,8 @@ fn changing(task: &Task, stage: &mut Stage, count: u64, there: Option<Spot>)
     }
 }
 
-/// What is done under all locks.
+/// What is done under all locks; a call of its own, since it comes once in an attempt and searches all buckets.
+#[inline(never)]
 fn decided(task: &Task, stage: &mut Stage, count: u64)
     ensures { stage.new ≡ decided task.now stage.old.seen count task.now.change.deed }
 {
@@ -300,34 +304,41 @@ fn unnoted_to(task: &Task, stage: &mut Stage, part: NoteWord, place: u64)
     }
 }
 
-/// After an answer to any step but the load of a bucket's words.
+/// After an answer to any step but the load of a bucket's words. It is a call of its own, since what it needs to make a step would
+/// else be got ready at each word of a bucket too, and these are most events.
+#[inline(never)]
 fn take_at(task: &Task, stage: &mut Stage, ans: Ans)
     requires { IsElsewhere stage.old.step }
     ensures { stage.new ≡ next_in task.now stage.old.seen stage.old.step ans }
 {
-    match (stage.step, ans) {
+    match (&stage.step, ans) {
         (WriteStep::Way(walk), Ans::Value(value)) => {
-            let walked = walk_next(&task.site, task.hash, &walk, value);
+            let walked = walk_next(&task.site, task.hash, walk, value);
             walked_to(task, stage, walked);
         }
         (WriteStep::Lock(place, take), ans) => {
+            let (place, taken) = (*place, take_next(take, ans));
             let lock = lock_of(task, &stage.seen, place);
-            locked_to(stage, place, lock, take_next(&take, ans));
+            locked_to(stage, place, lock, taken);
         }
         (WriteStep::Check(back), Ans::Value(value)) => {
-            let backed = back_next(&task.site, task.hash, &stage.seen.path, &back, value);
+            let backed = back_next(&task.site, task.hash, &stage.seen.path, back, value);
             backed_to(stage, backed);
         }
         (WriteStep::Count, Ans::Value(count)) => counted(task, stage, count),
         (WriteStep::Make(make), Ans::Passed) => {
-            let made = make_next(stage.seen.written.slot, make);
+            let made = make_next(stage.seen.written.slot, *make);
             made_to(stage, made);
         }
         (WriteStep::Draw, Ans::Drawn(place)) => drawn_to(task, stage, place),
-        (WriteStep::Unnote(part, place), Ans::Passed) => unnoted_to(task, stage, part, place),
+        (WriteStep::Unnote(part, place), Ans::Passed) => {
+            let (part, place) = (*part, *place);
+            unnoted_to(task, stage, part, place);
+        }
         (WriteStep::CountSpent, Ans::Value(count)) => answered(stage, count, Reply::Spent),
         (WriteStep::Give(held, ending), Ans::Passed) => {
-            stage.step = giving(given(&held), ending);
+            let next = giving(given(held), *ending);
+            stage.step = next;
         }
         _ => {}
     }

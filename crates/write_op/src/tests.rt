@@ -4,11 +4,14 @@ use image_layout::Geometry;
 use map_model::{Change, Deed, Reply};
 use op_core::{Ans, Machine, Want, Why};
 use phase::{Held, Kept};
+use std::process::Abort;
 use std::test::Fail;
 use world::Site;
 
 /// The commit counter's word.
 const COUNTER: usize = 2208;
+/// The metadata word of a bucket of which all record slots are taken.
+const ALL: u64 = 0x3FFF;
 /// The lock words of the home bucket of key 5, of its probing bucket, and of both stash buckets.
 const LOCKS: [u64; 4] = [96, 128, 2144, 2176];
 /// The metadata word of a home bucket of which one record stands in the stash without a note.
@@ -116,9 +119,8 @@ fn replied(reply: Reply, place: u64) -> WriteEnd {
     WriteEnd::Replied(reply, place)
 }
 
-#[test]
-fn events_of_an_insert(rt: HostRuntime) -> Result<(), Fail> {
-    let mut memory = fresh();
+/// An insert of key 5 that has loaded both its buckets, in a memory where no stash bucket is visited.
+fn decided_in(rt: &impl Abort, memory: &mut Memory) -> Result<WriteOp, Fail> {
     let mut op = WriteOp::new(
         Change {
             key: 5,
@@ -149,6 +151,13 @@ fn events_of_an_insert(rt: HostRuntime) -> Result<(), Fail> {
             op.take(memory.answer(Want::Load(at)));
         }
     }
+    Ok(op)
+}
+
+#[test]
+fn events_of_an_insert(rt: HostRuntime) -> Result<(), Fail> {
+    let mut memory = fresh();
+    let mut op = decided_in(&rt, &mut memory)?;
     let after = [
         Want::Load(2208),
         Want::Store(100, 5),
@@ -170,6 +179,63 @@ fn events_of_an_insert(rt: HostRuntime) -> Result<(), Fail> {
     }
     let end = fresh().run(Deed::Insert(7))?;
     assert_eq!(rt; end, (replied(Reply::Done, 0), 85));
+    Ok(())
+}
+
+#[test]
+fn events_of_an_insert_into_the_probing_bucket(rt: HostRuntime) -> Result<(), Fail> {
+    let mut memory = with(&[(97, 1)]);
+    let mut op = decided_in(&rt, &mut memory)?;
+    let after = [
+        Want::Load(2208),
+        Want::Store(132, 5),
+        Want::Store(133, 7),
+        Want::Store(130, 5),
+        Want::Flush(16),
+        Want::Fence,
+        Want::Store(129, 1 + (1 << 14)),
+        Want::Flush(16),
+        Want::Fence,
+        Want::Draw,
+        Want::Store(96, 2),
+        Want::Store(128, 2),
+        Want::Done,
+    ];
+    for want in after {
+        assert_eq!(rt; op.want(), want);
+        op.take(memory.answer(want));
+    }
+    Ok(())
+}
+
+#[test]
+fn record_goes_to_the_less_full_bucket(rt: HostRuntime) -> Result<(), Fail> {
+    let table = [
+        (0, 0, 96u64, 0u64),
+        (1, 1, 96, 1),
+        (0, 1, 96, 0),
+        (1, 0, 128, 0),
+        (5, 1, 128, 1),
+        (ALL, 0, 128, 0),
+        (ALL, 0x1FFF, 128, 13),
+        (0x1FFF, ALL, 96, 13),
+    ];
+    for (home, probing, lock, slot) in table {
+        let mut memory = with(&[(97, home), (129, probing)]);
+        let (end, _) = memory.run(Deed::Insert(7))?;
+        assert_eq!(rt; end, replied(Reply::Done, 0));
+        let record = lock.wrapping_add(slot.wrapping_mul(2));
+        assert_eq!(rt; memory.word(record.wrapping_add(4)), 5, "at {record}");
+        assert_eq!(rt; memory.word(record.wrapping_add(5)), 7, "at {record}");
+        let member = if lock == 128 { 1 << 14 } else { 0 };
+        let bits = (1u64 + member) << slot;
+        let (mine, before) = if lock == 128 {
+            (129, probing)
+        } else {
+            (97, home)
+        };
+        assert_eq!(rt; memory.word(mine), before | bits, "at {mine}");
+    }
     Ok(())
 }
 
@@ -205,7 +271,7 @@ fn changes_one_after_another(rt: HostRuntime) -> Result<(), Fail> {
 
 #[test]
 fn record_of_a_second_line(rt: HostRuntime) -> Result<(), Fail> {
-    let mut memory = with(&[(97, 3)]);
+    let mut memory = with(&[(97, 3), (129, 3)]);
     let end = memory.run(Deed::Insert(7))?;
     assert_eq!(rt; end, (replied(Reply::Done, 0), 86));
     assert_eq!(rt; memory.word(97), 7);
@@ -399,62 +465,28 @@ fn kept_in(memory: &mut Memory) -> Result<Kept, Fail> {
 }
 
 #[test]
-fn full_home_is_handed_on_and_refused(rt: HostRuntime) -> Result<(), Fail> {
-    let mut memory = with(&[(97, 0x3FFF)]);
+fn both_full_are_handed_on(rt: HostRuntime) -> Result<(), Fail> {
+    let mut memory = with(&[(97, ALL), (129, ALL)]);
     let end = memory.run(Deed::Insert(7))?;
     assert_eq!(rt; end, (WriteEnd::NoSlot, 74));
     assert_eq!(rt; memory.word(96), 1);
     assert_eq!(rt; memory.word(128), 1);
-    let mut memory = with(&[(97, COUNTED + 0x3FFF), (2144, 4), (2208, 6)]);
+    let mut memory = with(&[(97, COUNTED + ALL), (129, ALL), (2144, 4), (2208, 6)]);
     let kept = kept_in(&mut memory)?;
     let held = Held {
         home: Some(0),
         probing: Some(0),
         first: Some(4),
         second: Some(0),
+        next: None,
+        previous: None,
     };
     assert_eq!(rt; kept.held, held);
     assert_eq!(rt; kept.segment, 0);
-    assert_eq!(rt; kept.buckets.home[1], COUNTED + 0x3FFF);
-    let mut op = RefuseOp::new(kept);
-    for want in [
-        Want::Load(2208),
-        Want::Store(96, 2),
-        Want::Store(128, 2),
-        Want::Store(2144, 6),
-        Want::Store(2176, 2),
-    ] {
-        assert_eq!(rt; op.want(), want);
-        op.take(memory.answer(want));
+    assert_eq!(rt; kept.buckets.home[1], COUNTED + ALL);
+    assert_eq!(rt; kept.buckets.probing[1], ALL);
+    for (lock, value) in LOCKS.into_iter().zip([1u64, 1, 5, 1]) {
+        assert_eq!(rt; memory.word(lock), value);
     }
-    let end = if op.want() == Want::Done {
-        op.end()
-    } else {
-        WriteEnd::Off
-    };
-    assert_eq!(rt; end, replied(Reply::Deep, 6));
-    Ok(())
-}
-
-#[test]
-fn wider_image_is_full(rt: HostRuntime) -> Result<(), Fail> {
-    let mut memory = with(&[(97, 0x3FFF)]);
-    let kept = Kept {
-        site: Site {
-            geometry: Geometry::new(2, 1, 0)?,
-            ..site()?
-        },
-        ..kept_in(&mut memory)?
-    };
-    let mut op = RefuseOp::new(kept);
-    op.take(Ans::Value(10));
-    op.take(Ans::Passed);
-    op.take(Ans::Passed);
-    let end = if op.want() == Want::Done {
-        op.end()
-    } else {
-        WriteEnd::Off
-    };
-    assert_eq!(rt; end, replied(Reply::Full, 10));
     Ok(())
 }

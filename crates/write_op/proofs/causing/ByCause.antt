@@ -1,11 +1,10 @@
 -- A change ends by its causes, beside any other callers.
-use Rattle.std.proofs.Common.{◌≡◌, ◌≢◌, ◌⊎◌, ℕ, ◌+◌, ◌-◌, ◌%◌, ◌^◌, ◌<◌, ◌≤◌, Bool, true, false, Option, None, Some, List, [], ◌∷◌, ◌++◌, IsTrue, inl, inr, refl, sym, ap, ◌∙◌, subst, arith, slice_index}
-use Rattle.std.specs.Prelude.{is_none, ◌==◌, if◌then◌else◌}
+use Rattle.std.proofs.Common.{◌≡◌, ◌≢◌, ℕ, ◌+◌, ◌<◌, ◌≤◌, Bool, true, false, None, Some, IsTrue, inl, refl, sym, ap, ◌∙◌, subst, arith}
+use Rattle.std.specs.Prelude.{◌==◌, if◌then◌else◌}
 use Rattle.std.proofs.lemmas.Option.{none-some}
-use Rattle.op_core.specs.declared.want.Want.{Want}
 use Rattle.op_core.specs.declared.want.Want.TheVariants as want
 use Rattle.op_core.specs.declared.want.Ans.{Ans}
-use Rattle.op_core.specs.declared.want.Ans.TheVariants.{Value, Drawn, Passed}
+use Rattle.op_core.specs.declared.want.Ans.TheVariants.{Passed}
 use Rattle.op_core.specs.declared.why.Why.TheVariants.{Busy}
 use Rattle.segment_head.specs.HeadWord.{state_in, normal}
 use Rattle.trace.specs.Events.{Words}
@@ -15,32 +14,29 @@ use Rattle.bucket_words.specs.Owners.{HasStructure}
 use Rattle.map_model.specs.declared.call.Call.{Call}
 use Rattle.map_model.specs.declared.entry.Reply.TheVariants as reply
 use Rattle.map_model.specs.Map.{key_of}
-use Rattle.map_model.specs.Changes.{call_of}
 use Rattle.world.specs.declared.site.Site.{Site as Here}
 use Rattle.world.specs.Site.{Site, IsSite}
-use Rattle.world.specs.Views.{View, Has, HasLock}
+use Rattle.world.specs.Views.{View}
 use Rattle.world.specs.Wants.{answer_to, word_of}
 use Rattle.part.specs.Doings.{Doings, with_event_of}
 use Rattle.part.specs.Outcomes.{Outcome, replied, again, stale, off}
-use Rattle.part.specs.Causes.{IsOwnLock, HasCause, EndsByCause}
+use Rattle.part.specs.Causes.{HasCause, EndsByCause}
 use Rattle.phase.specs.declared.place.Place.{Place}
 use Rattle.phase.specs.declared.walk.Path.{Path}
 use Rattle.phase.specs.declared.walk.Walk.{Walk}
-use Rattle.phase.specs.declared.walk.Walked.{Walked}
 use Rattle.phase.specs.declared.walk.Walked.TheVariants as walked
 use Rattle.phase.specs.declared.take.Take.{Take}
 use Rattle.phase.specs.declared.take.Take.TheVariants.{Look, Try}
-use Rattle.phase.specs.declared.held.Held.{Held}
 use Rattle.phase.specs.Walks.{walk_wanted, walk_taken}
 use Rattle.phase.specs.Takes.{take_wanted, take_taken}
 use Rattle.phase.specs.Backs.{back_word, back_taken}
 use Rattle.phase.specs.Loads.{load_taken}
-use Rattle.phase.specs.Helds.{free_of, give_next, given}
+use Rattle.phase.specs.Helds.{free_of, given}
 use Rattle.phase.specs.Stands.{Leads, HasWalked}
-use Rattle.phase.specs.Taking.{IsTaking, RemembersTake}
 use Rattle.phase.proofs.Walking.{walk_stands}
 use Rattle.phase.proofs.Causing.{walk_caused, back_caused}
 use Rattle.phase.proofs.locks.Taking.{take_caused}
+use Rattle.phase.proofs.Wanting.{no}
 use Rattle.phase.proofs.locks.Giving.{no_some, locks_apart, has_not}
 use Rattle.write_op.specs.declared.step.Task.{Task}
 use Rattle.write_op.specs.declared.step.Seen.{Seen}
@@ -53,24 +49,22 @@ use Rattle.write_op.specs.declared.step.NoteWord.TheVariants.{Mark, Fingers}
 use Rattle.write_op.specs.declared.step.WriteStep.{WriteStep}
 use Rattle.write_op.specs.declared.step.WriteStep.TheVariants.{Way, Lock, Check, Fill, Count, Draw, Unnote, CountSpent, Give, Ended}
 use Rattle.write_op.specs.declared.step.WriteStep.TheVariants as step
-use Rattle.write_op.specs.declared.step.Stage.{Stage}
-use Rattle.write_op.specs.declared.op.WriteOp.{WriteOp}
 use Rattle.write_op.specs.Search.{unnoted, has_finger}
-use Rattle.write_op.specs.Steps.{go, end_of, giving, answered, walked_to, unnoted_to, lock_of, wanted_in, next_in, wanted, is_over, is_without_slot}
-use Rattle.write_op.specs.Fits.{index, loaded_by, HasLoaded, SuitsStep, outcome_of, outcome_at, IsIn, ChangeStands}
-use Rattle.write_op.specs.ChangePart.{IsUnsplit, RemembersIn, change_part}
+use Rattle.write_op.specs.Steps.{go, end_of, answered, unnoted_to, lock_of, wanted_in, next_in, wanted, taken, is_over, is_without_slot}
+use Rattle.phase.specs.Asked.{index, loaded_by}
+use Rattle.write_op.specs.Fits.{HasLoaded, SuitsStep, outcome_of, outcome_at, IsIn}
+use Rattle.write_op.specs.ChangePart.{IsUnsplit, IsAtHead, RemembersIn, change_part}
 use Rattle.write_op.proofs.keeping.Going.{located}
 use Rattle.write_op.proofs.keeping.Stepping.{walk_answer}
 use Rattle.write_op.proofs.keeping.Entering.{giving_outcome}
-use Rattle.write_op.proofs.Over.{over_done}
-use Rattle.write_op.proofs.refusing.Room.{key_called}
+use Rattle.write_op.proofs.Over.{over_done, without}
+use Rattle.write_op.proofs.parts.Parted.{never_finished}
+use Rattle.phase.proofs.Handing.{key_called}
 use Rattle.write_op.proofs.causing.Heads.{HasHead, walk_head, is_normal}
+use Rattle.write_op.proofs.causing.Told.{given_decides}
+use Rattle.write_op.proofs.finding.Places.{held_asked}
 use Rattle.write_op.proofs.causing.Recalling.{recalls_next}
 use Rattle.write_op.proofs.causing.Deciding.{CausedIf, walked_caused, locked_caused, backed_caused, filled_open, counted_caused, make_open, drawn_caused, own_lock, spent_caused, back_unchanged}
-
-given_decides : (end : Ending) → outcome_of (end_of end) ≡ None → ⊥
-given_decides (ending.Replied answer place) none = none-some (replied answer place) (sym none)
-given_decides (ending.Again why) none = none-some (again why) (sym none)
 
 -- ---- in a world, for the caller with this view
 module _ (site : Site) (good : IsSite site) (task : Task) (is : IsIn site task) (unsplit : IsUnsplit site) (words : Words) (structure : HasStructure site.shape site.front words) (seen : Seen) (v : View) where
@@ -99,12 +93,13 @@ module _ (site : Site) (good : IsSite site) (task : Task) (is : IsIn site task) 
         (h.0, is_normal site unsplit path.segment path.head leads.within h.0 h.1)
 
   -- WHAT IS REMEMBERED
-  recalled : (s : WriteStep) (did : Doings) → SuitsStep site task seen s v → RemembersIn site task seen did s → wanted_in task seen s ≢ want.Done
-      → RemembersIn site task (next_in task seen s (answer_to (wanted_in task seen s) (Finds s))).seen (with_event_of (wanted_in task seen s) (answer_to (wanted_in task seen s) (Finds s)) did)
+  recalled : (s : WriteStep) (did : Doings) → SuitsStep site task seen s v → RemembersIn (IsAtHead site) task seen did s
+      → RemembersIn (IsAtHead site) task (next_in task seen s (answer_to (wanted_in task seen s) (Finds s))).seen (with_event_of (wanted_in task seen s) (answer_to (wanted_in task seen s) (Finds s)) did)
       (next_in task seen s (answer_to (wanted_in task seen s) (Finds s))).step
-  recalled s did suits r asks = recalls_next site task seen s (Finds s) did r asks
+  recalled s did suits r = recalls_next (IsAtHead site) task seen s (Finds s) did r
       (λ w e path there. (arrives w (subst (λ z. SuitsStep site task seen z v) e suits) path (subst (λ z. walk_taken task.site task.hash w (words (word_of site.shape (wanted_in task seen z))) ≡ walked.There path) e there)).0)
       (λ place take e. out place (loaded_by place) (subst (λ z. SuitsStep site task seen z v) e suits).0)
+      (λ e place held. held_asked seen (subst (λ z. SuitsStep site task seen z v) e suits).0.upto place held)
 
   -- ---- causes
   module _ (did : Doings) (call : Call) (hash_is : task.hash ≡ key_hash task.site.geometry (key_of call)) where
@@ -114,7 +109,7 @@ module _ (site : Site) (good : IsSite site) (task : Task) (is : IsIn site task) 
     within_here : (segment : ℕ) → Leads site task.hash segment → segment < task.site.geometry.segments
     within_here segment leads = subst (λ (g : Shape). segment < g.segments) (sym is.shape) leads.within
 
-    lock_caused : (place : Place) (take : Take) → SuitsStep site task seen (Lock place take) v → RemembersIn site task seen did (Lock place take)
+    lock_caused : (place : Place) (take : Take) → SuitsStep site task seen (Lock place take) v → RemembersIn (IsAtHead site) task seen did (Lock place take)
         → CausedIf task words did call hash_is v (take_wanted (lock_of task seen place) take)
         (next_in task seen (Lock place take) (answer_to (take_wanted (lock_of task seen place) take) (words (lock_of task seen place)))).step
     lock_caused place take suits r =
@@ -123,12 +118,12 @@ module _ (site : Site) (good : IsSite site) (task : Task) (is : IsIn site task) 
         let none = out place (loaded_by place) suits.0 in
         locked_caused task words did call hash_is v seen place take (take_taken take (answer_to (take_wanted lock take) (words lock)))
         (has_not site task.site task.hash seen.path.segment seen.held place v at suits.0.locks none)
-        (take_caused task.site.geometry words did call lock (own_lock task words did call hash_is v seen r.0.0 (within_here seen.path.segment suits.0.leads) place)
+        (take_caused task.site.geometry words did call lock (own_lock task words did call hash_is v seen r.0.0 (within_here seen.path.segment suits.0.leads) place r.4)
         (λ changed.
         let own = r.1 lock changed in
         locks_apart site task.site task.hash seen.path.segment at place own.0 (λ e. no_some (sym none ∙ ap (free_of seen.held) e ∙ own.1.1)) own.2) take suits.3 r.2)
 
-    step_caused : (s : WriteStep) → SuitsStep site task seen s v → RemembersIn site task seen did s → outcome_at s ≡ None → wanted_in task seen s ≢ want.Done → Decides s
+    step_caused : (s : WriteStep) → SuitsStep site task seen s v → RemembersIn (IsAtHead site) task seen did s → outcome_at s ≡ None → wanted_in task seen s ≢ want.Done → Decides s
     step_caused (Way w) suits r none asks =
         let n : ℕ = Finds (Way w) in
         subst (λ (a : Ans). CausedIf task words did call hash_is v (walk_wanted task.site task.hash w) (next_in task seen (Way w) a).step) (sym (walk_answer task.site task.hash w n))
@@ -148,7 +143,7 @@ module _ (site : Site) (good : IsSite site) (task : Task) (is : IsIn site task) 
     step_caused Draw suits r none asks = drawn_caused task words did call hash_is v want.Draw seen (Finds Draw)
     step_caused (Unnote part place) suits r none asks = absurd (none-some (replied reply.Done place) (sym none))
     step_caused CountSpent suits r none asks =
-        spent_caused task words did call hash_is v seen r.0.0 (subst (λ (g : Shape). seen.path.segment < g.segments) (sym is.shape) suits.0.located.within) (wanted_in task seen CountSpent) (Finds CountSpent) r.1.0 r.1.1
+        spent_caused task words did call hash_is v seen r.0.0 (subst (λ (g : Shape). seen.path.segment < g.segments) (sym is.shape) suits.0.located.within) (wanted_in task seen CountSpent) (Finds CountSpent) r.1.0 r.1.1 r.1.2
     step_caused (Give held end) suits r none asks = absurd (given_decides end none)
     step_caused (Ended end) suits r none asks = absurd (asks refl)
 
@@ -181,9 +176,6 @@ ended_outcome (ends.Again why) closed = (again why, refl)
 ended_outcome (ends.Stale segment byte) closed = (stale segment byte, refl)
 ended_outcome ends.Off closed = (off, refl)
 
-no : IsTrue false → ⊥
-no e = let f : false ≡ true = e in cc
-
 over_decided : (s : WriteStep) → IsTrue (is_over s) → is_without_slot s ≡ false → (outcome : Outcome) × (outcome_at s ≡ Some outcome)
 over_decided (Give held end) over closed = given_outcome end
 over_decided (Ended end) over closed = ended_outcome end closed
@@ -202,12 +194,14 @@ change_ends_by_cause = record {
       let caused = λ (none : outcome_at op.stage.step ≡ None).
       step_caused site h.site_is task st.is_in r.unsplit words structure seen v did call hash_is op.stage.step st.view r.kept none asks in
       record {
-        remembers = record { unsplit = r.unsplit; kept = recalled site h.site_is task st.is_in r.unsplit words structure seen v op.stage.step did st.view r.kept asks };
+        remembers = record { unsplit = r.unsplit; kept = recalled site h.site_is task st.is_in r.unsplit words structure seen v op.stage.step did st.view r.kept };
         caused = λ outcome none some.
             subst (λ (g : Shape). HasCause g words did call (wanted op) here outcome) st.is_in.shape
             (subst (λ (z : Here). HasCause task.site.geometry words did call (wanted op) z outcome) st.at (caused none outcome some).0);
+        worked = λ none some. never_finished (taken op (answer_to (wanted op) (words (word_of site.shape (wanted op))))) some;
         not_own = λ word value none some. (caused none (again (Busy word value)) some).1;
       };
   stays = λ op a outcome some. stays_at op.task op.stage.seen op.stage.step a outcome some;
   decided = λ site here call op v s done closed. over_decided op.stage.step ((over_done op.task op.stage.seen op.stage.step).1 done) closed;
+  undecided = λ op is. ap outcome_at (without op.stage.step is);
 }

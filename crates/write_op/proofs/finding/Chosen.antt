@@ -1,16 +1,15 @@
 -- The spot that a change chose: its bucket is held, its slot is one of the bucket, and the record that is stored fits it.
-use Rattle.std.proofs.Common.{◌≡◌, ◌⊎◌, ℕ, ◌+◌, ◌*◌, ◌%◌, ◌^◌, ◌<◌, ◌≤◌, Bool, true, false, Option, None, Some, List, inl, inr, refl, sym, ap, ◌∙◌, subst, arith, slice_index}
+use Rattle.std.proofs.Common.{◌≡◌, ◌⊎◌, ℕ, ◌+◌, ◌<◌, ◌≤◌, true, inl, inr, refl, sym, ap, ◌∙◌, subst, arith, slice_index}
 use Rattle.hash_word.specs.Hash.{finger_of}
 use Rattle.bucket_meta.specs.Bucket.{allocated, record_slots}
 use Rattle.bucket_meta.specs.Marks.{finger_place, with_finger}
-use Rattle.bucket_meta.specs.Search.{lowest_with, lowest_free}
-use Rattle.bucket_meta.proofs.Found.{FindsKey, finds_key, FindsFree, finds_free}
+use Rattle.bucket_meta.proofs.Found.{found_with, free_at}
 use Rattle.image_layout.specs.Places.{bucket_at}
 use Rattle.map_model.specs.declared.change.Deed.{Deed}
 use Rattle.map_model.specs.declared.change.Deed.TheVariants.{Insert, Update, Remove}
 use Rattle.world.specs.Site.{Site}
 use Rattle.phase.specs.declared.place.Place.{Place}
-use Rattle.phase.specs.declared.place.Place.TheVariants.{Home}
+use Rattle.phase.specs.declared.place.Place.TheVariants.{Home, Probing}
 use Rattle.phase.specs.declared.make.Record.{Record}
 use Rattle.phase.specs.Places.{bucket_of}
 use Rattle.phase.specs.Buckets.{words_in}
@@ -22,28 +21,12 @@ use Rattle.phase.proofs.locks.Storing.{place_near}
 use Rattle.write_op.specs.declared.step.Task.{Task}
 use Rattle.write_op.specs.declared.step.Spot.{Spot}
 use Rattle.write_op.specs.declared.step.Seen.{Seen}
-use Rattle.write_op.specs.Search.{found, room_in, record_at}
+use Rattle.write_op.specs.Search.{found, record_at}
 use Rattle.write_op.specs.Steps.{lock_of}
-use Rattle.write_op.specs.Fits.{HoldsUpto, IsSpot, IsChosen, loaded}
-use Rattle.write_op.proofs.finding.Searching.{IsFound, IsIn, or_some, found_some}
+use Rattle.write_op.specs.Fits.{is_asked, HoldsUpto, IsSpot, IsChosen, loaded}
+use Rattle.write_op.proofs.finding.Searching.{IsFound, found_some}
+use Rattle.write_op.proofs.finding.Rooms.{IsRoom, room_some}
 use Rattle.write_op.proofs.finding.Finding.{asked_held}
-
-some_none : {A : Type 0} {x : A} → None ≡ Some x → ⊥
-some_none e = cc
-
-key_low : (ws : List ℕ) (key s : ℕ) → lowest_with ws key ≡ Some s → s < record_slots
-key_low ws key s e = by (lowest_with ws key) (finds_key ws key 14 0 14 refl) e
-  where
-    by : (o : Option ℕ) → FindsKey ws key 0 14 o → o ≡ Some s → s < record_slots
-    by (Some t) f is = (let same : t ≡ s = cc in subst (λ z. z < record_slots) same f.1)
-    by None f is = absurd (some_none is)
-
-free_low : (w1 s : ℕ) → lowest_free w1 ≡ Some s → (allocated s w1 ≡ 0) × (s < record_slots)
-free_low w1 s e = by (lowest_free w1) (finds_free w1 14 0 14 refl) e
-  where
-    by : (o : Option ℕ) → FindsFree w1 0 14 o → o ≡ Some s → (allocated s w1 ≡ 0) × (s < record_slots)
-    by (Some t) f is = (let same : t ≡ s = cc in subst (λ z. (allocated z w1 ≡ 0) × (z < record_slots)) same f)
-    by None f is = absurd (some_none is)
 
 module _ (site : Site) (task : Task) (seen : Seen) (upto : HoldsUpto seen 4) (c : IsChosen site task seen) where
   abbrev pub spot : Spot
@@ -59,15 +42,16 @@ module _ (site : Site) (task : Task) (seen : Seen) (upto : HoldsUpto seen 4) (c 
   pub remove_found : task.change.deed ≡ Remove → IsFound seen task.change.key spot
   remove_found e = found_some seen task.change.key spot (is_spot Remove e)
 
-  pub room_free : (value : ℕ) → task.change.deed ≡ Insert value → IsIn Home (lowest_free (slice_index seen.buckets.home 1)) spot
-  room_free value e = elim (or_some Home (lowest_free (slice_index seen.buckets.home 1)) None spot (is_spot (Insert value) e).1) [
-    | inl at ↦ at
-    | inr none ↦ absurd (some_none none)
-  ]
+  pub room_free : (value : ℕ) → task.change.deed ≡ Insert value → IsRoom seen.buckets spot
+  room_free value e = room_some seen.buckets spot (is_spot (Insert value) e).1
+
+  near_asked : (p : Place) → (p ≡ Home) ⊎ (p ≡ Probing) → is_asked seen p ≡ true
+  near_asked p (inl home) = ap (is_asked seen) home
+  near_asked p (inr probing) = ap (is_asked seen) probing
 
   -- its bucket is held
   held_by : (d : Deed) → task.change.deed ≡ d → IsHeld seen.held seen.place
-  held_by (Insert value) e = subst (IsHeld seen.held) (sym (room_free value e).place) (asked_held seen upto Home refl)
+  held_by (Insert value) e = asked_held seen upto seen.place (near_asked seen.place (room_free value e).near)
   held_by (Update value) e = asked_held seen upto seen.place (update_found value e).asked
   held_by Remove e = asked_held seen upto seen.place (remove_found e).asked
 
@@ -76,9 +60,9 @@ module _ (site : Site) (task : Task) (seen : Seen) (upto : HoldsUpto seen 4) (c 
 
   -- and its slot is one of it
   low_by : (d : Deed) → task.change.deed ≡ d → seen.written.slot < record_slots
-  low_by (Insert value) e = (free_low (slice_index seen.buckets.home 1) seen.written.slot (room_free value e).slot).1
-  low_by (Update value) e = key_low (words_in seen.buckets seen.place) task.change.key seen.written.slot (update_found value e).slot
-  low_by Remove e = key_low (words_in seen.buckets seen.place) task.change.key seen.written.slot (remove_found e).slot
+  low_by (Insert value) e = (free_at (slice_index (words_in seen.buckets seen.place) 1) seen.written.slot (room_free value e).slot).1
+  low_by (Update value) e = (found_with (words_in seen.buckets seen.place) task.change.key seen.written.slot (update_found value e).slot).1
+  low_by Remove e = (found_with (words_in seen.buckets seen.place) task.change.key seen.written.slot (remove_found e).slot).1
 
   pub slot_low : seen.written.slot < record_slots
   slot_low = low_by task.change.deed refl
@@ -99,10 +83,8 @@ module _ (site : Site) (task : Task) (seen : Seen) (upto : HoldsUpto seen 4) (c 
 
     free_here : (value : ℕ) → task.change.deed ≡ Insert value → allocated seen.written.slot (loaded task seen (lock + 1)) ≡ 0
     free_here value e =
-        let home : allocated seen.written.slot (slice_index seen.buckets.home 1) ≡ 0 = (free_low (slice_index seen.buckets.home 1) seen.written.slot (room_free value e).slot).0 in
-        let there : allocated seen.written.slot (slice_index (words_in seen.buckets seen.place) 1) ≡ 0 =
-        subst (λ (p : Place). allocated seen.written.slot (slice_index (words_in seen.buckets p) 1) ≡ 0) (sym (room_free value e).place) home in
-        ap (allocated seen.written.slot) (word_here 1 (omega arith) (omega arith)) ∙ there
+        let there = free_at (slice_index (words_in seen.buckets seen.place) 1) seen.written.slot (room_free value e).slot in
+        ap (allocated seen.written.slot) (word_here 1 (omega arith) (omega arith)) ∙ there.0
 
     -- an insert's record fits its slot
     pub fits_slot : (value : ℕ) → task.change.deed ≡ Insert value

@@ -1,38 +1,37 @@
 -- When all buckets are loaded, their words are known, and the search of them tells where the key stands.
-use Rattle.std.proofs.Common.{◌≡◌, ◌⊎◌, ℕ, ◌+◌, ◌<◌, ◌≤◌, Bool, true, false, Option, None, Some, List, inl, inr, refl, sym, ap, ◌∙◌, subst, arith, slice_index}
+use Rattle.std.proofs.Common.{◌≡◌, ℕ, ◌+◌, ◌<◌, ◌≤◌, Bool, true, false, None, refl, sym, ap, ◌∙◌, arith, slice_index}
 use Rattle.hash_word.specs.Hash.{home_of, finger_of}
-use Rattle.bucket_meta.specs.Search.{lowest_with}
 use Rattle.trace.specs.Events.{Words}
 use Rattle.image_layout.specs.Places.{bucket_at}
 use Rattle.bucket_words.specs.Hits.{Hit}
 use Rattle.bucket_words.specs.HomeNotes.{IsUnnoted}
 use Rattle.world.specs.Site.{Site}
 use Rattle.world.specs.Views.{View}
-use Rattle.world.specs.Holders.{FoundNone, FoundAt}
 use Rattle.world.proofs.stepping.Telling.{unvisited}
 use Rattle.phase.specs.declared.place.Place.{Place}
 use Rattle.phase.specs.declared.place.Place.TheVariants.{Home, Probing, First, Second}
 use Rattle.phase.specs.Places.{bucket_of}
 use Rattle.phase.specs.Helds.{free_of}
 use Rattle.phase.specs.Buckets.{words_in}
-use Rattle.phase.specs.Giving.{IsLocated, IsHeld, IsQuiet, IsOfHeld}
+use Rattle.phase.specs.Giving.{IsLocated, IsHeld, IsOfHeld}
 use Rattle.phase.specs.Knows.{Knows}
 use Rattle.phase.specs.Finding.{HasLoadedHeld, HoldsBuckets, SparesStash, StandsNowhere}
+use Rattle.phase.proofs.Asked.{few}
 use Rattle.phase.proofs.locks.Giving.{lock_at, no_some}
-use Rattle.phase.proofs.locks.Finding.{loads_are_known, words_stand, search_tells, holders_find}
+use Rattle.phase.proofs.locks.Finding.{loads_are_known, words_stand, search_tells}
 use Rattle.write_op.specs.declared.step.Task.{Task}
 use Rattle.write_op.specs.declared.step.Spot.{Spot}
 use Rattle.write_op.specs.declared.step.Seen.{Seen}
 use Rattle.write_op.specs.Search.{found, visits}
-use Rattle.write_op.specs.Fits.{index, is_asked, Upto, HoldsUpto, IsVisiting, HasLoaded, IsIn, loaded}
-use Rattle.write_op.proofs.finding.Places.{few, never}
-use Rattle.write_op.proofs.finding.Searching.{IsFound, found_none, found_some}
+use Rattle.write_op.specs.Fits.{is_asked, HoldsUpto, IsVisiting, HasLoaded, IsIn, loaded}
+use Rattle.write_op.proofs.finding.Places.{never}
+use Rattle.write_op.proofs.finding.Searching.{IsFound, found_none}
 use Rattle.write_op.proofs.keeping.Going.{located}
 
 -- ---- which locks are held
 module _ (seen : Seen) (upto : HoldsUpto seen 4) where
   pub asked_held : (p : Place) → is_asked seen p ≡ true → IsHeld seen.held p
-  asked_held p asked = upto.these p (record { low = few p; asked = asked })
+  asked_held p asked = upto.these p (record { low = few seen.first seen.second p asked; asked = asked })
 
   pub held_asked : (p : Place) → IsHeld seen.held p → is_asked seen p ≡ true
   held_asked p held = by (is_asked seen p) refl
@@ -61,7 +60,7 @@ module _ (site : Site) (task : Task) (is : IsIn site task) (seen : Seen) (v : Vi
   at = located site task is seen h.leads
 
   loaded_held : HasLoadedHeld task.site task.hash segment seen.held seen.buckets v
-  loaded_held p held = h.whole p (record { low = few p; asked = held_asked seen h.upto p held })
+  loaded_held p held = let asked = held_asked seen h.upto p held in h.whole p (record { low = few seen.first seen.second p asked; asked = asked })
 
   knows : Knows (IsOfHeld task.site task.hash segment seen.held) word v
   knows = loads_are_known site task.site task.hash segment seen.held seen.buckets v at loaded_held
@@ -98,7 +97,7 @@ module _ (site : Site) (task : Task) (seen : Seen) (at : IsLocated site task.sit
 
   pub nowhere : found seen task.change.key ≡ None → StandsNowhere site.shape task.hash seen.path.segment seen.held words task.change.key
   nowhere none = record {
-    places = λ place held t hit. search_tells.none site task.site task.hash seen.path.segment seen.buckets place task.change.key at
+    places = λ place held near t hit. search_tells.none site task.site task.hash seen.path.segment seen.buckets place task.change.key at
         (found_none seen task.change.key none place (held_asked seen upto place held)) t hit;
     stash = spares;
   }

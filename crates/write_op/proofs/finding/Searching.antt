@@ -1,8 +1,8 @@
 -- What a search of the loaded buckets says: where the key was found, and that it stands in none of them.
-use Rattle.std.proofs.Common.{◌≡◌, ◌⊎◌, ℕ, Bool, true, false, Option, None, Some, List, inl, inr, refl, sym, ap, ◌∙◌, subst}
+use Rattle.std.proofs.Common.{◌≡◌, ◌⊎◌, ℕ, Bool, true, false, Option, None, Some, List, inl, inr, refl, sym, ap, subst}
 use Rattle.bucket_meta.specs.Search.{lowest_with}
 use Rattle.phase.specs.declared.place.Place.{Place}
-use Rattle.phase.specs.declared.place.Place.TheVariants.{Home, Probing, First, Second}
+use Rattle.phase.specs.declared.place.Place.TheVariants.{Home, Probing, First, Second, Next, Previous}
 use Rattle.phase.specs.Buckets.{words_in}
 use Rattle.write_op.specs.declared.step.Spot.{Spot}
 use Rattle.write_op.specs.declared.step.Seen.{Seen}
@@ -61,6 +61,8 @@ module _ (seen : Seen) (key : ℕ) where
       by Probing asked a b c d = b
       by First asked a b c d = visited_none seen.first seen.buckets.first key c asked
       by Second asked a b c d = visited_none seen.second seen.buckets.second key d asked
+      by Next asked a b c d = absurd (let z : false ≡ true = asked in cc)
+      by Previous asked a b c d = absurd (let z : false ≡ true = asked in cc)
 
   -- or in a spot of one that was
   pub record IsFound (spot : Spot) : Type 0 where

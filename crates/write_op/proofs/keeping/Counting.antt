@@ -1,11 +1,8 @@
 -- The load of the commit counter under all locks keeps the view suited: it answers a refusal, or finds room for the change.
-use Rattle.std.proofs.Common.{◌≡◌, ◌⊎◌, ℕ, suc, ◌+◌, ◌^◌, ◌<◌, ◌≤◌, Bool, true, false, cond, Option, None, Some, List, [], ◌∷◌, inl, inr, refl, sym, ap, ◌∙◌, subst, arith, slice_index}
+use Rattle.std.proofs.Common.{◌≡◌, ℕ, ◌^◌, ◌<◌, Bool, true, false, Option, None, Some, [], refl, sym, ap, ◌∙◌, subst}
 use Rattle.std.specs.Prelude.{nat_le, nat_lt, if◌then◌else◌}
 use Rattle.std.proofs.lemmas.Bool.{lt-ltb, le-ltb, leb-true, leb-false}
-use Rattle.bucket_meta.specs.Search.{lowest_free}
 use Rattle.trace.specs.Events.{Words}
-use Rattle.image_layout.specs.Places.{Shape}
-use Rattle.map_model.specs.declared.call.Call.{Call}
 use Rattle.map_model.specs.declared.change.Deed.{Deed}
 use Rattle.map_model.specs.declared.change.Deed.TheVariants.{Insert, Update, Remove}
 use Rattle.map_model.specs.declared.entry.Reply.{Reply}
@@ -14,41 +11,34 @@ use Rattle.map_model.specs.Map.{is_done}
 use Rattle.map_model.specs.Legal.{IsInsert}
 use Rattle.map_model.specs.Changes.{doing, call_of}
 use Rattle.world.specs.Site.{Site}
-use Rattle.world.specs.Views.{View, Has, IsLoose}
+use Rattle.world.specs.Views.{View}
 use Rattle.world.specs.Kinds.{finds_room, next_entry, with_reply, with_count, view_after}
 use Rattle.world.specs.Attempts.{HasNoMore, EntersReply}
 use Rattle.part.specs.Outcomes.{reply_of}
 use Rattle.phase.specs.declared.place.Place.{Place}
-use Rattle.phase.specs.declared.place.Place.TheVariants.{Home}
+use Rattle.phase.specs.declared.place.Place.TheVariants.{Next, Previous}
 use Rattle.phase.specs.declared.make.Make.{Make}
 use Rattle.phase.specs.declared.make.Make.TheVariants.{Key, Publish}
-use Rattle.phase.specs.Giving.{IsQuiet, IsOfHeld, HoldsLocks}
-use Rattle.phase.specs.Knows.{Knows, HasNoneLoose}
+use Rattle.phase.specs.Giving.{IsQuiet, IsOfHeld}
+use Rattle.phase.specs.Knows.{Knows}
 use Rattle.phase.specs.Making.{IsMaking, IsNew}
+use Rattle.phase.proofs.Handing.{none_more, one_more, none_loose}
 use Rattle.phase.proofs.locks.Making.{make_knows}
 use Rattle.write_op.specs.declared.step.Task.{Task}
 use Rattle.write_op.specs.declared.step.Spot.{Spot}
 use Rattle.write_op.specs.declared.step.Seen.{Seen}
 use Rattle.write_op.specs.declared.step.Ending.TheVariants as ending
 use Rattle.write_op.specs.declared.step.WriteEnd.TheVariants as ends
-use Rattle.write_op.specs.declared.step.WriteStep.{WriteStep}
 use Rattle.write_op.specs.declared.step.WriteStep.TheVariants as step
 use Rattle.write_op.specs.declared.step.Stage.{Stage}
-use Rattle.write_op.specs.Search.{found, room_in, record_at, spot_or}
-use Rattle.write_op.specs.Steps.{go, giving, answered, making, inserting, changing, decided, counted, kept_in, lock_of}
-use Rattle.write_op.specs.Keeps.{KeepsAll}
-use Rattle.write_op.specs.Fits.{loaded, prepared_by, prepared, inserting_kind, changing_kind, deciding_kind, count_kind, IsVisiting, HasLoaded, IsInserting, IsSpot, planned_at, owed_at, IsChanging, IsGiving, SuitsStage, IsIn}
+use Rattle.write_op.specs.Search.{found, room_in, record_at}
+use Rattle.write_op.specs.Steps.{go, answered, making, inserting, changing, decided, counted, lock_of}
+use Rattle.write_op.specs.Fits.{loaded, prepared_by, prepared, inserting_kind, changing_kind, deciding_kind, count_kind, is_asked, IsVisiting, HasLoaded, IsInserting, IsSpot, planned_at, owed_at, IsChanging, IsGiving, SuitsStage, IsIn}
 use Rattle.write_op.proofs.keeping.Going.{located, give_suits}
 use Rattle.write_op.proofs.finding.Finding.{holds_buckets, nowhere}
-use Rattle.write_op.proofs.finding.Searching.{or_none}
-use Rattle.write_op.proofs.keeping.Entering.{reply_at, giving_outcome, one_more, none_more}
-
--- nothing is loose where nothing is unsettled
-pub none_loose : (v : View) → IsQuiet v → HasNoneLoose v
-none_loose v q p loose = elim loose [
-  | inl d ↦ subst (λ (l : List (ℕ × ℕ)). Has p l) q.dirty d
-  | inr f ↦ subst (λ (l : List (ℕ × ℕ)). Has p l) q.flushed f
-]
+use Rattle.write_op.proofs.finding.Rooms.{room_none}
+use Rattle.write_op.proofs.finding.Places.{never}
+use Rattle.write_op.proofs.keeping.Entering.{reply_at, giving_outcome}
 
 -- a stage that a view suits, with its reply entered
 abbrev pub Goes : Site → Task → View → Stage → View → Type 0
@@ -62,7 +52,7 @@ module _ (site : Site) (task : Task) (is : IsIn site task) (seen : Seen) (before
       let u : View = with_reply v (next_entry v (call_of task.change) r n false) in (
         give_suits site task is seen (ending.Replied r n) u (record {
           located = g.located;
-          locks = record { locks = g.locks.locks; free = g.locks.free; known = g.locks.known };
+          locks = record { has = g.locks.has; only = g.locks.only; free = g.locks.free; known = g.locks.known };
           quiet = record { dirty = g.quiet.dirty; flushed = g.quiet.flushed; planned = g.quiet.planned; moving = g.quiet.moving; owed = g.quiet.owed };
         }),
         subst (λ (o : Option (Reply × ℕ)). EntersReply (call_of task.change) o before u) (sym (ap reply_of (giving_outcome seen.held (ending.Replied r n))))
@@ -83,7 +73,7 @@ module _ (site : Site) (task : Task) (is : IsIn site task) (seen : Seen) (before
     room_loaded : HasLoaded site task seen 4 4 with_room
     room_loaded = record {
       leads = h.leads;
-      locks = record { locks = h.locks.locks; free = h.locks.free; known = h.locks.known };
+      locks = record { has = h.locks.has; only = h.locks.only; free = h.locks.free; known = h.locks.known };
       upto = h.upto;
       whole = h.whole;
     }
@@ -107,8 +97,8 @@ module _ (site : Site) (task : Task) (is : IsIn site task) (seen : Seen) (before
       changes m making plans owes inserts = record {
         all = record {
           leads = h.leads;
-          locks = record { locks = h.locks.locks; free = h.locks.free; known = h.locks.known };
-          upto = record { these = λ p u. h.upto.these p (record { low = u.low; asked = u.asked }); others = λ p out. h.upto.others p (λ u. out (record { low = u.low; asked = u.asked })) };
+          locks = record { has = h.locks.has; only = h.locks.only; free = h.locks.free; known = h.locks.known };
+          upto = record { these = h.upto.these; others = h.upto.others };
           visits = record { first = vis.first; second = vis.second };
           still = q.moving;
         };
@@ -143,17 +133,22 @@ module _ (site : Site) (task : Task) (is : IsIn site task) (seen : Seen) (before
     -- no slot is free
     kept_goes : (value : ℕ) → task.change.deed ≡ Insert value → found seen task.change.key ≡ None → room_in seen.buckets ≡ None
         → Goes site task before (go seen (step.Ended ends.NoSlot)) with_room
-    kept_goes value deed none full = (
-      record {
-        insert = subst (λ (d : Deed). IsInsert (doing task.change.key d)) (sym deed) tt;
-        holds = holds_buckets site task is seen with_room room_loaded;
-        quiet = room_quiet;
-        nowhere = nowhere site task seen (located site task is seen h.leads) h.upto vis none;
-        full = (or_none Home (lowest_free (slice_index seen.buckets.home 1)) None full).0;
-        room = some;
-      },
-      no_more (go seen (step.Ended ends.NoSlot)) refl,
-    )
+    kept_goes value deed none full =
+        let third = λ (p : Place) (out : is_asked seen p ≡ false). h.upto.others p (λ u. never (sym u.asked ∙ out)) in (
+          (
+            record {
+              insert = subst (λ (d : Deed). IsInsert (doing task.change.key d)) (sym deed) tt;
+              holds = holds_buckets site task is seen with_room room_loaded;
+              quiet = room_quiet;
+              nowhere = nowhere site task seen (located site task is seen h.leads) h.upto vis none;
+              home = (room_none seen.buckets full).0;
+              probing = (room_none seen.buckets full).1;
+              room = some;
+            },
+            record { next = third Next refl; previous = third Previous refl },
+          ),
+          no_more (go seen (step.Ended ends.NoSlot)) refl,
+        )
 
     module _ (n : ℕ) (small : nat_lt n (2 ^ 63) ≡ true) where
       room_is : with_room ≡ with_count (nat_lt n (2 ^ 63)) (call_of task.change) n v

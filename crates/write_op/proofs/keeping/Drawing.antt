@@ -1,18 +1,17 @@
 -- The draw keeps the view suited: its reply is entered, and the locks go back, but that a note may be owed.
-use Rattle.std.proofs.Common.{◌≡◌, ◌⊎◌, ℕ, suc, ◌+◌, ◌<◌, Bool, true, false, cond, Option, None, Some, List, [], ◌∷◌, ◌++◌, length, inl, inr, refl, sym, ap, ◌∙◌, subst, arith}
-use Rattle.std.specs.Prelude.{if◌then◌else◌, ◌==◌}
-use Rattle.std.proofs.lemmas.Bool.{eq-eqb}
+use Rattle.std.proofs.Common.{◌≡◌, ℕ, suc, Bool, true, false, [], ◌∷◌, ◌++◌, length, inl, inr, refl, sym, ap, ◌∙◌, subst}
+use Rattle.std.specs.Prelude.{if◌then◌else◌}
 use Rattle.map_model.specs.declared.call.Call.{Call}
 use Rattle.map_model.specs.declared.entry.Reply.TheVariants as reply
 use Rattle.map_model.specs.Map.{key_of}
 use Rattle.map_model.specs.Changes.{call_of}
 use Rattle.world.specs.Site.{Site}
-use Rattle.world.specs.Views.{View, Has, IsLoose}
+use Rattle.world.specs.Views.{View}
 use Rattle.world.specs.Kinds.{of_other_keys, with_draw}
 use Rattle.world.specs.Attempts.{HasNoMore, HasOneMore, EntersReply}
 use Rattle.part.specs.Outcomes.{reply_of}
-use Rattle.phase.specs.Giving.{IsQuiet}
 use Rattle.phase.proofs.locks.Giving.{nothing_left}
+use Rattle.phase.proofs.Handing.{own_drawn}
 use Rattle.write_op.specs.declared.step.Task.{Task}
 use Rattle.write_op.specs.declared.step.Seen.{Seen}
 use Rattle.write_op.specs.declared.step.Ending.TheVariants as ending
@@ -22,12 +21,8 @@ use Rattle.write_op.specs.Search.{leaves_note}
 use Rattle.write_op.specs.Steps.{go, answered, drawn_to}
 use Rattle.write_op.specs.Fits.{owed_by, IsDrawing, IsIn}
 use Rattle.write_op.proofs.keeping.Going.{located, give_suits}
-use Rattle.write_op.proofs.keeping.Entering.{reply_at, giving_outcome}
+use Rattle.write_op.proofs.keeping.Entering.{giving_outcome}
 use Rattle.write_op.proofs.keeping.Counting.{Goes}
-
--- what is planned of a key alone is drawn
-own_drawn : (call : Call) → of_other_keys (key_of call) (call ∷ []) ≡ []
-own_drawn call = ap (λ b. if b then [] else call ∷ []) (eq-eqb (key_of call) (key_of call) refl)
 
 module _ (site : Site) (task : Task) (is : IsIn site task) (seen : Seen) (before v : View) (same : HasNoMore before v) (d : IsDrawing site task seen v) (n : ℕ) where
   abbrev call : Call
@@ -56,7 +51,7 @@ module _ (site : Site) (task : Task) (is : IsIn site task) (seen : Seen) (before
     record {
       all = record {
         leads = d.all.leads;
-        locks = record { locks = d.all.locks.locks; free = d.all.locks.free; known = d.all.locks.known };
+        locks = record { has = d.all.locks.has; only = d.all.locks.only; free = d.all.locks.free; known = d.all.locks.known };
         upto = d.all.upto;
         visits = d.all.visits;
         still = d.all.still;
@@ -73,7 +68,7 @@ module _ (site : Site) (task : Task) (is : IsIn site task) (seen : Seen) (before
   by false e = (
     give_suits site task is seen (ending.Replied reply.Done n) after (record {
       located = located site task is seen d.all.leads;
-      locks = record { locks = d.all.locks.locks; free = d.all.locks.free; known = d.all.locks.known };
+      locks = record { has = d.all.locks.has; only = d.all.locks.only; free = d.all.locks.free; known = d.all.locks.known };
       quiet = record { dirty = no_dirty; flushed = no_flushed; planned = drawn; moving = d.all.still; owed = d.owes ∙ ap (owed_by site task seen) e };
     }),
     subst (λ o. EntersReply call o before after) (sym (ap reply_of (giving_outcome seen.held (ending.Replied reply.Done n)))) entered,

@@ -1,20 +1,12 @@
--- Which replies are entered: none before the outcome is decided, and then the one that it is.
-use Rattle.std.proofs.Common.{◌≡◌, ◌≢◌, ℕ, suc, ◌+◌, ◌<◌, Bool, true, false, cond, Option, None, Some, List, [], ◌∷◌, ◌++◌, length, refl, sym, ap, ◌∙◌, subst}
+-- Which replies are decided: none on the way, at the locks and while buckets are loaded.
+use Rattle.std.proofs.Common.{◌≡◌, ℕ, Bool, true, false, Option, None, Some, refl, ap}
 use Rattle.std.specs.Prelude.{if◌then◌else◌, ◌==◌}
-use Rattle.op_core.specs.declared.want.Want.TheVariants.{Done as DoneWant}
 use Rattle.op_core.specs.declared.why.Why.{Why}
 use Rattle.op_core.specs.declared.why.Why.TheVariants.{Busy, Moved}
 use Rattle.segment_head.specs.HeadWord.{state_in, normal}
 use Rattle.way.specs.Ways.{head_word}
-use Rattle.map_model.specs.declared.call.Call.{Call}
 use Rattle.map_model.specs.declared.entry.Reply.{Reply}
-use Rattle.map_model.specs.declared.entry.Reply.TheVariants as reply
-use Rattle.map_model.specs.Map.{is_done}
-use Rattle.map_model.specs.Changes.{call_of}
-use Rattle.world.specs.Views.{View}
-use Rattle.world.specs.Kinds.{next_entry, with_reply}
-use Rattle.world.specs.Attempts.{HasNoMore, HasOneMore, EntersReply}
-use Rattle.part.specs.Outcomes.{Outcome, replied, reply_of}
+use Rattle.part.specs.Outcomes.{reply_of}
 use Rattle.phase.specs.declared.place.Place.{Place}
 use Rattle.phase.specs.declared.place.Place.TheVariants.{Home, Probing, First, Second}
 use Rattle.phase.specs.declared.walk.Walked.{Walked}
@@ -35,7 +27,7 @@ use Rattle.write_op.specs.declared.step.Ending.TheVariants as ending
 use Rattle.write_op.specs.declared.step.WriteStep.{WriteStep}
 use Rattle.write_op.specs.declared.step.WriteStep.TheVariants.{Lock, Count}
 use Rattle.write_op.specs.declared.step.Stage.{Stage}
-use Rattle.write_op.specs.Steps.{go, end_of, given_by, giving, give, amiss, walked_to, locked, locked_to, backed_to, visit_second, visit_first, with_visits, filled, filled_to}
+use Rattle.write_op.specs.Steps.{go, end_of, given_by, giving, amiss, walked_to, locked, locked_to, backed_to, visit_second, visit_first, with_visits, filled, filled_to}
 use Rattle.write_op.specs.Fits.{outcome_of, outcome_at}
 
 -- the reply that is decided
@@ -73,8 +65,7 @@ walked_quiet task seen (walked.Stale segment version) = refl
 locked_quiet : (place : Place) → reply_at (locked place) ≡ None
 locked_quiet Home = refl
 locked_quiet Probing = refl
-locked_quiet First = refl
-locked_quiet Second = refl
+locked_quiet place = refl
 
 pub taken_quiet : (seen : Seen) (place : Place) (lock : ℕ) (x : Taken) → reply_at (locked_to seen place lock x).step ≡ None
 taken_quiet seen place lock (taking.On take) = refl
@@ -98,27 +89,8 @@ all_quiet : (hash : ℕ) (seen : Seen) (place : Place) → reply_at (filled hash
 all_quiet hash seen Home = refl
 all_quiet hash seen Probing = first_quiet (with_visits hash seen)
 all_quiet hash seen First = second_quiet seen
-all_quiet hash seen Second = refl
+all_quiet hash seen place = refl
 
 pub filled_quiet : (hash : ℕ) (seen : Seen) (place : Place) (x : Loaded) → reply_at (filled_to hash seen place x).step ≡ None
 filled_quiet hash seen place (loaded.On load) = refl
 filled_quiet hash seen place (loaded.All words) = all_quiet hash _ place
-
--- ---- what is entered
-module _ (call : Call) (before v : View) where
-  -- nothing more
-  pub none_more : (o : Option (Reply × ℕ)) (u : View) → o ≡ None → HasNoMore before v → u.own ≡ v.own → u.seen ≡ v.seen → EntersReply call o before u
-  none_more o u none same own seen = subst (λ (r : Option (Reply × ℕ)). EntersReply call r before u) (sym none) (record { own = own ∙ same.own; seen = seen ∙ same.seen })
-
-  -- a reply that changes nothing
-  pub one_more : (r : Reply) (place : ℕ) → is_done r ≡ false → HasNoMore before v → HasOneMore call r place before (with_reply v (next_entry v call r place false))
-  one_more r place plain same = record {
-    own = ap (λ o. o ++ record { serial = suc (length o); call = call; reply = r; place = place; drew = false } ∷ []) same.own
-        ∙ ap (λ d. before.own ++ next_entry before call r place d ∷ []) (sym plain);
-    seen = ap (λ d. cond d (suc place) place) (sym plain);
-  }
-
-  -- what was entered before, while locks are given back
-  pub same_more : (o : Option (Reply × ℕ)) (u : View) → EntersReply call o before v → u.own ≡ v.own → u.seen ≡ v.seen → EntersReply call o before u
-  same_more None u e own seen = record { own = own ∙ e.own; seen = seen ∙ e.seen }
-  same_more (Some r) u e own seen = record { own = own ∙ e.own; seen = seen ∙ e.seen }

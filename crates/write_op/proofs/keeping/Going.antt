@@ -1,7 +1,6 @@
 -- On the way, at the locks, and while buckets are loaded: what each phase makes of an answer leaves a view that suits.
-use Rattle.std.proofs.Common.{◌≡◌, ◌⊎◌, ℕ, ◌+◌, ◌%◌, ◌<◌, ◌≤◌, Bool, true, false, Option, None, Some, List, [], ◌∷◌, inl, inr, refl, sym, ap, ◌∙◌, subst, arith}
+use Rattle.std.proofs.Common.{◌≡◌, ℕ, ◌+◌, Bool, true, false, Option, None, Some, List, [], ◌∷◌, inl, inr, refl, sym, ap, subst, arith}
 use Rattle.std.specs.Prelude.{if◌then◌else◌, ◌==◌}
-use Rattle.std.proofs.lemmas.Bool.{cases_eq}
 use Rattle.op_core.specs.declared.why.Why.TheVariants.{Busy, Moved}
 use Rattle.segment_head.specs.HeadWord.{state_in, normal}
 use Rattle.way.specs.Ways.{head_word}
@@ -9,38 +8,38 @@ use Rattle.world.specs.Site.{Site}
 use Rattle.world.specs.Views.{View, Has, IsGuarded}
 use Rattle.world.specs.Attempts.{HoldsOnly}
 use Rattle.phase.specs.declared.place.Place.{Place}
-use Rattle.phase.specs.declared.place.Place.TheVariants.{Home, Probing, First, Second}
+use Rattle.phase.specs.declared.place.Place.TheVariants.{Home, Probing, First, Second, Next, Previous}
 use Rattle.phase.specs.declared.walk.Path.{Path}
 use Rattle.phase.specs.declared.walk.Walked.{Walked}
 use Rattle.phase.specs.declared.walk.Walked.TheVariants as walked
-use Rattle.phase.specs.declared.take.Take.{Take}
 use Rattle.phase.specs.declared.take.Take.TheVariants.{Look}
 use Rattle.phase.specs.declared.take.Taken.{Taken}
 use Rattle.phase.specs.declared.take.Taken.TheVariants as taking
 use Rattle.phase.specs.declared.back.Backed.{Backed}
 use Rattle.phase.specs.declared.back.Backed.TheVariants as backed
-use Rattle.phase.specs.declared.load.Load.{Load}
 use Rattle.phase.specs.declared.load.Loaded.{Loaded}
 use Rattle.phase.specs.declared.load.Loaded.TheVariants as loaded
 use Rattle.phase.specs.declared.held.Held.{Held}
-use Rattle.phase.specs.Helds.{none_held, with_held, free_of, give_next, give_wanted_of, given}
+use Rattle.phase.specs.Asked.{index, looked_by, loaded_by}
+use Rattle.phase.specs.Helds.{none_held, with_held, free_of, give_next, give_wanted_of}
 use Rattle.phase.specs.Buckets.{with_words, words_in}
-use Rattle.phase.specs.Stands.{Leads, IsLoading, HasLoaded as HasLoadedWords, HasWalked}
+use Rattle.phase.specs.Stands.{Leads, HasLoaded as HasLoadedWords, HasWalked}
 use Rattle.phase.specs.Taking.{MayBeTaken, IsButSpent, HasTaken}
 use Rattle.phase.specs.Giving.{IsLocated, IsQuiet, HoldsLocks}
 use Rattle.phase.specs.Knows.{IsWhole}
 use Rattle.phase.proofs.Loading.{load_begins}
-use Rattle.phase.proofs.locks.Giving.{held_none, held_more, give_stands}
+use Rattle.phase.proofs.Asked.{near_asked, upto_more, upto_less}
+use Rattle.phase.proofs.Wording.{words_this, words_other}
+use Rattle.phase.proofs.locks.Giving.{none_free, held_none, held_stands, give_stands}
 use Rattle.write_op.specs.declared.step.Task.{Task}
 use Rattle.write_op.specs.declared.step.Seen.{Seen}
 use Rattle.write_op.specs.declared.step.Ending.{Ending}
 use Rattle.write_op.specs.declared.step.Ending.TheVariants as ending
-use Rattle.write_op.specs.declared.step.WriteStep.{WriteStep}
 use Rattle.write_op.specs.declared.step.WriteStep.TheVariants.{Lock, Count}
-use Rattle.write_op.specs.declared.step.Stage.{Stage}
+use Rattle.write_op.specs.Search.{visits}
 use Rattle.write_op.specs.Steps.{go, end_of, given_by, giving, give, amiss, walked_to, locked_to, lock_of, backed_to, visit_second, with_visits, filled_with, filled_to}
-use Rattle.write_op.specs.Fits.{index, locked_by, loaded_by, is_asked, Upto, HoldsUpto, IsVisiting, HasLoaded, VisitsAt, IsGiving, SuitsEnd, SuitsStep, SuitsStage, IsIn}
-use Rattle.write_op.proofs.finding.Places.{one_place, near_asked, upto_less, none_free, none_from, holds_more, holds_less, words_this, words_other}
+use Rattle.write_op.specs.Fits.{is_asked, Upto, IsVisiting, HasLoaded, VisitsAt, IsGiving, SuitsEnd, SuitsStep, SuitsStage, IsIn}
+use Rattle.write_op.proofs.finding.Places.{holds_more, holds_less}
 
 pub quiet_only : (v : View) → HoldsOnly [] v → IsQuiet v
 quiet_only v o = record { dirty = o.dirty; flushed = o.flushed; planned = o.planned; moving = o.moving; owed = o.owed }
@@ -96,7 +95,7 @@ module _ (site : Site) (task : Task) (is : IsIn site task) where
     spent_loaded : IsButSpent v u → HasLoaded site task seen n m u
     spent_loaded s = subst (HasLoaded site task seen n m) (sym s.1) (record {
       leads = h.leads;
-      locks = record { locks = h.locks.locks; free = h.locks.free; known = h.locks.known };
+      locks = record { has = h.locks.has; only = h.locks.only; free = h.locks.free; known = h.locks.known };
       upto = h.upto;
       whole = h.whole;
     })
@@ -112,9 +111,9 @@ module _ (site : Site) (task : Task) (is : IsIn site task) where
     more_loaded : is_asked seen place ≡ true → HasLoaded site task (record seen { held = with_held place free seen.held }) (index place + 1) m u
     more_loaded asked = record {
       leads = h.leads;
-      locks = held_more task.site task.hash seen.path.segment seen.held place free v u (none_from seen place h.upto) may h.locks same;
+      locks = held_stands.more task.site task.hash seen.path.segment seen.held place free v u (h.upto.others place (λ w. let low = w.low in omega (arith, low))) may h.locks same;
       upto = holds_more seen place free asked h.upto;
-      whole = λ p w. subst (λ (z : View). IsWhole (lock_of task seen p) (words_in seen.buckets p) z) (sym same) (h.whole p (record { low = w.low; asked = w.asked }));
+      whole = λ p w. subst (λ (z : View). IsWhole (lock_of task seen p) (words_in seen.buckets p) z) (sym same) (h.whole p w);
     }
 
     more_quiet : IsQuiet u
@@ -132,6 +131,8 @@ module _ (site : Site) (task : Task) (is : IsIn site task) where
       (more_loaded seen First free 2 v u h q may same vis.1, more_quiet seen First free 2 v u h q may same, (visits_still seen _ vis.0, vis.1), load_begins _ _)
   held_suits seen Second free v u h q vis may same =
       (more_loaded seen Second free 3 v u h q may same vis.1, more_quiet seen Second free 3 v u h q may same, (visits_still seen _ vis.0, vis.1), load_begins _ _)
+  held_suits seen Next free v u h q vis may same = absurd vis
+  held_suits seen Previous free v u h q vis may same = absurd vis
 
   pub locked_suits : (seen : Seen) (place : Place) (v u : View) → HasLoaded site task seen (index place) (loaded_by place) v → IsQuiet v → VisitsAt site task seen place
       → (x : Taken) → HasTaken (lock_of task seen place) v x u → SuitsStage site task (locked_to seen place (lock_of task seen place) x) u
@@ -163,7 +164,7 @@ module _ (site : Site) (task : Task) (is : IsIn site task) where
     pub learnt_loaded : HasLoaded site task seen n m after
     learnt_loaded = record {
       leads = h.leads;
-      locks = record { locks = h.locks.locks; free = h.locks.free; known = learnt_known };
+      locks = record { has = h.locks.has; only = h.locks.only; free = h.locks.free; known = learnt_known };
       upto = h.upto;
       whole = λ p w j from low. inr (h.whole p w j from low);
     }
@@ -177,20 +178,19 @@ module _ (site : Site) (task : Task) (is : IsIn site task) where
     put = record seen { buckets = with_words place words seen.buckets }
 
     put_whole : (p : Place) → Upto put (index place + 1) p → IsWhole (lock_of task seen p) (words_in put.buckets p) u
-    put_whole p w = elim (cases_eq (index p) (index place)) [
-      | inl e ↦
-          let same : p ≡ place = one_place p place e in
+    put_whole p w = elim (upto_more seen.first seen.second place p w) [
+      | inl same ↦
           subst (λ (z : Place). IsWhole (lock_of task seen z) (words_in put.buckets z) u) (sym same)
           (subst (λ (ws : List ℕ). IsWhole (lock_of task seen place) ws u) (sym (words_this seen.buckets words place)) all)
-      | inr other ↦ subst (λ (ws : List ℕ). IsWhole (lock_of task seen p) ws u) (sym (words_other seen.buckets words place p other))
-          (h.whole p (record { low = (let low = w.low in omega (arith, low, other)); asked = w.asked }))
+      | inr before ↦ subst (λ (ws : List ℕ). IsWhole (lock_of task seen p) ws u)
+          (sym (words_other seen.buckets words place p (λ e. let low = before.low in omega (arith, low, e)))) (h.whole p before)
     ]
 
     put_loaded : HasLoaded site task put n (index place + 1) u
     put_loaded = record {
       leads = h.leads;
       locks = h.locks;
-      upto = record { these = λ p w. h.upto.these p (record { low = w.low; asked = w.asked }); others = λ p out. h.upto.others p (λ w. out (record { low = w.low; asked = w.asked })) };
+      upto = record { these = h.upto.these; others = h.upto.others };
       whole = put_whole;
     }
 
@@ -200,7 +200,7 @@ module _ (site : Site) (task : Task) (is : IsIn site task) where
     leads = h.leads;
     locks = h.locks;
     upto = holds_less seen p out h.upto;
-    whole = λ r w. h.whole r (upto_less seen p r out w);
+    whole = λ r w. h.whole r (upto_less seen.first seen.second p r out w);
   }
 
   second_suits : (seen : Seen) (u : View) → HasLoaded site task seen 3 3 u → IsQuiet u → IsVisiting task seen → (b : Bool) → seen.second ≡ b
@@ -219,13 +219,13 @@ module _ (site : Site) (task : Task) (is : IsIn site task) where
     leads = h.leads;
     locks = h.locks;
     upto = record {
-      these = λ p w. h.upto.these p (record { low = w.low; asked = near_asked seen p w.low });
-      others = λ p out. h.upto.others p (λ w. out (record { low = w.low; asked = near_asked (with_visits task.hash seen) p w.low }));
+      these = λ p w. h.upto.these p (record { low = w.low; asked = near_asked seen.first seen.second p w.low });
+      others = λ p out. h.upto.others p (λ w. out (record { low = w.low; asked = near_asked (visits task.hash seen.buckets 0) (visits task.hash seen.buckets 1) p w.low }));
     };
-    whole = λ p w. h.whole p (record { low = w.low; asked = near_asked seen p w.low });
+    whole = λ p w. h.whole p (record { low = w.low; asked = near_asked seen.first seen.second p w.low });
   }
 
-  all_suits : (seen : Seen) (place : Place) (words : List ℕ) (u : View) → HasLoaded site task seen (locked_by place) (index place) u → IsQuiet u → VisitsAt site task seen place
+  all_suits : (seen : Seen) (place : Place) (words : List ℕ) (u : View) → HasLoaded site task seen (looked_by place) (index place) u → IsQuiet u → VisitsAt site task seen place
       → IsWhole (lock_of task seen place) words u → SuitsStage site task (filled_with task.hash seen place words) u
   all_suits seen Home words u h q vis all = (put_loaded seen Home words 2 u h all, q, tt, load_begins _ _)
   all_suits seen Probing words u h q vis all =
@@ -235,8 +235,10 @@ module _ (site : Site) (task : Task) (is : IsIn site task) where
       second_suits (record seen { buckets = with_words First words seen.buckets }) u (put_loaded seen First words 3 u h all) q
       (record { first = vis.0.first; second = vis.0.second }) seen.second refl
   all_suits seen Second words u h q vis all = (put_loaded seen Second words 4 u h all, q, record { first = vis.0.first; second = vis.0.second })
+  all_suits seen Next words u h q vis all = absurd vis
+  all_suits seen Previous words u h q vis all = absurd vis
 
-  pub filled_suits : (seen : Seen) (place : Place) (u : View) → HasLoaded site task seen (locked_by place) (index place) u → IsQuiet u → VisitsAt site task seen place
+  pub filled_suits : (seen : Seen) (place : Place) (u : View) → HasLoaded site task seen (looked_by place) (index place) u → IsQuiet u → VisitsAt site task seen place
       → (x : Loaded) → HasLoadedWords (lock_of task seen place) u.known x → SuitsStage site task (filled_to task.hash seen place x) u
   filled_suits seen place u h q vis (loaded.On load) has = (h, q, vis, has)
   filled_suits seen place u h q vis (loaded.All words) has = all_suits seen place words u h q vis has

@@ -1,25 +1,26 @@
 -- The stores by which a note is taken away leave a view that suits.
-use Rattle.std.proofs.Common.{◌≡◌, ◌⊎◌, ℕ, ◌+◌, ◌<◌, ◌≤◌, Bool, true, false, cond, Option, None, Some, List, [], ◌∷◌, inl, inr, refl, sym, ap, ◌∙◌, subst, arith}
-use Rattle.std.specs.Prelude.{◌==◌, ◌&&◌, if◌then◌else◌}
+use Rattle.std.proofs.Common.{◌≡◌, ◌⊎◌, ℕ, ◌+◌, ◌<◌, ◌≤◌, Bool, true, false, Option, Some, List, [], ◌∷◌, inl, inr, refl, sym, ap, ◌∙◌, subst, arith}
+use Rattle.std.specs.Prelude.{if◌then◌else◌}
 use Rattle.std.proofs.lemmas.Bool.{eq-eqb}
 use Rattle.trace.specs.Events.{Words, with_word}
-use Rattle.map_model.specs.declared.call.Call.{Call}
 use Rattle.map_model.specs.declared.entry.Reply.{Reply}
 use Rattle.map_model.specs.declared.entry.Reply.TheVariants as reply
 use Rattle.map_model.specs.Changes.{call_of}
 use Rattle.bucket_words.specs.Core.{core_of}
 use Rattle.world.specs.Site.{Site}
-use Rattle.world.specs.Views.{Move, Owed, View, Has, At, IsLoose, IsGuarded}
+use Rattle.world.specs.Views.{Owed, View, Has, At, IsGuarded}
 use Rattle.world.specs.Conditions.{IsOwed}
-use Rattle.world.specs.Kinds.{loosened, of_other_homes, with_store, view_after}
+use Rattle.world.specs.Kinds.{of_other_homes, with_store, view_after}
 use Rattle.world.specs.Invariant.{Holds}
 use Rattle.world.specs.Attempts.{EntersReply}
 use Rattle.part.specs.Outcomes.{reply_of}
 use Rattle.phase.specs.declared.place.Place.{Place}
 use Rattle.phase.specs.declared.place.Place.TheVariants.{Home, Probing}
+use Rattle.phase.specs.AreWords.{AreWords}
 use Rattle.phase.specs.Giving.{IsHeld, IsOfHeld, HoldsLocks}
 use Rattle.phase.specs.Knows.{Knows, HasNoneLoose}
-use Rattle.phase.proofs.locks.Giving.{held_has, nothing_left}
+use Rattle.phase.proofs.Handing.{same_more, own_repaid}
+use Rattle.phase.proofs.locks.Giving.{held_has, held_store, nothing_left}
 use Rattle.phase.proofs.locks.Knowing.{known_store}
 use Rattle.phase.specs.Buckets.{words_in}
 use Rattle.write_op.specs.declared.search.NoteWords.{NoteWords}
@@ -32,19 +33,12 @@ use Rattle.write_op.specs.declared.step.WriteStep.TheVariants.{Unnote}
 use Rattle.write_op.specs.Search.{unnoted, has_finger}
 use Rattle.world.specs.Wants.{word_of}
 use Rattle.write_op.specs.Steps.{go, answered, lock_of, note_wanted, unnoted_to}
-use Rattle.write_op.specs.Fits.{changed, owed, is_asked, mark_kind, note_kind, words_of_note, HasAll, IsUnnoting, AreWords, IsIn}
+use Rattle.write_op.specs.Fits.{owed, is_asked, mark_kind, note_kind, words_of_note, HasAll, IsUnnoting, IsIn}
 use Rattle.write_op.proofs.keeping.Going.{located, give_suits}
 use Rattle.write_op.proofs.finding.Finding.{asked_held}
-use Rattle.write_op.proofs.keeping.Entering.{reply_at, giving_outcome, same_more}
+use Rattle.write_op.proofs.keeping.Entering.{giving_outcome}
 use Rattle.write_op.proofs.keeping.Counting.{Goes}
-use Rattle.write_op.proofs.keeping.Storing.{stored_locks}
 use Rattle.write_op.proofs.permitting.Unnoting.{mark_same_core, fingers_same_core, note_near}
-
--- what is owed for a home alone is repaid
-own_repaid : (o : Owed) → of_other_homes o (o ∷ []) ≡ []
-own_repaid o =
-    ap (λ t. if t && (o.home == o.home) then [] else o ∷ []) (eq-eqb o.segment o.segment refl)
-    ∙ ap (λ t. if t then [] else o ∷ []) (eq-eqb o.home o.home refl)
 
 module _ (site : Site) (task : Task) (is : IsIn site task) (seen : Seen) (before v : View) (words : Words) (views : List View) (j : ℕ) (h : Holds site words views) (at : At views j v)
     (small : (place : Place) → AreWords (words_in seen.buckets place)) where
@@ -62,8 +56,8 @@ module _ (site : Site) (task : Task) (is : IsIn site task) (seen : Seen) (before
     is_owed = h.overflow.owes j v (owed task seen) at (subst (λ (l : List Owed). Has (owed task seen) l) (sym u.owes) (inl refl))
 
     place_by : (p : Place) → (p ≡ Home) ⊎ (p ≡ Probing) → IsHeld seen.held p
-    place_by p (inl e) = asked_held seen u.all.upto p (ap (λ q. is_asked seen q) e)
-    place_by p (inr e) = asked_held seen u.all.upto p (ap (λ q. is_asked seen q) e)
+    place_by p (inl e) = asked_held seen u.all.upto p (ap (is_asked seen) e)
+    place_by p (inr e) = asked_held seen u.all.upto p (ap (is_asked seen) e)
 
     held_note : IsHeld seen.held n.place
     held_note = place_by n.place (note_near site task is seen v part u small words is_owed)
@@ -96,7 +90,7 @@ module _ (site : Site) (task : Task) (is : IsIn site task) (seen : Seen) (before
       ]
 
       after_locks : HoldsLocks task.site task.hash seen.path.segment seen.held after
-      after_locks = stored_locks task.site task.hash seen.path.segment seen.held v u.all.locks site.shape (lock + k) m x v.planned v.moving os (guard k from low)
+      after_locks = held_store task.site task.hash seen.path.segment site.shape seen.held v (lock + k) m x v.planned v.moving os u.all.locks (guard k from low)
 
       after_all : HasAll site task seen after
       after_all = record { leads = u.all.leads; locks = after_locks; upto = u.all.upto; visits = u.all.visits; still = u.all.still }

@@ -1,67 +1,51 @@
 -- EACH STEP of a change leaves a view that suits, with the reply entered that is decided.
-use Rattle.std.proofs.Common.{◌≡◌, ◌≢◌, ◌⊎◌, ℕ, ◌+◌, ◌%◌, ◌^◌, ◌<◌, ◌≤◌, Bool, true, false, Option, None, Some, List, [], inl, inr, refl, sym, ap, ◌∙◌, subst, arith}
-use Rattle.std.specs.Prelude.{◌==◌}
-use Rattle.op_core.specs.declared.want.Want.TheVariants as want
-use Rattle.op_core.specs.declared.want.Ans.{Ans}
-use Rattle.op_core.specs.declared.want.Ans.TheVariants.{Value, Passed}
+use Rattle.std.proofs.Common.{◌≡◌, ℕ, ◌+◌, ◌%◌, ◌^◌, ◌<◌, Option, None, List, [], inl, refl, sym, ap, subst, arith}
+use Rattle.op_core.specs.declared.want.Ans.TheVariants.{Value}
 use Rattle.trace.specs.Events.{Words}
-use Rattle.image_layout.specs.Places.{Shape}
 use Rattle.map_model.specs.declared.entry.Reply.{Reply}
-use Rattle.map_model.specs.declared.entry.Reply.TheVariants as reply
 use Rattle.map_model.specs.Changes.{call_of}
 use Rattle.bucket_words.specs.Owners.{HasStructure}
 use Rattle.world.specs.declared.site.Site.{Site as Here}
 use Rattle.world.specs.Site.{Site}
-use Rattle.world.specs.Views.{View, At, HasLock, IsGuarded}
+use Rattle.world.specs.Views.{View, At, IsGuarded}
 use Rattle.world.specs.Wants.{answer_to, word_of}
-use Rattle.world.specs.Kinds.{with_lock, view_after}
+use Rattle.world.specs.Kinds.{view_after}
 use Rattle.world.specs.Invariant.{Holds}
 use Rattle.world.specs.Attempts.{HoldsOnly, HasNoMore, EntersReply}
 use Rattle.part.specs.Outcomes.{reply_of}
 use Rattle.phase.specs.declared.place.Place.{Place}
-use Rattle.phase.specs.declared.place.Place.TheVariants.{Home, Probing, First, Second}
+use Rattle.phase.specs.declared.place.Place.TheVariants.{Home, Probing, First, Second, Next, Previous}
 use Rattle.phase.specs.declared.walk.Walk.{Walk}
 use Rattle.phase.specs.declared.walk.Walk.TheVariants as walk
 use Rattle.phase.specs.declared.walk.Walked.{Walked}
 use Rattle.phase.specs.declared.take.Take.{Take}
-use Rattle.phase.specs.declared.take.Take.TheVariants.{Look, Try}
 use Rattle.phase.specs.declared.load.Load.{Load}
-use Rattle.phase.specs.declared.make.Record.{Record}
-use Rattle.phase.specs.declared.make.Make.{Make}
-use Rattle.phase.specs.declared.make.Make.TheVariants as make
 use Rattle.phase.specs.declared.held.Held.{Held}
 use Rattle.phase.specs.Walks.{walk_wanted, walk_taken}
 use Rattle.phase.specs.Takes.{take_wanted, take_taken}
-use Rattle.phase.specs.Backs.{back_taken}
 use Rattle.phase.specs.Loads.{load_taken}
-use Rattle.phase.specs.Makes.{make_wanted, make_taken}
-use Rattle.phase.specs.Helds.{give_next, give_wanted_of, given}
-use Rattle.phase.specs.Stands.{walk_kind, IsLoading, HasWalked}
+use Rattle.phase.specs.Asked.{index, looked_by}
+use Rattle.phase.specs.Helds.{give_next, given}
+use Rattle.phase.specs.Stands.{walk_kind, HasWalked}
 use Rattle.phase.specs.Taking.{take_kind}
-use Rattle.phase.specs.Giving.{IsHeld, HoldsLocks, give_kind_of}
+use Rattle.phase.specs.Giving.{IsHeld}
 use Rattle.phase.proofs.Walking.{walk_stands, walk_keeps}
 use Rattle.phase.proofs.locks.Taking.{take_stands}
 use Rattle.phase.proofs.Loading.{load_stands}
+use Rattle.phase.proofs.Handing.{none_more, same_more, give_own, give_seen}
+use Rattle.phase.proofs.Wanting.{take_own, take_seen}
 use Rattle.phase.proofs.locks.Holding.{learn_may}
 use Rattle.phase.proofs.locks.Giving.{held_has, give_stands}
-use Rattle.write_op.specs.declared.search.NoteWords.{NoteWords}
 use Rattle.write_op.specs.declared.step.Task.{Task}
 use Rattle.write_op.specs.declared.step.Seen.{Seen}
 use Rattle.write_op.specs.declared.step.Ending.{Ending}
-use Rattle.write_op.specs.declared.step.NoteWord.{NoteWord}
-use Rattle.write_op.specs.declared.step.NoteWord.TheVariants.{Mark, Fingers}
-use Rattle.write_op.specs.declared.step.WriteStep.{WriteStep}
-use Rattle.write_op.specs.declared.step.WriteStep.TheVariants.{Way, Lock, Check, Fill, Count, Draw, Unnote, CountSpent, Give, Ended}
-use Rattle.write_op.specs.declared.step.WriteStep.TheVariants as step
+use Rattle.write_op.specs.declared.step.WriteStep.TheVariants.{Way, Lock, Fill, Give}
 use Rattle.write_op.specs.declared.step.Stage.{Stage}
-use Rattle.write_op.specs.Search.{unnoted}
-use Rattle.write_op.specs.Steps.{go, giving, lock_of, walked_to, locked_to, filled_to, note_wanted, wanted_in, next_in}
-use Rattle.write_op.specs.Fits.{index, locked_by, is_asked, HoldsUpto, HasLoaded, VisitsAt, IsGiving, SuitsStep, SuitsStage, kind_at, IsIn}
-use Rattle.write_op.proofs.keeping.Going.{walked_suits, locked_suits, backed_suits, learnt_loaded, learnt_quiet, filled_suits, giving_suits}
-use Rattle.write_op.proofs.keeping.Entering.{reply_at, giving_outcome, walked_quiet, taken_quiet, backed_quiet, filled_quiet, none_more, same_more}
-use Rattle.write_op.proofs.keeping.Counting.{Goes, refused, count_goes}
-use Rattle.write_op.proofs.keeping.Storing.{make_goes}
-use Rattle.write_op.proofs.keeping.Drawing.{draw_goes}
+use Rattle.write_op.specs.Steps.{go, giving, lock_of, walked_to, locked_to, filled_to, next_in}
+use Rattle.write_op.specs.Fits.{HasLoaded, VisitsAt, IsGiving, SuitsStep, SuitsStage, kind_at, IsIn}
+use Rattle.write_op.proofs.keeping.Going.{walked_suits, locked_suits, learnt_loaded, learnt_quiet, filled_suits, giving_suits}
+use Rattle.write_op.proofs.keeping.Entering.{reply_at, giving_outcome, walked_quiet, taken_quiet, filled_quiet}
+use Rattle.write_op.proofs.keeping.Counting.{Goes}
 
 -- ---- answers
 pub walk_answer : (here : Here) (hash : ℕ) (w : Walk) (n : ℕ) → answer_to (walk_wanted here hash w) n ≡ Value n
@@ -69,46 +53,6 @@ walk_answer here hash walk.Power n = refl
 walk_answer here hash walk.Root n = refl
 walk_answer here hash (walk.Entry root) n = refl
 walk_answer here hash (walk.Head root segment) n = refl
-
-pub make_answer : (lock : ℕ) (written : Record) (m : Make) (n : ℕ) → answer_to (make_wanted lock written m) n ≡ Passed
-make_answer lock written make.Key n = refl
-make_answer lock written make.Value n = refl
-make_answer lock written make.Fingers n = refl
-make_answer lock written make.FlushFingers n = refl
-make_answer lock written make.FlushRecord n = refl
-make_answer lock written make.FenceRecord n = refl
-make_answer lock written make.Publish n = refl
-make_answer lock written make.FlushPublished n = refl
-make_answer lock written make.FencePublished n = refl
-
-pub give_answer : (here : Here) (hash segment : ℕ) (next : Option (Place × ℕ)) (n : ℕ) → answer_to (give_wanted_of here hash segment next) n ≡ Passed
-give_answer here hash segment (Some next) n = refl
-give_answer here hash segment None n = refl
-
--- ---- what a phase leaves of the replies
-take_own : (shape : Shape) (lock : ℕ) (t : Take) (n : ℕ) (v : View) → (view_after shape (take_kind lock t) n v).own ≡ v.own
-take_own shape lock Look n v = refl
-take_own shape lock (Try free) n v = by (n == free)
-  where
-    by : (b : Bool) → (with_lock b lock free v).own ≡ v.own
-    by true = refl
-    by false = refl
-
-take_seen : (shape : Shape) (lock : ℕ) (t : Take) (n : ℕ) (v : View) → (view_after shape (take_kind lock t) n v).seen ≡ v.seen
-take_seen shape lock Look n v = refl
-take_seen shape lock (Try free) n v = by (n == free)
-  where
-    by : (b : Bool) → (with_lock b lock free v).seen ≡ v.seen
-    by true = refl
-    by false = refl
-
-give_own : (shape : Shape) (here : Here) (hash segment : ℕ) (held : Held) (next : Option (Place × ℕ)) (n : ℕ) (v : View) → (view_after shape (give_kind_of here hash segment next) n v).own ≡ v.own
-give_own shape here hash segment held (Some next) n v = refl
-give_own shape here hash segment held None n v = refl
-
-give_seen : (shape : Shape) (here : Here) (hash segment : ℕ) (held : Held) (next : Option (Place × ℕ)) (n : ℕ) (v : View) → (view_after shape (give_kind_of here hash segment next) n v).seen ≡ v.seen
-give_seen shape here hash segment held (Some next) n v = refl
-give_seen shape here hash segment held None n v = refl
 
 -- ---- one step
 module _ (site : Site) (task : Task) (is : IsIn site task) (words : Words) (views : List View) (j : ℕ) (before v : View) (h : Holds site words views) (at : At views j v) (some : 0 < v.callers) (seen : Seen) where
@@ -131,11 +75,13 @@ module _ (site : Site) (task : Task) (is : IsIn site task) (words : Words) (view
       (walk_keeps task.site task.hash site.shape (λ (z : View). z.seen ≡ v.seen) w n v (λ e. e) refl)
 
   -- the bucket that is loaded is held
-  fill_held : (place : Place) (m : ℕ) → HasLoaded site task seen (locked_by place) m v → VisitsAt site task seen place → IsHeld seen.held place
+  fill_held : (place : Place) (m : ℕ) → HasLoaded site task seen (looked_by place) m v → VisitsAt site task seen place → IsHeld seen.held place
   fill_held Home m l vis = l.upto.these Home (record { low = omega arith; asked = refl })
   fill_held Probing m l vis = l.upto.these Probing (record { low = omega arith; asked = refl })
   fill_held First m l vis = l.upto.these First (record { low = omega arith; asked = vis.1 })
   fill_held Second m l vis = l.upto.these Second (record { low = omega arith; asked = vis.1 })
+  fill_held Next m l vis = absurd vis
+  fill_held Previous m l vis = absurd vis
 
   pub fill_guard : (place : Place) (load : Load) → SuitsStep site task seen (Fill place load) v → IsGuarded v.held (lock_of task seen place + load.next % 32)
   fill_guard place load suits = learn_may site (lock_of task seen place) load v suits.3
@@ -148,8 +94,8 @@ module _ (site : Site) (task : Task) (is : IsIn site task) (words : Words) (view
       let i : ℕ = lock_of task seen place + load.next % 32 in
       let u : View = view_after site.shape (kind_at task seen (Fill place load) n) n v in
       quietly (filled_to task.hash seen place (load_taken load n)) u
-      (filled_suits site task is seen place u (learnt_loaded site task is seen (locked_by place) (index place) i n v suits.0 suits.1 guard)
-      (learnt_quiet site task is seen (locked_by place) (index place) i n v suits.0 suits.1 guard) suits.2 (load_taken load n) (load_stands (lock_of task seen place) v.known load n suits.3))
+      (filled_suits site task is seen place u (learnt_loaded site task is seen (looked_by place) (index place) i n v suits.0 suits.1 guard)
+      (learnt_quiet site task is seen (looked_by place) (index place) i n v suits.0 suits.1 guard) suits.2 (load_taken load n) (load_stands (lock_of task seen place) v.known load n suits.3))
       (filled_quiet task.hash seen place (load_taken load n)) same refl refl
 
   pub lock_goes : (place : Place) (t : Take) (n : ℕ) → n < 2 ^ 64 → SuitsStep site task seen (Lock place t) v → HasNoMore before v
@@ -172,6 +118,6 @@ module _ (site : Site) (task : Task) (is : IsIn site task) (words : Words) (view
         }),
         subst (λ (o : Option (Reply × ℕ)). EntersReply (call_of task.change) o before u)
             (sym (ap reply_of (giving_outcome (given held) end)))
-            (same_more (call_of task.change) before v (reply_at (Give held end)) u enters (give_own site.shape task.site task.hash seen.path.segment held (give_next held) n v)
-            (give_seen site.shape task.site task.hash seen.path.segment held (give_next held) n v)),
+            (same_more (call_of task.change) before v (reply_at (Give held end)) u enters (give_own site.shape task.site task.hash seen.path.segment (give_next held) n v)
+            (give_seen site.shape task.site task.hash seen.path.segment (give_next held) n v)),
       )

@@ -1,55 +1,36 @@
 -- The stores of the record keep the view suited, up to the draw.
-use Rattle.std.proofs.Common.{◌≡◌, ◌⊎◌, ℕ, ◌+◌, ◌*◌, ◌<◌, ◌≤◌, Bool, true, false, Option, None, Some, List, [], ◌∷◌, inl, inr, refl, sym, ap, ◌∙◌, subst, arith}
+use Rattle.std.proofs.Common.{◌≡◌, ℕ, ◌+◌, ◌*◌, ◌<◌, ◌≤◌, Bool, true, false, ◌∷◌, refl, sym, ap, ◌∙◌, subst, arith}
 use Rattle.std.specs.Prelude.{nat_lt, if◌then◌else◌}
 use Rattle.bucket_meta.specs.Bucket.{record_slots}
 use Rattle.bucket_meta.specs.Marks.{finger_place}
-use Rattle.trace.specs.Events.{Words}
-use Rattle.image_layout.specs.Places.{Shape}
-use Rattle.map_model.specs.declared.call.Call.{Call}
 use Rattle.map_model.specs.declared.change.Deed.{Deed}
 use Rattle.map_model.specs.declared.change.Deed.TheVariants.{Insert, Update, Remove}
 use Rattle.map_model.specs.Changes.{call_of}
-use Rattle.world.specs.declared.site.Site.{Site as Here}
-use Rattle.world.specs.Site.{Site, IsUnder}
-use Rattle.world.specs.Views.{Move, Owed, View, Has, IsGuarded}
-use Rattle.world.specs.Kinds.{without, with_store, view_after}
+use Rattle.world.specs.Site.{Site}
+use Rattle.world.specs.Views.{View, IsGuarded}
+use Rattle.world.specs.Kinds.{view_after}
 use Rattle.world.specs.Attempts.{HasNoMore}
-use Rattle.world.proofs.Seats.{without_has}
 use Rattle.phase.specs.declared.make.Record.{Record}
 use Rattle.phase.specs.declared.make.Make.{Make}
 use Rattle.phase.specs.declared.make.Make.TheVariants.{Key, Value, Fingers, FlushFingers, FlushRecord, FenceRecord, Publish, FlushPublished, FencePublished}
-use Rattle.phase.specs.declared.make.Made.{Made}
-use Rattle.phase.specs.declared.make.Made.TheVariants.{On, Settled}
-use Rattle.phase.specs.declared.held.Held.{Held}
+use Rattle.phase.specs.declared.make.Made.TheVariants.{On}
 use Rattle.phase.specs.Makes.{key_at, value_at, fingers_at, published_at, make_taken}
 use Rattle.phase.specs.Giving.{IsLocated, IsOfHeld, HoldsLocks}
-use Rattle.phase.specs.Knows.{Knows}
 use Rattle.phase.specs.Making.{IsStoring, make_kind, IsNew, IsMaking, HasMade}
-use Rattle.phase.proofs.locks.Giving.{held_has, is_lock}
+use Rattle.phase.proofs.Handing.{none_more}
+use Rattle.phase.proofs.locks.Giving.{is_lock, held_has, held_store, held_same}
 use Rattle.phase.proofs.locks.Making.{make_knows}
 use Rattle.phase.proofs.locks.Storing.{place_near}
 use Rattle.write_op.specs.declared.step.Task.{Task}
 use Rattle.write_op.specs.declared.step.Seen.{Seen}
 use Rattle.write_op.specs.declared.step.WriteStep.TheVariants as step
-use Rattle.write_op.specs.Search.{leaves_note, published_word, record_at}
-use Rattle.write_op.specs.Steps.{go, made_to, lock_of}
-use Rattle.write_op.specs.Fits.{loaded, prepared, changed, owed, publish_by, publish_kind, HasAll, planned_at, owed_by, owed_at, IsChanging, IsDrawing, IsIn}
+use Rattle.write_op.specs.Search.{leaves_note, published_word}
+use Rattle.write_op.specs.Steps.{made_to, lock_of}
+use Rattle.write_op.specs.Fits.{loaded, prepared, owed, publish_by, publish_kind, HasAll, planned_at, owed_by, owed_at, IsChanging, IsIn}
 use Rattle.write_op.proofs.keeping.Going.{located}
-use Rattle.write_op.proofs.finding.Chosen.{spot, place_held, slot_low, written_is}
-use Rattle.write_op.proofs.keeping.Entering.{reply_at, none_more}
+use Rattle.write_op.proofs.finding.Chosen.{place_held, slot_low, written_is}
+use Rattle.write_op.proofs.keeping.Entering.{reply_at}
 use Rattle.write_op.proofs.keeping.Counting.{Goes}
-
--- ---- locks stay held under which a word is stored
-module _ (here : Here) (hash segment : ℕ) (held : Held) (v : View) (h : HoldsLocks here hash segment held v) where
-  stored_known : (i x : ℕ) → IsGuarded v.held i → (p : ℕ × ℕ) → Has p ((i, x) ∷ without i v.known) → IsGuarded v.held p.0
-  stored_known i x guarded p k = elim k [
-    | inl e ↦ subst (λ (z : ℕ × ℕ). IsGuarded v.held z.0) (sym e) guarded
-    | inr r ↦ h.known p (without_has i p.0 p.1 v.known r).1
-  ]
-
-  pub stored_locks : (shape : Shape) (i old x : ℕ) (calls : List Call) (moves : List Move) (owed : List Owed) → IsGuarded v.held i
-      → HoldsLocks here hash segment held (with_store shape i old x calls moves owed v)
-  stored_locks shape i old x calls moves owed guarded = record { locks = h.locks; free = h.free; known = stored_known i x guarded }
 
 -- ---- the store that makes the change
 pub publishing : (task : Task) (seen : Seen) (b : Bool) → IsStoring (publish_by task seen b)
@@ -130,19 +111,11 @@ module _ (site : Site) (task : Task) (is : IsIn site task) (seen : Seen) (before
       (is_lock site task.site task.hash seen.path.segment (located site task is seen c.all.leads) seen.place)
       (loaded task seen) (prepared task seen) m v n c.making
 
-  -- a flush or a fence leaves what is held
-  still_locks : (u : View) → u.held ≡ v.held → u.known ≡ v.known → HoldsLocks task.site task.hash seen.path.segment seen.held v → HoldsLocks task.site task.hash seen.path.segment seen.held u
-  still_locks u held known h = record {
-    locks = held ∙ h.locks;
-    free = h.free;
-    known = λ p k. subst (λ (l : List (ℕ × ℕ)). IsGuarded l p.0) (sym held) (h.known p (subst (λ (l : List (ℕ × ℕ)). Has p l) known k));
-  }
-
   line_by : (c : IsChanging site task seen FlushFingers v) (b : Bool)
       → HasMade (lock_of task seen seen.place) seen.written (IsOfHeld task.site task.hash seen.path.segment seen.held) (loaded task seen) (prepared task seen) (if b then On FenceRecord else On FlushRecord) (after FlushFingers)
       → Goes site task before (made_to seen (if b then On FenceRecord else On FlushRecord)) (after FlushFingers)
-  line_by c true making = next_goes site task is seen before v same FlushFingers c (after FlushFingers) FenceRecord (λ x. tt) (still_locks (after FlushFingers) refl refl c.all.locks) refl making refl c.planned c.owes refl refl
-  line_by c false making = next_goes site task is seen before v same FlushFingers c (after FlushFingers) FlushRecord (λ x. tt) (still_locks (after FlushFingers) refl refl c.all.locks) refl making refl c.planned c.owes refl refl
+  line_by c true making = next_goes site task is seen before v same FlushFingers c (after FlushFingers) FenceRecord (λ x. tt) (held_same task.site task.hash seen.path.segment seen.held v (after FlushFingers) refl refl c.all.locks) refl making refl c.planned c.owes refl refl
+  line_by c false making = next_goes site task is seen before v same FlushFingers c (after FlushFingers) FlushRecord (λ x. tt) (held_same task.site task.hash seen.path.segment seen.held v (after FlushFingers) refl refl c.all.locks) refl making refl c.planned c.owes refl refl
 
   -- the one store, with what it plans and owes
   abbrev stored_by : Bool → View
@@ -152,37 +125,37 @@ module _ (site : Site) (task : Task) (is : IsIn site task) (seen : Seen) (before
       → IsMaking (lock_of task seen seen.place) seen.written (IsOfHeld task.site task.hash seen.path.segment seen.held) (loaded task seen) (prepared task seen) FlushPublished (stored_by b)
       → Goes site task before (made_to seen (On FlushPublished)) (stored_by b)
   publish_by_goes c true e making = next_goes site task is seen before v same Publish c (stored_by true) FlushPublished (λ x. absurd x)
-      (stored_locks task.site task.hash seen.path.segment seen.held v c.all.locks site.shape (published_at (lock_of task seen seen.place) seen.written) n seen.written.mark (call_of task.change ∷ v.planned) v.moving (owed task seen ∷ v.owed)
-      (published_guard site task is seen before v same Publish c))
+      (held_store task.site task.hash seen.path.segment site.shape seen.held v (published_at (lock_of task seen seen.place) seen.written) n seen.written.mark (call_of task.change ∷ v.planned) v.moving (owed task seen ∷ v.owed)
+      c.all.locks (published_guard site task is seen before v same Publish c))
       refl making refl (ap (λ calls. call_of task.change ∷ calls) c.planned) (ap (λ os. owed task seen ∷ os) c.owes ∙ sym (ap (owed_by site task seen) e)) refl refl
   publish_by_goes c false e making = next_goes site task is seen before v same Publish c (stored_by false) FlushPublished (λ x. absurd x)
-      (stored_locks task.site task.hash seen.path.segment seen.held v c.all.locks site.shape (published_at (lock_of task seen seen.place) seen.written) n seen.written.mark (call_of task.change ∷ v.planned) v.moving v.owed
-      (published_guard site task is seen before v same Publish c))
+      (held_store task.site task.hash seen.path.segment site.shape seen.held v (published_at (lock_of task seen seen.place) seen.written) n seen.written.mark (call_of task.change ∷ v.planned) v.moving v.owed
+      c.all.locks (published_guard site task is seen before v same Publish c))
       refl making refl (ap (λ calls. call_of task.change ∷ calls) c.planned) (c.owes ∙ sym (ap (owed_by site task seen) e)) refl refl
 
   pub make_goes : (m : Make) → IsChanging site task seen m v → Goes site task before (made_to seen (make_taken seen.written.slot m)) (after m)
   make_goes Key c = next_goes site task is seen before v same Key c (after Key) Value (λ x. tt)
-      (stored_locks task.site task.hash seen.path.segment seen.held v c.all.locks site.shape (key_at (lock_of task seen seen.place) seen.written) n seen.written.key v.planned v.moving v.owed
-      (key_guard site task is seen before v same Key c))
+      (held_store task.site task.hash seen.path.segment site.shape seen.held v (key_at (lock_of task seen seen.place) seen.written) n seen.written.key v.planned v.moving v.owed
+      c.all.locks (key_guard site task is seen before v same Key c))
       refl (has_made Key c) refl c.planned c.owes refl refl
   make_goes Value c = next_goes site task is seen before v same Value c (after Value) Fingers (λ x. tt)
-      (stored_locks task.site task.hash seen.path.segment seen.held v c.all.locks site.shape (value_at (lock_of task seen seen.place) seen.written) n seen.written.value v.planned v.moving v.owed
-      (value_guard site task is seen before v same Value c))
+      (held_store task.site task.hash seen.path.segment site.shape seen.held v (value_at (lock_of task seen seen.place) seen.written) n seen.written.value v.planned v.moving v.owed
+      c.all.locks (value_guard site task is seen before v same Value c))
       refl (has_made Value c) refl c.planned c.owes refl refl
   make_goes Fingers c = next_goes site task is seen before v same Fingers c (after Fingers) FlushFingers (λ x. tt)
-      (stored_locks task.site task.hash seen.path.segment seen.held v c.all.locks site.shape (fingers_at (lock_of task seen seen.place) seen.written) n seen.written.fingers v.planned v.moving v.owed
-      (fingers_guard site task is seen before v same Fingers c))
+      (held_store task.site task.hash seen.path.segment site.shape seen.held v (fingers_at (lock_of task seen seen.place) seen.written) n seen.written.fingers v.planned v.moving v.owed
+      c.all.locks (fingers_guard site task is seen before v same Fingers c))
       refl (has_made Fingers c) refl c.planned c.owes refl refl
   make_goes FlushFingers c = line_by c (nat_lt seen.written.slot 2) (has_made FlushFingers c)
-  make_goes FlushRecord c = next_goes site task is seen before v same FlushRecord c (after FlushRecord) FenceRecord (λ x. tt) (still_locks (after FlushRecord) refl refl c.all.locks) refl (has_made FlushRecord c) refl c.planned c.owes refl refl
-  make_goes FenceRecord c = next_goes site task is seen before v same FenceRecord c (after FenceRecord) Publish (λ x. tt) (still_locks (after FenceRecord) refl refl c.all.locks) refl (has_made FenceRecord c) refl c.planned c.owes refl refl
+  make_goes FlushRecord c = next_goes site task is seen before v same FlushRecord c (after FlushRecord) FenceRecord (λ x. tt) (held_same task.site task.hash seen.path.segment seen.held v (after FlushRecord) refl refl c.all.locks) refl (has_made FlushRecord c) refl c.planned c.owes refl refl
+  make_goes FenceRecord c = next_goes site task is seen before v same FenceRecord c (after FenceRecord) Publish (λ x. tt) (held_same task.site task.hash seen.path.segment seen.held v (after FenceRecord) refl refl c.all.locks) refl (has_made FenceRecord c) refl c.planned c.owes refl refl
   make_goes Publish c = publish_by_goes c (leaves_note task.change.deed seen.place) refl (has_made Publish c)
-  make_goes FlushPublished c = next_goes site task is seen before v same FlushPublished c (after FlushPublished) FencePublished (λ x. absurd x) (still_locks (after FlushPublished) refl refl c.all.locks) refl (has_made FlushPublished c) refl c.planned c.owes refl refl
+  make_goes FlushPublished c = next_goes site task is seen before v same FlushPublished c (after FlushPublished) FencePublished (λ x. absurd x) (held_same task.site task.hash seen.path.segment seen.held v (after FlushPublished) refl refl c.all.locks) refl (has_made FlushPublished c) refl c.planned c.owes refl refl
   make_goes FencePublished c =
       let made = has_made FencePublished c in
       let u : View = after FencePublished in (
         record {
-          all = all_with site task is seen before v same FencePublished c u (still_locks u refl refl c.all.locks) refl;
+          all = all_with site task is seen before v same FencePublished c u (held_same task.site task.hash seen.path.segment seen.held v u refl refl c.all.locks) refl;
           chosen = c.chosen;
           knows = made.0;
           settled = made.1;

@@ -1,10 +1,9 @@
 -- THE STEPS, one by one: what an answer makes of each is suited, and each may be taken.
-use Rattle.std.proofs.Common.{◌≡◌, ◌≢◌, ◌⊎◌, ℕ, ◌+◌, ◌%◌, ◌^◌, ◌<◌, ◌≤◌, Option, None, Some, List, [], ◌∷◌, inl, inr, refl, sym, ap, ◌∙◌, subst}
+use Rattle.std.proofs.Common.{◌≡◌, ◌≢◌, ℕ, ◌^◌, ◌<◌, List, inl, refl, sym, subst}
 use Rattle.op_core.specs.declared.want.Want.TheVariants as want
 use Rattle.op_core.specs.declared.want.Ans.{Ans}
-use Rattle.op_core.specs.declared.want.Ans.TheVariants.{Value, Passed}
+use Rattle.op_core.specs.declared.want.Ans.TheVariants.{Passed}
 use Rattle.trace.specs.Events.{Words}
-use Rattle.map_model.specs.declared.entry.Reply.{Reply}
 use Rattle.map_model.specs.declared.entry.Reply.TheVariants as reply
 use Rattle.map_model.specs.Changes.{call_of}
 use Rattle.world.specs.Site.{Site}
@@ -17,12 +16,12 @@ use Rattle.world.specs.Attempts.{EntersReply}
 use Rattle.phase.specs.declared.place.Place.{Place}
 use Rattle.phase.specs.declared.make.Make.{Make}
 use Rattle.phase.specs.declared.make.Make.TheVariants.{Key, Value as ValueOf, Fingers as FingersOf, FlushFingers, FlushRecord, FenceRecord, Publish, FlushPublished, FencePublished}
-use Rattle.phase.specs.Walks.{walk_taken}
 use Rattle.phase.specs.Backs.{back_taken}
 use Rattle.phase.specs.Helds.{give_next}
 use Rattle.phase.specs.Buckets.{words_in}
 use Rattle.phase.specs.Making.{make_kind}
 use Rattle.phase.proofs.Walking.{walk_may}
+use Rattle.phase.proofs.Wanting.{make_answer}
 use Rattle.phase.proofs.locks.Taking.{take_fits}
 use Rattle.phase.proofs.locks.Giving.{is_lock, give_stands}
 use Rattle.write_op.specs.declared.search.NoteWords.{NoteWords}
@@ -35,7 +34,8 @@ use Rattle.write_op.specs.declared.step.WriteStep.TheVariants.{Way, Lock, Check,
 use Rattle.write_op.specs.declared.step.WriteStep.TheVariants as step
 use Rattle.write_op.specs.Search.{unnoted}
 use Rattle.write_op.specs.Steps.{backed_to, lock_of, note_wanted, wanted_in, next_in}
-use Rattle.write_op.specs.Fits.{owed, publish_kind, kind_at, IsChanging, IsUnnoting, SuitsStep, AreWords, IsIn}
+use Rattle.phase.specs.AreWords.{AreWords}
+use Rattle.write_op.specs.Fits.{owed, publish_kind, kind_at, IsChanging, SuitsStep, IsIn}
 use Rattle.write_op.proofs.keeping.Going.{located, backed_suits}
 use Rattle.write_op.proofs.keeping.Entering.{reply_at, backed_quiet}
 use Rattle.write_op.proofs.keeping.Counting.{Goes, refused, count_goes}
@@ -46,7 +46,8 @@ use Rattle.write_op.proofs.permitting.Permitting.{spent_may, count_may}
 use Rattle.write_op.proofs.permitting.Publishing.{other_may, publish_may}
 use Rattle.write_op.proofs.permitting.Drawn.{draw_may}
 use Rattle.write_op.proofs.permitting.Unnoting.{unnote_may}
-use Rattle.write_op.proofs.keeping.Stepping.{walk_answer, make_answer, give_answer, quietly, way_goes, fill_guard, fill_goes, lock_goes, give_goes}
+use Rattle.phase.proofs.Handing.{give_answer}
+use Rattle.write_op.proofs.keeping.Stepping.{walk_answer, quietly, way_goes, fill_guard, fill_goes, lock_goes, give_goes}
 
 note_answer : (task : Task) (seen : Seen) (part : NoteWord) (note : NoteWords) (n : ℕ) → answer_to (note_wanted task seen part note) n ≡ Passed
 note_answer task seen Mark note n = refl

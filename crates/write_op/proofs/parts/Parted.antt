@@ -1,15 +1,11 @@
 -- A CHANGE IS A PART of a call: its laws one by one.
-use Rattle.std.proofs.Common.{◌≡◌, ◌≢◌, ◌⊎◌, ℕ, ◌+◌, ◌*◌, ◌%◌, ◌^◌, ◌<◌, ◌≤◌, Bool, true, false, Option, None, Some, List, [], ◌∷◌, inl, inr, refl, sym, ap, ◌∙◌, subst, arith}
+use Rattle.std.proofs.Common.{◌≡◌, ℕ, ◌+◌, ◌^◌, ◌<◌, Bool, true, false, Option, None, Some, refl, sym, ap, ◌∙◌, subst}
 use Rattle.std.specs.Prelude.{⊤, nat_le, if◌then◌else◌}
-use Rattle.std.proofs.lemmas.Option.{none-some, same_Some}
+use Rattle.std.proofs.lemmas.Option.{none-some}
 use Rattle.op_core.specs.declared.want.Want.{Want}
-use Rattle.op_core.specs.declared.want.Want.TheVariants as want
 use Rattle.op_core.specs.declared.want.Ans.{Ans}
-use Rattle.op_core.specs.Answers.{IsWord}
-use Rattle.trace.specs.Events.{Words}
-use Rattle.image_layout.specs.Places.{Shape, IsShape, words_of}
+use Rattle.image_layout.specs.Places.{Shape, IsShape}
 use Rattle.map_model.specs.declared.call.Call.{Call}
-use Rattle.map_model.specs.declared.change.Change.{Change}
 use Rattle.map_model.specs.declared.change.Deed.{Deed}
 use Rattle.map_model.specs.declared.change.Deed.TheVariants.{Insert, Update, Remove}
 use Rattle.map_model.specs.Changes.{call_of}
@@ -17,17 +13,14 @@ use Rattle.sound_image.specs.Records.{key_hash}
 use Rattle.sound_image.proofs.Hashes.{key_hash-fits}
 use Rattle.world.specs.declared.site.Site.{Site as Here}
 use Rattle.world.specs.Site.{Site, IsSite}
-use Rattle.world.specs.Views.{View, Has, At}
+use Rattle.world.specs.Views.{View, Has}
 use Rattle.world.specs.Wants.{answer_to, word_of}
-use Rattle.world.specs.Kinds.{Kind, finds_room, cuts_power, wanted as wanted_by, view_after}
-use Rattle.world.specs.Conditions.{May}
-use Rattle.world.specs.Invariant.{Holds}
-use Rattle.world.specs.Attempts.{HoldsOnly, EntersReply}
-use Rattle.world.specs.Pairs.{IsPublishingKind}
+use Rattle.world.specs.Kinds.{Kind, finds_room, cuts_power, view_after}
+use Rattle.world.specs.Attempts.{EntersReply}
 use Rattle.world.proofs.stepping.Answers.{is_word}
 use Rattle.part.specs.Asks.{IsWithin}
-use Rattle.part.specs.Outcomes.{Outcome, finished, reply_of}
-use Rattle.part.specs.Part.{Suits, KeepsSuits, PlansItsCall, IsPart}
+use Rattle.part.specs.Outcomes.{finished, reply_of}
+use Rattle.part.specs.Part.{KeepsSuits, PlansItsCall, IsPart}
 use Rattle.phase.specs.declared.place.Place.{Place}
 use Rattle.phase.specs.declared.place.Place.TheVariants as place
 use Rattle.phase.specs.declared.walk.Walk.{Walk}
@@ -38,7 +31,9 @@ use Rattle.phase.specs.declared.make.Make.{Make}
 use Rattle.phase.specs.declared.make.Make.TheVariants as make
 use Rattle.phase.specs.Helds.{give_next}
 use Rattle.phase.specs.Buckets.{words_in, no_words}
-use Rattle.phase.specs.Stands.{IsStraight, walk_kind}
+use Rattle.phase.specs.AreWords.{AreWords}
+use Rattle.phase.specs.Keeps.{KeepsAll, HasNoThird}
+use Rattle.phase.specs.Stands.{walk_kind}
 use Rattle.phase.specs.Taking.{take_kind}
 use Rattle.phase.specs.Giving.{give_kind_of}
 use Rattle.write_op.specs.declared.search.NoteWords.{NoteWords}
@@ -55,17 +50,20 @@ use Rattle.write_op.specs.declared.step.WriteStep.{WriteStep}
 use Rattle.write_op.specs.declared.step.WriteStep.TheVariants.{Way, Lock, Check, Fill, Count, Draw, Unnote, CountSpent, Give, Ended}
 use Rattle.write_op.specs.declared.step.WriteStep.TheVariants as step
 use Rattle.write_op.specs.declared.op.WriteOp.{WriteOp}
-use Rattle.write_op.specs.Search.{found, leaves_note, brought, unnoted, has_finger}
-use Rattle.write_op.specs.Steps.{begun, lock_of, wanted, taken, wanted_in, next_in, end_of, is_without_slot, kept_in}
-use Rattle.write_op.specs.Keeps.{KeepsAll}
-use Rattle.write_op.specs.Fits.{publish_by, publish_kind, inserting_kind, changing_kind, deciding_kind, mark_kind, note_kind, kind_at, kind_of, planned_at, SuitsStep, ChangeStands, AreWords, outcome_of, outcome_at}
-use Rattle.write_op.specs.ChangePart.{change_part, BeginsAsPart, BeginsUndecided, BeginsRemembering, HandsOnAll, NeverFinished}
+use Rattle.write_op.specs.Search.{found, leaves_note, unnoted, has_finger}
+use Rattle.write_op.specs.Steps.{lock_of, wanted, wanted_in, next_in, end_of, kept_of}
+use Rattle.write_op.specs.Fits.{publish_by, inserting_kind, changing_kind, deciding_kind, mark_kind, note_kind, kind_at, kind_of, planned_at, SuitsStep, ChangeStands, outcome_of, outcome_at}
+use Rattle.write_op.specs.ChangePart.{IsAtHead, RemembersIn, change_part, BeginsAsPart, BeginsBare, BeginsUndecided, BeginsRemembering, HandsOnAll, HandsOnRemembering, NeverFinished}
+use Rattle.phase.proofs.Wanting.{HasFlush, is_fence}
+use Rattle.phase.proofs.Wording.{none_words}
+use Rattle.phase.proofs.Handing.{none_has, one_has}
+use Rattle.write_op.proofs.Over.{without}
 use Rattle.write_op.proofs.Falling.{change_falls, most_at}
 use Rattle.write_op.proofs.parts.Fitting.{wants_in}
 use Rattle.write_op.proofs.keeping.Walking.{step_in, may_in}
-use Rattle.write_op.proofs.parts.Wording.{none_words, words_after}
+use Rattle.write_op.proofs.parts.Wording.{words_after}
 use Rattle.write_op.proofs.parts.Putting.{puts_word, asks_within}
-use Rattle.write_op.proofs.parts.Parting.{HasFlush, HasFence, makes_in, stays_in, done_in, bare_in, few_in, flush_in, keeps_in, none_waits}
+use Rattle.write_op.proofs.parts.Parting.{makes_in, stays_in, done_in, bare_in, few_in, flush_in, keeps_in, none_waits}
 
 -- ---- EACH STEP
 steps : KeepsSuits change_part
@@ -93,12 +91,6 @@ steps site here call words views j op before v h at s asks =
     }
 
 -- ---- what is planned
-none_has : {X : Type 0} (xs : List X) (x : X) → xs ≡ [] → Has x xs → ⊥
-none_has xs x none h = subst (λ zs. Has x zs) none h
-
-one_has : (call x : Call) → Has x (call ∷ []) → x ≡ call
-one_has call x h = elim h [ inl e ↦ e | inr n ↦ absurd n ]
-
 module _ (site : Site) (task : Task) (seen : Seen) (before v : View) (x : Call) where
   abbrev Plans : Type 0
   Plans = (x ≡ call_of task.change) × (v.own ≡ before.own)
@@ -109,7 +101,7 @@ module _ (site : Site) (task : Task) (seen : Seen) (before v : View) (x : Call) 
   make_planned m h = absurd h
 
   end_planned : (end : WriteEnd) → SuitsStep site task seen (Ended end) v → Has x v.planned → ⊥
-  end_planned ends.NoSlot suits h = none_has v.planned x suits.quiet.planned h
+  end_planned ends.NoSlot suits h = none_has v.planned x suits.0.quiet.planned h
   end_planned (ends.Replied answer place) suits h = none_has v.planned x suits.planned h
   end_planned (ends.Again why) suits h = none_has v.planned x suits.planned h
   end_planned (ends.Stale segment version) suits h = none_has v.planned x suits.planned h
@@ -209,10 +201,6 @@ module _ (task : Task) (seen : Seen) where
   on_in (Ended end) n p = p
 
 -- ---- A CHANGE IS A PART
-is_fence : (w : Want) → HasFence w → w ≡ want.Fence
-is_fence want.Fence f = refl
-is_fence w f = absurd f
-
 within : (site : Site) (here : Here) (call : Call) (op : WriteOp) (v : View) → IsSite site → ChangeStands site here call op v → IsWithin site.shape (wanted op)
 within site here call op v good st =
     subst (λ (g : Shape). IsWithin g (wanted op)) st.is_in.shape (asks_within site op.task st.is_in op.stage.seen (subst (λ (g : Shape). IsShape g) (sym st.is_in.shape) good.shape) v op.stage.step st.view)
@@ -236,6 +224,7 @@ change_is_part = record {
     done = λ op made over. done_in op.task op.stage.seen op.stage.step made over;
   };
   plans = plans;
+  hands = λ op is. ap (wanted_in op.task op.stage.seen) (without op.stage.step is);
   power = λ op n e. on_in op.task op.stage.seen op.stage.step n (subst (λ (k : Kind). Cuts k) (sym e) tt);
 }
 
@@ -245,6 +234,8 @@ buckets_none place.Home = none_words
 buckets_none place.Probing = none_words
 buckets_none place.First = none_words
 buckets_none place.Second = none_words
+buckets_none place.Next = none_words
+buckets_none place.Previous = none_words
 
 pub begins_as_part : BeginsAsPart
 begins_as_part site here change v good straight same key value nothing = record {
@@ -255,6 +246,9 @@ begins_as_part site here change v good straight same key value nothing = record 
   view = (nothing, tt, refl);
 }
 
+pub begins_bare : BeginsBare
+begins_bare site here call change v stands = stands.view.0.held
+
 pub begins_remembering : BeginsRemembering
 begins_remembering site here change unsplit = record { unsplit = unsplit; kept = (tt, refl) }
 
@@ -262,20 +256,32 @@ pub begins_undecided : BeginsUndecided
 begins_undecided here change = refl
 
 -- where it hands on
-end_hands : (site : Site) (task : Task) (seen : Seen) (v : View) (end : WriteEnd) → SuitsStep site task seen (Ended end) v → is_without_slot (Ended end) ≡ true
-    → KeepsAll site (kept_in task seen) v
-end_hands site task seen v ends.NoSlot suits is = suits
-end_hands site task seen v (ends.Replied answer place) suits is = absurd (let f : false ≡ true = is in cc)
-end_hands site task seen v (ends.Again why) suits is = absurd (let f : false ≡ true = is in cc)
-end_hands site task seen v (ends.Stale segment version) suits is = absurd (let f : false ≡ true = is in cc)
-end_hands site task seen v ends.Off suits is = absurd (let f : false ≡ true = is in cc)
-
-hands_in : (site : Site) (task : Task) (seen : Seen) (v : View) (s : WriteStep) → SuitsStep site task seen s v → is_without_slot s ≡ true → KeepsAll site (kept_in task seen) v
-hands_in site task seen v (Ended end) suits is = end_hands site task seen v end suits is
-hands_in site task seen v s suits is = absurd (let f : false ≡ true = is in cc)
-
 pub hands_on_all : HandsOnAll
-hands_on_all site here call op v st is = hands_in site op.task op.stage.seen v op.stage.step st.view is
+hands_on_all site here call op v st is =
+    let all : KeepsAll site (kept_of op) v × HasNoThird op.stage.seen.held = subst (λ s. SuitsStep site op.task op.stage.seen s v) (without op.stage.step is) st.view in
+    record {
+      same = st.same;
+      at = st.at;
+      straight = st.is_in.straight;
+      key = st.has.key;
+      value = st.has.value;
+      buckets = st.has.buckets;
+      keeps = all.0;
+      thirds = all.1;
+    }
+
+pub hands_on_remembering : HandsOnRemembering
+hands_on_remembering site op did r is =
+    let kept : RemembersIn (IsAtHead site) op.task op.stage.seen did (Ended ends.NoSlot) = subst (λ s. RemembersIn (IsAtHead site) op.task op.stage.seen did s) (without op.stage.step is) r.kept in (
+      record {
+        path = op.stage.seen.path;
+        there = refl;
+        found = kept.0.0;
+        head = kept.0.1;
+        buckets = λ place held own. kept.2 place held;
+      },
+      kept.1,
+    )
 
 -- and never
 finishes : (end : WriteEnd) → outcome_of end ≡ Some finished → ⊥

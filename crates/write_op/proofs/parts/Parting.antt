@@ -1,14 +1,10 @@
 -- A CHANGE IS A PART of a call.
-use Rattle.std.proofs.Common.{◌≡◌, ◌≢◌, ◌⊎◌, ℕ, ◌+◌, ◌%◌, ◌^◌, ◌<◌, ◌≤◌, Bool, true, false, Option, None, Some, List, [], ◌∷◌, inl, inr, refl, sym, ap, ◌∙◌, subst, arith, IsTrue}
-use Rattle.std.specs.Prelude.{⊤, nat_le, nat_lt, if◌then◌else◌}
-use Rattle.op_core.specs.declared.want.Want.{Want}
+use Rattle.std.proofs.Common.{◌≡◌, ℕ, ◌+◌, ◌^◌, ◌≤◌, Bool, true, false, Option, None, Some, [], refl, sym, ap, subst, arith}
+use Rattle.std.specs.Prelude.{nat_le, nat_lt, if◌then◌else◌}
 use Rattle.op_core.specs.declared.want.Want.TheVariants as want
 use Rattle.op_core.specs.declared.want.Ans.{Ans}
-use Rattle.op_core.specs.declared.want.Ans.TheVariants.{Value, Won, Lost, Drawn, Passed}
+use Rattle.op_core.specs.declared.want.Ans.TheVariants.{Drawn, Passed}
 use Rattle.op_core.specs.Answers.{IsAnswer}
-use Rattle.trace.specs.Events.{Words}
-use Rattle.image_layout.specs.Places.{words_of}
-use Rattle.map_model.specs.declared.call.Call.{Call}
 use Rattle.map_model.specs.declared.change.Deed.{Deed}
 use Rattle.map_model.specs.declared.change.Deed.TheVariants.{Insert, Update, Remove}
 use Rattle.map_model.specs.declared.entry.Reply.{Reply}
@@ -16,34 +12,30 @@ use Rattle.map_model.specs.declared.entry.Reply.TheVariants as reply
 use Rattle.map_model.specs.Changes.{call_of}
 use Rattle.world.specs.declared.site.Site.{Site as Here}
 use Rattle.world.specs.Site.{Site}
-use Rattle.world.specs.Views.{View, At, Has}
-use Rattle.world.specs.Wants.{answer_to, word_of}
-use Rattle.world.specs.Kinds.{Kind, finds_room, cuts_power, view_after}
+use Rattle.world.specs.Views.{View}
+use Rattle.world.specs.Wants.{answer_to}
+use Rattle.world.specs.Kinds.{Kind, finds_room}
 use Rattle.world.specs.Pairs.{IsPublishingKind}
-use Rattle.world.specs.Invariant.{Holds}
-use Rattle.world.specs.Attempts.{HoldsOnly, HasNoMore, EntersReply}
-use Rattle.world.proofs.stepping.Answers.{is_word}
-use Rattle.part.specs.Asks.{IsWithin}
-use Rattle.part.specs.Outcomes.{Outcome, replied, reply_of}
-use Rattle.part.specs.Part.{Suits, StepsWell, KeepsSuits, EndsBare, IsPart}
+use Rattle.world.specs.Attempts.{HoldsOnly}
+use Rattle.part.specs.Outcomes.{IsDone, replied}
 use Rattle.phase.specs.declared.place.Place.{Place}
 use Rattle.phase.specs.declared.walk.Walk.{Walk}
 use Rattle.phase.specs.declared.walk.Walk.TheVariants as walk
 use Rattle.phase.specs.declared.take.Take.{Take}
 use Rattle.phase.specs.declared.take.Take.TheVariants.{Look, Try}
-use Rattle.phase.specs.declared.make.Record.{Record}
 use Rattle.phase.specs.declared.make.Make.{Make}
 use Rattle.phase.specs.declared.make.Make.TheVariants as make
 use Rattle.phase.specs.declared.make.Made.TheVariants as made
 use Rattle.phase.specs.declared.held.Held.{Held}
-use Rattle.phase.specs.Helds.{give_next, give_wanted_of, given}
+use Rattle.phase.specs.Helds.{give_next, given}
 use Rattle.phase.specs.Walks.{walk_wanted}
-use Rattle.phase.specs.Takes.{take_wanted}
-use Rattle.phase.specs.Makes.{make_wanted, make_taken}
 use Rattle.phase.specs.Stands.{walk_kind}
 use Rattle.phase.specs.Taking.{take_kind}
 use Rattle.phase.specs.Giving.{give_kind_of}
+use Rattle.phase.specs.Making.{waiting_of, IsPublished}
+use Rattle.phase.proofs.Wanting.{no, HasFlush, HasFence, take_no_flush, give_no_flush, few_waiting}
 use Rattle.phase.proofs.locks.Giving.{give_stands}
+use Rattle.phase.proofs.Handing.{done_is}
 use Rattle.write_op.specs.declared.search.NoteWords.{NoteWords}
 use Rattle.write_op.specs.declared.step.Task.{Task}
 use Rattle.write_op.specs.declared.step.Spot.{Spot}
@@ -58,21 +50,11 @@ use Rattle.write_op.specs.declared.step.WriteStep.{WriteStep}
 use Rattle.write_op.specs.declared.step.WriteStep.TheVariants.{Way, Lock, Check, Fill, Count, Draw, Unnote, CountSpent, Give, Ended}
 use Rattle.write_op.specs.declared.step.WriteStep.TheVariants as step
 use Rattle.write_op.specs.declared.step.Stage.{Stage}
-use Rattle.write_op.specs.declared.op.WriteOp.{WriteOp}
 use Rattle.write_op.specs.Search.{found, leaves_note, unnoted, has_finger}
-use Rattle.write_op.specs.Steps.{go, given_by, giving, answered, made_to, lock_of, note_wanted, wanted, taken, wanted_in, next_in, is_over, is_without_slot}
-use Rattle.write_op.specs.Left.{left_at, most_events, waiting_of, waiting_at, most_waiting, IsPublished, IsDone, HasMadeAt}
-use Rattle.write_op.specs.Fits.{inserting_kind, changing_kind, deciding_kind, count_kind, mark_kind, note_kind, publish_by, kind_at, kind_of, planned_at, SuitsStep, SuitsStage, HasWords, ChangeStands, outcome_of, outcome_at}
-use Rattle.write_op.specs.ChangePart.{change_part}
+use Rattle.write_op.specs.Steps.{go, given_by, giving, answered, made_to, lock_of, note_wanted, wanted_in, next_in, is_without_slot}
+use Rattle.write_op.specs.Left.{waiting_at, most_waiting, HasMadeAt}
+use Rattle.write_op.specs.Fits.{inserting_kind, changing_kind, deciding_kind, mark_kind, note_kind, kind_at, SuitsStep, outcome_of, outcome_at}
 use Rattle.write_op.proofs.Over.{over_done}
-use Rattle.write_op.proofs.Falling.{change_falls, most_at}
-use Rattle.write_op.proofs.parts.Fitting.{wants_in}
-use Rattle.write_op.proofs.keeping.Walking.{step_in, may_in}
-use Rattle.write_op.proofs.parts.Wording.{words_after}
-use Rattle.write_op.proofs.parts.Putting.{puts_word, asks_within}
-
-no : IsTrue false → ⊥
-no e = let f : false ≡ true = e in cc
 
 -- ---- the one store
 module _ (task : Task) (seen : Seen) where
@@ -122,29 +104,36 @@ module _ (task : Task) (seen : Seen) where
   abbrev Makes : WriteStep → ℕ → Type 0
   Makes s n = IsPublishingKind (kind_at task seen s n) → (HasMadeAt s → ⊥) × HasMadeAt (next_in task seen s (answer_to (wanted_in task seen s) n)).step
 
-  make_makes : (m : Make) (n : ℕ) → Makes (step.Make m) n
-  make_makes make.Key n p = absurd p
-  make_makes make.Value n p = absurd p
-  make_makes make.Fingers n p = absurd p
-  make_makes make.FlushFingers n p = absurd p
-  make_makes make.FlushRecord n p = absurd p
-  make_makes make.FenceRecord n p = absurd p
-  make_makes make.Publish n p = ((λ was. was), tt)
-  make_makes make.FlushPublished n p = absurd p
-  make_makes make.FencePublished n p = absurd p
+  -- a kind that makes a change is that of the one store
+  make_only : (m : Make) (n : ℕ) → IsPublishingKind (kind_at task seen (step.Make m) n) → m ≡ make.Publish
+  make_only make.Publish n p = refl
+  make_only make.Key n p = absurd p
+  make_only make.Value n p = absurd p
+  make_only make.Fingers n p = absurd p
+  make_only make.FlushFingers n p = absurd p
+  make_only make.FlushRecord n p = absurd p
+  make_only make.FenceRecord n p = absurd p
+  make_only make.FlushPublished n p = absurd p
+  make_only make.FencePublished n p = absurd p
+
+  pub only_there : (s : WriteStep) (n : ℕ) → IsPublishingKind (kind_at task seen s n) → s ≡ step.Make make.Publish
+  only_there (Way w) n p = absurd (plain_walk w p)
+  only_there (Lock place t) n p = absurd (plain_take (lock_of task seen place) t p)
+  only_there (Check back) n p = absurd p
+  only_there (Fill place load) n p = absurd p
+  only_there Count n p = absurd (plain_count (nat_le (2 ^ 63) n) p)
+  only_there (step.Make m) n p = ap (λ (k : Make). step.Make k) (make_only m n p)
+  only_there Draw n p = absurd p
+  only_there (Unnote part place) n p = absurd (plain_note part (unnoted task.hash seen) p)
+  only_there CountSpent n p = absurd p
+  only_there (Give held end) n p = absurd (plain_give (give_next held) p)
+  only_there (Ended end) n p = absurd p
+
+  makes_there : (s : WriteStep) (n : ℕ) → s ≡ step.Make make.Publish → (HasMadeAt s → ⊥) × HasMadeAt (next_in task seen s (answer_to (wanted_in task seen s) n)).step
+  makes_there s n e = subst (λ z. (HasMadeAt z → ⊥) × HasMadeAt (next_in task seen z (answer_to (wanted_in task seen z) n)).step) (sym e) ((λ was. was), tt)
 
   pub makes_in : (s : WriteStep) (n : ℕ) → Makes s n
-  makes_in (Way w) n p = absurd (plain_walk w p)
-  makes_in (Lock place t) n p = absurd (plain_take (lock_of task seen place) t p)
-  makes_in (Check back) n p = absurd p
-  makes_in (Fill place load) n p = absurd p
-  makes_in Count n p = absurd (plain_count (nat_le (2 ^ 63) n) p)
-  makes_in (step.Make m) n p = make_makes m n p
-  makes_in Draw n p = absurd p
-  makes_in (Unnote part place) n p = absurd (plain_note part (unnoted task.hash seen) p)
-  makes_in CountSpent n p = absurd p
-  makes_in (Give held end) n p = absurd (plain_give (give_next held) p)
-  makes_in (Ended end) n p = absurd p
+  makes_in s n p = makes_there s n (only_there s n p)
 
   -- ---- and it stays made
   either_made : (b : Bool) (s t : Stage) → HasMadeAt s.step → HasMadeAt t.step → HasMadeAt (if b then s else t).step
@@ -185,16 +174,12 @@ module _ (task : Task) (seen : Seen) where
   stays_in s a d = absurd d
 
 -- and ends as done
-is_done : (answer : Reply) → IsDone answer → answer ≡ reply.Done
-is_done reply.Done d = refl
-is_done answer d = absurd d
-
 end_done : (end : WriteEnd) → HasMadeAt (Ended end) → (place : ℕ) × (outcome_of end ≡ Some (replied reply.Done place))
-end_done (ends.Replied answer place) d = (place, ap (λ r. Some (replied r place)) (is_done answer d))
+end_done (ends.Replied answer place) d = (place, ap (λ r. Some (replied r place)) (done_is answer d))
 end_done end d = absurd d
 
 give_done : (end : Ending) (held : Held) → HasMadeAt (Give held end) → (place : ℕ) × (outcome_at (Give held end) ≡ Some (replied reply.Done place))
-give_done (ending.Replied answer place) held d = (place, ap (λ r. Some (replied r place)) (is_done answer d))
+give_done (ending.Replied answer place) held d = (place, ap (λ r. Some (replied r place)) (done_is answer d))
 give_done (ending.Again why) held d = absurd d
 
 pub done_in : (task : Task) (seen : Seen) (s : WriteStep) → HasMadeAt s → wanted_in task seen s ≡ want.Done → (place : ℕ) × (outcome_at s ≡ Some (replied reply.Done place))
@@ -216,23 +201,9 @@ bare_in site task seen v (Give held end) suits over closed = give_stands.ends ta
 bare_in site task seen v s suits over closed = absurd (no ((over_done task seen s).1 over))
 
 -- ---- lines that wait
-few_of : (m : Make) → waiting_of m ≤ most_waiting
-few_of make.FlushRecord = omega arith
-few_of make.FenceRecord = omega arith
-few_of make.FencePublished = omega arith
-few_of m = omega arith
-
 pub few_in : (s : WriteStep) → waiting_at s ≤ most_waiting
-few_in (step.Make m) = few_of m
+few_in (step.Make m) = few_waiting m
 few_in s = omega arith
-
-abbrev pub HasFlush : Want → Type 0
-HasFlush (want.Flush l) = ⊤
-HasFlush w = ⊥
-
-abbrev pub HasFence : Want → Type 0
-HasFence want.Fence = ⊤
-HasFence w = ⊥
 
 by_line : (b : Bool) (seen : Seen) → 1 ≤ waiting_at (made_to seen (if b then made.On make.FenceRecord else made.On make.FlushRecord)).step
 by_line true seen = omega arith
@@ -243,14 +214,6 @@ walk_no_flush here hash walk.Power p = p
 walk_no_flush here hash walk.Root p = p
 walk_no_flush here hash (walk.Entry root) p = p
 walk_no_flush here hash (walk.Head root segment) p = p
-
-take_no_flush : (lock : ℕ) (t : Take) → HasFlush (take_wanted lock t) → ⊥
-take_no_flush lock Look p = p
-take_no_flush lock (Try free) p = p
-
-give_no_flush : (here : Here) (hash segment : ℕ) (next : Option (Place × ℕ)) → HasFlush (give_wanted_of here hash segment next) → ⊥
-give_no_flush here hash segment (Some next) p = p
-give_no_flush here hash segment None p = p
 
 note_no_flush : (task : Task) (seen : Seen) (part : NoteWord) (n : NoteWords) → HasFlush (note_wanted task seen part n) → ⊥
 note_no_flush task seen Mark n p = p

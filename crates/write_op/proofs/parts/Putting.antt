@@ -1,5 +1,5 @@
 -- A change puts words alone into the memory, and asks for words of the image and those right behind it.
-use Rattle.std.proofs.Common.{◌≡◌, ◌∙◌, ℕ, ◌+◌, ◌*◌, ◌-◌, ◌/◌, ◌%◌, ◌^◌, ◌<◌, ◌≤◌, Bool, true, false, Option, Some, None, List, refl, sym, ap, subst, arith, slice_index}
+use Rattle.std.proofs.Common.{◌≡◌, ℕ, ◌+◌, ◌*◌, ◌%◌, ◌^◌, ◌<◌, ◌≤◌, Bool, true, false, Option, Some, None, List, refl, sym, subst, arith, slice_index}
 use Rattle.std.specs.Prelude.{⊤, ◌==◌, bit_and, if◌then◌else◌}
 use Rattle.std.proofs.lemmas.Nat.{and_le_l}
 use Rattle.std.specs.Int.{bit_not, w64}
@@ -11,7 +11,7 @@ use Rattle.bucket_meta.specs.NoteWords.{note_place, freed_mark, freed_fingers, l
 use Rattle.bucket_meta.proofs.Fingers.{finger_below}
 use Rattle.bucket_meta.proofs.Uppers.{inserted_fits, member_fits, removed_fits}
 use Rattle.trace.specs.Events.{line_of}
-use Rattle.image_layout.specs.Places.{Shape, IsShape, bucket_at, words_of, buckets}
+use Rattle.image_layout.specs.Places.{Shape, IsShape, words_of}
 use Rattle.image_layout.specs.Volatile.{all_words_of}
 use Rattle.op_core.specs.declared.want.Want.{Want}
 use Rattle.op_core.specs.declared.want.Want.TheVariants as want
@@ -23,7 +23,7 @@ use Rattle.world.specs.Views.{View}
 use Rattle.world.specs.Wants.{word_of}
 use Rattle.part.specs.Asks.{IsWithin, PutsWord}
 use Rattle.phase.specs.declared.place.Place.{Place}
-use Rattle.phase.specs.declared.place.Place.TheVariants.{Home, Probing, First, Second}
+use Rattle.phase.specs.declared.place.Place.TheVariants.{Home, Probing}
 use Rattle.phase.specs.declared.walk.Walk.{Walk}
 use Rattle.phase.specs.declared.walk.Walk.TheVariants as walk
 use Rattle.phase.specs.declared.take.Take.{Take}
@@ -31,13 +31,12 @@ use Rattle.phase.specs.declared.take.Take.TheVariants.{Look, Try}
 use Rattle.phase.specs.declared.make.Record.{Record}
 use Rattle.phase.specs.declared.make.Make.{Make}
 use Rattle.phase.specs.declared.make.Make.TheVariants as make
-use Rattle.phase.specs.Places.{bucket_of, lock_word}
 use Rattle.phase.specs.Walks.{walk_wanted}
 use Rattle.phase.specs.Takes.{take_wanted}
-use Rattle.phase.specs.Makes.{make_wanted, key_at, fingers_at, published_at}
+use Rattle.phase.specs.Makes.{make_wanted}
 use Rattle.phase.specs.Helds.{give_next, give_wanted_of}
 use Rattle.phase.specs.Buckets.{words_in}
-use Rattle.phase.proofs.locks.Giving.{lock_at, bucket_near}
+use Rattle.phase.proofs.locks.Giving.{lock_at}
 use Rattle.phase.proofs.locks.Storing.{place_near}
 use Rattle.phase.proofs.Asking.{walk_within, back_within, lock_within}
 use Rattle.write_op.specs.declared.search.NoteWords.{NoteWords}
@@ -48,17 +47,13 @@ use Rattle.write_op.specs.declared.step.NoteWord.TheVariants.{Mark, Fingers}
 use Rattle.write_op.specs.declared.step.WriteStep.{WriteStep}
 use Rattle.write_op.specs.declared.step.WriteStep.TheVariants.{Way, Lock, Check, Fill, Count, Draw, Unnote, CountSpent, Give, Ended}
 use Rattle.write_op.specs.declared.step.WriteStep.TheVariants as step
-use Rattle.write_op.specs.Search.{brought, published_word, published_mark, taken_mark, stash_index, freed_or, unnoted}
+use Rattle.phase.proofs.Wanting.{number_of, take_small, give_small}
+use Rattle.write_op.specs.Search.{brought, published_mark, taken_mark, stash_index, freed_or, unnoted}
 use Rattle.write_op.specs.Steps.{lock_of, note_wanted, wanted_in}
-use Rattle.write_op.specs.Fits.{HasAll, IsChosen, SuitsStep, AreWords, HasWords, IsIn}
+use Rattle.phase.specs.AreWords.{AreWords}
+use Rattle.write_op.specs.Fits.{HasAll, IsChosen, SuitsStep, IsIn}
 use Rattle.write_op.proofs.finding.Chosen.{slot_low, written_is}
 use Rattle.write_op.proofs.permitting.Publishing.{located_all, key_is, value_is, mark_is, word_is}
-
--- the number that an event leaves in its word, where it stores or exchanges one
-abbrev number_of : Want → ℕ
-number_of (want.Store i x) = x
-number_of (want.Exchange i a b) = b
-number_of w = 0
 
 less : (n m : ℕ) → n < 2 ^ 64 → bit_and n m < 2 ^ 64
 less n m fits = let most = and_le_l n m in omega (arith, fits, most)
@@ -100,29 +95,19 @@ module _ (task : Task) (seen : Seen) (all : (p : Place) → AreWords (words_in s
       (freed_or_small Probing seen.buckets.probing in_probing counted (all Probing) counted_small)
 
   taken_small : (place : Place) (w slot : ℕ) → w < 2 ^ 64 → slot < record_slots → taken_mark place w slot < 2 ^ 64
-  taken_small Home w slot fits low = inserted_fits w slot fits low
   taken_small Probing w slot fits low = member_fits w slot fits low
-  taken_small First w slot fits low = inserted_fits w slot fits low
-  taken_small Second w slot fits low = inserted_fits w slot fits low
+  taken_small place w slot fits low = inserted_fits w slot fits low
 
   mark_small : (d : Deed) (place : Place) (w slot : ℕ) → brought d < 2 ^ 64 → w < 2 ^ 64 → slot < record_slots → published_mark d place w slot < 2 ^ 64
   mark_small (Insert value) place w slot value_fits fits low = taken_small place w slot fits low
   mark_small (Update value) place w slot value_fits fits low = value_fits
   mark_small Remove place w slot value_fits fits low = removed_fits w slot fits low
 
-take_small : (lock : ℕ) (t : Take) → number_of (take_wanted lock t) < 2 ^ 64
-take_small lock Look = omega arith
-take_small lock (Try free) = omega arith
-
 walk_small : (here : Here) (hash : ℕ) (w : Walk) → number_of (walk_wanted here hash w) < 2 ^ 64
 walk_small here hash walk.Power = omega arith
 walk_small here hash walk.Root = omega arith
 walk_small here hash (walk.Entry root) = omega arith
 walk_small here hash (walk.Head root segment) = omega arith
-
-give_small : (here : Here) (hash segment : ℕ) (next : Option (Place × ℕ)) → number_of (give_wanted_of here hash segment next) < 2 ^ 64
-give_small here hash segment (Some next) = omega arith
-give_small here hash segment None = omega arith
 
 module _ (site : Site) (task : Task) (is : IsIn site task) (seen : Seen) (v : View) (all : (p : Place) → AreWords (words_in seen.buckets p)) (key : task.change.key < 2 ^ 64) (value : brought task.change.deed < 2 ^ 64) where
   make_small : (m : Make) → HasAll site task seen v → IsChosen site task seen → number_of (make_wanted (lock_of task seen seen.place) seen.written m) < 2 ^ 64

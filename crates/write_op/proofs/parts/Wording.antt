@@ -1,21 +1,8 @@
 -- What a change keeps and stores are words, and the words that it asks for lie in the image or right behind it.
-use Rattle.std.proofs.Common.{◌≡◌, ◌∙◌, ℕ, zero, suc, ◌+◌, ◌*◌, ◌-◌, ◌/◌, ◌%◌, ◌^◌, ◌<◌, ◌≤◌, Bool, true, false, inl, inr, Option, Some, None, List, refl, sym, ap, subst, arith, length, slice_index, slice_set, get_or-set_same, get_or-set_other, length-set}
-use Rattle.std.specs.Prelude.{◌==◌, replicate, bit_and, bit_or, nat_lt, nat_le, if◌then◌else◌}
-use Rattle.std.specs.Int.{bit_not, w64}
-use Rattle.std.proofs.lemmas.Bool.{cases_eq, cases_lt}
-use Rattle.std.proofs.lemmas.List.{set_past}
-use Rattle.std.proofs.lemmas.Nat.{and_le_l, and_le_r}
-use Rattle.hash_word.specs.Hash.{finger_of}
-use Rattle.word_bits.specs.Bits.{mask}
-use Rattle.bucket_meta.specs.Bucket.{record_slots}
-use Rattle.bucket_meta.specs.Marks.{finger_place}
-use Rattle.bucket_meta.specs.NoteWords.{note_place, freed_mark, freed_fingers, lowered_count}
-use Rattle.bucket_meta.proofs.Fingers.{finger_below}
-use Rattle.bucket_meta.proofs.Uppers.{inserted_fits, member_fits, removed_fits}
+use Rattle.std.proofs.Common.{ℕ, ◌+◌, ◌^◌, Bool, true, false, Option, Some, None, List, slice_set}
+use Rattle.std.specs.Prelude.{◌==◌, nat_lt, nat_le, if◌then◌else◌}
 use Rattle.segment_head.specs.HeadWord.{state_in, normal}
 use Rattle.way.specs.Ways.{head_word}
-use Rattle.op_core.specs.declared.want.Want.{Want}
-use Rattle.op_core.specs.declared.want.Want.TheVariants as want
 use Rattle.op_core.specs.declared.want.Ans.{Ans}
 use Rattle.op_core.specs.declared.want.Ans.TheVariants.{Value, Passed, Drawn}
 use Rattle.op_core.specs.Answers.{IsWord}
@@ -23,8 +10,7 @@ use Rattle.map_model.specs.declared.change.Deed.{Deed}
 use Rattle.map_model.specs.declared.change.Deed.TheVariants.{Insert, Update, Remove}
 use Rattle.map_model.specs.declared.entry.Reply.TheVariants as reply
 use Rattle.phase.specs.declared.place.Place.{Place}
-use Rattle.phase.specs.declared.place.Place.TheVariants.{Home, Probing, First, Second}
-use Rattle.phase.specs.declared.walk.Path.{Path}
+use Rattle.phase.specs.declared.place.Place.TheVariants.{Home, Probing, First, Second, Next, Previous}
 use Rattle.phase.specs.declared.walk.Walked.{Walked}
 use Rattle.phase.specs.declared.walk.Walked.TheVariants as walked
 use Rattle.phase.specs.declared.take.Take.TheVariants.{Look}
@@ -33,10 +19,7 @@ use Rattle.phase.specs.declared.take.Taken.TheVariants as taking
 use Rattle.phase.specs.declared.back.Backed.{Backed}
 use Rattle.phase.specs.declared.back.Backed.TheVariants as backed
 use Rattle.phase.specs.declared.load.Load.{Load}
-use Rattle.phase.specs.declared.load.Loaded.{Loaded}
 use Rattle.phase.specs.declared.load.Loaded.TheVariants as loaded
-use Rattle.phase.specs.declared.make.Make.{Make}
-use Rattle.phase.specs.declared.make.Make.TheVariants.{Key, Publish}
 use Rattle.phase.specs.declared.make.Made.{Made}
 use Rattle.phase.specs.declared.make.Made.TheVariants as made
 use Rattle.phase.specs.declared.held.Held.{Held}
@@ -44,14 +27,12 @@ use Rattle.phase.specs.Helds.{give_next, given}
 use Rattle.phase.specs.Walks.{walk_taken}
 use Rattle.phase.specs.Takes.{take_taken}
 use Rattle.phase.specs.Backs.{back_taken}
-use Rattle.phase.specs.Loads.{load_begun, load_taken}
 use Rattle.phase.specs.Makes.{make_taken}
 use Rattle.phase.specs.Buckets.{with_words, words_in}
 use Rattle.write_op.specs.declared.step.Task.{Task}
 use Rattle.write_op.specs.declared.step.Spot.{Spot}
 use Rattle.write_op.specs.declared.step.Seen.{Seen}
 use Rattle.write_op.specs.declared.step.Ending.{Ending}
-use Rattle.write_op.specs.declared.step.Ending.TheVariants as ending
 use Rattle.write_op.specs.declared.step.NoteWord.{NoteWord}
 use Rattle.write_op.specs.declared.step.NoteWord.TheVariants.{Mark, Fingers}
 use Rattle.write_op.specs.declared.step.WriteStep.{WriteStep}
@@ -59,33 +40,14 @@ use Rattle.write_op.specs.declared.step.WriteStep.TheVariants.{Way, Lock, Check,
 use Rattle.write_op.specs.declared.step.WriteStep.TheVariants as step
 use Rattle.write_op.specs.declared.step.Stage.{Stage}
 use Rattle.write_op.specs.Search.{found, room_in, leaves_note, unnoted, has_finger}
-use Rattle.write_op.specs.Steps.{go, given_by, giving, give, answered, amiss, walked_to, locked, locked_to, lock_of, backed_to, visit_second, visit_first, with_visits, filled, filled_with, filled_to, making, inserting, changing, decided, counted, made_to, drawn_to, unnoted_to, next_in}
-use Rattle.write_op.specs.Fits.{index, AreWords, HasWordsAt}
-use Rattle.write_op.proofs.finding.Places.{one_place, words_this, words_other}
+use Rattle.write_op.specs.Steps.{go, given_by, give, answered, amiss, walked_to, locked, locked_to, lock_of, backed_to, visit_second, visit_first, with_visits, filled_with, filled_to, inserting, changing, decided, made_to, unnoted_to, next_in}
+use Rattle.phase.specs.AreWords.{AreWords}
+use Rattle.write_op.specs.Fits.{HasWordsAt}
+use Rattle.phase.proofs.Wording.{none_words, set_words, put_words}
 
 -- ---- what is kept
-set_below : (words : List ℕ) (at v : ℕ) → v < 2 ^ 64 → ((i : ℕ) → slice_index words i < 2 ^ 64) → (i : ℕ) → slice_index (slice_set words at v) i < 2 ^ 64
-set_below words at v small all i = elim (cases_lt at (length words)) [
-  | inl near ↦ elim (cases_eq i at) [
-    | inl e ↦ (let got : slice_index (slice_set words at v) i ≡ v = ap (slice_index (slice_set words at v)) e ∙ get_or-set_same words at v 0 near in subst (λ x. x < 2 ^ 64) (sym got) small)
-    | inr apart ↦ subst (λ x. x < 2 ^ 64) (sym (get_or-set_other words at i v 0 apart)) (all i)
-  ]
-  | inr far ↦ subst (λ ws. slice_index ws i < 2 ^ 64) (sym (set_past words at v far)) (all i)
-]
-
 abbrev Words : Stage → Type 0
 Words st = ((p : Place) → AreWords (words_in st.seen.buckets p)) × HasWordsAt st.step
-
-zeros : (n i : ℕ) → slice_index (replicate n 0) i ≡ 0
-zeros zero i = refl
-zeros (suc n) zero = refl
-zeros (suc n) (suc i) = zeros n i
-
-pub none_words : AreWords (replicate 32 0)
-none_words = record { small = λ i. subst (λ x. x < 2 ^ 64) (sym (zeros 32 i)) (omega arith); whole = refl }
-
-set_words : (words : List ℕ) (at v : ℕ) → v < 2 ^ 64 → AreWords words → AreWords (slice_set words at v)
-set_words words at v small a = record { small = set_below words at v small a.small; whole = length-set words at v ∙ a.whole }
 
 either_words : (b : Bool) (s t : WriteStep) → HasWordsAt s → HasWordsAt t → HasWordsAt (if b then s else t)
 either_words true s t p q = p
@@ -114,8 +76,7 @@ module _ (task : Task) (seen : Seen) (all : (p : Place) → AreWords (words_in s
   locked_words : (place : Place) → HasWordsAt (locked place)
   locked_words Home = tt
   locked_words Probing = tt
-  locked_words First = none_words
-  locked_words Second = none_words
+  locked_words place = none_words
 
   taken_words : (place : Place) (lock : ℕ) (x : Taken) → Words (locked_to seen place lock x)
   taken_words place lock (taking.On take) = (all, tt)
@@ -135,17 +96,13 @@ module _ (task : Task) (seen : Seen) (all : (p : Place) → AreWords (words_in s
   first_words : (s : Seen) → HasWordsAt (visit_first s)
   first_words s = either_words s.first (Lock First Look) (visit_second s) tt (second_words s)
 
-  put_words : (place : Place) (words : List ℕ) → AreWords words → (p : Place) → AreWords (words_in (with_words place words seen.buckets) p)
-  put_words place words a p = elim (cases_eq (index p) (index place)) [
-    | inl e ↦ subst (λ (q : Place). AreWords (words_in (with_words place words seen.buckets) q)) (sym (one_place p place e)) (subst AreWords (sym (words_this seen.buckets words place)) a)
-    | inr other ↦ subst AreWords (sym (words_other seen.buckets words place p other)) (all p)
-  ]
-
   filled_words : (place : Place) (words : List ℕ) → AreWords words → Words (filled_with task.hash seen place words)
-  filled_words Home words a = (put_words Home words a, none_words)
-  filled_words Probing words a = (put_words Probing words a, first_words (with_visits task.hash (record seen { buckets = with_words Probing words seen.buckets })))
-  filled_words First words a = (put_words First words a, second_words (record seen { buckets = with_words First words seen.buckets }))
-  filled_words Second words a = (put_words Second words a, tt)
+  filled_words Home words a = (put_words seen.buckets Home words a all, none_words)
+  filled_words Probing words a = (put_words seen.buckets Probing words a all, first_words (with_visits task.hash (record seen { buckets = with_words Probing words seen.buckets })))
+  filled_words First words a = (put_words seen.buckets First words a all, second_words (record seen { buckets = with_words First words seen.buckets }))
+  filled_words Second words a = (put_words seen.buckets Second words a all, tt)
+  filled_words Next words a = (put_words seen.buckets Next words a all, tt)
+  filled_words Previous words a = (put_words seen.buckets Previous words a all, tt)
 
   load_by : (place : Place) (load : Load) (n : ℕ) → AreWords (slice_set load.words load.next n) → (b : Bool)
       → Words (filled_to task.hash seen place (if b then loaded.On (record { words = slice_set load.words load.next n; next = load.next + 1 }) else loaded.All (slice_set load.words load.next n)))

@@ -1,17 +1,15 @@
 -- The draw of a change is of a kind that the view may take.
-use Rattle.std.proofs.Common.{◌≡◌, ◌⊎◌, ℕ, ◌+◌, ◌*◌, ◌/◌, ◌^◌, ◌<◌, ◌≤◌, Bool, true, false, List, [], ◌∷◌, inl, inr, refl, sym, ap, ◌∙◌, subst, arith, slice_index}
-use Rattle.hash_word.specs.Hash.{home_of, finger_of}
+use Rattle.std.proofs.Common.{◌≡◌, ◌⊎◌, ℕ, ◌+◌, ◌*◌, ◌/◌, ◌^◌, ◌<◌, Bool, true, false, List, inl, inr, refl, sym, ap, ◌∙◌, subst, arith, slice_index}
+use Rattle.hash_word.specs.Hash.{home_of}
 use Rattle.bucket_meta.specs.Bucket.{allocated, record_slots, overflow_count}
-use Rattle.bucket_meta.specs.Marks.{inserted_mark, removed_mark}
-use Rattle.bucket_meta.proofs.Marks.{takes_slot}
+use Rattle.bucket_meta.proofs.Marks.{takes_slot, takes_slot_as_member}
 use Rattle.bucket_meta.proofs.Uppers.{removed_upper}
-use Rattle.trace.specs.Events.{Words, with_word}
-use Rattle.image_layout.specs.Places.{bucket_at, homes, stash_buckets, buckets}
-use Rattle.sound_image.specs.Records.{key_hash, notes_of, word_in}
+use Rattle.trace.specs.Events.{with_word}
+use Rattle.image_layout.specs.Places.{bucket_at}
+use Rattle.sound_image.specs.Records.{notes_of, word_in}
 use Rattle.map_model.specs.declared.call.Call.{Call}
 use Rattle.map_model.specs.declared.change.Deed.{Deed}
 use Rattle.map_model.specs.declared.change.Deed.TheVariants.{Insert, Update, Remove}
-use Rattle.map_model.specs.Map.{key_of}
 use Rattle.map_model.specs.Changes.{doing, call_of}
 use Rattle.bucket_words.specs.Hits.{Hit}
 use Rattle.world.specs.Site.{Site}
@@ -21,27 +19,24 @@ use Rattle.world.specs.Conditions.{May}
 use Rattle.world.specs.Holders.{DrawsWell, KnowsBucket, OwesAsKnown}
 use Rattle.world.proofs.holding.Drawing.{may_draw}
 use Rattle.phase.specs.declared.place.Place.{Place}
-use Rattle.phase.specs.declared.place.Place.TheVariants.{Home, Probing, First, Second}
+use Rattle.phase.specs.declared.place.Place.TheVariants.{Home, Probing}
 use Rattle.phase.specs.Places.{bucket_of}
 use Rattle.phase.specs.Buckets.{words_in}
 use Rattle.phase.specs.Giving.{IsLocated}
 use Rattle.phase.specs.Finding.{HoldsBuckets, SparesStash}
 use Rattle.phase.specs.Making.{with_record, with_mark}
 use Rattle.phase.proofs.locks.Giving.{bucket_near}
+use Rattle.phase.proofs.Handing.{key_done}
 use Rattle.phase.proofs.locks.Finding.{holders_find, publish_tells}
 use Rattle.write_op.specs.declared.step.Task.{Task}
 use Rattle.write_op.specs.declared.step.Seen.{Seen}
-use Rattle.write_op.specs.Search.{leaves_note, published_word}
+use Rattle.write_op.specs.Search.{taken_mark, leaves_note, published_word}
 use Rattle.write_op.specs.Steps.{lock_of}
-use Rattle.write_op.specs.Fits.{loaded, prepared_by, prepared, changed, owed, owed_by, IsDrawing, AreWords, IsIn}
+use Rattle.phase.specs.AreWords.{AreWords}
+use Rattle.write_op.specs.Fits.{loaded, prepared_by, changed, owed, owed_by, IsDrawing, IsIn}
 use Rattle.write_op.proofs.finding.Finding.{spares, hits}
-use Rattle.write_op.proofs.finding.Chosen.{spot as spot_of, update_found, remove_found, room_free, place_held, slot_low, lock_is}
-use Rattle.write_op.proofs.permitting.Publishing.{located_all, holds_for, word_is, mark_is, loaded_meta, insert_ready, insert_mark}
-
-key_of_doing : (key : ℕ) (d : Deed) → key_of (doing key d) ≡ key
-key_of_doing key (Insert value) = refl
-key_of_doing key (Update value) = refl
-key_of_doing key Remove = refl
+use Rattle.write_op.proofs.finding.Chosen.{spot as spot_of, update_found, place_held, slot_low, lock_is}
+use Rattle.write_op.proofs.permitting.Publishing.{located_all, holds_for, word_is, mark_is, loaded_meta, insert_ready, insert_near, insert_mark}
 
 module _ (site : Site) (task : Task) (is : IsIn site task) (seen : Seen) (v : View) (d : IsDrawing site task seen v) (words : (place : Place) → AreWords (words_in seen.buckets place)) where
   abbrev key : ℕ
@@ -71,10 +66,15 @@ module _ (site : Site) (task : Task) (is : IsIn site task) (seen : Seen) (v : Vi
   holds : HoldsBuckets site task.site task.hash seen.path.segment seen.held (changed task seen) key v
   holds = holds_for site task is seen v d.all (changed task seen) d.knows
 
+  -- what is owed is the note of a record that left
+  none_came : (o : Owed) (b : Bool) → Has o (owed_by site task seen b) → o.added ≡ false
+  none_came o true has = elim has [ inl e ↦ ap (λ (z : Owed). z.added) e | inr none ↦ absurd none ]
+  none_came o false has = absurd has
+
   draws : (z : Deed) → task.change.deed ≡ z → DrawsWell site v (doing key z) seen.path.segment (changed task seen)
   draws z e = holders_find.draw site task.site task.hash seen.path.segment seen.held (changed task seen) (doing key z) v
-      (subst (λ k. HoldsBuckets site task.site task.hash seen.path.segment seen.held (changed task seen) k v) (sym (key_of_doing key z)) holds) d.settled
-      (subst (λ (calls : List Call). Has (doing key z) calls) (sym d.planned) (inl (ap (doing key) (sym e)))) d.room
+      (subst (λ k. HoldsBuckets site task.site task.hash seen.path.segment seen.held (changed task seen) k v) (sym (key_done key z)) holds) d.settled
+      (subst (λ (calls : List Call). Has (doing key z) calls) (sym d.planned) (inl (ap (doing key) (sym e)))) d.room (λ o has. none_came o (leaves_note task.change.deed seen.place) (subst (λ (owed : List Owed). Has o owed) d.owes has))
 
   knows_here : KnowsBucket site.shape v seen.path.segment b (changed task seen)
   knows_here = holders_find.bucket site task.site task.hash seen.path.segment seen.held (changed task seen) key v holds d.settled seen.place (place_held site task seen d.all.upto d.chosen)
@@ -89,13 +89,17 @@ module _ (site : Site) (task : Task) (is : IsIn site task) (seen : Seen) (v : Vi
   -- the record is shown
   shown_may : (z : Deed) → task.change.deed ≡ z → Hit site.shape (changed task seen) seen.path.segment b slot key → May site (draws_place (doing key z)) v
   shown_may z e hit = (may_draw site v).shown (doing key z) seen.path.segment b slot (changed task seen) (draws z e) knows_here
-      (subst (λ k. Hit site.shape (changed task seen) seen.path.segment b slot k) (sym (key_of_doing key z)) hit) d.all.still
+      (subst (λ k. Hit site.shape (changed task seen) seen.path.segment b slot k) (sym (key_done key z)) hit) d.all.still
       (holders_find.kept site task.site task.hash seen.path.segment seen.held (changed task seen) key v holds d.settled)
+
+  taken_near : (p : Place) → (p ≡ Home) ⊎ (p ≡ Probing) → allocated slot (taken_mark p meta slot) ≡ 1
+  taken_near p (inl home) = ap (λ (q : Place). allocated slot (taken_mark q meta slot)) home ∙ (takes_slot meta slot low).taken
+  taken_near p (inr probing) = ap (λ (q : Place). allocated slot (taken_mark q meta slot)) probing ∙ (takes_slot_as_member meta slot low).taken
 
   insert_hit : (value : ℕ) → task.change.deed ≡ Insert value → Hit site.shape (changed task seen) seen.path.segment b slot key
   insert_hit value e = subst (λ w. Hit site.shape w seen.path.segment b slot key) (sym (changed_is (Insert value) e (here + 1) refl))
       (publish_tells.taken site.shape (with_record lock seen.written (loaded task seen)) seen.path.segment b slot key seen.written.mark (insert_ready site task is seen v d.all d.chosen value e)
-      (ap (allocated slot) (insert_mark site task is seen v d.all d.chosen value e) ∙ (takes_slot meta slot low).taken))
+      (ap (allocated slot) (insert_mark site task is seen v d.all d.chosen value e) ∙ taken_near seen.place (insert_near site task is seen v d.all d.chosen value e)))
 
   update_hit : (value : ℕ) → task.change.deed ≡ Update value → Hit site.shape (changed task seen) seen.path.segment b slot key
   update_hit value e = subst (λ w. Hit site.shape w seen.path.segment b slot key) (sym (changed_is (Update value) e (here + 5 + 2 * slot) (omega arith)))

@@ -1,16 +1,16 @@
 -- What is stored to take a note away: in lists, the notes of the home are without it then, and those of its neighbours stay.
-use Rattle.std.proofs.Common.{◌≡◌, ◌≢◌, ◌⊎◌, ℕ, ◌+◌, ◌-◌, ◌/◌, ◌%◌, ◌^◌, ◌<◌, ◌≤◌, Bool, true, false, Option, None, Some, List, [], ◌∷◌, ◌++◌, length, inl, inr, refl, sym, ap, ◌∙◌, subst, arith, slice_index, length-append}
+use Rattle.std.proofs.Common.{◌≡◌, ◌≢◌, ◌⊎◌, ℕ, ◌%◌, ◌^◌, ◌<◌, Option, None, Some, List, ◌∷◌, ◌++◌, inl, inr, refl, sym, ◌∙◌, subst, arith, slice_index}
 use Rattle.std.proofs.lemmas.Bool.{cases_eq}
 use Rattle.bucket_meta.specs.Bucket.{overflow_count}
 use Rattle.bucket_meta.specs.Notes.{OverflowNote, how_often, AreExact}
 use Rattle.bucket_meta.specs.NoteWords.{note_place, freed_mark, freed_fingers, lowered_count, FreesPlace}
-use Rattle.bucket_meta.proofs.Freed.{frees_mark, frees_place}
+use Rattle.bucket_meta.proofs.notes.Freed.{frees_mark, frees_place}
 use Rattle.stash.proofs.Counts.{how_often-append}
-use Rattle.stash.proofs.ExactNotes.{IsOneMore, often_head, each_is_named, same_or_other, exact_without_note, exact_without_count}
+use Rattle.stash.proofs.ExactNotes.{more_left, more_right, often_head, each_is_named, same_or_other, exact_without_note, exact_without_count}
 use Rattle.bucket_words.proofs.segments.Noted.{notes_by}
 use Rattle.world.proofs.stepping.Telling.{unnamed}
 use Rattle.phase.specs.declared.place.Place.{Place}
-use Rattle.phase.specs.declared.place.Place.TheVariants.{Home, Probing, First, Second}
+use Rattle.phase.specs.declared.place.Place.TheVariants.{Home, Probing}
 use Rattle.write_op.specs.declared.search.NoteWords.{NoteWords}
 use Rattle.write_op.specs.Search.{freed_or, unnoted_by}
 use Rattle.write_op.proofs.permitting.Noted.{IsThere, finds_note, one_less, other_side, lowered_lists, lowered, lowered_slots}
@@ -25,26 +25,22 @@ pub record Four : Type 0 where
 abbrev pub one_of : Place → Four → ℕ
 one_of Home f = f.h1
 one_of Probing f = f.p1
-one_of First f = 0
-one_of Second f = 0
+one_of place f = 0
 
 abbrev pub three_of : Place → Four → ℕ
 three_of Home f = f.h3
 three_of Probing f = f.p3
-three_of First f = 0
-three_of Second f = 0
+three_of place f = 0
 
 abbrev pub with_one : Place → ℕ → Four → Four
 with_one Home x f = record f { h1 = x }
 with_one Probing x f = record f { p1 = x }
-with_one First x f = f
-with_one Second x f = f
+with_one place x f = f
 
 abbrev pub with_three : Place → ℕ → Four → Four
 with_three Home x f = record f { h3 = x }
 with_three Probing x f = record f { p3 = x }
-with_three First x f = f
-with_three Second x f = f
+with_three place x f = f
 
 -- the notes of the home
 abbrev pub notes_four : Four → List OverflowNote
@@ -69,19 +65,6 @@ pub record Unnotes (f : Four) (note : OverflowNote) (n : NoteWords) : Type 0 whe
   pub second : KeepsBeside (with_one n.place n.mark f) (with_three n.place n.fingers (with_one n.place n.mark f))
   pub alone : three_of n.place f ≡ n.fingers → IsWithout f note (with_one n.place n.mark f)
   pub both : IsWithout f note (with_three n.place n.fingers (with_one n.place n.mark f))
-
--- ---- one more, beside others
-more_left : (a b c : List OverflowNote) (note : OverflowNote) → IsOneMore a b note → IsOneMore (a ++ c) (b ++ c) note
-more_left a b c note one = record {
-  often = λ other. (let x = one.often other in let y = how_often-append other a c in let z = how_often-append other b c in omega (arith, x, y, z));
-  longer = (let x = one.longer in let y = length-append a c in let z = length-append b c in omega (arith, x, y, z));
-}
-
-more_right : (a b c : List OverflowNote) (note : OverflowNote) → IsOneMore a b note → IsOneMore (c ++ a) (c ++ b) note
-more_right a b c note one = record {
-  often = λ other. (let x = one.often other in let y = how_often-append other c a in let z = how_often-append other c b in omega (arith, x, y, z));
-  longer = (let x = one.longer in let y = length-append c a in let z = length-append c b in omega (arith, x, y, z));
-}
 
 apart : ◌≢◌ {A = ℕ} 0 1
 apart e = omega (arith, e)

@@ -1,17 +1,15 @@
 -- Where an note slot is freed, the notes of its side are without its note, and those of the other side stay.
-use Rattle.std.proofs.Common.{◌≡◌, ◌≢◌, ◌⊎◌, ℕ, zero, suc, ◌+◌, ◌-◌, ◌/◌, ◌%◌, ◌^◌, ◌<◌, ◌≤◌, Bool, true, false, Option, None, Some, List, [], ◌∷◌, ◌++◌, length, inl, inr, refl, sym, ap, ◌∙◌, subst, arith}
-use Rattle.std.specs.Prelude.{◌==◌, ◌&&◌, ◌||◌, nat_lt, if◌then◌else◌}
+use Rattle.std.proofs.Common.{◌≡◌, ◌≢◌, ℕ, zero, suc, ◌-◌, ◌%◌, ◌^◌, ◌<◌, Bool, true, false, Option, None, Some, List, [], ◌∷◌, inl, inr, refl, sym, ap, ◌∙◌, subst, arith}
+use Rattle.std.specs.Prelude.{◌==◌, ◌&&◌, ◌||◌, if◌then◌else◌}
 use Rattle.std.proofs.lemmas.Bool.{cases_eq, eqb-true, eq-eqb, ne_eqb}
 use Rattle.bucket_meta.specs.Bucket.{note_used, note_member, note_index, note_finger, overflow_count}
-use Rattle.bucket_meta.specs.Notes.{OverflowNote, how_often, numbers_below}
+use Rattle.bucket_meta.specs.Notes.{OverflowNote}
 use Rattle.bucket_meta.specs.Visits.{is_note, is_named}
 use Rattle.bucket_meta.specs.NoteWords.{note_place, lowered_count, FreesPlace}
-use Rattle.stash.proofs.Counts.{IsSum, same_pieces, changed_piece}
+use Rattle.stash.proofs.Counts.{same_pieces, changed_piece}
 use Rattle.stash.proofs.ExactNotes.{IsOneMore, one_more_by_sums}
 use Rattle.bucket_words.proofs.segments.Noted.{notes_by}
-
-abbrev piece : ℕ → ℕ → ℕ → ℕ → ℕ → List OverflowNote
-piece side u m f n = if (u == 1) && (m == side) then (f, n) ∷ [] else []
+use Rattle.world.proofs.holding.Preparing.{note_piece}
 
 -- ---- a note that is there
 pub record IsThere (w1 w3 side finger index i : ℕ) : Type 0 where
@@ -76,25 +74,25 @@ finds_note w1 w3 side finger index = finds_by w1 w3 side finger index (is_note w
 -- ---- a place that is freed
 module _ (w1 w3 x1 x3 i : ℕ) (f : FreesPlace w1 w3 x1 x3 i) (low : i < 4) where
   abbrev p : ℕ → ℕ → List OverflowNote
-  p side j = piece side (note_used j w1) (note_member j w1) (note_finger j w1 w3) (note_index j w1)
+  p side j = note_piece side (note_used j w1) (note_member j w1) (note_finger j w1 w3) (note_index j w1)
 
   abbrev q : ℕ → ℕ → List OverflowNote
-  q side j = piece side (note_used j x1) (note_member j x1) (note_finger j x1 x3) (note_index j x1)
+  q side j = note_piece side (note_used j x1) (note_member j x1) (note_finger j x1 x3) (note_index j x1)
 
   others : (side j : ℕ) → j < 4 → j ≢ i → q side j ≡ p side j
   others side j l n =
-      ap (λ z. piece side z (note_member j x1) (note_finger j x1 x3) (note_index j x1)) (f.used j l n)
-      ∙ ap (λ z. piece side (note_used j w1) z (note_finger j x1 x3) (note_index j x1)) (f.members j l n)
-      ∙ ap (λ z. piece side (note_used j w1) (note_member j w1) z (note_index j x1)) (f.fingers j l n)
-      ∙ ap (λ z. piece side (note_used j w1) (note_member j w1) (note_finger j w1 w3) z) (f.indexes j l n)
+      ap (λ z. note_piece side z (note_member j x1) (note_finger j x1 x3) (note_index j x1)) (f.used j l n)
+      ∙ ap (λ z. note_piece side (note_used j w1) z (note_finger j x1 x3) (note_index j x1)) (f.members j l n)
+      ∙ ap (λ z. note_piece side (note_used j w1) (note_member j w1) z (note_index j x1)) (f.fingers j l n)
+      ∙ ap (λ z. note_piece side (note_used j w1) (note_member j w1) (note_finger j w1 w3) z) (f.indexes j l n)
 
   none_there : (side : ℕ) → q side i ≡ []
-  none_there side = ap (λ z. piece side z (note_member i x1) (note_finger i x1 x3) (note_index i x1)) f.free
+  none_there side = ap (λ z. note_piece side z (note_member i x1) (note_finger i x1 x3) (note_index i x1)) f.free
 
   module _ (side finger index : ℕ) (t : IsThere w1 w3 side finger index i) where
     was_there : p side i ≡ (finger, index) ∷ []
     was_there =
-        ap (λ z. piece side z (note_member i w1) (note_finger i w1 w3) (note_index i w1)) t.used
+        ap (λ z. note_piece side z (note_member i w1) (note_finger i w1 w3) (note_index i w1)) t.used
         ∙ ap (λ (b : Bool). if b then (note_finger i w1 w3, note_index i w1) ∷ [] else []) (eq-eqb (note_member i w1) side t.member)
         ∙ ap (λ z. (z, note_index i w1) ∷ []) t.is_finger ∙ ap (λ z. (finger, z) ∷ []) t.is_index
 
@@ -112,7 +110,7 @@ module _ (w1 w3 x1 x3 i : ℕ) (f : FreesPlace w1 w3 x1 x3 i) (low : i < 4) wher
       where
         was_none : p other i ≡ []
         was_none =
-            ap (λ z. piece other z (note_member i w1) (note_finger i w1 w3) (note_index i w1)) t.used
+            ap (λ z. note_piece other z (note_member i w1) (note_finger i w1 w3) (note_index i w1)) t.used
             ∙ ap (λ (b : Bool). if b then (note_finger i w1 w3, note_index i w1) ∷ [] else []) (ne_eqb (note_member i w1) other (λ e. apart (sym t.member ∙ e)))
 
         by : (j : ℕ) → j < 4 → q other j ≡ p other j
@@ -124,12 +122,12 @@ module _ (w1 w3 x1 x3 i : ℕ) (f : FreesPlace w1 w3 x1 x3 i) (low : i < 4) wher
 -- ---- the count is lowered
 module _ (w : ℕ) (some : 0 < overflow_count w) where
   pub lowered_lists : (w3 side : ℕ) → notes_by (lowered_count w) w3 side ≡ notes_by w w3 side
-  lowered_lists w3 side = same_pieces (λ j. piece side (note_used j w) (note_member j w) (note_finger j w w3) (note_index j w))
-      (λ j. piece side (note_used j (lowered_count w)) (note_member j (lowered_count w)) (note_finger j (lowered_count w) w3) (note_index j (lowered_count w))) 4 (λ j l.
-      ap (λ z. piece side z (note_member j (lowered_count w)) (note_finger j (lowered_count w) w3) (note_index j (lowered_count w))) (used j l)
-      ∙ ap (λ z. piece side (note_used j w) z (note_finger j (lowered_count w) w3) (note_index j (lowered_count w))) (members j l)
-      ∙ ap (λ z. piece side (note_used j w) (note_member j w) z (note_index j (lowered_count w))) (fingers j l)
-      ∙ ap (λ z. piece side (note_used j w) (note_member j w) (note_finger j w w3) z) (indexes j l))
+  lowered_lists w3 side = same_pieces (λ j. note_piece side (note_used j w) (note_member j w) (note_finger j w w3) (note_index j w))
+      (λ j. note_piece side (note_used j (lowered_count w)) (note_member j (lowered_count w)) (note_finger j (lowered_count w) w3) (note_index j (lowered_count w))) 4 (λ j l.
+      ap (λ z. note_piece side z (note_member j (lowered_count w)) (note_finger j (lowered_count w) w3) (note_index j (lowered_count w))) (used j l)
+      ∙ ap (λ z. note_piece side (note_used j w) z (note_finger j (lowered_count w) w3) (note_index j (lowered_count w))) (members j l)
+      ∙ ap (λ z. note_piece side (note_used j w) (note_member j w) z (note_index j (lowered_count w))) (fingers j l)
+      ∙ ap (λ z. note_piece side (note_used j w) (note_member j w) (note_finger j w w3) z) (indexes j l))
     where
       used : (j : ℕ) → j < 4 → note_used j (lowered_count w) ≡ note_used j w
       used zero l = omega (arith, some)

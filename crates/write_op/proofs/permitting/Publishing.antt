@@ -1,28 +1,27 @@
 -- The stores of the record are of kinds that the view may take; the one that makes the change makes it alone.
-use Rattle.std.proofs.Common.{◌≡◌, ◌≢◌, ◌⊎◌, ℕ, ◌+◌, ◌*◌, ◌/◌, ◌^◌, ◌<◌, ◌≤◌, Bool, true, false, Option, None, Some, List, [], ◌∷◌, inl, inr, refl, sym, ap, ◌∙◌, subst, arith, slice_index}
-use Rattle.hash_word.specs.Hash.{home_of, finger_of}
+use Rattle.std.proofs.Common.{◌≡◌, ◌≢◌, ◌⊎◌, ℕ, ◌+◌, ◌*◌, ◌<◌, true, false, List, inl, inr, refl, sym, ap, ◌∙◌, subst, arith, slice_index}
+use Rattle.hash_word.specs.Hash.{home_of, probing_of, finger_of}
 use Rattle.bucket_meta.specs.Bucket.{record_slots, overflow_count}
-use Rattle.bucket_meta.specs.Marks.{inserted_mark, removed_mark}
-use Rattle.bucket_meta.proofs.Marks.{takes_slot, frees_slot}
-use Rattle.bucket_meta.proofs.Uppers.{inserted_upper, removed_upper}
+use Rattle.bucket_meta.specs.Marks.{removed_mark}
+use Rattle.bucket_meta.proofs.Marks.{takes_slot, takes_slot_as_member, frees_slot}
+use Rattle.bucket_meta.proofs.Uppers.{inserted_upper, member_upper, removed_upper}
 use Rattle.trace.specs.Events.{Words}
-use Rattle.image_layout.specs.Places.{Shape, bucket_at, homes, stash_buckets, buckets}
+use Rattle.image_layout.specs.Places.{Shape, bucket_at, homes, stash_buckets}
 use Rattle.sound_image.specs.Records.{key_hash, notes_of, word_in}
-use Rattle.map_model.specs.declared.call.Call.{Call}
 use Rattle.map_model.specs.declared.call.Call.TheVariants as call
 use Rattle.map_model.specs.declared.change.Deed.{Deed}
 use Rattle.map_model.specs.declared.change.Deed.TheVariants.{Insert, Update, Remove}
-use Rattle.map_model.specs.Changes.{doing, call_of}
+use Rattle.map_model.specs.Changes.{doing}
 use Rattle.bucket_words.specs.Buckets.{value_in}
 use Rattle.bucket_words.specs.TableChanges.{IsReadyAt}
-use Rattle.world.specs.Site.{Site, IsUnder}
+use Rattle.world.specs.Site.{Site}
 use Rattle.world.specs.Views.{Owed, View, Has, HasLock}
 use Rattle.world.specs.Kinds.{Kind, publishes, stashes}
 use Rattle.world.specs.Conditions.{May, OwesNone}
-use Rattle.world.specs.Holders.{FoundNone, FoundAt, KnowsBucket, TakesSlot, FreesSlot}
+use Rattle.world.specs.Holders.{FoundNone, FoundAt, TakesSlot, FreesSlot}
 use Rattle.world.proofs.holding.Holders.{may_place, may_change, may_unstash_all}
 use Rattle.phase.specs.declared.place.Place.{Place}
-use Rattle.phase.specs.declared.place.Place.TheVariants.{Home, Probing, First, Second}
+use Rattle.phase.specs.declared.place.Place.TheVariants.{Home, Probing, First, Second, Next, Previous}
 use Rattle.phase.specs.declared.make.Record.{Record}
 use Rattle.phase.specs.declared.make.Make.{Make}
 use Rattle.phase.specs.declared.make.Make.TheVariants.{Publish}
@@ -39,9 +38,10 @@ use Rattle.phase.proofs.locks.Storing.{prepares_record}
 use Rattle.phase.proofs.locks.Finding.{holders_find, prepared_nowhere}
 use Rattle.write_op.specs.declared.step.Task.{Task}
 use Rattle.write_op.specs.declared.step.Seen.{Seen}
-use Rattle.write_op.specs.Search.{found, taken_mark, published_word, published_mark, brought, stash_index, leaves_note}
+use Rattle.write_op.specs.Search.{taken_mark, published_word, published_mark, brought, stash_index, leaves_note}
 use Rattle.write_op.specs.Steps.{lock_of}
-use Rattle.write_op.specs.Fits.{loaded, prepared_by, prepared, owed, publish_by, publish_kind, HasAll, IsInserting, IsChosen, IsChanging, AreWords, IsIn}
+use Rattle.phase.specs.AreWords.{AreWords}
+use Rattle.write_op.specs.Fits.{loaded, prepared_by, prepared, owed, publish_by, publish_kind, HasAll, IsInserting, IsChosen, IsChanging, IsIn}
 use Rattle.write_op.proofs.keeping.Going.{located}
 use Rattle.write_op.proofs.finding.Finding.{asked_held, nowhere, hits}
 use Rattle.write_op.proofs.finding.Chosen.{spot as spot_of, is_spot, update_found, remove_found, room_free, place_held, slot_low, written_is, word_here, lock_is, fits_slot}
@@ -110,11 +110,11 @@ module _ (site : Site) (task : Task) (is : IsIn site task) (seen : Seen) (v : Vi
         (prepares_record.ready site.shape (loaded task seen) segment b lock (finger_of task.hash) seen.written insert_fits
         (ap finger_of is.hash ∙ ap (λ k. finger_of (key_hash site.shape k)) (sym key_is)))
 
-    pub at_home : seen.place ≡ Home
-    at_home = (room_free site task seen a.upto c value e).place
+    pub insert_near : (seen.place ≡ Home) ⊎ (seen.place ≡ Probing)
+    insert_near = (room_free site task seen a.upto c value e).near
 
-    pub insert_mark : seen.written.mark ≡ inserted_mark w1 slot
-    insert_mark = mark_is (Insert value) e ∙ ap (λ (p : Place). taken_mark p w1 slot) at_home
+    pub insert_mark : seen.written.mark ≡ taken_mark seen.place w1 slot
+    insert_mark = mark_is (Insert value) e
 
 -- ---- the stores but the one
 module _ (site : Site) (task : Task) (is : IsIn site task) (seen : Seen) (v : View) (m : Make) (c : IsChanging site task seen m v) where
@@ -206,20 +206,41 @@ module _ (site : Site) (task : Task) (is : IsIn site task) (seen : Seen) (v : Vi
         ∙ prepares_record.meta site.shape (loaded task seen) seen.path.segment (bucket_of task.hash seen.place) (lock_of task seen seen.place) (finger_of task.hash) seen.written fits
         ∙ word_here site task seen all.upto c.chosen at 1 (omega arith) (omega arith)
 
-    insert_takes : TakesSlot site.shape (bucket_of task.hash seen.place) seen.written.slot key (word (here + 1)) (inserted_mark meta seen.written.slot)
-    insert_takes =
+    -- in the home bucket it has no membership bit, and in the probing bucket it has
+    abbrev Takes : Place → Type 0
+    Takes p = TakesSlot site.shape (bucket_of task.hash p) seen.written.slot key meta (taken_mark p meta seen.written.slot)
+
+    takes_home : Takes Home
+    takes_home =
         let t = takes_slot meta seen.written.slot low in
-        subst (λ w. TakesSlot site.shape (bucket_of task.hash seen.place) seen.written.slot key w (inserted_mark meta seen.written.slot)) (sym word_meta) (record {
+        record { others = t.others; taken = t.taken; stands = inl (ap home_of is.hash, t.at_home); overflow = inserted_upper meta seen.written.slot ((words seen.place).small 1) low }
+
+    takes_probing : Takes Probing
+    takes_probing =
+        let t = takes_slot_as_member meta seen.written.slot low in
+        record {
           others = t.others;
           taken = t.taken;
-          stands = inl (ap (bucket_of task.hash) (at_home site task is seen v all c.chosen value e) ∙ ap home_of is.hash, t.at_home);
-          overflow = inserted_upper meta seen.written.slot ((words seen.place).small 1) low;
-        })
+          stands = inr (inl (ap (λ h. probing_of (home_of h)) is.hash, t.is_member));
+          overflow = member_upper meta seen.written.slot ((words seen.place).small 1) low;
+        }
+
+    takes_near : (p : Place) → (p ≡ Home) ⊎ (p ≡ Probing) → Takes p
+    takes_near p (inl home) = subst Takes (sym home) takes_home
+    takes_near p (inr probing) = subst Takes (sym probing) takes_probing
+
+    insert_takes : TakesSlot site.shape (bucket_of task.hash seen.place) seen.written.slot key (word (here + 1)) (taken_mark seen.place meta seen.written.slot)
+    insert_takes = subst (λ w. TakesSlot site.shape (bucket_of task.hash seen.place) seen.written.slot key w (taken_mark seen.place meta seen.written.slot)) (sym word_meta)
+        (takes_near seen.place (insert_near site task is seen v all c.chosen value e))
+
+    bucket_low : (p : Place) → (p ≡ Home) ⊎ (p ≡ Probing) → bucket_of task.hash p < homes
+    bucket_low p (inl home) = subst (λ (q : Place). bucket_of task.hash q < homes) (sym home) (omega arith)
+    bucket_low p (inr probing) = subst (λ (q : Place). bucket_of task.hash q < homes) (sym probing) (omega arith)
 
     insert_may : May site (publish_kind task seen (published_at (lock_of task seen seen.place) seen.written) seen.written.mark) v
-    insert_may = may_by (Insert value) e refl (here + 1) (inserted_mark meta seen.written.slot) (meta_place (Insert value) e refl) (insert_mark site task is seen v all c.chosen value e)
-        ((may_place site v).insert seen.path.segment (bucket_of task.hash seen.place) seen.written.slot key value (inserted_mark meta seen.written.slot) word insert_none
-        (subst (λ (p : Place). bucket_of task.hash p < homes) (sym (at_home site task is seen v all c.chosen value e)) (omega arith))
+    insert_may = may_by (Insert value) e refl (here + 1) (taken_mark seen.place meta seen.written.slot) (meta_place (Insert value) e refl) (insert_mark site task is seen v all c.chosen value e)
+        ((may_place site v).insert seen.path.segment (bucket_of task.hash seen.place) seen.written.slot key value (taken_mark seen.place meta seen.written.slot) word insert_none
+        (bucket_low seen.place (insert_near site task is seen v all c.chosen value e))
         (holders_find.bucket site task.site task.hash seen.path.segment seen.held word key v insert_holds loose seen.place (place_held site task seen all.upto c.chosen))
         (insert_ready site task is seen v all c.chosen value e) insert_value insert_takes)
 
@@ -303,6 +324,8 @@ module _ (site : Site) (task : Task) (is : IsIn site task) (seen : Seen) (v : Vi
     remove_by Home same = plain_may (ap (leaves_note Remove) same) (subst (λ (p : Place). bucket_of task.hash p < homes) (sym same) (omega arith))
     remove_by Probing same = plain_may (ap (leaves_note Remove) same) (subst (λ (p : Place). bucket_of task.hash p < homes) (sym same) (omega arith))
     remove_by First same = stash_may 0 (ap (bucket_of task.hash) same) (omega arith) (ap stash_index same) (ap (leaves_note Remove) same)
+    remove_by Next same = plain_may (ap (leaves_note Remove) same) (subst (λ (p : Place). bucket_of task.hash p < homes) (sym same) (omega arith))
+    remove_by Previous same = plain_may (ap (leaves_note Remove) same) (subst (λ (p : Place). bucket_of task.hash p < homes) (sym same) (omega arith))
     remove_by Second same = stash_may 1 (ap (bucket_of task.hash) same) (omega arith) (ap stash_index same) (ap (leaves_note Remove) same)
 
   publish_by_deed : (d : Deed) → task.change.deed ≡ d → May site (publish_kind task seen (published_at (lock_of task seen seen.place) seen.written) seen.written.mark) v

@@ -1,22 +1,19 @@
 -- The stores by which a note is taken away are of kinds that the view may take, and leave it suited.
-use Rattle.std.proofs.Common.{◌≡◌, ◌≢◌, ◌⊎◌, ℕ, ◌+◌, ◌*◌, ◌/◌, ◌%◌, ◌^◌, ◌<◌, ◌≤◌, Bool, true, false, cond, Option, None, Some, List, [], ◌∷◌, ◌++◌, inl, inr, refl, sym, ap, ◌∙◌, subst, arith, slice_index}
+use Rattle.std.proofs.Common.{◌≡◌, ◌≢◌, ◌⊎◌, ℕ, ◌+◌, ◌%◌, ◌^◌, ◌<◌, ◌≤◌, Bool, true, false, List, ◌∷◌, ◌++◌, inl, inr, refl, sym, ap, ◌∙◌, subst, arith, slice_index}
 use Rattle.std.specs.Prelude.{◌==◌, if◌then◌else◌}
-use Rattle.std.proofs.lemmas.Bool.{eq-eqb, eqb-true}
+use Rattle.std.proofs.lemmas.Bool.{eqb-true}
 use Rattle.hash_word.specs.Hash.{home_of, probing_of, finger_of}
 use Rattle.bucket_meta.specs.Bucket.{overflow_count}
 use Rattle.bucket_meta.specs.Notes.{OverflowNote, AreExact}
 use Rattle.trace.specs.Events.{Words, with_word}
-use Rattle.image_layout.specs.Places.{Shape, bucket_at, homes, buckets}
+use Rattle.image_layout.specs.Places.{Shape, bucket_at, buckets}
 use Rattle.sound_image.specs.Records.{notes_in, notes_of, word_in, stashed_of}
 use Rattle.map_model.specs.declared.change.Deed.{Deed}
 use Rattle.map_model.specs.declared.change.Deed.TheVariants.{Insert, Update, Remove}
-use Rattle.map_model.specs.declared.entry.Reply.TheVariants as reply
-use Rattle.map_model.specs.Changes.{call_of}
 use Rattle.bucket_words.specs.Core.{core_of, core_in_bucket}
 use Rattle.bucket_words.proofs.segments.Cores.{core_in}
 use Rattle.bucket_words.proofs.segments.Places.{other_word, this_word}
 use Rattle.bucket_words.proofs.segments.Noted.{notes_by}
-use Rattle.world.specs.declared.site.Site.{Site as Here}
 use Rattle.world.specs.Site.{Site}
 use Rattle.world.specs.Views.{Owed, View, Has}
 use Rattle.world.specs.Kinds.{repays}
@@ -24,7 +21,7 @@ use Rattle.world.specs.Conditions.{May, IsOwed}
 use Rattle.world.specs.Holders.{KnowsBucket, KeepsNeighbours, TouchesNote}
 use Rattle.world.proofs.holding.Repaying.{may_repay}
 use Rattle.phase.specs.declared.place.Place.{Place}
-use Rattle.phase.specs.declared.place.Place.TheVariants.{Home, Probing, First, Second}
+use Rattle.phase.specs.declared.place.Place.TheVariants.{Home, Probing, First, Second, Next, Previous}
 use Rattle.phase.specs.Places.{bucket_of}
 use Rattle.phase.specs.Buckets.{words_in}
 use Rattle.phase.specs.Giving.{IsLocated, IsHeld, IsOfHeld}
@@ -39,7 +36,8 @@ use Rattle.write_op.specs.declared.step.NoteWord.{NoteWord}
 use Rattle.write_op.specs.declared.step.NoteWord.TheVariants.{Mark, Fingers}
 use Rattle.write_op.specs.Search.{leaves_note, stash_index, unnoted, has_finger}
 use Rattle.write_op.specs.Steps.{lock_of}
-use Rattle.write_op.specs.Fits.{loaded, prepared_by, changed, owed, mark_kind, note_kind, words_of_note, IsUnnoting, AreWords, IsIn}
+use Rattle.phase.specs.AreWords.{AreWords}
+use Rattle.write_op.specs.Fits.{loaded, prepared_by, changed, owed, mark_kind, note_kind, words_of_note, IsUnnoting, IsIn}
 use Rattle.write_op.proofs.finding.Finding.{asked_held, word_at}
 use Rattle.write_op.proofs.finding.Chosen.{lock_is}
 use Rattle.write_op.proofs.permitting.Publishing.{located_all, holds_for, word_is}
@@ -155,6 +153,8 @@ module _ (site : Site) (task : Task) (is : IsIn site task) (seen : Seen) (v : Vi
   leaves_by Remove Probing e = absurd (let f : false ≡ true = e in cc)
   leaves_by Remove First e = (refl, omega arith)
   leaves_by Remove Second e = (refl, omega arith)
+  leaves_by Remove Next e = absurd (let f : false ≡ true = e in cc)
+  leaves_by Remove Previous e = absurd (let f : false ≡ true = e in cc)
 
   removes : (task.change.deed ≡ Remove) × (64 ≤ bucket_of task.hash seen.place)
   removes = leaves_by task.change.deed seen.place u.leaves
@@ -244,8 +244,7 @@ module _ (site : Site) (task : Task) (is : IsIn site task) (seen : Seen) (v : Vi
     three_stays : (p : Place) (x : ℕ) (g : Four) → three_of p (with_one p x g) ≡ three_of p g
     three_stays Home x g = refl
     three_stays Probing x g = refl
-    three_stays First x g = refl
-    three_stays Second x g = refl
+    three_stays place x g = refl
 
     three_loaded : (p : Place) → (p ≡ Home) ⊎ (p ≡ Probing) → three_of p f ≡ slice_index (words_in seen.buckets p) 3
     three_loaded p (inl e) = subst (λ (q : Place). three_of q f ≡ slice_index (words_in seen.buckets q) 3) (sym e) refl
