@@ -1,0 +1,19 @@
+-- At its end a displacement tells its outcome.
+use Rattle.std.proofs.Common.{◌≡◌, refl}
+use Rattle.op_core.specs.declared.want.Want.TheVariants.{Done}
+use Rattle.phase.specs.declared.kept.Kept.{Kept}
+use Rattle.phase.proofs.Wanting.{no}
+use Rattle.move_op.specs.declared.step.MoveStep.{MoveStep}
+use Rattle.move_op.specs.declared.step.MoveStep.TheVariants.{Give, Ended}
+use Rattle.move_op.specs.Steps.{wanted_in, end_at}
+use Rattle.move_op.specs.Fits.{outcome_of, outcome_at}
+use Rattle.move_op.specs.MovePart.{MoveEndsAsSaid}
+use Rattle.move_op.proofs.Over.{over_done}
+
+ends_at : (kept : Kept) (at : MoveStep) → wanted_in kept at ≡ Done → outcome_at at ≡ outcome_of (end_at at)
+ends_at kept (Ended end) done = refl
+ends_at kept (Give held end) done = refl
+ends_at kept at done = absurd (no ((over_done kept at).1 done))
+
+pub move_ends_as_said : MoveEndsAsSaid
+move_ends_as_said op done = ends_at op.kept op.step done

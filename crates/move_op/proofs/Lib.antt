@@ -1,0 +1,10 @@
+pub mod Slots
+pub mod Over
+pub mod Ends
+pub mod Falling
+pub mod shifting
+pub mod keeping
+pub mod Permitting
+pub mod parts
+pub mod causing
+pub mod Replying

@@ -1,0 +1,5 @@
+-- Each event leaves a view that suits the next step.
+pub mod Going
+pub mod Entering
+pub mod Storing
+pub mod Stepping

@@ -1,0 +1,25 @@
+-- A displacement is a part of a call.
+use Rattle.move_op.proofs.parts.Parted.{move_is_part, begins_as_part, begins_undecided, never_finished}
+use Rattle.move_op.proofs.causing.ByCause.{move_ends_by_cause, begins_remembering, hands_on_all}
+use Rattle.move_op.proofs.laws.moves_are_parts.Goals as goal
+
+pub returns-clause-part : goal.returns-clause-part
+returns-clause-part c = move_is_part
+
+pub returns-clause-causes : goal.returns-clause-causes
+returns-clause-causes c = move_ends_by_cause
+
+pub returns-clause-begins : goal.returns-clause-begins
+returns-clause-begins c = begins_as_part
+
+pub returns-clause-undecided : goal.returns-clause-undecided
+returns-clause-undecided c = begins_undecided
+
+pub returns-clause-remembers : goal.returns-clause-remembers
+returns-clause-remembers c = begins_remembering
+
+pub returns-clause-hands_on : goal.returns-clause-hands_on
+returns-clause-hands_on c = hands_on_all
+
+pub returns-clause-finished : goal.returns-clause-finished
+returns-clause-finished c = never_finished

@@ -1,0 +1,5 @@
+-- A displacement as a part of a call.
+pub mod Wording
+pub mod Putting
+pub mod Parting
+pub mod Parted

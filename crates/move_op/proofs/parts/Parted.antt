@@ -1,0 +1,193 @@
+-- A DISPLACEMENT IS A PART of a call.
+use Rattle.std.proofs.Common.{◌≡◌, ◌≢◌, ℕ, ◌^◌, ◌<◌, arith, true, false, Some, List, refl, sym, ap, ◌∙◌, subst}
+use Rattle.std.proofs.lemmas.Option.{none-some}
+use Rattle.op_core.specs.declared.want.Want.{Want}
+use Rattle.op_core.specs.declared.want.Want.TheVariants as want
+use Rattle.op_core.specs.declared.want.Ans.{Ans}
+use Rattle.image_layout.specs.Places.{Shape, IsShape}
+use Rattle.map_model.specs.declared.call.Call.{Call}
+use Rattle.map_model.specs.declared.change.Change.{Change}
+use Rattle.map_model.specs.Changes.{call_of}
+use Rattle.world.specs.declared.site.Site.{Site as Here}
+use Rattle.world.specs.Site.{Site, IsSite}
+use Rattle.world.specs.Views.{View}
+use Rattle.world.specs.Wants.{answer_to, word_of}
+use Rattle.world.specs.Kinds.{Kind, wanted as wanted_by, view_after}
+use Rattle.world.specs.Attempts.{EntersReply}
+use Rattle.world.proofs.stepping.Answers.{is_word}
+use Rattle.image_layout.specs.Volatile.{counter_word}
+use Rattle.part.specs.Asks.{IsWithin}
+use Rattle.part.specs.Outcomes.{finished, reply_of}
+use Rattle.part.specs.Part.{KeepsSuits, PlansItsCall, IsPart}
+use Rattle.phase.specs.declared.place.Place.{Place}
+use Rattle.phase.specs.declared.load.Load.{Load}
+use Rattle.phase.specs.declared.load.Loaded.TheVariants as loaded
+use Rattle.phase.specs.declared.kept.Kept.{Kept}
+use Rattle.phase.specs.AreWords.{AreWords}
+use Rattle.phase.specs.Keeps.{KeepsAll, HoldsThirds}
+use Rattle.phase.specs.Buckets.{with_words, words_in}
+use Rattle.phase.specs.Loads.{load_taken}
+use Rattle.phase.proofs.Wanting.{HasFlush, is_fence}
+use Rattle.phase.proofs.Wording.{AreLoaded, load_words, put_words}
+use Rattle.phase.proofs.locks.Taking.{take_fits}
+use Rattle.phase.proofs.locks.Giving.{give_stands}
+use Rattle.phase.proofs.locks.Making.{make_fits}
+use Rattle.move_op.specs.declared.step.MoveEnd.{MoveEnd}
+use Rattle.move_op.specs.declared.step.MoveEnd.TheVariants as ends
+use Rattle.move_op.specs.declared.step.Ending.{Ending}
+use Rattle.move_op.specs.declared.step.Ending.TheVariants as ending
+use Rattle.move_op.specs.declared.step.Direction.{Direction}
+use Rattle.move_op.specs.declared.step.MoveStep.{MoveStep}
+use Rattle.move_op.specs.declared.step.MoveStep.TheVariants.{Lock, Fill, CountSpent, Draw, Give, Ended}
+use Rattle.move_op.specs.declared.step.MoveStep.TheVariants as step
+use Rattle.move_op.specs.Shifts.{target_of, new_value, record_of}
+use Rattle.move_op.specs.Steps.{lock_of, lock_at, wanted, taken, wanted_in, next_in, end_of, is_without_move}
+use Rattle.move_op.specs.Fits.{leg_kind, kind_at, SuitsStep, HasWordsAt, MayMakeRoom, MoveStands, outcome_of, outcome_at}
+use Rattle.move_op.specs.MovePart.{move_part, MoveBeginsAsPart, MoveBeginsUndecided, MoveNeverFinished}
+use Rattle.move_op.proofs.Falling.{move_falls, most_at}
+use Rattle.move_op.proofs.Permitting.{may_in}
+use Rattle.move_op.proofs.keeping.Storing.{storing}
+use Rattle.move_op.proofs.keeping.Stepping.{step_in}
+use Rattle.move_op.proofs.parts.Wording.{words_after, same_after}
+use Rattle.move_op.proofs.parts.Putting.{puts_word, asks_within}
+use Rattle.move_op.proofs.parts.Parting.{Cuts, makes_in, stays_in, done_in, bare_in, few_in, flush_in, keeps_in, none_waits, on_in, planned_in}
+
+-- ---- EACH STEP
+-- the event is that of its kind
+wants_in : (site : Site) (kept : Kept) (shape : kept.site.geometry ≡ site.shape) (v : View) (s : MoveStep) → SuitsStep site kept s v → wanted_in kept s ≢ want.Done → wanted_in kept s ≡ wanted_by site.shape (kind_at kept s)
+wants_in site kept shape v (Lock d t) suits asks = take_fits.wants site.shape (lock_of kept (target_of d)) t suits.2
+wants_in site kept shape v (Fill d load) suits asks = refl
+wants_in site kept shape v CountSpent suits asks = ap (λ g. want.Load (counter_word g)) shape
+wants_in site kept shape v (step.Make shift leg m) suits asks = make_fits.wants site.shape (leg_kind kept shift leg) (storing kept shift leg) (lock_at kept shift leg) (record_of shift leg) m
+wants_in site kept shape v (Draw shift) suits asks = refl
+wants_in site kept shape v (Give held end) suits asks = give_stands.wants site.shape kept.site kept.hash kept.segment held v suits.locks asks
+wants_in site kept shape v (Ended end) suits asks = absurd (asks refl)
+
+-- the words of a bucket that is loaded whole
+loads_whole : (kept : Kept) (all : (p : Place) → AreWords (words_in kept.buckets p)) (s : MoveStep) (n : ℕ) → n < 2 ^ 64 → HasWordsAt s → (d : Direction) (load : Load) → s ≡ Fill d load
+    → (ws : List ℕ) → load_taken load n ≡ loaded.All ws → (p : Place) → AreWords (words_in (with_words (target_of d) ws kept.buckets) p)
+loads_whole kept all s n small has d load e ws f p =
+    let a : AreLoaded (load_taken load n) = load_words load n small (subst HasWordsAt e has) in
+    put_words kept.buckets (target_of d) ws (subst AreLoaded f a) all p
+
+-- where it is located, whatever it does
+shape_of : (site : Site) (kept : Kept) (v : View) (s : MoveStep) → SuitsStep site kept s v → wanted_in kept s ≢ want.Done → kept.site.geometry ≡ site.shape
+shape_of site kept v (Lock d t) suits asks = suits.0.holds.located.shape
+shape_of site kept v (Fill d load) suits asks = suits.0.located.shape
+shape_of site kept v CountSpent suits asks = suits.0.holds.located.shape
+shape_of site kept v (step.Make shift leg m) suits asks = suits.all.located.shape
+shape_of site kept v (Draw shift) suits asks = suits.all.located.shape
+shape_of site kept v (Give held end) suits asks = suits.located.shape
+shape_of site kept v (Ended end) suits asks = absurd (asks refl)
+
+-- what may run goes on so
+goes_on : (site : Site) (here : Here) (call : Call) (kept next : Kept) → MayMakeRoom site here call kept → next.change ≡ kept.change → next.site ≡ kept.site → ((p : Place) → AreWords (words_in next.buckets p))
+    → MayMakeRoom site here call next
+goes_on site here call kept next may change at all = record {
+  same = ap call_of change ∙ may.same;
+  at = at ∙ may.at;
+  straight = may.straight;
+  single = may.single;
+  key = subst (λ (c : Change). c.key < 2 ^ 64) (sym change) may.key;
+  value = subst (λ (c : Change). new_value c.deed < 2 ^ 64) (sym change) may.value;
+  buckets = all;
+}
+
+steps : KeepsSuits move_part
+steps site here call words views j op before v h at s asks =
+    let kept : Kept = op.kept in
+    let st : MoveStands site here call op v = s.stands in
+    let n : ℕ = words (word_of site.shape (wanted op)) in
+    let a : Ans = answer_to (wanted op) n in
+    let u : View = view_after site.shape (kind_at kept op.step) n v in
+    let enters = subst (λ c. EntersReply c (reply_of (outcome_at op.step)) before v) (sym st.may.same) s.enters in
+    let same = same_after kept op.step a in
+    let goes = λ (small : n < 2 ^ 64). step_in site here call kept st.may words views j before v h at op.step n small refl st.view (loads_whole kept st.may.buckets op.step n small st.load) enters asks in
+    record {
+      wants = wants_in site kept (shape_of site kept v op.step st.view asks) v op.step st.view asks;
+      may = may_in site here call kept st.may words views j before v h at op.step st.view asks;
+      stands = λ small. let all = words_after kept st.may.buckets op.step a (is_word (wanted op) n small) st.load in record {
+        may = goes_on site here call kept (taken op a).kept st.may same.0 same.1 all.0;
+        load = all.1;
+        view = (goes small).0;
+      };
+      enters = λ small. subst (λ c. EntersReply c (reply_of (outcome_at (next_in kept op.step a).step)) before u) (ap call_of same.0 ∙ st.may.same) (goes small).1;
+      makes = makes_in kept op.step n;
+    }
+
+plans : PlansItsCall move_part
+plans site here call op before v planned s h =
+    let st : MoveStands site here call op v = s.stands in
+    let enters = subst (λ c. EntersReply c (reply_of (outcome_at op.step)) before v) (sym st.may.same) s.enters in
+    let got = planned_in site op.kept before v planned op.step st.view enters h in
+    (got.0 ∙ st.may.same, got.1)
+
+-- it asks for words of the image
+module _ (site : Site) (good : IsSite site) (kept : Kept) (v : View) where
+  located_within : (s : MoveStep) → kept.site.geometry ≡ site.shape → SuitsStep site kept s v → IsWithin site.shape (wanted_in kept s)
+  located_within s shape suits = subst (λ (g : Shape). IsWithin g (wanted_in kept s)) shape (asks_within site kept (subst (λ (g : Shape). IsShape g) (sym shape) good.shape) v s suits)
+
+  within_at : (s : MoveStep) → SuitsStep site kept s v → IsWithin site.shape (wanted_in kept s)
+  within_at (Lock d t) suits = located_within (Lock d t) suits.0.holds.located.shape suits
+  within_at (Fill d load) suits = located_within (Fill d load) suits.0.located.shape suits
+  within_at CountSpent suits = located_within CountSpent suits.0.holds.located.shape suits
+  within_at (step.Make shift leg m) suits = located_within (step.Make shift leg m) suits.all.located.shape suits
+  within_at (Draw shift) suits = located_within (Draw shift) suits.all.located.shape suits
+  within_at (Give held end) suits = located_within (Give held end) suits.located.shape suits
+  within_at (Ended end) suits = record { word = (let some = good.shape.some in omega (arith, some)); line = λ l e. absurd (let z : want.Done ≡ want.Flush l = e in cc) }
+
+hands_at : (kept : Kept) (s : MoveStep) → is_without_move s ≡ true → wanted_in kept s ≡ want.Done
+hands_at kept (Ended end) is = refl
+hands_at kept s is = absurd (let f : false ≡ true = is in cc)
+
+pub move_is_part : IsPart move_part
+move_is_part = record {
+  steps = steps;
+  ends = λ site here call op v st over closed. bare_in site op.kept v op.step st.view over closed;
+  time = record { falls = move_falls; most = λ op. most_at op.step };
+  within = λ site here call op before v good s. within_at site good op.kept v op.step s.stands.view;
+  words = λ site here call op before v s. puts_word site here call op.kept s.stands.may v op.step s.stands.view;
+  flushes = record {
+    most = λ op. few_in op.step;
+    flushes = λ op a l is e. flush_in op.kept op.step a is (subst (λ (w : Want). HasFlush w) (sym e) tt);
+    keeps = λ op a is no_fence. keeps_in op.kept op.step a is (λ f. no_fence (is_fence (wanted op) f));
+    ends = λ op over. none_waits op.kept op.step over;
+  };
+  made = record {
+    stays = λ op a is made. stays_in op.kept op.step a made;
+    done = λ op made over. done_in op.kept op.step made over;
+  };
+  plans = plans;
+  hands = λ op h. hands_at op.kept op.step h;
+  power = λ op n e. on_in op.kept op.step (subst (λ (k : Kind). Cuts k) (sym e) tt);
+}
+
+-- ---- where it begins, and how it never ends
+pub begins_as_part : MoveBeginsAsPart
+begins_as_part site here call kept v may keeps none = record { may = may; load = tt; view = (keeps, none, tt) }
+
+pub begins_undecided : MoveBeginsUndecided
+begins_undecided kept = refl
+
+finishes : (end : MoveEnd) → outcome_of end ≡ Some finished → ⊥
+finishes (ends.Replied answer place) is = absurd (cc)
+finishes ends.NoMove is = absurd (cc)
+finishes (ends.Again why) is = absurd (cc)
+finishes ends.Off is = absurd (cc)
+
+given_finishes : (end : Ending) → outcome_of (end_of end) ≡ Some finished → ⊥
+given_finishes (ending.Replied answer place) is = absurd (cc)
+given_finishes (ending.Again why) is = absurd (cc)
+
+never_in : (s : MoveStep) → outcome_at s ≡ Some finished → ⊥
+never_in (Give held end) some = given_finishes end some
+never_in (Ended end) some = finishes end some
+never_in s some = none-some finished some
+
+pub never_finished : MoveNeverFinished
+never_finished op some = never_in op.step some
+
+-- where it hands on
+pub end_keeps : (site : Site) (kept : Kept) (v : View) (s : MoveStep) → SuitsStep site kept s v → is_without_move s ≡ true → KeepsAll site kept v × HoldsThirds kept.held
+end_keeps site kept v (Ended ends.NoMove) suits is = suits
+end_keeps site kept v s suits is = absurd (let f : false ≡ true = is in cc)

@@ -1,0 +1,7 @@
+pub mod Shifts
+pub mod Steps
+pub mod Left
+pub mod Fits
+pub mod MovePart
+pub mod Order
+pub mod Replies

@@ -1,0 +1,187 @@
+//! Which record moves to make room, and what is stored of it and of the new one.
+
+ghost use Rattle.std.specs.Prelude.{◌≡◌, ◌<◌, IfSome, slice_index};
+ghost use Rattle.bucket_meta.specs.Bucket.{record_slots};
+ghost use Rattle.bucket_meta.specs.Search.{lowest_free};
+ghost use Rattle.move_op.specs.Shifts.{source_of, target_of, arrived_mark, moving_slot, copied, cleared, new_value, placed, shift_at, shift_by, shift_in, place_of, record_of};
+
+use crate::step::{Direction, Leg, Shift};
+use bucket_meta::Meta;
+use bucket_meta::words::{
+    finger_of, finger_place, inserted_mark, lowest_free, member_mark, removed_mark, with_finger,
+};
+use displace::{backward, forward};
+use hash_word::finger;
+use map_model::Deed;
+use phase::{Kept, Place, Record};
+
+// ---- the two buckets
+
+/// The bucket that the record leaves.
+pub fn source_of(direction: Direction) -> Place
+    ensures { result ≡ source_of direction }
+{
+    match direction {
+        Direction::Forward => Place::Probing,
+        Direction::Backward => Place::Home,
+    }
+}
+
+/// The third bucket, to which it comes.
+pub fn target_of(direction: Direction) -> Place
+    ensures { result ≡ target_of direction }
+{
+    match direction {
+        Direction::Forward => Place::Next,
+        Direction::Backward => Place::Previous,
+    }
+}
+
+// ---- which record moves
+
+/// The slot of the record that moves, by the words of both buckets: none where none can, or where no slot is free for it.
+fn moving_slot(direction: Direction, source: &[u64; 32], target: &[u64; 32]) -> Option<u8>
+    ensures is { result ≡ moving_slot direction (slice_index source.now 1) (lowest_free (slice_index target.now 1)) }
+    ensures within { IfSome result (λ slot. slot < record_slots) }
+{
+    let from = Meta::read([source[1], source[2], source[3]]);
+    let to = Meta::read([target[1], target[2], target[3]]);
+    match direction {
+        Direction::Forward => forward(&from, &to),
+        Direction::Backward => backward(&from, &to),
+    }
+}
+
+// ---- what is stored
+
+/// The metadata word with a slot taken, by the copy or by the new record: forward both stand in their probing bucket, and backward
+/// both in their home.
+fn arrived_mark(direction: Direction, w1: u64, slot: u8) -> u64
+    ensures { result ≡ arrived_mark direction w1 slot }
+{
+    match direction {
+        Direction::Forward => member_mark(w1, slot),
+        Direction::Backward => inserted_mark(w1, slot),
+    }
+}
+
+/// What is stored of the copy of a record of `source` in a slot of `target`.
+fn copied(direction: Direction, source: &[u64; 32], from: u8, target: &[u64; 32], to: u8) -> Record
+    requires from { from < record_slots }
+    requires to { to < record_slots }
+    ensures { result ≡ copied direction source.now from target.now to }
+{
+    let at = 4 + 2 * usize::from(from);
+    Record {
+        slot: to,
+        key: source[at],
+        value: source[at + 1],
+        fingers: with_finger(
+            target[finger_place(to)],
+            to,
+            finger_of(source[2], source[3], from),
+        ),
+        published: 1,
+        mark: arrived_mark(direction, target[1], to),
+    }
+}
+
+/// What is stored where it stood: the metadata word alone.
+fn cleared(source: &[u64; 32], from: u8) -> Record
+    ensures { result ≡ cleared source.now from }
+{
+    Record {
+        slot: from,
+        key: 0,
+        value: 0,
+        fingers: 0,
+        published: 1,
+        mark: removed_mark(source[1], from),
+    }
+}
+
+/// The value that an insert brings.
+fn new_value(deed: Deed) -> u64
+    ensures { result ≡ new_value deed }
+{
+    match deed {
+        Deed::Insert(value) => value,
+        Deed::Update(_) | Deed::Remove => 0,
+    }
+}
+
+/// What is stored of the new record, in the slot that was cleared.
+fn placed(direction: Direction, kept: &Kept, source: &[u64; 32], from: u8) -> Record
+    requires { from < record_slots }
+    ensures { result ≡ placed direction kept.now source.now from }
+{
+    Record {
+        slot: from,
+        key: kept.change.key,
+        value: new_value(kept.change.deed),
+        fingers: with_finger(source[finger_place(from)], from, finger(kept.hash)),
+        published: 1,
+        mark: arrived_mark(direction, removed_mark(source[1], from), from),
+    }
+}
+
+/// The shift of the record of one slot to another.
+fn shift_at(kept: &Kept, direction: Direction, from: u8, to: u8) -> Shift
+    requires from { from < record_slots }
+    requires to { to < record_slots }
+    ensures { result ≡ shift_at kept.now direction from to }
+{
+    let source = kept.buckets.of(source_of(direction));
+    let target = kept.buckets.of(target_of(direction));
+    Shift {
+        direction,
+        copy: copied(direction, &source, from, &target, to),
+        clearing: cleared(&source, from),
+        insert: placed(direction, kept, &source, from),
+    }
+}
+
+/// The shift, where a record can move and a slot is free for it.
+fn shift_by(kept: &Kept, direction: Direction, from: Option<u8>, to: Option<u8>) -> Option<Shift>
+    requires from { IfSome from (λ slot. slot < record_slots) }
+    requires to { IfSome to (λ slot. slot < record_slots) }
+    ensures { result ≡ shift_by kept.now direction from to }
+{
+    match (from, to) {
+        (Some(from), Some(to)) => Some(shift_at(kept, direction, from, to)),
+        _ => None,
+    }
+}
+
+/// The shift that makes room in this direction, by the words that are kept.
+pub fn shift_in(kept: &Kept, direction: Direction) -> Option<Shift>
+    ensures { result ≡ shift_in kept.now direction }
+{
+    let source = kept.buckets.of(source_of(direction));
+    let target = kept.buckets.of(target_of(direction));
+    let from = moving_slot(direction, &source, &target);
+    shift_by(kept, direction, from, lowest_free(target[1]))
+}
+
+// ---- one after another
+
+/// The bucket in which this is stored.
+pub fn place_of(direction: Direction, leg: Leg) -> Place
+    ensures { result ≡ place_of direction leg }
+{
+    match leg {
+        Leg::Copy => target_of(direction),
+        Leg::Clear | Leg::Insert => source_of(direction),
+    }
+}
+
+/// What is stored there.
+pub fn record_of(shift: &Shift, leg: Leg) -> Record
+    ensures { result ≡ record_of shift.now leg }
+{
+    match leg {
+        Leg::Copy => shift.copy,
+        Leg::Clear => shift.clearing,
+        Leg::Insert => shift.insert,
+    }
+}
