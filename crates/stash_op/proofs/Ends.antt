@@ -1,0 +1,37 @@
+-- At its end it tells its outcome.
+use Rattle.std.proofs.Common.{◌≡◌, refl}
+use Rattle.op_core.specs.declared.want.Want.TheVariants.{Done}
+use Rattle.phase.specs.declared.take.Take.TheVariants as take
+use Rattle.phase.specs.declared.make.Make.TheVariants.{Key, Value, Fingers, FlushFingers, FlushRecord, FenceRecord, Publish, FlushPublished, FencePublished}
+use Rattle.phase.specs.declared.kept.Kept.{Kept}
+use Rattle.stash_op.specs.declared.step.Seen.{Seen}
+use Rattle.stash_op.specs.declared.step.NoteWord.TheVariants as note
+use Rattle.stash_op.specs.declared.step.StashStep.{StashStep}
+use Rattle.stash_op.specs.declared.step.StashStep.TheVariants.{Lock, Fill, Note, Draw, CountSpent, Give, Ended}
+use Rattle.stash_op.specs.declared.step.StashStep.TheVariants as step
+use Rattle.stash_op.specs.Steps.{wanted_in, end_at}
+use Rattle.stash_op.specs.Fits.{outcome_of, outcome_at}
+use Rattle.stash_op.specs.Ends.{EndsAsSaid}
+
+ends_at : (kept : Kept) (seen : Seen) (at : StashStep) → wanted_in kept seen at ≡ Done → outcome_at at ≡ outcome_of (end_at at)
+ends_at kept seen (Ended end) done = refl
+ends_at kept seen (Give held end) done = refl
+ends_at kept seen (Lock bucket take.Look) done = absurd (let no = done in cc)
+ends_at kept seen (Lock bucket (take.Try free)) done = absurd (let no = done in cc)
+ends_at kept seen (Fill bucket load) done = absurd (let no = done in cc)
+ends_at kept seen (step.Make Key) done = absurd (let no = done in cc)
+ends_at kept seen (step.Make Value) done = absurd (let no = done in cc)
+ends_at kept seen (step.Make Fingers) done = absurd (let no = done in cc)
+ends_at kept seen (step.Make FlushFingers) done = absurd (let no = done in cc)
+ends_at kept seen (step.Make FlushRecord) done = absurd (let no = done in cc)
+ends_at kept seen (step.Make FenceRecord) done = absurd (let no = done in cc)
+ends_at kept seen (step.Make Publish) done = absurd (let no = done in cc)
+ends_at kept seen (step.Make FlushPublished) done = absurd (let no = done in cc)
+ends_at kept seen (step.Make FencePublished) done = absurd (let no = done in cc)
+ends_at kept seen (Note note.Mark) done = absurd (let no = done in cc)
+ends_at kept seen (Note note.Fingers) done = absurd (let no = done in cc)
+ends_at kept seen Draw done = absurd (let no = done in cc)
+ends_at kept seen CountSpent done = absurd (let no = done in cc)
+
+pub ends_as_said : EndsAsSaid
+ends_as_said op done = ends_at op.kept op.stage.seen op.stage.step done

@@ -1,0 +1,9 @@
+pub mod Over
+pub mod Falling
+pub mod finding
+pub mod keeping
+pub mod permitting
+pub mod parts
+pub mod causing
+pub mod Ends
+pub mod Replying

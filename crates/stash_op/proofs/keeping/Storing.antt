@@ -1,0 +1,135 @@
+-- The stores of the record keep the view suited, up to those of its note.
+use Rattle.std.proofs.Common.{◌≡◌, ℕ, ◌+◌, ◌*◌, ◌<◌, ◌≤◌, Bool, true, false, ◌∷◌, refl, sym, ap, ◌∙◌, subst, arith}
+use Rattle.std.specs.Prelude.{nat_lt, if◌then◌else◌}
+use Rattle.bucket_meta.specs.Bucket.{record_slots}
+use Rattle.bucket_meta.specs.Marks.{finger_place}
+use Rattle.map_model.specs.Changes.{call_of}
+use Rattle.world.specs.Site.{Site}
+use Rattle.world.specs.Views.{View, IsGuarded}
+use Rattle.world.specs.Kinds.{view_after}
+use Rattle.world.specs.Attempts.{HasNoMore}
+use Rattle.phase.specs.declared.make.Make.{Make}
+use Rattle.phase.specs.declared.make.Make.TheVariants.{Key, Value, Fingers, FlushFingers, FlushRecord, FenceRecord, Publish, FlushPublished, FencePublished}
+use Rattle.phase.specs.declared.make.Made.TheVariants.{On}
+use Rattle.phase.specs.declared.kept.Kept.{Kept}
+use Rattle.phase.specs.Makes.{key_at, value_at, fingers_at, published_at, make_taken}
+use Rattle.phase.specs.Giving.{HoldsLocks}
+use Rattle.phase.specs.Making.{IsStoring, make_kind, IsMaking, HasMade}
+use Rattle.phase.proofs.Handing.{none_more}
+use Rattle.phase.proofs.locks.Giving.{held_guard, held_store, held_same, is_lock}
+use Rattle.phase.proofs.locks.Making.{make_knows}
+use Rattle.phase.proofs.locks.Storing.{place_near}
+use Rattle.stash_op.specs.declared.step.Seen.{Seen}
+use Rattle.stash_op.specs.declared.step.NoteWord.TheVariants.{Mark}
+use Rattle.stash_op.specs.declared.step.StashStep.TheVariants.{Note}
+use Rattle.stash_op.specs.declared.step.StashStep.TheVariants as step
+use Rattle.stash_op.specs.Search.{place_of}
+use Rattle.stash_op.specs.Steps.{made_to, lock_of}
+use Rattle.stash_op.specs.Fits.{loaded, prepared, owed, publish_kind, IsHere, HasAll, planned_at, owed_at, IsChanging, IsIn}
+use Rattle.stash_op.proofs.finding.Standing.{located}
+use Rattle.stash_op.proofs.finding.Chosen.{slot_low, published_is}
+use Rattle.stash_op.proofs.keeping.Going.{reply_at, Goes}
+
+-- the store that makes the insert is a store
+pub publishing : (kept : Kept) (seen : Seen) → IsStoring (publish_kind kept seen)
+publishing kept seen = record { wants = λ shape i x. refl; leaves = λ shape i x n v. (call_of kept.change ∷ v.planned, v.moving, owed kept seen ∷ v.owed, refl) }
+
+module _ (site : Site) (kept : Kept) (is : IsIn site kept) (seen : Seen) (before v : View) (same : HasNoMore before v) (m : Make) (c : IsChanging site kept seen m v) where
+  abbrev lock : ℕ
+  lock = lock_of kept (place_of seen.bucket)
+
+  guard : (j : ℕ) → 1 ≤ j → j < 32 → IsGuarded v.held (lock + j)
+  guard j from low = held_guard kept.site kept.hash kept.segment seen.held (place_of seen.bucket) v c.all.locks c.all.bucket j from low
+
+  slot_small : seen.written.slot < record_slots
+  slot_small = slot_low site kept seen c.chosen
+
+  key_guard : IsGuarded v.held (key_at lock seen.written)
+  key_guard = let low = slot_small in subst (IsGuarded v.held) (omega arith) (guard (4 + 2 * seen.written.slot) (omega arith) (omega (arith, low)))
+
+  value_guard : IsGuarded v.held (value_at lock seen.written)
+  value_guard = let low = slot_small in subst (IsGuarded v.held) (omega arith) (guard (5 + 2 * seen.written.slot) (omega arith) (omega (arith, low)))
+
+  fingers_guard : IsGuarded v.held (fingers_at lock seen.written)
+  fingers_guard = let near = place_near seen.written.slot in guard (finger_place seen.written.slot) (let a = near.0 in omega (arith, a)) (let b = near.1 in omega (arith, b))
+
+  published_guard : IsGuarded v.held (published_at lock seen.written)
+  published_guard = subst (λ z. IsGuarded v.held (lock + z)) (sym (published_is site kept seen c.chosen)) (guard 1 (omega arith) (omega arith))
+
+  -- what is held stays
+  all_with : (u : View) → HoldsLocks kept.site kept.hash kept.segment seen.held u → u.moving ≡ v.moving → u.room ≡ v.room → HasAll site kept seen u
+  all_with u locks moving room = record {
+    leads = c.all.leads;
+    locks = locks;
+    home = c.all.home;
+    probing = c.all.probing;
+    bucket = c.all.bucket;
+    nowhere = c.all.nowhere;
+    still = moving ∙ c.all.still;
+    room = subst (λ z. 0 < z) (sym room) c.all.room;
+  }
+
+  -- the next of them
+  next_goes : (u : View) (next : Make) → HoldsLocks kept.site kept.hash kept.segment seen.held u → u.moving ≡ v.moving → IsMaking lock seen.written (IsHere kept seen) (loaded kept seen) (prepared kept seen) next u
+      → u.room ≡ v.room → u.planned ≡ planned_at site kept seen next → u.owed ≡ owed_at site kept seen next → u.own ≡ v.own → u.seen ≡ v.seen
+      → Goes site kept before (made_to seen (On next)) u
+  next_goes u next locks moving making room plans owes own sees = (
+    record { all = all_with u locks moving room; chosen = c.chosen; making = making; planned = plans; owes = owes },
+    none_more (call_of kept.change) before v (reply_at (step.Make next)) u refl same own sees,
+  )
+
+-- ---- each of them
+module _ (site : Site) (kept : Kept) (is : IsIn site kept) (seen : Seen) (before v : View) (same : HasNoMore before v) (n : ℕ) where
+  abbrev place_lock : ℕ
+  place_lock = lock_of kept (place_of seen.bucket)
+
+  abbrev after : Make → View
+  after m = view_after site.shape (make_kind (publish_kind kept seen) place_lock seen.written m) n v
+
+  -- what is known then
+  has_made : (m : Make) → IsChanging site kept seen m v → HasMade place_lock seen.written (IsHere kept seen) (loaded kept seen) (prepared kept seen) (make_taken seen.written.slot m) (after m)
+  has_made m c = (make_knows (IsHere kept seen)).stands site.shape (publish_kind kept seen) (publishing kept seen) place_lock seen.written
+      (is_lock site kept.site kept.hash kept.segment (located site kept is c.all.leads) (place_of seen.bucket))
+      (loaded kept seen) (prepared kept seen) m v n c.making
+
+  -- a flush or a fence leaves what is held, and so does a store under a lock
+  still_locks : (m : Make) (u : View) → u.held ≡ v.held → u.known ≡ v.known → IsChanging site kept seen m v → HoldsLocks kept.site kept.hash kept.segment seen.held u
+  still_locks m u held known c = held_same kept.site kept.hash kept.segment seen.held v u held known c.all.locks
+
+  line_by : (c : IsChanging site kept seen FlushFingers v) (b : Bool)
+      → HasMade place_lock seen.written (IsHere kept seen) (loaded kept seen) (prepared kept seen) (if b then On FenceRecord else On FlushRecord) (after FlushFingers)
+      → Goes site kept before (made_to seen (if b then On FenceRecord else On FlushRecord)) (after FlushFingers)
+  line_by c true making = next_goes site kept is seen before v same FlushFingers c (after FlushFingers) FenceRecord (still_locks FlushFingers (after FlushFingers) refl refl c) refl making refl c.planned c.owes refl refl
+  line_by c false making = next_goes site kept is seen before v same FlushFingers c (after FlushFingers) FlushRecord (still_locks FlushFingers (after FlushFingers) refl refl c) refl making refl c.planned c.owes refl refl
+
+  pub make_goes : (m : Make) → IsChanging site kept seen m v → Goes site kept before (made_to seen (make_taken seen.written.slot m)) (after m)
+  make_goes Key c = next_goes site kept is seen before v same Key c (after Key) Value
+      (held_store kept.site kept.hash kept.segment site.shape seen.held v (key_at place_lock seen.written) n seen.written.key v.planned v.moving v.owed c.all.locks (key_guard site kept is seen before v same Key c))
+      refl (has_made Key c) refl c.planned c.owes refl refl
+  make_goes Value c = next_goes site kept is seen before v same Value c (after Value) Fingers
+      (held_store kept.site kept.hash kept.segment site.shape seen.held v (value_at place_lock seen.written) n seen.written.value v.planned v.moving v.owed c.all.locks (value_guard site kept is seen before v same Value c))
+      refl (has_made Value c) refl c.planned c.owes refl refl
+  make_goes Fingers c = next_goes site kept is seen before v same Fingers c (after Fingers) FlushFingers
+      (held_store kept.site kept.hash kept.segment site.shape seen.held v (fingers_at place_lock seen.written) n seen.written.fingers v.planned v.moving v.owed c.all.locks (fingers_guard site kept is seen before v same Fingers c))
+      refl (has_made Fingers c) refl c.planned c.owes refl refl
+  make_goes FlushFingers c = line_by c (nat_lt seen.written.slot 2) (has_made FlushFingers c)
+  make_goes FlushRecord c = next_goes site kept is seen before v same FlushRecord c (after FlushRecord) FenceRecord (still_locks FlushRecord (after FlushRecord) refl refl c) refl (has_made FlushRecord c) refl c.planned c.owes refl refl
+  make_goes FenceRecord c = next_goes site kept is seen before v same FenceRecord c (after FenceRecord) Publish (still_locks FenceRecord (after FenceRecord) refl refl c) refl (has_made FenceRecord c) refl c.planned c.owes refl refl
+  make_goes Publish c = next_goes site kept is seen before v same Publish c (after Publish) FlushPublished
+      (held_store kept.site kept.hash kept.segment site.shape seen.held v (published_at place_lock seen.written) n seen.written.mark (call_of kept.change ∷ v.planned) v.moving (owed kept seen ∷ v.owed) c.all.locks
+      (published_guard site kept is seen before v same Publish c))
+      refl (has_made Publish c) refl (ap (λ calls. call_of kept.change ∷ calls) c.planned) (ap (λ os. owed kept seen ∷ os) c.owes) refl refl
+  make_goes FlushPublished c = next_goes site kept is seen before v same FlushPublished c (after FlushPublished) FencePublished (still_locks FlushPublished (after FlushPublished) refl refl c) refl (has_made FlushPublished c) refl c.planned c.owes refl refl
+  make_goes FencePublished c =
+      let made = has_made FencePublished c in
+      let u : View = after FencePublished in (
+        record {
+          all = all_with site kept is seen before v same FencePublished c u (still_locks FencePublished u refl refl c) refl refl;
+          chosen = c.chosen;
+          knows = made.0;
+          settled = made.1;
+          planned = c.planned;
+          owes = c.owes;
+        },
+        none_more (call_of kept.change) before v (reply_at (Note Mark)) u refl same refl refl,
+      )

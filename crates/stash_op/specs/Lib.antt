@@ -1,0 +1,7 @@
+pub mod Search
+pub mod Steps
+pub mod Left
+pub mod Fits
+pub mod StashPart
+pub mod Ends
+pub mod Replies
