@@ -1,0 +1,252 @@
+-- The refusal of an insert has its cause: its home and its probing bucket and both stash buckets, as they were loaded, have no free slot
+-- and no slot with its key, and nothing can be moved; and the one segment of the image is not free, and has the depth that the reply tells.
+use Rattle.std.proofs.Common.{◌≡◌, ◌≢◌, ℕ, ◌+◌, ◌*◌, ◌<◌, ◌≤◌, Bool, true, false, Option, None, Some, List, refl, sym, ap, ◌∙◌, subst, arith, slice_index}
+use Rattle.std.specs.Prelude.{◌==◌, if◌then◌else◌}
+use Rattle.std.proofs.lemmas.Bool.{eqb-true, eqb-false, lt-ltb}
+use Rattle.std.proofs.lemmas.Option.{none-some, same_Some}
+use Rattle.op_core.specs.declared.want.Want.{Want}
+use Rattle.op_core.specs.declared.want.Want.TheVariants as want
+use Rattle.op_core.specs.declared.want.Ans.{Ans}
+use Rattle.op_core.specs.declared.want.Ans.TheVariants.{Passed}
+use Rattle.op_core.specs.declared.why.Why.{Why}
+use Rattle.bucket_meta.specs.Bucket.{allocated, record_slots}
+use Rattle.segment_head.specs.HeadWord.{depth_in, state_in}
+use Rattle.trace.specs.Events.{Words}
+use Rattle.image_layout.specs.Places.{Shape, root_word, head_at, bucket_at}
+use Rattle.sound_image.specs.Records.{key_hash}
+use Rattle.way.specs.Ways.{head_word}
+use Rattle.map_model.specs.declared.call.Call.{Call}
+use Rattle.map_model.specs.declared.entry.Reply.TheVariants.{Full, Deep}
+use Rattle.map_model.specs.Map.{key_of}
+use Rattle.map_model.specs.Legal.{IsInsert}
+use Rattle.map_model.specs.Changes.{call_of}
+use Rattle.world.specs.declared.site.Site.{Site as Here}
+use Rattle.world.specs.Site.{Site, IsSite}
+use Rattle.world.specs.Views.{View, Has}
+use Rattle.world.specs.Wants.{answer_to, word_of}
+use Rattle.part.specs.Doings.{Doings}
+use Rattle.part.specs.Outcomes.{Outcome, replied, again, finished}
+use Rattle.part.specs.Causes.{IsNamed, hash_for, WasMeta, IsFullOfOthers, FindsNoRoom, WasHead, HasDepth, NoSlotIsFree, HasReplyCause, HasCause, EndsByCause}
+use Rattle.phase.specs.declared.place.Place.{Place}
+use Rattle.phase.specs.declared.place.Place.TheVariants.{Home, Probing, First, Second, Next, Previous}
+use Rattle.phase.specs.declared.held.Held.{Held}
+use Rattle.phase.specs.declared.kept.Kept.{Kept}
+use Rattle.phase.specs.Helds.{give_next, given}
+use Rattle.phase.specs.Buckets.{words_in}
+use Rattle.phase.specs.Giving.{IsHeld}
+use Rattle.phase.specs.Keeps.{kept_words, WasLoaded, KeepsAll, KeepsFull, RemembersRoom}
+use Rattle.phase.specs.Places.{bucket_of, is_third}
+use Rattle.phase.specs.Third.{NothingToMove}
+use Rattle.phase.proofs.Causing.{found_named}
+use Rattle.phase.proofs.Handing.{key_called}
+use Rattle.phase.proofs.locks.Giving.{bucket_near, lock_at}
+use Rattle.phase.specs.Stands.{IsStraight}
+use Rattle.refuse_op.specs.declared.op.RefuseStep.{RefuseStep}
+use Rattle.refuse_op.specs.declared.op.RefuseStep.TheVariants.{Count, Give, Ended}
+use Rattle.refuse_op.specs.Steps.{no_room, given_by, giving, wanted_in, next_in, wanted}
+use Rattle.refuse_op.specs.RefusePart.{outcome_at, RefusalStands, RemembersAt, refuse_part, BeginsRemembering, NeverFinished}
+use Rattle.refuse_op.proofs.Room.{word_here, full_at}
+use Rattle.refuse_op.proofs.Single.{single_live, single_flat}
+use Rattle.refuse_op.proofs.RefuseIsPart.{giving_outcome}
+
+-- ---- the cause of the reply
+module _ (site : Site) (good : IsSite site) (straight : IsStraight site) (single : site.shape.segments ≡ 1) (words : Words) (call : Call) (kept : Kept) (same : call_of kept.change ≡ call) (v : View)
+    (all : KeepsFull site kept v) (did : Doings) (r : RemembersRoom site kept did.loads) (nothing : NothingToMove kept did.loads) where
+  abbrev keeps : KeepsAll site kept v
+  keeps = all.keeps
+
+  abbrev segment : ℕ
+  segment = kept.segment
+
+  abbrev within : segment < site.shape.segments
+  within = keeps.holds.leads.within
+
+  key_is : kept.change.key ≡ key_of call
+  key_is = sym (key_called kept.change) ∙ ap key_of same
+
+  abbrev hash : ℕ
+  hash = hash_for site.shape words did call
+
+  hash_is : kept.hash ≡ hash
+  hash_is = keeps.holds.hashed ∙ ap (key_hash site.shape) key_is
+
+  -- ---- the segment
+  named : IsNamed site.shape hash did.loads segment
+  named =
+      subst (λ h. IsNamed site.shape h did.loads segment) hash_is
+      (subst (λ g. IsNamed g kept.hash did.loads segment) keeps.holds.located.shape
+      (subst (λ s. IsNamed kept.site.geometry kept.hash did.loads s) r.there (found_named kept.site.geometry kept.hash did.loads r.path r.found)))
+
+  head_at_is : head_word kept.site.geometry r.path.segment ≡ head_at site.shape segment + 1
+  head_at_is =
+      ap (λ s. head_word kept.site.geometry s) r.there
+      ∙ ap (λ g. head_word g segment) keeps.holds.located.shape
+      ∙ ap (λ b. if b then head_at site.shape segment + 1 else root_word) (lt-ltb segment site.shape.segments within)
+
+  was_head : WasHead site.shape words did call segment r.path.head
+  was_head = subst (λ i. Has (i, r.path.head) did.loads) head_at_is r.found.1
+
+  flat : depth_in r.path.head ≡ 0
+  flat = ap depth_in r.head ∙ single_flat site good straight single segment within
+
+  has_depth : (Passes : ℕ → Type 0) → Passes (depth_in r.path.head) → HasDepth site.shape words did call segment Passes
+  has_depth Passes passes = (r.path.head, was_head, passes)
+
+  none_is_free : NoSlotIsFree site.shape words did call
+  none_is_free slot low = (
+    r.path.head,
+    subst (λ s. WasHead site.shape words did call s r.path.head) (let only = within in omega (arith, only, low, single)) was_head,
+    (λ e. single_live site good straight single segment within (sym (ap state_in r.head) ∙ e)),
+  )
+
+  -- ---- its buckets
+  -- what was loaded of a bucket
+  loaded : (place : Place) → WasLoaded kept did.loads place → (j : ℕ) → 1 ≤ j → j < 32
+      → Has (bucket_at site.shape segment (bucket_of hash place) + j, slice_index (words_in kept.buckets place) j) did.loads
+  loaded place was j from low =
+      subst (λ h. Has (bucket_at site.shape segment (bucket_of h place) + j, slice_index (words_in kept.buckets place) j) did.loads) hash_is
+      (subst (λ l. Has (l + j, slice_index (words_in kept.buckets place) j) did.loads) (lock_at site kept.site kept.hash segment keeps.holds.located place) (was j from low))
+
+  meta_loaded : (place : Place) → WasLoaded kept did.loads place → WasMeta site.shape words did call segment (bucket_of hash place) (slice_index (words_in kept.buckets place) 1)
+  meta_loaded place was = loaded place was 1 (omega arith) (omega arith)
+
+  -- none of the keys of a bucket that is full is that of the call
+  other : (place : Place) → IsHeld kept.held place → is_third place ≡ false → ((slot : ℕ) → slot < record_slots → allocated slot (slice_index (words_in kept.buckets place) 1) ≡ 1)
+      → (slot : ℕ) → slot < record_slots → slice_index (words_in kept.buckets place) (4 + 2 * slot) ≢ key_of call
+  other place held own full slot low e =
+      let at : ℕ = bucket_at site.shape segment (bucket_of kept.hash place) in
+      keeps.nowhere.places place held own slot (record {
+        segment = within;
+        bucket = bucket_near kept.hash place;
+        slot = low;
+        taken = ap (allocated slot) (word_here site kept v all place 1 (omega arith) (omega arith)) ∙ full slot low;
+        key = (let where_it_is : at + 4 + 2 * slot ≡ at + (4 + 2 * slot) = omega arith in
+            ap (kept_words kept) where_it_is ∙ word_here site kept v all place (4 + 2 * slot) (omega arith) (omega (arith, low)) ∙ e ∙ sym key_is);
+      })
+
+  full_of_others : (place : Place) → IsHeld kept.held place → is_third place ≡ false → ((slot : ℕ) → slot < record_slots → allocated slot (slice_index (words_in kept.buckets place) 1) ≡ 1)
+      → IsFullOfOthers site.shape words did call segment (bucket_of hash place) (slice_index (words_in kept.buckets place) 1)
+  full_of_others place held own full =
+      let was = r.buckets place held own in
+      record {
+        loaded = meta_loaded place was;
+        full = full;
+        others = λ slot low. (slice_index (words_in kept.buckets place) (4 + 2 * slot), loaded place was (4 + 2 * slot) (omega arith) (omega (arith, low)), other place held own full slot low);
+      }
+
+  no_room_there : FindsNoRoom site.shape words did call segment
+  no_room_there = record {
+    insert = subst IsInsert same keeps.insert;
+    named = named;
+    within = within;
+    home = slice_index kept.buckets.home 1;
+    probing = slice_index kept.buckets.probing 1;
+    next = slice_index kept.buckets.next 1;
+    previous = slice_index kept.buckets.previous 1;
+    first = slice_index kept.buckets.first 1;
+    second = slice_index kept.buckets.second 1;
+    home_full = full_of_others Home keeps.holds.home refl (full_at site kept v all 0);
+    probing_full = full_of_others Probing keeps.holds.probing refl (full_at site kept v all 1);
+    next_loaded = meta_loaded Next nothing.next;
+    previous_loaded = meta_loaded Previous nothing.previous;
+    moves = nothing.moves;
+    first_full = full_of_others First all.first.held refl (full_at site kept v all 2);
+    second_full = full_of_others Second all.second.held refl (full_at site kept v all 3);
+  }
+
+  -- ---- the reply
+  depth_is : kept.site.geometry.depth ≡ site.shape.depth
+  depth_is = ap (λ (g : Shape). g.depth) keeps.holds.located.shape
+
+  reply_by : (b : Bool) → (kept.site.geometry.depth == 0) ≡ b → HasReplyCause site.shape words did call (if b then Deep else Full)
+  reply_by true is = (
+    segment,
+    no_room_there,
+    has_depth (λ depth. depth ≡ site.shape.depth) (flat ∙ sym (sym depth_is ∙ eqb-true kept.site.geometry.depth 0 is)),
+  )
+  reply_by false is = (
+    segment,
+    no_room_there,
+    has_depth (λ depth. depth < site.shape.depth) (let some = eqb-false kept.site.geometry.depth 0 is in let d = depth_is in let f = flat in omega (arith, some, d, f)),
+    none_is_free,
+  )
+
+  reply_caused : HasReplyCause site.shape words did call (no_room kept.site)
+  reply_caused = reply_by (kept.site.geometry.depth == 0) refl
+
+-- ---- by the step
+module _ (site : Site) (good : IsSite site) (here : Here) (call : Call) (words : Words) (kept : Kept) (v : View) (did : Doings) where
+  abbrev Caused : Want → Outcome → Type 0
+  Caused event outcome = HasCause site.shape words did call event here outcome
+
+  caused_at : (s : RefuseStep) (n : ℕ) → RefusalStands site here call (record { kept = kept; step = s }) v → RemembersAt site kept did.loads s → outcome_at kept s ≡ None
+      → (outcome : Outcome) → outcome_at kept (next_in kept s (answer_to (wanted_in kept s) n)) ≡ Some outcome → Caused (wanted_in kept s) outcome
+  caused_at Count n st r none outcome some =
+      subst (Caused (wanted_in kept Count)) (same_Some (replied (no_room kept.site) n) outcome (sym (giving_outcome kept kept.held n) ∙ some))
+      (reply_caused site good st.may.straight st.may.single words call kept st.may.same v st.view did r.0 r.1)
+  caused_at (Give held count) n st r none outcome some = absurd (none-some (replied (no_room kept.site) count) (sym none))
+  caused_at (Ended count) n st r none outcome some = absurd (none-some (replied (no_room kept.site) count) (sym none))
+
+-- what is told is a reply
+told : (kept : Kept) (s : RefuseStep) (n : ℕ) (why : Why) → outcome_at kept s ≡ None → outcome_at kept (next_in kept s (answer_to (wanted_in kept s) n)) ≡ Some (again why) → ⊥
+told kept Count n why none some = absurd (let same = same_Some (replied (no_room kept.site) n) (again why) (sym (giving_outcome kept kept.held n) ∙ some) in cc)
+told kept (Give held count) n why none some = absurd (none-some (replied (no_room kept.site) count) (sym none))
+told kept (Ended count) n why none some = absurd (none-some (replied (no_room kept.site) count) (sym none))
+
+-- nothing has to be remembered behind the counter
+module _ (site : Site) (kept : Kept) (loads : List (ℕ × ℕ)) where
+  next_remembers : (held : Held) (count : ℕ) (next : Option (Place × ℕ)) → RemembersAt site kept loads (given_by next held count)
+  next_remembers held count (Some next) = tt
+  next_remembers held count None = tt
+
+  giving_remembers : (held : Held) (count : ℕ) → RemembersAt site kept loads (giving held count)
+  giving_remembers held count = next_remembers held count (give_next held)
+
+  give_remembers : (held : Held) (count : ℕ) (a : Ans) → RemembersAt site kept loads (next_in kept (Give held count) a)
+  give_remembers held count Passed = giving_remembers (given held) count
+  give_remembers held count a = tt
+
+  remembers_at : (s : RefuseStep) (n : ℕ) → RemembersAt site kept loads (next_in kept s (answer_to (wanted_in kept s) n))
+  remembers_at Count n = giving_remembers kept.held n
+  remembers_at (Give held count) n = give_remembers held count (answer_to (wanted_in kept (Give held count)) n)
+  remembers_at (Ended count) n = tt
+
+stays_at : (kept : Kept) (s : RefuseStep) (a : Ans) (outcome : Outcome) → outcome_at kept s ≡ Some outcome → outcome_at kept (next_in kept s a) ≡ Some outcome
+stays_at kept Count a outcome some = absurd (none-some outcome some)
+stays_at kept (Give held count) Passed outcome some = giving_outcome kept (given held) count ∙ some
+stays_at kept (Give held count) a outcome some = some
+stays_at kept (Ended count) a outcome some = some
+
+decided_at : (kept : Kept) (s : RefuseStep) → wanted_in kept s ≡ want.Done → (outcome : Outcome) × (outcome_at kept s ≡ Some outcome)
+decided_at kept Count done = absurd (let z = done in cc)
+decided_at kept (Give held count) done = (replied (no_room kept.site) count, refl)
+decided_at kept (Ended count) done = (replied (no_room kept.site) count, refl)
+
+-- no step ends without a reply
+finished_at : (kept : Kept) (s : RefuseStep) → outcome_at kept s ≡ Some finished → ⊥
+finished_at kept Count some = none-some finished some
+finished_at kept (Give held count) some = absurd (let same = same_Some (replied (no_room kept.site) count) finished some in cc)
+finished_at kept (Ended count) some = absurd (let same = same_Some (replied (no_room kept.site) count) finished some in cc)
+
+-- EACH OUTCOME of a refusal has its cause
+pub refuse_ends_by_cause : EndsByCause refuse_part
+refuse_ends_by_cause = record {
+  steps = λ site here call words views j op before v did h at s asks small r.
+      let n : ℕ = words (word_of site.shape (wanted op)) in
+      record {
+        remembers = remembers_at site op.kept _ op.step n;
+        caused = λ outcome none some. caused_at site h.site_is here call words op.kept v did op.step n s.stands r none outcome some;
+        worked = λ none some. finished_at op.kept (next_in op.kept op.step (answer_to (wanted op) n)) some;
+        not_own = λ word value none some. absurd (told op.kept op.step n _ none some);
+      };
+  stays = λ op a outcome some. stays_at op.kept op.step a outcome some;
+  decided = λ site here call op v s done closed. decided_at op.kept op.step done;
+  undecided = λ op hands. absurd (let f : false ≡ true = hands in cc);
+}
+
+pub never_finished : NeverFinished
+never_finished op some = finished_at op.kept op.step some
+
+-- ---- where it begins
+pub begins_remembering : BeginsRemembering
+begins_remembering site kept did r nothing = (r, nothing)

@@ -1,0 +1,5 @@
+pub mod Single
+pub mod Room
+pub mod RefuseIsPart
+pub mod Causing
+pub mod Ends

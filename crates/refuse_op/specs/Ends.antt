@@ -1,0 +1,24 @@
+-- Which replies a refusal tells, and that it tells its outcome at its end.
+use Rattle.std.specs.Prelude.{◌≡◌, ℕ, ◌<◌, ◌⊎◌, Option, Some}
+use Rattle.op_core.specs.declared.want.Want.TheVariants.{Done}
+use Rattle.map_model.specs.declared.entry.Reply.{Reply}
+use Rattle.map_model.specs.declared.entry.Reply.TheVariants.{Full, Deep}
+use Rattle.part.specs.Outcomes.{Outcome, replied, off}
+use Rattle.refuse_op.specs.declared.op.RefuseEnd.{RefuseEnd}
+use Rattle.refuse_op.specs.declared.op.RefuseEnd.TheVariants as ends
+use Rattle.refuse_op.specs.declared.op.RefuseOp.{RefuseOp}
+use Rattle.refuse_op.specs.Steps.{wanted, end_of}
+use Rattle.refuse_op.specs.RefusePart.{outcome_at}
+
+abbrev pub outcome_of : RefuseEnd → Option Outcome
+outcome_of (ends.Replied reply count) = Some (replied reply count)
+outcome_of ends.Off = Some off
+
+abbrev pub EndsAsSaid : Type 0
+EndsAsSaid = (op : RefuseOp) → wanted op ≡ Done → outcome_at op.kept op.step ≡ outcome_of (end_of op)
+
+-- IT TELLS NO REPLY BUT THESE, in any state: that the structure is as deep as its image allows, where that is depth 0, and else that it
+-- is full
+abbrev pub RepliesByDepth : Type 0
+RepliesByDepth = (op : RefuseOp) (answer : Reply) (count : ℕ) → outcome_at op.kept op.step ≡ Some (replied answer count)
+    → ((answer ≡ Deep) × (op.kept.site.geometry.depth ≡ 0)) ⊎ ((answer ≡ Full) × (0 < op.kept.site.geometry.depth))
