@@ -152,7 +152,6 @@ module _ (shape : Shape) (words : List ℕ) (i : IsFormatted shape words) where
         one_segment = λ _. one;
         root = λ _. root_is;
         first = λ _. record { is_normal = ap state_in i.header; no_depth = ap depth_in i.header };
-        home = λ s b r there _. absurd (formatted-no_record s b r there);
       }
 
   pub formatted-MayBePlayed : MayBePlayed shape word

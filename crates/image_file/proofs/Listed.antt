@@ -1,7 +1,7 @@
 -- The pairs of all record slots that are their segment's own, without those of a key that stands before, are the
 -- image's pairs.
 use Rattle.std.proofs.Common.{◌≡◌, ◌≢◌, ℕ, zero, suc, ◌+◌, ◌*◌, ◌/◌, ◌%◌, ◌<◌, ◌≤◌, ◌⊎◌, refl, sym, ap, subst, ◌∙◌, arith, inl, inr, ⊎_elim, true, false, List, [], ◌∷◌, ◌++◌, length, add-one, length-append, get_or}
-use Rattle.std.specs.Prelude.{◌==◌, ◌||◌, Contains, if◌then◌else◌, slice_index}
+use Rattle.std.specs.Prelude.{◌==◌, Contains, if◌then◌else◌, slice_index}
 use Rattle.std.specs.List.{IsDistinct, list_any}
 use Rattle.std.specs.List.Sorted.{IsPermutation, IsNonDecreasing, IsNonDecreasingBy, IsStrictlyIncreasing}
 use Rattle.std.proofs.lemmas.List.Sorted.{Contains-permutation, IsPermutation-sym, IsPermutation-map}

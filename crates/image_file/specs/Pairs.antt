@@ -1,5 +1,5 @@
 -- What a sound image holds: its live segments and its pairs, as lists.
-use Rattle.std.specs.Prelude.{◌≡◌, ℕ, ◌/◌, ◌%◌, ◌<◌, ◌==◌, ◌||◌, ◌↔◌, Bool, List, map, filter, Contains}
+use Rattle.std.specs.Prelude.{◌≡◌, ℕ, ◌<◌, ◌==◌, ◌↔◌, List, map, filter, Contains}
 use Rattle.std.specs.List.{IsDistinct}
 use Rattle.segment_head.specs.HeadWord.{is_live}
 use Rattle.bucket_meta.specs.Notes.{numbers_below}

@@ -22,6 +22,31 @@ const ROW: [(usize, u64); 11] = [
     (128, 2),
 ];
 
+/// The words by which the record stands in its probing bucket.
+const PROBING: [(usize, u64); 8] = [
+    (97, 0),
+    (98, 0),
+    (100, 0),
+    (101, 0),
+    (129, 16_385),
+    (130, 5),
+    (132, 5),
+    (133, 7),
+];
+
+/// The words by which the record stands in the first stash bucket, with its note in its home bucket.
+const IN_STASH: [(usize, u64); 9] = [
+    (97, 1 << 28),
+    (98, 0),
+    (99, 5 << 48),
+    (100, 0),
+    (101, 0),
+    (2145, 1),
+    (2146, 5),
+    (2148, 5),
+    (2149, 7),
+];
+
 /// The words, not 0, of an image of two segments of which the first is splitting: the second is its ready side. The
 /// record of key 2^63 + 5 was moved, and its old copy is still there.
 const SPLIT: [(usize, u64); 18] = [
@@ -129,6 +154,28 @@ fn one_pair_is_read(rt: HostRuntime) -> Result<(), Fail> {
     Ok(())
 }
 
+// The pair in its probing bucket is the same pair.
+#[test]
+fn a_member_is_read(rt: HostRuntime) -> Result<(), Fail> {
+    let alloc = rt.alloc();
+    let medium = from_bytes(alloc, &file_with(alloc, &PROBING)?)?;
+    assert_eq!(rt; check(&medium).pairs, 1);
+    assert_eq!(rt; list(alloc, &medium)?.as_slice(), [(5, 7)].as_slice());
+    assert!(rt; playable(&medium).is_ok());
+    Ok(())
+}
+
+// The pair in a stash bucket is the same pair, too.
+#[test]
+fn a_noted_record_is_read(rt: HostRuntime) -> Result<(), Fail> {
+    let alloc = rt.alloc();
+    let medium = from_bytes(alloc, &file_with(alloc, &IN_STASH)?)?;
+    assert_eq!(rt; check(&medium).pairs, 1);
+    assert_eq!(rt; list(alloc, &medium)?.as_slice(), [(5, 7)].as_slice());
+    assert!(rt; playable(&medium).is_ok());
+    Ok(())
+}
+
 #[test]
 fn words_in_pieces(rt: HostRuntime) -> Result<(), Fail> {
     let alloc = rt.alloc();
@@ -180,7 +227,7 @@ fn lengths(rt: HostRuntime) -> Result<(), Fail> {
 #[test]
 fn faults(rt: HostRuntime) -> Result<(), Fail> {
     let alloc = rt.alloc();
-    let cases: [(&[(usize, u64)], &str); 25] = [
+    let cases: [(&[(usize, u64)], &str); 35] = [
         (&[(0, 0)], "magic"),
         (&[(1, 2)], "format"),
         (&[(1, (2 << 32) + 1)], "format"),
@@ -195,10 +242,39 @@ fn faults(rt: HostRuntime) -> Result<(), Fail> {
         (&[(65, 256)], "accepted"),
         (&[(65, 0x201)], "rule 8 word 65"),
         (&[(65, 258)], "rule 6 word 65"),
-        (&[(100, 261)], "rule 8 word 100"),
         (&[(32, 1)], "rule 3 word 32"),
         (&[(98, 6)], "rule 4 word 100"),
         (&[(97, (1 << 14) + 1)], "rule 4 word 100"),
+        (&[(100, 261)], "rule 4 word 100"),
+        // The record in its probing bucket, as a member of it and not, and with another fingerprint.
+        (&PROBING, "accepted"),
+        (&[(97, 0), (129, 1), (130, 5), (132, 5)], "rule 4 word 132"),
+        (
+            &[(97, 0), (129, 16_385), (130, 6), (132, 5)],
+            "rule 4 word 132",
+        ),
+        // In the bucket behind that.
+        (
+            &[(97, 0), (161, 16_385), (162, 5), (164, 5)],
+            "rule 4 word 164",
+        ),
+        // In home and probing bucket.
+        (
+            &[(129, 16_385), (130, 5), (132, 5), (133, 8)],
+            "rule 5 word 132",
+        ),
+        (
+            &[(129, 16_385), (130, 5), (132, 5), (133, 7)],
+            "rule 7 word 132",
+        ),
+        // In the one stash bucket and in the other, beside that at home; there without its fingerprint; and there, with its note.
+        (&[(2145, 1), (2146, 5), (2148, 5)], "rule 5 word 2148"),
+        (&[(2177, 2), (2178, 0x500), (2182, 5)], "rule 5 word 2182"),
+        (
+            &[(97, 0), (2145, 2), (2146, 0x500), (2150, 6)],
+            "rule 4 word 2150",
+        ),
+        (&IN_STASH, "accepted"),
         (
             &[(97, 3), (98, 0x505), (102, 5), (103, 8)],
             "rule 5 word 102",
@@ -276,18 +352,7 @@ fn hostile_edits(rt: HostRuntime) -> Result<(), Fail> {
         (&[(97, 1_099_511_627_777), (16, 1)], "accepted"),
         (&[(65, 513), (16, 1)], "accepted"),
         // The record in the stash, with its note, without, and noted twice.
-        (
-            &[
-                (97, 1 << 28),
-                (99, 5 << 48),
-                (98, 0),
-                (2145, 1),
-                (2146, 5),
-                (2148, 5),
-                (2149, 7),
-            ],
-            "accepted",
-        ),
+        (&IN_STASH, "accepted"),
         (
             &[(97, 0), (98, 0), (2145, 1), (2146, 5), (2148, 5), (2149, 7)],
             "rule 7 word 97",

@@ -1,6 +1,5 @@
 -- What the rules say of the record slots, slot by slot, bucket by bucket and segment by segment.
-use Rattle.std.specs.Prelude.{◌≡◌, ℕ, ◌+◌, ◌<◌, ◌≤◌, ⊤}
-use Rattle.hash_word.specs.Hash.{home_of}
+use Rattle.std.specs.Prelude.{◌≡◌, ℕ, ◌+◌, ◌<◌, ◌≤◌}
 use Rattle.bucket_meta.specs.Bucket.{lock_of, allocated, record_slots}
 use Rattle.image_layout.specs.Places.{Shape, bucket_at, key_at, homes, buckets, block}
 use Rattle.sound_image.specs.Segments.{ImageWords, frame_of, Owns}
@@ -8,7 +7,7 @@ use Rattle.sound_image.specs.Records.{word_in, slot_key, slot_value, slot_hash, 
 use Rattle.sound_image.specs.Rules.{StandsRight, SameValueAsBefore, NotBefore, RecordsStandRight}
 use Rattle.image_rules.specs.declared.record_slot.RecordSlot.{RecordSlot}
 use Rattle.image_rules.specs.declared.records.RecordRule.{RecordRule}
-use Rattle.image_rules.specs.declared.records.RecordRule.TheVariants.{Home, Stand, Value, Once}
+use Rattle.image_rules.specs.declared.records.RecordRule.TheVariants.{Stand, Value, Once}
 use Rattle.image_rules.specs.Divided.{IsDivided}
 
 -- an image of this shape has the record slot
@@ -34,23 +33,19 @@ module _ (shape : Shape) (word : ImageWords) where
 
   -- what is known before a rule is looked at in segment s
   abbrev pub Needs : RecordRule → ℕ → Type 0
-  Needs Home s = ⊤
   Needs Stand s = IsDivided shape word
   Needs Value s = IsStandingIn s
   Needs Once s = IsStandingIn s
 
-  -- what a rule says of the record in slot r of bucket b of segment s: that it stands in its home bucket; if it is the
-  -- segment's own, that it stands right, or that those of its key before it have its value; or that it is the segment's
-  -- own, and none of its key is before it
+  -- what a rule says of the record in slot r of bucket b of segment s: if it is the segment's own, that it stands right, or
+  -- that those of its key before it have its value; or that it is the segment's own, and none of its key is before it
   abbrev pub Follows : RecordRule → ℕ → ℕ → ℕ → Type 0
-  Follows Home s b r = b ≡ home_of (slot_hash shape word s b r)
   Follows Stand s b r = Owns (frame_of shape word) s (slot_hash shape word s b r) → StandsRight shape word s b r
   Follows Value s b r = Owns (frame_of shape word) s (slot_hash shape word s b r) → SameValueAsBefore shape word s b r
   Follows Once s b r = Owns (frame_of shape word) s (slot_hash shape word s b r) × NotBefore shape word s b r
 
   -- what a rule allows of two records of a key: to have one value, or nothing
   abbrev pub Agrees : RecordRule → RecordSlot → RecordSlot → Type 0
-  Agrees Home record_slot other = ⊥
   Agrees Stand record_slot other = ⊥
   Agrees Value record_slot other =
       slot_value shape word other.segment other.bucket other.slot ≡ slot_value shape word record_slot.segment record_slot.bucket record_slot.slot

@@ -1,12 +1,10 @@
--- Rule 8: a limit of the present program, which reads images of one segment whose records stand in their home buckets.
--- It is no rule of a sound image, and goes as the program learns to serve more. An image that is to be played is also
--- clean, and its segment has its version; one that is told need not be: a power cut may have left it.
+-- Rule 8: a limit of the present program, which reads images of one segment, whatever buckets its records stand in. It is
+-- no rule of a sound image, and goes as the program learns to serve more. An image that is to be played is also clean, and
+-- its segment has its version; one that is told need not be: a power cut may have left it.
 use Rattle.std.specs.Prelude.{◌≡◌, ℕ, ◌+◌, ◌<◌}
-use Rattle.hash_word.specs.Hash.{home_of}
 use Rattle.segment_head.specs.HeadWord.{version_in, normal}
-use Rattle.image_layout.specs.Places.{Shape, root_word, state_word, head_at, key_at}
+use Rattle.image_layout.specs.Places.{Shape, root_word, state_word, head_at}
 use Rattle.sound_image.specs.Segments.{ImageWords, Frame, frame_of, image_version, IsClean, state_at, depth_at, IsLive}
-use Rattle.sound_image.specs.Records.{slot_hash, HasRecord}
 
 -- the word of the number of slots for segments
 abbrev pub segments_word : ℕ
@@ -21,13 +19,12 @@ module _ (shape : Shape) (word : ImageWords) where
     pub is_normal : state_at frame s ≡ normal
     pub no_depth : depth_at frame s ≡ 0
 
-  -- what rule 8 says of each word: there is one slot for a segment; the directory has depth 0; slot 0 is normal at depth
-  -- 0; and a record stands in its home bucket
+  -- what rule 8 says of each word: there is one slot for a segment; the directory has depth 0; and slot 0 is normal at
+  -- depth 0
   pub record IsServed (w : ℕ) : Type 0 where
     pub one_segment : w ≡ segments_word → shape.segments ≡ 1
     pub root : w ≡ root_word → frame.root ≡ 0
     pub first : w ≡ head_at shape 0 + 1 → IsWholeTable 0
-    pub home : (s b r : ℕ) → HasRecord shape word s b r → w ≡ key_at shape s b r → b ≡ home_of (slot_hash shape word s b r)
 
   -- rule 8 holds of each word
   abbrev pub PassesRule8 : Type 0

@@ -9,8 +9,9 @@ ghost use Rattle.image_rules.specs.Breach.{IsLeast, number_of, StageHoldsAt, Hol
 use crate::directory::rule_three;
 use crate::leaves::rule_two;
 use crate::repaired::rule_seven;
-use crate::rules::{rule_eight, rule_five, rule_four, rule_one, rule_six};
+use crate::rules::{rule_five, rule_four, rule_one, rule_six};
 use crate::sound_segments::are_sound_segments;
+use crate::stage::rule_eight;
 use image_layout::{Geometry, shape_in_range};
 use map_model::NoMemory;
 use std::alloc::Global;

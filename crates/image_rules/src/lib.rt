@@ -14,6 +14,7 @@ mod records;
 mod repaired;
 mod rules;
 mod sound_segments;
+mod stage;
 mod untouched;
 
 pub use breach::{Breach, Rule, Scope, first_breach};

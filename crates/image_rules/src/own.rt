@@ -54,17 +54,13 @@ pub fn pair_in(geometry: &Geometry, words: &[u64], n: u64) -> Option<(u64, u64)>
     ensures some { IfSome result (λ pair. IsFirstAt geometry.now (slice_index words.now) n × (pair ≡ pair_at geometry.now (slice_index words.now) n)) }
     ensures none { IfNone result (IsFirstAt geometry.now (slice_index words.now) n → ⊥) }
 {
+    if !is_first_at(geometry, words, n) {
+        return None;
+    }
     let _ = geometry.segments();
     let record_slot = record_slot_of(n);
-    if is_taken(geometry, words, record_slot)
-        && is_own(geometry, words, record_slot)
-        && RecordRule::Once.agree_before(geometry, words, record_slot)
-    {
-        Some((
-            key_in(geometry, words, record_slot),
-            value_in(geometry, words, record_slot),
-        ))
-    } else {
-        None
-    }
+    Some((
+        key_in(geometry, words, record_slot),
+        value_in(geometry, words, record_slot),
+    ))
 }

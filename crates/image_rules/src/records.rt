@@ -3,7 +3,6 @@
 ghost use Rattle.std.specs.Prelude.{◌≡◌, ℕ, ◌+◌, ◌*◌, ◌<◌, ◌≤◌, ◌↔◌, IfSome, IfNone, IsTrue, length, slice_index};
 ghost use Rattle.image_layout.specs.Places.{words_of, buckets};
 ghost use Rattle.bucket_meta.specs.Bucket.{finger, record_slots};
-ghost use Rattle.hash_word.specs.Hash.{home_of};
 ghost use Rattle.sound_image.specs.Segments.{frame_of, Owns};
 ghost use Rattle.sound_image.specs.Records.{slot_hash};
 ghost use Rattle.sound_image.specs.Rules.{StandsRight};
@@ -19,8 +18,6 @@ use way::key_hash;
 /// One thing that a rule says of each record.
 #[derive(Clone, Copy)]
 pub(crate) enum RecordRule {
-    /// It stands in its home bucket.
-    Home,
     /// It stands where it is looked for, with its fingerprint, if it is its segment's own.
     Stand,
     /// Those of its key before it have its value, if it is its segment's own.
@@ -57,15 +54,6 @@ fn stands_right(geometry: &Geometry, words: &[u64], record_slot: RecordSlot) -> 
         home
     };
     record_slot.bucket == own || record_slot.bucket >= HOMES
-}
-
-/// Whether a record stands in its home bucket.
-fn is_at_home(geometry: &Geometry, words: &[u64], record_slot: RecordSlot) -> bool
-    requires whole { length words.now ≡ words_of geometry.now }
-    requires record_slot { IsRecordSlot geometry.now record_slot }
-    ensures { IsTrue result ↔ (record_slot.bucket ≡ home_of (slot_hash geometry.now (slice_index words.now) record_slot.segment record_slot.bucket record_slot.slot)) }
-{
-    hash_word::home(hash_in(geometry, words, record_slot)) == record_slot.bucket
 }
 
 /// Whether a segment owns the record in one of its slots.
@@ -113,7 +101,7 @@ impl RecordRule {
             RecordRule::Value => {
                 value_in(geometry, words, other) == value_in(geometry, words, record_slot)
             }
-            RecordRule::Home | RecordRule::Stand | RecordRule::Once => false,
+            RecordRule::Stand | RecordRule::Once => false,
         }
     }
 
@@ -200,7 +188,6 @@ impl RecordRule {
         ensures { IsTrue result ↔ Follows geometry.now (slice_index words.now) self record_slot.segment record_slot.bucket record_slot.slot }
     {
         match self {
-            RecordRule::Home => is_at_home(geometry, words, record_slot),
             RecordRule::Stand => {
                 !is_own(geometry, words, record_slot) || stands_right(geometry, words, record_slot)
             }

@@ -1,4 +1,4 @@
-//! The rules of a sound image one by one, and rule 8: each says at which word it is broken first.
+//! Rules 1, 4, 5 and 6 of a sound image, one by one: each says at which word it is broken first.
 
 ghost use Rattle.std.specs.Prelude.{◌≡◌, ℕ, ◌+◌, ◌%◌, ◌^◌, ◌<◌, ◌≤◌, ◌↔◌, IfSome, IfNone, IsTrue, length, slice_index};
 ghost use Rattle.image_layout.specs.Places.{words_of};
@@ -6,17 +6,13 @@ ghost use Rattle.sound_image.specs.Segments.{frame_of};
 ghost use Rattle.sound_image.specs.Directory.{HeadInRange, LinkInRange};
 ghost use Rattle.sound_image.specs.Rules.{NumbersFit, RecordsStandRight, KeysHaveOneValue, VersionsArePast};
 ghost use Rattle.image_rules.specs.Breach.{IsLeast};
-ghost use Rattle.image_rules.specs.Stage.{IsServed, PassesRule8};
 ghost use Rattle.image_rules.specs.Divided.{IsDivided};
 ghost use Rattle.image_rules.specs.Slots.{IsStanding};
 
 use crate::heads::{header_of, version_of};
 use crate::records::RecordRule;
 use image_layout::{Geometry, ROOT_WORD, STATE_WORD, state};
-use segment_head::word::{FREE, FRESH, depth_of, is_whole_table, pattern_of, state_of};
-
-/// The word of the number of slots for segments.
-const SEGMENTS_WORD: u64 = 2;
+use segment_head::word::{FREE, FRESH, depth_of, pattern_of, state_of};
 
 /// Whether a header word is in its range.
 fn head_in_range(geometry: &Geometry, words: &[u64], s: u64) -> bool
@@ -63,25 +59,6 @@ pub(crate) fn rule_one(geometry: &Geometry, words: &[u64]) -> Option<u64>
         }
     }
     None
-}
-
-/// The least word at which rule 8 is broken: the present program does not serve the image.
-pub(crate) fn rule_eight(geometry: &Geometry, words: &[u64]) -> Option<u64>
-    requires whole { length words.now ≡ words_of geometry.now }
-    ensures none { IfNone result (PassesRule8 geometry.now (slice_index words.now)) }
-    ensures some { IfSome result (λ w. IsLeast (IsServed geometry.now (slice_index words.now)) w) }
-{
-    if geometry.segments() != 1 {
-        return Some(SEGMENTS_WORD);
-    }
-    if words[ROOT_WORD as usize] != 0 {
-        return Some(ROOT_WORD);
-    }
-    let header = geometry.head_at(0) + 1;
-    if !is_whole_table(words[header as usize]) {
-        return Some(header);
-    }
-    RecordRule::Home.first_key(geometry, words, 0)
 }
 
 /// The least word at which rule 4 is broken: a record in its owner does not stand where it is looked for.
