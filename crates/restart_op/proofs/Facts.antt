@@ -1,8 +1,6 @@
 -- What is used of an image that is restarted: it is a table at rest, whose structure is sound, and whose live segments take calls.
-use Rattle.std.proofs.Common.{◌≡◌, ℕ, ◌+◌, ◌^◌, ◌<◌, ◌≤◌, ◌⊎◌, List, inl, inr, refl, sym, subst, ◌∙◌, arith}
+use Rattle.std.proofs.Common.{ℕ, ◌+◌, ◌^◌, ◌<◌, ◌≤◌, List, inl, inr, refl, sym, subst, ◌∙◌}
 use Rattle.std.specs.Prelude.{slice_index}
-use Rattle.std.proofs.lemmas.Bool.{cases_lt}
-use Rattle.bucket_meta.specs.Bucket.{record_slots}
 use Rattle.image_layout.specs.Places.{Shape, state_word, head_at, bucket_at, key_at}
 use Rattle.sound_image.specs.Segments.{ImageWords, Frame, frame_of, IsClean, IsLive, Owns}
 use Rattle.sound_image.specs.Records.{key_hash}
@@ -14,20 +12,10 @@ use Rattle.segment_table.proofs.frames.SoundFrames.{owner_claims}
 use Rattle.segment_table.proofs.frames.Owner.{claimer_found}
 use Rattle.bucket_words.specs.Hits.{Hit}
 use Rattle.bucket_words.specs.Standing.{IsTable}
+use Rattle.bucket_words.proofs.segments.Rules.{record_of, cases_order}
 use Rattle.restart_op.specs.AtRest.{IsAtRest, TakesCalls, HasOwnRecords}
 use Rattle.restart_op.specs.Restarted.{IsPlayableImage}
-use Rattle.restart_op.proofs.Rules.{record_of, frame_of_rules, table_of_rules}
-
--- of two places in a segment one is before the other, or they are one
-cases_order : (shape : Shape) (s b r c t : ℕ) → r < record_slots → t < record_slots
-    → (key_at shape s b r < key_at shape s c t) ⊎ (key_at shape s c t < key_at shape s b r) ⊎ ((b ≡ c) × (r ≡ t))
-cases_order shape s b r c t l m = elim (cases_lt (key_at shape s b r) (key_at shape s c t)) [
-  | inl less ↦ inl less
-  | inr more ↦ elim (cases_lt (key_at shape s c t) (key_at shape s b r)) [
-    | inl less ↦ inr (inl less)
-    | inr same ↦ inr (inr (omega (arith, more, same, l, m), omega (arith, more, same, l, m)))
-  ]
-]
+use Rattle.restart_op.proofs.Rules.{frame_of_rules, table_of_rules}
 
 module _ (shape : Shape) (words : List ℕ) (image : IsPlayableImage shape words) where
   abbrev word : ImageWords

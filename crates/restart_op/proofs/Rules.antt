@@ -10,18 +10,12 @@ use Rattle.sound_image.specs.Rules.{CleanMeansRepaired, NotBefore, FollowsRules}
 use Rattle.segment_table.specs.Claims.{HasSoundFrame}
 use Rattle.segment_table.proofs.frames.Rules as frame_rules
 use Rattle.segment_table.proofs.frames.Owner.{found_owns}
-use Rattle.bucket_words.specs.Hits.{Hit}
 use Rattle.bucket_words.specs.Standing.{IsTable}
+use Rattle.bucket_words.proofs.segments.Rules.{hit_of}
 use Rattle.bucket_words.proofs.segments.Rules as table_rules
 use Rattle.restart_op.specs.AtRest.{IsAtRest, TakesCalls, HasOwnRecords}
 
 module _ (shape : Shape) (word : Words) where
-  pub record_of : (s b r k : ℕ) → Hit shape word s b r k → HasRecord shape word s b r
-  record_of s b r k h = record { segment = h.segment; bucket = h.bucket; slot = h.slot; is_allocated = h.taken }
-
-  pub hit_of : (s b r : ℕ) → HasRecord shape word s b r → Hit shape word s b r (slot_key shape word s b r)
-  hit_of s b r h = record { segment = h.segment; bucket = h.bucket; slot = h.slot; taken = h.is_allocated; key = refl }
-
   -- FROM THE RULES
   pub frame_of_rules : IsShape shape → FollowsRules shape word → HasSoundFrame shape word
   frame_of_rules is rules = frame_rules.from_rules shape is word (record {
@@ -68,13 +62,13 @@ module _ (shape : Shape) (word : Words) where
         (rest : (s : ℕ) → s < shape.segments → IsAtRest shape word s) (own : HasOwnRecords shape word) where
       owns_record : (s b r : ℕ) → IsLive (frame_of shape word) s → HasRecord shape word s b r → Owns (frame_of shape word) s (slot_hash shape word s b r)
       owns_record s b r live there =
-          found_owns (frame_of shape word) (slot_hash shape word s b r) s (own s b r (slot_key shape word s b r) live (hit_of s b r there))
+          found_owns (frame_of shape word) (slot_hash shape word s b r) s (own s b r (slot_key shape word s b r) live (hit_of shape word s b r there))
 
       not_before : (s b r : ℕ) → HasRecord shape word s b r → NotBefore shape word s b r
       not_before s b r there c t other before same =
-          let h = hit_of s c t other in
+          let h = hit_of shape word s c t other in
           let one = (rest s there.segment).once c t b r (slot_key shape word s b r)
-          (record { segment = h.segment; bucket = h.bucket; slot = h.slot; taken = h.taken; key = same }) (hit_of s b r there) in
+          (record { segment = h.segment; bucket = h.bucket; slot = h.slot; taken = h.taken; key = same }) (hit_of shape word s b r there) in
           absurd (omega (arith, before, one.0, one.1))
 
       repaired : (w : ℕ) → CleanMeansRepaired shape word w

@@ -146,3 +146,7 @@ abbrev pub CloseKeepsStructure : Type 0
 CloseKeepsStructure = (site : Site) (start : Words) (world : World) → IsQuiet site start world → (n : ℕ)
     → wanted (close_after site.shape world.words world.trace n).op ≡ Done → (i : ℕ) → IsStructure site.shape i → i ≢ state_word
     → (close_after site.shape world.words world.trace n).words i ≡ site.front i
+
+-- whichever of its events were done, a close has changed the state word alone
+abbrev pub ChangesStateAlone : Type 0
+ChangesStateAlone = (shape : Shape) (words : Words) (trace : Trace) (n i : ℕ) → i ≢ state_word → (close_after shape words trace n).words i ≡ words i

@@ -3,7 +3,7 @@
 ghost use Rattle.std.specs.Prelude.{ℕ, ◌≡◌};
 ghost use Rattle.image_layout.specs.Places.{Shape, IsShape};
 ghost use Rattle.restart_op.specs.Close.{begun};
-ghost use Rattle.restart_op.specs.Closing.{events_of, left, Falls, EndsInTime, FewWait, FitsByEvents, QuietAfterRestart, OneSegmentOwns, CloseKeeps, CloseSettles, CloseMarks, CloseKeepsStructure};
+ghost use Rattle.restart_op.specs.Closing.{events_of, left, Falls, EndsInTime, FewWait, FitsByEvents, QuietAfterRestart, OneSegmentOwns, CloseKeeps, CloseSettles, CloseMarks, CloseKeepsStructure, ChangesStateAlone};
 
 /// Each event leaves fewer to do, and so a close ends; and never do more than eight lines wait for a fence.
 pub fn close_ends()
@@ -22,10 +22,12 @@ pub fn close_begins()
 {}
 
 /// Whatever a power cut may leave during a close is a sound image with the pairs of the table; and where the close has
-/// ended, that is one medium alone, with the marker set, on the structure that it had.
+/// ended, that is one medium alone, with the marker set, on the structure that it had. At no time has it changed another word than
+/// the state word.
 pub fn close_keeps()
     ensures cuts { CloseKeeps }
     ensures ends { CloseSettles }
     ensures marks { CloseMarks }
     ensures structure { CloseKeepsStructure }
+    ensures others { ChangesStateAlone }
 {}

@@ -1,15 +1,17 @@
 -- What holds of a close and its course at the start, and is kept by each event, holds after any number of them.
-use Rattle.std.proofs.Common.{◌≡◌, ℕ, zero, suc, ◌∷◌, refl, sym, ◌∙◌, subst}
+use Rattle.std.proofs.Common.{◌≡◌, ◌≢◌, ℕ, zero, suc, ◌∷◌, refl, sym, ◌∙◌, ap, subst}
+use Rattle.std.specs.Prelude.{if◌then◌else◌}
+use Rattle.std.proofs.lemmas.Bool.{ne_eqb}
 use Rattle.op_core.specs.declared.want.Ans.{Ans}
 use Rattle.op_core.specs.declared.want.Ans.TheVariants.{Value, Won, Lost, Drawn, Passed}
 use Rattle.trace.specs.Events.{Words, Trace}
-use Rattle.image_layout.specs.Places.{Shape}
+use Rattle.image_layout.specs.Places.{Shape, state_word}
 use Rattle.world.specs.Wants.{answer_to, word_of, event_of, words_after}
 use Rattle.restart_op.specs.declared.close.CloseStep.{CloseStep}
-use Rattle.restart_op.specs.declared.close.CloseStep.TheVariants.{Flush}
+use Rattle.restart_op.specs.declared.close.CloseStep.TheVariants.{Flush, Fence, Load, Store, FlushState, FenceState, Ended}
 use Rattle.restart_op.specs.declared.close.CloseOp.{CloseOp}
 use Rattle.restart_op.specs.Close.{wanted_in, wanted, taken}
-use Rattle.restart_op.specs.Closing.{close_after}
+use Rattle.restart_op.specs.Closing.{close_after, ChangesStateAlone}
 
 pub same_geometry : (op : CloseOp) (ans : Ans) → (taken op ans).geometry ≡ op.geometry
 same_geometry op (Value seen) = refl
@@ -48,3 +50,17 @@ module _ (shape : Shape) where
 
     pub along : (n : ℕ) → P (close_after shape words es n).op.step (close_after shape words es n).words (close_after shape words es n).trace
     along n = (all_along n).1
+
+-- ---- a close stores the state word alone
+module _ (shape : Shape) (i : ℕ) (other : i ≢ state_word) where
+  step_leaves : (s : CloseStep) (words : Words) → words_by shape s words i ≡ words i
+  step_leaves (Flush line waiting) words = refl
+  step_leaves (Fence line) words = refl
+  step_leaves Load words = refl
+  step_leaves (Store state) words = ap (λ b. if b then state else words i) (ne_eqb i state_word other)
+  step_leaves FlushState words = refl
+  step_leaves FenceState words = refl
+  step_leaves Ended words = refl
+
+pub changes_state_alone : ChangesStateAlone
+changes_state_alone shape words trace n i other = along shape (λ s ws ts. ws i ≡ words i) (λ s ws ts same. step_leaves shape i other s ws ∙ same) words trace refl n

@@ -1,3 +1,4 @@
+use Rattle.restart_op.proofs.closes.CloseAlong.{changes_state_alone}
 use Rattle.restart_op.proofs.closes.CloseKeeping.{close_keeps, close_settles, close_marks, close_keeps_structure}
 use Rattle.restart_op.proofs.closing.close_keeps.Goals as goal
 
@@ -12,3 +13,6 @@ returns-clause-marks c = close_marks
 
 pub returns-clause-structure : goal.returns-clause-structure
 returns-clause-structure c = close_keeps_structure
+
+pub returns-clause-others : goal.returns-clause-others
+returns-clause-others c = changes_state_alone
