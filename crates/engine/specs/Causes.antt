@@ -7,6 +7,8 @@ use Rattle.trace.specs.Events.{Words}
 use Rattle.image_layout.specs.Places.{Shape}
 use Rattle.map_model.specs.declared.call.Call.{Call}
 use Rattle.world.specs.declared.site.Site.{Site as Here}
+use Rattle.world.specs.Site.{Site}
+use Rattle.world.specs.Views.{View}
 use Rattle.world.specs.Wants.{answer_to, word_of}
 use Rattle.part.specs.Doings.{Doings, nothing_done, with_event_of}
 use Rattle.part.specs.Outcomes.{Outcome, replied, again}
@@ -72,6 +74,10 @@ module _ (shape : Shape) where
 pub record Decides (shape : Shape) (words : Words) (e : Engine) (outcome : Outcome) : Type 0 where
   pub undecided : op_part.outcome e.op ≡ None
   pub decides : op_part.outcome (engine_next shape words e).op ≡ Some outcome
+
+-- an attempt begins with nothing held
+abbrev pub BeginsBare : Type 0
+BeginsBare = (site : Site) (here : Here) (call other : Call) (v : View) → op_part.Stands site here call (begun here other).op v → v.held ≡ []
 
 -- EACH OUTCOME IS DECIDED by one event of its attempt: an attempt begins undecided; what is decided stays so; and where an engine
 -- wants nothing more, its end is what was decided

@@ -17,10 +17,15 @@ use Rattle.read_op.specs.declared.step.ReadStep.TheVariants as read_step
 use Rattle.read_op.specs.Steps.{begun as read_begun}
 use Rattle.read_op.specs.GetPart.{outcome_of as get_outcome}
 use Rattle.write_op.specs.Steps.{begun as write_begun, end_at as write_end_at}
-use Rattle.write_op.specs.Refuse.{end_of as refusal_end}
 use Rattle.write_op.specs.Fits.{outcome_of as change_outcome}
+use Rattle.move_op.specs.Steps.{end_at as move_end_at}
+use Rattle.move_op.specs.Fits.{outcome_of as move_outcome}
+use Rattle.stash_op.specs.Steps.{end_at as stash_end_at}
+use Rattle.stash_op.specs.Fits.{outcome_of as stash_outcome}
+use Rattle.refuse_op.specs.Steps.{end_of as refusal_end}
+use Rattle.refuse_op.specs.Ends.{outcome_of as refusal_outcome}
 use Rattle.engine.specs.declared.engine.Op.{Op}
-use Rattle.engine.specs.declared.engine.Op.TheVariants.{Read, Write, Refuse}
+use Rattle.engine.specs.declared.engine.Op.TheVariants.{Read, Write, Move, Stash, Refuse}
 use Rattle.engine.specs.declared.engine.End.{End}
 use Rattle.engine.specs.declared.engine.End.TheVariants as ends
 use Rattle.engine.specs.declared.engine.Engine.{Engine}
@@ -46,7 +51,8 @@ begun site call = running (op_of site call)
 abbrev pub wanted : Engine → Want
 wanted e = op_part.wanted e.op
 
--- what an answer makes of it: an insert that found no slot goes on to its refusal
+-- what an answer makes of it: an insert that found no slot goes on to the move of a record, one that found none to move to the stash,
+-- and one that found that full too to its refusal
 abbrev pub taken : Engine → Ans → Engine
 taken e ans = running (op_part.taken e.op ans)
 
@@ -58,7 +64,9 @@ read_end_at step = read_end.Off
 abbrev pub end_of_op : Op → End
 end_of_op (Read op) = ends.Read (read_end_at op.step)
 end_of_op (Write op) = ends.Write (write_end_at op.stage.step)
-end_of_op (Refuse op) = ends.Write (refusal_end op)
+end_of_op (Move op) = ends.Move (move_end_at op.step)
+end_of_op (Stash op) = ends.Stash (stash_end_at op.stage.step)
+end_of_op (Refuse op) = ends.Refuse (refusal_end op)
 
 abbrev pub end_of : Engine → End
 end_of e = end_of_op e.op
@@ -67,6 +75,9 @@ end_of e = end_of_op e.op
 abbrev pub outcome_of_end : End → Option Outcome
 outcome_of_end (ends.Read end) = Some (get_outcome end)
 outcome_of_end (ends.Write end) = change_outcome end
+outcome_of_end (ends.Move end) = move_outcome end
+outcome_of_end (ends.Stash end) = stash_outcome end
+outcome_of_end (ends.Refuse end) = refusal_outcome end
 
 -- its reply, with its place
 abbrev pub reply_of_end : End → Option (Reply × ℕ)

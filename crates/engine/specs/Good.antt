@@ -31,7 +31,7 @@ pub record IsGood (shape : Shape) (start : Words) (opening : Map) (core : Core) 
   -- all replies are one legal history
   pub legal : IsLegal opening (histories core)
   pub media : MediaAreGood shape start opening core
-  -- each insert that was refused for want of room had 14 keys in the map at its place
+  -- each insert that was refused for want of room had 56 keys in the map at its place
   pub had_no_room : AllByRecursion (λ e. HadNoRoom shape (map_at opening (all_of (histories core)) e.place) e) (all_of (histories core))
   -- where a reply is that a number is spent, 2 ^ 63 changes are drawn, or some lock word has the last version
   pub spent : AllByRecursion (λ e. e.reply ≡ Spent → (2 ^ 63 ≤ draws (all_of (histories core))) ⊎ HasSpentLock shape core.words) (all_of (histories core))

@@ -77,7 +77,7 @@ world_of core views = record { words = core.words; trace = core.trace; views = f
 abbrev pub all_own : List View → List Entry
 all_own views = all_of (map (λ (v : View). v.own) views)
 
--- each insert that was refused for want of room had 14 keys in the map at its place, whatever map the core began with
+-- each insert that was refused for want of room had 56 keys in the map at its place, whatever map the core began with
 abbrev pub FullHad : Site → List View → Type 0
 FullHad site views = (opening : Map) → ((k : ℕ) → get opening k ≡ site.start k) → (j : ℕ) (v : View) (e : Entry) → At views j v → Has e v.own
     → HadNoRoom site.shape (map_at opening (all_own views) e.place) e

@@ -21,5 +21,4 @@ pub fn ends_have_causes()
     turns::opened_holds();
     turns::turn_keeps();
     restart_op::restart_begins();
-    write_op::whole_changes_are_parts();
 }

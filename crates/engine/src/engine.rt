@@ -2,13 +2,18 @@
 
 ghost use Rattle.std.specs.Prelude.{◌≡◌, ◌↔◌, IsTrue};
 ghost use Rattle.op_core.specs.declared.want.Want.TheVariants as want;
+ghost use Rattle.engine.specs.declared.engine.Op.TheVariants.{Move, Refuse};
+ghost use Rattle.engine.specs.OpPart.{move_of, refusal_of, op_after_move, handed_on};
 ghost use Rattle.engine.specs.Engine.{running, begun, wanted, taken, end_of, reply_of_end, is_again};
 
 use map_model::{Call, Reply};
+use move_op::{MoveEnd, MoveOp};
 use op_core::{Ans, Machine, Want};
 use read_op::{ReadEnd, ReadOp};
+use refuse_op::{RefuseEnd, RefuseOp};
+use stash_op::{StashEnd, StashOp};
 use world::Site;
-use write_op::{RefuseOp, WriteEnd, WriteOp};
+use write_op::{WriteEnd, WriteOp};
 
 /// The machines that an engine runs.
 #[derive(Clone, Copy)]
@@ -18,6 +23,10 @@ pub enum Op {
     /// An insert, an update or a remove.
     Write(WriteOp),
     /// An insert that found no slot.
+    Move(MoveOp),
+    /// An insert that found nothing to move.
+    Stash(StashOp),
+    /// An insert that found the stash full too.
     Refuse(RefuseOp),
 }
 
@@ -26,8 +35,14 @@ pub enum Op {
 pub enum End {
     /// Of a get.
     Read(ReadEnd),
-    /// Of a change, or of its refusal.
+    /// Of a change.
     Write(WriteEnd),
+    /// Of an insert for which a record was to move.
+    Move(MoveEnd),
+    /// Of an insert whose record was to come to the stash.
+    Stash(StashEnd),
+    /// Of a refusal.
+    Refuse(RefuseEnd),
 }
 
 impl End {
@@ -38,8 +53,11 @@ impl End {
         match self {
             End::Read(ReadEnd::Found(value, place)) => Some((Reply::Found(value), place)),
             End::Read(ReadEnd::Absent(place)) => Some((Reply::Absent, place)),
-            End::Write(WriteEnd::Replied(reply, place)) => Some((reply, place)),
-            End::Read(_) | End::Write(_) => None,
+            End::Write(WriteEnd::Replied(reply, place))
+            | End::Move(MoveEnd::Replied(reply, place))
+            | End::Stash(StashEnd::Replied(reply, place))
+            | End::Refuse(RefuseEnd::Replied(reply, place)) => Some((reply, place)),
+            End::Read(_) | End::Write(_) | End::Move(_) | End::Stash(_) | End::Refuse(_) => None,
         }
     }
 
@@ -50,8 +68,42 @@ impl End {
         match self {
             End::Read(end) => matches!(end, ReadEnd::Again(_)),
             End::Write(end) => matches!(end, WriteEnd::Again(_)),
+            End::Move(end) => matches!(end, MoveEnd::Again(_)),
+            End::Stash(end) => matches!(end, StashEnd::Again(_)),
+            End::Refuse(_) => false,
         }
     }
+}
+
+// The next three are calls of their own, since the room for another machine would else be got ready at each event.
+
+/// The move of a record, where an insert found no slot.
+#[inline(never)]
+fn moving(op: &WriteOp) -> Op
+    ensures { result ≡ Move (move_of op.now) }
+{
+    Op::Move(MoveOp::new(op.kept()))
+}
+
+/// The stash, where no record can move; and the refusal at once, where both stash buckets are held already, and full.
+#[inline(never)]
+fn stashing(op: &MoveOp) -> Op
+    ensures { result ≡ op_after_move op.now }
+{
+    let stash = StashOp::new(op.kept());
+    if stash.hands_on() {
+        refusing(&stash)
+    } else {
+        Op::Stash(stash)
+    }
+}
+
+/// The refusal of an insert, where the stash is full too.
+#[inline(never)]
+fn refusing(op: &StashOp) -> Op
+    ensures { result ≡ Refuse (refusal_of op.now) }
+{
+    Op::Refuse(RefuseOp::new(op.kept()))
 }
 
 /// An attempt of a call: it asks for one event of the memory at a time, and puts the parts of the call one after another.
@@ -85,7 +137,24 @@ impl Engine {
         match &self.op {
             Op::Read(op) => op.want(),
             Op::Write(op) => op.want(),
+            Op::Move(op) => op.want(),
+            Op::Stash(op) => op.want(),
             Op::Refuse(op) => op.want(),
+        }
+    }
+
+    // This too, since it makes room for a whole machine.
+
+    /// The machine that goes on from what this one kept takes its place.
+    #[inline(never)]
+    fn hand_on(&mut self)
+        ensures { self.new ≡ running (handed_on self.old.op) }
+    {
+        match &self.op {
+            Op::Write(op) => self.op = moving(op),
+            Op::Move(op) => self.op = stashing(op),
+            Op::Stash(op) => self.op = refusing(op),
+            Op::Read(_) | Op::Refuse(_) => {}
         }
     }
 
@@ -98,7 +167,19 @@ impl Engine {
             Op::Write(op) => {
                 op.take(ans);
                 if op.hands_on() {
-                    self.op = Op::Refuse(RefuseOp::new(op.kept()));
+                    self.hand_on();
+                }
+            }
+            Op::Move(op) => {
+                op.take(ans);
+                if op.hands_on() {
+                    self.hand_on();
+                }
+            }
+            Op::Stash(op) => {
+                op.take(ans);
+                if op.hands_on() {
+                    self.hand_on();
                 }
             }
             Op::Refuse(op) => op.take(ans),
@@ -112,6 +193,8 @@ impl Engine {
         match &self.op {
             Op::Read(op) => op.is_done(),
             Op::Write(op) => op.is_done(),
+            Op::Move(op) => op.is_done(),
+            Op::Stash(op) => op.is_done(),
             Op::Refuse(op) => op.is_done(),
         }
     }
@@ -124,7 +207,9 @@ impl Engine {
         match self.op {
             Op::Read(op) => End::Read(op.end()),
             Op::Write(op) => End::Write(op.end()),
-            Op::Refuse(op) => End::Write(op.end()),
+            Op::Move(op) => End::Move(op.end()),
+            Op::Stash(op) => End::Stash(op.end()),
+            Op::Refuse(op) => End::Refuse(op.end()),
         }
     }
 }

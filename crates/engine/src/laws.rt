@@ -4,6 +4,7 @@ ghost use Rattle.std.specs.Prelude.{◌≡◌, ◌≢◌, ℕ, ◌+◌, ◌<◌,
 ghost use Rattle.op_core.specs.declared.want.Want.TheVariants.{Flush, Fence, Done};
 ghost use Rattle.op_core.specs.declared.want.Ans.{Ans};
 ghost use Rattle.map_model.specs.declared.call.Call.{Call};
+ghost use Rattle.map_model.specs.declared.call.Call.TheVariants.{Get};
 ghost use Rattle.world.specs.declared.site.Site.{Site};
 ghost use Rattle.op_core.specs.Answers.{IsAnswer};
 ghost use Rattle.engine.specs.declared.engine.Engine.{Engine};
@@ -14,24 +15,32 @@ ghost use Rattle.part.specs.Outcomes.{finished};
 ghost use Rattle.part.specs.Part.{IsPart};
 ghost use Rattle.part.specs.Causes.{EndsByCause};
 ghost use Rattle.engine.specs.OpPart.{op_part};
-ghost use Rattle.engine.specs.Causes.{EndsAreDecided};
+ghost use Rattle.engine.specs.Causes.{BeginsBare, EndsAreDecided};
 ghost use Rattle.engine.specs.Fits.{IsServed, BeginsSuited, KeepsSuits};
 ghost use Rattle.engine.specs.Left.{most_events, left, waiting};
 ghost use Rattle.engine.specs.Pairs.{LeavesOrMakes, BeginsUnmade, StaysMade, EndsAsDone, TurnLeavesOrMakes};
 ghost use Rattle.engine.specs.Asks.{AsksWithin, AsksWords, KeepsNotes};
 
-/// The machines of a call are one part, a get or a change that goes on to its refusal, and each of its outcomes has its cause, in what
-/// its attempt did. None is that it has finished; and where nothing more is wanted, the end is what was decided.
+/// The machines of a call are one part, a get or a change that goes on to the move of a record, to the stash and to its refusal, and
+/// each of its outcomes has its cause, in what its attempt did. None is that it has finished. An attempt begins holding nothing; and
+/// where nothing more is wanted, the end is what was decided.
 pub fn calls_are_parts()
     ensures part { IsPart op_part }
     ensures causes { EndsByCause op_part }
     ensures remembers { (site : Image) (here : Site) (call : Call) → IsServed site → op_part.Remembers site (begun here call).op nothing_done }
+    ensures bare { BeginsBare }
     ensures finished { (e : Engine) → op_part.outcome e.op ≡ Some finished → ⊥ }
     ensures ends { EndsAreDecided }
 {
     read_op::gets_are_parts();
+    write_op::changes_are_parts();
     write_op::ends_tell();
-    write_op::whole_changes_are_parts();
+    move_op::moves_are_parts();
+    move_op::ends_tell();
+    stash_op::stashes_are_parts();
+    stash_op::ends_tell();
+    refuse_op::refusals_are_parts();
+    refuse_op::ends_tell();
 }
 
 /// An engine fits the world of many callers: at the beginning of a call it suits the view of a caller that holds, knows and owes
@@ -43,7 +52,7 @@ pub fn fits_the_world()
 {
     world::steps_add_one_reply();
     read_op::gets_are_parts();
-    write_op::whole_changes_are_parts();
+    write_op::changes_are_parts();
     calls_are_parts();
 }
 
@@ -54,11 +63,15 @@ pub fn asks_within()
     calls_are_parts();
 }
 
-/// An attempt ends: each answer of the kind that was asked for leaves fewer events, of at most `most_events`.
+/// An attempt ends: each answer of the kind that was asked for leaves fewer events, of at most `most_events`. So one of a change asks
+/// for at most 700 events, and one of a get for at most 150.
 pub fn attempts_end()
     ensures falls { (e : Engine) (ans : Ans) → IsAnswer (wanted e) ans → left (taken e ans) < left e }
     ensures most { (e : Engine) → left e ≤ most_events }
+    ensures few { most_events ≤ 700 }
+    ensures few_of_get { (site : Site) (key : ℕ) → left (begun site (Get key)) ≤ 150 }
 {
+    read_op::gets_are_parts();
     calls_are_parts();
 }
 

@@ -1,7 +1,7 @@
 -- Where the next event of a caller decides the outcome of its attempt, the cause is there.
-use Rattle.std.proofs.Common.{◌≡◌, ℕ, suc, ◌+◌, ◌%◌, ◌^◌, ◌<◌, ◌⊎◌, inl, inr, Bool, true, false, cond, Some, List, ◌∷◌, length, slice_get, slice_index, refl, sym, ◌∙◌, ap, subst, arith}
+use Rattle.std.proofs.Common.{◌≡◌, ℕ, suc, ◌+◌, ◌%◌, ◌^◌, ◌<◌, inl, inr, true, false, cond, Some, List, ◌∷◌, length, slice_get, slice_index, refl, sym, ◌∙◌, ap, subst, arith}
 use Rattle.std.specs.Prelude.{nat_lt, ◌==◌, ◌||◌}
-use Rattle.std.proofs.lemmas.Bool.{cases_lt, lt-ltb, le-ltb, eqb-true, false≢true}
+use Rattle.std.proofs.lemmas.Bool.{cases_lt, lt-ltb, le-ltb, eqb-true, false≢true, or_cases}
 use Rattle.std.proofs.lemmas.Option.{same_Some}
 use mathlib.Core.Option.{some-injective}
 use Rattle.op_core.specs.declared.want.Want.{Want}
@@ -41,12 +41,8 @@ use Rattle.engine.proofs.attempts.Doing.{watching, RemembersNothing, IsDoing, ru
 
 -- ---- no segment is stale to a caller that has the image's version
 -- the test of a live segment says that it is one
-one_of : (a b : Bool) → (a || b) ≡ true → (a ≡ true) ⊎ (b ≡ true)
-one_of true b e = inl refl
-one_of false b e = inr e
-
 live_state : (head : ℕ) → is_live head ≡ true → HasLiveState head
-live_state head live = elim (one_of (state_in head == normal) (state_in head == splitting) live) [
+live_state head live = elim (or_cases (state_in head == normal) (state_in head == splitting) live) [
   | inl e ↦ inl (eqb-true (state_in head) normal e)
   | inr e ↦ inr (eqb-true (state_in head) splitting e)
 ]

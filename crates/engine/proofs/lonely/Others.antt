@@ -1,10 +1,10 @@
 -- Who finds a lock taken is told so by another caller's, that is in the midst of an attempt.
-use Rattle.std.proofs.Common.{◌≡◌, ◌≢◌, ℕ, zero, suc, ◌%◌, ◌<◌, inl, inr, Some, List, [], ◌∷◌, length, slice_get, slice_index, sym, ◌∙◌, ap, subst, arith}
+use Rattle.std.proofs.Common.{◌≡◌, ◌≢◌, ℕ, zero, suc, ◌%◌, inl, inr, Some, List, [], ◌∷◌, length, slice_get, slice_index, sym, ◌∙◌, ap, subst}
 use Rattle.std.proofs.lemmas.Bool.{cases_eq}
 use mathlib.Core.Option.{some-injective}
 use Rattle.op_core.specs.declared.why.Why.TheVariants.{Busy}
 use Rattle.trace.specs.Events.{Words}
-use Rattle.image_layout.specs.Places.{Shape, IsShape, buckets}
+use Rattle.image_layout.specs.Places.{Shape, IsShape}
 use Rattle.sound_image.specs.Records.{key_hash}
 use Rattle.map_model.specs.declared.call.Call.{Call}
 use Rattle.world.specs.Site.{Site, IsLockWord}
@@ -15,36 +15,30 @@ use Rattle.map_model.specs.Map.{key_of}
 use Rattle.engine.specs.declared.engine.Engine.{Engine}
 use Rattle.part.specs.Doings.{Doings}
 use Rattle.part.specs.Outcomes.{again}
-use Rattle.part.specs.Causes.{IsBucketOf, IsOwnLock, IsTaken}
-use Rattle.write_op.specs.WholeChange.{WholeBeginsBare}
+use Rattle.part.specs.Causes.{IsOwnLock, IsTaken}
+use Rattle.part.proofs.Still.{bucket_near}
 use Rattle.engine.specs.Engine.{begun}
 use Rattle.engine.specs.Core.{Caller, current}
 use Rattle.engine.specs.Holding.{IsCalling, DoesCall, CallerFits, CoreHolds, TurnKeeps}
 use Rattle.engine.specs.Laws.{IsServedImage, OpenedHolds, AreScripts}
-use Rattle.engine.specs.Causes.{Watched, Decides, EndsHaveCauses}
+use Rattle.engine.specs.Causes.{Watched, BeginsBare, Decides, EndsHaveCauses}
 use Rattle.engine.specs.Alone.{IsBetween, along, IsOthers, BusyIsOthers}
 use Rattle.engine.proofs.sessions.Goodness.{caller_at}
-use Rattle.engine.proofs.machines.Begins.{begins_bare}
 use Rattle.engine.proofs.attempts.Deciding.{CallCauses, holds_there, not_own_there}
 
 -- ---- a caller between two attempts holds nothing
-between_holds : WholeBeginsBare → (site : Site) (c : Caller) (v : View) → CallerFits site c v → IsBetween c → v.held ≡ []
+between_holds : BeginsBare → (site : Site) (c : Caller) (v : View) → CallerFits site c v → IsBetween c → v.held ≡ []
 between_holds bare site c v fits (inl none) = (subst (λ o. DoesCall site c o v) none fits.does).nothing.held
 between_holds bare site c v fits (inr p) =
     let calling : IsCalling site c (begun c.site p.0) v = subst (λ o. DoesCall site c o v) p.1 fits.does in
-    begins_bare bare site c.site calling.call p.0 v calling.suits.suits.stands
+    bare site c.site calling.call p.0 v calling.suits.suits.stands
 
 -- ---- the locks of a call
-near : (hash b : ℕ) → IsBucketOf hash b → b < buckets
-near hash b (inl home) = subst (λ n. n < buckets) (sym home) (omega arith)
-near hash b (inr (inl probing)) = subst (λ n. n < buckets) (sym probing) (omega arith)
-near hash b (inr (inr stash)) = stash.1
-
 own_is_lock : (shape : Shape) (words : Words) (did : Doings) (call : Call) (word : ℕ) → IsOwnLock shape words did call word → IsLockWord shape word
-own_is_lock shape words did call word (segment, named, within, b, is, at) = (segment, b, within, near (key_hash shape (key_of call)) b is, at)
+own_is_lock shape words did call word (segment, named, within, b, is, at) = (segment, b, within, bucket_near call (key_hash shape (key_of call)) b is, at)
 
 -- ---- after any turns
-module _ (laws : CallCauses) (bare : WholeBeginsBare) (opens : OpenedHolds) (keeps : TurnKeeps) (started : EndsStarted) (causes : EndsHaveCauses)
+module _ (laws : CallCauses) (bare : BeginsBare) (opens : OpenedHolds) (keeps : TurnKeeps) (started : EndsStarted) (causes : EndsHaveCauses)
     (shape : Shape) (words : List ℕ) (image : IsServedImage shape words) (scripts : List (List Call)) (are : AreScripts scripts) (turns : List ℕ) where
   abbrev w : Watched
   w = along shape words scripts turns
@@ -84,6 +78,6 @@ module _ (laws : CallCauses) (bare : WholeBeginsBare) (opens : OpenedHolds) (kee
           | inr other ↦ other_seat k v at has other
         ]
 
-pub busy_others : CallCauses → WholeBeginsBare → OpenedHolds → TurnKeeps → EndsStarted → EndsHaveCauses → BusyIsOthers
+pub busy_others : CallCauses → BeginsBare → OpenedHolds → TurnKeeps → EndsStarted → EndsHaveCauses → BusyIsOthers
 busy_others laws bare opens keeps started causes shape words image scripts are turns j c call e word value there calls runs decides =
     busy_is_others laws bare opens keeps started causes shape words image scripts are turns j c call e there calls runs word value decides

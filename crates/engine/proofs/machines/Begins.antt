@@ -13,19 +13,22 @@ use Rattle.world.specs.Attempts.{HoldsOnly}
 use Rattle.part.specs.Doings.{nothing_done}
 use Rattle.part.specs.Outcomes.{finished}
 use Rattle.read_op.specs.GetPart.{outcome_in as get_outcome_in, BeginsAsPart as GetBegins, BeginsRemembering as GetRemembers, EndsAsSaid as GetSays, NeverFinished as GetFinished}
-use Rattle.part.specs.Then.{first, second}
 use Rattle.write_op.specs.Search.{brought}
 use Rattle.write_op.specs.Steps.{begun as write_begun}
-use Rattle.write_op.specs.WholeChange.{WholeBeginsAsPart as ChangeBegins, WholeBeginsRemembering as ChangeRemembers, WholeBeginsBare, WholeNeverFinished as ChangeFinished}
-use Rattle.write_op.specs.Ends.{EndsAsSaid as ChangeSays, RefusalEndsAsSaid as RefusalSays}
+use Rattle.write_op.specs.ChangePart.{BeginsAsPart as ChangeBegins, BeginsRemembering as ChangeRemembers, BeginsBare as ChangeBare, NeverFinished as ChangeFinished}
+use Rattle.write_op.specs.Ends.{EndsAsSaid as ChangeSays}
+use Rattle.move_op.specs.MovePart.{MoveNeverFinished as MoveFinished, MoveEndsAsSaid as MoveSays}
+use Rattle.stash_op.specs.StashPart.{NeverFinished as StashFinished}
+use Rattle.stash_op.specs.Ends.{EndsAsSaid as StashSays}
+use Rattle.refuse_op.specs.RefusePart.{NeverFinished as RefusalFinished}
+use Rattle.refuse_op.specs.Ends.{EndsAsSaid as RefusalSays}
 use Rattle.engine.specs.declared.engine.Op.{Op}
-use Rattle.engine.specs.declared.engine.Op.TheVariants.{Read, Write, Refuse}
-use Rattle.engine.specs.declared.engine.Engine.{Engine}
+use Rattle.engine.specs.declared.engine.Op.TheVariants.{Read, Write, Move, Stash, Refuse}
 use Rattle.engine.specs.Engine.{running, begun, read_end_at, end_of_op, outcome_of_end}
 use Rattle.engine.specs.OpPart.{op_part}
 use Rattle.engine.specs.Left.{waiting}
 use Rattle.engine.specs.Pairs.{BeginsUnmade}
-use Rattle.engine.specs.Causes.{BeginsUndecided, EndsAreDecided}
+use Rattle.engine.specs.Causes.{BeginsBare, BeginsUndecided, EndsAreDecided}
 use Rattle.engine.proofs.holding.Served.{straight, unsplit}
 use Rattle.engine.specs.Fits.{IsServed, Suits, BeginsSuited}
 
@@ -34,7 +37,11 @@ change_suits : ChangeBegins → (site : Site) (here : Here) (change : Change) (v
     → HoldsOnly [] v → 0 < v.callers → Suits site here (call_of change) (running (Write (write_begun change here))) v v
 change_suits begins site here change v good served same key value holds some = record {
   asks = λ e. absurd (cc);
-  suits = record { stands = begins site here change v good (straight site served) served.one same key value holds; enters = record { own = refl; seen = refl }; callers = some };
+  suits = record {
+    stands = record { stands = record { stands = begins site here change v good (straight site served) same key value holds; passes = served.one }; closed = refl };
+    enters = record { own = refl; seen = refl };
+    callers = some;
+  };
 }
 
 pub begins_suited : GetBegins → ChangeBegins → BeginsSuited
@@ -72,26 +79,27 @@ begins_remembering get change site here (Update key value) served = change site 
 begins_remembering get change site here (Remove key) served = change site here (record { key = key; deed = deed.Remove }) (unsplit site served)
 
 -- who is at the beginning of an attempt holds nothing
-pub begins_bare : WholeBeginsBare → (site : Site) (here : Here) (call other : Call) (v : View) → op_part.Stands site here call (begun here other).op v → v.held ≡ []
+pub begins_bare : ChangeBare → BeginsBare
 begins_bare change site here call (Get key) v s = s.nothing.held
-begins_bare change site here call (Insert key value) v s = change site here call (record { key = key; deed = deed.Insert value }) v s
-begins_bare change site here call (Update key value) v s = change site here call (record { key = key; deed = deed.Update value }) v s
-begins_bare change site here call (Remove key) v s = change site here call (record { key = key; deed = deed.Remove }) v s
+begins_bare change site here call (Insert key value) v s = change site here call (record { key = key; deed = deed.Insert value }) v s.stands.stands
+begins_bare change site here call (Update key value) v s = change site here call (record { key = key; deed = deed.Update value }) v s.stands.stands
+begins_bare change site here call (Remove key) v s = change site here call (record { key = key; deed = deed.Remove }) v s.stands.stands
 
 -- no machine of a call ends but with a reply, or to be made again, stale or off
-op_finished : GetFinished → ChangeFinished → (op : Op) → op_part.outcome op ≡ Some finished → ⊥
-op_finished get change (Read op) some = get op some
-op_finished get change (Write op) some = change (first op) some
-op_finished get change (Refuse op) some = change (second op) some
-
-pub never_finished : GetFinished → ChangeFinished → (e : Engine) → op_part.outcome e.op ≡ Some finished → ⊥
-never_finished get change e some = op_finished get change e.op some
+pub never_finished : GetFinished → ChangeFinished → MoveFinished → StashFinished → RefusalFinished → (op : Op) → op_part.outcome op ≡ Some finished → ⊥
+never_finished get change move stash refusal (Read op) some = get op some
+never_finished get change move stash refusal (Write op) some = change op some
+never_finished get change move stash refusal (Move op) some = move op some
+never_finished get change move stash refusal (Stash op) some = stash op some
+never_finished get change move stash refusal (Refuse op) some = refusal op some
 
 -- at its end a machine tells its outcome
-op_says : GetSays → ChangeSays → RefusalSays → (op : Op) → op_part.wanted op ≡ want.Done → op_part.outcome op ≡ outcome_of_end (end_of_op op)
-op_says get change refusal (Read op) done = subst (λ s. get_outcome_in s ≡ Some (Rattle.read_op.specs.GetPart.outcome_of (read_end_at s))) (sym (get op done).1) refl
-op_says get change refusal (Write op) done = change op done
-op_says get change refusal (Refuse op) done = refusal op done
+op_says : GetSays → ChangeSays → MoveSays → StashSays → RefusalSays → (op : Op) → op_part.wanted op ≡ want.Done → op_part.outcome op ≡ outcome_of_end (end_of_op op)
+op_says get change move stash refusal (Read op) done = subst (λ s. get_outcome_in s ≡ Some (Rattle.read_op.specs.GetPart.outcome_of (read_end_at s))) (sym (get op done).1) refl
+op_says get change move stash refusal (Write op) done = change op done
+op_says get change move stash refusal (Move op) done = move op done
+op_says get change move stash refusal (Stash op) done = stash op done
+op_says get change move stash refusal (Refuse op) done = refusal op done
 
-pub ends_are_decided : GetSays → ChangeSays → RefusalSays → EndsAreDecided
-ends_are_decided get change refusal e done = op_says get change refusal e.op done
+pub ends_are_decided : GetSays → ChangeSays → MoveSays → StashSays → RefusalSays → EndsAreDecided
+ends_are_decided get change move stash refusal e done = op_says get change move stash refusal e.op done

@@ -6,10 +6,11 @@ use Rattle.bucket_words.specs.Hits.{find}
 use Rattle.world.specs.Site.{Site}
 use Rattle.world.specs.Views.{View, At}
 use Rattle.world.specs.Wants.{words_after}
-use Rattle.world.specs.Kinds.{Kind, publishes, stashes}
+use Rattle.world.specs.Kinds.{Kind}
 use Rattle.world.specs.World.{fresh_view}
-use Rattle.world.specs.Pairs.{IsPublishingKind, OtherStepsKeepPairs}
+use Rattle.world.specs.Pairs.{OtherStepsKeepPairs}
 use Rattle.part.specs.Part.{IsPart}
+use Rattle.part.proofs.Turning.{publishing_or_not}
 use Rattle.engine.specs.declared.engine.Engine.{Engine}
 use Rattle.engine.specs.Engine.{kind_of}
 use Rattle.engine.specs.OpPart.{op_part}
@@ -18,12 +19,6 @@ use Rattle.engine.specs.Core.{Caller, Core, current, turn_of_call, turn_of_calle
 use Rattle.engine.specs.Holding.{IsCalling, DoesCall, CallerFits, CoreHolds}
 use Rattle.engine.specs.Pairs.{LeavesOrMakes, MakesAt, TurnLeavesOrMakes}
 use Rattle.engine.proofs.Places.{zip_at}
-
--- a step makes a change or does not
-publishing_or_not : (kind : Kind) → IsPublishingKind kind ⊎ (IsPublishingKind kind → ⊥)
-publishing_or_not (publishes i x call) = inl tt
-publishing_or_not (stashes i x call o) = inl tt
-publishing_or_not kind = inr (λ f. f)
 
 pub leaves_or_makes : IsPart op_part → OtherStepsKeepPairs → LeavesOrMakes
 leaves_or_makes part others site here call e words views j before v number h at s =
