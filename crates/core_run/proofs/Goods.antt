@@ -14,7 +14,7 @@ use Rattle.session.specs.Callers.{history_of, undrawn}
 use Rattle.restart_op.specs.declared.restart.RestartOp.{RestartOp}
 use Rattle.restart_op.specs.declared.close.CloseOp.{CloseOp}
 use Rattle.restart_op.specs.Restarted.{restarted, RestartKeeps, KeepsPairs}
-use Rattle.restart_op.specs.Closing.{close_after, IsQuiet, IsKept, CloseKeeps}
+use Rattle.restart_op.specs.Closing.{close_after, IsQuiet, IsKept, CloseKeeps, ChangesStateAlone}
 use Rattle.engine.specs.Core.{Core, told_of, tolds_of, histories}
 use Rattle.engine.specs.Good.{IsGood}
 use Rattle.engine.specs.Holding.{world_of, HoldingIsGood}
@@ -77,7 +77,7 @@ module _ (quiet : ThroughIsQuiet) (maps : ThroughHasMap) (pairs : KeepsPairs) (c
 
 -- ---- at any time
 module _ (good : HoldingIsGood) (quiet : ThroughIsQuiet) (maps : ThroughHasMap) (restarts : RestartKeeps) (pairs : KeepsPairs) (cuts : CloseKeeps)
-    (t : Task) (is : IsTask t) (opening : Map) (has : HasPairsOf t.shape (start_of t) opening) where
+    (others : ChangesStateAlone) (t : Task) (is : IsTask t) (opening : Map) (has : HasPairsOf t.shape (start_of t) opening) where
   -- by the core alone
   abbrev IsGoodCore : Core → Type 0
   IsGoodCore core = IsGoodMoment t opening (record { keeper = Open; core = core })
@@ -123,7 +123,7 @@ module _ (good : HoldingIsGood) (quiet : ThroughIsQuiet) (maps : ThroughHasMap) 
   closing_good op core r = subst IsGoodCore (sym (same_close t op core r)) (record {
     legal = (open_is_good r.before r.was_open).legal;
     had_no_room = (open_is_good r.before r.was_open).had_no_room;
-    spent = were_spent t.shape r.before.words r.before.trace r.events (entries_of r.before) (open_is_good r.before r.was_open).spent;
+    spent = were_spent others t.shape r.before.words r.before.trace r.events (entries_of r.before) (open_is_good r.before r.was_open).spent;
     media = λ medium whole possible.
         let kept = kept_at quiet maps pairs cuts t is opening has r.before r.was_open r.run_out r.events medium whole possible in
         record {
@@ -142,5 +142,5 @@ module _ (good : HoldingIsGood) (quiet : ThroughIsQuiet) (maps : ThroughHasMap) 
   good_moment : (s : State) → IsRunningBy t s.keeper s.core → IsGoodMoment t opening s
   good_moment s r = let g = good_core s.keeper s.core r in record { legal = g.legal; media = g.media; had_no_room = g.had_no_room; spent = g.spent }
 
-pub moments_are_good : HoldingIsGood → ThroughIsQuiet → ThroughHasMap → RestartKeeps → KeepsPairs → CloseKeeps → MomentsAreGood
-moments_are_good good quiet maps restarts pairs cuts t s opening is run has = good_moment good quiet maps restarts pairs cuts t is opening has s run
+pub moments_are_good : HoldingIsGood → ThroughIsQuiet → ThroughHasMap → RestartKeeps → KeepsPairs → CloseKeeps → ChangesStateAlone → MomentsAreGood
+moments_are_good good quiet maps restarts pairs cuts others t s opening is run has = good_moment good quiet maps restarts pairs cuts others t is opening has s run

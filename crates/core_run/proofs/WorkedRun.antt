@@ -96,7 +96,7 @@ pub probing_all : after_line (Step 1 11) (standing 62 (loading Probing 20)) ≡ 
 probing_all = refl
 
 pub counted : after_line (Step 1 1) (standing 73 Count) ≡ before_change
-unfolding slot_with slot_free
+unfolding slot_with slot_free lib.Count.ones
 counted = refl
 
 pub closing : ClosesAfter 85 (after_line Close before_change)

@@ -112,7 +112,7 @@ caller_at written step = record {
                   path = record { root = 0; segment = 0; head = 257 };
                   first = false;
                   second = false;
-                  held = record { home = Some 0; probing = Some 0; first = None; second = None };
+                  held = record { home = Some 0; probing = Some 0; first = None; second = None; next = None; previous = None };
                   buckets = no_words;
                   place = Home;
                   written = written;

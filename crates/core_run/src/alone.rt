@@ -33,6 +33,7 @@ pub fn runs_stay_well()
 {
     engine::never_again_alone();
     engine::attempts_end();
+    restart_op::restart_ends();
     restart_op::close_ends();
     states::deeds_are_well();
     states::close_may_begin();
@@ -52,6 +53,7 @@ pub fn calls_run_out()
 {
     engine::never_again_alone();
     engine::attempts_end();
+    restart_op::restart_ends();
     restart_op::close_ends();
     states::deeds_are_well();
     states::close_may_begin();
@@ -64,6 +66,7 @@ pub fn drives_are_enough()
 {
     engine::never_again_alone();
     engine::attempts_end();
+    restart_op::restart_ends();
     restart_op::close_ends();
     states::deeds_are_well();
     states::close_may_begin();
@@ -76,6 +79,7 @@ pub fn runs_are_well()
 {
     engine::never_again_alone();
     engine::attempts_end();
+    restart_op::restart_ends();
     restart_op::close_ends();
     states::run_begins();
     states::deeds_are_well();

@@ -25,7 +25,7 @@ pub fn close_may_begin()
 {}
 
 /// At any moment the replies so far are one legal history, and whatever a power cut may leave is a sound image of the same shape
-/// with that history's map, each open call whole or absent; and each refusal had its cause, a full home bucket or a number that
+/// with that history's map, each open call whole or absent; and each refusal had its cause, full buckets or a number that
 /// is spent.
 pub fn moments_are_good()
     ensures { MomentsAreGood }

@@ -57,7 +57,7 @@ fn limit_words(word: &[u8]) -> &'static str {
             "it was left by a power cut, which check and list take, but this version cannot play yet, and a later one will: until then insert the pairs that list prints into a new image"
         }
         _ => {
-            "it has a record outside its home bucket, or a segment that is split or to be repaired, which this version cannot take yet, and a later one will: until then use another image"
+            "it has a segment that is split, free or to be repaired, which this version cannot take yet, and a later one will: until then use another image"
         }
     }
 }

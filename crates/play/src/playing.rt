@@ -30,7 +30,7 @@ use world::Site;
 const CALLERS: u8 = 64;
 
 /// For each call the events that an attempt makes at most, and one.
-const EVENTS_OF_CALL: u64 = 162;
+const EVENTS_OF_CALL: u64 = 344;
 
 /// The choice of the power cut with which a script ends, if it does.
 fn cut_of(lines: &[Line]) -> Option<u64>

@@ -13,7 +13,7 @@ use Rattle.script_text.specs.declared.line.Line.TheVariants as line
 use Rattle.part.specs.Outcomes.{Outcome, replied}
 use Rattle.restart_op.specs.declared.restart.RestartOp.{RestartOp}
 use Rattle.restart_op.specs.Close.{begun as close_begun}
-use Rattle.restart_op.specs.Closing.{left as close_left, events_of, Falls as CloseFalls}
+use Rattle.restart_op.specs.Closing.{left as close_left, events_of}
 use Rattle.engine.specs.declared.engine.Engine.{Engine}
 use Rattle.engine.specs.declared.engine.End.{End}
 use Rattle.engine.specs.Engine.{outcome_of_end, reply_of_end, says_again}
@@ -34,7 +34,7 @@ use Rattle.core_run.specs.Ends.{IsRun, most_of, HasAnswered, HasRunOut, IsShut, 
 use Rattle.core_run.proofs.ends.Choices.{either, so, not_so}
 use Rattle.core_run.proofs.ends.Working.{EngineLaws}
 use Rattle.core_run.proofs.ends.Staying.{IsOfOne, of_one, one_left}
-use Rattle.core_run.proofs.ends.Measures.{left_for, deed_less, left_low, behind_low, stays_shut, IsEarly, stays_early}
+use Rattle.core_run.proofs.ends.Measures.{KeeperLaws, left_for, deed_less, left_low, behind_low, stays_shut, IsEarly, stays_early}
 
 -- ---- ends with a reply
 again_no : (o : Option Outcome) → EndsCall o → says_again o ≡ false
@@ -83,7 +83,7 @@ pub drive_none : (shape : Shape) (m c : ℕ) (goal : Goal) (s : State) → drive
 drive_none shape zero c goal s = refl
 drive_none shape (suc m) c goal s = refl
 
-module _ (wells : DeedsAreWell) (stays : AloneStays) (replies : AloneReplies) (laws : EngineLaws) (falls : CloseFalls)
+module _ (wells : DeedsAreWell) (stays : AloneStays) (replies : AloneReplies) (laws : EngineLaws) (keepers : KeeperLaws)
     (close_may : CloseMayBegin) (close_low : (shape : Shape) → IsShape shape → close_left (close_begun shape) ≡ events_of shape) (t : Task) (is : IsForOne t) where
   -- ---- one event
   after : (c : ℕ) (s : State) (d : Deed) → IsRun t s → deed t.shape c s ≡ Some d → IsRun t d.state
@@ -93,10 +93,10 @@ module _ (wells : DeedsAreWell) (stays : AloneStays) (replies : AloneReplies) (l
   told c s d r e end ends = replies t c s d end is r.running r.alone e ends
 
   fewer : (c : ℕ) (s : State) (d : Deed) → IsRun t s → deed t.shape c s ≡ Some d → left_for c d.state < left_for c s
-  fewer c s d r e = deed_less laws falls t is c s d r e
+  fewer c s d r e = deed_less laws keepers t is c s d r e
 
   low : (c : ℕ) (s : State) → IsRun t s → left_for c s ≤ most_of t
-  low c s r = left_low laws falls t is c s r
+  low c s r = left_low laws keepers t is c s r
 
   -- ---- a drive
   pub drive_stays : (m c : ℕ) (goal : Goal) (n : ℕ) (s : State) → IsRun t s → IsRun t (drive t.shape m c goal n s)
@@ -313,7 +313,7 @@ module _ (wells : DeedsAreWell) (stays : AloneStays) (replies : AloneReplies) (l
     -- ---- the close
     begins_stays : (k : Keeper) (s : State) → s.keeper ≡ k → IsRun t s → IsRun t (close_begins t.shape most k s)
     begins_stays Open s here r =
-        let few = behind_low laws falls t is s.core (is_open s here r) in
+        let few = behind_low laws keepers t is s.core (is_open s here r) in
         let end = rounds_end most s r here (omega (arith, few, enough)) in
         let at_end : State = rounds t.shape most most s in
         let good = close_low t.shape is.task.served.playable.sound.in_range in
@@ -372,7 +372,7 @@ module _ (wells : DeedsAreWell) (stays : AloneStays) (replies : AloneReplies) (l
   drives_are_enough most c goal n s enough r = let l = low c s r in same_drive most (most_of t) c goal n s r (omega (arith, l, enough)) l
 
   pub rounds_are_enough : (s : State) → IsRun t s → s.keeper ≡ Open → all_behind s.core.callers ≤ most_of t
-  rounds_are_enough s r here = behind_low laws falls t is s.core (is_open s here r)
+  rounds_are_enough s r here = behind_low laws keepers t is s.core (is_open s here r)
 
   -- ---- the run
   pub run_is_well : RunBegins → BeginsAlone → (lines : List Line) → IsWellRun t lines

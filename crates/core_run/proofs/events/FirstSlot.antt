@@ -1,5 +1,5 @@
 -- The one slot for a segment is not free.
-use Rattle.std.proofs.Common.{◌≡◌, sym, ◌∙◌, inl, inr, arith}
+use Rattle.std.proofs.Common.{sym, ◌∙◌, inl, inr, arith}
 use Rattle.core_run.specs.States.{NoSlotIsFree}
 use Rattle.core_run.proofs.Opening.{is_live}
 

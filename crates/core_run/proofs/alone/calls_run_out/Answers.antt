@@ -3,22 +3,22 @@ use Rattle.core_run.proofs.ends.Driving.{restart_ends, restart_opens, call_ends,
 use Rattle.core_run.proofs.alone.calls_run_out.Goals as goal
 
 pub returns-clause-restart : goal.returns-clause-restart
-returns-clause-restart c t most s is enough r op = restart_ends c.deeds_are_well.ensures c.alone_stays.ensures.stays c.alone_stays.ensures.replies (record { never = c.never_again_alone.ensures.never; told = c.never_again_alone.ensures.told; own = c.never_again_alone.ensures.stays; tell = c.never_again_alone.ensures.tell; start = c.never_again_alone.ensures.start; start_alone = c.never_again_alone.ensures.start_alone; rests = c.never_again_alone.ensures.rests; ended = c.never_again_alone.ensures.ended; others = c.never_again_alone.ensures.others; less = c.attempts_end.ensures.falls; low = c.attempts_end.ensures.most }) c.close_ends.ensures.falls c.close_may_begin.ensures c.close_ends.ensures.most t is most s enough r op
+returns-clause-restart c t most s is enough r op = restart_ends c.deeds_are_well.ensures c.alone_stays.ensures.stays c.alone_stays.ensures.replies (record { never = c.never_again_alone.ensures.never; told = c.never_again_alone.ensures.told; own = c.never_again_alone.ensures.stays; tell = c.never_again_alone.ensures.tell; start = c.never_again_alone.ensures.start; start_alone = c.never_again_alone.ensures.start_alone; rests = c.never_again_alone.ensures.rests; ended = c.never_again_alone.ensures.ended; others = c.never_again_alone.ensures.others; less = c.attempts_end.ensures.falls; low = c.attempts_end.ensures.most }) (record { four = c.restart_ends.ensures.four; restart = c.restart_ends.ensures.falls; none = c.restart_ends.ensures.none; close = c.close_ends.ensures.falls }) c.close_may_begin.ensures c.close_ends.ensures.most t is most s enough r op
 
 pub returns-clause-opens : goal.returns-clause-opens
-returns-clause-opens c t most s op is enough r here = restart_opens c.deeds_are_well.ensures c.alone_stays.ensures.stays c.alone_stays.ensures.replies (record { never = c.never_again_alone.ensures.never; told = c.never_again_alone.ensures.told; own = c.never_again_alone.ensures.stays; tell = c.never_again_alone.ensures.tell; start = c.never_again_alone.ensures.start; start_alone = c.never_again_alone.ensures.start_alone; rests = c.never_again_alone.ensures.rests; ended = c.never_again_alone.ensures.ended; others = c.never_again_alone.ensures.others; less = c.attempts_end.ensures.falls; low = c.attempts_end.ensures.most }) c.close_ends.ensures.falls c.close_may_begin.ensures c.close_ends.ensures.most t is most s op enough r here
+returns-clause-opens c t most s op is enough r here = restart_opens c.deeds_are_well.ensures c.alone_stays.ensures.stays c.alone_stays.ensures.replies (record { never = c.never_again_alone.ensures.never; told = c.never_again_alone.ensures.told; own = c.never_again_alone.ensures.stays; tell = c.never_again_alone.ensures.tell; start = c.never_again_alone.ensures.start; start_alone = c.never_again_alone.ensures.start_alone; rests = c.never_again_alone.ensures.rests; ended = c.never_again_alone.ensures.ended; others = c.never_again_alone.ensures.others; less = c.attempts_end.ensures.falls; low = c.attempts_end.ensures.most }) (record { four = c.restart_ends.ensures.four; restart = c.restart_ends.ensures.falls; none = c.restart_ends.ensures.none; close = c.close_ends.ensures.falls }) c.close_may_begin.ensures c.close_ends.ensures.most t is most s op enough r here
 
 pub returns-clause-call : goal.returns-clause-call
-returns-clause-call c t most s is enough r here more = call_ends c.deeds_are_well.ensures c.alone_stays.ensures.stays c.alone_stays.ensures.replies (record { never = c.never_again_alone.ensures.never; told = c.never_again_alone.ensures.told; own = c.never_again_alone.ensures.stays; tell = c.never_again_alone.ensures.tell; start = c.never_again_alone.ensures.start; start_alone = c.never_again_alone.ensures.start_alone; rests = c.never_again_alone.ensures.rests; ended = c.never_again_alone.ensures.ended; others = c.never_again_alone.ensures.others; less = c.attempts_end.ensures.falls; low = c.attempts_end.ensures.most }) c.close_ends.ensures.falls c.close_may_begin.ensures c.close_ends.ensures.most t is most s enough r here more
+returns-clause-call c t most s is enough r here more = call_ends c.deeds_are_well.ensures c.alone_stays.ensures.stays c.alone_stays.ensures.replies (record { never = c.never_again_alone.ensures.never; told = c.never_again_alone.ensures.told; own = c.never_again_alone.ensures.stays; tell = c.never_again_alone.ensures.tell; start = c.never_again_alone.ensures.start; start_alone = c.never_again_alone.ensures.start_alone; rests = c.never_again_alone.ensures.rests; ended = c.never_again_alone.ensures.ended; others = c.never_again_alone.ensures.others; less = c.attempts_end.ensures.falls; low = c.attempts_end.ensures.most }) (record { four = c.restart_ends.ensures.four; restart = c.restart_ends.ensures.falls; none = c.restart_ends.ensures.none; close = c.close_ends.ensures.falls }) c.close_may_begin.ensures c.close_ends.ensures.most t is most s enough r here more
 
 pub returns-clause-rounds : goal.returns-clause-rounds
-returns-clause-rounds c t most n s is enough r here few = rounds_end c.deeds_are_well.ensures c.alone_stays.ensures.stays c.alone_stays.ensures.replies (record { never = c.never_again_alone.ensures.never; told = c.never_again_alone.ensures.told; own = c.never_again_alone.ensures.stays; tell = c.never_again_alone.ensures.tell; start = c.never_again_alone.ensures.start; start_alone = c.never_again_alone.ensures.start_alone; rests = c.never_again_alone.ensures.rests; ended = c.never_again_alone.ensures.ended; others = c.never_again_alone.ensures.others; less = c.attempts_end.ensures.falls; low = c.attempts_end.ensures.most }) c.close_ends.ensures.falls c.close_may_begin.ensures c.close_ends.ensures.most t is most enough n s r here few
+returns-clause-rounds c t most n s is enough r here few = rounds_end c.deeds_are_well.ensures c.alone_stays.ensures.stays c.alone_stays.ensures.replies (record { never = c.never_again_alone.ensures.never; told = c.never_again_alone.ensures.told; own = c.never_again_alone.ensures.stays; tell = c.never_again_alone.ensures.tell; start = c.never_again_alone.ensures.start; start_alone = c.never_again_alone.ensures.start_alone; rests = c.never_again_alone.ensures.rests; ended = c.never_again_alone.ensures.ended; others = c.never_again_alone.ensures.others; less = c.attempts_end.ensures.falls; low = c.attempts_end.ensures.most }) (record { four = c.restart_ends.ensures.four; restart = c.restart_ends.ensures.falls; none = c.restart_ends.ensures.none; close = c.close_ends.ensures.falls }) c.close_may_begin.ensures c.close_ends.ensures.most t is most enough n s r here few
 
 pub returns-clause-few : goal.returns-clause-few
-returns-clause-few c t s is r here = rounds_are_enough c.deeds_are_well.ensures c.alone_stays.ensures.stays c.alone_stays.ensures.replies (record { never = c.never_again_alone.ensures.never; told = c.never_again_alone.ensures.told; own = c.never_again_alone.ensures.stays; tell = c.never_again_alone.ensures.tell; start = c.never_again_alone.ensures.start; start_alone = c.never_again_alone.ensures.start_alone; rests = c.never_again_alone.ensures.rests; ended = c.never_again_alone.ensures.ended; others = c.never_again_alone.ensures.others; less = c.attempts_end.ensures.falls; low = c.attempts_end.ensures.most }) c.close_ends.ensures.falls c.close_may_begin.ensures c.close_ends.ensures.most t is s r here
+returns-clause-few c t s is r here = rounds_are_enough c.deeds_are_well.ensures c.alone_stays.ensures.stays c.alone_stays.ensures.replies (record { never = c.never_again_alone.ensures.never; told = c.never_again_alone.ensures.told; own = c.never_again_alone.ensures.stays; tell = c.never_again_alone.ensures.tell; start = c.never_again_alone.ensures.start; start_alone = c.never_again_alone.ensures.start_alone; rests = c.never_again_alone.ensures.rests; ended = c.never_again_alone.ensures.ended; others = c.never_again_alone.ensures.others; less = c.attempts_end.ensures.falls; low = c.attempts_end.ensures.most }) (record { four = c.restart_ends.ensures.four; restart = c.restart_ends.ensures.falls; none = c.restart_ends.ensures.none; close = c.close_ends.ensures.falls }) c.close_may_begin.ensures c.close_ends.ensures.most t is s r here
 
 pub returns-clause-run_out : goal.returns-clause-run_out
-returns-clause-run_out c t most s is enough r = run_out_shut c.deeds_are_well.ensures c.alone_stays.ensures.stays c.alone_stays.ensures.replies (record { never = c.never_again_alone.ensures.never; told = c.never_again_alone.ensures.told; own = c.never_again_alone.ensures.stays; tell = c.never_again_alone.ensures.tell; start = c.never_again_alone.ensures.start; start_alone = c.never_again_alone.ensures.start_alone; rests = c.never_again_alone.ensures.rests; ended = c.never_again_alone.ensures.ended; others = c.never_again_alone.ensures.others; less = c.attempts_end.ensures.falls; low = c.attempts_end.ensures.most }) c.close_ends.ensures.falls c.close_may_begin.ensures c.close_ends.ensures.most t is most enough s r
+returns-clause-run_out c t most s is enough r = run_out_shut c.deeds_are_well.ensures c.alone_stays.ensures.stays c.alone_stays.ensures.replies (record { never = c.never_again_alone.ensures.never; told = c.never_again_alone.ensures.told; own = c.never_again_alone.ensures.stays; tell = c.never_again_alone.ensures.tell; start = c.never_again_alone.ensures.start; start_alone = c.never_again_alone.ensures.start_alone; rests = c.never_again_alone.ensures.rests; ended = c.never_again_alone.ensures.ended; others = c.never_again_alone.ensures.others; less = c.attempts_end.ensures.falls; low = c.attempts_end.ensures.most }) (record { four = c.restart_ends.ensures.four; restart = c.restart_ends.ensures.falls; none = c.restart_ends.ensures.none; close = c.close_ends.ensures.falls }) c.close_may_begin.ensures c.close_ends.ensures.most t is most enough s r
 
 pub returns-clause-closed : goal.returns-clause-closed
-returns-clause-closed c t most s is enough r = closed_ends c.deeds_are_well.ensures c.alone_stays.ensures.stays c.alone_stays.ensures.replies (record { never = c.never_again_alone.ensures.never; told = c.never_again_alone.ensures.told; own = c.never_again_alone.ensures.stays; tell = c.never_again_alone.ensures.tell; start = c.never_again_alone.ensures.start; start_alone = c.never_again_alone.ensures.start_alone; rests = c.never_again_alone.ensures.rests; ended = c.never_again_alone.ensures.ended; others = c.never_again_alone.ensures.others; less = c.attempts_end.ensures.falls; low = c.attempts_end.ensures.most }) c.close_ends.ensures.falls c.close_may_begin.ensures c.close_ends.ensures.most t is most enough s r
+returns-clause-closed c t most s is enough r = closed_ends c.deeds_are_well.ensures c.alone_stays.ensures.stays c.alone_stays.ensures.replies (record { never = c.never_again_alone.ensures.never; told = c.never_again_alone.ensures.told; own = c.never_again_alone.ensures.stays; tell = c.never_again_alone.ensures.tell; start = c.never_again_alone.ensures.start; start_alone = c.never_again_alone.ensures.start_alone; rests = c.never_again_alone.ensures.rests; ended = c.never_again_alone.ensures.ended; others = c.never_again_alone.ensures.others; less = c.attempts_end.ensures.falls; low = c.attempts_end.ensures.most }) (record { four = c.restart_ends.ensures.four; restart = c.restart_ends.ensures.falls; none = c.restart_ends.ensures.none; close = c.close_ends.ensures.falls }) c.close_may_begin.ensures c.close_ends.ensures.most t is most enough s r
