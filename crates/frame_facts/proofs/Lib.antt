@@ -1,0 +1,11 @@
+pub mod Carrying
+pub mod Sides
+pub mod Stores
+pub mod Owners
+pub mod Records
+pub mod Copies
+pub mod DeadSlots
+pub mod Told
+pub mod Structure
+pub mod WorkedFacts
+pub mod WorkedRepair

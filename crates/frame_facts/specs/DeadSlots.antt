@@ -1,0 +1,14 @@
+-- The words of a slot, of which those are nobody's that no segment lives in.
+use Rattle.std.specs.Prelude.{◌≢◌, ℕ, ◌+◌, ◌<◌, ◌≤◌}
+use Rattle.image_layout.specs.Places.{Shape, head_at, segment_words}
+
+-- word i is one of slot n
+pub record IsInSlot (shape : Shape) (n i : ℕ) : Type 0 where
+  pub from : head_at shape n ≤ i
+  pub to : i < head_at shape n + segment_words
+
+-- and neither its header word nor its link
+pub record IsPlainInSlot (shape : Shape) (n i : ℕ) : Type 0 where
+  pub inside : IsInSlot shape n i
+  pub no_header : i ≢ head_at shape n + 1
+  pub no_link : i ≢ head_at shape n + 2

@@ -1,0 +1,4 @@
+pub mod Facts
+pub mod Keeping
+pub mod Copies
+pub mod DeadSlots
