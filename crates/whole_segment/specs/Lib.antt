@@ -1,0 +1,10 @@
+pub mod Slots
+pub mod Records
+pub mod Room
+pub mod Order
+pub mod Mending
+pub mod Notes
+pub mod Rounds
+pub mod OneRound
+pub mod Gathered
+pub mod Rebuilding

@@ -1,0 +1,46 @@
+-- The records in the stash of a segment, and exact overflow data of its homes, by words 1 and 3 of each bucket.
+use Rattle.std.specs.Prelude.{◌≡◌, ℕ, ◌+◌, ◌%◌, ◌^◌, ◌==◌, ◌&&◌, List, [], ◌∷◌, ◌++◌, if◌then◌else◌}
+use Rattle.std.specs.List.{flat_map}
+use Rattle.hash_word.specs.Hash.{home_of, finger_of, probing_of}
+use Rattle.bucket_meta.specs.Bucket.{allocated, note_used, note_member, note_index, note_finger, overflow_count, record_slots}
+use Rattle.bucket_meta.specs.Notes.{OverflowNote, numbers_below, notes_on, AreExact}
+use Rattle.image_layout.specs.Places.{homes}
+use Rattle.stash.specs.Segment.{Stashed}
+
+-- the record in slot r of stash bucket c, as its home, its fingerprint and its stash bucket
+abbrev pub entry_of : (key : ℕ → ℕ → ℕ) (hash : ℕ → ℕ) → ℕ → ℕ → Stashed
+entry_of key hash c r = (home_of (hash (key (homes + c) r)), finger_of (hash (key (homes + c) r)), c)
+
+module _ (first : ℕ → ℕ) (key : ℕ → ℕ → ℕ) (hash : ℕ → ℕ) where
+  -- the records in slots below n of stash bucket c
+  abbrev pub entries_below : ℕ → ℕ → List Stashed
+  entries_below c n = flat_map (λ r. if allocated r (first (homes + c)) == 1 then entry_of key hash c r ∷ [] else []) (numbers_below n)
+
+  -- all records in the stash, by stash bucket, then slot
+  abbrev pub stash_entries : List Stashed
+  stash_entries = entries_below 0 record_slots ++ entries_below 1 record_slots
+
+  -- the records of home b in stash bucket c, and in both
+  abbrev pub stashed_in : ℕ → ℕ → List OverflowNote
+  stashed_in b c =
+      flat_map
+      (λ r. if (allocated r (first (homes + c)) == 1) && (home_of (hash (key (homes + c) r)) == b)
+      then (finger_of (hash (key (homes + c) r)), c) ∷ []
+      else [])
+      (numbers_below record_slots)
+
+  abbrev pub stashed_of : ℕ → List OverflowNote
+  stashed_of b = stashed_in b 0 ++ stashed_in b 1
+
+-- the notes of a bucket of one side, by its words 1 and 3
+abbrev pub notes_by : ℕ → ℕ → ℕ → List OverflowNote
+notes_by w1 w3 side = notes_on (λ i. note_used i w1) (λ i. note_member i w1) (λ i. note_finger i w1 w3) (λ i. note_index i w1) side
+
+-- EXACT NOTES of home b, by words 1 and 3 of each bucket, for records that stand in the stash
+abbrev pub HasExactNotes : (first third : ℕ → ℕ) → ℕ → List OverflowNote → Type 0
+HasExactNotes first third b stashed = AreExact (notes_by (first b) (third b) 0 ++ notes_by (first (probing_of b)) (third (probing_of b)) 1) (overflow_count (first b)) stashed
+
+-- words 1 and 3 of a bucket say of its record slots what they said
+pub record KeepsRecords (w1 w3 x1 x3 : ℕ) : Type 0 where
+  pub slots : x1 % 2 ^ 28 ≡ w1 % 2 ^ 28
+  pub fingers : x3 % 2 ^ 48 ≡ w3 % 2 ^ 48

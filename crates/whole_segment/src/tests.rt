@@ -1,0 +1,150 @@
+//! The file format's own examples: a stash full of notes, a key that stands twice after a cut, and segments without room.
+
+use super::*;
+use image_layout::Geometry;
+use std::process::Abort;
+use std::test::Fail;
+
+/// Puts a key into a slot that is taken.
+fn put(rt: &impl Abort, loaded: &mut Loaded, bucket: u8, slot: u8, key: u64) {
+    assert!(rt; bucket < 66 && slot < 14);
+    loaded.set_key(bucket, slot, key);
+}
+
+/// Home 0 with 28 records in its two buckets and 28 in the stash: keys are put in turn into bucket 0 and bucket 1, slots ascending, and then into
+/// the stash. A key is `n`, or, in halves, each second one is `n / 2` above 2^63 and the others are `n / 2`.
+fn full_home(rt: &impl Abort, halves: bool) -> Loaded {
+    let mut loaded = Loaded::blank();
+    for n in 0..56u8 {
+        let key = u64::from(if halves { n / 2 } else { n });
+        let key = if halves && n % 2 == 0 {
+            key + (1 << 63)
+        } else {
+            key
+        };
+        if n < 28 {
+            put(rt, &mut loaded, n % 2, n / 2, key);
+        } else {
+            put(rt, &mut loaded, 64 + (n - 28) / 14, n % 14, key);
+        }
+    }
+    loaded.set_first(0, 0x3FFF);
+    loaded.set_first(1, 0x0FFF_FFFF);
+    loaded.set_first(64, 0x3FFF);
+    loaded.set_first(65, 0x3FFF);
+    loaded
+}
+
+#[test]
+fn halves_of_a_full_home(rt: HostRuntime) -> Result<(), Fail> {
+    let geometry = Geometry::new(2, 1, 0)?;
+    let loaded = full_home(&rt, true);
+    assert_eq!(rt; loaded.covered_slots(&geometry, 0, 1, 1), 0x3FFF);
+    assert_eq!(rt; loaded.covered_slots(&geometry, 1, 1, 1), 0);
+    assert_eq!(rt; loaded.covered_slots(&geometry, 64, 1, 1), 0x1555);
+    assert_eq!(rt; loaded.covered_slots(&geometry, 65, 1, 1), 0x1555);
+    assert_eq!(rt; loaded.covered_slots(&geometry, 65, 1, 0), 0x2AAA);
+    assert_eq!(rt; loaded.covered_slots(&geometry, 65, 0, 0), 0x3FFF);
+    let half = loaded.half(&geometry, 1, 1).first;
+    let rest = loaded.without_half(&geometry, 1, 1).first;
+    for (bucket, moved, stayed) in [(0, 0x3FFF, 0), (1, 0, 0x0FFF_FFFF), (64, 0x1555, 0x2AAA)] {
+        let at: usize = bucket;
+        assert_eq!(rt; half[at], moved);
+        assert_eq!(rt; rest[at], stayed);
+    }
+    assert_eq!(rt; copied_mark(0x0464_400F_FFFF_FFFF, 0x0003), 0x0000_C003);
+    assert_eq!(rt;
+        cleared_mark(0x0464_400F_FFFF_FFFF, 0x0003),
+        0x0464_400F_FFFF_3FFC
+    );
+    Ok(())
+}
+
+#[test]
+fn a_full_home_has_no_room(rt: HostRuntime) {
+    let mut loaded = full_home(&rt, false);
+    assert!(rt; loaded.has_no_room(56));
+    assert!(rt;
+        !loaded.has_no_room(256),
+        "home 1 has bucket 2 for its probing bucket"
+    );
+    loaded.set_first(0, 0x0000_7FFF);
+    assert!(rt;
+        !loaded.has_no_room(56),
+        "a member can move back from bucket 0"
+    );
+    loaded.set_first(0, 0x3FFF);
+    loaded.set_first(1, 0x07FF_FFFF);
+    assert!(rt;
+        !loaded.has_no_room(56),
+        "a record of home 1 can move on to bucket 2"
+    );
+    loaded.set_first(2, 0x3FFF);
+    assert!(rt; loaded.has_no_room(56));
+    loaded.set_first(65, 0x1FFF);
+    assert!(rt;
+        !loaded.has_no_room(56),
+        "the last slot of the stash is free"
+    );
+}
+
+#[test]
+fn a_repair_keeps_the_first_of_a_key(rt: HostRuntime) -> Result<(), Fail> {
+    let geometry = Geometry::new(2, 1, 0)?;
+    let mut loaded = Loaded::blank();
+    loaded.set_key(1, 0, 256);
+    loaded.set_key(2, 0, 256);
+    loaded.set_key(65, 3, 256);
+    loaded.set_key(65, 4, (1 << 63) + 256);
+    loaded.set_first(1, 0x0001);
+    loaded.set_first(2, 0x4001);
+    loaded.set_first(65, 0x0018);
+    assert_eq!(rt; loaded.spoiled_slots(&geometry, 1, 0, 0), 0);
+    assert_eq!(rt; loaded.spoiled_slots(&geometry, 2, 0, 0), 1);
+    assert_eq!(rt; loaded.spoiled_slots(&geometry, 65, 0, 0), 0x0008);
+    assert_eq!(rt; loaded.spoiled_slots(&geometry, 65, 1, 0), 0x0018);
+    let mended = loaded.mended(&geometry, 0, 0).first;
+    assert_eq!(rt; mended[1], 0x0001);
+    assert_eq!(rt; mended[2], 0);
+    assert_eq!(rt; mended[65], 0x0010);
+    loaded.set_first(1, 0);
+    assert_eq!(rt; loaded.spoiled_slots(&geometry, 2, 1, 0), 0);
+    Ok(())
+}
+
+#[test]
+fn notes_of_a_full_stash(rt: HostRuntime) -> Result<(), Fail> {
+    let geometry = Geometry::new(1, 0, 0)?;
+    let mut loaded = full_home(&rt, false);
+    loaded.set_first(0, 0x1234_5670_0000_3FFF);
+    loaded.set_third(0, 0xFFFF_1A18_1614_1210);
+    loaded.set_third(1, 0x0000_1B19_1715_1311);
+    loaded.set_first(63, 0x03E3_D400_F000_0000);
+    let notes = rebuilt_notes(&loaded, &geometry);
+    assert_eq!(rt; notes.first[0], 0x03E3_D400_F000_3FFF);
+    assert_eq!(rt; notes.third[0], 0x1D1C_1A18_1614_1210);
+    assert_eq!(rt; notes.first[1], 0x0464_400F_FFFF_FFFF);
+    assert_eq!(rt; notes.third[1], 0x2120_1B19_1715_1311);
+    assert_eq!(rt; notes.first[63], 0);
+    Ok(())
+}
+
+#[test]
+fn a_round_takes_eight_lines(rt: HostRuntime) {
+    let mut round = Round::begun();
+    for line in 10..18 {
+        for _ in 0..3 {
+            let takes = round.takes(line);
+            assert!(rt; takes);
+            round.touch(line);
+        }
+    }
+    assert_eq!(rt; round.count(), 8);
+    assert!(rt; round.takes(17), "the last line is one of the eight");
+    assert!(rt; !round.takes(18));
+    for i in 0..8 {
+        let is_one = i < round.count();
+        assert!(rt; is_one);
+        assert_eq!(rt; round.line(i), 10 + u64::from(i));
+    }
+}
