@@ -1,9 +1,15 @@
 -- Where lock words stand, what lies under them, and that they have no core.
-use Rattle.std.proofs.Common.{◌≡◌, ℕ, ◌+◌, ◌*◌, ◌-◌, ◌<◌, ◌≤◌, ap, ◌∙◌, arith}
-use Rattle.image_layout.specs.Places.{Shape, first_segment, bucket_at, words_of}
+use Rattle.std.proofs.Common.{◌≡◌, ℕ, ◌+◌, ◌*◌, ◌-◌, ◌/◌, ◌%◌, ◌^◌, ◌<◌, ◌≤◌, ap, ◌∙◌, arith}
+use Rattle.hash_word.specs.Hash.{home_of}
+use Rattle.image_layout.specs.Places.{Shape, first_segment, bucket_at, words_of, homes}
+use Rattle.sound_image.specs.Records.{key_hash}
 use Rattle.bucket_words.specs.Core.{core_of}
 use Rattle.bucket_words.proofs.segments.Cores.{core_in}
 use Rattle.world.specs.Site.{IsLockWord, IsUnder}
+
+-- a home is one of the buckets before the stash
+pub home_near : (shape : Shape) (k : ℕ) → home_of (key_hash shape k) < homes
+home_near shape k = let h = key_hash shape k in let r : h / 2 ^ 8 % 2 ^ 6 < 64 = omega arith in r
 
 one_start : (f s q b c lock other i : ℕ) → b < 66 → c < 66 → lock ≡ f + 2144 * s + 32 + 32 * b → other ≡ f + 2144 * q + 32 + 32 * c
     → lock < i → i < lock + 32 → other < i → i < other + 32 → lock ≡ other

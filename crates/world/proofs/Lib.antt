@@ -1,9 +1,13 @@
 pub mod Grounds
+pub mod Structures
 pub mod Tables
 pub mod Lists
 pub mod Seats
 pub mod Entries
 pub mod NotedLists
+pub mod fitting
+pub mod moving
+pub mod mild
 pub mod holding
 pub mod invariant
 pub mod device

@@ -9,11 +9,11 @@ use Rattle.world.specs.Kinds.{with_noted, unmarked, marked, all_again}
 
 -- ---- one word more
 pub noted_from : (lock i x : ℕ) (notes : List Note) (o : Note) → Has o (with_noted lock i x notes)
-    → (n : Note) × Has n notes × ((o ≡ n) ⊎ ((n.lock ≡ lock) × (o ≡ record n { words = (i, x) ∷ n.words })))
+    → (n : Note) × Has n notes × ((o ≡ n) ⊎ ((n.word ≡ lock) × (o ≡ record n { words = (i, x) ∷ n.words })))
 noted_from lock i x [] o h = absurd h
 noted_from lock i x (n ∷ notes) o h = elim h [
-  | inl e ↦ elim (cases_Bool (eqb n.lock lock)) [
-    | inl t ↦ (n, inl refl, inr (eqb-true n.lock lock t, e ∙ ap (λ b. cond b (record n { words = (i, x) ∷ n.words }) n) t))
+  | inl e ↦ elim (cases_Bool (eqb n.word lock)) [
+    | inl t ↦ (n, inl refl, inr (eqb-true n.word lock t, e ∙ ap (λ b. cond b (record n { words = (i, x) ∷ n.words }) n) t))
     | inr f ↦ (n, inl refl, inl (e ∙ ap (λ b. cond b (record n { words = (i, x) ∷ n.words }) n) f))
   ]
   | inr r ↦ (let s = noted_from lock i x notes o r in (s.0, inr s.1, s.2))
@@ -23,7 +23,7 @@ pub noted_to : (words : Words) (lock i x : ℕ) (notes : List Note) → ((o : No
     → (n : Note) → Has n notes → IsUnmoved words n
 noted_to words lock i x [] all n h = absurd h
 noted_to words lock i x (m ∷ notes) all n h = elim h [
-  | inl e ↦ subst (λ (z : Note). IsUnmoved words z) (sym e) (here (eqb m.lock lock) (all _ (inl refl)))
+  | inl e ↦ subst (λ (z : Note). IsUnmoved words z) (sym e) (here (eqb m.word lock) (all _ (inl refl)))
   | inr r ↦ noted_to words lock i x notes (λ o q. all o (inr q)) n r
 ]
   where
@@ -35,7 +35,7 @@ noted_to words lock i x (m ∷ notes) all n h = elim h [
 pub marked_from : (lock x : ℕ) (notes : List Note) (o : Note) → Has o (marked lock x notes) → (n : Note) × Has n notes × ((o ≡ n) ⊎ (o ≡ record n { again = true }))
 marked_from lock x [] o h = absurd h
 marked_from lock x (n ∷ notes) o h = elim h [
-  | inl e ↦ elim (cases_Bool (eqb n.lock lock && eqb n.free x)) [
+  | inl e ↦ elim (cases_Bool (eqb n.word lock && eqb n.value x)) [
     | inl t ↦ (n, inl refl, inr (e ∙ ap (λ b. cond b (record n { again = true }) n) t))
     | inr f ↦ (n, inl refl, inl (e ∙ ap (λ b. cond b (record n { again = true }) n) f))
   ]
@@ -43,17 +43,17 @@ marked_from lock x (n ∷ notes) o h = elim h [
 ]
 
 -- a note is unmoved where it is so with the mark
-marked_one : (words : Words) (lock : ℕ) (m : Note) (b : Bool) → (eqb m.lock lock && eqb m.free (words lock)) ≡ b
+marked_one : (words : Words) (lock : ℕ) (m : Note) (b : Bool) → (eqb m.word lock && eqb m.value (words lock)) ≡ b
     → IsUnmoved words (cond b (record m { again = true }) m) → IsUnmoved words m
-marked_one words lock m true e u = let p = and-parts (eqb m.lock lock) (eqb m.free (words lock)) e in
-    inr (ap words (eqb-true m.lock lock p.0) ∙ sym (eqb-true m.free (words lock) p.1))
+marked_one words lock m true e u = let p = and-parts (eqb m.word lock) (eqb m.value (words lock)) e in
+    inr (ap words (eqb-true m.word lock p.0) ∙ sym (eqb-true m.value (words lock) p.1))
 marked_one words lock m false e u = u
 
 pub marked_to : (words : Words) (lock : ℕ) (notes : List Note) → ((o : Note) → Has o (marked lock (words lock) notes) → IsUnmoved words o)
     → (n : Note) → Has n notes → IsUnmoved words n
 marked_to words lock [] all n h = absurd h
 marked_to words lock (m ∷ notes) all n h = elim h [
-  | inl e ↦ subst (λ (z : Note). IsUnmoved words z) (sym e) (marked_one words lock m (eqb m.lock lock && eqb m.free (words lock)) refl (all _ (inl refl)))
+  | inl e ↦ subst (λ (z : Note). IsUnmoved words z) (sym e) (marked_one words lock m (eqb m.word lock && eqb m.value (words lock)) refl (all _ (inl refl)))
   | inr r ↦ marked_to words lock notes (λ o q. all o (inr q)) n r
 ]
 
@@ -72,9 +72,9 @@ unmarked_from (n ∷ notes) o h = elim h [
   | inr r ↦ (let s = unmarked_from notes o r in (s.0, inr s.1, s.2))
 ]
 
-pub unmarked_to : (words : Words) (notes : List Note) → ((o : Note) → Has o (unmarked notes) → IsUnmoved words o) → (n : Note) → Has n notes → words n.lock ≡ n.free
+pub unmarked_to : (words : Words) (notes : List Note) → ((o : Note) → Has o (unmarked notes) → IsUnmoved words o) → (n : Note) → Has n notes → words n.word ≡ n.value
 unmarked_to words [] all n h = absurd h
 unmarked_to words (m ∷ notes) all n h = elim h [
-  | inl e ↦ subst (λ (z : Note). words z.lock ≡ z.free) (sym e) (elim (all (record m { again = false }) (inl refl)) [ inl q ↦ absurd (cc) | inr q ↦ q ])
+  | inl e ↦ subst (λ (z : Note). words z.word ≡ z.value) (sym e) (elim (all (record m { again = false }) (inl refl)) [ inl q ↦ absurd (cc) | inr q ↦ q ])
   | inr r ↦ unmarked_to words notes (λ o q. all o (inr q)) n r
 ]

@@ -5,17 +5,19 @@ use Rattle.std.proofs.lemmas.Bool.{cases_Bool, eqb-true, eqb-false, lt-ltb}
 use Rattle.std.specs.Prelude.{nat_lt}
 use mathlib.Core.Logic.{dite}
 use native.Mathlib.Decide.{ℕ_discrete}
-use Rattle.trace.specs.Events.{Words, line_of}
+use Rattle.trace.specs.Events.{Words, with_word, line_of}
 use Rattle.image_layout.specs.Places.{Shape, words_of}
 use Rattle.image_layout.specs.Volatile.{counter_word}
 use Rattle.map_model.specs.declared.call.Call.{Call}
 use Rattle.map_model.specs.Map.{key_of}
 use Rattle.bucket_words.specs.Core.{core_of}
+use Rattle.bucket_words.specs.Owners.{HasStructure}
 use Rattle.world.specs.Site.{Site, IsLockWord, IsUnder}
 use Rattle.world.specs.Views.{View, Has, At, HasLock, IsGuarded}
 use Rattle.world.specs.Invariant.{Locks}
 use Rattle.world.specs.Kinds.{without, not_under, on_line, off_line, loosened, of_other_keys}
 use Rattle.world.proofs.Grounds.{one_lock, lock_apart, under_within}
+use Rattle.world.proofs.Structures.{kept_structure, under_no_structure}
 use Rattle.world.proofs.Lists.{at_set, set_here, set_there, same_at, has_joined}
 
 -- ---- the views after one of them changed
@@ -54,6 +56,10 @@ module _ (site : Site) (words : Words) (views : List View) (l : Locks site words
 
   pub guarded_no_lock : (j : ℕ) (v : View) (n lock : ℕ) → At views j v → IsGuarded v.held n → IsLockWord site.shape lock → n ≡ lock → ⊥
   guarded_no_lock j v n lock a g k e = lock_apart site.shape g.0 lock (lock_of j v g.0 a g.1) k (subst (λ (z : ℕ). IsUnder g.0 z) e g.2)
+
+  -- a store to a guarded word leaves the structure
+  pub guarded_structure : (j : ℕ) (v : View) (n x : ℕ) → At views j v → IsGuarded v.held n → (m : Words) → HasStructure site.shape m (with_word m n x)
+  guarded_structure j v n x a g m = kept_structure site.shape m n x (under_no_structure site.shape g.0 n (lock_of j v g.0 a g.1) g.2)
 
   pub guarded_no_counter : (j : ℕ) (v : View) (n : ℕ) → At views j v → IsGuarded v.held n → n ≡ counter_word site.shape → ⊥
   guarded_no_counter j v n a g e = let w = guarded_within j v n a g in omega (arith, w, e)

@@ -1,5 +1,8 @@
 -- Each kind of step keeps the invariant, part by part.
+pub mod Stays
 pub mod KeepLocks
+pub mod KeepStructure
+pub mod KeepOwned
 pub mod KeepKnown
 pub mod KeepMedia
 pub mod KeepCopies

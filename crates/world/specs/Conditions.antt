@@ -1,7 +1,7 @@
 -- What each kind of step asks of the stepping view alone.
-use Rattle.std.specs.Prelude.{◌≡◌, ◌≢◌, ◌-◌, ℕ, ◌+◌, ◌%◌, ◌^◌, ◌<◌, Bool, true, false, ⊤, Option, Some, List, [], ◌∷◌, ◌⊎◌}
+use Rattle.std.specs.Prelude.{◌≡◌, ◌≢◌, ◌-◌, ℕ, ◌+◌, ◌%◌, ◌^◌, ◌<◌, ◌≤◌, Bool, true, false, ⊤, Option, Some, List, [], ◌∷◌, ◌⊎◌}
 use Rattle.trace.specs.Events.{Words, with_word}
-use Rattle.image_layout.specs.Places.{Shape, bucket_at, homes, stash_buckets}
+use Rattle.image_layout.specs.Places.{Shape, head_at, bucket_at, homes, stash_buckets, buckets}
 use Rattle.map_model.specs.declared.call.Call.{Call}
 use Rattle.map_model.specs.declared.call.Call.TheVariants.{Remove}
 use Rattle.map_model.specs.declared.entry.Reply.{Reply}
@@ -14,13 +14,14 @@ use Rattle.sound_image.specs.Records.{key_hash, stashed_of, HasExactNotes}
 use Rattle.bucket_words.specs.Standing.{IsTable}
 use Rattle.bucket_words.specs.Hits.{Hit, HasOnly, find}
 use Rattle.bucket_words.specs.Buckets.{value_in}
-use Rattle.bucket_words.specs.Owners.{HasStructure, owner_of, home_at}
+use Rattle.bucket_words.specs.Owners.{owner_of, home_at}
 use Rattle.bucket_words.specs.HomeNotes.{SameHomeNotes}
 use Rattle.bucket_words.specs.TableChanges.{KeepsTable, ChangesKey}
-use Rattle.world.specs.Site.{Site, IsLockWord, IsUnder}
+use Rattle.frame_facts.specs.Facts.{Fact, Lives, Current, Rooted, HoldsFact}
+use Rattle.world.specs.Site.{Site, IsLockWord, IsUnder, version_of, IsStructured}
 use Rattle.world.specs.Views.{Note, Move, Owed, View, Has, HasLock, IsGuarded, IsLoose, IsFirm}
 use Rattle.world.specs.History.{result_of, reply_by, MayReply, HasRoomCause}
-use Rattle.world.specs.Kinds.{Kind, peeks, asks_power, finds_room, refuses, places, looks, notes_word, validates, learns, meets_lock, tries, stores, copies, clears, repays, publishes, stashes, flushes, fences, draws_place, unlocks, cuts_power}
+use Rattle.world.specs.Kinds.{Kind, peeks, asks_power, meets_root, meets_entry, meets_head, pins, finds_room, refuses, places, looks, notes_word, validates, learns, meets_lock, tries, stores, copies, clears, repays, publishes, stashes, flushes, fences, draws_place, unlocks, cuts_power}
 
 -- ---- what is said of tables
 -- what is owed: with the notes as they were, the one that was owed makes them exact for the records as they are now
@@ -65,12 +66,16 @@ module _ (site : Site) where
   abbrev pub OwesNone : View → ℕ → ℕ → Type 0
   OwesNone v s b = (o : Owed) → Has o v.owed → o.segment ≡ s → o.home ≡ b → ⊥
 
-  -- words may be the newest, as far as a view can know: a table with the words that it knows; under the locks that it holds
-  -- a key stands once but for its own moves, and notes are exact but for those that it owes
+  -- words may be the newest, as far as a view can know: a table with the words that it knows, of whose structure its facts hold and
+  -- which has the headers that its locks keep; under the locks that it holds records stand in the segment that owns them, a
+  -- key stands once but for its own moves, and notes are exact but for those that it owes
   pub record IsNewest (v : View) (words : Words) : Type 0 where
-    pub structure : HasStructure site.shape site.front words
+    pub structure : IsStructured site words
+    pub says : (f : Fact) → Has f v.facts → HoldsFact site.shape (version_of site) words f words
+    pub pinned : (s x : ℕ) → Has (s, x) v.pinned → words (head_at site.shape s + 1) ≡ x
     pub table : IsTable site.shape words
     pub knows : (i x : ℕ) → Has (i, x) v.known → words i ≡ x
+    pub own : (s b r k : ℕ) → HasLock v.held (bucket_at site.shape s b) → Hit site.shape words s b r k → owner_of site.shape words (key_hash site.shape k) ≡ Some s
     pub once : (s b r c t k : ℕ) → HasLock v.held (bucket_at site.shape s (home_of (key_hash site.shape k))) → Hit site.shape words s b r k → Hit site.shape words s c t k
         → ((b ≡ c) × (r ≡ t)) ⊎ ((m : Move) × Has m v.moving × IsMoveOf m s k b r c t)
     pub exact : (s b : ℕ) → s < site.shape.segments → b < homes → HasLock v.held (bucket_at site.shape s b) → OwesNone v s b → HasExactNotes site.shape words s b
@@ -78,7 +83,8 @@ module _ (site : Site) where
 
   -- a medium may be left beside them, as far as a view can know
   pub record StandsBeside (v : View) (words medium : Words) : Type 0 where
-    pub structure : HasStructure site.shape site.front medium
+    pub structure : IsStructured site medium
+    pub says : (f : Fact) → Has f v.facts → HoldsFact site.shape (version_of site) words f medium
     pub table : IsTable site.shape medium
     pub agrees : Agrees v medium
     pub owner : (s k : ℕ) → HasLock v.held (bucket_at site.shape s (home_of (key_hash site.shape k))) → owner_of site.shape words (key_hash site.shape k) ≡ Some s
@@ -136,10 +142,11 @@ module _ (site : Site) where
   AddsAlike v i x = AlwaysBeside v (λ words medium. (s c t k : ℕ) → c < stash_buckets → Hit site.shape (with_word medium i x) s (homes + c) t k
       → Hit site.shape (with_word words i x) s (homes + c) t k ⊎ Hit site.shape medium s (homes + c) t k)
 
-  -- a record of a key comes only under the locks of its bucket and of the key's home
+  -- a record of a key comes only to the segment that owns it, under the locks of its bucket and of the key's home
   abbrev pub AddsHeld : View → ℕ → ℕ → Type 0
   AddsHeld v i x = Always v (λ words. (s b r k : ℕ) → Hit site.shape (with_word words i x) s b r k
-      → Hit site.shape words s b r k ⊎ (HasLock v.held (bucket_at site.shape s (home_of (key_hash site.shape k))) × HasLock v.held (bucket_at site.shape s b)))
+      → Hit site.shape words s b r k ⊎ (HasLock v.held (bucket_at site.shape s (home_of (key_hash site.shape k))) × HasLock v.held (bucket_at site.shape s b)
+      × (owner_of site.shape words (key_hash site.shape k) ≡ Some s)))
 
   -- the locks of the buckets are held in which a key stands
   abbrev pub HoldsPlaces : View → ℕ → Type 0
@@ -182,12 +189,13 @@ module _ (site : Site) where
   IsKnownReply v call reply = ((a : Option ℕ) → MayReply a call reply)
       ⊎ ((s : ℕ) × HoldsHome v s (key_of call) × IsUnplanned v (key_of call) × Always v (λ words. MayReply (find site.shape words (key_of call)) call reply))
 
-  -- words may be the newest while all noted locks are free, as far as a reader can know
+  -- words may be the newest while all noted locks are free, and the noted header is as it was, as far as a reader can know
   pub record IsNow (notes : List Note) (words : Words) : Type 0 where
-    pub structure : HasStructure site.shape site.front words
+    pub structure : IsStructured site words
     pub table : IsTable site.shape words
     pub agrees : AgreesWithNotes notes words
-    pub exact : (s b : ℕ) (note : Note) → s < site.shape.segments → b < homes → Has note notes → note.lock ≡ bucket_at site.shape s b → HasExactNotes site.shape words s b
+    pub heads : (s : ℕ) (note : Note) → s < site.shape.segments → Has note notes → note.word ≡ head_at site.shape s + 1 → words (head_at site.shape s + 1) ≡ note.value
+    pub exact : (s b : ℕ) (note : Note) → s < site.shape.segments → b < homes → Has note notes → note.word ≡ bucket_at site.shape s b → HasExactNotes site.shape words s b
 
   -- a map may be what all keys have, as far as a view can know: it has what the newest words have for the keys of whose homes
   -- the view holds the locks, and the records in the buckets that it holds, which are of different keys
@@ -206,20 +214,28 @@ module _ (site : Site) where
   abbrev pub IsKnownSpent : View → Reply → Type 0
   IsKnownSpent v reply = reply ≡ Spent → (lock : ℕ) × Has lock v.spent_locks
 
+  -- the lock word of a bucket of a segment that the view knows to be live and current
+  abbrev pub IsKnownLock : View → ℕ → Type 0
+  IsKnownLock v lock = (s : ℕ) × (b : ℕ) × (s < site.shape.segments) × (b < buckets) × (lock ≡ bucket_at site.shape s b) × Has (Lives s) v.facts × Has (Current s) v.facts
+
   -- WHAT A KIND OF STEP ASKS of the stepping view
   abbrev pub May : Kind → View → Type 0
   May (peeks i) v = ⊤
   May asks_power v = ⊤
+  May meets_root v = ⊤
+  May (meets_entry e i) v = Has (Rooted e) v.facts × (e ≤ site.shape.depth) × (i < 2 ^ e)
+  May (meets_head s version) v = Has (Lives s) v.facts × (version ≡ version_of site)
+  May (pins s b) v = (b < buckets) × HasLock v.held (bucket_at site.shape s b)
   May (finds_room call) v = IsChange call × (0 < v.callers)
   May (refuses call reply) v = (is_done reply ≡ false) × IsKnownReply v call reply × IsKnownCause v call reply × IsKnownSpent v reply
-  May (places k a) v = (s : ℕ) × ((note : Note) × Has note v.notes × (note.lock ≡ bucket_at site.shape s (home_of (key_hash site.shape k))))
+  May (places k a) v = (s : ℕ) × ((note : Note) × Has note v.notes × (note.word ≡ bucket_at site.shape s (home_of (key_hash site.shape k))))
       × ((words : Words) → IsNow v.notes words → (owner_of site.shape words (key_hash site.shape k) ≡ Some s) × (find site.shape words k ≡ a))
-  May (looks lock) v = IsLockWord site.shape lock
-  May (notes_word lock i) v = IsUnder lock i
+  May (looks lock) v = IsKnownLock v lock
+  May (notes_word lock i) v = IsLockWord site.shape lock × IsUnder lock i
   May (validates lock) v = ⊤
   May (learns i) v = IsGuarded v.held i
   May (meets_lock lock) v = IsLockWord site.shape lock
-  May (tries lock free) v = IsLockWord site.shape lock × (free % 2 ≡ 0) × (free ≢ 2 ^ 64 - 2)
+  May (tries lock free) v = IsKnownLock v lock × (free % 2 ≡ 0) × (free ≢ 2 ^ 64 - 2)
   May (stores i x) v = IsTidy v i x NoTwin Nowhere Nowhere × IsHarmless v i x
   May (copies i x m) v = IsTidy v i x (IsMoveOf m) Nowhere Nowhere × IsHarmless v i x
       × HoldsMove site.shape v.held m

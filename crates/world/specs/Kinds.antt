@@ -1,9 +1,10 @@
 -- The kinds of step: why an event is made, with its numbers. For each: which event it is, and what the stepping view becomes.
-use Rattle.std.specs.Prelude.{◌-◌, ◌==◌, ◌&&◌, ℕ, suc, ◌+◌, ◌%◌, ◌^◌, nat_lt, Bool, true, false, Option, None, Some, List, [], ◌∷◌, ◌++◌, length, if◌then◌else◌}
+use Rattle.std.specs.Prelude.{◌-◌, ◌==◌, ◌&&◌, ℕ, suc, ◌+◌, ◌*◌, ◌%◌, ◌^◌, nat_lt, Bool, true, false, Option, None, Some, List, [], ◌∷◌, ◌++◌, length, if◌then◌else◌}
 use Rattle.op_core.specs.declared.want.Want.{Want}
 use Rattle.op_core.specs.declared.want.Want.TheVariants.{Load, Store, Exchange, Flush, Fence, Draw, Power}
 use Rattle.trace.specs.Events.{line_of}
-use Rattle.image_layout.specs.Places.{Shape, block}
+use Rattle.segment_head.specs.HeadWord.{version_in, depth_in, pattern_in, is_live}
+use Rattle.image_layout.specs.Places.{Shape, block, root_word, entry_at, head_at}
 use Rattle.image_layout.specs.Volatile.{counter_word, power_word}
 use Rattle.map_model.specs.declared.call.Call.{Call}
 use Rattle.map_model.specs.declared.call.Call.TheVariants.{Get}
@@ -13,6 +14,7 @@ use Rattle.map_model.specs.declared.entry.Entry.{Entry}
 use Rattle.map_model.specs.Map.{key_of, shown}
 use Rattle.map_model.specs.Legal.{seen_after}
 use Rattle.bucket_words.specs.Core.{core_of}
+use Rattle.frame_facts.specs.Facts.{Fact, Lives, Current, Rooted, Begins}
 use Rattle.world.specs.Views.{Note, Answer, Move, Owed, View}
 use Rattle.world.specs.History.{Log, change_of}
 
@@ -21,6 +23,14 @@ pub data Kind : Type 0 where
   peeks : (word : ℕ) → Kind
   -- a load of the power word, with which an attempt begins: what was noted before is forgotten
   asks_power : Kind
+  -- a load of the root depth, after which the entries of that depth may be relied on
+  meets_root : Kind
+  -- a load of an entry of such a depth: the segment that it names is live
+  meets_entry : (depth index : ℕ) → Kind
+  -- a load of the header of such a segment, which is noted; where it is live with this version, the image's, that stays so
+  meets_head : (slot version : ℕ) → Kind
+  -- a load of a header under one of the locks of its segment, which keep it as it is
+  pins : (slot bucket : ℕ) → Kind
   -- a load of the commit counter before a change is stored: there is room for one place more, or else the call is
   -- answered as spent
   finds_room : (call : Call) → Kind
@@ -32,8 +42,8 @@ pub data Kind : Type 0 where
   looks : (lock : ℕ) → Kind
   -- a load of a word of a bucket that is noted
   notes_word : (lock word : ℕ) → Kind
-  -- a load of a noted lock word once more; the last of these makes the entry of a get
-  validates : (lock : ℕ) → Kind
+  -- a load of a noted lock word, or of the noted header, once more; the last of these makes the entry of a get
+  validates : (word : ℕ) → Kind
   -- a load of a word under one's own lock
   learns : (word : ℕ) → Kind
   -- a load of a lock word by who wants the lock: one that is free with the last version is remembered
@@ -64,12 +74,16 @@ pub data Kind : Type 0 where
 abbrev pub wanted : Shape → Kind → Want
 wanted shape (peeks i) = Load i
 wanted shape asks_power = Power
+wanted shape meets_root = Load root_word
+wanted shape (meets_entry e i) = Load (entry_at e i)
+wanted shape (meets_head s version) = Load (head_at shape s + 1)
+wanted shape (pins s b) = Load (head_at shape s + 1)
 wanted shape (finds_room call) = Load (counter_word shape)
 wanted shape (refuses call reply) = Load (counter_word shape)
 wanted shape (places k a) = Load (counter_word shape)
 wanted shape (looks lock) = Load lock
 wanted shape (notes_word lock i) = Load i
-wanted shape (validates lock) = Load lock
+wanted shape (validates i) = Load i
 wanted shape (learns i) = Load i
 wanted shape (meets_lock lock) = Load lock
 wanted shape (tries lock free) = Exchange lock free (free + 1)
@@ -128,18 +142,18 @@ of_other_homes o (n ∷ owed) = if (n.segment == o.segment) && (n.home == o.home
 abbrev pub with_noted : ℕ → ℕ → ℕ → List Note → List Note
 with_noted lock i x [] = []
 with_noted lock i x (note ∷ notes) =
-    (if note.lock == lock then (record note { words = (i, x) ∷ note.words }) else note) ∷ with_noted lock i x notes
+    (if note.word == lock then (record note { words = (i, x) ∷ note.words }) else note) ∷ with_noted lock i x notes
 
--- the notes, of none of which the lock word was loaded again
+-- the notes, of none of which the word was loaded again
 abbrev pub unmarked : List Note → List Note
 unmarked [] = []
 unmarked (note ∷ notes) = record note { again = false } ∷ unmarked notes
 
--- the notes, where a lock word was loaded again and found to be x
+-- the notes, where a noted word was loaded again and found to be x
 abbrev pub marked : ℕ → ℕ → List Note → List Note
-marked lock x [] = []
-marked lock x (note ∷ notes) =
-    (if (note.lock == lock) && (note.free == x) then (record note { again = true }) else note) ∷ marked lock x notes
+marked word x [] = []
+marked word x (note ∷ notes) =
+    (if (note.word == word) && (note.value == x) then (record note { again = true }) else note) ∷ marked word x notes
 
 abbrev pub all_again : List Note → Bool
 all_again [] = true
@@ -169,7 +183,7 @@ validated v = with_answer (all_again v.notes) v.answer v
 
 -- a view that found a lock free, or not
 abbrev pub with_look : Bool → ℕ → ℕ → View → View
-with_look true lock n v = record v { notes = record { lock = lock; free = n; words = []; again = false } ∷ v.notes }
+with_look true lock n v = record v { notes = record { word = lock; value = n; words = []; again = false } ∷ v.notes }
 with_look false lock n v = record v { notes = []; answer = None }
 
 -- a view that found room in the commit counter, or not
@@ -198,16 +212,32 @@ with_draw call n v = record v {
   answer = None;
 }
 
+-- what a header tells who looks for a version: where it is live and has that version, it is current, and where its region begins
+abbrev pub says_current : Bool → ℕ → ℕ → List Fact
+says_current true s head = Current s ∷ Begins s (pattern_in head * 2 ^ (64 - depth_in head)) ∷ []
+says_current false s head = []
+
+-- a view that met a header
+abbrev pub with_head : Shape → ℕ → ℕ → ℕ → View → View
+with_head shape s version head v = record v {
+  facts = says_current (is_live head && (version_in head == version)) s head ++ v.facts;
+  notes = record { word = head_at shape s + 1; value = head; words = []; again = false } ∷ v.notes;
+}
+
 -- the view after, by the word that was found
 abbrev pub view_after : Shape → Kind → ℕ → View → View
 view_after shape (peeks i) n v = v
 view_after shape asks_power n v = record v { notes = []; answer = None }
+view_after shape meets_root n v = record v { facts = Rooted n ∷ v.facts }
+view_after shape (meets_entry e i) n v = record v { facts = Lives n ∷ v.facts }
+view_after shape (meets_head s version) n v = with_head shape s version n v
+view_after shape (pins s b) n v = record v { pinned = (s, n) ∷ v.pinned }
 view_after shape (finds_room call) n v = with_count (nat_lt n (2 ^ 63)) call n v
 view_after shape (refuses call reply) n v = with_reply v (next_entry v call reply n false)
 view_after shape (places k a) n v = record v { notes = unmarked v.notes; answer = Some (record { key = k; value = a; place = n }) }
 view_after shape (looks lock) n v = with_look (n % 2 == 0) lock n v
 view_after shape (notes_word lock i) n v = record v { notes = with_noted lock i n v.notes }
-view_after shape (validates lock) n v = validated (record v { notes = marked lock n v.notes })
+view_after shape (validates i) n v = validated (record v { notes = marked i n v.notes })
 view_after shape (learns i) n v = record v { known = (i, n) ∷ v.known }
 view_after shape (meets_lock lock) n v = record v { spent_locks = with_spent (n == 2 ^ 64 - 2) lock v.spent_locks }
 view_after shape (tries lock free) n v = with_lock (n == free) lock free v
@@ -220,7 +250,7 @@ view_after shape (stashes i x call o) n v = with_store shape i n x (call ∷ v.p
 view_after shape (flushes l) n v = record v { dirty = off_line l v.dirty; flushed = on_line l v.dirty ++ v.flushed }
 view_after shape fences n v = record v { flushed = [] }
 view_after shape (draws_place call) n v = with_draw call n v
-view_after shape (unlocks lock next) n v = record v { held = without lock v.held; known = not_under lock v.known }
+view_after shape (unlocks lock next) n v = record v { held = without lock v.held; known = not_under lock v.known; pinned = [] }
 view_after shape cuts_power n v = record v { stored_power = true }
 
 -- the history after: a draw adds a change

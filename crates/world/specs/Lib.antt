@@ -1,4 +1,5 @@
 pub mod Site
+pub mod areas
 pub mod Views
 pub mod History
 pub mod Wants

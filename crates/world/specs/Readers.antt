@@ -17,10 +17,10 @@ use Rattle.bucket_words.specs.HomeNotes.{IsUnnoted}
 pub record NotedBucket (shape : Shape) (notes : List Note) (s b : ℕ) (word : Words) : Type 0 where
   pub note : Note
   pub has : Has note notes
-  pub lock : note.lock ≡ bucket_at shape s b
+  pub lock : note.word ≡ bucket_at shape s b
   pub words : (i : ℕ) → IsUnder (bucket_at shape s b) i → Has (i, word i) note.words
 
--- whenever all noted locks are free, the segment owns the key
+-- whenever all noted locks are free and the noted header is as it was, the segment owns the key
 abbrev pub IsLedThen : Site → List Note → ℕ → ℕ → Type 0
 IsLedThen site notes s k = (words : Words) → IsNow site notes words → owner_of site.shape words (key_hash site.shape k) ≡ Some s
 

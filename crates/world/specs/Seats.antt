@@ -32,11 +32,14 @@ joined v w = record v {
   room = v.room + w.room;
   spent_locks = v.spent_locks ++ w.spent_locks;
   stored_power = v.stored_power || w.stored_power;
+  facts = v.facts ++ w.facts;
+  pinned = v.pinned ++ w.pinned;
+  areas = v.areas ++ w.areas;
 }
 
--- the view that was taken in: its replies stay, as its caller's
+-- the view that was taken in: its replies stay, as its caller's; what it relied on went with its locks
 abbrev pub spent : View → View
-spent w = record w { held = []; known = []; dirty = []; flushed = []; planned = []; moving = []; owed = []; notes = []; answer = None; callers = 0; room = 0 }
+spent w = record w { held = []; known = []; dirty = []; flushed = []; planned = []; moving = []; owed = []; notes = []; answer = None; callers = 0; room = 0; facts = []; pinned = []; areas = [] }
 
 -- A VIEW THAT IS CUT IN TWO keeps the invariant; the new one takes the next seat
 abbrev pub CutsKeep : Type 0

@@ -1,7 +1,10 @@
 -- What is fixed from the end of a restart to the close: how the image is laid out, the words of its structure, what each key had at the start, and how many callers there are.
-use Rattle.std.specs.Prelude.{◌≡◌, ℕ, ◌+◌, ◌-◌, ◌^◌, ◌<◌, Option}
+use Rattle.std.specs.Prelude.{◌≡◌, ◌≢◌, ℕ, ◌+◌, ◌-◌, ◌%◌, ◌^◌, ◌<◌, Option}
 use Rattle.trace.specs.Events.{Words}
-use Rattle.image_layout.specs.Places.{Shape, IsShape, bucket_at, buckets, block}
+use Rattle.image_layout.specs.Places.{Shape, IsShape, root_word, state_word, bucket_at, buckets, block}
+use Rattle.segment_table.specs.Claims.{HasSoundFrame}
+use Rattle.sound_image.specs.Segments.{frame_of}
+use Rattle.frame_facts.specs.Facts.{IsCurrentSlot}
 
 pub record Site : Type 0 where
   pub shape : Shape
@@ -19,6 +22,23 @@ pub record IsSite (site : Site) : Type 0 where
 -- a word is the lock word of a bucket
 abbrev pub IsLockWord : Shape → ℕ → Type 0
 IsLockWord shape lock = (s : ℕ) × (b : ℕ) × (s < shape.segments) × (b < buckets) × (lock ≡ bucket_at shape s b)
+
+-- the version of the image
+abbrev pub version_of : Site → ℕ
+version_of site = site.front state_word % 2 ^ 8
+
+-- THE STRUCTURE of words is sound: headers, links, root and directory are, and the first words are those of the start but for the root
+pub record IsStructured (site : Site) (word : Words) : Type 0 where
+  pub fixed : (i : ℕ) → i < 32 → i ≢ root_word → word i ≡ site.front i
+  pub sound : HasSoundFrame site.shape word
+
+-- a segment is live with the version of the image
+abbrev pub IsCurrentIn : Site → Words → ℕ → Type 0
+IsCurrentIn site words s = IsCurrentSlot (frame_of site.shape words) (version_of site) s
+
+-- a word is the lock word of a bucket of such a segment
+abbrev pub IsCurrentLock : Site → Words → ℕ → Type 0
+IsCurrentLock site words lock = (s : ℕ) × (b : ℕ) × (s < site.shape.segments) × (b < buckets) × (lock ≡ bucket_at site.shape s b) × IsCurrentIn site words s
 
 -- a lock word is free with the last version, so that nobody takes the lock any more
 abbrev pub IsSpentLock : Shape → Words → ℕ → Type 0

@@ -4,17 +4,20 @@ use mathlib.Core.Option.{some}
 use lib.ListN.{get_elem?}
 use Rattle.map_model.specs.declared.call.Call.{Call}
 use Rattle.map_model.specs.declared.entry.Entry.{Entry}
+use Rattle.frame_facts.specs.Facts.{Fact}
+use Rattle.world.specs.areas.Areas.{Area}
 use Rattle.world.specs.Site.{IsUnder}
 pub use Rattle.trace.specs.Listed.{Has}
 
--- what a reader noted of a bucket whose lock it found free
+-- what a reader noted of a bucket whose lock it found free, or of the header that led it there
 pub record Note : Type 0 where
-  pub lock : ℕ
-  -- the free value that the lock word had
-  pub free : ℕ
-  -- the words loaded since
+  -- the lock word, or the header word
+  pub word : ℕ
+  -- the value that it had, of a lock word a free one
+  pub value : ℕ
+  -- the words of the bucket loaded since
   pub words : List (ℕ × ℕ)
-  -- whether the lock word was found the same after the answer's place was loaded
+  -- whether the word was found the same after the answer's place was loaded
   pub again : Bool
 
 -- what a reader will answer if all its notes prove good: what a key had after so many changes
@@ -71,6 +74,12 @@ pub record View : Type 0 where
   pub spent_locks : List ℕ
   -- whether it stored the power word: no machine does so far, and the caller that turns the power off will
   pub stored_power : Bool
+  -- what it relies on of the structure
+  pub facts : List Fact
+  -- the segments whose headers its locks keep as they are, with the header
+  pub pinned : List (ℕ × ℕ)
+  -- what it holds beside its locks
+  pub areas : List Area
 
 -- the view of seat j
 abbrev pub At : List View → ℕ → View → Type 0

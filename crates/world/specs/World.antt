@@ -1,14 +1,15 @@
 -- The world: the newest words, the events of the device that made them, and what each caller's view is. And one step of it.
-use Rattle.std.specs.Prelude.{◌≡◌, ℕ, zero, suc, ◌<◌, ◌%◌, List, [], ◌∷◌, None, false}
+use Rattle.std.specs.Prelude.{◌≡◌, ℕ, zero, suc, ◌<◌, ◌%◌, List, [], ◌∷◌, None, Some, false}
 use Rattle.trace.specs.Events.{Words, Trace, value}
 use Rattle.trace.specs.Steps.{HadSinceSettled}
 use Rattle.image_layout.specs.Places.{Shape, words_of, homes}
 use Rattle.image_layout.specs.Volatile.{counter_word, power_word}
 use Rattle.bucket_words.specs.Standing.{IsTable}
-use Rattle.bucket_words.specs.Owners.{HasStructure}
+use Rattle.bucket_words.specs.Owners.{HasStructure, owner_of}
 use Rattle.bucket_words.specs.Hits.{Hit, find}
-use Rattle.sound_image.specs.Records.{HasExactNotes}
-use Rattle.world.specs.Site.{Site, IsSite, IsLockWord}
+use Rattle.sound_image.specs.Records.{key_hash, HasExactNotes}
+use Rattle.segment_table.specs.Claims.{HasSoundFrame}
+use Rattle.world.specs.Site.{Site, IsSite, IsCurrentIn, IsCurrentLock}
 use Rattle.world.specs.Views.{View, At}
 use Rattle.world.specs.Wants.{word_of, event_of, words_after}
 use Rattle.world.specs.Kinds.{Kind, wanted, view_after}
@@ -60,20 +61,26 @@ fresh_view callers = record {
   room = 0;
   spent_locks = [];
   stored_power = false;
+  facts = [];
+  pinned = [];
+  areas = [];
 }
 
--- the world as a restart leaves it: a table, with all its words settled, no lock taken, the commit counter 0, the power on, and
--- nobody has done anything
+-- the world as a restart leaves it: a sound structure and a table, with all its words settled, the commit counter 0, the power on,
+-- and nobody has done anything. In each current segment no lock is taken, a key stands once, and in the segment that owns it, and
+-- notes are exact; of the others nothing is said
 pub record Begins (site : Site) (start : Words) (world : World) : Type 0 where
   pub site_is : IsSite site
   pub words_are : world.words ≡ value start world.trace
   pub settled : (i y : ℕ) → i < words_of site.shape → HadSinceSettled start world.trace i y → y ≡ world.words i
   pub structure : HasStructure site.shape site.front world.words
+  pub sound : HasSoundFrame site.shape site.front
   pub table : IsTable site.shape world.words
-  pub once : (s b r c t k : ℕ) → Hit site.shape world.words s b r k → Hit site.shape world.words s c t k → (b ≡ c) × (r ≡ t)
-  pub exact : (s b : ℕ) → s < site.shape.segments → b < homes → HasExactNotes site.shape world.words s b
+  pub own : (s b r k : ℕ) → IsCurrentIn site world.words s → Hit site.shape world.words s b r k → owner_of site.shape world.words (key_hash site.shape k) ≡ Some s
+  pub once : (s b r c t k : ℕ) → IsCurrentIn site world.words s → Hit site.shape world.words s b r k → Hit site.shape world.words s c t k → (b ≡ c) × (r ≡ t)
+  pub exact : (s b : ℕ) → IsCurrentIn site world.words s → b < homes → HasExactNotes site.shape world.words s b
   pub pairs : (k : ℕ) → find site.shape world.words k ≡ site.start k
-  pub free : (lock : ℕ) → IsLockWord site.shape lock → world.words lock % 2 ≡ 0
+  pub free : (lock : ℕ) → IsCurrentLock site world.words lock → world.words lock % 2 ≡ 0
   pub counter : world.words (counter_word site.shape) ≡ 0
   pub power : world.words (power_word site.shape) ≡ 0
   pub fresh : (j : ℕ) (v : View) → At world.views j v → v ≡ fresh_view v.callers

@@ -13,22 +13,23 @@ use Rattle.trace.proofs.Listed.{has_of_contains, contains_of_has}
 use Rattle.trace.proofs.Moments.{since_more}
 use Rattle.trace.proofs.Flushes.{flush_pending, pending_more, pending_fence_other}
 use Rattle.trace.proofs.Media.{may_more, flush_since, fence_since}
-use Rattle.image_layout.specs.Places.{words_of}
+use Rattle.image_layout.specs.Places.{Shape, words_of}
 use Rattle.image_layout.specs.Volatile.{counter_word, power_word}
 use Rattle.map_model.specs.declared.call.Call.{Call}
 use Rattle.bucket_words.specs.Core.{core_of}
 use Rattle.world.specs.Site.{Site, IsLockWord}
-use Rattle.world.specs.Views.{Answer, View, Has, At, IsGuarded, IsLoose}
+use Rattle.world.specs.Views.{Answer, View, Has, At, HasLock, IsGuarded, IsLoose}
 use Rattle.world.specs.Media.{MayLeave}
 use Rattle.world.specs.Invariant.{Holds}
-use Rattle.world.specs.Kinds.{Kind, peeks, asks_power, finds_room, refuses, places, looks, notes_word, validates, learns, meets_lock, tries, stores, copies, clears, repays, publishes, stashes, flushes, fences, draws_place, unlocks, cuts_power, wanted, on_line, off_line, loosened, marked, all_again, with_answer, with_look, with_count, with_lock, with_draw}
-use Rattle.world.specs.Conditions.{May}
+use Rattle.world.specs.Kinds.{Kind, peeks, asks_power, meets_root, meets_entry, meets_head, pins, finds_room, refuses, places, looks, notes_word, validates, learns, meets_lock, tries, stores, copies, clears, repays, publishes, stashes, flushes, fences, draws_place, unlocks, cuts_power, wanted, on_line, off_line, loosened, marked, all_again, with_answer, with_look, with_count, with_lock, with_draw}
+use Rattle.world.specs.Conditions.{IsKnownLock, May}
 use Rattle.world.specs.Wants.{event_of}
 use Rattle.world.specs.Tied.{IsFlushed, Tied}
 use Rattle.world.specs.Laws.{found_by, views_by}
+use Rattle.world.proofs.Structures.{known_lock}
 use Rattle.world.proofs.Grounds.{lock_core}
 use Rattle.world.proofs.Lists.{set_here, set_there, has_joined}
-use Rattle.world.proofs.Seats.{each, is_v, carry, one_guard, guarded_within, guarded_no_lock, guarded_no_counter, guarded_within}
+use Rattle.world.proofs.Seats.{each, is_v, carry, one_guard, guarded_within, guarded_no_lock}
 
 -- ---- lists of a view
 has_left : (xs ys : List (ℕ × ℕ)) (p : ℕ × ℕ) → Has p xs → Has p (xs ++ ys)
@@ -69,6 +70,20 @@ off_line_stays l (q ∷ d) p other h = elim (cases_Bool (eqb (line_of q.0) l)) [
   | inr f ↦ subst (λ b. Has p (cond b (off_line l d) (q ∷ off_line l d))) (sym f) (elim h [ inl e ↦ inl e | inr r ↦ inr (off_line_stays l d p other r) ])
 ]
 
+-- a store that changes a word's core makes its old value loose, and keeps what is
+module _ (shape : Shape) (words : Words) (dirty : List (ℕ × ℕ)) where
+  loses : (i x : ℕ) → (core_of shape i (words i) ≡ core_of shape i x) ⊎ Has (i, words i) (loosened shape i (words i) x dirty)
+  loses i x = elim (cases_Bool (eqb (core_of shape i (words i)) (core_of shape i x))) [
+    | inl t ↦ inl (eqb-true (core_of shape i (words i)) (core_of shape i x) t)
+    | inr f ↦ inr (subst (λ b. Has (i, words i) (cond b dirty ((i, words i) ∷ dirty))) (sym f) (inl refl))
+  ]
+
+  more_dirty : (i x : ℕ) (p : ℕ × ℕ) → Has p dirty → Has p (loosened shape i (words i) x dirty)
+  more_dirty i x p d = elim (cases_Bool (eqb (core_of shape i (words i)) (core_of shape i x))) [
+    | inl t ↦ subst (λ b. Has p (cond b dirty ((i, words i) ∷ dirty))) (sym t) d
+    | inr f ↦ subst (λ b. Has p (cond b dirty ((i, words i) ∷ dirty))) (sym f) (inr d)
+  ]
+
 -- what a view after a step has loose as it had before
 abbrev pub KeepsLoose : View → View → Type 0
 KeepsLoose w v = (w.dirty ≡ v.dirty) × (w.flushed ≡ v.flushed)
@@ -100,7 +115,7 @@ module _ (site : Site) (start : Words) (es : Trace) (views : List View) (j : ℕ
   leaves words n y keeps u a x is loose same = let s = carry views j v w at (λ i z. IsLoose z (n, x)) (λ l. keeps x l) u a is loose in inr (u, s.0, x, s.1, s.2, same)
 
   -- an event that writes nothing, and after which each caller's flushes are as before
-  tied_load : (i : ℕ) → KeepsLoose w v → Tied site start (loaded j i ∷ es) (set views j w)
+  pub tied_load : (i : ℕ) → KeepsLoose w v → Tied site start (loaded j i ∷ es) (set views j w)
   tied_load i same = record {
     covered = λ n y within had. elim (may_more start (loaded j i) es n y had) [
       | inl none ↦ absurd none
@@ -124,7 +139,7 @@ module _ (site : Site) (start : Words) (es : Trace) (views : List View) (j : ℕ
       }
 
   -- an event that writes a word: its old value is now loose, or had the same core; and nobody else had the word flushed
-  tied_write : (e : Event) (i x : ℕ) → ((n y : ℕ) → Writes now e n y → (n ≡ i) × (y ≡ x)) → value start (e ∷ es) ≡ with_word now i x
+  pub tied_write : (e : Event) (i x : ℕ) → ((n y : ℕ) → Writes now e n y → (n ≡ i) × (y ≡ x)) → value start (e ∷ es) ≡ with_word now i x
       → ((c : ℕ) → e ≡ fenced c → ⊥) → w.flushed ≡ v.flushed → ((p : ℕ × ℕ) → Has p v.dirty → Has p w.dirty)
       → (i < words_of site.shape → (core_of site.shape i (now i) ≡ core_of site.shape i x) ⊎ Has (i, now i) w.dirty)
       → ((n y : ℕ) → Has (n, y) v.flushed → n < words_of site.shape)
@@ -186,8 +201,16 @@ module _ (site : Site) (start : Words) (es : Trace) (views : List View) (j : ℕ
         ];
       }
 
+  -- a store to a word of which nobody else has flushed a value
+  pub tied_stored : (i x : ℕ) → w.dirty ≡ loosened site.shape i (now i) x v.dirty → w.flushed ≡ v.flushed → ((n y : ℕ) → Has (n, y) v.flushed → n < words_of site.shape)
+      → ((c : ℕ) (u : View) (y : ℕ) → c ≢ j → At views c u → Has (i, y) u.flushed → ⊥) → Tied site start (stored j i x ∷ es) (set views j w)
+  tied_stored i x dirty same inside alone = tied_write (stored j i x) i x (λ n y q. q) refl (λ c e. absurd (cc)) same
+      (λ p d. subst (λ (z : List (ℕ × ℕ)). Has p z) (sym dirty) (more_dirty site.shape now v.dirty i x p d))
+      (λ _. elim (loses site.shape now v.dirty i x) [ inl e ↦ inl e | inr d ↦ inr (subst (λ (z : List (ℕ × ℕ)). Has (i, now i) z) (sym dirty) d) ])
+      inside alone
+
 module _ (site : Site) (start : Words) (es : Trace) (views : List View) (j : ℕ) (v : View) (at : At views j v) (o : Tied site start es views) where
-  tied_flush : (l : ℕ) → Tied site start (flushed j l ∷ es) (set views j (record v { dirty = off_line l v.dirty; flushed = on_line l v.dirty ++ v.flushed }))
+  pub tied_flush : (l : ℕ) → Tied site start (flushed j l ∷ es) (set views j (record v { dirty = off_line l v.dirty; flushed = on_line l v.dirty ++ v.flushed }))
   tied_flush l = record {
     covered = λ n y within had. elim (may_more start (flushed j l) es n y had) [
       | inl none ↦ absurd none
@@ -242,30 +265,31 @@ module _ (site : Site) (start : Words) (es : Trace) (views : List View) (j : ℕ
         since = λ y had. inl (ap (core_of site.shape n) (flush_since start es j l n y had));
       }
 
-  tied_fence : Tied site start (fenced j ∷ es) (set views j (record v { flushed = [] }))
-  tied_fence = record {
+  -- a fence settles what its caller flushed
+  pub tied_fence : (w : View) → w.dirty ≡ v.dirty → w.flushed ≡ [] → Tied site start (fenced j ∷ es) (set views j w)
+  tied_fence w same settled = record {
     covered = λ n y within had. elim (may_more start (fenced j) es n y had) [
       | inl none ↦ absurd none
       | inr h ↦ elim (o.covered n y within h) [
         | inl e ↦ inl e
         | inr s ↦ dite (ℕ_discrete s.0 j)
             (λ (q : s.0 ≡ j). elim (subst (λ (u : View). IsLoose u (n, s.2)) (is_v views j v v at s.0 s.1 s.3 q) s.4) [
-              | inl d ↦ inr (j, w, s.2, set_here views j v w at, inl d, s.5)
+              | inl d ↦ inr (j, w, s.2, set_here views j v w at, inl (still n s.2 d), s.5)
               | inr f ↦ (let r = o.fresh j v n s.2 at f in
                   elim (r.since y (fence_since start es j n r.moment y (has_of_contains (line_of n, r.moment) (pending j es) r.is_pending) had)) [
                     | inl e ↦ inl e
-                    | inr z ↦ inr (j, w, z.0, set_here views j v w at, inl z.1, z.2)
+                    | inr z ↦ inr (j, w, z.0, set_here views j v w at, inl (still n z.0 z.1), z.2)
                   ])
             ])
             (λ (q : s.0 ≢ j). inr (s.0, s.1, s.2, set_there views j s.0 s.1 w q s.3, s.4, s.5))
       ]
     ];
     fresh = λ c u n x a has. each views j v w at (λ c u. Has (n, x) u.flushed → IsFlushed site start (fenced j ∷ es) c u.dirty n)
-        (λ none. absurd none) (λ c u ne a has. kept c u n ne (o.fresh c u n x a has)) c u a has;
+        (λ has. absurd (subst (λ (z : List (ℕ × ℕ)). Has (n, x) z) settled has)) (λ c u ne a has. kept c u n ne (o.fresh c u n x a has)) c u a has;
   }
     where
-      w : View
-      w = record v { flushed = [] }
+      still : (n x : ℕ) → Has (n, x) v.dirty → Has (n, x) w.dirty
+      still n x d = subst (λ (z : List (ℕ × ℕ)). Has (n, x) z) (sym same) d
 
       kept : (c : ℕ) (u : View) (n : ℕ) → c ≢ j → IsFlushed site start es c u.dirty n → IsFlushed site start (fenced j ∷ es) c u.dirty n
       kept c u n ne f = record {
@@ -274,78 +298,94 @@ module _ (site : Site) (start : Words) (es : Trace) (views : List View) (j : ℕ
         since = λ y had. elim (since_more start (fenced j) es f.moment n y had) [ inl none ↦ absurd none | inr h ↦ f.since y h ];
       }
 
+-- ---- what is said of flushed words, for the steps of a caller to keep it so: they lie within the image; and nobody else has one under
+-- a lock that the view holds, nor the word of a lock that it holds or knows
+pub record SparesFlushed (site : Site) (views : List View) (j : ℕ) (v : View) : Type 0 where
+  pub inside : (c : ℕ) (u : View) (n y : ℕ) → At views c u → Has (n, y) u.flushed → n < words_of site.shape
+  pub alone : (i : ℕ) → IsGuarded v.held i → (c : ℕ) (u : View) (y : ℕ) → c ≢ j → At views c u → Has (i, y) u.flushed → ⊥
+  pub is_lock : (lock : ℕ) → HasLock v.held lock → IsLockWord site.shape lock
+  pub held : (lock : ℕ) → HasLock v.held lock → (c : ℕ) (u : View) (y : ℕ) → c ≢ j → At views c u → Has (lock, y) u.flushed → ⊥
+  pub known : (lock : ℕ) → IsKnownLock site v lock → (c : ℕ) (u : View) (y : ℕ) → c ≢ j → At views c u → Has (lock, y) u.flushed → ⊥
+
 -- ---- by kinds
-module _ (site : Site) (start : Words) (es : Trace) (views : List View) (j : ℕ) (v : View) (h : Holds site (value start es) views) (at : At views j v) (o : Tied site start es views) where
+module _ (site : Site) (start : Words) (es : Trace) (views : List View) (j : ℕ) (v : View) (f : SparesFlushed site views j v) (at : At views j v) (o : Tied site start es views) where
   abbrev words : Words
   words = value start es
 
-  guarded : (c : ℕ) (u : View) (n y : ℕ) → At views c u → Has (n, y) u.flushed → IsGuarded u.held n
-  guarded c u n y a has = h.known.loose c u n y a (inr has)
-
   inside : (n y : ℕ) → Has (n, y) v.flushed → n < words_of site.shape
-  inside n y has = guarded_within site words views h.locks j v n at (guarded j v n y at has)
-
-  -- a store that changes the word's core makes its old value loose
-  loses : (i x : ℕ) → (core_of site.shape i (words i) ≡ core_of site.shape i x) ⊎ Has (i, words i) (loosened site.shape i (words i) x v.dirty)
-  loses i x = elim (cases_Bool (eqb (core_of site.shape i (words i)) (core_of site.shape i x))) [
-    | inl t ↦ inl (eqb-true (core_of site.shape i (words i)) (core_of site.shape i x) t)
-    | inr f ↦ inr (subst (λ b. Has (i, words i) (cond b v.dirty ((i, words i) ∷ v.dirty))) (sym f) (inl refl))
-  ]
-
-  more_dirty : (i x : ℕ) (p : ℕ × ℕ) → Has p v.dirty → Has p (loosened site.shape i (words i) x v.dirty)
-  more_dirty i x p d = elim (cases_Bool (eqb (core_of site.shape i (words i)) (core_of site.shape i x))) [
-    | inl t ↦ subst (λ b. Has p (cond b v.dirty ((i, words i) ∷ v.dirty))) (sym t) d
-    | inr f ↦ subst (λ b. Has p (cond b v.dirty ((i, words i) ∷ v.dirty))) (sym f) (inr d)
-  ]
+  inside n y has = f.inside j v n y at has
 
   tied_store : (i x : ℕ) (w : View) → w.dirty ≡ loosened site.shape i (words i) x v.dirty → w.flushed ≡ v.flushed → IsGuarded v.held i → Tied site start (stored j i x ∷ es) (set views j w)
-  tied_store i x w dirty same g = tied_write site start es views j v w at o (stored j i x) i x (λ n y q. q) refl (λ c e. absurd (cc)) same
-      (λ p d. subst (λ (z : List (ℕ × ℕ)). Has p z) (sym dirty) (more_dirty i x p d))
-      (λ _. elim (loses i x) [ inl e ↦ inl e | inr d ↦ inr (subst (λ (z : List (ℕ × ℕ)). Has (i, words i) z) (sym dirty) d) ])
-      inside (λ c u y ne a has. ne (one_guard site words views h.locks c j u v i a at (guarded c u i y a has) g))
+  tied_store i x w dirty same g = tied_stored site start es views j v w at o i x dirty same inside (f.alone i g)
 
   -- a lock word has no core
   tied_lock : (e : Event) (lock x : ℕ) (w : View) → ((n y : ℕ) → Writes words e n y → (n ≡ lock) × (y ≡ x)) → value start (e ∷ es) ≡ with_word words lock x → ((c : ℕ) → e ≡ fenced c → ⊥)
-      → IsLockWord site.shape lock → KeepsLoose w v → Tied site start (e ∷ es) (set views j w)
-  tied_lock e lock x w writes becomes none is same = tied_write site start es views j v w at o e lock x writes becomes none same.1
+      → IsLockWord site.shape lock → ((c : ℕ) (u : View) (y : ℕ) → c ≢ j → At views c u → Has (lock, y) u.flushed → ⊥) → KeepsLoose w v → Tied site start (e ∷ es) (set views j w)
+  tied_lock e lock x w writes becomes none is alone same = tied_write site start es views j v w at o e lock x writes becomes none same.1
       (λ p d. subst (λ (z : List (ℕ × ℕ)). Has p z) (sym same.0) d)
       (λ _. inl (lock_core site.shape lock (words lock) is ∙ sym (lock_core site.shape lock x is)))
-      inside (λ c u y ne a has. guarded_no_lock site words views h.locks c u lock lock a (guarded c u lock y a has) is refl)
+      inside alone
 
-  tied_try : (lock free : ℕ) → IsLockWord site.shape lock → (t : Bool) → Tied site start (cond t (exchanged j lock (free + 1)) (loaded j lock) ∷ es) (set views j (with_lock t lock free v))
-  tied_try lock free is true = tied_lock (exchanged j lock (free + 1)) lock (free + 1) (with_lock true lock free v) (λ n y q. q) refl (λ c e. absurd (cc)) is (refl, refl)
-  tied_try lock free is false = tied_load site start es views j v v at o lock (refl, refl)
+  tied_try : (lock free : ℕ) → IsKnownLock site v lock → (t : Bool) → Tied site start (cond t (exchanged j lock (free + 1)) (loaded j lock) ∷ es) (set views j (with_lock t lock free v))
+  tied_try lock free known true = tied_lock (exchanged j lock (free + 1)) lock (free + 1) (with_lock true lock free v) (λ n y q. q) refl (λ c e. absurd (cc))
+      (known_lock site v lock known) (f.known lock known) (refl, refl)
+  tied_try lock free known false = tied_load site start es views j v v at o lock (refl, refl)
 
   tied_draw : (call : Call) (n : ℕ) → Tied site start (drawn j (counter_word site.shape) ∷ es) (set views j (with_draw call n v))
   tied_draw call n = tied_write site start es views j v (with_draw call n v) at o (drawn j (counter_word site.shape)) (counter_word site.shape) ((words (counter_word site.shape) + 1) % 2 ^ 64)
       (λ n y q. q) refl (λ c e. absurd (cc)) refl (λ p d. d) (λ within. absurd (omega (arith, within))) inside
-      (λ c u y ne a has. guarded_no_counter site words views h.locks c u (counter_word site.shape) a (guarded c u (counter_word site.shape) y a has) refl)
+      (λ c u y ne a has. let w = f.inside c u (counter_word site.shape) y a has in omega (arith, w))
 
   calm : (i : ℕ) (w : View) → KeepsLoose w v → Tied site start (loaded j i ∷ es) (set views j w)
   calm i w same = tied_load site start es views j v w at o i same
 
-  pub keep_tied : (kind : Kind) → May site kind v → Tied site start (event_of site.shape (wanted site.shape kind) (found_by site kind words) j ∷ es) (views_by site kind j v words views)
-  keep_tied (peeks i) may = calm i _ (refl, refl)
-  keep_tied asks_power may = calm _ _ (refl, refl)
-  keep_tied (finds_room call) may = calm _ _ (count_loose (nat_lt (words (counter_word site.shape)) (2 ^ 63)) call (words (counter_word site.shape)) v)
-  keep_tied (refuses call reply) may = calm _ _ (refl, refl)
-  keep_tied (places k a) may = calm _ _ (refl, refl)
-  keep_tied (looks lock) may = calm _ _ (look_loose (eqb (words lock % 2) 0) lock (words lock) v)
-  keep_tied (notes_word lock i) may = calm _ _ (refl, refl)
-  keep_tied (validates lock) may = calm _ _ (answer_loose (all_again (marked lock (words lock) v.notes)) v.answer (record v { notes = marked lock (words lock) v.notes }))
-  keep_tied (learns i) may = calm _ _ (refl, refl)
-  keep_tied (meets_lock lock) may = calm _ _ (refl, refl)
-  keep_tied (tries lock free) may = tied_try lock free may.0 (eqb (words lock) free)
-  keep_tied (stores i x) may = tied_store i x _ refl refl may.0.guarded
-  keep_tied (copies i x m) may = tied_store i x _ refl refl may.0.guarded
-  keep_tied (clears i x m) may = tied_store i x _ refl refl may.0.guarded
-  keep_tied (repays i x o) may = tied_store i x _ refl refl may.0.guarded
-  keep_tied (publishes i x call) may = tied_store i x _ refl refl may.0.guarded
-  keep_tied (stashes i x call o) may = tied_store i x _ refl refl may.0.guarded
-  keep_tied (flushes l) may = tied_flush site start es views j v at o l
-  keep_tied fences may = tied_fence site start es views j v at o
-  keep_tied (draws_place call) may = tied_draw call _
-  keep_tied (unlocks lock next) may = tied_lock (stored j lock next) lock next _ (λ n y q. q) refl (λ c e. absurd (cc)) (h.locks.locked j v lock may.0 at may.1).0 (refl, refl)
-  keep_tied cuts_power may = tied_write site start es views j v _ at o (stored j (power_word site.shape) 1) (power_word site.shape) 1
+  pub tied_by_kind : (kind : Kind) → May site kind v → Tied site start (event_of site.shape (wanted site.shape kind) (found_by site kind words) j ∷ es) (views_by site kind j v words views)
+  tied_by_kind (peeks i) may = calm i _ (refl, refl)
+  tied_by_kind asks_power may = calm _ _ (refl, refl)
+  tied_by_kind meets_root may = calm _ _ (refl, refl)
+  tied_by_kind (meets_entry e i) may = calm _ _ (refl, refl)
+  tied_by_kind (meets_head s version) may = calm _ _ (refl, refl)
+  tied_by_kind (pins s b) may = calm _ _ (refl, refl)
+  tied_by_kind (finds_room call) may = calm _ _ (count_loose (nat_lt (words (counter_word site.shape)) (2 ^ 63)) call (words (counter_word site.shape)) v)
+  tied_by_kind (refuses call reply) may = calm _ _ (refl, refl)
+  tied_by_kind (places k a) may = calm _ _ (refl, refl)
+  tied_by_kind (looks lock) may = calm _ _ (look_loose (eqb (words lock % 2) 0) lock (words lock) v)
+  tied_by_kind (notes_word lock i) may = calm _ _ (refl, refl)
+  tied_by_kind (validates lock) may = calm _ _ (answer_loose (all_again (marked lock (words lock) v.notes)) v.answer (record v { notes = marked lock (words lock) v.notes }))
+  tied_by_kind (learns i) may = calm _ _ (refl, refl)
+  tied_by_kind (meets_lock lock) may = calm _ _ (refl, refl)
+  tied_by_kind (tries lock free) may = tied_try lock free may.0 (eqb (words lock) free)
+  tied_by_kind (stores i x) may = tied_store i x _ refl refl may.0.guarded
+  tied_by_kind (copies i x m) may = tied_store i x _ refl refl may.0.guarded
+  tied_by_kind (clears i x m) may = tied_store i x _ refl refl may.0.guarded
+  tied_by_kind (repays i x o) may = tied_store i x _ refl refl may.0.guarded
+  tied_by_kind (publishes i x call) may = tied_store i x _ refl refl may.0.guarded
+  tied_by_kind (stashes i x call o) may = tied_store i x _ refl refl may.0.guarded
+  tied_by_kind (flushes l) may = tied_flush site start es views j v at o l
+  tied_by_kind fences may = tied_fence site start es views j v at o _ refl refl
+  tied_by_kind (draws_place call) may = tied_draw call _
+  tied_by_kind (unlocks lock next) may = tied_lock (stored j lock next) lock next _ (λ n y q. q) refl (λ c e. absurd (cc)) (f.is_lock lock (may.0, may.1)) (f.held lock (may.0, may.1)) (refl, refl)
+  tied_by_kind cuts_power may = tied_write site start es views j v _ at o (stored j (power_word site.shape) 1) (power_word site.shape) 1
       (λ n y q. q) refl (λ c e. absurd (cc)) refl (λ p d. d) (λ within. absurd (omega (arith, within))) inside
-      (λ c u y ne a has. let w = guarded_within site words views h.locks c u (power_word site.shape) a (guarded c u (power_word site.shape) y a has) in omega (arith, w))
+      (λ c u y ne a has. let w = f.inside c u (power_word site.shape) y a has in omega (arith, w))
+
+-- where no structure moves all that is flushed lies under locks
+module _ (site : Site) (words : Words) (views : List View) (j : ℕ) (v : View) (h : Holds site words views) (at : At views j v) where
+  guarded : (c : ℕ) (u : View) (n y : ℕ) → At views c u → Has (n, y) u.flushed → IsGuarded u.held n
+  guarded c u n y a has = h.known.loose c u n y a (inr has)
+
+  apart : (lock : ℕ) → IsLockWord site.shape lock → (c : ℕ) (u : View) (y : ℕ) → At views c u → Has (lock, y) u.flushed → ⊥
+  apart lock is c u y a has = guarded_no_lock site words views h.locks c u lock lock a (guarded c u lock y a has) is refl
+
+  pub flushed_spared : SparesFlushed site views j v
+  flushed_spared = record {
+    inside = λ c u n y a has. guarded_within site words views h.locks c u n a (guarded c u n y a has);
+    alone = λ i g c u y ne a has. ne (one_guard site words views h.locks c j u v i a at (guarded c u i y a has) g);
+    is_lock = λ lock has. (h.locks.locked j v lock has.0 at has.1).0;
+    held = λ lock has c u y ne. apart lock (h.locks.locked j v lock has.0 at has.1).0 c u y;
+    known = λ lock k c u y ne. apart lock (known_lock site v lock k) c u y;
+  }
+
+pub keep_tied : (site : Site) (start : Words) (es : Trace) (views : List View) (j : ℕ) (v : View) → Holds site (value start es) views → At views j v → Tied site start es views → (kind : Kind) → May site kind v
+    → Tied site start (event_of site.shape (wanted site.shape kind) (found_by site kind (value start es)) j ∷ es) (views_by site kind j v (value start es) views)
+keep_tied site start es views j v h at o kind may = tied_by_kind site start es views j v (flushed_spared site (value start es) views j v h at) at o kind may

@@ -45,7 +45,7 @@ pub does_its_event : DoesItsEvent
 does_its_event shape start kind j world is = ap (after (event_of shape (wanted shape kind) (world.words (word_of shape (wanted shape kind))) j)) is
 
 -- ---- a step
-changed_is : (j : ℕ) (change : View → View) (views : List View) (v : View) → At views j v → changed_at j change views ≡ set views j (change v)
+pub changed_is : (j : ℕ) (change : View → View) (views : List View) (v : View) → At views j v → changed_at j change views ≡ set views j (change v)
 changed_is j change [] v at = absurd (some-ne-none v (sym at))
 changed_is zero change (x ∷ views) v at = ap (λ (z : View). change z ∷ views) (some-injective x v at)
 changed_is (suc j) change (x ∷ views) v at = ap (λ (zs : List View). x ∷ zs) (changed_is j change views v at)
@@ -91,6 +91,13 @@ module _ (site : Site) (start : Words) (world : World) (b : Begins site start wo
   begins_holds = record {
     site_is = b.site_is;
     log = [];
+    structure = record {
+      constant = b.structure;
+      sound = b.sound;
+      says = λ j v f at h. absurd (none (λ v. v.facts) (λ _. refl) j v f at h);
+      pinned = λ j v s x at h. absurd (none (λ v. v.pinned) (λ _. refl) j v (s, x) at h);
+      locks = λ j v lock at h. absurd (none (λ v. v.held) (λ _. refl) j v (lock, h.0) at h.1);
+    };
     locks = record {
       alone = λ i j u v lock x y at at' h h'. absurd (none (λ v. v.held) (λ _. refl) i u (lock, x) at h);
       locked = λ j v lock x at h. absurd (none (λ v. v.held) (λ _. refl) j v (lock, x) at h);
@@ -115,12 +122,13 @@ module _ (site : Site) (start : Words) (world : World) (b : Begins site start wo
       drawn = total_none (λ v. draws v.own) world.views (is_fresh (λ v. draws v.own ≡ 0) (λ n. refl));
       each_once = λ n below. absurd (omega (arith, below));
     };
+    owned = record { own = b.own };
     copies = record {
-      once = λ s a r c t k x y. inl (b.once s a r c t k x y);
+      once = λ s a r c t k current x y. inl (b.once s a r c t k current x y);
       held = λ j v m at h. absurd (none (λ v. v.moving) (λ _. refl) j v m at h);
     };
     overflow = record {
-      exact = λ s a seg near _. b.exact s a seg near;
+      exact = λ s a current near _. b.exact s a current near;
       owes = λ j v o at h. absurd (none (λ v. v.owed) (λ _. refl) j v o at h);
       held = λ j v o at h. absurd (none (λ v. v.owed) (λ _. refl) j v o at h);
       fits = λ j v o at h. absurd (none (λ v. v.owed) (λ _. refl) j v o at h);
@@ -128,7 +136,7 @@ module _ (site : Site) (start : Words) (world : World) (b : Begins site start wo
     media = record {
       structure = λ m p i s. core_structure_same site world.words m (cores m p) i s ∙ b.structure i s;
       table = λ m p. (same_keeps site world.words m (λ i within. sym (cores m p i within)) b.table).table;
-      stashed = λ m p s c t k small own hit. inl (same_hit site m world.words (cores m p) s (64 + c) t k hit);
+      stashed = λ m p s c t k current small own hit. inl (same_hit site m world.words (cores m p) s (64 + c) t k hit);
       stands = λ m p k. inl (same_find site m world.words k (cores m p) ∙ b.pairs k);
     };
     notes = record {

@@ -1,8 +1,8 @@
 -- What a view knows of the newest words, and of a medium that may be left beside them.
-use Rattle.std.proofs.Common.{◌≡◌, ℕ, ◌+◌, ◌%◌, List, [], cond, eqb, Some, inl, inr, refl, sym, ap, ◌∙◌, subst, arith}
+use Rattle.std.proofs.Common.{◌≡◌, ℕ, ◌+◌, ◌%◌, ◌<◌, List, [], cond, eqb, Some, inl, inr, refl, sym, ap, ◌∙◌, subst, arith}
 use Rattle.std.proofs.lemmas.Bool.{cases_Bool, eq-eqb, eqb-true}
-use Rattle.trace.specs.Events.{Words, with_word}
-use Rattle.image_layout.specs.Places.{bucket_at}
+use Rattle.trace.specs.Events.{Words}
+use Rattle.image_layout.specs.Places.{bucket_at, buckets}
 use Rattle.hash_word.specs.Hash.{home_of}
 use Rattle.sound_image.specs.Records.{key_hash}
 use Rattle.map_model.specs.declared.call.Call.TheVariants.{Remove}
@@ -13,17 +13,18 @@ use Rattle.bucket_words.specs.Hits.{Hit, find}
 use Rattle.bucket_words.specs.Owners.{HasStructure, home_at, owner_of}
 use Rattle.std.specs.Option.{unwrap_or}
 use Rattle.bucket_words.proofs.segments.Finding.{find_is}
-use Rattle.bucket_words.proofs.segments.Places.{structure_kept}
 use Rattle.bucket_words.specs.Buckets.{value_in}
-use Rattle.world.specs.Site.{Site, IsUnder}
-use Rattle.world.specs.Views.{Move, View, Has, At, HasLock, IsGuarded, IsLoose, IsFirm}
+use Rattle.frame_facts.specs.Facts.{Fact, Current, HoldsFact}
+use Rattle.world.specs.Site.{Site, IsUnder, version_of, IsCurrentIn, IsCurrentLock}
+use Rattle.world.specs.Views.{Move, View, Has, At, HasLock, IsLoose, IsFirm}
 use Rattle.world.specs.History.{map_now}
 use Rattle.world.specs.Media.{IsPossible}
 use Rattle.world.specs.Invariant.{Holds, IsRemoving}
-use Rattle.world.specs.Conditions.{Agrees, IsUnplanned, IsNewest, StandsBeside, HoldsHome}
+use Rattle.world.specs.Conditions.{Agrees, IsUnplanned, IsNewest, StandsBeside, HoldsHome, IsKnownLock}
 use Rattle.world.proofs.Tables.{same_table, same_owner, core_structure_same, same_hit}
 use Rattle.world.proofs.Seats.{is_v, one_guard, guarded_within, lock_of}
-use Rattle.world.proofs.Grounds.{under_within, under_lock}
+use Rattle.world.proofs.Grounds.{home_near, under_within}
+use Rattle.world.proofs.Structures.{current_of_lock, same_current, structured, follow}
 
 pub newest : (site : Site) (words : Words) (views : List View) → IsPossible site words views words
 newest site words views i within = inl refl
@@ -57,10 +58,17 @@ module _ (site : Site) (words : Words) (views : List View) (j : ℕ) (v : View) 
   whole_agrees m p i x known firm =
       ap (λ b. cond b (words i) (m i)) (eq-eqb (core site.shape m i) (core site.shape words i) (core_agrees m p i x known firm)) ∙ (h.known.knows j v i x at known).0
 
-  -- a store under a lock leaves the structure
-  pub guarded_structure : (i x : ℕ) → IsGuarded v.held i → (m : Words) → HasStructure site.shape m (with_word m i x)
-  guarded_structure i x g m = let l = lock_of site words views h.locks j v g.0 at g.1 in let u = under_lock site.shape l.0 l.1 i (subst (λ (z : ℕ). IsUnder z i) l.4 g.2) in
-      structure_kept site.shape m l.0 l.1 u.0 x i l.3 u.2 u.3
+  -- the segment of a lock that it holds is current
+  pub held_current : (s b : ℕ) → b < buckets → HasLock v.held (bucket_at site.shape s b) → IsCurrentIn site words s
+  held_current s b near has = current_of_lock site words s b near (h.structure.locks j v (bucket_at site.shape s b) at has)
+
+  -- and so is that of a lock that it knows
+  pub known_current : (lock : ℕ) → IsKnownLock site v lock → IsCurrentLock site words lock
+  known_current lock k = (k.0, k.1, k.2, k.3, k.4, same_current site site.front words h.structure.constant k.0 (h.structure.says j v (Current k.0) at k.6))
+
+  -- what its facts say is so in the newest words, and in words of the same structure beside them
+  pub says_beside : (m : Words) → HasStructure site.shape site.front m → (f : Fact) → Has f v.facts → HoldsFact site.shape (version_of site) words f m
+  says_beside m has f fact = follow site h.site_is h.structure.sound words m h.structure.constant has f (h.structure.says j v f at fact)
 
   -- the newest words have what a view knows
   pub newest_agrees : Agrees site v words
@@ -89,10 +97,13 @@ module _ (site : Site) (words : Words) (views : List View) (j : ℕ) (v : View) 
 
   pub newest_is : IsNewest site v words
   newest_is = record {
-    structure = h.media.structure words (newest site words views);
+    structure = structured site h.site_is h.structure.sound words h.structure.constant;
+    says = says_beside words h.structure.constant;
+    pinned = λ s x has. (h.structure.pinned j v s x at has).3;
     table = h.media.table words (newest site words views);
     knows = λ i x known. (h.known.knows j v i x at known).0;
-    once = λ s b r c t k lock hit hit'. elim (h.copies.once s b r c t k hit hit') [
+    own = λ s b r k lock hit. h.owned.own s b r k (held_current s b hit.bucket lock) hit;
+    once = λ s b r c t k lock hit hit'. elim (h.copies.once s b r c t k (held_current s (home_of (key_hash site.shape k)) (let near = home_near site.shape k in omega (arith, near)) lock) hit hit') [
       | inl e ↦ inl e
       | inr m ↦ inr (
         m.2,
@@ -102,7 +113,7 @@ module _ (site : Site) (words : Words) (views : List View) (j : ℕ) (v : View) 
         m.5,
       )
     ];
-    exact = λ s b seg near lock none. h.overflow.exact s b seg near (λ i u o a has e f.
+    exact = λ s b seg near lock none. h.overflow.exact s b (held_current s b (omega (arith, near)) lock) near (λ i u o a has e f.
         none o (subst (λ (u : View). Has o u.owed) (same_view i u (bucket_at site.shape s b) (bucket_at site.shape o.segment o.home) a (h.overflow.held i u o a has) lock
         (ap (λ z. bucket_at site.shape z o.home) e ∙ ap (bucket_at site.shape s) f)) has) e f);
     owes = λ o has. h.overflow.owes j v o at has;
@@ -131,13 +142,14 @@ module _ (site : Site) (words : Words) (views : List View) (j : ℕ) (v : View) 
 
   pub beside : (m : Words) → IsPossible site words views m → StandsBeside site v words (whole m)
   beside m p = record {
-    structure = whole_structure m p;
+    structure = structured site h.site_is h.structure.sound (whole m) (whole_structure m p);
+    says = says_beside (whole m) (whole_structure m p);
     table = whole_table m p;
     agrees = whole_agrees m p;
     owner = λ s k lock own. whole_owner m p k ∙ own;
     stashed = λ s c t k small lock none own hit.
         let own' = sym (whole_owner m p k) ∙ own in
-        elim (h.media.stashed m p s c t k small (medium_owner m p k ∙ own') (same_hit site (whole m) m (λ n _. whole_cores m n) s (64 + c) t k hit)) [
+        elim (h.media.stashed m p s c t k (held_current s (home_of (key_hash site.shape k)) (let near = home_near site.shape k in omega (arith, near)) lock) small (medium_owner m p k ∙ own') (same_hit site (whole m) m (λ n _. whole_cores m n) s (64 + c) t k hit)) [
           | inl e ↦ e
           | inr r ↦ absurd (none (Remove k) (remover s k _ lock own' r).0 refl)
         ];
@@ -145,7 +157,8 @@ module _ (site : Site) (words : Words) (views : List View) (j : ℕ) (v : View) 
 
   pub beside_self : StandsBeside site v words words
   beside_self = record {
-    structure = h.media.structure words (newest site words views);
+    structure = structured site h.site_is h.structure.sound words h.structure.constant;
+    says = says_beside words h.structure.constant;
     table = h.media.table words (newest site words views);
     agrees = newest_agrees;
     owner = λ s k lock own. own;
@@ -168,7 +181,7 @@ slot_is_pair site words views j v h at s b r k lock none own hit =
 -- TWO RECORDS of one key in held buckets are one, where nothing is under way here
 pub slots_differ : (site : Site) (words : Words) (views : List View) (j : ℕ) (v : View) (h : Holds site words views) → At views j v → (s b r c t k : ℕ) → HasLock v.held (bucket_at site.shape s b)
     → v.moving ≡ [] → Hit site.shape words s b r k → Hit site.shape words s c t k → (b ≡ c) × (r ≡ t)
-slots_differ site words views j v h at s b r c t k lock none x y = elim (h.copies.once s b r c t k x y) [
+slots_differ site words views j v h at s b r c t k lock none x y = elim (h.copies.once s b r c t k (held_current site words views j v h at s b x.bucket lock) x y) [
   | inl e ↦ e
   | inr m ↦ absurd (let l = h.copies.held m.0 m.1 m.2 m.3 m.4 in let is = m.5 in
       let has : HasLock m.1.held (bucket_at site.shape s b) = elim is.2 [

@@ -1,10 +1,8 @@
 -- What is known of a bucket under its lock, in the newest words and in a medium beside them.
-use Rattle.std.proofs.Common.{◌≡◌, ℕ, ◌+◌, ◌*◌, ◌-◌, ◌/◌, ◌%◌, ◌^◌, ◌<◌, ◌≤◌, sym, ap, ◌∙◌, subst, arith}
+use Rattle.std.proofs.Common.{◌≡◌, ℕ, ◌+◌, ◌*◌, ◌-◌, ◌/◌, ◌^◌, ◌<◌, ◌≤◌, sym, ap, ◌∙◌, subst, arith}
 use Rattle.bucket_meta.specs.Bucket.{allocated, finger}
-use Rattle.hash_word.specs.Hash.{home_of}
 use Rattle.trace.specs.Events.{Words}
 use Rattle.image_layout.specs.Places.{Shape, bucket_at}
-use Rattle.sound_image.specs.Records.{key_hash}
 use Rattle.bucket_words.specs.Buckets.{key_in, value_in, finger_in}
 use Rattle.bucket_meta.specs.Marks.{SameButSlot}
 use Rattle.bucket_words.specs.Hits.{Hit}
@@ -53,10 +51,6 @@ module _ (shape : Shape) (word w : Words) (s b : ℕ) (same : (i : ℕ) → IsUn
 
   pub high_part : (x : ℕ) → x / 2 ^ 28 ≡ word (at + 1) / 2 ^ 28 → x / 2 ^ 28 ≡ w (at + 1) / 2 ^ 28
   high_part x e = e ∙ ap (λ z. z / 2 ^ 28) (sym meta)
-
--- a home is one of the buckets before the stash
-pub home_near : (shape : Shape) (k : ℕ) → home_of (key_hash shape k) < homes
-home_near shape k = let h = key_hash shape k in let r : h / 2 ^ 8 % 2 ^ 6 < 64 = omega arith in r
 
 -- a stash bucket by its number
 pub stash_of : (b : ℕ) → b < buckets → homes ≤ b → (c : ℕ) × (c < stash_buckets) × (b ≡ homes + c)

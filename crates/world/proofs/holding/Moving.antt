@@ -1,5 +1,5 @@
 -- The copy of a record, and the clearing of its source.
-use Rattle.std.proofs.Common.{◌≡◌, ◌≢◌, ℕ, ◌+◌, ◌<◌, List, [], Some, inl, inr, refl, sym, ◌∙◌, subst, arith}
+use Rattle.std.proofs.Common.{◌≡◌, ◌≢◌, ℕ, ◌+◌, ◌<◌, List, [], Some, inl, inr, refl, sym, ap, ◌∙◌, subst, arith}
 use Rattle.hash_word.specs.Hash.{home_of}
 use Rattle.trace.specs.Events.{Words, with_word}
 use Rattle.image_layout.specs.Places.{bucket_at}
@@ -100,6 +100,8 @@ module _ (site : Site) (v : View) where
           | inr new ↦ inr (
             subst (λ (z : ℕ). HasLock v.held (bucket_at site.shape z (home l))) (sym new.0) (subst (λ (z : ℕ). HasLock v.held (bucket_at site.shape s (home z))) (sym new.3) lock),
             subst (λ (z : ℕ). HasLock v.held (bucket_at site.shape z d)) (sym new.0) (subst (λ (z : ℕ). HasLock v.held (bucket_at site.shape s z)) (sym new.1) target.lock),
+            ap (λ z. owner_of site.shape words (key_hash site.shape z)) new.3
+                ∙ (n.own s b r k source.lock (stood_there words n.table (newest_same site v words word s b n source) (newest_same site v words word s c n target)) ∙ ap Some (sym new.0)),
           )
         ];
       },

@@ -8,6 +8,7 @@ use Rattle.map_model.specs.declared.call.Call.TheVariants.{Insert}
 use Rattle.bucket_words.specs.Buckets.{IsTaken, value_in}
 use Rattle.bucket_meta.specs.Marks.{SameButSlot}
 use Rattle.bucket_words.specs.Standing.{IsTable}
+use Rattle.bucket_words.specs.Owners.{owner_of}
 use Rattle.bucket_words.specs.Hits.{Hit, HasNone}
 use Rattle.bucket_words.specs.TableChanges.{ChangesKey, IsReadyAt, OnlyNewHit}
 use Rattle.bucket_words.proofs.segments.Finding.{find_none}
@@ -23,7 +24,8 @@ use Rattle.bucket_words.specs.HomeNotes.{IsUnnoted}
 use Rattle.world.specs.Holders.{KnowsBucket, FoundNone, TakesSlot}
 use Rattle.bucket_words.proofs.segments.Stashed.{not_there}
 use Rattle.bucket_meta.specs.Notes.{how_often}
-use Rattle.world.proofs.holding.Known.{same_value, ready, hit_to, but_slot, high_part, home_near, stash_of, newest_same, medium_same}
+use Rattle.world.proofs.Grounds.{home_near}
+use Rattle.world.proofs.holding.Known.{same_value, ready, hit_to, but_slot, high_part, stash_of, newest_same, medium_same}
 use Rattle.world.proofs.holding.Owing.{notes_beside, notes_known, count_known}
 
 module _ (site : Site) (v : View) where
@@ -106,14 +108,16 @@ module _ (site : Site) (v : View) where
       pub guarded : IsGuarded v.held i
       guarded = (bucket_at site.shape s b, known.lock, (omega arith, omega arith))
 
-      held_lock : (q c l : ℕ) → q ≡ s → c ≡ b → l ≡ k → HasLock v.held (bucket_at site.shape q (home l)) × HasLock v.held (bucket_at site.shape q c)
-      held_lock q c l e g y = (
+      held_lock : (words : Words) → IsNewest site v words → (q c l : ℕ) → q ≡ s → c ≡ b → l ≡ k
+          → HasLock v.held (bucket_at site.shape q (home l)) × HasLock v.held (bucket_at site.shape q c) × (owner_of site.shape words (key_hash site.shape l) ≡ Some q)
+      held_lock words n q c l e g y = (
         subst (λ (z : ℕ). HasLock v.held (bucket_at site.shape z (home l))) (sym e) (subst (λ (z : ℕ). HasLock v.held (bucket_at site.shape s (home z))) (sym y) f.led.1),
         subst (λ (z : ℕ). HasLock v.held (bucket_at site.shape z c)) (sym e) (subst (λ (z : ℕ). HasLock v.held (bucket_at site.shape s z)) (sym g) known.lock),
+        ap (λ z. owner_of site.shape words (key_hash site.shape z)) y ∙ (f.led.0 words n ∙ ap Some (sym e)),
       )
 
       pub adding : AddsHeld site v i x
-      adding words n q c t l h = elim (only words n.table (newest_same site v words word s b n known) (none_newest words n) q c t l h) [ inl old ↦ inl old | inr new ↦ inr (held_lock q c l new.0 new.1 new.3) ]
+      adding words n q c t l h = elim (only words n.table (newest_same site v words word s b n known) (none_newest words n) q c t l h) [ inl old ↦ inl old | inr new ↦ inr (held_lock words n q c l new.0 new.1 new.3) ]
 
       some_same : {a b : ℕ} → Some a ≡ Some b → a ≡ b
       some_same e = cc

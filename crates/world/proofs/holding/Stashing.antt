@@ -22,7 +22,8 @@ use Rattle.world.specs.Holders.{KnowsBucket, FoundNone, TakesSlot}
 use Rattle.bucket_meta.specs.Notes.{AreExact}
 use Rattle.bucket_words.proofs.segments.Stashed.{comes}
 use Rattle.world.proofs.holding.Placing.{guarded, no_twin, none_newest, none_medium, stays, only, is_now, adding, publishing, nowhere, change}
-use Rattle.world.proofs.holding.Known.{ready, but_slot, high_part, home_near, newest_same, medium_same}
+use Rattle.world.proofs.Grounds.{home_near}
+use Rattle.world.proofs.holding.Known.{ready, but_slot, high_part, newest_same, medium_same}
 use Rattle.world.proofs.holding.Owing.{notes_beside, notes_known, count_known}
 
 module _ (site : Site) (v : View) where

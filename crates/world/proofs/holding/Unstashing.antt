@@ -24,7 +24,8 @@ use Rattle.world.specs.Holders.{FoundAt, FreesSlot}
 use Rattle.bucket_meta.specs.Notes.{AreExact}
 use Rattle.bucket_words.proofs.segments.Stashed.{leaves}
 use Rattle.world.proofs.holding.Changing.{hit_medium, held_place, own_medium, only_medium, found_medium}
-use Rattle.world.proofs.holding.Known.{hit_from, but_slot, high_part, home_near, newest_same, medium_same}
+use Rattle.world.proofs.Grounds.{home_near}
+use Rattle.world.proofs.holding.Known.{hit_from, but_slot, high_part, newest_same, medium_same}
 use Rattle.world.proofs.holding.Owing.{notes_beside, notes_known, count_known}
 
 module _ (site : Site) (v : View) where

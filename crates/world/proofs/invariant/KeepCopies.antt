@@ -11,14 +11,15 @@ use Rattle.bucket_words.specs.Core.{core}
 use Rattle.bucket_words.specs.Hits.{Hit, HasOnly}
 use Rattle.world.specs.Site.{Site, IsLockWord}
 use Rattle.world.specs.Views.{Answer, Move, Owed, View, Has, At, HasLock}
-use Rattle.world.specs.Invariant.{IsMoving, Copies, Holds}
-use Rattle.world.specs.Kinds.{Kind, peeks, asks_power, finds_room, refuses, places, looks, notes_word, validates, learns, meets_lock, tries, stores, copies, clears, repays, publishes, stashes, flushes, fences, draws_place, unlocks, cuts_power, marked, all_again, with_answer, with_look, with_count, with_lock, of_other_records, of_other_homes}
+use Rattle.world.specs.Invariant.{IsMoving}
+use Rattle.world.specs.Kinds.{Kind, peeks, asks_power, meets_root, meets_entry, meets_head, pins, finds_room, refuses, places, looks, notes_word, validates, learns, meets_lock, tries, stores, copies, clears, repays, publishes, stashes, flushes, fences, draws_place, unlocks, cuts_power, marked, all_again, with_answer, with_look, with_count, with_lock, of_other_records, of_other_homes}
 use Rattle.world.specs.Conditions.{IsMoveOf, HoldsMove, IsTidy, May}
 use Rattle.world.specs.Laws.{words_by, views_by}
-use Rattle.world.proofs.Tables.{same_hit, lock_cores, counter_cores, power_cores, power_cores}
+use Rattle.world.proofs.Structures.{known_lock}
+use Rattle.world.proofs.Tables.{same_hit, lock_cores, counter_cores, power_cores}
 use Rattle.world.proofs.Lists.{set_here}
 use Rattle.world.proofs.Seats.{each, carry}
-use Rattle.world.proofs.holding.Beside.{newest_is}
+use Rattle.world.proofs.holding.Backing.{Backing}
 use Rattle.world.proofs.invariant.KeepMedia.{storer}
 
 other_records_has : (m n : Move) (moves : List Move) → Has n (of_other_records m moves) → Has n moves
@@ -66,17 +67,23 @@ Held site held m = HoldsMove site.shape held m
 more_held : (site : Site) (held more : List (ℕ × ℕ)) (m : Move) → ((lock : ℕ) → HasLock held lock → HasLock more lock) → Held site held m → Held site more m
 more_held site held more m stays o = (stays _ o.0, stays _ o.1, stays _ o.2)
 
-copies_law : (site : Site) (words us : Words) (views : List View) (j : ℕ) (v w : View) → At views j v → Copies site words views
-    → ((s b r c t k : ℕ) → Hit site.shape us s b r k → Hit site.shape us s c t k → ((b ≡ c) × (r ≡ t)) ⊎ IsMoving (set views j w) s k b r c t)
-    → ((m : Move) → Has m w.moving → Held site w.held m) → Copies site us (set views j w)
-copies_law site words us views j v w at o once held = record {
+-- a key stands once in a segment of those that P names, or one view has it under way
+pub record CopiesOf (site : Site) (P : ℕ → Type 0) (words : Words) (views : List View) : Type 0 where
+  pub once : (s b r c t k : ℕ) → P s → Hit site.shape words s b r k → Hit site.shape words s c t k → ((b ≡ c) × (r ≡ t)) ⊎ IsMoving views s k b r c t
+  pub held : (j : ℕ) (v : View) (m : Move) → At views j v → Has m v.moving → HoldsMove site.shape v.held m
+
+copies_law : (site : Site) (P W : ℕ → Type 0) (words us : Words) (views : List View) (j : ℕ) (v w : View) → At views j v → CopiesOf site P words views
+    → ((s b r c t k : ℕ) → W s → Hit site.shape us s b r k → Hit site.shape us s c t k → ((b ≡ c) × (r ≡ t)) ⊎ IsMoving (set views j w) s k b r c t)
+    → ((m : Move) → Has m w.moving → Held site w.held m) → CopiesOf site W us (set views j w)
+copies_law site P W words us views j v w at o once held = record {
   once = once;
   held = λ i u m a has. each views j v w at (λ i u. Has m u.moving → Held site u.held m) (held m) (λ i u n a. o.held i u m a) i u a has;
 }
 
-module _ (site : Site) (words : Words) (views : List View) (j : ℕ) (v : View) (h : Holds site words views) (at : At views j v) where
+module _ (site : Site) (words : Words) (views : List View) (j : ℕ) (v : View) (h : Backing site words views j v) (at : At views j v) (P W : ℕ → Type 0)
+    (back : (s : ℕ) → W s → P s) (o0 : CopiesOf site P words views) where
   mine : (m : Move) → Has m v.moving → Held site v.held m
-  mine m has = h.copies.held j v m at has
+  mine m has = o0.held j v m at has
 
   -- a move stays under way where its view keeps it
   still_moving : (w : View) (s k b r c t : ℕ) → ((m : Move) → IsMoveOf m s k b r c t → Has m v.moving → Has m w.moving) → IsMoving views s k b r c t → IsMoving (set views j w) s k b r c t
@@ -84,18 +91,18 @@ module _ (site : Site) (words : Words) (views : List View) (j : ℕ) (v : View) 
 
   -- no core of the image changes
   quiet : (us : Words) (w : View) → ((n : ℕ) → n < words_of site.shape → core site.shape us n ≡ core site.shape words n) → w.moving ≡ v.moving
-      → ((m : Move) → Has m v.moving → Held site w.held m) → Copies site us (set views j w)
-  quiet us w same moving held = copies_law site words us views j v w at h.copies
-      (λ s b r c t k x y. elim (h.copies.once s b r c t k (same_hit site us words same s b r k x) (same_hit site us words same s c t k y)) [
+      → ((m : Move) → Has m v.moving → Held site w.held m) → CopiesOf site W us (set views j w)
+  quiet us w same moving held = copies_law site P W words us views j v w at o0
+      (λ s b r c t k current x y. elim (o0.once s b r c t k (back s current) (same_hit site us words same s b r k x) (same_hit site us words same s c t k y)) [
         | inl e ↦ inl e
         | inr o ↦ inr (still_moving w s k b r c t (λ m _ has. subst (λ (ms : List Move). Has m ms) (sym moving) has) o)
       ])
       (λ m has. held m (subst (λ (ms : List Move). Has m ms) moving has))
 
-  calm : (w : View) → (w.moving ≡ v.moving) × (w.owed ≡ v.owed) × (w.held ≡ v.held) → Copies site words (set views j w)
+  calm : (w : View) → (w.moving ≡ v.moving) × (w.owed ≡ v.owed) × (w.held ≡ v.held) → CopiesOf site W words (set views j w)
   calm w q = quiet words w (λ n _. refl) q.0 (λ m has. subst (λ z. Held site z m) (sym q.2) (mine m has))
 
-  tried : (lock free : ℕ) → IsLockWord site.shape lock → (t : Bool) → Copies site (after (cond t (exchanged j lock (free + 1)) (loaded j lock)) words) (set views j (with_lock t lock free v))
+  tried : (lock free : ℕ) → IsLockWord site.shape lock → (t : Bool) → CopiesOf site W (after (cond t (exchanged j lock (free + 1)) (loaded j lock)) words) (set views j (with_lock t lock free v))
   tried lock free is true = quiet (with_word words lock (free + 1)) (with_lock true lock free v) (λ n _. lock_cores site words lock (free + 1) is n) refl (λ m has. more_held site v.held (with_lock true lock free v).held m (λ k l. (l.0, inr l.1)) (mine m has))
   tried lock free is false = calm v (refl, refl, refl)
 
@@ -107,23 +114,23 @@ module _ (site : Site) (words : Words) (views : List View) (j : ℕ) (v : View) 
     stored : ((s k b r c t : ℕ) → twin s k b r c t → IsMoving (set views j w) s k b r c t)
         → ((s b r c t k : ℕ) → Hit site.shape (with_word words i x) s b r k → Hit site.shape (with_word words i x) s c t k → IsMoving views s k b r c t
         → ((b ≡ c) × (r ≡ t)) ⊎ IsMoving (set views j w) s k b r c t)
-        → ((m : Move) → Has m moves → Held site v.held m) → Copies site (with_word words i x) (set views j w)
-    stored twins stays held = copies_law site words (with_word words i x) views j v w at h.copies
-        (λ s b r c t k p q. elim (tidy.twins words (newest_is site words views j v h at) s b r c t k p q) [
+        → ((m : Move) → Has m moves → Held site v.held m) → CopiesOf site W (with_word words i x) (set views j w)
+    stored twins stays held = copies_law site P W words (with_word words i x) views j v w at o0
+        (λ s b r c t k current p q. elim (tidy.twins words (h.newest) s b r c t k p q) [
           | inl e ↦ inl e
           | inr e ↦ elim e [
-            | inl both ↦ elim (h.copies.once s b r c t k both.0 both.1) [ inl f ↦ inl f | inr o ↦ stays s b r c t k p q o ]
+            | inl both ↦ elim (o0.once s b r c t k (back s current) both.0 both.1) [ inl f ↦ inl f | inr o ↦ stays s b r c t k p q o ]
             | inr two ↦ inr (twins s k b r c t two)
           ]
         ]) held
 
   plain : (i x : ℕ) (calls : List Call) (owed : List Owed) {home taken : ℕ → ℕ → Type 0} → IsTidy site v i x (λ s k b r c t. ⊥) home taken
-      → Copies site (with_word words i x) (set views j (storer site words i x calls v.moving owed v))
+      → CopiesOf site W (with_word words i x) (set views j (storer site words i x calls v.moving owed v))
   plain i x calls owed tidy = stored i x calls v.moving owed tidy (λ s k b r c t q. absurd q)
       (λ s b r c t k p q o. inr (still_moving (storer site words i x calls v.moving owed v) s k b r c t (λ m _ has. has) o)) mine
 
   copied : (i x : ℕ) (m : Move) {home taken : ℕ → ℕ → Type 0} → IsTidy site v i x (IsMoveOf m) home taken → Held site v.held m
-      → Copies site (with_word words i x) (set views j (storer site words i x v.planned (m ∷ v.moving) v.owed v))
+      → CopiesOf site W (with_word words i x) (set views j (storer site words i x v.planned (m ∷ v.moving) v.owed v))
   copied i x m tidy lock = let w = storer site words i x v.planned (m ∷ v.moving) v.owed v in stored i x v.planned (m ∷ v.moving) v.owed tidy
       (λ s k b r c t q. (j, w, m, set_here views j v w at, inl refl, q))
       (λ s b r c t k p q o. inr (still_moving w s k b r c t (λ n _ has. inr has) o))
@@ -131,7 +138,7 @@ module _ (site : Site) (words : Words) (views : List View) (j : ℕ) (v : View) 
 
   cleared : (i x : ℕ) (m : Move) {home taken : ℕ → ℕ → Type 0} → IsTidy site v i x (λ s k b r c t. ⊥) home taken
       → HasOnly site.shape (with_word words i x) m.segment m.to_bucket m.to_slot m.key
-      → Copies site (with_word words i x) (set views j (storer site words i x v.planned (of_other_records m v.moving) v.owed v))
+      → CopiesOf site W (with_word words i x) (set views j (storer site words i x v.planned (of_other_records m v.moving) v.owed v))
   cleared i x m tidy only = let w = storer site words i x v.planned (of_other_records m v.moving) v.owed v in stored i x v.planned (of_other_records m v.moving) v.owed tidy
       (λ s k b r c t q. absurd q)
       (λ s b r c t k p q o. elim (cases_eq s m.segment) [
@@ -146,9 +153,13 @@ module _ (site : Site) (words : Words) (views : List View) (j : ℕ) (v : View) 
       moved : (s k b r : ℕ) → s ≡ m.segment → k ≡ m.key → Hit site.shape (with_word words i x) s b r k → Hit site.shape (with_word words i x) m.segment b r m.key
       moved s k b r e f p = subst (λ (z : ℕ). Hit site.shape (with_word words i x) z b r m.key) e (subst (λ (z : ℕ). Hit site.shape (with_word words i x) s b r z) f p)
 
-  pub keep_copies : (kind : Kind) → May site kind v → Copies site (words_by site kind j words) (views_by site kind j v words views)
+  pub keep_copies : (kind : Kind) → May site kind v → CopiesOf site W (words_by site kind j words) (views_by site kind j v words views)
   keep_copies (peeks i) may = calm _ (refl, refl, refl)
   keep_copies asks_power may = calm _ (refl, refl, refl)
+  keep_copies meets_root may = calm _ (refl, refl, refl)
+  keep_copies (meets_entry e i) may = calm _ (refl, refl, refl)
+  keep_copies (meets_head s version) may = calm _ (refl, refl, refl)
+  keep_copies (pins s b) may = calm _ (refl, refl, refl)
   keep_copies (finds_room call) may = calm _ (count_moving (nat_lt (words (counter_word site.shape)) (2 ^ 63)) call (words (counter_word site.shape)) v)
   keep_copies (refuses call reply) may = calm _ (refl, refl, refl)
   keep_copies (places k a) may = calm _ (refl, refl, refl)
@@ -157,10 +168,10 @@ module _ (site : Site) (words : Words) (views : List View) (j : ℕ) (v : View) 
   keep_copies (validates lock) may = calm _ (answer_moving (all_again (marked lock (words lock) v.notes)) v.answer (record v { notes = marked lock (words lock) v.notes }))
   keep_copies (learns i) may = calm _ (refl, refl, refl)
   keep_copies (meets_lock lock) may = calm _ (refl, refl, refl)
-  keep_copies (tries lock free) may = tried lock free may.0 (eqb (words lock) free)
+  keep_copies (tries lock free) may = tried lock free (known_lock site v lock may.0) (eqb (words lock) free)
   keep_copies (stores i x) may = plain i x v.planned v.owed may.0
   keep_copies (copies i x m) may = copied i x m may.0 may.2
-  keep_copies (clears i x m) may = cleared i x m may.0 (may.2 words (newest_is site words views j v h at))
+  keep_copies (clears i x m) may = cleared i x m may.0 (may.2 words (h.newest))
   keep_copies (repays i x o) may = plain i x v.planned (of_other_homes o v.owed) may.0
   keep_copies (publishes i x call) may = plain i x (call ∷ v.planned) v.owed may.0
   keep_copies (stashes i x call o) may = plain i x (call ∷ v.planned) (o ∷ v.owed) may.0

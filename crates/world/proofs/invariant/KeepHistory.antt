@@ -17,16 +17,17 @@ use Rattle.map_model.specs.Legal.{IsChange, InOrder, seen_of, seen_after}
 use Rattle.world.specs.Site.{Site, IsLockWord}
 use Rattle.world.specs.Views.{Answer, View, Has, At}
 use Rattle.world.specs.History.{Log, map_now, map_when, MayReply, HasRoomCause, IsRight, change_of}
-use Rattle.world.specs.Invariant.{total, History, IsAnswer, Holds}
-use Rattle.world.specs.Kinds.{Kind, peeks, asks_power, finds_room, refuses, places, looks, notes_word, validates, learns, meets_lock, tries, stores, copies, clears, repays, publishes, stashes, flushes, fences, draws_place, unlocks, cuts_power, marked, all_again, next_entry, with_reply, with_answer, with_look, with_count, with_lock, with_draw, log_after}
+use Rattle.world.specs.Invariant.{total, History, IsAnswer}
+use Rattle.world.specs.Kinds.{Kind, peeks, asks_power, meets_root, meets_entry, meets_head, pins, finds_room, refuses, places, looks, notes_word, validates, learns, meets_lock, tries, stores, copies, clears, repays, publishes, stashes, flushes, fences, draws_place, unlocks, cuts_power, marked, all_again, next_entry, with_reply, with_answer, with_look, with_count, with_lock, with_draw, log_after}
 use Rattle.world.specs.Conditions.{IsKnownReply, IsKnownCause, May}
 use Rattle.world.specs.Laws.{words_by, views_by}
+use Rattle.world.proofs.Structures.{known_lock}
 use Rattle.world.proofs.Grounds.{lock_within}
 use Rattle.world.proofs.Lists.{total_set, has_joined}
 use Rattle.world.proofs.Seats.{each, guarded_no_counter}
 use Rattle.world.proofs.Entries.{in_order_more, seen_of_more, count_more, count_none, total_none, drew_here, when_now, when_more, right_more, shown_may, shown_keeps, shown_cause, cause_alike}
 use Rattle.world.proofs.NotedLists.{marked_to, again_all}
-use Rattle.world.proofs.holding.Beside.{newest_is, holds_home, held_is_map, slot_is_pair, slots_differ}
+use Rattle.world.proofs.holding.Backing.{Backing, home_held}
 
 abbrev drew_of : ℕ → View → ℕ
 drew_of n v = length (filter (drew_at n) v.own)
@@ -45,7 +46,7 @@ beyond site words views log o n le = total_none (drew_of n) views (λ j v a. cou
     ]
 
 -- the view keeps its replies
-history_same : (site : Site) (words us : Words) (views : List View) (j : ℕ) (v w : View) (log : Log) → At views j v → History site words views log
+pub history_same : (site : Site) (words us : Words) (views : List View) (j : ℕ) (v w : View) (log : Log) → At views j v → History site words views log
     → us (counter_word site.shape) ≡ words (counter_word site.shape) → w.own ≡ v.own → w.seen ≡ v.seen → History site us (set views j w) log
 history_same site words us views j v w log at o same own seen = record {
   counter = same ∙ o.counter;
@@ -100,7 +101,7 @@ module _ (site : Site) (words us : Words) (views : List View) (j : ℕ) (v w : V
     each_once = once_at;
   }
 
-module _ (site : Site) (words : Words) (views : List View) (j : ℕ) (v : View) (h : Holds site words views) (at : At views j v) where
+module _ (site : Site) (words : Words) (views : List View) (j : ℕ) (v : View) (h : Backing site words views j v) (at : At views j v) where
   calm : (w : View) → w.own ≡ v.own → w.seen ≡ v.seen → History site words (set views j w) h.log
   calm w own seen = history_same site words words views j v w h.log at h.history refl own seen
 
@@ -135,14 +136,10 @@ module _ (site : Site) (words : Words) (views : List View) (j : ℕ) (v : View) 
       → History site words (set views j (with_reply v (next_entry v call reply (words (counter_word site.shape)) false))) h.log
   refused call reply keeps known caused = counted _ call reply (words (counter_word site.shape)) refl refl refl keeps (elim known [
     | inl any ↦ any (map_now site.start h.log (key_of call))
-    | inr k ↦ subst (λ (a : Option ℕ). MayReply a call reply) (held_is_map site words views j v h at (key_of call) (holds_home site words views j v h at k.0 (key_of call) k.1) k.2)
-        (k.3 words (newest_is site words views j v h at))
+    | inr k ↦ subst (λ (a : Option ℕ). MayReply a call reply) (sym (h.map.known (key_of call) (home_held site words views j v h k.0 (key_of call) k.1) k.2))
+        (k.3 words h.newest)
   ])
-      (caused (map_now site.start h.log) words (newest_is site words views j v h at) (record {
-        known = λ k held none. sym (held_is_map site words views j v h at k held none);
-        records = λ s b r k lock none own hit. slot_is_pair site words views j v h at s b r k lock none own hit;
-        differ = λ s b r c t k lock still hit other. slots_differ site words views j v h at s b r c t k lock still hit other;
-      }))
+      (caused (map_now site.start h.log) words h.newest h.map)
 
   room : (call : Call) → IsChange call → (t : Bool) → History site words (set views j (with_count t call (words (counter_word site.shape)) v)) h.log
   room call change true = calm (with_count true call (words (counter_word site.shape)) v) refl refl
@@ -154,7 +151,7 @@ module _ (site : Site) (words : Words) (views : List View) (j : ℕ) (v : View) 
   answered lock false o again is = calm (record v { notes = marked lock (words lock) v.notes }) refl refl
   answered lock true None again is = calm (record v { notes = marked lock (words lock) v.notes }) refl refl
   answered lock true (Some a) again is =
-      let good : IsAnswer site h.log v.seen a = h.notes.answered j v a at is (marked_to words lock v.notes (again_all words (marked lock (words lock) v.notes) again)) in
+      let good : IsAnswer site h.log v.seen a = h.answered a is (marked_to words lock v.notes (again_all words (marked lock (words lock) v.notes) again)) in
       replied _ (Get a.key) (shown a.value) a.place refl refl (shown_keeps a.value) good.after_seen good.within
       (subst (λ (x : Option ℕ). MayReply x (Get a.key) (shown a.value)) (sym good.had) (shown_may a.value a.key)) (shown_cause site.shape a.value _ (Get a.key))
 
@@ -182,6 +179,10 @@ module _ (site : Site) (words : Words) (views : List View) (j : ℕ) (v : View) 
   pub keep_history : (kind : Kind) → May site kind v → History site (words_by site kind j words) (views_by site kind j v words views) (log_after kind h.log)
   keep_history (peeks i) may = calm _ refl refl
   keep_history asks_power may = calm _ refl refl
+  keep_history meets_root may = calm _ refl refl
+  keep_history (meets_entry e i) may = calm _ refl refl
+  keep_history (meets_head s version) may = calm _ refl refl
+  keep_history (pins s b) may = calm _ refl refl
   keep_history (finds_room call) may = room call may.0 (nat_lt (words (counter_word site.shape)) (2 ^ 63))
   keep_history (refuses call reply) may = refused call reply may.0 may.1 may.2
   keep_history (places k a) may = calm _ refl refl
@@ -194,7 +195,7 @@ module _ (site : Site) (words : Words) (views : List View) (j : ℕ) (v : View) 
   keep_history (validates lock) may = answered lock (all_again (marked lock (words lock) v.notes)) v.answer refl refl
   keep_history (learns i) may = calm _ refl refl
   keep_history (meets_lock lock) may = calm _ refl refl
-  keep_history (tries lock free) may = tried lock free may.0 (eqb (words lock) free)
+  keep_history (tries lock free) may = tried lock free (known_lock site v lock may.0) (eqb (words lock) free)
   keep_history (stores i x) may = elsewhere i x _ (λ e. guarded_no_counter site words views h.locks j v i at may.0.guarded (sym e)) refl refl
   keep_history (copies i x m) may = elsewhere i x _ (λ e. guarded_no_counter site words views h.locks j v i at may.0.guarded (sym e)) refl refl
   keep_history (clears i x m) may = elsewhere i x _ (λ e. guarded_no_counter site words views h.locks j v i at may.0.guarded (sym e)) refl refl

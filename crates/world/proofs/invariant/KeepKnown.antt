@@ -9,9 +9,10 @@ use Rattle.map_model.specs.declared.call.Call.{Call}
 use Rattle.world.specs.Site.{Site, IsLockWord, IsUnder}
 use Rattle.world.specs.Views.{Answer, Move, Owed, View, Has, At, IsGuarded, IsLoose}
 use Rattle.world.specs.Invariant.{KnownWords, Holds}
-use Rattle.world.specs.Kinds.{of_other_records, of_other_homes, with_store, Kind, peeks, asks_power, finds_room, refuses, places, looks, notes_word, validates, learns, meets_lock, tries, stores, copies, clears, repays, publishes, stashes, flushes, fences, draws_place, unlocks, cuts_power, without, marked, all_again, with_answer, with_look, with_count, with_lock, with_draw}
+use Rattle.world.specs.Kinds.{of_other_records, of_other_homes, with_store, Kind, peeks, asks_power, meets_root, meets_entry, meets_head, pins, finds_room, refuses, places, looks, notes_word, validates, learns, meets_lock, tries, stores, copies, clears, repays, publishes, stashes, flushes, fences, draws_place, unlocks, cuts_power, without, marked, all_again, with_answer, with_look, with_count, with_lock, with_draw}
 use Rattle.world.specs.Conditions.{May}
 use Rattle.world.specs.Laws.{words_by, views_by}
+use Rattle.world.proofs.Structures.{known_lock}
 use Rattle.world.proofs.Seats.{each, one_guard, guarded_no_lock, guarded_no_counter, guarded_within, has_first, without_has, without_stays, not_under_has, loosened_has, flush_loose}
 
 -- what is known and loose in a view
@@ -101,6 +102,10 @@ module _ (site : Site) (words : Words) (views : List View) (j : ℕ) (v : View) 
   pub keep_known : (kind : Kind) → May site kind v → KnownWords (words_by site kind j words) (views_by site kind j v words views)
   keep_known (peeks i) may = calm _ mine
   keep_known asks_power may = calm _ mine
+  keep_known meets_root may = calm _ mine
+  keep_known (meets_entry e i) may = calm _ mine
+  keep_known (meets_head s version) may = calm _ mine
+  keep_known (pins s b) may = calm _ mine
   keep_known (finds_room call) may = calm _ (count_fits words (nat_lt (words (counter_word site.shape)) (2 ^ 63)) call (words (counter_word site.shape)) v mine)
   keep_known (refuses call reply) may = calm _ mine
   keep_known (places k a) may = calm _ mine
@@ -115,7 +120,7 @@ module _ (site : Site) (words : Words) (views : List View) (j : ℕ) (v : View) 
     mine.1,
   )
   keep_known (meets_lock lock) may = calm _ mine
-  keep_known (tries lock free) may = tried lock free may.0 (eqb (words lock) free)
+  keep_known (tries lock free) may = tried lock free (known_lock site v lock may.0) (eqb (words lock) free)
   keep_known (stores i x) may = stored i x v.planned v.moving v.owed may.0.guarded
   keep_known (copies i x m) may = stored i x v.planned (m ∷ v.moving) v.owed may.0.guarded
   keep_known (clears i x m) may = stored i x v.planned (of_other_records m v.moving) v.owed may.0.guarded

@@ -1,5 +1,5 @@
 -- What a cut may leave is a table and stands in the history, at each kind of step.
-use Rattle.std.proofs.Common.{◌≡◌, ◌≢◌, ◌⊎◌, ℕ, ◌+◌, ◌%◌, ◌^◌, ◌<◌, List, [], ◌∷◌, set, cond, eqb, Bool, true, false, Option, None, Some, inl, inr, refl, sym, ap, ◌∙◌, subst}
+use Rattle.std.proofs.Common.{◌≡◌, ◌≢◌, ◌⊎◌, ℕ, ◌+◌, ◌%◌, ◌^◌, ◌<◌, List, [], ◌∷◌, set, cond, eqb, Bool, true, false, Option, None, Some, inl, inr, refl, sym, ap, ◌∙◌, subst, arith}
 use Rattle.std.proofs.lemmas.Bool.{cases_eq, eq-eqb, ne_eqb}
 use Rattle.std.specs.Prelude.{nat_lt}
 use mathlib.Core.Logic.{dite}
@@ -15,23 +15,25 @@ use Rattle.bucket_words.specs.Core.{core_of, core}
 use Rattle.bucket_words.specs.Standing.{IsTable}
 use Rattle.bucket_words.specs.Hits.{Hit, find}
 use Rattle.bucket_words.specs.Owners.{HasStructure, owner_of}
-use Rattle.world.specs.Site.{Site, IsLockWord, IsUnder}
+use Rattle.world.specs.Site.{Site, IsLockWord, IsUnder, IsCurrentIn}
 use Rattle.world.specs.Views.{Answer, Move, Owed, View, Has, At, HasLock, IsLoose}
 use Rattle.world.specs.History.{Log, map_now, result_of, change_of}
 use Rattle.world.specs.Media.{MayLeave, IsPossible, IsPlanned, Stands}
 use Rattle.world.specs.Invariant.{IsRemoving, Media, Holds}
-use Rattle.world.specs.Kinds.{Kind, peeks, asks_power, finds_room, refuses, places, looks, notes_word, validates, learns, meets_lock, tries, stores, copies, clears, repays, publishes, stashes, flushes, fences, draws_place, unlocks, cuts_power, marked, all_again, with_answer, with_look, with_count, with_lock, with_draw, log_after, of_other_records, of_other_homes, with_store}
+use Rattle.world.specs.Kinds.{Kind, peeks, asks_power, meets_root, meets_entry, meets_head, pins, finds_room, refuses, places, looks, notes_word, validates, learns, meets_lock, tries, stores, copies, clears, repays, publishes, stashes, flushes, fences, draws_place, unlocks, cuts_power, marked, all_again, with_answer, with_look, with_count, with_lock, with_draw, log_after, of_other_records, of_other_homes, with_store}
 use Rattle.world.specs.Conditions.{IsNewest, IsTidy, IsKept, MayTake, IsHarmless, IsPublishing, May}
 use Rattle.world.specs.Laws.{words_by, views_by}
+use Rattle.world.proofs.Grounds.{home_near}
+use Rattle.world.proofs.Structures.{known_lock, current_back, counter_structure}
 use Rattle.world.proofs.Tables.{same_keeps, same_owner, core_structure_same, same_hit, same_find, find_places, cores_with, lock_cores, counter_cores, power_cores}
-use Rattle.world.proofs.holding.Beside.{newest, whole, whole_cores, whole_structure, guarded_structure, newest_is, beside, quiet, remover, medium_owner}
+use Rattle.world.proofs.holding.Beside.{newest, whole, whole_cores, whole_structure, held_current, newest_is, beside, quiet, remover, medium_owner}
 use Rattle.bucket_words.proofs.segments.Finding.{find_is}
 use Rattle.bucket_words.specs.Buckets.{value_in}
 use Rattle.hash_word.specs.Hash.{home_of, probing_of}
 use Rattle.sound_image.specs.Records.{key_hash}
 use Rattle.map_model.specs.declared.call.Call.TheVariants.{Remove}
 use Rattle.world.proofs.Lists.{set_here}
-use Rattle.world.proofs.Seats.{each, carry, guarded_within, loosened_has, flush_loose, of_other_keys_stays}
+use Rattle.world.proofs.Seats.{each, carry, guarded_within, guarded_structure, loosened_has, flush_loose, of_other_keys_stays}
 
 -- ---- the views after a step
 -- a view after has no more loose words, and the same changes planned
@@ -79,7 +81,7 @@ module _ (site : Site) (words us : Words) (views : List View) (j : ℕ) (v w : V
       | inl e ↦ inl e
       | inr s ↦ inr (planned_stays views j v w at k (find site.shape m k) (λ call has _. (keeps call has).0) s)
     ];
-    stashed = λ m p s c t k small own hit. elim (o.stashed m (possible_fewer m p) s c t k small own hit) [
+    stashed = λ m p s c t k current small own hit. elim (o.stashed m (possible_fewer m p) s c t k (current_back site words us (core_structure_same site words us same) s current) small own hit) [
       | inl e ↦ inl (same_hit site words us (λ n near. sym (same n near)) s (64 + c) t k e)
       | inr r ↦ inr (removing_stays views j v w at k (bucket_at site.shape s (64 + c)) (λ has l. let q = keeps (Remove k) has in (q.0, q.1 (bucket_at site.shape s (64 + c)) l)) r)
     ];
@@ -127,7 +129,7 @@ module _ (site : Site) (words : Words) (views : List View) (j : ℕ) (v : View) 
   -- what is said of one medium after a store
   abbrev IsFine : ℕ → ℕ → View → Words → Type 0
   IsFine i x w m = HasStructure site.shape site.front m × IsTable site.shape m × ((k : ℕ) → Stands site (set views j w) h.log k (find site.shape m k))
-      × ((s c t k : ℕ) → c < 2 → owner_of site.shape m (key_hash site.shape k) ≡ Some s → Hit site.shape m s (64 + c) t k
+      × ((s c t k : ℕ) → IsCurrentIn site (with_word words i x) s → c < 2 → owner_of site.shape m (key_hash site.shape k) ≡ Some s → Hit site.shape m s (64 + c) t k
       → Hit site.shape (with_word words i x) s (64 + c) t k ⊎ IsRemoving (set views j w) k (bucket_at site.shape s (64 + c)))
 
   abbrev old_of : Words → Words
@@ -140,6 +142,9 @@ module _ (site : Site) (words : Words) (views : List View) (j : ℕ) (v : View) 
 
     is_newest : IsNewest site v words
     is_newest = newest_is site words views j v h at
+
+    was_current : (s : ℕ) → IsCurrentIn site (with_word words i x) s → IsCurrentIn site words s
+    was_current = current_back site words (with_word words i x) (guarded_structure site words views h.locks j v i x at tidy.guarded words)
 
     removes : (s c t k : ℕ) → c < 2 → Hit site.shape words s (64 + c) t k ⊎ IsRemoving views k (bucket_at site.shape s (64 + c))
         → Hit site.shape (with_word words i x) s (64 + c) t k ⊎ IsRemoving (set views j w) k (bucket_at site.shape s (64 + c))
@@ -157,7 +162,7 @@ module _ (site : Site) (words : Words) (views : List View) (j : ℕ) (v : View) 
         | inl e ↦ inl e
         | inr s ↦ inr (planned_stays views j v w at k (find site.shape m k) (λ call has _. keeps call has) s)
       ]),
-      (λ s c t k small own hit. removes s c t k small (h.media.stashed m p s c t k small own hit)),
+      (λ s c t k current small own hit. removes s c t k small (h.media.stashed m p s c t k (was_current s current) small own hit)),
     )
 
     -- what a store does to a medium it does to the one with whole words
@@ -170,14 +175,14 @@ module _ (site : Site) (words : Words) (views : List View) (j : ℕ) (v : View) 
         let cores : (a : ℕ) → core site.shape (with_word (old_of m) i x) a ≡ core site.shape n a = λ a. stored_cores m a ∙ same a in
         let kept = same_keeps site (with_word (old_of m) i x) n (λ a _. cores a) table in
         let structure : HasStructure site.shape site.front n = λ a s. core_structure_same site (with_word (old_of m) i x) n (λ b _. sym (cores b)) a s
-        ∙ (guarded_structure site words views j v h at i x tidy.guarded (old_of m) a s ∙ whole_structure site words views j v h at m p a s) in (
+        ∙ (guarded_structure site words views h.locks j v i x at tidy.guarded (old_of m) a s ∙ whole_structure site words views j v h at m p a s) in (
           structure,
           kept.table,
           (λ k. subst (λ (a : Option ℕ). Stands site (set views j w) h.log k a) (sym (kept.pairs k)) (stands k)),
-          (λ s c t k small own hit. elim (tidy.alike words (old_of m) is_newest (beside site words views j v h at m p) s c t k small
+          (λ s c t k current small own hit. elim (tidy.alike words (old_of m) is_newest (beside site words views j v h at m p) s c t k small
               (same_hit site n (with_word (old_of m) i x) (λ a _. sym (cores a)) s (64 + c) t k hit)) [
                 | inl e ↦ inl e
-                | inr q ↦ removes s c t k small (h.media.stashed m p s c t k small
+                | inr q ↦ removes s c t k small (h.media.stashed m p s c t k (was_current s current) small
                     (medium_owner site words views j v h at m p k ∙ sym (same_owner site words n (h.media.structure words (newest site words views)) structure (key_hash site.shape k)) ∙ own)
                     (same_hit site (old_of m) m (λ a _. whole_cores site words views j v h at m a) s (64 + c) t k q))
               ]),
@@ -240,6 +245,9 @@ module _ (site : Site) (words : Words) (views : List View) (j : ℕ) (v : View) 
     own : owner_of site.shape words (key_hash site.shape k) ≡ Some s
     own = may.2.1.0 words (newest_is site words views j v h at)
 
+    current : IsCurrentIn site words s
+    current = held_current site words views j v h at s (home_of (key_hash site.shape k)) (let near = home_near site.shape k in omega (arith, near)) may.2.1.1
+
     firm : (lock : ℕ) → IsKept site v lock → (m : Words) → IsPossible site words views m → (i : ℕ) → IsUnder lock i → core site.shape words i ≡ core site.shape m i
     firm lock q m p i u = sym (quiet site words views j v h at lock q.1 q.0 m p i u)
 
@@ -250,7 +258,7 @@ module _ (site : Site) (words : Words) (views : List View) (j : ℕ) (v : View) 
           | inl q ↦ inl (firm (bucket_at site.shape s (64 + c)) q m p)
           | inr q ↦ inr (
             q.1 words (newest_is site words views j v h at),
-            (λ t hit. elim (h.media.stashed m p s c t k small (medium_owner site words views j v h at m p k ∙ own) hit) [
+            (λ t hit. elim (h.media.stashed m p s c t k current small (medium_owner site words views j v h at m p k ∙ own) hit) [
               | inl e ↦ q.1 words (newest_is site words views j v h at) t e
               | inr r ↦ q.0 (remover site words views j v h at s k (bucket_at site.shape s (64 + c)) may.2.1.1 own r).1
             ]),
@@ -276,7 +284,7 @@ module _ (site : Site) (words : Words) (views : List View) (j : ℕ) (v : View) 
                       (λ c has' key. of_other_keys_stays k v.planned c (λ e. n (sym key ∙ e)) has') s)
                 ]
           ];
-          stashed = λ m p q c t l small own' hit. elim (h.media.stashed m (back m p) q c t l small own' hit) [
+          stashed = λ m p q c t l is small own' hit. elim (h.media.stashed m (back m p) q c t l (current_back site words (with_word words (counter_word site.shape) x) (counter_structure site.shape words x) q is) small own' hit) [
             | inl e ↦ inl (same_hit site words (with_word words (counter_word site.shape) x) (λ n near. sym (counter_cores site words x n near)) q (64 + c) t l e)
             | inr r ↦ elim (cases_eq l k) [
               | inl e ↦ absurd (gone m (back m p) q c t l own' hit e r)
@@ -297,6 +305,10 @@ module _ (site : Site) (words : Words) (views : List View) (j : ℕ) (v : View) 
   pub keep_media : (kind : Kind) → May site kind v → Media site (words_by site kind j words) (views_by site kind j v words views) (log_after kind h.log)
   keep_media (peeks i) may = calm _ ((λ p l. l), refl, (λ c has lock l. l))
   keep_media asks_power may = calm _ ((λ p l. l), refl, (λ c has lock l. l))
+  keep_media meets_root may = calm _ ((λ p l. l), refl, (λ c has lock l. l))
+  keep_media (meets_entry e i) may = calm _ ((λ p l. l), refl, (λ c has lock l. l))
+  keep_media (meets_head s version) may = calm _ ((λ p l. l), refl, (λ c has lock l. l))
+  keep_media (pins s b) may = calm _ ((λ p l. l), refl, (λ c has lock l. l))
   keep_media (finds_room call) may = calm _ (count_quiet (nat_lt (words (counter_word site.shape)) (2 ^ 63)) call (words (counter_word site.shape)) v)
   keep_media (refuses call reply) may = calm _ ((λ p l. l), refl, (λ c has lock l. l))
   keep_media (places k a) may = calm _ ((λ p l. l), refl, (λ c has lock l. l))
@@ -305,7 +317,7 @@ module _ (site : Site) (words : Words) (views : List View) (j : ℕ) (v : View) 
   keep_media (validates lock) may = calm _ (answer_quiet (all_again (marked lock (words lock) v.notes)) v.answer (record v { notes = marked lock (words lock) v.notes }))
   keep_media (learns i) may = calm _ ((λ p l. l), refl, (λ c has lock l. l))
   keep_media (meets_lock lock) may = calm _ ((λ p l. l), refl, (λ c has lock l. l))
-  keep_media (tries lock free) may = tried lock free may.0 (eqb (words lock) free)
+  keep_media (tries lock free) may = tried lock free (known_lock site v lock may.0) (eqb (words lock) free)
   keep_media (stores i x) may = harmless i x v.moving v.owed may.0 may.1
   keep_media (copies i x m) may = harmless i x (m ∷ v.moving) v.owed may.0 may.1
   keep_media (clears i x m) may = harmless i x (of_other_records m v.moving) v.owed may.0 may.1

@@ -13,21 +13,21 @@ use Rattle.bucket_words.specs.Core.{core}
 use Rattle.bucket_words.specs.Hits.{Hit, find}
 use Rattle.bucket_words.specs.Owners.{owner_of, home_at}
 use Rattle.std.specs.Option.{unwrap_or}
-use Rattle.world.specs.Site.{Site, IsLockWord, IsUnder}
+use Rattle.world.specs.Site.{Site, IsLockWord}
 use Rattle.world.specs.Views.{Move, Owed, View, Has, At, HasLock, IsGuarded}
 use Rattle.world.specs.History.{Log, map_now, result_of, reply_by, change_of}
-use Rattle.world.specs.Invariant.{Plans, Holds}
-use Rattle.world.specs.Kinds.{Kind, peeks, asks_power, finds_room, refuses, places, looks, notes_word, validates, learns, meets_lock, tries, stores, copies, clears, repays, publishes, stashes, flushes, fences, draws_place, unlocks, cuts_power, marked, all_again, with_lock, with_draw, log_after, of_other_records, of_other_homes}
+use Rattle.world.specs.Invariant.{Plans}
+use Rattle.world.specs.Kinds.{Kind, peeks, asks_power, meets_root, meets_entry, meets_head, pins, finds_room, refuses, places, looks, notes_word, validates, learns, meets_lock, tries, stores, copies, clears, repays, publishes, stashes, flushes, fences, draws_place, unlocks, cuts_power, marked, all_again, with_lock, with_draw, log_after, of_other_records, of_other_homes}
 use Rattle.world.specs.Conditions.{IsHarmless, IsPublishing, IsUnplanned, HoldsHome, AddsHeld, HoldsPlaces, May}
 use Rattle.world.specs.Laws.{words_by, views_by}
-use Rattle.world.proofs.Grounds.{under_lock}
-use Rattle.bucket_words.proofs.segments.Places.{owners_kept}
+use Rattle.world.proofs.Structures.{known_lock}
+use Rattle.bucket_words.proofs.segments.Places.{owner_kept, home_kept}
 use Rattle.hash_word.specs.Hash.{home_of}
 use Rattle.sound_image.specs.Records.{key_hash}
 use Rattle.world.proofs.Tables.{core_owner, same_hit, same_home, same_find, lock_cores, counter_cores, power_cores}
-use Rattle.world.proofs.Seats.{each, lock_of, of_other_keys_has}
+use Rattle.world.proofs.Seats.{each, guarded_structure, of_other_keys_has}
 use Rattle.world.proofs.invariant.KeepLocks.{look_held, count_held, answer_held}
-use Rattle.world.proofs.holding.Beside.{newest_is, beside_self, holds_home, held_is_map}
+use Rattle.world.proofs.holding.Backing.{Backing, home_held}
 use Rattle.world.proofs.invariant.KeepMedia.{look_quiet, count_quiet, answer_quiet, storer}
 
 -- a view holds the locks of the buckets in which a key stands
@@ -38,7 +38,7 @@ HoldsAll site us w k = (s b r : ℕ) → owner_of site.shape us (key_hash site.s
 abbrev pub IsKept : Site → Words → View → Log → Call → Type 0
 IsKept site us w log c = HoldsAll site us w (key_of c) × HasLock w.held (home_at site.shape us (key_of c)) × (find site.shape us (key_of c) ≡ result_of c) × (Done ≡ reply_by (map_now site.start log (key_of c)) c)
 
-plans_law : (site : Site) (words us : Words) (views : List View) (log log' : Log) (j : ℕ) (v w : View) → At views j v → Plans site words views log
+pub plans_law : (site : Site) (words us : Words) (views : List View) (log log' : Log) (j : ℕ) (v w : View) → At views j v → Plans site words views log
     → ((i : ℕ) (u : View) (c : Call) → i ≢ j → At views i u → Has c u.planned → IsKept site words u log c → IsKept site us u log' c)
     → ((c : Call) → Has c w.planned → IsKept site us w log' c) → Plans site us (set views j w) log'
 plans_law site words us views log log' j v w at o others own = record {
@@ -52,7 +52,7 @@ plans_law site words us views log log' j v w at o others own = record {
     all c = each views j v w at (λ i u. Has c u.planned → IsKept site us u log' c) (λ h. own c h)
         (λ i u n a h. others i u c n a h (o.places i u c a h, o.held i u c a h, o.stored i u c a h, o.fits i u c a h))
 
-module _ (site : Site) (words : Words) (views : List View) (j : ℕ) (v : View) (h : Holds site words views) (at : At views j v) where
+module _ (site : Site) (words : Words) (views : List View) (j : ℕ) (v : View) (h : Backing site words views j v) (at : At views j v) where
   mine : (c : Call) → Has c v.planned → IsKept site words v h.log c
   mine c has = (h.plans.places j v c at has, h.plans.held j v c at has, h.plans.stored j v c at has, h.plans.fits j v c at has)
 
@@ -85,20 +85,18 @@ module _ (site : Site) (words : Words) (views : List View) (j : ℕ) (v : View) 
 
   -- a store to a bucket moves no home
   stays : (i x k : ℕ) → IsGuarded v.held i → home_at site.shape (with_word words i x) k ≡ home_at site.shape words k
-  stays i x k g = let l = lock_of site words views h.locks j v g.0 at g.1 in let u = under_lock site.shape l.0 l.1 i (subst (λ (z : ℕ). IsUnder z i) l.4 g.2) in
-      ap (λ s. bucket_at site.shape (unwrap_or s 0) (home_of (key_hash site.shape k))) (owners_kept site.shape words l.0 l.1 u.0 x i l.3 u.2 u.3 (key_hash site.shape k))
+  stays i x k g = home_kept site.shape words (with_word words i x) (owner_kept site.shape words (with_word words i x) (guarded_structure site words views h.locks j v i x at g words)) k
 
   -- what is said of a change of another view, or of another planned here, after a store
   module _ (i x : ℕ) (g : IsGuarded v.held i) (adds : AddsHeld site v i x) where
     own_after : (k s : ℕ) → owner_of site.shape (with_word words i x) (key_hash site.shape k) ≡ Some s → owner_of site.shape words (key_hash site.shape k) ≡ Some s
-    own_after k s own = let l = lock_of site words views h.locks j v g.0 at g.1 in let u = under_lock site.shape l.0 l.1 i (subst (λ (z : ℕ). IsUnder z i) l.4 g.2) in
-        sym (owners_kept site.shape words l.0 l.1 u.0 x i l.3 u.2 u.3 (key_hash site.shape k)) ∙ own
+    own_after k s own = sym (owner_kept site.shape words (with_word words i x) (guarded_structure site words views h.locks j v i x at g words) (key_hash site.shape k)) ∙ own
 
     places_mine : (k : ℕ) → HoldsAll site words v k → HoldsAll site (with_word words i x) v k
-    places_mine k all s b r own hit = elim (adds words (newest_is site words views j v h at) s b r k hit) [ inl old ↦ all s b r (own_after k s own) old | inr new ↦ new.1 ]
+    places_mine k all s b r own hit = elim (adds words h.newest s b r k hit) [ inl old ↦ all s b r (own_after k s own) old | inr new ↦ new.1 ]
 
     places_other : (a : ℕ) (u : View) (c : Call) → a ≢ j → At views a u → HasLock u.held (home_at site.shape words (key_of c)) → HoldsAll site words u (key_of c) → HoldsAll site (with_word words i x) u (key_of c)
-    places_other a u c n there held all s b r own hit = elim (adds words (newest_is site words views j v h at) s b r (key_of c) hit) [
+    places_other a u c n there held all s b r own hit = elim (adds words h.newest s b r (key_of c) hit) [
       | inl old ↦ all s b r (own_after (key_of c) s own) old
       | inr new ↦ absurd (let e : bucket_at site.shape s (home_of (key_hash site.shape (key_of c))) ≡ home_at site.shape words (key_of c) =
           ap (λ z. bucket_at site.shape (unwrap_or z 0) (home_of (key_hash site.shape (key_of c)))) (sym (own_after (key_of c) s own)) in
@@ -106,7 +104,7 @@ module _ (site : Site) (words : Words) (views : List View) (j : ℕ) (v : View) 
     ]
 
   harmless : (i x : ℕ) (moves : List Move) (owed : List Owed) → IsGuarded v.held i → AddsHeld site v i x → IsHarmless site v i x → Plans site (with_word words i x) (set views j (storer site words i x v.planned moves owed v)) h.log
-  harmless i x moves owed g adds keeps = let r = keeps words words (newest_is site words views j v h at) (beside_self site words views j v h at) in
+  harmless i x moves owed g adds keeps = let r = keeps words words h.newest h.itself in
       plans_law site words (with_word words i x) views h.log h.log j v _ at h.plans
       (λ a u c n b has o. (places_other i x g adds a u c n b o.1 o.0, moved (with_word words i x) u (key_of c) (stays i x (key_of c) g) o.1, r.pairs (key_of c) ∙ o.2, o.3))
       (λ c has. let o = mine c has in (places_mine i x g adds (key_of c) o.0, moved (with_word words i x) v (key_of c) (stays i x (key_of c) g) o.1, r.pairs (key_of c) ∙ o.2, o.3))
@@ -114,16 +112,16 @@ module _ (site : Site) (words : Words) (views : List View) (j : ℕ) (v : View) 
   published : (i x : ℕ) (call : Call) (moves : List Move) (owed : List Owed) → IsGuarded v.held i → AddsHeld site v i x → ((s : ℕ) × HoldsHome site v s (key_of call)) → IsUnplanned site v (key_of call) → IsPublishing site v call i x
       → HoldsPlaces site v (key_of call) → Plans site (with_word words i x) (set views j (storer site words i x (call ∷ v.planned) moves owed v)) h.log
   published i x call moves owed g adds led none publishing placed =
-      let has = holds_home site words views j v h at led.0 (key_of call) led.1 in
-      let r = publishing words words (newest_is site words views j v h at) (beside_self site words views j v h at) in
+      let has = home_held site words views j v h led.0 (key_of call) led.1 in
+      let r = publishing words words h.newest h.itself in
       plans_law site words (with_word words i x) views h.log h.log j v _ at h.plans
       (λ a u c n b has' o. (places_other i x g adds a u c n b o.1 o.0, moved (with_word words i x) u (key_of c) (stays i x (key_of c) g) o.1, r.1.elsewhere (key_of c) (apart a u c (key_of call) n b o.1 has) ∙ o.2, o.3))
       (λ c has'. elim has' [
         | inl e ↦ subst (λ (z : Call). IsKept site (with_word words i x) v h.log z) (sym e) (
-          places_mine i x g adds (key_of call) (placed words (newest_is site words views j v h at)),
+          places_mine i x g adds (key_of call) (placed words h.newest),
           moved (with_word words i x) v (key_of call) (stays i x (key_of call) g) has,
           r.1.here,
-          subst (λ (a : Option ℕ). Done ≡ reply_by a call) (held_is_map site words views j v h at (key_of call) has none) r.0,
+          subst (λ (a : Option ℕ). Done ≡ reply_by a call) (sym (h.map.known (key_of call) has none)) r.0,
         )
         | inr q ↦ (let o = mine c q in (places_mine i x g adds (key_of c) o.0, moved (with_word words i x) v (key_of c) (stays i x (key_of c) g) o.1, r.1.elsewhere (key_of c) (none c q) ∙ o.2, o.3))
       ])
@@ -145,6 +143,10 @@ module _ (site : Site) (words : Words) (views : List View) (j : ℕ) (v : View) 
   pub keep_plans : (kind : Kind) → May site kind v → Plans site (words_by site kind j words) (views_by site kind j v words views) (log_after kind h.log)
   keep_plans (peeks i) may = calm _ refl refl
   keep_plans asks_power may = calm _ refl refl
+  keep_plans meets_root may = calm _ refl refl
+  keep_plans (meets_entry e i) may = calm _ refl refl
+  keep_plans (meets_head s version) may = calm _ refl refl
+  keep_plans (pins s b) may = calm _ refl refl
   keep_plans (finds_room call) may = let t = nat_lt (words (counter_word site.shape)) (2 ^ 63) in let n = words (counter_word site.shape) in calm _ (count_quiet t call n v).1 (count_held t call n v)
   keep_plans (refuses call reply) may = calm _ refl refl
   keep_plans (places k a) may = calm _ refl refl
@@ -153,7 +155,7 @@ module _ (site : Site) (words : Words) (views : List View) (j : ℕ) (v : View) 
   keep_plans (validates lock) may = let o = record v { notes = marked lock (words lock) v.notes } in let t = all_again (marked lock (words lock) v.notes) in calm _ (answer_quiet t v.answer o).1 (answer_held t v.answer o)
   keep_plans (learns i) may = calm _ refl refl
   keep_plans (meets_lock lock) may = calm _ refl refl
-  keep_plans (tries lock free) may = tried lock free may.0 (eqb (words lock) free)
+  keep_plans (tries lock free) may = tried lock free (known_lock site v lock may.0) (eqb (words lock) free)
   keep_plans (stores i x) may = harmless i x v.moving v.owed may.0.guarded may.0.adds may.1
   keep_plans (copies i x m) may = harmless i x (m ∷ v.moving) v.owed may.0.guarded may.0.adds may.1
   keep_plans (clears i x m) may = harmless i x (of_other_records m v.moving) v.owed may.0.guarded may.0.adds may.1

@@ -7,15 +7,17 @@ use Rattle.image_layout.specs.Volatile.{counter_word, power_word}
 use Rattle.map_model.specs.declared.call.Call.{Call}
 use Rattle.world.specs.Site.{Site, IsLockWord}
 use Rattle.world.specs.Views.{Answer, View, At, IsGuarded}
-use Rattle.world.specs.Invariant.{Powered, Holds}
-use Rattle.world.specs.Kinds.{Kind, peeks, asks_power, finds_room, refuses, places, looks, notes_word, validates, learns, meets_lock, tries, stores, copies, clears, repays, publishes, stashes, flushes, fences, draws_place, unlocks, cuts_power, marked, with_answer, with_look, with_count, with_lock}
+use Rattle.world.proofs.holding.Backing.{Backing}
+use Rattle.world.specs.Invariant.{Powered}
+use Rattle.world.specs.Kinds.{Kind, peeks, asks_power, meets_root, meets_entry, meets_head, pins, finds_room, refuses, places, looks, notes_word, validates, learns, meets_lock, tries, stores, copies, clears, repays, publishes, stashes, flushes, fences, draws_place, unlocks, cuts_power, marked, with_answer, with_look, with_count, with_lock}
 use Rattle.world.specs.Conditions.{May}
 use Rattle.world.specs.Laws.{words_by, views_by}
+use Rattle.world.proofs.Structures.{known_lock}
 use Rattle.world.proofs.Grounds.{lock_within}
 use Rattle.world.proofs.Lists.{set_here}
 use Rattle.world.proofs.Seats.{carry, guarded_within}
 
-module _ (site : Site) (words : Words) (views : List View) (j : ℕ) (v : View) (h : Holds site words views) (at : At views j v) where
+module _ (site : Site) (words : Words) (views : List View) (j : ℕ) (v : View) (h : Backing site words views j v) (at : At views j v) where
   abbrev power : ℕ
   power = power_word site.shape
 
@@ -55,6 +57,10 @@ module _ (site : Site) (words : Words) (views : List View) (j : ℕ) (v : View) 
   pub keep_powered : (kind : Kind) → May site kind v → Powered site (words_by site kind j words) (views_by site kind j v words views)
   keep_powered (peeks i) may = calm words _ refl refl
   keep_powered asks_power may = calm words _ refl refl
+  keep_powered meets_root may = calm words _ refl refl
+  keep_powered (meets_entry e i) may = calm words _ refl refl
+  keep_powered (meets_head s version) may = calm words _ refl refl
+  keep_powered (pins s b) may = calm words _ refl refl
   keep_powered (finds_room call) may = calm words _ refl (counted call (words (counter_word site.shape)) _)
   keep_powered (refuses call reply) may = calm words _ refl refl
   keep_powered (places k a) may = calm words _ refl refl
@@ -63,7 +69,7 @@ module _ (site : Site) (words : Words) (views : List View) (j : ℕ) (v : View) 
   keep_powered (validates lock) may = calm words _ refl (answered (record v { notes = marked lock (words lock) v.notes }) _ _)
   keep_powered (learns i) may = calm words _ refl refl
   keep_powered (meets_lock lock) may = calm words _ refl refl
-  keep_powered (tries lock free) may = tried lock free may.0 (eqb (words lock) free)
+  keep_powered (tries lock free) may = tried lock free (known_lock site v lock may.0) (eqb (words lock) free)
   keep_powered (stores i x) may = elsewhere i x _ (guarded_apart i may.0.guarded) refl
   keep_powered (copies i x m) may = elsewhere i x _ (guarded_apart i may.0.guarded) refl
   keep_powered (clears i x m) may = elsewhere i x _ (guarded_apart i may.0.guarded) refl

@@ -8,8 +8,9 @@ use Rattle.map_model.specs.declared.call.Call.{Call}
 use Rattle.world.specs.Site.{Site}
 use Rattle.world.specs.Views.{Answer, View, At}
 use Rattle.world.specs.History.{Log}
-use Rattle.world.specs.Invariant.{total, Room, Holds}
-use Rattle.world.specs.Kinds.{Kind, peeks, asks_power, finds_room, refuses, places, looks, notes_word, validates, learns, meets_lock, tries, stores, copies, clears, repays, publishes, stashes, flushes, fences, draws_place, unlocks, cuts_power, marked, all_again, with_answer, with_look, with_count, with_lock, with_draw, log_after}
+use Rattle.world.proofs.holding.Backing.{Backing}
+use Rattle.world.specs.Invariant.{total, Room}
+use Rattle.world.specs.Kinds.{Kind, peeks, asks_power, meets_root, meets_entry, meets_head, pins, finds_room, refuses, places, looks, notes_word, validates, learns, meets_lock, tries, stores, copies, clears, repays, publishes, stashes, flushes, fences, draws_place, unlocks, cuts_power, marked, all_again, with_answer, with_look, with_count, with_lock, with_draw, log_after}
 use Rattle.world.specs.Conditions.{May}
 use Rattle.world.specs.Laws.{views_by}
 use Rattle.world.proofs.Lists.{total_set, total_most}
@@ -21,7 +22,7 @@ callers_of v = v.callers
 abbrev room_of : View → ℕ
 room_of v = v.room
 
-room_law : (site : Site) (views : List View) (j : ℕ) (v w : View) (log log' : Log) → At views j v → Room site views log → w.callers ≡ v.callers → w.room ≤ w.callers
+pub room_law : (site : Site) (views : List View) (j : ℕ) (v w : View) (log log' : Log) → At views j v → Room site views log → w.callers ≡ v.callers → w.room ≤ w.callers
     → length log' + total room_of views + w.room ≤ 2 ^ 63 + site.callers + v.room → Room site (set views j w) log'
 room_law site views j v w log log' at r callers most few = record {
   callers = (let s = total_set callers_of views j v w at in let p = r.callers in omega (arith, s, p, callers));
@@ -29,7 +30,7 @@ room_law site views j v w log log' at r callers most few = record {
   few = (let s = total_set room_of views j v w at in omega (arith, s, few));
 }
 
-module _ (site : Site) (words : Words) (views : List View) (j : ℕ) (v : View) (h : Holds site words views) (at : At views j v) where
+module _ (site : Site) (words : Words) (views : List View) (j : ℕ) (v : View) (h : Backing site words views j v) (at : At views j v) where
   calm : (w : View) → w.callers ≡ v.callers → w.room ≡ v.room → Room site (set views j w) h.log
   calm w p d = let r = h.room.few in let m = h.room.each j v at in room_law site views j v w h.log h.log at h.room p (omega (arith, p, d, m)) (omega (arith, r, d))
 
@@ -63,6 +64,10 @@ module _ (site : Site) (words : Words) (views : List View) (j : ℕ) (v : View) 
   pub keep_room : (kind : Kind) → May site kind v → Room site (views_by site kind j v words views) (log_after kind h.log)
   keep_room (peeks i) may = calm _ refl refl
   keep_room asks_power may = calm _ refl refl
+  keep_room meets_root may = calm _ refl refl
+  keep_room (meets_entry e i) may = calm _ refl refl
+  keep_room (meets_head s version) may = calm _ refl refl
+  keep_room (pins s b) may = calm _ refl refl
   keep_room (finds_room call) may = counted call (words (counter_word site.shape)) refl (nat_lt (words (counter_word site.shape)) (2 ^ 63)) refl
   keep_room (refuses call reply) may = calm _ refl refl
   keep_room (places k a) may = calm _ refl refl

@@ -12,13 +12,14 @@ use Rattle.map_model.specs.Map.{shown}
 use Rattle.world.specs.Site.{Site, IsSpentLock, HasSpentLock}
 use Rattle.world.specs.Views.{Answer, View, Has, At}
 use Rattle.world.specs.History.{Log}
-use Rattle.world.specs.Invariant.{Spending, Holds}
-use Rattle.world.specs.Kinds.{Kind, peeks, asks_power, finds_room, refuses, places, looks, notes_word, validates, learns, meets_lock, tries, stores, copies, clears, repays, publishes, stashes, flushes, fences, draws_place, unlocks, cuts_power, marked, all_again, next_entry, with_answer, with_look, with_count, with_spent, with_lock, log_after, view_after}
+use Rattle.world.specs.Invariant.{Spending}
+use Rattle.world.specs.Kinds.{Kind, peeks, asks_power, meets_root, meets_entry, meets_head, pins, finds_room, refuses, places, looks, notes_word, validates, learns, meets_lock, tries, stores, copies, clears, repays, publishes, stashes, flushes, fences, draws_place, unlocks, cuts_power, marked, all_again, next_entry, with_answer, with_look, with_count, with_spent, with_lock, log_after, view_after}
 use Rattle.world.specs.Conditions.{May}
+use Rattle.world.specs.areas.SpentNumbers.{SpendingParts}
 use Rattle.world.specs.Laws.{found_by, words_by, views_by}
 use Rattle.world.proofs.Lists.{has_joined}
 use Rattle.world.proofs.Seats.{each}
-use Rattle.world.proofs.stepping.SpentLocks.{spent_locks_stay}
+use Rattle.world.proofs.stepping.SpentLocks.{spent_stays}
 
 -- a reply that a number is spent is right over these words and so many changes
 abbrev IsCaused : Site → Words → Log → Type 0
@@ -32,7 +33,7 @@ shown_other (Some v) e = cc
 one_more : (own : List Entry) (e x : Entry) → Has x (own ++ e ∷ []) → Has x own ⊎ (x ≡ e)
 one_more own e x h = elim (has_joined own (e ∷ []) x h) [ inl old ↦ inl old | inr new ↦ elim new [ inl is ↦ inr is | inr none ↦ absurd none ] ]
 
-module _ (site : Site) (words : Words) (views : List View) (j : ℕ) (v : View) (h : Holds site words views) (at : At views j v) where
+module _ (site : Site) (words : Words) (views : List View) (j : ℕ) (v : View) (h : SpendingParts site words views) (at : At views j v) where
   module _ (kind : Kind) (may : May site kind v) where
     abbrev w : View
     w = view_after site.shape kind (found_by site kind words) v
@@ -41,7 +42,7 @@ module _ (site : Site) (words : Words) (views : List View) (j : ℕ) (v : View) 
     after = words_by site kind j words
 
     still : (lock : ℕ) → IsSpentLock site.shape words lock → IsSpentLock site.shape after lock
-    still lock s = spent_locks_stay site words views j v kind lock h at may s
+    still lock s = (s.0, spent_stays site words views j v h at lock s.0 s.1 kind may)
 
     still_caused : length h.log ≤ length (log_after kind h.log) → IsCaused site words h.log → IsCaused site after (log_after kind h.log)
     still_caused grows c = elim c [ inl many ↦ inl (omega (arith, many, grows)) | inr s ↦ inr (s.0, still s.0 s.1) ]
@@ -88,6 +89,10 @@ module _ (site : Site) (words : Words) (views : List View) (j : ℕ) (v : View) 
   pub keep_spending : (kind : Kind) (may : May site kind v) → Spending site (words_by site kind j words) (views_by site kind j v words views) (log_after kind h.log)
   keep_spending (peeks i) may = calm (peeks i) may refl refl refl
   keep_spending asks_power may = calm asks_power may refl refl refl
+  keep_spending meets_root may = calm meets_root may refl refl refl
+  keep_spending (meets_entry e i) may = calm (meets_entry e i) may refl refl refl
+  keep_spending (meets_head s version) may = calm (meets_head s version) may refl refl refl
+  keep_spending (pins s b) may = calm (pins s b) may refl refl refl
   keep_spending (finds_room call) may = counted call may (nat_lt n (2 ^ 63)) refl (locks_by (nat_lt n (2 ^ 63))) refl
     where
       locks_by : (t : Bool) → (with_count t call n v).spent_locks ≡ v.spent_locks

@@ -8,7 +8,7 @@ use Rattle.map_model.specs.declared.entry.Entry.{Entry}
 use Rattle.world.specs.Site.{Site}
 use Rattle.world.specs.Views.{Answer, View, At}
 use Rattle.world.specs.Invariant.{IsAnswer, Holds}
-use Rattle.world.specs.Kinds.{Kind, peeks, asks_power, finds_room, refuses, places, looks, notes_word, validates, learns, meets_lock, tries, stores, copies, clears, repays, publishes, stashes, flushes, fences, draws_place, unlocks, cuts_power, wanted, with_answer, with_look, with_count, with_lock, all_again, marked, view_after}
+use Rattle.world.specs.Kinds.{Kind, peeks, asks_power, meets_root, meets_entry, meets_head, pins, finds_room, refuses, places, looks, notes_word, validates, learns, meets_lock, tries, stores, copies, clears, repays, publishes, stashes, flushes, fences, draws_place, unlocks, cuts_power, wanted, with_answer, with_look, with_count, with_lock, all_again, marked, view_after}
 use Rattle.world.specs.Wants.{word_of}
 use Rattle.world.proofs.NotedLists.{marked_to, again_all}
 use Rattle.world.specs.Later.{IsLater, RepliesComeLater}
@@ -51,6 +51,10 @@ module _ (site : Site) (words : Words) (views : List View) (j : ℕ) (v : View) 
   later_at : (kind : Kind) → IsLater v (view_after site.shape kind (words (word_of site.shape (wanted site.shape kind))) v)
   later_at (peeks i) = same v _ refl refl
   later_at asks_power = same v _ refl refl
+  later_at meets_root = same v _ refl refl
+  later_at (meets_entry e i) = same v _ refl refl
+  later_at (meets_head s version) = same v _ refl refl
+  later_at (pins s b) = same v _ refl refl
   later_at (finds_room call) = count (nat_lt (words (counter_word site.shape)) (2 ^ 63)) call (words (counter_word site.shape)) refl
   later_at (refuses call reply) = one v _ _ refl (at_counter _ refl) (at_counter _ refl)
   later_at (places k a) = same v _ refl refl

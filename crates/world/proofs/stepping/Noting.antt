@@ -13,7 +13,7 @@ never e = absurd (cc)
 
 -- ---- one word more
 abbrev pub noted_one : ℕ → ℕ → ℕ → Note → Note
-noted_one lock i x n = cond (eqb n.lock lock) (record n { words = (i, x) ∷ n.words }) n
+noted_one lock i x n = cond (eqb n.word lock) (record n { words = (i, x) ∷ n.words }) n
 
 pub noted_to : (lock i x : ℕ) (notes : List Note) (n : Note) → Has n notes → Has (noted_one lock i x n) (with_noted lock i x notes)
 noted_to lock i x [] n h = absurd h
@@ -24,29 +24,29 @@ noted_from lock i x [] o h = absurd h
 noted_from lock i x (m ∷ notes) o h = elim h [ inl e ↦ (m, inl refl, e) | inr r ↦ (let s = noted_from lock i x notes o r in (s.0, inr s.1, s.2)) ]
 
 module _ (lock i x : ℕ) (n : Note) where
-  same_lock_by : (b : Bool) → (cond b (record n { words = (i, x) ∷ n.words }) n).lock ≡ n.lock
-  same_lock_by true = refl
-  same_lock_by false = refl
+  same_word_by : (b : Bool) → (cond b (record n { words = (i, x) ∷ n.words }) n).word ≡ n.word
+  same_word_by true = refl
+  same_word_by false = refl
 
-  pub one_lock : (noted_one lock i x n).lock ≡ n.lock
-  one_lock = same_lock_by (eqb n.lock lock)
+  pub one_word : (noted_one lock i x n).word ≡ n.word
+  one_word = same_word_by (eqb n.word lock)
 
-  same_free_by : (b : Bool) → (cond b (record n { words = (i, x) ∷ n.words }) n).free ≡ n.free
-  same_free_by true = refl
-  same_free_by false = refl
+  same_value_by : (b : Bool) → (cond b (record n { words = (i, x) ∷ n.words }) n).value ≡ n.value
+  same_value_by true = refl
+  same_value_by false = refl
 
-  pub one_free : (noted_one lock i x n).free ≡ n.free
-  one_free = same_free_by (eqb n.lock lock)
+  pub one_value : (noted_one lock i x n).value ≡ n.value
+  one_value = same_value_by (eqb n.word lock)
 
   words_by : (b : Bool) (p : ℕ × ℕ) → Has p n.words → Has p (cond b (record n { words = (i, x) ∷ n.words }) n).words
   words_by true p h = inr h
   words_by false p h = h
 
   pub one_words : (p : ℕ × ℕ) → Has p n.words → Has p (noted_one lock i x n).words
-  one_words p h = words_by (eqb n.lock lock) p h
+  one_words p h = words_by (eqb n.word lock) p h
 
-  pub one_here : n.lock ≡ lock → noted_one lock i x n ≡ record n { words = (i, x) ∷ n.words }
-  one_here e = ap (λ b. cond b (record n { words = (i, x) ∷ n.words }) n) (eq-eqb n.lock lock e)
+  pub one_here : n.word ≡ lock → noted_one lock i x n ≡ record n { words = (i, x) ∷ n.words }
+  one_here e = ap (λ b. cond b (record n { words = (i, x) ∷ n.words }) n) (eq-eqb n.word lock e)
 
 -- ---- words that may be the newest with the notes afterwards may be it with those before
 module _ (site : Site) (m : Words) where
@@ -55,7 +55,8 @@ module _ (site : Site) (m : Words) where
     structure = a.structure;
     table = a.table;
     agrees = λ n j y h w. a.agrees (noted_one lock i x n) j y (noted_to lock i x notes n h) (one_words lock i x n (j, y) w);
-    exact = λ s b n segment home h e. a.exact s b (noted_one lock i x n) segment home (noted_to lock i x notes n h) (one_lock lock i x n ∙ e);
+    heads = λ s n segment h e. a.heads s (noted_one lock i x n) segment (noted_to lock i x notes n h) (one_word lock i x n ∙ e) ∙ one_value lock i x n;
+    exact = λ s b n segment home h e. a.exact s b (noted_one lock i x n) segment home (noted_to lock i x notes n h) (one_word lock i x n ∙ e);
   }
 
   pub now_more : (new : Note) (notes : List Note) → IsNow site (new ∷ notes) m → IsNow site notes m
@@ -63,6 +64,7 @@ module _ (site : Site) (m : Words) where
     structure = a.structure;
     table = a.table;
     agrees = λ n j y h w. a.agrees n j y (inr h) w;
+    heads = λ s n segment h e. a.heads s n segment (inr h) e;
     exact = λ s b n segment home h e. a.exact s b n segment home (inr h) e;
   }
 
@@ -73,7 +75,7 @@ unmarked_to (m ∷ notes) n h = elim h [ inl e ↦ inl (ap (λ (z : Note). recor
 
 -- ---- a lock word found again
 abbrev pub marked_one : ℕ → ℕ → Note → Note
-marked_one lock x n = cond (eqb n.lock lock && eqb n.free x) (record n { again = true }) n
+marked_one lock x n = cond (eqb n.word lock && eqb n.value x) (record n { again = true }) n
 
 pub marked_to : (lock x : ℕ) (notes : List Note) (n : Note) → Has n notes → Has (marked_one lock x n) (marked lock x notes)
 marked_to lock x [] n h = absurd h
@@ -84,30 +86,30 @@ marked_from lock x [] o h = absurd h
 marked_from lock x (m ∷ notes) o h = elim h [ inl e ↦ (m, inl refl, e) | inr r ↦ (let s = marked_from lock x notes o r in (s.0, inr s.1, s.2)) ]
 
 module _ (lock x : ℕ) (n : Note) where
-  mark_lock_by : (b : Bool) → (cond b (record n { again = true }) n).lock ≡ n.lock
-  mark_lock_by true = refl
-  mark_lock_by false = refl
+  mark_word_by : (b : Bool) → (cond b (record n { again = true }) n).word ≡ n.word
+  mark_word_by true = refl
+  mark_word_by false = refl
 
-  pub mark_lock : (marked_one lock x n).lock ≡ n.lock
-  mark_lock = mark_lock_by (eqb n.lock lock && eqb n.free x)
+  pub mark_word : (marked_one lock x n).word ≡ n.word
+  mark_word = mark_word_by (eqb n.word lock && eqb n.value x)
 
-  mark_free_by : (b : Bool) → (cond b (record n { again = true }) n).free ≡ n.free
-  mark_free_by true = refl
-  mark_free_by false = refl
+  mark_value_by : (b : Bool) → (cond b (record n { again = true }) n).value ≡ n.value
+  mark_value_by true = refl
+  mark_value_by false = refl
 
-  pub mark_free : (marked_one lock x n).free ≡ n.free
-  mark_free = mark_free_by (eqb n.lock lock && eqb n.free x)
+  pub mark_value : (marked_one lock x n).value ≡ n.value
+  mark_value = mark_value_by (eqb n.word lock && eqb n.value x)
 
-  pub mark_here : n.lock ≡ lock → n.free ≡ x → (marked_one lock x n).again ≡ true
-  mark_here e f = ap (λ b. (cond (b && eqb n.free x) (record n { again = true }) n).again) (eq-eqb n.lock lock e)
-      ∙ ap (λ b. (cond b (record n { again = true }) n).again) (eq-eqb n.free x f)
+  pub mark_here : n.word ≡ lock → n.value ≡ x → (marked_one lock x n).again ≡ true
+  mark_here e f = ap (λ b. (cond (b && eqb n.value x) (record n { again = true }) n).again) (eq-eqb n.word lock e)
+      ∙ ap (λ b. (cond b (record n { again = true }) n).again) (eq-eqb n.value x f)
 
-  apart_by : (b : Bool) → (b ≡ true → n.lock ≡ lock) → (n.lock ≡ lock → ⊥) → (cond (b && eqb n.free x) (record n { again = true }) n).again ≡ n.again
+  apart_by : (b : Bool) → (b ≡ true → n.word ≡ lock) → (n.word ≡ lock → ⊥) → (cond (b && eqb n.value x) (record n { again = true }) n).again ≡ n.again
   apart_by true is other = absurd (other (is refl))
   apart_by false is other = refl
 
-  pub mark_there : (n.lock ≡ lock → ⊥) → (marked_one lock x n).again ≡ n.again
-  mark_there other = apart_by (eqb n.lock lock) (λ t. eqb-true n.lock lock t) other
+  pub mark_there : (n.word ≡ lock → ⊥) → (marked_one lock x n).again ≡ n.again
+  mark_there other = apart_by (eqb n.word lock) (λ t. eqb-true n.word lock t) other
 
 -- ---- whether all are marked
 pub all_marked : (notes : List Note) → ((n : Note) → Has n notes → n.again ≡ true) → all_again notes ≡ true
@@ -127,8 +129,8 @@ one_unmarked notes n h f = elim (cases_Bool (all_again notes)) [
       | inr r ↦ marked_in notes p.1 n r
     ]
 
-pub mark_unlike : (lock x : ℕ) (n : Note) → n.free ≢ x → (marked_one lock x n).again ≡ n.again
-mark_unlike lock x n other = ap (λ b. (cond (eqb n.lock lock && b) (record n { again = true }) n).again) (ne_eqb n.free x other) ∙ by (eqb n.lock lock)
+pub mark_unlike : (lock x : ℕ) (n : Note) → n.value ≢ x → (marked_one lock x n).again ≡ n.again
+mark_unlike lock x n other = ap (λ b. (cond (eqb n.word lock && b) (record n { again = true }) n).again) (ne_eqb n.value x other) ∙ by (eqb n.word lock)
   where
     by : (b : Bool) → (cond (b && false) (record n { again = true }) n).again ≡ n.again
     by true = refl

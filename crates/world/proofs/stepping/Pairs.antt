@@ -5,8 +5,9 @@ use Rattle.trace.specs.Events.Event.{loaded, exchanged}
 use Rattle.image_layout.specs.Volatile.{counter_word, power_word}
 use Rattle.bucket_words.specs.Hits.{find}
 use Rattle.world.specs.Site.{Site, IsLockWord}
-use Rattle.world.specs.Kinds.{peeks, asks_power, finds_room, refuses, places, looks, notes_word, validates, learns, meets_lock, tries, stores, copies, clears, repays, publishes, stashes, flushes, fences, draws_place, unlocks, cuts_power}
+use Rattle.world.specs.Kinds.{peeks, asks_power, meets_root, meets_entry, meets_head, pins, finds_room, refuses, places, looks, notes_word, validates, learns, meets_lock, tries, stores, copies, clears, repays, publishes, stashes, flushes, fences, draws_place, unlocks, cuts_power}
 use Rattle.world.specs.Pairs.{OtherStepsKeepPairs}
+use Rattle.world.proofs.Structures.{known_lock}
 use Rattle.world.proofs.Tables.{same_find, lock_cores, counter_cores, power_cores}
 use Rattle.world.proofs.holding.Beside.{newest_is, beside_self}
 
@@ -22,6 +23,10 @@ tried site words number lock free l false k = refl
 pub keeps_pairs : OtherStepsKeepPairs
 keeps_pairs site words views j v (peeks i) number h at may other k = refl
 keeps_pairs site words views j v asks_power number h at may other k = refl
+keeps_pairs site words views j v meets_root number h at may other k = refl
+keeps_pairs site words views j v (meets_entry e i) number h at may other k = refl
+keeps_pairs site words views j v (meets_head s version) number h at may other k = refl
+keeps_pairs site words views j v (pins s b) number h at may other k = refl
 keeps_pairs site words views j v (finds_room call) number h at may other k = refl
 keeps_pairs site words views j v (refuses call reply) number h at may other k = refl
 keeps_pairs site words views j v (places key a) number h at may other k = refl
@@ -30,7 +35,7 @@ keeps_pairs site words views j v (notes_word lock i) number h at may other k = r
 keeps_pairs site words views j v (validates lock) number h at may other k = refl
 keeps_pairs site words views j v (learns i) number h at may other k = refl
 keeps_pairs site words views j v (meets_lock lock) number h at may other k = refl
-keeps_pairs site words views j v (tries lock free) number h at may other k = tried site words number lock free may.0 (eqb (words lock) free) k
+keeps_pairs site words views j v (tries lock free) number h at may other k = tried site words number lock free (known_lock site v lock may.0) (eqb (words lock) free) k
 keeps_pairs site words views j v (stores i x) number h at may other k =
     (may.1 words words (newest_is site words views j v h at) (beside_self site words views j v h at)).pairs k
 keeps_pairs site words views j v (copies i x m) number h at may other k =

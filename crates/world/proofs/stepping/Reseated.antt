@@ -13,6 +13,7 @@ use Rattle.map_model.specs.declared.call.Call.TheVariants.{Remove}
 use Rattle.map_model.specs.declared.entry.Entry.{Entry}
 use Rattle.map_model.specs.Weave.{draws, drew_at}
 use Rattle.map_model.specs.Legal.{InOrder, seen_of}
+use Rattle.frame_facts.specs.Facts.{Fact}
 use Rattle.world.specs.Site.{Site}
 use Rattle.world.specs.Views.{Note, Move, Owed, View, Has, At, IsGuarded, IsLoose}
 use Rattle.world.specs.Media.{IsPossible}
@@ -59,6 +60,8 @@ pub record Reseats (views views' : List View) : Type 0 where
   pub each : (i : ℕ) (u : View) → At views' i u → u.room ≤ u.callers
   pub few : total (λ v. v.room) views' ≤ total (λ v. v.room) views
   pub spent_locks : (i : ℕ) (u : View) (lock : ℕ) → At views' i u → Has lock u.spent_locks → (j : ℕ) × (o : View) × At views j o × Has lock o.spent_locks
+  pub facts : (i : ℕ) (u : View) (f : Fact) → At views' i u → Has f u.facts → (j : ℕ) × (o : View) × At views j o × Has f o.facts
+  pub pinned : (i : ℕ) (u : View) (p : ℕ × ℕ) → At views' i u → Has p u.pinned → From views goes i u (λ o. Has p o.pinned)
   pub power_stays : (j : ℕ) (o : View) → At views j o → o.stored_power ≡ true → (i : ℕ) × (u : View) × At views' i u × (u.stored_power ≡ true)
 
 module _ (site : Site) (words : Words) (views views' : List View) (h : Holds site words views) (r : Reseats views views') where
@@ -75,6 +78,13 @@ module _ (site : Site) (words : Words) (views views' : List View) (h : Holds sit
   reseated = record {
     site_is = h.site_is;
     log = h.log;
+    structure = record {
+      constant = h.structure.constant;
+      sound = h.structure.sound;
+      says = λ j v f at q. (let s = r.facts j v f at q in h.structure.says s.0 s.1 f s.2 s.3);
+      pinned = λ j v s x at q. (let f = r.pinned j v (s, x) at q in let p = h.structure.pinned f.seat f.old s x f.at f.has in (p.0, p.1, (p.2.0, f.locks _ p.2.1), p.3));
+      locks = λ j v lock at q. (let f = r.held j v (lock, q.0) at q.1 in h.structure.locks f.seat f.old lock f.at (q.0, f.has));
+    };
     locks = record {
       alone = λ i n u x lock a b at at' q q'. (let f = r.held i u (lock, a) at q in let g = r.held n x (lock, b) at' q' in
           sym f.went ∙ (ap r.goes (h.locks.alone f.seat g.seat f.old g.old lock a b f.at g.at f.has g.has) ∙ g.went));
@@ -109,8 +119,9 @@ module _ (site : Site) (words : Words) (views views' : List View) (h : Holds sit
       drawn = r.draws ∙ h.history.drawn;
       each_once = λ n below. r.drew n ∙ h.history.each_once n below;
     };
+    owned = record { own = h.owned.own };
     copies = record {
-      once = λ s b n c t k x y. elim (h.copies.once s b n c t k x y) [
+      once = λ s b n c t k current x y. elim (h.copies.once s b n c t k current x y) [
         | inl e ↦ inl e
         | inr o ↦ (let q = r.moving_stays o.0 o.1 o.2 o.3 o.4 in inr (r.goes o.0, q.0, o.2, q.1, q.2, o.5))
       ];
@@ -118,7 +129,7 @@ module _ (site : Site) (words : Words) (views views' : List View) (h : Holds sit
           ((l.0.0, f.locks _ l.0.1), (l.1.0, f.locks _ l.1.1), (l.2.0, f.locks _ l.2.1)));
     };
     overflow = record {
-      exact = λ s b seg near none. h.overflow.exact s b seg near (λ j o d at has. (let q = r.owed_stays j o d at has in none (r.goes j) q.0 d q.1 q.2));
+      exact = λ s b current near none. h.overflow.exact s b current near (λ j o d at has. (let q = r.owed_stays j o d at has in none (r.goes j) q.0 d q.1 q.2));
       owes = λ j v d at q. (let f = r.owed j v d at q in h.overflow.owes f.seat f.old d f.at f.has);
       held = λ j v d at q. (let f = r.owed j v d at q in let l = h.overflow.held f.seat f.old d f.at f.has in (l.0, f.locks _ l.1));
       fits = λ j v d at q. (let f = r.owed j v d at q in h.overflow.fits f.seat f.old d f.at f.has);
@@ -126,7 +137,7 @@ module _ (site : Site) (words : Words) (views views' : List View) (h : Holds sit
     media = record {
       structure = λ m p. h.media.structure m (fewer m p);
       table = λ m p. h.media.table m (fewer m p);
-      stashed = λ m p s c t k small own hit. elim (h.media.stashed m (fewer m p) s c t k small own hit) [
+      stashed = λ m p s c t k current small own hit. elim (h.media.stashed m (fewer m p) s c t k current small own hit) [
         | inl e ↦ inl e
         | inr o ↦ (let a = r.planned_stays o.0 o.1 (Remove k) o.2 o.3 in let b = r.locks_stay o.0 o.1 (bucket_at site.shape s (64 + c), o.4.0) o.2 o.4.1 in
             let e : b.0 ≡ a.0 = same_at views' (r.goes o.0) b.0 a.0 b.1 a.1 in
@@ -179,19 +190,19 @@ total_end : (f : View → ℕ) (views : List View) (w : View) → total f (views
 total_end f [] w = omega arith
 total_end f (v ∷ views) w = let r = total_end f views w in omega (arith, r)
 
-module _ (views : List View) (j : ℕ) (v : View) (n : ℕ) (at : At views j v) (fits : n ≤ v.callers) (room : (i : ℕ) (u : View) → At views i u → u.room ≤ u.callers) where
-  abbrev parted : List View
+module _ (views : List View) (j : ℕ) (v : View) (n : ℕ) (at : At views j v) where
+  abbrev pub parted : List View
   parted = set views j (left_of v n) ++ cut_off v n ∷ []
 
   -- each new view but the last is an old one, with fewer callers or room
-  new_views : (P : ℕ → View → Type 0) → P j (left_of v n) → ((i : ℕ) (u : View) → i ≢ j → At views i u → P i u) → ((i : ℕ) → P i (cut_off v n))
+  pub new_views : (P : ℕ → View → Type 0) → P j (left_of v n) → ((i : ℕ) (u : View) → i ≢ j → At views i u → P i u) → ((i : ℕ) → P i (cut_off v n))
       → (i : ℕ) (u : View) → At parted i u → P i u
   new_views P own other last i u a = elim (at_end (set views j (left_of v n)) (cut_off v n) u i a) [
     | inl b ↦ each views j v (left_of v n) at P own other i u b
     | inr e ↦ subst (λ (z : View). P i z) (sym e) (last i)
   ]
 
-  still : (P : View → Type 0) → (P v → P (left_of v n)) → (i : ℕ) (o : View) → At views i o → P o → (u : View) × At parted i u × P u
+  pub still : (P : View → Type 0) → (P v → P (left_of v n)) → (i : ℕ) (o : View) → At views i o → P o → (u : View) × At parted i u × P u
   still P mine i o a p = dite (ℕ_discrete i j)
       (λ (e : i ≡ j). (
         left_of v n,
@@ -203,54 +214,60 @@ module _ (views : List View) (j : ℕ) (v : View) (n : ℕ) (at : At views j v) 
   same_total : (f : View → ℕ) → f (left_of v n) + f (cut_off v n) ≡ f v → total f parted ≡ total f views
   same_total f e = let a = total_set f views j v (left_of v n) at in let b = total_end f (set views j (left_of v n)) (cut_off v n) in omega (arith, a, b, e)
 
-  pub cut_reseats : Reseats views parted
-  cut_reseats = record {
-    goes = λ i. i;
-    held = λ i u p a q. new_views (λ i u. Has p u.held → From views (λ i. i) i u (λ o. Has p o.held))
-        (λ q. record { seat = j; old = v; at = at; went = refl; locks = λ p l. l; has = q })
-        (λ i u ne a q. record { seat = i; old = u; at = a; went = refl; locks = λ p l. l; has = q }) (λ i q. absurd q) i u a q;
-    known = λ i u p a q. new_views (λ i u. Has p u.known → From views (λ i. i) i u (λ o. Has p o.known))
-        (λ q. record { seat = j; old = v; at = at; went = refl; locks = λ p l. l; has = q })
-        (λ i u ne a q. record { seat = i; old = u; at = a; went = refl; locks = λ p l. l; has = q }) (λ i q. absurd q) i u a q;
-    loose = λ i u p a q. new_views (λ i u. IsLoose u p → From views (λ i. i) i u (λ o. IsLoose o p))
-        (λ q. record { seat = j; old = v; at = at; went = refl; locks = λ p l. l; has = q })
-        (λ i u ne a q. record { seat = i; old = u; at = a; went = refl; locks = λ p l. l; has = q }) (λ i q. elim q [ inl d ↦ absurd d | inr f ↦ absurd f ]) i u a q;
-    planned = λ i u c a q. new_views (λ i u. Has c u.planned → From views (λ i. i) i u (λ o. Has c o.planned))
-        (λ q. record { seat = j; old = v; at = at; went = refl; locks = λ p l. l; has = q })
-        (λ i u ne a q. record { seat = i; old = u; at = a; went = refl; locks = λ p l. l; has = q }) (λ i q. absurd q) i u a q;
-    moving = λ i u c a q. new_views (λ i u. Has c u.moving → From views (λ i. i) i u (λ o. Has c o.moving))
-        (λ q. record { seat = j; old = v; at = at; went = refl; locks = λ p l. l; has = q })
-        (λ i u ne a q. record { seat = i; old = u; at = a; went = refl; locks = λ p l. l; has = q }) (λ i q. absurd q) i u a q;
-    owed = λ i u c a q. new_views (λ i u. Has c u.owed → From views (λ i. i) i u (λ o. Has c o.owed))
-        (λ q. record { seat = j; old = v; at = at; went = refl; locks = λ p l. l; has = q })
-        (λ i u ne a q. record { seat = i; old = u; at = a; went = refl; locks = λ p l. l; has = q }) (λ i q. absurd q) i u a q;
-    notes = new_views (λ i u. KeepsNotes views u) (inr (j, v, at, refl, refl, refl)) (λ i u ne a. inr (i, u, a, refl, refl, refl)) (λ i. inl (refl, refl));
-    own = new_views (λ i u. KeepsOwn views u) (inr (j, v, at, refl, omega arith)) (λ i u ne a. inr (i, u, a, refl, omega arith)) (λ i. inl refl);
-    seen = new_views (λ i u. (j : ℕ) × (o : View) × At views j o × (u.seen ≤ o.seen)) (j, v, at, omega arith) (λ i u ne a. (i, u, a, omega arith)) (λ i. (j, v, at, omega arith));
-    locks_stay = λ i o p a q. still (λ z. Has p z.held) (λ q. q) i o a q;
-    planned_stays = λ i o c a q. still (λ z. Has c z.planned) (λ q. q) i o a q;
-    moving_stays = λ i o c a q. still (λ z. Has c z.moving) (λ q. q) i o a q;
-    owed_stays = λ i o c a q. still (λ z. Has c z.owed) (λ q. q) i o a q;
-    draws = same_total (λ v. draws v.own) (omega arith);
-    drew = λ m. same_total (λ v. length (filter (drew_at m) v.own)) (omega arith);
-    callers = same_total (λ v. v.callers) (omega (arith, fits));
-    each = new_views (λ i u. u.room ≤ u.callers) (omega arith) (λ i u ne a. room i u a) (λ i. omega arith);
-    few = (let a = total_set (λ v. v.room) views j v (left_of v n) at in let b = total_end (λ v. v.room) (set views j (left_of v n)) (cut_off v n) in omega (arith, a, b));
-    spent_locks = λ i u lock a q. new_views (λ i u. Has lock u.spent_locks → (j : ℕ) × (o : View) × At views j o × Has lock o.spent_locks)
-        (λ q. (j, v, at, q)) (λ i u ne a q. (i, u, a, q)) (λ i q. absurd q) i u a q;
-    power_stays = λ i o a q. (let s = still (λ z. z.stored_power ≡ true) (λ q. q) i o a q in (i, s.0, s.1, s.2));
-  }
+  module _ (fits : n ≤ v.callers) (room : (i : ℕ) (u : View) → At views i u → u.room ≤ u.callers) where
+    pub cut_reseats : Reseats views parted
+    cut_reseats = record {
+      goes = λ i. i;
+      held = λ i u p a q. new_views (λ i u. Has p u.held → From views (λ i. i) i u (λ o. Has p o.held))
+          (λ q. record { seat = j; old = v; at = at; went = refl; locks = λ p l. l; has = q })
+          (λ i u ne a q. record { seat = i; old = u; at = a; went = refl; locks = λ p l. l; has = q }) (λ i q. absurd q) i u a q;
+      known = λ i u p a q. new_views (λ i u. Has p u.known → From views (λ i. i) i u (λ o. Has p o.known))
+          (λ q. record { seat = j; old = v; at = at; went = refl; locks = λ p l. l; has = q })
+          (λ i u ne a q. record { seat = i; old = u; at = a; went = refl; locks = λ p l. l; has = q }) (λ i q. absurd q) i u a q;
+      loose = λ i u p a q. new_views (λ i u. IsLoose u p → From views (λ i. i) i u (λ o. IsLoose o p))
+          (λ q. record { seat = j; old = v; at = at; went = refl; locks = λ p l. l; has = q })
+          (λ i u ne a q. record { seat = i; old = u; at = a; went = refl; locks = λ p l. l; has = q }) (λ i q. elim q [ inl d ↦ absurd d | inr f ↦ absurd f ]) i u a q;
+      planned = λ i u c a q. new_views (λ i u. Has c u.planned → From views (λ i. i) i u (λ o. Has c o.planned))
+          (λ q. record { seat = j; old = v; at = at; went = refl; locks = λ p l. l; has = q })
+          (λ i u ne a q. record { seat = i; old = u; at = a; went = refl; locks = λ p l. l; has = q }) (λ i q. absurd q) i u a q;
+      moving = λ i u c a q. new_views (λ i u. Has c u.moving → From views (λ i. i) i u (λ o. Has c o.moving))
+          (λ q. record { seat = j; old = v; at = at; went = refl; locks = λ p l. l; has = q })
+          (λ i u ne a q. record { seat = i; old = u; at = a; went = refl; locks = λ p l. l; has = q }) (λ i q. absurd q) i u a q;
+      owed = λ i u c a q. new_views (λ i u. Has c u.owed → From views (λ i. i) i u (λ o. Has c o.owed))
+          (λ q. record { seat = j; old = v; at = at; went = refl; locks = λ p l. l; has = q })
+          (λ i u ne a q. record { seat = i; old = u; at = a; went = refl; locks = λ p l. l; has = q }) (λ i q. absurd q) i u a q;
+      notes = new_views (λ i u. KeepsNotes views u) (inr (j, v, at, refl, refl, refl)) (λ i u ne a. inr (i, u, a, refl, refl, refl)) (λ i. inl (refl, refl));
+      own = new_views (λ i u. KeepsOwn views u) (inr (j, v, at, refl, omega arith)) (λ i u ne a. inr (i, u, a, refl, omega arith)) (λ i. inl refl);
+      seen = new_views (λ i u. (j : ℕ) × (o : View) × At views j o × (u.seen ≤ o.seen)) (j, v, at, omega arith) (λ i u ne a. (i, u, a, omega arith)) (λ i. (j, v, at, omega arith));
+      locks_stay = λ i o p a q. still (λ z. Has p z.held) (λ q. q) i o a q;
+      planned_stays = λ i o c a q. still (λ z. Has c z.planned) (λ q. q) i o a q;
+      moving_stays = λ i o c a q. still (λ z. Has c z.moving) (λ q. q) i o a q;
+      owed_stays = λ i o c a q. still (λ z. Has c z.owed) (λ q. q) i o a q;
+      draws = same_total (λ v. draws v.own) (omega arith);
+      drew = λ m. same_total (λ v. length (filter (drew_at m) v.own)) (omega arith);
+      callers = same_total (λ v. v.callers) (omega (arith, fits));
+      each = new_views (λ i u. u.room ≤ u.callers) (omega arith) (λ i u ne a. room i u a) (λ i. omega arith);
+      few = (let a = total_set (λ v. v.room) views j v (left_of v n) at in let b = total_end (λ v. v.room) (set views j (left_of v n)) (cut_off v n) in omega (arith, a, b));
+      spent_locks = λ i u lock a q. new_views (λ i u. Has lock u.spent_locks → (j : ℕ) × (o : View) × At views j o × Has lock o.spent_locks)
+          (λ q. (j, v, at, q)) (λ i u ne a q. (i, u, a, q)) (λ i q. absurd q) i u a q;
+      facts = λ i u f a q. new_views (λ i u. Has f u.facts → (j : ℕ) × (o : View) × At views j o × Has f o.facts)
+          (λ q. (j, v, at, q)) (λ i u ne a q. (i, u, a, q)) (λ i q. absurd q) i u a q;
+      pinned = λ i u p a q. new_views (λ i u. Has p u.pinned → From views (λ i. i) i u (λ o. Has p o.pinned))
+          (λ q. record { seat = j; old = v; at = at; went = refl; locks = λ p l. l; has = q })
+          (λ i u ne a q. record { seat = i; old = u; at = a; went = refl; locks = λ p l. l; has = q }) (λ i q. absurd q) i u a q;
+      power_stays = λ i o a q. (let s = still (λ z. z.stored_power ≡ true) (λ q. q) i o a q in (i, s.0, s.1, s.2));
+    }
 
 pub cuts_keep : CutsKeep
 cuts_keep site words views j v n h at fits = reseated site words views _ h (cut_reseats views j v n at fits h.room.each)
 
 -- ---- two views joined
 module _ {X : Type 0} where
-  before : (xs ys : List X) (x : X) → Has x xs → Has x (xs ++ ys)
+  pub before : (xs ys : List X) (x : X) → Has x xs → Has x (xs ++ ys)
   before [] ys x h = absurd h
   before (z ∷ xs) ys x h = elim h [ inl e ↦ inl e | inr r ↦ inr (before xs ys x r) ]
 
-  behind : (xs ys : List X) (x : X) → Has x ys → Has x (xs ++ ys)
+  pub behind : (xs ys : List X) (x : X) → Has x ys → Has x (xs ++ ys)
   behind [] ys x h = h
   behind (z ∷ xs) ys x h = inr (behind xs ys x h)
 
@@ -265,22 +282,22 @@ or_right false b is = is
 max_is : (a b : ℕ) → (max a b ≡ a) ⊎ (max a b ≡ b)
 max_is a b = elim (cases_lt a b) [ inl below ↦ inr (max-eq_right (omega (arith, below))) | inr above ↦ inl (max-eq_left above) ]
 
-module _ (views : List View) (j i : ℕ) (v w : View) (at : At views j v) (at' : At views i w) (apart : i ≢ j) (room : (n : ℕ) (u : View) → At views n u → u.room ≤ u.callers) where
-  abbrev joint : List View
+module _ (views : List View) (j i : ℕ) (v w : View) (at : At views j v) (at' : At views i w) (apart : i ≢ j) where
+  abbrev pub joint : List View
   joint = set (set views j (joined v w)) i (spent w)
 
-  at_i : At (set views j (joined v w)) i w
+  pub at_i : At (set views j (joined v w)) i w
   at_i = set_there views j i w (joined v w) apart at'
 
-  at_j : At joint j (joined v w)
+  pub at_j : At joint j (joined v w)
   at_j = set_there (set views j (joined v w)) i j (joined v w) (spent w) (λ e. apart (sym e)) (set_here views j v (joined v w) at)
 
-  joint_views : (P : ℕ → View → Type 0) → P j (joined v w) → P i (spent w) → ((n : ℕ) (u : View) → n ≢ j → n ≢ i → At views n u → P n u) → (n : ℕ) (u : View) → At joint n u → P n u
+  pub joint_views : (P : ℕ → View → Type 0) → P j (joined v w) → P i (spent w) → ((n : ℕ) (u : View) → n ≢ j → n ≢ i → At views n u → P n u) → (n : ℕ) (u : View) → At joint n u → P n u
   joint_views P taker other rest = each (set views j (joined v w)) i w (spent w) at_i P other
       (λ n u ne a. each views j v (joined v w) at (λ n u. n ≢ i → P n u) (λ _. taker) (λ n u ne' a ne. rest n u ne' ne a) n u a ne)
 
   -- what one had goes to the seat of the other
-  abbrev goes : ℕ → ℕ
+  abbrev pub goes : ℕ → ℕ
   goes n = cond (eqb n i) j n
 
   goes_i : goes i ≡ j
@@ -289,16 +306,16 @@ module _ (views : List View) (j i : ℕ) (v w : View) (at : At views j v) (at' :
   goes_other : (n : ℕ) → n ≢ i → goes n ≡ n
   goes_other n ne = ap (λ b. cond b j n) (ne_eqb n i ne)
 
-  of_v : (P : View → Type 0) → P v → From views goes j (joined v w) P
+  pub of_v : (P : View → Type 0) → P v → From views goes j (joined v w) P
   of_v P p = record { seat = j; old = v; at = at; went = goes_other j (λ e. apart (sym e)); locks = λ p l. before v.held w.held p l; has = p }
 
-  of_w : (P : View → Type 0) → P w → From views goes j (joined v w) P
+  pub of_w : (P : View → Type 0) → P w → From views goes j (joined v w) P
   of_w P p = record { seat = i; old = w; at = at'; went = goes_i; locks = λ p l. behind v.held w.held p l; has = p }
 
-  of_other : (P : View → Type 0) (n : ℕ) (u : View) → n ≢ i → At views n u → P u → From views goes n u P
+  pub of_other : (P : View → Type 0) (n : ℕ) (u : View) → n ≢ i → At views n u → P u → From views goes n u P
   of_other P n u ne a p = record { seat = n; old = u; at = a; went = goes_other n ne; locks = λ p l. l; has = p }
 
-  stays : (P : View → Type 0) → (P v → P (joined v w)) → (P w → P (joined v w)) → (n : ℕ) (o : View) → At views n o → P o → (u : View) × At joint (goes n) u × P u
+  pub stays : (P : View → Type 0) → (P v → P (joined v w)) → (P w → P (joined v w)) → (n : ℕ) (o : View) → At views n o → P o → (u : View) × At joint (goes n) u × P u
   stays P mine theirs n o a p = dite (ℕ_discrete n i)
       (λ (e : n ≡ i). (
         joined v w,
@@ -316,49 +333,56 @@ module _ (views : List View) (j i : ℕ) (v w : View) (at : At views j v) (at' :
   joint_total : (f : View → ℕ) → f (joined v w) + f (spent w) ≡ f v + f w → total f joint ≡ total f views
   joint_total f e = let a = total_set f views j v (joined v w) at in let b = total_set f (set views j (joined v w)) i w (spent w) at_i in omega (arith, a, b, e)
 
-  pub join_reseats : Reseats views joint
-  join_reseats = record {
-    goes = goes;
-    held = λ n u p a q. joint_views (λ n u. Has p u.held → From views goes n u (λ o. Has p o.held))
-        (λ q. elim (has_joined v.held w.held p q) [ inl l ↦ of_v (λ o. Has p o.held) l | inr l ↦ of_w (λ o. Has p o.held) l ])
-        (λ q. absurd q) (λ n u ne ne' a q. of_other (λ o. Has p o.held) n u ne' a q) n u a q;
-    known = λ n u p a q. joint_views (λ n u. Has p u.known → From views goes n u (λ o. Has p o.known))
-        (λ q. elim (has_joined v.known w.known p q) [ inl l ↦ of_v (λ o. Has p o.known) l | inr l ↦ of_w (λ o. Has p o.known) l ])
-        (λ q. absurd q) (λ n u ne ne' a q. of_other (λ o. Has p o.known) n u ne' a q) n u a q;
-    loose = λ n u p a q. joint_views (λ n u. IsLoose u p → From views goes n u (λ o. IsLoose o p))
-        (λ q. elim q [
-          | inl d ↦ elim (has_joined v.dirty w.dirty p d) [ inl l ↦ of_v (λ o. IsLoose o p) (inl l) | inr l ↦ of_w (λ o. IsLoose o p) (inl l) ]
-          | inr f ↦ elim (has_joined v.flushed w.flushed p f) [ inl l ↦ of_v (λ o. IsLoose o p) (inr l) | inr l ↦ of_w (λ o. IsLoose o p) (inr l) ]
-        ])
-        (λ q. elim q [ inl d ↦ absurd d | inr f ↦ absurd f ]) (λ n u ne ne' a q. of_other (λ o. IsLoose o p) n u ne' a q) n u a q;
-    planned = λ n u c a q. joint_views (λ n u. Has c u.planned → From views goes n u (λ o. Has c o.planned))
-        (λ q. elim (has_joined v.planned w.planned c q) [ inl l ↦ of_v (λ o. Has c o.planned) l | inr l ↦ of_w (λ o. Has c o.planned) l ])
-        (λ q. absurd q) (λ n u ne ne' a q. of_other (λ o. Has c o.planned) n u ne' a q) n u a q;
-    moving = λ n u c a q. joint_views (λ n u. Has c u.moving → From views goes n u (λ o. Has c o.moving))
-        (λ q. elim (has_joined v.moving w.moving c q) [ inl l ↦ of_v (λ o. Has c o.moving) l | inr l ↦ of_w (λ o. Has c o.moving) l ])
-        (λ q. absurd q) (λ n u ne ne' a q. of_other (λ o. Has c o.moving) n u ne' a q) n u a q;
-    owed = λ n u c a q. joint_views (λ n u. Has c u.owed → From views goes n u (λ o. Has c o.owed))
-        (λ q. elim (has_joined v.owed w.owed c q) [ inl l ↦ of_v (λ o. Has c o.owed) l | inr l ↦ of_w (λ o. Has c o.owed) l ])
-        (λ q. absurd q) (λ n u ne ne' a q. of_other (λ o. Has c o.owed) n u ne' a q) n u a q;
-    notes = joint_views (λ n u. KeepsNotes views u) (inl (refl, refl)) (inl (refl, refl)) (λ n u ne ne' a. inr (n, u, a, refl, refl, refl));
-    own = joint_views (λ n u. KeepsOwn views u) (inr (j, v, at, refl, le-max_left v.seen w.seen)) (inr (i, w, at', refl, omega arith)) (λ n u ne ne' a. inr (n, u, a, refl, omega arith));
-    seen = joint_views (λ n u. (j : ℕ) × (o : View) × At views j o × (u.seen ≤ o.seen))
-        (elim (max_is v.seen w.seen) [ inl e ↦ (j, v, at, omega (arith, e)) | inr e ↦ (i, w, at', omega (arith, e)) ])
-        (i, w, at', omega arith) (λ n u ne ne' a. (n, u, a, omega arith));
-    locks_stay = λ n o p a q. stays (λ z. Has p z.held) (λ q. before v.held w.held p q) (λ q. behind v.held w.held p q) n o a q;
-    planned_stays = λ n o c a q. stays (λ z. Has c z.planned) (λ q. before v.planned w.planned c q) (λ q. behind v.planned w.planned c q) n o a q;
-    moving_stays = λ n o c a q. stays (λ z. Has c z.moving) (λ q. before v.moving w.moving c q) (λ q. behind v.moving w.moving c q) n o a q;
-    owed_stays = λ n o c a q. stays (λ z. Has c z.owed) (λ q. before v.owed w.owed c q) (λ q. behind v.owed w.owed c q) n o a q;
-    draws = joint_total (λ v. draws v.own) refl;
-    drew = λ m. joint_total (λ v. length (filter (drew_at m) v.own)) refl;
-    callers = joint_total (λ v. v.callers) (omega arith);
-    each = joint_views (λ n u. u.room ≤ u.callers) (let a = room j v at in let b = room i w at' in omega (arith, a, b)) (omega arith) (λ n u ne ne' a. room n u a);
-    few = (let e = joint_total (λ v. v.room) (omega arith) in omega (arith, e));
-    spent_locks = λ n u lock a q. joint_views (λ n u. Has lock u.spent_locks → (j : ℕ) × (o : View) × At views j o × Has lock o.spent_locks)
-        (λ q. elim (has_joined v.spent_locks w.spent_locks lock q) [ inl l ↦ (j, v, at, l) | inr l ↦ (i, w, at', l) ])
-        (λ q. (i, w, at', q)) (λ n u ne ne' a q. (n, u, a, q)) n u a q;
-    power_stays = λ n o a q. (let s = stays (λ z. z.stored_power ≡ true) (or_left v.stored_power w.stored_power) (or_right v.stored_power w.stored_power) n o a q in (goes n, s.0, s.1, s.2));
-  }
+  module _ (room : (n : ℕ) (u : View) → At views n u → u.room ≤ u.callers) where
+    pub join_reseats : Reseats views joint
+    join_reseats = record {
+      goes = goes;
+      held = λ n u p a q. joint_views (λ n u. Has p u.held → From views goes n u (λ o. Has p o.held))
+          (λ q. elim (has_joined v.held w.held p q) [ inl l ↦ of_v (λ o. Has p o.held) l | inr l ↦ of_w (λ o. Has p o.held) l ])
+          (λ q. absurd q) (λ n u ne ne' a q. of_other (λ o. Has p o.held) n u ne' a q) n u a q;
+      known = λ n u p a q. joint_views (λ n u. Has p u.known → From views goes n u (λ o. Has p o.known))
+          (λ q. elim (has_joined v.known w.known p q) [ inl l ↦ of_v (λ o. Has p o.known) l | inr l ↦ of_w (λ o. Has p o.known) l ])
+          (λ q. absurd q) (λ n u ne ne' a q. of_other (λ o. Has p o.known) n u ne' a q) n u a q;
+      loose = λ n u p a q. joint_views (λ n u. IsLoose u p → From views goes n u (λ o. IsLoose o p))
+          (λ q. elim q [
+            | inl d ↦ elim (has_joined v.dirty w.dirty p d) [ inl l ↦ of_v (λ o. IsLoose o p) (inl l) | inr l ↦ of_w (λ o. IsLoose o p) (inl l) ]
+            | inr f ↦ elim (has_joined v.flushed w.flushed p f) [ inl l ↦ of_v (λ o. IsLoose o p) (inr l) | inr l ↦ of_w (λ o. IsLoose o p) (inr l) ]
+          ])
+          (λ q. elim q [ inl d ↦ absurd d | inr f ↦ absurd f ]) (λ n u ne ne' a q. of_other (λ o. IsLoose o p) n u ne' a q) n u a q;
+      planned = λ n u c a q. joint_views (λ n u. Has c u.planned → From views goes n u (λ o. Has c o.planned))
+          (λ q. elim (has_joined v.planned w.planned c q) [ inl l ↦ of_v (λ o. Has c o.planned) l | inr l ↦ of_w (λ o. Has c o.planned) l ])
+          (λ q. absurd q) (λ n u ne ne' a q. of_other (λ o. Has c o.planned) n u ne' a q) n u a q;
+      moving = λ n u c a q. joint_views (λ n u. Has c u.moving → From views goes n u (λ o. Has c o.moving))
+          (λ q. elim (has_joined v.moving w.moving c q) [ inl l ↦ of_v (λ o. Has c o.moving) l | inr l ↦ of_w (λ o. Has c o.moving) l ])
+          (λ q. absurd q) (λ n u ne ne' a q. of_other (λ o. Has c o.moving) n u ne' a q) n u a q;
+      owed = λ n u c a q. joint_views (λ n u. Has c u.owed → From views goes n u (λ o. Has c o.owed))
+          (λ q. elim (has_joined v.owed w.owed c q) [ inl l ↦ of_v (λ o. Has c o.owed) l | inr l ↦ of_w (λ o. Has c o.owed) l ])
+          (λ q. absurd q) (λ n u ne ne' a q. of_other (λ o. Has c o.owed) n u ne' a q) n u a q;
+      notes = joint_views (λ n u. KeepsNotes views u) (inl (refl, refl)) (inl (refl, refl)) (λ n u ne ne' a. inr (n, u, a, refl, refl, refl));
+      own = joint_views (λ n u. KeepsOwn views u) (inr (j, v, at, refl, le-max_left v.seen w.seen)) (inr (i, w, at', refl, omega arith)) (λ n u ne ne' a. inr (n, u, a, refl, omega arith));
+      seen = joint_views (λ n u. (j : ℕ) × (o : View) × At views j o × (u.seen ≤ o.seen))
+          (elim (max_is v.seen w.seen) [ inl e ↦ (j, v, at, omega (arith, e)) | inr e ↦ (i, w, at', omega (arith, e)) ])
+          (i, w, at', omega arith) (λ n u ne ne' a. (n, u, a, omega arith));
+      locks_stay = λ n o p a q. stays (λ z. Has p z.held) (λ q. before v.held w.held p q) (λ q. behind v.held w.held p q) n o a q;
+      planned_stays = λ n o c a q. stays (λ z. Has c z.planned) (λ q. before v.planned w.planned c q) (λ q. behind v.planned w.planned c q) n o a q;
+      moving_stays = λ n o c a q. stays (λ z. Has c z.moving) (λ q. before v.moving w.moving c q) (λ q. behind v.moving w.moving c q) n o a q;
+      owed_stays = λ n o c a q. stays (λ z. Has c z.owed) (λ q. before v.owed w.owed c q) (λ q. behind v.owed w.owed c q) n o a q;
+      draws = joint_total (λ v. draws v.own) refl;
+      drew = λ m. joint_total (λ v. length (filter (drew_at m) v.own)) refl;
+      callers = joint_total (λ v. v.callers) (omega arith);
+      each = joint_views (λ n u. u.room ≤ u.callers) (let a = room j v at in let b = room i w at' in omega (arith, a, b)) (omega arith) (λ n u ne ne' a. room n u a);
+      few = (let e = joint_total (λ v. v.room) (omega arith) in omega (arith, e));
+      spent_locks = λ n u lock a q. joint_views (λ n u. Has lock u.spent_locks → (j : ℕ) × (o : View) × At views j o × Has lock o.spent_locks)
+          (λ q. elim (has_joined v.spent_locks w.spent_locks lock q) [ inl l ↦ (j, v, at, l) | inr l ↦ (i, w, at', l) ])
+          (λ q. (i, w, at', q)) (λ n u ne ne' a q. (n, u, a, q)) n u a q;
+      facts = λ n u f a q. joint_views (λ n u. Has f u.facts → (j : ℕ) × (o : View) × At views j o × Has f o.facts)
+          (λ q. elim (has_joined v.facts w.facts f q) [ inl l ↦ (j, v, at, l) | inr l ↦ (i, w, at', l) ])
+          (λ q. absurd q) (λ n u ne ne' a q. (n, u, a, q)) n u a q;
+      pinned = λ n u p a q. joint_views (λ n u. Has p u.pinned → From views goes n u (λ o. Has p o.pinned))
+          (λ q. elim (has_joined v.pinned w.pinned p q) [ inl l ↦ of_v (λ o. Has p o.pinned) l | inr l ↦ of_w (λ o. Has p o.pinned) l ])
+          (λ q. absurd q) (λ n u ne ne' a q. of_other (λ o. Has p o.pinned) n u ne' a q) n u a q;
+      power_stays = λ n o a q. (let s = stays (λ z. z.stored_power ≡ true) (or_left v.stored_power w.stored_power) (or_right v.stored_power w.stored_power) n o a q in (goes n, s.0, s.1, s.2));
+    }
 
 pub joins_keep : JoinsKeep
 joins_keep site words views j i v w h at at' apart = reseated site words views _ h (join_reseats views j i v w at at' apart h.room.each)

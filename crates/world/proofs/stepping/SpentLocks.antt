@@ -7,15 +7,15 @@ use Rattle.trace.proofs.Replaced.{replaced_other}
 use Rattle.image_layout.specs.Volatile.{counter_word, power_word}
 use Rattle.world.specs.Site.{Site, IsLockWord}
 use Rattle.world.specs.Views.{View, At, IsGuarded}
-use Rattle.world.specs.Invariant.{Holds}
-use Rattle.world.specs.Kinds.{Kind, peeks, asks_power, finds_room, refuses, places, looks, notes_word, validates, learns, meets_lock, tries, stores, copies, clears, repays, publishes, stashes, flushes, fences, draws_place, unlocks, cuts_power}
+use Rattle.world.specs.Kinds.{Kind, peeks, asks_power, meets_root, meets_entry, meets_head, pins, finds_room, refuses, places, looks, notes_word, validates, learns, meets_lock, tries, stores, copies, clears, repays, publishes, stashes, flushes, fences, draws_place, unlocks, cuts_power}
 use Rattle.world.specs.Conditions.{May}
+use Rattle.world.specs.areas.SpentNumbers.{SpendingParts, spending_parts}
 use Rattle.world.specs.Laws.{words_by}
 use Rattle.world.specs.Spent.{SpentLocksStay}
 use Rattle.world.proofs.Grounds.{lock_within}
 use Rattle.world.proofs.Seats.{guarded_no_lock}
 
-module _ (site : Site) (words : Words) (views : List View) (j : ℕ) (v : View) (h : Holds site words views) (at : At views j v) (lock : ℕ) (is : IsLockWord site.shape lock)
+module _ (site : Site) (words : Words) (views : List View) (j : ℕ) (v : View) (h : SpendingParts site words views) (at : At views j v) (lock : ℕ) (is : IsLockWord site.shape lock)
     (spent : words lock ≡ 2 ^ 64 - 2) where
   stored : (i x : ℕ) → IsGuarded v.held i → with_word words i x lock ≡ 2 ^ 64 - 2
   stored i x g = replaced_other words i x lock (λ e. guarded_no_lock site words views h.locks j v i lock at g is (sym e)) ∙ spent
@@ -30,6 +30,10 @@ module _ (site : Site) (words : Words) (views : List View) (j : ℕ) (v : View) 
   pub spent_stays : (kind : Kind) → May site kind v → words_by site kind j words lock ≡ 2 ^ 64 - 2
   spent_stays (peeks i) may = spent
   spent_stays asks_power may = spent
+  spent_stays meets_root may = spent
+  spent_stays (meets_entry e i) may = spent
+  spent_stays (meets_head s version) may = spent
+  spent_stays (pins s b) may = spent
   spent_stays (finds_room call) may = spent
   spent_stays (refuses call reply) may = spent
   spent_stays (places k a) may = spent
@@ -52,4 +56,4 @@ module _ (site : Site) (words : Words) (views : List View) (j : ℕ) (v : View) 
   spent_stays cuts_power may = behind (power_word site.shape) 1 (λ e. let near = lock_within site.shape lock is in omega (arith, near, e))
 
 pub spent_locks_stay : SpentLocksStay
-spent_locks_stay site words views j v kind lock h at may s = (s.0, spent_stays site words views j v h at lock s.0 s.1 kind may)
+spent_locks_stay site words views j v kind lock h at may s = (s.0, spent_stays site words views j v (spending_parts site words views h) at lock s.0 s.1 kind may)

@@ -11,12 +11,13 @@ use Rattle.map_model.specs.Map.{shown}
 use Rattle.world.specs.Site.{Site, IsLockWord}
 use Rattle.world.specs.Views.{Answer, View, At, IsGuarded}
 use Rattle.world.specs.Wants.{words_after}
-use Rattle.world.specs.Kinds.{Kind, peeks, asks_power, finds_room, refuses, places, looks, notes_word, validates, learns, meets_lock, tries, stores, copies, clears, repays, publishes, stashes, flushes, fences, draws_place, unlocks, cuts_power}
+use Rattle.world.specs.Kinds.{Kind, peeks, asks_power, meets_root, meets_entry, meets_head, pins, finds_room, refuses, places, looks, notes_word, validates, learns, meets_lock, tries, stores, copies, clears, repays, publishes, stashes, flushes, fences, draws_place, unlocks, cuts_power}
 use Rattle.world.specs.Kinds.{wanted, with_look, with_count, with_lock, with_answer, next_entry, marked, all_again}
 use Rattle.world.specs.Conditions.{May}
 use Rattle.world.specs.Entering.{Enters}
 use Rattle.world.specs.Invariant.{Holds}
 use Rattle.world.specs.Laws.{StepsEnter, CallersStay, PowerStays}
+use Rattle.world.proofs.Structures.{known_lock}
 use Rattle.world.proofs.Grounds.{lock_within, under_within}
 
 -- ---- the replies
@@ -93,6 +94,10 @@ module _ (site : Site) (words : Words) (views : List View) (j : ℕ) (v : View) 
   by_kind : (kind : Kind) → (kind ≡ cuts_power → ⊥) → May site kind v → words_after site.shape (wanted site.shape kind) c words power ≡ words power
   by_kind (peeks i) other may = refl
   by_kind asks_power other may = refl
+  by_kind meets_root other may = refl
+  by_kind (meets_entry e i) other may = refl
+  by_kind (meets_head s version) other may = refl
+  by_kind (pins s b) other may = refl
   by_kind (finds_room call) other may = refl
   by_kind (refuses call reply) other may = refl
   by_kind (places k a) other may = refl
@@ -101,7 +106,7 @@ module _ (site : Site) (words : Words) (views : List View) (j : ℕ) (v : View) 
   by_kind (validates lock) other may = refl
   by_kind (learns i) other may = refl
   by_kind (meets_lock lock) other may = refl
-  by_kind (tries lock free) other may = tried (eqb (words lock) free) lock (free + 1) (lock_apart lock may.0)
+  by_kind (tries lock free) other may = tried (eqb (words lock) free) lock (free + 1) (lock_apart lock (known_lock site v lock may.0))
   by_kind (stores i x) other may = elsewhere i x (guarded_apart i may.0.guarded)
   by_kind (copies i x m) other may = elsewhere i x (guarded_apart i may.0.guarded)
   by_kind (clears i x m) other may = elsewhere i x (guarded_apart i may.0.guarded)

@@ -1,0 +1,16 @@
+pub mod Filtered
+pub mod OneHolder
+pub mod Stored
+pub mod Others
+pub mod Rows
+pub mod Kept
+pub mod Spared
+pub mod Guarding
+pub mod Owning
+pub mod Lasting
+pub mod Readying
+pub mod Saying
+pub mod Learning
+pub mod Beginning
+pub mod Seated
+pub mod Calling

@@ -1,0 +1,15 @@
+pub mod Known
+pub mod Holding
+pub mod Words
+pub mod LocksKept
+pub mod Fitting
+pub mod Keepers
+pub mod Stepping
+pub mod Said
+pub mod Whole
+pub mod MediaKept
+pub mod Begun
+pub mod Tying
+pub mod Restarting
+pub mod Callers
+pub mod SpentNumbers

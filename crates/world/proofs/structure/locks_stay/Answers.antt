@@ -1,0 +1,5 @@
+use Rattle.world.proofs.moving.LocksKept.{keeps_locks}
+use Rattle.world.proofs.structure.locks_stay.Goals as goal
+
+pub returns : goal.returns
+returns c = keeps_locks

@@ -1,0 +1,5 @@
+use Rattle.world.proofs.moving.Said.{facts_kept}
+use Rattle.world.proofs.structure.steps_keep_facts.Goals as goal
+
+pub returns : goal.returns
+returns c = facts_kept

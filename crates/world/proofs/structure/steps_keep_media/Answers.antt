@@ -1,0 +1,5 @@
+use Rattle.world.proofs.moving.MediaKept.{media_kept}
+use Rattle.world.proofs.structure.steps_keep_media.Goals as goal
+
+pub returns : goal.returns
+returns c = media_kept

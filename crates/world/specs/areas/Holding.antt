@@ -1,0 +1,105 @@
+-- What holds between any two events while the structure moves: as the invariant of callers has it, but that headers, links, root and
+-- entries are stored to, by who holds them; and what is said of records, copies, notes and locks is said of segments that are watched.
+use Rattle.std.specs.Prelude.{◌≡◌, ◌≢◌, ◌==◌, ℕ, ◌+◌, ◌*◌, ◌<◌, ◌≤◌, Some, List, ◌⊎◌, if◌then◌else◌}
+use Rattle.trace.specs.Events.{Words}
+use Rattle.segment_head.specs.HeadWord.{version_in, state_in, depth_in, normal}
+use Rattle.image_layout.specs.Places.{bucket_at, homes, stash_buckets}
+use Rattle.sound_image.specs.Records.{key_hash, HasExactNotes}
+use Rattle.bucket_words.specs.Standing.{IsTable}
+use Rattle.bucket_words.specs.Hits.{Hit, find}
+use Rattle.bucket_words.specs.Owners.{owner_of}
+use Rattle.frame_facts.specs.Facts.{Fact, IsLiveSlot, HoldsFact}
+use Rattle.sound_image.specs.Segments.{frame_of}
+use Rattle.world.specs.Site.{Site, IsSite, version_of, IsStructured, IsUnder, IsCurrentIn}
+use Rattle.world.specs.Conditions.{IsOwed, HoldsMove}
+use Rattle.world.specs.Views.{Note, Answer, Move, Owed, View, Has, At, HasLock, IsLoose}
+use Rattle.world.specs.History.{Log}
+use Rattle.world.specs.Media.{IsPossible, Stands}
+use Rattle.world.specs.Invariant.{Locks, Plans, History, Room, Spending, Powered, IsRemoving, IsMoving, NobodyOwes, IsPinned, IsPastLock, IsUnmoved, IsAnswer}
+use Rattle.world.specs.areas.Areas.{Whole, header_word}
+use Rattle.world.specs.areas.Fitting.{HoldsWord, Fits}
+use Rattle.world.specs.areas.Lasting.{Owners, Lasting}
+use Rattle.world.specs.areas.Kinds.{Guard, guard_word, area_of}
+use Rattle.world.specs.areas.Asking.{MaySay}
+
+module _ (site : Site) (words : Words) (views : List View) where
+  -- a segment is watched: it is current, and no view has it whole
+  abbrev pub IsWatched : ℕ → Type 0
+  IsWatched s = IsCurrentIn site words s × ((j : ℕ) (v : View) → At views j v → Has (Whole s) v.areas → ⊥)
+
+  -- STRUCTURE: it is sound in whatever a cut may leave; locks and areas fit it; the word of a guard that a view has is not 0; facts hold
+  -- beside whatever a cut may leave; and pinned headers are as they were
+  pub record StructureMoves : Type 0 where
+    pub sound : (medium : Words) → IsPossible site words views medium → IsStructured site medium
+    pub fits : Fits site words views
+    pub guards : (j : ℕ) (v : View) (guard : Guard) → At views j v → Has (area_of guard) v.areas → words (guard_word site.shape guard) ≢ 0
+    pub says : (j : ℕ) (v : View) (fact : Fact) (medium : Words) → At views j v → Has fact v.facts → IsPossible site words views medium
+        → HoldsFact site.shape (version_of site) words fact medium
+    pub may_say : (j : ℕ) (v : View) (fact : Fact) → At views j v → Has fact v.facts → MaySay v.areas fact
+    pub pinned : (j : ℕ) (v : View) (s x : ℕ) → At views j v → Has (s, x) v.pinned → IsPinned site words v s x
+    -- owners and live segments in whatever a cut may leave
+    pub owners : Owners site words views
+    pub lasting : Lasting site words views
+
+  -- WORDS: a known word is the newest, and known words and loose ones are held by their view
+  pub record HeldWords : Type 0 where
+    pub knows : (j : ℕ) (v : View) (i x : ℕ) → At views j v → Has (i, x) v.known → (words i ≡ x) × HoldsWord site.shape v i
+    pub loose : (j : ℕ) (v : View) (i x : ℕ) → At views j v → IsLoose v (i, x) → HoldsWord site.shape v i
+
+  -- RECORDS of a watched segment: it owns each, and a key stands once in it, or one view that holds the lock of its home has it under way
+  pub record WatchedRecords : Type 0 where
+    pub own : (s b r k : ℕ) → IsWatched s → Hit site.shape words s b r k → owner_of site.shape words (key_hash site.shape k) ≡ Some s
+    pub once : (s b r c t k : ℕ) → IsWatched s → Hit site.shape words s b r k → Hit site.shape words s c t k → ((b ≡ c) × (r ≡ t)) ⊎ IsMoving views s k b r c t
+    pub held : (j : ℕ) (v : View) (m : Move) → At views j v → Has m v.moving → HoldsMove site.shape v.held m
+
+  -- OVERFLOW DATA of a watched segment
+  pub record WatchedNotes : Type 0 where
+    pub exact : (s b : ℕ) → IsWatched s → b < homes → NobodyOwes views s b → HasExactNotes site.shape words s b
+    pub owes : (j : ℕ) (v : View) (o : Owed) → At views j v → Has o v.owed → IsOwed site.shape words o
+    pub held : (j : ℕ) (v : View) (o : Owed) → At views j v → Has o v.owed → HasLock v.held (bucket_at site.shape o.segment o.home)
+    pub fits : (j : ℕ) (v : View) (o : Owed) → At views j v → Has o v.owed → (o.segment < site.shape.segments) × (o.home < homes)
+
+  -- MEDIA: whatever a cut may leave is a table, with what the history or one planned change gives each key
+  pub record MovingMedia (log : Log) : Type 0 where
+    pub table : (medium : Words) → IsPossible site words views medium → IsTable site.shape medium
+    pub stashed : (medium : Words) → IsPossible site words views medium → (s c t k : ℕ) → IsWatched s → c < stash_buckets → owner_of site.shape medium (key_hash site.shape k) ≡ Some s
+        → Hit site.shape medium s (homes + c) t k → Hit site.shape words s (homes + c) t k ⊎ IsRemoving views k (bucket_at site.shape s (homes + c))
+    pub stands : (medium : Words) → IsPossible site words views medium → (k : ℕ) → Stands site views log k (find site.shape medium k)
+
+-- how far the header of a live segment has come: first it gets rid of what a cut left of a split, then the image's version, and then it gets
+-- deeper. Each store to it raises this
+abbrev pub rank : ℕ → ℕ → ℕ
+rank version head = if version_in head == version then 1 + (2 * depth_in head + state_in head) else if state_in head == normal then 1 else 0
+
+-- a noted header is that of a live segment, and has not fallen behind
+pub record IsPastHeader (site : Site) (words : Words) (note : Note) : Type 0 where
+  pub slot : ℕ
+  pub head : note.word ≡ header_word site.shape slot
+  pub lives : IsLiveSlot (frame_of site.shape words) slot
+  pub past : rank (version_of site) note.value ≤ rank (version_of site) (words note.word)
+  pub again : rank (version_of site) note.value ≡ rank (version_of site) (words note.word) → words note.word ≡ note.value
+  pub alone : (i x : ℕ) → Has (i, x) note.words → ⊥
+
+-- NOTES of readers
+pub record MovingNotes (site : Site) (words : Words) (views : List View) (log : Log) : Type 0 where
+  pub past : (j : ℕ) (v : View) (note : Note) → At views j v → Has note v.notes → IsPastLock site words note ⊎ IsPastHeader site words note
+  pub inside : (j : ℕ) (v : View) (note : Note) (i x : ℕ) → At views j v → Has note v.notes → Has (i, x) note.words → IsUnder note.word i
+  pub same : (j : ℕ) (v : View) (note : Note) (i x : ℕ) → At views j v → Has note v.notes → words note.word ≡ note.value → Has (i, x) note.words → words i ≡ x
+  pub answered : (j : ℕ) (v : View) (a : Answer) → At views j v → v.answer ≡ Some a → ((note : Note) → Has note v.notes → IsUnmoved words note) → IsAnswer site log v.seen a
+
+-- THE INVARIANT while the structure moves
+pub record HoldsMoving (site : Site) (words : Words) (views : List View) : Type 0 where
+  pub site_is : IsSite site
+  pub log : Log
+  pub structure : StructureMoves site words views
+  pub locks : Locks site words views
+  pub known : HeldWords site words views
+  pub plans : Plans site words views log
+  pub history : History site words views log
+  pub records : WatchedRecords site words views
+  pub notes_of_homes : WatchedNotes site words views
+  pub media : MovingMedia site words views log
+  pub notes : MovingNotes site words views log
+  pub room : Room site views log
+  pub spending : Spending site words views log
+  pub powered : Powered site words views
