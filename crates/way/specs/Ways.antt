@@ -2,7 +2,7 @@
 use Rattle.std.specs.Prelude.{ℕ, ◌+◌, nat_le, nat_lt, Bool, ◌==◌, ◌&&◌, if◌then◌else◌}
 use Rattle.image_layout.specs.Places.{Shape, root_word, entry_at, head_at, bucket_at}
 use Rattle.hash_word.specs.Hash.{index_of, top}
-use Rattle.segment_head.specs.HeadWord.{depth_in, pattern_in}
+use Rattle.segment_head.specs.HeadWord.{state_in, depth_in, pattern_in, normal}
 
 -- the entry of a hash in the directory of a depth; a depth that the image has not gives the root's word
 abbrev pub entry_word : Shape → ℕ → ℕ → ℕ
@@ -19,3 +19,7 @@ bucket_word shape segment b = if nat_lt segment shape.segments then bucket_at sh
 -- a header covers a hash whose top bits, as many as its depth, are its pattern
 abbrev pub is_covering : ℕ → ℕ → Bool
 is_covering h1 hash = nat_le (depth_in h1) 64 && (top (depth_in h1) hash == pattern_in h1)
+
+-- a header leads to the hash where it is that of a normal segment and covers it: such a segment owns the hash
+abbrev pub is_leading : ℕ → ℕ → Bool
+is_leading h1 hash = (state_in h1 == normal) && is_covering h1 hash

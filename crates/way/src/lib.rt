@@ -12,7 +12,7 @@ ghost use Rattle.way.specs.Ways.{entry_word, head_word, bucket_word};
 
 use hash_word::{Kind, dir_index, hash};
 use image_layout::{Geometry, ROOT_WORD};
-use segment_head::word::{depth_of, pattern_of};
+use segment_head::word::{NORMAL, depth_of, pattern_of, state_of};
 
 /// The hash of a key in an image that is laid out so.
 pub fn key_hash(geometry: &Geometry, key: u64) -> u64
@@ -67,6 +67,13 @@ pub fn is_covering(head: u64, hash: u64) -> bool
 {
     let depth = depth_of(head);
     depth <= 64 && dir_index(hash, depth) == u64::from(pattern_of(head))
+}
+
+/// Whether a header leads to a hash: it is that of a normal segment, and covers it.
+pub fn is_leading(head: u64, hash: u64) -> bool
+    ensures { result ≡ Rattle.way.specs.Ways.is_leading head hash }
+{
+    state_of(head) == NORMAL && is_covering(head, hash)
 }
 
 #[cfg(test)]

@@ -27,5 +27,8 @@ fn hashes_and_covers(rt: HostRuntime) -> Result<(), Fail> {
     assert!(rt; is_covering(0x0000000E00040101, 0xE220A8397B1DCDAF));
     assert!(rt; !is_covering(0x0000000F00040101, 0xE220A8397B1DCDAF));
     assert!(rt; !is_covering(0x0000000E00410101, 0xE220A8397B1DCDAF));
+    assert!(rt; is_leading(0x0000000E00040101, 0xE220A8397B1DCDAF));
+    assert!(rt; !is_leading(0x0000000E00040201, 0xE220A8397B1DCDAF));
+    assert!(rt; !is_leading(0x0000000F00040101, 0xE220A8397B1DCDAF));
     Ok(())
 }
