@@ -10,7 +10,8 @@ pub enum Why {
         /// The value that was seen.
         seen: u64,
     },
-    /// A word was changed between two looks at it.
+    /// A word was changed between two looks at it; or it is a header that is as it was and leads away from the key, so that both
+    /// values are the same.
     Moved {
         /// The number of the word.
         word: u64,

@@ -3,5 +3,6 @@ pub mod Eithers
 pub mod Limiting
 pub mod Renaming
 pub mod Turning
+pub mod Leading
 pub mod Still
 mod Counting

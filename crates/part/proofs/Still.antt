@@ -20,10 +20,12 @@ use Rattle.map_model.specs.declared.call.Call.{Call}
 use Rattle.map_model.specs.Map.{key_of}
 use Rattle.world.specs.Views.{Has}
 use Rattle.world.specs.Wants.{answer_to, word_of, words_after}
+use Rattle.world.proofs.holding.Beside.{newest_is}
 use Rattle.part.specs.Doings.{Doings, with_event_of, IsStill, NothingIsStill, OwnEventsKeepStill}
 use Rattle.part.specs.Outcomes.{again}
 use Rattle.part.specs.Part.{Part}
-use Rattle.part.specs.Causes.{EndsByCause, AloneNeverMoved, IsBucketOf, IsOnWay, IsLockThere, IsWatched, AloneNothingMoves}
+use Rattle.part.specs.Causes.{EndsByCause, AloneNeverMoved, NeedsBucket, IsOnWay, IsLockThere, IsWatched, AloneNothingMoves}
+use Rattle.part.proofs.Leading.{alone_nothing_leads_away}
 
 pub nothing_still : NothingIsStill
 nothing_still shape words word value has off = absurd has
@@ -59,12 +61,12 @@ pub own_events_keep_still : OwnEventsKeepStill
 own_events_keep_still shape words did w c still = by_want shape words did c still w
 
 -- ---- words that are watched lie in the image, and are no counter
-pub bucket_near : (call : Call) (hash bucket : ℕ) → IsBucketOf call hash bucket → bucket < buckets
-bucket_near call hash bucket (inl home) = subst (λ n. n < buckets) (sym home) (omega arith)
-bucket_near call hash bucket (inr (inl probing)) = subst (λ n. n < buckets) (sym probing) (omega arith)
-bucket_near call hash bucket (inr (inr (inl stash))) = stash.1
-bucket_near call hash bucket (inr (inr (inr (insert, inl next)))) = subst (λ n. n < buckets) (sym next) (omega arith)
-bucket_near call hash bucket (inr (inr (inr (insert, inr previous)))) = subst (λ n. n < buckets) (sym previous) (omega arith)
+pub bucket_near : (shape : Shape) (hash : ℕ) (loads : List (ℕ × ℕ)) (segment : ℕ) (call : Call) (bucket : ℕ) → NeedsBucket shape hash loads segment call bucket → bucket < buckets
+bucket_near shape hash loads segment call bucket (inl home) = subst (λ n. n < buckets) (sym home) (omega arith)
+bucket_near shape hash loads segment call bucket (inr (inl probing)) = subst (λ n. n < buckets) (sym probing) (omega arith)
+bucket_near shape hash loads segment call bucket (inr (inr (inl stash))) = let at = stash.at in let within = stash.within in omega (arith, at, within)
+bucket_near shape hash loads segment call bucket (inr (inr (inr (insert, inl (next, full))))) = subst (λ n. n < buckets) (sym next) (omega arith)
+bucket_near shape hash loads segment call bucket (inr (inr (inr (insert, inr (previous, none))))) = subst (λ n. n < buckets) (sym previous) (omega arith)
 
 module _ (shape : Shape) (is : IsShape shape) (hash : ℕ) (fits : hash < 2 ^ 64) where
   first_within : root_word < words_of shape
@@ -94,7 +96,7 @@ module _ (shape : Shape) (is : IsShape shape) (hash : ℕ) (fits : hash < 2 ^ 64
   on_way word (inr (inr p)) = subst (λ n. n < words_of shape) (sym p.2) (head_by shape is hash fits p.0 _ refl)
 
   lock_there : (word : ℕ) → IsLockThere shape hash loads call word → word < words_of shape
-  lock_there word p = subst (λ n. n < words_of shape) (sym p.4) (lock_by shape is hash fits p.0 p.2 (bucket_near call hash p.2 p.3) _ refl)
+  lock_there word p = subst (λ n. n < words_of shape) (sym p.4) (lock_by shape is hash fits p.0 p.2 (bucket_near shape hash loads p.0 call p.2 p.3) _ refl)
 
   watched_within : (word before after : ℕ) → IsWatched shape hash loads call word before after → word < words_of shape
   watched_within word before after (inl way) = on_way word way
@@ -110,6 +112,9 @@ alone_nothing_moves shape words did call word before after is small still m =
 
 -- ---- a part whose caller is alone
 pub never_moved : {M : Type 0} (p : Part M) → EndsByCause p → AloneNeverMoved p
-never_moved p causes site here call words views j op before v did h at s asks small r key still none word was is some =
+never_moved p causes site here call words views j op before v did h at s asks small r unsplit key still none word was is some =
     let cause = (causes.steps site here call words views j op before v did h at s asks small r).caused (again (Moved word was is)) none some in
-    alone_nothing_moves site.shape words did call word was is h.site_is.shape key still cause.1
+    elim cause.1 [
+      | inl moved ↦ alone_nothing_moves site.shape words did call word was is h.site_is.shape key still moved
+      | inr away ↦ alone_nothing_leads_away site words did call word was is h.site_is (newest_is site words views j v h at).structure unsplit key still away
+    ]

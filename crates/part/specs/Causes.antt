@@ -6,35 +6,102 @@ use Rattle.op_core.specs.declared.want.Ans.{Ans}
 use Rattle.op_core.specs.declared.why.Why.{Why}
 use Rattle.op_core.specs.declared.why.Why.TheVariants.{Busy, Moved}
 use Rattle.op_core.specs.Answers.{Finds}
-use Rattle.hash_word.specs.Hash.{home_of, probing_of, next_of, previous_of}
+use Rattle.hash_word.specs.Hash.{home_of, probing_of, next_of, previous_of, finger_of}
 use Rattle.bucket_meta.specs.Bucket.{record_slots}
 use Rattle.bucket_meta.specs.Slots.{IsFull}
+use Rattle.bucket_meta.specs.Visits.{must_visit}
 use Rattle.trace.specs.Events.{Words}
-use Rattle.segment_head.specs.HeadWord.{version_in, state_in, depth_in, is_live, free}
-use Rattle.image_layout.specs.Places.{Shape, IsShape, root_word, head_at, bucket_at, homes, buckets}
+use Rattle.segment_head.specs.HeadWord.{version_in, state_in, depth_in, is_live, free, splitting}
+use Rattle.image_layout.specs.Places.{Shape, IsShape, root_word, head_at, bucket_at, homes, stash_buckets}
 use Rattle.image_layout.specs.Volatile.{counter_word, power_word}
 use Rattle.sound_image.specs.Records.{key_hash}
-use Rattle.way.specs.Ways.{entry_word, head_word, bucket_word}
+use Rattle.way.specs.Ways.{entry_word, head_word, bucket_word, is_leading}
 use Rattle.map_model.specs.declared.call.Call.{Call}
 use Rattle.map_model.specs.declared.entry.Reply.{Reply}
 use Rattle.map_model.specs.declared.entry.Reply.TheVariants.{Full, Deep, Spent}
 use Rattle.map_model.specs.Map.{key_of}
 use Rattle.map_model.specs.Legal.{IsInsert}
 use Rattle.world.specs.declared.site.Site.{Site as Here}
-use Rattle.world.specs.Site.{Site}
+use Rattle.world.specs.Site.{Site, IsSite, IsStructured}
 use Rattle.world.specs.Views.{View, At, Has, HasLock}
 use Rattle.world.specs.Invariant.{Holds}
 use Rattle.world.specs.Wants.{answer_to, word_of}
 use Rattle.part.specs.Doings.{Doings, with_event_of, IsStill}
 use Rattle.part.specs.Outcomes.{Outcome, replied, again, stale, off, finished}
 use Rattle.part.specs.Part.{Part, Suits, finds, next}
-use Rattle.part.specs.Room.{NothingMoves}
+use Rattle.part.specs.Room.{NothingMovesOn, NothingMovesBack, NothingMoves}
 
--- A BUCKET OF A CALL, by the hash of its key: the home bucket, the one after it, or a stash bucket; and of an insert, which may make
--- room, the bucket after these two and the one before
-abbrev pub IsBucketOf : Call → ℕ → ℕ → Type 0
-IsBucketOf call hash b = (b ≡ home_of hash) ⊎ ((b ≡ probing_of (home_of hash)) ⊎ (((homes ≤ b) × (b < buckets))
-    ⊎ (IsInsert call × ((b ≡ next_of (home_of hash)) ⊎ (b ≡ previous_of (home_of hash))))))
+-- ---- metadata words that an attempt loaded of the buckets of a segment
+module _ (shape : Shape) (loads : List (ℕ × ℕ)) (segment : ℕ) where
+  -- the first one of a bucket had this value
+  abbrev pub WasMeta : ℕ → ℕ → Type 0
+  WasMeta b meta = Has (bucket_at shape segment b + 1, meta) loads
+
+  -- the third one, of which notes have their fingerprints, had this
+  abbrev pub WasFingers : ℕ → ℕ → Type 0
+  WasFingers b fingers = Has (bucket_at shape segment b + 3, fingers) loads
+
+  -- by its first one, which had this value, all record slots of a bucket were taken
+  pub record WasFull (b meta : ℕ) : Type 0 where
+    pub loaded : WasMeta b meta
+    pub full : IsFull meta
+
+-- ---- which buckets a call needs, by the hash of its key and what its attempt loaded of a segment
+module _ (shape : Shape) (hash : ℕ) (loads : List (ℕ × ℕ)) (segment : ℕ) where
+  -- HOME AND PROBING BUCKET WERE FULL
+  pub record WereFull : Type 0 where
+    pub home : ℕ
+    pub probing : ℕ
+    pub home_full : WasFull shape loads segment (home_of hash) home
+    pub probing_full : WasFull shape loads segment (probing_of (home_of hash)) probing
+
+  -- and no record of the probing bucket could move on
+  pub record NothingMovedOn : Type 0 where
+    pub full : WereFull
+    pub next : ℕ
+    pub next_loaded : WasMeta shape loads segment (next_of (home_of hash)) next
+    pub forward : NothingMovesOn full.probing next
+
+  -- nor one of the home bucket back
+  pub record NothingMoved : Type 0 where
+    pub on : NothingMovedOn
+    pub previous : ℕ
+    pub previous_loaded : WasMeta shape loads segment (previous_of (home_of hash)) previous
+    pub backward : NothingMovesBack on.full.home previous
+
+  -- A SEARCH FOR THE KEY HAS TO VISIT a stash bucket, by the notes of home and probing bucket
+  pub record MustVisit (index : ℕ) : Type 0 where
+    pub home : ℕ
+    pub home_fingers : ℕ
+    pub probing : ℕ
+    pub probing_fingers : ℕ
+    pub home_loaded : WasMeta shape loads segment (home_of hash) home
+    pub home_fingers_loaded : WasFingers shape loads segment (home_of hash) home_fingers
+    pub probing_loaded : WasMeta shape loads segment (probing_of (home_of hash)) probing
+    pub probing_fingers_loaded : WasFingers shape loads segment (probing_of (home_of hash)) probing_fingers
+    pub visits : must_visit home home_fingers probing probing_fingers (finger_of hash) index ≡ true
+
+  -- the stash buckets before this one were full
+  abbrev pub WereFullBefore : ℕ → Type 0
+  WereFullBefore index = (before : ℕ) → before < index → (meta : ℕ) × WasFull shape loads segment (homes + before) meta
+
+  module _ (call : Call) where
+    -- A STASH BUCKET is needed where the search has to visit it, and of an insert where nothing could be moved to make room, one after
+    -- another
+    pub record NeedsStash (b : ℕ) : Type 0 where
+      pub index : ℕ
+      pub within : index < stash_buckets
+      pub at : b ≡ homes + index
+      pub cause : MustVisit index ⊎ (IsInsert call × NothingMoved × WereFullBefore index)
+
+    -- A THIRD BUCKET is needed of an insert whose home and probing bucket were full: the next one, and the previous one where nothing
+    -- could be moved on
+    abbrev pub NeedsThird : ℕ → Type 0
+    NeedsThird b = IsInsert call × (((b ≡ next_of (home_of hash)) × WereFull) ⊎ ((b ≡ previous_of (home_of hash)) × NothingMovedOn))
+
+    -- THE BUCKETS THAT A CALL NEEDS are its home and its probing bucket, and such ones
+    abbrev pub NeedsBucket : ℕ → Type 0
+    NeedsBucket b = (b ≡ home_of hash) ⊎ ((b ≡ probing_of (home_of hash)) ⊎ (NeedsStash b ⊎ NeedsThird b))
 
 -- ---- words by which an attempt finds its bucket, by its key's hash and what it loaded
 module _ (shape : Shape) (hash : ℕ) (loads : List (ℕ × ℕ)) where
@@ -53,9 +120,9 @@ module _ (shape : Shape) (hash : ℕ) (loads : List (ℕ × ℕ)) where
       ⊎ (((root : ℕ) × IsDepth root × (word ≡ entry_word shape hash root))
       ⊎ ((segment : ℕ) × IsNamed segment × (word ≡ head_word shape segment)))
 
-  -- the lock word of one of the buckets of a call, in a segment that was named
+  -- the lock word of a bucket that a call needs, in a segment that was named
   abbrev pub IsLockThere : Call → ℕ → Type 0
-  IsLockThere call word = (segment : ℕ) × IsNamed segment × (b : ℕ) × IsBucketOf call hash b × (word ≡ bucket_word shape segment b)
+  IsLockThere call word = (segment : ℕ) × IsNamed segment × (b : ℕ) × NeedsBucket shape hash loads segment call b × (word ≡ bucket_word shape segment b)
 
   -- a word that may be told with these two values: one on the way, or such a lock word, which has them as free, so that two
   -- such values are of two versions
@@ -68,9 +135,9 @@ module _ (shape : Shape) (words : Words) (did : Doings) (call : Call) where
   hash_for = key_hash shape (key_of call)
 
   -- ---- busy
-  -- the lock word of one of the buckets of the call, in a segment of the image that was named
+  -- the lock word of a bucket that the call needs, in a segment of the image that was named
   abbrev pub IsOwnLock : ℕ → Type 0
-  IsOwnLock word = (segment : ℕ) × IsNamed shape hash_for did.loads segment × (segment < shape.segments) × (b : ℕ) × IsBucketOf call hash_for b × (word ≡ bucket_at shape segment b)
+  IsOwnLock word = (segment : ℕ) × IsNamed shape hash_for did.loads segment × (segment < shape.segments) × (b : ℕ) × NeedsBucket shape hash_for did.loads segment call b × (word ≡ bucket_at shape segment b)
 
   -- one of them is taken, and not by this attempt
   pub record IsTaken (word value : ℕ) : Type 0 where
@@ -88,15 +155,28 @@ module _ (shape : Shape) (words : Words) (did : Doings) (call : Call) where
     pub differ : before ≢ after
     pub by_others : Has word did.changed → ⊥
 
-  -- ---- no room
-  -- the attempt loaded the first metadata word of a bucket of a segment, with this value
-  abbrev pub WasMeta : ℕ → ℕ → ℕ → Type 0
-  WasMeta segment b meta = Has (bucket_at shape segment b + 1, meta) did.loads
+  -- a word by which the attempt found this segment at this root depth, from the root's to its header's, was not changed by it
+  abbrev pub IsOthersWay : ℕ → ℕ → Type 0
+  IsOthersWay root segment = (word : ℕ) → (word ≡ root_word) ⊎ ((word ≡ entry_word shape hash_for root) ⊎ (word ≡ head_word shape segment)) → Has word did.changed → ⊥
 
-  -- by that word all record slots of the bucket are taken; and it loaded the key word of each slot, none of which is the call's key
+  -- such a word is the header's of the segment that an entry named, it is as the attempt loaded it, and it does not lead to the key's
+  -- hash: it is none of a normal segment that covers it
+  pub record LeadsAway (word before after : ℕ) : Type 0 where
+    pub root : ℕ
+    pub segment : ℕ
+    pub depth : IsDepth shape hash_for did.loads root
+    pub named : Has (entry_word shape hash_for root, segment) did.loads
+    pub head : word ≡ head_word shape segment
+    pub loaded : Has (word, before) did.loads
+    pub newest : words word ≡ after
+    pub same : before ≡ after
+    pub away : is_leading before hash_for ≡ false
+    pub by_others : IsOthersWay root segment
+
+  -- ---- no room
+  -- all record slots of a bucket of a segment were taken; and the attempt loaded the key word of each slot, none of which is the call's key
   pub record IsFullOfOthers (segment b meta : ℕ) : Type 0 where
-    pub loaded : WasMeta segment b meta
-    pub full : IsFull meta
+    pub was : WasFull shape did.loads segment b meta
     pub others : (slot : ℕ) → slot < record_slots → (key : ℕ) × Has (bucket_at shape segment b + (4 + 2 * slot), key) did.loads × (key ≢ key_of call)
 
   -- in a segment of the image that was named, home and probing bucket of this insert's key are full of other records, of which none can
@@ -113,8 +193,8 @@ module _ (shape : Shape) (words : Words) (did : Doings) (call : Call) where
     pub second : ℕ
     pub home_full : IsFullOfOthers segment (home_of hash_for) home
     pub probing_full : IsFullOfOthers segment (probing_of (home_of hash_for)) probing
-    pub next_loaded : WasMeta segment (next_of (home_of hash_for)) next
-    pub previous_loaded : WasMeta segment (previous_of (home_of hash_for)) previous
+    pub next_loaded : WasMeta shape did.loads segment (next_of (home_of hash_for)) next
+    pub previous_loaded : WasMeta shape did.loads segment (previous_of (home_of hash_for)) previous
     pub moves : NothingMoves home probing next previous
     pub first_full : IsFullOfOthers segment homes first
     pub second_full : IsFullOfOthers segment (homes + 1) second
@@ -152,7 +232,7 @@ module _ (shape : Shape) (words : Words) (did : Doings) (call : Call) where
     -- THE CAUSE of being told to try again
     abbrev pub HasAgainCause : Why → Type 0
     HasAgainCause (Busy word value) = Looked word value × IsTaken word value
-    HasAgainCause (Moved word before after) = Looked word after × HasMoved word before after
+    HasAgainCause (Moved word before after) = Looked word after × (HasMoved word before after ⊎ LeadsAway word before after)
 
     -- of being told that a segment is stale, where the image has this version: the event loaded the header of a segment that was
     -- named, which is live by it, and found this other version there
@@ -204,10 +284,19 @@ abbrev pub AloneNothingMoves : Type 0
 AloneNothingMoves = (shape : Shape) (words : Words) (did : Doings) (call : Call) (word before after : ℕ) → IsShape shape → key_of call < 2 ^ 64
     → IsStill shape words did → HasMoved shape words did call word before after → ⊥
 
+-- no segment is being split
+abbrev pub IsUnsplit : Shape → Words → Type 0
+IsUnsplit shape words = (s : ℕ) → s < shape.segments → state_in (words (head_at shape s + 1)) ≢ splitting
+
+-- NOTHING LEADS AWAY from its key for such a caller, where the structure is sound and no segment is being split
+abbrev pub AloneNothingLeadsAway : Type 0
+AloneNothingLeadsAway = (site : Site) (words : Words) (did : Doings) (call : Call) (word before after : ℕ) → IsSite site → IsStructured site words → IsUnsplit site.shape words
+    → key_of call < 2 ^ 64 → IsStill site.shape words did → LeadsAway site.shape words did call word before after → ⊥
+
 -- so no event of such a caller decides that its attempt is to be made again since a word moved
 module _ {M : Type 0} (p : Part M) where
   abbrev pub AloneNeverMoved : Type 0
   AloneNeverMoved = (site : Site) (here : Here) (call : Call) (words : Words) (views : List View) (j : ℕ) (op : M) (before v : View) (did : Doings)
       → Holds site words views → At views j v → Suits p site here call op before v → p.wanted op ≢ Done → finds p site words op < 2 ^ 64 → p.Remembers site op did
-      → key_of call < 2 ^ 64 → IsStill site.shape words did → p.outcome op ≡ None
+      → IsUnsplit site.shape words → key_of call < 2 ^ 64 → IsStill site.shape words did → p.outcome op ≡ None
       → (word was is : ℕ) → p.outcome (next p site words op) ≡ Some (again (Moved word was is)) → ⊥

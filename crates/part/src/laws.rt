@@ -3,15 +3,17 @@
 ghost use Rattle.part.specs.Part.{IsPart};
 ghost use Rattle.part.specs.Turns.{TurnKeeps};
 ghost use Rattle.part.specs.Doings.{NothingIsStill, OwnEventsKeepStill};
-ghost use Rattle.part.specs.Causes.{EndsByCause, AloneNothingMoves, AloneNeverMoved};
+ghost use Rattle.part.specs.Causes.{EndsByCause, AloneNothingMoves, AloneNothingLeadsAway, AloneNeverMoved};
 ghost use Rattle.part.specs.Count.{count_part, BeginsAsPart, BeginsRemembering, BeginsUndecided, first_count, two_counts, two_or_one_counts};
 
 /// What an attempt loaded is still so, or it changed that itself: so it is at the beginning, and after each event of its own,
-/// whichever it is. So nothing moves for a caller while nobody else steps.
+/// whichever it is. So nothing moves for a caller while nobody else steps; and where the structure is sound and no segment is being
+/// split, each header that it found leads to its key.
 pub fn own_events_move_nothing()
     ensures begins { NothingIsStill }
     ensures own { OwnEventsKeepStill }
     ensures alone { AloneNothingMoves }
+    ensures leads { AloneNothingLeadsAway }
 {}
 
 /// A count is a part of a call, and each of its outcomes has its cause. It begins with a view that suits it, remembering that it did
@@ -50,7 +52,8 @@ pub fn two_counts_or_one_are_a_part()
 }
 
 /// A turn of a caller that counts twice keeps the invariant, the pairs and the power word, and leaves a view that suits the counts, or
-/// the attempt has ended; and to a caller alone it never says that a word moved: by the laws of a turn of any part.
+/// the attempt has ended; and to a caller alone it never says that a word moved, where no segment is splitting: by the laws of a turn
+/// of any part.
 pub fn turns_of_counts_keep()
     ensures keeps { TurnKeeps two_counts }
     ensures alone { AloneNeverMoved two_counts }

@@ -1,4 +1,5 @@
 -- By the want of the event.
+use Rattle.part.proofs.Leading.{alone_nothing_leads_away}
 use Rattle.part.proofs.Still.{nothing_still, own_events_keep_still, alone_nothing_moves}
 use Rattle.part.proofs.laws.own_events_move_nothing.Goals as goal
 
@@ -10,3 +11,6 @@ returns-clause-own c = own_events_keep_still
 
 pub returns-clause-alone : goal.returns-clause-alone
 returns-clause-alone c = alone_nothing_moves
+
+pub returns-clause-leads : goal.returns-clause-leads
+returns-clause-leads c = alone_nothing_leads_away
