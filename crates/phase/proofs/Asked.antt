@@ -1,12 +1,9 @@
 -- The six places: each has its number; and what is said of the buckets that are asked for, before one.
 use Rattle.std.proofs.Common.{◌≡◌, ◌⊎◌, ℕ, zero, suc, ◌+◌, ◌<◌, ◌≤◌, Bool, true, false, inl, inr, refl, sym, ap, ◌∙◌, subst, arith}
 use Rattle.std.proofs.lemmas.Bool.{cases_eq}
-use Rattle.map_model.specs.declared.call.Call.{Call}
-use Rattle.map_model.specs.Legal.{IsInsert}
-use Rattle.part.specs.Causes.{IsBucketOf}
 use Rattle.phase.specs.declared.place.Place.{Place}
 use Rattle.phase.specs.declared.place.Place.TheVariants.{Home, Probing, First, Second, Next, Previous}
-use Rattle.phase.specs.Places.{bucket_of, is_third}
+use Rattle.phase.specs.Places.{is_third}
 use Rattle.phase.specs.Asked.{index, asked_by, IsAskedBefore}
 
 -- ---- one place
@@ -34,21 +31,6 @@ cases_place p q = elim (cases_eq (index p) (index q)) [ inl e ↦ inl (one_place
 
 never : {A : Type 0} → true ≡ false → A
 never e = cc
-
--- ---- the bucket is one of the call's
-pub bucket_is : (call : Call) (hash : ℕ) (q : Place) → is_third q ≡ false → IsBucketOf call hash (bucket_of hash q)
-bucket_is call hash Home near = inl refl
-bucket_is call hash Probing near = inr (inl refl)
-bucket_is call hash First near = inr (inr (inl (omega arith, omega arith)))
-bucket_is call hash Second near = inr (inr (inl (omega arith, omega arith)))
-bucket_is call hash Next near = never near
-bucket_is call hash Previous near = never near
-
--- of an insert each is
-pub bucket_of_insert : (call : Call) (hash : ℕ) → IsInsert call → (q : Place) → IsBucketOf call hash (bucket_of hash q)
-bucket_of_insert call hash insert Next = inr (inr (inr (insert, inl refl)))
-bucket_of_insert call hash insert Previous = inr (inr (inr (insert, inr refl)))
-bucket_of_insert call hash insert q = bucket_is call hash q refl
 
 -- ---- those that are asked for
 module _ (first second : Bool) where

@@ -1,28 +1,28 @@
 -- What a way keeps was loaded, and each end of a way, and of a way again, has its cause.
-use Rattle.std.proofs.Common.{◌≡◌, ℕ, Bool, true, false, List, [], ◌∷◌, ◌++◌, inl, inr, refl, sym, ◌∙◌, subst}
-use Rattle.std.specs.Prelude.{◌==◌, ◌&&◌, nat_lt, nat_le, not, if◌then◌else◌}
-use Rattle.std.proofs.lemmas.Bool.{eqb-false, leb-true, ltb-true, and_parts, not-true}
-use Rattle.segment_head.specs.HeadWord.{version_in, is_live}
+use Rattle.std.proofs.Common.{◌≡◌, ℕ, Bool, true, false, List, [], ◌∷◌, ◌++◌, inl, inr, ◌⊎◌, refl, sym, ◌∙◌, subst}
+use Rattle.std.specs.Prelude.{◌==◌, ◌&&◌, nat_lt, nat_le}
+use Rattle.std.proofs.lemmas.Bool.{eqb-true, eqb-false, leb-true, ltb-true}
+use Rattle.segment_head.specs.HeadWord.{version_in}
 use Rattle.trace.specs.Events.{Words}
 use Rattle.image_layout.specs.Places.{Shape, root_word}
-use Rattle.way.specs.Ways.{entry_word, head_word, is_covering}
+use Rattle.way.specs.Ways.{entry_word, head_word, is_leading}
 use Rattle.sound_image.specs.Records.{key_hash}
 use Rattle.map_model.specs.declared.call.Call.{Call}
 use Rattle.map_model.specs.Map.{key_of}
 use Rattle.world.specs.declared.site.Site.{Site as Here}
 use Rattle.world.specs.Views.{Has}
 use Rattle.part.specs.Doings.{Doings}
-use Rattle.part.specs.Causes.{IsNamed, IsOnWay}
+use Rattle.part.specs.Causes.{IsNamed, IsOnWay, HasMoved, LeadsAway}
 use Rattle.phase.specs.declared.walk.Path.{Path}
 use Rattle.phase.specs.declared.walk.Walk.TheVariants.{Power, Root, Entry, Head}
-use Rattle.phase.specs.declared.walk.Walked.{Walked}
-use Rattle.phase.specs.declared.walk.Walked.TheVariants.{On, There, Off, Amiss, Stale}
+use Rattle.phase.specs.declared.walk.Walked.TheVariants.{On, Off, Amiss}
 use Rattle.phase.specs.declared.back.Back.{Back}
 use Rattle.phase.specs.declared.back.Back.TheVariants as back
-use Rattle.phase.specs.declared.back.Backed.TheVariants as backed
-use Rattle.phase.specs.Backs.{back_word, back_before, back_on}
+use Rattle.phase.specs.Backs.{back_word, back_before, back_on, back_leads}
 use Rattle.phase.specs.Causes.{WasNamed, WasFound, RemembersWalked, HasWalkCause, HasBackCause}
 use Rattle.phase.specs.Laws.{WalkRemembers, WalkHasCauses, BackHasCauses}
+use Rattle.phase.proofs.Walking.{by_head}
+use Rattle.phase.proofs.Backing.{back_by_test}
 use Rattle.phase.proofs.locks.Choosing.{by_test, by_both}
 
 -- ---- what was loaded stays so with more
@@ -51,12 +51,8 @@ walk_remembers here hash loads (Entry root) n r =
     by_test (RemembersWalked here.geometry hash ((entry_word here.geometry hash root, n) ∷ loads)) (nat_lt n here.geometry.segments) (On (Head root n)) (Amiss (entry_word here.geometry hash root) n)
     (λ t. ((inr r.0, r.1), inl refl, ltb-true n here.geometry.segments t)) (λ f. tt)
 walk_remembers here hash loads (Head root segment) n r =
-    let next : Walked = There (record { root = root; segment = segment; head = n }) in
-    let ill : Walked = Amiss (head_word here.geometry segment) n in
-    let fit = is_live n && is_covering n hash in
-    let Kept : Walked → Type 0 = RemembersWalked here.geometry hash ((head_word here.geometry segment, n) ∷ loads) in
-    by_both Kept (is_live n && not (version_in n == here.version)) (Stale segment (version_in n)) (if fit then next else ill) tt
-    (by_both Kept fit next ill (((inr r.0.0, r.0.1), inr r.1, r.2), inl refl) tt)
+    by_head (RemembersWalked here.geometry hash ((head_word here.geometry segment, n) ∷ loads)) here hash root segment n
+    (λ live is. (((inr r.0.0, r.0.1), inr r.1, r.2), inl refl)) (λ live is. tt) (λ dead. tt)
 
 pub walk_caused : WalkHasCauses
 walk_caused here hash words did call same Power r n is =
@@ -66,22 +62,17 @@ walk_caused here hash words did call same Root r n is =
 walk_caused here hash words did call same (Entry root) r n is =
     by_both (HasWalkCause here hash words did call (Entry root)) (nat_lt n here.geometry.segments) (On (Head root n)) (Amiss (entry_word here.geometry hash root) n) tt tt
 walk_caused here hash words did call same (Head root segment) r n is =
-    let next : Walked = There (record { root = root; segment = segment; head = n }) in
-    let ill : Walked = Amiss (head_word here.geometry segment) n in
-    let fit = is_live n && is_covering n hash in
     let named : IsNamed here.geometry hash did.loads segment = (root, r.0, r.1) in
-    by_test (HasWalkCause here hash words did call (Head root segment)) (is_live n && not (version_in n == here.version)) (Stale segment (version_in n)) (if fit then next else ill)
-    (λ t.
-    let p = and_parts (is_live n) (not (version_in n == here.version)) t in
-    record {
+    by_head (HasWalkCause here hash words did call (Head root segment)) here hash root segment n (λ live current. tt)
+    (λ live old. record {
       named = subst (λ m. IsNamed here.geometry m did.loads segment) same named;
       head = n;
       looked = (refl, sym is);
-      live = p.0;
+      live = live;
       found = refl;
-      other = eqb-false (version_in n) here.version (not-true (version_in n == here.version) p.1);
+      other = eqb-false (version_in n) here.version old;
     })
-    (λ f. by_both (HasWalkCause here hash words did call (Head root segment)) fit next ill tt tt)
+    (λ dead. tt)
 
 -- ---- the way again
 module _ (here : Here) (hash : ℕ) (loads : List (ℕ × ℕ)) (path : Path) (r : WasFound here.geometry hash loads path) where
@@ -101,22 +92,57 @@ on_caused here hash words did call path back.Entry = tt
 on_caused here hash words did call path back.Head = tt
 
 module _ (here : Here) (hash : ℕ) (words : Words) (did : Doings) (call : Call) (same : hash ≡ key_hash here.geometry (key_of call)) (path : Path)
-    (r : WasFound here.geometry hash did.loads path) (at : Back) (not_own : Has (back_word here hash path at) did.changed → ⊥) (n : ℕ) (is : n ≡ words (back_word here hash path at)) where
-  moved_caused : (n == back_before path at) ≡ false → HasBackCause here hash words did call path at (backed.Moved (back_word here hash path at) (back_before path at) n)
-  moved_caused e = (
-    (refl, sym is),
-    record {
-      watched = inl (subst (λ m. IsOnWay here.geometry m did.loads (back_word here hash path at)) same (back_on_way here hash did.loads path r at));
-      loaded = back_kept here hash did.loads path r at;
-      newest = sym is;
-      differ = λ equal. eqb-false n (back_before path at) e (sym equal);
-      by_others = not_own;
-    },
-  )
+    (r : WasFound here.geometry hash did.loads path) (not_own : (at : Back) → Has (back_word here hash path at) did.changed → ⊥) where
+  -- a word has another value than it had
+  has_moved : (at : Back) (n : ℕ) → n ≡ words (back_word here hash path at) → (n == back_before path at) ≡ false
+      → HasMoved here.geometry words did call (back_word here hash path at) (back_before path at) n
+  has_moved at n is other = record {
+    watched = inl (subst (λ m. IsOnWay here.geometry m did.loads (back_word here hash path at)) same (back_on_way here hash did.loads path r at));
+    loaded = back_kept here hash did.loads path r at;
+    newest = sym is;
+    differ = λ equal. eqb-false n (back_before path at) other (sym equal);
+    by_others = not_own at;
+  }
 
-  back_by : (t : Bool) → (n == back_before path at) ≡ t → HasBackCause here hash words did call path at (if t then back_on at else backed.Moved (back_word here hash path at) (back_before path at) n)
-  back_by true e = on_caused here hash words did call path at
-  back_by false e = moved_caused e
+  way_not_own : (word : ℕ) → (word ≡ root_word) ⊎ ((word ≡ entry_word here.geometry hash path.root) ⊎ (word ≡ head_word here.geometry path.segment)) → Has word did.changed → ⊥
+  way_not_own word on has = elim on [
+    | inl root ↦ not_own back.Root (subst (λ w. Has w did.changed) root has)
+    | inr more ↦ elim more [
+      | inl entry ↦ not_own back.Entry (subst (λ w. Has w did.changed) entry has)
+      | inr head ↦ not_own back.Head (subst (λ w. Has w did.changed) head has)
+    ]
+  ]
+
+  -- the header is as it was, and leads away
+  leads_away : (n : ℕ) → n ≡ words (head_word here.geometry path.segment) → n ≡ path.head → is_leading path.head hash ≡ false
+      → LeadsAway here.geometry words did call (head_word here.geometry path.segment) path.head n
+  leads_away n is equal away = record {
+    root = path.root;
+    segment = path.segment;
+    depth = r.0.0;
+    named = subst (λ m. Has (entry_word here.geometry m path.root, path.segment) did.loads) same r.0.1;
+    head = refl;
+    loaded = r.1;
+    newest = sym is;
+    same = sym equal;
+    away = subst (λ m. is_leading path.head m ≡ false) same away;
+    by_others = subst (λ m. (word : ℕ) → (word ≡ root_word) ⊎ ((word ≡ entry_word here.geometry m path.root) ⊎ (word ≡ head_word here.geometry path.segment)) → Has word did.changed → ⊥) same way_not_own;
+  }
+
+  -- where a word is as it was, the test fails at a header alone
+  same_caused : (at : Back) (n : ℕ) → n ≡ words (back_word here hash path at) → n ≡ back_before path at → back_leads here hash path at ≡ false
+      → HasMoved here.geometry words did call (back_word here hash path at) (back_before path at) n ⊎ LeadsAway here.geometry words did call (back_word here hash path at) (back_before path at) n
+  same_caused back.Root n is equal away = absurd (let z = away in cc)
+  same_caused back.Entry n is equal away = absurd (let z = away in cc)
+  same_caused back.Head n is equal away = inr (leads_away n is equal away)
+
+  moved_caused : (at : Back) (n : ℕ) → n ≡ words (back_word here hash path at) → (b : Bool) → (n == back_before path at) ≡ b → (b && back_leads here hash path at) ≡ false
+      → HasMoved here.geometry words did call (back_word here hash path at) (back_before path at) n ⊎ LeadsAway here.geometry words did call (back_word here hash path at) (back_before path at) n
+  moved_caused at n is true e away = same_caused at n is (eqb-true n (back_before path at) e) away
+  moved_caused at n is false e away = inl (has_moved at n is e)
 
 pub back_caused : BackHasCauses
-back_caused here hash words did call same path r at not_own n is = back_by here hash words did call same path r at not_own n is (n == back_before path at) refl
+back_caused here hash words did call same path r not_own at n is =
+    back_by_test (HasBackCause here hash words did call path at) here hash path at n
+    (λ t. on_caused here hash words did call path at)
+    (λ f. ((refl, sym is), moved_caused here hash words did call same path r not_own at n is (n == back_before path at) refl f))

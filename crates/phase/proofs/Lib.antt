@@ -1,4 +1,6 @@
 pub mod Asked
+pub mod Leading
+pub mod Needing
 pub mod Walking
 pub mod Backing
 pub mod Loading
@@ -6,5 +8,6 @@ pub mod Causing
 pub mod Asking
 pub mod Handing
 pub mod Wording
+pub mod Noting
 pub mod Wanting
 pub mod locks

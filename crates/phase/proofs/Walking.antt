@@ -1,84 +1,113 @@
--- The way: what it wants is of its kind, any view may take it, it keeps what is known, and leaves the view as it was.
-use Rattle.std.proofs.Common.{◌≡◌, ℕ, ◌+◌, ◌^◌, ◌<◌, ◌≤◌, Bool, true, false, Some, inl, inr, ◌⊎◌, refl, sym, ap, ◌∙◌, subst, arith}
-use Rattle.std.specs.Prelude.{◌==◌, ◌&&◌, ◌||◌, nat_lt, nat_le, not, if◌then◌else◌}
-use Rattle.std.proofs.lemmas.Bool.{eq-eqb, le-leb, lt-ltb, ltb-false, leb-false, and_parts, not-true, false≢true}
-use Rattle.hash_word.specs.Hash.{index_of, top}
-use Rattle.segment_head.specs.HeadWord.{version_in, state_in, depth_in, pattern_in, is_live, HasLiveState, normal, splitting}
+-- The way: what it wants is of its kind, who relies on what it loaded may take it, it keeps that, and leaves all else of the view as it was.
+use Rattle.std.proofs.Common.{◌≡◌, ℕ, ◌+◌, ◌^◌, ◌<◌, ◌≤◌, Bool, true, false, List, [], ◌∷◌, ◌++◌, Option, None, inl, inr, ◌⊎◌, refl, sym, ap, ◌∙◌, subst, arith}
+use Rattle.std.specs.Prelude.{◌==◌, ◌&&◌, ◌||◌, nat_lt, nat_le, if◌then◌else◌}
+use Rattle.std.proofs.lemmas.Bool.{eq-eqb, le-leb, lt-ltb, leb-true, ltb-false, leb-false, eqb-false, false≢true}
+use Rattle.hash_word.specs.Hash.{index_of}
+use Rattle.segment_head.specs.HeadWord.{version_in, state_in, is_live, HasLiveState, normal, splitting}
 use Rattle.trace.specs.Events.{Words}
-use Rattle.image_layout.specs.Places.{Shape, root_word, entry_at, head_at}
-use Rattle.image_layout.proofs.Areas.{entry_before}
-use Rattle.sound_image.specs.Segments.{Frame, frame_of, depth_at, Owns}
-use Rattle.segment_table.specs.Claims.{Claims, LeadsToClaimer, arrived, on, named_for}
-use Rattle.segment_table.proofs.frames.SoundFrames.{live_low}
-use Rattle.segment_table.proofs.frames.Owner.{found_owns, claimer_found}
-use Rattle.bucket_words.specs.Owners.{HasStructure, owner_of}
-use Rattle.bucket_words.proofs.segments.Places.{owner_kept}
-use Rattle.way.specs.Ways.{entry_word, head_word, is_covering}
+use Rattle.image_layout.specs.Places.{Shape, IsShape, root_word, entry_at, head_at}
+use Rattle.sound_image.specs.Segments.{frame_of}
+use Rattle.frame_facts.specs.Facts.{Fact, Lives, Current, Rooted, IsLiveSlot}
+use Rattle.way.specs.Ways.{entry_word, head_word}
 use Rattle.way.proofs.Indexes.{index_below}
+use Rattle.op_core.specs.declared.want.Want.TheVariants.{Load}
 use Rattle.world.specs.declared.site.Site.{Site as Here}
-use Rattle.world.specs.Site.{Site, IsSite}
-use Rattle.world.specs.Views.{View}
+use Rattle.world.specs.Site.{Site, version_of}
+use Rattle.world.specs.Views.{Note, Answer, View, Has}
 use Rattle.world.specs.Wants.{word_of}
-use Rattle.world.specs.Kinds.{wanted as wanted_by, view_after}
-use Rattle.world.specs.Conditions.{May}
+use Rattle.world.specs.Kinds.{Kind, peeks, meets_entry, meets_head, says_current, wanted as wanted_by, view_after}
+use Rattle.world.specs.Conditions.{May, IsNewest}
 use Rattle.phase.specs.declared.walk.Walk.{Walk}
 use Rattle.phase.specs.declared.walk.Walk.TheVariants.{Power, Root, Entry, Head}
 use Rattle.phase.specs.declared.walk.Walked.{Walked}
 use Rattle.phase.specs.declared.walk.Walked.TheVariants.{On, There, Off, Amiss, Stale}
 use Rattle.phase.specs.Walks.{walk_wanted, walk_taken}
-use Rattle.phase.specs.Stands.{walk_kind, IsStraight, IsCurrent, Leads, IsWalking, HasWalked, IsBare, HasBegun, walk_left, walked_left}
-use Rattle.phase.specs.Laws.{UnsplitIsStraight, OneIsStraight, NamesOwners, without_notes, WalkFits, WalkStands, WalkNeverStale}
+use Rattle.phase.specs.Stands.{walk_kind, IsCurrent, IsWalking, HasWalked, IsBare, HasBegun, head_note, NotesWay, IsButWay, walk_left, walked_left}
+use Rattle.phase.specs.Laws.{WalkFits, WalkStands, WalkNotes, WalkNeverStale}
 use Rattle.phase.proofs.locks.Choosing.{by_test, by_both}
 
 -- ---- its events
-module _ (here : Here) (hash : ℕ) where
-  pub walk_wants : (shape : Shape) (w : Walk) → walk_wanted here hash w ≡ wanted_by shape (walk_kind here hash w)
-  walk_wants shape Power = refl
-  walk_wants shape Root = refl
-  walk_wants shape (Entry root) = refl
-  walk_wants shape (Head root segment) = refl
+-- a word is asked for where the image has it, and else the root's
+asks_if : (shape : Shape) (b : Bool) (i : ℕ) (k : Kind) → Load i ≡ wanted_by shape k → Load (if b then i else root_word) ≡ wanted_by shape (if b then k else peeks root_word)
+asks_if shape true i k is = is
+asks_if shape false i k is = refl
 
-  pub walk_may : (site : Site) (w : Walk) (v : View) → May site (walk_kind here hash w) v
-  walk_may site Power v = tt
-  walk_may site Root v = tt
-  walk_may site (Entry root) v = tt
-  walk_may site (Head root segment) v = tt
+may_if : (site : Site) (v : View) (b : Bool) (k : Kind) → May site k v → May site (if b then k else peeks root_word) v
+may_if site v true k may = may
+may_if site v false k may = tt
 
-  -- what is said of a view, and stays when notes are forgotten, stays
-  pub walk_keeps : (shape : Shape) (P : View → Type 0) (w : Walk) (n : ℕ) (v : View) → (P v → P (without_notes v)) → P v → P (view_after shape (walk_kind here hash w) n v)
-  walk_keeps shape P Power n v forgets p = forgets p
-  walk_keeps shape P Root n v forgets p = p
-  walk_keeps shape P (Entry root) n v forgets p = p
-  walk_keeps shape P (Head root segment) n v forgets p = p
+but_way_if : (shape : Shape) (n : ℕ) (v : View) (b : Bool) (k : Kind) → IsButWay v (view_after shape k n v) → IsButWay v (view_after shape (if b then k else peeks root_word) n v)
+but_way_if shape n v true k is = is
+but_way_if shape n v false k is = refl
 
-  pub walk_bares : (shape : Shape) (w : Walk) (n : ℕ) (v : View) → HasBegun w v → IsBare (view_after shape (walk_kind here hash w) n v)
-  walk_bares shape Power n v b = record { notes = refl; answer = refl }
-  walk_bares shape Root n v b = b
-  walk_bares shape (Entry root) n v b = b
-  walk_bares shape (Head root segment) n v b = b
+module _ (shape : Shape) (here : Here) (hash : ℕ) where
+  pub walk_wants : (w : Walk) → here.geometry ≡ shape → walk_wanted here hash w ≡ wanted_by shape (walk_kind here hash w)
+  walk_wants Power same = refl
+  walk_wants Root same = refl
+  walk_wants (Entry root) same = asks_if shape (nat_le root here.geometry.depth) (entry_at root (index_of root hash)) (meets_entry root (index_of root hash)) refl
+  walk_wants (Head root segment) same =
+      asks_if shape (nat_lt segment here.geometry.segments) (head_at here.geometry segment + 1) (meets_head segment here.version) (ap (λ (g : Shape). Load (head_at g segment + 1)) same)
 
-  pub walk_falls : (w : Walk) (n : ℕ) → walked_left (walk_taken here hash w n) < walk_left w
-  walk_falls Power n = by_both (λ x. walked_left x < 4) (n == 0) (On Root) Off (omega arith) (omega arith)
-  walk_falls Root n = by_both (λ x. walked_left x < 3) (nat_le n here.geometry.depth) (On (Entry n)) (Amiss root_word n) (omega arith) (omega arith)
-  walk_falls (Entry root) n =
-      by_both (λ x. walked_left x < 2) (nat_lt n here.geometry.segments) (On (Head root n)) (Amiss (entry_word here.geometry hash root) n) (omega arith) (omega arith)
-  walk_falls (Head root segment) n =
-      let next : Walked = There (record { root = root; segment = segment; head = n }) in
-      let ill : Walked = Amiss (head_word here.geometry segment) n in
-      let fits = is_live n && is_covering n hash in
-      by_both (λ x. walked_left x < 1) (is_live n && not (version_in n == here.version)) (Stale segment (version_in n)) (if fits then next else ill) (omega arith)
-      (by_both (λ x. walked_left x < 1) fits next ill (omega arith) (omega arith))
+  pub walk_leaves : (w : Walk) (n : ℕ) (v : View) → IsButWay v (view_after shape (walk_kind here hash w) n v)
+  walk_leaves Power n v = refl
+  walk_leaves Root n v = refl
+  walk_leaves (Entry root) n v = but_way_if shape n v (nat_le root here.geometry.depth) (meets_entry root (index_of root hash)) refl
+  walk_leaves (Head root segment) n v = but_way_if shape n v (nat_lt segment here.geometry.segments) (meets_head segment here.version) refl
 
-others_same : (here : Here) (hash : ℕ) (shape : Shape) (w : Walk) (n : ℕ) (v : View) → (w ≡ Power → ⊥) → view_after shape (walk_kind here hash w) n v ≡ v
-others_same here hash shape Power n v other = absurd (other refl)
-others_same here hash shape Root n v other = refl
-others_same here hash shape (Entry root) n v other = refl
-others_same here hash shape (Head root segment) n v other = refl
+  -- what is said of a view whatever it relies on and has noted, stays
+  pub walk_keeps : (P : View → Type 0) (w : Walk) (n : ℕ) (v : View)
+      → ((facts : List Fact) (notes : List Note) (answer : Option Answer) → P (record v { facts = facts; notes = notes; answer = answer }))
+      → P (view_after shape (walk_kind here hash w) n v)
+  walk_keeps P w n v p =
+      let u : View = view_after shape (walk_kind here hash w) n v in
+      subst P (sym (walk_leaves w n v)) (p u.facts u.notes u.answer)
+
+module _ (site : Site) (here : Here) (hash : ℕ) where
+  pub walk_may : (w : Walk) (v : View) → IsShape site.shape → here.geometry ≡ site.shape → here.version ≡ version_of site → hash < 2 ^ 64
+      → IsWalking site w v.facts → May site (walk_kind here hash w) v
+  walk_may Power v is same current fits known = tt
+  walk_may Root v is same current fits known = tt
+  walk_may (Entry root) v is same current fits known =
+      let most = is.depth in
+      let low = known.1 in
+      may_if site v (nat_le root here.geometry.depth) (meets_entry root (index_of root hash)) (known.0, low, index_below root hash (omega (arith, most, low)) fits)
+  walk_may (Head root segment) v is same current fits known = may_if site v (nat_lt segment here.geometry.segments) (meets_head segment here.version) (known.0, current)
 
 pub walk_fits : WalkFits
-walk_fits = record { wants = walk_wants; may = walk_may; first = λ here hash shape n v. refl; others = others_same }
+walk_fits = record { wants = walk_wants; may = walk_may; leaves = walk_leaves }
 
--- ---- a header that is live and covers a hash
+-- ---- what a header makes of the way
+module _ (P : Walked → Type 0) (here : Here) (hash root segment n : ℕ) where
+  abbrev there : Walked
+  there = There (record { root = root; segment = segment; head = n })
+
+  abbrev stale : Walked
+  stale = Stale segment (version_in n)
+
+  abbrev amiss : Walked
+  amiss = Amiss (head_word here.geometry segment) n
+
+  pub by_head : (is_live n ≡ true → (version_in n == here.version) ≡ true → P there) → (is_live n ≡ true → (version_in n == here.version) ≡ false → P stale) → (is_live n ≡ false → P amiss)
+      → P (walk_taken here hash (Head root segment) n)
+  by_head current old dead =
+      by_test P (is_live n) (if version_in n == here.version then there else stale) amiss
+      (λ live. by_test P (version_in n == here.version) there stale (λ is. current live is) (λ is. old live is)) dead
+
+pub walk_falls : (here : Here) (hash : ℕ) (w : Walk) (n : ℕ) → walked_left (walk_taken here hash w n) < walk_left w
+walk_falls here hash Power n = by_both (λ x. walked_left x < 4) (n == 0) (On Root) Off (omega arith) (omega arith)
+walk_falls here hash Root n = by_both (λ x. walked_left x < 3) (nat_le n here.geometry.depth) (On (Entry n)) (Amiss root_word n) (omega arith) (omega arith)
+walk_falls here hash (Entry root) n =
+    by_both (λ x. walked_left x < 2) (nat_lt n here.geometry.segments) (On (Head root n)) (Amiss (entry_word here.geometry hash root) n) (omega arith) (omega arith)
+walk_falls here hash (Head root segment) n = by_head (λ x. walked_left x < 1) here hash root segment n (λ live is. omega arith) (λ live is. omega arith) (λ dead. omega arith)
+
+-- at most so many events
+pub walk_few : (w : Walk) → walk_left w ≤ 4
+walk_few Power = omega arith
+walk_few Root = omega arith
+walk_few (Entry root) = omega arith
+walk_few (Head root segment) = omega arith
+
+-- ---- a header that is live
 either_live : (a b : Bool) → (a ≡ true) ⊎ (b ≡ true) → (a || b) ≡ true
 either_live true b e = refl
 either_live false b (inl e) = absurd (let z = e in cc)
@@ -88,145 +117,129 @@ live_test : (head : ℕ) → HasLiveState head → is_live head ≡ true
 live_test head (inl is) = either_live (state_in head == normal) (state_in head == splitting) (inl (eq-eqb (state_in head) normal is))
 live_test head (inr is) = either_live (state_in head == normal) (state_in head == splitting) (inr (eq-eqb (state_in head) splitting is))
 
-both_true : (a b : Bool) → a ≡ true → b ≡ true → (a && b) ≡ true
-both_true true b p q = q
-both_true false b p q = p
-
-covering_test : (head hash : ℕ) → depth_in head ≤ 64 → top (depth_in head) hash ≡ pattern_in head → is_covering head hash ≡ true
-covering_test head hash low is = both_true (nat_le (depth_in head) 64) (top (depth_in head) hash == pattern_in head) (le-leb (depth_in head) 64 low) (eq-eqb (top (depth_in head) hash) (pattern_in head) is)
-
 true_false : (b : Bool) → b ≡ true → b ≡ false → ⊥
 true_false b is not_so = false≢true (sym not_so ∙ is)
 
--- ---- the header of a segment is that of the structure
-module _ (site : Site) (here : Here) (same : here.geometry ≡ site.shape) (words : Words) (structure : HasStructure site.shape site.front words) where
-  head_is : (segment : ℕ) → segment < site.shape.segments → words (head_word here.geometry segment) ≡ site.front (head_at site.shape segment + 1)
-  head_is segment slot =
-      ap (λ g. words (head_word g segment)) same
-      ∙ (ap (λ b. words (if b then head_at site.shape segment + 1 else root_word)) (lt-ltb segment site.shape.segments slot)
-      ∙ structure (head_at site.shape segment + 1) (inr (segment, 1, slot, omega arith, refl)))
+module _ (site : Site) (here : Here) (hash : ℕ) (same : here.geometry ≡ site.shape) where
+  depth_is : here.geometry.depth ≡ site.shape.depth
+  depth_is = ap (λ (g : Shape). g.depth) same
 
-  module _ (hash : ℕ) (current : IsCurrent site here.version) (segment byte : ℕ) where
-    never_by : (w : Walk) → IsWalking site hash w → (n : ℕ) → n ≡ words (word_of site.shape (walk_wanted here hash w)) → walk_taken here hash w n ≡ Stale segment byte → ⊥
-    never_by Power known n is = by_both (λ x. x ≡ Stale segment byte → ⊥) (n == 0) (On Root) Off (λ e. cc) (λ e. cc)
-    never_by Root known n is = by_both (λ x. x ≡ Stale segment byte → ⊥) (nat_le n here.geometry.depth) (On (Entry n)) (Amiss root_word n) (λ e. cc) (λ e. cc)
-    never_by (Entry root) known n is =
+  segments_are : here.geometry.segments ≡ site.shape.segments
+  segments_are = ap (λ (g : Shape). g.segments) same
+
+  entry_there : (root : ℕ) → root ≤ site.shape.depth → nat_le root here.geometry.depth ≡ true
+  entry_there root low = le-leb root here.geometry.depth (let d = depth_is in omega (arith, d, low))
+
+  head_there : (segment : ℕ) → segment < site.shape.segments → nat_lt segment here.geometry.segments ≡ true
+  head_there segment within = lt-ltb segment here.geometry.segments (let s = segments_are in omega (arith, s, within))
+
+  -- ---- the words that are asked for
+  entry_is : (root : ℕ) → root ≤ site.shape.depth → entry_word here.geometry hash root ≡ entry_at root (index_of root hash)
+  entry_is root low = ap (λ b. if b then entry_at root (index_of root hash) else root_word) (entry_there root low)
+
+  pub head_is : (segment : ℕ) → segment < site.shape.segments → head_word here.geometry segment ≡ head_at site.shape segment + 1
+  head_is segment within =
+      ap (λ b. if b then head_at here.geometry segment + 1 else root_word) (head_there segment within)
+      ∙ ap (λ (g : Shape). head_at g segment + 1) same
+
+  -- ---- the view after them
+  after_entry : (root n : ℕ) (v : View) → root ≤ site.shape.depth → view_after site.shape (walk_kind here hash (Entry root)) n v ≡ record v { facts = Lives n ∷ v.facts }
+  after_entry root n v low = ap (λ b. view_after site.shape (if b then meets_entry root (index_of root hash) else peeks root_word) n v) (entry_there root low)
+
+  after_head : (root segment n : ℕ) (v : View) → segment < site.shape.segments
+      → view_after site.shape (walk_kind here hash (Head root segment)) n v ≡ view_after site.shape (meets_head segment here.version) n v
+  after_head root segment n v within = ap (λ b. view_after site.shape (if b then meets_head segment here.version else peeks root_word) n v) (head_there segment within)
+
+  -- a header that is current says so
+  says : (segment n : ℕ) (facts : List Fact) → is_live n ≡ true → (version_in n == here.version) ≡ true
+      → Has (Current segment) (says_current (is_live n && (version_in n == here.version)) segment n ++ facts)
+  says segment n facts live is = subst (λ b. Has (Current segment) (says_current b segment n ++ facts)) (sym (ap (λ b. b && (version_in n == here.version)) live ∙ is)) (inl refl)
+
+  said : (b : Bool) (segment n : ℕ) (fact : Fact) (facts : List Fact) → Has fact facts → Has fact (says_current b segment n ++ facts)
+  said true segment n fact facts has = inr (inr has)
+  said false segment n fact facts has = has
+
+  -- WHAT A VIEW RELIES ON is kept by each event
+  module _ (words : Words) (v : View) (is : IsShape site.shape) (fits : hash < 2 ^ 64) (new : IsNewest site v words) where
+    root_low : words root_word ≤ site.shape.depth
+    root_low = new.structure.sound.root
+
+    -- the entries of a depth that is relied on name segments that are live
+    named : (root : ℕ) → Has (Rooted root) v.facts → root ≤ site.shape.depth → IsLiveSlot (frame_of site.shape words) (words (entry_word here.geometry hash root))
+    named root has low =
+        let most = is.depth in
+        subst (λ i. IsLiveSlot (frame_of site.shape words) (words i)) (sym (entry_is root low))
+        ((new.says (Rooted root) has).1 (index_of root hash) (index_below root hash (omega (arith, most, low)) fits))
+
+    walk_on : (w : Walk) → IsWalking site w v.facts → (n : ℕ) → n ≡ words (word_of site.shape (walk_wanted here hash w))
+        → HasWalked site (walk_taken here hash w n) (view_after site.shape (walk_kind here hash w) n v).facts
+    walk_on Power known n found = by_both (λ x. HasWalked site x v.facts) (n == 0) (On Root) Off tt tt
+    walk_on Root known n found =
+        by_test (λ x. HasWalked site x (Rooted n ∷ v.facts)) (nat_le n here.geometry.depth) (On (Entry n)) (Amiss root_word n)
+        (λ t. let low = leb-true n here.geometry.depth t in let d = depth_is in (inl refl, omega (arith, low, d)))
+        (λ f. let high = leb-false n here.geometry.depth f in let d = depth_is in let r = root_low in omega (arith, high, found, d, r))
+    walk_on (Entry root) known n found =
+        let live : IsLiveSlot (frame_of site.shape words) n = subst (IsLiveSlot (frame_of site.shape words)) (sym found) (named root known.0 known.1) in
+        subst (λ (u : View). HasWalked site (walk_taken here hash (Entry root) n) u.facts) (sym (after_entry root n v known.1))
+        (by_test (λ x. HasWalked site x (Lives n ∷ v.facts)) (nat_lt n here.geometry.segments) (On (Head root n)) (Amiss (entry_word here.geometry hash root) n)
+        (λ t. (inl refl, live.slot))
+        (λ f. let high = ltb-false n here.geometry.segments f in let s = segments_are in let within = live.slot in omega (arith, high, s, within)))
+    walk_on (Head root segment) known n found =
+        let live = (new.says (Lives segment) known.0).live in
+        let header : n ≡ words (head_at site.shape segment + 1) = found ∙ ap words (head_is segment known.1) in
+        let facts : List Fact = says_current (is_live n && (version_in n == here.version)) segment n ++ v.facts in
+        subst (λ (u : View). HasWalked site (walk_taken here hash (Head root segment) n) u.facts) (sym (after_head root segment n v known.1))
+        (by_head (λ x. HasWalked site x facts) here hash root segment n
+        (λ alive current. record {
+          within = known.1;
+          lives = said (is_live n && (version_in n == here.version)) segment n (Lives segment) v.facts known.0;
+          current = says segment n v.facts alive current;
+        })
+        (λ alive old. tt)
+        (λ dead. true_false (is_live n) (live_test n (subst HasLiveState (sym header) live)) dead))
+
+  -- WHAT IS NOTED: nothing, and at the end the header
+  module _ (v : View) where
+    bare_if : (b : Bool) (e i n : ℕ) → IsBare v → IsBare (view_after site.shape (if b then meets_entry e i else peeks root_word) n v)
+    bare_if true e i n bare = record { notes = bare.notes; answer = bare.answer }
+    bare_if false e i n bare = bare
+
+    walk_notes_on : (w : Walk) → IsWalking site w v.facts → HasBegun w v → (n : ℕ) → NotesWay site.shape (walk_taken here hash w n) (view_after site.shape (walk_kind here hash w) n v)
+    walk_notes_on Power known bare n = by_both (λ x. NotesWay site.shape x (record v { notes = []; answer = None })) (n == 0) (On Root) Off (record { notes = refl; answer = refl }) tt
+    walk_notes_on Root known bare n =
+        by_both (λ x. NotesWay site.shape x (record v { facts = Rooted n ∷ v.facts })) (nat_le n here.geometry.depth) (On (Entry n)) (Amiss root_word n)
+        (record { notes = bare.notes; answer = bare.answer }) tt
+    walk_notes_on (Entry root) known bare n =
+        by_both (λ x. NotesWay site.shape x (view_after site.shape (walk_kind here hash (Entry root)) n v)) (nat_lt n here.geometry.segments) (On (Head root n))
+        (Amiss (entry_word here.geometry hash root) n)
+        (bare_if (nat_le root here.geometry.depth) root (index_of root hash) n bare) tt
+    walk_notes_on (Head root segment) known bare n =
+        subst (λ (u : View). NotesWay site.shape (walk_taken here hash (Head root segment) n) u) (sym (after_head root segment n v known.1))
+        (by_head (λ x. NotesWay site.shape x (view_after site.shape (meets_head segment here.version) n v)) here hash root segment n
+        (λ alive current. record {
+          notes = ap (λ ns. head_note site.shape (record { root = root; segment = segment; head = n }) ∷ ns) bare.notes;
+          answer = bare.answer;
+        })
+        (λ alive old. tt) (λ dead. tt))
+
+  -- where each live segment has the image's version, none is stale
+  module _ (words : Words) (facts : List Fact) (current : IsCurrent site.shape words here.version) (segment byte : ℕ) where
+    never_by : (w : Walk) → IsWalking site w facts → (n : ℕ) → n ≡ words (word_of site.shape (walk_wanted here hash w)) → walk_taken here hash w n ≡ Stale segment byte → ⊥
+    never_by Power known n found = by_both (λ x. x ≡ Stale segment byte → ⊥) (n == 0) (On Root) Off (λ e. cc) (λ e. cc)
+    never_by Root known n found = by_both (λ x. x ≡ Stale segment byte → ⊥) (nat_le n here.geometry.depth) (On (Entry n)) (Amiss root_word n) (λ e. cc) (λ e. cc)
+    never_by (Entry root) known n found =
         by_both (λ x. x ≡ Stale segment byte → ⊥) (nat_lt n here.geometry.segments) (On (Head root n)) (Amiss (entry_word here.geometry hash root) n) (λ e. cc) (λ e. cc)
-    never_by (Head root slot) known n is =
-        let next : Walked = There (record { root = root; segment = slot; head = n }) in
-        let ill : Walked = Amiss (head_word here.geometry slot) n in
-        let fit = is_live n && is_covering n hash in
-        by_test (λ x. x ≡ Stale segment byte → ⊥) (is_live n && not (version_in n == here.version)) (Stale slot (version_in n)) (if fit then next else ill)
-        (λ t e.
-        let p = and_parts (is_live n) (not (version_in n == here.version)) t in
-        let head : n ≡ site.front (head_at site.shape slot + 1) = is ∙ head_is slot known.within in
-        let version : version_in n ≡ here.version = ap version_in head ∙ current slot known.within (subst (λ m. is_live m ≡ true) head p.0) in
-        true_false (version_in n == here.version) (eq-eqb (version_in n) here.version version) (not-true (version_in n == here.version) p.1))
-        (λ f. by_both (λ x. x ≡ Stale segment byte → ⊥) fit next ill (λ e. cc) (λ e. cc))
-
-pub walk_never_stale : WalkNeverStale
-walk_never_stale site hash here same words structure current w known n is segment byte e = never_by site here same words structure hash current segment byte w known n is e
-
--- ---- where it leads
-module _ (site : Site) (good : IsSite site) (straight : IsStraight site) (hash : ℕ) (fits : hash < 2 ^ 64) where
-  abbrev frame : Frame
-  frame = frame_of site.shape site.front
-
-  low_depth : site.shape.depth ≤ 16
-  low_depth = good.shape.depth
-
-  claims : (s : ℕ) → LeadsToClaimer frame hash s → Claims frame s hash
-  claims s (arrived c) = c
-  claims s (on live side inside rest) = absurd (straight.whole s live.slot (_, side))
-
-  named : Claims frame (named_for frame hash) hash
-  named = claims (named_for frame hash) (straight.sound.leads hash fits)
-
-  named_leads : Leads site hash (named_for frame hash)
-  named_leads = record {
-    within = named.live.slot;
-    owner = λ words same. owner_kept site.shape site.front words same hash ∙ claimer_found site.shape.depth frame low_depth straight.sound (named_for frame hash) hash fits named;
-  }
-
-  module _ (here : Here) (same : here.geometry ≡ site.shape) (words : Words) (structure : HasStructure site.shape site.front words) where
-    root_is : words root_word ≡ site.front root_word
-    root_is = structure root_word (inl (omega arith))
-
-    root_low : site.front root_word ≤ site.shape.depth
-    root_low = straight.sound.root
-
-    depth_is : here.geometry.depth ≡ site.shape.depth
-    depth_is = ap (λ (g : Shape). g.depth) same
-
-    segments_are : here.geometry.segments ≡ site.shape.segments
-    segments_are = ap (λ (g : Shape). g.segments) same
-
-    entry_is : (root : ℕ) → root ≡ site.front root_word → words (entry_word here.geometry hash root) ≡ named_for frame hash
-    entry_is root first =
-        let low : root ≤ site.shape.depth = (let r = root_low in omega (arith, first, r)) in
-        let index : index_of root hash < 2 ^ root = index_below root hash (let d = low_depth in omega (arith, low, d)) fits in
-        ap (λ g. words (entry_word g hash root)) same
-        ∙ (ap (λ b. words (if b then entry_at root (index_of root hash) else root_word)) (le-leb root site.shape.depth low)
-        ∙ (structure (entry_at root (index_of root hash)) (inl (entry_before site.shape root (index_of root hash) low index))
-        ∙ ap (λ r. site.front (entry_at r (index_of r hash))) first))
-
-    -- the header of the owner is live and covers the hash
-    head_good : (segment n : ℕ) → Leads site hash segment → n ≡ frame.header segment → (is_live n && is_covering n hash) ≡ true
-    head_good segment n leads is =
-        let owns : Owns frame segment hash = found_owns frame hash segment (leads.owner site.front (λ i at. refl)) in
-        let low : depth_in n ≤ 64 = (let l = live_low site.shape.depth low_depth frame straight.sound segment leads.within owns.own.live in let d = ap depth_in is in omega (arith, l, d)) in
-        both_true (is_live n) (is_covering n hash) (live_test n (subst HasLiveState (sym is) owns.own.live))
-        (covering_test n hash low (subst (λ m. top (depth_in m) hash ≡ pattern_in m) (sym is) owns.own.covers))
-
-    -- WHAT IS KNOWN on the way is kept by each event
-    walk_on : (w : Walk) → IsWalking site hash w → (n : ℕ) → n ≡ words (word_of site.shape (walk_wanted here hash w)) → HasWalked site hash (walk_taken here hash w n)
-    walk_on Power known n is = by_both (HasWalked site hash) (n == 0) (On Root) Off tt tt
-    walk_on Root known n is = by_test (HasWalked site hash) (nat_le n here.geometry.depth) (On (Entry n)) (Amiss root_word n) (λ t. is ∙ root_is)
-        (λ f. let high = leb-false n here.geometry.depth f in let e = is ∙ root_is in let d = depth_is in let r = root_low in omega (arith, high, e, d, r))
-    walk_on (Entry root) known n is =
-        let named_is : n ≡ named_for frame hash = is ∙ entry_is root known in
-        by_test (HasWalked site hash) (nat_lt n here.geometry.segments) (On (Head root n)) (Amiss (entry_word here.geometry hash root) n)
-        (λ t. subst (Leads site hash) (sym named_is) named_leads)
-        (λ f. let high = ltb-false n here.geometry.segments f in let e = segments_are in let w = named_leads.within in omega (arith, high, e, w, named_is))
-    walk_on (Head root segment) known n is =
-        let next : Walked = There (record { root = root; segment = segment; head = n }) in
-        let ill : Walked = Amiss (head_word here.geometry segment) n in
-        let fit = is_live n && is_covering n hash in
-        by_both (HasWalked site hash) (is_live n && not (version_in n == here.version)) (Stale segment (version_in n)) (if fit then next else ill) tt
-        (by_test (HasWalked site hash) fit next ill (λ t. known) (λ f. true_false fit (head_good segment n known (is ∙ head_is site here same words structure segment known.within)) f))
+    never_by (Head root slot) known n found =
+        let header : n ≡ words (head_at site.shape slot + 1) = found ∙ ap words (head_is slot known.1) in
+        by_head (λ x. x ≡ Stale segment byte → ⊥) here hash root slot n (λ live is e. cc)
+        (λ live old e. eqb-false (version_in n) here.version old (ap version_in header ∙ current slot known.1 (subst (λ m. is_live m ≡ true) header live)))
+        (λ dead e. cc)
 
 pub walk_stands : WalkStands
-walk_stands site good straight hash fits here same words structure w known n is = walk_on site good straight hash fits here same words structure w known n is
+walk_stands site here hash words v is same fits new w known n found = walk_on site here hash same words v is fits new w known n found
 
-pub unsplit_straight : UnsplitIsStraight
-unsplit_straight site sound unsplit = record { sound = sound; whole = λ s slot side. unsplit s slot side.1.splits }
+pub walk_noted : WalkNotes
+walk_noted site here hash v same w known begun n = walk_notes_on site here hash same v w known begun n
 
-pub one_straight : OneIsStraight
-one_straight site sound one = record {
-  sound = sound;
-  whole = λ s slot side.
-      let inside = side.1.slot in
-      let deeper = side.1.deeper in
-      let same : s ≡ side.0 = omega (arith, slot, inside, one) in
-      omega (arith, deeper, ap (depth_at (frame_of site.shape site.front)) same);
-}
-
-pub names_owners : NamesOwners
-names_owners site good straight hash fits words structure = (named_leads site good straight hash fits).owner words structure
-
--- at most so many events
-pub walk_few : (w : Walk) → walk_left w ≤ 4
-walk_few Power = omega arith
-walk_few Root = omega arith
-walk_few (Entry root) = omega arith
-walk_few (Head root segment) = omega arith
-
--- ---- in an image of one segment that segment owns each hash
-module _ (site : Site) (good : IsSite site) (straight : IsStraight site) (single : site.shape.segments ≡ 1) (words : Words) (structure : HasStructure site.shape site.front words) where
-  pub only_owner : (segment hash : ℕ) → segment < site.shape.segments → hash < 2 ^ 64 → owner_of site.shape words hash ≡ Some segment
-  only_owner segment hash within fits =
-      let named : ℕ = named_for (frame_of site.shape site.front) hash in
-      let owner = names_owners site good straight hash fits words structure in
-      let owns = found_owns (frame_of site.shape words) hash named owner in
-      let low = owns.own.slot in
-      owner ∙ ap (λ (s : ℕ). Some s) (omega (arith, low, within, single))
+pub walk_never_stale : WalkNeverStale
+walk_never_stale site here hash words facts same current w known n found segment byte e = never_by site here hash same words facts current segment byte w known n found e

@@ -1,5 +1,6 @@
 -- What machines made of phases cite of their events: none of a phase's is nothing, but where no lock is left to be given back; how each
--- is answered; what is stored, flushed and fenced; and what the taking of a lock leaves of the replies.
+-- is answered; what is stored, flushed and fenced; that no event of a lock makes a change or cuts the power; and what the taking of a
+-- lock leaves of the replies.
 use Rattle.std.proofs.Common.{◌≡◌, ℕ, ◌+◌, ◌%◌, ◌^◌, ◌<◌, ◌≤◌, Bool, true, false, Option, Some, None, IsTrue, ◌↔◌, refl, arith}
 use Rattle.std.specs.Prelude.{◌==◌, ⊤, is_none}
 use Rattle.op_core.specs.declared.want.Want.{Want}
@@ -11,7 +12,8 @@ use Rattle.image_layout.specs.Places.{Shape}
 use Rattle.world.specs.declared.site.Site.{Site as Here}
 use Rattle.world.specs.Views.{View}
 use Rattle.world.specs.Wants.{answer_to}
-use Rattle.world.specs.Kinds.{with_lock, view_after}
+use Rattle.world.specs.Kinds.{Kind, cuts_power, with_lock, view_after}
+use Rattle.world.specs.Pairs.{IsPublishingKind}
 use Rattle.phase.specs.declared.place.Place.{Place}
 use Rattle.phase.specs.declared.take.Take.{Take}
 use Rattle.phase.specs.declared.take.Take.TheVariants.{Look, Try}
@@ -23,6 +25,7 @@ use Rattle.phase.specs.Takes.{take_wanted}
 use Rattle.phase.specs.Makes.{key_at, value_at, fingers_at, published_at, make_wanted}
 use Rattle.phase.specs.Helds.{give_wanted_of}
 use Rattle.phase.specs.Taking.{take_kind}
+use Rattle.phase.specs.Giving.{give_kind_of}
 use Rattle.phase.specs.Making.{make_left, waiting_of}
 
 -- ---- an event that is none
@@ -150,6 +153,32 @@ few_waiting make.FlushRecord = omega arith
 few_waiting make.FenceRecord = omega arith
 few_waiting make.FencePublished = omega arith
 few_waiting m = omega arith
+
+-- ---- the change
+-- a kind that makes no change
+abbrev pub IsPlain : Kind → Type 0
+IsPlain k = IsPublishingKind k → ⊥
+
+pub plain_take : (lock : ℕ) (t : Take) → IsPlain (take_kind lock t)
+plain_take lock Look p = p
+plain_take lock (Try free) p = p
+
+pub plain_give : (here : Here) (hash segment : ℕ) (next : Option (Place × ℕ)) → IsPlain (give_kind_of here hash segment next)
+plain_give here hash segment (Some next) p = p
+plain_give here hash segment None p = p
+
+-- ---- the power
+abbrev pub Cuts : Kind → Type 0
+Cuts cuts_power = ⊤
+Cuts k = ⊥
+
+pub take_on : (lock : ℕ) (t : Take) → Cuts (take_kind lock t) → ⊥
+take_on lock Look p = p
+take_on lock (Try free) p = p
+
+pub give_on : (here : Here) (hash segment : ℕ) (next : Option (Place × ℕ)) → Cuts (give_kind_of here hash segment next) → ⊥
+give_on here hash segment (Some next) p = p
+give_on here hash segment None p = p
 
 -- ---- what the taking of a lock leaves of the replies
 pub take_own : (shape : Shape) (lock : ℕ) (t : Take) (n : ℕ) (v : View) → (view_after shape (take_kind lock t) n v).own ≡ v.own

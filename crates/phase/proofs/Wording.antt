@@ -16,6 +16,11 @@ use Rattle.phase.specs.Buckets.{with_words, words_in}
 use Rattle.phase.specs.Loads.{load_taken}
 use Rattle.phase.proofs.Asked.{cases_place}
 
+-- ---- one of two words is one
+pub either_small : (b : Bool) (x y : ℕ) → x < 2 ^ 64 → y < 2 ^ 64 → (if b then x else y) < 2 ^ 64
+either_small true x y p q = p
+either_small false x y p q = q
+
 -- ---- the words of one bucket
 module _ (buckets : Buckets) (words : List ℕ) where
   pub words_this : (p : Place) → words_in (with_words p words buckets) p ≡ words

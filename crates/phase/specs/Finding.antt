@@ -24,7 +24,7 @@ use Rattle.phase.specs.declared.kept.Buckets.{Buckets}
 use Rattle.phase.specs.declared.make.Record.{Record}
 use Rattle.phase.specs.Places.{bucket_of, is_third, lock_word}
 use Rattle.phase.specs.Buckets.{words_in}
-use Rattle.phase.specs.Stands.{Leads}
+use Rattle.phase.specs.Stands.{IsThere, Leads}
 use Rattle.phase.specs.Giving.{IsLocated, IsHeld, IsQuiet, IsOfHeld, HoldsLocks}
 use Rattle.phase.specs.Knows.{Knows, HasNoneLoose, IsWhole, with_loaded}
 use Rattle.phase.specs.Making.{FitsSlot, with_record}
@@ -44,12 +44,13 @@ module _ (here : Here) (hash segment : ℕ) where
   abbrev pub HasLoadedHeld : Held → Buckets → View → Type 0
   HasLoadedHeld held buckets v = (place : Place) → IsHeld held place → IsWhole (lock_word here hash segment place) (words_in buckets place) v
 
--- THE BUCKETS OF A KEY ARE HELD: home and probing bucket, in the segment that owns the key, and stash buckets and third ones perhaps;
--- and of all that are held each word is known, to be that of `word`
+-- THE BUCKETS OF A KEY ARE HELD: home and probing bucket, in a segment that is live and current and whose pinned header leads to the
+-- key's hash, and stash buckets and third ones perhaps; and of all that are held each word is known, to be that of `word`
 pub record HoldsBuckets (site : Site) (here : Here) (hash segment : ℕ) (held : Held) (word : Words) (k : ℕ) (v : View) : Type 0 where
   pub located : IsLocated site here segment
   pub hashed : hash ≡ key_hash site.shape k
-  pub leads : Leads site hash segment
+  pub there : IsThere site segment v.facts
+  pub leads : Leads site hash segment v.pinned
   pub locks : HoldsLocks here hash segment held v
   pub home : IsHeld held Home
   pub probing : IsHeld held Probing

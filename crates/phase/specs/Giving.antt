@@ -7,13 +7,14 @@ use Rattle.world.specs.declared.site.Site.{Site as Here}
 use Rattle.world.specs.Site.{Site, IsLockWord, IsUnder}
 use Rattle.world.specs.Views.{Move, Owed, View, Has, HasLock, IsGuarded}
 use Rattle.world.specs.Kinds.{Kind, peeks, learns, unlocks, with_store, wanted, view_after}
-use Rattle.world.specs.Conditions.{May}
+use Rattle.world.specs.Conditions.{May, IsKnownLock}
 use Rattle.world.specs.Attempts.{HoldsOnly}
 use Rattle.phase.specs.declared.place.Place.{Place}
 use Rattle.phase.specs.declared.held.Held.{Held}
 use Rattle.phase.specs.Places.{bucket_of, lock_word}
 use Rattle.phase.specs.Helds.{none_held, with_held, free_of, give_next, give_wanted, given}
 use Rattle.phase.specs.Taking.{MayBeTaken}
+use Rattle.phase.specs.Stands.{IsThere}
 
 -- the segment is one of the image, which is laid out as the machine's site says
 pub record IsLocated (site : Site) (here : Here) (segment : ℕ) : Type 0 where
@@ -64,11 +65,14 @@ abbrev pub give_left : Held → ℕ
 give_left held = lock_left held.home + lock_left held.probing + lock_left held.first + lock_left held.second + lock_left held.next + lock_left held.previous
 
 -- ---- the laws
--- where a place's lock word stands, and that the six are apart
+-- where a place's lock word stands, that it is one of a segment that is known to be live and current at the end of a way, and that the
+-- six are apart
 pub record PlacesStand : Type 0 where
   pub at : (site : Site) (here : Here) (hash segment : ℕ) (place : Place) → IsLocated site here segment
       → lock_word here hash segment place ≡ bucket_at site.shape segment (bucket_of hash place)
   pub are_locks : (site : Site) (here : Here) (hash segment : ℕ) (place : Place) → IsLocated site here segment → IsLockWord site.shape (lock_word here hash segment place)
+  pub are_known : (site : Site) (here : Here) (hash segment : ℕ) (place : Place) (v : View) → here.geometry ≡ site.shape → IsThere site segment v.facts
+      → IsKnownLock site v (lock_word here hash segment place)
   pub apart : (site : Site) (here : Here) (hash segment : ℕ) (place other : Place) → IsLocated site here segment → place ≢ other
       → lock_word here hash segment place ≢ lock_word here hash segment other
 

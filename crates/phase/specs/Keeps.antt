@@ -1,15 +1,16 @@
 -- What an insert hands on that found no room: what its view holds and knows, and what its attempt remembers.
-use Rattle.std.specs.Prelude.{◌≡◌, ℕ, ◌+◌, ◌<◌, ◌≤◌, false, None, List, slice_index}
+use Rattle.std.specs.Prelude.{◌≡◌, ℕ, ◌+◌, ◌<◌, ◌≤◌, true, false, None, List, slice_index}
 use Rattle.bucket_meta.specs.Search.{lowest_free}
 use Rattle.trace.specs.Events.{Words}
-use Rattle.image_layout.specs.Places.{head_at, block}
+use Rattle.image_layout.specs.Places.{block}
+use Rattle.way.specs.Ways.{is_leading}
 use Rattle.map_model.specs.Changes.{call_of}
 use Rattle.map_model.specs.Legal.{IsInsert}
 use Rattle.world.specs.Site.{Site}
 use Rattle.world.specs.Views.{View, Has}
 use Rattle.phase.specs.declared.walk.Path.{Path}
 use Rattle.phase.specs.declared.place.Place.{Place}
-use Rattle.phase.specs.declared.place.Place.TheVariants.{First, Second, Next, Previous}
+use Rattle.phase.specs.declared.place.Place.TheVariants.{Home, Probing, First, Second, Next, Previous}
 use Rattle.phase.specs.declared.held.Held.{Held}
 use Rattle.phase.specs.declared.kept.Kept.{Kept}
 use Rattle.phase.specs.Places.{is_third, lock_word}
@@ -26,10 +27,12 @@ kept_words kept = words_of kept.site kept.hash kept.segment kept.buckets
 abbrev pub IsFull : List ℕ → Type 0
 IsFull words = lowest_free (slice_index words 1) ≡ None
 
--- ITS LOCKS ARE HELD, and the words of their buckets known; its key stands nowhere, and home and probing bucket are full; nothing is
--- unsettled, planned, under way or owed, and the list of replies has room
+-- ITS LOCKS ARE HELD, and the words of their buckets known; the header is pinned and leads to its hash; its key stands nowhere, and
+-- home and probing bucket are full; nothing is unsettled, planned, under way or owed, and the list of replies has room
 pub record KeepsAll (site : Site) (kept : Kept) (v : View) : Type 0 where
   pub insert : IsInsert (call_of kept.change)
+  pub pinned : Has (kept.segment, kept.head) v.pinned
+  pub leads : is_leading kept.head kept.hash ≡ true
   pub holds : HoldsBuckets site kept.site kept.hash kept.segment kept.held (kept_words kept) kept.change.key v
   pub quiet : IsQuiet v
   pub nowhere : StandsNowhere site.shape kept.hash kept.segment kept.held (kept_words kept) kept.change.key
@@ -64,14 +67,20 @@ module _ (kept : Kept) where
   abbrev pub ChangedLocks : List ℕ → Type 0
   ChangedLocks changed = (word : ℕ) → Has word changed → (place : Place) × IsHeld kept.held place × (word ≡ lock_word kept.site kept.hash kept.segment place)
 
--- IT LOADED the way to its segment, whose header is that of the structure, and the words of each bucket that is held and where its key
--- may stand
+  -- a bucket was loaded, and is full by its words
+  abbrev pub LoadedFull : List (ℕ × ℕ) → Place → Type 0
+  LoadedFull loads place = WasLoaded loads place × IsFull (words_in kept.buckets place)
+
+-- IT LOADED the way to its segment, with the header that is kept, and the words of each bucket that is held and where its key may
+-- stand; and of these home and probing bucket are full
 pub record RemembersRoom (site : Site) (kept : Kept) (loads : List (ℕ × ℕ)) : Type 0 where
   pub path : Path
   pub there : path.segment ≡ kept.segment
   pub found : WasFound kept.site.geometry kept.hash loads path
-  pub head : path.head ≡ site.front (head_at site.shape kept.segment + 1)
+  pub head : path.head ≡ kept.head
   pub buckets : (place : Place) → IsHeld kept.held place → is_third place ≡ false → WasLoaded kept loads place
+  pub home : LoadedFull kept loads Home
+  pub probing : LoadedFull kept loads Probing
 
 -- neither third bucket is locked yet
 pub record HasNoThird (held : Held) : Type 0 where

@@ -1,71 +1,77 @@
 -- The laws of the phases.
-use Rattle.std.specs.Prelude.{◌≡◌, ◌≢◌, ℕ, ◌+◌, ◌%◌, ◌^◌, ◌<◌, None, Some, List, [], ◌∷◌, ◌++◌}
+use Rattle.std.specs.Prelude.{◌≡◌, ◌≢◌, ℕ, ◌+◌, ◌%◌, ◌^◌, ◌<◌, true, false, Some, List, ◌∷◌, ◌++◌}
 use Rattle.op_core.specs.declared.want.Want.TheVariants.{Load as LoadWord}
 use Rattle.op_core.specs.declared.want.Ans.TheVariants.{Value}
 use Rattle.op_core.specs.Answers.{load_of}
 use Rattle.trace.specs.Events.{Words}
-use Rattle.image_layout.specs.Places.{Shape, IsShape, words_of}
+use Rattle.image_layout.specs.Places.{Shape, IsShape, head_at, words_of}
 use Rattle.image_layout.specs.Volatile.{all_words_of}
 use Rattle.sound_image.specs.Records.{key_hash}
-use Rattle.sound_image.specs.Segments.{frame_of, state_at}
-use Rattle.segment_head.specs.HeadWord.{splitting}
-use Rattle.segment_table.specs.Claims.{named_for, HasSoundFrame}
-use Rattle.bucket_words.specs.Owners.{HasStructure, owner_of}
+use Rattle.bucket_words.specs.Owners.{owner_of}
+use Rattle.frame_facts.specs.Facts.{Fact}
+use Rattle.way.specs.Ways.{head_word, is_leading}
 use Rattle.map_model.specs.declared.call.Call.{Call}
 use Rattle.map_model.specs.Map.{key_of}
 use Rattle.world.specs.declared.site.Site.{Site as Here}
-use Rattle.world.specs.Site.{Site, IsSite}
-use Rattle.world.specs.Views.{View, Has}
+use Rattle.world.specs.Site.{Site, version_of, IsStructured}
+use Rattle.world.specs.Views.{Note, View, Has}
 use Rattle.world.specs.Wants.{word_of}
-use Rattle.world.specs.Kinds.{wanted, view_after}
-use Rattle.world.specs.Conditions.{May}
+use Rattle.world.specs.Kinds.{Kind, validates, pins, wanted, view_after}
+use Rattle.world.specs.Conditions.{May, IsNewest, IsNow}
 use Rattle.part.specs.Doings.{Doings}
 use Rattle.phase.specs.declared.walk.Path.{Path}
 use Rattle.phase.specs.declared.walk.Walk.{Walk}
-use Rattle.phase.specs.declared.walk.Walk.TheVariants.{Power}
 use Rattle.phase.specs.declared.walk.Walked.TheVariants.{Stale}
 use Rattle.phase.specs.declared.back.Back.{Back}
+use Rattle.phase.specs.declared.back.Back.TheVariants.{Head}
+use Rattle.phase.specs.declared.back.Backed.TheVariants.{Same}
 use Rattle.phase.specs.declared.load.Load.{Load}
 use Rattle.phase.specs.Walks.{walk_wanted, walk_taken}
 use Rattle.phase.specs.Backs.{back_word, back_taken}
 use Rattle.phase.specs.Loads.{load_taken}
-use Rattle.phase.specs.Stands.{walk_kind, back_kind, IsStraight, IsCurrent, IsWalking, HasWalked, walk_left, walked_left, back_left, backed_left, IsLoading, HasLoaded, load_left, loaded_left}
+use Rattle.phase.specs.Stands.{walk_kind, back_kind, IsCurrent, Leads, IsWalking, HasWalked, HasBegun, NotesWay, IsButWay, walk_left, walked_left, back_left, backed_left, IsLoading, HasLoaded, load_left, loaded_left}
 use Rattle.phase.specs.Causes.{WasFound, RemembersWalk, RemembersWalked, HasWalkCause, HasBackCause}
 
+-- ---- where the way leads
+-- THE OWNER of a hash is the segment whose header leads to it, in words whose structure is sound
+abbrev pub HeadersLead : Type 0
+HeadersLead = (site : Site) → IsShape site.shape → (words : Words) → IsStructured site words → (s hash : ℕ) → s < site.shape.segments → hash < 2 ^ 64
+    → is_leading (words (head_at site.shape s + 1)) hash ≡ true → owner_of site.shape words hash ≡ Some s
+
+-- so who has pinned such a header knows the owner while it is pinned
+abbrev pub PinnedLead : Type 0
+PinnedLead = (site : Site) (hash segment : ℕ) (v : View) → Leads site hash segment v.pinned
+    → (words : Words) → IsNewest site v words → owner_of site.shape words hash ≡ Some segment
+
+-- and who has noted one, whenever it is as it was
+abbrev pub NotedLead : Type 0
+NotedLead = (site : Site) (hash : ℕ) (path : Path) (notes : List Note) → IsShape site.shape → hash < 2 ^ 64 → path.segment < site.shape.segments
+    → (note : Note) → Has note notes → note.word ≡ head_at site.shape path.segment + 1 → note.value ≡ path.head → is_leading path.head hash ≡ true
+    → (words : Words) → IsNow site notes words → owner_of site.shape words hash ≡ Some path.segment
+
 -- ---- the way
--- the way is straight where the structure is sound and no segment is splitting, or where there is one segment
-abbrev pub UnsplitIsStraight : Type 0
-UnsplitIsStraight = (site : Site) → HasSoundFrame site.shape site.front → ((s : ℕ) → s < site.shape.segments → state_at (frame_of site.shape site.front) s ≢ splitting) → IsStraight site
-
-abbrev pub OneIsStraight : Type 0
-OneIsStraight = (site : Site) → HasSoundFrame site.shape site.front → site.shape.segments ≡ 1 → IsStraight site
-
--- where the way is straight, the directory names the owner of each hash
-abbrev pub NamesOwners : Type 0
-NamesOwners = (site : Site) → IsSite site → IsStraight site → (hash : ℕ) → hash < 2 ^ 64
-    → (words : Words) → HasStructure site.shape site.front words → owner_of site.shape words hash ≡ Some (named_for (frame_of site.shape site.front) hash)
-
--- what is forgotten with the power word
-abbrev pub without_notes : View → View
-without_notes v = record v { notes = []; answer = None }
-
--- each event is of its kind, which any view may take; the first leaves a view without notes, and the others leave it as it was
+-- each event is of its kind, which who relies on what it loaded may take; and it leaves all but that and the notes as it was
 pub record WalkFits : Type 0 where
-  pub wants : (here : Here) (hash : ℕ) (shape : Shape) (w : Walk) → walk_wanted here hash w ≡ wanted shape (walk_kind here hash w)
-  pub may : (here : Here) (hash : ℕ) (site : Site) (w : Walk) (v : View) → May site (walk_kind here hash w) v
-  pub first : (here : Here) (hash : ℕ) (shape : Shape) (n : ℕ) (v : View) → view_after shape (walk_kind here hash Power) n v ≡ without_notes v
-  pub others : (here : Here) (hash : ℕ) (shape : Shape) (w : Walk) (n : ℕ) (v : View) → (w ≡ Power → ⊥) → view_after shape (walk_kind here hash w) n v ≡ v
+  pub wants : (shape : Shape) (here : Here) (hash : ℕ) (w : Walk) → here.geometry ≡ shape → walk_wanted here hash w ≡ wanted shape (walk_kind here hash w)
+  pub may : (site : Site) (here : Here) (hash : ℕ) (w : Walk) (v : View) → IsShape site.shape → here.geometry ≡ site.shape → here.version ≡ version_of site → hash < 2 ^ 64
+      → IsWalking site w v.facts → May site (walk_kind here hash w) v
+  pub leaves : (shape : Shape) (here : Here) (hash : ℕ) (w : Walk) (n : ℕ) (v : View) → IsButWay v (view_after shape (walk_kind here hash w) n v)
 
--- WHAT IS KNOWN on the way is kept by each event, in all words that have the structure
+-- WHAT A VIEW RELIES ON on the way is kept by each event, whatever words may be the newest as far as it can know
 abbrev pub WalkStands : Type 0
-WalkStands = (site : Site) → IsSite site → IsStraight site → (hash : ℕ) → hash < 2 ^ 64 → (here : Here) → here.geometry ≡ site.shape
-    → (words : Words) → HasStructure site.shape site.front words → (w : Walk) → IsWalking site hash w
-    → (n : ℕ) → n ≡ words (word_of site.shape (walk_wanted here hash w)) → HasWalked site hash (walk_taken here hash w n)
+WalkStands = (site : Site) (here : Here) (hash : ℕ) (words : Words) (v : View) → IsShape site.shape → here.geometry ≡ site.shape → hash < 2 ^ 64 → IsNewest site v words
+    → (w : Walk) → IsWalking site w v.facts → (n : ℕ) → n ≡ words (word_of site.shape (walk_wanted here hash w))
+    → HasWalked site (walk_taken here hash w n) (view_after site.shape (walk_kind here hash w) n v).facts
 
--- where each live segment has the site's version, no segment is stale
+-- WHAT IT HAS NOTED: nothing on the way, and at its end the header
+abbrev pub WalkNotes : Type 0
+WalkNotes = (site : Site) (here : Here) (hash : ℕ) (v : View) → here.geometry ≡ site.shape → (w : Walk) → IsWalking site w v.facts → HasBegun w v
+    → (n : ℕ) → NotesWay site.shape (walk_taken here hash w n) (view_after site.shape (walk_kind here hash w) n v)
+
+-- where each live segment has the image's version, no segment is stale
 abbrev pub WalkNeverStale : Type 0
-WalkNeverStale = (site : Site) (hash : ℕ) (here : Here) → here.geometry ≡ site.shape → (words : Words) → HasStructure site.shape site.front words → IsCurrent site here.version
-    → (w : Walk) → IsWalking site hash w → (n : ℕ) → n ≡ words (word_of site.shape (walk_wanted here hash w)) → (segment byte : ℕ) → walk_taken here hash w n ≡ Stale segment byte → ⊥
+WalkNeverStale = (site : Site) (here : Here) (hash : ℕ) (words : Words) (facts : List Fact) → here.geometry ≡ site.shape → IsCurrent site.shape words here.version
+    → (w : Walk) → IsWalking site w facts → (n : ℕ) → n ≡ words (word_of site.shape (walk_wanted here hash w)) → (segment byte : ℕ) → walk_taken here hash w n ≡ Stale segment byte → ⊥
 
 abbrev pub WalkFalls : Type 0
 WalkFalls = (here : Here) (hash : ℕ) (w : Walk) (n : ℕ) → walked_left (walk_taken here hash w n) < walk_left w
@@ -75,10 +81,25 @@ abbrev pub WalkAsksWithin : Type 0
 WalkAsksWithin = (here : Here) (hash : ℕ) → IsShape here.geometry → hash < 2 ^ 64 → (w : Walk) → word_of here.geometry (walk_wanted here hash w) < all_words_of here.geometry
 
 -- ---- the way again
+-- each event is of its kind, where the last one looks at the header; whoever may take that may take each; and those before it leave
+-- the view as it was
 pub record BackFits : Type 0 where
-  pub wants : (here : Here) (hash : ℕ) (path : Path) (shape : Shape) (at : Back) → LoadWord (back_word here hash path at) ≡ wanted shape (back_kind here hash path at)
-  pub may : (here : Here) (hash : ℕ) (path : Path) (site : Site) (at : Back) (v : View) → May site (back_kind here hash path at) v
-  pub view : (here : Here) (hash : ℕ) (path : Path) (shape : Shape) (at : Back) (n : ℕ) (v : View) → view_after shape (back_kind here hash path at) n v ≡ v
+  pub wants : (shape : Shape) (here : Here) (hash : ℕ) (path : Path) (last : Kind) (at : Back) → wanted shape last ≡ LoadWord (back_word here hash path Head)
+      → LoadWord (back_word here hash path at) ≡ wanted shape (back_kind here hash path last at)
+  pub may : (site : Site) (here : Here) (hash : ℕ) (path : Path) (last : Kind) (at : Back) (v : View) → May site last v → May site (back_kind here hash path last at) v
+  pub view : (shape : Shape) (here : Here) (hash : ℕ) (path : Path) (last : Kind) (at : Back) (n : ℕ) (v : View) → at ≢ Head → view_after shape (back_kind here hash path last at) n v ≡ v
+  -- such a look is that of who validates the noted header, and of who pins it
+  pub validates : (shape : Shape) (here : Here) (hash : ℕ) (path : Path) → wanted shape (validates (head_word here.geometry path.segment)) ≡ LoadWord (back_word here hash path Head)
+  pub pins : (shape : Shape) (here : Here) (hash : ℕ) (path : Path) (b : ℕ) → here.geometry ≡ shape → path.segment < shape.segments
+      → wanted shape (pins path.segment b) ≡ LoadWord (back_word here hash path Head)
+
+-- IT ENDS at a header that is as it was and leads to the hash
+abbrev pub BackLeads : Type 0
+BackLeads = (here : Here) (hash : ℕ) (path : Path) (at : Back) (n : ℕ) → back_taken here hash path at n ≡ Same → (at ≡ Head) × (n ≡ path.head) × (is_leading path.head hash ≡ true)
+
+-- and at none that does not
+abbrev pub BackLeadsAway : Type 0
+BackLeadsAway = (here : Here) (hash : ℕ) (path : Path) (at : Back) (n : ℕ) → is_leading path.head hash ≡ false → back_taken here hash path at n ≢ Same
 
 abbrev pub BackFalls : Type 0
 BackFalls = (here : Here) (hash : ℕ) (path : Path) (at : Back) (n : ℕ) → backed_left (back_taken here hash path at n) < back_left at
@@ -108,5 +129,5 @@ WalkHasCauses = (here : Here) (hash : ℕ) (words : Words) (did : Doings) (call 
 -- and of a way again, where the attempt did not change its words itself
 abbrev pub BackHasCauses : Type 0
 BackHasCauses = (here : Here) (hash : ℕ) (words : Words) (did : Doings) (call : Call) → hash ≡ key_hash here.geometry (key_of call) → (path : Path) → WasFound here.geometry hash did.loads path
-    → (at : Back) → (Has (back_word here hash path at) did.changed → ⊥)
-    → (n : ℕ) → n ≡ words (back_word here hash path at) → HasBackCause here hash words did call path at (back_taken here hash path at n)
+    → ((at : Back) → Has (back_word here hash path at) did.changed → ⊥)
+    → (at : Back) (n : ℕ) → n ≡ words (back_word here hash path at) → HasBackCause here hash words did call path at (back_taken here hash path at n)

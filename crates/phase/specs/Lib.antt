@@ -8,6 +8,7 @@ pub mod Places
 pub mod Takes
 pub mod Helds
 pub mod Makes
+pub mod Endings
 pub mod Buckets
 pub mod AreWords
 pub mod Taking

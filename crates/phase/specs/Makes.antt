@@ -2,6 +2,8 @@
 use Rattle.std.specs.Prelude.{ℕ, ◌+◌, ◌*◌, nat_lt, if◌then◌else◌}
 use Rattle.bucket_meta.specs.Marks.{finger_place}
 use Rattle.trace.specs.Events.{line_of}
+use Rattle.map_model.specs.declared.change.Deed.{Deed}
+use Rattle.map_model.specs.declared.change.Deed.TheVariants.{Insert, Update, Remove}
 use Rattle.op_core.specs.declared.want.Want.{Want}
 use Rattle.op_core.specs.declared.want.Want.TheVariants.{Store, Flush, Fence}
 use Rattle.phase.specs.declared.make.Record.{Record}
@@ -9,6 +11,12 @@ use Rattle.phase.specs.declared.make.Make.{Make}
 use Rattle.phase.specs.declared.make.Make.TheVariants.{Key, Value, Fingers, FlushFingers, FlushRecord, FenceRecord, Publish, FlushPublished, FencePublished}
 use Rattle.phase.specs.declared.make.Made.{Made}
 use Rattle.phase.specs.declared.make.Made.TheVariants.{On, Settled}
+
+-- the value that a change brings, and 0 where it brings none
+abbrev pub brought : Deed → ℕ
+brought (Insert value) = value
+brought (Update value) = value
+brought Remove = 0
 
 -- ---- the words of a record in the bucket of a lock word
 module _ (lock : ℕ) (written : Record) where

@@ -1,16 +1,15 @@
 -- How the phases fit the world: the kind of each event, what is known in each state, and how many events are left.
-use Rattle.std.specs.Prelude.{◌≡◌, ℕ, ◌+◌, ◌-◌, ◌<◌, ◌≤◌, ⊤, true, None, Some, List, [], length, slice_index}
+use Rattle.std.specs.Prelude.{◌≡◌, ℕ, ◌+◌, ◌-◌, ◌^◌, ◌<◌, ◌≤◌, nat_le, nat_lt, ⊤, true, false, None, List, [], ◌∷◌, length, slice_index, if◌then◌else◌}
+use Rattle.hash_word.specs.Hash.{index_of}
 use Rattle.trace.specs.Events.{Words}
 use Rattle.segment_head.specs.HeadWord.{version_in, is_live}
-use Rattle.image_layout.specs.Places.{root_word, head_at}
-use Rattle.sound_image.specs.Segments.{frame_of, HasReadySide}
-use Rattle.segment_table.specs.Claims.{HasSoundFrame}
-use Rattle.bucket_words.specs.Owners.{HasStructure, owner_of}
-use Rattle.way.specs.Ways.{entry_word, head_word}
+use Rattle.image_layout.specs.Places.{Shape, IsShape, root_word, head_at}
+use Rattle.frame_facts.specs.Facts.{Fact, Lives, Current, Rooted}
+use Rattle.way.specs.Ways.{entry_word, is_leading}
 use Rattle.world.specs.declared.site.Site.{Site as Here}
 use Rattle.world.specs.Site.{Site}
-use Rattle.world.specs.Views.{View, Has}
-use Rattle.world.specs.Kinds.{Kind, peeks, asks_power}
+use Rattle.world.specs.Views.{Note, View, Has}
+use Rattle.world.specs.Kinds.{Kind, peeks, asks_power, meets_root, meets_entry, meets_head}
 use Rattle.phase.specs.declared.walk.Path.{Path}
 use Rattle.phase.specs.declared.walk.Walk.{Walk}
 use Rattle.phase.specs.declared.walk.Walk.TheVariants.{Power, Root, Entry, Head}
@@ -23,48 +22,57 @@ use Rattle.phase.specs.declared.back.Backed.TheVariants as backed
 use Rattle.phase.specs.declared.load.Load.{Load}
 use Rattle.phase.specs.declared.load.Loaded.{Loaded}
 use Rattle.phase.specs.declared.load.Loaded.TheVariants as loaded
-use Rattle.phase.specs.Backs.{back_word}
 
 -- ---- the kind of each event
 module _ (here : Here) (hash : ℕ) where
+  -- where the image has no such depth, or no such slot, the root's word is asked for
   abbrev pub walk_kind : Walk → Kind
   walk_kind Power = asks_power
-  walk_kind Root = peeks root_word
-  walk_kind (Entry root) = peeks (entry_word here.geometry hash root)
-  walk_kind (Head root segment) = peeks (head_word here.geometry segment)
+  walk_kind Root = meets_root
+  walk_kind (Entry root) = if nat_le root here.geometry.depth then meets_entry root (index_of root hash) else peeks root_word
+  walk_kind (Head root segment) = if nat_lt segment here.geometry.segments then meets_head segment here.version else peeks root_word
 
-  abbrev pub back_kind : Path → Back → Kind
-  back_kind path at = peeks (back_word here hash path at)
+  -- the kind of the second look at the header is a parameter, since it is another for each machine: a get validates it, and who holds
+  -- a lock there pins it
+  abbrev pub back_kind : Path → Kind → Back → Kind
+  back_kind path last back.Root = peeks root_word
+  back_kind path last back.Entry = peeks (entry_word here.geometry hash path.root)
+  back_kind path last back.Head = last
 
 -- ---- where the way leads
--- THE WAY IS STRAIGHT: the structure is sound, and no segment has a ready side, that is no split is under way
-pub record IsStraight (site : Site) : Type 0 where
-  pub sound : HasSoundFrame site.shape site.front
-  pub whole : (s : ℕ) → s < site.shape.segments → HasReadySide (frame_of site.shape site.front) s → ⊥
+-- each live segment of these words has this version
+abbrev pub IsCurrent : Shape → Words → ℕ → Type 0
+IsCurrent shape words version = (s : ℕ) → s < shape.segments → is_live (words (head_at shape s + 1)) ≡ true → version_in (words (head_at shape s + 1)) ≡ version
 
--- each live segment has this version
-abbrev pub IsCurrent : Site → ℕ → Type 0
-IsCurrent site version = (s : ℕ) → s < site.shape.segments → is_live (site.front (head_at site.shape s + 1)) ≡ true → version_in (site.front (head_at site.shape s + 1)) ≡ version
-
--- a segment owns the hash, in all words that have the structure
-pub record Leads (site : Site) (hash segment : ℕ) : Type 0 where
+-- THE WAY IS AT A SEGMENT of the image, of which a view relies on that it is live and current
+pub record IsThere (site : Site) (segment : ℕ) (facts : List Fact) : Type 0 where
   pub within : segment < site.shape.segments
-  pub owner : (words : Words) → HasStructure site.shape site.front words → owner_of site.shape words hash ≡ Some segment
+  pub lives : Has (Lives segment) facts
+  pub current : Has (Current segment) facts
 
-module _ (site : Site) (hash : ℕ) where
-  -- what is known of the values on the way
-  abbrev pub IsWalking : Walk → Type 0
-  IsWalking Power = ⊤
-  IsWalking Root = ⊤
-  IsWalking (Entry root) = root ≡ site.front root_word
-  IsWalking (Head root segment) = Leads site hash segment
+module _ (site : Site) where
+  -- what a view relies on while it goes the way
+  abbrev pub IsWalking : Walk → List Fact → Type 0
+  IsWalking Power facts = ⊤
+  IsWalking Root facts = ⊤
+  IsWalking (Entry root) facts = Has (Rooted root) facts × (root ≤ site.shape.depth)
+  IsWalking (Head root segment) facts = Has (Lives segment) facts × (segment < site.shape.segments)
 
-  -- and of what a word makes of them; nothing is found amiss
-  abbrev pub HasWalked : Walked → Type 0
-  HasWalked (walked.On walk) = IsWalking walk
-  HasWalked (walked.There path) = Leads site hash path.segment
-  HasWalked (walked.Amiss word seen) = ⊥
-  HasWalked end = ⊤
+  -- and on what a word makes of it; nothing is found amiss
+  abbrev pub HasWalked : Walked → List Fact → Type 0
+  HasWalked (walked.On walk) facts = IsWalking walk facts
+  HasWalked (walked.There path) facts = IsThere site path.segment facts
+  HasWalked (walked.Amiss word seen) facts = ⊥
+  HasWalked end facts = ⊤
+
+-- THE WAY LEADS to a segment: the header that a view has pinned of it leads to the hash
+pub record Leads (site : Site) (hash segment : ℕ) (pinned : List (ℕ × ℕ)) : Type 0 where
+  pub shape : IsShape site.shape
+  pub fits : hash < 2 ^ 64
+  pub within : segment < site.shape.segments
+  pub head : ℕ
+  pub has : Has (segment, head) pinned
+  pub leads : is_leading head hash ≡ true
 
 -- ---- the view of who goes it
 -- a view without notes
@@ -76,6 +84,24 @@ pub record IsBare (v : View) : Type 0 where
 abbrev pub HasBegun : Walk → View → Type 0
 HasBegun Power v = ⊤
 HasBegun walk v = IsBare v
+
+-- the note of a header
+abbrev pub head_note : Shape → Path → Note
+head_note shape path = record { word = head_at shape path.segment + 1; value = path.head; words = []; again = false }
+
+-- at the end of the way it has that one
+pub record NotesHead (shape : Shape) (path : Path) (v : View) : Type 0 where
+  pub notes : v.notes ≡ head_note shape path ∷ []
+  pub answer : v.answer ≡ None
+
+abbrev pub NotesWay : Shape → Walked → View → Type 0
+NotesWay shape (walked.On walk) v = HasBegun walk v
+NotesWay shape (walked.There path) v = NotesHead shape path v
+NotesWay shape end v = ⊤
+
+-- all but what the view relies on of the structure, and its notes, is as it was
+abbrev pub IsButWay : View → View → Type 0
+IsButWay v u = u ≡ record v { facts = u.facts; notes = u.notes; answer = u.answer }
 
 -- ---- at most so many events are left
 abbrev pub walk_left : Walk → ℕ

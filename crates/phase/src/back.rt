@@ -1,4 +1,4 @@
-//! The way again: the same three words, each of which has to be as it was.
+//! The way again: the same three words, each of which has to be as it was, and the header has to lead to the hash.
 
 ghost use Rattle.std.specs.Prelude.{◌≡◌, ℕ};
 ghost use Rattle.op_core.specs.declared.want.Want.TheVariants as want;
@@ -7,7 +7,7 @@ ghost use Rattle.phase.specs.Backs.{back_word, back_taken};
 use crate::walk::Path;
 use image_layout::ROOT_WORD;
 use op_core::Want;
-use way::{entry_word, head_word};
+use way::{entry_word, head_word, is_leading};
 use world::Site;
 
 /// Which word of the way is looked at again.
@@ -26,9 +26,9 @@ pub enum Back {
 pub enum Backed {
     /// The next word is looked at.
     On(Back),
-    /// All three are as they were.
+    /// All three are as they were, and the header leads to the hash.
     Same,
-    /// One has changed.
+    /// One has changed; or the header is as it was and does not lead to the hash, and both values are the same.
     Moved {
         /// The number of the word.
         word: u64,
@@ -61,12 +61,12 @@ pub fn back_want(site: &Site, hash: u64, path: &Path, back: &Back) -> Want
 pub fn back_next(site: &Site, hash: u64, path: &Path, back: &Back, seen: u64) -> Backed
     ensures { result ≡ back_taken site.now hash path.now back.now seen }
 {
-    let (before, next) = match back {
-        Back::Root => (path.root, Backed::On(Back::Entry)),
-        Back::Entry => (path.segment, Backed::On(Back::Head)),
-        Back::Head => (path.head, Backed::Same),
+    let (before, leads, next) = match back {
+        Back::Root => (path.root, true, Backed::On(Back::Entry)),
+        Back::Entry => (path.segment, true, Backed::On(Back::Head)),
+        Back::Head => (path.head, is_leading(path.head, hash), Backed::Same),
     };
-    if seen == before {
+    if seen == before && leads {
         next
     } else {
         Backed::Moved {

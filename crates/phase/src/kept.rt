@@ -1,10 +1,12 @@
 //! The words of the buckets that are locked, and what a change keeps that found no room.
 
-ghost use Rattle.std.specs.Prelude.{◌≡◌};
+ghost use Rattle.std.specs.Prelude.{◌≡◌, ◌≤◌};
+ghost use Rattle.image_layout.specs.Places.{most_words};
 ghost use Rattle.phase.specs.Buckets.{no_words, with_words, words_in};
+ghost use Rattle.phase.specs.Places.{lock_word};
 
 use crate::held::Held;
-use crate::place::Place;
+use crate::place::{Place, lock_word};
 use map_model::Change;
 use world::Site;
 
@@ -80,8 +82,20 @@ pub struct Kept {
     pub hash: u64,
     /// The slot of the segment.
     pub segment: u64,
+    /// Its header.
+    pub head: u64,
     /// The locks that are held.
     pub held: Held,
     /// The words of their buckets.
     pub buckets: Buckets,
+}
+
+impl Kept {
+    /// The lock word of a bucket.
+    pub fn lock_of(&self, place: Place) -> u64
+        ensures is { result ≡ lock_word self.now.site self.now.hash self.now.segment place }
+        ensures most { result ≤ most_words }
+    {
+        lock_word(&self.site, self.hash, self.segment, place)
+    }
 }

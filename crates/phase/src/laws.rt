@@ -1,6 +1,7 @@
 //! The laws of the phases. The functions do nothing: each stands for the law that its contract says.
 
-ghost use Rattle.phase.specs.Laws.{UnsplitIsStraight, OneIsStraight, NamesOwners, WalkFits, WalkStands, WalkNeverStale, WalkFalls, WalkAsksWithin, BackFits, BackFalls, BackAsksWithin, LoadStands, LoadFalls};
+ghost use Rattle.phase.specs.Laws.{HeadersLead, PinnedLead, NotedLead, WalkFits, WalkStands, WalkNotes, WalkNeverStale, WalkFalls, WalkAsksWithin};
+ghost use Rattle.phase.specs.Laws.{BackFits, BackLeads, BackLeadsAway, BackFalls, BackAsksWithin, LoadStands, LoadFalls};
 ghost use Rattle.phase.specs.Laws.{WalkRemembers, WalkHasCauses, BackHasCauses};
 ghost use Rattle.phase.specs.Taking.{TakeFits, TakeStands, TakeFalls, TakeRemembers, TakeHasCauses};
 ghost use Rattle.phase.specs.Giving.{PlacesStand, HeldStands, GiveStands, GiveFalls};
@@ -9,27 +10,34 @@ ghost use Rattle.phase.specs.Knows.{IsUnderOne, HoldersLoad, KnowsMore};
 ghost use Rattle.phase.specs.Making.{MakeFits, MakeKnows, MakeHolds, MakeFalls, PreparesRecord};
 ghost use Rattle.phase.specs.Finding.{WordsStand, LoadsAreKnown, KnownWasLoaded, SearchTells, HoldersFind, PreparedStandsNowhere, PublishTells};
 
-/// Where the structure is sound and no split is under way, the directory names the owner of each hash; so a way that ends at a
-/// segment ends at the owner, and finds nothing amiss; nor a stale segment, where all have the site's version. Each event is of a kind that any view may take, which leaves a view as it
-/// was but for what it noted, and fewer events are left after it.
-pub fn ways_lead()
-    ensures owners { NamesOwners }
+/// Where the structure is sound, a header that leads to a hash is that of the hash's owner. So who has pinned such a header knows
+/// the owner, and so does who has noted one, whenever it is as it was.
+pub fn headers_lead()
+    ensures owners { HeadersLead }
+    ensures pinned { PinnedLead }
+    ensures noted { NotedLead }
+{}
+
+/// A way goes by what it loaded: behind the root it relies on the entries of that depth, behind an entry on the segment that it
+/// names, and at its end on that segment as a live and current one, whose header is noted; nothing is found amiss. Each event is of
+/// a kind that who relies on that may take, and leaves all else of the view as it was. No segment is stale where all have the
+/// image's version; and fewer events are left after each.
+pub fn ways_go()
     ensures fits { WalkFits }
     ensures stands { WalkStands }
+    ensures notes { WalkNotes }
     ensures current { WalkNeverStale }
     ensures falls { WalkFalls }
     ensures within { WalkAsksWithin }
 {}
 
-/// A way is straight where the structure is sound, and no segment is splitting or there is one alone.
-pub fn ways_are_straight()
-    ensures unsplit { UnsplitIsStraight }
-    ensures one { OneIsStraight }
-{}
-
-/// The way again: each event is of a kind that any view may take, and leaves the view; and fewer are left after it.
-pub fn ways_lead_again()
+/// The way again: its last event looks at the header, as the machine asks for it, and those before it are of kinds that any view
+/// may take, and leave the view. It ends at a header that is as it was and leads to the hash, and at no other; and fewer events are
+/// left after each.
+pub fn ways_go_again()
     ensures fits { BackFits }
+    ensures leads { BackLeads }
+    ensures away { BackLeadsAway }
     ensures falls { BackFalls }
     ensures within { BackAsksWithin }
 {}
@@ -47,7 +55,8 @@ pub fn ends_have_causes()
     ensures back { BackHasCauses }
 {}
 
-/// A lock is taken by a look and an exchange, of which any view may take each; then the view has it beside those that it held.
+/// A lock is taken by a look and an exchange, which a view may take that knows its segment to be live and of the version of the
+/// image; then the view has it beside those that it held.
 /// Where it is not held the view is as it was, but for the lock words that it found spent. What is kept of it was loaded, and each
 /// end has its cause, where the attempt did not change the lock word itself.
 pub fn locks_are_taken()

@@ -6,24 +6,28 @@
 #![tactic(auto)]
 
 pub mod back;
+pub mod ending;
 pub mod held;
 pub mod kept;
 mod laws;
 pub mod load;
 pub mod make;
+pub mod note;
 pub mod place;
 pub mod take;
 pub mod walk;
 
 pub use back::{Back, Backed, back_next, back_want};
+pub use ending::Ending;
 pub use held::{Held, give_next, give_want, given};
 pub use kept::{Buckets, Kept};
 pub use laws::{
-    bucket_loads, ends_have_causes, holders_find, holders_know, locks_are_given_back,
-    locks_are_taken, records_are_made, ways_are_straight, ways_lead, ways_lead_again,
+    bucket_loads, ends_have_causes, headers_lead, holders_find, holders_know, locks_are_given_back,
+    locks_are_taken, records_are_made, ways_go, ways_go_again,
 };
 pub use load::{Load, Loaded, load_put, load_want};
-pub use make::{Made, Make, Record, make_next, make_want};
+pub use make::{Made, Make, Record, brought, make_next, make_want};
+pub use note::NoteWord;
 pub use place::{Place, bucket_of, lock_word};
 pub use take::{Take, Taken, take_next, take_want};
 pub use walk::{Path, Walk, Walked, walk_next, walk_want};

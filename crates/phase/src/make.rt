@@ -3,9 +3,10 @@
 
 ghost use Rattle.std.specs.Prelude.{◌≡◌, ◌≤◌, ◌+◌, ◌*◌};
 ghost use Rattle.image_layout.specs.Places.{most_words};
-ghost use Rattle.phase.specs.Makes.{make_wanted, make_taken};
+ghost use Rattle.phase.specs.Makes.{brought, make_wanted, make_taken};
 
 use bucket_meta::words::finger_place;
+use map_model::Deed;
 use op_core::Want;
 use trace::line_of;
 
@@ -56,6 +57,16 @@ pub enum Made {
     On(Make),
     /// All are settled.
     Settled,
+}
+
+/// The value that a change brings, and 0 where it brings none.
+pub fn brought(deed: Deed) -> u64
+    ensures { result ≡ brought deed }
+{
+    match deed {
+        Deed::Insert(value) | Deed::Update(value) => value,
+        Deed::Remove => 0,
+    }
 }
 
 /// The key word of a record slot, in the bucket of this lock word; the value word stands behind it.

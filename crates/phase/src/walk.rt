@@ -6,7 +6,7 @@ ghost use Rattle.phase.specs.Walks.{walk_wanted, walk_taken, head_taken};
 use image_layout::ROOT_WORD;
 use op_core::Want;
 use segment_head::word::{is_live, version_of};
-use way::{entry_word, head_word, is_covering};
+use way::{entry_word, head_word};
 use world::Site;
 
 /// How the segment of a key was found: three values, as they were seen first.
@@ -46,7 +46,7 @@ pub enum Walk {
 pub enum Walked {
     /// It goes on.
     On(Walk),
-    /// The segment is found.
+    /// A segment is found that is live and current; whether its header leads to the hash is asked at the second look.
     There(Path),
     /// The power is off.
     Off,
@@ -67,23 +67,23 @@ pub enum Walked {
 }
 
 /// What a header makes of the way.
-fn after_head(site: &Site, hash: u64, root: u64, segment: u64, head: u64) -> Walked
-    ensures { result ≡ head_taken site.now hash root segment head }
+fn after_head(site: &Site, root: u64, segment: u64, head: u64) -> Walked
+    ensures { result ≡ head_taken site.now root segment head }
 {
     let version = version_of(head);
-    if is_live(head) && version != site.version {
-        Walked::Stale { segment, version }
-    } else if is_live(head) && is_covering(head, hash) {
+    if !is_live(head) {
+        Walked::Amiss {
+            word: head_word(&site.geometry, segment),
+            seen: head,
+        }
+    } else if version == site.version {
         Walked::There(Path {
             root,
             segment,
             head,
         })
     } else {
-        Walked::Amiss {
-            word: head_word(&site.geometry, segment),
-            seen: head,
-        }
+        Walked::Stale { segment, version }
     }
 }
 
@@ -119,6 +119,6 @@ pub fn walk_next(site: &Site, hash: u64, walk: &Walk, seen: u64) -> Walked
             word: entry_word(&site.geometry, hash, *root),
             seen,
         },
-        Walk::Head { root, segment } => after_head(site, hash, *root, *segment, seen),
+        Walk::Head { root, segment } => after_head(site, *root, *segment, seen),
     }
 }

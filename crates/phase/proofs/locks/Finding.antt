@@ -32,6 +32,7 @@ use Rattle.phase.specs.Buckets.{words_in}
 use Rattle.phase.specs.Giving.{IsLocated, IsHeld, IsQuiet, IsOfHeld}
 use Rattle.phase.specs.Knows.{Knows, HasNoneLoose, with_loaded}
 use Rattle.phase.specs.Finding.{words_of, HasLoadedHeld, HoldsBuckets, SparesStash, StandsNowhere, IsLeft, WordsStand, LoadsAreKnown, KnownWasLoaded, SearchTells, HoldersFind, PreparedStandsNowhere, PublishTells}
+use Rattle.phase.proofs.Leading.{pinned_lead}
 use Rattle.phase.proofs.locks.Giving.{nothing_left, bucket_near, lock_at, is_lock, locks_apart, held_has, has_not}
 use Rattle.phase.proofs.locks.Knowing.{loaded_there, loaded_at, under_at, known_bucket}
 use Rattle.phase.proofs.locks.Storing.{hits_back, unnoted_made}
@@ -157,7 +158,7 @@ module _ (site : Site) (here : Here) (hash segment : ℕ) (held : Held) (word : 
   left place none has = has_not site here hash segment held place v h.located h.locks none (subst (λ (z : ℕ). HasLock v.held z) (sym (at_is place)) has)
 
   led : IsLed site v segment k
-  led words n = ap (owner_of site.shape words) (sym h.hashed) ∙ h.leads.owner words n.structure
+  led words n = ap (owner_of site.shape words) (sym h.hashed) ∙ pinned_lead site hash segment v h.leads words n
 
   module _ (none : HasNoneLoose v) where
     pub bucket_known : (place : Place) → IsHeld held place → KnowsBucket site.shape v segment (bucket_of hash place) word

@@ -9,7 +9,7 @@ use Rattle.world.specs.declared.site.Site.{Site as Here}
 use Rattle.world.specs.Site.{Site, IsLockWord, IsUnder}
 use Rattle.world.specs.Views.{Move, Owed, View, Has, HasLock, IsGuarded, IsLoose}
 use Rattle.world.specs.Kinds.{without, not_under, learns, with_store, wanted, view_after}
-use Rattle.world.specs.Conditions.{May}
+use Rattle.world.specs.Conditions.{May, IsKnownLock}
 use Rattle.world.specs.Attempts.{HoldsOnly}
 use Rattle.world.proofs.Seats.{without_has, without_stays, not_under_has}
 use Rattle.phase.specs.declared.place.Place.{Place}
@@ -19,6 +19,7 @@ use Rattle.phase.specs.Places.{bucket_of, lock_word}
 use Rattle.phase.specs.Asked.{index}
 use Rattle.phase.specs.Helds.{none_held, with_held, without_held, free_of, first_held, give_next, give_wanted_of, given_of}
 use Rattle.phase.specs.Taking.{MayBeTaken}
+use Rattle.phase.specs.Stands.{IsThere}
 use Rattle.phase.specs.Giving.{IsLocated, IsHeld, IsQuiet, HoldsLocks, give_kind_of, lock_left, give_left, PlacesStand, HeldStands, GiveStands, GiveFalls}
 use Rattle.phase.proofs.Asked.{one_place, cases_place}
 
@@ -87,8 +88,13 @@ module _ (site : Site) (here : Here) (hash segment : ℕ) (l : IsLocated site he
   pub locks_apart : (place other : Place) → place ≢ other → lock_word here hash segment place ≢ lock_word here hash segment other
   locks_apart place other n e = n (one_lock_word here hash segment within_here place other e)
 
+pub known_lock : (site : Site) (here : Here) (hash segment : ℕ) (place : Place) (v : View) → here.geometry ≡ site.shape → IsThere site segment v.facts
+    → IsKnownLock site v (lock_word here hash segment place)
+known_lock site here hash segment place v same there =
+    (segment, bucket_of hash place, there.within, bucket_near hash place, lock_at site here hash segment (record { shape = same; within = there.within }) place, there.lives, there.current)
+
 pub places_stand : PlacesStand
-places_stand = record { at = lock_at'; are_locks = is_lock'; apart = apart' }
+places_stand = record { at = lock_at'; are_locks = is_lock'; are_known = known_lock; apart = apart' }
   where
     lock_at' : (site : Site) (here : Here) (hash segment : ℕ) (place : Place) → IsLocated site here segment → lock_word here hash segment place ≡ bucket_at site.shape segment (bucket_of hash place)
     lock_at' site here hash segment place l = lock_at site here hash segment l place

@@ -11,10 +11,10 @@ use Rattle.image_layout.specs.Places.{Shape, root_word, bucket_at}
 use Rattle.sound_image.specs.Records.{key_hash}
 use Rattle.map_model.specs.declared.call.Call.{Call}
 use Rattle.map_model.specs.Map.{key_of}
-use Rattle.world.specs.Site.{Site, IsLockWord}
+use Rattle.world.specs.Site.{Site}
 use Rattle.world.specs.Views.{View, Has}
 use Rattle.world.specs.Kinds.{wanted, with_spent, with_lock}
-use Rattle.world.specs.Conditions.{May}
+use Rattle.world.specs.Conditions.{May, IsKnownLock}
 use Rattle.part.specs.Doings.{Doings}
 use Rattle.part.specs.Causes.{IsLockThere, IsOwnLock}
 use Rattle.phase.specs.declared.take.Take.{Take}
@@ -28,9 +28,9 @@ wants : (shape : Shape) (lock : ℕ) (take : Take) → IsTaking take → take_wa
 wants shape lock Look is = refl
 wants shape lock (Try free) is = let low = is.1 in ap (λ z. Exchange lock free z) (omega (arith, low))
 
-may : (site : Site) (lock : ℕ) (take : Take) (v : View) → IsLockWord site.shape lock → IsTaking take → May site (take_kind lock take) v
-may site lock Look v word is = word
-may site lock (Try free) v word is = (word, is.0, (λ last. let low = is.1 in omega (arith, last, low)))
+may : (site : Site) (lock : ℕ) (take : Take) (v : View) → IsKnownLock site v lock → IsTaking take → May site (take_kind lock take) v
+may site lock Look v known is = (known.0, known.1, known.2, known.3, known.4)
+may site lock (Try free) v known is = (known, is.0, (λ last. let low = is.1 in omega (arith, last, low)))
 
 pub take_fits : TakeFits
 take_fits = record { wants = wants; may = may }
@@ -115,13 +115,13 @@ module _ (shape : Shape) (words : Words) (did : Doings) (call : Call) (lock : �
       lost_caused true o = (looked, record { own = own; newest = refl; odd = eqb-true (words lock % 2) 1 o; by_others = not_own })
       lost_caused false o = (
         looked,
-        record {
+        inl (record {
           watched = inr (there, is.0, (let even = eqb-false (words lock % 2) 1 o in omega (arith, even)));
           loaded = r;
           newest = refl;
           differ = λ same. eqb-false (words lock) free other (sym same);
           by_others = not_own;
-        },
+        }),
       )
 
     try_caused : (won : Bool) → (words lock == free) ≡ won → HasTakeCause shape words did call lock (Try free) (take_taken (Try free) (if won then Won else Lost (words lock)))
