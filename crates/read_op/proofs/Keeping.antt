@@ -1,27 +1,28 @@
 -- Each step of a get keeps its view suited, enters the answer where there is one, and leaves what is held and owed.
-use Rattle.std.proofs.Common.{◌≡◌, ◌≢◌, ℕ, ◌%◌, Bool, true, false, Option, None, Some, List, [], inl, refl, sym, ◌∙◌, ap, subst}
+use Rattle.std.proofs.Common.{◌≡◌, ◌≢◌, ℕ, ◌%◌, ◌<◌, Bool, true, false, Option, None, Some, List, [], inl, inr, refl, sym, ◌∙◌, ap, subst}
 use Rattle.std.specs.Prelude.{◌==◌, ⊤, if◌then◌else◌}
 use Rattle.trace.specs.Events.{Words}
 use Rattle.image_layout.specs.Places.{Shape}
+use Rattle.image_layout.specs.Volatile.{counter_word}
 use Rattle.op_core.specs.declared.want.Want.TheVariants.{Done}
-use Rattle.bucket_words.specs.Owners.{HasStructure}
+use Rattle.way.specs.Ways.{head_word}
 use Rattle.world.specs.Site.{Site}
-use Rattle.world.specs.Views.{Answer, View, At}
+use Rattle.world.specs.Views.{Note, Answer, View, Has, At}
 use Rattle.world.specs.Wants.{word_of}
-use Rattle.world.specs.Kinds.{view_after, with_look, with_answer, marked, all_again}
+use Rattle.world.specs.Kinds.{peeks, places, validates, view_after, with_look, with_answer, marked, all_again}
 use Rattle.world.specs.Invariant.{Holds}
 use Rattle.world.specs.Laws.{found_by}
 use Rattle.world.specs.Attempts.{HasNoMore}
 use Rattle.phase.specs.declared.walk.Walk.{Walk}
 use Rattle.phase.specs.declared.walk.Walked.{Walked}
 use Rattle.phase.specs.declared.walk.Walked.TheVariants as walked
-use Rattle.phase.specs.declared.back.Backed.{Backed}
-use Rattle.phase.specs.declared.back.Backed.TheVariants as backed
+use Rattle.phase.specs.declared.back.Back.TheVariants as back
 use Rattle.phase.specs.Walks.{walk_taken}
-use Rattle.phase.specs.Backs.{back_taken}
 use Rattle.phase.specs.Loads.{load_taken}
-use Rattle.phase.specs.Stands.{IsStraight, HasWalked}
-use Rattle.phase.proofs.Walking.{walk_stands, walk_bares, walk_keeps}
+use Rattle.phase.specs.Stands.{walk_kind, HasWalked}
+use Rattle.phase.proofs.Walking.{walk_stands, walk_noted, walk_keeps}
+use Rattle.world.proofs.Structures.{lock_no_head}
+use Rattle.world.proofs.holding.Beside.{newest_is}
 use Rattle.phase.specs.declared.place.Place.{Place}
 use Rattle.read_op.specs.declared.step.Seen.{Seen}
 use Rattle.read_op.specs.declared.step.ReadEnd.TheVariants as ends
@@ -29,13 +30,12 @@ use Rattle.read_op.specs.declared.step.ReadStep.{ReadStep}
 use Rattle.read_op.specs.declared.step.ReadStep.TheVariants.{Way, Look, Fill, Count, Check, Relook, Ended}
 use Rattle.read_op.specs.declared.step.Task.{Task}
 use Rattle.read_op.specs.Places.{free_at}
-use Rattle.read_op.specs.Steps.{wanted_in, next_in, walked_to, with_free, looked, busy, filled, backed_to, lock_of}
-use Rattle.read_op.specs.Fits.{IsIn, kind_in, kind_of, suits_in, OwesTheSame, EntersAnswer, KeepsSuits}
-use Rattle.read_op.proofs.Places.{locks_apart}
+use Rattle.read_op.specs.Steps.{wanted_in, next_in, walked_to, with_free, looked, busy, filled, lock_of}
+use Rattle.read_op.specs.Fits.{IsIn, at_bucket, leads, kind_in, kind_of, suits_in, OwesTheSame, EntersAnswer, KeepsSuits}
 use Rattle.read_op.proofs.Opening.{IsOpen, looked_open, filled_open}
-use Rattle.read_op.proofs.Fitting.{wants_in}
-use Rattle.read_op.proofs.Stepping.{walked_suits, look_suits, fill_suits, count_suits, check_suits}
-use Rattle.read_op.proofs.Ending.{Kept, relook_kept, segment_in}
+use Rattle.read_op.proofs.Fitting.{lock_word_is, wants_in}
+use Rattle.read_op.proofs.Stepping.{walked_suits, look_suits, fill_suits, count_suits}
+use Rattle.read_op.proofs.Ending.{Kept, relook_kept, check_kept}
 
 -- ---- no event of a get changes what is held, known or owed
 module _ (v : View) where
@@ -51,16 +51,25 @@ module _ (v : View) where
   look_owes true lock n = record { held = refl; known = refl; dirty = refl; flushed = refl; planned = refl; moving = refl; owed = refl }
   look_owes false lock n = record { held = refl; known = refl; dirty = refl; flushed = refl; planned = refl; moving = refl; owed = refl }
 
+  validated_owes : (shape : Shape) (word n : ℕ) → OwesTheSame v (view_after shape (validates word) n v)
+  validated_owes shape word n =
+      let w : View = record v { notes = marked word n v.notes } in
+      answer_owes (all_again w.notes) w.answer w (record { held = refl; known = refl; dirty = refl; flushed = refl; planned = refl; moving = refl; owed = refl })
+
   owes_in : (task : Task) (shape : Shape) (s : ReadStep) (n : ℕ) → OwesTheSame v (view_after shape (kind_in task s) n v)
-  owes_in task shape (Way w) n = walk_keeps task.site task.hash shape (OwesTheSame v) w n v
-      (λ o. record { held = o.held; known = o.known; dirty = o.dirty; flushed = o.flushed; planned = o.planned; moving = o.moving; owed = o.owed }) owes_nothing_more
+  owes_in task shape (Way w) n = walk_keeps shape task.site task.hash (OwesTheSame v) w n v
+      (λ facts notes answer. record { held = refl; known = refl; dirty = refl; flushed = refl; planned = refl; moving = refl; owed = refl })
   owes_in task shape (Look s p) n = look_owes (n % 2 == 0) (lock_of task s p) n
   owes_in task shape (Fill s p load) n = record { held = refl; known = refl; dirty = refl; flushed = refl; planned = refl; moving = refl; owed = refl }
-  owes_in task shape (Count s) n = record { held = refl; known = refl; dirty = refl; flushed = refl; planned = refl; moving = refl; owed = refl }
-  owes_in task shape (Check s placed at) n = owes_nothing_more
-  owes_in task shape (Relook s placed p) n =
-      let w : View = record v { notes = marked (lock_of task s p) n v.notes } in
-      answer_owes (all_again w.notes) w.answer w (record { held = refl; known = refl; dirty = refl; flushed = refl; planned = refl; moving = refl; owed = refl })
+  owes_in task shape (Count s) n = count_owes (leads task s)
+    where
+      count_owes : (b : Bool) → OwesTheSame v (view_after shape (if b then places task.key s.value else peeks (counter_word task.site.geometry)) n v)
+      count_owes true = record { held = refl; known = refl; dirty = refl; flushed = refl; planned = refl; moving = refl; owed = refl }
+      count_owes false = owes_nothing_more
+  owes_in task shape (Check s placed back.Root) n = owes_nothing_more
+  owes_in task shape (Check s placed back.Entry) n = owes_nothing_more
+  owes_in task shape (Check s placed back.Head) n = validated_owes shape (head_word task.site.geometry s.path.segment) n
+  owes_in task shape (Relook s placed p) n = validated_owes shape (lock_of task s p) n
   owes_in task shape (Ended end) n = owes_nothing_more
 
 -- ---- a step that is no answer
@@ -85,28 +94,25 @@ walked_quiet walked.Off = tt
 walked_quiet (walked.Amiss word seen) = tt
 walked_quiet (walked.Stale segment version) = tt
 
-backed_quiet : (s : Seen) (placed : ℕ) (x : Backed) → IsQuiet (backed_to s placed x)
-backed_quiet s placed (backed.On at) = tt
-backed_quiet s placed backed.Same = tt
-backed_quiet s placed (backed.Moved word before after) = tt
-
 -- ---- one step
-module _ (site : Site) (task : Task) (is : IsIn site task) (straight : IsStraight site) (words : Words) (views : List View) (j : ℕ) (v : View) (h : Holds site words views) (at : At views j v) where
-  pub structure : HasStructure site.shape site.front words
-  structure = h.media.structure words (λ i within. inl refl)
+module _ (site : Site) (task : Task) (is : IsIn site task) (words : Words) (views : List View) (j : ℕ) (v : View) (h : Holds site words views) (at : At views j v) where
+  -- what the way makes of a word is what is relied on there
+  pub has_walked : (w : Walk) (n : ℕ) → n ≡ words (word_of site.shape (wanted_in task (Way w))) → suits_in site task (Way w) v
+      → HasWalked site (walk_taken task.site task.hash w n) (view_after site.shape (walk_kind task.site task.hash w) n v).facts
+  has_walked w n found suits = walk_stands site task.site task.hash words v h.site_is.shape is.shape is.fits (newest_is site words views j v h at) w suits.0 n found
 
-  -- what the way makes of a word is what is known there
-  pub has_walked : (w : Walk) (n : ℕ) → n ≡ words (word_of site.shape (wanted_in task (Way w))) → suits_in site task (Way w) v → HasWalked site task.hash (walk_taken task.site task.hash w n)
-  has_walked w n found suits = walk_stands site h.site_is straight task.hash is.fits task.site is.shape words structure w suits.0 n found
+  -- a note of a lock word has a free value
+  note_even : (s : Seen) (p : Place) (note : Note) → s.path.segment < site.shape.segments → note.word ≡ lock_of task s p → Has note v.notes → note.value % 2 ≡ 0
+  note_even s p note within word has = elim (h.notes.noted j v note at has).past [
+    | inl lock ↦ lock.free
+    | inr header ↦ absurd (lock_no_head site.shape (lock_of task s p) header.slot (lock_word_is site task is s p within) (sym word ∙ header.head))
+  ]
 
   -- the free value of a lock word that is looked at again is even
   pub free_even : (s : Seen) (placed : ℕ) (p : Place) → suits_in site task (Relook s placed p) v → free_at s.free p % 2 ≡ 0
   free_even s placed p suits =
-      let t = suits.0.to p suits.2 in
-      let f = suits.0.from t.0 t.1 in
-      let place = locks_apart task s f.0 p (segment_in site task is s v.notes _ suits.0) (sym f.2 ∙ t.2) in
-      let even = (h.notes.noted j v t.0 at t.1).free in
-      subst (λ m. m % 2 ≡ 0) (f.3 ∙ ap (free_at s.free) place) even
+      let t = suits.0.checked.to (at_bucket p) suits.1 in
+      subst (λ m. m % 2 ≡ 0) t.3 (note_even s p t.0 suits.0.there.within t.2 t.1)
 
   silent : (u : View) → u.own ≡ v.own → u.seen ≡ v.seen → HasNoMore v u
   silent u own seen = record { own = own; seen = seen }
@@ -123,19 +129,23 @@ module _ (site : Site) (task : Task) (is : IsIn site task) (straight : IsStraigh
       → Kept site task is v (next_in task s n) (view_after site.shape (kind_in task s) n v)
   step_in (Way w) n found suits asks =
       let x : Walked = walk_taken task.site task.hash w n in
-      quietly _ _ (walked_suits site task is _ x (has_walked w n found suits) (walk_bares task.site task.hash site.shape w n v suits.1)) (walked_quiet x)
-      (walk_keeps task.site task.hash site.shape (HasNoMore v) w n v (λ k. record { own = k.own; seen = k.seen }) (silent v refl refl))
+      quietly _ _ (walked_suits site task is _ x (has_walked w n found suits) (walk_noted site task.site task.hash v is.shape w suits.0 suits.1 n)) (walked_quiet x)
+      (walk_keeps site.shape task.site task.hash (HasNoMore v) w n v (λ facts notes answer. record { own = refl; seen = refl }))
   step_in (Look s p) n found suits asks = look_by s p n suits (n % 2 == 0)
   step_in (Fill s p load) n found suits asks = quietly _ _ (fill_suits site task is v s p load n suits) (open_quiet (filled task.key task.hash s p (load_taken load n)) (filled_open task.key task.hash s p (load_taken load n))) (silent _ refl refl)
-  step_in (Count s) n found suits asks = quietly (next_in task (Count s) n) (view_after site.shape (kind_in task (Count s)) n v) (count_suits site task is v s n suits) tt (silent _ refl refl)
-  step_in (Check s placed back) n found suits asks =
-      let x : Backed = back_taken task.site task.hash s.path back n in quietly _ _ (check_suits site task is v s placed x suits) (backed_quiet s placed x) (silent v refl refl)
+  step_in (Count s) n found suits asks =
+      quietly (next_in task (Count s) n) (view_after site.shape (kind_in task (Count s)) n v) (count_suits site task is v s n suits (leads task s) refl) tt (count_silent (leads task s))
+    where
+      count_silent : (b : Bool) → HasNoMore v (view_after site.shape (if b then places task.key s.value else peeks (counter_word task.site.geometry)) n v)
+      count_silent true = record { own = refl; seen = refl }
+      count_silent false = record { own = refl; seen = refl }
+  step_in (Check s placed back) n found suits asks = check_kept site task is v s placed n back suits
   step_in (Relook s placed p) n found suits asks = relook_kept site task is v s placed p n suits (free_even s placed p suits)
   step_in (Ended end) n found suits asks = absurd (asks refl)
 
 pub keeps_suits : KeepsSuits
-keeps_suits site op words views j v h at straight is suits asks =
+keeps_suits site op words views j v h at is suits asks =
     let n : ℕ = found_by site (kind_of op) words in
     let found : n ≡ words (word_of site.shape (wanted_in op.task op.step)) = ap (λ w. words (word_of site.shape w)) (sym (wants_in op.task site is op.step asks)) in
-    let kept = step_in site op.task is straight words views j v h at op.step n found suits asks in
+    let kept = step_in site op.task is words views j v h at op.step n found suits asks in
     record { is_in = is; suits = kept.0; owes = owes_in v op.task site.shape op.step n; answers = kept.1 }

@@ -1,16 +1,19 @@
 -- By what an answer comes; and in a world, whose lock is found taken, and that no current segment is stale.
-use Rattle.std.proofs.Common.{◌≡◌, ◌≢◌, ℕ, ◌%◌, Bool, true, false, Option, None, Some, List, [], inl, refl, sym, ◌∙◌, ap, subst, arith}
+use Rattle.std.proofs.Common.{◌≡◌, ◌≢◌, ℕ, ◌%◌, Bool, true, false, Option, None, Some, List, [], refl, sym, ◌∙◌, ap, subst, arith}
 use Rattle.std.specs.Prelude.{◌==◌, ⊤, if◌then◌else◌}
 use Rattle.std.proofs.lemmas.Bool.{eqb-true, eqb-false}
 use Rattle.op_core.specs.declared.want.Want.TheVariants.{Load as LoadWord, Done}
 use Rattle.op_core.specs.declared.why.Why.TheVariants.{Busy}
 use Rattle.trace.specs.Events.{Words}
-use Rattle.world.specs.Site.{Site, IsLockWord}
+use Rattle.world.specs.Site.{Site, IsCurrentLock}
 use Rattle.world.specs.Views.{View, At, HasLock}
 use Rattle.world.specs.Wants.{word_of}
+use Rattle.world.specs.Conditions.{IsKnownLock}
 use Rattle.world.specs.Invariant.{Holds}
 use Rattle.world.specs.Laws.{found_by}
 use Rattle.world.proofs.Lists.{same_at}
+use Rattle.world.proofs.Structures.{lock_of_current}
+use Rattle.world.proofs.holding.Beside.{known_current}
 use Rattle.phase.specs.declared.walk.Walk.{Walk}
 use Rattle.phase.specs.declared.walk.Walked.{Walked}
 use Rattle.phase.specs.declared.walk.Walked.TheVariants as walked
@@ -20,6 +23,7 @@ use Rattle.phase.specs.Walks.{walk_taken}
 use Rattle.phase.specs.Backs.{back_taken}
 use Rattle.phase.specs.Loads.{load_taken}
 use Rattle.phase.proofs.Walking.{walk_never_stale}
+use Rattle.phase.proofs.locks.Giving.{known_lock}
 use Rattle.phase.specs.declared.place.Place.{Place}
 use Rattle.phase.specs.declared.place.Place.TheVariants.{Home, Probing, First, Second}
 use Rattle.read_op.specs.declared.step.Seen.{Seen}
@@ -33,7 +37,7 @@ use Rattle.read_op.specs.Steps.{wanted, wanted_in, next_in, walked_to, with_free
 use Rattle.read_op.specs.Fits.{IsIn, kind_of, suits_in, Suits}
 use Rattle.read_op.specs.Causes.{FindsSame, AnswersBySame, IsAnothers, BusyIsAnothers, NeverBusy, NeverStale}
 use Rattle.read_op.proofs.Opening.{IsOpen, looked_open, filled_open}
-use Rattle.read_op.proofs.Fitting.{wants_in, lock_word_is}
+use Rattle.read_op.proofs.Fitting.{wants_in}
 
 -- ---- an answer
 module _ (step : ReadStep) (n : ℕ) where
@@ -110,9 +114,9 @@ answers_by_same op n value place asks so = same_of op.step n value place (subst 
 -- ---- a lock that is found taken
 module _ (site : Site) (task : Task) (is : IsIn site task) (v : View) where
   module _ (step : ReadStep) (n : ℕ) where
-    -- if that is the end, the event loaded a lock word of the image, which is odd
+    -- if that is the end, the event loaded a lock word of a segment that is known to be live and current, which is odd
     abbrev BusyIf : ReadStep → Type 0
-    BusyIf (Ended (ends.Again (Busy word value))) = (wanted_in task step ≡ LoadWord word) × IsLockWord site.shape word × (n ≡ value) × (value % 2 ≡ 1)
+    BusyIf (Ended (ends.Again (Busy word value))) = (wanted_in task step ≡ LoadWord word) × IsKnownLock site v word × (n ≡ value) × (value % 2 ≡ 1)
     BusyIf next = ⊤
 
     by_busy : (b : Bool) (s t : ReadStep) → (b ≡ true → BusyIf s) → (b ≡ false → BusyIf t) → BusyIf (if b then s else t)
@@ -160,14 +164,14 @@ module _ (site : Site) (task : Task) (is : IsIn site task) (v : View) where
   busy_in (Look s p) n asks suits =
       by_busy (Look s p) n (n % 2 == 0) (looked (with_free s p n) p) (busy (lock_of task s p) n)
       (λ t. open_busy (Look s p) n (looked (with_free s p n) p) (looked_open (with_free s p n) p))
-      (λ f. (refl, lock_word_is site task is s p suits.0.led.within, refl, odd_of n f))
+      (λ f. (refl, known_lock site task.site task.hash s.path.segment p v is.shape suits.0.there, refl, odd_of n f))
   busy_in (Fill s p load) n asks suits =
       open_busy (Fill s p load) n (filled task.key task.hash s p (load_taken load n)) (filled_open task.key task.hash s p (load_taken load n))
   busy_in (Count s) n asks suits = tt
   busy_in (Check s placed at) n asks suits = backed_busy (Check s placed at) n s placed (back_taken task.site task.hash s.path at n)
   busy_in (Relook s placed p) n asks suits =
       by_busy (Relook s placed p) n (n % 2 == 1) (busy (lock_of task s p) n) (if n == free_at s.free p then relook_next s placed p else moved (lock_of task s p) (free_at s.free p) n)
-      (λ t. (refl, lock_word_is site task is s p suits.0.led.within, refl, eqb-true (n % 2) 1 t))
+      (λ t. (refl, known_lock site task.site task.hash s.path.segment p v is.shape suits.0.there, refl, eqb-true (n % 2) 1 t))
       (λ f. by_busy (Relook s placed p) n (n == free_at s.free p) (relook_next s placed p) (moved (lock_of task s p) (free_at s.free p) n) (λ t. next_busy (Relook s placed p) n s placed p) (λ g. tt))
   busy_in (Ended end) n asks suits = absurd (asks refl)
 
@@ -180,13 +184,13 @@ module _ (site : Site) (op : ReadOp) (words : Words) (views : List View) (j : �
   found_is : found ≡ words (word_of site.shape (wanted op))
   found_is = ap (λ w. words (word_of site.shape w)) (sym (wants_in op.task site is op.step asks))
 
-  busy_found : (word value : ℕ) → next_in op.task op.step found ≡ Ended (ends.Again (Busy word value)) → IsLockWord site.shape word × (words word ≡ value) × (value % 2 ≡ 1)
+  busy_found : (word value : ℕ) → next_in op.task op.step found ≡ Ended (ends.Again (Busy word value)) → IsCurrentLock site words word × (words word ≡ value) × (value % 2 ≡ 1)
   busy_found word value so =
       let b = subst (BusyIf site op.task is v op.step found) so (busy_in site op.task is v op.step found asks suits) in
-      (b.1, sym (found_is ∙ ap (λ w. words (word_of site.shape w)) b.0) ∙ b.2, b.3)
+      (known_current site words views j v h at word b.1, sym (found_is ∙ ap (λ w. words (word_of site.shape w)) b.0) ∙ b.2, b.3)
 
   -- a lock word that is odd is another's, where this caller holds no lock
-  held_elsewhere : v.held ≡ [] → (lock : ℕ) → IsLockWord site.shape lock → words lock % 2 ≡ 1 → IsAnothers views j v lock
+  held_elsewhere : v.held ≡ [] → (lock : ℕ) → IsCurrentLock site words lock → words lock % 2 ≡ 1 → IsAnothers views j v lock
   held_elsewhere nothing lock is_lock odd =
       let not_own : HasLock v.held lock → ⊥ = λ has. let none : HasLock [] lock = subst (λ locks. HasLock locks lock) nothing has in elim none.1 [ ] in
       let holder = h.locks.odd lock is_lock odd in
@@ -204,7 +208,7 @@ module _ (site : Site) (op : ReadOp) (words : Words) (views : List View) (j : �
 pub busy_is_anothers : BusyIsAnothers
 busy_is_anothers site op words views j v h at is suits nothing asks word value so =
     let b = busy_found site op words views j v h at is suits asks word value so in
-    (b.0, b.1, b.2, held_elsewhere site op words views j v h at is suits asks nothing word b.0 (ap (λ x. x % 2) b.1 ∙ b.2))
+    (lock_of_current site words word b.0, b.1, b.2, held_elsewhere site op words views j v h at is suits asks nothing word b.0 (ap (λ x. x % 2) b.1 ∙ b.2))
 
 pub never_busy : NeverBusy
 never_busy site op words views j v h at is suits asks free word value so =
@@ -271,6 +275,6 @@ never_stale site op words views j v h at is suits asks current segment byte so =
     let n : ℕ = found_by site (kind_of op) words in
     let found : n ≡ words (word_of site.shape (wanted op)) = found_is site op words views j v h at is suits asks in
     let none : (w : Walk) → op.step ≡ Way w → (s b : ℕ) → walk_taken op.task.site op.task.hash w n ≡ walked.Stale s b → ⊥ = λ w at_way.
-    walk_never_stale site op.task.hash op.task.site is.shape words (h.media.structure words (λ i within. inl refl)) current w
+    walk_never_stale site op.task.site op.task.hash words v.facts is.shape current w
     (subst (λ s. suits_in site op.task s v) at_way suits).0 n (found ∙ ap (λ s. words (word_of site.shape (wanted_in op.task s))) at_way) in
     absurd (subst (NoStale op.task) so (fresh_in op.task op.step n asks none))

@@ -8,7 +8,7 @@ use Rattle.segment_head.specs.HeadWord.{is_live}
 use Rattle.trace.specs.Events.{Words}
 use Rattle.image_layout.specs.Places.{root_word}
 use Rattle.image_layout.specs.Volatile.{counter_word}
-use Rattle.way.specs.Ways.{entry_word, head_word, is_covering}
+use Rattle.way.specs.Ways.{entry_word, head_word}
 use Rattle.map_model.specs.declared.call.Call.TheVariants.{Get}
 use Rattle.world.specs.declared.site.Site.{Site as Here}
 use Rattle.world.specs.Wants.{word_of}
@@ -36,11 +36,11 @@ did_all op (seen ∷ rest) did = did_all (taken op (Value seen)) rest (with_even
 
 -- ---- causes
 -- a value that no table has at a first look at this word of the way: a root depth greater than the greatest, an entry that names no
--- slot, or a header that is not live or does not cover the hash
+-- slot, or a header that is not live
 abbrev pub IsAmiss : Task → ReadStep → ℕ → Type 0
 IsAmiss task (Way walk.Root) n = task.site.geometry.depth < n
 IsAmiss task (Way (walk.Entry root)) n = task.site.geometry.segments ≤ n
-IsAmiss task (Way (walk.Head root segment)) n = (is_live n ≡ false) ⊎ (is_covering n task.hash ≡ false)
+IsAmiss task (Way (walk.Head root segment)) n = is_live n ≡ false
 IsAmiss task step n = ⊥
 
 -- for an attempt that did this, whose event is done over these words

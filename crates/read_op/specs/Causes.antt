@@ -5,7 +5,7 @@ use Rattle.op_core.specs.declared.want.Ans.TheVariants.{Value}
 use Rattle.op_core.specs.declared.why.Why.TheVariants.{Busy}
 use Rattle.op_core.specs.Answers.{IsReading}
 use Rattle.trace.specs.Events.{Words}
-use Rattle.world.specs.Site.{Site, IsLockWord}
+use Rattle.world.specs.Site.{Site, IsLockWord, IsCurrentLock}
 use Rattle.world.specs.Views.{View, At, HasLock}
 use Rattle.world.specs.Invariant.{Holds}
 use Rattle.phase.specs.Stands.{IsCurrent}
@@ -60,14 +60,14 @@ BusyIsAnothers = (site : Site) (op : ReadOp) (words : Words) (views : List View)
     → IsIn site op.task → Suits site op v → v.held ≡ [] → wanted op ≢ Done
     → (word value : ℕ) → EndsSo site op words (ends.Again (Busy word value)) → IsLockWord site.shape word × (words word ≡ value) × (value % 2 ≡ 1) × IsAnothers views j v word
 
--- where no lock is taken, none is found taken
+-- where no lock of a current segment is taken, none is found taken
 abbrev pub NeverBusy : Type 0
 NeverBusy = (site : Site) (op : ReadOp) (words : Words) (views : List View) (j : ℕ) (v : View) → Holds site words views → At views j v
-    → IsIn site op.task → Suits site op v → wanted op ≢ Done → ((lock : ℕ) → IsLockWord site.shape lock → words lock % 2 ≡ 0)
+    → IsIn site op.task → Suits site op v → wanted op ≢ Done → ((lock : ℕ) → IsCurrentLock site words lock → words lock % 2 ≡ 0)
     → (word value : ℕ) → EndsSo site op words (ends.Again (Busy word value)) → ⊥
 
--- where each live segment has the site's version, no segment is stale
+-- where each live segment has the image's version, no segment is stale
 abbrev pub NeverStale : Type 0
 NeverStale = (site : Site) (op : ReadOp) (words : Words) (views : List View) (j : ℕ) (v : View) → Holds site words views → At views j v
-    → IsIn site op.task → Suits site op v → wanted op ≢ Done → IsCurrent site op.task.site.version
+    → IsIn site op.task → Suits site op v → wanted op ≢ Done → IsCurrent site.shape words op.task.site.version
     → (segment byte : ℕ) → EndsSo site op words (ends.Stale segment byte) → ⊥

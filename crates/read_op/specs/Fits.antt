@@ -1,6 +1,6 @@
 -- How a get fits the world: the kind of each of its events, the view that its caller has in each step, and what each
 -- event does to that view.
-use Rattle.std.specs.Prelude.{◌≡◌, ◌≢◌, ℕ, ◌+◌, ◌%◌, ◌^◌, ◌<◌, nat_lt, ⊤, Bool, true, false, Option, None, Some, List}
+use Rattle.std.specs.Prelude.{◌≡◌, ◌≢◌, ◌⊎◌, ℕ, suc, ◌+◌, ◌%◌, ◌^◌, ◌<◌, nat_lt, ⊤, Bool, true, false, Option, None, Some, List, if◌then◌else◌}
 use Rattle.op_core.specs.declared.want.Want.TheVariants.{Done}
 use Rattle.op_core.specs.declared.want.Ans.TheVariants.{Value}
 use Rattle.hash_word.specs.Hash.{home_of, finger_of}
@@ -10,10 +10,11 @@ use Rattle.image_layout.specs.Volatile.{counter_word}
 use Rattle.map_model.specs.declared.call.Call.TheVariants.{Get}
 use Rattle.map_model.specs.declared.entry.Reply.TheVariants as reply
 use Rattle.sound_image.specs.Records.{key_hash}
+use Rattle.way.specs.Ways.{head_word, is_leading}
 use Rattle.bucket_words.specs.Buckets.{find_below}
 use Rattle.bucket_words.specs.HomeNotes.{IsUnnoted}
 use Rattle.world.specs.declared.site.Site.{Site as Here}
-use Rattle.world.specs.Site.{Site, IsSite}
+use Rattle.world.specs.Site.{Site, IsSite, version_of}
 use Rattle.world.specs.Views.{Note, View, Has, At}
 use Rattle.world.specs.Kinds.{Kind, peeks, looks, notes_word, places, validates, wanted as wanted_by, view_after}
 use Rattle.world.specs.Conditions.{IsNow, May}
@@ -21,10 +22,12 @@ use Rattle.world.specs.Invariant.{Holds}
 use Rattle.world.specs.Laws.{found_by}
 use Rattle.world.specs.Attempts.{HasNoMore, HasOneMore}
 use Rattle.phase.specs.declared.load.Load.{Load}
-use Rattle.phase.specs.Stands.{walk_kind, back_kind, IsStraight, Leads, IsWalking, HasBegun, IsLoading}
+use Rattle.phase.specs.Stands.{walk_kind, back_kind, IsThere, IsWalking, HasBegun, IsLoading}
 use Rattle.phase.specs.declared.place.Place.{Place}
 use Rattle.phase.specs.declared.place.Place.TheVariants.{Home, Probing, First, Second, Next, Previous}
+use Rattle.phase.specs.Places.{lock_word}
 use Rattle.phase.specs.Asked.{index, asked_by, IsAskedBefore, looked_by, loaded_by}
+use Rattle.read_op.specs.declared.place.Free.{Free}
 use Rattle.read_op.specs.declared.step.Seen.{Seen}
 use Rattle.read_op.specs.declared.step.ReadEnd.TheVariants as ends
 use Rattle.read_op.specs.declared.step.ReadStep.{ReadStep}
@@ -43,15 +46,55 @@ is_asked s q = asked_by s.first s.second q
 abbrev pub Upto : Seen → ℕ → Place → Type 0
 Upto s k q = IsAskedBefore s.first s.second k q
 
+-- ---- the words that are noted and looked at again
+-- the header's, or the lock word of a bucket
+pub data Watched : Type 0 where
+  at_head : Watched
+  at_bucket : (place : Place) → Watched
+
+abbrev pub word_at : Here → (hash segment : ℕ) → Watched → ℕ
+word_at here hash segment at_head = head_word here.geometry segment
+word_at here hash segment (at_bucket q) = lock_word here hash segment q
+
+abbrev pub value_at : (head : ℕ) → Free → Watched → ℕ
+value_at head free at_head = head
+value_at head free (at_bucket q) = free_at free q
+
+abbrev pub watched_word : Task → Seen → Watched → ℕ
+watched_word task s w = word_at task.site task.hash s.path.segment w
+
+-- the value that it had
+abbrev pub watched_value : Seen → Watched → ℕ
+watched_value s w = value_at s.path.head s.free w
+
+-- the header is watched, and each bucket that is asked for
+abbrev pub is_watched : Seen → Watched → Bool
+is_watched s at_head = true
+is_watched s (at_bucket q) = is_asked s q
+
+-- and those before the k-th bucket
+abbrev pub IsNoted : Seen → ℕ → Watched → Type 0
+IsNoted s k at_head = ⊤
+IsNoted s k (at_bucket q) = Upto s k q
+
+-- their order in the second looks
+abbrev pub rank : Watched → ℕ
+rank at_head = 0
+rank (at_bucket q) = suc (index q)
+
+-- the header that led there leads to the hash
+abbrev pub leads : Task → Seen → Bool
+leads task s = is_leading s.path.head task.hash
+
 -- ---- kinds
 module _ (task : Task) where
-  -- THE KIND of the next event; where none is wanted it is a look at the counter
+  -- THE KIND of the next event; where none is wanted it is a look at the counter. An answer is placed where the header leads to the hash
   abbrev pub kind_in : ReadStep → Kind
   kind_in (Way walk) = walk_kind task.site task.hash walk
   kind_in (Look s p) = looks (lock_of task s p)
   kind_in (Fill s p load) = notes_word (lock_of task s p) (lock_of task s p + load.next % 32)
-  kind_in (Count s) = places task.key s.value
-  kind_in (Check s placed back) = back_kind task.site task.hash s.path back
+  kind_in (Count s) = if leads task s then places task.key s.value else peeks (counter_word task.site.geometry)
+  kind_in (Check s placed back) = back_kind task.site task.hash s.path (validates (head_word task.site.geometry s.path.segment)) back
   kind_in (Relook s placed p) = validates (lock_of task s p)
   kind_in (Ended end) = peeks (counter_word task.site.geometry)
 
@@ -59,17 +102,17 @@ module _ (task : Task) where
 abbrev pub kind_of : ReadOp → Kind
 kind_of op = kind_in op.task op.step
 
--- ---- what notes say. It is said of all words that may be the newest while the noted locks are free, so it stays when more is
+-- ---- what notes say. It is said of all words that may be the newest while the noted words are as they were, so it stays when more is
 -- noted
 module _ (site : Site) (notes : List Note) where
   -- the bucket of this lock word has this at the key
   abbrev pub Tells : ℕ → ℕ → Option ℕ → Type 0
   Tells key lock a = (m : Words) → IsNow site notes m → find_below m lock key record_slots ≡ a
 
-  -- the notes are those of the buckets before the k-th
+  -- the notes are that of the header and those of the buckets before the k-th
   pub record NotedAt (task : Task) (s : Seen) (k : ℕ) : Type 0 where
-    pub from : (n : Note) → Has n notes → (q : Place) × Upto s k q × (n.lock ≡ lock_of task s q) × (n.free ≡ free_at s.free q)
-    pub to : (q : Place) → Upto s k q → (n : Note) × Has n notes × (n.lock ≡ lock_of task s q)
+    pub from : (n : Note) → Has n notes → (w : Watched) × IsNoted s k w × (n.word ≡ watched_word task s w) × (n.value ≡ watched_value s w)
+    pub to : (w : Watched) → IsNoted s k w → (n : Note) × Has n notes × (n.word ≡ watched_word task s w) × (n.value ≡ watched_value s w)
 
   -- the value is what the buckets before the k-th have
   pub record Knows (task : Task) (s : Seen) (k : ℕ) : Type 0 where
@@ -91,14 +134,8 @@ module _ (site : Site) (notes : List Note) where
   pub record IsFilling (task : Task) (s : Seen) (p : Place) (load : Load) : Type 0 where
     pub note : Note
     pub has : Has note notes
-    pub lock : note.lock ≡ lock_of task s p
+    pub lock : note.word ≡ lock_of task s p
     pub loads : IsLoading (lock_of task s p) note.words load
-
-  -- the lock words of so many buckets are noted, and all words of so many
-  pub record IsReading (task : Task) (s : Seen) (noted read : ℕ) : Type 0 where
-    pub led : Leads site task.hash s.path.segment
-    pub noted_at : NotedAt task s noted
-    pub knows : Knows task s read
 
   -- what holds beside, of each bucket, when its lock word is looked at: a third one never is
   abbrev pub LooksAt : Task → Seen → Place → Type 0
@@ -118,40 +155,55 @@ module _ (site : Site) (notes : List Note) where
   FillsAt task s Next = ⊥
   FillsAt task s Previous = ⊥
 
-  -- all is noted, and of the lock words before the k-th it is noted that they were the same again
+  -- all is noted, and of the words before the k-th it is noted that they were the same again
   pub record IsChecked (task : Task) (s : Seen) (k : ℕ) : Type 0 where
-    pub led : Leads site task.hash s.path.segment
-    pub from : (n : Note) → Has n notes → (q : Place) × (is_asked s q ≡ true) × (n.lock ≡ lock_of task s q) × (n.free ≡ free_at s.free q) × (n.again ≡ nat_lt (index q) k)
-    pub to : (q : Place) → is_asked s q ≡ true → (n : Note) × Has n notes × (n.lock ≡ lock_of task s q)
+    pub from : (n : Note) → Has n notes → (w : Watched) × (is_watched s w ≡ true) × (n.word ≡ watched_word task s w) × (n.value ≡ watched_value s w) × (n.again ≡ nat_lt (rank w) k)
+    pub to : (w : Watched) → is_watched s w ≡ true → (n : Note) × Has n notes × (n.word ≡ watched_word task s w) × (n.value ≡ watched_value s w)
 
--- what is to be answered is noted
-abbrev pub IsAnswering : Task → Seen → ℕ → View → Type 0
-IsAnswering task s placed v = v.answer ≡ Some (record { key = task.key; value = s.value; place = placed })
+-- the segment that was found is live and current, the lock words of so many buckets are noted, and all words of so many
+pub record IsReading (site : Site) (task : Task) (s : Seen) (noted read : ℕ) (v : View) : Type 0 where
+  pub there : IsThere site s.path.segment v.facts
+  pub no_answer : v.answer ≡ None
+  pub noted_at : NotedAt site v.notes task s noted
+  pub knows : Knows site v.notes task s read
+
+-- what is to be answered is noted, and all that is to be the same again
+pub record IsAnswering (site : Site) (task : Task) (s : Seen) (placed k : ℕ) (v : View) : Type 0 where
+  pub there : IsThere site s.path.segment v.facts
+  pub leads : leads task s ≡ true
+  pub checked : IsChecked site v.notes task s k
+  pub answer : v.answer ≡ Some (record { key = task.key; value = s.value; place = placed })
+
+-- the header does not lead to the hash, and nothing is to be answered
+pub record IsAstray (task : Task) (s : Seen) (v : View) : Type 0 where
+  pub away : leads task s ≡ false
+  pub no_answer : v.answer ≡ None
 
 -- THE VIEW of each step
 abbrev pub suits_in : Site → Task → ReadStep → View → Type 0
-suits_in site task (Way walk) v = IsWalking site task.hash walk × HasBegun walk v
-suits_in site task (Look s p) v = IsReading site v.notes task s (index p) (loaded_by p) × LooksAt site v.notes task s p
-suits_in site task (Fill s p load) v = IsReading site v.notes task s (looked_by p) (index p) × FillsAt site v.notes task s p × IsFilling site v.notes task s p load
-suits_in site task (Count s) v = IsReading site v.notes task s 4 4 × Skips site v.notes task s
-suits_in site task (Check s placed back) v = IsChecked site v.notes task s 0 × IsAnswering task s placed v
-suits_in site task (Relook s placed p) v = IsChecked site v.notes task s (index p) × IsAnswering task s placed v × (is_asked s p ≡ true)
+suits_in site task (Way walk) v = IsWalking site walk v.facts × HasBegun walk v
+suits_in site task (Look s p) v = IsReading site task s (index p) (loaded_by p) v × LooksAt site v.notes task s p
+suits_in site task (Fill s p load) v = IsReading site task s (looked_by p) (index p) v × FillsAt site v.notes task s p × IsFilling site v.notes task s p load
+suits_in site task (Count s) v = IsReading site task s 4 4 v × Skips site v.notes task s
+suits_in site task (Check s placed back) v = IsAnswering site task s placed 0 v ⊎ IsAstray task s v
+suits_in site task (Relook s placed p) v = IsAnswering site task s placed (suc (index p)) v × (is_asked s p ≡ true)
 suits_in site task (Ended end) v = ⊤
 
 -- the view suits the get
 abbrev pub Suits : Site → ReadOp → View → Type 0
 Suits site op v = suits_in site op.task op.step v
 
--- the get runs in this image, and its hash is its key's
+-- the get runs in this image, with its version, and its hash is its key's
 pub record IsIn (site : Site) (task : Task) : Type 0 where
   pub shape : task.site.geometry ≡ site.shape
+  pub version : task.site.version ≡ version_of site
   pub hash : task.hash ≡ key_hash site.shape task.key
   pub fits : task.hash < 2 ^ 64
 
 -- ---- the laws
 -- a get that has done nothing yet, of a key whose hash has 64 bits, is in the image where it runs, and suits any view
 abbrev pub BeginsSuited : Type 0
-BeginsSuited = (site : Site) (here : Here) (key : ℕ) → here.geometry ≡ site.shape → (begun key here).task.hash < 2 ^ 64
+BeginsSuited = (site : Site) (here : Here) (key : ℕ) → here.geometry ≡ site.shape → here.version ≡ version_of site → (begun key here).task.hash < 2 ^ 64
     → IsIn site (begun key here).task × ((v : View) → Suits site (begun key here) v)
 
 module _ (site : Site) (op : ReadOp) where
@@ -201,4 +253,4 @@ module _ (site : Site) (op : ReadOp) (words : Words) where
 
 abbrev pub KeepsSuits : Type 0
 KeepsSuits = (site : Site) (op : ReadOp) (words : Words) (views : List View) (j : ℕ) (v : View) → Holds site words views → At views j v
-    → IsStraight site → IsIn site op.task → Suits site op v → wanted op ≢ Done → StepsWell site op words v
+    → IsIn site op.task → Suits site op v → wanted op ≢ Done → StepsWell site op words v

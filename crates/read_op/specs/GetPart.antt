@@ -1,20 +1,23 @@
 -- A get as a part of a call.
-use Rattle.std.specs.Prelude.{◌≡◌, ℕ, ◌%◌, ◌^◌, ◌<◌, ⊤, true, false, Option, None, Some, List, []}
+use Rattle.std.specs.Prelude.{◌≡◌, ℕ, ◌+◌, ◌%◌, ◌^◌, ◌<◌, ⊤, Bool, true, false, Option, None, Some, List, []}
 use Rattle.op_core.specs.declared.want.Want.TheVariants.{Done}
 use Rattle.image_layout.specs.Volatile.{counter_word}
 use Rattle.map_model.specs.declared.call.Call.{Call}
 use Rattle.map_model.specs.declared.call.Call.TheVariants.{Get}
 use Rattle.map_model.specs.declared.entry.Reply.TheVariants as reply
 use Rattle.world.specs.declared.site.Site.{Site as Here}
-use Rattle.world.specs.Site.{Site, IsSite}
+use Rattle.world.specs.Site.{Site, version_of}
 use Rattle.world.specs.Views.{View, Has}
 use Rattle.world.specs.Attempts.{HoldsOnly}
 use Rattle.part.specs.Doings.{Doings, nothing_done}
 use Rattle.part.specs.Outcomes.{Outcome, replied, again, stale, off, finished}
 use Rattle.part.specs.Part.{Part}
-use Rattle.phase.specs.Stands.{IsStraight}
+use Rattle.part.specs.Causes.{MustVisit}
+use Rattle.phase.specs.declared.load.Load.{Load}
+use Rattle.phase.specs.Stands.{IsLoading}
 use Rattle.phase.specs.Causes.{WasFound, RemembersWalk}
 use Rattle.phase.specs.declared.place.Place.{Place}
+use Rattle.phase.specs.declared.place.Place.TheVariants.{Home, Probing}
 use Rattle.read_op.specs.declared.step.Seen.{Seen}
 use Rattle.read_op.specs.declared.step.ReadEnd.{ReadEnd}
 use Rattle.read_op.specs.declared.step.ReadEnd.TheVariants as ends
@@ -39,21 +42,39 @@ abbrev pub outcome_in : ReadStep → Option Outcome
 outcome_in (Ended end) = Some (outcome_of end)
 outcome_in step = None
 
--- it gets the call's key, in this image, whose directory names the owner of each hash, and its caller holds and owes nothing
+-- it gets the call's key, in this image, and its caller holds and owes nothing
 pub record Stands (site : Site) (here : Here) (call : Call) (op : ReadOp) (v : View) : Type 0 where
   pub same : call ≡ Get op.task.key
   pub at : op.task.site ≡ here
-  pub straight : IsStraight site
   pub is_in : IsIn site op.task
   pub suits : Suits site op v
   pub nothing : HoldsOnly [] v
 
 -- ---- what it remembers
 module _ (task : Task) (loads : List (ℕ × ℕ)) where
-  -- the way to the segment was loaded, and the lock words of the buckets before the k-th, which had free values
+  -- a stash bucket is visited where it has to be, by the words of home and probing bucket that were loaded
+  abbrev pub HasReason : Seen → Bool → ℕ → Type 0
+  HasReason s visited index = visited ≡ true → MustVisit task.site.geometry task.hash loads s.path.segment index
+
+  -- the way to the segment was loaded, and the lock words of the buckets before the k-th, which had free values; and the stash buckets
+  -- that are visited have to be
   pub record RemembersSeen (s : Seen) (k : ℕ) : Type 0 where
     pub path : WasFound task.site.geometry task.hash loads s.path
     pub free : (q : Place) → Upto s k q → Has (lock_of task s q, free_at s.free q) loads × (free_at s.free q % 2 ≡ 0)
+    pub first : HasReason s s.first 0
+    pub second : HasReason s s.second 1
+
+  -- words 1 and 3 of the home bucket were loaded, as they are kept while the probing bucket is
+  abbrev pub RemembersMeta : Seen → Place → Type 0
+  RemembersMeta s Probing = Has (lock_of task s Home + 1, s.meta) loads × Has (lock_of task s Home + 3, s.fingers) loads
+  RemembersMeta s p = ⊤
+
+  -- a bucket that is asked for is loaded
+  pub record RemembersFill (s : Seen) (p : Place) (load : Load) : Type 0 where
+    pub seen : RemembersSeen s (looked_by p)
+    pub asked : is_asked s p ≡ true
+    pub filling : IsLoading (lock_of task s p) loads load
+    pub meta : RemembersMeta s p
 
   -- and all lock words, and the place
   pub record RemembersPlaced (s : Seen) (placed : ℕ) : Type 0 where
@@ -64,7 +85,7 @@ module _ (task : Task) (loads : List (ℕ × ℕ)) where
   abbrev pub RemembersIn : ReadStep → Type 0
   RemembersIn (Way walk) = RemembersWalk task.site.geometry task.hash loads walk
   RemembersIn (Look s p) = RemembersSeen s (index p) × (is_asked s p ≡ true)
-  RemembersIn (Fill s p load) = RemembersSeen s (looked_by p) × (is_asked s p ≡ true)
+  RemembersIn (Fill s p load) = RemembersFill s p load
   RemembersIn (Count s) = RemembersSeen s 4
   RemembersIn (Check s placed back) = RemembersPlaced s placed
   RemembersIn (Relook s placed p) = RemembersPlaced s placed × (is_asked s p ≡ true)
@@ -93,9 +114,9 @@ get_part = record {
 }
 
 -- ---- where it begins and ends
--- a get of a key that is a word, in an image whose directory names the owner of each hash, by a caller that holds and owes nothing
+-- a get of a key that is a word, in an image of this shape and version, by a caller that holds and owes nothing
 abbrev pub BeginsAsPart : Type 0
-BeginsAsPart = (site : Site) (here : Here) (key : ℕ) (v : View) → IsSite site → IsStraight site → here.geometry ≡ site.shape → key < 2 ^ 64 → HoldsOnly [] v
+BeginsAsPart = (site : Site) (here : Here) (key : ℕ) (v : View) → here.geometry ≡ site.shape → here.version ≡ version_of site → key < 2 ^ 64 → HoldsOnly [] v
     → Stands site here (Get key) (begun key here) v
 
 -- nothing is decided there

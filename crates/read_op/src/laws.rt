@@ -52,8 +52,9 @@ pub fn gets_are_parts()
 
 /// A get only reads, so the change that it finds between two looks at a word is not its own; and its answer comes by a lock word
 /// that was free and is as it was. Whatever values its events find, each of its ends has its cause in the event by which it comes
-/// and in what was loaded before it, and what it keeps to tell was loaded, in that order. In a world, a lock that is found taken is another caller's: there is none where no lock is
-/// taken; and no segment is stale where all have the site's version.
+/// and in what was loaded before it, and what it keeps to tell was loaded, in that order. In a world, a lock that is found taken is
+/// another caller's: there is none where no lock of a current segment is taken; and no segment is stale where all have the image's
+/// version.
 pub fn ends_have_causes()
     ensures reads { ReadsAlone }
     ensures answers { AnswersBySame }

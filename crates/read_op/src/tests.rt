@@ -100,6 +100,17 @@ fn gets_that_end_on_the_way(rt: HostRuntime) -> Result<(), Fail> {
     Ok(())
 }
 
+// A segment that is being split, and one that has the other half of the hashes.
+#[test]
+fn gets_that_are_led_away(rt: HostRuntime) -> Result<(), Fail> {
+    assert_eq!(rt; run(5, PLAIN, 0, 65, 513), (moved(65, 513, 513), 72));
+    assert_eq!(rt;
+        run(5, PLAIN, 0, 65, 4295033089),
+        (moved(65, 4295033089, 4295033089), 72)
+    );
+    Ok(())
+}
+
 #[test]
 fn gets_that_end_at_a_lock(rt: HostRuntime) -> Result<(), Fail> {
     assert_eq!(rt; run(5, PLAIN, 0, 96, 3), (busy(96, 3), 5));

@@ -1,15 +1,14 @@
 -- Each end of a get has its cause, whatever values its events find.
-use Rattle.std.proofs.Common.{◌≡◌, ℕ, inl, inr, ◌⊎◌, Bool, true, false, List, [], ◌∷◌, ◌++◌, refl, sym, ◌∙◌, ap, subst}
-use Rattle.std.specs.Prelude.{◌==◌, ◌&&◌, nat_lt, nat_le, not, if◌then◌else◌}
+use Rattle.std.proofs.Common.{◌≡◌, ℕ, inl, inr, ◌⊎◌, List, [], ◌∷◌, ◌++◌, refl, sym, ◌∙◌, ap, subst}
+use Rattle.std.specs.Prelude.{◌==◌, nat_lt, nat_le}
 use Rattle.std.proofs.lemmas.Bool.{leb-false, ltb-false}
-use Rattle.segment_head.specs.HeadWord.{version_in, is_live}
 use Rattle.op_core.specs.declared.want.Want.TheVariants as want
 use Rattle.op_core.specs.declared.want.Ans.TheVariants.{Value}
 use Rattle.op_core.specs.declared.why.Why.TheVariants.{Busy, Moved}
 use Rattle.trace.specs.Events.{Words}
 use Rattle.image_layout.specs.Places.{root_word}
 use Rattle.sound_image.specs.Records.{key_hash}
-use Rattle.way.specs.Ways.{entry_word, head_word, is_covering}
+use Rattle.way.specs.Ways.{entry_word, head_word}
 use Rattle.map_model.specs.declared.call.Call.TheVariants.{Get}
 use Rattle.part.specs.Doings.{Doings, with_event_of, nothing_done}
 use Rattle.part.specs.Outcomes.{Outcome, again}
@@ -19,6 +18,7 @@ use Rattle.phase.specs.declared.walk.Walk.TheVariants as walk
 use Rattle.phase.specs.declared.walk.Walked.{Walked}
 use Rattle.phase.specs.declared.walk.Walked.TheVariants as walked
 use Rattle.phase.specs.Walks.{walk_wanted, walk_taken}
+use Rattle.phase.proofs.Walking.{by_head}
 use Rattle.phase.proofs.locks.Choosing.{by_test, by_both}
 use Rattle.read_op.specs.declared.step.ReadStep.TheVariants.{Way}
 use Rattle.read_op.specs.declared.step.Task.{Task}
@@ -39,10 +39,6 @@ word_told x = 0
 abbrev seen_told : Walked → ℕ
 seen_told (walked.Amiss word seen) = seen
 seen_told x = 0
-
-either_false : (a b : Bool) → (a && b) ≡ false → (a ≡ false) ⊎ (b ≡ false)
-either_false true b e = inr e
-either_false false b e = inl refl
 
 module _ (task : Task) (n word seen : ℕ) where
   -- it is such a value, of the word that is loaded
@@ -65,13 +61,8 @@ module _ (task : Task) (n word seen : ℕ) where
       by_test (ToldIf (walk.Entry root)) (nat_lt n task.site.geometry.segments) (walked.On (walk.Head root n)) (walked.Amiss i n)
       (λ t e. absurd (cc)) (λ f. told (walk.Entry root) i refl (ltb-false n task.site.geometry.segments f))
   amiss_is (walk.Head root segment) =
-      let i = head_word task.site.geometry segment in
-      let next : Walked = walked.There (record { root = root; segment = segment; head = n }) in
-      let ill : Walked = walked.Amiss i n in
-      let fit = is_live n && is_covering n task.hash in
-      let P : Walked → Type 0 = ToldIf (walk.Head root segment) in
-      by_both P (is_live n && not (version_in n == task.site.version)) (walked.Stale segment (version_in n)) (if fit then next else ill) (λ e. absurd (cc))
-      (by_test P fit next ill (λ t e. absurd (cc)) (λ f. told (walk.Head root segment) i refl (either_false (is_live n) (is_covering n task.hash) f)))
+      by_head (ToldIf (walk.Head root segment)) task.site task.hash root segment n (λ live current e. absurd (cc)) (λ live old e. absurd (cc))
+      (λ dead. told (walk.Head root segment) (head_word task.site.geometry segment) refl dead)
 
 -- ---- after events that found any values
 same_task : (seen : List ℕ) (op : ReadOp) → (after_all op seen).task ≡ op.task

@@ -2,7 +2,7 @@
 -- first look on the way.
 use Rattle.std.proofs.Common.{◌≡◌, ◌≢◌, ◌⊎◌, ℕ, ◌%◌, inl, inr, Bool, true, false, Option, None, Some, [], refl, sym, ◌∙◌, subst, arith}
 use Rattle.std.specs.Prelude.{◌==◌, if◌then◌else◌}
-use Rattle.std.proofs.lemmas.Bool.{eqb-true, eqb-false}
+use Rattle.std.proofs.lemmas.Bool.{eqb-true, eqb-false, false≢true}
 use Rattle.std.proofs.lemmas.Option.{none-some, same_Some}
 use Rattle.op_core.specs.declared.want.Want.{Want}
 use Rattle.op_core.specs.declared.want.Want.TheVariants as want
@@ -16,7 +16,7 @@ use Rattle.world.specs.Views.{Has}
 use Rattle.world.specs.Wants.{word_of}
 use Rattle.part.specs.Doings.{Doings}
 use Rattle.part.specs.Outcomes.{Outcome, again, stale, off}
-use Rattle.part.specs.Causes.{IsBucketOf, IsNamed, HasAgainCause, HasCause}
+use Rattle.part.specs.Causes.{NeedsBucket, IsNamed, HasAgainCause, HasCause}
 use Rattle.phase.specs.declared.walk.Walk.{Walk}
 use Rattle.phase.specs.declared.walk.Walked.{Walked}
 use Rattle.phase.specs.declared.walk.Walked.TheVariants as walked
@@ -39,8 +39,10 @@ use Rattle.phase.specs.Places.{bucket_of}
 use Rattle.read_op.specs.Places.{free_at}
 use Rattle.read_op.specs.Steps.{wanted_in, next_in, walked_to, with_free, looked, filled, backed_to, relook_first, relook_second, relook_next, busy, moved, end_of, lock_of}
 use Rattle.read_op.specs.Fits.{is_asked}
-use Rattle.read_op.specs.GetPart.{outcome_of, outcome_in, RemembersIn}
-use Rattle.phase.proofs.Asked.{few, not_third, bucket_is}
+use Rattle.read_op.specs.GetPart.{outcome_of, outcome_in, RemembersSeen, RemembersIn}
+use Rattle.phase.specs.Asked.{index}
+use Rattle.phase.proofs.Asked.{few}
+use Rattle.phase.proofs.Needing.{visit_needed}
 use Rattle.read_op.proofs.Places.{lock_is}
 use Rattle.read_op.proofs.Opening.{IsOpen, looked_open, filled_open, open_undecided}
 
@@ -88,12 +90,23 @@ module _ (task : Task) (words : Words) (did : Doings) (call : Call) (hash_is : t
       so (want.Load (back_word task.site task.hash s.path at)) (again (Moved word before after)) cause told some
 
   -- ---- a lock word
-  module _ (s : Seen) (p : Place) (n : ℕ) (found : n ≡ words (lock_of task s p)) (path : WasFound g task.hash did.loads s.path) (asked : is_asked s p ≡ true) where
+  -- each that is asked for is needed
+  needed : (s : Seen) (k : ℕ) → RemembersSeen task did.loads s k → (p : Place) → is_asked s p ≡ true → NeedsBucket g task.hash did.loads s.path.segment call (bucket_of task.hash p)
+  needed s k r Home asked = inl refl
+  needed s k r Probing asked = inr (inl refl)
+  needed s k r First asked = visit_needed g task.hash did.loads s.path.segment r.path.0.2 call 0 (omega arith) (r.first asked)
+  needed s k r Second asked = visit_needed g task.hash did.loads s.path.segment r.path.0.2 call 1 (omega arith) (r.second asked)
+  needed s k r p asked = absurd (false≢true asked)
+
+  module _ (s : Seen) (p : Place) (n : ℕ) (found : n ≡ words (lock_of task s p)) (k : ℕ) (seen : RemembersSeen task did.loads s k) (asked : is_asked s p ≡ true) where
+    path : WasFound g task.hash did.loads s.path
+    path = seen.path
+
     named : IsNamed g (key_hash g (key_of call)) did.loads s.path.segment
     named = subst (λ m. IsNamed g m did.loads s.path.segment) hash_is (found_named g task.hash did.loads s.path path)
 
-    of_key : IsBucketOf call (key_hash g (key_of call)) (bucket_of task.hash p)
-    of_key = subst (λ m. IsBucketOf call m (bucket_of task.hash p)) hash_is (bucket_is call task.hash p (not_third s.first s.second p asked))
+    of_key : NeedsBucket g (key_hash g (key_of call)) did.loads s.path.segment call (bucket_of task.hash p)
+    of_key = subst (λ m. NeedsBucket g m did.loads s.path.segment call (bucket_of task.hash p)) hash_is (needed s k seen p asked)
 
     busy_cause : n % 2 ≡ 1 → HasAgainCause g words did call (want.Load (lock_of task s p)) (Busy (lock_of task s p) n)
     busy_cause odd = (
@@ -110,13 +123,13 @@ module _ (task : Task) (words : Words) (did : Doings) (call : Call) (hash_is : t
         → HasAgainCause g words did call (want.Load (lock_of task s p)) (Moved (lock_of task s p) (free_at s.free p) n)
     moved_cause even other was = (
       (refl, sym found),
-      record {
+      inl (record {
         watched = inr ((s.path.segment, named, bucket_of task.hash p, of_key, refl), was.1, omega (arith, even));
         loaded = was.0;
         newest = sym found;
         differ = λ same. other (sym same);
         by_others = not_own (lock_of task s p);
-      },
+      }),
     )
 
     busy_told : n % 2 ≡ 1 → CausedIf (want.Load (lock_of task s p)) (busy (lock_of task s p) n)
@@ -154,21 +167,21 @@ module _ (task : Task) (words : Words) (did : Doings) (call : Call) (hash_is : t
   step_caused (Look s p) n found r asks good =
       both_caused (want.Load (lock_of task s p)) (n % 2 == 0) (looked (with_free s p n) p) (busy (lock_of task s p) n)
       (λ t. open_caused (want.Load (lock_of task s p)) (looked (with_free s p n) p) (looked_open (with_free s p n) p))
-      (λ f. busy_told s p n found r.0.path r.1 (let other = eqb-false (n % 2) 0 f in omega (arith, other)))
+      (λ f. busy_told s p n found (index p) r.0 r.1 (let other = eqb-false (n % 2) 0 f in omega (arith, other)))
   step_caused (Fill s p load) n found r asks good =
       let next : ReadStep = filled task.key task.hash s p (load_taken load n) in
       open_caused (wanted_in task (Fill s p load)) next (filled_open task.key task.hash s p (load_taken load n))
   step_caused (Count s) n found r asks good = open_caused (wanted_in task (Count s)) (next_in task (Count s) n) tt
   step_caused (Check s placed back) n found r asks good =
       backed_caused s placed back (back_taken task.site task.hash s.path back n)
-      (back_caused task.site task.hash words did call hash_is s.path r.seen.path back (not_own (back_word task.site task.hash s.path back)) n found)
+      (back_caused task.site task.hash words did call hash_is s.path r.seen.path (λ at. not_own (back_word task.site task.hash s.path at)) back n found)
   step_caused (Relook s placed p) n found r asks good =
       let event : Want = want.Load (lock_of task s p) in
-      let path = r.0.seen.path in
+      let seen = r.0.seen in
       both_caused event (n % 2 == 1) (busy (lock_of task s p) n) (if n == free_at s.free p then relook_next s placed p else moved (lock_of task s p) (free_at s.free p) n)
-      (λ t. busy_told s p n found path r.1 (eqb-true (n % 2) 1 t))
+      (λ t. busy_told s p n found 4 seen r.1 (eqb-true (n % 2) 1 t))
       (λ f. both_caused event (n == free_at s.free p) (relook_next s placed p) (moved (lock_of task s p) (free_at s.free p) n)
       (λ t. next_caused event s placed p)
-      (λ g. moved_told s p n found path r.1 (eqb-false (n % 2) 1 f) (eqb-false n (free_at s.free p) g)
+      (λ g. moved_told s p n found 4 seen r.1 (eqb-false (n % 2) 1 f) (eqb-false n (free_at s.free p) g)
       (r.0.seen.free p (record { low = few s.first s.second p r.1; asked = r.1 }))))
   step_caused (Ended end) n found r asks good = absurd (asks refl)

@@ -1,14 +1,12 @@
 -- What a get keeps was loaded by its events, in that order, whatever values they find.
 use Rattle.std.proofs.Common.{◌≡◌, ℕ, ◌+◌, ◌%◌, inl, inr, Bool, true, false, List, [], ◌∷◌, ◌++◌, refl, sym, subst}
-use Rattle.std.specs.Prelude.{◌==◌, ◌&&◌, nat_lt, nat_le, not, if◌then◌else◌}
-use Rattle.segment_head.specs.HeadWord.{version_in, is_live}
+use Rattle.std.specs.Prelude.{◌==◌, nat_lt, nat_le, if◌then◌else◌}
 use Rattle.op_core.specs.declared.want.Ans.TheVariants.{Value}
 use Rattle.op_core.specs.Answers.{load_of}
 use Rattle.image_layout.specs.Places.{root_word}
-use Rattle.way.specs.Ways.{entry_word, head_word, is_covering}
+use Rattle.way.specs.Ways.{entry_word, head_word}
 use Rattle.part.specs.Doings.{Doings, with_event_of, nothing_done}
 use Rattle.phase.specs.declared.walk.Walk.TheVariants as walk
-use Rattle.phase.specs.declared.walk.Walked.{Walked}
 use Rattle.phase.specs.declared.walk.Walked.TheVariants as walked
 use Rattle.phase.specs.declared.back.Backed.{Backed}
 use Rattle.phase.specs.declared.back.Backed.TheVariants as backed
@@ -19,6 +17,7 @@ use Rattle.phase.specs.Backs.{back_taken}
 use Rattle.phase.specs.Loads.{load_taken}
 use Rattle.phase.specs.declared.place.Place.{Place}
 use Rattle.phase.specs.declared.place.Place.TheVariants.{Home, Probing, First, Second}
+use Rattle.phase.proofs.Walking.{by_head}
 use Rattle.phase.proofs.locks.Choosing.{by_both}
 use Rattle.read_op.specs.declared.step.Seen.{Seen}
 use Rattle.read_op.specs.declared.step.ReadStep.{ReadStep}
@@ -111,11 +110,7 @@ module _ (task : Task) where
         by_both (λ x. Kept ((word, n) ∷ past) (walked_to x)) (nat_lt n task.site.geometry.segments) (walked.On (walk.Head root n)) (walked.Amiss word n) (inl (refl, within)) tt
     step_within (Way (walk.Head root segment)) n within =
         let word = head_word task.site.geometry segment in
-        let next : Walked = walked.There (record { root = root; segment = segment; head = n }) in
-        let ill : Walked = walked.Amiss word n in
-        let fit = is_live n && is_covering n task.hash in
-        let P : Walked → Type 0 = λ x. Kept ((word, n) ∷ past) (walked_to x) in
-        by_both P (is_live n && not (version_in n == task.site.version)) (walked.Stale segment (version_in n)) (if fit then next else ill) tt (by_both P fit next ill (inl (refl, within)) tt)
+        by_head (λ x. Kept ((word, n) ∷ past) (walked_to x)) task.site task.hash root segment n (λ live current. inl (refl, within)) (λ live old. tt) (λ dead. tt)
     step_within (Look s p) n within = either ((lock_of task s p, n) ∷ past) (n % 2 == 0) (looked (with_free s p n) p) (busy (lock_of task s p) n) (look_within s p n within) tt
     step_within (Fill s p load) n within = filled_within (lock_of task s p + load.next % 32, n) s p load (load_taken load n) within
     step_within (Count s) n within = inl (refl, within)

@@ -11,9 +11,9 @@ use Rattle.read_op.specs.Fits.{BeginsSuited}
 use Rattle.read_op.specs.GetPart.{outcome_of, outcome_in, BeginsAsPart, BeginsUndecided, BeginsRemembering, NeverFinished}
 
 pub begins_as_part : BeginsSuited → BeginsAsPart
-begins_as_part begins site here key v good straight same small nothing =
-    let well = begins site here key same (key_hash-fits here.geometry key small) in
-    record { same = refl; at = refl; straight = straight; is_in = well.0; suits = well.1 v; nothing = nothing }
+begins_as_part begins site here key v same version small nothing =
+    let well = begins site here key same version (key_hash-fits here.geometry key small) in
+    record { same = refl; at = refl; is_in = well.0; suits = well.1 v; nothing = nothing }
 
 pub begins_undecided : BeginsUndecided
 begins_undecided here key = refl

@@ -14,6 +14,7 @@ use Rattle.world.specs.declared.site.Site.{Site as Here}
 use Rattle.world.specs.Site.{Site}
 use Rattle.world.specs.Views.{View, At, HasLock}
 use Rattle.world.specs.Wants.{answer_to, word_of}
+use Rattle.world.specs.Kinds.{view_after}
 use Rattle.world.specs.Invariant.{Holds}
 use Rattle.world.proofs.stepping.Answers.{load_asked, load_value}
 use Rattle.part.specs.Doings.{Doings}
@@ -23,7 +24,7 @@ use Rattle.part.specs.Causes.{HasCause, EndsByCause}
 use Rattle.phase.specs.declared.walk.Walk.{Walk}
 use Rattle.phase.specs.declared.walk.Walked.TheVariants as walked
 use Rattle.phase.specs.Walks.{walk_taken}
-use Rattle.phase.specs.Stands.{IsStraight, HasWalked}
+use Rattle.phase.specs.Stands.{walk_kind, HasWalked}
 use Rattle.read_op.specs.declared.step.ReadStep.{ReadStep}
 use Rattle.read_op.specs.declared.step.ReadStep.TheVariants.{Way, Ended}
 use Rattle.read_op.specs.declared.step.Task.{Task}
@@ -39,7 +40,7 @@ use Rattle.read_op.proofs.parts.Remembering.{remembers_next}
 use Rattle.read_op.proofs.parts.Beginning.{never_finished}
 
 -- ---- in a world, for the caller with this view
-module _ (site : Site) (task : Task) (is : IsIn site task) (straight : IsStraight site) (words : Words) (views : List View) (j : ℕ) (v : View) (h : Holds site words views) (at : At views j v)
+module _ (site : Site) (task : Task) (is : IsIn site task) (words : Words) (views : List View) (j : ℕ) (v : View) (h : Holds site words views) (at : At views j v)
     (did : Doings) (call : Call) (same : call ≡ Get task.key) (none : did.changed ≡ []) where
   hash_here : task.hash ≡ key_hash task.site.geometry (key_of call)
   hash_here = is.hash ∙ (ap (λ x. key_hash x task.key) (sym is.shape) ∙ ap (λ c. key_hash task.site.geometry (key_of c)) (sym same))
@@ -47,8 +48,8 @@ module _ (site : Site) (task : Task) (is : IsIn site task) (straight : IsStraigh
   -- no first look finds what no table has
   never_amiss : (s : ReadStep) (n : ℕ) → n ≡ words (word_of site.shape (wanted_in task s)) → suits_in site task s v
       → (w : Walk) → s ≡ Way w → (word seen : ℕ) → walk_taken task.site task.hash w n ≡ walked.Amiss word seen → ⊥
-  never_amiss s n found suits w at_way word seen e = subst (HasWalked site task.hash) e
-      (has_walked site task is straight words views j v h at w n (found ∙ ap (λ s. words (word_of site.shape (wanted_in task s))) at_way) (subst (λ s. suits_in site task s v) at_way suits))
+  never_amiss s n found suits w at_way word seen e = subst (λ x. HasWalked site x (view_after site.shape (walk_kind task.site task.hash w) n v).facts) e
+      (has_walked site task is words views j v h at w n (found ∙ ap (λ s. words (word_of site.shape (wanted_in task s))) at_way) (subst (λ s. suits_in site task s v) at_way suits))
 
   caused_here : (s : ReadStep) (n : ℕ) → n ≡ words (word_of site.shape (wanted_in task s)) → suits_in site task s v → RemembersIn task did.loads s → wanted_in task s ≢ want.Done
       → (outcome : Outcome) → outcome_in (next_in task s n) ≡ Some outcome → HasCause task.site.geometry words did call (wanted_in task s) task.site outcome
@@ -65,7 +66,7 @@ caused site here call words views j op before v h at s asks did r outcome some =
     let told : outcome_in (next_in op.task op.step found) ≡ Some outcome =
     subst (λ a. outcome_in (taken op a).step ≡ Some outcome) (load_value (wanted op) found (load_asked (wanted op) (reads_alone op) asks)) some in
     let cause : HasCause op.task.site.geometry words did call (wanted op) op.task.site outcome =
-    caused_here site op.task st.is_in st.straight words views j v h at did call st.same r.none op.step found refl st.suits r.kept asks outcome told in
+    caused_here site op.task st.is_in words views j v h at did call st.same r.none op.step found refl st.suits r.kept asks outcome told in
     subst (λ shape. HasCause shape words did call (wanted op) here outcome) st.is_in.shape
     (subst (λ z. HasCause op.task.site.geometry words did call (wanted op) z outcome) st.at cause)
 

@@ -1,12 +1,15 @@
 -- A get is a part of a call.
-use Rattle.std.proofs.Common.{◌≡◌, ◌≢◌, ℕ, ◌<◌, ◌≤◌, true, false, List, [], ◌∷◌, ◌++◌, None, refl, sym, ◌∙◌, ap, subst, arith}
+use Rattle.std.proofs.Common.{◌≡◌, ◌≢◌, ℕ, ◌+◌, ◌%◌, ◌<◌, ◌≤◌, Bool, true, false, List, [], ◌∷◌, ◌++◌, Option, None, refl, sym, ◌∙◌, ap, subst, arith}
+use Rattle.std.specs.Prelude.{nat_le, nat_lt, if◌then◌else◌}
 use Rattle.op_core.specs.declared.want.Want.TheVariants as want
 use Rattle.op_core.specs.declared.want.Ans.{Ans}
 use Rattle.op_core.specs.declared.want.Ans.TheVariants.{Value}
 use Rattle.op_core.specs.Answers.{IsAnswer, IsReading}
 use Rattle.trace.specs.Events.{Words}
-use Rattle.image_layout.specs.Places.{IsShape}
-use Rattle.image_layout.specs.Volatile.{all_words_of}
+use Rattle.hash_word.specs.Hash.{index_of}
+use Rattle.image_layout.specs.Places.{IsShape, root_word}
+use Rattle.image_layout.specs.Volatile.{counter_word, all_words_of}
+use Rattle.way.specs.Ways.{entry_word, head_word}
 use Rattle.map_model.specs.declared.call.Call.{Call}
 use Rattle.map_model.specs.declared.call.Call.TheVariants.{Get}
 use Rattle.map_model.specs.declared.entry.Reply.{Reply}
@@ -16,7 +19,7 @@ use Rattle.world.specs.declared.site.Site.{Site as Here}
 use Rattle.world.specs.Site.{Site}
 use Rattle.world.specs.Views.{View, Has, At}
 use Rattle.world.specs.Wants.{word_of}
-use Rattle.world.specs.Kinds.{cuts_power, wanted as wanted_by, next_entry, view_after}
+use Rattle.world.specs.Kinds.{Kind, peeks, asks_power, meets_root, meets_entry, meets_head, looks, notes_word, places, validates, cuts_power, wanted as wanted_by, next_entry, view_after}
 use Rattle.world.specs.Invariant.{Holds}
 use Rattle.world.specs.Pairs.{IsPublishingKind}
 use Rattle.world.specs.Attempts.{HoldsOnly, HasNoMore, HasOneMore, EntersReply}
@@ -24,14 +27,15 @@ use Rattle.world.proofs.stepping.Answers.{load_asked, load_value, load_answer}
 use Rattle.part.specs.Outcomes.{reply_of}
 use Rattle.part.specs.Part.{Suits, StepsWell, IsPart}
 use Rattle.phase.specs.declared.walk.Walk.TheVariants as walk
+use Rattle.phase.specs.declared.back.Back.TheVariants as back
 use Rattle.read_op.specs.declared.step.ReadEnd.TheVariants as ends
 use Rattle.read_op.specs.declared.step.ReadStep.{ReadStep}
 use Rattle.read_op.specs.declared.step.ReadStep.TheVariants.{Way, Look, Fill, Count, Check, Relook, Ended}
 use Rattle.read_op.specs.declared.step.Task.{Task}
 use Rattle.read_op.specs.declared.op.ReadOp.{ReadOp}
-use Rattle.read_op.specs.Steps.{wanted, wanted_in, taken}
+use Rattle.read_op.specs.Steps.{wanted, wanted_in, taken, lock_of}
 use Rattle.read_op.specs.Budget.{most_events, left, Falls, AsksWithin}
-use Rattle.read_op.specs.Fits.{kind_in, kind_of, EntersAnswer, OwesTheSame, WantsByKind, MayStep, KeepsSuits}
+use Rattle.read_op.specs.Fits.{leads, kind_in, kind_of, EntersAnswer, OwesTheSame, WantsByKind, MayStep, KeepsSuits}
 use Rattle.read_op.specs.Causes.{ReadsAlone}
 use Rattle.read_op.specs.GetPart.{outcome_in, Stands, get_part}
 
@@ -64,31 +68,36 @@ holds_still v w o h = record {
   owed = o.owed ∙ h.owed;
 }
 
+-- ---- a kind that is one of two is what both are
+kind_if : (P : Kind → Type 0) (b : Bool) (k : Kind) (i : ℕ) → P k → P (peeks i) → P (if b then k else peeks i)
+kind_if P true k i p q = p
+kind_if P false k i p q = q
+
+-- what is said of looks alone is said of each event
+module _ (P : Kind → Type 0) (peek : (i : ℕ) → P (peeks i)) (power : P asks_power) (root : P meets_root) (entry : (e i : ℕ) → P (meets_entry e i)) (head : (s version : ℕ) → P (meets_head s version))
+    (look : (lock : ℕ) → P (looks lock)) (note : (lock i : ℕ) → P (notes_word lock i)) (place : (k : ℕ) (a : Option ℕ) → P (places k a)) (validate : (i : ℕ) → P (validates i)) where
+  of_looks : (task : Task) (s : ReadStep) → P (kind_in task s)
+  of_looks task (Way walk.Power) = power
+  of_looks task (Way walk.Root) = root
+  of_looks task (Way (walk.Entry e)) = kind_if P (nat_le e task.site.geometry.depth) (meets_entry e (index_of e task.hash)) root_word (entry e (index_of e task.hash)) (peek root_word)
+  of_looks task (Way (walk.Head e segment)) =
+      kind_if P (nat_lt segment task.site.geometry.segments) (meets_head segment task.site.version) root_word (head segment task.site.version) (peek root_word)
+  of_looks task (Look s p) = look (lock_of task s p)
+  of_looks task (Fill s p load) = note (lock_of task s p) (lock_of task s p + load.next % 32)
+  of_looks task (Count s) = kind_if P (leads task s) (places task.key s.value) (counter_word task.site.geometry) (place task.key s.value) (peek (counter_word task.site.geometry))
+  of_looks task (Check s placed back.Root) = peek root_word
+  of_looks task (Check s placed back.Entry) = peek (entry_word task.site.geometry task.hash s.path.root)
+  of_looks task (Check s placed back.Head) = validate (head_word task.site.geometry s.path.segment)
+  of_looks task (Relook s placed p) = validate (lock_of task s p)
+  of_looks task (Ended end) = peek (counter_word task.site.geometry)
+
 -- ---- no event of it cuts the power
 cuts_in : (task : Task) (s : ReadStep) → kind_in task s ≢ cuts_power
-cuts_in task (Way walk.Power) e = absurd (let z = e in cc)
-cuts_in task (Way walk.Root) e = absurd (let z = e in cc)
-cuts_in task (Way (walk.Entry root)) e = absurd (let z = e in cc)
-cuts_in task (Way (walk.Head root segment)) e = absurd (let z = e in cc)
-cuts_in task (Look s p) e = absurd (let z = e in cc)
-cuts_in task (Fill s p load) e = absurd (let z = e in cc)
-cuts_in task (Count s) e = absurd (let z = e in cc)
-cuts_in task (Check s placed at) e = absurd (let z = e in cc)
-cuts_in task (Relook s placed p) e = absurd (let z = e in cc)
-cuts_in task (Ended end) e = absurd (let z = e in cc)
+cuts_in task s = of_looks (λ k. k ≢ cuts_power) (λ i e. cc) (λ e. cc) (λ e. cc) (λ e i f. cc) (λ t version e. cc) (λ lock e. cc) (λ lock i e. cc) (λ k a e. cc) (λ i e. cc) task s
 
 -- nor does any make a change
 made_in : (task : Task) (s : ReadStep) → IsPublishingKind (kind_in task s) → ⊥
-made_in task (Way walk.Power) f = f
-made_in task (Way walk.Root) f = f
-made_in task (Way (walk.Entry root)) f = f
-made_in task (Way (walk.Head root segment)) f = f
-made_in task (Look s p) f = f
-made_in task (Fill s p load) f = f
-made_in task (Count s) f = f
-made_in task (Check s placed at) f = f
-made_in task (Relook s placed p) f = f
-made_in task (Ended end) f = f
+made_in task s = of_looks (λ k. IsPublishingKind k → ⊥) (λ i f. f) (λ f. f) (λ f. f) (λ e i f. f) (λ t version f. f) (λ lock f. f) (λ lock i f. f) (λ k a f. f) (λ i f. f) task s
 
 module _ (reads : ReadsAlone) (wants : (site : Site) (op : ReadOp) → WantsByKind site op) (may : (site : Site) (op : ReadOp) (v : View) → MayStep site op v) (keeps : KeepsSuits)
     (time : Falls) (most : (op : ReadOp) → left op.step ≤ most_events) (inside : AsksWithin) where
@@ -100,11 +109,11 @@ module _ (reads : ReadsAlone) (wants : (site : Site) (op : ReadOp) → WantsByKi
       let found : ℕ = words (word_of site.shape (wanted op)) in
       let n : ℕ = words (word_of site.shape (wanted_by site.shape (kind_of op))) in
       let same : n ≡ found = ap (λ x. words (word_of site.shape x)) (sym is) in
-      let well = keeps site op words views j v h at st.straight st.is_in st.suits asks in
+      let well = keeps site op words views j v h at st.is_in st.suits asks in
       let more : HasNoMore before v = subst (λ o. EntersReply call (reply_of o) before v) (open_still op.task op.step asks) s.enters in
       let Goal : ReadOp → ℕ → Type 0 = λ o m. Stands site here call o (view_after site.shape (kind_of op) m v) × EntersReply call (reply_of (outcome_in o.step)) before (view_after site.shape (kind_of op) m v) in
       let one : Goal (taken op (Value n)) n = (
-        record { same = st.same; at = st.at; straight = st.straight; is_in = well.is_in; suits = well.suits; nothing = holds_still v _ well.owes st.nothing },
+        record { same = st.same; at = st.at; is_in = well.is_in; suits = well.suits; nothing = holds_still v _ well.owes st.nothing },
         entered op.task.key call st.same before v _ more (taken op (Value n)).step well.answers,
       ) in
       let two = subst (λ m. Goal (taken op (Value m)) m) same one in
