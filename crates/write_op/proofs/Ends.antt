@@ -6,7 +6,8 @@ use Rattle.phase.specs.declared.take.Take.TheVariants as take
 use Rattle.phase.specs.declared.make.Make.TheVariants.{Key, Value, Fingers, FlushFingers, FlushRecord, FenceRecord, Publish, FlushPublished, FencePublished}
 use Rattle.write_op.specs.declared.step.Task.{Task}
 use Rattle.write_op.specs.declared.step.Seen.{Seen}
-use Rattle.write_op.specs.declared.step.NoteWord.TheVariants as note
+use Rattle.phase.specs.declared.note.NoteWord.TheVariants as note
+use Rattle.phase.specs.declared.ending.Ending.TheVariants as ending
 use Rattle.write_op.specs.declared.step.WriteStep.{WriteStep}
 use Rattle.write_op.specs.declared.step.WriteStep.TheVariants.{Way, Lock, Check, Fill, Count, Draw, Unnote, CountSpent, Give, Ended}
 use Rattle.write_op.specs.declared.step.WriteStep.TheVariants as step
@@ -16,7 +17,8 @@ use Rattle.write_op.specs.Ends.{EndsAsSaid}
 
 ends_at : (task : Task) (seen : Seen) (at : WriteStep) → wanted_in task seen at ≡ Done → outcome_at at ≡ outcome_of (end_at at)
 ends_at task seen (Ended end) done = refl
-ends_at task seen (Give held end) done = refl
+ends_at task seen (Give held (ending.Replied answer place)) done = refl
+ends_at task seen (Give held (ending.Again why)) done = refl
 ends_at task seen (Way walk.Power) done = absurd (let no = done in cc)
 ends_at task seen (Way walk.Root) done = absurd (let no = done in cc)
 ends_at task seen (Way (walk.Entry root)) done = absurd (let no = done in cc)

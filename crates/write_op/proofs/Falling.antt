@@ -1,11 +1,10 @@
 -- Each answer of the kind that was asked for leaves a change fewer events.
 use Rattle.std.proofs.Common.{◌≡◌, ℕ, ◌+◌, ◌%◌, ◌^◌, ◌<◌, ◌≤◌, Bool, true, false, Option, Some, None, refl, sym, subst, arith}
-use Rattle.std.specs.Prelude.{if◌then◌else◌, ◌==◌, nat_le}
+use Rattle.std.specs.Prelude.{if◌then◌else◌, nat_le}
 use Rattle.op_core.specs.declared.want.Ans.{Ans}
 use Rattle.op_core.specs.declared.want.Ans.TheVariants.{Value, Drawn, Passed}
 use Rattle.op_core.specs.Answers.{IsAnswer}
 use Rattle.op_core.specs.declared.why.Why.TheVariants.{Busy, Moved}
-use Rattle.segment_head.specs.HeadWord.{state_in, normal}
 use Rattle.way.specs.Ways.{entry_word, head_word}
 use Rattle.map_model.specs.declared.change.Deed.{Deed}
 use Rattle.map_model.specs.declared.change.Deed.TheVariants.{Insert, Update, Remove}
@@ -53,18 +52,18 @@ use Rattle.image_layout.specs.Volatile.{counter_word}
 use Rattle.write_op.specs.declared.step.Task.{Task}
 use Rattle.write_op.specs.declared.step.Spot.{Spot}
 use Rattle.write_op.specs.declared.step.Seen.{Seen}
-use Rattle.write_op.specs.declared.step.Ending.{Ending}
-use Rattle.write_op.specs.declared.step.Ending.TheVariants as ending
+use Rattle.phase.specs.declared.ending.Ending.{Ending}
+use Rattle.phase.specs.declared.ending.Ending.TheVariants as ending
 use Rattle.write_op.specs.declared.search.NoteWords.{NoteWords}
-use Rattle.write_op.specs.declared.step.NoteWord.{NoteWord}
-use Rattle.write_op.specs.declared.step.NoteWord.TheVariants.{Mark, Fingers}
+use Rattle.phase.specs.declared.note.NoteWord.{NoteWord}
+use Rattle.phase.specs.declared.note.NoteWord.TheVariants.{Mark, Fingers}
 use Rattle.write_op.specs.declared.step.WriteStep.{WriteStep}
 use Rattle.write_op.specs.declared.step.WriteStep.TheVariants.{Way, Lock, Check, Fill, Count, Draw, Unnote, CountSpent, Give, Ended}
 use Rattle.write_op.specs.declared.step.WriteStep.TheVariants as step
 use Rattle.write_op.specs.declared.step.Stage.{Stage}
 use Rattle.write_op.specs.declared.op.WriteOp.{WriteOp}
 use Rattle.write_op.specs.Search.{found, room_in, leaves_note, unnoted, has_finger}
-use Rattle.write_op.specs.Steps.{go, given_by, giving, give, answered, amiss, walked_to, locked, locked_to, lock_of, backed_to, visit_second, visit_first, with_visits, filled, filled_with, filled_to, inserting, changing, decided, counted, made_to, drawn_to, unnoted_to, note_wanted, wanted_in, next_in, wanted, taken}
+use Rattle.write_op.specs.Steps.{go, given_by, giving, give, answered, walked_to, locked, locked_to, lock_of, backed_to, visit_second, visit_first, with_visits, filled, filled_with, filled_to, inserting, changing, decided, counted, made_to, drawn_to, unnoted_to, note_wanted, wanted_in, next_in, wanted, taken}
 use Rattle.write_op.specs.Left.{left_at, left_behind, left_behind_lock, left_of_note, most_events}
 
 abbrev left_of : Stage → ℕ
@@ -93,13 +92,12 @@ answered_most : (seen : Seen) (place : ℕ) (answer : Reply) → left_of (answer
 answered_most seen place answer = give_most seen (ending.Replied answer place)
 
 -- ---- the way
-walked_most : (task : Task) (seen : Seen) (x : Walked) → left_of (walked_to task seen x) ≤ 154 + walked_left x
-walked_most task seen (walked.On w) = omega arith
-walked_most task seen (walked.There path) = both_most 154 (state_in path.head == normal) (go (record seen { path = path }) (Lock Home Look))
-    (go seen (amiss (head_word task.site.geometry path.segment) path.head)) (omega arith) (omega arith)
-walked_most task seen walked.Off = omega arith
-walked_most task seen (walked.Amiss word value) = omega arith
-walked_most task seen (walked.Stale segment version) = omega arith
+walked_most : (seen : Seen) (x : Walked) → left_of (walked_to seen x) ≤ 154 + walked_left x
+walked_most seen (walked.On w) = omega arith
+walked_most seen (walked.There path) = omega arith
+walked_most seen walked.Off = omega arith
+walked_most seen (walked.Amiss word value) = omega arith
+walked_most seen (walked.Stale segment version) = omega arith
 
 -- ---- locks
 locked_most : (place : Place) → left_at (locked place) ≤ left_behind_lock place
@@ -209,7 +207,7 @@ module _ (task : Task) (seen : Seen) where
 
   falls_in : (s : WriteStep) (a : Ans) → IsAnswer (wanted_in task seen s) a → left_of (next_in task seen s a) < left_at s
   falls_in (Way w) a is = for_value (Way w)
-      (λ n. let most = walked_most task seen (walk_taken task.site task.hash w n) in let low = walk_falls task.site task.hash w n in omega (arith, most, low))
+      (λ n. let most = walked_most seen (walk_taken task.site task.hash w n) in let low = walk_falls task.site task.hash w n in omega (arith, most, low))
       a (walk_answer task.site task.hash w a is)
   falls_in (Lock place take) a is =
       let most = taken_most seen place (lock_of task seen place) (take_taken take a) in let low = take_falls (lock_of task seen place) take a is in omega (arith, most, low)

@@ -111,5 +111,5 @@ NeverBusy = (site : Site) (here : Here) (call : Call) (op : WriteOp) (words : Wo
 -- where each live segment has the site's version, no segment is stale
 abbrev pub NeverStale : Type 0
 NeverStale = (site : Site) (here : Here) (call : Call) (op : WriteOp) (words : Words) (views : List View) (j : ℕ) (before v : View) → Holds site words views → At views j v
-    → Suits change_part site here call op before v → wanted op ≢ DoneWant → IsCurrent site op.task.site.version
+    → Suits change_part site here call op before v → wanted op ≢ DoneWant → IsCurrent site.shape words op.task.site.version
     → (segment byte : ℕ) → Decides site op words (stale segment byte) → ⊥

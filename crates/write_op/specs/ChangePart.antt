@@ -1,53 +1,58 @@
 -- A change as a part of a call: where an insert finds no slot it keeps its locks, and another part goes on.
-use Rattle.std.specs.Prelude.{◌≡◌, ℕ, ◌+◌, ◌-◌, ◌^◌, ◌<◌, ⊤, false, true, Some, [], ◌≢◌, None}
-use Rattle.segment_head.specs.HeadWord.{state_in, splitting}
-use Rattle.image_layout.specs.Places.{head_at}
+use Rattle.std.specs.Prelude.{◌≡◌, ℕ, ◌-◌, ◌^◌, ◌<◌, ⊤, true, Some, [], None}
 use Rattle.map_model.specs.declared.call.Call.{Call}
 use Rattle.map_model.specs.declared.change.Change.{Change}
 use Rattle.map_model.specs.Changes.{call_of}
 use Rattle.world.specs.declared.site.Site.{Site as Here}
-use Rattle.world.specs.Site.{Site, IsSite}
+use Rattle.world.specs.Site.{Site, IsSite, version_of}
 use Rattle.world.specs.Views.{View, Has}
 use Rattle.world.specs.Attempts.{HoldsOnly}
 use Rattle.part.specs.Doings.{Doings, nothing_done}
 use Rattle.part.specs.Outcomes.{finished}
 use Rattle.part.specs.Part.{Part}
 use Rattle.phase.specs.declared.place.Place.{Place}
-use Rattle.phase.specs.declared.walk.Path.{Path}
+use Rattle.phase.specs.declared.place.Place.TheVariants.{Home, Probing, First, Second, Next, Previous}
 use Rattle.phase.specs.declared.kept.Kept.{Kept}
-use Rattle.phase.specs.Places.{is_third}
 use Rattle.phase.specs.Buckets.{words_in}
 use Rattle.phase.specs.AreWords.{AreWords}
 use Rattle.phase.specs.Asked.{index, loaded_by}
-use Rattle.phase.specs.Keeps.{WasLoaded, ChangedLocks, KeepsAll, RemembersRoom, HasNoThird}
+use Rattle.phase.specs.Keeps.{WasLoaded, ChangedLocks, LoadedFull, KeepsAll, RemembersRoom, HasNoThird}
 use Rattle.phase.specs.Giving.{IsHeld}
-use Rattle.phase.specs.Stands.{IsStraight, IsLoading}
+use Rattle.phase.specs.Stands.{IsLoading}
 use Rattle.phase.specs.Causes.{WasFound, RemembersWalk}
 use Rattle.phase.specs.Taking.{RemembersTake}
+use Rattle.phase.specs.Makes.{brought}
 use Rattle.write_op.specs.declared.step.Task.{Task}
 use Rattle.write_op.specs.declared.step.Seen.{Seen}
 use Rattle.write_op.specs.declared.step.WriteEnd.TheVariants.{NoSlot}
 use Rattle.write_op.specs.declared.step.WriteStep.{WriteStep}
 use Rattle.write_op.specs.declared.step.WriteStep.TheVariants.{Way, Lock, Check, Fill, Count, CountSpent, Ended}
 use Rattle.write_op.specs.declared.op.WriteOp.{WriteOp}
-use Rattle.write_op.specs.Search.{brought}
+use Rattle.write_op.specs.Search.{visits}
 use Rattle.write_op.specs.Steps.{begun, wanted, taken, lock_of, is_without_slot, kept_in, kept_of}
 use Rattle.write_op.specs.Left.{most_events, left_at, most_waiting, waiting_at, HasMadeAt}
 use Rattle.write_op.specs.Fits.{Upto, kind_of, ChangeStands, outcome_at}
 
--- no split was begun of a segment
-abbrev pub IsUnsplit : Site → Type 0
-IsUnsplit site = (s : ℕ) → s < site.shape.segments → state_in (site.front (head_at site.shape s + 1)) ≢ splitting
+-- ---- which buckets are asked for
+module _ (task : Task) (seen : Seen) where
+  -- a stash bucket is to be visited, by the words of home and probing bucket
+  abbrev pub IsNoted : ℕ → Type 0
+  IsNoted index = visits task.hash seen.buckets index ≡ true
 
--- the header of the segment at the end of a way is that of the structure
-abbrev pub IsAtHead : Site → Path → Type 0
-IsAtHead site path = path.head ≡ site.front (head_at site.shape path.segment + 1)
+  -- THE REASON to ask for a bucket: home and probing bucket need none; a stash bucket is to be visited, and whether the second one is, is
+  -- known where the first is asked for; for a third one there is none
+  abbrev pub HasReason : Place → Type 0
+  HasReason First = IsNoted 0 × (seen.second ≡ visits task.hash seen.buckets 1)
+  HasReason Second = IsNoted 1
+  HasReason Next = ⊥
+  HasReason Previous = ⊥
+  HasReason near = ⊤
 
--- ---- what it remembers of what its attempt did, on a way that ends so
-module _ (EndsSo : Path → Type 0) (task : Task) (seen : Seen) (did : Doings) where
-  -- the way to the segment was loaded
+-- ---- what it remembers of what its attempt did
+module _ (task : Task) (seen : Seen) (did : Doings) where
+  -- the way to the segment was loaded, with its header
   abbrev pub WasThere : Type 0
-  WasThere = WasFound task.site.geometry task.hash did.loads seen.path × EndsSo seen.path
+  WasThere = WasFound task.site.geometry task.hash did.loads seen.path
 
   -- it changed no words but those of locks that it holds
   abbrev pub ChangedOwn : Type 0
@@ -61,24 +66,28 @@ module _ (EndsSo : Path → Type 0) (task : Task) (seen : Seen) (did : Doings) w
   abbrev pub LoadedHeld : Type 0
   LoadedHeld = (place : Place) → IsHeld seen.held place → WasLoaded (kept_in task seen) did.loads place
 
-  -- a lock word was loaded as free with the last version
+  -- there is a reason to ask for a bucket, by words that were loaded before it
+  pub record AsksFor (place : Place) : Type 0 where
+    pub reason : HasReason task seen place
+    pub before : LoadedUpto (loaded_by place)
+
+  -- the lock word of such a bucket was loaded as free with the last version
   abbrev pub LoadedSpent : Type 0
-  LoadedSpent = (place : Place) × (is_third place ≡ false) × Has (lock_of task seen place, 2 ^ 64 - 2) did.loads
+  LoadedSpent = (place : Place) × AsksFor place × Has (lock_of task seen place, 2 ^ 64 - 2) did.loads
 
   abbrev pub RemembersIn : WriteStep → Type 0
   RemembersIn (Way walk) = RemembersWalk task.site.geometry task.hash did.loads walk × (did.changed ≡ [])
-  RemembersIn (Lock place take) = WasThere × ChangedOwn × RemembersTake (lock_of task seen place) did.loads take × LoadedUpto (loaded_by place) × (is_third place ≡ false)
+  RemembersIn (Lock place take) = WasThere × ChangedOwn × RemembersTake (lock_of task seen place) did.loads take × AsksFor place
   RemembersIn (Check back) = WasThere × ChangedOwn
-  RemembersIn (Fill place load) = WasThere × ChangedOwn × LoadedUpto (index place) × IsLoading (lock_of task seen place) did.loads load
+  RemembersIn (Fill place load) = WasThere × ChangedOwn × LoadedUpto (index place) × IsLoading (lock_of task seen place) did.loads load × HasReason task seen place
   RemembersIn Count = WasThere × ChangedOwn × LoadedUpto 4
   RemembersIn CountSpent = WasThere × LoadedSpent
-  RemembersIn (Ended NoSlot) = WasThere × ChangedOwn × LoadedHeld
+  RemembersIn (Ended NoSlot) = WasThere × ChangedOwn × LoadedHeld × LoadedFull (kept_in task seen) did.loads Home × LoadedFull (kept_in task seen) did.loads Probing
   RemembersIn more = ⊤
 
--- in an image of which no segment is being split: a change is made again at such a segment, and no word moved
-pub record Remembers (site : Site) (op : WriteOp) (did : Doings) : Type 0 where
-  pub unsplit : IsUnsplit site
-  pub kept : RemembersIn (IsAtHead site) op.task op.stage.seen did op.stage.step
+-- and so in the step where it stands, in any image
+abbrev pub Remembers : Site → WriteOp → Doings → Type 0
+Remembers site op did = RemembersIn op.task op.stage.seen did op.stage.step
 
 -- A CHANGE AS A PART
 abbrev pub change_part : Part WriteOp
@@ -99,15 +108,14 @@ change_part = record {
 }
 
 -- ---- where it begins
--- a change of a key and to a value that are words, in an image whose directory names the owner of each hash, by a caller that
--- holds, knows and owes nothing
+-- a change of a key and to a value that are words, in an image of this version, by a caller that holds, knows and owes nothing
 abbrev pub BeginsAsPart : Type 0
-BeginsAsPart = (site : Site) (here : Here) (change : Change) (v : View) → IsSite site → IsStraight site → here.geometry ≡ site.shape → change.key < 2 ^ 64 → brought change.deed < 2 ^ 64
+BeginsAsPart = (site : Site) (here : Here) (change : Change) (v : View) → IsSite site → here.geometry ≡ site.shape → here.version ≡ version_of site → change.key < 2 ^ 64 → brought change.deed < 2 ^ 64
     → HoldsOnly [] v → ChangeStands site here (call_of change) (begun change here) v
 
 -- what it remembers then: nothing yet
 abbrev pub BeginsRemembering : Type 0
-BeginsRemembering = (site : Site) (here : Here) (change : Change) → IsUnsplit site → Remembers site (begun change here) nothing_done
+BeginsRemembering = (site : Site) (here : Here) (change : Change) → Remembers site (begun change here) nothing_done
 
 -- it holds nothing where it has done nothing
 abbrev pub BeginsBare : Type 0
@@ -118,11 +126,10 @@ abbrev pub BeginsUndecided : Type 0
 BeginsUndecided = (here : Here) (change : Change) → outcome_at (begun change here).stage.step ≡ None
 
 -- WHERE IT HANDS ON, what it keeps is the call's insert, of a key and a value that are words, as is what was loaded; its locks are held,
--- and no third one; the words of their buckets are known, its key stands nowhere, and home and probing bucket are full
+-- and no third one; its header is pinned; the words of their buckets are known, its key stands nowhere, and home and probing bucket are full
 pub record HandsOn (site : Site) (here : Here) (call : Call) (kept : Kept) (v : View) : Type 0 where
   pub same : call_of kept.change ≡ call
   pub at : kept.site ≡ here
-  pub straight : IsStraight site
   pub key : kept.change.key < 2 ^ 64
   pub value : brought kept.change.deed < 2 ^ 64
   pub buckets : (place : Place) → AreWords (words_in kept.buckets place)

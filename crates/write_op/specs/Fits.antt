@@ -11,12 +11,13 @@ use Rattle.map_model.specs.declared.change.Deed.TheVariants.{Insert, Update, Rem
 use Rattle.map_model.specs.declared.entry.Reply.TheVariants as reply
 use Rattle.map_model.specs.Changes.{call_of}
 use Rattle.world.specs.declared.site.Site.{Site as Here}
-use Rattle.world.specs.Site.{Site}
+use Rattle.world.specs.Site.{Site, version_of}
 use Rattle.world.specs.Views.{Owed, View, Has}
-use Rattle.world.specs.Kinds.{Kind, peeks, finds_room, refuses, learns, stores, repays, publishes, stashes, draws_place}
+use Rattle.world.specs.Kinds.{Kind, peeks, pins, finds_room, refuses, learns, stores, repays, publishes, stashes, draws_place}
 use Rattle.world.specs.Attempts.{HoldsOnly}
 use Rattle.phase.specs.declared.place.Place.{Place}
 use Rattle.phase.specs.declared.place.Place.TheVariants.{Home, Probing, First, Second}
+use Rattle.phase.specs.declared.walk.Path.{Path}
 use Rattle.phase.specs.declared.make.Make.{Make}
 use Rattle.phase.specs.declared.make.Make.TheVariants.{FlushPublished, FencePublished}
 use Rattle.phase.specs.declared.held.Held.{Held}
@@ -25,18 +26,20 @@ use Rattle.phase.specs.AreWords.{AreWords}
 use Rattle.phase.specs.Keeps.{KeepsAll, HasNoThird}
 use Rattle.phase.specs.Helds.{none_held, free_of}
 use Rattle.phase.specs.Buckets.{words_in}
-use Rattle.phase.specs.Stands.{walk_kind, back_kind, IsStraight, Leads, IsWalking, IsLoading}
+use Rattle.phase.specs.Stands.{walk_kind, back_kind, IsThere, Leads, IsWalking, IsLoading}
 use Rattle.phase.specs.Taking.{take_kind, IsTaking}
 use Rattle.phase.specs.Giving.{IsLocated, IsHeld, IsQuiet, IsOfHeld, HoldsLocks, give_kind}
 use Rattle.phase.specs.Knows.{Knows, HasNoneLoose, IsWhole}
 use Rattle.phase.specs.Making.{make_kind, with_record, with_mark, IsNew, IsMaking}
 use Rattle.phase.specs.Finding.{words_of}
+use Rattle.phase.specs.Makes.{brought}
 use Rattle.write_op.specs.declared.search.NoteWords.{NoteWords}
 use Rattle.write_op.specs.declared.step.Task.{Task}
 use Rattle.write_op.specs.declared.step.Spot.{Spot}
 use Rattle.write_op.specs.declared.step.Seen.{Seen}
-use Rattle.write_op.specs.declared.step.NoteWord.{NoteWord}
-use Rattle.write_op.specs.declared.step.NoteWord.TheVariants.{Mark, Fingers}
+use Rattle.phase.specs.declared.note.NoteWord.{NoteWord}
+use Rattle.phase.specs.declared.note.NoteWord.TheVariants.{Mark, Fingers}
+use Rattle.phase.specs.Endings.{outcome_then}
 use Rattle.write_op.specs.declared.step.WriteEnd.{WriteEnd}
 use Rattle.write_op.specs.declared.step.WriteEnd.TheVariants as ends
 use Rattle.write_op.specs.declared.step.WriteStep.{WriteStep}
@@ -45,8 +48,8 @@ use Rattle.write_op.specs.declared.step.WriteStep.TheVariants as step
 use Rattle.write_op.specs.declared.step.Stage.{Stage}
 use Rattle.write_op.specs.declared.op.WriteOp.{WriteOp}
 use Rattle.part.specs.Outcomes.{Outcome, replied, again, stale, off}
-use Rattle.write_op.specs.Search.{found, room_in, visits, record_at, brought, stash_index, leaves_note, unnoted, has_finger}
-use Rattle.write_op.specs.Steps.{lock_of, end_of, kept_in}
+use Rattle.write_op.specs.Search.{found, room_in, visits, record_at, stash_index, leaves_note, unnoted, has_finger}
+use Rattle.write_op.specs.Steps.{lock_of, kept_in}
 
 -- ---- the words of the buckets that are locked
 module _ (task : Task) (seen : Seen) where
@@ -114,10 +117,11 @@ module _ (task : Task) (seen : Seen) where
   note_kind Mark note = mark_kind (has_finger seen note) (lock_of task seen note.place + 1) note.mark
   note_kind Fingers note = repays (lock_of task seen note.place + 3) note.fingers owed
 
+  -- the second look at the header pins it under the lock of the home bucket
   abbrev pub kind_at : WriteStep → ℕ → Kind
   kind_at (Way walk) n = walk_kind task.site task.hash walk
   kind_at (Lock place take) n = take_kind (lock_of task seen place) take
-  kind_at (Check back) n = back_kind task.site task.hash seen.path back
+  kind_at (Check back) n = back_kind task.site task.hash seen.path (pins seen.path.segment (home_of task.hash)) back
   kind_at (Fill place load) n = learns (lock_of task seen place + load.next % 32)
   kind_at Count n = count_kind n
   kind_at (step.Make make) n = make_kind publish_kind (lock_of task seen seen.place) seen.written make
@@ -153,14 +157,25 @@ IsInserting (Insert value) = ⊤
 IsInserting (Update value) = ⊥
 IsInserting Remove = ⊥
 
+-- THE HEADER that was found on the way is pinned, and leads to the hash, so that the segment owns the key
+pub record IsPinned (site : Site) (hash : ℕ) (path : Path) (pinned : List (ℕ × ℕ)) : Type 0 where
+  pub leads : Leads site hash path.segment pinned
+  pub same : leads.head ≡ path.head
+
 -- ---- what is held, known and owed
 module _ (site : Site) (task : Task) (seen : Seen) where
-  -- THE LOCKS before the n-th are held in the segment that owns the key, and the words of the buckets before the m-th are known
+  -- THE LOCKS before the n-th are held in a segment that is live and current, and the words of the buckets before the m-th are known
   pub record HasLoaded (n m : ℕ) (v : View) : Type 0 where
-    pub leads : Leads site task.hash seen.path.segment
+    pub there : IsThere site seen.path.segment v.facts
     pub locks : HoldsLocks task.site task.hash seen.path.segment seen.held v
     pub upto : HoldsUpto seen n
     pub whole : (place : Place) → Upto seen m place → IsWhole (lock_of task seen place) (words_in seen.buckets place) v
+
+  -- it is so where the lock of a stash bucket is taken, which comes behind the second look
+  abbrev pub PinnedAt : Place → View → Type 0
+  PinnedAt First v = IsPinned site task.hash seen.path v.pinned
+  PinnedAt Second v = IsPinned site task.hash seen.path v.pinned
+  PinnedAt near v = ⊤
 
   -- what holds beside, of each bucket
   abbrev pub VisitsAt : Place → Type 0
@@ -172,7 +187,8 @@ module _ (site : Site) (task : Task) (seen : Seen) where
 
   -- all locks are held, and all words of their buckets are known or are to be as they were stored
   pub record HasAll (v : View) : Type 0 where
-    pub leads : Leads site task.hash seen.path.segment
+    pub there : IsThere site seen.path.segment v.facts
+    pub pinned : IsPinned site task.hash seen.path v.pinned
     pub locks : HoldsLocks task.site task.hash seen.path.segment seen.held v
     pub upto : HoldsUpto seen 4
     pub visits : IsVisiting task seen
@@ -258,11 +274,11 @@ module _ (site : Site) (task : Task) (seen : Seen) where
 
   -- THE VIEW in each step
   abbrev pub SuitsStep : WriteStep → View → Type 0
-  SuitsStep (Way walk) v = HoldsOnly [] v × IsWalking site task.hash walk × (seen.held ≡ none_held)
-  SuitsStep (Lock place take) v = HasLoaded (index place) (loaded_by place) v × IsQuiet v × VisitsAt place × IsTaking take
+  SuitsStep (Way walk) v = HoldsOnly [] v × IsWalking site walk v.facts × (seen.held ≡ none_held)
+  SuitsStep (Lock place take) v = HasLoaded (index place) (loaded_by place) v × IsQuiet v × VisitsAt place × IsTaking take × PinnedAt place v
   SuitsStep (Check back) v = HasLoaded 2 0 v × IsQuiet v
-  SuitsStep (Fill place load) v = HasLoaded (looked_by place) (index place) v × IsQuiet v × VisitsAt place × IsLoading (lock_of task seen place) v.known load
-  SuitsStep Count v = HasLoaded 4 4 v × IsQuiet v × IsVisiting task seen
+  SuitsStep (Fill place load) v = HasLoaded (looked_by place) (index place) v × IsQuiet v × VisitsAt place × IsLoading (lock_of task seen place) v.known load × IsPinned site task.hash seen.path v.pinned
+  SuitsStep Count v = HasLoaded 4 4 v × IsQuiet v × IsVisiting task seen × IsPinned site task.hash seen.path v.pinned
   SuitsStep (step.Make make) v = IsChanging make v
   SuitsStep Draw v = IsDrawing v
   SuitsStep (Unnote part place) v = IsUnnoting part v
@@ -274,10 +290,10 @@ module _ (site : Site) (task : Task) (seen : Seen) where
 abbrev pub SuitsStage : Site → Task → Stage → View → Type 0
 SuitsStage site task stage v = SuitsStep site task stage.seen stage.step v
 
--- the change runs in this image, in which no split is under way, and its hash is its key's
+-- the change runs in this image, with its version, and its hash is its key's
 pub record IsIn (site : Site) (task : Task) : Type 0 where
   pub shape : task.site.geometry ≡ site.shape
-  pub straight : IsStraight site
+  pub version : task.site.version ≡ version_of site
   pub hash : task.hash ≡ key_hash site.shape task.change.key
   pub fits : task.hash < 2 ^ 64
 
@@ -312,6 +328,6 @@ outcome_of ends.Off = Some off
 -- the locks may still be given back, and a note be taken away
 abbrev pub outcome_at : WriteStep → Option Outcome
 outcome_at (Unnote part place) = Some (replied reply.Done place)
-outcome_at (Give held end) = outcome_of (end_of end)
+outcome_at (Give held end) = Some (outcome_then end)
 outcome_at (Ended end) = outcome_of end
 outcome_at more = None

@@ -8,9 +8,9 @@ use Rattle.part.specs.Outcomes.{IsDone}
 use Rattle.phase.specs.Making.{make_left, waiting_of, IsPublished}
 use Rattle.phase.specs.Giving.{give_left}
 use Rattle.write_op.specs.declared.step.WriteEnd.TheVariants as ends
-use Rattle.write_op.specs.declared.step.Ending.TheVariants as ending
-use Rattle.write_op.specs.declared.step.NoteWord.{NoteWord}
-use Rattle.write_op.specs.declared.step.NoteWord.TheVariants.{Mark, Fingers}
+use Rattle.phase.specs.declared.note.NoteWord.{NoteWord}
+use Rattle.phase.specs.declared.note.NoteWord.TheVariants.{Mark, Fingers}
+use Rattle.phase.specs.Endings.{HasMadeThen}
 use Rattle.write_op.specs.declared.step.WriteStep.{WriteStep}
 use Rattle.write_op.specs.declared.step.WriteStep.TheVariants.{Way, Lock, Check, Fill, Count, Draw, Unnote, CountSpent, Give, Ended}
 use Rattle.write_op.specs.declared.step.WriteStep.TheVariants as step
@@ -64,6 +64,6 @@ abbrev pub HasMadeAt : WriteStep → Type 0
 HasMadeAt (step.Make make) = IsPublished make
 HasMadeAt Draw = ⊤
 HasMadeAt (Unnote part place) = ⊤
-HasMadeAt (Give held (ending.Replied answer place)) = IsDone answer
+HasMadeAt (Give held end) = HasMadeThen end
 HasMadeAt (Ended (ends.Replied answer place)) = IsDone answer
 HasMadeAt more = ⊥

@@ -16,6 +16,7 @@ use Rattle.phase.specs.declared.place.Place.TheVariants.{Home, Probing, First, S
 use Rattle.phase.specs.declared.kept.Buckets.{Buckets}
 use Rattle.phase.specs.declared.make.Record.{Record}
 use Rattle.phase.specs.Buckets.{words_in}
+use Rattle.phase.specs.Makes.{brought}
 use Rattle.write_op.specs.declared.step.Task.{Task}
 use Rattle.write_op.specs.declared.step.Spot.{Spot}
 use Rattle.write_op.specs.declared.step.Seen.{Seen}
@@ -73,12 +74,6 @@ abbrev pub published_mark : Deed → Place → ℕ → ℕ → ℕ
 published_mark (Insert value) place w1 slot = taken_mark place w1 slot
 published_mark (Update value) place w1 slot = value
 published_mark Remove place w1 slot = removed_mark w1 slot
-
--- the value that a change brings, and 0 where it brings none
-abbrev pub brought : Deed → ℕ
-brought (Insert value) = value
-brought (Update value) = value
-brought Remove = 0
 
 -- what is stored of the record of a change, in a slot of a bucket with these words
 abbrev pub record_in : Task → Place → List ℕ → ℕ → Record

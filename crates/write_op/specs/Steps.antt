@@ -1,9 +1,7 @@
 -- What a change wants in each step, and what an answer makes of it.
-use Rattle.std.specs.Prelude.{ℕ, ◌+◌, ◌%◌, ◌^◌, ◌==◌, nat_le, ⊤, Bool, true, false, Option, None, Some, is_none, List, if◌then◌else◌}
-use Rattle.segment_head.specs.HeadWord.{state_in, normal}
+use Rattle.std.specs.Prelude.{ℕ, ◌+◌, ◌%◌, ◌^◌, nat_le, ⊤, Bool, true, false, Option, None, Some, is_none, List, if◌then◌else◌}
 use Rattle.image_layout.specs.Volatile.{counter_word}
 use Rattle.sound_image.specs.Records.{key_hash}
-use Rattle.way.specs.Ways.{head_word}
 use Rattle.op_core.specs.declared.want.Want.{Want}
 use Rattle.op_core.specs.declared.want.Want.TheVariants as want
 use Rattle.op_core.specs.declared.want.Ans.{Ans}
@@ -47,12 +45,12 @@ use Rattle.write_op.specs.declared.search.NoteWords.{NoteWords}
 use Rattle.write_op.specs.declared.step.Task.{Task}
 use Rattle.write_op.specs.declared.step.WriteEnd.{WriteEnd}
 use Rattle.write_op.specs.declared.step.WriteEnd.TheVariants as ends
-use Rattle.write_op.specs.declared.step.Ending.{Ending}
-use Rattle.write_op.specs.declared.step.Ending.TheVariants as ending
+use Rattle.phase.specs.declared.ending.Ending.{Ending}
+use Rattle.phase.specs.declared.ending.Ending.TheVariants as ending
 use Rattle.write_op.specs.declared.step.Spot.{Spot}
 use Rattle.write_op.specs.declared.step.Seen.{Seen}
-use Rattle.write_op.specs.declared.step.NoteWord.{NoteWord}
-use Rattle.write_op.specs.declared.step.NoteWord.TheVariants.{Mark, Fingers}
+use Rattle.phase.specs.declared.note.NoteWord.{NoteWord}
+use Rattle.phase.specs.declared.note.NoteWord.TheVariants.{Mark, Fingers}
 use Rattle.write_op.specs.declared.step.WriteStep.{WriteStep}
 use Rattle.write_op.specs.declared.step.WriteStep.TheVariants.{Way, Lock, Check, Fill, Count, Draw, Unnote, CountSpent, Give, Ended}
 use Rattle.write_op.specs.declared.step.WriteStep.TheVariants as step
@@ -88,18 +86,16 @@ answered seen place answer = give seen (ending.Replied answer place)
 abbrev pub amiss : ℕ → ℕ → WriteStep
 amiss word value = Ended (ends.Again (Moved word value value))
 
--- a change can use a segment whose header is a normal one
-abbrev pub arrived : Task → Seen → Path → Stage
-arrived task seen path =
-    if state_in path.head == normal then go (record seen { path = path }) (Lock Home Look)
-    else go seen (amiss (head_word task.site.geometry path.segment) path.head)
+-- a segment is locked whatever its header is; that it leads to the hash is asked under the locks
+abbrev pub arrived : Seen → Path → Stage
+arrived seen path = go (record seen { path = path }) (Lock Home Look)
 
-abbrev pub walked_to : Task → Seen → Walked → Stage
-walked_to task seen (walked.On walk) = go seen (Way walk)
-walked_to task seen (walked.There path) = arrived task seen path
-walked_to task seen walked.Off = go seen (Ended ends.Off)
-walked_to task seen (walked.Amiss word value) = go seen (amiss word value)
-walked_to task seen (walked.Stale segment version) = go seen (Ended (ends.Stale segment version))
+abbrev pub walked_to : Seen → Walked → Stage
+walked_to seen (walked.On walk) = go seen (Way walk)
+walked_to seen (walked.There path) = arrived seen path
+walked_to seen walked.Off = go seen (Ended ends.Off)
+walked_to seen (walked.Amiss word value) = go seen (amiss word value)
+walked_to seen (walked.Stale segment version) = go seen (Ended (ends.Stale segment version))
 
 -- ---- locks
 abbrev pub locked : Place → WriteStep
@@ -204,7 +200,7 @@ module _ (task : Task) (seen : Seen) where
 
   -- WHAT AN ANSWER makes of it; one of another kind than was asked for leaves it as it is
   abbrev pub next_in : WriteStep → Ans → Stage
-  next_in (Way walk) (Value n) = walked_to task seen (walk_taken task.site task.hash walk n)
+  next_in (Way walk) (Value n) = walked_to seen (walk_taken task.site task.hash walk n)
   next_in (Lock place take) ans = locked_to seen place (lock_of place) (take_taken take ans)
   next_in (Check back) (Value n) = backed_to seen (back_taken task.site task.hash seen.path back n)
   next_in (Fill place load) (Value n) = filled_to task.hash seen place (load_taken load n)
@@ -263,7 +259,7 @@ is_without_slot more = false
 
 -- what it hands on then
 abbrev pub kept_in : Task → Seen → Kept
-kept_in task seen = record { site = task.site; change = task.change; hash = task.hash; segment = seen.path.segment; held = seen.held; buckets = seen.buckets }
+kept_in task seen = record { site = task.site; change = task.change; hash = task.hash; segment = seen.path.segment; head = seen.path.head; held = seen.held; buckets = seen.buckets }
 
 abbrev pub kept_of : WriteOp → Kept
 kept_of op = kept_in op.task op.stage.seen

@@ -5,9 +5,11 @@ ghost use Rattle.image_layout.specs.Places.{most_words};
 ghost use Rattle.write_op.specs.Steps.{lock_of, note_wanted, wanted_in};
 
 use crate::search::{NoteWords, unnoted};
-use crate::step::{NoteWord, Seen, Task, WriteStep};
+use crate::step::{Seen, Task, WriteStep};
 use op_core::Want;
-use phase::{Place, back_want, give_want, load_want, lock_word, make_want, take_want, walk_want};
+use phase::{
+    NoteWord, Place, back_want, give_want, load_want, lock_word, make_want, take_want, walk_want,
+};
 
 /// The lock word of a bucket.
 pub fn lock_of(task: &Task, seen: &Seen, place: Place) -> u64

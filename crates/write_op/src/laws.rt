@@ -3,7 +3,7 @@
 ghost use Rattle.part.specs.Part.{IsPart};
 ghost use Rattle.part.specs.Causes.{EndsByCause};
 ghost use Rattle.write_op.specs.ChangePart.{change_part, BeginsAsPart, BeginsBare, BeginsRemembering, BeginsUndecided, HandsOnAll, HandsOnRemembering, NeverFinished};
-ghost use Rattle.write_op.specs.AnyMemory.{EventsHaveKinds, KeepsLoads};
+ghost use Rattle.write_op.specs.AnyMemory.{EventsHaveKinds, KeepsLoads, TriesFree, AsksInside, AgainByOthers};
 ghost use Rattle.write_op.specs.Causes.{PublishesThere, MadeOnlySo, InsertsWhereFewer, RepliesAsSeen, NeverBusy, NeverStale};
 ghost use Rattle.write_op.specs.Ends.{EndsAsSaid};
 
@@ -11,7 +11,7 @@ ghost use Rattle.write_op.specs.Ends.{EndsAsSaid};
 /// other callers, and the view after it suits the next step; it ends in time, asks for words of the image, puts words there, leaves
 /// no line waiting, and makes its change with one store, once. It begins with a caller that holds and owes nothing; where it finds no
 /// slot it hands on its locks and what it knows; else it ends bare, with a reply, or to be made again, stale or off. Each of its
-/// outcomes has its cause, in what its attempt did, where no segment is being split.
+/// outcomes has its cause, in what its attempt did.
 pub fn changes_are_parts()
     ensures part { IsPart change_part }
     ensures causes { EndsByCause change_part }
@@ -40,12 +40,16 @@ pub fn replies_are_as_seen()
 {}
 
 /// Whatever words its events find, each of them is of its kind, and what a change keeps was loaded by its attempt, which changed its
-/// locks alone before its stores.
+/// locks alone before its stores. A lock is tried with a free value that has a next version. Each event asks for a word of the image, or
+/// for one right behind it. And an attempt that is told to try again has not changed the word that it is told.
 /// In a world, beside any other callers: where nobody else has a lock none is found taken, and where each live segment has the
 /// site's version none is stale.
 pub fn ends_have_causes()
     ensures kinds { EventsHaveKinds }
     ensures loads { KeepsLoads }
+    ensures tries { TriesFree }
+    ensures inside { AsksInside }
+    ensures others { AgainByOthers }
     ensures alone { NeverBusy }
     ensures current { NeverStale }
 {}

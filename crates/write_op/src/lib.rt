@@ -17,7 +17,7 @@ pub use laws::{
     changes_are_made_once, changes_are_parts, ends_have_causes, ends_tell, replies_are_as_seen,
 };
 pub use op::WriteOp;
-pub use step::{Ending, NoteWord, Seen, Spot, Stage, Task, WriteEnd, WriteStep};
+pub use step::{Seen, Spot, Stage, Task, WriteEnd, WriteStep};
 
 #[cfg(test)]
 mod tests;

@@ -118,6 +118,7 @@ impl WriteOp {
             change: task.change,
             hash: task.hash,
             segment: seen.path.segment,
+            head: seen.path.head,
             held: seen.held,
             buckets: seen.buckets,
         }

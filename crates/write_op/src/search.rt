@@ -4,7 +4,7 @@
 ghost use Rattle.std.specs.Prelude.{◌≡◌, ℕ, ◌<◌, IfSome, slice_index};
 ghost use Rattle.bucket_meta.specs.Bucket.{record_slots};
 ghost use Rattle.bucket_meta.specs.MetaWords.{IsMetaOf};
-ghost use Rattle.write_op.specs.Search.{spot_or, slot_in, found, room_in, visits, taken_mark, published_word, published_mark, brought, record_in, record_at, stash_index, leaves_note, freed_or, unnoted_by, unnoted, has_finger};
+ghost use Rattle.write_op.specs.Search.{spot_or, slot_in, found, room_in, visits, taken_mark, published_word, published_mark, record_in, record_at, stash_index, leaves_note, freed_or, unnoted_by, unnoted, has_finger};
 
 use crate::step::{Seen, Spot, Task};
 use balance::{Choice, choose};
@@ -15,7 +15,7 @@ use bucket_meta::words::{
 };
 use hash_word::finger;
 use map_model::Deed;
-use phase::{Buckets, Place, Record};
+use phase::{Buckets, Place, Record, brought};
 
 // ---- where the key stands, and where a slot is free
 
@@ -125,16 +125,6 @@ fn published_mark(deed: Deed, place: Place, w1: u64, slot: u8) -> u64
         Deed::Insert(_) => taken_mark(place, w1, slot),
         Deed::Update(value) => value,
         Deed::Remove => removed_mark(w1, slot),
-    }
-}
-
-/// The value that a change brings, and 0 where it brings none.
-fn brought(deed: Deed) -> u64
-    ensures { result ≡ brought deed }
-{
-    match deed {
-        Deed::Insert(value) | Deed::Update(value) => value,
-        Deed::Remove => 0,
     }
 }
 

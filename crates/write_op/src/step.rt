@@ -2,7 +2,7 @@
 
 use map_model::{Change, Reply};
 use op_core::Why;
-use phase::{Back, Buckets, Held, Load, Make, Path, Place, Record, Take, Walk};
+use phase::{Back, Buckets, Ending, Held, Load, Make, NoteWord, Path, Place, Record, Take, Walk};
 use world::Site;
 
 /// What stays the same in an attempt.
@@ -31,15 +31,6 @@ pub enum WriteEnd {
     Off,
 }
 
-/// How an attempt is to end once all its locks are given back.
-#[derive(Clone, Copy, Debug, PartialEq, Eq)]
-pub enum Ending {
-    /// It is answered, with its place.
-    Replied(Reply, u64),
-    /// It is to be made again.
-    Again(Why),
-}
-
 /// A record slot of one of the buckets.
 #[derive(Clone, Copy, Debug, PartialEq, Eq)]
 pub struct Spot {
@@ -66,15 +57,6 @@ pub struct Seen {
     pub place: Place,
     /// What is stored of that record.
     pub written: Record,
-}
-
-/// Which of the words of a note is to be stored next.
-#[derive(Clone, Copy, Debug, PartialEq, Eq)]
-pub enum NoteWord {
-    /// The metadata word.
-    Mark,
-    /// The word behind it that has the fingerprint of the note.
-    Fingers,
 }
 
 /// Which event a change does next.

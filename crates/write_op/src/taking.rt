@@ -6,15 +6,13 @@ ghost use Rattle.write_op.specs.Steps.{end_of, giving, give, answered, amiss, ar
 
 use crate::asking::lock_of;
 use crate::search::{found, has_finger, leaves_note, record_at, room_in, unnoted, visits};
-use crate::step::{Ending, NoteWord, Seen, Spot, Stage, Task, WriteEnd, WriteStep};
+use crate::step::{Seen, Spot, Stage, Task, WriteEnd, WriteStep};
 use map_model::{Deed, Reply};
 use op_core::{Ans, Why};
 use phase::{
-    Back, Backed, Held, Load, Made, Make, Path, Place, Take, Taken, Walked, back_next, give_next,
-    given, load_put, make_next, take_next, walk_next,
+    Back, Backed, Ending, Held, Load, Made, Make, NoteWord, Path, Place, Take, Taken, Walked,
+    back_next, give_next, given, load_put, make_next, take_next, walk_next,
 };
-use segment_head::word::{NORMAL, state_of};
-use way::head_word;
 
 /// From this many changes on, the commit counter gives no place.
 const SPENT_COUNT: u64 = 1 << 63;
@@ -68,25 +66,21 @@ fn amiss(word: u64, seen: u64) -> WriteStep
 
 // ---- the way
 
-/// The segment is found: a change can use it if its header is a normal one.
-fn arrived(task: &Task, stage: &mut Stage, path: Path)
-    ensures { stage.new ≡ arrived task.now stage.old.seen path }
+/// The segment is found: its locks are next. Whether its header leads to the hash is asked where it is looked at again, under them.
+fn arrived(stage: &mut Stage, path: Path)
+    ensures { stage.new ≡ arrived stage.old.seen path }
 {
-    if state_of(path.head) == NORMAL {
-        stage.seen.path = path;
-        stage.step = WriteStep::Lock(Place::Home, Take::Look);
-    } else {
-        stage.step = amiss(head_word(&task.site.geometry, path.segment), path.head);
-    }
+    stage.seen.path = path;
+    stage.step = WriteStep::Lock(Place::Home, Take::Look);
 }
 
 /// After a word on the way.
-fn walked_to(task: &Task, stage: &mut Stage, walked: Walked)
-    ensures { stage.new ≡ walked_to task.now stage.old.seen walked }
+fn walked_to(stage: &mut Stage, walked: Walked)
+    ensures { stage.new ≡ walked_to stage.old.seen walked }
 {
     match walked {
         Walked::On(walk) => stage.step = WriteStep::Way(walk),
-        Walked::There(path) => arrived(task, stage, path),
+        Walked::There(path) => arrived(stage, path),
         Walked::Off => stage.step = WriteStep::Ended(WriteEnd::Off),
         Walked::Amiss { word, seen } => stage.step = amiss(word, seen),
         Walked::Stale { segment, version } => {
@@ -314,7 +308,7 @@ fn take_at(task: &Task, stage: &mut Stage, ans: Ans)
     match (&stage.step, ans) {
         (WriteStep::Way(walk), Ans::Value(value)) => {
             let walked = walk_next(&task.site, task.hash, walk, value);
-            walked_to(task, stage, walked);
+            walked_to(stage, walked);
         }
         (WriteStep::Lock(place, take), ans) => {
             let (place, taken) = (*place, take_next(take, ans));

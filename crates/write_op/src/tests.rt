@@ -416,7 +416,7 @@ fn each_number_is_spent(rt: HostRuntime) -> Result<(), Fail> {
 
 #[test]
 fn way_is_amiss(rt: HostRuntime) -> Result<(), Fail> {
-    let table = [(8u64, 1), (32, 1), (65, 513), (65, 1)];
+    let table = [(8u64, 1), (32, 1), (65, 1)];
     for (word, value) in table {
         let end = with(&[(word, value)]).run(Deed::Remove)?;
         let why = Why::Moved {
@@ -442,6 +442,24 @@ fn way_is_amiss(rt: HostRuntime) -> Result<(), Fail> {
             after: 3,
         };
         assert_eq!(rt; end, WriteEnd::Again(why));
+        assert_eq!(rt; memory.word(96), 2);
+        assert_eq!(rt; memory.word(128), 2);
+    }
+    Ok(())
+}
+
+#[test]
+fn header_leads_away(rt: HostRuntime) -> Result<(), Fail> {
+    // one of a segment that is being split, and one of the other half of all hashes
+    for head in [513u64, 257 + (1 << 16) + (1 << 32)] {
+        let mut memory = with(&[(65, head)]);
+        let end = memory.run(Deed::Remove)?;
+        let why = Why::Moved {
+            word: 65,
+            before: head,
+            after: head,
+        };
+        assert_eq!(rt; end, (WriteEnd::Again(why), 13), "at {head}");
         assert_eq!(rt; memory.word(96), 2);
         assert_eq!(rt; memory.word(128), 2);
     }
@@ -483,6 +501,7 @@ fn both_full_are_handed_on(rt: HostRuntime) -> Result<(), Fail> {
     };
     assert_eq!(rt; kept.held, held);
     assert_eq!(rt; kept.segment, 0);
+    assert_eq!(rt; kept.head, 257);
     assert_eq!(rt; kept.buckets.home[1], COUNTED + ALL);
     assert_eq!(rt; kept.buckets.probing[1], ALL);
     for (lock, value) in LOCKS.into_iter().zip([1u64, 1, 5, 1]) {

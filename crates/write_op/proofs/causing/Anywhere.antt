@@ -1,11 +1,9 @@
 -- Whatever values its events find, what a change keeps was loaded: by which locks it holds at each of its steps.
 use Rattle.std.proofs.Common.{◌≡◌, ℕ, ◌^◌, ◌≤◌, Bool, true, false, Option, None, Some, List, [], ◌∷◌, refl, sym, subst, arith}
-use Rattle.std.specs.Prelude.{⊤, ◌==◌, nat_le, if◌then◌else◌}
+use Rattle.std.specs.Prelude.{⊤, nat_le, if◌then◌else◌}
 use Rattle.op_core.specs.declared.want.Ans.{Ans}
 use Rattle.op_core.specs.declared.want.Ans.TheVariants.{Value, Drawn, Passed}
 use Rattle.op_core.specs.declared.why.Why.TheVariants.{Busy, Moved}
-use Rattle.segment_head.specs.HeadWord.{state_in, normal}
-use Rattle.way.specs.Ways.{head_word}
 use Rattle.map_model.specs.declared.change.Deed.{Deed}
 use Rattle.map_model.specs.declared.change.Deed.TheVariants.{Insert, Update, Remove}
 use Rattle.map_model.specs.declared.entry.Reply.TheVariants as reply
@@ -39,24 +37,24 @@ use Rattle.phase.proofs.locks.Giving.{none_free}
 use Rattle.write_op.specs.declared.step.Task.{Task}
 use Rattle.write_op.specs.declared.step.Spot.{Spot}
 use Rattle.write_op.specs.declared.step.Seen.{Seen}
-use Rattle.write_op.specs.declared.step.Ending.{Ending}
-use Rattle.write_op.specs.declared.step.Ending.TheVariants as ending
-use Rattle.write_op.specs.declared.step.NoteWord.{NoteWord}
-use Rattle.write_op.specs.declared.step.NoteWord.TheVariants.{Mark, Fingers}
+use Rattle.phase.specs.declared.ending.Ending.{Ending}
+use Rattle.phase.specs.declared.ending.Ending.TheVariants as ending
+use Rattle.phase.specs.declared.note.NoteWord.{NoteWord}
+use Rattle.phase.specs.declared.note.NoteWord.TheVariants.{Mark, Fingers}
 use Rattle.write_op.specs.declared.step.WriteStep.{WriteStep}
 use Rattle.write_op.specs.declared.step.WriteStep.TheVariants.{Way, Lock, Check, Fill, Count, Draw, Unnote, CountSpent, Give, Ended}
 use Rattle.write_op.specs.declared.step.WriteStep.TheVariants as step
 use Rattle.write_op.specs.declared.step.Stage.{Stage}
 use Rattle.write_op.specs.declared.op.WriteOp.{WriteOp}
 use Rattle.write_op.specs.Search.{found, room_in, visits, leaves_note, unnoted, has_finger}
-use Rattle.write_op.specs.Steps.{go, given_by, giving, answered, amiss, walked_to, locked_to, lock_of, backed_to, visit_second, with_visits, filled, filled_to, inserting, changing, decided, made_to, unnoted_to, begun, next_in, wanted, taken}
+use Rattle.write_op.specs.Steps.{go, given_by, giving, answered, walked_to, locked_to, lock_of, backed_to, visit_second, with_visits, filled, filled_to, inserting, changing, decided, made_to, unnoted_to, begun, next_in, wanted, taken}
 use Rattle.write_op.specs.Fits.{is_asked, HoldsUpto}
 use Rattle.write_op.specs.AnyMemory.{after_all, did_all, HasLoadedKept, KeepsLoads}
 use Rattle.write_op.proofs.finding.Places.{never, holds_more, holds_less, held_asked}
 use Rattle.write_op.proofs.causing.Recalling.{recalls_next}
 
 -- the locks that are held are those before the one that is taken, and before the words that are loaded
-abbrev HoldsIn : Seen → WriteStep → Type 0
+abbrev pub HoldsIn : Seen → WriteStep → Type 0
 HoldsIn seen (Way w) = seen.held ≡ none_held
 HoldsIn seen (Lock place take) = HoldsUpto seen (index place) × (is_asked seen place ≡ true)
 HoldsIn seen (Check back) = HoldsUpto seen 2
@@ -85,10 +83,9 @@ none_holds seen none = record {
 }
 
 module _ (task : Task) (seen : Seen) where
-  walked_holds : seen.held ≡ none_held → (x : Walked) → Holds (walked_to task seen x)
+  walked_holds : seen.held ≡ none_held → (x : Walked) → Holds (walked_to seen x)
   walked_holds none (walked.On w) = none
-  walked_holds none (walked.There path) = both (state_in path.head == normal) (go (record seen { path = path }) (Lock Home Look))
-      (go seen (amiss (head_word task.site.geometry path.segment) path.head)) (record { these = (none_holds seen none).these; others = (none_holds seen none).others }, refl) tt
+  walked_holds none (walked.There path) = (record { these = (none_holds seen none).these; others = (none_holds seen none).others }, refl)
   walked_holds none walked.Off = tt
   walked_holds none (walked.Amiss word value) = tt
   walked_holds none (walked.Stale segment version) = tt
@@ -124,7 +121,7 @@ module _ (task : Task) (seen : Seen) where
   visits_holds : (s : Seen) → HoldsUpto s 2 → HoldsUpto (with_visits task.hash s) 2
   visits_holds s h = record {
     these = λ p u. h.these p (record { low = u.low; asked = near_asked s.first s.second p u.low });
-    others = λ p out. h.others p (λ u. out (record { low = u.low; asked = near_asked (visits task.hash s.buckets 0) (visits task.hash s.buckets 1) p u.low }));
+    others = λ p out. h.others p (λ u. out (record { low = u.low; asked = near_asked (with_visits task.hash s).first (with_visits task.hash s).second p u.low }));
   }
 
   -- a third bucket is none of those that are asked for
@@ -194,8 +191,17 @@ keeps_from op did [] h r = r
 keeps_from op did (n ∷ rest) h r =
     keeps_from (taken op (answer_to (wanted op) n)) (with_event_of (wanted op) (answer_to (wanted op) n) did) rest
     (next_holds op.task op.stage.seen op.stage.step (answer_to (wanted op) n) h)
-    (recalls_next (λ path. ⊤) op.task op.stage.seen op.stage.step n did r (λ w e path there. tt) (out op.task op.stage.seen op.stage.step h)
+    (recalls_next op.task op.stage.seen op.stage.step n did r (out op.task op.stage.seen op.stage.step h)
     (λ e place held. held_asked op.stage.seen (subst (λ z. HoldsIn op.stage.seen z) e h) place held))
 
 pub keeps_loads : KeepsLoads
 keeps_loads change here found = keeps_from (begun change here) nothing_done found refl (tt, refl)
+
+pub holds_from : (op : WriteOp) (found : List ℕ) → HoldsIn op.stage.seen op.stage.step → HoldsIn (after_all op found).stage.seen (after_all op found).stage.step
+holds_from op [] h = h
+holds_from op (n ∷ rest) h = holds_from (taken op (answer_to (wanted op) n)) rest (next_holds op.task op.stage.seen op.stage.step (answer_to (wanted op) n) h)
+
+-- its task stays
+pub same_task : (op : WriteOp) (found : List ℕ) → (after_all op found).task ≡ op.task
+same_task op [] = refl
+same_task op (n ∷ rest) = same_task (taken op (answer_to (wanted op) n)) rest

@@ -1,43 +1,38 @@
 -- Each outcome of a change has its cause, by the event that decides it; and who is told that a lock is taken does not hold it.
-use Rattle.std.proofs.Common.{◌≡◌, ℕ, ◌+◌, ◌-◌, ◌^◌, ◌<◌, ◌≤◌, Bool, true, false, inl, inr, refl, sym, ap, ◌∙◌, subst, arith}
-use Rattle.std.specs.Prelude.{⊤, ◌==◌, nat_le, nat_lt, if◌then◌else◌}
-use Rattle.std.proofs.lemmas.Bool.{lt-ltb, ltb-true, leb-true}
+use Rattle.std.proofs.Common.{◌≡◌, ℕ, ◌+◌, ◌-◌, ◌^◌, ◌<◌, ◌≤◌, true, inl, inr, refl, ap, subst, arith, slice_index}
+use Rattle.std.specs.Prelude.{⊤, if◌then◌else◌}
+use Rattle.std.proofs.lemmas.Bool.{lt-ltb, leb-true}
 use Rattle.std.proofs.lemmas.Option.{none-some}
 use Rattle.op_core.specs.declared.want.Want.{Want}
 use Rattle.op_core.specs.declared.want.Want.TheVariants as want
 use Rattle.op_core.specs.declared.want.Ans.{Ans}
 use Rattle.op_core.specs.declared.want.Ans.TheVariants.{Passed}
 use Rattle.op_core.specs.declared.why.Why.TheVariants.{Busy}
-use Rattle.hash_word.specs.Hash.{index_of}
-use Rattle.segment_head.specs.HeadWord.{state_in, normal}
 use Rattle.trace.specs.Events.{Words}
-use Rattle.image_layout.specs.Places.{Shape, root_word, entry_at, head_at, bucket_at}
+use Rattle.image_layout.specs.Places.{Shape, root_word, bucket_at, homes}
 use Rattle.image_layout.specs.Volatile.{counter_word}
-use Rattle.image_layout.proofs.Areas.{entry_before}
 use Rattle.sound_image.specs.Records.{key_hash}
-use Rattle.way.proofs.Indexes.{index_below}
-use Rattle.bucket_words.specs.Owners.{IsStructure}
-use Rattle.bucket_words.proofs.segments.Places.{not_structure}
 use Rattle.map_model.specs.declared.call.Call.{Call}
 use Rattle.map_model.specs.declared.entry.Reply.TheVariants as reply
 use Rattle.map_model.specs.Map.{key_of}
 use Rattle.world.specs.Views.{View, Has, HasLock}
 use Rattle.part.specs.Doings.{Doings}
 use Rattle.part.specs.Outcomes.{Outcome, replied, again}
-use Rattle.part.specs.Causes.{IsBucketOf, IsNamed, IsOwnLock, HasCause}
+use Rattle.part.specs.Causes.{NeedsBucket, IsNamed, IsOwnLock, HasCause}
 use Rattle.phase.specs.declared.place.Place.{Place}
-use Rattle.phase.specs.declared.walk.Path.{Path}
+use Rattle.phase.specs.declared.place.Place.TheVariants.{Home, Probing, First, Second, Next, Previous}
 use Rattle.phase.specs.declared.walk.Walk.{Walk}
 use Rattle.phase.specs.declared.walk.Walked.{Walked}
 use Rattle.phase.specs.declared.walk.Walked.TheVariants as walked
 use Rattle.phase.specs.declared.take.Take.{Take}
 use Rattle.phase.specs.declared.take.Taken.{Taken}
 use Rattle.phase.specs.declared.back.Back.{Back}
-use Rattle.phase.specs.declared.back.Back.TheVariants as back
 use Rattle.phase.specs.declared.back.Backed.{Backed}
 use Rattle.phase.specs.declared.load.Loaded.{Loaded}
 use Rattle.phase.specs.declared.make.Make.{Make}
-use Rattle.phase.specs.Places.{bucket_of, is_third}
+use Rattle.phase.specs.Places.{bucket_of}
+use Rattle.phase.specs.Asked.{index}
+use Rattle.phase.specs.Buckets.{words_in}
 use Rattle.phase.specs.Walks.{walk_wanted}
 use Rattle.phase.specs.Takes.{take_wanted}
 use Rattle.phase.specs.Backs.{back_word}
@@ -45,27 +40,18 @@ use Rattle.phase.specs.Makes.{make_taken}
 use Rattle.phase.specs.Causes.{WasFound, HasWalkCause, HasBackCause}
 use Rattle.phase.specs.Taking.{HasTakeCause}
 use Rattle.phase.proofs.Causing.{found_named}
-use Rattle.phase.proofs.Asked.{bucket_is}
-use Rattle.phase.proofs.locks.Giving.{bucket_near}
+use Rattle.phase.proofs.Asked.{near_asked, upto_up}
+use Rattle.phase.proofs.Needing.{must_visit_by, visit_needed}
 use Rattle.write_op.specs.declared.step.Task.{Task}
 use Rattle.write_op.specs.declared.step.Seen.{Seen}
-use Rattle.write_op.specs.declared.step.Ending.TheVariants as ending
+use Rattle.phase.specs.declared.ending.Ending.TheVariants as ending
 use Rattle.write_op.specs.declared.step.WriteStep.{WriteStep}
 use Rattle.write_op.specs.declared.step.WriteStep.TheVariants.{Way, Lock, Check, Fill, Count, Draw, Unnote, CountSpent, Give, Ended}
 use Rattle.write_op.specs.declared.step.WriteStep.TheVariants as step
+use Rattle.write_op.specs.Search.{visits}
+use Rattle.write_op.specs.ChangePart.{LoadedUpto, AsksFor}
 use Rattle.write_op.specs.Steps.{answered, walked_to, locked_to, backed_to, filled_to, counted, drawn_to, lock_of, next_in}
 use Rattle.write_op.proofs.causing.Told.{Told, gives, walked_told, locked_told, backed_told, filled_told, counted_told, made_told, drawn_told}
-use Rattle.write_op.proofs.finding.Places.{never}
-
--- ---- words on the way are no lock words
-module _ (shape : Shape) (few : shape.depth ≤ 16) (hash : ℕ) (fits : hash < 2 ^ 64) where
-  entry_structure : (root : ℕ) → root ≤ shape.depth → (b : Bool) → IsStructure shape (if b then entry_at root (index_of root hash) else root_word)
-  entry_structure root low true = inl (entry_before shape root (index_of root hash) low (index_below root hash (omega (arith, low, few)) fits))
-  entry_structure root low false = inl (omega arith)
-
-  head_structure : (segment : ℕ) (b : Bool) → nat_lt segment shape.segments ≡ b → IsStructure shape (if b then head_at shape segment + 1 else root_word)
-  head_structure segment true low = inr (segment, 1, ltb-true segment shape.segments low, omega arith, refl)
-  head_structure segment false low = inl (omega arith)
 
 module _ (task : Task) (words : Words) (did : Doings) (call : Call) (hash_is : task.hash ≡ key_hash task.site.geometry (key_of call)) (v : View) where
   abbrev g : Shape
@@ -85,10 +71,9 @@ module _ (task : Task) (words : Words) (did : Doings) (call : Call) (hash_is : t
 
   -- ---- the way
   module _ (seen : Seen) where
-    pub walked_caused : (w : Walk) (x : Walked) → ((word value : ℕ) → x ≡ walked.Amiss word value → ⊥) → ((path : Path) → x ≡ walked.There path → (state_in path.head == normal) ≡ true)
-        → HasWalkCause task.site task.hash words did call w x → CausedIf (walk_wanted task.site task.hash w) (walked_to task seen x).step
-    walked_caused w x good plain cause = walked_told (Caused (walk_wanted task.site task.hash w)) task seen x
-        (λ path is f. never (sym (plain path is) ∙ f))
+    pub walked_caused : (w : Walk) (x : Walked) → ((word value : ℕ) → x ≡ walked.Amiss word value → ⊥) → HasWalkCause task.site task.hash words did call w x
+        → CausedIf (walk_wanted task.site task.hash w) (walked_to seen x).step
+    walked_caused w x good cause = walked_told (Caused (walk_wanted task.site task.hash w)) task seen x
         (λ is. (subst (HasWalkCause task.site task.hash words did call w) is cause, tt))
         (λ word value is. absurd (good word value is))
         (λ segment byte is. (subst (HasWalkCause task.site task.hash words did call w) is cause, tt))
@@ -129,28 +114,35 @@ module _ (task : Task) (words : Words) (did : Doings) (call : Call) (hash_is : t
     lock_is : (place : Place) → lock_of task seen place ≡ bucket_at g seen.path.segment (bucket_of task.hash place)
     lock_is place = ap (λ b. if b then bucket_at g seen.path.segment (bucket_of task.hash place) else root_word) (lt-ltb seen.path.segment g.segments within)
 
-    pub own_lock : (place : Place) → is_third place ≡ false → IsOwnLock g words did call (lock_of task seen place)
-    own_lock place near = (
+    -- each that is asked for is needed
+    loaded : (place : Place) → LoadedUpto task seen did 2 → index place < 2 → (j : ℕ) → 1 ≤ j → j < 32
+        → Has (lock_of task seen place + j, slice_index (words_in seen.buckets place) j) did.loads
+    loaded place two near j from low = two place (record { low = near; asked = near_asked seen.first seen.second place near }) j from low
+
+    visited : (n : ℕ) → n < 2 → visits task.hash seen.buckets n ≡ true → LoadedUpto task seen did 2 → NeedsBucket g task.hash did.loads seen.path.segment call (homes + n)
+    visited n low noted two = visit_needed g task.hash did.loads seen.path.segment within call n low
+        (must_visit_by g task.hash did.loads seen.path.segment within n (slice_index seen.buckets.home 1) (slice_index seen.buckets.home 3)
+        (slice_index seen.buckets.probing 1) (slice_index seen.buckets.probing 3)
+        (loaded Home two (omega arith) 1 (omega arith) (omega arith)) (loaded Home two (omega arith) 3 (omega arith) (omega arith))
+        (loaded Probing two (omega arith) 1 (omega arith) (omega arith)) (loaded Probing two (omega arith) 3 (omega arith) (omega arith)) noted)
+
+    needed : (place : Place) → AsksFor task seen did place → NeedsBucket g task.hash did.loads seen.path.segment call (bucket_of task.hash place)
+    needed Home a = inl refl
+    needed Probing a = inr (inl refl)
+    needed First a = visited 0 (omega arith) a.reason.0 a.before
+    needed Second a = visited 1 (omega arith) a.reason (λ q u. a.before q (upto_up seen.first seen.second 2 3 q (omega arith) u))
+    needed Next a = absurd a.reason
+    needed Previous a = absurd a.reason
+
+    pub own_lock : (place : Place) → AsksFor task seen did place → IsOwnLock g words did call (lock_of task seen place)
+    own_lock place asks = (
       seen.path.segment,
       subst (λ m. IsNamed g m did.loads seen.path.segment) hash_is (found_named g task.hash did.loads seen.path path),
       within,
       bucket_of task.hash place,
-      subst (λ m. IsBucketOf call m (bucket_of task.hash place)) hash_is (bucket_is call task.hash place near),
+      subst (λ m. NeedsBucket g m did.loads seen.path.segment call (bucket_of task.hash place)) hash_is (needed place asks),
       lock_is place,
     )
 
-    pub spent_caused : (event : Want) (n : ℕ) (place : Place) → is_third place ≡ false → Has (lock_of task seen place, 2 ^ 64 - 2) did.loads → CausedIf event (answered seen n reply.Spent).step
-    spent_caused event n place near last = gives (Caused event) seen.held (ending.Replied reply.Spent n) (replied reply.Spent n) refl (inr (lock_of task seen place, own_lock place near, last), tt)
-
-    -- a word on the way is none of the locks that it changed
-    module _ (few : g.depth ≤ 16) (fits : task.hash < 2 ^ 64) where
-      back_structure : (at : Back) → IsStructure g (back_word task.site task.hash seen.path at)
-      back_structure back.Root = inl (omega arith)
-      back_structure back.Entry = entry_structure g few task.hash fits seen.path.root path.0.0.1 (nat_le seen.path.root g.depth)
-      back_structure back.Head = head_structure g few task.hash fits seen.path.segment (nat_lt seen.path.segment g.segments) refl
-
-      pub back_unchanged : (at : Back) → ((word : ℕ) → Has word did.changed → (place : Place) × (word ≡ lock_of task seen place)) → Has (back_word task.site task.hash seen.path at) did.changed → ⊥
-      back_unchanged at locks has =
-          let was = locks (back_word task.site task.hash seen.path at) has in
-          let at_bucket : back_word task.site task.hash seen.path at ≡ bucket_at g seen.path.segment (bucket_of task.hash was.0) = was.1 ∙ lock_is was.0 in
-          not_structure g seen.path.segment (bucket_of task.hash was.0) 0 (back_word task.site task.hash seen.path at) (bucket_near task.hash was.0) (omega arith) (omega (arith, at_bucket)) (back_structure at)
+    pub spent_caused : (event : Want) (n : ℕ) (place : Place) → AsksFor task seen did place → Has (lock_of task seen place, 2 ^ 64 - 2) did.loads → CausedIf event (answered seen n reply.Spent).step
+    spent_caused event n place asks last = gives (Caused event) seen.held (ending.Replied reply.Spent n) (replied reply.Spent n) refl (inr (lock_of task seen place, own_lock place asks, last), tt)

@@ -7,9 +7,7 @@ use Rattle.op_core.specs.declared.want.Want.TheVariants as want
 use Rattle.op_core.specs.declared.want.Ans.{Ans}
 use Rattle.op_core.specs.declared.want.Ans.TheVariants.{Value, Won, Lost, Drawn, Passed}
 use Rattle.op_core.specs.declared.why.Why.TheVariants.{Busy, Moved}
-use Rattle.segment_head.specs.HeadWord.{state_in, normal}
 use Rattle.image_layout.specs.Places.{Shape}
-use Rattle.way.specs.Ways.{head_word}
 use Rattle.map_model.specs.declared.change.Deed.{Deed}
 use Rattle.map_model.specs.declared.change.Deed.TheVariants.{Insert, Update, Remove}
 use Rattle.map_model.specs.declared.entry.Reply.TheVariants as reply
@@ -17,6 +15,7 @@ use Rattle.world.specs.declared.site.Site.{Site as Here}
 use Rattle.world.specs.Views.{Has}
 use Rattle.world.specs.Wants.{answer_to}
 use Rattle.world.specs.Kinds.{wanted as wanted_by}
+use Rattle.part.specs.Doings.{Doings, nothing_done}
 use Rattle.phase.specs.declared.place.Place.{Place}
 use Rattle.phase.specs.declared.place.Place.TheVariants.{Home, Probing, First, Second}
 use Rattle.phase.specs.declared.walk.Walked.{Walked}
@@ -25,6 +24,7 @@ use Rattle.phase.specs.declared.take.Take.{Take}
 use Rattle.phase.specs.declared.take.Take.TheVariants.{Look, Try}
 use Rattle.phase.specs.declared.take.Taken.{Taken}
 use Rattle.phase.specs.declared.take.Taken.TheVariants as taking
+use Rattle.phase.specs.declared.back.Back.{Back}
 use Rattle.phase.specs.declared.back.Backed.{Backed}
 use Rattle.phase.specs.declared.back.Backed.TheVariants as backed
 use Rattle.phase.specs.declared.load.Loaded.{Loaded}
@@ -47,20 +47,22 @@ use Rattle.phase.proofs.locks.Giving.{no_some, none_free, held_this, held_other,
 use Rattle.write_op.specs.declared.step.Task.{Task}
 use Rattle.write_op.specs.declared.step.Spot.{Spot}
 use Rattle.write_op.specs.declared.step.Seen.{Seen}
-use Rattle.write_op.specs.declared.step.Ending.{Ending}
-use Rattle.write_op.specs.declared.step.Ending.TheVariants as ending
-use Rattle.write_op.specs.declared.step.NoteWord.{NoteWord}
-use Rattle.write_op.specs.declared.step.NoteWord.TheVariants.{Mark, Fingers}
+use Rattle.phase.specs.declared.ending.Ending.{Ending}
+use Rattle.phase.specs.declared.ending.Ending.TheVariants as ending
+use Rattle.phase.specs.declared.note.NoteWord.{NoteWord}
+use Rattle.phase.specs.declared.note.NoteWord.TheVariants.{Mark, Fingers}
 use Rattle.write_op.specs.declared.step.WriteStep.{WriteStep}
 use Rattle.write_op.specs.declared.step.WriteStep.TheVariants.{Way, Lock, Check, Fill, Count, Draw, Unnote, CountSpent, Give, Ended}
 use Rattle.write_op.specs.declared.step.WriteStep.TheVariants as step
 use Rattle.write_op.specs.declared.step.Stage.{Stage}
 use Rattle.write_op.specs.declared.op.WriteOp.{WriteOp}
 use Rattle.write_op.specs.Search.{found, room_in, leaves_note, unnoted, has_finger}
-use Rattle.write_op.specs.Steps.{go, given_by, giving, answered, amiss, walked_to, locked_to, lock_of, backed_to, visit_second, visit_first, with_visits, filled, filled_to, inserting, changing, decided, made_to, unnoted_to, begun, wanted_in, next_in, wanted, taken}
+use Rattle.write_op.specs.Steps.{go, given_by, giving, answered, walked_to, locked_to, lock_of, backed_to, visit_second, visit_first, with_visits, filled, filled_to, inserting, changing, decided, made_to, unnoted_to, begun, wanted_in, next_in, wanted, taken}
 use Rattle.write_op.specs.Fits.{kind_of}
-use Rattle.write_op.specs.AnyMemory.{after_all, EventsHaveKinds}
+use Rattle.write_op.specs.ChangePart.{RemembersIn}
+use Rattle.write_op.specs.AnyMemory.{after_all, did_all, EventsHaveKinds, TriesFree}
 use Rattle.write_op.proofs.parts.Fitting.{wants_by}
+use Rattle.write_op.proofs.causing.Anywhere.{keeps_loads}
 
 -- ---- free values
 -- each lock that is held was taken with a free value that has a next one
@@ -149,10 +151,9 @@ giving_takes : (seen : Seen) (held : Held) (end : Ending) → MayGive held → T
 giving_takes seen held end g = given_takes seen (give_next held) held end g
 
 module _ (task : Task) (seen : Seen) (g : MayGive seen.held) where
-  walked_takes : (x : Walked) → Takes (walked_to task seen x)
+  walked_takes : (x : Walked) → Takes (walked_to seen x)
   walked_takes (walked.On w) = g
-  walked_takes (walked.There path) = both (state_in path.head == normal) (go (record seen { path = path }) (Lock Home Look))
-      (go seen (amiss (head_word task.site.geometry path.segment) path.head)) (g, tt) tt
+  walked_takes (walked.There path) = (g, tt)
   walked_takes walked.Off = tt
   walked_takes (walked.Amiss word value) = tt
   walked_takes (walked.Stale segment version) = tt
@@ -239,11 +240,24 @@ takes_from op [] words h = h
 takes_from op (n ∷ rest) words h =
     takes_from (taken op (answer_to (wanted op) n)) rest (λ m has. words m (inr has)) (next_takes op.task op.stage.seen op.stage.step n (words n (inl refl)) h)
 
-has_kind : (op : WriteOp) (n : ℕ) → TakesIn op.stage.seen op.stage.step → wanted op ≢ want.Done → wanted op ≡ wanted_by op.task.site.geometry (kind_of op n)
-has_kind op n h asks = wants_by op.task.site.geometry op.task op.stage.seen refl op.stage.step n
+has_kind : (op : WriteOp) (n : ℕ) → TakesIn op.stage.seen op.stage.step → ((back : Back) → op.stage.step ≡ Check back → op.stage.seen.path.segment < op.task.site.geometry.segments)
+    → wanted op ≢ want.Done → wanted op ≡ wanted_by op.task.site.geometry (kind_of op n)
+has_kind op n h within asks = wants_by op.task.site.geometry op.task op.stage.seen refl op.stage.step n
     (λ place take e. let at : TakesIn op.stage.seen (Lock place take) = subst (λ z. TakesIn op.stage.seen z) e h in at.1)
+    within
     (λ held end e some. let at : TakesIn op.stage.seen (Give held end) = subst (λ z. TakesIn op.stage.seen z) e h in
     gives_by op.task.site.geometry op.task.site op.task.hash op.stage.seen.path.segment held at (give_next held) refl some) asks
 
 pub events_have_kinds : EventsHaveKinds
-events_have_kinds change here found n words asks = has_kind (after_all (begun change here) found) n (takes_from (begun change here) found words none_give) asks
+events_have_kinds change here found n words asks =
+    let op : WriteOp = after_all (begun change here) found in
+    let did : Doings = did_all (begun change here) found nothing_done in
+    has_kind op n (takes_from (begun change here) found words none_give)
+    (λ back e. let kept : RemembersIn op.task op.stage.seen did (Check back) = subst (λ z. RemembersIn op.task op.stage.seen did z) e (keeps_loads change here found) in kept.0.0.2) asks
+
+-- a lock is tried with a free value
+pub tries_free : TriesFree
+tries_free change here found words place free e =
+    let op : WriteOp = after_all (begun change here) found in
+    let at : TakesIn op.stage.seen (Lock place (Try free)) = subst (λ z. TakesIn op.stage.seen z) e (takes_from (begun change here) found words none_give) in
+    at.1

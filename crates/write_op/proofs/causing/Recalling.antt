@@ -4,9 +4,7 @@ use Rattle.std.specs.Prelude.{⊤, ◌==◌, nat_le, if◌then◌else◌}
 use Rattle.op_core.specs.declared.want.Ans.{Ans}
 use Rattle.op_core.specs.declared.want.Ans.TheVariants.{Value, Won, Lost, Passed}
 use Rattle.op_core.specs.Answers.{change_of}
-use Rattle.segment_head.specs.HeadWord.{state_in, normal}
 use Rattle.image_layout.specs.Volatile.{counter_word}
-use Rattle.way.specs.Ways.{head_word}
 use Rattle.map_model.specs.declared.change.Deed.{Deed}
 use Rattle.map_model.specs.declared.change.Deed.TheVariants.{Insert, Update, Remove}
 use Rattle.map_model.specs.declared.entry.Reply.TheVariants as reply
@@ -15,7 +13,6 @@ use Rattle.world.specs.Wants.{answer_to}
 use Rattle.part.specs.Doings.{Doings, with_event_of}
 use Rattle.phase.specs.declared.place.Place.{Place}
 use Rattle.phase.specs.declared.place.Place.TheVariants.{Home, Probing, First, Second, Next, Previous}
-use Rattle.phase.specs.declared.walk.Path.{Path}
 use Rattle.phase.specs.declared.walk.Walk.{Walk}
 use Rattle.phase.specs.declared.walk.Walk.TheVariants as walk
 use Rattle.phase.specs.declared.walk.Walked.{Walked}
@@ -42,12 +39,11 @@ use Rattle.phase.specs.Helds.{with_held, free_of, give_next, given}
 use Rattle.phase.specs.Stands.{HasLoaded as HasLoadedWords}
 use Rattle.phase.specs.Taking.{RemembersTaken}
 use Rattle.phase.specs.Giving.{IsHeld}
-use Rattle.phase.specs.Places.{is_third}
 use Rattle.phase.specs.Asked.{index, loaded_by}
 use Rattle.phase.specs.Keeps.{WasLoaded}
 use Rattle.phase.specs.Buckets.{with_words, words_in}
 use Rattle.phase.specs.Causes.{WasFound, RemembersWalked}
-use Rattle.phase.proofs.Asked.{one_place, none_before, near_asked, upto_more, upto_less, upto_up}
+use Rattle.phase.proofs.Asked.{one_place, none_before, near_asked, upto_more, upto_less}
 use Rattle.phase.proofs.Wording.{words_this, words_other}
 use Rattle.phase.proofs.locks.Giving.{no_some, held_this, held_other}
 use Rattle.phase.proofs.Causing.{found_more, walk_remembers}
@@ -56,21 +52,21 @@ use Rattle.phase.proofs.Loading.{load_begins, load_stands}
 use Rattle.write_op.specs.declared.step.Task.{Task}
 use Rattle.write_op.specs.declared.step.Spot.{Spot}
 use Rattle.write_op.specs.declared.step.Seen.{Seen}
-use Rattle.write_op.specs.declared.step.Ending.{Ending}
-use Rattle.write_op.specs.declared.step.Ending.TheVariants as ending
+use Rattle.phase.specs.declared.ending.Ending.{Ending}
+use Rattle.phase.specs.declared.ending.Ending.TheVariants as ending
 use Rattle.write_op.specs.declared.step.WriteEnd.{WriteEnd}
 use Rattle.write_op.specs.declared.step.WriteEnd.TheVariants as ends
-use Rattle.write_op.specs.declared.step.NoteWord.{NoteWord}
-use Rattle.write_op.specs.declared.step.NoteWord.TheVariants.{Mark, Fingers}
+use Rattle.phase.specs.declared.note.NoteWord.{NoteWord}
+use Rattle.phase.specs.declared.note.NoteWord.TheVariants.{Mark, Fingers}
 use Rattle.write_op.specs.declared.step.WriteStep.{WriteStep}
 use Rattle.write_op.specs.declared.step.WriteStep.TheVariants.{Way, Lock, Check, Fill, Count, Draw, Unnote, CountSpent, Give, Ended}
 use Rattle.write_op.specs.declared.step.WriteStep.TheVariants as step
 use Rattle.write_op.specs.declared.step.Stage.{Stage}
-use Rattle.write_op.specs.Search.{found, room_in, leaves_note, unnoted, has_finger}
-use Rattle.write_op.specs.Steps.{kept_in, go, given_by, giving, answered, amiss, walked_to, locked_to, backed_to, visit_second, with_visits, filled_with, filled_to, inserting, changing, decided, made_to, drawn_to, unnoted_to, lock_of, wanted_in, next_in}
+use Rattle.write_op.specs.Search.{found, room_in, visits, leaves_note, unnoted, has_finger}
+use Rattle.write_op.specs.Steps.{kept_in, go, given_by, giving, answered, walked_to, locked_to, backed_to, visit_second, with_visits, filled_with, filled_to, inserting, changing, decided, made_to, drawn_to, unnoted_to, lock_of, wanted_in, next_in}
 use Rattle.write_op.specs.Fits.{is_asked, Upto}
-use Rattle.write_op.specs.ChangePart.{WasThere, ChangedOwn, LoadedUpto, LoadedHeld, RemembersIn}
-use Rattle.write_op.proofs.finding.Places.{never}
+use Rattle.write_op.specs.ChangePart.{HasReason, WasThere, ChangedOwn, LoadedUpto, LoadedHeld, AsksFor, RemembersIn}
+use Rattle.write_op.proofs.finding.Rooms.{room_none}
 use Rattle.write_op.proofs.keeping.Stepping.{walk_answer}
 
 has_more : (more loads : List (ℕ × ℕ)) (p : ℕ × ℕ) → Has p loads → Has p (more ++ loads)
@@ -83,82 +79,81 @@ walk_changes task walk.Root a = refl
 walk_changes task (walk.Entry root) a = refl
 walk_changes task (walk.Head root segment) a = refl
 
-module _ (EndsSo : Path → Type 0) (task : Task) where
+module _ (task : Task) where
   -- what a stage remembers
   abbrev pub Recalls : Stage → Doings → Type 0
-  Recalls stage d = RemembersIn EndsSo task stage.seen d stage.step
+  Recalls stage d = RemembersIn task stage.seen d stage.step
 
   both : (d : Doings) (b : Bool) (s t : Stage) → Recalls s d → Recalls t d → Recalls (if b then s else t) d
   both d true s t p q = p
   both d false s t p q = q
 
-  either : (seen : Seen) (d : Doings) (b : Bool) (s t : WriteStep) → RemembersIn EndsSo task seen d s → RemembersIn EndsSo task seen d t → RemembersIn EndsSo task seen d (if b then s else t)
+  either : (seen : Seen) (d : Doings) (b : Bool) (s t : WriteStep) → RemembersIn task seen d s → RemembersIn task seen d t → RemembersIn task seen d (if b then s else t)
   either seen d true s t p q = p
   either seen d false s t p q = q
 
   -- ---- with more that was loaded
   module _ (seen : Seen) (d e : Doings) (more : List (ℕ × ℕ)) (is : e.loads ≡ more ++ d.loads) where
-    there_more : WasThere EndsSo task seen d → WasThere EndsSo task seen e
-    there_more r = (
-      subst (λ l. WasFound task.site.geometry task.hash l seen.path) (sym is) (found_more task.site.geometry task.hash more d.loads seen.path r.0),
-      r.1,
-    )
+    there_more : WasThere task seen d → WasThere task seen e
+    there_more r = subst (λ l. WasFound task.site.geometry task.hash l seen.path) (sym is) (found_more task.site.geometry task.hash more d.loads seen.path r)
 
-    loaded_more : (n : ℕ) → LoadedUpto EndsSo task seen d n → LoadedUpto EndsSo task seen e n
+    loaded_more : (n : ℕ) → LoadedUpto task seen d n → LoadedUpto task seen e n
     loaded_more n r place u j from low =
         subst (λ l. Has (lock_of task seen place + j, slice_index (words_in seen.buckets place) j) l) (sym is) (has_more more d.loads _ (r place u j from low))
 
   -- nothing has to be loaded before the first
-  none_loaded : (seen : Seen) (d : Doings) → LoadedUpto EndsSo task seen d 0
+  none_loaded : (seen : Seen) (d : Doings) → LoadedUpto task seen d 0
   none_loaded seen d place u = absurd (none_before seen.first seen.second place u)
 
   -- ---- locks back
-  by_next : (seen : Seen) (d : Doings) (next : Option (Place × ℕ)) (held : Held) (end : Ending) → RemembersIn EndsSo task seen d (given_by next held end)
+  by_next : (seen : Seen) (d : Doings) (next : Option (Place × ℕ)) (held : Held) (end : Ending) → RemembersIn task seen d (given_by next held end)
   by_next seen d (Some next) held end = tt
   by_next seen d None held (ending.Replied answer place) = tt
   by_next seen d None held (ending.Again why) = tt
 
-  giving_recalls : (seen : Seen) (d : Doings) (held : Held) (end : Ending) → RemembersIn EndsSo task seen d (giving held end)
+  giving_recalls : (seen : Seen) (d : Doings) (held : Held) (end : Ending) → RemembersIn task seen d (giving held end)
   giving_recalls seen d held end = by_next seen d (give_next held) held end
 
   -- ---- the way
   module _ (seen : Seen) (d : Doings) (none : d.changed ≡ []) where
-    walked_recalls : (x : Walked) → RemembersWalked task.site.geometry task.hash d.loads x
-        → ((path : Path) → x ≡ walked.There path → EndsSo path) → Recalls (walked_to task seen x) d
-    walked_recalls (walked.On w) r head = (r, none)
-    walked_recalls (walked.There path) r head =
-        both d (state_in path.head == normal) (go (record seen { path = path }) (Lock Home Look)) (go seen (amiss (head_word task.site.geometry path.segment) path.head))
-        ((r, head path refl), (λ word has. absurd (subst (λ (l : List ℕ). Has word l) none has)), tt, none_loaded (record seen { path = path }) d, refl) tt
-    walked_recalls walked.Off r head = tt
-    walked_recalls (walked.Amiss word value) r head = tt
-    walked_recalls (walked.Stale segment version) r head = tt
+    walked_recalls : (x : Walked) → RemembersWalked task.site.geometry task.hash d.loads x → Recalls (walked_to seen x) d
+    walked_recalls (walked.On w) r = (r, none)
+    walked_recalls (walked.There path) r = (
+      r,
+      (λ word has. absurd (subst (λ (l : List ℕ). Has word l) none has)),
+      tt,
+      record { reason = tt; before = none_loaded (record seen { path = path }) d },
+    )
+    walked_recalls walked.Off r = tt
+    walked_recalls (walked.Amiss word value) r = tt
+    walked_recalls (walked.Stale segment version) r = tt
 
   -- ---- a lock
-  module _ (seen : Seen) (place : Place) (d : Doings) (there : WasThere EndsSo task seen d) (before : LoadedUpto EndsSo task seen d (loaded_by place)) (near : is_third place ≡ false) where
+  module _ (seen : Seen) (place : Place) (d : Doings) (there : WasThere task seen d) (asks : AsksFor task seen d place) where
     -- by what was made of it
     abbrev Changed : Taken → Type 0
-    Changed (taking.On take) = ChangedOwn EndsSo task seen d
-    Changed (taking.Held free) = ChangedOwn EndsSo task (record seen { held = with_held place free seen.held }) d
+    Changed (taking.On take) = ChangedOwn task seen d
+    Changed (taking.Held free) = ChangedOwn task (record seen { held = with_held place free seen.held }) d
     Changed more = ⊤
 
-    held_recalls : (p : Place) (free : ℕ) → ChangedOwn EndsSo task (record seen { held = with_held p free seen.held }) d → LoadedUpto EndsSo task seen d (loaded_by p) → is_third p ≡ false
+    held_recalls : (p : Place) (free : ℕ) → ChangedOwn task (record seen { held = with_held p free seen.held }) d → AsksFor task seen d p
         → Recalls (locked_to seen p (lock_of task seen p) (taking.Held free)) d
-    held_recalls Home free changed b out = (there, changed, tt, b, refl)
-    held_recalls Probing free changed b out = (there, changed)
-    held_recalls First free changed b out = (there, changed, b, load_begins _ _)
-    held_recalls Second free changed b out = (there, changed, b, load_begins _ _)
-    held_recalls Next free changed b out = never out
-    held_recalls Previous free changed b out = never out
+    held_recalls Home free changed a = (there, changed, tt, record { reason = tt; before = a.before })
+    held_recalls Probing free changed a = (there, changed)
+    held_recalls First free changed a = (there, changed, a.before, load_begins _ _, a.reason)
+    held_recalls Second free changed a = (there, changed, a.before, load_begins _ _, a.reason)
+    held_recalls Next free changed a = absurd a.reason
+    held_recalls Previous free changed a = absurd a.reason
 
     locked_recalls : (x : Taken) → RemembersTaken (lock_of task seen place) d.loads x → Changed x → Recalls (locked_to seen place (lock_of task seen place) x) d
-    locked_recalls (taking.On take) r changed = (there, changed, r, before, near)
-    locked_recalls (taking.Held free) r changed = held_recalls place free changed before near
+    locked_recalls (taking.On take) r changed = (there, changed, r, asks)
+    locked_recalls (taking.Held free) r changed = held_recalls place free changed asks
     locked_recalls (taking.Busy value) r changed = giving_recalls seen d seen.held _
     locked_recalls (taking.Moved first after) r changed = giving_recalls seen d seen.held _
-    locked_recalls taking.Spent r changed = (there, (place, near, r))
+    locked_recalls taking.Spent r changed = (there, (place, asks, r))
 
   -- which words were changed then
-  module _ (seen : Seen) (place : Place) (d : Doings) (out : free_of seen.held place ≡ None) (changed : ChangedOwn EndsSo task seen d) where
+  module _ (seen : Seen) (place : Place) (d : Doings) (out : free_of seen.held place ≡ None) (changed : ChangedOwn task seen d) where
     abbrev lock : ℕ
     lock = lock_of task seen place
 
@@ -168,50 +163,51 @@ module _ (EndsSo : Path → Type 0) (task : Task) where
       held_other seen.held free place p (λ e. no_some (sym out ∙ ap (free_of seen.held) (sym (one_place p place e)) ∙ is)) ∙ is,
     )
 
-    won : (free : ℕ) (e : Doings) → e.changed ≡ lock ∷ d.changed → ChangedOwn EndsSo task (record seen { held = with_held place free seen.held }) e
+    won : (free : ℕ) (e : Doings) → e.changed ≡ lock ∷ d.changed → ChangedOwn task (record seen { held = with_held place free seen.held }) e
     won free e is word has = elim (subst (λ (l : List ℕ). Has word l) is has) [
       | inl same ↦ (place, (free, held_this seen.held free place), same)
       | inr old ↦ let was = changed word old in (was.0, still_held was.0 free was.1, was.2)
     ]
 
-    look_changed : (n : ℕ) (e : Doings) → e.changed ≡ d.changed → (odd spent : Bool)
-        → (there : WasThere EndsSo task seen e) (b : LoadedUpto EndsSo task seen e (loaded_by place)) (near : is_third place ≡ false)
-        → Changed seen place e there b near (if odd then taking.Busy n else if spent then taking.Spent else taking.On (Try n))
-    look_changed n e is true spent there b near = tt
-    look_changed n e is false true there b near = tt
-    look_changed n e is false false there b near = λ word has. changed word (subst (λ (l : List ℕ). Has word l) is has)
+    look_changed : (n : ℕ) (e : Doings) → e.changed ≡ d.changed → (odd spent : Bool) → (there : WasThere task seen e) (asks : AsksFor task seen e place)
+        → Changed seen place e there asks (if odd then taking.Busy n else if spent then taking.Spent else taking.On (Try n))
+    look_changed n e is true spent there asks = tt
+    look_changed n e is false true there asks = tt
+    look_changed n e is false false there asks = λ word has. changed word (subst (λ (l : List ℕ). Has word l) is has)
 
-    lost_changed : (free n : ℕ) (e : Doings) (odd : Bool) (there : WasThere EndsSo task seen e) (b : LoadedUpto EndsSo task seen e (loaded_by place)) (near : is_third place ≡ false)
-        → Changed seen place e there b near (if odd then taking.Busy n else taking.Moved free n)
-    lost_changed free n e true there b near = tt
-    lost_changed free n e false there b near = tt
+    lost_changed : (free n : ℕ) (e : Doings) (odd : Bool) (there : WasThere task seen e) (asks : AsksFor task seen e place)
+        → Changed seen place e there asks (if odd then taking.Busy n else taking.Moved free n)
+    lost_changed free n e true there asks = tt
+    lost_changed free n e false there asks = tt
 
   -- ---- the way again
-  backed_recalls : (seen : Seen) (d : Doings) → WasThere EndsSo task seen d → ChangedOwn EndsSo task seen d → (x : Backed) → Recalls (backed_to seen x) d
+  backed_recalls : (seen : Seen) (d : Doings) → WasThere task seen d → ChangedOwn task seen d → (x : Backed) → Recalls (backed_to seen x) d
   backed_recalls seen d there changed (backed.On back) = (there, changed)
-  backed_recalls seen d there changed backed.Same = (there, changed, none_loaded seen d, load_begins _ _)
+  backed_recalls seen d there changed backed.Same = (there, changed, none_loaded seen d, load_begins _ _, tt)
   backed_recalls seen d there changed (backed.Moved word before after) = giving_recalls seen d seen.held _
 
   -- ---- buckets
-  module _ (d : Doings) (seen : Seen) (there : WasThere EndsSo task seen d) (changed : ChangedOwn EndsSo task seen d) where
+  module _ (d : Doings) (seen : Seen) (there : WasThere task seen d) (changed : ChangedOwn task seen d) where
     -- where one is not asked for
-    skip : (p : Place) → is_asked seen p ≡ false → LoadedUpto EndsSo task seen d (index p) → LoadedUpto EndsSo task seen d (index p + 1)
+    skip : (p : Place) → is_asked seen p ≡ false → LoadedUpto task seen d (index p) → LoadedUpto task seen d (index p + 1)
     skip p out loaded q u = loaded q (upto_less seen.first seen.second p q out u)
 
-    second_recalls : LoadedUpto EndsSo task seen d 3 → (b : Bool) → seen.second ≡ b → RemembersIn EndsSo task seen d (if b then Lock Second Look else Count)
-    second_recalls loaded true e = (there, changed, tt, loaded, refl)
-    second_recalls loaded false e = (there, changed, skip Second e loaded)
+    second_recalls : LoadedUpto task seen d 3 → seen.second ≡ visits task.hash seen.buckets 1 → (b : Bool) → seen.second ≡ b
+        → RemembersIn task seen d (if b then Lock Second Look else Count)
+    second_recalls loaded by_notes true e = (there, changed, tt, record { reason = sym by_notes ∙ e; before = loaded })
+    second_recalls loaded by_notes false e = (there, changed, skip Second e loaded)
 
-    first_recalls : LoadedUpto EndsSo task seen d 2 → (b : Bool) → seen.first ≡ b → RemembersIn EndsSo task seen d (if b then Lock First Look else visit_second seen)
-    first_recalls loaded true e = (there, changed, tt, loaded, refl)
-    first_recalls loaded false e = second_recalls (skip First e loaded) seen.second refl
+    first_recalls : LoadedUpto task seen d 2 → seen.first ≡ visits task.hash seen.buckets 0 → seen.second ≡ visits task.hash seen.buckets 1 → (b : Bool) → seen.first ≡ b
+        → RemembersIn task seen d (if b then Lock First Look else visit_second seen)
+    first_recalls loaded by_notes second true e = (there, changed, tt, record { reason = (sym by_notes ∙ e, second); before = loaded })
+    first_recalls loaded by_notes second false e = second_recalls (skip First e loaded) second seen.second refl
 
   -- with its words put in
   module _ (d : Doings) (seen : Seen) (place : Place) (words : List ℕ) where
     abbrev put : Seen
     put = record seen { buckets = with_words place words seen.buckets }
 
-    put_loaded : LoadedUpto EndsSo task seen d (index place) → HasLoadedWords (lock_of task seen place) d.loads (loaded.All words) → LoadedUpto EndsSo task put d (index place + 1)
+    put_loaded : LoadedUpto task seen d (index place) → HasLoadedWords (lock_of task seen place) d.loads (loaded.All words) → LoadedUpto task put d (index place + 1)
     put_loaded loaded all p u = elim (upto_more seen.first seen.second place p u) [
       | inl same ↦
           subst (λ (z : Place). WasLoaded (kept_in task put) d.loads z) (sym same)
@@ -220,43 +216,42 @@ module _ (EndsSo : Path → Type 0) (task : Task) where
           (sym (words_other seen.buckets words place p (λ e. let low = before.low in omega (arith, low, e)))) (loaded p before)
     ]
 
-  all_recalls : (d : Doings) (seen : Seen) (place : Place) (words : List ℕ) → WasThere EndsSo task seen d → ChangedOwn EndsSo task seen d → LoadedUpto EndsSo task seen d (index place)
-      → HasLoadedWords (lock_of task seen place) d.loads (loaded.All words) → Recalls (filled_with task.hash seen place words) d
-  all_recalls d seen Home words there changed loaded all = (there, changed, put_loaded d seen Home words loaded all, load_begins _ _)
-  all_recalls d seen Probing words there changed loaded all =
+  all_recalls : (d : Doings) (seen : Seen) (place : Place) (words : List ℕ) → WasThere task seen d → ChangedOwn task seen d → LoadedUpto task seen d (index place)
+      → HasReason task seen place → HasLoadedWords (lock_of task seen place) d.loads (loaded.All words) → Recalls (filled_with task.hash seen place words) d
+  all_recalls d seen Home words there changed loaded reason all = (there, changed, put_loaded d seen Home words loaded all, load_begins _ _, tt)
+  all_recalls d seen Probing words there changed loaded reason all =
       let put_in : Seen = record seen { buckets = with_words Probing words seen.buckets } in
-      let two : LoadedUpto EndsSo task put_in d 2 = put_loaded d seen Probing words loaded all in
+      let two : LoadedUpto task put_in d 2 = put_loaded d seen Probing words loaded all in
       let next : Seen = with_visits task.hash put_in in
-      first_recalls d next there changed (λ q u. two q (record { low = u.low; asked = near_asked seen.first seen.second q u.low })) next.first refl
-  all_recalls d seen First words there changed loaded all =
-      second_recalls d (record seen { buckets = with_words First words seen.buckets }) there changed (put_loaded d seen First words loaded all) seen.second refl
-  all_recalls d seen Second words there changed loaded all = (there, changed, put_loaded d seen Second words loaded all)
-  all_recalls d seen Next words there changed loaded all =
-      let five = put_loaded d seen Next words loaded all in
-      (there, changed, λ q u. five q (upto_up seen.first seen.second 4 5 q (omega arith) u))
-  all_recalls d seen Previous words there changed loaded all =
-      let six = put_loaded d seen Previous words loaded all in
-      (there, changed, λ q u. six q (upto_up seen.first seen.second 4 6 q (omega arith) u))
+      first_recalls d next there changed (λ q u. two q (record { low = u.low; asked = near_asked seen.first seen.second q u.low })) refl refl next.first refl
+  all_recalls d seen First words there changed loaded reason all =
+      second_recalls d (record seen { buckets = with_words First words seen.buckets }) there changed (put_loaded d seen First words loaded all) reason.1 seen.second refl
+  all_recalls d seen Second words there changed loaded reason all = (there, changed, put_loaded d seen Second words loaded all)
+  all_recalls d seen Next words there changed loaded reason all = absurd reason
+  all_recalls d seen Previous words there changed loaded reason all = absurd reason
 
-  fill_recalls : (seen : Seen) (place : Place) (e : Doings) → WasThere EndsSo task seen e → ChangedOwn EndsSo task seen e → LoadedUpto EndsSo task seen e (index place)
-      → (x : Loaded) → HasLoadedWords (lock_of task seen place) e.loads x → Recalls (filled_to task.hash seen place x) e
-  fill_recalls seen place e there changed before (loaded.On next) has = (there, changed, before, has)
-  fill_recalls seen place e there changed before (loaded.All words) has = all_recalls e seen place words there changed before has
+  fill_recalls : (seen : Seen) (place : Place) (e : Doings) → WasThere task seen e → ChangedOwn task seen e → LoadedUpto task seen e (index place)
+      → HasReason task seen place → (x : Loaded) → HasLoadedWords (lock_of task seen place) e.loads x → Recalls (filled_to task.hash seen place x) e
+  fill_recalls seen place e there changed before reason (loaded.On next) has = (there, changed, before, has, reason)
+  fill_recalls seen place e there changed before reason (loaded.All words) has = all_recalls e seen place words there changed before reason has
 
   -- ---- what is done
   module _ (seen : Seen) (d : Doings) where
-    module _ (there : WasThere EndsSo task seen d) (changed : ChangedOwn EndsSo task seen d) (all : LoadedHeld EndsSo task seen d) where
-      inserting_recalls : (count : ℕ) (key room : Option Spot) → Recalls (inserting task seen count key room) d
-      inserting_recalls count (Some spot) room = giving_recalls seen d seen.held _
-      inserting_recalls count None (Some spot) = tt
-      inserting_recalls count None None = (there, changed, all)
+    module _ (there : WasThere task seen d) (changed : ChangedOwn task seen d) (all : LoadedHeld task seen d) (near : LoadedUpto task seen d 4) where
+      near_loaded : (place : Place) → index place < 2 → WasLoaded (kept_in task seen) d.loads place
+      near_loaded place low = near place (record { low = omega (arith, low); asked = near_asked seen.first seen.second place low })
+
+      inserting_recalls : (count : ℕ) (key room : Option Spot) → room_in seen.buckets ≡ room → Recalls (inserting task seen count key room) d
+      inserting_recalls count (Some spot) room is = giving_recalls seen d seen.held _
+      inserting_recalls count None (Some spot) is = tt
+      inserting_recalls count None None is = (there, changed, all, (near_loaded Home (omega arith), (room_none seen.buckets is).0), (near_loaded Probing (omega arith), (room_none seen.buckets is).1))
 
       changing_recalls : (count : ℕ) (key : Option Spot) → Recalls (changing task seen count key) d
       changing_recalls count (Some spot) = tt
       changing_recalls count None = giving_recalls seen d seen.held _
 
       decided_recalls : (count : ℕ) (deed : Deed) → Recalls (decided task seen count deed) d
-      decided_recalls count (Insert value) = inserting_recalls count (found seen task.change.key) (room_in seen.buckets)
+      decided_recalls count (Insert value) = inserting_recalls count (found seen task.change.key) (room_in seen.buckets) refl
       decided_recalls count (Update value) = changing_recalls count (found seen task.change.key)
       decided_recalls count Remove = changing_recalls count (found seen task.change.key)
 
@@ -290,68 +285,70 @@ module _ (EndsSo : Path → Type 0) (task : Task) where
   abbrev pub RecallsNext : Seen → WriteStep → ℕ → Doings → Type 0
   RecallsNext seen s n d = Recalls (next_in task seen s (answer_to (wanted_in task seen s) n)) (After seen s n d)
 
-  pub way_next : (seen : Seen) (w : Walk) (n : ℕ) (d : Doings) → RemembersIn EndsSo task seen d (Way w)
-      → ((path : Path) → walk_taken task.site task.hash w n ≡ walked.There path → EndsSo path) → RecallsNext seen (Way w) n d
-  way_next seen w n d r head =
+  pub way_next : (seen : Seen) (w : Walk) (n : ℕ) (d : Doings) → RemembersIn task seen d (Way w) → RecallsNext seen (Way w) n d
+  way_next seen w n d r =
       subst (λ (a : Ans). Recalls (next_in task seen (Way w) a) (with_event_of (walk_wanted task.site task.hash w) a d)) (sym (walk_answer task.site task.hash w n))
       (walked_recalls seen (with_event_of (walk_wanted task.site task.hash w) (Value n) d) (ap (λ l. l ++ d.changed) (walk_changes task w (Value n)) ∙ r.1) (walk_taken task.site task.hash w n)
-      (walk_remembers task.site task.hash d.loads w n r.0) head)
+      (walk_remembers task.site task.hash d.loads w n r.0))
 
-  look_next : (seen : Seen) (place : Place) (n : ℕ) (d : Doings) → free_of seen.held place ≡ None → RemembersIn EndsSo task seen d (Lock place Look) → RecallsNext seen (Lock place Look) n d
+  -- with more that was loaded
+  asks_more : (seen : Seen) (d e : Doings) (more : List (ℕ × ℕ)) → e.loads ≡ more ++ d.loads → (place : Place) → AsksFor task seen d place → AsksFor task seen e place
+  asks_more seen d e more is place a = record { reason = a.reason; before = loaded_more seen d e more is (loaded_by place) a.before }
+
+  look_next : (seen : Seen) (place : Place) (n : ℕ) (d : Doings) → free_of seen.held place ≡ None → RemembersIn task seen d (Lock place Look) → RecallsNext seen (Lock place Look) n d
   look_next seen place n d out r =
       let lock : ℕ = lock_of task seen place in
       let e : Doings = record { loads = (lock, n) ∷ d.loads; changed = d.changed } in
       let there = there_more seen d e ((lock, n) ∷ []) refl r.0 in
-      let before = loaded_more seen d e ((lock, n) ∷ []) refl (loaded_by place) r.3 in
-      locked_recalls seen place e there before r.4 (take_looked n) (take_remembers lock d.loads Look (Value n) tt)
-      (look_changed seen place d out r.1 n e refl (n % 2 == 1) (n == 2 ^ 64 - 2) there before r.4)
+      let asks = asks_more seen d e ((lock, n) ∷ []) refl place r.3 in
+      locked_recalls seen place e there asks (take_looked n) (take_remembers lock d.loads Look (Value n) tt) (look_changed seen place d out r.1 n e refl (n % 2 == 1) (n == 2 ^ 64 - 2) there asks)
 
-  try_by : (seen : Seen) (place : Place) (free n : ℕ) (d : Doings) → free_of seen.held place ≡ None → RemembersIn EndsSo task seen d (Lock place (Try free)) → (b : Bool)
+  try_by : (seen : Seen) (place : Place) (free n : ℕ) (d : Doings) → free_of seen.held place ≡ None → RemembersIn task seen d (Lock place (Try free)) → (b : Bool)
       → Recalls (next_in task seen (Lock place (Try free)) (if b then Won else Lost n)) (with_event_of (take_wanted (lock_of task seen place) (Try free)) (if b then Won else Lost n) d)
   try_by seen place free n d out r true =
       let e : Doings = record { loads = d.loads; changed = lock_of task seen place ∷ d.changed } in
       let there = there_more seen d e [] refl r.0 in
-      let before = loaded_more seen d e [] refl (loaded_by place) r.3 in
-      locked_recalls seen place e there before r.4 (taking.Held free) r.2 (won seen place d out r.1 free e refl)
+      let asks = asks_more seen d e [] refl place r.3 in
+      locked_recalls seen place e there asks (taking.Held free) r.2 (won seen place d out r.1 free e refl)
   try_by seen place free n d out r false =
       let e : Doings = record { loads = d.loads; changed = d.changed } in
       let there = there_more seen d e [] refl r.0 in
-      let before = loaded_more seen d e [] refl (loaded_by place) r.3 in
-      locked_recalls seen place e there before r.4 (take_lost free n) (take_remembers (lock_of task seen place) d.loads (Try free) (Lost n) r.2)
-      (lost_changed seen place d out r.1 free n e (n % 2 == 1) there before r.4)
+      let asks = asks_more seen d e [] refl place r.3 in
+      locked_recalls seen place e there asks (take_lost free n) (take_remembers (lock_of task seen place) d.loads (Try free) (Lost n) r.2)
+      (lost_changed seen place d out r.1 free n e (n % 2 == 1) there asks)
 
-  fill_next : (seen : Seen) (place : Place) (load : Load) (n : ℕ) (d : Doings) → RemembersIn EndsSo task seen d (Fill place load) → RecallsNext seen (Fill place load) n d
+  fill_next : (seen : Seen) (place : Place) (load : Load) (n : ℕ) (d : Doings) → RemembersIn task seen d (Fill place load) → RecallsNext seen (Fill place load) n d
   fill_next seen place load n d r =
       let x : ℕ × ℕ = (lock_of task seen place + load.next % 32, n) in
       let e : Doings = record { loads = x ∷ d.loads; changed = d.changed } in
-      fill_recalls seen place e (there_more seen d e (x ∷ []) refl r.0) r.1 (loaded_more seen d e (x ∷ []) refl (index place) r.2) (load_taken load n) (load_stands (lock_of task seen place) d.loads load n r.3)
+      fill_recalls seen place e (there_more seen d e (x ∷ []) refl r.0) r.1 (loaded_more seen d e (x ∷ []) refl (index place) r.2) r.4 (load_taken load n) (load_stands (lock_of task seen place) d.loads load n r.3)
 
   -- an end is one for good
-  ended_recalls : (seen : Seen) (d : Doings) (end : WriteEnd) → RemembersIn EndsSo task seen d (Ended end) → RemembersIn EndsSo task seen (record { loads = d.loads; changed = d.changed }) (Ended end)
+  ended_recalls : (seen : Seen) (d : Doings) (end : WriteEnd) → RemembersIn task seen d (Ended end) → RemembersIn task seen (record { loads = d.loads; changed = d.changed }) (Ended end)
   ended_recalls seen d ends.NoSlot r = r
   ended_recalls seen d end r = tt
 
   -- WHAT IS REMEMBERED at each step is kept by its event
-  pub recalls_next : (seen : Seen) (s : WriteStep) (n : ℕ) (d : Doings) → RemembersIn EndsSo task seen d s
-      → ((w : Walk) → s ≡ Way w → (path : Path) → walk_taken task.site task.hash w n ≡ walked.There path → EndsSo path)
+  pub recalls_next : (seen : Seen) (s : WriteStep) (n : ℕ) (d : Doings) → RemembersIn task seen d s
       → ((place : Place) (take : Take) → s ≡ Lock place take → free_of seen.held place ≡ None)
       → (s ≡ Count → (place : Place) → IsHeld seen.held place → Upto seen 4 place) → RecallsNext seen s n d
-  recalls_next seen (Way w) n d r head out asked = way_next seen w n d r (head w refl)
-  recalls_next seen (Lock place Look) n d r head out asked = look_next seen place n d (out place Look refl) r
-  recalls_next seen (Lock place (Try free)) n d r head out asked = try_by seen place free n d (out place (Try free) refl) r (n == free)
-  recalls_next seen (Check back) n d r head out asked =
+  recalls_next seen (Way w) n d r out asked = way_next seen w n d r
+  recalls_next seen (Lock place Look) n d r out asked = look_next seen place n d (out place Look refl) r
+  recalls_next seen (Lock place (Try free)) n d r out asked = try_by seen place free n d (out place (Try free) refl) r (n == free)
+  recalls_next seen (Check back) n d r out asked =
       let x : ℕ × ℕ = (back_word task.site task.hash seen.path back, n) in
       let e : Doings = record { loads = x ∷ d.loads; changed = d.changed } in
       backed_recalls seen e (there_more seen d e (x ∷ []) refl r.0) r.1 (back_taken task.site task.hash seen.path back n)
-  recalls_next seen (Fill place load) n d r head out asked = fill_next seen place load n d r
-  recalls_next seen Count n d r head out asked =
+  recalls_next seen (Fill place load) n d r out asked = fill_next seen place load n d r
+  recalls_next seen Count n d r out asked =
       let x : ℕ × ℕ = (counter_word task.site.geometry, n) in
       let e : Doings = record { loads = x ∷ d.loads; changed = d.changed } in
       both e (nat_le (2 ^ 63) n) (answered seen n reply.Spent) (decided task seen n task.change.deed) (giving_recalls seen e seen.held _)
-      (decided_recalls seen e (there_more seen d e (x ∷ []) refl r.0) r.1 (λ place held. loaded_more seen d e (x ∷ []) refl 4 r.2 place (asked refl place held)) n task.change.deed)
-  recalls_next seen (step.Make m) n d r head out asked = make_recalls seen _ m _
-  recalls_next seen Draw n d r head out asked = draw_recalls seen _ n
-  recalls_next seen (Unnote part place) n d r head out asked = unnote_recalls seen _ part place _
-  recalls_next seen CountSpent n d r head out asked = giving_recalls seen (After seen CountSpent n d) seen.held _
-  recalls_next seen (Give held end) n d r head out asked = give_recalls seen _ held end _
-  recalls_next seen (Ended end) n d r head out asked = ended_recalls seen d end r
+      (let four = loaded_more seen d e (x ∷ []) refl 4 r.2 in
+      decided_recalls seen e (there_more seen d e (x ∷ []) refl r.0) r.1 (λ place held. four place (asked refl place held)) four n task.change.deed)
+  recalls_next seen (step.Make m) n d r out asked = make_recalls seen _ m _
+  recalls_next seen Draw n d r out asked = draw_recalls seen _ n
+  recalls_next seen (Unnote part place) n d r out asked = unnote_recalls seen _ part place _
+  recalls_next seen CountSpent n d r out asked = giving_recalls seen (After seen CountSpent n d) seen.held _
+  recalls_next seen (Give held end) n d r out asked = give_recalls seen _ held end _
+  recalls_next seen (Ended end) n d r out asked = ended_recalls seen d end r

@@ -1,6 +1,6 @@
 -- By what a change is made and answered, in any state; and in a world, that no lock is found taken but another's, and that no current
 -- segment is stale.
-use Rattle.std.proofs.Common.{◌≡◌, ℕ, ◌+◌, ◌-◌, ◌%◌, ◌^◌, Bool, true, false, None, Some, inl, refl, sym, ap, ◌∙◌, subst, arith}
+use Rattle.std.proofs.Common.{◌≡◌, ℕ, ◌+◌, ◌-◌, ◌%◌, ◌^◌, Bool, true, false, None, Some, refl, sym, ap, ◌∙◌, subst, arith}
 use Rattle.std.specs.Prelude.{⊤, ◌==◌, if◌then◌else◌}
 use Rattle.std.proofs.lemmas.Bool.{eqb-true}
 use Rattle.op_core.specs.declared.want.Want.TheVariants as want
@@ -38,7 +38,7 @@ use Rattle.write_op.specs.declared.op.WriteOp.{WriteOp}
 use Rattle.write_op.specs.Search.{found, leaves_note}
 use Rattle.write_op.specs.Steps.{lock_of, wanted_in, next_in, wanted}
 use Rattle.write_op.specs.Fits.{publish_by, kind_at, SuitsStep, IsIn, outcome_at}
-use Rattle.write_op.specs.ChangePart.{IsAtHead, LoadedUpto, RemembersIn, Remembers}
+use Rattle.write_op.specs.ChangePart.{LoadedUpto, RemembersIn, Remembers}
 use Rattle.write_op.specs.Causes.{PublishesThere, FindsKey, FindsNoKey, Tells, RepliesAsSeen, NeverBusy, NeverStale}
 use Rattle.write_op.proofs.finding.Searching.{found_none, found_some}
 use Rattle.write_op.proofs.keeping.Going.{located}
@@ -64,8 +64,8 @@ module _ (site : Site) (op : WriteOp) (did : Doings) (a : Ans) (r : Remembers si
   seen = op.stage.seen
 
   -- all buckets that were asked for are loaded at the counter
-  all_loaded : op.stage.step ≡ Count → LoadedUpto (IsAtHead site) op.task seen did 4
-  all_loaded e = let kept : RemembersIn (IsAtHead site) op.task seen did Count = subst (λ s. RemembersIn (IsAtHead site) op.task seen did s) e r.kept in kept.2
+  all_loaded : op.stage.step ≡ Count → LoadedUpto op.task seen did 4
+  all_loaded e = let kept : RemembersIn op.task seen did Count = subst (λ s. RemembersIn op.task seen did s) e r in kept.2
 
   counts : (n : ℕ) (s : WriteStep) → op.stage.step ≡ s → wanted_in op.task seen s ≡ want.Load (counter_word op.task.site.geometry) → a ≡ Value n
       → (wanted op ≡ want.Load (counter_word op.task.site.geometry)) × (a ≡ Value n)
@@ -96,7 +96,7 @@ module _ (site : Site) (op : WriteOp) (did : Doings) (a : Ans) (r : Remembers si
 
   pub as_seen : outcome_at op.stage.step ≡ None → Told AsSeen (next_in op.task seen op.stage.step a).step
   as_seen none = next_told AsSeen op.task seen op.stage.step a none
-      (λ w n e is. walked_told AsSeen op.task seen (walk_taken op.task.site op.task.hash w n) (λ path x f. tt) (λ x. tt) (λ word value x. tt) (λ segment byte x. tt))
+      (λ w n e is. walked_told AsSeen op.task seen (walk_taken op.task.site op.task.hash w n) (λ x. tt) (λ word value x. tt) (λ segment byte x. tt))
       (λ place take e. locked_told AsSeen op.task seen place (lock_of op.task seen place) (take_taken take a) (λ value x. tt) (λ first after x. tt))
       (λ back n e is. backed_told AsSeen op.task seen (back_taken op.task.site op.task.hash seen.path back n) (λ word first after x. tt))
       (λ n e is. counted_told AsSeen op.task seen n (λ spot insert there. (counts n Count e refl is, insert, finds_key e spot there)) (λ other nowhere. (counts n Count e refl is, other, finds_no_key e nowhere))
@@ -137,11 +137,11 @@ module _ (site : Site) (task : Task) (is : IsIn site task) (seen : Seen) (v : Vi
 
   pub free_told : ((lock : ℕ) → IsLockWord site.shape lock → words lock % 2 ≡ 1 → HasLock v.held lock) → Told IsFree (next_in task seen s (met s)).step
   free_told alone = next_told IsFree task seen s (met s) none
-      (λ w n e x. walked_told IsFree task seen (walk_taken task.site task.hash w n) (λ path y f. tt) (λ y. tt) (λ word value y. tt) (λ segment byte y. tt))
+      (λ w n e x. walked_told IsFree task seen (walk_taken task.site task.hash w n) (λ y. tt) (λ word value y. tt) (λ segment byte y. tt))
       (λ place t e. locked_told IsFree task seen place (lock_of task seen place) (take_taken t (met s))
       (λ value busy.
       let fits : SuitsStep site task seen (Lock place t) v = subst (λ z. SuitsStep site task seen z v) e suits in
-      let at = located site task is seen fits.0.leads in
+      let at = located site task is seen v.facts fits.0.there in
       let odd = busy_odd site.shape (lock_of task seen place) t words value (subst (λ z. take_taken t (met z) ≡ taking.Busy value) e busy) in
       has_not site task.site task.hash seen.path.segment seen.held place v at fits.0.locks (fits.0.upto.others place (λ u. let low = u.low in omega (arith, low)))
       (alone (lock_of task seen place) (is_lock site task.site task.hash seen.path.segment at place) odd))
@@ -165,7 +165,7 @@ module _ (site : Site) (task : Task) (is : IsIn site task) (seen : Seen) (v : Vi
   module _ (fresh : (w : Walk) → SuitsStep site task seen (Way w) v → (segment byte : ℕ) → walk_taken task.site task.hash w (words (word_of site.shape (walk_wanted task.site task.hash w))) ≡ walked.Stale segment byte → ⊥) where
     pub fresh_told : Told IsFresh (next_in task seen s (met s)).step
     fresh_told = next_told IsFresh task seen s (met s) none
-        (λ w n e x. walked_told IsFresh task seen (walk_taken task.site task.hash w n) (λ path y f. tt) (λ y. tt) (λ word value y. tt)
+        (λ w n e x. walked_told IsFresh task seen (walk_taken task.site task.hash w n) (λ y. tt) (λ word value y. tt)
         (λ segment byte y. fresh w (subst (λ z. SuitsStep site task seen z v) e suits) segment byte (subst (λ k. walk_taken task.site task.hash w k ≡ walked.Stale segment byte) (value_is w n e x) y)))
         (λ place t e. locked_told IsFresh task seen place (lock_of task seen place) (take_taken t (met s)) (λ value y. tt) (λ first after y. tt))
         (λ back n e x. backed_told IsFresh task seen (back_taken task.site task.hash seen.path back n) (λ word first after y. tt))
@@ -180,6 +180,5 @@ never_busy site here call op words views j before v h at s asks alone word value
 pub never_stale : NeverStale
 never_stale site here call op words views j before v h at s asks current segment byte d =
     fresh_told site op.task s.stands.is_in op.stage.seen v words op.stage.step s.stands.view d.undecided
-    (λ w suits. walk_never_stale site op.task.hash op.task.site s.stands.is_in.shape words (h.media.structure words (λ i within. inl refl)) current w suits.1
-    (words (word_of site.shape (walk_wanted op.task.site op.task.hash w))) refl)
+    (λ w suits. walk_never_stale site op.task.site op.task.hash words v.facts s.stands.is_in.shape current w suits.1 (words (word_of site.shape (walk_wanted op.task.site op.task.hash w))) refl)
     (stale segment byte) d.decided

@@ -1,12 +1,10 @@
 -- What is to be shown of an outcome, at each step that may decide one; the other steps decide none.
 use Rattle.std.proofs.Common.{◌≡◌, ℕ, ◌^◌, Bool, true, false, Option, None, Some, refl, sym, ◌∙◌, subst}
-use Rattle.std.specs.Prelude.{◌==◌, nat_le, if◌then◌else◌}
+use Rattle.std.specs.Prelude.{nat_le, if◌then◌else◌}
 use Rattle.std.proofs.lemmas.Option.{none-some, same_Some}
 use Rattle.op_core.specs.declared.want.Ans.{Ans}
 use Rattle.op_core.specs.declared.want.Ans.TheVariants.{Value, Drawn, Passed}
 use Rattle.op_core.specs.declared.why.Why.TheVariants.{Busy, Moved}
-use Rattle.segment_head.specs.HeadWord.{state_in, normal}
-use Rattle.way.specs.Ways.{head_word}
 use Rattle.map_model.specs.declared.change.Deed.{Deed}
 use Rattle.map_model.specs.declared.change.Deed.TheVariants.{Insert, Update, Remove}
 use Rattle.map_model.specs.declared.entry.Reply.TheVariants as reply
@@ -15,7 +13,6 @@ use Rattle.map_model.specs.Legal.{IsInsert}
 use Rattle.part.specs.Outcomes.{Outcome, replied, again, stale, off}
 use Rattle.phase.specs.declared.place.Place.{Place}
 use Rattle.phase.specs.declared.place.Place.TheVariants.{Home, Probing, First, Second}
-use Rattle.phase.specs.declared.walk.Path.{Path}
 use Rattle.phase.specs.declared.walk.Walk.{Walk}
 use Rattle.phase.specs.declared.walk.Walked.{Walked}
 use Rattle.phase.specs.declared.walk.Walked.TheVariants as walked
@@ -40,22 +37,19 @@ use Rattle.phase.specs.Makes.{make_taken}
 use Rattle.write_op.specs.declared.step.Task.{Task}
 use Rattle.write_op.specs.declared.step.Spot.{Spot}
 use Rattle.write_op.specs.declared.step.Seen.{Seen}
-use Rattle.write_op.specs.declared.step.Ending.{Ending}
-use Rattle.write_op.specs.declared.step.Ending.TheVariants as ending
+use Rattle.phase.specs.declared.ending.Ending.{Ending}
+use Rattle.phase.specs.declared.ending.Ending.TheVariants as ending
 use Rattle.write_op.specs.declared.step.WriteEnd.TheVariants as ends
-use Rattle.write_op.specs.declared.step.NoteWord.TheVariants.{Mark}
+use Rattle.phase.specs.declared.note.NoteWord.TheVariants.{Mark}
+use Rattle.phase.specs.Endings.{outcome_then}
 use Rattle.write_op.specs.declared.step.WriteStep.{WriteStep}
 use Rattle.write_op.specs.declared.step.WriteStep.TheVariants.{Way, Lock, Check, Fill, Count, Draw, Unnote, CountSpent, Give, Ended}
 use Rattle.write_op.specs.declared.step.WriteStep.TheVariants as step
 use Rattle.write_op.specs.declared.step.Stage.{Stage}
 use Rattle.write_op.specs.Search.{found, room_in, leaves_note}
-use Rattle.write_op.specs.Steps.{go, end_of, giving, answered, amiss, walked_to, locked, locked_to, backed_to, visit_second, visit_first, with_visits, filled, filled_to, inserting, changing, decided, counted, made_to, drawn_to, lock_of, next_in}
-use Rattle.write_op.specs.Fits.{outcome_of, outcome_at}
+use Rattle.write_op.specs.Steps.{go, giving, answered, amiss, walked_to, locked, locked_to, backed_to, visit_second, visit_first, with_visits, filled, filled_to, inserting, changing, decided, counted, made_to, drawn_to, lock_of, next_in}
+use Rattle.write_op.specs.Fits.{outcome_at}
 use Rattle.write_op.proofs.keeping.Entering.{giving_outcome}
-
-pub given_decides : (end : Ending) → outcome_of (end_of end) ≡ None → ⊥
-given_decides (ending.Replied answer place) none = none-some (replied answer place) (sym none)
-given_decides (ending.Again why) none = none-some (again why) (sym none)
 
 module _ (P : Outcome → Type 0) where
   -- it is so of the outcome that is decided there, if one is
@@ -73,25 +67,21 @@ module _ (P : Outcome → Type 0) where
   pub so : (s : WriteStep) (outcome : Outcome) → outcome_at s ≡ Some outcome → P outcome → Told s
   so s outcome is p told some = subst P (same_Some outcome told (sym is ∙ some)) p
 
-  pub gives : (held : Held) (end : Ending) (outcome : Outcome) → outcome_of (end_of end) ≡ Some outcome → P outcome → Told (giving held end)
+  pub gives : (held : Held) (end : Ending) (outcome : Outcome) → Some (outcome_then end) ≡ Some outcome → P outcome → Told (giving held end)
   gives held end outcome is p = so (giving held end) outcome (giving_outcome held end ∙ is) p
 
   module _ (task : Task) (seen : Seen) where
     -- ---- the way
     pub walked_told : (x : Walked)
-        → ((path : Path) → x ≡ walked.There path → (state_in path.head == normal) ≡ false → P (again (Moved (head_word task.site.geometry path.segment) path.head path.head)))
         → (x ≡ walked.Off → P off)
         → ((word value : ℕ) → x ≡ walked.Amiss word value → P (again (Moved word value value)))
         → ((segment byte : ℕ) → x ≡ walked.Stale segment byte → P (stale segment byte))
-        → Told (walked_to task seen x).step
-    walked_told (walked.On next) plain cut ill late = λ outcome some. absurd (none-some outcome some)
-    walked_told (walked.There path) plain cut ill late =
-        both (state_in path.head == normal) (go (record seen { path = path }) (Lock Home Look)) (go seen (amiss (head_word task.site.geometry path.segment) path.head))
-        (λ t outcome some. absurd (none-some outcome some))
-        (λ f. so (amiss (head_word task.site.geometry path.segment) path.head) (again (Moved (head_word task.site.geometry path.segment) path.head path.head)) refl (plain path refl f))
-    walked_told walked.Off plain cut ill late = so (Ended ends.Off) off refl (cut refl)
-    walked_told (walked.Amiss word value) plain cut ill late = so (amiss word value) (again (Moved word value value)) refl (ill word value refl)
-    walked_told (walked.Stale segment byte) plain cut ill late = so (Ended (ends.Stale segment byte)) (stale segment byte) refl (late segment byte refl)
+        → Told (walked_to seen x).step
+    walked_told (walked.On next) cut ill late = λ outcome some. absurd (none-some outcome some)
+    walked_told (walked.There path) cut ill late = λ outcome some. absurd (none-some outcome some)
+    walked_told walked.Off cut ill late = so (Ended ends.Off) off refl (cut refl)
+    walked_told (walked.Amiss word value) cut ill late = so (amiss word value) (again (Moved word value value)) refl (ill word value refl)
+    walked_told (walked.Stale segment byte) cut ill late = so (Ended (ends.Stale segment byte)) (stale segment byte) refl (late segment byte refl)
 
     -- ---- a lock
     locked_open : (place : Place) → Told (locked place)
@@ -162,7 +152,7 @@ module _ (P : Outcome → Type 0) where
 
     -- ---- WHICH EVENTS DECIDE, whatever they are answered
     pub next_told : (s : WriteStep) (a : Ans) → outcome_at s ≡ None
-        → ((w : Walk) (n : ℕ) → s ≡ Way w → a ≡ Value n → Told (walked_to task seen (walk_taken task.site task.hash w n)).step)
+        → ((w : Walk) (n : ℕ) → s ≡ Way w → a ≡ Value n → Told (walked_to seen (walk_taken task.site task.hash w n)).step)
         → ((place : Place) (take : Take) → s ≡ Lock place take → Told (locked_to seen place (lock_of task seen place) (take_taken take a)).step)
         → ((back : Back) (n : ℕ) → s ≡ Check back → a ≡ Value n → Told (backed_to seen (back_taken task.site task.hash seen.path back n)).step)
         → ((n : ℕ) → s ≡ Count → a ≡ Value n → Told (counted task seen n).step)
@@ -179,5 +169,5 @@ module _ (P : Outcome → Type 0) where
     next_told (Unnote part place) a none way lock check count draw spent = absurd (none-some (replied reply.Done place) (sym none))
     next_told CountSpent (Value n) none way lock check count draw spent =
         gives seen.held (ending.Replied reply.Spent n) (replied reply.Spent n) refl (spent n refl refl)
-    next_told (Give held end) a none way lock check count draw spent = absurd (given_decides end none)
+    next_told (Give held end) a none way lock check count draw spent = absurd (none-some (outcome_then end) (sym none))
     next_told s a none way lock check count draw spent = λ outcome some. absurd (none-some outcome (sym none ∙ some))

@@ -23,7 +23,7 @@ use Rattle.write_op.specs.declared.step.Task.{Task}
 use Rattle.write_op.specs.declared.step.Spot.{Spot}
 use Rattle.write_op.specs.declared.step.Seen.{Seen}
 use Rattle.write_op.specs.Search.{found, visits}
-use Rattle.write_op.specs.Fits.{is_asked, HoldsUpto, IsVisiting, HasLoaded, IsIn, loaded}
+use Rattle.write_op.specs.Fits.{is_asked, HoldsUpto, IsVisiting, HasLoaded, IsPinned, IsIn, loaded}
 use Rattle.write_op.proofs.finding.Places.{never}
 use Rattle.write_op.proofs.finding.Searching.{IsFound, found_none}
 use Rattle.write_op.proofs.keeping.Going.{located}
@@ -49,7 +49,7 @@ module _ (seen : Seen) (upto : HoldsUpto seen 4) where
       by false e = e
 
 -- ---- what is known
-module _ (site : Site) (task : Task) (is : IsIn site task) (seen : Seen) (v : View) (h : HasLoaded site task seen 4 4 v) where
+module _ (site : Site) (task : Task) (is : IsIn site task) (seen : Seen) (v : View) (h : HasLoaded site task seen 4 4 v) (pinned : IsPinned site task.hash seen.path v.pinned) where
   abbrev segment : ℕ
   segment = seen.path.segment
 
@@ -57,7 +57,7 @@ module _ (site : Site) (task : Task) (is : IsIn site task) (seen : Seen) (v : Vi
   word = loaded task seen
 
   at : IsLocated site task.site segment
-  at = located site task is seen h.leads
+  at = located site task is seen v.facts h.there
 
   loaded_held : HasLoadedHeld task.site task.hash segment seen.held seen.buckets v
   loaded_held p held = let asked = held_asked seen h.upto p held in h.whole p (record { low = few seen.first seen.second p asked; asked = asked })
@@ -69,7 +69,8 @@ module _ (site : Site) (task : Task) (is : IsIn site task) (seen : Seen) (v : Vi
   holds_buckets = record {
     located = at;
     hashed = is.hash;
-    leads = h.leads;
+    there = h.there;
+    leads = pinned.leads;
     locks = h.locks;
     home = asked_held seen h.upto Home refl;
     probing = asked_held seen h.upto Probing refl;

@@ -1,10 +1,9 @@
 -- A new record comes to the lowest free slot of the bucket with fewer records, and home where both have as many.
-use Rattle.std.proofs.Common.{◌≡◌, ◌⊎◌, ℕ, ◌<◌, ◌≤◌, Bool, true, false, Option, None, Some, List, inl, inr, refl, sym, ap, ◌∙◌, subst, arith, slice_index, count_ones}
+use Rattle.std.proofs.Common.{◌≡◌, ◌⊎◌, ℕ, ◌<◌, ◌≤◌, Bool, true, false, Option, None, Some, inl, inr, refl, subst, slice_index}
 use Rattle.std.specs.Prelude.{nat_lt, if◌then◌else◌}
 use Rattle.std.proofs.lemmas.Bool.{ltb-true, ltb-false}
 use Rattle.bucket_meta.specs.Bucket.{record_slots}
 use Rattle.bucket_meta.specs.Search.{lowest_free}
-use Rattle.balance.specs.declared.choice.Choice.{Choice}
 use Rattle.balance.specs.declared.choice.Choice.TheVariants as choice
 use Rattle.map_model.specs.declared.change.Deed.{Deed}
 use Rattle.map_model.specs.declared.change.Deed.TheVariants.{Insert}
@@ -12,7 +11,6 @@ use Rattle.phase.specs.declared.place.Place.{Place}
 use Rattle.phase.specs.declared.place.Place.TheVariants.{Home, Probing}
 use Rattle.phase.specs.declared.make.Make.TheVariants.{Publish}
 use Rattle.phase.specs.declared.kept.Buckets.{Buckets}
-use Rattle.phase.specs.Buckets.{words_in}
 use Rattle.write_op.specs.declared.step.Spot.{Spot}
 use Rattle.write_op.specs.declared.step.WriteStep.{WriteStep}
 use Rattle.write_op.specs.declared.step.WriteStep.TheVariants.{Make}
@@ -20,7 +18,7 @@ use Rattle.write_op.specs.Search.{spot_or, room_by, room_in, found}
 use Rattle.write_op.specs.Fits.{IsSpot, SuitsStep}
 use Rattle.write_op.specs.Causes.{records_in, IsRoomiest, InsertsWhereFewer}
 use Rattle.write_op.proofs.finding.Searching.{or_some}
-use Rattle.write_op.proofs.finding.Rooms.{none_some, IsRoom, room_some}
+use Rattle.write_op.proofs.finding.Rooms.{none_some, room_some}
 
 -- the place of what is found in one bucket
 placed : (place : Place) (slot : Option ℕ) (spot : Spot) → spot_or place slot None ≡ Some spot → spot.place ≡ place

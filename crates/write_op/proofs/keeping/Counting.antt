@@ -11,7 +11,8 @@ use Rattle.map_model.specs.Map.{is_done}
 use Rattle.map_model.specs.Legal.{IsInsert}
 use Rattle.map_model.specs.Changes.{doing, call_of}
 use Rattle.world.specs.Site.{Site}
-use Rattle.world.specs.Views.{View}
+use Rattle.way.specs.Ways.{is_leading}
+use Rattle.world.specs.Views.{View, Has}
 use Rattle.world.specs.Kinds.{finds_room, next_entry, with_reply, with_count, view_after}
 use Rattle.world.specs.Attempts.{HasNoMore, EntersReply}
 use Rattle.part.specs.Outcomes.{reply_of}
@@ -27,13 +28,13 @@ use Rattle.phase.proofs.locks.Making.{make_knows}
 use Rattle.write_op.specs.declared.step.Task.{Task}
 use Rattle.write_op.specs.declared.step.Spot.{Spot}
 use Rattle.write_op.specs.declared.step.Seen.{Seen}
-use Rattle.write_op.specs.declared.step.Ending.TheVariants as ending
+use Rattle.phase.specs.declared.ending.Ending.TheVariants as ending
 use Rattle.write_op.specs.declared.step.WriteEnd.TheVariants as ends
 use Rattle.write_op.specs.declared.step.WriteStep.TheVariants as step
 use Rattle.write_op.specs.declared.step.Stage.{Stage}
 use Rattle.write_op.specs.Search.{found, room_in, record_at}
 use Rattle.write_op.specs.Steps.{go, answered, making, inserting, changing, decided, counted, lock_of}
-use Rattle.write_op.specs.Fits.{loaded, prepared_by, prepared, inserting_kind, changing_kind, deciding_kind, count_kind, is_asked, IsVisiting, HasLoaded, IsInserting, IsSpot, planned_at, owed_at, IsChanging, IsGiving, SuitsStage, IsIn}
+use Rattle.write_op.specs.Fits.{loaded, prepared_by, prepared, inserting_kind, changing_kind, deciding_kind, count_kind, is_asked, IsVisiting, HasLoaded, IsPinned, IsInserting, IsSpot, planned_at, owed_at, IsChanging, IsGiving, SuitsStage, IsIn}
 use Rattle.write_op.proofs.keeping.Going.{located, give_suits}
 use Rattle.write_op.proofs.finding.Finding.{holds_buckets, nowhere}
 use Rattle.write_op.proofs.finding.Rooms.{room_none}
@@ -60,19 +61,19 @@ module _ (site : Site) (task : Task) (is : IsIn site task) (seen : Seen) (before
       )
 
   -- ---- room
-  module _ (some : 0 < v.callers) (h : HasLoaded site task seen 4 4 v) (q : IsQuiet v) (vis : IsVisiting task seen) where
+  module _ (some : 0 < v.callers) (h : HasLoaded site task seen 4 4 v) (q : IsQuiet v) (vis : IsVisiting task seen) (pinned : IsPinned site task.hash seen.path v.pinned) where
     abbrev with_room : View
     with_room = record v { room = v.callers }
 
     gives : IsGiving site task seen seen.held v
-    gives = record { located = located site task is seen h.leads; locks = h.locks; quiet = q }
+    gives = record { located = located site task is seen v.facts h.there; locks = h.locks; quiet = q }
 
     room_quiet : IsQuiet with_room
     room_quiet = record { dirty = q.dirty; flushed = q.flushed; planned = q.planned; moving = q.moving; owed = q.owed }
 
     room_loaded : HasLoaded site task seen 4 4 with_room
     room_loaded = record {
-      leads = h.leads;
+      there = h.there;
       locks = record { has = h.locks.has; only = h.locks.only; free = h.locks.free; known = h.locks.known };
       upto = h.upto;
       whole = h.whole;
@@ -90,13 +91,14 @@ module _ (site : Site) (task : Task) (is : IsIn site task) (seen : Seen) (before
       lock = lock_of task seen spot.place
 
       abbrev knows : Knows (IsOfHeld task.site task.hash seen.path.segment seen.held) (loaded task seen) with_room
-      knows = (holds_buckets site task is seen with_room room_loaded).knows
+      knows = (holds_buckets site task is seen with_room room_loaded pinned).knows
 
       changes : (m : Make) → IsMaking lock chosen.written (IsOfHeld task.site task.hash seen.path.segment seen.held) (loaded task seen) (prepared task chosen) m with_room
           → planned_at site task chosen m ≡ [] → owed_at site task chosen m ≡ [] → (IsNew m → IsInserting task.change.deed) → IsChanging site task chosen m with_room
       changes m making plans owes inserts = record {
         all = record {
-          leads = h.leads;
+          there = h.there;
+          pinned = pinned;
           locks = record { has = h.locks.has; only = h.locks.only; free = h.locks.free; known = h.locks.known };
           upto = record { these = h.upto.these; others = h.upto.others };
           visits = record { first = vis.first; second = vis.second };
@@ -138,9 +140,11 @@ module _ (site : Site) (task : Task) (is : IsIn site task) (seen : Seen) (before
           (
             record {
               insert = subst (λ (d : Deed). IsInsert (doing task.change.key d)) (sym deed) tt;
-              holds = holds_buckets site task is seen with_room room_loaded;
+              pinned = subst (λ m. Has (seen.path.segment, m) v.pinned) pinned.same pinned.leads.has;
+              leads = subst (λ m. is_leading m task.hash ≡ true) pinned.same pinned.leads.leads;
+              holds = holds_buckets site task is seen with_room room_loaded pinned;
               quiet = room_quiet;
-              nowhere = nowhere site task seen (located site task is seen h.leads) h.upto vis none;
+              nowhere = nowhere site task seen (located site task is seen v.facts h.there) h.upto vis none;
               home = (room_none seen.buckets full).0;
               probing = (room_none seen.buckets full).1;
               room = some;

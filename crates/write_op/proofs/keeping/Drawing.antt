@@ -14,8 +14,8 @@ use Rattle.phase.proofs.locks.Giving.{nothing_left}
 use Rattle.phase.proofs.Handing.{own_drawn}
 use Rattle.write_op.specs.declared.step.Task.{Task}
 use Rattle.write_op.specs.declared.step.Seen.{Seen}
-use Rattle.write_op.specs.declared.step.Ending.TheVariants as ending
-use Rattle.write_op.specs.declared.step.NoteWord.TheVariants.{Mark}
+use Rattle.phase.specs.declared.ending.Ending.TheVariants as ending
+use Rattle.phase.specs.declared.note.NoteWord.TheVariants.{Mark}
 use Rattle.write_op.specs.declared.step.WriteStep.TheVariants.{Unnote}
 use Rattle.write_op.specs.Search.{leaves_note}
 use Rattle.write_op.specs.Steps.{go, answered, drawn_to}
@@ -50,7 +50,8 @@ module _ (site : Site) (task : Task) (is : IsIn site task) (seen : Seen) (before
   by true e = (
     record {
       all = record {
-        leads = d.all.leads;
+        there = d.all.there;
+        pinned = d.all.pinned;
         locks = record { has = d.all.locks.has; only = d.all.locks.only; free = d.all.locks.free; known = d.all.locks.known };
         upto = d.all.upto;
         visits = d.all.visits;
@@ -67,7 +68,7 @@ module _ (site : Site) (task : Task) (is : IsIn site task) (seen : Seen) (before
   )
   by false e = (
     give_suits site task is seen (ending.Replied reply.Done n) after (record {
-      located = located site task is seen d.all.leads;
+      located = located site task is seen v.facts d.all.there;
       locks = record { has = d.all.locks.has; only = d.all.locks.only; free = d.all.locks.free; known = d.all.locks.known };
       quiet = record { dirty = no_dirty; flushed = no_flushed; planned = drawn; moving = d.all.still; owed = d.owes ∙ ap (owed_by site task seen) e };
     }),

@@ -1,10 +1,8 @@
 -- Which replies are decided: none on the way, at the locks and while buckets are loaded.
 use Rattle.std.proofs.Common.{◌≡◌, ℕ, Bool, true, false, Option, None, Some, refl, ap}
-use Rattle.std.specs.Prelude.{if◌then◌else◌, ◌==◌}
+use Rattle.std.specs.Prelude.{if◌then◌else◌}
 use Rattle.op_core.specs.declared.why.Why.{Why}
 use Rattle.op_core.specs.declared.why.Why.TheVariants.{Busy, Moved}
-use Rattle.segment_head.specs.HeadWord.{state_in, normal}
-use Rattle.way.specs.Ways.{head_word}
 use Rattle.map_model.specs.declared.entry.Reply.{Reply}
 use Rattle.part.specs.Outcomes.{reply_of}
 use Rattle.phase.specs.declared.place.Place.{Place}
@@ -20,26 +18,26 @@ use Rattle.phase.specs.declared.load.Loaded.{Loaded}
 use Rattle.phase.specs.declared.load.Loaded.TheVariants as loaded
 use Rattle.phase.specs.declared.held.Held.{Held}
 use Rattle.phase.specs.Helds.{give_next}
-use Rattle.write_op.specs.declared.step.Task.{Task}
 use Rattle.write_op.specs.declared.step.Seen.{Seen}
-use Rattle.write_op.specs.declared.step.Ending.{Ending}
-use Rattle.write_op.specs.declared.step.Ending.TheVariants as ending
+use Rattle.phase.specs.declared.ending.Ending.{Ending}
+use Rattle.phase.specs.declared.ending.Ending.TheVariants as ending
+use Rattle.phase.specs.Endings.{outcome_then}
 use Rattle.write_op.specs.declared.step.WriteStep.{WriteStep}
 use Rattle.write_op.specs.declared.step.WriteStep.TheVariants.{Lock, Count}
-use Rattle.write_op.specs.declared.step.Stage.{Stage}
-use Rattle.write_op.specs.Steps.{go, end_of, given_by, giving, amiss, walked_to, locked, locked_to, backed_to, visit_second, visit_first, with_visits, filled, filled_to}
-use Rattle.write_op.specs.Fits.{outcome_of, outcome_at}
+use Rattle.write_op.specs.Steps.{given_by, giving, walked_to, locked, locked_to, backed_to, visit_second, visit_first, with_visits, filled, filled_to}
+use Rattle.write_op.specs.Fits.{outcome_at}
 
 -- the reply that is decided
 abbrev pub reply_at : WriteStep → Option (Reply × ℕ)
 reply_at s = reply_of (outcome_at s)
 
 -- ---- locks back
-by_next : (next : Option (Place × ℕ)) (held : Held) (end : Ending) → outcome_at (given_by next held end) ≡ outcome_of (end_of end)
+by_next : (next : Option (Place × ℕ)) (held : Held) (end : Ending) → outcome_at (given_by next held end) ≡ Some (outcome_then end)
 by_next (Some next) held end = refl
-by_next None held end = refl
+by_next None held (ending.Replied answer place) = refl
+by_next None held (ending.Again why) = refl
 
-pub giving_outcome : (held : Held) (end : Ending) → outcome_at (giving held end) ≡ outcome_of (end_of end)
+pub giving_outcome : (held : Held) (end : Ending) → outcome_at (giving held end) ≡ Some (outcome_then end)
 giving_outcome held end = by_next (give_next held) held end
 
 giving_again : (held : Held) (why : Why) → reply_at (giving held (ending.Again why)) ≡ None
@@ -50,17 +48,12 @@ either_quiet : (b : Bool) (s t : WriteStep) → reply_at s ≡ None → reply_at
 either_quiet true s t p q = p
 either_quiet false s t p q = q
 
-both_quiet : (b : Bool) (s t : Stage) → reply_at s.step ≡ None → reply_at t.step ≡ None → reply_at (if b then s else t).step ≡ None
-both_quiet true s t p q = p
-both_quiet false s t p q = q
-
-pub walked_quiet : (task : Task) (seen : Seen) (x : Walked) → reply_at (walked_to task seen x).step ≡ None
-walked_quiet task seen (walked.On w) = refl
-walked_quiet task seen (walked.There path) = both_quiet (state_in path.head == normal) (go (record seen { path = path }) (Lock Home Look))
-    (go seen (amiss (head_word task.site.geometry path.segment) path.head)) refl refl
-walked_quiet task seen walked.Off = refl
-walked_quiet task seen (walked.Amiss word value) = refl
-walked_quiet task seen (walked.Stale segment version) = refl
+pub walked_quiet : (seen : Seen) (x : Walked) → reply_at (walked_to seen x).step ≡ None
+walked_quiet seen (walked.On w) = refl
+walked_quiet seen (walked.There path) = refl
+walked_quiet seen walked.Off = refl
+walked_quiet seen (walked.Amiss word value) = refl
+walked_quiet seen (walked.Stale segment version) = refl
 
 locked_quiet : (place : Place) → reply_at (locked place) ≡ None
 locked_quiet Home = refl

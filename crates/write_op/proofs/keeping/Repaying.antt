@@ -26,9 +26,9 @@ use Rattle.phase.specs.Buckets.{words_in}
 use Rattle.write_op.specs.declared.search.NoteWords.{NoteWords}
 use Rattle.write_op.specs.declared.step.Task.{Task}
 use Rattle.write_op.specs.declared.step.Seen.{Seen}
-use Rattle.write_op.specs.declared.step.Ending.TheVariants as ending
-use Rattle.write_op.specs.declared.step.NoteWord.{NoteWord}
-use Rattle.write_op.specs.declared.step.NoteWord.TheVariants.{Mark, Fingers}
+use Rattle.phase.specs.declared.ending.Ending.TheVariants as ending
+use Rattle.phase.specs.declared.note.NoteWord.{NoteWord}
+use Rattle.phase.specs.declared.note.NoteWord.TheVariants.{Mark, Fingers}
 use Rattle.write_op.specs.declared.step.WriteStep.TheVariants.{Unnote}
 use Rattle.write_op.specs.Search.{unnoted, has_finger}
 use Rattle.world.specs.Wants.{word_of}
@@ -93,7 +93,7 @@ module _ (site : Site) (task : Task) (is : IsIn site task) (seen : Seen) (before
       after_locks = held_store task.site task.hash seen.path.segment site.shape seen.held v (lock + k) m x v.planned v.moving os u.all.locks (guard k from low)
 
       after_all : HasAll site task seen after
-      after_all = record { leads = u.all.leads; locks = after_locks; upto = u.all.upto; visits = u.all.visits; still = u.all.still }
+      after_all = record { there = u.all.there; pinned = u.all.pinned; locks = after_locks; upto = u.all.upto; visits = u.all.visits; still = u.all.still }
 
       after_knows : Knows S (with_word (words_of_note site task seen part) (lock + k) x) after
       after_knows = known_store S (words_of_note site task seen part) site.shape (lock + k) m x v.planned v.moving os v u.knows
@@ -102,7 +102,7 @@ module _ (site : Site) (task : Task) (is : IsIn site task) (seen : Seen) (before
       back_goes : (place : ℕ) → os ≡ [] → EntersReply (call_of task.change) (Some (reply.Done, place)) before v → Goes site task before (answered seen place reply.Done) after
       back_goes place none enters = (
         give_suits site task is seen (ending.Replied reply.Done place) after (record {
-          located = located site task is seen u.all.leads;
+          located = located site task is seen v.facts u.all.there;
           locks = after_locks;
           quiet = record {
             dirty = nothing_left after.dirty (λ p d. after_settled p (inl d));

@@ -1,10 +1,9 @@
 -- EACH STEP of a change leaves a view that suits, with the reply entered that is decided.
-use Rattle.std.proofs.Common.{◌≡◌, ℕ, ◌+◌, ◌%◌, ◌^◌, ◌<◌, Option, None, List, [], inl, refl, sym, ap, subst, arith}
+use Rattle.std.proofs.Common.{◌≡◌, ℕ, ◌+◌, ◌%◌, ◌^◌, ◌<◌, Option, None, List, [], refl, sym, ap, subst, arith}
 use Rattle.op_core.specs.declared.want.Ans.TheVariants.{Value}
 use Rattle.trace.specs.Events.{Words}
 use Rattle.map_model.specs.declared.entry.Reply.{Reply}
 use Rattle.map_model.specs.Changes.{call_of}
-use Rattle.bucket_words.specs.Owners.{HasStructure}
 use Rattle.world.specs.declared.site.Site.{Site as Here}
 use Rattle.world.specs.Site.{Site}
 use Rattle.world.specs.Views.{View, At, IsGuarded}
@@ -12,6 +11,7 @@ use Rattle.world.specs.Wants.{answer_to, word_of}
 use Rattle.world.specs.Kinds.{view_after}
 use Rattle.world.specs.Invariant.{Holds}
 use Rattle.world.specs.Attempts.{HoldsOnly, HasNoMore, EntersReply}
+use Rattle.world.proofs.holding.Beside.{newest_is}
 use Rattle.part.specs.Outcomes.{reply_of}
 use Rattle.phase.specs.declared.place.Place.{Place}
 use Rattle.phase.specs.declared.place.Place.TheVariants.{Home, Probing, First, Second, Next, Previous}
@@ -19,10 +19,13 @@ use Rattle.phase.specs.declared.walk.Walk.{Walk}
 use Rattle.phase.specs.declared.walk.Walk.TheVariants as walk
 use Rattle.phase.specs.declared.walk.Walked.{Walked}
 use Rattle.phase.specs.declared.take.Take.{Take}
+use Rattle.phase.specs.declared.back.Back.{Back}
+use Rattle.phase.specs.declared.back.Backed.{Backed}
 use Rattle.phase.specs.declared.load.Load.{Load}
 use Rattle.phase.specs.declared.held.Held.{Held}
 use Rattle.phase.specs.Walks.{walk_wanted, walk_taken}
 use Rattle.phase.specs.Takes.{take_wanted, take_taken}
+use Rattle.phase.specs.Backs.{back_taken}
 use Rattle.phase.specs.Loads.{load_taken}
 use Rattle.phase.specs.Asked.{index, looked_by}
 use Rattle.phase.specs.Helds.{give_next, given}
@@ -38,13 +41,13 @@ use Rattle.phase.proofs.locks.Holding.{learn_may}
 use Rattle.phase.proofs.locks.Giving.{held_has, give_stands}
 use Rattle.write_op.specs.declared.step.Task.{Task}
 use Rattle.write_op.specs.declared.step.Seen.{Seen}
-use Rattle.write_op.specs.declared.step.Ending.{Ending}
-use Rattle.write_op.specs.declared.step.WriteStep.TheVariants.{Way, Lock, Fill, Give}
+use Rattle.phase.specs.declared.ending.Ending.{Ending}
+use Rattle.write_op.specs.declared.step.WriteStep.TheVariants.{Way, Lock, Check, Fill, Give}
 use Rattle.write_op.specs.declared.step.Stage.{Stage}
-use Rattle.write_op.specs.Steps.{go, giving, lock_of, walked_to, locked_to, filled_to, next_in}
+use Rattle.write_op.specs.Steps.{go, giving, lock_of, walked_to, locked_to, backed_to, filled_to, next_in}
 use Rattle.write_op.specs.Fits.{HasLoaded, VisitsAt, IsGiving, SuitsStep, SuitsStage, kind_at, IsIn}
-use Rattle.write_op.proofs.keeping.Going.{walked_suits, locked_suits, learnt_loaded, learnt_quiet, filled_suits, giving_suits}
-use Rattle.write_op.proofs.keeping.Entering.{reply_at, giving_outcome, walked_quiet, taken_quiet, filled_quiet}
+use Rattle.write_op.proofs.keeping.Going.{walked_suits, locked_suits, looked, looked_is, looked_pinned, backed_suits, learnt_loaded, learnt_quiet, filled_suits, giving_suits}
+use Rattle.write_op.proofs.keeping.Entering.{reply_at, giving_outcome, walked_quiet, taken_quiet, backed_quiet, filled_quiet}
 use Rattle.write_op.proofs.keeping.Counting.{Goes}
 
 -- ---- answers
@@ -56,23 +59,30 @@ walk_answer here hash (walk.Head root segment) n = refl
 
 -- ---- one step
 module _ (site : Site) (task : Task) (is : IsIn site task) (words : Words) (views : List View) (j : ℕ) (before v : View) (h : Holds site words views) (at : At views j v) (some : 0 < v.callers) (seen : Seen) where
-  structure : HasStructure site.shape site.front words
-  structure = h.media.structure words (λ i within. inl refl)
-
   pub quietly : (s : Stage) (u : View) → SuitsStage site task s u → reply_at s.step ≡ None → HasNoMore before v → u.own ≡ v.own → u.seen ≡ v.seen → Goes site task before s u
   quietly s u suits quiet same own sees = (suits, none_more (call_of task.change) before v (reply_at s.step) u quiet same own sees)
 
   pub way_goes : (w : Walk) (n : ℕ) → n ≡ words (word_of site.shape (walk_wanted task.site task.hash w)) → SuitsStep site task seen (Way w) v → HasNoMore before v
-      → Goes site task before (walked_to task seen (walk_taken task.site task.hash w n)) (view_after site.shape (walk_kind task.site task.hash w) n v)
+      → Goes site task before (walked_to seen (walk_taken task.site task.hash w n)) (view_after site.shape (walk_kind task.site task.hash w) n v)
   way_goes w n found suits same =
       let u : View = view_after site.shape (walk_kind task.site task.hash w) n v in
       let x : Walked = walk_taken task.site task.hash w n in
-      let has : HasWalked site task.hash x = walk_stands site h.site_is is.straight task.hash is.fits task.site is.shape words structure w suits.1 n found in
-      let only : HoldsOnly [] u = walk_keeps task.site task.hash site.shape (HoldsOnly []) w n v
-      (λ k. record { held = k.held; known = k.known; dirty = k.dirty; flushed = k.flushed; planned = k.planned; moving = k.moving; owed = k.owed }) suits.0 in
-      quietly (walked_to task seen x) u (walked_suits site task is seen u only suits.2 x has) (walked_quiet task seen x) same
-      (walk_keeps task.site task.hash site.shape (λ (z : View). z.own ≡ v.own) w n v (λ e. e) refl)
-      (walk_keeps task.site task.hash site.shape (λ (z : View). z.seen ≡ v.seen) w n v (λ e. e) refl)
+      let has : HasWalked site x u.facts = walk_stands site task.site task.hash words v h.site_is.shape is.shape is.fits (newest_is site words views j v h at) w suits.1 n found in
+      let k = suits.0 in
+      let only : HoldsOnly [] u = walk_keeps site.shape task.site task.hash (HoldsOnly []) w n v
+      (λ facts notes answer. record { held = k.held; known = k.known; dirty = k.dirty; flushed = k.flushed; planned = k.planned; moving = k.moving; owed = k.owed }) in
+      quietly (walked_to seen x) u (walked_suits site task is seen u only suits.2 x has) (walked_quiet seen x) same
+      (walk_keeps site.shape task.site task.hash (λ (z : View). z.own ≡ v.own) w n v (λ facts notes answer. refl))
+      (walk_keeps site.shape task.site task.hash (λ (z : View). z.seen ≡ v.seen) w n v (λ facts notes answer. refl))
+
+  pub back_goes : (at : Back) (n : ℕ) → SuitsStep site task seen (Check at) v → HasNoMore before v
+      → Goes site task before (backed_to seen (back_taken task.site task.hash seen.path at n)) (view_after site.shape (kind_at task seen (Check at) n) n v)
+  back_goes at n suits same =
+      let u : View = looked site task is seen v at n in
+      let but = looked_is site task is seen v at n in
+      let x : Backed = back_taken task.site task.hash seen.path at n in
+      quietly (backed_to seen x) u (backed_suits site task is seen v suits.0 suits.1 u but.0 but.1 x (looked_pinned site task is seen v suits.0 suits.1 h.site_is.shape at n))
+      (backed_quiet seen x) same (ap (λ (z : View). z.own) but.1) (ap (λ (z : View). z.seen) but.1)
 
   -- the bucket that is loaded is held
   fill_held : (place : Place) (m : ℕ) → HasLoaded site task seen (looked_by place) m v → VisitsAt site task seen place → IsHeld seen.held place
@@ -95,7 +105,7 @@ module _ (site : Site) (task : Task) (is : IsIn site task) (words : Words) (view
       let u : View = view_after site.shape (kind_at task seen (Fill place load) n) n v in
       quietly (filled_to task.hash seen place (load_taken load n)) u
       (filled_suits site task is seen place u (learnt_loaded site task is seen (looked_by place) (index place) i n v suits.0 suits.1 guard)
-      (learnt_quiet site task is seen (looked_by place) (index place) i n v suits.0 suits.1 guard) suits.2 (load_taken load n) (load_stands (lock_of task seen place) v.known load n suits.3))
+      (learnt_quiet site task is seen (looked_by place) (index place) i n v suits.0 suits.1 guard) suits.2 suits.4 (load_taken load n) (load_stands (lock_of task seen place) v.known load n suits.3))
       (filled_quiet task.hash seen place (load_taken load n)) same refl refl
 
   pub lock_goes : (place : Place) (t : Take) (n : ℕ) → n < 2 ^ 64 → SuitsStep site task seen (Lock place t) v → HasNoMore before v
@@ -104,7 +114,7 @@ module _ (site : Site) (task : Task) (is : IsIn site task) (words : Words) (view
       let lock : ℕ = lock_of task seen place in
       let x = take_taken t (answer_to (take_wanted lock t) n) in
       let u : View = view_after site.shape (take_kind lock t) n v in
-      quietly (locked_to seen place lock x) u (locked_suits site task is seen place v u suits.0 suits.1 suits.2 x (take_stands site.shape lock t v n suits.3 small))
+      quietly (locked_to seen place lock x) u (locked_suits site task is seen place v u suits.0 suits.1 suits.2 suits.4 x (take_stands site.shape lock t v n suits.3 small))
       (taken_quiet seen place lock x) same (take_own site.shape lock t n v) (take_seen site.shape lock t n v)
 
   pub give_goes : (held : Held) (end : Ending) (n : ℕ) → IsGiving site task seen held v → EntersReply (call_of task.change) (reply_at (Give held end)) before v

@@ -1,10 +1,11 @@
 -- A CHANGE IS A PART of a call: its laws one by one.
 use Rattle.std.proofs.Common.{◌≡◌, ℕ, ◌+◌, ◌^◌, ◌<◌, Bool, true, false, Option, None, Some, refl, sym, ap, ◌∙◌, subst}
-use Rattle.std.specs.Prelude.{⊤, nat_le, if◌then◌else◌}
+use Rattle.std.specs.Prelude.{nat_le, nat_lt, if◌then◌else◌}
 use Rattle.std.proofs.lemmas.Option.{none-some}
 use Rattle.op_core.specs.declared.want.Want.{Want}
 use Rattle.op_core.specs.declared.want.Ans.{Ans}
-use Rattle.image_layout.specs.Places.{Shape, IsShape}
+use Rattle.hash_word.specs.Hash.{home_of, index_of}
+use Rattle.image_layout.specs.Places.{Shape, IsShape, root_word}
 use Rattle.map_model.specs.declared.call.Call.{Call}
 use Rattle.map_model.specs.declared.change.Deed.{Deed}
 use Rattle.map_model.specs.declared.change.Deed.TheVariants.{Insert, Update, Remove}
@@ -15,7 +16,7 @@ use Rattle.world.specs.declared.site.Site.{Site as Here}
 use Rattle.world.specs.Site.{Site, IsSite}
 use Rattle.world.specs.Views.{View, Has}
 use Rattle.world.specs.Wants.{answer_to, word_of}
-use Rattle.world.specs.Kinds.{Kind, finds_room, cuts_power, view_after}
+use Rattle.world.specs.Kinds.{Kind, peeks, meets_entry, meets_head, pins, finds_room, view_after}
 use Rattle.world.specs.Attempts.{EntersReply}
 use Rattle.world.proofs.stepping.Answers.{is_word}
 use Rattle.part.specs.Asks.{IsWithin}
@@ -25,25 +26,21 @@ use Rattle.phase.specs.declared.place.Place.{Place}
 use Rattle.phase.specs.declared.place.Place.TheVariants as place
 use Rattle.phase.specs.declared.walk.Walk.{Walk}
 use Rattle.phase.specs.declared.walk.Walk.TheVariants as walk
-use Rattle.phase.specs.declared.take.Take.{Take}
-use Rattle.phase.specs.declared.take.Take.TheVariants.{Look, Try}
+use Rattle.phase.specs.declared.back.Back.{Back}
+use Rattle.phase.specs.declared.back.Back.TheVariants as back
 use Rattle.phase.specs.declared.make.Make.{Make}
 use Rattle.phase.specs.declared.make.Make.TheVariants as make
 use Rattle.phase.specs.Helds.{give_next}
 use Rattle.phase.specs.Buckets.{words_in, no_words}
 use Rattle.phase.specs.AreWords.{AreWords}
 use Rattle.phase.specs.Keeps.{KeepsAll, HasNoThird}
-use Rattle.phase.specs.Stands.{walk_kind}
-use Rattle.phase.specs.Taking.{take_kind}
-use Rattle.phase.specs.Giving.{give_kind_of}
+use Rattle.phase.specs.Stands.{walk_kind, back_kind}
 use Rattle.write_op.specs.declared.search.NoteWords.{NoteWords}
 use Rattle.write_op.specs.declared.step.Task.{Task}
 use Rattle.write_op.specs.declared.step.Spot.{Spot}
 use Rattle.write_op.specs.declared.step.Seen.{Seen}
-use Rattle.write_op.specs.declared.step.Ending.{Ending}
-use Rattle.write_op.specs.declared.step.Ending.TheVariants as ending
-use Rattle.write_op.specs.declared.step.NoteWord.{NoteWord}
-use Rattle.write_op.specs.declared.step.NoteWord.TheVariants.{Mark, Fingers}
+use Rattle.phase.specs.declared.note.NoteWord.{NoteWord}
+use Rattle.phase.specs.declared.note.NoteWord.TheVariants.{Mark, Fingers}
 use Rattle.write_op.specs.declared.step.WriteEnd.{WriteEnd}
 use Rattle.write_op.specs.declared.step.WriteEnd.TheVariants as ends
 use Rattle.write_op.specs.declared.step.WriteStep.{WriteStep}
@@ -51,12 +48,12 @@ use Rattle.write_op.specs.declared.step.WriteStep.TheVariants.{Way, Lock, Check,
 use Rattle.write_op.specs.declared.step.WriteStep.TheVariants as step
 use Rattle.write_op.specs.declared.op.WriteOp.{WriteOp}
 use Rattle.write_op.specs.Search.{found, leaves_note, unnoted, has_finger}
-use Rattle.write_op.specs.Steps.{lock_of, wanted, wanted_in, next_in, end_of, kept_of}
+use Rattle.write_op.specs.Steps.{lock_of, wanted, wanted_in, next_in, kept_of}
 use Rattle.write_op.specs.Fits.{publish_by, inserting_kind, changing_kind, deciding_kind, mark_kind, note_kind, kind_at, kind_of, planned_at, SuitsStep, ChangeStands, outcome_of, outcome_at}
-use Rattle.write_op.specs.ChangePart.{IsAtHead, RemembersIn, change_part, BeginsAsPart, BeginsBare, BeginsUndecided, BeginsRemembering, HandsOnAll, HandsOnRemembering, NeverFinished}
-use Rattle.phase.proofs.Wanting.{HasFlush, is_fence}
+use Rattle.write_op.specs.ChangePart.{RemembersIn, change_part, BeginsAsPart, BeginsBare, BeginsUndecided, BeginsRemembering, HandsOnAll, HandsOnRemembering, NeverFinished}
+use Rattle.phase.proofs.Wanting.{HasFlush, is_fence, Cuts, take_on, give_on}
 use Rattle.phase.proofs.Wording.{none_words}
-use Rattle.phase.proofs.Handing.{none_has, one_has}
+use Rattle.phase.proofs.Handing.{none_has, one_has, not_finished}
 use Rattle.write_op.proofs.Over.{without}
 use Rattle.write_op.proofs.Falling.{change_falls, most_at}
 use Rattle.write_op.proofs.parts.Fitting.{wants_in}
@@ -110,7 +107,7 @@ module _ (site : Site) (task : Task) (seen : Seen) (before v : View) (x : Call) 
   planned_in : (s : WriteStep) → SuitsStep site task seen s v → EntersReply (call_of task.change) (reply_of (outcome_at s)) before v → Has x v.planned → Plans
   planned_in (Way w) suits enters h = absurd (none_has v.planned x suits.0.planned h)
   planned_in (Lock place t) suits enters h = absurd (none_has v.planned x suits.1.planned h)
-  planned_in (Check back) suits enters h = absurd (none_has v.planned x suits.1.planned h)
+  planned_in (Check at) suits enters h = absurd (none_has v.planned x suits.1.planned h)
   planned_in (Fill place load) suits enters h = absurd (none_has v.planned x suits.1.planned h)
   planned_in Count suits enters h = absurd (none_has v.planned x suits.1.planned h)
   planned_in (step.Make m) suits enters h = (make_planned m (subst (λ calls. Has x calls) suits.planned h), enters.own)
@@ -128,20 +125,21 @@ plans site here call op before v planned s h =
     (got.0 ∙ st.same, got.1)
 
 -- ---- the power
-abbrev Cuts : Kind → Type 0
-Cuts cuts_power = ⊤
-Cuts k = ⊥
-
 module _ (task : Task) (seen : Seen) where
+  either_on : (b : Bool) (k l : Kind) → (Cuts k → ⊥) → (Cuts l → ⊥) → Cuts (if b then k else l) → ⊥
+  either_on true k l p q = p
+  either_on false k l p q = q
+
   walk_on : (w : Walk) → Cuts (walk_kind task.site task.hash w) → ⊥
   walk_on walk.Power p = p
   walk_on walk.Root p = p
-  walk_on (walk.Entry root) p = p
-  walk_on (walk.Head root segment) p = p
+  walk_on (walk.Entry root) p = either_on (nat_le root task.site.geometry.depth) (meets_entry root (index_of root task.hash)) (peeks root_word) (λ q. q) (λ q. q) p
+  walk_on (walk.Head root segment) p = either_on (nat_lt segment task.site.geometry.segments) (meets_head segment task.site.version) (peeks root_word) (λ q. q) (λ q. q) p
 
-  take_on : (lock : ℕ) (t : Take) → Cuts (take_kind lock t) → ⊥
-  take_on lock Look p = p
-  take_on lock (Try free) p = p
+  back_on : (at : Back) → Cuts (back_kind task.site task.hash seen.path (pins seen.path.segment (home_of task.hash)) at) → ⊥
+  back_on back.Root p = p
+  back_on back.Entry p = p
+  back_on back.Head p = p
 
   inserting_on : (there : Option Spot) → Cuts (inserting_kind task seen there) → ⊥
   inserting_on (Some spot) p = p
@@ -168,10 +166,6 @@ module _ (task : Task) (seen : Seen) where
   note_on Mark n p = mark_on (has_finger seen n) (lock_of task seen n.place + 1) n.mark p
   note_on Fingers n p = p
 
-  give_on : (next : Option (Place × ℕ)) → Cuts (give_kind_of task.site task.hash seen.path.segment next) → ⊥
-  give_on (Some next) p = p
-  give_on None p = p
-
   publish_on : (b : Bool) (i x : ℕ) → Cuts (publish_by task seen b i x) → ⊥
   publish_on true i x p = p
   publish_on false i x p = p
@@ -190,14 +184,14 @@ module _ (task : Task) (seen : Seen) where
   on_in : (s : WriteStep) (n : ℕ) → Cuts (kind_at task seen s n) → ⊥
   on_in (Way w) n p = walk_on w p
   on_in (Lock place t) n p = take_on (lock_of task seen place) t p
-  on_in (Check back) n p = p
+  on_in (Check at) n p = back_on at p
   on_in (Fill place load) n p = p
   on_in Count n p = count_on (nat_le (2 ^ 63) n) p
   on_in (step.Make m) n p = make_on m n p
   on_in Draw n p = p
   on_in (Unnote part place) n p = note_on part (unnoted task.hash seen) p
   on_in CountSpent n p = p
-  on_in (Give held end) n p = give_on (give_next held) p
+  on_in (Give held end) n p = give_on task.site task.hash seen.path.segment (give_next held) p
   on_in (Ended end) n p = p
 
 -- ---- A CHANGE IS A PART
@@ -238,10 +232,10 @@ buckets_none place.Next = none_words
 buckets_none place.Previous = none_words
 
 pub begins_as_part : BeginsAsPart
-begins_as_part site here change v good straight same key value nothing = record {
+begins_as_part site here change v good same version key value nothing = record {
   same = refl;
   at = refl;
-  is_in = record { shape = same; straight = straight; hash = ap (λ (g : Shape). key_hash g change.key) same; fits = key_hash-fits here.geometry change.key key };
+  is_in = record { shape = same; version = version; hash = ap (λ (g : Shape). key_hash g change.key) same; fits = key_hash-fits here.geometry change.key key };
   has = record { key = key; value = value; buckets = buckets_none; load = tt };
   view = (nothing, tt, refl);
 }
@@ -250,7 +244,7 @@ pub begins_bare : BeginsBare
 begins_bare site here call change v stands = stands.view.0.held
 
 pub begins_remembering : BeginsRemembering
-begins_remembering site here change unsplit = record { unsplit = unsplit; kept = (tt, refl) }
+begins_remembering site here change = (tt, refl)
 
 pub begins_undecided : BeginsUndecided
 begins_undecided here change = refl
@@ -262,7 +256,6 @@ hands_on_all site here call op v st is =
     record {
       same = st.same;
       at = st.at;
-      straight = st.is_in.straight;
       key = st.has.key;
       value = st.has.value;
       buckets = st.has.buckets;
@@ -272,13 +265,15 @@ hands_on_all site here call op v st is =
 
 pub hands_on_remembering : HandsOnRemembering
 hands_on_remembering site op did r is =
-    let kept : RemembersIn (IsAtHead site) op.task op.stage.seen did (Ended ends.NoSlot) = subst (λ s. RemembersIn (IsAtHead site) op.task op.stage.seen did s) (without op.stage.step is) r.kept in (
+    let kept : RemembersIn op.task op.stage.seen did (Ended ends.NoSlot) = subst (λ s. RemembersIn op.task op.stage.seen did s) (without op.stage.step is) r in (
       record {
         path = op.stage.seen.path;
         there = refl;
-        found = kept.0.0;
-        head = kept.0.1;
+        found = kept.0;
+        head = refl;
         buckets = λ place held own. kept.2 place held;
+        home = kept.3;
+        probing = kept.4;
       },
       kept.1,
     )
@@ -291,13 +286,9 @@ finishes (ends.Again why) is = absurd (cc)
 finishes (ends.Stale segment version) is = absurd (cc)
 finishes ends.Off is = absurd (cc)
 
-given_finishes : (end : Ending) → outcome_of (end_of end) ≡ Some finished → ⊥
-given_finishes (ending.Replied answer place) is = absurd (cc)
-given_finishes (ending.Again why) is = absurd (cc)
-
 never_in : (s : WriteStep) → outcome_at s ≡ Some finished → ⊥
 never_in (Unnote part place) some = absurd (cc)
-never_in (Give held end) some = given_finishes end some
+never_in (Give held end) some = not_finished end some
 never_in (Ended end) some = finishes end some
 never_in s some = none-some finished some
 

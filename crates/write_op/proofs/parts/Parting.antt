@@ -5,6 +5,8 @@ use Rattle.op_core.specs.declared.want.Want.TheVariants as want
 use Rattle.op_core.specs.declared.want.Ans.{Ans}
 use Rattle.op_core.specs.declared.want.Ans.TheVariants.{Drawn, Passed}
 use Rattle.op_core.specs.Answers.{IsAnswer}
+use Rattle.hash_word.specs.Hash.{home_of, index_of}
+use Rattle.image_layout.specs.Places.{root_word}
 use Rattle.map_model.specs.declared.change.Deed.{Deed}
 use Rattle.map_model.specs.declared.change.Deed.TheVariants.{Insert, Update, Remove}
 use Rattle.map_model.specs.declared.entry.Reply.{Reply}
@@ -14,36 +16,34 @@ use Rattle.world.specs.declared.site.Site.{Site as Here}
 use Rattle.world.specs.Site.{Site}
 use Rattle.world.specs.Views.{View}
 use Rattle.world.specs.Wants.{answer_to}
-use Rattle.world.specs.Kinds.{Kind, finds_room}
+use Rattle.world.specs.Kinds.{Kind, peeks, meets_entry, meets_head, pins, finds_room}
 use Rattle.world.specs.Pairs.{IsPublishingKind}
 use Rattle.world.specs.Attempts.{HoldsOnly}
 use Rattle.part.specs.Outcomes.{IsDone, replied}
 use Rattle.phase.specs.declared.place.Place.{Place}
 use Rattle.phase.specs.declared.walk.Walk.{Walk}
 use Rattle.phase.specs.declared.walk.Walk.TheVariants as walk
-use Rattle.phase.specs.declared.take.Take.{Take}
-use Rattle.phase.specs.declared.take.Take.TheVariants.{Look, Try}
+use Rattle.phase.specs.declared.back.Back.{Back}
+use Rattle.phase.specs.declared.back.Back.TheVariants as back
 use Rattle.phase.specs.declared.make.Make.{Make}
 use Rattle.phase.specs.declared.make.Make.TheVariants as make
 use Rattle.phase.specs.declared.make.Made.TheVariants as made
 use Rattle.phase.specs.declared.held.Held.{Held}
 use Rattle.phase.specs.Helds.{give_next, given}
 use Rattle.phase.specs.Walks.{walk_wanted}
-use Rattle.phase.specs.Stands.{walk_kind}
-use Rattle.phase.specs.Taking.{take_kind}
-use Rattle.phase.specs.Giving.{give_kind_of}
+use Rattle.phase.specs.Stands.{walk_kind, back_kind}
 use Rattle.phase.specs.Making.{waiting_of, IsPublished}
-use Rattle.phase.proofs.Wanting.{no, HasFlush, HasFence, take_no_flush, give_no_flush, few_waiting}
+use Rattle.phase.proofs.Wanting.{no, HasFlush, HasFence, take_no_flush, give_no_flush, few_waiting, IsPlain, plain_take, plain_give}
 use Rattle.phase.proofs.locks.Giving.{give_stands}
-use Rattle.phase.proofs.Handing.{done_is}
+use Rattle.phase.proofs.Handing.{done_is, done_then}
 use Rattle.write_op.specs.declared.search.NoteWords.{NoteWords}
 use Rattle.write_op.specs.declared.step.Task.{Task}
 use Rattle.write_op.specs.declared.step.Spot.{Spot}
 use Rattle.write_op.specs.declared.step.Seen.{Seen}
-use Rattle.write_op.specs.declared.step.Ending.{Ending}
-use Rattle.write_op.specs.declared.step.Ending.TheVariants as ending
-use Rattle.write_op.specs.declared.step.NoteWord.{NoteWord}
-use Rattle.write_op.specs.declared.step.NoteWord.TheVariants.{Mark, Fingers}
+use Rattle.phase.specs.declared.ending.Ending.{Ending}
+use Rattle.phase.specs.declared.ending.Ending.TheVariants as ending
+use Rattle.phase.specs.declared.note.NoteWord.{NoteWord}
+use Rattle.phase.specs.declared.note.NoteWord.TheVariants.{Mark, Fingers}
 use Rattle.write_op.specs.declared.step.WriteEnd.{WriteEnd}
 use Rattle.write_op.specs.declared.step.WriteEnd.TheVariants as ends
 use Rattle.write_op.specs.declared.step.WriteStep.{WriteStep}
@@ -58,19 +58,20 @@ use Rattle.write_op.proofs.Over.{over_done}
 
 -- ---- the one store
 module _ (task : Task) (seen : Seen) where
-  -- a kind that makes no change
-  abbrev IsPlain : Kind → Type 0
-  IsPlain k = IsPublishingKind k → ⊥
+  either_plain : (b : Bool) (k l : Kind) → IsPlain k → IsPlain l → IsPlain (if b then k else l)
+  either_plain true k l p q = p
+  either_plain false k l p q = q
 
   plain_walk : (w : Walk) → IsPlain (walk_kind task.site task.hash w)
   plain_walk walk.Power p = p
   plain_walk walk.Root p = p
-  plain_walk (walk.Entry root) p = p
-  plain_walk (walk.Head root segment) p = p
+  plain_walk (walk.Entry root) p = either_plain (nat_le root task.site.geometry.depth) (meets_entry root (index_of root task.hash)) (peeks root_word) (λ q. q) (λ q. q) p
+  plain_walk (walk.Head root segment) p = either_plain (nat_lt segment task.site.geometry.segments) (meets_head segment task.site.version) (peeks root_word) (λ q. q) (λ q. q) p
 
-  plain_take : (lock : ℕ) (t : Take) → IsPlain (take_kind lock t)
-  plain_take lock Look p = p
-  plain_take lock (Try free) p = p
+  plain_back : (at : Back) → IsPlain (back_kind task.site task.hash seen.path (pins seen.path.segment (home_of task.hash)) at)
+  plain_back back.Root p = p
+  plain_back back.Entry p = p
+  plain_back back.Head p = p
 
   plain_inserting : (there : Option Spot) → IsPlain (inserting_kind task seen there)
   plain_inserting (Some spot) p = p
@@ -97,10 +98,6 @@ module _ (task : Task) (seen : Seen) where
   plain_note Mark n p = plain_mark (has_finger seen n) (lock_of task seen n.place + 1) n.mark p
   plain_note Fingers n p = p
 
-  plain_give : (next : Option (Place × ℕ)) → IsPlain (give_kind_of task.site task.hash seen.path.segment next)
-  plain_give (Some next) p = p
-  plain_give None p = p
-
   abbrev Makes : WriteStep → ℕ → Type 0
   Makes s n = IsPublishingKind (kind_at task seen s n) → (HasMadeAt s → ⊥) × HasMadeAt (next_in task seen s (answer_to (wanted_in task seen s) n)).step
 
@@ -119,14 +116,14 @@ module _ (task : Task) (seen : Seen) where
   pub only_there : (s : WriteStep) (n : ℕ) → IsPublishingKind (kind_at task seen s n) → s ≡ step.Make make.Publish
   only_there (Way w) n p = absurd (plain_walk w p)
   only_there (Lock place t) n p = absurd (plain_take (lock_of task seen place) t p)
-  only_there (Check back) n p = absurd p
+  only_there (Check at) n p = absurd (plain_back at p)
   only_there (Fill place load) n p = absurd p
   only_there Count n p = absurd (plain_count (nat_le (2 ^ 63) n) p)
   only_there (step.Make m) n p = ap (λ (k : Make). step.Make k) (make_only m n p)
   only_there Draw n p = absurd p
   only_there (Unnote part place) n p = absurd (plain_note part (unnoted task.hash seen) p)
   only_there CountSpent n p = absurd p
-  only_there (Give held end) n p = absurd (plain_give (give_next held) p)
+  only_there (Give held end) n p = absurd (plain_give task.site task.hash seen.path.segment (give_next held) p)
   only_there (Ended end) n p = absurd p
 
   makes_there : (s : WriteStep) (n : ℕ) → s ≡ step.Make make.Publish → (HasMadeAt s → ⊥) × HasMadeAt (next_in task seen s (answer_to (wanted_in task seen s) n)).step
@@ -178,13 +175,9 @@ end_done : (end : WriteEnd) → HasMadeAt (Ended end) → (place : ℕ) × (outc
 end_done (ends.Replied answer place) d = (place, ap (λ r. Some (replied r place)) (done_is answer d))
 end_done end d = absurd d
 
-give_done : (end : Ending) (held : Held) → HasMadeAt (Give held end) → (place : ℕ) × (outcome_at (Give held end) ≡ Some (replied reply.Done place))
-give_done (ending.Replied answer place) held d = (place, ap (λ r. Some (replied r place)) (done_is answer d))
-give_done (ending.Again why) held d = absurd d
-
 pub done_in : (task : Task) (seen : Seen) (s : WriteStep) → HasMadeAt s → wanted_in task seen s ≡ want.Done → (place : ℕ) × (outcome_at s ≡ Some (replied reply.Done place))
 done_in task seen (Ended end) d over = end_done end d
-done_in task seen (Give held end) d over = give_done end held d
+done_in task seen (Give held end) d over = done_then end d
 done_in task seen s d over = absurd (no ((over_done task seen s).1 over))
 
 -- ---- ends
@@ -235,7 +228,7 @@ module _ (task : Task) (seen : Seen) where
   pub flush_in : (s : WriteStep) (a : Ans) → IsAnswer (wanted_in task seen s) a → HasFlush (wanted_in task seen s) → Waits s a 1
   flush_in (Way w) a i f = absurd (walk_no_flush task.site task.hash w f)
   flush_in (Lock place t) a i f = absurd (take_no_flush (lock_of task seen place) t f)
-  flush_in (Check back) a i f = absurd f
+  flush_in (Check at) a i f = absurd f
   flush_in (Fill place load) a i f = absurd f
   flush_in Count a i f = absurd f
   flush_in (step.Make m) a i f = make_flush m a i f

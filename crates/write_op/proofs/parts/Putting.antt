@@ -1,6 +1,6 @@
 -- A change puts words alone into the memory, and asks for words of the image and those right behind it.
-use Rattle.std.proofs.Common.{◌≡◌, ℕ, ◌+◌, ◌*◌, ◌%◌, ◌^◌, ◌<◌, ◌≤◌, Bool, true, false, Option, Some, None, List, refl, sym, subst, arith, slice_index}
-use Rattle.std.specs.Prelude.{⊤, ◌==◌, bit_and, if◌then◌else◌}
+use Rattle.std.proofs.Common.{◌≡◌, ℕ, ◌+◌, ◌*◌, ◌%◌, ◌^◌, ◌<◌, ◌≤◌, Option, Some, None, List, refl, sym, subst, arith, slice_index}
+use Rattle.std.specs.Prelude.{⊤, ◌==◌, bit_and}
 use Rattle.std.proofs.lemmas.Nat.{and_le_l}
 use Rattle.std.specs.Int.{bit_not, w64}
 use Rattle.hash_word.specs.Hash.{finger_of}
@@ -33,7 +33,7 @@ use Rattle.phase.specs.declared.make.Make.{Make}
 use Rattle.phase.specs.declared.make.Make.TheVariants as make
 use Rattle.phase.specs.Walks.{walk_wanted}
 use Rattle.phase.specs.Takes.{take_wanted}
-use Rattle.phase.specs.Makes.{make_wanted}
+use Rattle.phase.specs.Makes.{brought, make_wanted}
 use Rattle.phase.specs.Helds.{give_next, give_wanted_of}
 use Rattle.phase.specs.Buckets.{words_in}
 use Rattle.phase.proofs.locks.Giving.{lock_at}
@@ -42,15 +42,16 @@ use Rattle.phase.proofs.Asking.{walk_within, back_within, lock_within}
 use Rattle.write_op.specs.declared.search.NoteWords.{NoteWords}
 use Rattle.write_op.specs.declared.step.Task.{Task}
 use Rattle.write_op.specs.declared.step.Seen.{Seen}
-use Rattle.write_op.specs.declared.step.NoteWord.{NoteWord}
-use Rattle.write_op.specs.declared.step.NoteWord.TheVariants.{Mark, Fingers}
+use Rattle.phase.specs.declared.note.NoteWord.{NoteWord}
+use Rattle.phase.specs.declared.note.NoteWord.TheVariants.{Mark, Fingers}
 use Rattle.write_op.specs.declared.step.WriteStep.{WriteStep}
 use Rattle.write_op.specs.declared.step.WriteStep.TheVariants.{Way, Lock, Check, Fill, Count, Draw, Unnote, CountSpent, Give, Ended}
 use Rattle.write_op.specs.declared.step.WriteStep.TheVariants as step
 use Rattle.phase.proofs.Wanting.{number_of, take_small, give_small}
-use Rattle.write_op.specs.Search.{brought, published_mark, taken_mark, stash_index, freed_or, unnoted}
+use Rattle.write_op.specs.Search.{published_mark, taken_mark, stash_index, freed_or, unnoted}
 use Rattle.write_op.specs.Steps.{lock_of, note_wanted, wanted_in}
 use Rattle.phase.specs.AreWords.{AreWords}
+use Rattle.phase.proofs.Wording.{either_small}
 use Rattle.write_op.specs.Fits.{HasAll, IsChosen, SuitsStep, IsIn}
 use Rattle.write_op.proofs.finding.Chosen.{slot_low, written_is}
 use Rattle.write_op.proofs.permitting.Publishing.{located_all, key_is, value_is, mark_is, word_is}
@@ -61,10 +62,6 @@ less n m fits = let most = and_le_l n m in omega (arith, fits, most)
 -- ---- marks
 freed_small : (w i : ℕ) → w < 2 ^ 64 → freed_mark w i < 2 ^ 64
 freed_small w i fits = less _ (bit_not w64 (finger_bits i)) (less _ (bit_not w64 (mask (36 + i))) (less _ (bit_not w64 (mask (32 + i))) (less w (bit_not w64 (mask (28 + i))) fits)))
-
-either_small : (b : Bool) (x y : ℕ) → x < 2 ^ 64 → y < 2 ^ 64 → (if b then x else y) < 2 ^ 64
-either_small true x y p q = p
-either_small false x y p q = q
 
 fingers_small : (w i : ℕ) → w < 2 ^ 64 → freed_fingers w i < 2 ^ 64
 fingers_small w i fits = either_small (i == 0) _ _ (finger_below w 6 0 (omega arith)) (either_small (i == 1) _ w (finger_below w 7 0 (omega arith)) fits)
@@ -149,13 +146,55 @@ module _ (site : Site) (task : Task) (is : IsIn site task) (seen : Seen) (v : Vi
       }
 
 -- ---- words of the image
+-- the record that is stored lies in its bucket
+pub record IsInBucket (seen : Seen) : Type 0 where
+  pub slot : seen.written.slot < record_slots
+  pub published : seen.written.published < 32
+
+module _ (task : Task) (seen : Seen) (shape : IsShape task.site.geometry) (fits : task.hash < 2 ^ 64) where
+  -- a word of one of the buckets
+  here_within : (p : Place) (n : ℕ) → n < 32 → lock_of task seen p + n < all_words_of task.site.geometry
+  here_within p n low = let w = lock_within task.site task.hash seen.path.segment shape p n low in omega (arith, w)
+
+  make_within : (m : Make) → IsInBucket seen → word_of task.site.geometry (make_wanted (lock_of task seen seen.place) seen.written m) < all_words_of task.site.geometry
+  make_within make.Key b = let low = b.slot in let w = here_within seen.place (4 + 2 * seen.written.slot) (omega (arith, low)) in omega (arith, w)
+  make_within make.Value b = let low = b.slot in let w = here_within seen.place (5 + 2 * seen.written.slot) (omega (arith, low)) in omega (arith, w)
+  make_within make.Fingers b = let near = place_near seen.written.slot in here_within seen.place (finger_place seen.written.slot) (let z = near.1 in omega (arith, z))
+  make_within make.FlushFingers b = let near = place_near seen.written.slot in let w = here_within seen.place (finger_place seen.written.slot) (let z = near.1 in omega (arith, z)) in omega (arith, w)
+  make_within make.FlushRecord b = let low = b.slot in let w = here_within seen.place (4 + 2 * seen.written.slot) (omega (arith, low)) in omega (arith, w)
+  make_within make.FenceRecord b = omega arith
+  make_within make.Publish b = here_within seen.place seen.written.published b.published
+  make_within make.FlushPublished b = let w = here_within seen.place seen.written.published b.published in omega (arith, w)
+  make_within make.FencePublished b = omega arith
+
+  note_within : (part : NoteWord) (n : NoteWords) → word_of task.site.geometry (note_wanted task seen part n) < all_words_of task.site.geometry
+  note_within Mark n = here_within n.place 1 (omega arith)
+  note_within Fingers n = here_within n.place 3 (omega arith)
+
+  take_within : (p : Place) (t : Take) → word_of task.site.geometry (take_wanted (lock_of task seen p) t) < all_words_of task.site.geometry
+  take_within p Look = let w = here_within p 0 (omega arith) in omega (arith, w)
+  take_within p (Try free) = let w = here_within p 0 (omega arith) in omega (arith, w)
+
+  give_within : (next : Option (Place × ℕ)) → word_of task.site.geometry (give_wanted_of task.site task.hash seen.path.segment next) < all_words_of task.site.geometry
+  give_within (Some next) = let w = here_within next.0 0 (omega arith) in omega (arith, w)
+  give_within None = omega arith
+
+  pub within_in : (s : WriteStep) → ((m : Make) → s ≡ step.Make m → IsInBucket seen) → word_of task.site.geometry (wanted_in task seen s) < all_words_of task.site.geometry
+  within_in (Way w) stored = walk_within task.site task.hash shape fits w
+  within_in (Lock place t) stored = take_within place t
+  within_in (Check back) stored = let low = back_within task.site task.hash shape fits seen.path back in omega (arith, low)
+  within_in (Fill place load) stored = here_within place (load.next % 32) (omega arith)
+  within_in Count stored = omega arith
+  within_in (step.Make m) stored = make_within m (stored m refl)
+  within_in Draw stored = omega arith
+  within_in (Unnote part place) stored = note_within part (unnoted task.hash seen)
+  within_in CountSpent stored = omega arith
+  within_in (Give held end) stored = give_within (give_next held)
+  within_in (Ended end) stored = omega arith
+
 module _ (site : Site) (task : Task) (is : IsIn site task) (seen : Seen) (shape : IsShape task.site.geometry) where
   abbrev g : Shape
   g = task.site.geometry
-
-  -- a word of one of the buckets
-  here_within : (p : Place) (n : ℕ) → n < 32 → lock_of task seen p + n < all_words_of g
-  here_within p n low = let w = lock_within task.site task.hash seen.path.segment shape p n low in omega (arith, w)
 
   published_by : (v : View) → HasAll site task seen v → IsChosen site task seen → (d : Deed) → task.change.deed ≡ d → seen.written.published < 32
   published_by v a c (Insert value) e = let w = word_is site task is seen v a c (Insert value) e in omega (arith, w)
@@ -165,41 +204,10 @@ module _ (site : Site) (task : Task) (is : IsIn site task) (seen : Seen) (shape 
   published_low : (v : View) → HasAll site task seen v → IsChosen site task seen → seen.written.published < 32
   published_low v a c = published_by v a c task.change.deed refl
 
-  make_within : (v : View) (m : Make) → HasAll site task seen v → IsChosen site task seen → word_of g (make_wanted (lock_of task seen seen.place) seen.written m) < all_words_of g
-  make_within v make.Key a c = let low = slot_low site task seen a.upto c in let w = here_within seen.place (4 + 2 * seen.written.slot) (omega (arith, low)) in omega (arith, w)
-  make_within v make.Value a c = let low = slot_low site task seen a.upto c in let w = here_within seen.place (5 + 2 * seen.written.slot) (omega (arith, low)) in omega (arith, w)
-  make_within v make.Fingers a c = let near = place_near seen.written.slot in here_within seen.place (finger_place seen.written.slot) (let z = near.1 in omega (arith, z))
-  make_within v make.FlushFingers a c = let near = place_near seen.written.slot in let w = here_within seen.place (finger_place seen.written.slot) (let z = near.1 in omega (arith, z)) in omega (arith, w)
-  make_within v make.FlushRecord a c = let low = slot_low site task seen a.upto c in let w = here_within seen.place (4 + 2 * seen.written.slot) (omega (arith, low)) in omega (arith, w)
-  make_within v make.FenceRecord a c = omega arith
-  make_within v make.Publish a c = here_within seen.place seen.written.published (published_low v a c)
-  make_within v make.FlushPublished a c = let w = here_within seen.place seen.written.published (published_low v a c) in omega (arith, w)
-  make_within v make.FencePublished a c = omega arith
-
-  note_within : (part : NoteWord) (n : NoteWords) → word_of g (note_wanted task seen part n) < all_words_of g
-  note_within Mark n = here_within n.place 1 (omega arith)
-  note_within Fingers n = here_within n.place 3 (omega arith)
-
-  take_within : (p : Place) (t : Take) → word_of g (take_wanted (lock_of task seen p) t) < all_words_of g
-  take_within p Look = let w = here_within p 0 (omega arith) in omega (arith, w)
-  take_within p (Try free) = let w = here_within p 0 (omega arith) in omega (arith, w)
-
-  give_within : (next : Option (Place × ℕ)) → word_of g (give_wanted_of task.site task.hash seen.path.segment next) < all_words_of g
-  give_within (Some next) = let w = here_within next.0 0 (omega arith) in omega (arith, w)
-  give_within None = omega arith
-
-  within_in : (v : View) (s : WriteStep) → SuitsStep site task seen s v → word_of g (wanted_in task seen s) < all_words_of g
-  within_in v (Way w) suits = walk_within task.site task.hash shape is.fits w
-  within_in v (Lock place t) suits = take_within place t
-  within_in v (Check back) suits = let low = back_within task.site task.hash shape is.fits seen.path back in omega (arith, low)
-  within_in v (Fill place load) suits = here_within place (load.next % 32) (omega arith)
-  within_in v Count suits = omega arith
-  within_in v (step.Make m) suits = make_within v m suits.all suits.chosen
-  within_in v Draw suits = omega arith
-  within_in v (Unnote part place) suits = note_within part (unnoted task.hash seen)
-  within_in v CountSpent suits = omega arith
-  within_in v (Give held end) suits = give_within (give_next held)
-  within_in v (Ended end) suits = omega arith
+  in_bucket : (v : View) (s : WriteStep) → SuitsStep site task seen s v → (m : Make) → s ≡ step.Make m → IsInBucket seen
+  in_bucket v s suits m e =
+      let changing : SuitsStep site task seen (step.Make m) v = subst (λ z. SuitsStep site task seen z v) e suits in
+      record { slot = slot_low site task seen changing.all.upto changing.chosen; published = published_low v changing.all changing.chosen }
 
   -- a line that is flushed
   abbrev HasLine : Want → Type 0
@@ -253,4 +261,4 @@ module _ (site : Site) (task : Task) (is : IsIn site task) (seen : Seen) (shape 
   line_in v (Ended end) suits = tt
 
   pub asks_within : (v : View) (s : WriteStep) → SuitsStep site task seen s v → IsWithin g (wanted_in task seen s)
-  asks_within v s suits = record { word = within_in v s suits; line = λ l e. subst HasLine e (line_in v s suits) }
+  asks_within v s suits = record { word = within_in task seen shape is.fits s (in_bucket v s suits); line = λ l e. subst HasLine e (line_in v s suits) }

@@ -1,11 +1,9 @@
 -- Nothing but the one store makes the change: no other event leads from a step where it is not made to one where it is.
 use Rattle.std.proofs.Common.{◌≡◌, ◌⊎◌, ℕ, ◌^◌, Bool, true, false, Option, None, Some, inl, inr, refl}
-use Rattle.std.specs.Prelude.{◌==◌, nat_le, nat_lt, if◌then◌else◌}
+use Rattle.std.specs.Prelude.{nat_le, nat_lt, if◌then◌else◌}
 use Rattle.op_core.specs.declared.want.Ans.{Ans}
 use Rattle.op_core.specs.declared.want.Ans.TheVariants.{Value, Passed}
 use Rattle.op_core.specs.declared.why.Why.TheVariants.{Busy, Moved}
-use Rattle.segment_head.specs.HeadWord.{state_in, normal}
-use Rattle.way.specs.Ways.{head_word}
 use Rattle.map_model.specs.declared.change.Deed.{Deed}
 use Rattle.map_model.specs.declared.change.Deed.TheVariants.{Insert, Update, Remove}
 use Rattle.map_model.specs.declared.entry.Reply.TheVariants as reply
@@ -33,14 +31,14 @@ use Rattle.phase.specs.Loads.{load_taken}
 use Rattle.write_op.specs.declared.step.Task.{Task}
 use Rattle.write_op.specs.declared.step.Spot.{Spot}
 use Rattle.write_op.specs.declared.step.Seen.{Seen}
-use Rattle.write_op.specs.declared.step.Ending.{Ending}
-use Rattle.write_op.specs.declared.step.Ending.TheVariants as ending
+use Rattle.phase.specs.declared.ending.Ending.{Ending}
+use Rattle.phase.specs.declared.ending.Ending.TheVariants as ending
 use Rattle.write_op.specs.declared.step.WriteStep.{WriteStep}
 use Rattle.write_op.specs.declared.step.WriteStep.TheVariants.{Way, Lock, Check, Fill, Count, Draw, Unnote, CountSpent, Give, Ended}
 use Rattle.write_op.specs.declared.step.WriteStep.TheVariants as step
 use Rattle.write_op.specs.declared.step.Stage.{Stage}
 use Rattle.write_op.specs.Search.{found, room_in}
-use Rattle.write_op.specs.Steps.{go, given_by, giving, answered, amiss, walked_to, locked, locked_to, backed_to, visit_second, visit_first, with_visits, filled, filled_to, inserting, changing, decided, counted, made_to, lock_of, next_in}
+use Rattle.write_op.specs.Steps.{given_by, giving, answered, walked_to, locked, locked_to, backed_to, visit_second, visit_first, with_visits, filled, filled_to, inserting, changing, decided, counted, made_to, lock_of, next_in}
 use Rattle.write_op.specs.Left.{HasMadeAt}
 use Rattle.write_op.specs.Causes.{MadeOnlySo}
 
@@ -65,17 +63,11 @@ given_made None held (ending.Again why) was = absurd was
 giving_unmade : (held : Held) (end : Ending) → Unmade (Give held end) → Unmade (giving held end)
 giving_unmade held end out was = out (given_made (give_next held) held end was)
 
--- which locks are held is all the same
-same_giving : (held fewer : Held) (end : Ending) → HasMadeAt (Give fewer end) → HasMadeAt (Give held end)
-same_giving held fewer (ending.Replied answer place) was = was
-same_giving held fewer (ending.Again why) was = absurd was
-
 module _ (task : Task) (seen : Seen) where
   -- ---- the way
-  walked_unmade : (x : Walked) → Unmade (walked_to task seen x).step
+  walked_unmade : (x : Walked) → Unmade (walked_to seen x).step
   walked_unmade (walked.On w) = λ was. was
-  walked_unmade (walked.There path) = both (state_in path.head == normal) (go (record seen { path = path }) (Lock Home Look))
-      (go seen (amiss (head_word task.site.geometry path.segment) path.head)) (λ was. was) (λ was. was)
+  walked_unmade (walked.There path) = λ was. was
   walked_unmade walked.Off = λ was. was
   walked_unmade (walked.Amiss word value) = λ was. was
   walked_unmade (walked.Stale segment version) = λ was. was
@@ -161,7 +153,7 @@ module _ (task : Task) (seen : Seen) where
   only_made Draw a was = inl tt
   only_made (Unnote part place) a was = inl tt
   only_made CountSpent (Value n) was = absurd (giving_unmade seen.held (ending.Replied reply.Spent n) (λ again. again) was)
-  only_made (Give held end) Passed was = inl (same_giving held (given held) end (given_made (give_next (given held)) (given held) end was))
+  only_made (Give held end) Passed was = inl (given_made (give_next (given held)) (given held) end was)
   only_made s a was = inl was
 
 pub made_only_so : MadeOnlySo

@@ -1,8 +1,6 @@
 -- What a change keeps and stores are words, and the words that it asks for lie in the image or right behind it.
 use Rattle.std.proofs.Common.{ℕ, ◌+◌, ◌^◌, Bool, true, false, Option, Some, None, List, slice_set}
-use Rattle.std.specs.Prelude.{◌==◌, nat_lt, nat_le, if◌then◌else◌}
-use Rattle.segment_head.specs.HeadWord.{state_in, normal}
-use Rattle.way.specs.Ways.{head_word}
+use Rattle.std.specs.Prelude.{nat_lt, nat_le, if◌then◌else◌}
 use Rattle.op_core.specs.declared.want.Ans.{Ans}
 use Rattle.op_core.specs.declared.want.Ans.TheVariants.{Value, Passed, Drawn}
 use Rattle.op_core.specs.Answers.{IsWord}
@@ -32,15 +30,15 @@ use Rattle.phase.specs.Buckets.{with_words, words_in}
 use Rattle.write_op.specs.declared.step.Task.{Task}
 use Rattle.write_op.specs.declared.step.Spot.{Spot}
 use Rattle.write_op.specs.declared.step.Seen.{Seen}
-use Rattle.write_op.specs.declared.step.Ending.{Ending}
-use Rattle.write_op.specs.declared.step.NoteWord.{NoteWord}
-use Rattle.write_op.specs.declared.step.NoteWord.TheVariants.{Mark, Fingers}
+use Rattle.phase.specs.declared.ending.Ending.{Ending}
+use Rattle.phase.specs.declared.note.NoteWord.{NoteWord}
+use Rattle.phase.specs.declared.note.NoteWord.TheVariants.{Mark, Fingers}
 use Rattle.write_op.specs.declared.step.WriteStep.{WriteStep}
 use Rattle.write_op.specs.declared.step.WriteStep.TheVariants.{Way, Lock, Check, Fill, Count, Draw, Unnote, CountSpent, Give, Ended}
 use Rattle.write_op.specs.declared.step.WriteStep.TheVariants as step
 use Rattle.write_op.specs.declared.step.Stage.{Stage}
 use Rattle.write_op.specs.Search.{found, room_in, leaves_note, unnoted, has_finger}
-use Rattle.write_op.specs.Steps.{go, given_by, give, answered, amiss, walked_to, locked, locked_to, lock_of, backed_to, visit_second, visit_first, with_visits, filled_with, filled_to, inserting, changing, decided, made_to, unnoted_to, next_in}
+use Rattle.write_op.specs.Steps.{go, given_by, give, answered, walked_to, locked, locked_to, lock_of, backed_to, visit_second, visit_first, with_visits, filled_with, filled_to, inserting, changing, decided, made_to, unnoted_to, next_in}
 use Rattle.phase.specs.AreWords.{AreWords}
 use Rattle.write_op.specs.Fits.{HasWordsAt}
 use Rattle.phase.proofs.Wording.{none_words, set_words, put_words}
@@ -65,10 +63,9 @@ module _ (task : Task) (seen : Seen) (all : (p : Place) → AreWords (words_in s
   give_words : (end : Ending) → Words (give seen end)
   give_words end = (all, by_next (give_next seen.held) seen.held end)
 
-  walked_words : (x : Walked) → Words (walked_to task seen x)
+  walked_words : (x : Walked) → Words (walked_to seen x)
   walked_words (walked.On w) = (all, tt)
-  walked_words (walked.There path) = both_words (state_in path.head == normal) (go (record seen { path = path }) (Lock Home Look))
-      (go seen (amiss (head_word task.site.geometry path.segment) path.head)) (all, tt) (all, tt)
+  walked_words (walked.There path) = (all, tt)
   walked_words walked.Off = (all, tt)
   walked_words (walked.Amiss word value) = (all, tt)
   walked_words (walked.Stale segment version) = (all, tt)

@@ -1,5 +1,5 @@
 -- What is stored to take a note away: in lists, the notes of the home are without it then, and those of its neighbours stay.
-use Rattle.std.proofs.Common.{◌≡◌, ◌≢◌, ◌⊎◌, ℕ, ◌%◌, ◌^◌, ◌<◌, Option, None, Some, List, ◌∷◌, ◌++◌, inl, inr, refl, sym, ◌∙◌, subst, arith, slice_index}
+use Rattle.std.proofs.Common.{◌≡◌, ◌⊎◌, ℕ, ◌%◌, ◌^◌, ◌<◌, Option, None, Some, List, ◌∷◌, ◌++◌, inl, inr, refl, sym, ◌∙◌, subst, arith, slice_index}
 use Rattle.std.proofs.lemmas.Bool.{cases_eq}
 use Rattle.bucket_meta.specs.Bucket.{overflow_count}
 use Rattle.bucket_meta.specs.Notes.{OverflowNote, how_often, AreExact}
@@ -11,16 +11,10 @@ use Rattle.bucket_words.proofs.segments.Noted.{notes_by}
 use Rattle.world.proofs.stepping.Telling.{unnamed}
 use Rattle.phase.specs.declared.place.Place.{Place}
 use Rattle.phase.specs.declared.place.Place.TheVariants.{Home, Probing}
+use Rattle.phase.proofs.Noting.{Four, notes_four, KeepsBeside, apart, apart_back}
 use Rattle.write_op.specs.declared.search.NoteWords.{NoteWords}
 use Rattle.write_op.specs.Search.{freed_or, unnoted_by}
 use Rattle.write_op.proofs.permitting.Noted.{IsThere, finds_note, one_less, other_side, lowered_lists, lowered, lowered_slots}
-
--- words 1 and 3 of a home bucket and of its probing bucket
-pub record Four : Type 0 where
-  pub h1 : ℕ
-  pub h3 : ℕ
-  pub p1 : ℕ
-  pub p3 : ℕ
 
 abbrev pub one_of : Place → Four → ℕ
 one_of Home f = f.h1
@@ -42,16 +36,6 @@ with_three Home x f = record f { h3 = x }
 with_three Probing x f = record f { p3 = x }
 with_three place x f = f
 
--- the notes of the home
-abbrev pub notes_four : Four → List OverflowNote
-notes_four f = notes_by f.h1 f.h3 0 ++ notes_by f.p1 f.p3 1
-
--- what is said of the homes beside it stays
-pub record KeepsBeside (f g : Four) : Type 0 where
-  pub before : notes_by g.h1 g.h3 1 ≡ notes_by f.h1 f.h3 1
-  pub after : notes_by g.p1 g.p3 0 ≡ notes_by f.p1 f.p3 0
-  pub count : overflow_count g.p1 ≡ overflow_count f.p1
-
 -- notes that were exact for a record more are so for the others
 abbrev pub IsWithout : Four → OverflowNote → Four → Type 0
 IsWithout f note g = (stashed : List OverflowNote) → AreExact (notes_four f) (overflow_count f.h1) (note ∷ stashed) → AreExact (notes_four g) (overflow_count g.h1) stashed
@@ -65,12 +49,6 @@ pub record Unnotes (f : Four) (note : OverflowNote) (n : NoteWords) : Type 0 whe
   pub second : KeepsBeside (with_one n.place n.mark f) (with_three n.place n.fingers (with_one n.place n.mark f))
   pub alone : three_of n.place f ≡ n.fingers → IsWithout f note (with_one n.place n.mark f)
   pub both : IsWithout f note (with_three n.place n.fingers (with_one n.place n.mark f))
-
-apart : ◌≢◌ {A = ℕ} 0 1
-apart e = omega (arith, e)
-
-apart_back : ◌≢◌ {A = ℕ} 1 0
-apart_back e = omega (arith, e)
 
 module _ (f : Four) (finger index : ℕ) where
   abbrev note : OverflowNote

@@ -19,7 +19,7 @@ use Rattle.write_op.specs.declared.step.Task.{Task}
 use Rattle.write_op.specs.declared.step.Spot.{Spot}
 use Rattle.write_op.specs.declared.step.Seen.{Seen}
 use Rattle.write_op.specs.Search.{found}
-use Rattle.write_op.specs.Fits.{loaded, inserting_kind, changing_kind, deciding_kind, count_kind, IsVisiting, HasLoaded, FoundSpent, IsIn}
+use Rattle.write_op.specs.Fits.{loaded, inserting_kind, changing_kind, deciding_kind, count_kind, IsVisiting, HasLoaded, IsPinned, FoundSpent, IsIn}
 use Rattle.write_op.proofs.keeping.Going.{located}
 use Rattle.write_op.proofs.finding.Searching.{found_some}
 use Rattle.write_op.proofs.finding.Finding.{asked_held, holds_buckets, nowhere, hits}
@@ -33,20 +33,21 @@ change_is key Remove = tt
 pub spent_may : (site : Site) (task : Task) (seen : Seen) (v : View) → FoundSpent site task seen v → May site (refuses (call_of task.change) reply.Spent) v
 spent_may site task seen v spent = (refl, inl (λ a. change_is task.change.key task.change.deed), (λ m words newest map. tt), (λ is. spent))
 
-module _ (site : Site) (task : Task) (is : IsIn site task) (seen : Seen) (v : View) (some : 0 < v.callers) (h : HasLoaded site task seen 4 4 v) (q : IsQuiet v) (vis : IsVisiting task seen) where
+module _ (site : Site) (task : Task) (is : IsIn site task) (seen : Seen) (v : View) (some : 0 < v.callers) (h : HasLoaded site task seen 4 4 v) (q : IsQuiet v) (vis : IsVisiting task seen)
+    (pinned : IsPinned site task.hash seen.path v.pinned) where
   abbrev segment : ℕ
   segment = seen.path.segment
 
   at : IsLocated site task.site segment
-  at = located site task is seen h.leads
+  at = located site task is seen v.facts h.there
 
   found_nowhere : found seen task.change.key ≡ None → FoundNone site v (loaded task seen) segment task.change.key
-  found_nowhere none = holders_find.none site task.site task.hash segment seen.held (loaded task seen) task.change.key v (holds_buckets site task is seen v h) q (nowhere site task seen at h.upto vis none)
+  found_nowhere none = holders_find.none site task.site task.hash segment seen.held (loaded task seen) task.change.key v (holds_buckets site task is seen v h pinned) q (nowhere site task seen at h.upto vis none)
 
   found_there : (spot : Spot) → found seen task.change.key ≡ Some spot → FoundAt site v (loaded task seen) segment (bucket_of task.hash spot.place) spot.slot task.change.key
   found_there spot there =
       let f = found_some seen task.change.key spot there in
-      holders_find.at site task.site task.hash segment seen.held (loaded task seen) task.change.key v (holds_buckets site task is seen v h) q spot.place (asked_held seen h.upto spot.place f.asked) spot.slot
+      holders_find.at site task.site task.hash segment seen.held (loaded task seen) task.change.key v (holds_buckets site task is seen v h pinned) q spot.place (asked_held seen h.upto spot.place f.asked) spot.slot
       (hits site task seen at h.upto vis spot f)
 
   exists_may : (value : ℕ) → task.change.deed ≡ Insert value → (spot : Spot) → found seen task.change.key ≡ Some spot → May site (refuses (call_of task.change) reply.Exists) v

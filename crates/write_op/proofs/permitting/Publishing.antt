@@ -27,7 +27,7 @@ use Rattle.phase.specs.declared.make.Make.{Make}
 use Rattle.phase.specs.declared.make.Make.TheVariants.{Publish}
 use Rattle.phase.specs.Places.{bucket_of}
 use Rattle.phase.specs.Buckets.{words_in}
-use Rattle.phase.specs.Makes.{published_at}
+use Rattle.phase.specs.Makes.{brought, published_at}
 use Rattle.phase.specs.Giving.{IsLocated, IsQuiet, IsOfHeld}
 use Rattle.phase.specs.Knows.{Knows, HasNoneLoose}
 use Rattle.phase.specs.Making.{make_kind, with_record, FitsSlot}
@@ -38,7 +38,7 @@ use Rattle.phase.proofs.locks.Storing.{prepares_record}
 use Rattle.phase.proofs.locks.Finding.{holders_find, prepared_nowhere}
 use Rattle.write_op.specs.declared.step.Task.{Task}
 use Rattle.write_op.specs.declared.step.Seen.{Seen}
-use Rattle.write_op.specs.Search.{taken_mark, published_word, published_mark, brought, stash_index, leaves_note}
+use Rattle.write_op.specs.Search.{taken_mark, published_word, published_mark, stash_index, leaves_note}
 use Rattle.write_op.specs.Steps.{lock_of}
 use Rattle.phase.specs.AreWords.{AreWords}
 use Rattle.write_op.specs.Fits.{loaded, prepared_by, prepared, owed, publish_by, publish_kind, HasAll, IsInserting, IsChosen, IsChanging, IsIn}
@@ -52,14 +52,15 @@ module _ (site : Site) (task : Task) (is : IsIn site task) (seen : Seen) (v : Vi
   S = IsOfHeld task.site task.hash seen.path.segment seen.held
 
   pub located_all : IsLocated site task.site seen.path.segment
-  located_all = located site task is seen a.leads
+  located_all = located site task is seen v.facts a.there
 
   pub holds_for : (w : Words) → Knows (IsOfHeld task.site task.hash seen.path.segment seen.held) w v
       → HoldsBuckets site task.site task.hash seen.path.segment seen.held w task.change.key v
   holds_for w knows = record {
     located = located_all;
     hashed = is.hash;
-    leads = a.leads;
+    there = a.there;
+    leads = a.pinned.leads;
     locks = a.locks;
     home = asked_held seen a.upto Home refl;
     probing = asked_held seen a.upto Probing refl;

@@ -32,16 +32,17 @@ use Rattle.phase.proofs.locks.Finding.{holders_find}
 use Rattle.write_op.specs.declared.search.NoteWords.{NoteWords}
 use Rattle.write_op.specs.declared.step.Task.{Task}
 use Rattle.write_op.specs.declared.step.Seen.{Seen}
-use Rattle.write_op.specs.declared.step.NoteWord.{NoteWord}
-use Rattle.write_op.specs.declared.step.NoteWord.TheVariants.{Mark, Fingers}
+use Rattle.phase.specs.declared.note.NoteWord.{NoteWord}
+use Rattle.phase.specs.declared.note.NoteWord.TheVariants.{Mark, Fingers}
 use Rattle.write_op.specs.Search.{leaves_note, stash_index, unnoted, has_finger}
 use Rattle.write_op.specs.Steps.{lock_of}
 use Rattle.phase.specs.AreWords.{AreWords}
+use Rattle.phase.proofs.Noting.{Four, notes_four, KeepsBeside}
 use Rattle.write_op.specs.Fits.{loaded, prepared_by, changed, owed, mark_kind, note_kind, words_of_note, IsUnnoting, IsIn}
 use Rattle.write_op.proofs.finding.Finding.{asked_held, word_at}
 use Rattle.write_op.proofs.finding.Chosen.{lock_is}
 use Rattle.write_op.proofs.permitting.Publishing.{located_all, holds_for, word_is}
-use Rattle.write_op.proofs.permitting.Freeing.{Four, one_of, three_of, with_one, with_three, notes_four, KeepsBeside, IsWithout, Unnotes, four_of, unnotes}
+use Rattle.write_op.proofs.permitting.Freeing.{one_of, three_of, with_one, with_three, IsWithout, Unnotes, four_of, unnotes}
 
 -- ---- words 1 and 3 of two buckets, among all words
 module _ (shape : Shape) (s b : ℕ) (near : b < 64) where
