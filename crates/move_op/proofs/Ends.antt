@@ -2,6 +2,7 @@
 use Rattle.std.proofs.Common.{◌≡◌, refl}
 use Rattle.op_core.specs.declared.want.Want.TheVariants.{Done}
 use Rattle.phase.specs.declared.kept.Kept.{Kept}
+use Rattle.phase.specs.declared.ending.Ending.TheVariants as ending
 use Rattle.phase.proofs.Wanting.{no}
 use Rattle.move_op.specs.declared.step.MoveStep.{MoveStep}
 use Rattle.move_op.specs.declared.step.MoveStep.TheVariants.{Give, Ended}
@@ -12,7 +13,8 @@ use Rattle.move_op.proofs.Over.{over_done}
 
 ends_at : (kept : Kept) (at : MoveStep) → wanted_in kept at ≡ Done → outcome_at at ≡ outcome_of (end_at at)
 ends_at kept (Ended end) done = refl
-ends_at kept (Give held end) done = refl
+ends_at kept (Give held (ending.Replied answer place)) done = refl
+ends_at kept (Give held (ending.Again why)) done = refl
 ends_at kept at done = absurd (no ((over_done kept at).1 done))
 
 pub move_ends_as_said : MoveEndsAsSaid

@@ -33,8 +33,8 @@ use Rattle.phase.proofs.locks.Making.{make_falls}
 use Rattle.phase.proofs.locks.Giving.{give_falls}
 use Rattle.phase.proofs.Handing.{give_few}
 use Rattle.phase.proofs.Wanting.{load_answered, make_answered, give_answered, make_bound}
-use Rattle.move_op.specs.declared.step.Ending.{Ending}
-use Rattle.move_op.specs.declared.step.Ending.TheVariants as ending
+use Rattle.phase.specs.declared.ending.Ending.{Ending}
+use Rattle.phase.specs.declared.ending.Ending.TheVariants as ending
 use Rattle.move_op.specs.declared.step.Direction.{Direction}
 use Rattle.move_op.specs.declared.step.Direction.TheVariants.{Forward, Backward}
 use Rattle.move_op.specs.declared.step.Shift.{Shift}

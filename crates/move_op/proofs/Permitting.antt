@@ -16,11 +16,10 @@ use Rattle.map_model.specs.Changes.{doing, call_of}
 use Rattle.bucket_words.specs.Hits.{Hit}
 use Rattle.world.specs.declared.site.Site.{Site as Here}
 use Rattle.world.specs.Site.{Site}
-use Rattle.world.specs.Views.{Owed, Move, View, At, Has, HasLock}
+use Rattle.world.specs.Views.{Owed, Move, View, Has, HasLock}
 use Rattle.world.specs.Kinds.{refuses, copies, clears, publishes, draws_place}
 use Rattle.world.specs.Conditions.{May}
 use Rattle.world.specs.Holders.{KnowsBucket}
-use Rattle.world.specs.Invariant.{Holds}
 use Rattle.world.proofs.holding.Holders.{may_place}
 use Rattle.world.proofs.holding.Moving.{may_move}
 use Rattle.world.proofs.holding.Drawing.{may_draw}
@@ -37,9 +36,10 @@ use Rattle.phase.specs.Finding.{HoldsBuckets}
 use Rattle.phase.specs.AreWords.{AreWords}
 use Rattle.phase.proofs.Handing.{key_called}
 use Rattle.phase.proofs.locks.Taking.{take_fits}
-use Rattle.phase.proofs.locks.Giving.{is_lock, held_has, give_stands}
+use Rattle.phase.proofs.locks.Giving.{known_lock, held_has, give_stands}
 use Rattle.phase.proofs.locks.Making.{make_knows}
 use Rattle.phase.proofs.locks.Finding.{holders_find}
+use Rattle.phase.specs.Makes.{brought}
 use Rattle.move_op.specs.declared.step.Direction.{Direction}
 use Rattle.move_op.specs.declared.step.Direction.TheVariants.{Forward, Backward}
 use Rattle.move_op.specs.declared.step.Shift.{Shift}
@@ -48,7 +48,7 @@ use Rattle.move_op.specs.declared.step.Leg.TheVariants.{Copy, Clear, Insert}
 use Rattle.move_op.specs.declared.step.MoveStep.{MoveStep}
 use Rattle.move_op.specs.declared.step.MoveStep.TheVariants.{Lock, Fill, CountSpent, Draw, Give, Ended}
 use Rattle.move_op.specs.declared.step.MoveStep.TheVariants as step
-use Rattle.move_op.specs.Shifts.{source_of, target_of, home_place, new_value, shift_at, place_of, record_of}
+use Rattle.move_op.specs.Shifts.{source_of, target_of, home_place, shift_at, place_of, record_of}
 use Rattle.move_op.specs.Steps.{lock_of, lock_at, wanted_in}
 use Rattle.move_op.specs.Fits.{with_copy_ready, with_copy, with_insert_ready, with_insert, words_first, words_ready, moved, leg_kind, kind_at, CanMove, HoldsAll, IsPrepared, IsShifting, IsDrawing, FoundSpent, SuitsStep, MayMakeRoom}
 use Rattle.move_op.proofs.shifting.Beside.{at_is, apart}
@@ -58,7 +58,7 @@ use Rattle.move_op.proofs.keeping.Storing.{leg_held}
 use Rattle.move_op.proofs.keeping.Stepping.{fill_guard}
 
 -- an insert is one of its key and value
-insert_by : (key : ℕ) (d : Deed) → IsInsert (doing key d) → doing key d ≡ call.Insert key (new_value d)
+insert_by : (key : ℕ) (d : Deed) → IsInsert (doing key d) → doing key d ≡ call.Insert key (brought d)
 insert_by key (deed.Insert value) is = refl
 insert_by key (deed.Update value) is = absurd is
 insert_by key deed.Remove is = absurd is
@@ -113,7 +113,7 @@ module _ (site : Site) (kept : Kept) (d : Direction) (from to : ℕ) (can : CanM
       (subst (λ z. HasLock v.held z) (at_is site kept l (home_place d)) (held_has kept.site kept.hash kept.segment kept.held (home_place d) v a.locks (home_held d to_held from_held)))
 
   holds : (w : Words) → Knows (IsOfHeld kept.site kept.hash kept.segment kept.held) w v → HoldsBuckets site kept.site kept.hash kept.segment kept.held w kept.change.key v
-  holds w knows = record { located = a.located; hashed = a.hashed; leads = a.leads; locks = a.locks; home = a.near.0; probing = a.near.1; knows = knows }
+  holds w knows = record { located = a.located; hashed = a.hashed; there = a.there; leads = a.leads; locks = a.locks; home = a.near.0; probing = a.near.1; knows = knows }
 
   bucket : (w : Words) → Knows (IsOfHeld kept.site kept.hash kept.segment kept.held) w v → HasNoneLoose v → (place : Place) → IsHeld kept.held place
       → KnowsBucket site.shape v kept.segment (bucket_of kept.hash place) w
@@ -169,7 +169,7 @@ module _ (site : Site) (kept : Kept) (d : Direction) (from to : ℕ) (can : CanM
       (λ n has. one_move (moved kept shift) n (subst (λ (ms : List Move). Has n ms) s.moving has)))
 
   -- ---- the store of the new record
-  insert_is : call_of kept.change ≡ call.Insert kept.change.key (new_value kept.change.deed)
+  insert_is : call_of kept.change ≡ call.Insert kept.change.key (brought kept.change.deed)
   insert_is = insert_by kept.change.key kept.change.deed a.insert
 
   insert_may : IsShifting site kept shift Insert Publish v → May site (publishes (lock_of kept (source_of d) + 1) shift.insert.mark (call_of kept.change)) v
@@ -178,8 +178,8 @@ module _ (site : Site) (kept : Kept) (d : Direction) (from to : ℕ) (can : CanM
       let word : Words = with_insert_ready kept shift in
       let quiet : IsQuiet v = holders_find.quiet v none s.planned s.moving a.owes in
       subst (λ (z : Call). May site (publishes (lock_of kept (source_of d) + 1) shift.insert.mark z) v) (sym insert_is)
-      (subst (λ z. May site (publishes (z + 1) shift.insert.mark (call.Insert kept.change.key (new_value kept.change.deed))) v) (sym (at_is site kept l (source_of d)))
-      ((may_place site v).insert kept.segment b from kept.change.key (new_value kept.change.deed) shift.insert.mark word
+      (subst (λ z. May site (publishes (z + 1) shift.insert.mark (call.Insert kept.change.key (brought kept.change.deed))) v) (sym (at_is site kept l (source_of d)))
+      ((may_place site v).insert kept.segment b from kept.change.key (brought kept.change.deed) shift.insert.mark word
       (holders_find.none site kept.site kept.hash kept.segment kept.held word kept.change.key v (holds word s.making.knows) quiet (insert_nowhere site kept d from to l can all kept.change.key a.nowhere))
       (source_near kept.hash d) (bucket word s.making.knows none (source_of d) from_held)
       (insert_ready site kept d from to l can all a.hashed) (insert_value site kept d from to l can all) (insert_takes site kept d from to l can all a.hashed)))
@@ -231,10 +231,10 @@ spent_may : (site : Site) (kept : Kept) (v : View) → FoundSpent site kept v �
 spent_may site kept v spent = (refl, inl (λ a. change_by kept.change.key kept.change.deed), (λ m words newest map. tt), (λ is. spent))
 
 -- EACH STEP MAY BE TAKEN
-module _ (site : Site) (here : Here) (call : Call) (kept : Kept) (may : MayMakeRoom site here call kept) (words : Words) (views : List View) (j : ℕ) (before v : View) (h : Holds site words views) (at : At views j v) where
+module _ (site : Site) (here : Here) (call : Call) (kept : Kept) (may : MayMakeRoom site here call kept) (v : View) where
   pub may_in : (s : MoveStep) → SuitsStep site kept s v → wanted_in kept s ≢ want.Done → May site (kind_at kept s) v
-  may_in (Lock d t) suits asks = take_fits.may site (lock_of kept (target_of d)) t v (is_lock site kept.site kept.hash kept.segment suits.0.holds.located (target_of d)) suits.2
-  may_in (Fill d load) suits asks = fill_guard site here call kept may words views j before v h at d load suits
+  may_in (Lock d t) suits asks = take_fits.may site (lock_of kept (target_of d)) t v (known_lock site kept.site kept.hash kept.segment (target_of d) v suits.0.holds.located.shape suits.0.holds.there) suits.2
+  may_in (Fill d load) suits asks = fill_guard site kept v d load suits
   may_in CountSpent suits asks = spent_may site kept v suits.1
   may_in (step.Make shift leg m) suits asks = make_may site kept v may.buckets shift leg m suits
   may_in (Draw shift) suits asks = draw_may site kept v may.buckets shift suits

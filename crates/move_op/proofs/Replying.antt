@@ -6,15 +6,15 @@ use Rattle.op_core.specs.declared.want.Ans.{Ans}
 use Rattle.op_core.specs.declared.want.Ans.TheVariants.{Value, Drawn, Passed}
 use Rattle.map_model.specs.declared.entry.Reply.{Reply}
 use Rattle.map_model.specs.declared.entry.Reply.TheVariants as reply
-use Rattle.part.specs.Outcomes.{Outcome, replied, again, reply_of}
+use Rattle.part.specs.Outcomes.{Outcome, replied, reply_of}
 use Rattle.phase.specs.declared.kept.Kept.{Kept}
 use Rattle.phase.specs.Takes.{take_taken}
 use Rattle.phase.specs.Loads.{load_taken}
 use Rattle.phase.specs.Makes.{make_taken}
 use Rattle.phase.specs.declared.make.Made.{Made}
 use Rattle.phase.specs.declared.make.Made.TheVariants as made
-use Rattle.move_op.specs.declared.step.Ending.{Ending}
-use Rattle.move_op.specs.declared.step.Ending.TheVariants as ending
+use Rattle.phase.specs.declared.ending.Ending.TheVariants as ending
+use Rattle.phase.specs.Endings.{outcome_then}
 use Rattle.move_op.specs.declared.step.Shift.{Shift}
 use Rattle.move_op.specs.declared.step.Leg.{Leg}
 use Rattle.move_op.specs.declared.step.Leg.TheVariants.{Copy, Clear, Insert}
@@ -22,8 +22,8 @@ use Rattle.move_op.specs.declared.step.MoveStep.{MoveStep}
 use Rattle.move_op.specs.declared.step.MoveStep.TheVariants.{Lock, Fill, CountSpent, Draw, Give}
 use Rattle.move_op.specs.declared.step.MoveStep.TheVariants as step
 use Rattle.move_op.specs.Shifts.{target_of, record_of}
-use Rattle.move_op.specs.Steps.{end_of, made_to, lock_of, next_in}
-use Rattle.move_op.specs.Fits.{SuitsStep, outcome_of, outcome_at}
+use Rattle.move_op.specs.Steps.{made_to, lock_of, next_in}
+use Rattle.move_op.specs.Fits.{SuitsStep, outcome_at}
 use Rattle.move_op.specs.Replies.{Tells, MoveRepliesAsSeen}
 use Rattle.move_op.specs.MovePart.{MovesInOrder}
 use Rattle.move_op.proofs.keeping.Entering.{reply_at, giving_outcome, taken_quiet, filled_quiet}
@@ -42,10 +42,6 @@ made_quiet shift Copy made.Settled = refl
 made_quiet shift Clear made.Settled = refl
 made_quiet shift Insert made.Settled = refl
 
-pub given_decides : (end : Ending) → outcome_of (end_of end) ≡ None → ⊥
-given_decides (ending.Replied answer place) none = none-some (replied answer place) (sym none)
-given_decides (ending.Again why) none = none-some (again why) (sym none)
-
 replies : (kept : Kept) (s : MoveStep) (a : Ans) → outcome_at s ≡ None → (answer : Reply) (place : ℕ) → outcome_at (next_in kept s a).step ≡ Some (replied answer place) → Tells kept s a answer place
 replies kept (Lock d t) a none answer place some = absurd (no_reply (next_in kept (Lock d t) a).step (taken_quiet kept d (lock_of kept (target_of d)) (take_taken t a)) answer place some)
 replies kept (Fill d load) (Value n) none answer place some = absurd (no_reply (next_in kept (Fill d load) (Value n)).step (filled_quiet kept d (load_taken load n)) answer place some)
@@ -55,7 +51,7 @@ replies kept (step.Make shift leg m) Passed none answer place some =
     absurd (no_reply (next_in kept (step.Make shift leg m) Passed).step (made_quiet shift leg (make_taken (record_of shift leg).slot m)) answer place some)
 replies kept (Draw shift) (Drawn n) none answer place some =
     subst (As kept (Draw shift) (Drawn n)) (same_Some (replied reply.Done n) (replied answer place) (sym (giving_outcome kept.held (ending.Replied reply.Done n)) ∙ some)) (shift, refl, refl)
-replies kept (Give held end) a none answer place some = absurd (given_decides end none)
+replies kept (Give held end) a none answer place some = absurd (none-some (outcome_then end) (sym none))
 replies kept s a none answer place some = absurd (none-some (replied answer place) (sym none ∙ some))
 
 pub move_replies_as_seen : MoveRepliesAsSeen

@@ -1,10 +1,11 @@
 -- How a displacement fits the world: the kind of each of its events, and the view that its caller has in each step.
-use Rattle.std.specs.Prelude.{◌≡◌, ◌≢◌, ℕ, ◌+◌, ◌*◌, ◌%◌, ◌^◌, ◌<◌, ⊤, Option, None, Some, List, [], ◌∷◌, slice_index}
+use Rattle.std.specs.Prelude.{◌≡◌, ◌≢◌, ℕ, ◌+◌, ◌*◌, ◌%◌, ◌^◌, ◌<◌, ⊤, true, Option, None, Some, List, [], ◌∷◌, slice_index}
 use Rattle.bucket_meta.specs.Bucket.{allocated, finger, record_slots}
 use Rattle.hash_word.specs.Hash.{home_of, finger_of}
 use Rattle.trace.specs.Events.{Words}
 use Rattle.image_layout.specs.Places.{root_word}
 use Rattle.sound_image.specs.Records.{key_hash}
+use Rattle.way.specs.Ways.{is_leading}
 use Rattle.map_model.specs.declared.call.Call.{Call}
 use Rattle.map_model.specs.declared.entry.Reply.TheVariants as reply
 use Rattle.map_model.specs.Changes.{call_of}
@@ -23,7 +24,7 @@ use Rattle.phase.specs.declared.held.Held.{Held}
 use Rattle.phase.specs.declared.kept.Kept.{Kept}
 use Rattle.phase.specs.Places.{bucket_of}
 use Rattle.phase.specs.Buckets.{words_in}
-use Rattle.phase.specs.Stands.{IsStraight, Leads, IsLoading}
+use Rattle.phase.specs.Stands.{IsThere, Leads, IsLoading}
 use Rattle.phase.specs.Taking.{take_kind, IsTaking}
 use Rattle.phase.specs.Giving.{IsLocated, IsHeld, IsQuiet, IsOfHeld, HoldsLocks, give_kind}
 use Rattle.phase.specs.Knows.{Knows, HasNoneLoose, IsWhole}
@@ -31,6 +32,8 @@ use Rattle.phase.specs.Making.{make_kind, with_record, with_mark, IsNew, IsMakin
 use Rattle.phase.specs.Finding.{StandsNowhere}
 use Rattle.phase.specs.Keeps.{kept_words, IsFull, KeepsAll, HoldsThirds, HasNoThird}
 use Rattle.phase.specs.AreWords.{AreWords}
+use Rattle.phase.specs.Makes.{brought}
+use Rattle.phase.specs.Endings.{outcome_then}
 use Rattle.move_op.specs.declared.step.MoveEnd.{MoveEnd}
 use Rattle.move_op.specs.declared.step.MoveEnd.TheVariants as ends
 use Rattle.move_op.specs.declared.step.Direction.{Direction}
@@ -42,9 +45,9 @@ use Rattle.move_op.specs.declared.step.MoveStep.{MoveStep}
 use Rattle.move_op.specs.declared.step.MoveStep.TheVariants.{Lock, Fill, CountSpent, Draw, Give, Ended}
 use Rattle.move_op.specs.declared.step.MoveStep.TheVariants as step
 use Rattle.move_op.specs.declared.op.MoveOp.{MoveOp}
-use Rattle.move_op.specs.Shifts.{source_of, target_of, home_place, new_value, shift_at, record_of}
+use Rattle.move_op.specs.Shifts.{source_of, target_of, home_place, shift_at, record_of}
 use Rattle.move_op.specs.Order.{StaysForward, IsInOrder}
-use Rattle.move_op.specs.Steps.{end_of, lock_of, lock_at}
+use Rattle.move_op.specs.Steps.{lock_of, lock_at}
 
 module _ (kept : Kept) (shift : Shift) where
   -- ---- THE WORDS, one store after another
@@ -124,7 +127,10 @@ pub record KeepsBut (direction : Direction) (site : Site) (kept : Kept) (v : Vie
   pub insert : IsInsert (call_of kept.change)
   pub located : IsLocated site kept.site kept.segment
   pub hashed : kept.hash ≡ key_hash site.shape kept.change.key
-  pub leads : Leads site kept.hash kept.segment
+  pub pinned : Has (kept.segment, kept.head) v.pinned
+  pub leading : is_leading kept.head kept.hash ≡ true
+  pub there : IsThere site kept.segment v.facts
+  pub leads : Leads site kept.hash kept.segment v.pinned
   pub locks : HoldsLocks kept.site kept.hash kept.segment kept.held v
   pub near : IsHeld kept.held Home × IsHeld kept.held Probing
   pub third : IsHeld kept.held (target_of direction)
@@ -160,7 +166,8 @@ pub record HoldsAll (site : Site) (kept : Kept) (shift : Shift) (v : View) : Typ
   pub insert : IsInsert (call_of kept.change)
   pub located : IsLocated site kept.site kept.segment
   pub hashed : kept.hash ≡ key_hash site.shape kept.change.key
-  pub leads : Leads site kept.hash kept.segment
+  pub there : IsThere site kept.segment v.facts
+  pub leads : Leads site kept.hash kept.segment v.pinned
   pub locks : HoldsLocks kept.site kept.hash kept.segment kept.held v
   pub near : IsHeld kept.held Home × IsHeld kept.held Probing
   pub third : IsHeld kept.held (target_of shift.direction)
@@ -233,15 +240,12 @@ module _ (site : Site) (kept : Kept) where
   SuitsStep (Ended end) v = SuitsEnd end v
 
 -- ---- where it may run
--- what an insert keeps of this call, whose key and value are words, and so are those of its buckets, in an image of one segment: in one
--- of more, records may be left that are another segment's, and of the home of such a record its membership bit says nothing
+-- what an insert keeps of this call, whose key and value are words, and so are those of its buckets
 pub record MayMakeRoom (site : Site) (here : Here) (call : Call) (kept : Kept) : Type 0 where
   pub same : call_of kept.change ≡ call
   pub at : kept.site ≡ here
-  pub straight : IsStraight site
-  pub single : site.shape.segments ≡ 1
   pub key : kept.change.key < 2 ^ 64
-  pub value : new_value kept.change.deed < 2 ^ 64
+  pub value : brought kept.change.deed < 2 ^ 64
   pub buckets : (place : Place) → AreWords (words_in kept.buckets place)
 
 -- and what is loaded
@@ -265,6 +269,6 @@ outcome_of ends.Off = Some off
 
 -- the locks may still be given back
 abbrev pub outcome_at : MoveStep → Option Outcome
-outcome_at (Give held end) = outcome_of (end_of end)
+outcome_at (Give held end) = Some (outcome_then end)
 outcome_at (Ended end) = outcome_of end
 outcome_at more = None

@@ -8,7 +8,7 @@ use Rattle.part.specs.Outcomes.{IsDone}
 use Rattle.phase.specs.Making.{make_left, waiting_of}
 use Rattle.phase.specs.Giving.{give_left}
 use Rattle.move_op.specs.declared.step.MoveEnd.TheVariants as ends
-use Rattle.move_op.specs.declared.step.Ending.TheVariants as ending
+use Rattle.phase.specs.Endings.{HasMadeThen}
 use Rattle.move_op.specs.declared.step.Direction.{Direction}
 use Rattle.move_op.specs.declared.step.Direction.TheVariants.{Forward, Backward}
 use Rattle.move_op.specs.declared.step.Leg.{Leg}
@@ -64,6 +64,6 @@ IsPublished leg make = ⊥
 abbrev pub HasMadeAt : MoveStep → Type 0
 HasMadeAt (step.Make shift leg make) = IsPublished leg make
 HasMadeAt (Draw shift) = ⊤
-HasMadeAt (Give held (ending.Replied answer place)) = IsDone answer
+HasMadeAt (Give held end) = HasMadeThen end
 HasMadeAt (Ended (ends.Replied answer place)) = IsDone answer
 HasMadeAt more = ⊥

@@ -1,6 +1,5 @@
 -- A displacement as a part of a call: where no record can move it keeps its locks, and another part goes on.
-use Rattle.std.specs.Prelude.{◌≡◌, ◌-◌, ◌^◌, ⊤, ◌⊎◌, true, Some, None, slice_index}
-use Rattle.bucket_meta.specs.Slots.{IsFull}
+use Rattle.std.specs.Prelude.{◌≡◌, ◌-◌, ◌^◌, ⊤, true, Some, None, slice_index}
 use Rattle.op_core.specs.declared.want.Want.TheVariants.{Done}
 use Rattle.map_model.specs.declared.call.Call.{Call}
 use Rattle.world.specs.declared.site.Site.{Site as Here}
@@ -9,8 +8,7 @@ use Rattle.world.specs.Views.{View, Has}
 use Rattle.part.specs.Doings.{Doings}
 use Rattle.part.specs.Outcomes.{finished}
 use Rattle.part.specs.Part.{Part}
-use Rattle.part.specs.Room.{HasOnlyMembers}
-use Rattle.phase.specs.declared.place.Place.{Place}
+use Rattle.part.specs.Room.{NothingMovesOn}
 use Rattle.phase.specs.declared.place.Place.TheVariants.{Next}
 use Rattle.phase.specs.declared.kept.Kept.{Kept}
 use Rattle.phase.specs.Stands.{IsLoading}
@@ -37,11 +35,11 @@ module _ (site : Site) (kept : Kept) (did : Doings) where
   -- before the second direction is tried, the words of the next bucket were loaded, and by them no record can move on
   abbrev pub HasTried : Direction → Type 0
   HasTried Forward = ⊤
-  HasTried Backward = WasLoaded kept did.loads Next × (HasOnlyMembers (slice_index kept.buckets.probing 1) ⊎ IsFull (slice_index kept.buckets.next 1))
+  HasTried Backward = WasLoaded kept did.loads Next × NothingMovesOn (slice_index kept.buckets.probing 1) (slice_index kept.buckets.next 1)
 
-  -- a lock word was loaded as free with the last version
+  -- the lock word of a third bucket was loaded as free with the last version, when it was tried
   abbrev pub LoadedSpent : Type 0
-  LoadedSpent = (place : Place) × Has (lock_of kept place, 2 ^ 64 - 2) did.loads
+  LoadedSpent = (direction : Direction) × HasTried direction × Has (lock_of kept (target_of direction), 2 ^ 64 - 2) did.loads
 
   abbrev pub RemembersAt : MoveStep → Type 0
   RemembersAt (Lock direction take) = RemembersRoom site kept did.loads × ChangedLocks kept did.changed × RemembersTake (lock_of kept (target_of direction)) did.loads take × HasTried direction

@@ -4,13 +4,12 @@ use Rattle.hash_word.specs.Hash.{finger_of}
 use Rattle.bucket_meta.specs.Bucket.{member, finger, record_slots}
 use Rattle.bucket_meta.specs.Search.{is_taken, lowest_free}
 use Rattle.bucket_meta.specs.Marks.{inserted_mark, member_mark, removed_mark, finger_place, with_finger}
-use Rattle.map_model.specs.declared.change.Deed.{Deed}
-use Rattle.map_model.specs.declared.change.Deed.TheVariants.{Insert as InsertOf, Update, Remove}
 use Rattle.phase.specs.declared.place.Place.{Place}
 use Rattle.phase.specs.declared.place.Place.TheVariants.{Home, Probing, Next, Previous}
 use Rattle.phase.specs.declared.make.Record.{Record}
 use Rattle.phase.specs.declared.kept.Kept.{Kept}
 use Rattle.phase.specs.Buckets.{words_in}
+use Rattle.phase.specs.Makes.{brought}
 use Rattle.move_op.specs.declared.step.Direction.{Direction}
 use Rattle.move_op.specs.declared.step.Direction.TheVariants.{Forward, Backward}
 use Rattle.move_op.specs.declared.step.Shift.{Shift}
@@ -74,18 +73,12 @@ copied direction source from target to = record {
 abbrev pub cleared : List ℕ → ℕ → Record
 cleared source from = record { slot = from; key = 0; value = 0; fingers = 0; published = 1; mark = removed_mark (slice_index source 1) from }
 
--- the value that an insert brings
-abbrev pub new_value : Deed → ℕ
-new_value (InsertOf value) = value
-new_value (Update value) = 0
-new_value Remove = 0
-
 -- of the new record, in the slot that was cleared
 abbrev pub placed : Direction → Kept → List ℕ → ℕ → Record
 placed direction kept source from = record {
   slot = from;
   key = kept.change.key;
-  value = new_value kept.change.deed;
+  value = brought kept.change.deed;
   fingers = with_finger (slice_index source (finger_place from)) from (finger_of kept.hash);
   published = 1;
   mark = arrived_mark direction (removed_mark (slice_index source 1) from) from;

@@ -26,8 +26,8 @@ use Rattle.phase.specs.Helds.{with_held, give_next, give_wanted, given}
 use Rattle.phase.specs.Buckets.{with_words}
 use Rattle.move_op.specs.declared.step.MoveEnd.{MoveEnd}
 use Rattle.move_op.specs.declared.step.MoveEnd.TheVariants as ends
-use Rattle.move_op.specs.declared.step.Ending.{Ending}
-use Rattle.move_op.specs.declared.step.Ending.TheVariants as ending
+use Rattle.phase.specs.declared.ending.Ending.{Ending}
+use Rattle.phase.specs.declared.ending.Ending.TheVariants as ending
 use Rattle.move_op.specs.declared.step.Direction.{Direction}
 use Rattle.move_op.specs.declared.step.Direction.TheVariants.{Forward, Backward}
 use Rattle.move_op.specs.declared.step.Shift.{Shift}

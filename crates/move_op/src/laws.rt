@@ -5,7 +5,7 @@ ghost use Rattle.part.specs.Causes.{EndsByCause};
 ghost use Rattle.move_op.specs.MovePart.{move_part, MoveBeginsAsPart, MoveBeginsRemembering, MoveBeginsUndecided, MoveHandsOnAll, MovesInOrder, MoveNeverFinished, MoveEndsAsSaid};
 ghost use Rattle.move_op.specs.Replies.{MoveRepliesAsSeen};
 
-/// A displacement is a part of a call, in an image of one segment, by the laws of `part`: each event is of its kind, which its
+/// A displacement is a part of a call, by the laws of `part`: each event is of its kind, which its
 /// caller's view may take beside any other callers, and the view after it suits the next step; it ends in time, asks for words of the
 /// image, puts words there, leaves no line waiting, and makes its insert with one store, once. It begins where an insert found its
 /// home and probing bucket full and hands on its locks; where no record can move it hands them on in turn, with those of the two

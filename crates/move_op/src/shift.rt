@@ -3,7 +3,7 @@
 ghost use Rattle.std.specs.Prelude.{◌≡◌, ◌<◌, IfSome, slice_index};
 ghost use Rattle.bucket_meta.specs.Bucket.{record_slots};
 ghost use Rattle.bucket_meta.specs.Search.{lowest_free};
-ghost use Rattle.move_op.specs.Shifts.{source_of, target_of, arrived_mark, moving_slot, copied, cleared, new_value, placed, shift_at, shift_by, shift_in, place_of, record_of};
+ghost use Rattle.move_op.specs.Shifts.{source_of, target_of, arrived_mark, moving_slot, copied, cleared, placed, shift_at, shift_by, shift_in, place_of, record_of};
 
 use crate::step::{Direction, Leg, Shift};
 use bucket_meta::Meta;
@@ -12,8 +12,7 @@ use bucket_meta::words::{
 };
 use displace::{backward, forward};
 use hash_word::finger;
-use map_model::Deed;
-use phase::{Kept, Place, Record};
+use phase::{Kept, Place, Record, brought};
 
 // ---- the two buckets
 
@@ -100,16 +99,6 @@ fn cleared(source: &[u64; 32], from: u8) -> Record
     }
 }
 
-/// The value that an insert brings.
-fn new_value(deed: Deed) -> u64
-    ensures { result ≡ new_value deed }
-{
-    match deed {
-        Deed::Insert(value) => value,
-        Deed::Update(_) | Deed::Remove => 0,
-    }
-}
-
 /// What is stored of the new record, in the slot that was cleared.
 fn placed(direction: Direction, kept: &Kept, source: &[u64; 32], from: u8) -> Record
     requires { from < record_slots }
@@ -118,7 +107,7 @@ fn placed(direction: Direction, kept: &Kept, source: &[u64; 32], from: u8) -> Re
     Record {
         slot: from,
         key: kept.change.key,
-        value: new_value(kept.change.deed),
+        value: brought(kept.change.deed),
         fingers: with_finger(source[finger_place(from)], from, finger(kept.hash)),
         published: 1,
         mark: arrived_mark(direction, removed_mark(source[1], from), from),

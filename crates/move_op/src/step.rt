@@ -2,7 +2,7 @@
 
 use map_model::Reply;
 use op_core::Why;
-use phase::{Held, Load, Make, Record, Take};
+use phase::{Ending, Held, Load, Make, Record, Take};
 
 /// How an attempt ended that tried to make room for a record.
 #[derive(Clone, Copy, Debug, PartialEq, Eq)]
@@ -15,15 +15,6 @@ pub enum MoveEnd {
     Again(Why),
     /// It has not ended.
     Off,
-}
-
-/// How an attempt is to end once all its locks are given back.
-#[derive(Clone, Copy, Debug, PartialEq, Eq)]
-pub enum Ending {
-    /// It is answered, with its place.
-    Replied(Reply, u64),
-    /// It is to be made again.
-    Again(Why),
 }
 
 /// Where a record moves to.

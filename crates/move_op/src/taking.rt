@@ -3,14 +3,13 @@
 ghost use Rattle.std.specs.Prelude.{◌≡◌};
 ghost use Rattle.move_op.specs.Steps.{go, end_of, giving, give, locked_to, without, chosen, filled, filled_with, settled, made_to, next_in, IsElsewhere};
 
-use crate::asking::lock_of;
 use crate::op::MoveOp;
 use crate::shift::{record_of, shift_in, target_of};
-use crate::step::{Direction, Ending, Leg, MoveEnd, MoveStep, Shift};
+use crate::step::{Direction, Leg, MoveEnd, MoveStep, Shift};
 use map_model::Reply;
 use op_core::{Ans, Why};
 use phase::{
-    Held, Load, Made, Make, Take, Taken, give_next, given, load_put, make_next, take_next,
+    Ending, Held, Load, Made, Make, Take, Taken, give_next, given, load_put, make_next, take_next,
 };
 
 // ---- ends
@@ -138,7 +137,7 @@ fn take_at(op: &mut MoveOp, ans: Ans)
 {
     match (op.step, ans) {
         (MoveStep::Lock(direction, take), ans) => {
-            let lock = lock_of(&op.kept, target_of(direction));
+            let lock = op.kept.lock_of(target_of(direction));
             locked_to(op, direction, lock, take_next(&take, ans));
         }
         (MoveStep::CountSpent, Ans::Value(count)) => {

@@ -7,6 +7,8 @@ use phase::{Buckets, Held, Kept};
 use std::test::Fail;
 use world::Site;
 
+/// The header of a normal segment of version 1 and depth 0.
+const HEAD: u64 = 257;
 /// The commit counter's word.
 const COUNTER: usize = 2208;
 /// The allocation bits of all slots.
@@ -122,6 +124,7 @@ impl Memory {
             },
             hash: key,
             segment: 0,
+            head: HEAD,
             held: Held {
                 home: Some(0),
                 probing: Some(0),

@@ -1,5 +1,5 @@
 -- A displacement ends by its causes, beside any other callers.
-use Rattle.std.proofs.Common.{◌≡◌, ◌≢◌, ℕ, true, false, Option, None, Some, IsTrue, inr, refl, sym, ap, ◌∙◌, subst}
+use Rattle.std.proofs.Common.{◌≡◌, ◌≢◌, ℕ, ◌<◌, true, false, Option, None, Some, IsTrue, inr, refl, sym, ap, ◌∙◌, subst}
 use Rattle.std.specs.Prelude.{⊤}
 use Rattle.std.proofs.lemmas.Option.{none-some, same_Some}
 use Rattle.op_core.specs.declared.want.Want.{Want}
@@ -9,6 +9,7 @@ use Rattle.op_core.specs.declared.want.Ans.TheVariants.{Passed}
 use Rattle.op_core.specs.declared.why.Why.{Why}
 use Rattle.op_core.specs.declared.why.Why.TheVariants.{Busy, Moved}
 use Rattle.trace.specs.Events.{Words}
+use Rattle.image_layout.specs.Places.{Shape}
 use Rattle.sound_image.specs.Records.{key_hash}
 use Rattle.map_model.specs.declared.call.Call.{Call}
 use Rattle.map_model.specs.declared.entry.Reply.{Reply}
@@ -21,8 +22,7 @@ use Rattle.world.specs.Views.{View, HasLock}
 use Rattle.world.specs.Wants.{answer_to, word_of}
 use Rattle.part.specs.Doings.{Doings}
 use Rattle.part.specs.Outcomes.{Outcome, replied, again, off}
-use Rattle.part.specs.Causes.{IsBucketOf, IsNamed, IsOwnLock, hash_for, HasReplyCause, HasCause, EndsByCause}
-use Rattle.phase.specs.declared.place.Place.{Place}
+use Rattle.part.specs.Causes.{NeedsBucket, IsNamed, IsOwnLock, hash_for, HasReplyCause, HasCause, EndsByCause}
 use Rattle.phase.specs.declared.take.Take.{Take}
 use Rattle.phase.specs.declared.take.Take.TheVariants.{Look, Try}
 use Rattle.phase.specs.declared.take.Taken.{Taken}
@@ -42,31 +42,30 @@ use Rattle.phase.specs.Helds.{free_of, given}
 use Rattle.phase.specs.Buckets.{with_words}
 use Rattle.phase.specs.Taking.{HasTakeCause}
 use Rattle.phase.specs.Keeps.{KeepsAll, RemembersRoom}
-use Rattle.phase.proofs.Asked.{bucket_of_insert}
+use Rattle.phase.proofs.Needing.{next_needed, previous_needed}
 use Rattle.phase.proofs.Causing.{found_named}
 use Rattle.phase.proofs.Handing.{key_called}
 use Rattle.phase.proofs.locks.Taking.{take_caused}
 use Rattle.phase.proofs.locks.Giving.{no_some, lock_at as lock_stands, locks_apart, has_not}
 use Rattle.move_op.specs.declared.step.MoveEnd.{MoveEnd}
 use Rattle.move_op.specs.declared.step.MoveEnd.TheVariants as ends
-use Rattle.move_op.specs.declared.step.Ending.{Ending}
-use Rattle.move_op.specs.declared.step.Ending.TheVariants as ending
+use Rattle.phase.specs.declared.ending.Ending.TheVariants as ending
 use Rattle.move_op.specs.declared.step.Direction.{Direction}
 use Rattle.move_op.specs.declared.step.Direction.TheVariants.{Forward, Backward}
 use Rattle.move_op.specs.declared.step.Shift.{Shift}
 use Rattle.move_op.specs.declared.step.Leg.{Leg}
 use Rattle.move_op.specs.declared.step.Leg.TheVariants.{Copy, Clear, Insert}
 use Rattle.phase.proofs.Wanting.{no}
+use Rattle.phase.specs.Endings.{outcome_then}
 use Rattle.move_op.specs.declared.step.MoveStep.{MoveStep}
 use Rattle.move_op.specs.declared.step.MoveStep.TheVariants.{Lock, Fill, CountSpent, Draw, Give, Ended}
 use Rattle.move_op.specs.declared.step.MoveStep.TheVariants as step
 use Rattle.move_op.specs.Shifts.{target_of, shift_in, record_of}
-use Rattle.move_op.specs.Steps.{end_of, giving, locked_to, chosen, filled_to, made_to, lock_of, wanted_in, next_in, wanted, taken, is_over, is_without_move}
+use Rattle.move_op.specs.Steps.{giving, locked_to, chosen, filled_to, made_to, lock_of, wanted_in, next_in, wanted, taken, is_over, is_without_move}
 use Rattle.move_op.specs.Fits.{SuitsStep, MayMakeRoom, outcome_of, outcome_at}
-use Rattle.move_op.specs.MovePart.{RemembersAt, move_part, MoveBeginsRemembering, MoveHandsOnAll}
+use Rattle.move_op.specs.MovePart.{HasTried, RemembersAt, move_part, MoveBeginsRemembering, MoveHandsOnAll}
 use Rattle.move_op.proofs.Over.{over_done}
 use Rattle.move_op.proofs.keeping.Going.{none_at}
-use Rattle.move_op.proofs.Replying.{given_decides}
 use Rattle.move_op.proofs.keeping.Entering.{giving_outcome}
 use Rattle.move_op.proofs.causing.Recalling.{recalls_next}
 use Rattle.move_op.proofs.parts.Parted.{never_finished, end_keeps}
@@ -108,14 +107,23 @@ module _ (site : Site) (here : Here) (call : Call) (kept : Kept) (may : MayMakeR
         (subst (λ g. IsNamed g kept.hash did.loads kept.segment) k.holds.located.shape
         (subst (λ s. IsNamed kept.site.geometry kept.hash did.loads s) r.there (found_named kept.site.geometry kept.hash did.loads r.path r.found)))
 
-    own_lock : (place : Place) → IsOwnLock site.shape words did call (lock_of kept place)
-    own_lock place = (
+    -- a third bucket is needed where its lock is taken
+    within : kept.segment < kept.site.geometry.segments
+    within = subst (λ (g : Shape). kept.segment < g.segments) (sym k.holds.located.shape) k.holds.located.within
+
+    needed : (d : Direction) → HasTried site kept did d → NeedsBucket kept.site.geometry kept.hash did.loads kept.segment call (bucket_of kept.hash (target_of d))
+    needed Forward tried = next_needed kept did.loads within r.home r.probing call (subst IsInsert may.same k.insert)
+    needed Backward tried = previous_needed kept did.loads within r.home r.probing call (subst IsInsert may.same k.insert) tried.0 tried.1
+
+    own_lock : (d : Direction) → HasTried site kept did d → IsOwnLock site.shape words did call (lock_of kept (target_of d))
+    own_lock d tried = (
       kept.segment,
       named,
       k.holds.located.within,
-      bucket_of kept.hash place,
-      subst (λ h. IsBucketOf call h (bucket_of kept.hash place)) hash_is (bucket_of_insert call kept.hash (subst IsInsert may.same k.insert) place),
-      lock_stands site kept.site kept.hash kept.segment k.holds.located place,
+      bucket_of kept.hash (target_of d),
+      subst (λ h. NeedsBucket site.shape h did.loads kept.segment call (bucket_of kept.hash (target_of d))) hash_is
+          (subst (λ g. NeedsBucket g kept.hash did.loads kept.segment call (bucket_of kept.hash (target_of d))) k.holds.located.shape (needed d tried)),
+      lock_stands site kept.site kept.hash kept.segment k.holds.located (target_of d),
     )
 
     -- a lock
@@ -134,7 +142,7 @@ module _ (site : Site) (here : Here) (call : Call) (kept : Kept) (may : MayMakeR
         let none = none_at d kept suits.1 in
         locked_caused d take (take_taken take (answer_to (take_wanted lock take) (words lock)))
         (has_not site kept.site kept.hash kept.segment kept.held (target_of d) v k.holds.located k.holds.locks none)
-        (take_caused site.shape words did call lock (own_lock (target_of d))
+        (take_caused site.shape words did call lock (own_lock d remembers.3)
         (λ changed.
         let own = remembers.1 lock changed in
         locks_apart site kept.site kept.hash kept.segment k.holds.located (target_of d) own.0 (λ e. no_some (sym none ∙ ap (free_of kept.held) e ∙ own.1.1)) own.2) take suits.2 remembers.2)
@@ -166,10 +174,10 @@ module _ (site : Site) (here : Here) (call : Call) (kept : Kept) (may : MayMakeR
   step_caused (Lock d Look) suits r none asks = lock_caused suits.0 r.0 d Look suits r
   step_caused (Lock d (Try free)) suits r none asks = lock_caused suits.0 r.0 d (Try free) suits r
   step_caused (Fill d load) suits r none asks = filled_open (wanted_in kept (Fill d load)) d (load_taken load (Finds (Fill d load)))
-  step_caused CountSpent suits r none asks = gives_reply (wanted_in kept CountSpent) kept.held reply.Spent (Finds CountSpent) (inr (lock_of kept r.1.0, own_lock suits.0 r.0 r.1.0, r.1.1))
+  step_caused CountSpent suits r none asks = gives_reply (wanted_in kept CountSpent) kept.held reply.Spent (Finds CountSpent) (inr (lock_of kept (target_of r.1.0), own_lock suits.0 r.0 r.1.0 r.1.1, r.1.2))
   step_caused (step.Make shift leg m) suits r none asks = make_open (wanted_in kept (step.Make shift leg m)) shift leg m _
   step_caused (Draw shift) suits r none asks = gives_reply want.Draw kept.held reply.Done (Finds (Draw shift)) tt
-  step_caused (Give held end) suits r none asks = absurd (given_decides end none)
+  step_caused (Give held end) suits r none asks = absurd (none-some (outcome_then end) (sym none))
   step_caused (Ended end) suits r none asks = absurd (asks refl)
 
 -- the lock that is taken is not held
@@ -183,10 +191,6 @@ stays_at kept (Give held end) a outcome some = some
 stays_at kept (Ended end) a outcome some = some
 stays_at kept s a outcome some = absurd (none-some outcome some)
 
-given_outcome : (end : Ending) → (outcome : Outcome) × (outcome_of (end_of end) ≡ Some outcome)
-given_outcome (ending.Replied answer place) = (replied answer place, refl)
-given_outcome (ending.Again why) = (again why, refl)
-
 ended_outcome : (end : MoveEnd) → is_without_move (Ended end) ≡ false → (outcome : Outcome) × (outcome_of end ≡ Some outcome)
 ended_outcome ends.NoMove closed = absurd (let z = closed in cc)
 ended_outcome (ends.Replied answer place) closed = (replied answer place, refl)
@@ -194,7 +198,7 @@ ended_outcome (ends.Again why) closed = (again why, refl)
 ended_outcome ends.Off closed = (off, refl)
 
 over_decided : (s : MoveStep) → IsTrue (is_over s) → is_without_move s ≡ false → (outcome : Outcome) × (outcome_at s ≡ Some outcome)
-over_decided (Give held end) over closed = given_outcome end
+over_decided (Give held end) over closed = (outcome_then end, refl)
 over_decided (Ended end) over closed = ended_outcome end closed
 over_decided s over closed = absurd (no over)
 

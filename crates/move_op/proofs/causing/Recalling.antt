@@ -1,5 +1,5 @@
 -- What a displacement keeps was loaded, at each of its steps, and before its stores it changed its locks alone.
-use Rattle.std.proofs.Common.{◌≡◌, ◌≢◌, ℕ, ◌+◌, ◌-◌, ◌%◌, ◌^◌, Bool, true, false, Option, None, Some, List, [], ◌∷◌, ◌++◌, inl, inr, refl, sym, ap, ◌∙◌, subst, slice_index}
+use Rattle.std.proofs.Common.{◌≡◌, ◌≢◌, ℕ, ◌+◌, ◌-◌, ◌%◌, ◌^◌, ◌<◌, ◌≤◌, Bool, true, false, Option, None, Some, List, [], ◌∷◌, ◌++◌, inl, inr, refl, sym, ap, ◌∙◌, subst, slice_index}
 use Rattle.std.specs.Prelude.{⊤, ◌==◌, if◌then◌else◌}
 use Rattle.op_core.specs.declared.want.Want.TheVariants as want
 use Rattle.op_core.specs.declared.want.Ans.{Ans}
@@ -9,7 +9,7 @@ use Rattle.world.specs.Views.{Has}
 use Rattle.world.specs.Wants.{answer_to}
 use Rattle.part.specs.Doings.{Doings, with_event_of}
 use Rattle.phase.specs.declared.place.Place.{Place}
-use Rattle.phase.specs.declared.place.Place.TheVariants.{Next}
+use Rattle.phase.specs.declared.place.Place.TheVariants.{Home, Probing, Next}
 use Rattle.phase.specs.declared.take.Take.{Take}
 use Rattle.phase.specs.declared.take.Take.TheVariants.{Look, Try}
 use Rattle.phase.specs.declared.take.Taken.{Taken}
@@ -22,6 +22,7 @@ use Rattle.phase.specs.declared.make.Made.{Made}
 use Rattle.phase.specs.declared.make.Made.TheVariants as made
 use Rattle.phase.specs.declared.held.Held.{Held}
 use Rattle.phase.specs.declared.kept.Kept.{Kept}
+use Rattle.phase.specs.Places.{is_third}
 use Rattle.phase.specs.Takes.{take_wanted, take_looked, take_lost}
 use Rattle.phase.specs.Loads.{load_taken}
 use Rattle.phase.specs.Makes.{make_taken}
@@ -31,15 +32,15 @@ use Rattle.phase.specs.Stands.{HasLoaded}
 use Rattle.phase.specs.Taking.{RemembersTaken}
 use Rattle.phase.specs.Giving.{IsHeld}
 use Rattle.phase.specs.Causes.{WasFound}
-use Rattle.phase.specs.Keeps.{WasLoaded, ChangedLocks, RemembersRoom}
+use Rattle.phase.specs.Keeps.{IsFull, WasLoaded, ChangedLocks, LoadedFull, RemembersRoom}
 use Rattle.phase.proofs.Asked.{cases_place}
 use Rattle.phase.proofs.Wording.{words_other}
 use Rattle.phase.proofs.Causing.{has_more, found_more}
 use Rattle.phase.proofs.Loading.{load_begins, load_stands}
 use Rattle.phase.proofs.locks.Taking.{take_remembers}
 use Rattle.phase.proofs.locks.Giving.{no_some, held_this, held_other}
-use Rattle.move_op.specs.declared.step.Ending.{Ending}
-use Rattle.move_op.specs.declared.step.Ending.TheVariants as ending
+use Rattle.phase.specs.declared.ending.Ending.{Ending}
+use Rattle.phase.specs.declared.ending.Ending.TheVariants as ending
 use Rattle.move_op.specs.declared.step.Direction.{Direction}
 use Rattle.move_op.specs.declared.step.Direction.TheVariants.{Forward, Backward}
 use Rattle.move_op.specs.declared.step.Shift.{Shift}
@@ -72,6 +73,8 @@ module _ (site : Site) where
       found = subst (λ l. WasFound kept.site.geometry kept.hash l r.path) (sym is) (found_more kept.site.geometry kept.hash more d.loads r.path r.found);
       head = r.head;
       buckets = λ place held own. loaded_more place (r.buckets place held own);
+      home = (loaded_more Home r.home.0, r.home.1);
+      probing = (loaded_more Probing r.probing.0, r.probing.1);
     }
 
     tried_more : (direction : Direction) → HasTried site kept d direction → HasTried site kept e direction
@@ -87,6 +90,8 @@ module _ (site : Site) where
     found = r.found;
     head = r.head;
     buckets = λ place held own. r.buckets place (held.0, sym (held_other kept.held free (target_of direction) place (other_number direction place own)) ∙ held.1) own;
+    home = r.home;
+    probing = r.probing;
   }
 
   tried_held : (kept : Kept) (held : Held) (d : Doings) (direction : Direction) → HasTried site kept d direction → HasTried site (record kept { held = held }) d direction
@@ -94,6 +99,12 @@ module _ (site : Site) where
   tried_held kept held d Backward r = r
 
   -- with the words of a third bucket put in
+  full_put : (kept : Kept) (direction : Direction) (words : List ℕ) (loads : List (ℕ × ℕ)) (place : Place) → is_third place ≡ false → LoadedFull kept loads place
+      → LoadedFull (record kept { buckets = with_words (target_of direction) words kept.buckets }) loads place
+  full_put kept direction words loads place own f =
+      subst (λ (ws : List ℕ). ((j : ℕ) → 1 ≤ j → j < 32 → Has (lock_of kept place + j, slice_index ws j) loads) × IsFull ws)
+      (sym (words_other kept.buckets words (target_of direction) place (other_number direction place own))) f
+
   room_put : (kept : Kept) (direction : Direction) (words : List ℕ) (loads : List (ℕ × ℕ)) → RemembersRoom site kept loads
       → RemembersRoom site (record kept { buckets = with_words (target_of direction) words kept.buckets }) loads
   room_put kept direction words loads r = record {
@@ -104,6 +115,8 @@ module _ (site : Site) where
     buckets = λ place held own j from low.
         subst (λ (ws : List ℕ). Has (lock_of kept place + j, slice_index ws j) loads)
         (sym (words_other kept.buckets words (target_of direction) place (other_number direction place own))) (r.buckets place held own j from low);
+    home = full_put kept direction words loads Home refl r.home;
+    probing = full_put kept direction words loads Probing refl r.probing;
   }
 
   -- ---- locks back
@@ -128,7 +141,7 @@ module _ (site : Site) where
     locked_recalls (taking.Held free) r changed = (room_held kept direction free d.loads room, changed, load_begins _ _, tried_held kept (with_held (target_of direction) free kept.held) d direction tried)
     locked_recalls (taking.Busy value) r changed = giving_recalls kept d kept.held _
     locked_recalls (taking.Moved first after) r changed = giving_recalls kept d kept.held _
-    locked_recalls taking.Spent r changed = (room, (target_of direction, r))
+    locked_recalls taking.Spent r changed = (room, (direction, tried, r))
 
   -- which words were changed then
   module _ (kept : Kept) (direction : Direction) (d : Doings) (out : free_of kept.held (target_of direction) ≡ None) (changed : ChangedLocks kept d.changed) where

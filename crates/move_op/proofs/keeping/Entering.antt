@@ -13,26 +13,28 @@ use Rattle.phase.specs.declared.held.Held.{Held}
 use Rattle.phase.specs.declared.kept.Kept.{Kept}
 use Rattle.phase.specs.Buckets.{with_words}
 use Rattle.phase.specs.Helds.{give_next}
-use Rattle.move_op.specs.declared.step.Ending.{Ending}
-use Rattle.move_op.specs.declared.step.Ending.TheVariants as ending
+use Rattle.phase.specs.declared.ending.Ending.{Ending}
+use Rattle.phase.specs.declared.ending.Ending.TheVariants as ending
+use Rattle.phase.specs.Endings.{outcome_then}
 use Rattle.move_op.specs.declared.step.Direction.{Direction}
 use Rattle.move_op.specs.declared.step.Direction.TheVariants.{Forward, Backward}
 use Rattle.move_op.specs.declared.step.Shift.{Shift}
 use Rattle.move_op.specs.declared.step.MoveStep.{MoveStep}
 use Rattle.move_op.specs.Shifts.{target_of, shift_in}
-use Rattle.move_op.specs.Steps.{end_of, given_by, giving, locked_to, chosen, filled_to}
-use Rattle.move_op.specs.Fits.{outcome_of, outcome_at}
+use Rattle.move_op.specs.Steps.{given_by, giving, locked_to, chosen, filled_to}
+use Rattle.move_op.specs.Fits.{outcome_at}
 
 -- the reply that is decided
 abbrev pub reply_at : MoveStep → Option (Reply × ℕ)
 reply_at s = reply_of (outcome_at s)
 
 -- ---- locks back
-by_next : (next : Option (Place × ℕ)) (held : Held) (end : Ending) → outcome_at (given_by next held end) ≡ outcome_of (end_of end)
+by_next : (next : Option (Place × ℕ)) (held : Held) (end : Ending) → outcome_at (given_by next held end) ≡ Some (outcome_then end)
 by_next (Some next) held end = refl
-by_next None held end = refl
+by_next None held (ending.Replied answer place) = refl
+by_next None held (ending.Again why) = refl
 
-pub giving_outcome : (held : Held) (end : Ending) → outcome_at (giving held end) ≡ outcome_of (end_of end)
+pub giving_outcome : (held : Held) (end : Ending) → outcome_at (giving held end) ≡ Some (outcome_then end)
 giving_outcome held end = by_next (give_next held) held end
 
 giving_again : (held : Held) (why : Why) → reply_at (giving held (ending.Again why)) ≡ None

@@ -2,10 +2,13 @@
 use Rattle.std.proofs.Common.{◌≡◌, ℕ, ◌+◌, ◌<◌, ◌≤◌, false, Option, None, Some, List, ◌∷◌, inl, inr, refl, sym, ap, ◌∙◌, subst, arith, slice_index}
 use Rattle.op_core.specs.declared.why.Why.TheVariants.{Busy, Moved}
 use Rattle.trace.specs.Events.{Words}
-use Rattle.bucket_words.specs.Owners.{HasStructure}
+use Rattle.image_layout.specs.Places.{bucket_at}
+use Rattle.sound_image.specs.Records.{key_hash}
+use Rattle.bucket_words.specs.Hits.{Hit}
+use Rattle.bucket_words.specs.Owners.{owner_of}
 use Rattle.bucket_words.specs.Standing.{IsTable}
-use Rattle.world.specs.Site.{Site, IsSite}
-use Rattle.world.specs.Views.{View, Has, IsGuarded}
+use Rattle.world.specs.Site.{Site}
+use Rattle.world.specs.Views.{View, Has, HasLock, IsGuarded}
 use Rattle.phase.specs.declared.place.Place.{Place}
 use Rattle.phase.specs.declared.place.Place.TheVariants.{Home, Probing, First, Second}
 use Rattle.phase.specs.declared.take.Taken.{Taken}
@@ -14,25 +17,24 @@ use Rattle.phase.specs.declared.load.Loaded.{Loaded}
 use Rattle.phase.specs.declared.load.Loaded.TheVariants as loaded
 use Rattle.phase.specs.declared.held.Held.{Held}
 use Rattle.phase.specs.declared.kept.Kept.{Kept}
-use Rattle.phase.specs.Places.{is_third}
+use Rattle.phase.specs.Places.{bucket_of, is_third}
 use Rattle.phase.specs.Asked.{index}
 use Rattle.phase.specs.Helds.{with_held, free_of, give_next, give_wanted_of}
 use Rattle.phase.specs.Buckets.{with_words, words_in}
-use Rattle.phase.specs.Stands.{IsStraight, HasLoaded}
+use Rattle.phase.specs.Stands.{HasLoaded}
 use Rattle.phase.specs.Taking.{MayBeTaken, IsButSpent, HasTaken}
 use Rattle.phase.specs.Giving.{IsHeld, IsOfHeld}
 use Rattle.phase.specs.Knows.{IsWhole}
 use Rattle.phase.specs.Keeps.{kept_words, IsFull, KeepsAll}
-use Rattle.phase.specs.AreWords.{AreWords}
 use Rattle.phase.proofs.Asked.{one_place, cases_place}
 use Rattle.phase.proofs.Wording.{words_this, words_other}
 use Rattle.phase.proofs.Handing.{none_loose}
 use Rattle.phase.proofs.Loading.{load_begins}
-use Rattle.phase.proofs.locks.Giving.{held_this, held_other, held_same, held_learn, held_stands, give_stands}
+use Rattle.phase.proofs.locks.Giving.{held_this, held_other, held_has, held_same, held_learn, held_stands, give_stands}
 use Rattle.phase.proofs.locks.Finding.{loads_are_known, known_was_loaded}
 use Rattle.phase.proofs.locks.Making.{make_knows}
-use Rattle.move_op.specs.declared.step.Ending.{Ending}
-use Rattle.move_op.specs.declared.step.Ending.TheVariants as ending
+use Rattle.phase.specs.declared.ending.Ending.{Ending}
+use Rattle.phase.specs.declared.ending.Ending.TheVariants as ending
 use Rattle.move_op.specs.declared.step.Direction.{Direction}
 use Rattle.move_op.specs.declared.step.Direction.TheVariants.{Forward, Backward}
 use Rattle.move_op.specs.declared.step.Shift.{Shift}
@@ -74,9 +76,12 @@ module _ (site : Site) (kept : Kept) where
       let w : View = record v { spent_locks = locks } in
       subst (λ (z : View). KeepsAll site kept z) (sym e) (record {
         insert = k.insert;
+        pinned = k.pinned;
+        leads = k.leads;
         holds = record {
           located = k.holds.located;
           hashed = k.holds.hashed;
+          there = k.holds.there;
           leads = k.holds.leads;
           locks = held_same kept.site kept.hash kept.segment kept.held v w refl refl k.holds.locks;
           home = k.holds.home;
@@ -136,6 +141,9 @@ module _ (site : Site) (kept : Kept) (d : Direction) (free : ℕ) where
         insert = k.insert;
         located = k.holds.located;
         hashed = k.holds.hashed;
+        pinned = k.pinned;
+        leading = k.leads;
+        there = k.holds.there;
         leads = k.holds.leads;
         locks = held_stands.more kept.site kept.hash kept.segment kept.held (target_of d) free v w (none_at d kept none) may k.holds.locks refl;
         near = (still_held Home (other_number d Home refl) k.holds.home, still_held Probing (other_number d Probing refl) k.holds.probing);
@@ -169,6 +177,9 @@ learnt_but site kept d i x v k guarded = record {
   insert = k.insert;
   located = k.located;
   hashed = k.hashed;
+  pinned = k.pinned;
+  leading = k.leading;
+  there = k.there;
   leads = k.leads;
   locks = held_learn kept.site kept.hash kept.segment site.shape kept.held v i x k.locks guarded;
   near = k.near;
@@ -199,9 +210,12 @@ module _ (site : Site) (kept : Kept) (d : Direction) (words : List ℕ) (u : Vie
   pub put_keeps : KeepsAll site put u
   put_keeps = record {
     insert = k.insert;
+    pinned = k.pinned;
+    leads = k.leading;
     holds = record {
       located = k.located;
       hashed = k.hashed;
+      there = k.there;
       leads = k.leads;
       locks = k.locks;
       home = k.near.0;
@@ -217,10 +231,12 @@ module _ (site : Site) (kept : Kept) (d : Direction) (words : List ℕ) (u : Vie
     room = k.room;
   }
 
--- what is chosen then, where all words that are known are the newest
-module _ (site : Site) (good : IsSite site) (straight : IsStraight site) (single : site.shape.segments ≡ 1) (words : Words) (structure : HasStructure site.shape site.front words) (table : IsTable site.shape words) where
-  module _ (kept : Kept) (u : View) (k : KeepsAll site kept u) (all : (place : Place) → AreWords (words_in kept.buckets place))
-      (newest : (i x : ℕ) → Has (i, x) u.known → words i ≡ x) where
+-- what is chosen then, where all words that are known are the newest, and each record under a lock that is held is its segment's
+abbrev pub AreOwned : Site → Words → View → Type 0
+AreOwned site words u = (s b r k : ℕ) → HasLock u.held (bucket_at site.shape s b) → Hit site.shape words s b r k → owner_of site.shape words (key_hash site.shape k) ≡ Some s
+
+module _ (site : Site) (words : Words) (table : IsTable site.shape words) where
+  module _ (kept : Kept) (u : View) (k : KeepsAll site kept u) (newest : (i x : ℕ) → Has (i, x) u.known → words i ≡ x) (own : AreOwned site words u) where
     source_held : (e : Direction) → IsHeld kept.held (source_of e)
     source_held Forward = k.holds.probing
     source_held Backward = k.holds.home
@@ -232,17 +248,22 @@ module _ (site : Site) (good : IsSite site) (straight : IsStraight site) (single
         (k.holds.knows (at site kept k.holds.located (source_of d) + j) (source_of d, source_held d, (omega (arith, from, here), omega (arith, low, here))))
         ∙ kept_at site kept k.holds.located (source_of d) j from low
 
+    source_own : (d : Direction) (r key : ℕ) → Hit site.shape words kept.segment (bucket_of kept.hash (source_of d)) r key → owner_of site.shape words (key_hash site.shape key) ≡ Some kept.segment
+    source_own d r key hit = own kept.segment (bucket_of kept.hash (source_of d)) r key
+        (subst (λ z. HasLock u.held z) (at_is site kept k.holds.located (source_of d)) (held_has kept.site kept.hash kept.segment kept.held (source_of d) u k.holds.locks (source_held d))) hit
+
     holds_all : (d : Direction) → IsHeld kept.held (target_of d) → HasTurn d kept → (shift : Shift) → shift_in kept d ≡ Some shift → HoldsAll site kept shift u
     holds_all d third turn shift e = record {
       insert = k.insert;
       located = k.holds.located;
       hashed = k.holds.hashed;
+      there = k.holds.there;
       leads = k.holds.leads;
       locks = k.holds.locks;
       near = (k.holds.home, k.holds.probing);
-      third = subst (λ (z : Direction). IsHeld kept.held (target_of z)) (sym (shift_toward site good straight single kept d k.holds.located all words structure table (source_words d) shift e)) third;
+      third = subst (λ (z : Direction). IsHeld kept.held (target_of z)) (sym (shift_toward site kept d k.holds.located words table (source_own d) (source_words d) shift e)) third;
       nowhere = k.nowhere;
-      shifts = chosen_shifts site good straight single kept d k.holds.located all words structure table (source_words d) turn shift e;
+      shifts = chosen_shifts site kept d k.holds.located words table (source_own d) (source_words d) turn shift e;
       room = k.room;
       owes = k.quiet.owed;
     }
@@ -259,9 +280,8 @@ module _ (site : Site) (good : IsSite site) (straight : IsStraight site) (single
     chosen_suits Backward third behind None is = (k, record { next = behind.held; previous = third })
 
   pub filled_suits : (kept : Kept) (d : Direction) (u : View) → KeepsBut d site kept u → BehindThird d kept → (x : Loaded) → HasLoaded (lock_of kept (target_of d)) u.known x
-      → ((ws : List ℕ) → x ≡ loaded.All ws → (place : Place) → AreWords (words_in (with_words (target_of d) ws kept.buckets) place)) → ((i x : ℕ) → Has (i, x) u.known → words i ≡ x)
-      → Suits site (filled_to kept d x) u
-  filled_suits kept d u k behind (loaded.On load) has all newest = (k, behind, has)
-  filled_suits kept d u k behind (loaded.All ws) has all newest =
+      → ((i x : ℕ) → Has (i, x) u.known → words i ≡ x) → AreOwned site words u → Suits site (filled_to kept d x) u
+  filled_suits kept d u k behind (loaded.On load) has newest own = (k, behind, has)
+  filled_suits kept d u k behind (loaded.All ws) has newest own =
       let put : Kept = record kept { buckets = with_words (target_of d) ws kept.buckets } in
-      chosen_suits put u (put_keeps site kept d ws u k has) (all ws refl) newest d k.third (third_put d kept ws behind) (shift_in put d) refl
+      chosen_suits put u (put_keeps site kept d ws u k has) newest own d k.third (third_put d kept ws behind) (shift_in put d) refl

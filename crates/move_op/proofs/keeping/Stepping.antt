@@ -8,37 +8,32 @@ use Rattle.map_model.specs.declared.entry.Reply.{Reply}
 use Rattle.map_model.specs.declared.entry.Reply.TheVariants as reply
 use Rattle.map_model.specs.Map.{key_of}
 use Rattle.map_model.specs.Changes.{call_of}
-use Rattle.bucket_words.specs.Owners.{HasStructure}
-use Rattle.bucket_words.specs.Standing.{IsTable}
-use Rattle.world.specs.declared.site.Site.{Site as Here}
 use Rattle.world.specs.Site.{Site}
 use Rattle.world.specs.Views.{View, Has, At, IsGuarded}
 use Rattle.world.specs.Wants.{answer_to, word_of}
 use Rattle.world.specs.Kinds.{of_other_keys, with_draw, next_entry, with_reply, view_after}
 use Rattle.world.specs.Invariant.{Holds}
+use Rattle.world.specs.Conditions.{IsNewest}
+use Rattle.world.proofs.holding.Beside.{newest_is}
 use Rattle.world.specs.Attempts.{HasNoMore, HasOneMore, EntersReply}
 use Rattle.part.specs.Outcomes.{reply_of}
-use Rattle.phase.specs.declared.place.Place.{Place}
 use Rattle.phase.specs.declared.take.Take.{Take}
 use Rattle.phase.specs.declared.take.Taken.{Taken}
 use Rattle.phase.specs.declared.load.Load.{Load}
-use Rattle.phase.specs.declared.load.Loaded.TheVariants as loaded
 use Rattle.phase.specs.declared.held.Held.{Held}
 use Rattle.phase.specs.declared.kept.Kept.{Kept}
 use Rattle.phase.specs.Takes.{take_wanted, take_taken}
 use Rattle.phase.specs.Loads.{load_taken}
 use Rattle.phase.specs.Helds.{give_next, given}
-use Rattle.phase.specs.Buckets.{with_words, words_in}
 use Rattle.phase.specs.Taking.{take_kind}
-use Rattle.phase.specs.AreWords.{AreWords}
 use Rattle.phase.proofs.Handing.{none_more, one_more, same_more, give_answer, give_own, give_seen, own_drawn}
 use Rattle.phase.proofs.Wanting.{make_answer, take_own, take_seen}
 use Rattle.phase.proofs.locks.Taking.{take_stands}
 use Rattle.phase.proofs.Loading.{load_stands}
 use Rattle.phase.proofs.locks.Holding.{learn_may}
 use Rattle.phase.proofs.locks.Giving.{nothing_left, held_has, held_same, give_stands}
-use Rattle.move_op.specs.declared.step.Ending.{Ending}
-use Rattle.move_op.specs.declared.step.Ending.TheVariants as ending
+use Rattle.phase.specs.declared.ending.Ending.{Ending}
+use Rattle.phase.specs.declared.ending.Ending.TheVariants as ending
 use Rattle.move_op.specs.declared.step.Direction.{Direction}
 use Rattle.move_op.specs.declared.step.Shift.{Shift}
 use Rattle.move_op.specs.declared.step.MoveStep.{MoveStep}
@@ -47,7 +42,7 @@ use Rattle.move_op.specs.declared.step.MoveStep.TheVariants as step
 use Rattle.move_op.specs.declared.op.MoveOp.{MoveOp}
 use Rattle.move_op.specs.Shifts.{target_of, record_of}
 use Rattle.move_op.specs.Steps.{go, giving, give, locked_to, filled_to, lock_of, lock_at, wanted_in, next_in}
-use Rattle.move_op.specs.Fits.{kind_at, IsGiving, IsDrawing, SuitsStep, MayMakeRoom}
+use Rattle.move_op.specs.Fits.{kind_at, IsGiving, IsDrawing, SuitsStep}
 use Rattle.move_op.proofs.keeping.Going.{giving_suits, give_suits, keeps_gives, locked_suits, learnt_but, filled_suits}
 use Rattle.move_op.proofs.keeping.Entering.{reply_at, giving_outcome, taken_quiet, filled_quiet}
 use Rattle.move_op.proofs.keeping.Storing.{Goes, make_goes}
@@ -116,49 +111,44 @@ module _ (site : Site) (kept : Kept) (before v : View) where
       )
 
 -- ---- a bucket
-module _ (site : Site) (here : Here) (call : Call) (kept : Kept) (may : MayMakeRoom site here call kept) (words : Words) (views : List View) (j : ℕ) (before v : View) (h : Holds site words views) (at : At views j v) where
-  structure : HasStructure site.shape site.front words
-  structure = h.media.structure words (λ i within. inl refl)
+pub fill_guard : (site : Site) (kept : Kept) (v : View) (d : Direction) (load : Load) → SuitsStep site kept (Fill d load) v → IsGuarded v.held (lock_of kept (target_of d) + load.next % 32)
+fill_guard site kept v d load suits = learn_may site (lock_of kept (target_of d)) load v suits.2 (held_has kept.site kept.hash kept.segment kept.held (target_of d) v suits.0.locks suits.0.third)
 
-  table : IsTable site.shape words
-  table = h.media.table words (λ i within. inl refl)
-
-  pub fill_guard : (d : Direction) (load : Load) → SuitsStep site kept (Fill d load) v → IsGuarded v.held (lock_of kept (target_of d) + load.next % 32)
-  fill_guard d load suits = learn_may site (lock_of kept (target_of d)) load v suits.2 (held_has kept.site kept.hash kept.segment kept.held (target_of d) v suits.0.locks suits.0.third)
+module _ (site : Site) (kept : Kept) (words : Words) (views : List View) (j : ℕ) (before v : View) (h : Holds site words views) (at : At views j v) where
+  new : IsNewest site v words
+  new = newest_is site words views j v h at
 
   -- what is known then is the newest
   learnt_newest : (d : Direction) (load : Load) (n : ℕ) → n ≡ words (lock_of kept (target_of d) + load.next % 32)
       → (i x : ℕ) → Has (i, x) (view_after site.shape (kind_at kept (Fill d load)) n v).known → words i ≡ x
   learnt_newest d load n found i x has = elim has [
     | inl e ↦ ap (λ (p : ℕ × ℕ). words p.0) e ∙ sym found ∙ sym (ap (λ (p : ℕ × ℕ). p.1) e)
-    | inr old ↦ (h.known.knows j v i x at old).0
+    | inr old ↦ new.knows i x old
   ]
 
   fill_goes : HasNoMore before v → (d : Direction) (load : Load) (n : ℕ) → n ≡ words (lock_of kept (target_of d) + load.next % 32) → SuitsStep site kept (Fill d load) v
-      → ((ws : List ℕ) → load_taken load n ≡ loaded.All ws → (place : Place) → AreWords (words_in (with_words (target_of d) ws kept.buckets) place))
       → Goes site before (filled_to kept d (load_taken load n)) (view_after site.shape (kind_at kept (Fill d load)) n v)
-  fill_goes same d load n found suits all =
+  fill_goes same d load n found suits =
       let u : View = view_after site.shape (kind_at kept (Fill d load)) n v in
       let o : MoveOp = filled_to kept d (load_taken load n) in (
-        filled_suits site h.site_is may.straight may.single words structure table kept d u
-            (learnt_but site kept d (lock_of kept (target_of d) + load.next % 32) n v suits.0 (fill_guard d load suits)) suits.1 (load_taken load n)
-            (load_stands (lock_of kept (target_of d)) v.known load n suits.2) all (learnt_newest d load n found),
+        filled_suits site words new.table kept d u
+            (learnt_but site kept d (lock_of kept (target_of d) + load.next % 32) n v suits.0 (fill_guard site kept v d load suits)) suits.1 (load_taken load n)
+            (load_stands (lock_of kept (target_of d)) v.known load n suits.2) (learnt_newest d load n found) new.own,
         none_more (call_of o.kept.change) before v (reply_at o.step) u (filled_quiet kept d (load_taken load n)) same refl refl,
       )
 
   -- ---- any of them
   pub step_in : (s : MoveStep) (n : ℕ) → n < 2 ^ 64 → n ≡ words (word_of site.shape (wanted_in kept s)) → SuitsStep site kept s v
-      → ((d : Direction) (load : Load) → s ≡ Fill d load → (ws : List ℕ) → load_taken load n ≡ loaded.All ws → (place : Place) → AreWords (words_in (with_words (target_of d) ws kept.buckets) place))
       → EntersReply (call_of kept.change) (reply_at s) before v → wanted_in kept s ≢ want.Done
       → Goes site before (next_in kept s (answer_to (wanted_in kept s) n)) (view_after site.shape (kind_at kept s) n v)
-  step_in (Lock d t) n low found suits all enters asks = lock_goes site kept before v enters d t n low suits
-  step_in (Fill d load) n low found suits all enters asks = fill_goes enters d load n found suits (all d load refl)
-  step_in CountSpent n low found suits all enters asks = spent_goes site kept before v enters (keeps_gives site kept v suits.0) n
-  step_in (step.Make shift leg m) n low found suits all enters asks =
+  step_in (Lock d t) n low found suits enters asks = lock_goes site kept before v enters d t n low suits
+  step_in (Fill d load) n low found suits enters asks = fill_goes enters d load n found suits
+  step_in CountSpent n low found suits enters asks = spent_goes site kept before v enters (keeps_gives site kept v suits.0) n
+  step_in (step.Make shift leg m) n low found suits enters asks =
       subst (λ (a : Ans). Goes site before (next_in kept (step.Make shift leg m) a) (view_after site.shape (kind_at kept (step.Make shift leg m)) n v)) (sym (make_answer (lock_at kept shift leg) (record_of shift leg) m n))
       (make_goes site kept shift before v enters n leg m suits)
-  step_in (Draw shift) n low found suits all enters asks = draw_goes site kept before v enters shift suits n
-  step_in (Give held end) n low found suits all enters asks =
+  step_in (Draw shift) n low found suits enters asks = draw_goes site kept before v enters shift suits n
+  step_in (Give held end) n low found suits enters asks =
       subst (λ (a : Ans). Goes site before (next_in kept (Give held end) a) (view_after site.shape (kind_at kept (Give held end)) n v)) (sym (give_answer kept.site kept.hash kept.segment (give_next held) n))
       (give_goes site kept before v held end n suits enters)
-  step_in (Ended end) n low found suits all enters asks = absurd (asks refl)
+  step_in (Ended end) n low found suits enters asks = absurd (asks refl)

@@ -5,6 +5,7 @@ use Rattle.std.proofs.lemmas.Bool.{eq-eqb}
 use Rattle.bucket_meta.specs.Bucket.{record_slots}
 use Rattle.map_model.specs.Changes.{call_of}
 use Rattle.world.specs.Site.{Site}
+use Rattle.frame_facts.specs.Facts.{Fact}
 use Rattle.world.specs.Views.{Move, View}
 use Rattle.world.specs.Kinds.{of_other_records, view_after}
 use Rattle.world.specs.Attempts.{HasNoMore, EntersReply}
@@ -15,6 +16,7 @@ use Rattle.phase.specs.declared.make.Make.TheVariants.{Key, Value, Fingers, Flus
 use Rattle.phase.specs.declared.make.Made.TheVariants.{On, Settled}
 use Rattle.phase.specs.declared.kept.Kept.{Kept}
 use Rattle.phase.specs.Makes.{make_taken}
+use Rattle.phase.specs.Stands.{IsThere, Leads}
 use Rattle.phase.specs.Giving.{IsHeld, IsOfHeld}
 use Rattle.phase.specs.Making.{IsStoring, make_kind, IsNew, IsMaking, HasMade, IsButStored, KeepsPlans}
 use Rattle.phase.proofs.Handing.{none_more}
@@ -139,7 +141,8 @@ module _ (site : Site) (kept : Kept) (shift : Shift) (leg : Leg) (before v : Vie
       insert = c.all.insert;
       located = c.all.located;
       hashed = c.all.hashed;
-      leads = c.all.leads;
+      there = subst (λ (facts : List Fact). IsThere site kept.segment facts) (sym (ap (λ (z : View). z.facts) (others m))) c.all.there;
+      leads = subst (λ (pinned : List (ℕ × ℕ)). Leads site kept.hash kept.segment pinned) (sym (ap (λ (z : View). z.pinned) (others m))) c.all.leads;
       locks = make_holds site.shape (leg_kind kept shift leg) (storing kept shift leg) kept.site kept.hash kept.segment kept.held (place_of shift.direction leg) written m n v
           (leg_held site kept shift v c.all leg) (slot_low site kept shift c.all.shifts leg)
           (let one = published_one site kept shift c.all.shifts leg in omega (arith, one)) (let one = published_one site kept shift c.all.shifts leg in omega (arith, one)) c.all.locks;

@@ -1,5 +1,5 @@
 -- A DISPLACEMENT IS A PART of a call.
-use Rattle.std.proofs.Common.{◌≡◌, ◌≢◌, ℕ, ◌^◌, ◌<◌, arith, true, false, Some, List, refl, sym, ap, ◌∙◌, subst}
+use Rattle.std.proofs.Common.{◌≡◌, ◌≢◌, ℕ, ◌^◌, ◌<◌, arith, true, false, Some, refl, sym, ap, ◌∙◌, subst}
 use Rattle.std.proofs.lemmas.Option.{none-some}
 use Rattle.op_core.specs.declared.want.Want.{Want}
 use Rattle.op_core.specs.declared.want.Want.TheVariants as want
@@ -20,29 +20,24 @@ use Rattle.part.specs.Asks.{IsWithin}
 use Rattle.part.specs.Outcomes.{finished, reply_of}
 use Rattle.part.specs.Part.{KeepsSuits, PlansItsCall, IsPart}
 use Rattle.phase.specs.declared.place.Place.{Place}
-use Rattle.phase.specs.declared.load.Load.{Load}
-use Rattle.phase.specs.declared.load.Loaded.TheVariants as loaded
 use Rattle.phase.specs.declared.kept.Kept.{Kept}
 use Rattle.phase.specs.AreWords.{AreWords}
 use Rattle.phase.specs.Keeps.{KeepsAll, HoldsThirds}
-use Rattle.phase.specs.Buckets.{with_words, words_in}
-use Rattle.phase.specs.Loads.{load_taken}
-use Rattle.phase.proofs.Wanting.{HasFlush, is_fence}
-use Rattle.phase.proofs.Wording.{AreLoaded, load_words, put_words}
+use Rattle.phase.specs.Buckets.{words_in}
+use Rattle.phase.proofs.Wanting.{HasFlush, is_fence, Cuts}
 use Rattle.phase.proofs.locks.Taking.{take_fits}
 use Rattle.phase.proofs.locks.Giving.{give_stands}
 use Rattle.phase.proofs.locks.Making.{make_fits}
 use Rattle.move_op.specs.declared.step.MoveEnd.{MoveEnd}
 use Rattle.move_op.specs.declared.step.MoveEnd.TheVariants as ends
-use Rattle.move_op.specs.declared.step.Ending.{Ending}
-use Rattle.move_op.specs.declared.step.Ending.TheVariants as ending
-use Rattle.move_op.specs.declared.step.Direction.{Direction}
+use Rattle.phase.specs.Makes.{brought}
+use Rattle.phase.proofs.Handing.{not_finished}
 use Rattle.move_op.specs.declared.step.MoveStep.{MoveStep}
 use Rattle.move_op.specs.declared.step.MoveStep.TheVariants.{Lock, Fill, CountSpent, Draw, Give, Ended}
 use Rattle.move_op.specs.declared.step.MoveStep.TheVariants as step
-use Rattle.move_op.specs.Shifts.{target_of, new_value, record_of}
-use Rattle.move_op.specs.Steps.{lock_of, lock_at, wanted, taken, wanted_in, next_in, end_of, is_without_move}
-use Rattle.move_op.specs.Fits.{leg_kind, kind_at, SuitsStep, HasWordsAt, MayMakeRoom, MoveStands, outcome_of, outcome_at}
+use Rattle.move_op.specs.Shifts.{target_of, record_of}
+use Rattle.move_op.specs.Steps.{lock_of, lock_at, wanted, taken, wanted_in, next_in, is_without_move}
+use Rattle.move_op.specs.Fits.{leg_kind, kind_at, SuitsStep, MayMakeRoom, MoveStands, outcome_of, outcome_at}
 use Rattle.move_op.specs.MovePart.{move_part, MoveBeginsAsPart, MoveBeginsUndecided, MoveNeverFinished}
 use Rattle.move_op.proofs.Falling.{move_falls, most_at}
 use Rattle.move_op.proofs.Permitting.{may_in}
@@ -50,7 +45,7 @@ use Rattle.move_op.proofs.keeping.Storing.{storing}
 use Rattle.move_op.proofs.keeping.Stepping.{step_in}
 use Rattle.move_op.proofs.parts.Wording.{words_after, same_after}
 use Rattle.move_op.proofs.parts.Putting.{puts_word, asks_within}
-use Rattle.move_op.proofs.parts.Parting.{Cuts, makes_in, stays_in, done_in, bare_in, few_in, flush_in, keeps_in, none_waits, on_in, planned_in}
+use Rattle.move_op.proofs.parts.Parting.{makes_in, stays_in, done_in, bare_in, few_in, flush_in, keeps_in, none_waits, on_in, planned_in}
 
 -- ---- EACH STEP
 -- the event is that of its kind
@@ -62,13 +57,6 @@ wants_in site kept shape v (step.Make shift leg m) suits asks = make_fits.wants 
 wants_in site kept shape v (Draw shift) suits asks = refl
 wants_in site kept shape v (Give held end) suits asks = give_stands.wants site.shape kept.site kept.hash kept.segment held v suits.locks asks
 wants_in site kept shape v (Ended end) suits asks = absurd (asks refl)
-
--- the words of a bucket that is loaded whole
-loads_whole : (kept : Kept) (all : (p : Place) → AreWords (words_in kept.buckets p)) (s : MoveStep) (n : ℕ) → n < 2 ^ 64 → HasWordsAt s → (d : Direction) (load : Load) → s ≡ Fill d load
-    → (ws : List ℕ) → load_taken load n ≡ loaded.All ws → (p : Place) → AreWords (words_in (with_words (target_of d) ws kept.buckets) p)
-loads_whole kept all s n small has d load e ws f p =
-    let a : AreLoaded (load_taken load n) = load_words load n small (subst HasWordsAt e has) in
-    put_words kept.buckets (target_of d) ws (subst AreLoaded f a) all p
 
 -- where it is located, whatever it does
 shape_of : (site : Site) (kept : Kept) (v : View) (s : MoveStep) → SuitsStep site kept s v → wanted_in kept s ≢ want.Done → kept.site.geometry ≡ site.shape
@@ -86,10 +74,8 @@ goes_on : (site : Site) (here : Here) (call : Call) (kept next : Kept) → MayMa
 goes_on site here call kept next may change at all = record {
   same = ap call_of change ∙ may.same;
   at = at ∙ may.at;
-  straight = may.straight;
-  single = may.single;
   key = subst (λ (c : Change). c.key < 2 ^ 64) (sym change) may.key;
-  value = subst (λ (c : Change). new_value c.deed < 2 ^ 64) (sym change) may.value;
+  value = subst (λ (c : Change). brought c.deed < 2 ^ 64) (sym change) may.value;
   buckets = all;
 }
 
@@ -102,10 +88,10 @@ steps site here call words views j op before v h at s asks =
     let u : View = view_after site.shape (kind_at kept op.step) n v in
     let enters = subst (λ c. EntersReply c (reply_of (outcome_at op.step)) before v) (sym st.may.same) s.enters in
     let same = same_after kept op.step a in
-    let goes = λ (small : n < 2 ^ 64). step_in site here call kept st.may words views j before v h at op.step n small refl st.view (loads_whole kept st.may.buckets op.step n small st.load) enters asks in
+    let goes = λ (small : n < 2 ^ 64). step_in site kept words views j before v h at op.step n small refl st.view enters asks in
     record {
       wants = wants_in site kept (shape_of site kept v op.step st.view asks) v op.step st.view asks;
-      may = may_in site here call kept st.may words views j before v h at op.step st.view asks;
+      may = may_in site here call kept st.may v op.step st.view asks;
       stands = λ small. let all = words_after kept st.may.buckets op.step a (is_word (wanted op) n small) st.load in record {
         may = goes_on site here call kept (taken op a).kept st.may same.0 same.1 all.0;
         load = all.1;
@@ -175,12 +161,8 @@ finishes ends.NoMove is = absurd (cc)
 finishes (ends.Again why) is = absurd (cc)
 finishes ends.Off is = absurd (cc)
 
-given_finishes : (end : Ending) → outcome_of (end_of end) ≡ Some finished → ⊥
-given_finishes (ending.Replied answer place) is = absurd (cc)
-given_finishes (ending.Again why) is = absurd (cc)
-
 never_in : (s : MoveStep) → outcome_at s ≡ Some finished → ⊥
-never_in (Give held end) some = given_finishes end some
+never_in (Give held end) some = not_finished end some
 never_in (Ended end) some = finishes end some
 never_in s some = none-some finished some
 

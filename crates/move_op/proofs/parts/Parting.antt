@@ -1,6 +1,6 @@
 -- The laws of a part that speak of a displacement alone: its one store, its end, and the lines that wait.
 use Rattle.std.proofs.Common.{◌≡◌, ℕ, ◌+◌, ◌≤◌, Bool, true, false, Option, None, Some, [], refl, ap, subst, arith}
-use Rattle.std.specs.Prelude.{⊤, nat_lt, if◌then◌else◌}
+use Rattle.std.specs.Prelude.{nat_lt, if◌then◌else◌}
 use Rattle.op_core.specs.declared.want.Want.TheVariants as want
 use Rattle.op_core.specs.declared.want.Ans.{Ans}
 use Rattle.op_core.specs.declared.want.Ans.TheVariants.{Passed, Drawn}
@@ -9,33 +9,27 @@ use Rattle.map_model.specs.declared.call.Call.{Call}
 use Rattle.map_model.specs.declared.entry.Reply.{Reply}
 use Rattle.map_model.specs.declared.entry.Reply.TheVariants as reply
 use Rattle.map_model.specs.Changes.{call_of}
-use Rattle.world.specs.declared.site.Site.{Site as Here}
 use Rattle.world.specs.Site.{Site}
 use Rattle.world.specs.Views.{View, Has}
 use Rattle.world.specs.Wants.{answer_to}
-use Rattle.world.specs.Kinds.{Kind, cuts_power}
 use Rattle.world.specs.Pairs.{IsPublishingKind}
 use Rattle.world.specs.Attempts.{HoldsOnly, EntersReply}
 use Rattle.part.specs.Outcomes.{IsDone, replied, reply_of}
 use Rattle.phase.specs.declared.place.Place.{Place}
-use Rattle.phase.specs.declared.take.Take.{Take}
-use Rattle.phase.specs.declared.take.Take.TheVariants.{Look, Try}
 use Rattle.phase.specs.declared.make.Make.{Make}
 use Rattle.phase.specs.declared.make.Make.TheVariants as make
 use Rattle.phase.specs.declared.make.Made.TheVariants as made
 use Rattle.phase.specs.declared.held.Held.{Held}
 use Rattle.phase.specs.declared.kept.Kept.{Kept}
 use Rattle.phase.specs.Helds.{give_next, given}
-use Rattle.phase.specs.Taking.{take_kind}
-use Rattle.phase.specs.Giving.{give_kind_of}
 use Rattle.phase.specs.Making.{waiting_of}
-use Rattle.phase.proofs.Wanting.{no, HasFlush, HasFence, take_no_flush, give_no_flush, few_waiting}
+use Rattle.phase.proofs.Wanting.{no, HasFlush, HasFence, take_no_flush, give_no_flush, few_waiting, Cuts, take_on, give_on, plain_take, plain_give}
 use Rattle.phase.proofs.locks.Giving.{give_stands}
-use Rattle.phase.proofs.Handing.{done_is, none_has, one_has}
+use Rattle.phase.proofs.Handing.{done_is, none_has, one_has, done_then}
 use Rattle.move_op.specs.declared.step.MoveEnd.{MoveEnd}
 use Rattle.move_op.specs.declared.step.MoveEnd.TheVariants as ends
-use Rattle.move_op.specs.declared.step.Ending.{Ending}
-use Rattle.move_op.specs.declared.step.Ending.TheVariants as ending
+use Rattle.phase.specs.declared.ending.Ending.{Ending}
+use Rattle.phase.specs.declared.ending.Ending.TheVariants as ending
 use Rattle.move_op.specs.declared.step.Shift.{Shift}
 use Rattle.move_op.specs.declared.step.Leg.{Leg}
 use Rattle.move_op.specs.declared.step.Leg.TheVariants.{Copy, Clear, Insert}
@@ -49,18 +43,6 @@ use Rattle.move_op.specs.Fits.{kind_at, planned_at, SuitsStep, outcome_of, outco
 use Rattle.move_op.proofs.Over.{over_done}
 
 -- ---- the one store
--- a kind that makes no change
-abbrev IsPlain : Kind → Type 0
-IsPlain k = IsPublishingKind k → ⊥
-
-plain_take : (lock : ℕ) (t : Take) → IsPlain (take_kind lock t)
-plain_take lock Look p = p
-plain_take lock (Try free) p = p
-
-plain_give : (here : Here) (hash segment : ℕ) (next : Option (Place × ℕ)) → IsPlain (give_kind_of here hash segment next)
-plain_give here hash segment (Some next) p = p
-plain_give here hash segment None p = p
-
 module _ (kept : Kept) where
   abbrev Makes : MoveStep → ℕ → Type 0
   Makes s n = IsPublishingKind (kind_at kept s) → (HasMadeAt s → ⊥) × HasMadeAt (next_in kept s (answer_to (wanted_in kept s) n)).step
@@ -120,13 +102,9 @@ end_done : (end : MoveEnd) → HasMadeAt (Ended end) → (place : ℕ) × (outco
 end_done (ends.Replied answer place) d = (place, ap (λ r. Some (replied r place)) (done_is answer d))
 end_done end d = absurd d
 
-give_done : (end : Ending) (held : Held) → HasMadeAt (Give held end) → (place : ℕ) × (outcome_at (Give held end) ≡ Some (replied reply.Done place))
-give_done (ending.Replied answer place) held d = (place, ap (λ r. Some (replied r place)) (done_is answer d))
-give_done (ending.Again why) held d = absurd d
-
 pub done_in : (kept : Kept) (s : MoveStep) → HasMadeAt s → wanted_in kept s ≡ want.Done → (place : ℕ) × (outcome_at s ≡ Some (replied reply.Done place))
 done_in kept (Ended end) d over = end_done end d
-done_in kept (Give held end) d over = give_done end held d
+done_in kept (Give held end) d over = done_then end d
 done_in kept s d over = absurd (no ((over_done kept s).1 over))
 
 -- ---- ends
@@ -189,15 +167,7 @@ module _ (kept : Kept) where
   none_waits s over = refl
 
 -- ---- the power
-abbrev pub Cuts : Kind → Type 0
-Cuts cuts_power = ⊤
-Cuts k = ⊥
-
 module _ (kept : Kept) where
-  take_on : (lock : ℕ) (t : Take) → Cuts (take_kind lock t) → ⊥
-  take_on lock Look p = p
-  take_on lock (Try free) p = p
-
   make_on : (shift : Shift) (leg : Leg) (m : Make) → Cuts (kind_at kept (step.Make shift leg m)) → ⊥
   make_on shift Copy make.Publish p = p
   make_on shift Clear make.Publish p = p
@@ -211,17 +181,13 @@ module _ (kept : Kept) where
   make_on shift leg make.FlushPublished p = p
   make_on shift leg make.FencePublished p = p
 
-  give_on : (next : Option (Place × ℕ)) → Cuts (give_kind_of kept.site kept.hash kept.segment next) → ⊥
-  give_on (Some next) p = p
-  give_on None p = p
-
   pub on_in : (s : MoveStep) → Cuts (kind_at kept s) → ⊥
   on_in (Lock d t) p = take_on (lock_of kept (target_of d)) t p
   on_in (Fill d load) p = p
   on_in CountSpent p = p
   on_in (step.Make shift leg m) p = make_on shift leg m p
   on_in (Draw shift) p = p
-  on_in (Give held end) p = give_on (give_next held) p
+  on_in (Give held end) p = give_on kept.site kept.hash kept.segment (give_next held) p
   on_in (Ended end) p = p
 
 -- ---- what is planned

@@ -19,7 +19,7 @@ use Rattle.phase.specs.Loads.{load_taken}
 use Rattle.phase.specs.Makes.{make_taken}
 use Rattle.phase.specs.Buckets.{with_words, words_in}
 use Rattle.phase.proofs.Wording.{none_words, AreLoaded, load_words, put_words}
-use Rattle.move_op.specs.declared.step.Ending.{Ending}
+use Rattle.phase.specs.declared.ending.Ending.{Ending}
 use Rattle.move_op.specs.declared.step.Direction.{Direction}
 use Rattle.move_op.specs.declared.step.Direction.TheVariants.{Forward, Backward}
 use Rattle.move_op.specs.declared.step.Shift.{Shift}

@@ -1,4 +1,4 @@
--- The record that is chosen can move: in the newest words it stands right, so its membership bit tells its home.
+-- The record that is chosen can move: in the newest words its segment owns it, so it stands right, and its membership bit tells its home.
 use Rattle.std.proofs.Common.{◌≡◌, ◌⊎◌, ℕ, ◌+◌, ◌*◌, ◌<◌, ◌≤◌, Option, None, Some, inl, inr, refl, sym, ap, ◌∙◌, subst, arith, List, slice_index}
 use Rattle.hash_word.specs.Hash.{home_of, probing_of, previous_of}
 use Rattle.bucket_meta.specs.Bucket.{allocated, member, finger}
@@ -7,19 +7,14 @@ use Rattle.bucket_meta.proofs.Found.{free_at}
 use Rattle.trace.specs.Events.{Words}
 use Rattle.image_layout.specs.Places.{homes}
 use Rattle.sound_image.specs.Records.{key_hash}
-use Rattle.sound_image.proofs.Hashes.{key_hash-fits}
 use Rattle.bucket_words.specs.Hits.{Hit}
-use Rattle.bucket_words.specs.Owners.{HasStructure}
+use Rattle.bucket_words.specs.Owners.{owner_of}
 use Rattle.bucket_words.specs.Standing.{IsRight, IsTable}
-use Rattle.world.specs.Site.{Site, IsSite}
-use Rattle.phase.specs.declared.place.Place.{Place}
+use Rattle.world.specs.Site.{Site}
 use Rattle.phase.specs.declared.kept.Kept.{Kept}
 use Rattle.phase.specs.Places.{bucket_of}
 use Rattle.phase.specs.Buckets.{words_in}
 use Rattle.phase.specs.Giving.{IsLocated}
-use Rattle.phase.specs.Stands.{IsStraight}
-use Rattle.phase.specs.AreWords.{AreWords}
-use Rattle.phase.proofs.Walking.{only_owner}
 use Rattle.phase.proofs.locks.Giving.{bucket_near}
 use Rattle.move_op.specs.declared.step.Direction.{Direction}
 use Rattle.move_op.specs.declared.step.Direction.TheVariants.{Forward, Backward}
@@ -56,8 +51,8 @@ home_is Backward hash g bit is stands = elim stands [
   ]
 ]
 
-module _ (site : Site) (good : IsSite site) (straight : IsStraight site) (single : site.shape.segments ≡ 1) (kept : Kept) (d : Direction) (l : IsLocated site kept.site kept.segment) (all : (place : Place) → AreWords (words_in kept.buckets place))
-    (words : Words) (structure : HasStructure site.shape site.front words) (table : IsTable site.shape words)
+module _ (site : Site) (kept : Kept) (d : Direction) (l : IsLocated site kept.site kept.segment) (words : Words) (table : IsTable site.shape words)
+    (own : (r k : ℕ) → Hit site.shape words kept.segment (bucket_of kept.hash (source_of d)) r k → owner_of site.shape words (key_hash site.shape k) ≡ Some kept.segment)
     (newest : (j : ℕ) → 1 ≤ j → j < 32 → words (at site kept l (source_of d) + j) ≡ slice_index (words_in kept.buckets (source_of d)) j) where
   abbrev source : List ℕ
   source = words_in kept.buckets (source_of d)
@@ -82,8 +77,7 @@ module _ (site : Site) (good : IsSite site) (straight : IsStraight site) (single
     }
 
     right : IsRight site.shape words kept.segment (bucket_of kept.hash (source_of d)) from key
-    right = table.stands kept.segment (bucket_of kept.hash (source_of d)) from key hit
-        (only_owner site good straight single words structure kept.segment (key_hash site.shape key) l.within (key_hash-fits site.shape key ((all (source_of d)).small (4 + 2 * from))))
+    right = table.stands kept.segment (bucket_of kept.hash (source_of d)) from key hit (own from key hit)
 
     can_move : CanMove site kept d from to
     can_move =

@@ -25,10 +25,11 @@ use Rattle.phase.specs.AreWords.{AreWords}
 use Rattle.phase.proofs.locks.Giving.{bucket_near}
 use Rattle.phase.proofs.locks.Finding.{publish_tells}
 use Rattle.phase.proofs.locks.Storing.{place_near, prepares_record}
+use Rattle.phase.specs.Makes.{brought}
 use Rattle.move_op.specs.declared.step.Direction.{Direction}
 use Rattle.move_op.specs.declared.step.Direction.TheVariants.{Forward, Backward}
 use Rattle.move_op.specs.declared.step.Shift.{Shift}
-use Rattle.move_op.specs.Shifts.{source_of, target_of, new_value, shift_at}
+use Rattle.move_op.specs.Shifts.{source_of, target_of, shift_at}
 use Rattle.move_op.specs.Steps.{lock_of}
 use Rattle.move_op.specs.Fits.{with_copy_ready, with_copy, with_clearing, with_insert_ready, with_insert, CanMove}
 use Rattle.move_op.proofs.shifting.Marks.{arrives, copy_stands, insert_stands}
@@ -170,7 +171,7 @@ module _ (site : Site) (kept : Kept) (d : Direction) (from to : ℕ) (l : IsLoca
   insert_meta = ap (λ z. with_insert_ready kept shift (z + 1)) (sym (at_is site kept l (source_of d)))
       ∙ prepares_record.meta site.shape (with_clearing kept shift) kept.segment b from_lock (finger_of kept.hash) shift.insert insert_fits ∙ clear_meta
 
-  pub insert_value : value_in (with_insert_ready kept shift) (at site kept l (source_of d)) from ≡ new_value kept.change.deed
+  pub insert_value : value_in (with_insert_ready kept shift) (at site kept l (source_of d)) from ≡ brought kept.change.deed
   insert_value = ap (λ z. value_in (with_insert_ready kept shift) z from) (sym (at_is site kept l (source_of d)))
       ∙ prepares_record.value site.shape (with_clearing kept shift) kept.segment b from_lock (finger_of kept.hash) shift.insert insert_fits
 
