@@ -5,7 +5,8 @@ use Rattle.phase.specs.declared.take.Take.TheVariants as take
 use Rattle.phase.specs.declared.make.Make.TheVariants.{Key, Value, Fingers, FlushFingers, FlushRecord, FenceRecord, Publish, FlushPublished, FencePublished}
 use Rattle.phase.specs.declared.kept.Kept.{Kept}
 use Rattle.stash_op.specs.declared.step.Seen.{Seen}
-use Rattle.stash_op.specs.declared.step.NoteWord.TheVariants as note
+use Rattle.phase.specs.declared.note.NoteWord.TheVariants as note
+use Rattle.phase.specs.declared.ending.Ending.TheVariants as ending
 use Rattle.stash_op.specs.declared.step.StashStep.{StashStep}
 use Rattle.stash_op.specs.declared.step.StashStep.TheVariants.{Lock, Fill, Note, Draw, CountSpent, Give, Ended}
 use Rattle.stash_op.specs.declared.step.StashStep.TheVariants as step
@@ -15,7 +16,8 @@ use Rattle.stash_op.specs.Ends.{EndsAsSaid}
 
 ends_at : (kept : Kept) (seen : Seen) (at : StashStep) → wanted_in kept seen at ≡ Done → outcome_at at ≡ outcome_of (end_at at)
 ends_at kept seen (Ended end) done = refl
-ends_at kept seen (Give held end) done = refl
+ends_at kept seen (Give held (ending.Replied answer place)) done = refl
+ends_at kept seen (Give held (ending.Again why)) done = refl
 ends_at kept seen (Lock bucket take.Look) done = absurd (let no = done in cc)
 ends_at kept seen (Lock bucket (take.Try free)) done = absurd (let no = done in cc)
 ends_at kept seen (Fill bucket load) done = absurd (let no = done in cc)

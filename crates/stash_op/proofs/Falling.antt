@@ -37,11 +37,11 @@ use Rattle.phase.proofs.Wanting.{load_answered, store_answered, make_answered, g
 use Rattle.stash_op.specs.declared.step.StashBucket.{StashBucket}
 use Rattle.stash_op.specs.declared.step.StashBucket.TheVariants.{First, Second}
 use Rattle.stash_op.specs.declared.step.Seen.{Seen}
-use Rattle.stash_op.specs.declared.step.Ending.{Ending}
-use Rattle.stash_op.specs.declared.step.Ending.TheVariants as ending
+use Rattle.phase.specs.declared.ending.Ending.{Ending}
+use Rattle.phase.specs.declared.ending.Ending.TheVariants as ending
 use Rattle.stash_op.specs.declared.step.NoteWords.{NoteWords}
-use Rattle.stash_op.specs.declared.step.NoteWord.{NoteWord}
-use Rattle.stash_op.specs.declared.step.NoteWord.TheVariants.{Mark, Fingers}
+use Rattle.phase.specs.declared.note.NoteWord.{NoteWord}
+use Rattle.phase.specs.declared.note.NoteWord.TheVariants.{Mark, Fingers}
 use Rattle.stash_op.specs.declared.step.StashStep.{StashStep}
 use Rattle.stash_op.specs.declared.step.StashStep.TheVariants.{Lock, Fill, Note, Draw, CountSpent, Give, Ended}
 use Rattle.stash_op.specs.declared.step.StashStep.TheVariants as step

@@ -6,8 +6,8 @@ use Rattle.phase.specs.Helds.{give_next}
 use Rattle.phase.proofs.Wanting.{IsSome, takes, makes, gives, not_over}
 use Rattle.stash_op.specs.declared.step.NoteWords.{NoteWords}
 use Rattle.stash_op.specs.declared.step.Seen.{Seen}
-use Rattle.stash_op.specs.declared.step.NoteWord.{NoteWord}
-use Rattle.stash_op.specs.declared.step.NoteWord.TheVariants.{Mark, Fingers}
+use Rattle.phase.specs.declared.note.NoteWord.{NoteWord}
+use Rattle.phase.specs.declared.note.NoteWord.TheVariants.{Mark, Fingers}
 use Rattle.stash_op.specs.declared.step.StashEnd.TheVariants as ends
 use Rattle.stash_op.specs.declared.step.StashStep.{StashStep}
 use Rattle.stash_op.specs.declared.step.StashStep.TheVariants.{Lock, Fill, Note, Draw, CountSpent, Give, Ended}

@@ -14,9 +14,10 @@ use Rattle.phase.specs.Takes.{take_taken}
 use Rattle.phase.specs.Loads.{load_taken}
 use Rattle.phase.specs.Makes.{make_taken}
 use Rattle.stash_op.specs.declared.step.Seen.{Seen}
-use Rattle.stash_op.specs.declared.step.Ending.TheVariants as ending
-use Rattle.stash_op.specs.declared.step.NoteWord.{NoteWord}
-use Rattle.stash_op.specs.declared.step.NoteWord.TheVariants.{Mark, Fingers}
+use Rattle.phase.specs.declared.ending.Ending.TheVariants as ending
+use Rattle.phase.specs.declared.note.NoteWord.{NoteWord}
+use Rattle.phase.specs.declared.note.NoteWord.TheVariants.{Mark, Fingers}
+use Rattle.phase.specs.Endings.{outcome_then}
 use Rattle.stash_op.specs.declared.step.Stage.{Stage}
 use Rattle.stash_op.specs.declared.step.StashStep.{StashStep}
 use Rattle.stash_op.specs.declared.step.StashStep.TheVariants.{Lock, Fill, Note, Draw, CountSpent, Give}
@@ -27,7 +28,6 @@ use Rattle.stash_op.specs.Steps.{go, made_to, noted_to, lock_of, next_in}
 use Rattle.stash_op.specs.Fits.{outcome_at}
 use Rattle.stash_op.specs.Replies.{Tells, RepliesAsSeen}
 use Rattle.stash_op.proofs.keeping.Going.{reply_at, giving_outcome, taken_quiet, filled_quiet}
-use Rattle.stash_op.proofs.causing.ByCause.{given_decides}
 
 -- it stands there
 abbrev standing : Kept → Seen → StashStep → StashOp
@@ -64,7 +64,7 @@ replies kept seen Draw (Drawn n) none answer place some =
     subst (As kept seen Draw (Drawn n)) (same_Some (replied reply.Done n) (replied answer place) (sym (giving_outcome seen.held (ending.Replied reply.Done n)) ∙ some)) (refl, refl)
 replies kept seen CountSpent (Value n) none answer place some =
     subst (As kept seen CountSpent (Value n)) (same_Some (replied reply.Spent n) (replied answer place) (sym (giving_outcome seen.held (ending.Replied reply.Spent n)) ∙ some)) (refl, refl)
-replies kept seen (Give held end) a none answer place some = absurd (given_decides end none)
+replies kept seen (Give held end) a none answer place some = absurd (none-some (outcome_then end) (sym none))
 replies kept seen s a none answer place some = absurd (none-some (replied answer place) (sym none ∙ some))
 
 pub replies_as_seen : RepliesAsSeen

@@ -5,6 +5,7 @@ use Rattle.hash_word.specs.Hash.{home_of, finger_of}
 use Rattle.trace.specs.Events.{Words, with_word}
 use Rattle.image_layout.specs.Places.{root_word}
 use Rattle.sound_image.specs.Records.{key_hash, notes_of, word_in}
+use Rattle.way.specs.Ways.{is_leading}
 use Rattle.map_model.specs.declared.call.Call.{Call}
 use Rattle.map_model.specs.declared.entry.Reply.TheVariants as reply
 use Rattle.map_model.specs.Changes.{call_of}
@@ -26,7 +27,7 @@ use Rattle.phase.specs.declared.kept.Kept.{Kept}
 use Rattle.phase.specs.Places.{bucket_of}
 use Rattle.phase.specs.Helds.{with_held, free_of}
 use Rattle.phase.specs.Buckets.{words_in}
-use Rattle.phase.specs.Stands.{IsStraight, Leads, IsLoading}
+use Rattle.phase.specs.Stands.{IsThere, Leads, IsLoading}
 use Rattle.phase.specs.Taking.{take_kind, IsTaking}
 use Rattle.phase.specs.Giving.{IsLocated, IsHeld, IsQuiet, IsOfHeld, HoldsLocks, give_kind}
 use Rattle.phase.specs.Knows.{Knows, HasNoneLoose}
@@ -34,11 +35,13 @@ use Rattle.phase.specs.Making.{make_kind, with_record, with_mark, IsMaking}
 use Rattle.phase.specs.Finding.{words_of, HasLoadedHeld, StandsNowhere}
 use Rattle.phase.specs.Keeps.{IsFull, IsFullHeld, HoldsThirds, KeepsFull}
 use Rattle.phase.specs.AreWords.{AreWords}
+use Rattle.phase.specs.Makes.{brought}
 use Rattle.stash_op.specs.declared.step.StashBucket.{StashBucket}
 use Rattle.stash_op.specs.declared.step.StashBucket.TheVariants.{First, Second}
 use Rattle.stash_op.specs.declared.step.NoteWords.{NoteWords}
-use Rattle.stash_op.specs.declared.step.NoteWord.{NoteWord}
-use Rattle.stash_op.specs.declared.step.NoteWord.TheVariants.{Mark, Fingers}
+use Rattle.phase.specs.declared.note.NoteWord.{NoteWord}
+use Rattle.phase.specs.declared.note.NoteWord.TheVariants.{Mark, Fingers}
+use Rattle.phase.specs.Endings.{outcome_then}
 use Rattle.stash_op.specs.declared.step.StashEnd.{StashEnd}
 use Rattle.stash_op.specs.declared.step.StashEnd.TheVariants as ends
 use Rattle.stash_op.specs.declared.step.Seen.{Seen}
@@ -46,8 +49,8 @@ use Rattle.stash_op.specs.declared.step.StashStep.{StashStep}
 use Rattle.stash_op.specs.declared.step.StashStep.TheVariants.{Lock, Fill, Note, Draw, CountSpent, Give, Ended}
 use Rattle.stash_op.specs.declared.step.StashStep.TheVariants as step
 use Rattle.stash_op.specs.declared.op.StashOp.{StashOp}
-use Rattle.stash_op.specs.Search.{place_of, index_of, note_place, free_slot, brought, record_in, noted, has_finger}
-use Rattle.stash_op.specs.Steps.{lock_of, end_of, kept_in}
+use Rattle.stash_op.specs.Search.{place_of, index_of, note_place, free_slot, record_in, noted, has_finger}
+use Rattle.stash_op.specs.Steps.{lock_of, kept_in}
 
 -- ---- the words of the buckets that are locked
 module _ (kept : Kept) (seen : Seen) where
@@ -116,10 +119,12 @@ module _ (kept : Kept) (seen : Seen) where
 
 -- ---- what is held, known and owed
 module _ (site : Site) (kept : Kept) (seen : Seen) where
-  -- THE LOCKS are held, those of home and probing bucket among them, which are full, and of both third buckets; the words of those of `before` are known, and the key
-  -- stands in none of these
+  -- THE LOCKS are held, those of home and probing bucket among them, which are full, and of both third buckets; the header that is kept
+  -- is pinned; the words of those of `before` are known, and the key stands in none of these
   pub record HasLoaded (before : Held) (v : View) : Type 0 where
-    pub leads : Leads site kept.hash kept.segment
+    pub pinned : Has (kept.segment, kept.head) v.pinned
+    pub there : IsThere site kept.segment v.facts
+    pub leads : Leads site kept.hash kept.segment v.pinned
     pub locks : HoldsLocks kept.site kept.hash kept.segment seen.held v
     pub home : IsHeld before place.Home
     pub probing : IsHeld before place.Probing
@@ -143,7 +148,8 @@ module _ (site : Site) (kept : Kept) (seen : Seen) where
 
   -- from the stores of the record on
   pub record HasAll (v : View) : Type 0 where
-    pub leads : Leads site kept.hash kept.segment
+    pub there : IsThere site kept.segment v.facts
+    pub leads : Leads site kept.hash kept.segment v.pinned
     pub locks : HoldsLocks kept.site kept.hash kept.segment seen.held v
     pub home : IsHeld seen.held place.Home
     pub probing : IsHeld seen.held place.Probing
@@ -225,11 +231,11 @@ module _ (site : Site) (kept : Kept) (seen : Seen) where
   SuitsStep (Give held end) v = IsGiving held v
   SuitsStep (Ended end) v = SuitsEnd end v
 
--- an insert runs in this image, in which no split is under way, and its hash is its key's
+-- an insert runs in this image, its hash is its key's, and the header that it kept leads there
 pub record IsIn (site : Site) (kept : Kept) : Type 0 where
   pub shape : kept.site.geometry ≡ site.shape
-  pub straight : IsStraight site
   pub hash : kept.hash ≡ key_hash site.shape kept.change.key
+  pub leading : is_leading kept.head kept.hash ≡ true
   pub insert : IsInsert (call_of kept.change)
 
 -- what it keeps are words
@@ -261,6 +267,6 @@ outcome_of ends.Off = Some off
 
 -- the locks may still be given back
 abbrev pub outcome_at : StashStep → Option Outcome
-outcome_at (Give held end) = outcome_of (end_of end)
+outcome_at (Give held end) = Some (outcome_then end)
 outcome_at (Ended end) = outcome_of end
 outcome_at more = None

@@ -8,9 +8,9 @@ use Rattle.phase.specs.Giving.{give_left}
 use Rattle.stash_op.specs.declared.step.StashBucket.{StashBucket}
 use Rattle.stash_op.specs.declared.step.StashBucket.TheVariants.{First, Second}
 use Rattle.stash_op.specs.declared.step.StashEnd.TheVariants as ends
-use Rattle.stash_op.specs.declared.step.Ending.TheVariants as ending
-use Rattle.stash_op.specs.declared.step.NoteWord.{NoteWord}
-use Rattle.stash_op.specs.declared.step.NoteWord.TheVariants.{Mark, Fingers}
+use Rattle.phase.specs.declared.note.NoteWord.{NoteWord}
+use Rattle.phase.specs.declared.note.NoteWord.TheVariants.{Mark, Fingers}
+use Rattle.phase.specs.Endings.{HasMadeThen}
 use Rattle.stash_op.specs.declared.step.StashStep.{StashStep}
 use Rattle.stash_op.specs.declared.step.StashStep.TheVariants.{Lock, Fill, Note, Draw, CountSpent, Give, Ended}
 use Rattle.stash_op.specs.declared.step.StashStep.TheVariants as step
@@ -57,6 +57,6 @@ abbrev pub HasMadeAt : StashStep → Type 0
 HasMadeAt (step.Make make) = IsPublished make
 HasMadeAt (Note part) = ⊤
 HasMadeAt Draw = ⊤
-HasMadeAt (Give held (ending.Replied answer place)) = IsDone answer
+HasMadeAt (Give held end) = HasMadeThen end
 HasMadeAt (Ended (ends.Replied answer place)) = IsDone answer
 HasMadeAt more = ⊥

@@ -4,14 +4,13 @@ use Rattle.hash_word.specs.Hash.{finger_of}
 use Rattle.bucket_meta.specs.Search.{lowest_free}
 use Rattle.bucket_meta.specs.Marks.{inserted_mark, finger_place, with_finger}
 use Rattle.bucket_meta.specs.NoteWords.{unused_place, noted_mark, noted_fingers, raised_count}
-use Rattle.map_model.specs.declared.change.Deed.{Deed}
-use Rattle.map_model.specs.declared.change.Deed.TheVariants.{Insert, Update, Remove}
 use Rattle.phase.specs.declared.place.Place.{Place}
 use Rattle.phase.specs.declared.place.Place.TheVariants as place
 use Rattle.phase.specs.declared.kept.Buckets.{Buckets}
 use Rattle.phase.specs.declared.kept.Kept.{Kept}
 use Rattle.phase.specs.declared.make.Record.{Record}
 use Rattle.phase.specs.Buckets.{words_in}
+use Rattle.phase.specs.Makes.{brought}
 use Rattle.stash_op.specs.declared.step.StashBucket.{StashBucket}
 use Rattle.stash_op.specs.declared.step.StashBucket.TheVariants.{First, Second}
 use Rattle.stash_op.specs.declared.step.NoteBucket.{NoteBucket}
@@ -44,12 +43,6 @@ side_of Probing = 1
 -- the lowest free slot of a stash bucket
 abbrev pub free_slot : Buckets → StashBucket → Option ℕ
 free_slot buckets bucket = lowest_free (slice_index (words_in buckets (place_of bucket)) 1)
-
--- the value that a change brings, and 0 where it brings none
-abbrev pub brought : Deed → ℕ
-brought (Insert value) = value
-brought (Update value) = value
-brought Remove = 0
 
 -- what is stored of it in a slot of a bucket with these words; in the stash it has no membership bit
 abbrev pub record_by : Kept → List ℕ → ℕ → Record

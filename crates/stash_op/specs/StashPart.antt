@@ -9,22 +9,25 @@ use Rattle.part.specs.Doings.{Doings}
 use Rattle.part.specs.Outcomes.{finished}
 use Rattle.part.specs.Part.{Part}
 use Rattle.phase.specs.declared.place.Place.{Place}
+use Rattle.phase.specs.declared.place.Place.TheVariants as place
 use Rattle.phase.specs.declared.held.Held.{Held}
 use Rattle.phase.specs.declared.kept.Kept.{Kept}
 use Rattle.phase.specs.Helds.{without_held}
 use Rattle.phase.specs.Buckets.{words_in}
-use Rattle.phase.specs.Stands.{IsStraight, IsLoading}
+use Rattle.phase.specs.Stands.{IsLoading}
 use Rattle.phase.specs.Taking.{RemembersTake}
-use Rattle.phase.specs.Keeps.{KeepsAll, HoldsThirds, KeepsFull, ChangedLocks, RemembersRoom}
+use Rattle.phase.specs.Keeps.{KeepsAll, HoldsThirds, KeepsFull, ChangedLocks, LoadedFull, RemembersRoom}
 use Rattle.phase.specs.AreWords.{AreWords}
 use Rattle.phase.specs.Third.{NothingToMove}
+use Rattle.phase.specs.Makes.{brought}
 use Rattle.stash_op.specs.declared.step.StashBucket.{StashBucket}
+use Rattle.stash_op.specs.declared.step.StashBucket.TheVariants.{First, Second}
 use Rattle.stash_op.specs.declared.step.StashEnd.TheVariants.{NeedSplit}
 use Rattle.stash_op.specs.declared.step.Seen.{Seen}
 use Rattle.stash_op.specs.declared.step.StashStep.{StashStep}
 use Rattle.stash_op.specs.declared.step.StashStep.TheVariants.{Lock, Fill, CountSpent, Ended}
 use Rattle.stash_op.specs.declared.op.StashOp.{StashOp}
-use Rattle.stash_op.specs.Search.{place_of, brought}
+use Rattle.stash_op.specs.Search.{place_of}
 use Rattle.stash_op.specs.Steps.{lock_of, begun, wanted, taken, end_at, needs_split, kept_in, kept_of}
 use Rattle.stash_op.specs.Left.{most_events, left_at, most_waiting, waiting_at, HasMadeAt}
 use Rattle.stash_op.specs.Fits.{kind_at, StashStands, outcome_at}
@@ -38,12 +41,17 @@ module _ (site : Site) (kept : Kept) (seen : Seen) (did : Doings) where
     pub nothing : NothingToMove (kept_in kept seen) did.loads
     pub changed : ChangedLocks (kept_in kept seen) did.changed
 
-  -- a lock word was loaded as free with the last version
+  -- before the second stash bucket is tried, the first one was loaded, and is full by its words
+  abbrev pub HasPassed : StashBucket → Type 0
+  HasPassed First = ⊤
+  HasPassed Second = LoadedFull (kept_in kept seen) did.loads place.First
+
+  -- the lock word of a stash bucket was loaded as free with the last version, when it was tried
   abbrev pub LoadedSpent : Type 0
-  LoadedSpent = (bucket : StashBucket) × Has (lock_of kept (place_of bucket), 2 ^ 64 - 2) did.loads
+  LoadedSpent = (bucket : StashBucket) × HasPassed bucket × Has (lock_of kept (place_of bucket), 2 ^ 64 - 2) did.loads
 
   abbrev pub RemembersIn : StashStep → Type 0
-  RemembersIn (Lock bucket take) = RemembersKept seen.held × RemembersTake (lock_of kept (place_of bucket)) did.loads take
+  RemembersIn (Lock bucket take) = RemembersKept seen.held × RemembersTake (lock_of kept (place_of bucket)) did.loads take × HasPassed bucket
   RemembersIn (Fill bucket load) = RemembersKept (without_held (place_of bucket) seen.held) × IsLoading (lock_of kept (place_of bucket)) did.loads load
   RemembersIn CountSpent = RemembersKept seen.held × LoadedSpent
   RemembersIn (Ended (NeedSplit segment)) = RemembersKept seen.held
@@ -69,11 +77,10 @@ stash_part = record {
 
 -- ---- where it begins
 -- what it may go on from: an insert of the call, of a key and a value that are words, whose buckets' words are words, with the locks of
--- both third buckets, in an image in which no split is under way
+-- both third buckets
 pub record MayBeStashed (site : Site) (here : Here) (call : Call) (kept : Kept) : Type 0 where
   pub same : call_of kept.change ≡ call
   pub at : kept.site ≡ here
-  pub straight : IsStraight site
   pub key : kept.change.key < 2 ^ 64
   pub value : brought kept.change.deed < 2 ^ 64
   pub buckets : (place : Place) → AreWords (words_in kept.buckets place)

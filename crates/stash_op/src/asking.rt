@@ -1,27 +1,18 @@
 //! What is wanted in each step.
 
-ghost use Rattle.std.specs.Prelude.{◌≡◌, ◌≤◌};
-ghost use Rattle.image_layout.specs.Places.{most_words};
-ghost use Rattle.stash_op.specs.Steps.{lock_of, note_wanted, wanted_in};
+ghost use Rattle.std.specs.Prelude.{◌≡◌};
+ghost use Rattle.stash_op.specs.Steps.{note_wanted, wanted_in};
 
 use crate::search::{note_place, noted, place_of};
-use crate::step::{NoteWord, NoteWords, Seen, StashStep};
+use crate::step::{NoteWords, Seen, StashStep};
 use op_core::Want;
-use phase::{Kept, Place, give_want, load_want, lock_word, make_want, take_want};
-
-/// The lock word of a bucket.
-pub fn lock_of(kept: &Kept, place: Place) -> u64
-    ensures is { result ≡ lock_of kept.now place }
-    ensures most { result ≤ most_words }
-{
-    lock_word(&kept.site, kept.hash, kept.segment, place)
-}
+use phase::{Kept, NoteWord, give_want, load_want, make_want, take_want};
 
 /// The store of a word of the note.
 fn want_note(kept: &Kept, part: NoteWord, note: &NoteWords) -> Want
     ensures { result ≡ note_wanted kept.now part note.now }
 {
-    let lock = lock_of(kept, note_place(note.bucket));
+    let lock = kept.lock_of(note_place(note.bucket));
     match part {
         NoteWord::Mark => Want::Store(lock + 1, note.mark),
         NoteWord::Fingers => Want::Store(lock + 3, note.fingers),
@@ -33,10 +24,10 @@ pub fn want_of(kept: &Kept, seen: &Seen, step: &StashStep) -> Want
     ensures { result ≡ wanted_in kept.now seen.now step.now }
 {
     match step {
-        StashStep::Lock(bucket, take) => take_want(lock_of(kept, place_of(*bucket)), take),
-        StashStep::Fill(bucket, load) => load_want(lock_of(kept, place_of(*bucket)), load),
+        StashStep::Lock(bucket, take) => take_want(kept.lock_of(place_of(*bucket)), take),
+        StashStep::Fill(bucket, load) => load_want(kept.lock_of(place_of(*bucket)), load),
         StashStep::Make(make) => make_want(
-            lock_of(kept, place_of(seen.bucket)),
+            kept.lock_of(place_of(seen.bucket)),
             &seen.written,
             *make,
         ),

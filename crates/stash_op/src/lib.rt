@@ -15,9 +15,7 @@ mod taking;
 
 pub use laws::{ends_tell, replies_are_as_seen, stashes_are_parts};
 pub use op::StashOp;
-pub use step::{
-    Ending, NoteBucket, NoteWord, NoteWords, Seen, Stage, StashBucket, StashEnd, StashStep,
-};
+pub use step::{NoteBucket, NoteWords, Seen, Stage, StashBucket, StashEnd, StashStep};
 
 #[cfg(test)]
 mod tests;

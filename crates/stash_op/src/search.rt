@@ -1,7 +1,7 @@
 //! What the loaded words say: where a stash bucket has a free slot, what is stored of the record, and what of its note.
 
 ghost use Rattle.std.specs.Prelude.{◌≡◌};
-ghost use Rattle.stash_op.specs.Search.{place_of, index_of, note_place, side_of, free_slot, brought, record_in, noted_or, noted_by, noted, has_finger};
+ghost use Rattle.stash_op.specs.Search.{place_of, index_of, note_place, side_of, free_slot, record_in, noted_or, noted_by, noted, has_finger};
 
 use crate::step::{NoteBucket, NoteWords, Seen, StashBucket};
 use bucket_meta::words::{
@@ -9,8 +9,7 @@ use bucket_meta::words::{
     unused_place, with_finger,
 };
 use hash_word::finger;
-use map_model::Deed;
-use phase::{Buckets, Kept, Place, Record};
+use phase::{Buckets, Kept, Place, Record, brought};
 
 // ---- buckets
 
@@ -62,16 +61,6 @@ pub fn free_slot(buckets: &Buckets, bucket: StashBucket) -> Option<u8>
 {
     let words = buckets.of(place_of(bucket));
     lowest_free(words[1])
-}
-
-/// The value that a change brings, and 0 where it brings none.
-fn brought(deed: Deed) -> u64
-    ensures { result ≡ brought deed }
-{
-    match deed {
-        Deed::Insert(value) | Deed::Update(value) => value,
-        Deed::Remove => 0,
-    }
 }
 
 /// What is stored of the record in a slot of a stash bucket: no membership bit.

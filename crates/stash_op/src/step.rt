@@ -2,7 +2,7 @@
 
 use map_model::Reply;
 use op_core::Why;
-use phase::{Buckets, Held, Load, Make, Record, Take};
+use phase::{Buckets, Ending, Held, Load, Make, NoteWord, Record, Take};
 
 /// One of the two stash buckets of a segment, in the order in which they are looked at.
 #[derive(Clone, Copy, Debug, PartialEq, Eq)]
@@ -33,15 +33,6 @@ pub struct NoteWords {
     pub fingers: u64,
 }
 
-/// Which of the words of a note is to be stored next.
-#[derive(Clone, Copy, Debug, PartialEq, Eq)]
-pub enum NoteWord {
-    /// The metadata word.
-    Mark,
-    /// The word behind it that has the fingerprint of the note.
-    Fingers,
-}
-
 /// How an attempt ended that put a record into the stash.
 #[derive(Clone, Copy, Debug, PartialEq, Eq)]
 pub enum StashEnd {
@@ -53,15 +44,6 @@ pub enum StashEnd {
     Again(Why),
     /// The power is off.
     Off,
-}
-
-/// How an attempt is to end once all its locks are given back.
-#[derive(Clone, Copy, Debug, PartialEq, Eq)]
-pub enum Ending {
-    /// It is answered, with its place.
-    Replied(Reply, u64),
-    /// It is to be made again.
-    Again(Why),
 }
 
 /// What was seen so far, and which locks are held.

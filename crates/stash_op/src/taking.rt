@@ -3,13 +3,13 @@
 ghost use Rattle.std.specs.Prelude.{◌≡◌};
 ghost use Rattle.stash_op.specs.Steps.{end_of, giving, give, answered, putting, in_second, at_second, in_first, at_first, searched, filled_with, locked_to, made_to, noted_to, next_in, IsElsewhere};
 
-use crate::asking::lock_of;
 use crate::search::{free_slot, has_finger, noted, place_of, record_in};
-use crate::step::{Ending, NoteWord, Seen, Stage, StashBucket, StashEnd, StashStep};
+use crate::step::{Seen, Stage, StashBucket, StashEnd, StashStep};
 use map_model::Reply;
 use op_core::{Ans, Why};
 use phase::{
-    Held, Kept, Load, Made, Make, Take, Taken, give_next, given, load_put, make_next, take_next,
+    Ending, Held, Kept, Load, Made, Make, NoteWord, Take, Taken, give_next, given, load_put,
+    make_next, take_next,
 };
 
 // ---- ends
@@ -190,7 +190,7 @@ fn take_at(kept: &Kept, stage: &mut Stage, ans: Ans)
 {
     match (stage.step, ans) {
         (StashStep::Lock(bucket, take), ans) => {
-            let lock = lock_of(kept, place_of(bucket));
+            let lock = kept.lock_of(place_of(bucket));
             locked_to(stage, bucket, lock, take_next(&take, ans));
         }
         (StashStep::Make(make), Ans::Passed) => {

@@ -9,6 +9,8 @@ use phase::{Buckets, Held, Kept, Place};
 use std::test::Fail;
 use world::Site;
 
+/// The header of a normal segment of version 1 and depth 0.
+const HEAD: u64 = 257;
 /// The commit counter's word.
 const COUNTER: usize = 2208;
 /// The lock words of the home bucket of keys 0 to 255, of their probing bucket, and of both stash buckets.
@@ -30,7 +32,7 @@ fn full() -> Memory {
         other: (u64::MAX, 0, 0),
     };
     for (at, value) in [
-        (65u64, 257),
+        (65u64, HEAD),
         (97, 0x3FFF),
         (98, 0x0E0C_0A08_0604_0200),
         (99, 0x1A18_1614_1210),
@@ -145,6 +147,7 @@ impl Memory {
             },
             hash: key,
             segment: 0,
+            head: HEAD,
             held,
             buckets,
         })

@@ -1,5 +1,5 @@
 -- Each outcome has its cause, beside any other callers; and who is told that a lock is taken does not hold it.
-use Rattle.std.proofs.Common.{◌≡◌, ◌≢◌, ℕ, ◌<◌, Bool, true, false, None, Some, IsTrue, inr, refl, sym, ap, ◌∙◌, subst}
+use Rattle.std.proofs.Common.{◌≡◌, ◌≢◌, ℕ, ◌+◌, ◌<◌, Bool, true, false, None, Some, IsTrue, inr, refl, sym, ap, ◌∙◌, subst, arith, slice_index}
 use Rattle.std.specs.Prelude.{⊤, if◌then◌else◌}
 use Rattle.std.proofs.lemmas.Bool.{lt-ltb}
 use Rattle.std.proofs.lemmas.Option.{none-some, same_Some}
@@ -10,19 +10,21 @@ use Rattle.op_core.specs.declared.want.Ans.TheVariants.{Passed}
 use Rattle.op_core.specs.declared.why.Why.{Why}
 use Rattle.op_core.specs.declared.why.Why.TheVariants.{Busy, Moved}
 use Rattle.trace.specs.Events.{Words}
-use Rattle.image_layout.specs.Places.{Shape, root_word, bucket_at}
+use Rattle.image_layout.specs.Places.{Shape, root_word, bucket_at, homes, stash_buckets}
 use Rattle.sound_image.specs.Records.{key_hash}
 use Rattle.map_model.specs.declared.call.Call.{Call}
 use Rattle.map_model.specs.declared.entry.Reply.{Reply}
 use Rattle.map_model.specs.declared.entry.Reply.TheVariants as reply
 use Rattle.map_model.specs.Map.{key_of}
+use Rattle.map_model.specs.Legal.{IsInsert}
 use Rattle.world.specs.declared.site.Site.{Site as Here}
 use Rattle.world.specs.Site.{Site}
 use Rattle.world.specs.Views.{View, HasLock}
 use Rattle.world.specs.Wants.{answer_to, word_of}
 use Rattle.part.specs.Doings.{Doings, with_event_of}
 use Rattle.part.specs.Outcomes.{Outcome, replied, again, off}
-use Rattle.part.specs.Causes.{IsBucketOf, IsNamed, IsOwnLock, HasReplyCause, HasCause, EndsByCause}
+use Rattle.part.specs.Causes.{WereFullBefore, NeedsBucket, IsNamed, IsOwnLock, HasReplyCause, HasCause, EndsByCause}
+use Rattle.phase.specs.declared.place.Place.TheVariants as place
 use Rattle.phase.specs.declared.take.Take.{Take}
 use Rattle.phase.specs.declared.take.Take.TheVariants.{Look, Try}
 use Rattle.phase.specs.declared.take.Taken.{Taken}
@@ -32,13 +34,13 @@ use Rattle.phase.specs.declared.make.Made.{Made}
 use Rattle.phase.specs.declared.make.Made.TheVariants as made
 use Rattle.phase.specs.declared.held.Held.{Held}
 use Rattle.phase.specs.declared.kept.Kept.{Kept}
-use Rattle.phase.specs.Places.{bucket_of, is_third}
+use Rattle.phase.specs.Places.{bucket_of}
 use Rattle.phase.specs.Helds.{free_of, given}
 use Rattle.phase.specs.Takes.{take_wanted, take_taken}
 use Rattle.phase.specs.Loads.{load_taken}
 use Rattle.phase.specs.Makes.{make_taken}
 use Rattle.phase.specs.Taking.{HasTakeCause}
-use Rattle.phase.proofs.Asked.{bucket_is}
+use Rattle.phase.proofs.Needing.{first_before, second_before, was_full, stash_needed}
 use Rattle.phase.proofs.Causing.{found_named}
 use Rattle.phase.proofs.Handing.{key_called}
 use Rattle.phase.proofs.locks.Taking.{take_caused}
@@ -47,36 +49,36 @@ use Rattle.phase.proofs.Wanting.{no}
 use Rattle.stash_op.specs.declared.step.StashBucket.{StashBucket}
 use Rattle.stash_op.specs.declared.step.StashBucket.TheVariants.{First, Second}
 use Rattle.stash_op.specs.declared.step.Seen.{Seen}
-use Rattle.stash_op.specs.declared.step.Ending.{Ending}
-use Rattle.stash_op.specs.declared.step.Ending.TheVariants as ending
-use Rattle.stash_op.specs.declared.step.NoteWord.{NoteWord}
-use Rattle.stash_op.specs.declared.step.NoteWord.TheVariants.{Mark, Fingers}
+use Rattle.phase.specs.declared.ending.Ending.TheVariants as ending
+use Rattle.phase.specs.declared.note.NoteWord.{NoteWord}
+use Rattle.phase.specs.declared.note.NoteWord.TheVariants.{Mark, Fingers}
+use Rattle.phase.specs.Endings.{outcome_then}
 use Rattle.stash_op.specs.declared.step.StashEnd.{StashEnd}
 use Rattle.stash_op.specs.declared.step.StashEnd.TheVariants as ends
 use Rattle.stash_op.specs.declared.step.StashStep.{StashStep}
 use Rattle.stash_op.specs.declared.step.StashStep.TheVariants.{Lock, Fill, Note, Draw, CountSpent, Give, Ended}
 use Rattle.stash_op.specs.declared.step.StashStep.TheVariants as step
 use Rattle.stash_op.specs.declared.step.Stage.{Stage}
-use Rattle.stash_op.specs.Search.{place_of, noted, has_finger}
-use Rattle.stash_op.specs.Steps.{go, end_of, giving, locked_to, made_to, noted_to, lock_of, wanted_in, next_in, wanted, taken, is_over, needs_split}
+use Rattle.stash_op.specs.Search.{place_of, index_of, noted, has_finger}
+use Rattle.stash_op.specs.Steps.{go, giving, locked_to, made_to, noted_to, lock_of, wanted_in, next_in, wanted, taken, is_over, needs_split, end_of, kept_in}
 use Rattle.stash_op.specs.Fits.{SuitsStep, IsIn, outcome_of, outcome_at}
-use Rattle.stash_op.specs.StashPart.{RemembersKept, RemembersIn, stash_part}
+use Rattle.stash_op.specs.StashPart.{RemembersKept, HasPassed, RemembersIn, stash_part}
 use Rattle.stash_op.proofs.Over.{over_done, full}
 use Rattle.stash_op.proofs.parts.Parted.{never_finished}
 use Rattle.stash_op.proofs.finding.Standing.{located}
 use Rattle.stash_op.proofs.keeping.Going.{giving_outcome, filled_quiet}
 use Rattle.stash_op.proofs.causing.Recalling.{recalls_next}
 
-near : (b : StashBucket) → is_third (place_of b) ≡ false
-near First = refl
-near Second = refl
+index_low : (b : StashBucket) → index_of b < stash_buckets
+index_low First = omega arith
+index_low Second = omega arith
 
-pub given_decides : (end : Ending) → outcome_of (end_of end) ≡ None → ⊥
-given_decides (ending.Replied answer place) none = none-some (replied answer place) (sym none)
-given_decides (ending.Again why) none = none-some (again why) (sym none)
+bucket_is : (hash : ℕ) (b : StashBucket) → bucket_of hash (place_of b) ≡ homes + index_of b
+bucket_is hash First = refl
+bucket_is hash Second = refl
 
 -- ---- in a world, for the caller with this view
-module _ (site : Site) (kept : Kept) (is : IsIn site kept) (words : Words) (seen : Seen) (v : View) (did : Doings) (call : Call) (hash_is : kept.hash ≡ key_hash kept.site.geometry (key_of call)) where
+module _ (site : Site) (kept : Kept) (is : IsIn site kept) (words : Words) (seen : Seen) (v : View) (did : Doings) (call : Call) (hash_is : kept.hash ≡ key_hash kept.site.geometry (key_of call)) (insert : IsInsert call) where
   abbrev g : Shape
   g = kept.site.geometry
 
@@ -113,16 +115,25 @@ module _ (site : Site) (kept : Kept) (is : IsIn site kept) (words : Words) (seen
   gives_reply : (event : Want) (held : Held) (r : Reply) (place : ℕ) → HasReplyCause g words did call r → CausedIf event (giving held (ending.Replied r place))
   gives_reply event held r place cause = so event (giving held (ending.Replied r place)) (replied r place) (giving_outcome held (ending.Replied r place)) (cause, tt)
 
-  -- ---- the lock of a stash bucket is one of the call's
+  -- ---- a stash bucket is needed where its lock is taken
   module _ (r : RemembersKept site kept seen did seen.held) (within : kept.segment < g.segments) where
-    own_lock : (b : StashBucket) → IsOwnLock g words did call (lock_of kept (place_of b))
-    own_lock b = (
+    before : (b : StashBucket) → HasPassed site kept seen did b → WereFullBefore g kept.hash did.loads kept.segment (index_of b)
+    before First passed = first_before g kept.hash did.loads kept.segment within
+    before Second passed =
+        second_before g kept.hash did.loads kept.segment within (slice_index seen.buckets.first 1) (was_full (kept_in kept seen) did.loads within place.First passed)
+
+    needed : (b : StashBucket) → HasPassed site kept seen did b → NeedsBucket g kept.hash did.loads kept.segment call (homes + index_of b)
+    needed b passed = stash_needed (kept_in kept seen) did.loads within r.room.home r.room.probing call insert (index_of b) (index_low b) r.nothing (before b passed)
+
+    own_lock : (b : StashBucket) → HasPassed site kept seen did b → IsOwnLock g words did call (lock_of kept (place_of b))
+    own_lock b passed = (
       kept.segment,
       subst (λ m. IsNamed g m did.loads kept.segment) hash_is (subst (λ s. IsNamed g kept.hash did.loads s) r.room.there (found_named g kept.hash did.loads r.room.path r.room.found)),
       within,
-      bucket_of kept.hash (place_of b),
-      subst (λ m. IsBucketOf call m (bucket_of kept.hash (place_of b))) hash_is (bucket_is call kept.hash (place_of b) (near b)),
-      ap (λ t. if t then bucket_at g kept.segment (bucket_of kept.hash (place_of b)) else root_word) (lt-ltb kept.segment g.segments within),
+      homes + index_of b,
+      subst (λ m. NeedsBucket g m did.loads kept.segment call (homes + index_of b)) hash_is (needed b passed),
+      ap (λ t. if t then bucket_at g kept.segment (bucket_of kept.hash (place_of b)) else root_word) (lt-ltb kept.segment g.segments within)
+          ∙ ap (λ n. bucket_at g kept.segment n) (bucket_is kept.hash b),
     )
 
   locked_caused : (b : StashBucket) (take : Take) (x : Taken) → (HasLock v.held (lock_of kept (place_of b)) → ⊥) → HasTakeCause g words did call (lock_of kept (place_of b)) take x
@@ -138,10 +149,10 @@ module _ (site : Site) (kept : Kept) (is : IsIn site kept) (words : Words) (seen
       (locked_to seen b (lock_of kept (place_of b)) (take_taken take (answer_to (take_wanted (lock_of kept (place_of b)) take) (words (lock_of kept (place_of b)))))).step
   lock_caused b take suits r =
       let lock : ℕ = lock_of kept (place_of b) in
-      let at = located site kept is suits.0.leads in
+      let at = located site kept is suits.0.there.within in
       locked_caused b take (take_taken take (answer_to (take_wanted lock take) (words lock)))
       (has_not site kept.site kept.hash kept.segment seen.held (place_of b) v at suits.0.locks suits.1)
-      (take_caused g words did call lock (own_lock r.0 (subst (λ (z : Shape). kept.segment < z.segments) (sym is.shape) suits.0.leads.within) b)
+      (take_caused g words did call lock (own_lock r.0 (subst (λ (z : Shape). kept.segment < z.segments) (sym is.shape) suits.0.there.within) b r.2)
       (λ changed.
       let own = r.0.changed lock changed in
       locks_apart site kept.site kept.hash kept.segment at (place_of b) own.0 (λ e. no_some (sym suits.1 ∙ ap (free_of seen.held) e ∙ own.1.1)) own.2) take suits.3 r.1)
@@ -176,8 +187,8 @@ module _ (site : Site) (kept : Kept) (is : IsIn site kept) (words : Words) (seen
   step_caused (Note part) suits r none asks = opens (wanted_in kept seen (Note part)) _ (note_open part _)
   step_caused Draw suits r none asks = gives_reply want.Draw seen.held reply.Done (Finds Draw) tt
   step_caused CountSpent suits r none asks = gives_reply (wanted_in kept seen CountSpent) seen.held reply.Spent (Finds CountSpent)
-      (inr (lock_of kept (place_of r.1.0), own_lock r.0 (subst (λ (z : Shape). kept.segment < z.segments) (sym is.shape) suits.0.located.within) r.1.0, r.1.1))
-  step_caused (Give held end) suits r none asks = absurd (given_decides end none)
+      (inr (lock_of kept (place_of r.1.0), own_lock r.0 (subst (λ (z : Shape). kept.segment < z.segments) (sym is.shape) suits.0.located.within) r.1.0 r.1.1, r.1.2))
+  step_caused (Give held end) suits r none asks = absurd (none-some (outcome_then end) (sym none))
   step_caused (Ended end) suits r none asks = absurd (asks refl)
 
 -- ---- what is decided stays so
@@ -187,10 +198,6 @@ stays_at kept seen (Give held end) a outcome some = some
 stays_at kept seen (Ended end) a outcome some = some
 stays_at kept seen s a outcome some = absurd (none-some outcome some)
 
-given_outcome : (end : Ending) → (outcome : Outcome) × (outcome_of (end_of end) ≡ Some outcome)
-given_outcome (ending.Replied answer place) = (replied answer place, refl)
-given_outcome (ending.Again why) = (again why, refl)
-
 ended_outcome : (end : StashEnd) → needs_split (Ended end) ≡ false → (outcome : Outcome) × (outcome_of end ≡ Some outcome)
 ended_outcome (ends.NeedSplit segment) closed = absurd (let z = closed in cc)
 ended_outcome (ends.Replied answer place) closed = (replied answer place, refl)
@@ -198,7 +205,7 @@ ended_outcome (ends.Again why) closed = (again why, refl)
 ended_outcome ends.Off closed = (off, refl)
 
 over_decided : (s : StashStep) → IsTrue (is_over s) → needs_split s ≡ false → (outcome : Outcome) × (outcome_at s ≡ Some outcome)
-over_decided (Give held end) over closed = given_outcome end
+over_decided (Give held end) over closed = (outcome_then end, refl)
 over_decided (Ended end) over closed = ended_outcome end closed
 over_decided s over closed = absurd (no over)
 
@@ -211,9 +218,9 @@ stash_ends_by_cause = record {
       let seen : Seen = op.stage.seen in
       let hash_is : kept.hash ≡ key_hash kept.site.geometry (key_of call) =
       st.is_in.hash ∙ ap (λ (g : Shape). key_hash g kept.change.key) (sym st.is_in.shape) ∙ ap (key_hash kept.site.geometry) (sym (key_called kept.change) ∙ ap key_of st.same) in
-      let caused = λ (none : outcome_at op.stage.step ≡ None). step_caused site kept st.is_in words seen v did call hash_is op.stage.step st.view r none asks in
+      let caused = λ (none : outcome_at op.stage.step ≡ None). step_caused site kept st.is_in words seen v did call hash_is (subst IsInsert st.same st.is_in.insert) op.stage.step st.view r none asks in
       record {
-        remembers = recalled site kept st.is_in words seen v did call hash_is op.stage.step st.view r asks;
+        remembers = recalled site kept st.is_in words seen v did call hash_is (subst IsInsert st.same st.is_in.insert) op.stage.step st.view r asks;
         caused = λ outcome none some.
             subst (λ (g : Shape). HasCause g words did call (wanted op) here outcome) st.is_in.shape
             (subst (λ (z : Here). HasCause kept.site.geometry words did call (wanted op) z outcome) st.at (caused none outcome some).0);

@@ -30,7 +30,7 @@ use Rattle.phase.specs.Buckets.{words_in}
 use Rattle.phase.specs.Stands.{HasLoaded as HasLoadedWords}
 use Rattle.phase.specs.Taking.{RemembersTaken}
 use Rattle.phase.specs.Giving.{IsHeld}
-use Rattle.phase.specs.Keeps.{WasLoaded, ChangedLocks, RemembersRoom}
+use Rattle.phase.specs.Keeps.{WasLoaded, ChangedLocks, LoadedFull, RemembersRoom}
 use Rattle.phase.specs.Third.{NothingToMove}
 use Rattle.phase.specs.Causes.{WasFound}
 use Rattle.phase.proofs.Asked.{one_place, cases_place}
@@ -42,10 +42,10 @@ use Rattle.phase.proofs.locks.Taking.{take_remembers}
 use Rattle.stash_op.specs.declared.step.StashBucket.{StashBucket}
 use Rattle.stash_op.specs.declared.step.StashBucket.TheVariants.{First, Second}
 use Rattle.stash_op.specs.declared.step.Seen.{Seen}
-use Rattle.stash_op.specs.declared.step.Ending.{Ending}
-use Rattle.stash_op.specs.declared.step.Ending.TheVariants as ending
-use Rattle.stash_op.specs.declared.step.NoteWord.{NoteWord}
-use Rattle.stash_op.specs.declared.step.NoteWord.TheVariants.{Mark, Fingers}
+use Rattle.phase.specs.declared.ending.Ending.{Ending}
+use Rattle.phase.specs.declared.ending.Ending.TheVariants as ending
+use Rattle.phase.specs.declared.note.NoteWord.{NoteWord}
+use Rattle.phase.specs.declared.note.NoteWord.TheVariants.{Mark, Fingers}
 use Rattle.stash_op.specs.declared.step.StashEnd.TheVariants as ends
 use Rattle.stash_op.specs.declared.step.StashStep.{StashStep}
 use Rattle.stash_op.specs.declared.step.StashStep.TheVariants.{Lock, Fill, Note, Draw, CountSpent, Give, Ended}
@@ -54,7 +54,7 @@ use Rattle.stash_op.specs.declared.step.Stage.{Stage}
 use Rattle.stash_op.specs.Search.{place_of, free_slot, noted, has_finger}
 use Rattle.stash_op.specs.Steps.{go, given_by, giving, in_second, at_second, in_first, at_first, searched, put_in, filled_to, with_lock, locked_to, made_to, noted_to, lock_of, wanted_in, next_in, nothing, kept_in}
 use Rattle.stash_op.proofs.Over.{full}
-use Rattle.stash_op.specs.StashPart.{RemembersKept, RemembersIn, BeginsRemembering, HandsOnRemembering}
+use Rattle.stash_op.specs.StashPart.{RemembersKept, HasPassed, RemembersIn, BeginsRemembering, HandsOnRemembering}
 
 -- ---- with more that was loaded
 module _ (kept : Kept) (loads more all : List (ℕ × ℕ)) (is : all ≡ more ++ loads) where
@@ -68,6 +68,8 @@ module _ (kept : Kept) (loads more all : List (ℕ × ℕ)) (is : all ≡ more +
     found = subst (λ (l : List (ℕ × ℕ)). WasFound kept.site.geometry kept.hash l r.path) (sym is) (found_more kept.site.geometry kept.hash more loads r.path r.found);
     head = r.head;
     buckets = λ p held own. loaded_more p (r.buckets p held own);
+    home = (loaded_more place.Home r.home.0, r.home.1);
+    probing = (loaded_more place.Probing r.probing.0, r.probing.1);
   }
 
   nothing_more : NothingToMove kept loads → NothingToMove kept all
@@ -86,6 +88,10 @@ module _ (site : Site) (kept : Kept) where
       changed = λ word has. r.changed word (subst (λ (l : List ℕ). Has word l) same has);
     }
 
+    passed_more : (b : StashBucket) → HasPassed site kept seen d b → HasPassed site kept seen e b
+    passed_more First p = tt
+    passed_more Second p = (loaded_more (kept_in kept seen) d.loads more e.loads is place.First p.0, p.1)
+
   -- ---- locks back
   by_next : (seen : Seen) (d : Doings) (next : Option (Place × ℕ)) (held : Held) (end : Ending) → RemembersIn site kept seen d (given_by next held end)
   by_next seen d (Some next) held end = tt
@@ -101,20 +107,20 @@ module _ (site : Site) (kept : Kept) where
     second_recalls (Some slot) = tt
     second_recalls None = r
 
-    at_second_recalls : (lock : Option ℕ) → Recalls (at_second kept seen lock) d
-    at_second_recalls (Some free) = second_recalls (free_slot seen.buckets Second)
-    at_second_recalls None = (r, tt)
+    at_second_recalls : HasPassed site kept seen d Second → (lock : Option ℕ) → Recalls (at_second kept seen lock) d
+    at_second_recalls passed (Some free) = second_recalls (free_slot seen.buckets Second)
+    at_second_recalls passed None = (r, tt, passed)
 
-    first_recalls : (slot : Option ℕ) → Recalls (in_first kept seen slot) d
-    first_recalls (Some slot) = tt
-    first_recalls None = at_second_recalls seen.held.second
+    first_recalls : WasLoaded (kept_in kept seen) d.loads place.First → (slot : Option ℕ) → free_slot seen.buckets First ≡ slot → Recalls (in_first kept seen slot) d
+    first_recalls was (Some slot) is = tt
+    first_recalls was None is = at_second_recalls (was, is) seen.held.second
 
-    at_first_recalls : (lock : Option ℕ) → Recalls (at_first kept seen lock) d
-    at_first_recalls (Some free) = first_recalls (free_slot seen.buckets First)
-    at_first_recalls None = (r, tt)
+    at_first_recalls : (lock : Option ℕ) → seen.held.first ≡ lock → Recalls (at_first kept seen lock) d
+    at_first_recalls (Some free) is = first_recalls (r.room.buckets place.First (free, is) refl) (free_slot seen.buckets First) refl
+    at_first_recalls None is = (r, tt, tt)
 
   -- ---- a lock
-  module _ (seen : Seen) (b : StashBucket) (d : Doings) (out : free_of seen.held (place_of b) ≡ None) (r : RemembersKept site kept seen d seen.held) where
+  module _ (seen : Seen) (b : StashBucket) (d : Doings) (out : free_of seen.held (place_of b) ≡ None) (r : RemembersKept site kept seen d seen.held) (passed : HasPassed site kept seen d b) where
     abbrev lock : ℕ
     lock = lock_of kept (place_of b)
 
@@ -139,7 +145,15 @@ module _ (site : Site) (kept : Kept) where
     held_recalls : (free : ℕ) → Recalls (locked_to seen b lock (taking.Held free)) (record { loads = d.loads; changed = lock ∷ d.changed })
     held_recalls free = (
       record {
-        room = record { path = r.room.path; there = r.room.there; found = r.room.found; head = r.room.head; buckets = λ p held own. r.room.buckets p (was_held free p held) own };
+        room = record {
+          path = r.room.path;
+          there = r.room.there;
+          found = r.room.found;
+          head = r.room.head;
+          buckets = λ p held own. r.room.buckets p (was_held free p held) own;
+          home = r.room.home;
+          probing = r.room.probing;
+        };
         nothing = record { next = r.nothing.next; previous = r.nothing.previous; moves = r.nothing.moves };
         changed = won free;
       },
@@ -150,8 +164,8 @@ module _ (site : Site) (kept : Kept) where
     look_recalls : (n : ℕ) (odd spent : Bool) → RemembersTaken lock d.loads (if odd then taking.Busy n else if spent then taking.Spent else taking.On (Try n))
         → Recalls (locked_to seen b lock (if odd then taking.Busy n else if spent then taking.Spent else taking.On (Try n))) d
     look_recalls n true spent t = giving_recalls seen d seen.held _
-    look_recalls n false true t = (r, (b, t))
-    look_recalls n false false t = (r, t)
+    look_recalls n false true t = (r, (b, passed, t))
+    look_recalls n false false t = (r, t, passed)
 
     lost_recalls : (free n : ℕ) (odd : Bool) → Recalls (locked_to seen b lock (if odd then taking.Busy n else taking.Moved free n)) d
     lost_recalls free n true = giving_recalls seen d seen.held _
@@ -171,23 +185,28 @@ module _ (site : Site) (kept : Kept) where
           (r.room.buckets p (value, gone_other seen.held (place_of b) p apart ∙ is) own)
     ]
 
+    put_near : (c : StashBucket) → LoadedFull (kept_in kept (put_in seen c ws)) d.loads place.Home × LoadedFull (kept_in kept (put_in seen c ws)) d.loads place.Probing
+    put_near First = (r.room.home, r.room.probing)
+    put_near Second = (r.room.home, r.room.probing)
+
     put_nothing : (c : StashBucket) → NothingToMove (kept_in kept (put_in seen c ws)) d.loads
     put_nothing First = record { next = r.nothing.next; previous = r.nothing.previous; moves = r.nothing.moves }
     put_nothing Second = record { next = r.nothing.next; previous = r.nothing.previous; moves = r.nothing.moves }
 
     put_kept : RemembersKept site kept (put_in seen b ws) d seen.held
     put_kept = record {
-      room = record { path = r.room.path; there = r.room.there; found = r.room.found; head = r.room.head; buckets = put_bucket };
+      room = record { path = r.room.path; there = r.room.there; found = r.room.found; head = r.room.head; buckets = put_bucket; home = (put_near b).0; probing = (put_near b).1 };
       nothing = put_nothing b;
       changed = r.changed;
     }
 
-    searched_by : (c : StashBucket) → RemembersKept site kept (put_in seen c ws) d seen.held → Recalls (searched kept (put_in seen c ws) c) d
-    searched_by First k = first_recalls (put_in seen First ws) d k (free_slot (put_in seen First ws).buckets First)
-    searched_by Second k = second_recalls (put_in seen Second ws) d k (free_slot (put_in seen Second ws).buckets Second)
+    searched_by : (c : StashBucket) → RemembersKept site kept (put_in seen c ws) d seen.held → ((j : ℕ) → 1 ≤ j → j < 32 → Has (lock_of kept (place_of c) + j, slice_index ws j) d.loads)
+        → Recalls (searched kept (put_in seen c ws) c) d
+    searched_by First k was = first_recalls (put_in seen First ws) d k was (free_slot (put_in seen First ws).buckets First) refl
+    searched_by Second k was = second_recalls (put_in seen Second ws) d k (free_slot (put_in seen Second ws).buckets Second)
 
     searched_recalls : Recalls (searched kept (put_in seen b ws) b) d
-    searched_recalls = searched_by b put_kept
+    searched_recalls = searched_by b put_kept all
 
   fill_recalls : (seen : Seen) (b : StashBucket) (d : Doings) → RemembersKept site kept seen d (without_held (place_of b) seen.held) → (x : Loaded)
       → HasLoadedWords (lock_of kept (place_of b)) d.loads x → Recalls (filled_to kept seen b x) d
@@ -231,13 +250,13 @@ module _ (site : Site) (kept : Kept) where
   look_next seen b n d out r =
       let lock : ℕ = lock_of kept (place_of b) in
       let e : Doings = record { loads = (lock, n) ∷ d.loads; changed = d.changed } in
-      look_recalls seen b e out (kept_more seen d e ((lock, n) ∷ []) refl seen.held refl r.0) n (n % 2 == 1) (n == 2 ^ 64 - 2)
-      (take_remembers lock d.loads Look (Value n) tt)
+      let more : List (ℕ × ℕ) = (lock, n) ∷ [] in
+      look_recalls seen b e out (kept_more seen d e more refl seen.held refl r.0) (passed_more seen d e more refl b r.2) n (n % 2 == 1) (n == 2 ^ 64 - 2) (take_remembers lock d.loads Look (Value n) tt)
 
   try_by : (seen : Seen) (b : StashBucket) (free n : ℕ) (d : Doings) → free_of seen.held (place_of b) ≡ None → RemembersIn site kept seen d (Lock b (Try free)) → (t : Bool)
       → Recalls (next_in kept seen (Lock b (Try free)) (if t then Won else Lost n)) (with_event_of (take_wanted (lock_of kept (place_of b)) (Try free)) (if t then Won else Lost n) d)
-  try_by seen b free n d out r true = held_recalls seen b d out r.0 free
-  try_by seen b free n d out r false = lost_recalls seen b d out r.0 free n (n % 2 == 1)
+  try_by seen b free n d out r true = held_recalls seen b d out r.0 r.2 free
+  try_by seen b free n d out r false = lost_recalls seen b d out r.0 r.2 free n (n % 2 == 1)
 
   fill_next : (seen : Seen) (b : StashBucket) (load : Load) (n : ℕ) (d : Doings) → RemembersIn site kept seen d (Fill b load) → RecallsNext seen (Fill b load) n d
   fill_next seen b load n d r =
@@ -261,17 +280,17 @@ module _ (site : Site) (kept : Kept) where
 -- ---- where it begins, and where it hands on
 pub begins_remembering : BeginsRemembering
 begins_remembering site kept did room none changed = at_first_recalls site kept (nothing kept) did (record {
-  room = record { path = room.path; there = room.there; found = room.found; head = room.head; buckets = room.buckets };
+  room = record { path = room.path; there = room.there; found = room.found; head = room.head; buckets = room.buckets; home = room.home; probing = room.probing };
   nothing = record { next = none.next; previous = none.previous; moves = none.moves };
   changed = changed;
-}) kept.held.first
+}) kept.held.first refl
 
 pub hands_on_remembering : HandsOnRemembering
 hands_on_remembering site op did is r =
     let e = full op.stage.step is in
     let all : RemembersIn site op.kept op.stage.seen did (Ended (ends.NeedSplit e.0)) = subst (λ z. RemembersIn site op.kept op.stage.seen did z) e.1 r in
     record {
-      room = record { path = all.room.path; there = all.room.there; found = all.room.found; head = all.room.head; buckets = all.room.buckets };
+      room = record { path = all.room.path; there = all.room.there; found = all.room.found; head = all.room.head; buckets = all.room.buckets; home = all.room.home; probing = all.room.probing };
       nothing = all.nothing;
       changed = all.changed;
     }

@@ -18,8 +18,9 @@ use Rattle.phase.specs.Making.{FitsSlot}
 use Rattle.phase.proofs.locks.Giving.{lock_at, bucket_near}
 use Rattle.phase.proofs.locks.Finding.{words_stand}
 use Rattle.phase.proofs.locks.Storing.{place_near, prepares_record}
+use Rattle.phase.specs.Makes.{brought}
 use Rattle.stash_op.specs.declared.step.Seen.{Seen}
-use Rattle.stash_op.specs.Search.{place_of, brought}
+use Rattle.stash_op.specs.Search.{place_of}
 use Rattle.stash_op.specs.Steps.{lock_of}
 use Rattle.stash_op.specs.Fits.{loaded, prepared, IsChosen, IsIn}
 

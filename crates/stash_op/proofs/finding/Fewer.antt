@@ -25,6 +25,7 @@ use Rattle.phase.specs.declared.held.Held.{Held}
 use Rattle.phase.specs.Places.{bucket_of}
 use Rattle.phase.specs.Giving.{IsHeld, IsQuiet}
 use Rattle.phase.specs.Finding.{HoldsBuckets, StandsNowhere}
+use Rattle.phase.proofs.Leading.{pinned_lead}
 use Rattle.phase.proofs.Handing.{none_loose}
 use Rattle.phase.proofs.locks.Giving.{lock_at, held_has}
 use Rattle.phase.proofs.locks.Finding.{holders_find}
@@ -37,7 +38,7 @@ module _ (site : Site) (here : Here) (hash segment : ℕ) (held before : Held) (
   known place is = holders_find.bucket site here hash segment held word k v h (none_loose v q) place (more place is)
 
   led : IsLed site v segment k
-  led words new = ap (owner_of site.shape words) (sym h.hashed) ∙ h.leads.owner words new.structure
+  led words new = ap (owner_of site.shape words) (sym h.hashed) ∙ pinned_lead site hash segment v h.leads words new
 
   home_lock : HasLock v.held (bucket_at site.shape segment (home_of hash))
   home_lock = subst (λ (z : ℕ). HasLock v.held z) (lock_at site here hash segment h.located Home) (held_has here hash segment held Home v h.locks (more Home home))

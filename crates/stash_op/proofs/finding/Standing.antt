@@ -16,7 +16,7 @@ use Rattle.phase.specs.Places.{bucket_of}
 use Rattle.phase.specs.Helds.{with_held, free_of}
 use Rattle.phase.specs.Buckets.{words_in}
 use Rattle.phase.specs.Asked.{index}
-use Rattle.phase.specs.Stands.{Leads}
+use Rattle.phase.specs.Stands.{IsThere, Leads}
 use Rattle.phase.specs.Giving.{IsLocated, IsHeld, HoldsLocks}
 use Rattle.phase.specs.Knows.{Knows, IsWhole}
 use Rattle.phase.specs.Finding.{HasLoadedHeld, HoldsBuckets, StandsNowhere}
@@ -33,8 +33,8 @@ use Rattle.stash_op.specs.Fits.{loaded, IsHere, HasLoaded, IsIn}
 use Rattle.stash_op.proofs.finding.Fewer.{none_held_has, nowhere_still}
 
 module _ (site : Site) (kept : Kept) (is : IsIn site kept) where
-  pub located : Leads site kept.hash kept.segment → IsLocated site kept.site kept.segment
-  located l = record { shape = is.shape; within = l.within }
+  pub located : kept.segment < site.shape.segments → IsLocated site kept.site kept.segment
+  located within = record { shape = is.shape; within = within }
 
   -- the words of a bucket, by its number in the segment
   pub word_at : (seen : Seen) → IsLocated site kept.site kept.segment → (p : Place) (j : ℕ) → 1 ≤ j → j < 32
@@ -43,11 +43,12 @@ module _ (site : Site) (kept : Kept) (is : IsIn site kept) where
       ∙ words_stand site kept.site kept.hash kept.segment seen.buckets p at j from low
 
   -- what is held, for any words that are known
-  pub holds_for : (seen : Seen) (v : View) → Leads site kept.hash kept.segment → HoldsLocks kept.site kept.hash kept.segment seen.held v → IsHeld seen.held place.Home → IsHeld seen.held place.Probing
+  pub holds_for : (seen : Seen) (v : View) → IsThere site kept.segment v.facts → Leads site kept.hash kept.segment v.pinned → HoldsLocks kept.site kept.hash kept.segment seen.held v → IsHeld seen.held place.Home → IsHeld seen.held place.Probing
       → (w : Words) → Knows (IsHere kept seen) w v → HoldsBuckets site kept.site kept.hash kept.segment seen.held w kept.change.key v
-  holds_for seen v leads locks home probing w knows = record {
-    located = located leads;
+  holds_for seen v there leads locks home probing w knows = record {
+    located = located there.within;
     hashed = is.hash;
+    there = there;
     leads = leads;
     locks = locks;
     home = home;
@@ -56,8 +57,8 @@ module _ (site : Site) (kept : Kept) (is : IsIn site kept) where
   }
 
   pub holds_loaded : (seen : Seen) (v : View) → HasLoaded site kept seen seen.held v → HoldsBuckets site kept.site kept.hash kept.segment seen.held (loaded kept seen) kept.change.key v
-  holds_loaded seen v h = holds_for seen v h.leads h.locks h.home h.probing (loaded kept seen)
-      (loads_are_known site kept.site kept.hash kept.segment seen.held seen.buckets v (located h.leads) h.whole)
+  holds_loaded seen v h = holds_for seen v h.there h.leads h.locks h.home h.probing (loaded kept seen)
+      (loads_are_known site kept.site kept.hash kept.segment seen.held seen.buckets v (located h.there.within) h.whole)
 
   -- ---- the words of a stash bucket are put in, whose lock was taken last
   module _ (seen : Seen) (b : StashBucket) (words : List ℕ) (before : Held) (free : ℕ) (more : seen.held ≡ with_held (place_of b) free before) (out : free_of before (place_of b) ≡ None)
@@ -86,15 +87,15 @@ module _ (site : Site) (kept : Kept) (is : IsIn site kept) where
     ]
 
     now_holds : HoldsBuckets site kept.site kept.hash kept.segment seen.held (loaded kept now) kept.change.key u
-    now_holds = holds_for now u h.leads h.locks (still_held place.Home h.home) (still_held place.Probing h.probing) (loaded kept now)
-        (loads_are_known site kept.site kept.hash kept.segment seen.held now.buckets u (located h.leads) now_whole)
+    now_holds = holds_for now u h.there h.leads h.locks (still_held place.Home h.home) (still_held place.Probing h.probing) (loaded kept now)
+        (loads_are_known site kept.site kept.hash kept.segment seen.held now.buckets u (located h.there.within) now_whole)
 
     words_stay : (p : Place) → IsHeld before p → (j : ℕ) → 1 ≤ j → j < 32
         → loaded kept now (bucket_at site.shape kept.segment (bucket_of kept.hash p) + j) ≡ loaded kept seen (bucket_at site.shape kept.segment (bucket_of kept.hash p) + j)
     words_stay p was j from low =
-        word_at now (located h.leads) p j from low
+        word_at now (located h.there.within) p j from low
         ∙ ap (λ (ws : List ℕ). slice_index ws j) (words_other seen.buckets words (place_of b) p (apart_of p was))
-        ∙ sym (word_at seen (located h.leads) p j from low)
+        ∙ sym (word_at seen (located h.there.within) p j from low)
 
     before_nowhere : StandsNowhere site.shape kept.hash kept.segment before (loaded kept now) kept.change.key
     before_nowhere = nowhere_still site.shape kept.hash kept.segment before (loaded kept seen) (loaded kept now) kept.change.key h.home h.probing words_stay h.nowhere
@@ -121,6 +122,8 @@ module _ (site : Site) (kept : Kept) (is : IsIn site kept) where
 
     pub put_loaded : HasLoaded site kept now seen.held u
     put_loaded = record {
+      pinned = h.pinned;
+      there = h.there;
       leads = h.leads;
       locks = h.locks;
       home = still_held place.Home h.home;
@@ -139,11 +142,14 @@ module _ (site : Site) (words : Words) (views : List View) (j : ℕ) (v : View) 
   pub newest_after : IsNewest site (record v { known = (i, n) ∷ v.known }) words
   newest_after = let new = newest_is site words views j v h at in record {
     structure = new.structure;
+    says = new.says;
+    pinned = new.pinned;
     table = new.table;
     knows = λ k x known. elim known [
       | inl e ↦ ap words (ap (λ (p : ℕ × ℕ). p.0) e) ∙ sym found ∙ sym (ap (λ (p : ℕ × ℕ). p.1) e)
       | inr old ↦ new.knows k x old
     ];
+    own = new.own;
     once = new.once;
     exact = new.exact;
     owes = new.owes;

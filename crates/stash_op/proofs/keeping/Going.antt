@@ -6,7 +6,7 @@ use Rattle.trace.specs.Events.{Words}
 use Rattle.map_model.specs.declared.entry.Reply.{Reply}
 use Rattle.map_model.specs.Changes.{call_of}
 use Rattle.world.specs.Site.{Site}
-use Rattle.world.specs.Views.{View, IsGuarded}
+use Rattle.world.specs.Views.{View, Has, IsGuarded}
 use Rattle.world.specs.Kinds.{learns, view_after}
 use Rattle.world.specs.Conditions.{IsNewest}
 use Rattle.world.specs.Attempts.{HoldsOnly, EntersReply}
@@ -22,7 +22,7 @@ use Rattle.phase.specs.declared.held.Held.{Held}
 use Rattle.phase.specs.declared.kept.Kept.{Kept}
 use Rattle.phase.specs.Helds.{free_of, give_next, give_wanted_of}
 use Rattle.phase.specs.Buckets.{words_in}
-use Rattle.phase.specs.Stands.{HasLoaded as HasLoadedWords}
+use Rattle.phase.specs.Stands.{IsThere, Leads, HasLoaded as HasLoadedWords}
 use Rattle.phase.specs.Taking.{MayBeTaken, IsButSpent, HasTaken}
 use Rattle.phase.specs.Giving.{IsHeld, IsQuiet}
 use Rattle.phase.specs.Knows.{IsWhole}
@@ -35,13 +35,14 @@ use Rattle.phase.proofs.locks.Making.{make_knows}
 use Rattle.stash_op.specs.declared.step.StashBucket.{StashBucket}
 use Rattle.stash_op.specs.declared.step.StashBucket.TheVariants.{First, Second}
 use Rattle.stash_op.specs.declared.step.Seen.{Seen}
-use Rattle.stash_op.specs.declared.step.Ending.{Ending}
-use Rattle.stash_op.specs.declared.step.Ending.TheVariants as ending
+use Rattle.phase.specs.declared.ending.Ending.{Ending}
+use Rattle.phase.specs.declared.ending.Ending.TheVariants as ending
+use Rattle.phase.specs.Endings.{outcome_then}
 use Rattle.stash_op.specs.declared.step.StashStep.{StashStep}
 use Rattle.stash_op.specs.declared.step.Stage.{Stage}
 use Rattle.stash_op.specs.Search.{place_of, free_slot, record_in}
 use Rattle.stash_op.specs.Steps.{end_of, given_by, giving, give, putting, in_second, at_second, in_first, at_first, searched, put_in, filled_to, with_lock, locked_to, lock_of, nothing, begun, kept_in}
-use Rattle.stash_op.specs.Fits.{IsHere, prepared, IsNext, HasLoaded, IsFilling, IsChanging, IsGiving, SuitsEnd, SuitsStep, IsIn, outcome_of, outcome_at}
+use Rattle.stash_op.specs.Fits.{IsHere, prepared, IsNext, HasLoaded, IsFilling, IsChanging, IsGiving, SuitsEnd, SuitsStep, IsIn, outcome_at}
 use Rattle.stash_op.specs.Fits as fits
 use Rattle.stash_op.proofs.finding.Standing.{located, holds_loaded, put_loaded}
 
@@ -58,11 +59,12 @@ abbrev pub Goes : Site → Kept → View → Stage → View → Type 0
 Goes site kept before stage u = SuitsStage site kept stage u × EntersReply (call_of kept.change) (reply_at stage.step) before u
 
 -- ---- locks back
-outcome_by : (next : Option (Place × ℕ)) (held : Held) (end : Ending) → outcome_at (given_by next held end) ≡ outcome_of (end_of end)
+outcome_by : (next : Option (Place × ℕ)) (held : Held) (end : Ending) → outcome_at (given_by next held end) ≡ Some (outcome_then end)
 outcome_by (Some next) held end = refl
-outcome_by None held end = refl
+outcome_by None held (ending.Replied answer place) = refl
+outcome_by None held (ending.Again why) = refl
 
-pub giving_outcome : (held : Held) (end : Ending) → outcome_at (giving held end) ≡ outcome_of (end_of end)
+pub giving_outcome : (held : Held) (end : Ending) → outcome_at (giving held end) ≡ Some (outcome_then end)
 giving_outcome held end = outcome_by (give_next held) held end
 
 giving_again : (held : Held) (why : Why) → reply_at (giving held (ending.Again why)) ≡ None
@@ -123,6 +125,7 @@ module _ (site : Site) (kept : Kept) (is : IsIn site kept) where
     putting_suits : (b : StashBucket) → IsHeld seen.held (place_of b) → (slot : ℕ) → free_slot seen.buckets b ≡ Some slot → SuitsStage site kept (putting kept seen b slot) u
     putting_suits b held slot e = record {
       all = record {
+        there = h.there;
         leads = h.leads;
         locks = h.locks;
         home = h.home;
@@ -142,6 +145,8 @@ module _ (site : Site) (kept : Kept) (is : IsIn site kept) where
     keeps : KeepsAll site (kept_in kept seen) u
     keeps = record {
       insert = is.insert;
+      pinned = h.pinned;
+      leads = is.leading;
       holds = holds_loaded site kept is seen u h;
       quiet = h.quiet;
       nowhere = h.nowhere;
@@ -174,6 +179,8 @@ module _ (site : Site) (kept : Kept) (is : IsIn site kept) where
   module _ (seen : Seen) (v u : View) (h : HasLoaded site kept seen seen.held v) where
     spent_loaded : IsButSpent v u → HasLoaded site kept seen seen.held u
     spent_loaded s = subst (HasLoaded site kept seen seen.held) (sym s.1) (record {
+      pinned = h.pinned;
+      there = h.there;
       leads = h.leads;
       locks = held_same kept.site kept.hash kept.segment seen.held v (record v { spent_locks = s.0 }) refl refl h.locks;
       home = h.home;
@@ -188,7 +195,7 @@ module _ (site : Site) (kept : Kept) (is : IsIn site kept) where
     })
 
     spent_gives : IsButSpent v u → IsGiving site kept seen seen.held u
-    spent_gives s = let l = spent_loaded s in record { located = located site kept is h.leads; locks = l.locks; quiet = l.quiet }
+    spent_gives s = let l = spent_loaded s in record { located = located site kept is h.there.within; locks = l.locks; quiet = l.quiet }
 
     module _ (b : StashBucket) (out : free_of seen.held (place_of b) ≡ None) (next : IsNext kept seen b) where
       abbrev lock : ℕ
@@ -205,7 +212,9 @@ module _ (site : Site) (kept : Kept) (is : IsIn site kept) where
         more = refl;
         out = out;
         has = record {
-          leads = h.leads;
+          pinned = subst (λ (z : View). Has (kept.segment, kept.head) z.pinned) (sym same) h.pinned;
+          there = subst (λ (z : View). IsThere site kept.segment z.facts) (sym same) h.there;
+          leads = subst (λ (z : View). Leads site kept.hash kept.segment z.pinned) (sym same) h.leads;
           locks = held_more kept.site kept.hash kept.segment seen.held (place_of b) free v out h.locks u may same;
           home = h.home;
           probing = h.probing;
@@ -239,6 +248,8 @@ module _ (site : Site) (kept : Kept) (is : IsIn site kept) where
 
     learnt : HasLoaded site kept seen f.before after
     learnt = record {
+      pinned = f.has.pinned;
+      there = f.has.there;
       leads = f.has.leads;
       locks = held_learn kept.site kept.hash kept.segment site.shape seen.held v i n f.has.locks guarded;
       home = f.has.home;
@@ -268,6 +279,8 @@ module _ (site : Site) (kept : Kept) (is : IsIn site kept) where
 -- ---- where it begins
 pub begin_suits : (site : Site) (kept : Kept) (v : View) → KeepsAll site kept v → HoldsThirds kept.held → IsIn site kept → SuitsStage site kept (begun kept).stage v
 begin_suits site kept v k thirds is = at_first_suits site kept is (nothing kept) v (record {
+  pinned = k.pinned;
+  there = k.holds.there;
   leads = k.holds.leads;
   locks = k.holds.locks;
   home = k.holds.home;

@@ -30,8 +30,8 @@ use Rattle.stash_op.specs.declared.step.NoteBucket.{NoteBucket}
 use Rattle.stash_op.specs.declared.step.NoteBucket.TheVariants as note
 use Rattle.stash_op.specs.declared.step.NoteWords.{NoteWords}
 use Rattle.stash_op.specs.declared.step.Seen.{Seen}
-use Rattle.stash_op.specs.declared.step.NoteWord.{NoteWord}
-use Rattle.stash_op.specs.declared.step.NoteWord.TheVariants.{Mark, Fingers}
+use Rattle.phase.specs.declared.note.NoteWord.{NoteWord}
+use Rattle.phase.specs.declared.note.NoteWord.TheVariants.{Mark, Fingers}
 use Rattle.stash_op.specs.declared.step.StashStep.TheVariants.{Note, Draw}
 use Rattle.stash_op.specs.Search.{place_of, note_place, noted, has_finger}
 use Rattle.stash_op.specs.Steps.{go, lock_of, note_wanted, noted_to}
@@ -74,7 +74,7 @@ module _ (site : Site) (kept : Kept) (is : IsIn site kept) (seen : Seen) (before
     changed_stands : Stands (changed kept seen)
     changed_stands = subst Stands (sym (changed_is site kept is seen v part u small))
         (publish_tells.taken site.shape (prepared kept seen) kept.segment (bucket_of kept.hash (place_of seen.bucket)) seen.written.slot kept.change.key seen.written.mark
-        (stands_ready site kept seen u.chosen (located site kept is u.all.leads) is)
+        (stands_ready site kept seen u.chosen (located site kept is u.all.there.within) is)
         (ap (allocated seen.written.slot) (mark_is site kept seen u.chosen) ∙ (takes_slot _ seen.written.slot (slot_low site kept seen u.chosen)).taken))
 
     marked_stands : Stands (marked kept seen)
@@ -106,6 +106,7 @@ module _ (site : Site) (kept : Kept) (is : IsIn site kept) (seen : Seen) (before
 
       after_all : HasAll site kept seen after
       after_all = record {
+        there = u.all.there;
         leads = u.all.leads;
         locks = held_store kept.site kept.hash kept.segment site.shape seen.held v (lock + k) m x v.planned v.moving os u.all.locks (guard k from low);
         home = u.all.home;

@@ -30,8 +30,8 @@ use Rattle.phase.proofs.locks.Giving.{nothing_left, held_this, held_has, held_sa
 use Rattle.phase.proofs.Wanting.{take_own, take_seen}
 use Rattle.stash_op.specs.declared.step.StashBucket.{StashBucket}
 use Rattle.stash_op.specs.declared.step.Seen.{Seen}
-use Rattle.stash_op.specs.declared.step.Ending.{Ending}
-use Rattle.stash_op.specs.declared.step.Ending.TheVariants as ending
+use Rattle.phase.specs.declared.ending.Ending.{Ending}
+use Rattle.phase.specs.declared.ending.Ending.TheVariants as ending
 use Rattle.stash_op.specs.declared.step.StashStep.TheVariants.{Lock, Fill, Give}
 use Rattle.stash_op.specs.Search.{place_of}
 use Rattle.stash_op.specs.Steps.{go, giving, answered, filled_to, locked_to, lock_of}
@@ -98,7 +98,7 @@ module _ (site : Site) (kept : Kept) (is : IsIn site kept) (seen : Seen) (before
     pub draw_goes : Goes site kept before (answered seen n reply.Done) after
     draw_goes = (
       give_suits site kept is seen (ending.Replied reply.Done n) after (record {
-        located = located site kept is d.all.leads;
+        located = located site kept is d.all.there.within;
         locks = held_same kept.site kept.hash kept.segment seen.held v after refl refl d.all.locks;
         quiet = record {
           dirty = nothing_left v.dirty (λ p has. d.settled p (inl has));

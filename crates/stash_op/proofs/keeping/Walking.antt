@@ -28,18 +28,18 @@ use Rattle.phase.specs.Making.{make_kind}
 use Rattle.phase.specs.AreWords.{AreWords}
 use Rattle.phase.proofs.Handing.{give_answer}
 use Rattle.phase.proofs.locks.Taking.{take_fits}
-use Rattle.phase.proofs.locks.Giving.{is_lock, give_stands}
+use Rattle.phase.proofs.locks.Giving.{known_lock, give_stands}
 use Rattle.stash_op.specs.declared.step.NoteWords.{NoteWords}
 use Rattle.stash_op.specs.declared.step.Seen.{Seen}
-use Rattle.stash_op.specs.declared.step.NoteWord.{NoteWord}
-use Rattle.stash_op.specs.declared.step.NoteWord.TheVariants.{Mark, Fingers}
+use Rattle.phase.specs.declared.note.NoteWord.{NoteWord}
+use Rattle.phase.specs.declared.note.NoteWord.TheVariants.{Mark, Fingers}
 use Rattle.stash_op.specs.declared.step.StashStep.{StashStep}
 use Rattle.stash_op.specs.declared.step.StashStep.TheVariants.{Lock, Fill, Note, Draw, CountSpent, Give, Ended}
 use Rattle.stash_op.specs.declared.step.StashStep.TheVariants as step
 use Rattle.stash_op.specs.Search.{place_of, noted}
 use Rattle.stash_op.specs.Steps.{lock_of, note_wanted, wanted_in, next_in}
 use Rattle.stash_op.specs.Fits.{publish_kind, kind_at, IsChanging, FoundSpent, SuitsStep, IsIn}
-use Rattle.stash_op.proofs.finding.Standing.{located, newest_after}
+use Rattle.stash_op.proofs.finding.Standing.{newest_after}
 use Rattle.stash_op.proofs.keeping.Going.{reply_at, Goes}
 use Rattle.stash_op.proofs.keeping.Storing.{make_goes}
 use Rattle.stash_op.proofs.keeping.Noting.{owed_now, note_goes}
@@ -106,7 +106,7 @@ module _ (site : Site) (kept : Kept) (is : IsIn site kept) (words : Words) (view
   make_may make.FencePublished c = other_may site kept is seen v make.FencePublished c (λ e. cc)
 
   pub may_in : (s : StashStep) → SuitsStep site kept seen s v → wanted_in kept seen s ≢ want.Done → May site (kind_at kept seen s) v
-  may_in (Lock b t) suits asks = take_fits.may site (lock_of kept (place_of b)) t v (is_lock site kept.site kept.hash kept.segment (located site kept is suits.0.leads) (place_of b)) suits.3
+  may_in (Lock b t) suits asks = take_fits.may site (lock_of kept (place_of b)) t v (known_lock site kept.site kept.hash kept.segment (place_of b) v is.shape suits.0.there) suits.3
   may_in (Fill b load) suits asks = fill_guard site kept is seen before v b load suits
   may_in (step.Make m) suits asks = make_may m suits
   may_in (Note part) suits asks = note_may site kept is seen v part suits small words (owed_now site kept seen v words views j h at part suits)

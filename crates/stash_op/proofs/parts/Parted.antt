@@ -1,6 +1,5 @@
 -- A RECORD THAT COMES TO THE STASH IS A PART of a call: its laws one by one.
-use Rattle.std.proofs.Common.{◌≡◌, ◌≢◌, ℕ, ◌+◌, ◌^◌, ◌<◌, Bool, true, false, Option, None, Some, refl, sym, ap, ◌∙◌, subst}
-use Rattle.std.specs.Prelude.{⊤}
+use Rattle.std.proofs.Common.{◌≡◌, ◌≢◌, ℕ, ◌+◌, ◌^◌, ◌<◌, Bool, true, false, Some, refl, sym, ap, ◌∙◌, subst}
 use Rattle.std.proofs.lemmas.Option.{none-some}
 use Rattle.op_core.specs.declared.want.Want.{Want}
 use Rattle.op_core.specs.declared.want.Want.TheVariants as want
@@ -13,32 +12,25 @@ use Rattle.world.specs.declared.site.Site.{Site as Here}
 use Rattle.world.specs.Site.{Site, IsSite}
 use Rattle.world.specs.Views.{View, Has}
 use Rattle.world.specs.Wants.{answer_to, word_of}
-use Rattle.world.specs.Kinds.{Kind, cuts_power, wanted as wanted_by, view_after}
+use Rattle.world.specs.Kinds.{Kind, wanted as wanted_by, view_after}
 use Rattle.world.specs.Attempts.{EntersReply}
 use Rattle.world.proofs.stepping.Answers.{is_word}
 use Rattle.part.specs.Asks.{IsWithin}
 use Rattle.part.specs.Outcomes.{finished, reply_of}
 use Rattle.part.specs.Part.{KeepsSuits, PlansItsCall, IsPart}
-use Rattle.phase.specs.declared.place.Place.{Place}
-use Rattle.phase.specs.declared.take.Take.{Take}
-use Rattle.phase.specs.declared.take.Take.TheVariants.{Look, Try}
 use Rattle.phase.specs.declared.make.Make.{Make}
 use Rattle.phase.specs.declared.make.Make.TheVariants as make
 use Rattle.phase.specs.declared.kept.Kept.{Kept}
 use Rattle.phase.specs.Helds.{give_next}
-use Rattle.phase.specs.Taking.{take_kind}
-use Rattle.phase.specs.Giving.{give_kind_of}
 use Rattle.phase.proofs.locks.Taking.{take_fits}
 use Rattle.phase.proofs.locks.Giving.{give_stands}
 use Rattle.phase.proofs.locks.Making.{make_fits}
-use Rattle.phase.proofs.Handing.{none_has, one_has}
-use Rattle.phase.proofs.Wanting.{HasFlush, is_fence}
+use Rattle.phase.proofs.Handing.{none_has, one_has, not_finished}
+use Rattle.phase.proofs.Wanting.{HasFlush, is_fence, Cuts, take_on, give_on}
 use Rattle.stash_op.specs.declared.step.NoteWords.{NoteWords}
 use Rattle.stash_op.specs.declared.step.Seen.{Seen}
-use Rattle.stash_op.specs.declared.step.Ending.{Ending}
-use Rattle.stash_op.specs.declared.step.Ending.TheVariants as ending
-use Rattle.stash_op.specs.declared.step.NoteWord.{NoteWord}
-use Rattle.stash_op.specs.declared.step.NoteWord.TheVariants.{Mark, Fingers}
+use Rattle.phase.specs.declared.note.NoteWord.{NoteWord}
+use Rattle.phase.specs.declared.note.NoteWord.TheVariants.{Mark, Fingers}
 use Rattle.stash_op.specs.declared.step.StashEnd.{StashEnd}
 use Rattle.stash_op.specs.declared.step.StashEnd.TheVariants as ends
 use Rattle.stash_op.specs.declared.step.StashStep.{StashStep}
@@ -46,7 +38,7 @@ use Rattle.stash_op.specs.declared.step.StashStep.TheVariants.{Lock, Fill, Note,
 use Rattle.stash_op.specs.declared.step.StashStep.TheVariants as step
 use Rattle.stash_op.specs.declared.op.StashOp.{StashOp}
 use Rattle.stash_op.specs.Search.{place_of, note_place, noted, has_finger}
-use Rattle.stash_op.specs.Steps.{end_of, lock_of, note_wanted, wanted, wanted_in, next_in, end_at, nothing}
+use Rattle.stash_op.specs.Steps.{lock_of, note_wanted, wanted, wanted_in, next_in, end_at, nothing}
 use Rattle.stash_op.specs.Fits.{publish_kind, mark_kind, note_kind, kind_at, planned_at, SuitsStep, IsIn, StashStands, outcome_of, outcome_at}
 use Rattle.stash_op.specs.StashPart.{stash_part, BeginsAsPart, BeginsUndecided, HandsOnAll, NeverFinished}
 use Rattle.stash_op.proofs.Over.{full}
@@ -137,15 +129,7 @@ plans site here call op before v planned s h =
     (got.0 ∙ st.same, got.1)
 
 -- ---- the power
-abbrev Cuts : Kind → Type 0
-Cuts cuts_power = ⊤
-Cuts k = ⊥
-
 module _ (kept : Kept) (seen : Seen) where
-  take_on : (lock : ℕ) (t : Take) → Cuts (take_kind lock t) → ⊥
-  take_on lock Look p = p
-  take_on lock (Try free) p = p
-
   mark_on : (b : Bool) (i x : ℕ) → Cuts (mark_kind kept seen b i x) → ⊥
   mark_on true i x p = p
   mark_on false i x p = p
@@ -153,10 +137,6 @@ module _ (kept : Kept) (seen : Seen) where
   note_on : (part : NoteWord) (n : NoteWords) → Cuts (note_kind kept seen part n) → ⊥
   note_on Mark n p = mark_on (has_finger seen n) (lock_of kept (note_place n.bucket) + 1) n.mark p
   note_on Fingers n p = p
-
-  give_on : (next : Option (Place × ℕ)) → Cuts (give_kind_of kept.site kept.hash kept.segment next) → ⊥
-  give_on (Some next) p = p
-  give_on None p = p
 
   make_on : (m : Make) → Cuts (kind_at kept seen (step.Make m)) → ⊥
   make_on make.Key p = p
@@ -176,7 +156,7 @@ module _ (kept : Kept) (seen : Seen) where
   on_in (Note part) p = note_on part (noted kept.hash seen) p
   on_in Draw p = p
   on_in CountSpent p = p
-  on_in (Give held end) p = give_on (give_next held) p
+  on_in (Give held end) p = give_on kept.site kept.hash kept.segment (give_next held) p
   on_in (Ended end) p = p
 
 -- ---- IT IS A PART
@@ -210,7 +190,7 @@ stash_is_part = record {
 -- ---- where it begins
 pub begins_as_part : BeginsAsPart
 begins_as_part site here call kept v m k =
-    let is : IsIn site kept = record { shape = k.holds.located.shape; straight = m.straight; hash = k.holds.hashed; insert = k.insert } in
+    let is : IsIn site kept = record { shape = k.holds.located.shape; hash = k.holds.hashed; leading = k.leads; insert = k.insert } in
     let all = at_first_words kept (nothing kept) m.buckets kept.held.first in record {
       same = m.same;
       at = m.at;
@@ -228,7 +208,7 @@ hands_on_all site here call op v st is =
     let e = full op.stage.step is in
     let all : SuitsStep site op.kept op.stage.seen (Ended (ends.NeedSplit e.0)) v = subst (λ z. SuitsStep site op.kept op.stage.seen z v) e.1 st.view in
     record {
-      may = record { same = st.same; at = st.at; straight = st.is_in.straight; key = st.has.key; value = st.has.value; buckets = st.has.buckets; thirds = all.0.thirds };
+      may = record { same = st.same; at = st.at; key = st.has.key; value = st.has.value; buckets = st.has.buckets; thirds = all.0.thirds };
       full = all.0;
       told = ap end_at e.1 ∙ ap (λ s. ends.NeedSplit s) all.1;
     }
@@ -240,12 +220,8 @@ finishes (ends.NeedSplit segment) is = absurd (cc)
 finishes (ends.Again why) is = absurd (cc)
 finishes ends.Off is = absurd (cc)
 
-given_finishes : (end : Ending) → outcome_of (end_of end) ≡ Some finished → ⊥
-given_finishes (ending.Replied answer place) is = absurd (cc)
-given_finishes (ending.Again why) is = absurd (cc)
-
 never_in : (s : StashStep) → outcome_at s ≡ Some finished → ⊥
-never_in (Give held end) some = given_finishes end some
+never_in (Give held end) some = not_finished end some
 never_in (Ended end) some = finishes end some
 never_in s some = none-some finished some
 

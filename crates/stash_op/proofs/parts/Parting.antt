@@ -10,31 +10,26 @@ use Rattle.map_model.specs.declared.entry.Reply.TheVariants as reply
 use Rattle.world.specs.Site.{Site}
 use Rattle.world.specs.Views.{View}
 use Rattle.world.specs.Wants.{answer_to}
-use Rattle.world.specs.Kinds.{Kind}
 use Rattle.world.specs.Pairs.{IsPublishingKind}
 use Rattle.world.specs.Attempts.{HoldsOnly}
 use Rattle.part.specs.Outcomes.{IsDone, replied}
 use Rattle.phase.specs.declared.place.Place.{Place}
-use Rattle.phase.specs.declared.take.Take.{Take}
-use Rattle.phase.specs.declared.take.Take.TheVariants.{Look, Try}
 use Rattle.phase.specs.declared.make.Make.{Make}
 use Rattle.phase.specs.declared.make.Make.TheVariants as make
 use Rattle.phase.specs.declared.make.Made.TheVariants as made
 use Rattle.phase.specs.declared.held.Held.{Held}
 use Rattle.phase.specs.declared.kept.Kept.{Kept}
 use Rattle.phase.specs.Helds.{give_next, given}
-use Rattle.phase.specs.Taking.{take_kind}
-use Rattle.phase.specs.Giving.{give_kind_of}
 use Rattle.phase.specs.Making.{waiting_of, IsPublished}
 use Rattle.phase.proofs.locks.Giving.{give_stands}
-use Rattle.phase.proofs.Handing.{done_is}
-use Rattle.phase.proofs.Wanting.{few_waiting, no, HasFlush, HasFence, take_no_flush, give_no_flush}
+use Rattle.phase.proofs.Handing.{done_is, done_then}
+use Rattle.phase.proofs.Wanting.{few_waiting, no, HasFlush, HasFence, take_no_flush, give_no_flush, IsPlain, plain_take, plain_give}
 use Rattle.stash_op.specs.declared.step.NoteWords.{NoteWords}
 use Rattle.stash_op.specs.declared.step.Seen.{Seen}
-use Rattle.stash_op.specs.declared.step.Ending.{Ending}
-use Rattle.stash_op.specs.declared.step.Ending.TheVariants as ending
-use Rattle.stash_op.specs.declared.step.NoteWord.{NoteWord}
-use Rattle.stash_op.specs.declared.step.NoteWord.TheVariants.{Mark, Fingers}
+use Rattle.phase.specs.declared.ending.Ending.{Ending}
+use Rattle.phase.specs.declared.ending.Ending.TheVariants as ending
+use Rattle.phase.specs.declared.note.NoteWord.{NoteWord}
+use Rattle.phase.specs.declared.note.NoteWord.TheVariants.{Mark, Fingers}
 use Rattle.stash_op.specs.declared.step.StashEnd.{StashEnd}
 use Rattle.stash_op.specs.declared.step.StashEnd.TheVariants as ends
 use Rattle.stash_op.specs.declared.step.StashStep.{StashStep}
@@ -49,14 +44,6 @@ use Rattle.stash_op.proofs.Over.{over_done}
 
 -- ---- the one store
 module _ (kept : Kept) (seen : Seen) where
-  -- a kind that makes no change
-  abbrev IsPlain : Kind → Type 0
-  IsPlain k = IsPublishingKind k → ⊥
-
-  plain_take : (lock : ℕ) (t : Take) → IsPlain (take_kind lock t)
-  plain_take lock Look p = p
-  plain_take lock (Try free) p = p
-
   plain_mark : (b : Bool) (i x : ℕ) → IsPlain (mark_kind kept seen b i x)
   plain_mark true i x p = p
   plain_mark false i x p = p
@@ -64,10 +51,6 @@ module _ (kept : Kept) (seen : Seen) where
   plain_note : (part : NoteWord) (n : NoteWords) → IsPlain (note_kind kept seen part n)
   plain_note Mark n p = plain_mark (has_finger seen n) (lock_of kept (note_place n.bucket) + 1) n.mark p
   plain_note Fingers n p = p
-
-  plain_give : (next : Option (Place × ℕ)) → IsPlain (give_kind_of kept.site kept.hash kept.segment next)
-  plain_give (Some next) p = p
-  plain_give None p = p
 
   abbrev Makes : StashStep → ℕ → Type 0
   Makes s n = IsPublishingKind (kind_at kept seen s) → (HasMadeAt s → ⊥) × HasMadeAt (next_in kept seen s (answer_to (wanted_in kept seen s) n)).step
@@ -90,7 +73,7 @@ module _ (kept : Kept) (seen : Seen) where
   makes_in (Note part) n p = absurd (plain_note part (noted kept.hash seen) p)
   makes_in Draw n p = absurd p
   makes_in CountSpent n p = absurd p
-  makes_in (Give held end) n p = absurd (plain_give (give_next held) p)
+  makes_in (Give held end) n p = absurd (plain_give kept.site kept.hash kept.segment (give_next held) p)
   makes_in (Ended end) n p = absurd p
 
   -- ---- and it stays made
@@ -136,13 +119,9 @@ end_done : (end : StashEnd) → HasMadeAt (Ended end) → (place : ℕ) × (outc
 end_done (ends.Replied answer place) d = (place, ap (λ r. Some (replied r place)) (done_is answer d))
 end_done end d = absurd d
 
-give_done : (end : Ending) (held : Held) → HasMadeAt (Give held end) → (place : ℕ) × (outcome_at (Give held end) ≡ Some (replied reply.Done place))
-give_done (ending.Replied answer place) held d = (place, ap (λ r. Some (replied r place)) (done_is answer d))
-give_done (ending.Again why) held d = absurd d
-
 pub done_in : (kept : Kept) (seen : Seen) (s : StashStep) → HasMadeAt s → wanted_in kept seen s ≡ want.Done → (place : ℕ) × (outcome_at s ≡ Some (replied reply.Done place))
 done_in kept seen (Ended end) d over = end_done end d
-done_in kept seen (Give held end) d over = give_done end held d
+done_in kept seen (Give held end) d over = done_then end d
 done_in kept seen s d over = absurd (no ((over_done kept seen s).1 over))
 
 -- ---- ends

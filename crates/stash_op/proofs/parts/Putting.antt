@@ -1,6 +1,6 @@
 -- Words alone are put into the memory, and words of the image and those right behind it are asked for.
-use Rattle.std.proofs.Common.{◌≡◌, ℕ, ◌+◌, ◌*◌, ◌%◌, ◌^◌, ◌<◌, ◌≤◌, Bool, true, false, Option, Some, None, List, refl, sym, subst, arith, slice_index}
-use Rattle.std.specs.Prelude.{⊤, ◌==◌, if◌then◌else◌}
+use Rattle.std.proofs.Common.{◌≡◌, ℕ, ◌+◌, ◌*◌, ◌%◌, ◌^◌, ◌<◌, ◌≤◌, Option, Some, None, List, refl, sym, subst, arith, slice_index}
+use Rattle.std.specs.Prelude.{⊤, ◌==◌}
 use Rattle.hash_word.specs.Hash.{finger_of}
 use Rattle.bucket_meta.specs.Marks.{finger_place}
 use Rattle.bucket_meta.specs.NoteWords.{unused_place, noted_fingers, raised_count}
@@ -25,7 +25,7 @@ use Rattle.phase.specs.declared.make.Make.{Make}
 use Rattle.phase.specs.declared.make.Make.TheVariants as make
 use Rattle.phase.specs.declared.kept.Kept.{Kept}
 use Rattle.phase.specs.Takes.{take_wanted}
-use Rattle.phase.specs.Makes.{make_wanted}
+use Rattle.phase.specs.Makes.{brought, make_wanted}
 use Rattle.phase.specs.Helds.{give_next, give_wanted_of}
 use Rattle.phase.specs.Buckets.{words_in}
 use Rattle.phase.specs.Giving.{IsLocated}
@@ -38,12 +38,13 @@ use Rattle.stash_op.specs.declared.step.NoteBucket.{NoteBucket}
 use Rattle.stash_op.specs.declared.step.NoteBucket.TheVariants.{Home, Probing}
 use Rattle.stash_op.specs.declared.step.NoteWords.{NoteWords}
 use Rattle.stash_op.specs.declared.step.Seen.{Seen}
-use Rattle.stash_op.specs.declared.step.NoteWord.{NoteWord}
-use Rattle.stash_op.specs.declared.step.NoteWord.TheVariants.{Mark, Fingers}
+use Rattle.phase.specs.declared.note.NoteWord.{NoteWord}
+use Rattle.phase.specs.declared.note.NoteWord.TheVariants.{Mark, Fingers}
+use Rattle.phase.proofs.Wording.{either_small}
 use Rattle.stash_op.specs.declared.step.StashStep.{StashStep}
 use Rattle.stash_op.specs.declared.step.StashStep.TheVariants.{Lock, Fill, Note, Draw, CountSpent, Give, Ended}
 use Rattle.stash_op.specs.declared.step.StashStep.TheVariants as step
-use Rattle.stash_op.specs.Search.{place_of, index_of, side_of, note_place, brought, noted_or, noted}
+use Rattle.stash_op.specs.Search.{place_of, index_of, side_of, note_place, noted_or, noted}
 use Rattle.stash_op.specs.Steps.{lock_of, note_wanted, wanted_in}
 use Rattle.stash_op.specs.Fits.{IsChosen, SuitsStep, IsIn}
 use Rattle.stash_op.proofs.finding.Standing.{located}
@@ -51,10 +52,6 @@ use Rattle.stash_op.proofs.finding.Chosen.{slot_low, key_is, value_is, published
 use Rattle.stash_op.proofs.permitting.Filled.{unused_is}
 
 -- ---- the note
-either_small : (b : Bool) (x y : ℕ) → x < 2 ^ 64 → y < 2 ^ 64 → (if b then x else y) < 2 ^ 64
-either_small true x y p q = p
-either_small false x y p q = q
-
 fingers_small : (w i finger : ℕ) → w < 2 ^ 64 → finger < 2 ^ 8 → noted_fingers w i finger < 2 ^ 64
 fingers_small w i finger fits small = either_small (i == 0) _ _ (finger_below w 6 finger small) (either_small (i == 1) _ w (finger_below w 7 finger small) fits)
 
@@ -207,7 +204,7 @@ module _ (site : Site) (kept : Kept) (is : IsIn site kept) (seen : Seen) (shape 
   line_in : (v : View) (s : StashStep) → SuitsStep site kept seen s v → HasLine (wanted_in kept seen s)
   line_in v (Lock b t) suits = take_line (place_of b) t
   line_in v (Fill b load) suits = tt
-  line_in v (step.Make m) suits = make_line (located site kept is suits.all.leads) m suits.chosen
+  line_in v (step.Make m) suits = make_line (located site kept is suits.all.there.within) m suits.chosen
   line_in v (Note part) suits = note_line part (noted kept.hash seen)
   line_in v Draw suits = tt
   line_in v CountSpent suits = tt

@@ -34,15 +34,16 @@ use Rattle.stash_op.specs.declared.step.NoteBucket.{NoteBucket}
 use Rattle.stash_op.specs.declared.step.NoteBucket.TheVariants.{Home, Probing}
 use Rattle.stash_op.specs.declared.step.NoteWords.{NoteWords}
 use Rattle.stash_op.specs.declared.step.Seen.{Seen}
-use Rattle.stash_op.specs.declared.step.NoteWord.{NoteWord}
-use Rattle.stash_op.specs.declared.step.NoteWord.TheVariants.{Mark, Fingers}
+use Rattle.phase.specs.declared.note.NoteWord.{NoteWord}
+use Rattle.phase.specs.declared.note.NoteWord.TheVariants.{Mark, Fingers}
+use Rattle.phase.proofs.Noting.{Four, notes_four, KeepsBeside}
 use Rattle.stash_op.specs.Search.{place_of, index_of, note_place, noted, has_finger}
 use Rattle.stash_op.specs.Steps.{lock_of}
 use Rattle.stash_op.specs.Fits.{loaded, prepared, changed, marked, owed, mark_kind, note_kind, words_of_note, IsHere, IsNoting, IsIn}
 use Rattle.stash_op.proofs.finding.Standing.{word_at}
 use Rattle.stash_op.proofs.finding.Chosen.{slot_low, published_is, lock_is, fits_slot}
 use Rattle.stash_op.proofs.permitting.Few.{few_uncounted}
-use Rattle.stash_op.proofs.permitting.Stored.{Four, one_of, three_of, with_one, with_three, notes_four, KeepsBeside, IsWith, Notes, four_of, notes}
+use Rattle.stash_op.proofs.permitting.Stored.{one_of, three_of, with_one, with_three, IsWith, Notes, four_of, notes}
 use Rattle.stash_op.proofs.permitting.Publishing.{far, index_low, located_all, holds_all}
 
 -- the bucket of a note, by the home

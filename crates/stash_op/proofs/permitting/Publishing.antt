@@ -28,7 +28,7 @@ use Rattle.phase.specs.declared.make.Make.TheVariants.{Publish}
 use Rattle.phase.specs.declared.kept.Kept.{Kept}
 use Rattle.phase.specs.Places.{bucket_of}
 use Rattle.phase.specs.Buckets.{words_in}
-use Rattle.phase.specs.Makes.{published_at}
+use Rattle.phase.specs.Makes.{brought, published_at}
 use Rattle.phase.specs.Giving.{IsLocated, IsQuiet}
 use Rattle.phase.specs.Knows.{Knows, HasNoneLoose}
 use Rattle.phase.specs.Making.{make_kind, FitsSlot}
@@ -41,7 +41,7 @@ use Rattle.phase.proofs.locks.Finding.{holders_find, prepared_nowhere}
 use Rattle.stash_op.specs.declared.step.StashBucket.{StashBucket}
 use Rattle.stash_op.specs.declared.step.StashBucket.TheVariants.{First, Second}
 use Rattle.stash_op.specs.declared.step.Seen.{Seen}
-use Rattle.stash_op.specs.Search.{place_of, index_of, brought}
+use Rattle.stash_op.specs.Search.{place_of, index_of}
 use Rattle.stash_op.specs.Steps.{lock_of}
 use Rattle.stash_op.specs.Fits.{loaded, prepared, owed, publish_kind, IsHere, HasAll, IsChanging, IsIn}
 use Rattle.stash_op.proofs.finding.Standing.{located, holds_for}
@@ -69,10 +69,10 @@ insert_by key Remove i = absurd i
 -- ---- what is held
 module _ (site : Site) (kept : Kept) (is : IsIn site kept) (seen : Seen) (v : View) (a : HasAll site kept seen v) where
   pub located_all : IsLocated site kept.site kept.segment
-  located_all = located site kept is a.leads
+  located_all = located site kept is a.there.within
 
   pub holds_all : (w : Words) → Knows (IsHere kept seen) w v → HoldsBuckets site kept.site kept.hash kept.segment seen.held w kept.change.key v
-  holds_all w knows = holds_for site kept is seen v a.leads a.locks a.home a.probing w knows
+  holds_all w knows = holds_for site kept is seen v a.there a.leads a.locks a.home a.probing w knows
 
 -- ---- the stores but the one
 module _ (site : Site) (kept : Kept) (is : IsIn site kept) (seen : Seen) (v : View) (m : Make) (c : IsChanging site kept seen m v) where

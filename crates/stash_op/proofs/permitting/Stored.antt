@@ -1,5 +1,5 @@
 -- What is stored of a note: in lists, the notes of the home are with it then, and those of its neighbours stay.
-use Rattle.std.proofs.Common.{◌≡◌, ◌≢◌, ℕ, ◌%◌, ◌^◌, ◌<◌, Option, None, Some, List, ◌∷◌, ◌++◌, refl, sym, ap, ◌∙◌, subst, arith, slice_index}
+use Rattle.std.proofs.Common.{◌≡◌, ℕ, ◌%◌, ◌^◌, ◌<◌, Option, None, Some, List, ◌∷◌, ◌++◌, refl, sym, ap, ◌∙◌, subst, arith, slice_index}
 use Rattle.bucket_meta.specs.Bucket.{note_used, note_finger, overflow_count}
 use Rattle.bucket_meta.specs.Notes.{OverflowNote, AreExact}
 use Rattle.bucket_meta.specs.NoteWords.{unused_place, noted_mark, noted_fingers, raised_count, FillsPlace}
@@ -11,13 +11,7 @@ use Rattle.stash_op.specs.declared.step.NoteBucket.TheVariants.{Home, Probing}
 use Rattle.stash_op.specs.declared.step.NoteWords.{NoteWords}
 use Rattle.stash_op.specs.Search.{noted_or, noted_by}
 use Rattle.stash_op.proofs.permitting.Filled.{unused_is, one_more, other_side, raised_lists, raised, raised_slots, exact_put, exact_counted}
-
--- words 1 and 3 of a home bucket and of its probing bucket
-pub record Four : Type 0 where
-  pub h1 : ℕ
-  pub h3 : ℕ
-  pub p1 : ℕ
-  pub p3 : ℕ
+use Rattle.phase.proofs.Noting.{Four, notes_four, KeepsBeside, apart, apart_back}
 
 abbrev pub one_of : NoteBucket → Four → ℕ
 one_of Home f = f.h1
@@ -35,16 +29,6 @@ abbrev pub with_three : NoteBucket → ℕ → Four → Four
 with_three Home x f = record f { h3 = x }
 with_three Probing x f = record f { p3 = x }
 
--- the notes of the home
-abbrev pub notes_four : Four → List OverflowNote
-notes_four f = notes_by f.h1 f.h3 0 ++ notes_by f.p1 f.p3 1
-
--- what is said of the homes beside it stays
-pub record KeepsBeside (f g : Four) : Type 0 where
-  pub before : notes_by g.h1 g.h3 1 ≡ notes_by f.h1 f.h3 1
-  pub after : notes_by g.p1 g.p3 0 ≡ notes_by f.p1 f.p3 0
-  pub count : overflow_count g.p1 ≡ overflow_count f.p1
-
 -- notes that were exact with one that was owed are so now
 abbrev pub IsWith : Four → OverflowNote → Four → Type 0
 IsWith f note g = (stashed : List OverflowNote) → AreExact (note ∷ notes_four f) (overflow_count f.h1) stashed → AreExact (notes_four g) (overflow_count g.h1) stashed
@@ -57,12 +41,6 @@ pub record Notes (f : Four) (note : OverflowNote) (n : NoteWords) : Type 0 where
   pub second : KeepsBeside (with_one n.bucket n.mark f) (with_three n.bucket n.fingers (with_one n.bucket n.mark f))
   pub alone : three_of n.bucket f ≡ n.fingers → IsWith f note (with_one n.bucket n.mark f)
   pub both : IsWith f note (with_three n.bucket n.fingers (with_one n.bucket n.mark f))
-
-apart : ◌≢◌ {A = ℕ} 0 1
-apart e = omega (arith, e)
-
-apart_back : ◌≢◌ {A = ℕ} 1 0
-apart_back e = omega (arith, e)
 
 module _ (f : Four) (finger index : ℕ) (small : finger < 2 ^ 8) (index_bit : index < 2) where
   abbrev note : OverflowNote
