@@ -1,6 +1,7 @@
 -- The refusal of an insert has its cause: its home and its probing bucket and both stash buckets, as they were loaded, have no free slot
--- and no slot with its key, and nothing can be moved; and the one segment of the image is not free, and has the depth that the reply tells.
-use Rattle.std.proofs.Common.{◌≡◌, ◌≢◌, ℕ, ◌+◌, ◌*◌, ◌<◌, ◌≤◌, Bool, true, false, Option, None, Some, List, refl, sym, ap, ◌∙◌, subst, arith, slice_index}
+-- and no slot with its key, and nothing can be moved; the segment has the depth that the reply tells, since its header is as it was loaded
+-- while it is pinned; and where that is less than the image allows, in a table that is grown out, the one segment of the image is not free.
+use Rattle.std.proofs.Common.{◌≡◌, ◌≢◌, ℕ, ◌+◌, ◌*◌, ◌<◌, ◌≤◌, Bool, true, false, Option, None, Some, List, inl, inr, refl, sym, ap, ◌∙◌, subst, arith, slice_index}
 use Rattle.std.specs.Prelude.{◌==◌, if◌then◌else◌}
 use Rattle.std.proofs.lemmas.Bool.{eqb-true, eqb-false, lt-ltb}
 use Rattle.std.proofs.lemmas.Option.{none-some, same_Some}
@@ -10,11 +11,15 @@ use Rattle.op_core.specs.declared.want.Ans.{Ans}
 use Rattle.op_core.specs.declared.want.Ans.TheVariants.{Passed}
 use Rattle.op_core.specs.declared.why.Why.{Why}
 use Rattle.bucket_meta.specs.Bucket.{allocated, record_slots}
-use Rattle.segment_head.specs.HeadWord.{depth_in, state_in}
+use Rattle.segment_head.specs.HeadWord.{depth_in, state_in, free}
 use Rattle.trace.specs.Events.{Words}
 use Rattle.image_layout.specs.Places.{Shape, root_word, head_at, bucket_at}
 use Rattle.sound_image.specs.Records.{key_hash}
+use Rattle.sound_image.specs.Segments.{frame_of, IsLive}
+use Rattle.segment_table.proofs.frames.SoundFrames.{not_free}
+use Rattle.bucket_words.specs.Owners.{HasStructure}
 use Rattle.way.specs.Ways.{head_word}
+use Rattle.way.proofs.Leading.{leading_is}
 use Rattle.map_model.specs.declared.call.Call.{Call}
 use Rattle.map_model.specs.declared.entry.Reply.TheVariants.{Full, Deep}
 use Rattle.map_model.specs.Map.{key_of}
@@ -24,6 +29,9 @@ use Rattle.world.specs.declared.site.Site.{Site as Here}
 use Rattle.world.specs.Site.{Site, IsSite}
 use Rattle.world.specs.Views.{View, Has}
 use Rattle.world.specs.Wants.{answer_to, word_of}
+use Rattle.world.specs.Conditions.{IsNewest}
+use Rattle.world.proofs.holding.Beside.{newest_is}
+use Rattle.world.proofs.Structures.{header_is}
 use Rattle.part.specs.Doings.{Doings}
 use Rattle.part.specs.Outcomes.{Outcome, replied, again, finished}
 use Rattle.part.specs.Causes.{IsNamed, hash_for, WasMeta, IsFullOfOthers, FindsNoRoom, WasHead, HasDepth, NoSlotIsFree, HasReplyCause, HasCause, EndsByCause}
@@ -40,18 +48,17 @@ use Rattle.phase.specs.Third.{NothingToMove}
 use Rattle.phase.proofs.Causing.{found_named}
 use Rattle.phase.proofs.Handing.{key_called}
 use Rattle.phase.proofs.locks.Giving.{bucket_near, lock_at}
-use Rattle.phase.specs.Stands.{IsStraight}
 use Rattle.refuse_op.specs.declared.op.RefuseStep.{RefuseStep}
 use Rattle.refuse_op.specs.declared.op.RefuseStep.TheVariants.{Count, Give, Ended}
+use Rattle.refuse_op.specs.Grown.{AllGrown}
 use Rattle.refuse_op.specs.Steps.{no_room, given_by, giving, wanted_in, next_in, wanted}
 use Rattle.refuse_op.specs.RefusePart.{outcome_at, RefusalStands, RemembersAt, refuse_part, BeginsRemembering, NeverFinished}
 use Rattle.refuse_op.proofs.Room.{word_here, full_at}
-use Rattle.refuse_op.proofs.Single.{single_live, single_flat}
 use Rattle.refuse_op.proofs.RefuseIsPart.{giving_outcome}
 
 -- ---- the cause of the reply
-module _ (site : Site) (good : IsSite site) (straight : IsStraight site) (single : site.shape.segments ≡ 1) (words : Words) (call : Call) (kept : Kept) (same : call_of kept.change ≡ call) (v : View)
-    (all : KeepsFull site kept v) (did : Doings) (r : RemembersRoom site kept did.loads) (nothing : NothingToMove kept did.loads) where
+module _ (site : Site) (good : IsSite site) (grown : AllGrown site.shape site.front) (words : Words) (constant : HasStructure site.shape site.front words) (call : Call) (kept : Kept) (same : call_of kept.change ≡ call) (v : View)
+    (new : IsNewest site v words) (all : KeepsFull site kept v) (did : Doings) (r : RemembersRoom site kept did.loads) (nothing : NothingToMove kept did.loads) where
   abbrev keeps : KeepsAll site kept v
   keeps = all.keeps
 
@@ -86,17 +93,41 @@ module _ (site : Site) (good : IsSite site) (straight : IsStraight site) (single
   was_head : WasHead site.shape words did call segment r.path.head
   was_head = subst (λ i. Has (i, r.path.head) did.loads) head_at_is r.found.1
 
-  flat : depth_in r.path.head ≡ 0
-  flat = ap depth_in r.head ∙ single_flat site good straight single segment within
+  -- the header that is kept is the newest one, and live
+  head_is : words (head_at site.shape segment + 1) ≡ kept.head
+  head_is = new.pinned segment kept.head keeps.pinned
+
+  newest_head : r.path.head ≡ words (head_at site.shape segment + 1)
+  newest_head = r.head ∙ sym head_is
+
+  is_live : IsLive (frame_of site.shape words) segment
+  is_live = inl (ap state_in head_is ∙ (leading_is kept.head kept.hash keeps.leads).normal)
+
+  not_free_there : state_in r.path.head ≢ free
+  not_free_there e = not_free (frame_of site.shape words) segment is_live (sym (ap state_in newest_head) ∙ e)
+
+  -- it is no deeper than the image allows; and where it is less deep in a table that is grown out, there is one slot alone
+  low : depth_in r.path.head ≤ site.shape.depth
+  low = subst (λ h1. depth_in h1 ≤ site.shape.depth) (sym newest_head)
+      ((new.structure.sound.head segment within).depth_fits (not_free (frame_of site.shape words) segment is_live))
+
+  at_front : site.front (head_at site.shape segment + 1) ≡ r.path.head
+  at_front = sym (constant (head_at site.shape segment + 1) (header_is site.shape segment within)) ∙ sym newest_head
+
+  alone : depth_in r.path.head < site.shape.depth → site.shape.segments ≡ 1
+  alone less = elim (grown segment within) [
+    | inl one ↦ one
+    | inr deep ↦ absurd (let d = sym (ap depth_in at_front) ∙ deep.1 in omega (arith, d, less))
+  ]
 
   has_depth : (Passes : ℕ → Type 0) → Passes (depth_in r.path.head) → HasDepth site.shape words did call segment Passes
   has_depth Passes passes = (r.path.head, was_head, passes)
 
-  none_is_free : NoSlotIsFree site.shape words did call
-  none_is_free slot low = (
+  none_is_free : site.shape.segments ≡ 1 → NoSlotIsFree site.shape words did call
+  none_is_free one slot low = (
     r.path.head,
-    subst (λ s. WasHead site.shape words did call s r.path.head) (let only = within in omega (arith, only, low, single)) was_head,
-    (λ e. single_live site good straight single segment within (sym (ap state_in r.head) ∙ e)),
+    subst (λ s. WasHead site.shape words did call s r.path.head) (let only = within in omega (arith, only, low, one)) was_head,
+    not_free_there,
   )
 
   -- ---- its buckets
@@ -107,7 +138,7 @@ module _ (site : Site) (good : IsSite site) (straight : IsStraight site) (single
       subst (λ h. Has (bucket_at site.shape segment (bucket_of h place) + j, slice_index (words_in kept.buckets place) j) did.loads) hash_is
       (subst (λ l. Has (l + j, slice_index (words_in kept.buckets place) j) did.loads) (lock_at site kept.site kept.hash segment keeps.holds.located place) (was j from low))
 
-  meta_loaded : (place : Place) → WasLoaded kept did.loads place → WasMeta site.shape words did call segment (bucket_of hash place) (slice_index (words_in kept.buckets place) 1)
+  meta_loaded : (place : Place) → WasLoaded kept did.loads place → WasMeta site.shape did.loads segment (bucket_of hash place) (slice_index (words_in kept.buckets place) 1)
   meta_loaded place was = loaded place was 1 (omega arith) (omega arith)
 
   -- none of the keys of a bucket that is full is that of the call
@@ -129,8 +160,7 @@ module _ (site : Site) (good : IsSite site) (straight : IsStraight site) (single
   full_of_others place held own full =
       let was = r.buckets place held own in
       record {
-        loaded = meta_loaded place was;
-        full = full;
+        was = record { loaded = meta_loaded place was; full = full };
         others = λ slot low. (slice_index (words_in kept.buckets place) (4 + 2 * slot), loaded place was (4 + 2 * slot) (omega arith) (omega (arith, low)), other place held own full slot low);
       }
 
@@ -158,40 +188,35 @@ module _ (site : Site) (good : IsSite site) (straight : IsStraight site) (single
   depth_is : kept.site.geometry.depth ≡ site.shape.depth
   depth_is = ap (λ (g : Shape). g.depth) keeps.holds.located.shape
 
-  reply_by : (b : Bool) → (kept.site.geometry.depth == 0) ≡ b → HasReplyCause site.shape words did call (if b then Deep else Full)
-  reply_by true is = (
-    segment,
-    no_room_there,
-    has_depth (λ depth. depth ≡ site.shape.depth) (flat ∙ sym (sym depth_is ∙ eqb-true kept.site.geometry.depth 0 is)),
-  )
-  reply_by false is = (
-    segment,
-    no_room_there,
-    has_depth (λ depth. depth < site.shape.depth) (let some = eqb-false kept.site.geometry.depth 0 is in let d = depth_is in let f = flat in omega (arith, some, d, f)),
-    none_is_free,
-  )
+  reply_by : (b : Bool) → (depth_in kept.head == kept.site.geometry.depth) ≡ b → HasReplyCause site.shape words did call (if b then Deep else Full)
+  reply_by true is =
+      (segment, no_room_there, has_depth (λ depth. depth ≡ site.shape.depth) (ap depth_in r.head ∙ eqb-true (depth_in kept.head) kept.site.geometry.depth is ∙ depth_is))
+  reply_by false is =
+      let differ = eqb-false (depth_in kept.head) kept.site.geometry.depth is in
+      let less : depth_in r.path.head < site.shape.depth = (let same = ap depth_in r.head in let d = depth_is in let most = low in omega (arith, differ, same, d, most)) in
+      (segment, no_room_there, has_depth (λ depth. depth < site.shape.depth) less, none_is_free (alone less))
 
-  reply_caused : HasReplyCause site.shape words did call (no_room kept.site)
-  reply_caused = reply_by (kept.site.geometry.depth == 0) refl
+  reply_caused : HasReplyCause site.shape words did call (no_room kept)
+  reply_caused = reply_by (depth_in kept.head == kept.site.geometry.depth) refl
 
 -- ---- by the step
-module _ (site : Site) (good : IsSite site) (here : Here) (call : Call) (words : Words) (kept : Kept) (v : View) (did : Doings) where
+module _ (site : Site) (good : IsSite site) (here : Here) (call : Call) (words : Words) (constant : HasStructure site.shape site.front words) (kept : Kept) (v : View) (new : IsNewest site v words) (did : Doings) where
   abbrev Caused : Want → Outcome → Type 0
   Caused event outcome = HasCause site.shape words did call event here outcome
 
   caused_at : (s : RefuseStep) (n : ℕ) → RefusalStands site here call (record { kept = kept; step = s }) v → RemembersAt site kept did.loads s → outcome_at kept s ≡ None
       → (outcome : Outcome) → outcome_at kept (next_in kept s (answer_to (wanted_in kept s) n)) ≡ Some outcome → Caused (wanted_in kept s) outcome
   caused_at Count n st r none outcome some =
-      subst (Caused (wanted_in kept Count)) (same_Some (replied (no_room kept.site) n) outcome (sym (giving_outcome kept kept.held n) ∙ some))
-      (reply_caused site good st.may.straight st.may.single words call kept st.may.same v st.view did r.0 r.1)
-  caused_at (Give held count) n st r none outcome some = absurd (none-some (replied (no_room kept.site) count) (sym none))
-  caused_at (Ended count) n st r none outcome some = absurd (none-some (replied (no_room kept.site) count) (sym none))
+      subst (Caused (wanted_in kept Count)) (same_Some (replied (no_room kept) n) outcome (sym (giving_outcome kept kept.held n) ∙ some))
+      (reply_caused site good st.may.grown words constant call kept st.may.same v new st.view did r.0 r.1)
+  caused_at (Give held count) n st r none outcome some = absurd (none-some (replied (no_room kept) count) (sym none))
+  caused_at (Ended count) n st r none outcome some = absurd (none-some (replied (no_room kept) count) (sym none))
 
 -- what is told is a reply
 told : (kept : Kept) (s : RefuseStep) (n : ℕ) (why : Why) → outcome_at kept s ≡ None → outcome_at kept (next_in kept s (answer_to (wanted_in kept s) n)) ≡ Some (again why) → ⊥
-told kept Count n why none some = absurd (let same = same_Some (replied (no_room kept.site) n) (again why) (sym (giving_outcome kept kept.held n) ∙ some) in cc)
-told kept (Give held count) n why none some = absurd (none-some (replied (no_room kept.site) count) (sym none))
-told kept (Ended count) n why none some = absurd (none-some (replied (no_room kept.site) count) (sym none))
+told kept Count n why none some = absurd (let same = same_Some (replied (no_room kept) n) (again why) (sym (giving_outcome kept kept.held n) ∙ some) in cc)
+told kept (Give held count) n why none some = absurd (none-some (replied (no_room kept) count) (sym none))
+told kept (Ended count) n why none some = absurd (none-some (replied (no_room kept) count) (sym none))
 
 -- nothing has to be remembered behind the counter
 module _ (site : Site) (kept : Kept) (loads : List (ℕ × ℕ)) where
@@ -219,14 +244,14 @@ stays_at kept (Ended count) a outcome some = some
 
 decided_at : (kept : Kept) (s : RefuseStep) → wanted_in kept s ≡ want.Done → (outcome : Outcome) × (outcome_at kept s ≡ Some outcome)
 decided_at kept Count done = absurd (let z = done in cc)
-decided_at kept (Give held count) done = (replied (no_room kept.site) count, refl)
-decided_at kept (Ended count) done = (replied (no_room kept.site) count, refl)
+decided_at kept (Give held count) done = (replied (no_room kept) count, refl)
+decided_at kept (Ended count) done = (replied (no_room kept) count, refl)
 
 -- no step ends without a reply
 finished_at : (kept : Kept) (s : RefuseStep) → outcome_at kept s ≡ Some finished → ⊥
 finished_at kept Count some = none-some finished some
-finished_at kept (Give held count) some = absurd (let same = same_Some (replied (no_room kept.site) count) finished some in cc)
-finished_at kept (Ended count) some = absurd (let same = same_Some (replied (no_room kept.site) count) finished some in cc)
+finished_at kept (Give held count) some = absurd (let same = same_Some (replied (no_room kept) count) finished some in cc)
+finished_at kept (Ended count) some = absurd (let same = same_Some (replied (no_room kept) count) finished some in cc)
 
 -- EACH OUTCOME of a refusal has its cause
 pub refuse_ends_by_cause : EndsByCause refuse_part
@@ -235,7 +260,7 @@ refuse_ends_by_cause = record {
       let n : ℕ = words (word_of site.shape (wanted op)) in
       record {
         remembers = remembers_at site op.kept _ op.step n;
-        caused = λ outcome none some. caused_at site h.site_is here call words op.kept v did op.step n s.stands r none outcome some;
+        caused = λ outcome none some. caused_at site h.site_is here call words h.structure.constant op.kept v (newest_is site words views j v h at) did op.step n s.stands r none outcome some;
         worked = λ none some. finished_at op.kept (next_in op.kept op.step (answer_to (wanted op) n)) some;
         not_own = λ word value none some. absurd (told op.kept op.step n _ none some);
       };

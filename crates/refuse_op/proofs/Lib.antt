@@ -1,4 +1,3 @@
-pub mod Single
 pub mod Room
 pub mod RefuseIsPart
 pub mod Causing

@@ -5,6 +5,7 @@ use Rattle.op_core.specs.declared.want.Want.TheVariants as want
 use Rattle.op_core.specs.declared.want.Ans.{Ans}
 use Rattle.op_core.specs.declared.want.Ans.TheVariants.{Value}
 use Rattle.op_core.specs.Answers.{IsAnswer}
+use Rattle.segment_head.specs.HeadWord.{depth_in}
 use Rattle.image_layout.specs.Places.{Shape}
 use Rattle.image_layout.specs.Volatile.{counter_word}
 use Rattle.map_model.specs.declared.call.Call.{Call}
@@ -41,7 +42,7 @@ use Rattle.phase.proofs.Wanting.{give_answered}
 use Rattle.refuse_op.proofs.Room.{knows_no_room}
 
 -- ---- the reply
-module _ (here : Here) where
+module _ (kept : Kept) where
   abbrev Said : (Reply → Type 0) → Bool → Type 0
   Said P b = P (if b then reply.Deep else reply.Full)
 
@@ -49,16 +50,16 @@ module _ (here : Here) where
   either_said P deep full true = deep
   either_said P deep full false = full
 
-  pub said : (P : Reply → Type 0) → P reply.Deep → P reply.Full → P (no_room here)
-  said P deep full = either_said P deep full (here.geometry.depth == 0)
+  pub said : (P : Reply → Type 0) → P reply.Deep → P reply.Full → P (no_room kept)
+  said P deep full = either_said P deep full (depth_in kept.head == kept.site.geometry.depth)
 
 -- ---- what is decided, and the view, where locks are given back
 module _ (kept : Kept) where
-  next_outcome : (held : Held) (count : ℕ) (next : Option (Place × ℕ)) → outcome_at kept (given_by next held count) ≡ Some (replied (no_room kept.site) count)
+  next_outcome : (held : Held) (count : ℕ) (next : Option (Place × ℕ)) → outcome_at kept (given_by next held count) ≡ Some (replied (no_room kept) count)
   next_outcome held count (Some next) = refl
   next_outcome held count None = refl
 
-  pub giving_outcome : (held : Held) (count : ℕ) → outcome_at kept (giving held count) ≡ Some (replied (no_room kept.site) count)
+  pub giving_outcome : (held : Held) (count : ℕ) → outcome_at kept (giving held count) ≡ Some (replied (no_room kept) count)
   giving_outcome held count = next_outcome held count (give_next held)
 
 module _ (site : Site) (kept : Kept) where
@@ -71,7 +72,7 @@ module _ (site : Site) (kept : Kept) where
   giving_suits held count u g = by_next held count u g (give_next held) refl
 
 -- ---- one step
-module _ (site : Site) (good : IsSite site) (here : Here) (call : Call) (kept : Kept) (before v : View) where
+module _ (site : Site) (here : Here) (call : Call) (kept : Kept) (before v : View) where
   abbrev Stood : RefuseStep → View → Type 0
   Stood s u = RefusalStands site here call (record { kept = kept; step = s }) u
 
@@ -88,10 +89,10 @@ module _ (site : Site) (good : IsSite site) (here : Here) (call : Call) (kept : 
 
   may : (s : RefuseStep) → Stood s v → May site (kind_at kept s) v
   may Count s = (
-    said kept.site (λ r. is_done r ≡ false) refl refl,
-    inl (λ a. said kept.site (λ r. MayReply a (call_of kept.change) r) s.view.keeps.insert s.view.keeps.insert),
-    knows_no_room site kept v s.view good s.may.straight s.may.single s.may.buckets s.may.key,
-    said kept.site (λ r. IsKnownSpent site v r) (λ e. absurd (cc)) (λ e. absurd (cc)),
+    said kept (λ r. is_done r ≡ false) refl refl,
+    inl (λ a. said kept (λ r. MayReply a (call_of kept.change) r) s.view.keeps.insert s.view.keeps.insert),
+    knows_no_room site kept v s.view,
+    said kept (λ r. IsKnownSpent site v r) (λ e. absurd (cc)) (λ e. absurd (cc)),
   )
   may (Give held count) s = give_stands.may site kept.site kept.hash kept.segment held v s.view.locks s.view.quiet
   may (Ended count) s = tt
@@ -120,15 +121,15 @@ module _ (site : Site) (good : IsSite site) (here : Here) (call : Call) (kept : 
 
   enters : (s : RefuseStep) (n : ℕ) → Stood s v → Enters s v → wanted_in kept s ≢ want.Done → Enters (next_in kept s (answer_to (wanted_in kept s) n)) (next_view s n)
   enters Count n s e asks =
-      let r : Reply = no_room kept.site in
-      let one = one_more call before v r n (said kept.site (λ x. is_done x ≡ false) refl refl) e in
+      let r : Reply = no_room kept in
+      let one = one_more call before v r n (said kept (λ x. is_done x ≡ false) refl refl) e in
       subst (λ (o : Option Outcome). EntersReply call (reply_of o) before (next_view Count n)) (sym (giving_outcome kept kept.held n))
       (subst (λ (c : Call). EntersReply call (Some (r, n)) before (with_reply v (next_entry v c r n false))) (sym s.may.same) one)
   enters (Give held count) n s e asks =
       let u : View = next_view (Give held count) n in
       subst (λ (a : Ans). Enters (next_in kept (Give held count) a) u) (sym (give_answer kept.site kept.hash kept.segment (give_next held) n))
       (subst (λ (o : Option Outcome). EntersReply call (reply_of o) before u) (sym (giving_outcome kept (given held) count))
-      (same_more call before v (Some (no_room kept.site, count)) u e (give_own site.shape kept.site kept.hash kept.segment (give_next held) n v) (give_seen site.shape kept.site kept.hash kept.segment (give_next held) n v)))
+      (same_more call before v (Some (no_room kept, count)) u e (give_own site.shape kept.site kept.hash kept.segment (give_next held) n v) (give_seen site.shape kept.site kept.hash kept.segment (give_next held) n v)))
   enters (Ended count) n s e asks = absurd (asks refl)
 
 -- it makes no change
@@ -221,10 +222,10 @@ refuse_is_part = record {
   steps = λ site here call words views j op before v h at s asks.
       let n : ℕ = words (word_of site.shape (wanted op)) in
       record {
-        wants = wants site h.site_is here call op.kept before v op.step s.stands asks;
-        may = may site h.site_is here call op.kept before v op.step s.stands;
-        stands = λ small. stands site h.site_is here call op.kept before v op.step n s.stands asks;
-        enters = λ small. enters site h.site_is here call op.kept before v op.step n s.stands s.enters asks;
+        wants = wants site here call op.kept before v op.step s.stands asks;
+        may = may site here call op.kept before v op.step s.stands;
+        stands = λ small. stands site here call op.kept before v op.step n s.stands asks;
+        enters = λ small. enters site here call op.kept before v op.step n s.stands s.enters asks;
         makes = λ p. absurd (makes_none op.kept op.step p);
       };
   ends = λ site here call op v s done closed. bare_at site op.kept op.step v s.view done;

@@ -1,5 +1,6 @@
 -- Which replies a refusal tells, and that it tells its outcome at its end.
-use Rattle.std.specs.Prelude.{◌≡◌, ℕ, ◌<◌, ◌⊎◌, Option, Some}
+use Rattle.std.specs.Prelude.{◌≡◌, ◌≢◌, ℕ, ◌⊎◌, Option, Some}
+use Rattle.segment_head.specs.HeadWord.{depth_in}
 use Rattle.op_core.specs.declared.want.Want.TheVariants.{Done}
 use Rattle.map_model.specs.declared.entry.Reply.{Reply}
 use Rattle.map_model.specs.declared.entry.Reply.TheVariants.{Full, Deep}
@@ -17,8 +18,8 @@ outcome_of ends.Off = Some off
 abbrev pub EndsAsSaid : Type 0
 EndsAsSaid = (op : RefuseOp) → wanted op ≡ Done → outcome_at op.kept op.step ≡ outcome_of (end_of op)
 
--- IT TELLS NO REPLY BUT THESE, in any state: that the structure is as deep as its image allows, where that is depth 0, and else that it
--- is full
+-- IT TELLS NO REPLY BUT THESE, in any state: that its segment is as deep as the image allows, where the header that is kept has that
+-- depth, and else that the table is full
 abbrev pub RepliesByDepth : Type 0
 RepliesByDepth = (op : RefuseOp) (answer : Reply) (count : ℕ) → outcome_at op.kept op.step ≡ Some (replied answer count)
-    → ((answer ≡ Deep) × (op.kept.site.geometry.depth ≡ 0)) ⊎ ((answer ≡ Full) × (0 < op.kept.site.geometry.depth))
+    → ((answer ≡ Deep) × (depth_in op.kept.head ≡ op.kept.site.geometry.depth)) ⊎ ((answer ≡ Full) × (depth_in op.kept.head ≢ op.kept.site.geometry.depth))

@@ -1,3 +1,4 @@
+pub mod Grown
 pub mod Steps
 pub mod RefusePart
 pub mod Ends

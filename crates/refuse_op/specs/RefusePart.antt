@@ -1,6 +1,6 @@
 -- The refusal as a part of a call: of what an insert kept it may begin, the view in each of its steps, what it remembers, and how it
 -- never ends.
-use Rattle.std.specs.Prelude.{◌≡◌, ℕ, ◌^◌, ◌<◌, ⊤, false, Option, None, Some, List, []}
+use Rattle.std.specs.Prelude.{◌≡◌, ℕ, ⊤, false, Option, None, Some, List, []}
 use Rattle.image_layout.specs.Places.{root_word}
 use Rattle.map_model.specs.declared.call.Call.{Call}
 use Rattle.map_model.specs.Changes.{call_of}
@@ -12,18 +12,15 @@ use Rattle.world.specs.Attempts.{HoldsOnly}
 use Rattle.part.specs.Doings.{Doings}
 use Rattle.part.specs.Outcomes.{Outcome, replied, finished}
 use Rattle.part.specs.Part.{Part}
-use Rattle.phase.specs.declared.place.Place.{Place}
 use Rattle.phase.specs.declared.held.Held.{Held}
 use Rattle.phase.specs.declared.kept.Kept.{Kept}
-use Rattle.phase.specs.Stands.{IsStraight}
-use Rattle.phase.specs.AreWords.{AreWords}
-use Rattle.phase.specs.Buckets.{words_in}
 use Rattle.phase.specs.Giving.{IsLocated, IsQuiet, HoldsLocks, give_kind, give_left}
 use Rattle.phase.specs.Keeps.{KeepsFull, RemembersRoom}
 use Rattle.phase.specs.Third.{NothingToMove}
 use Rattle.refuse_op.specs.declared.op.RefuseStep.{RefuseStep}
 use Rattle.refuse_op.specs.declared.op.RefuseStep.TheVariants.{Count, Give, Ended}
 use Rattle.refuse_op.specs.declared.op.RefuseOp.{RefuseOp}
+use Rattle.refuse_op.specs.Grown.{AllGrown}
 use Rattle.refuse_op.specs.Steps.{no_room, refused, wanted, taken}
 
 -- ---- its events
@@ -38,15 +35,15 @@ left_at (Ended count) = 0
 
 module _ (kept : Kept) where
   abbrev pub kind_at : RefuseStep → Kind
-  kind_at Count = refuses (call_of kept.change) (no_room kept.site)
+  kind_at Count = refuses (call_of kept.change) (no_room kept)
   kind_at (Give held count) = give_kind kept.site kept.hash kept.segment held
   kind_at (Ended count) = peeks root_word
 
   -- from the counter on it is decided
   abbrev pub outcome_at : RefuseStep → Option Outcome
   outcome_at Count = None
-  outcome_at (Give held count) = Some (replied (no_room kept.site) count)
-  outcome_at (Ended count) = Some (replied (no_room kept.site) count)
+  outcome_at (Give held count) = Some (replied (no_room kept) count)
+  outcome_at (Ended count) = Some (replied (no_room kept) count)
 
   -- ---- THE VIEW in each step
   -- these locks are held, and nothing is unsettled, planned, under way or owed
@@ -60,15 +57,12 @@ module _ (kept : Kept) where
   SuitsStep site (Give held count) v = IsGivingBack site held v
   SuitsStep site (Ended count) v = HoldsOnly [] v
 
--- WHAT MAY BE REFUSED: the call's insert, of a key that is a word, as is what was loaded of its buckets; in an image of one segment,
--- since in one of more, records may be left that are another segment's, and a full bucket says nothing of the map
+-- WHAT MAY BE REFUSED: the call's insert, in a table that is grown out: who loaded the header of one segment alone does not know that
+-- no other slot is free
 pub record MayBeRefused (site : Site) (here : Here) (call : Call) (kept : Kept) : Type 0 where
   pub same : call_of kept.change ≡ call
   pub at : kept.site ≡ here
-  pub straight : IsStraight site
-  pub single : site.shape.segments ≡ 1
-  pub key : kept.change.key < 2 ^ 64
-  pub buckets : (place : Place) → AreWords (words_in kept.buckets place)
+  pub grown : AllGrown site.shape site.front
 
 pub record RefusalStands (site : Site) (here : Here) (call : Call) (op : RefuseOp) (v : View) : Type 0 where
   pub may : MayBeRefused site here call op.kept

@@ -1,5 +1,6 @@
 -- What a refusal wants, and what an answer makes of it; the reply, and how it ends.
 use Rattle.std.specs.Prelude.{ℕ, ◌==◌, Option, None, Some, if◌then◌else◌}
+use Rattle.segment_head.specs.HeadWord.{depth_in}
 use Rattle.image_layout.specs.Volatile.{counter_word}
 use Rattle.op_core.specs.declared.want.Want.{Want}
 use Rattle.op_core.specs.declared.want.Want.TheVariants as want
@@ -7,7 +8,6 @@ use Rattle.op_core.specs.declared.want.Ans.{Ans}
 use Rattle.op_core.specs.declared.want.Ans.TheVariants.{Value, Passed}
 use Rattle.map_model.specs.declared.entry.Reply.{Reply}
 use Rattle.map_model.specs.declared.entry.Reply.TheVariants.{Full, Deep}
-use Rattle.world.specs.declared.site.Site.{Site}
 use Rattle.phase.specs.declared.place.Place.{Place}
 use Rattle.phase.specs.declared.held.Held.{Held}
 use Rattle.phase.specs.declared.kept.Kept.{Kept}
@@ -18,9 +18,9 @@ use Rattle.refuse_op.specs.declared.op.RefuseStep.{RefuseStep}
 use Rattle.refuse_op.specs.declared.op.RefuseStep.TheVariants.{Count, Give, Ended}
 use Rattle.refuse_op.specs.declared.op.RefuseOp.{RefuseOp}
 
--- the reply where there is no room: the table does not grow, and one of depth 0 may not
-abbrev pub no_room : Site → Reply
-no_room site = if site.geometry.depth == 0 then Deep else Full
+-- the reply where there is no room: a segment as deep as the image allows is never split, and for another there is no slot
+abbrev pub no_room : Kept → Reply
+no_room kept = if depth_in kept.head == kept.site.geometry.depth then Deep else Full
 
 -- the locks that are held are given back, one after another, and then it ends
 abbrev pub given_by : Option (Place × ℕ) → Held → ℕ → RefuseStep
@@ -53,10 +53,10 @@ abbrev pub taken : RefuseOp → Ans → RefuseOp
 taken op ans = record { kept = op.kept; step = next_in op.kept op.step ans }
 
 -- HOW IT ENDS; one that has not loaded the counter counts as one with the power off
-abbrev pub end_at : Site → RefuseStep → RefuseEnd
-end_at site (Ended count) = Replied (no_room site) count
-end_at site (Give held count) = Replied (no_room site) count
-end_at site Count = Off
+abbrev pub end_at : Kept → RefuseStep → RefuseEnd
+end_at kept (Ended count) = Replied (no_room kept) count
+end_at kept (Give held count) = Replied (no_room kept) count
+end_at kept Count = Off
 
 abbrev pub end_of : RefuseOp → RefuseEnd
-end_of op = end_at op.kept.site op.step
+end_of op = end_at op.kept op.step

@@ -1,8 +1,8 @@
 //! The refusal of an insert that found no slot, nothing to move, and a full stash: a machine that goes on from what was kept.
 //!
 //! [`RefuseOp`] asks for one event at a time: the commit counter, which places the reply, and the stores that give back the locks,
-//! six at the most. Then it tells its [`RefuseEnd`]: `DEEP` where the image's greatest depth is 0, else `FULL`. `specs/` says the
-//! same by cases, and why the reply is right.
+//! six at the most. Then it tells its [`RefuseEnd`]: `DEEP` where its segment is as deep as the image allows, else `FULL`. `specs/`
+//! says the same by cases, and why the reply is right.
 #![tactic(auto)]
 
 mod laws;

@@ -7,7 +7,7 @@ ghost use Rattle.refuse_op.specs.Steps.{no_room, refused, giving, wanted, taken,
 use map_model::Reply;
 use op_core::{Ans, Machine, Want};
 use phase::{Held, Kept, give_next, give_want, given};
-use world::Site;
+use segment_head::word::depth_of;
 
 /// How a refusal ends.
 #[derive(Clone, Copy, Debug, PartialEq, Eq)]
@@ -38,11 +38,11 @@ pub struct RefuseOp {
     pub step: RefuseStep,
 }
 
-/// The reply where there is no room: the table does not grow, and one of depth 0 may not.
-fn no_room(here: &Site) -> Reply
-    ensures { result ≡ no_room here.now }
+/// The reply where there is no room: a segment as deep as the image allows is never split, and for another there is no slot.
+fn no_room(kept: &Kept) -> Reply
+    ensures { result ≡ no_room kept.now }
 {
-    if here.geometry.depth() == 0 {
+    if u64::from(depth_of(kept.head)) == kept.site.geometry.depth() {
         Reply::Deep
     } else {
         Reply::Full
@@ -84,7 +84,7 @@ impl RefuseOp {
     {
         match self.step {
             RefuseStep::Give(_, count) | RefuseStep::Ended(count) => {
-                RefuseEnd::Replied(no_room(&self.kept.site), count)
+                RefuseEnd::Replied(no_room(&self.kept), count)
             }
             RefuseStep::Count => RefuseEnd::Off,
         }

@@ -8,6 +8,9 @@ use phase::{Buckets, Held, Kept};
 use std::test::Fail;
 use world::Site;
 
+/// The header of a normal segment of version 1 and depth 0.
+const HEAD: u64 = 257;
+
 /// What such an insert keeps in an image with so many slots for a segment and of this depth, with these locks in a slot.
 fn kept(segments: u64, depth: u64, segment: u64, held: Held) -> Result<Kept, Fail> {
     Ok(Kept {
@@ -22,6 +25,7 @@ fn kept(segments: u64, depth: u64, segment: u64, held: Held) -> Result<Kept, Fai
         },
         hash: 5,
         segment,
+        head: HEAD,
         held,
         buckets: Buckets::none(),
     })
@@ -74,6 +78,16 @@ fn wider_image_is_full(rt: HostRuntime) -> Result<(), Fail> {
     assert_eq!(rt; op.want(), Want::Store(4256, 2));
     op.take(Ans::Passed);
     assert_eq!(rt; end_of(op), RefuseEnd::Replied(Reply::Full, 10));
+    Ok(())
+}
+
+#[test]
+fn segment_of_the_greatest_depth_is_deep(rt: HostRuntime) -> Result<(), Fail> {
+    let mut kept = kept(2, 1, 1, Held::none())?;
+    kept.head = HEAD + (1 << 16);
+    let mut op = RefuseOp::new(kept);
+    op.take(Ans::Value(10));
+    assert_eq!(rt; end_of(op), RefuseEnd::Replied(Reply::Deep, 10));
     Ok(())
 }
 
