@@ -6,69 +6,69 @@ use Rattle.image_layout.specs.Places.{Shape}
 use Rattle.sound_image.specs.Segments.{ImageWords}
 use Rattle.sound_image.specs.Rules.{FollowsRules}
 use Rattle.image_rules.specs.declared.breach.Rule.{Rule}
-use Rattle.image_rules.specs.declared.breach.Rule.TheVariants.{Numbers, Owners, Entries, Records, Values, Versions, Repaired, Served}
-use Rattle.image_rules.specs.declared.breach.Scope.{Scope}
-use Rattle.image_rules.specs.Breach.{IsLeast, rank_of, StageHoldsAt, HoldsAt, IsFirstBreach}
+use Rattle.image_rules.specs.declared.breach.Rule.TheVariants.{Numbers, Owners, Entries, Records, Values, Versions, Repaired}
+use Rattle.image_rules.specs.Breach.{IsLeast, number_of, HoldsAt, IsFirstBreach}
 use Rattle.image_rules.specs.Divided.{IsDivided}
 
--- A RULE BY ITS TURN
+-- A RULE BY ITS NUMBER
 abbrev rule_at : ℕ → Rule
 rule_at n =
-    if n == 0 then Numbers else (
-    if n == 1 then Served else (
+    if n == 1 then Numbers else (
     if n == 2 then Owners else (
-    if n == 3 then Entries else (if n == 4 then Records else (if n == 5 then Values else (if n == 6 then Versions else Repaired))))))
+    if n == 3 then Entries else (if n == 4 then Records else (if n == 5 then Values else (if n == 6 then Versions else Repaired)))))
 
-by_rank : (r : Rule) → rule_at (rank_of r) ≡ r
-by_rank Numbers = refl
-by_rank Served = refl
-by_rank Owners = refl
-by_rank Entries = refl
-by_rank Records = refl
-by_rank Values = refl
-by_rank Versions = refl
-by_rank Repaired = refl
+by_number : (r : Rule) → rule_at (number_of r) ≡ r
+by_number Numbers = refl
+by_number Owners = refl
+by_number Entries = refl
+by_number Records = refl
+by_number Values = refl
+by_number Versions = refl
+by_number Repaired = refl
 
-has_rank : (r : Rule) → rank_of r < 8
-has_rank Numbers = omega arith
-has_rank Served = omega arith
-has_rank Owners = omega arith
-has_rank Entries = omega arith
-has_rank Records = omega arith
-has_rank Values = omega arith
-has_rank Versions = omega arith
-has_rank Repaired = omega arith
+-- the numbers are 1 to 7
+record IsNumber (n : ℕ) : Type 0 where
+  from : 1 ≤ n
+  to : n < 8
 
-module _ (shape : Shape) (word : ImageWords) (scope : Scope) where
-  -- each rule of a lower rank holds
+has_number : (r : Rule) → IsNumber (number_of r)
+has_number Numbers = record { from = omega arith; to = omega arith }
+has_number Owners = record { from = omega arith; to = omega arith }
+has_number Entries = record { from = omega arith; to = omega arith }
+has_number Records = record { from = omega arith; to = omega arith }
+has_number Values = record { from = omega arith; to = omega arith }
+has_number Versions = record { from = omega arith; to = omega arith }
+has_number Repaired = record { from = omega arith; to = omega arith }
+
+module _ (shape : Shape) (word : ImageWords) where
+  -- each rule of a lower number holds
   abbrev pub Known : ℕ → Type 0
-  Known rank = (r : Rule) (w : ℕ) → rank_of r < rank → HoldsAt shape word scope r w
+  Known number = (r : Rule) (w : ℕ) → number_of r < number → HoldsAt shape word r w
 
-  pub no_rules : Known 0
-  no_rules r w less = absurd (omega (arith, less))
+  pub no_rules : Known 1
+  no_rules r w less = absurd (omega (arith, less, (has_number r).from))
 
   -- and this one does too
-  pub and_rule : (next : Rule) → Known (rank_of next) → ((w : ℕ) → HoldsAt shape word scope next w) → Known (rank_of next + 1)
+  pub and_rule : (next : Rule) → Known (number_of next) → ((w : ℕ) → HoldsAt shape word next w) → Known (number_of next + 1)
   and_rule next known holds r w less =
-      ⊎_elim (λ (earlier : rank_of r < rank_of next). known r w earlier)
-      (λ (later : rank_of next ≤ rank_of r).
-      let same : rank_of next ≡ rank_of r = omega (arith, later, less) in
-      subst (λ (r : Rule). HoldsAt shape word scope r w) (sym (by_rank next) ∙ ap rule_at same ∙ by_rank r) (holds w))
-      (cases_lt (rank_of r) (rank_of next))
+      ⊎_elim (λ (earlier : number_of r < number_of next). known r w earlier)
+      (λ (later : number_of next ≤ number_of r).
+      let same : number_of next ≡ number_of r = omega (arith, later, less) in
+      subst (λ (r : Rule). HoldsAt shape word r w) (sym (by_number next) ∙ ap rule_at same ∙ by_number r) (holds w))
+      (cases_lt (number_of r) (number_of next))
 
-  pub breaks : (r : Rule) (w : ℕ) → Known (rank_of r) → IsLeast (HoldsAt shape word scope r) w → IsFirstBreach shape word scope r w
+  pub breaks : (r : Rule) (w : ℕ) → Known (number_of r) → IsLeast (HoldsAt shape word r) w → IsFirstBreach shape word r w
   breaks r w known least = record { least = least; rules_before = known }
 
-  pub all_hold : Known 8 → (r : Rule) (w : ℕ) → HoldsAt shape word scope r w
-  all_hold known r w = known r w (has_rank r)
+  pub all_hold : Known 8 → (r : Rule) (w : ℕ) → HoldsAt shape word r w
+  all_hold known r w = known r w (has_number r).to
 
   -- what is known of an image in which each hash has one owner
-  pub of_divided : IsDivided shape word → ((w : ℕ) → StageHoldsAt shape word scope w) → Known 3
-  of_divided divided stage =
-      and_rule Owners (and_rule Served (and_rule Numbers no_rules divided.numbered.numbers_fit) stage) divided.hashes_owned
+  pub of_divided : IsDivided shape word → Known 3
+  of_divided divided = and_rule Owners (and_rule Numbers no_rules divided.numbered.numbers_fit) divided.hashes_owned
 
   -- THE RULES BY NUMBERS
-  pub follows_rules : ((r : Rule) (w : ℕ) → HoldsAt shape word scope r w) → FollowsRules shape word
+  pub follows_rules : ((r : Rule) (w : ℕ) → HoldsAt shape word r w) → FollowsRules shape word
   follows_rules all n w =
       record {
         one = λ _. all Numbers w;
@@ -80,12 +80,11 @@ module _ (shape : Shape) (word : ImageWords) (scope : Scope) where
         seven = λ _. all Repaired w;
       }
 
-  pub rules_hold : FollowsRules shape word → ((w : ℕ) → StageHoldsAt shape word scope w) → (r : Rule) (w : ℕ) → HoldsAt shape word scope r w
-  rules_hold follows stage Numbers w = (follows 1 w).one refl
-  rules_hold follows stage Owners w = (follows 2 w).two refl
-  rules_hold follows stage Entries w = (follows 3 w).three refl
-  rules_hold follows stage Records w = (follows 4 w).four refl
-  rules_hold follows stage Values w = (follows 5 w).five refl
-  rules_hold follows stage Versions w = (follows 6 w).six refl
-  rules_hold follows stage Repaired w = (follows 7 w).seven refl
-  rules_hold follows stage Served w = stage w
+  pub rules_hold : FollowsRules shape word → (r : Rule) (w : ℕ) → HoldsAt shape word r w
+  rules_hold follows Numbers w = (follows 1 w).one refl
+  rules_hold follows Owners w = (follows 2 w).two refl
+  rules_hold follows Entries w = (follows 3 w).three refl
+  rules_hold follows Records w = (follows 4 w).four refl
+  rules_hold follows Values w = (follows 5 w).five refl
+  rules_hold follows Versions w = (follows 6 w).six refl
+  rules_hold follows Repaired w = (follows 7 w).seven refl

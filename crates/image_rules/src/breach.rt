@@ -4,30 +4,20 @@ ghost use Rattle.std.specs.Prelude.{◌≡◌, ℕ, IfOk, IfSome, IfNone, length
 ghost use Rattle.image_layout.specs.Places.{words_of};
 ghost use Rattle.image_rules.specs.declared.breach.Rule.{Rule};
 ghost use Rattle.image_rules.specs.Divided.{IsDivided};
-ghost use Rattle.image_rules.specs.Breach.{IsLeast, number_of, StageHoldsAt, HoldsAt, IsFirstBreach};
+ghost use Rattle.image_rules.specs.Breach.{number_of, HoldsAt, IsFirstBreach};
 
 use crate::directory::rule_three;
 use crate::leaves::rule_two;
 use crate::repaired::rule_seven;
 use crate::rules::{rule_five, rule_four, rule_one, rule_six};
 use crate::sound_segments::are_sound_segments;
-use crate::stage::rule_eight;
 use image_layout::{Geometry, shape_in_range};
 use map_model::NoMemory;
 use std::alloc::Global;
 use std::fmt;
 use word_bits::each_fits;
 
-/// Which rules are looked at.
-#[derive(Clone, Copy, Debug, PartialEq, Eq)]
-pub enum Scope {
-    /// Rules 1 to 7, and rule 8 after the first.
-    Served,
-    /// Rules 1 to 7.
-    Sound,
-}
-
-/// The rules of a sound image, and the limit of the present program. A rule is told by its number.
+/// The rules of a sound image. A rule is told by its number.
 #[derive(Clone, Copy, Debug, PartialEq, Eq)]
 pub enum Rule {
     /// Rule 1: the numbers of the image and of its headers are in their ranges.
@@ -44,12 +34,10 @@ pub enum Rule {
     Versions,
     /// Rule 7: a clean image is repaired.
     Repaired,
-    /// Rule 8: the present program serves the image. It is no rule of a sound image.
-    Served,
 }
 
 impl Rule {
-    /// Its number, 1 to 8.
+    /// Its number, 1 to 7.
     pub fn number(self) -> u8
         ensures { result ≡ number_of self }
     {
@@ -61,7 +49,6 @@ impl Rule {
             Rule::Values => 5,
             Rule::Versions => 6,
             Rule::Repaired => 7,
-            Rule::Served => 8,
         }
     }
 }
@@ -82,26 +69,13 @@ pub struct Breach {
     pub word: u64,
 }
 
-/// The least word at which rule 8 is broken, if it is looked at.
-fn stage_breach(geometry: &Geometry, words: &[u64], scope: Scope) -> Option<u64>
-    requires whole { length words.now ≡ words_of geometry.now }
-    ensures none { IfNone result ((w : ℕ) → StageHoldsAt geometry.now (slice_index words.now) scope w) }
-    ensures some { IfSome result (λ w. IsLeast (StageHoldsAt geometry.now (slice_index words.now) scope) w) }
-{
-    match scope {
-        Scope::Served => rule_eight(geometry, words),
-        Scope::Sound => None,
-    }
-}
-
 /// The first breach of rules 3 to 7, of an image that follows those before them. One pass tells whether there is one of
 /// rules 4 to 7, and only where it does not say that there is none they are looked at one by one.
-fn later_breach(geometry: &Geometry, words: &[u64], scope: Scope) -> Option<Breach>
+fn later_breach(geometry: &Geometry, words: &[u64]) -> Option<Breach>
     requires whole { length words.now ≡ words_of geometry.now }
     requires divided { IsDivided geometry.now (slice_index words.now) }
-    requires stage { (w : ℕ) → StageHoldsAt geometry.now (slice_index words.now) scope w }
-    ensures none { IfNone result ((r : Rule) (w : ℕ) → HoldsAt geometry.now (slice_index words.now) scope r w) }
-    ensures some { IfSome result (λ breach. IsFirstBreach geometry.now (slice_index words.now) scope breach.rule breach.word) }
+    ensures none { IfNone result ((r : Rule) (w : ℕ) → HoldsAt geometry.now (slice_index words.now) r w) }
+    ensures some { IfSome result (λ breach. IsFirstBreach geometry.now (slice_index words.now) breach.rule breach.word) }
 {
     if let Some(word) = rule_three(geometry, words) {
         return Some(Breach {
@@ -139,8 +113,7 @@ fn later_breach(geometry: &Geometry, words: &[u64], scope: Scope) -> Option<Brea
     None
 }
 
-/// The first broken rule, in the order 1, 8, 2, 3, 4, 5, 6, 7, and the least word at which it is broken. Rule 8 is looked
-/// at only in that scope.
+/// The first broken rule, in the order of their numbers, and the least word at which it is broken.
 ///
 /// # Errors
 ///
@@ -149,21 +122,14 @@ pub fn first_breach(
     alloc: Global,
     geometry: &Geometry,
     words: &[u64],
-    scope: Scope,
 ) -> Result<Option<Breach>, NoMemory>
     requires whole { length words.now ≡ words_of geometry.now }
-    ensures none { IfOk result (λ found. IfNone found ((r : Rule) (w : ℕ) → HoldsAt geometry.now (slice_index words.now) scope r w)) }
-    ensures some { IfOk result (λ found. IfSome found (λ breach. IsFirstBreach geometry.now (slice_index words.now) scope breach.rule breach.word)) }
+    ensures none { IfOk result (λ found. IfNone found ((r : Rule) (w : ℕ) → HoldsAt geometry.now (slice_index words.now) r w)) }
+    ensures some { IfOk result (λ found. IfSome found (λ breach. IsFirstBreach geometry.now (slice_index words.now) breach.rule breach.word)) }
 {
     if let Some(word) = rule_one(geometry, words) {
         return Ok(Some(Breach {
             rule: Rule::Numbers,
-            word,
-        }));
-    }
-    if let Some(word) = stage_breach(geometry, words, scope) {
-        return Ok(Some(Breach {
-            rule: Rule::Served,
             word,
         }));
     }
@@ -175,5 +141,5 @@ pub fn first_breach(
             word,
         }));
     }
-    Ok(later_breach(geometry, words, scope))
+    Ok(later_breach(geometry, words))
 }

@@ -5,7 +5,6 @@ use Rattle.sound_image.specs.Segments.{ImageWords}
 use Rattle.image_rules.specs.declared.records.RecordRule.TheVariants.{Stand, Value}
 use Rattle.image_rules.specs.declared.breach.Rule.{Rule}
 use Rattle.image_rules.specs.declared.breach.Rule.TheVariants as rule
-use Rattle.image_rules.specs.declared.breach.Scope.{Scope}
 use Rattle.image_rules.specs.Breach.{HoldsAt}
 use Rattle.image_rules.specs.Divided.{IsDivided}
 use Rattle.image_rules.specs.Slots.{IsStanding, IsStandingIn, BucketsFollow}
@@ -32,11 +31,11 @@ module _ (shape : Shape) (word : ImageWords) where
       absurd ((((repaired (key_at shape s b r)).in_buckets b below).once r slot taken refl).1 c t there less same)
 
   -- ALL SEGMENTS
-  pub all_follow : (scope : Scope) → Known shape word scope 4 → AreSoundSegments shape word shape.segments
-      → (r : Rule) (w : ℕ) → HoldsAt shape word scope r w
-  all_follow scope known each =
-      let four = and_rule shape word scope rule.Records known (records_stand shape word (λ s below. (each s below).stand)) in
-      let five = and_rule shape word scope rule.Values four (keys_have_one_value shape word (λ s below. (each s below).pairs.values)) in
-      let six = and_rule shape word scope rule.Versions five (λ w s below at. (each s below).past) in
+  pub all_follow : Known shape word 4 → AreSoundSegments shape word shape.segments
+      → (r : Rule) (w : ℕ) → HoldsAt shape word r w
+  all_follow known each =
+      let four = and_rule shape word rule.Records known (records_stand shape word (λ s below. (each s below).stand)) in
+      let five = and_rule shape word rule.Values four (keys_have_one_value shape word (λ s below. (each s below).pairs.values)) in
+      let six = and_rule shape word rule.Versions five (λ w s below at. (each s below).past) in
       let repaired = all_repaired shape word (λ s below. (each s below).pairs.repaired) in
-      all_hold shape word scope (and_rule shape word scope rule.Repaired six repaired)
+      all_hold shape word (and_rule shape word rule.Repaired six repaired)
