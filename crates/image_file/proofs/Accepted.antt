@@ -1,5 +1,4 @@
--- Bytes that pass every look are the file of a sound image, of which rule 8 holds too if it is looked at, and such a file
--- has no fault.
+-- Bytes that pass every look are the file of a sound image, and such a file has no fault.
 use Rattle.std.proofs.Common.{◌≡◌, ℕ, ◌*◌, ◌/◌, ◌^◌, ◌<◌, refl, sym, ap, subst, ◌∙◌, arith, inl, inr, List, length}
 use Rattle.std.specs.Prelude.{slice_index}
 use Rattle.image_layout.specs.Places.{Shape, IsShape, words_of}
@@ -9,13 +8,10 @@ use Rattle.image_layout.specs.declared.shape.GeoFault.TheVariants.{Segments, Dep
 use Rattle.sound_image.specs.Segments.{ImageWords}
 use Rattle.sound_image.specs.Image.{image_bytes, SaysShape, IsSoundImage}
 use Rattle.image_file.specs.declared.fault.ImageFault.{ImageFault}
-use Rattle.image_file.specs.declared.fault.ImageFault.TheVariants.{Length, Magic, Format, Geometry, Unsound, NoMemory}
+use Rattle.image_file.specs.declared.fault.ImageFault.TheVariants.{Length, Magic, Format, Geometry, Unsound, Unplayed, NoMemory}
 use Rattle.image_rules.specs.declared.breach.Rule.{Rule}
-use Rattle.image_rules.specs.declared.breach.Rule.TheVariants as rule
-use Rattle.image_rules.specs.declared.breach.Scope.{Scope}
-use Rattle.image_rules.specs.declared.breach.Scope.TheVariants.{Served}
-use Rattle.image_rules.specs.Breach.{StageHoldsAt, HoldsAt, IsFirstBreach}
-use Rattle.image_file.specs.Fault.{word_in_file, shape_in, HasMagic, HasFormat, IsFramed, HasFaultIn, IsFileIn, HasFault, IsServedFile}
+use Rattle.image_rules.specs.Breach.{HoldsAt, IsFirstBreach}
+use Rattle.image_file.specs.Fault.{word_in_file, shape_in, HasMagic, HasFormat, IsFramed, HasFault, IsSoundFile}
 use Rattle.image_rules.proofs.Breaches.{follows_rules, rules_hold}
 use Rattle.image_file.proofs.FileWords.{length-image_bytes, words_there}
 
@@ -54,85 +50,77 @@ module _ (bytes words : List ℕ) (file : bytes ≡ image_bytes words) (fits : (
           depth = sym (at_word 3) ∙ ap (λ (s : Shape). s.depth) (sym is);
         }
 
-    pub accepted-IsSoundImage : (scope : Scope) → ((r : Rule) (w : ℕ) → HoldsAt shape (slice_index words) scope r w) → IsSoundImage shape words
-    accepted-IsSoundImage scope holds =
+    pub accepted-IsSoundImage : ((r : Rule) (w : ℕ) → HoldsAt shape (slice_index words) r w) → IsSoundImage shape words
+    accepted-IsSoundImage holds =
         record {
           in_range = subst IsShape (sym is) framed.shape_there;
           whole = all_words;
           each_fits = fits;
           says_shape = says_shape;
-          follows = follows_rules shape (slice_index words) scope holds;
+          follows = follows_rules shape (slice_index words) holds;
         }
 
-    pub accepted-stage : (scope : Scope) → ((r : Rule) (w : ℕ) → HoldsAt shape (slice_index words) scope r w)
-        → (w : ℕ) → StageHoldsAt shape (slice_index words) scope w
-    accepted-stage scope holds = holds rule.Served
-
     -- a breach of the words is one of the bytes
-    pub breach-HasFault : (scope : Scope) (r : Rule) (w : ℕ) → IsFirstBreach shape (slice_index words) scope r w → HasFaultIn scope bytes (Unsound r w)
-    breach-HasFault scope r w breach = (
+    pub breach-HasFault : (r : Rule) (w : ℕ) → IsFirstBreach shape (slice_index words) r w → HasFault bytes (Unsound r w)
+    breach-HasFault r w breach = (
       framed,
-      subst (λ (s : Shape). IsFirstBreach s (word_in_file bytes) scope r w) is
-          (subst (λ (word : ImageWords). IsFirstBreach shape word scope r w) (sym spelled) breach),
+      subst (λ (s : Shape). IsFirstBreach s (word_in_file bytes) r w) is
+          (subst (λ (word : ImageWords). IsFirstBreach shape word r w) (sym spelled) breach),
     )
 
 -- SUCH A FILE has no fault
-module _ (scope : Scope) (bytes : List ℕ) (f : IsFileIn scope bytes) where
-  served_spelled : word_in_file bytes ≡ slice_index f.words
-  served_spelled = spelled bytes f.words f.file f.sound.each_fits
+module _ (bytes : List ℕ) (f : IsSoundFile bytes) where
+  sound_spelled : word_in_file bytes ≡ slice_index f.words
+  sound_spelled = spelled bytes f.words f.file f.sound.each_fits
 
-  served_word : (i : ℕ) → word_in_file bytes i ≡ slice_index f.words i
-  served_word i = ap (λ (w : ImageWords). w i) served_spelled
+  sound_word : (i : ℕ) → word_in_file bytes i ≡ slice_index f.words i
+  sound_word i = ap (λ (w : ImageWords). w i) sound_spelled
 
   upper_half : word_in_file bytes 1 / 2 ^ 32 ≡ f.shape.kind
-  upper_half = omega (arith, served_word 1, f.sound.says_shape.format)
+  upper_half = omega (arith, sound_word 1, f.sound.says_shape.format)
 
-  served_shape : shape_in (word_in_file bytes) ≡ f.shape
-  served_shape =
+  sound_shape : shape_in (word_in_file bytes) ≡ f.shape
+  sound_shape =
       λ j. record {
-        segments = (served_word 2 ∙ f.sound.says_shape.segments) j;
-        depth = (served_word 3 ∙ f.sound.says_shape.depth) j;
+        segments = (sound_word 2 ∙ f.sound.says_shape.segments) j;
+        depth = (sound_word 3 ∙ f.sound.says_shape.depth) j;
         kind = upper_half j;
       }
 
-  served_format : HasFormat (word_in_file bytes)
-  served_format =
+  sound_format : HasFormat (word_in_file bytes)
+  sound_format =
       record {
-        number = omega (arith, served_word 1, f.sound.says_shape.format);
+        number = omega (arith, sound_word 1, f.sound.says_shape.format);
         kind = omega (arith, upper_half, f.sound.in_range.kind);
       }
 
-  served_magic : HasMagic (word_in_file bytes)
-  served_magic = served_word 0 ∙ f.sound.says_shape.magic_word
+  sound_magic : HasMagic (word_in_file bytes)
+  sound_magic = sound_word 0 ∙ f.sound.says_shape.magic_word
 
-  served_in_range : IsShape (shape_in (word_in_file bytes))
-  served_in_range = subst IsShape (sym served_shape) f.sound.in_range
+  sound_in_range : IsShape (shape_in (word_in_file bytes))
+  sound_in_range = subst IsShape (sym sound_shape) f.sound.in_range
 
-  served_long : length bytes ≡ 8 * words_of (shape_in (word_in_file bytes))
-  served_long =
-      ap length f.file ∙ length-image_bytes f.words ∙ ap (λ n. 8 * n) (f.sound.whole ∙ ap words_of (sym served_shape))
+  sound_long : length bytes ≡ 8 * words_of (shape_in (word_in_file bytes))
+  sound_long =
+      ap length f.file ∙ length-image_bytes f.words ∙ ap (λ n. 8 * n) (f.sound.whole ∙ ap words_of (sym sound_shape))
 
   long_enough : length bytes < 256 → ⊥
   long_enough short =
       let long : length bytes ≡ 8 * words_of f.shape = ap length f.file ∙ length-image_bytes f.words ∙ ap (λ n. 8 * n) f.sound.whole in
       absurd (omega (arith, short, long, f.sound.in_range.some))
 
-  served_holds : (r : Rule) (w : ℕ) → HoldsAt (shape_in (word_in_file bytes)) (word_in_file bytes) scope r w
-  served_holds r w =
-      subst (λ (s : Shape). HoldsAt s (word_in_file bytes) scope r w) (sym served_shape)
-      (subst (λ (word : ImageWords). HoldsAt f.shape word scope r w) (sym served_spelled)
-      (rules_hold f.shape (slice_index f.words) scope f.sound.follows f.stage r w))
+  sound_holds : (r : Rule) (w : ℕ) → HoldsAt (shape_in (word_in_file bytes)) (word_in_file bytes) r w
+  sound_holds r w =
+      subst (λ (s : Shape). HoldsAt s (word_in_file bytes) r w) (sym sound_shape)
+      (subst (λ (word : ImageWords). HoldsAt f.shape word r w) (sym sound_spelled)
+      (rules_hold f.shape (slice_index f.words) f.sound.follows r w))
 
-  pub no_fault : (fault : ImageFault) → HasFaultIn scope bytes fault → fault ≡ NoMemory
+  pub no_fault : (fault : ImageFault) → HasFault bytes fault → fault ≡ NoMemory
   no_fault Length (inl short) = absurd (long_enough short)
-  no_fault Length (inr front) = absurd (front.says.1 served_long)
-  no_fault Magic h = absurd (h.1 served_magic)
-  no_fault Format h = absurd (h.2 served_format)
-  no_fault Geometry front = absurd (front.says served_in_range)
-  no_fault (Unsound r word) h = absurd (h.1.least.broken (served_holds r word))
+  no_fault Length (inr front) = absurd (front.says.1 sound_long)
+  no_fault Magic h = absurd (h.1 sound_magic)
+  no_fault Format h = absurd (h.2 sound_format)
+  no_fault Geometry front = absurd (front.says sound_in_range)
+  no_fault (Unsound r word) h = absurd (h.1.least.broken (sound_holds r word))
+  no_fault (Unplayed word) h = absurd h
   no_fault NoMemory h = refl
-
--- nor has the file of an image that the program serves
-pub served-no_fault : (bytes : List ℕ) → IsServedFile bytes → (fault : ImageFault) → HasFault bytes fault → fault ≡ NoMemory
-served-no_fault bytes f fault h =
-    no_fault Served bytes (record { shape = f.shape; words = f.words; sound = f.sound; stage = f.served; file = f.file }) fault h

@@ -1,4 +1,4 @@
--- The image of an empty table is a sound image, holds no pair, and passes rule 8 where it has one slot for a segment.
+-- The image of an empty table is a sound image, holds no pair, and may be played where it has one slot for a segment.
 use Rattle.std.proofs.Common.{◌≡◌, ℕ, ◌+◌, ◌/◌, ◌%◌, ◌^◌, ◌<◌, ◌≤◌, sym, ap, subst, ◌∙◌, arith, inl, inr, ⊎_elim, List}
 use Rattle.std.specs.Prelude.{slice_index}
 use Rattle.std.proofs.lemmas.Bool.{cases_lt}
@@ -13,7 +13,7 @@ use Rattle.sound_image.specs.Records.{word_in, HasRecord, HasPair, HasExactNotes
 use Rattle.sound_image.specs.Rules.{FollowsRules}
 use Rattle.sound_image.specs.Image.{IsSoundImage}
 use Rattle.image_file.specs.Formatted.{IsFormatted}
-use Rattle.image_rules.specs.Stage.{PassesRule8, MayBePlayed}
+use Rattle.image_rules.specs.Stage.{IsUntouched, MayBePlayed}
 use Rattle.sound_image.proofs.Unnoted.{HasNote}
 use Rattle.sound_image.proofs.OneLive.{IsOneLive, has_owners, shares_well, entry_leads}
 use Rattle.sound_image.proofs.NoNotes.{unnoted-exact}
@@ -146,18 +146,13 @@ module _ (shape : Shape) (words : List ℕ) (i : IsFormatted shape words) where
   pub formatted-no_pair : (k v : ℕ) → HasPair shape word k v → ⊥
   formatted-no_pair k v pair = formatted-no_record pair.s pair.b pair.r pair.own.record_there
 
-  pub formatted-PassesRule8 : shape.segments ≡ 1 → PassesRule8 shape word
-  formatted-PassesRule8 one w =
-      record {
-        one_segment = λ _. one;
-        root = λ _. root_is;
-        first = λ _. record { is_normal = ap state_in i.header; no_depth = ap depth_in i.header };
-      }
-
-  pub formatted-MayBePlayed : MayBePlayed shape word
-  formatted-MayBePlayed w =
+  pub formatted-IsUntouched : IsUntouched shape word
+  formatted-IsUntouched w =
       record {
         clean = λ _. is_clean;
         current = λ s h _ live. subst (λ s. version_in (frame.header s) ≡ image_version frame) (sym (first_is s live))
             (ap version_in i.header ∙ sym version_is);
       }
+
+  pub formatted-MayBePlayed : shape.segments ≡ 1 → MayBePlayed shape word
+  formatted-MayBePlayed one w = record { untouched = formatted-IsUntouched w; grown = λ s h _. inl one }

@@ -3,7 +3,7 @@ use Rattle.std.proofs.Common.{◌≡◌, ◌≢◌, ℕ, zero, suc, ◌*◌, ◌
 use Rattle.image_layout.specs.Places.{Shape, IsShape, words_of}
 use Rattle.sound_image.specs.Image.{image_bytes}
 use Rattle.image_file.specs.declared.fault.ImageFault.TheVariants.{Length}
-use Rattle.image_file.specs.Fault.{word_in_file, IsFramed, HasFront, HasFaultAnyway}
+use Rattle.image_file.specs.Fault.{word_in_file, IsFramed, HasFront, HasFault}
 use Rattle.image_file.specs.Front.{BeginsWith}
 use Rattle.image_file.proofs.FileWords.{length-image_bytes, word_there}
 
@@ -35,8 +35,8 @@ module _ (bytes : List ℕ) (geometry : Shape) (front : HasFront bytes (λ shape
         whole = subst (λ (shape : Shape). length bytes ≡ 8 * words_of shape) front.says whole;
       }
 
-  pub front-Length : length bytes ≢ 8 * words_of geometry → HasFaultAnyway bytes Length
-  front-Length other scope =
+  pub front-Length : length bytes ≢ 8 * words_of geometry → HasFault bytes Length
+  front-Length other =
       inr (record {
         long = front.long;
         magic_there = front.magic_there;

@@ -1,25 +1,25 @@
 //! Bytes to a sound image and back.
 //! An image's file is its words, eight bytes each; [`from_bytes`] reads one and says what is wrong with bytes that are
 //! none, [`to_bytes`] writes one. [`format`] makes the image of an empty table, [`check`] and [`list`] say what an image
-//! holds.
+//! holds, and [`playable`] whether a play takes it so far.
 #![tactic(auto)]
 
+mod before_play;
 mod fault;
 mod formatted;
 mod laws;
 mod medium;
 mod read;
 mod summary;
-mod untouched;
 mod words;
 
+pub use before_play::playable;
 pub use fault::ImageFault;
 pub use formatted::format;
-pub use laws::{read_of_written, sound_read_of_written};
+pub use laws::read_of_written;
 pub use medium::{Medium, to_bytes};
-pub use read::{from_bytes, sound_from_bytes, sound_from_words};
+pub use read::{from_bytes, from_words};
 pub use summary::{Summary, check, list};
-pub use untouched::playable;
 pub use words::Words;
 
 #[cfg(test)]

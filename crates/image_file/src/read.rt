@@ -1,18 +1,16 @@
 //! Bytes that are looked at as the file of an image.
 
-ghost use Rattle.std.specs.Prelude.{List, ◌≡◌, ℕ, ◌+◌, ◌*◌, ◌%◌, ◌<◌, ◌≤◌, length, slice_index, IfOk, IfErr, Err};
+ghost use Rattle.std.specs.Prelude.{List, ◌≡◌, ℕ, ◌%◌, ◌≤◌, length, IfOk, IfErr};
 ghost use Rattle.sound_image.specs.Image.{image_bytes, IsSoundImage};
-ghost use Rattle.image_rules.specs.Stage.{PassesRule8};
-ghost use Rattle.image_rules.specs.Breach.{StageHoldsAt};
 ghost use Rattle.image_file.specs.Front.{BeginsWith};
-ghost use Rattle.image_file.specs.Fault.{word_in_file, shape_in, IsFramed, HasFront, HasFaultIn, HasFaultAnyway, HasFault, HasSoundFault, IsFileIn, IsServedFile, IsSoundFile};
+ghost use Rattle.image_file.specs.Fault.{word_in_file, shape_in, IsFramed, HasFront, HasFault, IsSoundFile};
 
 use crate::fault::ImageFault;
 use crate::formatted::{FORMAT, MAGIC};
 use crate::medium::Medium;
 use crate::words::{WORD_BYTES, Words, word_at};
 use image_layout::Geometry;
-use image_rules::{Scope, first_breach};
+use image_rules::first_breach;
 use map_model::NoMemory;
 use std::alloc::Global;
 use word_bits::each_fits;
@@ -34,7 +32,7 @@ fn words_in(alloc: Global, bytes: &[u8]) -> Result<Words, NoMemory>
 fn geometry_said(front: &[u64]) -> Result<Geometry, ImageFault>
     requires { 4 ≤ length front.now }
     ensures ok { IfOk result (λ geometry. (bytes : List ℕ) → BeginsWith bytes front.now → HasFront bytes (λ shape. geometry ≡ shape)) }
-    ensures fault { IfErr result (λ fault. (bytes : List ℕ) → BeginsWith bytes front.now → HasFaultAnyway bytes fault) }
+    ensures fault { IfErr result (λ fault. (bytes : List ℕ) → BeginsWith bytes front.now → HasFault bytes fault) }
 {
     if front[0] != MAGIC {
         return Err(ImageFault::Magic);
@@ -53,7 +51,7 @@ fn geometry_said(front: &[u64]) -> Result<Geometry, ImageFault>
 fn geometry_in(bytes: &[u8]) -> Result<Geometry, ImageFault>
     ensures framed { IfOk result (λ geometry. IsFramed bytes.now) }
     ensures shape { IfOk result (λ geometry. geometry ≡ shape_in (word_in_file bytes.now)) }
-    ensures fault { IfErr result (λ fault. HasFaultAnyway bytes.now fault) }
+    ensures fault { IfErr result (λ fault. HasFault bytes.now fault) }
 {
     if bytes.len() < FRONT_BYTES {
         return Err(ImageFault::Length);
@@ -78,7 +76,7 @@ fn geometry_in(bytes: &[u8]) -> Result<Geometry, ImageFault>
 fn geometry_of(words: &[u64]) -> Result<Geometry, ImageFault>
     ensures framed { IfOk result (λ geometry. IsFramed (image_bytes words.now)) }
     ensures shape { IfOk result (λ geometry. geometry ≡ shape_in (word_in_file (image_bytes words.now))) }
-    ensures fault { IfErr result (λ fault. HasFaultAnyway (image_bytes words.now) fault) }
+    ensures fault { IfErr result (λ fault. HasFault (image_bytes words.now) fault) }
 {
     each_fits(words);
     if words.len() < FRONT_BYTES / WORD_BYTES {
@@ -94,21 +92,15 @@ fn geometry_of(words: &[u64]) -> Result<Geometry, ImageFault>
     Ok(geometry)
 }
 
-/// The image of these words and this geometry, if they follow the rules that are looked at.
-fn image_of(
-    alloc: Global,
-    geometry: Geometry,
-    words: Words,
-    scope: Scope,
-) -> Result<Medium, ImageFault>
+/// The image of these words and this geometry, if they follow the rules.
+fn image_of(alloc: Global, geometry: Geometry, words: Words) -> Result<Medium, ImageFault>
     requires framed { IsFramed (image_bytes words) }
     requires shape { geometry ≡ shape_in (word_in_file (image_bytes words)) }
     ensures sound { IfOk result (λ medium. IsSoundImage medium.geometry medium.words) }
-    ensures stage { IfOk result (λ medium. (w : ℕ) → StageHoldsAt medium.geometry (slice_index medium.words) scope w) }
     ensures same { IfOk result (λ medium. medium.words ≡ words) }
-    ensures fault { IfErr result (λ fault. HasFaultIn scope (image_bytes words) fault) }
+    ensures fault { IfErr result (λ fault. HasFault (image_bytes words) fault) }
 {
-    let Ok(found) = first_breach(alloc, &geometry, words.as_slice(), scope) else {
+    let Ok(found) = first_breach(alloc, &geometry, words.as_slice()) else {
         return Err(ImageFault::NoMemory);
     };
     match found {
@@ -120,14 +112,16 @@ fn image_of(
     }
 }
 
-/// The image whose file these bytes are, exactly where they are the file of a sound image, and one that the program
-/// serves if that is looked at.
-fn image_in(alloc: Global, bytes: &[u8], scope: Scope) -> Result<Medium, ImageFault>
+/// The image whose file these bytes are, exactly where they are the file of a sound image.
+///
+/// # Errors
+///
+/// The first fault of the bytes: see [`ImageFault`]. `NoMemory` if memory runs out.
+pub fn from_bytes(alloc: Global, bytes: &[u8]) -> Result<Medium, ImageFault>
     ensures sound { IfOk result (λ medium. IsSoundImage medium.geometry medium.words) }
-    ensures stage { IfOk result (λ medium. (w : ℕ) → StageHoldsAt medium.geometry (slice_index medium.words) scope w) }
     ensures file { IfOk result (λ medium. bytes.now ≡ image_bytes medium.words) }
-    ensures fault { IfErr result (λ fault. HasFaultIn scope bytes.now fault) }
-    ensures complete { IsFileIn scope bytes.now → IfErr result (λ fault. fault ≡ ImageFault.NoMemory) }
+    ensures fault { IfErr result (λ fault. HasFault bytes.now fault) }
+    ensures complete { IsSoundFile bytes.now → IfErr result (λ fault. fault ≡ ImageFault.NoMemory) }
 {
     let geometry = match geometry_in(bytes) {
         Ok(geometry) => geometry,
@@ -136,54 +130,24 @@ fn image_in(alloc: Global, bytes: &[u8], scope: Scope) -> Result<Medium, ImageFa
     let Ok(words) = words_in(alloc, bytes) else {
         return Err(ImageFault::NoMemory);
     };
-    image_of(alloc, geometry, words, scope)
+    image_of(alloc, geometry, words)
 }
 
-/// The image whose file these bytes are, exactly where they are the file of a sound image that the program serves.
+/// The image whose words these are, exactly where they are a sound image. Words that were read piece by piece need no file in
+/// memory beside them.
 ///
 /// # Errors
 ///
-/// The first fault of the bytes: see [`ImageFault`]. `NoMemory` if memory runs out.
-pub fn from_bytes(alloc: Global, bytes: &[u8]) -> Result<Medium, ImageFault>
-    ensures sound { IfOk result (λ medium. IsSoundImage medium.geometry medium.words) }
-    ensures served { IfOk result (λ medium. PassesRule8 medium.geometry (slice_index medium.words)) }
-    ensures file { IfOk result (λ medium. bytes.now ≡ image_bytes medium.words) }
-    ensures fault { IfErr result (λ fault. HasFault bytes.now fault) }
-    ensures complete { IsServedFile bytes.now → IfErr result (λ fault. fault ≡ ImageFault.NoMemory) }
-{
-    image_in(alloc, bytes, Scope::Served)
-}
-
-/// The image whose file these bytes are, exactly where they are the file of a sound image: also one that the present
-/// program does not serve.
-///
-/// # Errors
-///
-/// The first fault of the bytes, but that rule 8 is not looked at: see [`ImageFault`]. `NoMemory` if memory runs out.
-pub fn sound_from_bytes(alloc: Global, bytes: &[u8]) -> Result<Medium, ImageFault>
-    ensures sound { IfOk result (λ medium. IsSoundImage medium.geometry medium.words) }
-    ensures file { IfOk result (λ medium. bytes.now ≡ image_bytes medium.words) }
-    ensures fault { IfErr result (λ fault. HasSoundFault bytes.now fault) }
-    ensures complete { IsSoundFile bytes.now → IfErr result (λ fault. fault ≡ ImageFault.NoMemory) }
-{
-    image_in(alloc, bytes, Scope::Sound)
-}
-
-/// The image whose words these are, exactly where they are a sound image: also one that the present program does not serve.
-/// Words that were read piece by piece need no file in memory beside them.
-///
-/// # Errors
-///
-/// The first fault of the words' file, but that rule 8 is not looked at: see [`ImageFault`]. `NoMemory` if memory runs out.
-pub fn sound_from_words(alloc: Global, words: Words) -> Result<Medium, ImageFault>
+/// The first fault of the words' file: see [`ImageFault`]. `NoMemory` if memory runs out.
+pub fn from_words(alloc: Global, words: Words) -> Result<Medium, ImageFault>
     ensures sound { IfOk result (λ medium. IsSoundImage medium.geometry medium.words) }
     ensures same { IfOk result (λ medium. medium.words ≡ words) }
-    ensures fault { IfErr result (λ fault. HasSoundFault (image_bytes words) fault) }
+    ensures fault { IfErr result (λ fault. HasFault (image_bytes words) fault) }
     ensures complete { IsSoundFile (image_bytes words) → IfErr result (λ fault. fault ≡ ImageFault.NoMemory) }
 {
     let geometry = match geometry_of(words.as_slice()) {
         Ok(geometry) => geometry,
         Err(fault) => return Err(fault),
     };
-    image_of(alloc, geometry, words, Scope::Sound)
+    image_of(alloc, geometry, words)
 }

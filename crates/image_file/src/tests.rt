@@ -1,7 +1,7 @@
 // Files word by word, and what is said of them, literally.
 use crate::{
-    ImageFault, Summary, Words, check, format, from_bytes, list, playable, read_of_written,
-    sound_from_bytes, sound_from_words, sound_read_of_written, to_bytes,
+    ImageFault, Summary, Words, check, format, from_bytes, from_words, list, playable,
+    read_of_written, to_bytes,
 };
 use image_layout::Geometry;
 use std::alloc::Global;
@@ -111,14 +111,6 @@ fn file_with(alloc: Global, changes: &[(usize, u64)]) -> Result<Vec<u8>, Fail> {
     file_of(alloc, 2208, &ROW, changes)
 }
 
-// What is wrong with a file that need not be served.
-fn said_of_sound(alloc: Global, bytes: &[u8]) -> Result<String, Fail> {
-    match sound_from_bytes(alloc, bytes) {
-        Ok(_) => Ok(format!(in alloc; "accepted")?),
-        Err(fault) => Ok(format!(in alloc; "{fault}")?),
-    }
-}
-
 // Why the image of a file may not be played.
 fn said_before_play(alloc: Global, bytes: &[u8]) -> Result<String, Fail> {
     match playable(&from_bytes(alloc, bytes)?) {
@@ -184,11 +176,11 @@ fn words_in_pieces(rt: HostRuntime) -> Result<(), Fail> {
     for piece in bytes.chunks_exact(8) {
         words.push_bytes(piece)?;
     }
-    let medium = sound_from_words(alloc, words)?;
+    let medium = from_words(alloc, words)?;
     assert_eq!(rt; list(alloc, &medium)?.as_slice(), [(5, 7)].as_slice());
     assert_eq!(rt; to_bytes(alloc, &medium)?.as_slice(), bytes.as_slice());
     let few = Words::with_room(alloc, 0)?;
-    assert!(rt; matches!(sound_from_words(alloc, few), Err(ImageFault::Length)));
+    assert!(rt; matches!(from_words(alloc, few), Err(ImageFault::Length)));
     Ok(())
 }
 
@@ -204,7 +196,8 @@ fn a_new_image_is_read(rt: HostRuntime) -> Result<(), Fail> {
     assert_eq!(rt; bytes.as_slice(), same.as_slice());
     let many = Geometry::new(3, 2, 1)?;
     let bytes = to_bytes(alloc, &format(alloc, many)?)?;
-    assert_eq!(rt; said_of(alloc, &bytes)?.as_str(), "rule 8 word 2");
+    assert_eq!(rt; said_of(alloc, &bytes)?.as_str(), "accepted");
+    assert_eq!(rt; said_before_play(alloc, &bytes)?.as_str(), "rule 8 word 65");
     Ok(())
 }
 
@@ -227,7 +220,7 @@ fn lengths(rt: HostRuntime) -> Result<(), Fail> {
 #[test]
 fn faults(rt: HostRuntime) -> Result<(), Fail> {
     let alloc = rt.alloc();
-    let cases: [(&[(usize, u64)], &str); 35] = [
+    let cases: [(&[(usize, u64)], &str); 36] = [
         (&[(0, 0)], "magic"),
         (&[(1, 2)], "format"),
         (&[(1, (2 << 32) + 1)], "format"),
@@ -240,7 +233,8 @@ fn faults(rt: HostRuntime) -> Result<(), Fail> {
         (&[(66, 2)], "rule 1 word 66"),
         (&[(16, 1)], "accepted"),
         (&[(65, 256)], "accepted"),
-        (&[(65, 0x201)], "rule 8 word 65"),
+        (&[(65, 1)], "rule 2 word 32"),
+        (&[(65, 0x201)], "rule 7 word 65"),
         (&[(65, 258)], "rule 6 word 65"),
         (&[(32, 1)], "rule 3 word 32"),
         (&[(98, 6)], "rule 4 word 100"),
@@ -303,9 +297,13 @@ fn faults(rt: HostRuntime) -> Result<(), Fail> {
 #[test]
 fn images_that_may_be_played(rt: HostRuntime) -> Result<(), Fail> {
     let alloc = rt.alloc();
-    let cases: [(&[(usize, u64)], &str); 4] = [
+    let cases: [(&[(usize, u64)], &str); 8] = [
         (&[], "playable"),
+        (&[(3, 1)], "playable"),
+        (&[(3, 1), (8, 1)], "playable"),
+        (&[(3, 1), (8, 1), (16, 1)], "rule 8 word 16"),
         (&[(16, 1)], "rule 8 word 16"),
+        (&[(16, 1), (65, 513)], "rule 8 word 16"),
         (&[(65, 256)], "rule 8 word 65"),
         (&[(16, 1), (65, 256)], "rule 8 word 16"),
     ];
@@ -313,37 +311,27 @@ fn images_that_may_be_played(rt: HostRuntime) -> Result<(), Fail> {
         let bytes = file_with(alloc, changes)?;
         assert_eq!(rt; said_before_play(alloc, &bytes)?.as_str(), *said);
     }
+    // Two segments, each as deep as may be, of the image's version and not; and one that is not as deep.
+    let normal: [(usize, u64); 4] = [(16, 257), (65, 65_793), (34, 1), (97, 1)];
+    let cases: [(&[(usize, u64)], &str); 3] = [
+        (&[], "playable"),
+        (&[(2209, 4_295_033_088)], "rule 8 word 2209"),
+        (&[(3, 2)], "rule 8 word 65"),
+    ];
+    for (changes, said) in &cases {
+        let mut both = normal.to_vec(alloc)?;
+        both.extend_from_slice(changes)?;
+        let bytes = file_of(alloc, 4352, &SPLIT, &both)?;
+        assert_eq!(rt; said_before_play(alloc, &bytes)?.as_str(), *said);
+    }
     Ok(())
 }
 
+// What rule 7 asks of a clean image is not asked of an unclean one; and a record in the stash is noted, once.
 #[test]
-fn hostile_edits(rt: HostRuntime) -> Result<(), Fail> {
+fn unclean_images_and_notes(rt: HostRuntime) -> Result<(), Fail> {
     let alloc = rt.alloc();
-    let cases: [(&[(usize, u64)], &str); 25] = [
-        (&[(2, 2)], "length"),
-        (&[(0, 0)], "magic"),
-        (&[(1, 3)], "format"),
-        (&[(2, 0)], "geometry"),
-        (&[(3, 17)], "geometry"),
-        (&[(8, 1)], "rule 1 word 8"),
-        (&[(16, 256)], "rule 1 word 16"),
-        (&[(65, 1281)], "rule 1 word 65"),
-        (&[(66, 2)], "rule 1 word 66"),
-        (&[(65, 1)], "rule 2 word 32"),
-        (&[(32, 1)], "rule 3 word 32"),
-        (&[(97, 16385)], "rule 4 word 100"),
-        (
-            &[(97, 3), (98, 1285), (102, 5), (103, 8)],
-            "rule 5 word 102",
-        ),
-        (&[(65, 258)], "rule 6 word 65"),
-        (
-            &[(97, 3), (98, 1285), (102, 5), (103, 7)],
-            "rule 7 word 102",
-        ),
-        (&[(96, 3)], "rule 7 word 96"),
-        (&[(97, 1_099_511_627_777)], "rule 7 word 97"),
-        (&[(65, 513)], "rule 7 word 65"),
+    let cases: [(&[(usize, u64)], &str); 6] = [
         (
             &[(97, 3), (98, 1285), (102, 5), (103, 7), (16, 1)],
             "accepted",
@@ -351,8 +339,6 @@ fn hostile_edits(rt: HostRuntime) -> Result<(), Fail> {
         (&[(96, 3), (16, 1)], "accepted"),
         (&[(97, 1_099_511_627_777), (16, 1)], "accepted"),
         (&[(65, 513), (16, 1)], "accepted"),
-        // The record in the stash, with its note, without, and noted twice.
-        (&IN_STASH, "accepted"),
         (
             &[(97, 0), (98, 0), (2145, 1), (2146, 5), (2148, 5), (2149, 7)],
             "rule 7 word 97",
@@ -372,11 +358,8 @@ fn hostile_edits(rt: HostRuntime) -> Result<(), Fail> {
     ];
     for (changes, said) in &cases {
         let bytes = file_with(alloc, changes)?;
-        assert_eq!(rt; said_of_sound(alloc, &bytes)?.as_str(), *said);
+        assert_eq!(rt; said_of(alloc, &bytes)?.as_str(), *said);
     }
-    let mut short = file_with(alloc, &[])?;
-    short.truncate(255);
-    assert_eq!(rt; said_of_sound(alloc, &short)?.as_str(), "length");
     Ok(())
 }
 
@@ -398,7 +381,7 @@ fn unclean_images(rt: HostRuntime) -> Result<(), Fail> {
         clean: false,
     };
     for changes in &cases {
-        let medium = sound_from_bytes(alloc, &file_with(alloc, changes)?)?;
+        let medium = from_bytes(alloc, &file_with(alloc, changes)?)?;
         assert_eq!(rt; check(&medium), summary);
         assert_eq!(rt; list(alloc, &medium)?.as_slice(), [(5, 7)].as_slice());
     }
@@ -425,10 +408,9 @@ fn a_split_half_done(rt: HostRuntime) -> Result<(), Fail> {
     ];
     for (changes, said) in &cases {
         let bytes = file_of(alloc, 4352, &SPLIT, changes)?;
-        assert_eq!(rt; said_of_sound(alloc, &bytes)?.as_str(), *said);
-        assert_eq!(rt; said_of(alloc, &bytes)?.as_str(), "rule 8 word 2");
+        assert_eq!(rt; said_of(alloc, &bytes)?.as_str(), *said);
     }
-    let medium = sound_from_bytes(alloc, &file_of(alloc, 4352, &SPLIT, &[(2245, 9)])?)?;
+    let medium = from_bytes(alloc, &file_of(alloc, 4352, &SPLIT, &[(2245, 9)])?)?;
     let summary = Summary {
         version: 1,
         depth: 1,
@@ -439,7 +421,8 @@ fn a_split_half_done(rt: HostRuntime) -> Result<(), Fail> {
     assert_eq!(rt; check(&medium), summary);
     let pairs = [(5, 7), ((1 << 63) + 5, 9)];
     assert_eq!(rt; list(alloc, &medium)?.as_slice(), pairs.as_slice());
-    assert!(rt; sound_read_of_written(alloc, &medium).is_ok());
+    assert!(rt; read_of_written(alloc, &medium).is_ok());
+    assert!(rt; matches!(playable(&medium), Err(ImageFault::Unplayed { word: 16 })));
     Ok(())
 }
 
@@ -455,7 +438,7 @@ fn a_side_that_was_split_again(rt: HostRuntime) -> Result<(), Fail> {
     ];
     for (changes, said) in &cases {
         let bytes = file_of(alloc, 6496, &TWICE, changes)?;
-        assert_eq!(rt; said_of_sound(alloc, &bytes)?.as_str(), *said);
+        assert_eq!(rt; said_of(alloc, &bytes)?.as_str(), *said);
     }
     Ok(())
 }

@@ -6,7 +6,7 @@ use Rattle.image_file.proofs.Fronts.{file-BeginsWith, front-IsFramed, front-Leng
 use Rattle.image_file.proofs.read.geometry_of.Goals as goal
 
 pub returns-then-words-clause-fault : goal.returns-then-words-clause-fault
-returns-then-words-clause-fault c scope = inl (omega (arith, c.if-words.true, length-image_bytes c.args.words.now))
+returns-then-words-clause-fault c = inl (omega (arith, c.if-words.true, length-image_bytes c.args.words.now))
 
 pub returns-in-Err-clause-fault : goal.returns-in-Err-clause-fault
 returns-in-Err-clause-fault c =

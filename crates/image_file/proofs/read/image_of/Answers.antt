@@ -4,7 +4,7 @@ use Rattle.sound_image.specs.Image.{image_bytes}
 use Rattle.image_rules.specs.declared.breach.Rule.{Rule}
 use Rattle.image_rules.specs.Breach.{HoldsAt, IsFirstBreach}
 use Rattle.image_rules.proofs.Answered.{told_some, told_none}
-use Rattle.image_file.proofs.Accepted.{all_words, accepted-IsSoundImage, accepted-stage, breach-HasFault}
+use Rattle.image_file.proofs.Accepted.{all_words, accepted-IsSoundImage, breach-HasFault}
 use Rattle.image_file.proofs.read.image_of.Goals as goal
 
 pub first_breach-requires : goal.first_breach-requires
@@ -17,21 +17,13 @@ first_breach-requires c =
 pub returns-in-Some-clause-fault : goal.returns-in-Some-clause-fault
 returns-in-Some-clause-fault c =
     breach-HasFault (image_bytes c.args.words) c.args.words refl c.as_slice.ensures.fits c.args.geometry c.requires.framed c.requires.shape
-    c.args.scope c.in-Some.breach.rule c.in-Some.breach.word
-    (subst (λ (words : List ℕ). IsFirstBreach c.args.geometry (slice_index words) c.args.scope c.in-Some.breach.rule c.in-Some.breach.word)
+    c.in-Some.breach.rule c.in-Some.breach.word
+    (subst (λ (words : List ℕ). IsFirstBreach c.args.geometry (slice_index words) c.in-Some.breach.rule c.in-Some.breach.word)
     c.as_slice.ensures.value
     (told_some _ c.in-Ok.found c.in-Some.breach c.in-Some.is c.in-Ok.ensures.some))
 
 pub returns-in-None-clause-sound : goal.returns-in-None-clause-sound
 returns-in-None-clause-sound c =
     accepted-IsSoundImage (image_bytes c.args.words) c.args.words refl c.as_slice.ensures.fits c.args.geometry c.requires.framed c.requires.shape
-    c.args.scope
-    (subst (λ (words : List ℕ). (r : Rule) (w : ℕ) → HoldsAt c.args.geometry (slice_index words) c.args.scope r w) c.as_slice.ensures.value
-    (told_none _ c.in-Ok.found c.in-None.is c.in-Ok.ensures.none))
-
-pub returns-in-None-clause-stage : goal.returns-in-None-clause-stage
-returns-in-None-clause-stage c =
-    accepted-stage (image_bytes c.args.words) c.args.words refl c.as_slice.ensures.fits c.args.geometry c.requires.framed c.requires.shape
-    c.args.scope
-    (subst (λ (words : List ℕ). (r : Rule) (w : ℕ) → HoldsAt c.args.geometry (slice_index words) c.args.scope r w) c.as_slice.ensures.value
+    (subst (λ (words : List ℕ). (r : Rule) (w : ℕ) → HoldsAt c.args.geometry (slice_index words) r w) c.as_slice.ensures.value
     (told_none _ c.in-Ok.found c.in-None.is c.in-Ok.ensures.none))
