@@ -13,13 +13,14 @@ use Rattle.trace.proofs.Media.{fence_since, flush_since}
 use Rattle.bucket_meta.specs.Bucket.{lock_of}
 use Rattle.image_layout.specs.Places.{Shape, state_word, bucket_at, words_of, buckets}
 use Rattle.image_layout.specs.Volatile.{power_word}
+use Rattle.sound_image.specs.Segments.{frame_of, IsLive}
 use Rattle.world.specs.Views.{View, At}
 use Rattle.world.specs.Invariant.{total}
 use Rattle.world.specs.World.{fresh_view}
-use Rattle.restart_op.specs.Restarted.{IsPlayableImage, restarted, words_at_end, views_of, RestartBegins, HasSeats, KeepsPairs, EndsStarted, EndsExact, EndsOpen}
+use Rattle.restart_op.specs.Restarted.{IsPlayableImage, restarted, words_at_end, views_of, RestartBegins, HasSeats, KeepsPairs, EndsStarted, EndsAtRest, EndsOwned, EndsOpen}
 use Rattle.restart_op.proofs.Facts.{frame_is}
 use Rattle.restart_op.proofs.Same.{AgreeButForState}
-use Rattle.restart_op.proofs.Opened.{open_structure, open_table, open_rest, open_found, had_there}
+use Rattle.restart_op.proofs.Opened.{open_structure, open_table, open_rest, open_own, open_found, had_there}
 use Rattle.restart_op.proofs.Cuts.{had}
 
 -- ---- the callers
@@ -83,8 +84,8 @@ module _ (shape : Shape) (words : List ℕ) (image : IsPlayableImage shape words
   behind : (n : ℕ) → words_of shape ≤ n → at_end n ≡ 0
   behind n past = elsewhere n (λ at. omega (arith, at, past)) ∙ get_or_past words n 0 (let w = image.sound.whole in omega (arith, w, past))
 
-  unlocked : (s b : ℕ) → s < shape.segments → b < buckets → at_end (bucket_at shape s b) % 2 ≡ 0
-  unlocked s b slot near = even (at_end (bucket_at shape s b)) ((open_rest shape words image at_end agree state s slot).free b near)
+  unlocked : (s b : ℕ) → s < shape.segments → IsLive (frame_of shape at_end) s → b < buckets → at_end (bucket_at shape s b) % 2 ≡ 0
+  unlocked s b slot live near = even (at_end (bucket_at shape s b)) ((open_rest shape words image at_end agree state s slot live).free b near)
     where
       even : (x : ℕ) → lock_of x ≡ 0 → x % 2 ≡ 0
       even x free = omega (arith, free)
@@ -98,11 +99,13 @@ restart_begins shape words callers image few =
       words_are = refl;
       settled = λ i y within h. settled shape words image i y h;
       structure = λ i is. refl;
+      sound = (open_structure shape words image (words_at_end shape words) same there).frame;
       table = open_table shape words image (words_at_end shape words) same there;
-      once = λ s b r c t k h g. (open_rest shape words image (words_at_end shape words) same there s h.segment).once b r c t k h g;
-      exact = λ s b slot near. (open_rest shape words image (words_at_end shape words) same there s slot).exact b near;
+      own = λ s b r k current h. open_own shape words image (words_at_end shape words) same there s b r k current.live.live h;
+      once = λ s b r c t k current h g. (open_rest shape words image (words_at_end shape words) same there s current.live.slot current.live.live).once b r c t k h g;
+      exact = λ s b current near. (open_rest shape words image (words_at_end shape words) same there s current.live.slot current.live.live).exact b near;
       pairs = λ k. refl;
-      free = λ lock is. subst (λ n. words_at_end shape words n % 2 ≡ 0) (sym is.4) (unlocked shape words image is.0 is.1 is.2 is.3);
+      free = λ lock is. subst (λ n. words_at_end shape words n % 2 ≡ 0) (sym is.4) (unlocked shape words image is.0 is.1 is.2 is.5.live.live is.3);
       counter = behind shape words image (words_of shape) (omega arith);
       power = behind shape words image (power_word shape) (omega arith);
       fresh = each_fresh callers;
@@ -121,8 +124,11 @@ keeps_pairs shape words m image =
 pub ends_open : EndsOpen
 ends_open shape words image = open_structure shape words image (words_at_end shape words) (agree shape words image) (state shape words image)
 
-pub ends_exact : EndsExact
-ends_exact shape words image s b slot near = (open_rest shape words image (words_at_end shape words) (agree shape words image) (state shape words image) s slot).exact b near
+pub ends_at_rest : EndsAtRest
+ends_at_rest shape words image = open_rest shape words image (words_at_end shape words) (agree shape words image) (state shape words image)
+
+pub ends_owned : EndsOwned
+ends_owned shape words image = open_own shape words image (words_at_end shape words) (agree shape words image) (state shape words image)
 
 pub ends_started : EndsStarted
 ends_started shape words image = record {

@@ -1,4 +1,4 @@
--- What is used of an image that is restarted: it is a table at rest, whose structure is sound, and whose live segments take calls.
+-- What is used of an image that is restarted: it is a table whose structure is sound, and whose live segments are at rest and take calls.
 use Rattle.std.proofs.Common.{ℕ, ◌+◌, ◌^◌, ◌<◌, ◌≤◌, List, inl, inr, refl, sym, subst, ◌∙◌}
 use Rattle.std.specs.Prelude.{slice_index}
 use Rattle.image_layout.specs.Places.{Shape, state_word, head_at, bucket_at, key_at}
@@ -7,7 +7,6 @@ use Rattle.sound_image.specs.Records.{key_hash}
 use Rattle.sound_image.specs.Rules.{IsCleanAndCurrent, CleanMeansRepaired, FollowsRules}
 use Rattle.sound_image.proofs.Hashes.{key_hash-fits}
 use Rattle.segment_table.specs.Claims.{HasSoundFrame}
-use Rattle.segment_table.proofs.frames.Deciding.{live}
 use Rattle.segment_table.proofs.frames.SoundFrames.{owner_claims}
 use Rattle.segment_table.proofs.frames.Owner.{claimer_found}
 use Rattle.bucket_words.specs.Hits.{Hit}
@@ -51,7 +50,7 @@ module _ (shape : Shape) (words : List ℕ) (image : IsPlayableImage shape words
     never_before b r c t k h g less =
         (repaired (key_at shape s c t)).once s c t is_current (record_of shape word s c t k g) refl b r (record_of shape word s b r k h) less (h.key ∙ sym g.key)
 
-    live_at_rest : IsAtRest shape word s
+    pub live_at_rest : IsAtRest shape word s
     live_at_rest = record {
       free = λ b near. (repaired (bucket_at shape s b)).lock s b is_current near refl;
       once = λ b r c t k h g. elim (cases_order shape s b r c t h.slot g.slot) [
@@ -71,10 +70,3 @@ module _ (shape : Shape) (words : List ℕ) (image : IsPlayableImage shape words
       let owns : Owns frame s (key_hash shape k) = subst (λ (n : ℕ). Owns frame s (key_hash shape n)) h.key
       ((repaired (key_at shape s b r)).own s b r (is_current s h.segment lives) (record_of shape word s b r k h) refl) in
       claimer_found shape.depth frame most frame_is s (key_hash shape k) fits (owner_claims shape.depth most frame frame_is s (key_hash shape k) fits owns)
-
-  -- ---- each slot
-  pub at_rest : (s : ℕ) → s < shape.segments → IsAtRest shape word s
-  at_rest s slot = elim (live frame s) [
-    | inl lives ↦ live_at_rest s slot lives
-    | inr none ↦ image.unused s slot none
-  ]

@@ -1,4 +1,5 @@
 pub mod Frames
+pub mod Currents
 pub mod Rules
 pub mod OneSegment
 pub mod Pairs

@@ -1,9 +1,10 @@
--- An image that is restarted, with its marker cleared: a table at rest with the same pairs, on an open structure.
+-- An image that is restarted, with its marker cleared: a table with the same pairs, on an open structure, whose live segments are at rest.
 use Rattle.std.proofs.Common.{◌≡◌, ℕ, ◌%◌, ◌^◌, ◌<◌, List, Option, sym, ◌∙◌, arith}
 use Rattle.std.specs.Prelude.{slice_index}
 use Rattle.trace.specs.Events.{Words}
 use Rattle.image_layout.specs.Places.{Shape, state_word}
 use Rattle.image_layout.specs.StateWord.{marker_in}
+use Rattle.sound_image.specs.Segments.{frame_of, IsLive}
 use Rattle.sound_image.specs.Records.{HasAt}
 use Rattle.sound_image.specs.Rules.{FollowsRules}
 use Rattle.segment_table.specs.Claims.{HasSoundFrame}
@@ -11,7 +12,7 @@ use Rattle.bucket_words.specs.Hits.{find}
 use Rattle.bucket_words.specs.Standing.{IsTable}
 use Rattle.restart_op.specs.AtRest.{IsAtRest, IsOpenStructure, HasOwnRecords}
 use Rattle.restart_op.specs.Restarted.{IsPlayableImage}
-use Rattle.restart_op.proofs.Facts.{frame_is, table_is, takes_calls, own_records, at_rest}
+use Rattle.restart_op.proofs.Facts.{frame_is, table_is, takes_calls, own_records, live_at_rest}
 use Rattle.restart_op.proofs.Frames.{live_back, sound_frame}
 use Rattle.restart_op.proofs.Frames as frames
 use Rattle.restart_op.proofs.Rules.{unmarked_rules}
@@ -29,6 +30,9 @@ module _ (shape : Shape) (words : List ℕ) (image : IsPlayableImage shape words
   not_clean : marker_in (other state_word) ≡ 0
   not_clean = omega (arith, state)
 
+  was_live : (s : ℕ) → s < shape.segments → IsLive (frame_of shape other) s → IsLive (frame_of shape word) s
+  was_live = live_back shape word other (same_structure shape word other agree)
+
   open_frame : HasSoundFrame shape other
   open_frame = sound_frame shape word other (same_structure shape word other agree) version image.sound.in_range (frame_is shape words image)
 
@@ -38,14 +42,14 @@ module _ (shape : Shape) (words : List ℕ) (image : IsPlayableImage shape words
     not_clean = not_clean;
     takes_calls = λ s slot live.
         frames.takes_calls shape word other (same_structure shape word other agree) version s slot
-        (takes_calls shape words image s slot (live_back shape word other (same_structure shape word other agree) s slot live));
+        (takes_calls shape words image s slot (was_live s slot live));
   }
 
   pub open_table : IsTable shape other
   open_table = (kept shape word other agree (table_is shape words image)).table
 
-  pub open_rest : (s : ℕ) → s < shape.segments → IsAtRest shape other s
-  open_rest s slot = same_rest shape word other agree s slot (at_rest shape words image s slot)
+  pub open_rest : (s : ℕ) → s < shape.segments → IsLive (frame_of shape other) s → IsAtRest shape other s
+  open_rest s slot live = same_rest shape word other agree s slot (live_at_rest shape words image s slot (was_live s slot live))
 
   pub open_own : HasOwnRecords shape other
   open_own = same_own shape word other agree (own_records shape words image)

@@ -9,13 +9,9 @@ use Rattle.image_layout.specs.Places.{Shape, state_word}
 use Rattle.world.specs.Views.{View}
 use Rattle.world.specs.World.{fresh_view}
 use Rattle.world.proofs.device.Worlds.{begins_well}
-use Rattle.restart_op.specs.Restarted.{IsPlayableImage, restarted, words_at_end, site_of, world_of}
-use Rattle.restart_op.specs.Closing.{OwesNothing, HaveFit, FitsByEvents, QuietAfterRestart, OneSegmentOwns}
-use Rattle.bucket_words.specs.Owners.{HasStructure}
-use Rattle.restart_op.proofs.Frames.{sound_frame}
-use Rattle.restart_op.proofs.OneSegment.{owns_each}
-use Rattle.restart_op.proofs.Opened.{open_own}
-use Rattle.restart_op.proofs.Beginning.{agree, state, restart_begins, ends_open}
+use Rattle.restart_op.specs.Restarted.{IsPlayableImage, restarted, site_of, world_of}
+use Rattle.restart_op.specs.Closing.{OwesNothing, HaveFit, FitsByEvents, QuietAfterRestart}
+use Rattle.restart_op.proofs.Beginning.{restart_begins, ends_open}
 
 -- ---- values
 fits_at_first : (start : Words) → ((i : ℕ) → start i < 2 ^ 64) → HaveFit start []
@@ -77,15 +73,5 @@ quiet_after_restart shape words callers image few =
       fits = fits_restarted shape words image;
       says = record { magic_word = says.magic_word; format = says.format; segments = says.segments; depth = says.depth };
       structure = ends_open shape words image;
-      own = open_own shape words image (words_at_end shape words) (agree shape words image) (state shape words image);
       fenced = refl;
     }
-
--- ---- where there is one slot
-pub one_segment_owns : OneSegmentOwns
-one_segment_owns site start world well one opened fits =
-    let structure : HasStructure site.shape site.front world.words = well.holds.media.structure world.words (λ i within. inl refl) in
-    let frame = sound_frame site.shape site.front world.words (λ i is _. structure i is)
-    (ap (λ n. n % 2 ^ 8) (structure state_word (inl (omega arith)))) well.holds.site_is.shape opened.frame in
-    owns_each site.shape world.words well.holds.site_is.shape one frame
-    (λ i. subst (λ (ws : Words). ws i < 2 ^ 64) (sym well.words_are) (fits_now start world.trace fits i))

@@ -59,25 +59,25 @@ module _ (shape : Shape) (word : Words) where
 
     -- and of one that is marked, that its live segments are at rest
     module _ (takes_calls : (s : ℕ) → s < shape.segments → IsLive (frame_of shape word) s → TakesCalls shape word s)
-        (rest : (s : ℕ) → s < shape.segments → IsAtRest shape word s) (own : HasOwnRecords shape word) where
+        (rest : (s : ℕ) → s < shape.segments → IsLive (frame_of shape word) s → IsAtRest shape word s) (own : HasOwnRecords shape word) where
       owns_record : (s b r : ℕ) → IsLive (frame_of shape word) s → HasRecord shape word s b r → Owns (frame_of shape word) s (slot_hash shape word s b r)
       owns_record s b r live there =
           found_owns (frame_of shape word) (slot_hash shape word s b r) s (own s b r (slot_key shape word s b r) live (hit_of shape word s b r there))
 
-      not_before : (s b r : ℕ) → HasRecord shape word s b r → NotBefore shape word s b r
-      not_before s b r there c t other before same =
+      not_before : (s b r : ℕ) → IsLive (frame_of shape word) s → HasRecord shape word s b r → NotBefore shape word s b r
+      not_before s b r live there c t other before same =
           let h = hit_of shape word s c t other in
-          let one = (rest s there.segment).once c t b r (slot_key shape word s b r)
+          let one = (rest s there.segment live).once c t b r (slot_key shape word s b r)
           (record { segment = h.segment; bucket = h.bucket; slot = h.slot; taken = h.taken; key = same }) (hit_of shape word s b r there) in
           absurd (omega (arith, before, one.0, one.1))
 
       repaired : (w : ℕ) → CleanMeansRepaired shape word w
       repaired w = record {
         head = λ s current _. (takes_calls s current.slot current.live).is_normal;
-        lock = λ s b current near at. ap (λ i. lock_of (word i)) at ∙ (rest s current.slot).free b near;
+        lock = λ s b current near at. ap (λ i. lock_of (word i)) at ∙ (rest s current.slot current.live).free b near;
         own = λ s b r current there _. owns_record s b r current.live there;
-        once = λ s b r current there _. not_before s b r there;
-        notes = λ s b current near _. (rest s current.slot).exact b near;
+        once = λ s b r current there _. not_before s b r current.live there;
+        notes = λ s b current near _. (rest s current.slot current.live).exact b near;
       }
 
       pub marked_rules : FollowsRules shape word

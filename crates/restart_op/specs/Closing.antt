@@ -22,7 +22,7 @@ use Rattle.restart_op.specs.declared.close.CloseStep.TheVariants.{Flush, Fence, 
 use Rattle.restart_op.specs.declared.close.CloseOp.{CloseOp}
 use Rattle.restart_op.specs.Course.{Course, after_events}
 use Rattle.restart_op.specs.Close.{lines_of, begun, wanted, taken}
-use Rattle.restart_op.specs.AtRest.{IsOpenStructure, HasOwnRecords}
+use Rattle.restart_op.specs.AtRest.{IsOpenStructure}
 use Rattle.restart_op.specs.Restarted.{IsPlayableImage, site_of, world_of}
 
 -- ---- a close and its events
@@ -82,15 +82,13 @@ pub record SaysShapeInFront (shape : Shape) (front : Words) : Type 0 where
 abbrev pub HaveFit : Words → Trace → Type 0
 HaveFit start es = (i t : ℕ) → value_at start es t i < 2 ^ 64
 
--- the world is well, and all callers are done: nobody holds or owes anything. Its structure is one on which callers run, and
--- no record stands in a segment that does not own it
+-- the world is well, and all callers are done: nobody holds or owes anything. Its structure is one on which callers run
 pub record IsQuiet (site : Site) (start : Words) (world : World) : Type 0 where
   pub well : IsWell site start world
   pub nothing : (j : ℕ) (v : View) → At world.views j v → OwesNothing v
   pub fits : HaveFit start world.trace
   pub says : SaysShapeInFront site.shape site.front
   pub structure : IsOpenStructure site.shape site.front
-  pub own : HasOwnRecords site.shape world.words
   pub fenced : pending 0 world.trace ≡ []
 
 -- values fit where those that an event writes do
@@ -102,11 +100,6 @@ FitsByEvents = (start : Words) (e : Event) (es : Trace) → ((i x : ℕ) → Wri
 abbrev pub QuietAfterRestart : Type 0
 QuietAfterRestart = (shape : Shape) (words : List ℕ) (callers : ℕ) → IsPlayableImage shape words → callers < 2 ^ 32
     → IsQuiet (site_of shape words callers) (slice_index words) (world_of shape words callers)
-
--- where there is one slot, no record stands in a segment that does not own it
-abbrev pub OneSegmentOwns : Type 0
-OneSegmentOwns = (site : Site) (start : Words) (world : World) → IsWell site start world → site.shape.segments ≡ 1 → IsOpenStructure site.shape site.front
-    → HaveFit start world.trace → HasOwnRecords site.shape world.words
 
 -- ---- what it keeps
 -- a medium is a sound image with the pairs of these words, and says its shape as they do

@@ -4,14 +4,13 @@ use Rattle.std.specs.FinMap.{get}
 use Rattle.segment_head.specs.HeadWord.{version_in}
 use Rattle.trace.specs.Events.{Words}
 use Rattle.trace.specs.Media.{IsPossible}
-use Rattle.image_layout.specs.Places.{Shape, IsShape, state_word, head_at, words_of, homes}
+use Rattle.image_layout.specs.Places.{Shape, IsShape, state_word, head_at, words_of}
 use Rattle.map_model.specs.Map.{Map}
 use Rattle.sound_image.specs.Segments.{frame_of, IsLive}
-use Rattle.sound_image.specs.Records.{HasExactNotes}
 use Rattle.sound_image.specs.Image.{IsSoundImage}
 use Rattle.sound_image.specs.Left.{HasPairsOf}
 use Rattle.segment_table.specs.Claims.{HasSoundFrame}
-use Rattle.image_rules.specs.Stage.{MayBePlayed}
+use Rattle.image_rules.specs.Stage.{IsUntouched}
 use Rattle.bucket_words.specs.Hits.{find}
 use Rattle.op_core.specs.declared.want.Want.TheVariants.{Done}
 use Rattle.world.specs.Site.{Site}
@@ -20,14 +19,13 @@ use Rattle.world.specs.World.{World, fresh_view, Begins}
 use Rattle.restart_op.specs.declared.restart.RestartStep.TheVariants.{Ended}
 use Rattle.restart_op.specs.Restart.{begun, wanted, taken, started_with}
 use Rattle.restart_op.specs.Course.{Course, after_events}
-use Rattle.restart_op.specs.AtRest.{IsAtRest, IsOpenStructure}
+use Rattle.restart_op.specs.AtRest.{IsAtRest, IsOpenStructure, HasOwnRecords}
 
--- an image that is restarted: a sound one that may be played, that is, it is clean, and each live segment has its version.
--- Of a slot without a live segment the rules say nothing, and it is to be at rest as the others are
+-- an image that is restarted: a sound one that no power cut has left, that is, it is clean, and each live segment has its version.
+-- Of a slot without a live segment nothing is asked
 pub record IsPlayableImage (shape : Shape) (words : List ℕ) : Type 0 where
   pub sound : IsSoundImage shape words
-  pub untouched : MayBePlayed shape (slice_index words)
-  pub unused : (s : ℕ) → s < shape.segments → (IsLive (frame_of shape (slice_index words)) s → ⊥) → IsAtRest shape (slice_index words) s
+  pub untouched : IsUntouched shape (slice_index words)
 
 -- a restart of these words after so many of its events
 abbrev pub restarted : (shape : Shape) → List ℕ → ℕ → Course wanted taken shape
@@ -90,19 +88,19 @@ pub record IsStarted (shape : Shape) (words : List ℕ) : Type 0 where
 abbrev pub EndsStarted : Type 0
 EndsStarted = (shape : Shape) (words : List ℕ) → IsPlayableImage shape words → IsStarted shape words
 
--- the notes of each home are exact at the end, for its records in the stash
-abbrev pub EndsExact : Type 0
-EndsExact = (shape : Shape) (words : List ℕ) → IsPlayableImage shape words → (s b : ℕ) → s < shape.segments → b < homes → HasExactNotes shape (words_at_end shape words) s b
+-- each live segment is at rest at the end: no lock of it is taken, a key stands once, and notes are exact
+abbrev pub EndsAtRest : Type 0
+EndsAtRest = (shape : Shape) (words : List ℕ) → IsPlayableImage shape words → (s : ℕ) → s < shape.segments → IsLive (frame_of shape (words_at_end shape words)) s → IsAtRest shape (words_at_end shape words) s
+
+-- and owns each record that stands in it
+abbrev pub EndsOwned : Type 0
+EndsOwned = (shape : Shape) (words : List ℕ) → IsPlayableImage shape words → HasOwnRecords shape (words_at_end shape words)
 
 -- and the structure is one on which callers run
 abbrev pub EndsOpen : Type 0
 EndsOpen = (shape : Shape) (words : List ℕ) → IsPlayableImage shape words → IsOpenStructure shape (words_at_end shape words)
 
 -- ---- where there is one slot
--- a sound image that may be played is restarted, in whatever buckets its records stand
-abbrev pub OneSegmentIsPlayable : Type 0
-OneSegmentIsPlayable = (shape : Shape) (words : List ℕ) → shape.segments ≡ 1 → IsSoundImage shape words → MayBePlayed shape (slice_index words) → IsPlayableImage shape words
-
 -- its segment is live
 abbrev pub OneSegmentIsLive : Type 0
 OneSegmentIsLive = (shape : Shape) (word : Words) → IsShape shape → shape.segments ≡ 1 → HasSoundFrame shape word → IsLive (frame_of shape word) 0

@@ -3,7 +3,7 @@
 ghost use Rattle.std.specs.Prelude.{ℕ, ◌≡◌};
 ghost use Rattle.image_layout.specs.Places.{Shape, IsShape};
 ghost use Rattle.restart_op.specs.Close.{begun};
-ghost use Rattle.restart_op.specs.Closing.{events_of, left, Falls, EndsInTime, FewWait, FitsByEvents, QuietAfterRestart, OneSegmentOwns, CloseKeeps, CloseSettles, CloseMarks, CloseKeepsStructure, ChangesStateAlone};
+ghost use Rattle.restart_op.specs.Closing.{events_of, left, Falls, EndsInTime, FewWait, FitsByEvents, QuietAfterRestart, CloseKeeps, CloseSettles, CloseMarks, CloseKeepsStructure, ChangesStateAlone};
 
 /// Each event leaves fewer to do, and so a close ends; and never do more than eight lines wait for a fence.
 pub fn close_ends()
@@ -13,12 +13,10 @@ pub fn close_ends()
     ensures few_wait { FewWait }
 {}
 
-/// What has to hold before a close: all values fit where each event's do, a restart leaves the world quiet, and one segment owns
-/// each record.
+/// What has to hold before a close: all values fit where each event's do, and a restart leaves the world quiet.
 pub fn close_begins()
     ensures fits { FitsByEvents }
     ensures quiet { QuietAfterRestart }
-    ensures own { OneSegmentOwns }
 {}
 
 /// Whatever a power cut may leave during a close is a sound image with the pairs of the table; and where the close has

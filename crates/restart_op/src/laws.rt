@@ -5,7 +5,7 @@ ghost use Rattle.image_layout.specs.Places.{Shape};
 ghost use Rattle.restart_op.specs.declared.restart.RestartOp.{RestartOp};
 ghost use Rattle.restart_op.specs.Restart.{begun, wanted};
 ghost use Rattle.restart_op.specs.Budget.{left, Falls, EndsAtNone, IsOnStateWord};
-ghost use Rattle.restart_op.specs.Restarted.{RestartKeeps, RestartBegins, HasSeats, KeepsPairs, EndsStarted, EndsExact, EndsOpen, OneSegmentIsPlayable, OneSegmentIsLive};
+ghost use Rattle.restart_op.specs.Restarted.{RestartKeeps, RestartBegins, HasSeats, KeepsPairs, EndsStarted, EndsAtRest, EndsOwned, EndsOpen, OneSegmentIsLive};
 
 /// A restart takes four events, all of them on the state word: each answer of the kind that was asked for leaves one fewer.
 pub fn restart_ends()
@@ -20,19 +20,19 @@ pub fn restart_keeps()
     ensures { RestartKeeps }
 {}
 
-/// A restart leaves a world that begins, with the image's pairs, for any callers; the image's version; notes that are exact; and a
-/// structure on which callers run.
+/// A restart leaves a world that begins, with the image's pairs, for any callers; the image's version; live segments at rest, which
+/// own their records; and a structure on which callers run.
 pub fn restart_begins()
     ensures begins { RestartBegins }
     ensures seats { HasSeats }
     ensures pairs { KeepsPairs }
     ensures started { EndsStarted }
-    ensures exact { EndsExact }
+    ensures rest { EndsAtRest }
+    ensures own { EndsOwned }
     ensures structure { EndsOpen }
 {}
 
-/// Of an image of one slot no more is asked than that it is sound and may be played; and the segment in that slot is live.
-pub fn one_segment_is_enough()
-    ensures playable { OneSegmentIsPlayable }
-    ensures live { OneSegmentIsLive }
+/// The segment in the one slot of an image is live.
+pub fn one_segment_is_live()
+    ensures { OneSegmentIsLive }
 {}

@@ -22,19 +22,20 @@ use Rattle.bucket_words.proofs.segments.Cores.{structure_within}
 use Rattle.bucket_words.specs.Owners.{HasStructure}
 use Rattle.bucket_words.specs.Standing.{IsTable}
 use Rattle.bucket_words.specs.Hits.{find}
-use Rattle.world.specs.Site.{Site}
+use Rattle.world.specs.Site.{Site, IsCurrentIn}
 use Rattle.world.specs.Views.{Move, Owed, View, Has, At, IsLoose, HasLock}
 use Rattle.world.specs.Media.{IsPossible as MayBeLeft}
 use Rattle.world.specs.World.{World}
 use Rattle.world.proofs.Tables.{same_find}
 use Rattle.world.proofs.device.Worlds.{device_leaves}
-use Rattle.restart_op.specs.AtRest.{IsAtRest, TakesCalls}
+use Rattle.restart_op.specs.AtRest.{IsAtRest, TakesCalls, HasOwnRecords}
 use Rattle.restart_op.specs.Restarted.{IsPlayableImage}
 use Rattle.restart_op.specs.Closing.{close_after, IsQuiet, IsKept, IsClosed, CloseKeeps, CloseSettles, CloseMarks, CloseKeepsStructure}
 use Rattle.restart_op.proofs.Frames.{SameStructure, live_back, takes_calls, sound_frame}
+use Rattle.restart_op.proofs.Currents.{live_is_current}
 use Rattle.restart_op.proofs.Rules.{unmarked_rules, marked_rules}
 use Rattle.restart_op.proofs.Pairs.{has_of_found}
-use Rattle.restart_op.proofs.Same.{AgreeButForState, kept, same_rest, same_own}
+use Rattle.restart_op.proofs.Same.{AgreeButForState, same_structure, kept, same_rest, same_own}
 use Rattle.restart_op.proofs.closes.ClosePhases.{marked, Before, After, IsSettledNow, elsewhere, phase_at, at_end, either}
 
 -- ---- the marker
@@ -82,25 +83,32 @@ module _ (site : Site) (start : Words) (world : World) (quiet : IsQuiet site sta
   not_owed : (j : ℕ) (v : View) (o : Owed) → At world.views j v → Has o v.owed → ⊥
   not_owed j v o at h = subst (λ (os : List Owed). Has o os) (quiet.nothing j v at).owed h
 
-  free_now : (s b : ℕ) → s < shape.segments → b < buckets → lock_of (was (bucket_at shape s b)) ≡ 0
-  free_now s b slot near = elim (cases_eq (was (bucket_at shape s b) % 2) 1) [
-    | inl odd ↦ let h = quiet.well.holds.locks.odd (bucket_at shape s b) (s, b, slot, near, refl) odd in absurd (not_locked (bucket_at shape s b) h.1 h.0 h.2 h.3)
+  free_now : (s b : ℕ) → IsCurrentIn site was s → b < buckets → lock_of (was (bucket_at shape s b)) ≡ 0
+  free_now s b current near = elim (cases_eq (was (bucket_at shape s b) % 2) 1) [
+    | inl odd ↦ let h = quiet.well.holds.locks.odd (bucket_at shape s b) (s, b, current.live.slot, near, refl, current) odd in absurd (not_locked (bucket_at shape s b) h.1 h.0 h.2 h.3)
     | inr even ↦ unlocked (was (bucket_at shape s b)) even
   ]
     where
       unlocked : (x : ℕ) → (x % 2 ≡ 1 → ⊥) → lock_of x ≡ 0
       unlocked x even = omega (arith, even)
 
-  -- so each slot is at rest
-  rest_now : (s : ℕ) → s < shape.segments → IsAtRest shape was s
-  rest_now s slot = record {
-    free = λ b near. free_now s b slot near;
-    once = λ b r c t k h g. elim (quiet.well.holds.copies.once s b r c t k h g) [
+  -- each live segment has the version of the image
+  current_now : (s : ℕ) → s < shape.segments → IsLive (frame_of shape was) s → IsCurrentIn site was s
+  current_now = live_is_current site was structure_now quiet.structure
+
+  -- so it is at rest, and owns its records
+  rest_now : (s : ℕ) → s < shape.segments → IsLive (frame_of shape was) s → IsAtRest shape was s
+  rest_now s slot live = record {
+    free = λ b near. free_now s b (current_now s slot live) near;
+    once = λ b r c t k h g. elim (quiet.well.holds.copies.once s b r c t k (current_now s slot live) h g) [
       | inl same ↦ same
       | inr m ↦ absurd (not_moving m.0 m.1 m.2 m.3 m.4)
     ];
-    exact = λ b near. quiet.well.holds.overflow.exact s b slot near (λ j v o at h _ _. not_owed j v o at h);
+    exact = λ b near. quiet.well.holds.overflow.exact s b (current_now s slot live) near (λ j v o at h _ _. not_owed j v o at h);
   }
+
+  own_now : HasOwnRecords shape was
+  own_now s b r k live h = quiet.well.holds.owned.own s b r k (current_now s h.segment live) h
 
   fits_now : (i : ℕ) → was i < 2 ^ 64
   fits_now i =
@@ -214,8 +222,8 @@ module _ (site : Site) (start : Words) (world : World) (quiet : IsQuiet site sta
           bounded : (y x : ℕ) → y ≡ x + 2 ^ 8 → x < 2 ^ 64 → x / 2 ^ 8 % 2 ≡ 0 → y < 2 ^ 64
           bounded y x is low clear = omega arith
 
-      rest_marked : (s : ℕ) → s < shape.segments → IsAtRest shape word s
-      rest_marked s slot = same_rest shape was word same_word s slot (rest_now s slot)
+      rest_marked : (s : ℕ) → s < shape.segments → IsLive (frame_of shape word) s → IsAtRest shape word s
+      rest_marked s slot live = same_rest shape was word same_word s slot (rest_now s slot (live_back shape was word (same_structure shape was word same_word) s slot live))
 
       table_marked : IsTable shape word
       table_marked = (kept shape was word same_word table_now).table
@@ -233,7 +241,7 @@ module _ (site : Site) (start : Words) (world : World) (quiet : IsQuiet site sta
         each_fits = fits_marked;
         says_shape = says_by medium front_marked;
         follows = marked_rules shape word quiet.well.holds.site_is.shape frame_marked table_marked fits_marked takes_calls_marked rest_marked
-            (same_own shape was word same_word quiet.own);
+            (same_own shape was word same_word own_now);
       }
 
       kept_marked : IsKept site was medium
@@ -251,7 +259,6 @@ module _ (site : Site) (start : Words) (world : World) (quiet : IsQuiet site sta
           clean = λ _. clean_left;
           current = λ s slot _ live. (takes_calls_marked s slot live).same_version;
         };
-        unused = λ s slot none. rest_marked s slot;
       }
 
     -- ---- at any time

@@ -1,4 +1,4 @@
-use Rattle.restart_op.proofs.Quiet.{fits_by_events, quiet_after_restart, one_segment_owns}
+use Rattle.restart_op.proofs.Quiet.{fits_by_events, quiet_after_restart}
 use Rattle.restart_op.proofs.closing.close_begins.Goals as goal
 
 pub returns-clause-fits : goal.returns-clause-fits
@@ -6,6 +6,3 @@ returns-clause-fits c = fits_by_events
 
 pub returns-clause-quiet : goal.returns-clause-quiet
 returns-clause-quiet c = quiet_after_restart
-
-pub returns-clause-own : goal.returns-clause-own
-returns-clause-own c = one_segment_owns

@@ -1,5 +1,5 @@
 -- The laws are lemmas.
-use Rattle.restart_op.proofs.Beginning.{restart_begins, has_seats, keeps_pairs, ends_started, ends_exact, ends_open}
+use Rattle.restart_op.proofs.Beginning.{restart_begins, has_seats, keeps_pairs, ends_started, ends_at_rest, ends_owned, ends_open}
 use Rattle.restart_op.proofs.laws.restart_begins.Goals as goal
 
 pub returns-clause-begins : goal.returns-clause-begins
@@ -14,8 +14,11 @@ returns-clause-pairs c = keeps_pairs
 pub returns-clause-started : goal.returns-clause-started
 returns-clause-started c = ends_started
 
-pub returns-clause-exact : goal.returns-clause-exact
-returns-clause-exact c = ends_exact
+pub returns-clause-rest : goal.returns-clause-rest
+returns-clause-rest c = ends_at_rest
+
+pub returns-clause-own : goal.returns-clause-own
+returns-clause-own c = ends_owned
 
 pub returns-clause-structure : goal.returns-clause-structure
 returns-clause-structure c = ends_open
