@@ -5,7 +5,7 @@ use Rattle.trace.specs.Events.{Words}
 use Rattle.map_model.specs.declared.call.Call.{Call}
 use Rattle.map_model.specs.Map.{key_of, value_of}
 use Rattle.world.specs.declared.site.Site.{Site as Here}
-use Rattle.world.specs.Site.{Site, IsSite}
+use Rattle.world.specs.Site.{Site, IsSite, version_of}
 use Rattle.world.specs.Views.{View, At}
 use Rattle.world.specs.Wants.{answer_to, word_of}
 use Rattle.world.specs.Kinds.{wanted as wanted_by, view_after}
@@ -13,6 +13,7 @@ use Rattle.world.specs.Conditions.{May}
 use Rattle.world.specs.Invariant.{Holds}
 use Rattle.world.specs.Attempts.{HoldsOnly, EntersReply}
 use Rattle.part.specs.Part.{Suits as SuitsPart}
+use Rattle.refuse_op.specs.Grown.{AllGrown}
 use Rattle.restart_op.specs.AtRest.{IsOpenStructure}
 use Rattle.engine.specs.declared.engine.Engine.{Engine}
 use Rattle.engine.specs.Engine.{begun, wanted, taken, end_of, reply_of_end, kind_of}
@@ -34,14 +35,14 @@ pub record HasEnded (call : Call) (e : Engine) (before v : View) : Type 0 where
 abbrev pub IsWordCall : Call → Type 0
 IsWordCall call = (key_of call < 2 ^ 64) × (value_of call < 2 ^ 64)
 
--- so far a site is served whose structure is one on which callers run, and has one slot for a segment
+-- so far a site is served whose structure is one on which callers run, and is grown out
 pub record IsServed (site : Site) : Type 0 where
   pub structure : IsOpenStructure site.shape site.front
-  pub one : site.shape.segments ≡ 1
+  pub grown : AllGrown site.shape site.front
 
--- a call begins with any view that holds and owes nothing
+-- a call begins, in an image of this shape and version, with any view that holds and owes nothing
 abbrev pub BeginsSuited : Type 0
-BeginsSuited = (site : Site) (here : Here) (call : Call) (v : View) → IsSite site → IsServed site → here.geometry ≡ site.shape → IsWordCall call
+BeginsSuited = (site : Site) (here : Here) (call : Call) (v : View) → IsSite site → IsServed site → here.geometry ≡ site.shape → here.version ≡ version_of site → IsWordCall call
     → HoldsOnly [] v → 0 < v.callers → Suits site here call (begun here call) v v
 
 module _ (site : Site) (e : Engine) (words : Words) where

@@ -13,10 +13,11 @@ use Rattle.map_model.specs.Weave.{all_of, draws}
 use Rattle.map_model.specs.declared.entry.Reply.TheVariants.{Spent}
 use Rattle.map_model.specs.ByPlaces.{map_at}
 use Rattle.session.specs.Session.{HadNoRoom}
-use Rattle.world.specs.Site.{Site, HasSpentLock}
+use Rattle.world.specs.Site.{Site, version_of, HasSpentLock}
 use Rattle.world.specs.Views.{View, At, Has}
 use Rattle.world.specs.World.{World, IsWell, fresh_view}
 use Rattle.world.specs.Attempts.{HoldsOnly}
+use Rattle.refuse_op.specs.Grown.{AllGrown}
 use Rattle.engine.specs.declared.engine.Engine.{Engine}
 use Rattle.engine.specs.Fits.{Suits, IsWordCall, IsServed}
 use Rattle.engine.specs.Core.{Caller, Core, call_at, current, turn, run, callers_from}
@@ -61,6 +62,7 @@ DoesCall site c (Some e) v = IsCalling site c e v
 -- THE VIEW fits its caller
 pub record CallerFits (site : Site) (c : Caller) (v : View) : Type 0 where
   pub place : c.site.geometry ≡ site.shape
+  pub version : c.site.version ≡ version_of site
   pub words : (n : ℕ) (call : Call) → call_at c n ≡ Some call → IsWordCall call
   pub callers : 0 < v.callers
   -- its replies are to the first of its calls, in their order
@@ -116,8 +118,9 @@ abbrev pub RunKeeps : Type 0
 RunKeeps = (site : Site) (start : Words) (core : Core) (turns : List ℕ) → CoreHolds site start core → CoreHolds site start (run site.shape turns core)
 
 -- a quiet world in which each caller of the scripts has a view of its own, which has done nothing yet: the core with which they
--- begin holds
+-- begin holds, where they have the version of the image
 abbrev pub CoreBegins : Type 0
 CoreBegins = (site : Site) (start : Words) (core : Core) (version : ℕ) (scripts : List (List Call))
-    → IsQuiet site start (world_of core (replicate (length scripts) (fresh_view 1))) → site.shape.segments ≡ 1 → AllByRecursion (AllByRecursion IsWordCall) scripts
+    → IsQuiet site start (world_of core (replicate (length scripts) (fresh_view 1))) → AllGrown site.shape site.front → version ≡ version_of site
+    → AllByRecursion (AllByRecursion IsWordCall) scripts
     → core.callers ≡ callers_from site.shape version 1 scripts → CoreHolds site start core

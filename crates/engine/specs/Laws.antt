@@ -14,6 +14,7 @@ use Rattle.sound_image.specs.Left.{HasPairsOf}
 use Rattle.bucket_words.specs.Hits.{find}
 use Rattle.trace.specs.Events.{Words}
 use Rattle.world.specs.Site.{Site}
+use Rattle.refuse_op.specs.Grown.{AllGrown}
 use Rattle.restart_op.specs.Restarted.{IsPlayableImage, restarted, words_at_end, site_of}
 use Rattle.restart_op.specs.Closing.{IsQuiet}
 use Rattle.engine.specs.Fits.{IsWordCall}
@@ -29,10 +30,10 @@ opened shape words scripts = record {
   callers = callers_from shape (words_at_end shape words state_word) 1 scripts;
 }
 
--- so far an image is served that may be restarted, and that has one slot for a segment
+-- so far an image is served that may be restarted, and that is grown out
 pub record IsServedImage (shape : Shape) (words : List ℕ) : Type 0 where
   pub playable : IsPlayableImage shape words
-  pub one : shape.segments ≡ 1
+  pub grown : AllGrown shape (slice_index words)
 
 -- up to 64 callers, whose keys and values are words
 pub record AreScripts (scripts : List (List Call)) : Type 0 where

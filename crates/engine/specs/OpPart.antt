@@ -1,6 +1,6 @@
 -- THE MACHINES OF A CALL, AS ONE PART: a get, or a change that goes on, where it finds no slot, to the move of a record; where none can
 -- move, to the stash; and where that is full, to its refusal. Each machine has a name of its own.
-use Rattle.std.specs.Prelude.{◌≡◌, Bool}
+use Rattle.std.specs.Prelude.{Bool}
 use Rattle.world.specs.Site.{Site}
 use Rattle.part.specs.Part.{Part}
 use Rattle.part.specs.Then.{Then, first, second, passed, then_part}
@@ -19,15 +19,16 @@ use Rattle.stash_op.specs.declared.op.StashOp.{StashOp}
 use Rattle.stash_op.specs.Steps.{begun as stash_begun, kept_of as stash_kept}
 use Rattle.stash_op.specs.StashPart.{stash_part}
 use Rattle.refuse_op.specs.declared.op.RefuseOp.{RefuseOp}
+use Rattle.refuse_op.specs.Grown.{AllGrown}
 use Rattle.refuse_op.specs.Steps.{refused}
 use Rattle.refuse_op.specs.RefusePart.{refuse_part}
 use Rattle.engine.specs.declared.engine.Op.{Op}
 use Rattle.engine.specs.declared.engine.Op.TheVariants.{Read, Write, Move, Stash, Refuse}
 
 -- ---- a change, as it goes on
--- so far in an image of one slot for a segment, as the move asks, and the refusal
-abbrev pub IsSingle : Site → Type 0
-IsSingle site = site.shape.segments ≡ 1
+-- so far in a table that is grown out, as the refusal asks
+abbrev pub IsGrownOut : Site → Type 0
+IsGrownOut site = AllGrown site.shape site.front
 
 -- the move that goes on from what a change kept, the stash from what that kept, and the refusal from what this kept
 abbrev pub move_of : WriteOp → MoveOp
@@ -41,22 +42,22 @@ refusal_of op = refused (stash_kept op)
 
 -- THE STASH, and where it is full the refusal
 abbrev pub stash_or_refusal : Part (Then StashOp RefuseOp)
-stash_or_refusal = then_part (limited_part stash_part IsSingle) refuse_part refusal_of
+stash_or_refusal = then_part (limited_part stash_part IsGrownOut) refuse_part refusal_of
 
 -- which comes at once where both stash buckets are held already, and full
 abbrev pub entered : Bool → StashOp → Then StashOp RefuseOp
-entered = passed (limited_part stash_part IsSingle) refuse_part refusal_of
+entered = passed (limited_part stash_part IsGrownOut) refuse_part refusal_of
 
 abbrev pub after_move : MoveOp → Then StashOp RefuseOp
 after_move op = entered (stash_part.hands_on (stash_of op)) (stash_of op)
 
 -- A MOVE, and where no record can move these two
 abbrev pub move_or_more : Part (Then MoveOp (Then StashOp RefuseOp))
-move_or_more = then_part move_part stash_or_refusal after_move
+move_or_more = then_part (limited_part move_part IsGrownOut) stash_or_refusal after_move
 
 -- A CHANGE, and where it finds no slot these three
 abbrev pub whole_change : Part (Then WriteOp (Then MoveOp (Then StashOp RefuseOp)))
-whole_change = then_part (limited_part change_part IsSingle) move_or_more (λ op. first (move_of op))
+whole_change = then_part (limited_part change_part IsGrownOut) move_or_more (λ op. first (move_of op))
 
 -- ---- the states of the machines
 abbrev pub OpState : Type 0

@@ -16,7 +16,7 @@ ghost use Rattle.part.specs.Part.{IsPart};
 ghost use Rattle.part.specs.Causes.{EndsByCause};
 ghost use Rattle.engine.specs.OpPart.{op_part};
 ghost use Rattle.engine.specs.Causes.{BeginsBare, EndsAreDecided};
-ghost use Rattle.engine.specs.Fits.{IsServed, BeginsSuited, KeepsSuits};
+ghost use Rattle.engine.specs.Fits.{BeginsSuited, KeepsSuits};
 ghost use Rattle.engine.specs.Left.{most_events, left, waiting};
 ghost use Rattle.engine.specs.Pairs.{LeavesOrMakes, BeginsUnmade, StaysMade, EndsAsDone, TurnLeavesOrMakes};
 ghost use Rattle.engine.specs.Asks.{AsksWithin, AsksWords, KeepsNotes};
@@ -27,7 +27,7 @@ ghost use Rattle.engine.specs.Asks.{AsksWithin, AsksWords, KeepsNotes};
 pub fn calls_are_parts()
     ensures part { IsPart op_part }
     ensures causes { EndsByCause op_part }
-    ensures remembers { (site : Image) (here : Site) (call : Call) → IsServed site → op_part.Remembers site (begun here call).op nothing_done }
+    ensures remembers { (site : Image) (here : Site) (call : Call) → op_part.Remembers site (begun here call).op nothing_done }
     ensures bare { BeginsBare }
     ensures finished { (e : Engine) → op_part.outcome e.op ≡ Some finished → ⊥ }
     ensures ends { EndsAreDecided }
@@ -43,8 +43,8 @@ pub fn calls_are_parts()
     refuse_op::ends_tell();
 }
 
-/// An engine fits the world of many callers: at the beginning of a call it suits the view of a caller that holds, knows and owes
-/// nothing; each event is one of a kind that the view may take, and leaves a view that suits the engine; or the attempt has
+/// An engine fits the world of many callers: at the beginning of a call, on a site that is served and has its shape and version, it
+/// suits the view of a caller that holds, knows and owes nothing; each event is one of a kind that the view may take, and leaves a view that suits the engine; or the attempt has
 /// ended, and the caller holds and owes nothing, and has its reply, if there is one, as its next entry.
 pub fn fits_the_world()
     ensures begins { BeginsSuited }

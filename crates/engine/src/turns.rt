@@ -40,6 +40,7 @@ pub fn opened_holds()
     ensures { OpenedHolds }
 {
     core_begins();
+    restart_op::restart_begins();
     restart_op::close_begins();
 }
 
@@ -62,7 +63,7 @@ pub fn through_is_quiet()
     ensures map { ThroughHasMap }
 {
     world::entries_are_legal();
-    restart_op::close_begins();
+    restart_op::one_segment_is_live();
 }
 
 /// The replies to a caller that runs alone are, one after another, those of a plain map.
@@ -77,7 +78,7 @@ pub fn cut_is_session()
     ensures { CutIsSession }
 {
     turns_keep();
-    restart_op::one_segment_is_enough();
+    restart_op::one_segment_is_live();
 }
 
 /// A run that ends by a close is a session: each call has its reply, and the one image that is left has the map's pairs.
@@ -89,6 +90,6 @@ pub fn close_is_session()
     turn_keeps();
     through_is_quiet();
     restart_op::restart_begins();
-    restart_op::one_segment_is_enough();
+    restart_op::one_segment_is_live();
     restart_op::close_keeps();
 }

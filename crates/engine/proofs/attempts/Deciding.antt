@@ -1,5 +1,5 @@
 -- Where the next event of a caller decides the outcome of its attempt, the cause is there.
-use Rattle.std.proofs.Common.{◌≡◌, ℕ, suc, ◌+◌, ◌%◌, ◌^◌, ◌<◌, inl, inr, true, false, cond, Some, List, ◌∷◌, length, slice_get, slice_index, refl, sym, ◌∙◌, ap, subst, arith}
+use Rattle.std.proofs.Common.{◌≡◌, ℕ, suc, ◌+◌, ◌^◌, ◌<◌, inl, inr, true, false, cond, Some, List, ◌∷◌, length, slice_get, slice_index, refl, sym, ◌∙◌, ap, subst, arith}
 use Rattle.std.specs.Prelude.{nat_lt, ◌==◌, ◌||◌}
 use Rattle.std.proofs.lemmas.Bool.{cases_lt, lt-ltb, le-ltb, eqb-true, false≢true, or_cases}
 use Rattle.std.proofs.lemmas.Option.{same_Some}
@@ -14,7 +14,7 @@ use Rattle.image_layout.specs.Volatile.{power_word}
 use Rattle.map_model.specs.declared.call.Call.{Call}
 use Rattle.way.specs.Ways.{head_word}
 use Rattle.world.specs.declared.site.Site.{Site as Here}
-use Rattle.world.specs.Site.{Site}
+use Rattle.world.specs.Site.{Site, version_of}
 use Rattle.bucket_words.specs.Owners.{HasStructure}
 use Rattle.world.specs.Views.{View, At, HasLock}
 use Rattle.world.specs.Wants.{word_of}
@@ -26,7 +26,7 @@ use Rattle.part.specs.Outcomes.{Outcome, replied, again, stale, off, finished}
 use Rattle.part.specs.Part.{IsPart}
 use Rattle.part.specs.Causes.{IsStale, HasCause as HasPartCause, StepsByCause, EndsByCause}
 use Rattle.restart_op.specs.AtRest.{IsOpenStructure}
-use Rattle.restart_op.specs.Restarted.{words_at_end, site_of, EndsStarted}
+use Rattle.restart_op.specs.Restarted.{words_at_end, site_of}
 use Rattle.engine.specs.declared.engine.Engine.{Engine}
 use Rattle.engine.specs.Engine.{wanted}
 use Rattle.engine.specs.OpPart.{op_part}
@@ -55,7 +55,7 @@ small_is_dead head small live =
 
 module _ (site : Site) (words : Words) (views : List View) (h : Holds site words views) (opened : IsOpenStructure site.shape site.front) where
   structure : HasStructure site.shape site.front words
-  structure = h.media.structure words (λ i within. inl refl)
+  structure = h.structure.constant
 
   root_small : words root_word < 2 ^ 8
   root_small =
@@ -72,7 +72,7 @@ module _ (site : Site) (words : Words) (views : List View) (h : Holds site words
   none_beyond : (segment : ℕ) → nat_lt segment site.shape.segments ≡ false → words (head_word site.shape segment) ≡ words root_word
   none_beyond segment none = ap (λ b. words (cond b (head_at site.shape segment + 1) root_word)) none
 
-  never_stale : (did : Doings) (call : Call) (event : Want) (version segment byte : ℕ) → version ≡ site.front state_word % 2 ^ 8 → IsStale site.shape words did call event version segment byte → ⊥
+  never_stale : (did : Doings) (call : Call) (event : Want) (version segment byte : ℕ) → version ≡ version_of site → IsStale site.shape words did call event version segment byte → ⊥
   never_stale did call event version segment byte current c =
       let newest : words (head_word site.shape segment) ≡ c.head = (finds_newest site.shape words event (head_word site.shape segment) c.head c.looked).1 in
       elim (cases_lt segment site.shape.segments) [
@@ -86,7 +86,7 @@ module _ (site : Site) (words : Words) (views : List View) (h : Holds site words
       ]
 
   -- so the cause of a part's outcome is one of an engine's
-  module _ (powered : words (power_word site.shape) ≡ 0) (did : Doings) (call : Call) (event : Want) (here : Here) (version : here.version ≡ site.front state_word % 2 ^ 8) where
+  module _ (powered : words (power_word site.shape) ≡ 0) (did : Doings) (call : Call) (event : Want) (here : Here) (version : here.version ≡ version_of site) where
     cause_of : (outcome : Outcome) → (outcome ≡ finished → ⊥) → HasPartCause site.shape words did call event here outcome → HasCause site.shape words did call event outcome
     cause_of (replied reply place) never c = c
     cause_of (again why) never c = c
@@ -102,24 +102,24 @@ pub record CallCauses : Type 0 where
   pub never : (e : Engine) → op_part.outcome e.op ≡ Some finished → ⊥
 
 -- ---- in a core that holds
-module _ (laws : CallCauses) (keeps : TurnKeeps) (site : Site) (start : Words) (core : Core) (h : CoreHolds site start core) (version : ℕ) (current_is : version ≡ site.front state_word % 2 ^ 8)
+module _ (laws : CallCauses) (keeps : TurnKeeps) (site : Site) (start : Words) (core : Core) (h : CoreHolds site start core)
     (j : ℕ) (c : Caller) (call : Call) (e : Engine) (d : Doings) (there : slice_get core.callers j ≡ Some c) (calls : current c ≡ Some call) (runs : c.engine ≡ Some e)
-    (doing : IsDoing laws.causes laws.begins keeps site start version c d) where
-  seen : (v : View) × At (fresh_view 0 ∷ h.views) (suc j) v × IsCalling site c e v
-  seen = let z = zip_at (CallerFits site) core.callers h.views j c h.each there in (z.0, z.1, subst (λ o. DoesCall site c o z.0) runs z.2.does)
+    (doing : IsDoing laws.causes laws.begins keeps site start c d) where
+  seen : (v : View) × At (fresh_view 0 ∷ h.views) (suc j) v × IsCalling site c e v × (c.site.version ≡ version_of site)
+  seen = let z = zip_at (CallerFits site) core.callers h.views j c h.each there in (z.0, z.1, subst (λ o. DoesCall site c o z.0) runs z.2.does, z.2.version)
 
   now_fits : (i : ℕ) → core.words i < 2 ^ 64
   now_fits i = subst (λ x. x < 2 ^ 64) (value_at_now start core.trace i ∙ sym (ap (λ (ws : Words). ws i) h.well.words_are)) (h.fits i (length core.trace))
 
   step : StepsByCause op_part site c.site seen.2.call core.words e.op seen.0 d
   step = laws.causes.steps site c.site seen.2.call core.words (fresh_view 0 ∷ h.views) (suc j) e.op seen.2.before seen.0 d h.well.holds seen.1 seen.2.suits.suits seen.2.suits.asks
-      (now_fits (word_of site.shape (wanted e))) (doing.did e runs)
+      (now_fits (word_of site.shape (wanted e))) (doing e runs)
 
   core_cause : (outcome : Outcome) → core.words (power_word site.shape) ≡ 0 → Decides site.shape core.words e outcome → HasCause site.shape core.words d call (wanted e) outcome
   core_cause outcome powered decides =
       let same : seen.2.call ≡ call = same_Some seen.2.call call (sym seen.2.is_current ∙ calls) in
       subst (λ x. HasCause site.shape core.words d x (wanted e) outcome) same
-      (cause_of site core.words (fresh_view 0 ∷ h.views) h.well.holds h.served.structure powered d seen.2.call (wanted e) c.site (doing.version_is ∙ current_is) outcome
+      (cause_of site core.words (fresh_view 0 ∷ h.views) h.well.holds h.served.structure powered d seen.2.call (wanted e) c.site seen.3 outcome
       (λ is. laws.never (Rattle.engine.specs.Causes.engine_next site.shape core.words e) (decides.decides ∙ ap Some is)) (step.caused outcome decides.undecided decides.decides))
 
   -- who finds a lock taken does not hold it
@@ -148,26 +148,20 @@ module _ (opens : OpenedHolds) (keeps : TurnKeeps) (shape : Shape) (words : List
   pub holds_there : CoreHolds site_there (slice_index words) there.core
   holds_there = subst (λ core. CoreHolds site_there (slice_index words) core) same (run_keeps keeps site_there (slice_index words) first turns begins)
 
-  abbrev version : ℕ
-  version = words_at_end shape words state_word
-
-  module _ (laws : CallCauses) (started : EndsStarted) (j : ℕ) (c : Caller) (call : Call) (e : Engine) (at : slice_get there.core.callers j ≡ Some c) (calls : current c ≡ Some call) (runs : c.engine ≡ Some e) where
-    is_current : version ≡ version % 2 ^ 8
-    is_current = let s = started shape words image.playable in let state = s.state in let fits = s.fits in omega (arith, state, fits)
-
-    doing : IsDoing laws.causes laws.begins keeps site_there (slice_index words) version c (there.doings j)
-    doing = run_does laws.causes laws.begins keeps site_there (slice_index words) version begins.served (watched first) turns begins
-        (λ i x is. begin_doing laws.causes laws.begins keeps site_there (slice_index words) version begins.served shape 1 scripts i x is) j c at
+  module _ (laws : CallCauses) (j : ℕ) (c : Caller) (call : Call) (e : Engine) (at : slice_get there.core.callers j ≡ Some c) (calls : current c ≡ Some call) (runs : c.engine ≡ Some e) where
+    doing : IsDoing laws.causes laws.begins keeps site_there (slice_index words) c (there.doings j)
+    doing = run_does laws.causes laws.begins keeps site_there (slice_index words) (watched first) turns begins
+        (λ i x is. begin_doing laws.causes laws.begins keeps site_there (slice_index words) shape (words_at_end shape words state_word) 1 scripts i x is) j c at
 
     powered : there.core.words (power_word shape) ≡ 0
     powered = subst (λ (core : Core). core.words (power_word shape) ≡ 0) same (run_powered laws.part keeps site_there (slice_index words) first turns begins (restart_powered shape words image.playable))
 
     pub cause_there : (outcome : Outcome) → Decides shape there.core.words e outcome → HasCause shape there.core.words (there.doings j) call (wanted e) outcome
-    cause_there outcome decides = core_cause laws keeps site_there (slice_index words) there.core holds_there version is_current j c call e (there.doings j) at calls runs doing outcome powered decides
+    cause_there outcome decides = core_cause laws keeps site_there (slice_index words) there.core holds_there j c call e (there.doings j) at calls runs doing outcome powered decides
 
     pub not_own_there : (word value : ℕ) → Decides shape there.core.words e (again (Busy word value)) → (v : View) → At holds_there.views j v → HasLock v.held word → ⊥
-    not_own_there word value decides v seat has = core_not_own laws keeps site_there (slice_index words) there.core holds_there version is_current j c call e (there.doings j) at calls runs doing word value decides v seat has
+    not_own_there word value decides v seat has = core_not_own laws keeps site_there (slice_index words) there.core holds_there j c call e (there.doings j) at calls runs doing word value decides v seat has
 
-pub ends_have_causes : CallCauses → OpenedHolds → TurnKeeps → EndsStarted → EndsHaveCauses
-ends_have_causes laws opens keeps started shape words image scripts are turns j c call e outcome at calls runs decides =
-    cause_there opens keeps shape words image scripts are turns laws started j c call e at calls runs outcome decides
+pub ends_have_causes : CallCauses → OpenedHolds → TurnKeeps → EndsHaveCauses
+ends_have_causes laws opens keeps shape words image scripts are turns j c call e outcome at calls runs decides =
+    cause_there opens keeps shape words image scripts are turns laws j c call e at calls runs outcome decides

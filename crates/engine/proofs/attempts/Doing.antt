@@ -19,7 +19,6 @@ use Rattle.part.specs.Causes.{EndsByCause}
 use Rattle.engine.specs.declared.engine.Engine.{Engine}
 use Rattle.engine.specs.Engine.{begun, wanted, end_of, reply_of_end}
 use Rattle.engine.specs.OpPart.{op_part}
-use Rattle.engine.specs.Fits.{IsServed}
 use Rattle.engine.specs.Core.{Caller, Core, call_at, current, engine_for, drawn_by, ended, gone_on, answered, callers_from, idle}
 use Rattle.engine.specs.Holding.{IsCalling, DoesCall, CallerFits, CoreHolds, TurnKeeps}
 use Rattle.engine.specs.Causes.{doings_by, Watched, with_doings, answer_now, engine_next, doings_of_call, doings_of_caller, watched_turn, watched_run, WatchingChangesNothing}
@@ -36,88 +35,86 @@ set_there (y ∷ callers) (suc j) c d x there is = set_there callers j c d x the
 
 -- what an attempt that has done nothing remembers
 abbrev pub RemembersNothing : Type 0
-RemembersNothing = (site : Site) (here : Here) (call : Call) → IsServed site → op_part.Remembers site (begun here call).op nothing_done
+RemembersNothing = (site : Site) (here : Here) (call : Call) → op_part.Remembers site (begun here call).op nothing_done
 
-module _ (causes : EndsByCause op_part) (begins : RemembersNothing) (keeps : TurnKeeps) (site : Site) (start : Words) (version : ℕ) where
+module _ (causes : EndsByCause op_part) (begins : RemembersNothing) (keeps : TurnKeeps) (site : Site) (start : Words) where
   -- ---- a caller
-  pub record IsDoing (c : Caller) (d : Doings) : Type 0 where
-    pub version_is : c.site.version ≡ version
-    pub did : (e : Engine) → c.engine ≡ Some e → op_part.Remembers site e.op d
+  -- its engine, if one runs, remembers what its attempt did
+  abbrev pub IsDoing : Caller → Doings → Type 0
+  IsDoing c d = (e : Engine) → c.engine ≡ Some e → op_part.Remembers site e.op d
 
-  module _ (served : IsServed site) where
-    engine_did : (here : Here) (o : Option Call) (e : Engine) → engine_for here o ≡ Some e → op_part.Remembers site e.op nothing_done
-    engine_did here None e is = absurd (none-some e is)
-    engine_did here (Some call) e is = subst (λ (z : Engine). op_part.Remembers site z.op nothing_done) (same_Some (begun here call) e is) (begins site here call served)
+  engine_did : (here : Here) (o : Option Call) (e : Engine) → engine_for here o ≡ Some e → op_part.Remembers site e.op nothing_done
+  engine_did here None e is = absurd (none-some e is)
+  engine_did here (Some call) e is = subst (λ (z : Engine). op_part.Remembers site z.op nothing_done) (same_Some (begun here call) e is) (begins site here call)
 
-    ended_doing : (c : Caller) (call : Call) (o : Option (Reply × ℕ)) → c.site.version ≡ version → IsDoing (ended c call o) nothing_done
-    ended_doing c call None at = record { version_is = at; did = λ e is. engine_did c.site (Some call) e is }
-    ended_doing c call (Some r) at = record { version_is = at; did = λ e is. engine_did c.site (call_at c (suc (length c.entries))) e is }
+  ended_doing : (c : Caller) (call : Call) (o : Option (Reply × ℕ)) → IsDoing (ended c call o) nothing_done
+  ended_doing c call None e is = engine_did c.site (Some call) e is
+  ended_doing c call (Some r) e is = engine_did c.site (call_at c (suc (length c.entries))) e is
 
-    gone_on_doing : (c : Caller) (call : Call) (e : Engine) (next w : Want) (a : Ans) (d : Doings) → c.site.version ≡ version → op_part.Remembers site e.op (with_event_of w a d)
-        → IsDoing (gone_on c call e next) (doings_by next w a d)
-    gone_on_doing c call e want.Done w a d at did = ended_doing c call (reply_of_end (end_of e)) at
-    gone_on_doing c call e next w a d at did = record { version_is = at; did = λ x is. subst (λ (z : Engine). op_part.Remembers site z.op (with_event_of w a d)) (same_Some e x is) did }
+  gone_on_doing : (c : Caller) (call : Call) (e : Engine) (next w : Want) (a : Ans) (d : Doings) → op_part.Remembers site e.op (with_event_of w a d)
+      → IsDoing (gone_on c call e next) (doings_by next w a d)
+  gone_on_doing c call e want.Done w a d did x is = ended_doing c call (reply_of_end (end_of e)) x is
+  gone_on_doing c call e next w a d did x is = subst (λ (z : Engine). op_part.Remembers site z.op (with_event_of w a d)) (same_Some e x is) did
 
-    -- ---- the callers of a core
-    abbrev pub EachDoes : Watched → Type 0
-    EachDoes w = (j : ℕ) (c : Caller) → slice_get w.core.callers j ≡ Some c → IsDoing c (w.doings j)
+  -- ---- the callers of a core
+  abbrev pub EachDoes : Watched → Type 0
+  EachDoes w = (j : ℕ) (c : Caller) → slice_get w.core.callers j ≡ Some c → IsDoing c (w.doings j)
 
-    module _ (w : Watched) (h : CoreHolds site start w.core) (each : EachDoes w) where
-      now_fits : (i : ℕ) → w.core.words i < 2 ^ 64
-      now_fits i = subst (λ x. x < 2 ^ 64) (value_at_now start w.core.trace i ∙ sym (ap (λ (ws : Words). ws i) h.well.words_are)) (h.fits i (length w.core.trace))
+  module _ (w : Watched) (h : CoreHolds site start w.core) (each : EachDoes w) where
+    now_fits : (i : ℕ) → w.core.words i < 2 ^ 64
+    now_fits i = subst (λ x. x < 2 ^ 64) (value_at_now start w.core.trace i ∙ sym (ap (λ (ws : Words). ws i) h.well.words_are)) (h.fits i (length w.core.trace))
 
-      module _ (j : ℕ) (c : Caller) (there : slice_get w.core.callers j ≡ Some c) where
-        abbrev new_doings : Engine → Doings
-        new_doings e = doings_by (wanted (engine_next site.shape w.core.words e)) (wanted e) (answer_now site.shape w.core.words e) (w.doings j)
+    module _ (j : ℕ) (c : Caller) (there : slice_get w.core.callers j ≡ Some c) where
+      abbrev new_doings : Engine → Doings
+      new_doings e = doings_by (wanted (engine_next site.shape w.core.words e)) (wanted e) (answer_now site.shape w.core.words e) (w.doings j)
 
-        remembers_next : (e : Engine) → c.engine ≡ Some e
-            → op_part.Remembers site (engine_next site.shape w.core.words e).op (with_event_of (wanted e) (answer_now site.shape w.core.words e) (w.doings j))
-        remembers_next e runs =
-            let z = zip_at (CallerFits site) w.core.callers h.views j c h.each there in
-            let calling : IsCalling site c e z.0 = subst (λ o. DoesCall site c o z.0) runs z.2.does in
-            (causes.steps site c.site calling.call w.core.words (fresh_view 0 ∷ h.views) (suc j) e.op calling.before z.0 (w.doings j) h.well.holds z.1 calling.suits.suits calling.suits.asks
-            (now_fits (word_of site.shape (wanted e))) ((each j c there).did e runs)).remembers
+      remembers_next : (e : Engine) → c.engine ≡ Some e
+          → op_part.Remembers site (engine_next site.shape w.core.words e).op (with_event_of (wanted e) (answer_now site.shape w.core.words e) (w.doings j))
+      remembers_next e runs =
+          let z = zip_at (CallerFits site) w.core.callers h.views j c h.each there in
+          let calling : IsCalling site c e z.0 = subst (λ o. DoesCall site c o z.0) runs z.2.does in
+          (causes.steps site c.site calling.call w.core.words (fresh_view 0 ∷ h.views) (suc j) e.op calling.before z.0 (w.doings j) h.well.holds z.1 calling.suits.suits calling.suits.asks
+          (now_fits (word_of site.shape (wanted e))) (each j c there e runs)).remembers
 
-        stepped : (call : Call) (e : Engine) → c.engine ≡ Some e
-            → EachDoes (record { core = Rattle.engine.specs.Core.with_event site.shape j w.core c call e; doings = with_doings j (new_doings e) w.doings })
-        stepped call e runs i x at = elim (cases_eq i j) [
-          | inl same ↦ (let now : answered c call e (answer_now site.shape w.core.words e) ≡ x
-              = set_there w.core.callers j (answered c call e (answer_now site.shape w.core.words e)) x c there
-              (subst (λ k. slice_get (slice_set w.core.callers j (answered c call e (answer_now site.shape w.core.words e))) k ≡ Some x) same at) in
-              let new : IsDoing (answered c call e (answer_now site.shape w.core.words e)) (new_doings e)
-              = gone_on_doing (record c { drew = drawn_by c call (answer_now site.shape w.core.words e) }) call (engine_next site.shape w.core.words e) (wanted (engine_next site.shape w.core.words e)) (wanted e)
-              (answer_now site.shape w.core.words e) (w.doings j) (each j c there).version_is (remembers_next e runs) in
-              subst (λ b. IsDoing x (cond b (new_doings e) (w.doings i))) (sym (eq-eqb i j same)) (subst (λ z. IsDoing z (new_doings e)) now new))
-          | inr other ↦ elim (set_cases w.core.callers j i (answered c call e (answer_now site.shape w.core.words e)) x at) [
-            | inl here ↦ absurd (other here.0)
-            | inr old ↦ subst (λ b. IsDoing x (cond b (new_doings e) (w.doings i))) (sym (ne_eqb i j other)) (each i x old)
-          ]
+      stepped : (call : Call) (e : Engine) → c.engine ≡ Some e
+          → EachDoes (record { core = Rattle.engine.specs.Core.with_event site.shape j w.core c call e; doings = with_doings j (new_doings e) w.doings })
+      stepped call e runs i x at = elim (cases_eq i j) [
+        | inl same ↦ (let now : answered c call e (answer_now site.shape w.core.words e) ≡ x
+            = set_there w.core.callers j (answered c call e (answer_now site.shape w.core.words e)) x c there
+            (subst (λ k. slice_get (slice_set w.core.callers j (answered c call e (answer_now site.shape w.core.words e))) k ≡ Some x) same at) in
+            let new : IsDoing (answered c call e (answer_now site.shape w.core.words e)) (new_doings e)
+            = gone_on_doing (record c { drew = drawn_by c call (answer_now site.shape w.core.words e) }) call (engine_next site.shape w.core.words e) (wanted (engine_next site.shape w.core.words e)) (wanted e)
+            (answer_now site.shape w.core.words e) (w.doings j) (remembers_next e runs) in
+            subst (λ b. IsDoing x (cond b (new_doings e) (w.doings i))) (sym (eq-eqb i j same)) (subst (λ z. IsDoing z (new_doings e)) now new))
+        | inr other ↦ elim (set_cases w.core.callers j i (answered c call e (answer_now site.shape w.core.words e)) x at) [
+          | inl here ↦ absurd (other here.0)
+          | inr old ↦ subst (λ b. IsDoing x (cond b (new_doings e) (w.doings i))) (sym (ne_eqb i j other)) (each i x old)
         ]
+      ]
 
-        by_call : (call : Option Call) (engine : Option Engine) → c.engine ≡ engine
-            → EachDoes (record { core = Rattle.engine.specs.Core.turn_of_call site.shape j w.core c call engine; doings = doings_of_call site.shape j w call engine })
-        by_call None engine runs = each
-        by_call (Some call) None runs = each
-        by_call (Some call) (Some e) runs = stepped call e runs
+      by_call : (call : Option Call) (engine : Option Engine) → c.engine ≡ engine
+          → EachDoes (record { core = Rattle.engine.specs.Core.turn_of_call site.shape j w.core c call engine; doings = doings_of_call site.shape j w call engine })
+      by_call None engine runs = each
+      by_call (Some call) None runs = each
+      by_call (Some call) (Some e) runs = stepped call e runs
 
-      by_caller : (j : ℕ) (o : Option Caller) → slice_get w.core.callers j ≡ o
-          → EachDoes (record { core = Rattle.engine.specs.Core.turn_of_caller site.shape j w.core o; doings = doings_of_caller site.shape j w o })
-      by_caller j None there = each
-      by_caller j (Some c) there = by_call j c there (current c) c.engine refl
+    by_caller : (j : ℕ) (o : Option Caller) → slice_get w.core.callers j ≡ o
+        → EachDoes (record { core = Rattle.engine.specs.Core.turn_of_caller site.shape j w.core o; doings = doings_of_caller site.shape j w o })
+    by_caller j None there = each
+    by_caller j (Some c) there = by_call j c there (current c) c.engine refl
 
-      turn_does : (c : ℕ) → EachDoes (watched_turn site.shape c w)
-      turn_does zero = each
-      turn_does (suc j) = by_caller j (slice_get w.core.callers j) refl
+    turn_does : (c : ℕ) → EachDoes (watched_turn site.shape c w)
+    turn_does zero = each
+    turn_does (suc j) = by_caller j (slice_get w.core.callers j) refl
 
-    pub run_does : (w : Watched) (turns : List ℕ) → CoreHolds site start w.core → EachDoes w → EachDoes (watched_run site.shape turns w)
-    run_does w [] h each = each
-    run_does w (c ∷ turns) h each = run_does (watched_turn site.shape c w) turns (keeps site start w.core c h) (turn_does w h each c)
+  pub run_does : (w : Watched) (turns : List ℕ) → CoreHolds site start w.core → EachDoes w → EachDoes (watched_run site.shape turns w)
+  run_does w [] h each = each
+  run_does w (c ∷ turns) h each = run_does (watched_turn site.shape c w) turns (keeps site start w.core c h) (turn_does w h each c)
 
-    -- ---- the callers of a core that begins
-    pub begin_doing : (shape : Shape) (number : ℕ) (scripts : List (List Call)) (j : ℕ) (c : Caller) → slice_get (callers_from shape version number scripts) j ≡ Some c → IsDoing c nothing_done
-    begin_doing shape number [] j c at = absurd (none-some c at)
-    begin_doing shape number (calls ∷ scripts) zero c at =
-        let here : Here = record { geometry = shape; version = version; caller = number } in
-        subst (λ z. IsDoing z nothing_done) (same_Some (idle here calls) c at)
-        (record { version_is = refl; did = λ e is. engine_did here (slice_get calls 0) e is })
-    begin_doing shape number (calls ∷ scripts) (suc j) c at = begin_doing shape (suc number) scripts j c at
+  -- ---- the callers of a core that begins
+  pub begin_doing : (shape : Shape) (version number : ℕ) (scripts : List (List Call)) (j : ℕ) (c : Caller) → slice_get (callers_from shape version number scripts) j ≡ Some c → IsDoing c nothing_done
+  begin_doing shape version number [] j c at = absurd (none-some c at)
+  begin_doing shape version number (calls ∷ scripts) zero c at =
+      let here : Here = record { geometry = shape; version = version; caller = number } in
+      subst (λ z. IsDoing z nothing_done) (same_Some (idle here calls) c at) (λ e is. engine_did here (slice_get calls 0) e is)
+  begin_doing shape version number (calls ∷ scripts) (suc j) c at = begin_doing shape version (suc number) scripts j c at

@@ -4,7 +4,7 @@ use Rattle.std.specs.List.{AllByRecursion, AllZip}
 use Rattle.std.proofs.lemmas.Option.{none-some, same_Some}
 use Rattle.map_model.specs.declared.call.Call.{Call}
 use Rattle.world.specs.declared.site.Site.{Site as Here}
-use Rattle.world.specs.Site.{Site, IsSite}
+use Rattle.world.specs.Site.{Site, IsSite, version_of}
 use Rattle.world.specs.World.{fresh_view}
 use Rattle.world.specs.Attempts.{HoldsOnly}
 use Rattle.engine.specs.Fits.{IsWordCall, IsServed, BeginsSuited}
@@ -20,10 +20,11 @@ holds_nothing : (n : ℕ) → HoldsOnly [] (fresh_view n)
 holds_nothing n = record { held = refl; known = refl; dirty = refl; flushed = refl; planned = refl; moving = refl; owed = refl }
 
 module _ (begins : BeginsSuited) (site : Site) (is_site : IsSite site) (served : IsServed site) where
-  module _ (here : Here) (place : here.geometry ≡ site.shape) (calls : List Call) (all : AllByRecursion IsWordCall calls) where
+  module _ (here : Here) (place : here.geometry ≡ site.shape) (version : here.version ≡ version_of site) (calls : List Call) (all : AllByRecursion IsWordCall calls) where
     first : (o : Option Call) → slice_get calls 0 ≡ o → CallerFits site (record (idle here calls) { engine = engine_for here o }) (fresh_view 1)
     first None is = record {
       place = place;
+      version = version;
       words = word_at calls all;
       callers = omega arith;
       replied = refl;
@@ -32,6 +33,7 @@ module _ (begins : BeginsSuited) (site : Site) (is_site : IsSite site) (served :
     }
     first (Some call) is = record {
       place = place;
+      version = version;
       words = word_at calls all;
       callers = omega arith;
       replied = refl;
@@ -41,7 +43,7 @@ module _ (begins : BeginsSuited) (site : Site) (is_site : IsSite site) (served :
         is_current = is;
         before = fresh_view 1;
         own_before = refl;
-        suits = begins site here call (fresh_view 1) is_site served place (word_at calls all 0 call is) (holds_nothing 1) (omega arith);
+        suits = begins site here call (fresh_view 1) is_site served place version (word_at calls all 0 call is) (holds_nothing 1) (omega arith);
         entries = inl refl;
         drew = λ _. refl;
         planned = λ _. refl;
@@ -52,20 +54,20 @@ module _ (begins : BeginsSuited) (site : Site) (is_site : IsSite site) (served :
     idle_fits : CallerFits site (idle here calls) (fresh_view 1)
     idle_fits = first (slice_get calls 0) refl
 
-  all_fit : (version number : ℕ) (scripts : List (List Call)) → AllByRecursion (AllByRecursion IsWordCall) scripts
+  all_fit : (version : ℕ) → version ≡ version_of site → (number : ℕ) (scripts : List (List Call)) → AllByRecursion (AllByRecursion IsWordCall) scripts
       → AllZip (CallerFits site) (callers_from site.shape version number scripts) (replicate (length scripts) (fresh_view 1))
-  all_fit version number [] all = tt
-  all_fit version number (calls ∷ scripts) all =
-      (idle_fits (record { geometry = site.shape; version = version; caller = number }) refl calls all.0, all_fit version (suc number) scripts all.1)
+  all_fit version current number [] all = tt
+  all_fit version current number (calls ∷ scripts) all =
+      (idle_fits (record { geometry = site.shape; version = version; caller = number }) refl current calls all.0, all_fit version current (suc number) scripts all.1)
 
 pub core_begins : BeginsSuited → CoreBegins
-core_begins begins site start core version scripts quiet one words is = record {
+core_begins begins site start core version scripts quiet grown current words is = record {
   views = replicate (length scripts) (fresh_view 1);
   well = quiet.well;
   fits = quiet.fits;
   says = quiet.says;
-  served = record { structure = quiet.structure; one = one };
+  served = record { structure = quiet.structure; grown = grown };
   fenced = quiet.fenced;
   each = subst (λ callers. AllZip (CallerFits site) callers (replicate (length scripts) (fresh_view 1))) (sym is)
-      (all_fit begins site quiet.well.holds.site_is (record { structure = quiet.structure; one = one }) version 1 scripts words);
+      (all_fit begins site quiet.well.holds.site_is (record { structure = quiet.structure; grown = grown }) version current 1 scripts words);
 }

@@ -1,19 +1,21 @@
 -- The core after a restart, and the law of all turns.
-use Rattle.std.proofs.Common.{◌≡◌, ℕ, List, ◌∙◌, ap, map, suc, [], ◌∷◌, length, slice_index, refl, arith}
-use Rattle.restart_op.specs.Restarted.{words_at_end, site_of, KeepsPairs}
+use Rattle.std.proofs.Common.{◌≡◌, ℕ, ◌+◌, List, ◌∙◌, ap, map, suc, [], ◌∷◌, length, slice_index, refl, arith}
+use Rattle.restart_op.specs.Restarted.{words_at_end, site_of, KeepsPairs, EndsStarted}
 use Rattle.restart_op.specs.Closing.{QuietAfterRestart}
-use Rattle.image_layout.specs.Places.{state_word}
-use Rattle.image_layout.specs.Places.{Shape}
+use Rattle.restart_op.proofs.Beginning.{agree}
+use Rattle.image_layout.specs.Places.{Shape, state_word, head_at}
 use Rattle.map_model.specs.declared.call.Call.{Call}
 use Rattle.engine.specs.Core.{Caller, callers_from, run}
 use Rattle.engine.specs.Holding.{CallsStay, CoreBegins, RunKeeps, HoldingIsGood}
+use Rattle.engine.proofs.Grown.{grown_alike}
 use Rattle.engine.specs.Laws.{CallsAreScripts, opened, OpenedHolds, TurnsKeep}
 
-pub opened_holds : CoreBegins → QuietAfterRestart → OpenedHolds
-opened_holds begins quiet shape words scripts image are =
+pub opened_holds : CoreBegins → QuietAfterRestart → EndsStarted → OpenedHolds
+opened_holds begins quiet started shape words scripts image are =
     begins (site_of shape words (length scripts)) (slice_index words) (opened shape words scripts) (words_at_end shape words state_word) scripts
     (quiet shape words (length scripts) image.playable (let few = are.few in omega (arith, few)))
-    image.one are.words refl
+    (grown_alike shape (slice_index words) (words_at_end shape words) image.grown (λ s slot. agree shape words image.playable (head_at shape s + 1) (omega (arith, slot)) (λ e. omega (arith, e))))
+    (let s = started shape words image.playable in let state = s.state in let fits = s.fits in omega (arith, state, fits)) are.words refl
 
 pub turns_keep : OpenedHolds → RunKeeps → HoldingIsGood → KeepsPairs → TurnsKeep
 turns_keep opens keeps good pairs shape words image opening has scripts are turns =

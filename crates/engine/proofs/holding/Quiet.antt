@@ -8,11 +8,13 @@ use Rattle.world.specs.Site.{Site}
 use Rattle.world.specs.Views.{View, At}
 use Rattle.world.specs.World.{fresh_view}
 use Rattle.world.specs.Laws.{EntriesAreLegal}
-use Rattle.restart_op.specs.Closing.{OwesNothing, OneSegmentOwns}
+use Rattle.restart_op.specs.Restarted.{OneSegmentIsLive}
+use Rattle.restart_op.specs.Closing.{OwesNothing}
 use Rattle.engine.specs.Core.{Caller, Core}
-use Rattle.engine.specs.Holding.{DoesCall, CallerFits, world_of, CoreHolds}
+use Rattle.engine.specs.Holding.{DoesCall, CallerFits, CoreHolds}
 use Rattle.engine.specs.Laws.{NoneRuns, ThroughIsQuiet, ThroughIsExact, ThroughHasMap}
 use Rattle.engine.proofs.holding.Planned.{none_has}
+use Rattle.engine.proofs.holding.Served.{all_current}
 use Rattle.engine.proofs.sessions.Cut.{told_legal}
 use Rattle.engine.proofs.sessions.Goodness.{caller_at}
 
@@ -31,20 +33,19 @@ module _ (site : Site) (start : Words) (core : Core) (h : CoreHolds site start c
   owes zero v at = subst OwesNothing (some-injective (fresh_view 0) v at) (record { held = refl; dirty = refl; flushed = refl; planned = refl; moving = refl; owed = refl })
   owes (suc j) v at = let c = caller_at site core.callers h.views j v h.each at in idle_owes c.0 v c.2 (none_at core.callers none j c.0 c.1)
 
-pub through_is_quiet : OneSegmentOwns → ThroughIsQuiet
-through_is_quiet owns site start core h none = record {
+pub through_is_quiet : ThroughIsQuiet
+through_is_quiet site start core h none = record {
   well = h.well;
   nothing = owes site start core h none;
   fits = h.fits;
   says = h.says;
   structure = h.served.structure;
-  own = owns site start (world_of core h.views) h.well h.served.one h.served.structure h.fits;
   fenced = h.fenced;
 }
 
-pub through_is_exact : ThroughIsExact
-through_is_exact site start core h none s b slot near =
-    h.well.holds.overflow.exact s b slot near (λ j v o at has segment home. none_has v.owed o (owes site start core h none j v at).owed has)
+pub through_is_exact : OneSegmentIsLive → ThroughIsExact
+through_is_exact is_live site start core h none s b slot near =
+    h.well.holds.overflow.exact s b (all_current site core.words (fresh_view 0 ∷ h.views) h.well.holds h.served is_live s slot) near (λ j v o at has segment home. none_has v.owed o (owes site start core h none j v at).owed has)
 
 pub through_has_map : EntriesAreLegal → ThroughHasMap
 through_has_map legal site start core opening h same none k =

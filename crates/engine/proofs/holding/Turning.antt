@@ -16,7 +16,7 @@ use Rattle.image_layout.specs.Places.{Shape}
 use Rattle.map_model.specs.declared.call.Call.{Call}
 use Rattle.map_model.specs.declared.entry.Reply.{Reply}
 use Rattle.map_model.specs.declared.entry.Entry.{Entry}
-use Rattle.world.specs.Site.{Site, IsSite}
+use Rattle.world.specs.Site.{Site, IsSite, version_of}
 use Rattle.map_model.specs.Map.{is_done}
 use Rattle.world.specs.Views.{View, At}
 use Rattle.world.specs.Kinds.{Kind, view_after}
@@ -91,7 +91,7 @@ fenced_still shape want.Power n j es = refl
 fenced_still shape want.Done n j es = refl
 
 -- ---- a caller
-module _ (begins : BeginsSuited) (site : Site) (is_site : IsSite site) (served : IsServed site) (c : Caller) (place : c.site.geometry ≡ site.shape)
+module _ (begins : BeginsSuited) (site : Site) (is_site : IsSite site) (served : IsServed site) (c : Caller) (place : c.site.geometry ≡ site.shape) (version : c.site.version ≡ version_of site)
     (words : (n : ℕ) (call : Call) → call_at c n ≡ Some call → IsWordCall call) (call : Call) (is_current : current c ≡ Some call)
     (replied : map (λ (e : Entry). e.call) c.entries ≡ take (length c.entries) c.calls) (within : length c.entries ≤ length c.calls)
     (before w : View) (own_before : before.own ≡ c.entries) (drew : Option Entry) (drew_call : (e : Entry) → drew ≡ Some e → e.call ≡ call) where
@@ -102,6 +102,7 @@ module _ (begins : BeginsSuited) (site : Site) (is_site : IsSite site) (served :
   goes_on : (e : Engine) → Suits site c.site call e before w → HasEntries c.entries drew w.own → CallerFits site (record drawn { engine = Some e; begun = true }) w
   goes_on e suits entries = record {
     place = place;
+    version = version;
     words = words;
     callers = suits.suits.callers;
     replied = replied;
@@ -125,6 +126,7 @@ module _ (begins : BeginsSuited) (site : Site) (is_site : IsSite site) (served :
         → CallerFits site (record drawn { entries = c.entries ++ e ∷ []; engine = engine_for c.site o; begun = false; drew = None }) w
     next e of_call None is own = record {
       place = place;
+      version = version;
       words = words;
       callers = callers;
       replied = replied_more c.entries c.calls e call replied of_call is_current;
@@ -139,6 +141,7 @@ module _ (begins : BeginsSuited) (site : Site) (is_site : IsSite site) (served :
     }
     next e of_call (Some following) is own = record {
       place = place;
+      version = version;
       words = words;
       callers = callers;
       replied = replied_more c.entries c.calls e call replied of_call is_current;
@@ -148,7 +151,7 @@ module _ (begins : BeginsSuited) (site : Site) (is_site : IsSite site) (served :
         is_current = ap (λ n. slice_get c.calls n) (one_more c.entries e) ∙ is;
         before = w;
         own_before = own;
-        suits = begins site c.site following w is_site served place (words (suc (length c.entries)) following is) nothing callers;
+        suits = begins site c.site following w is_site served place version (words (suc (length c.entries)) following is) nothing callers;
         entries = inl own;
         drew = λ _. refl;
         planned = λ _. nothing.planned;
@@ -159,6 +162,7 @@ module _ (begins : BeginsSuited) (site : Site) (is_site : IsSite site) (served :
     ended_fits : (o : Option (Reply × ℕ)) → EntersReply call o before w → CallerFits site (ended drawn call o) w
     ended_fits None enters = record {
       place = place;
+      version = version;
       words = words;
       callers = callers;
       replied = replied;
@@ -168,7 +172,7 @@ module _ (begins : BeginsSuited) (site : Site) (is_site : IsSite site) (served :
         is_current = is_current;
         before = w;
         own_before = enters.own ∙ own_before;
-        suits = begins site c.site call w is_site served place (words (length c.entries) call is_current) nothing callers;
+        suits = begins site c.site call w is_site served place version (words (length c.entries) call is_current) nothing callers;
         entries = inl (enters.own ∙ own_before);
         drew = λ _. refl;
         planned = λ _. nothing.planned;
@@ -261,7 +265,7 @@ module _ (part : IsPart op_part) (begins : BeginsSuited) (keeps : KeepsSuits) (a
           (left_fits site.shape (wanted e) n a.stores a.exchanges (now_fits (word_of site.shape (wanted e)))) (now_fits i))
 
       caller_after : CallerFits site (answered c calling.call e (answer_to (wanted e) n)) (view_after site.shape kind n v)
-      caller_after = gone_on_fits begins site h.well.holds.site_is h.served c fits.place fits.words calling.call calling.is_current fits.replied fits.within calling.before (view_after site.shape kind n v)
+      caller_after = gone_on_fits begins site h.well.holds.site_is h.served c fits.place fits.version fits.words calling.call calling.is_current fits.replied fits.within calling.before (view_after site.shape kind n v)
           calling.own_before (drawn_by c calling.call (answer_to (wanted e) n)) (drawn_call c calling.call calling.drew_call (answer_to (wanted e) n)) (next_engine site e core.words) (wanted (next_engine site e core.words)) refl well_step.suits well_step.ends
           (λ s. subst (λ w. HasEntries c.entries (drawn_by c calling.call (answer_to w n)) (view_after site.shape kind n v).own) (sym well_step.wants)
           (entries_after site c calling.call v n calling.entries

@@ -21,6 +21,7 @@ use Rattle.part.specs.Outcomes.{Outcome, replied, again}
 use Rattle.part.specs.Part.{IsPart}
 use Rattle.part.specs.Causes.{EndsByCause}
 use Rattle.part.proofs.Still.{nothing_still, own_events_keep_still, alone_nothing_moves}
+use Rattle.part.proofs.Leading.{alone_nothing_leads_away}
 use Rattle.restart_op.specs.Restarted.{words_at_end, site_of}
 use Rattle.engine.specs.declared.engine.Engine.{Engine}
 use Rattle.engine.specs.Engine.{begun, wanted, end_of, reply_of_end}
@@ -32,6 +33,7 @@ use Rattle.engine.specs.Causes.{doings_by, with_doings, Watched, answer_now, eng
 use Rattle.engine.specs.Alone.{IsTold, IsBetween, IsRestingBy, IsResting, IsAlone, IsNext, at_start, along, BusyIsOthers, AllRestAtStart, AloneAtStart, RestingIsAlone, OwnTurnsStayAlone, AloneNeverAgain, EndsAreTold, EndsTell, EndedRests, OthersStayResting}
 use Rattle.engine.proofs.Places.{zip_at, set_cases}
 use Rattle.engine.proofs.machines.Ops.{never_hands_on}
+use Rattle.engine.proofs.holding.Served.{sound_now, unsplit}
 use Rattle.engine.proofs.attempts.Deciding.{holds_there}
 use Rattle.engine.proofs.attempts.Doing.{set_there}
 
@@ -233,8 +235,13 @@ module _ (causes : EndsHaveCauses) (first : BeginsUndecided) (stays : DecidedSta
           let o = busy shape words image scripts are turns j n.caller n.call e word value n.there n.calls n.runs decides in
           o.midst (alone.others o.place o.caller o.elsewhere o.there)
       never_by (Moved word before after) decides =
-          alone_nothing_moves shape w.core.words (w.doings j) n.call word before after image.playable.sound.in_range key_fits alone.still
-          (causes shape words image scripts are turns j n.caller n.call e (again (Moved word before after)) n.there n.calls n.runs decides).1
+          let h = holds_there opens keeps shape words image scripts are turns in
+          let site = site_of shape words (length scripts) in
+          elim (causes shape words image scripts are turns j n.caller n.call e (again (Moved word before after)) n.there n.calls n.runs decides).1 [
+            | inl moved ↦ alone_nothing_moves shape w.core.words (w.doings j) n.call word before after h.well.holds.site_is.shape key_fits alone.still moved
+            | inr away ↦ alone_nothing_leads_away site w.core.words (w.doings j) n.call word before after h.well.holds.site_is
+                (sound_now site w.core.words (fresh_view 0 ∷ h.views) h.well.holds h.served) (unsplit site w.core.words (fresh_view 0 ∷ h.views) h.well.holds h.served) key_fits alone.still away
+          ]
 
       next_calm : (outcome : Outcome) → op_part.outcome (engine_next shape w.core.words e).op ≡ Some outcome → IsCalm outcome
       next_calm = next_ends stays IsCalm shape w.core.words e

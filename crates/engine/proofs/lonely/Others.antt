@@ -1,16 +1,16 @@
 -- Who finds a lock taken is told so by another caller's, that is in the midst of an attempt.
-use Rattle.std.proofs.Common.{◌≡◌, ◌≢◌, ℕ, zero, suc, ◌%◌, inl, inr, Some, List, [], ◌∷◌, length, slice_get, slice_index, sym, ◌∙◌, ap, subst}
+use Rattle.std.proofs.Common.{◌≡◌, ◌≢◌, ℕ, zero, suc, ◌%◌, ◌<◌, inl, inr, Some, List, [], ◌∷◌, length, slice_get, slice_index, sym, ◌∙◌, ap, subst}
 use Rattle.std.proofs.lemmas.Bool.{cases_eq}
 use mathlib.Core.Option.{some-injective}
 use Rattle.op_core.specs.declared.why.Why.TheVariants.{Busy}
 use Rattle.trace.specs.Events.{Words}
-use Rattle.image_layout.specs.Places.{Shape, IsShape}
+use Rattle.image_layout.specs.Places.{Shape}
 use Rattle.sound_image.specs.Records.{key_hash}
 use Rattle.map_model.specs.declared.call.Call.{Call}
-use Rattle.world.specs.Site.{Site, IsLockWord}
+use Rattle.world.specs.Site.{Site, IsCurrentIn, IsCurrentLock}
 use Rattle.world.specs.Views.{View, At, HasLock}
 use Rattle.world.specs.World.{fresh_view}
-use Rattle.restart_op.specs.Restarted.{site_of, EndsStarted}
+use Rattle.restart_op.specs.Restarted.{site_of, OneSegmentIsLive}
 use Rattle.map_model.specs.Map.{key_of}
 use Rattle.engine.specs.declared.engine.Engine.{Engine}
 use Rattle.part.specs.Doings.{Doings}
@@ -23,6 +23,7 @@ use Rattle.engine.specs.Holding.{IsCalling, DoesCall, CallerFits, CoreHolds, Tur
 use Rattle.engine.specs.Laws.{IsServedImage, OpenedHolds, AreScripts}
 use Rattle.engine.specs.Causes.{Watched, BeginsBare, Decides, EndsHaveCauses}
 use Rattle.engine.specs.Alone.{IsBetween, along, IsOthers, BusyIsOthers}
+use Rattle.engine.proofs.holding.Served.{all_current}
 use Rattle.engine.proofs.sessions.Goodness.{caller_at}
 use Rattle.engine.proofs.attempts.Deciding.{CallCauses, holds_there, not_own_there}
 
@@ -33,12 +34,14 @@ between_holds bare site c v fits (inr p) =
     let calling : IsCalling site c (begun c.site p.0) v = subst (λ o. DoesCall site c o v) p.1 fits.does in
     bare site c.site calling.call p.0 v calling.suits.suits.stands
 
--- ---- the locks of a call
-own_is_lock : (shape : Shape) (words : Words) (did : Doings) (call : Call) (word : ℕ) → IsOwnLock shape words did call word → IsLockWord shape word
-own_is_lock shape words did call word (segment, named, within, b, is, at) = (segment, b, within, bucket_near call (key_hash shape (key_of call)) b is, at)
+-- ---- the locks of a call, in an image whose segments are all current
+own_is_lock : (site : Site) (words : Words) (did : Doings) (call : Call) (word : ℕ) → ((s : ℕ) → s < site.shape.segments → IsCurrentIn site words s)
+    → IsOwnLock site.shape words did call word → IsCurrentLock site words word
+own_is_lock site words did call word all (segment, named, within, b, is, at) =
+    (segment, b, within, bucket_near site.shape (key_hash site.shape (key_of call)) did.loads segment call b is, at, all segment within)
 
 -- ---- after any turns
-module _ (laws : CallCauses) (bare : BeginsBare) (opens : OpenedHolds) (keeps : TurnKeeps) (started : EndsStarted) (causes : EndsHaveCauses)
+module _ (laws : CallCauses) (bare : BeginsBare) (opens : OpenedHolds) (keeps : TurnKeeps) (is_live : OneSegmentIsLive) (causes : EndsHaveCauses)
     (shape : Shape) (words : List ℕ) (image : IsServedImage shape words) (scripts : List (List Call)) (are : AreScripts scripts) (turns : List ℕ) where
   abbrev w : Watched
   w = along shape words scripts turns
@@ -46,8 +49,8 @@ module _ (laws : CallCauses) (bare : BeginsBare) (opens : OpenedHolds) (keeps : 
   abbrev h : CoreHolds (site_of shape words (length scripts)) (slice_index words) w.core
   h = holds_there opens keeps shape words image scripts are turns
 
-  in_range : IsShape shape
-  in_range = image.playable.sound.in_range
+  current_now : (s : ℕ) → s < shape.segments → IsCurrentIn (site_of shape words (length scripts)) w.core.words s
+  current_now = all_current (site_of shape words (length scripts)) w.core.words (fresh_view 0 ∷ h.views) h.well.holds h.served is_live
 
   module _ (j : ℕ) (c : Caller) (call : Call) (e : Engine) (there : slice_get w.core.callers j ≡ Some c) (calls : current c ≡ Some call) (runs : c.engine ≡ Some e) where
     taken_by : (word value : ℕ) → Decides shape w.core.words e (again (Busy word value)) → IsTaken shape w.core.words (w.doings j) call word value
@@ -56,7 +59,7 @@ module _ (laws : CallCauses) (bare : BeginsBare) (opens : OpenedHolds) (keeps : 
     busy_is_others : (word value : ℕ) → Decides shape w.core.words e (again (Busy word value)) → IsOthers w.core j
     busy_is_others word value decides =
         let t = taken_by word value decides in
-        let holder = h.well.holds.locks.odd word (own_is_lock shape w.core.words (w.doings j) call word t.own) (ap (λ x. x % 2) t.newest ∙ t.odd) in
+        let holder = h.well.holds.locks.odd word (own_is_lock (site_of shape words (length scripts)) w.core.words (w.doings j) call word current_now t.own) (ap (λ x. x % 2) t.newest ∙ t.odd) in
         by_seat holder.0 holder.1 holder.2 holder.3
       where
         other_seat : (k : ℕ) (v : View) → At h.views k v → HasLock v.held word → k ≢ j → IsOthers w.core j
@@ -73,11 +76,11 @@ module _ (laws : CallCauses) (bare : BeginsBare) (opens : OpenedHolds) (keeps : 
         by_seat : (k : ℕ) (v : View) → At (fresh_view 0 ∷ h.views) k v → HasLock v.held word → IsOthers w.core j
         by_seat zero v at has = let none : HasLock [] word = subst (λ (u : View). HasLock u.held word) (sym (some-injective (fresh_view 0) v at)) has in absurd (none.1)
         by_seat (suc k) v at has = elim (cases_eq k j) [
-          | inl same ↦ absurd (not_own_there opens keeps shape words image scripts are turns laws started j c call e there calls runs word value decides v
+          | inl same ↦ absurd (not_own_there opens keeps shape words image scripts are turns laws j c call e there calls runs word value decides v
               (subst (λ i. At h.views i v) same at) has)
           | inr other ↦ other_seat k v at has other
         ]
 
-pub busy_others : CallCauses → BeginsBare → OpenedHolds → TurnKeeps → EndsStarted → EndsHaveCauses → BusyIsOthers
-busy_others laws bare opens keeps started causes shape words image scripts are turns j c call e word value there calls runs decides =
-    busy_is_others laws bare opens keeps started causes shape words image scripts are turns j c call e there calls runs word value decides
+pub busy_others : CallCauses → BeginsBare → OpenedHolds → TurnKeeps → OneSegmentIsLive → EndsHaveCauses → BusyIsOthers
+busy_others laws bare opens keeps is_live causes shape words image scripts are turns j c call e word value there calls runs decides =
+    busy_is_others laws bare opens keeps is_live causes shape words image scripts are turns j c call e there calls runs word value decides

@@ -7,13 +7,13 @@ use Rattle.map_model.specs.declared.change.Change.{Change}
 use Rattle.map_model.specs.Changes.{call_of}
 use Rattle.op_core.specs.declared.want.Want.TheVariants as want
 use Rattle.world.specs.declared.site.Site.{Site as Here}
-use Rattle.world.specs.Site.{Site, IsSite}
+use Rattle.world.specs.Site.{Site, IsSite, version_of}
 use Rattle.world.specs.Views.{View}
 use Rattle.world.specs.Attempts.{HoldsOnly}
 use Rattle.part.specs.Doings.{nothing_done}
 use Rattle.part.specs.Outcomes.{finished}
+use Rattle.phase.specs.Makes.{brought}
 use Rattle.read_op.specs.GetPart.{outcome_in as get_outcome_in, BeginsAsPart as GetBegins, BeginsRemembering as GetRemembers, EndsAsSaid as GetSays, NeverFinished as GetFinished}
-use Rattle.write_op.specs.Search.{brought}
 use Rattle.write_op.specs.Steps.{begun as write_begun}
 use Rattle.write_op.specs.ChangePart.{BeginsAsPart as ChangeBegins, BeginsRemembering as ChangeRemembers, BeginsBare as ChangeBare, NeverFinished as ChangeFinished}
 use Rattle.write_op.specs.Ends.{EndsAsSaid as ChangeSays}
@@ -29,30 +29,29 @@ use Rattle.engine.specs.OpPart.{op_part}
 use Rattle.engine.specs.Left.{waiting}
 use Rattle.engine.specs.Pairs.{BeginsUnmade}
 use Rattle.engine.specs.Causes.{BeginsBare, BeginsUndecided, EndsAreDecided}
-use Rattle.engine.proofs.holding.Served.{straight, unsplit}
 use Rattle.engine.specs.Fits.{IsServed, Suits, BeginsSuited}
 
 -- a change is no get
-change_suits : ChangeBegins → (site : Site) (here : Here) (change : Change) (v : View) → IsSite site → IsServed site → here.geometry ≡ site.shape → change.key < 2 ^ 64 → brought change.deed < 2 ^ 64
+change_suits : ChangeBegins → (site : Site) (here : Here) (change : Change) (v : View) → IsSite site → IsServed site → here.geometry ≡ site.shape → here.version ≡ version_of site → change.key < 2 ^ 64 → brought change.deed < 2 ^ 64
     → HoldsOnly [] v → 0 < v.callers → Suits site here (call_of change) (running (Write (write_begun change here))) v v
-change_suits begins site here change v good served same key value holds some = record {
+change_suits begins site here change v good served same version key value holds some = record {
   asks = λ e. absurd (cc);
   suits = record {
-    stands = record { stands = record { stands = begins site here change v good (straight site served) same key value holds; passes = served.one }; closed = refl };
+    stands = record { stands = record { stands = begins site here change v good same version key value holds; passes = served.grown }; closed = refl };
     enters = record { own = refl; seen = refl };
     callers = some;
   };
 }
 
 pub begins_suited : GetBegins → ChangeBegins → BeginsSuited
-begins_suited get change site here (Get key) v good served same small holds some =
-    record { asks = λ e. absurd (cc); suits = record { stands = get site here key v good (straight site served) same small.0 holds; enters = record { own = refl; seen = refl }; callers = some } }
-begins_suited get change site here (Insert key value) v good served same small holds some =
-    change_suits change site here (record { key = key; deed = deed.Insert value }) v good served same small.0 small.1 holds some
-begins_suited get change site here (Update key value) v good served same small holds some =
-    change_suits change site here (record { key = key; deed = deed.Update value }) v good served same small.0 small.1 holds some
-begins_suited get change site here (Remove key) v good served same small holds some =
-    change_suits change site here (record { key = key; deed = deed.Remove }) v good served same small.0 small.1 holds some
+begins_suited get change site here (Get key) v good served same version small holds some =
+    record { asks = λ e. absurd (cc); suits = record { stands = get site here key v same version small.0 holds; enters = record { own = refl; seen = refl }; callers = some } }
+begins_suited get change site here (Insert key value) v good served same version small holds some =
+    change_suits change site here (record { key = key; deed = deed.Insert value }) v good served same version small.0 small.1 holds some
+begins_suited get change site here (Update key value) v good served same version small holds some =
+    change_suits change site here (record { key = key; deed = deed.Update value }) v good served same version small.0 small.1 holds some
+begins_suited get change site here (Remove key) v good served same version small holds some =
+    change_suits change site here (record { key = key; deed = deed.Remove }) v good served same version small.0 small.1 holds some
 
 pub begins_undecided : BeginsUndecided
 begins_undecided here (Get key) = refl
@@ -72,11 +71,11 @@ begins_waiting here (Insert key value) = refl
 begins_waiting here (Update key value) = refl
 begins_waiting here (Remove key) = refl
 
-pub begins_remembering : GetRemembers → ChangeRemembers → (site : Site) (here : Here) (call : Call) → IsServed site → op_part.Remembers site (begun here call).op nothing_done
-begins_remembering get change site here (Get key) served = get site here key
-begins_remembering get change site here (Insert key value) served = change site here (record { key = key; deed = deed.Insert value }) (unsplit site served)
-begins_remembering get change site here (Update key value) served = change site here (record { key = key; deed = deed.Update value }) (unsplit site served)
-begins_remembering get change site here (Remove key) served = change site here (record { key = key; deed = deed.Remove }) (unsplit site served)
+pub begins_remembering : GetRemembers → ChangeRemembers → (site : Site) (here : Here) (call : Call) → op_part.Remembers site (begun here call).op nothing_done
+begins_remembering get change site here (Get key) = get site here key
+begins_remembering get change site here (Insert key value) = change site here (record { key = key; deed = deed.Insert value })
+begins_remembering get change site here (Update key value) = change site here (record { key = key; deed = deed.Update value })
+begins_remembering get change site here (Remove key) = change site here (record { key = key; deed = deed.Remove })
 
 -- who is at the beginning of an attempt holds nothing
 pub begins_bare : ChangeBare → BeginsBare

@@ -11,9 +11,10 @@ use Rattle.bucket_words.proofs.segments.Cores.{within_image}
 use Rattle.world.specs.Site.{Site, IsLockWord}
 use Rattle.world.specs.Views.{View, At}
 use Rattle.world.specs.Wants.{word_of, words_after}
-use Rattle.world.specs.Kinds.{Kind, peeks, asks_power, finds_room, refuses, places, looks, notes_word, validates, learns, meets_lock, tries, stores, copies, clears, repays, publishes, stashes, flushes, fences, draws_place, unlocks, cuts_power, wanted as wanted_by, view_after}
+use Rattle.world.specs.Kinds.{Kind, peeks, asks_power, meets_root, meets_entry, meets_head, pins, finds_room, refuses, places, looks, notes_word, validates, learns, meets_lock, tries, stores, copies, clears, repays, publishes, stashes, flushes, fences, draws_place, unlocks, cuts_power, wanted as wanted_by, view_after}
 use Rattle.world.specs.Conditions.{IsOwing, IsTidy, May}
 use Rattle.world.specs.Invariant.{Holds}
+use Rattle.world.proofs.Structures.{known_lock}
 use Rattle.world.proofs.holding.Beside.{newest_is}
 use Rattle.world.proofs.holding.Owing.{same_notes}
 use Rattle.part.specs.Part.{IsPart}
@@ -61,6 +62,10 @@ module _ (site : Site) (words : Words) (views : List View) (j : ℕ) (v : View) 
       → KeepsHome (words_after site.shape (wanted_by site.shape kind) number words) (after_view kind)
   by_kind (peeks i) on may = inl still
   by_kind asks_power on may = inl still
+  by_kind meets_root on may = inl still
+  by_kind (meets_entry e i) on may = inl still
+  by_kind (meets_head slot version) on may = inl still
+  by_kind (pins slot bucket) on may = inl still
   by_kind (finds_room call) on may = inl still
   by_kind (refuses call reply) on may = inl still
   by_kind (places k a) on may = inl still
@@ -69,7 +74,7 @@ module _ (site : Site) (words : Words) (views : List View) (j : ℕ) (v : View) 
   by_kind (validates lock) on may = inl still
   by_kind (learns i) on may = inl still
   by_kind (meets_lock lock) on may = inl still
-  by_kind (tries lock free) on may = inl (tried lock free may.0 (eqb (words lock) free))
+  by_kind (tries lock free) on may = inl (tried lock free (known_lock site v lock may.0) (eqb (words lock) free))
   by_kind (stores i x) on may = stored i x (after_view (stores i x)) may.0 (λ none. absurd none)
   by_kind (copies i x m) on may = stored i x (after_view (copies i x m)) may.0 (λ none. absurd none)
   by_kind (clears i x m) on may = stored i x (after_view (clears i x m)) may.0 (λ none. absurd none)

@@ -1,5 +1,5 @@
 -- A run that ends by a close is a session.
-use Rattle.std.proofs.Common.{◌≡◌, ℕ, zero, suc, ◌-◌, ◌^◌, ◌<◌, ◌≤◌, List, [], ◌∷◌, length, map, slice_get, slice_index, slice_index_or, None, inl, inr, refl, sym, ap, ◌∙◌, subst, arith}
+use Rattle.std.proofs.Common.{◌≡◌, ℕ, zero, suc, ◌+◌, ◌-◌, ◌^◌, ◌<◌, ◌≤◌, List, [], ◌∷◌, length, map, slice_get, slice_index, slice_index_or, None, inl, inr, refl, sym, ap, ◌∙◌, subst, arith}
 use Rattle.std.specs.List.{AllByRecursion, AllZip}
 use Rattle.std.proofs.lemmas.Option.{none-some}
 use Rattle.trace.specs.Events.{Words, with_word}
@@ -8,20 +8,22 @@ use Rattle.bucket_meta.specs.Bucket.{version_of}
 use Rattle.map_model.specs.declared.call.Call.{Call}
 use Rattle.map_model.specs.declared.entry.Entry.{Entry}
 use Rattle.map_model.specs.Weave.{all_of}
-use Rattle.image_layout.specs.Places.{Shape, bucket_at, state_word}
-use Rattle.sound_image.specs.Segments.{frame_of, IsLive}
+use Rattle.image_layout.specs.Places.{Shape, head_at, bucket_at, state_word}
 use Rattle.restart_op.proofs.Rules.{frame_of_rules}
 use Rattle.session.specs.Callers.{FollowsScript, IsAnswered}
 use Rattle.session.specs.Session.{HasSpentBucket}
 use Rattle.world.specs.Site.{Site, HasSpentLock}
 use Rattle.world.specs.Views.{View}
+use Rattle.world.specs.World.{fresh_view}
+use Rattle.refuse_op.specs.Grown.{AllGrown}
 use Rattle.restart_op.specs.Restarted.{site_of, KeepsPairs, OneSegmentIsLive}
 use Rattle.restart_op.specs.Closing.{IsClosed, CloseKeeps, CloseSettles, CloseMarks}
 use Rattle.engine.specs.Core.{Caller, run, told_of, tolds_of, histories, open_of}
 use Rattle.engine.specs.Holding.{DoesCall, CallerFits, world_of, RunKeeps}
 use Rattle.engine.specs.Laws.{opened, OpenedHolds, TurnsKeep, CallsAreScripts, ThroughIsQuiet, ThroughHasMap}
 use Rattle.engine.specs.Sessions.{CloseIsSession}
-use Rattle.engine.proofs.sessions.CutSession.{same_shape, none_free}
+use Rattle.engine.proofs.Grown.{none_free, all_live, grown_alike, grown_now}
+use Rattle.engine.proofs.sessions.CutSession.{same_shape}
 
 -- ---- all calls are answered
 past_end : (calls : List Call) (n : ℕ) → slice_get calls n ≡ None → n ≤ length calls → n ≡ length calls
@@ -47,8 +49,14 @@ holds_at P (x ∷ es) e all zero low is = subst P is all.0
 holds_at P (x ∷ es) e all (suc k) low is = holds_at P es e all.1 k (omega (arith, low)) is
 
 -- ---- a lock word of the last version stays through a close
-module _ (is_live : OneSegmentIsLive) (shape : Shape) (one : shape.segments ≡ 1) (words after : Words) (medium : List ℕ) (x : ℕ) (shut : IsClosed shape after medium)
+module _ (is_live : OneSegmentIsLive) (shape : Shape) (words after : Words) (grown : AllGrown shape words) (medium : List ℕ) (x : ℕ) (shut : IsClosed shape after medium)
     (marked : after ≡ with_word words state_word x) where
+  -- and a header does
+  header : (s : ℕ) → s < shape.segments → slice_index medium (head_at shape s + 1) ≡ words (head_at shape s + 1)
+  header s slot =
+      shut.settled (head_at shape s + 1) (omega (arith, slot))
+      ∙ (ap (λ (ws : Words). ws (head_at shape s + 1)) marked ∙ replaced_other words state_word x (head_at shape s + 1) (λ q. omega (arith, q)))
+
   spent_bucket : HasSpentLock shape words → HasSpentBucket shape medium
   spent_bucket lock =
       let s = lock.1.0.0 in
@@ -56,7 +64,6 @@ module _ (is_live : OneSegmentIsLive) (shape : Shape) (one : shape.segments ≡ 
       let slot = lock.1.0.2 in
       let low = lock.1.0.3 in
       let at = lock.1.0.4 in
-      let first : 0 ≡ s = omega (arith, one, slot) in
       let sound = shut.served.sound in
       let there : slice_index medium (bucket_at shape s b) ≡ 2 ^ 64 - 2 =
       shut.settled (bucket_at shape s b) (omega (arith, slot, low))
@@ -68,8 +75,8 @@ module _ (is_live : OneSegmentIsLive) (shape : Shape) (one : shape.segments ≡ 
         b = b;
         slot = slot;
         bucket = low;
-        live = subst (IsLive (frame_of shape (slice_index medium))) first
-            (is_live shape (slice_index medium) sound.in_range one (frame_of_rules shape (slice_index medium) sound.in_range sound.follows));
+        live = all_live is_live shape (slice_index medium) sound.in_range (frame_of_rules shape (slice_index medium) sound.in_range sound.follows)
+            (grown_alike shape words (slice_index medium) grown header) s slot;
         spent = ap version_of there;
       }
 
@@ -103,6 +110,6 @@ close_is_session keep are opens keeps is_quiet has_map pairs is_live close_keeps
       none_free = λ e there full s low is_free. absurd (none_free is_live shape words image s low is_free);
       spent = λ e there is few may. elim (holds_at _ (all_of (histories core)) e good.spent there.0 there.1 there.2 is) [
         | inl many ↦ absurd (omega (arith, many, few))
-        | inr lock ↦ spent_bucket is_live shape image.one core.words _ medium _ shut marked lock
+        | inr lock ↦ spent_bucket is_live shape core.words _ (grown_now site core.words (fresh_view 0 ∷ h.views) h.well.holds h.served) medium _ shut marked lock
       ];
     }

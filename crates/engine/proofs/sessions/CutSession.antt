@@ -1,19 +1,17 @@
 -- A run that a power cut ends is a session.
-use Rattle.std.proofs.Common.{◌≡◌, ℕ, zero, suc, ◌<◌, List, slice_index, inl, inr, refl, sym, ap, ◌∙◌, subst, arith}
+use Rattle.std.proofs.Common.{◌≡◌, ℕ, zero, suc, ◌<◌, List, slice_index, refl, sym, ap, ◌∙◌, subst, arith}
 use Rattle.std.specs.List.{AllZip}
 use Rattle.map_model.specs.Weave.{weave}
 use Rattle.map_model.specs.Legal.{replay}
-use Rattle.segment_head.specs.HeadWord.{free}
 use Rattle.image_layout.specs.Places.{Shape}
-use Rattle.sound_image.specs.Segments.{frame_of, state_at}
 use Rattle.sound_image.specs.Image.{SaysShape}
 use Rattle.sound_image.specs.Left.{IsLeft}
 use Rattle.session.specs.Callers.{FollowsScript, undrawn}
 use Rattle.restart_op.specs.Restarted.{OneSegmentIsLive}
-use Rattle.restart_op.proofs.Rules.{frame_of_rules}
 use Rattle.engine.specs.Core.{run, tolds_of, histories}
 use Rattle.engine.specs.Laws.{IsServedImage, opened, TurnsKeep, CallsAreScripts}
 use Rattle.engine.specs.Sessions.{CutIsSession}
+use Rattle.engine.proofs.Grown.{none_free}
 
 -- two images that say the same shape begin alike
 pub same_shape : (shape : Shape) (old new : List ℕ) → SaysShape shape old → SaysShape shape new → (i : ℕ) → i < 4 → slice_index new i ≡ slice_index old i
@@ -22,17 +20,6 @@ same_shape shape old new o n (suc zero) low = n.format ∙ sym o.format
 same_shape shape old new o n (suc (suc zero)) low = n.segments ∙ sym o.segments
 same_shape shape old new o n (suc (suc (suc zero))) low = n.depth ∙ sym o.depth
 same_shape shape old new o n (suc (suc (suc (suc i)))) low = absurd (omega (arith, low))
-
--- a served image has no free slot for a segment
-pub none_free : OneSegmentIsLive → (shape : Shape) (words : List ℕ) → IsServedImage shape words → (s : ℕ) → s < shape.segments → state_at (frame_of shape (slice_index words)) s ≡ free → ⊥
-none_free live shape words image s low is_free =
-    let one = image.one in
-    let first : s ≡ 0 = omega (arith, low, one) in
-    let none : state_at (frame_of shape (slice_index words)) 0 ≡ free = ap (λ n. state_at (frame_of shape (slice_index words)) n) (sym first) ∙ is_free in
-    elim (live shape (slice_index words) image.playable.sound.in_range one (frame_of_rules shape (slice_index words) image.playable.sound.in_range image.playable.sound.follows)) [
-      | inl normal ↦ omega (arith, none, normal)
-      | inr splitting ↦ omega (arith, none, splitting)
-    ]
 
 pub cut_is_session : TurnsKeep → CallsAreScripts → OneSegmentIsLive → CutIsSession
 cut_is_session keep are live shape words image opening has scripts fit turns medium whole possible =

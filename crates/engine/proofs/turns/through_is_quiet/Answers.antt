@@ -3,10 +3,10 @@ use Rattle.engine.proofs.holding.Quiet.{through_is_quiet, through_is_exact, thro
 use Rattle.engine.proofs.turns.through_is_quiet.Goals as goal
 
 pub returns-clause-quiet : goal.returns-clause-quiet
-returns-clause-quiet c = through_is_quiet c.close_begins.ensures.own
+returns-clause-quiet c = through_is_quiet
 
 pub returns-clause-exact : goal.returns-clause-exact
-returns-clause-exact c = through_is_exact
+returns-clause-exact c = through_is_exact c.one_segment_is_live.ensures
 
 pub returns-clause-map : goal.returns-clause-map
 returns-clause-map c = through_has_map c.entries_are_legal.ensures
