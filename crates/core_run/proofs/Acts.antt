@@ -27,7 +27,7 @@ use Rattle.core_run.specs.declared.goal.Goal.{Goal}
 use Rattle.core_run.specs.declared.goal.Goal.TheVariants.{AnyEvent, Kind, StoreTo}
 use Rattle.core_run.specs.State.{State, Deed, by_keeper, restarting, keeper_deed, call_deed, caller_deed, open_deed, deed}
 use Rattle.core_run.specs.Run.{counts, ends_in_again, by_deed, drive, restarted_by, restarted, round, has_call, has_calls, rounds, close_begins, run_out, ready_for, line_done, lines_done, closed, cut_of, state_at_end}
-use Rattle.core_run.specs.Running.{Task, IsTask, site_in, IsRunning, IsRunningBy, DeedsAreWell}
+use Rattle.core_run.specs.Running.{Setup, IsSetup, site_in, IsRunning, IsRunningBy, DeedsAreWell}
 use Rattle.core_run.specs.States.{RunBegins, CloseMayBegin, MomentsAreGood}
 use Rattle.core_run.specs.Alone.{IsForOne, BeginsAlone}
 use Rattle.core_run.specs.Ends.{most_of, IsRun, RestartedStays, LineStays, LinesStay, RoundsEnd, RoundsAreEnough}
@@ -114,7 +114,7 @@ all_rest shape n site (c ∷ cs) (v ∷ vs) fits none =
     let left = no_call_here shape n c cs none in
     (engine_rests site c v c.engine refl fits.0.does left.0, all_rest shape n site cs vs fits.1 left.1)
 
-module _ (wells : DeedsAreWell) (may : CloseMayBegin) (t : Task) (is : IsTask t) where
+module _ (wells : DeedsAreWell) (may : CloseMayBegin) (t : Setup) (is : IsSetup t) where
   event_keeps : (c : ℕ) (s : State) → IsRunning t s → (o : Option Deed) → deed t.shape c s ≡ o → IsRunning t (after_event o s)
   event_keeps c s run None e = run
   event_keeps c s run (Some d) e = (wells t c s d is run e).after
@@ -220,7 +220,7 @@ module _ (shape : Shape) where
   }
 
 -- ---- a run of one caller's script
-module _ (restarted_stays : RestartedStays) (line_stays : LineStays) (rounds_end : RoundsEnd) (few : RoundsAreEnough) (t : Task) (is : IsForOne t) where
+module _ (restarted_stays : RestartedStays) (line_stays : LineStays) (rounds_end : RoundsEnd) (few : RoundsAreEnough) (t : Setup) (is : IsForOne t) where
   begins_comes : (k : Keeper) (s : State) → s.keeper ≡ k → IsRun t s → ComesBy t.shape s (close_begins t.shape (most_of t) k s)
   begins_comes Open s here run =
       let low = few t s is run here in
@@ -308,7 +308,7 @@ module _ (restarted_stays : RestartedStays) (line_stays : LineStays) (rounds_end
       at_lines = lines_done t.shape (most_of t) lines (start_state t)
 
       begun : IsRun t (start_state t)
-      begun = record { running = begins t is.task; alone = alone t is }
+      begun = record { running = begins t is.setup; alone = alone t is }
 
       come : (acts : List Act) × AreLines lines (start_state t) acts
       come = lines_come lines (start_state t) begun
@@ -324,5 +324,5 @@ module _ (restarted_stays : RestartedStays) (line_stays : LineStays) (rounds_end
 pub every_moment_is_good : RunBegins → DeedsAreWell → CloseMayBegin → MomentsAreGood → BeginsAlone → RestartedStays → LineStays → LinesStay → RoundsEnd → RoundsAreEnough
     → EveryMomentIsGood
 every_moment_is_good begins wells may good alone restarted_stays line_stays lines_stay rounds_end few t lines opening is one has =
-    let comes = run_comes restarted_stays line_stays rounds_end few t (record { task = is; one = one }) begins alone lines_stay lines in
+    let comes = run_comes restarted_stays line_stays rounds_end few t (record { setup = is; one = one }) begins alone lines_stay lines in
     (comes.0, comes.1, λ n. moments_of_runs begins wells may good t opening (take n comes.0) is has)

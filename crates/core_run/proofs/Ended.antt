@@ -24,7 +24,7 @@ use Rattle.engine.specs.Holding.{DoesCall, CallerFits, world_of}
 use Rattle.engine.specs.Laws.{ThroughIsQuiet, ThroughHasMap}
 use Rattle.core_run.specs.declared.keeper.Keeper.{Keeper}
 use Rattle.core_run.specs.declared.keeper.Keeper.TheVariants.{Closed}
-use Rattle.core_run.specs.Running.{Task, IsTask, site_in, start_of, HasToldInOrder, AllTold, IsClosing, IsRunningBy}
+use Rattle.core_run.specs.Running.{Setup, IsSetup, site_in, start_of, HasToldInOrder, AllTold, IsClosing, IsRunningBy}
 use Rattle.core_run.specs.States.{last_words, IsClosedWell, ClosedIsClosed}
 use Rattle.core_run.proofs.events.Closes.{same_core}
 use Rattle.core_run.proofs.events.Newest.{close_newest}
@@ -44,7 +44,7 @@ past_end calls n is = elim (cases_lt n (length calls)) [
   | inr past ↦ past
 ]
 
-is_answered : (site : Site) (t : Task) (version number : ℕ) (c : Caller) (v : View) → CallerFits site c v → HasToldInOrder t version number c → c.engine ≡ None
+is_answered : (site : Site) (t : Setup) (version number : ℕ) (c : Caller) (v : View) → CallerFits site c v → HasToldInOrder t version number c → c.engine ≡ None
     → IsAnswered c.calls (told_of c)
 is_answered site t version number c v fits told none =
     let d = subst (λ o. DoesCall site c o v) none fits.does in
@@ -53,7 +53,7 @@ is_answered site t version number c v fits told none =
       none_open = ap (λ b. open_of b c.drew) d.begun;
     }
 
-all_answered : (site : Site) (t : Task) (version number : ℕ) (callers : List Caller) (views : List View) → AllZip (CallerFits site) callers views
+all_answered : (site : Site) (t : Setup) (version number : ℕ) (callers : List Caller) (views : List View) → AllZip (CallerFits site) callers views
     → AllTold t version number callers → AllByRecursion (λ (c : Caller). c.engine ≡ None) callers
     → AllZip IsAnswered (map (λ (c : Caller). c.calls) callers) (map told_of callers)
 all_answered site t version number [] views fits told none = tt
@@ -64,7 +64,7 @@ all_answered site t version number (c ∷ callers) (v ∷ views) fits told none 
 )
 
 -- ---- all of it
-module _ (quiet : ThroughIsQuiet) (maps : ThroughHasMap) (pairs : KeepsPairs) (cuts : CloseKeeps) (settles : CloseSettles) (t : Task) (is : IsTask t) (opening : Map)
+module _ (quiet : ThroughIsQuiet) (maps : ThroughHasMap) (pairs : KeepsPairs) (cuts : CloseKeeps) (settles : CloseSettles) (t : Setup) (is : IsSetup t) (opening : Map)
     (has : HasPairsOf t.shape (start_of t) opening) where
   closed_well : (op : CloseOp) (core : Core) → IsClosing t op core → wanted op ≡ Done → IsClosedWell t opening core
   closed_well op core r done =

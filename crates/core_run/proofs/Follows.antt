@@ -14,7 +14,7 @@ use Rattle.engine.specs.Holding.{DoesCall, CallerFits}
 use Rattle.core_run.specs.declared.keeper.Keeper.{Keeper}
 use Rattle.core_run.specs.declared.keeper.Keeper.TheVariants.{Restarting, Open, Closing, Closed}
 use Rattle.core_run.specs.State.{waiting_from}
-use Rattle.core_run.specs.Running.{Task, site_in, HasToldInOrder, AllTold, IsOpen, IsRunningBy}
+use Rattle.core_run.specs.Running.{Setup, site_in, HasToldInOrder, AllTold, IsOpen, IsRunningBy}
 use Rattle.core_run.specs.States.{ToldsFollow}
 use Rattle.core_run.proofs.events.Told.{entries_more}
 
@@ -24,7 +24,7 @@ begun_within : (site : Site) (c : Caller) (v : View) (e : Option Engine) → Doe
 begun_within site c v None does begun = absurd (let no : true ≡ false = sym begun ∙ does.begun in cc)
 begun_within site c v (Some e) does begun = slice_get_within c.calls (length c.entries) does.call does.is_current
 
-module _ (t : Task) (version number : ℕ) (c : Caller) (h : HasToldInOrder t version number c) (within : c.begun ≡ true → length c.entries < length c.calls) where
+module _ (t : Setup) (version number : ℕ) (c : Caller) (h : HasToldInOrder t version number c) (within : c.begun ≡ true → length c.entries < length c.calls) where
   follows_by : (b : Bool) → c.begun ≡ b → (drew : Option Entry) → c.drew ≡ drew → FollowsScript c.calls (record { entries = c.entries; left_open = open_of b drew })
   follows_by false begun drew drawn = record { its_calls = h.its_calls; within = let l = h.within in omega (arith, l) }
   follows_by true begun None drawn = record { its_calls = h.its_calls; within = let l = within begun in omega (arith, l) }
@@ -37,7 +37,7 @@ module _ (t : Task) (version number : ℕ) (c : Caller) (h : HasToldInOrder t ve
   follows = follows_by c.begun refl c.drew refl
 
 -- ---- all callers
-all_follow : (site : Site) (t : Task) (version number : ℕ) (callers : List Caller) (views : List View) → AllZip (CallerFits site) callers views
+all_follow : (site : Site) (t : Setup) (version number : ℕ) (callers : List Caller) (views : List View) → AllZip (CallerFits site) callers views
     → AllTold t version number callers → AllZip FollowsScript (map (λ (c : Caller). c.calls) callers) (map told_of callers)
 all_follow site t version number [] views fits told = tt
 all_follow site t version number (c ∷ callers) [] fits told = absurd fits
@@ -50,7 +50,7 @@ waiting_follow : (shape : Shape) (number : ℕ) (scripts : List (List Call)) →
 waiting_follow shape number [] = tt
 waiting_follow shape number (calls ∷ scripts) = (record { its_calls = refl; within = omega arith }, waiting_follow shape (suc number) scripts)
 
-module _ (t : Task) where
+module _ (t : Setup) where
   abbrev Follow : List Caller → Type 0
   Follow callers = AllZip FollowsScript t.scripts (map told_of callers)
 

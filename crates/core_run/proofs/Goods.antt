@@ -22,7 +22,7 @@ use Rattle.engine.specs.Laws.{NoneRuns, ThroughIsQuiet, ThroughHasMap}
 use Rattle.core_run.specs.declared.keeper.Keeper.{Keeper}
 use Rattle.core_run.specs.declared.keeper.Keeper.TheVariants.{Restarting, Open, Closing, Closed}
 use Rattle.core_run.specs.State.{State, waiting_from}
-use Rattle.core_run.specs.Running.{Task, IsTask, site_in, start_of, IsOpen, IsRestarting, IsClosing, IsRunningBy}
+use Rattle.core_run.specs.Running.{Setup, IsSetup, site_in, start_of, IsOpen, IsRestarting, IsClosing, IsRunningBy}
 use Rattle.core_run.specs.States.{entries_of, HadNoRooms, WereSpent, IsGoodMoment, MomentsAreGood}
 use Rattle.core_run.proofs.events.Opened.{same_core as same_restart}
 use Rattle.core_run.proofs.events.Closes.{same_core as same_close}
@@ -61,7 +61,7 @@ same_shape shape one other a b (suc (suc (suc zero))) low = a.says_shape.depth â
 same_shape shape one other a b (suc (suc (suc (suc i)))) low = absurd (omega (arith, low))
 
 -- ---- during a close
-module _ (quiet : ThroughIsQuiet) (maps : ThroughHasMap) (pairs : KeepsPairs) (cuts : CloseKeeps) (t : Task) (is : IsTask t) (opening : Map)
+module _ (quiet : ThroughIsQuiet) (maps : ThroughHasMap) (pairs : KeepsPairs) (cuts : CloseKeeps) (t : Setup) (is : IsSetup t) (opening : Map)
     (has : HasPairsOf t.shape (start_of t) opening) (before : Core) (o : IsOpen t before) (none : NoneRuns before) where
   pub quiet_before : IsQuiet (site_in t) (start_of t) (world_of before o.holds.views)
   quiet_before = quiet (site_in t) (start_of t) before o.holds none
@@ -77,7 +77,7 @@ module _ (quiet : ThroughIsQuiet) (maps : ThroughHasMap) (pairs : KeepsPairs) (c
 
 -- ---- at any time
 module _ (good : HoldingIsGood) (quiet : ThroughIsQuiet) (maps : ThroughHasMap) (restarts : RestartKeeps) (pairs : KeepsPairs) (cuts : CloseKeeps)
-    (others : ChangesStateAlone) (t : Task) (is : IsTask t) (opening : Map) (has : HasPairsOf t.shape (start_of t) opening) where
+    (others : ChangesStateAlone) (t : Setup) (is : IsSetup t) (opening : Map) (has : HasPairsOf t.shape (start_of t) opening) where
   -- by the core alone
   abbrev IsGoodCore : Core â†’ Type 0
   IsGoodCore core = IsGoodMoment t opening (record { keeper = Open; core = core })

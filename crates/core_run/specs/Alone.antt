@@ -9,29 +9,29 @@ use Rattle.core_run.specs.declared.keeper.Keeper.{Keeper}
 use Rattle.core_run.specs.declared.keeper.Keeper.TheVariants.{Restarting, Open, Closing, Closed}
 use Rattle.core_run.specs.State.{State, Deed, deed, beginning}
 use Rattle.core_run.specs.Run.{ends_in_again}
-use Rattle.core_run.specs.Running.{Task, IsTask, start_of, IsRunning}
+use Rattle.core_run.specs.Running.{Setup, IsSetup, start_of, IsRunning}
 
 -- ---- the state
 -- these turns led to the core from the image's opening on, and the caller at place j is alone after them: all others stand between
 -- two attempts, and what its attempt loaded is still so, or it changed that itself
-pub record StandsAlone (t : Task) (core : Core) (j : ℕ) : Type 0 where
+pub record StandsAlone (t : Setup) (core : Core) (j : ℕ) : Type 0 where
   pub turns : List ℕ
   pub core_is : core ≡ (along t.shape t.first t.scripts turns).core
   pub alone : IsAloneIn t.shape j (along t.shape t.first t.scripts turns)
 
-abbrev pub IsAloneBy : Task → Keeper → Core → Type 0
+abbrev pub IsAloneBy : Setup → Keeper → Core → Type 0
 IsAloneBy t (Restarting op) core = ⊤
 IsAloneBy t Open core = StandsAlone t core 0
 IsAloneBy t (Closing op) core = close_left op ≤ events_of t.shape
 IsAloneBy t Closed core = ⊤
 
 -- THE CALLER IS ALONE, beside a state of a run
-abbrev pub IsAlone : Task → State → Type 0
+abbrev pub IsAlone : Setup → State → Type 0
 IsAlone t s = IsAloneBy t s.keeper s.core
 
 -- what is run is one script
-pub record IsForOne (t : Task) : Type 0 where
-  pub task : IsTask t
+pub record IsForOne (t : Setup) : Type 0 where
+  pub setup : IsSetup t
   pub one : length t.scripts ≡ 1
 
 -- so many calls have no reply yet
@@ -45,17 +45,17 @@ all_behind (c ∷ callers) = behind c + all_behind callers
 -- ---- the laws of one event
 -- it is so at the beginning
 abbrev pub BeginsAlone : Type 0
-BeginsAlone = (t : Task) → IsForOne t → IsAlone t (beginning t.shape (start_of t) t.scripts)
+BeginsAlone = (t : Setup) → IsForOne t → IsAlone t (beginning t.shape (start_of t) t.scripts)
 
 -- each event keeps it
 abbrev pub AloneStays : Type 0
-AloneStays = (t : Task) (c : ℕ) (s : State) (d : Deed) → IsForOne t → IsRunning t s → IsAlone t s → deed t.shape c s ≡ Some d → IsAlone t d.state
+AloneStays = (t : Setup) (c : ℕ) (s : State) (d : Deed) → IsForOne t → IsRunning t s → IsAlone t s → deed t.shape c s ≡ Some d → IsAlone t d.state
 
 -- and an attempt that ends has its reply
 abbrev pub AloneReplies : Type 0
-AloneReplies = (t : Task) (c : ℕ) (s : State) (d : Deed) (end : End) → IsForOne t → IsRunning t s → IsAlone t s → deed t.shape c s ≡ Some d → d.end ≡ Some end
+AloneReplies = (t : Setup) (c : ℕ) (s : State) (d : Deed) (end : End) → IsForOne t → IsRunning t s → IsAlone t s → deed t.shape c s ≡ Some d → d.end ≡ Some end
     → EndsCall (outcome_of_end end)
 
 -- so none is to be made again
 abbrev pub NeverAgain : Type 0
-NeverAgain = (t : Task) (c : ℕ) (s : State) (d : Deed) → IsForOne t → IsRunning t s → IsAlone t s → deed t.shape c s ≡ Some d → ends_in_again d.end ≡ false
+NeverAgain = (t : Setup) (c : ℕ) (s : State) (d : Deed) → IsForOne t → IsRunning t s → IsAlone t s → deed t.shape c s ≡ Some d → ends_in_again d.end ≡ false

@@ -12,7 +12,7 @@ use Rattle.core_run.specs.declared.keeper.Keeper.{Keeper}
 use Rattle.core_run.specs.declared.keeper.Keeper.TheVariants.{Open, Closing}
 use Rattle.core_run.specs.State.{State, Deed, deed}
 use Rattle.core_run.specs.Run.{has_calls, lines_done}
-use Rattle.core_run.specs.Running.{Task, IsTask, start_of}
+use Rattle.core_run.specs.Running.{Setup, IsSetup, start_of}
 use Rattle.core_run.specs.States.{IsGoodMoment}
 use Rattle.core_run.specs.Ends.{most_of}
 use Rattle.core_run.specs.Sessions.{end_state}
@@ -53,19 +53,19 @@ abbrev pub ActsAreSingle : Type 0
 ActsAreSingle = (shape : Shape) (a : Act) (s : State) → IsOneMore s.core.trace (after_act shape a s).core.trace
 
 -- the state of a run when the first n of its acts are done
-abbrev pub moment : Task → List Act → ℕ → State
+abbrev pub moment : Setup → List Act → ℕ → State
 moment t acts n = after_acts t.shape (take n acts) (start_state t)
 
 -- WHATEVER IS DONE, IN WHATEVER ORDER, by up to 64 callers: the moment is good
 abbrev pub MomentsOfRuns : Type 0
-MomentsOfRuns = (t : Task) (opening : Map) (acts : List Act) → IsTask t → HasPairsOf t.shape (start_of t) opening → IsGoodMoment t opening (after_acts t.shape acts (start_state t))
+MomentsOfRuns = (t : Setup) (opening : Map) (acts : List Act) → IsSetup t → HasPairsOf t.shape (start_of t) opening → IsGoodMoment t opening (after_acts t.shape acts (start_state t))
 
 -- a run of these lines is these acts: at its end all are done, and after each of its lines the first so many
-pub record IsRunOf (t : Task) (lines : List Line) (acts : List Act) : Type 0 where
+pub record IsRunOf (t : Setup) (lines : List Line) (acts : List Act) : Type 0 where
   pub ends : end_state t lines ≡ after_acts t.shape acts (start_state t)
   pub between : (k : ℕ) → (n : ℕ) × (lines_done t.shape (most_of t) (take k lines) (start_state t) ≡ moment t acts n)
 
 -- EVERY MOMENT OF A RUN of one caller's script IS GOOD, whatever its lines are
 abbrev pub EveryMomentIsGood : Type 0
-EveryMomentIsGood = (t : Task) (lines : List Line) (opening : Map) → IsTask t → length t.scripts ≡ 1 → HasPairsOf t.shape (start_of t) opening
+EveryMomentIsGood = (t : Setup) (lines : List Line) (opening : Map) → IsSetup t → length t.scripts ≡ 1 → HasPairsOf t.shape (start_of t) opening
     → (acts : List Act) × IsRunOf t lines acts × ((n : ℕ) → IsGoodMoment t opening (moment t acts n))

@@ -26,22 +26,22 @@ use Rattle.core_run.specs.declared.keeper.Keeper.{Keeper}
 use Rattle.core_run.specs.declared.keeper.Keeper.TheVariants.{Restarting, Open, Closing, Closed}
 use Rattle.core_run.specs.State.{State, Deed, deed, waiting_from}
 
--- what is run: a sound image that is served, and the calls of callers 1, 2 and so on, 64 at the most
-pub record Task : Type 0 where
+-- what a run is set up with: a sound image that is served, and the calls of callers 1, 2 and so on, 64 at the most
+pub record Setup : Type 0 where
   pub shape : Shape
   pub first : List ℕ
   pub scripts : List (List Call)
 
-pub record IsTask (t : Task) : Type 0 where
+pub record IsSetup (t : Setup) : Type 0 where
   pub served : IsServedImage t.shape t.first
   pub few : length t.scripts ≤ 64
   pub words : AllByRecursion (AllByRecursion IsWordCall) t.scripts
 
 -- where the callers run
-abbrev pub site_in : Task → Site
+abbrev pub site_in : Setup → Site
 site_in t = site_of t.shape t.first (length t.scripts)
 
-abbrev pub start_of : Task → Words
+abbrev pub start_of : Setup → Words
 start_of t = slice_index t.first
 
 -- a caller waits for no more lines than its engine says
@@ -55,18 +55,18 @@ FewWait trace number (c ∷ callers) = WaitsFor trace number c.engine × FewWait
 
 -- a caller's entries are of the first of its calls, and that of the call that runs is of the next; it is numbered by its place
 -- among the callers
-pub record HasToldInOrder (t : Task) (version number : ℕ) (c : Caller) : Type 0 where
+pub record HasToldInOrder (t : Setup) (version number : ℕ) (c : Caller) : Type 0 where
   pub its_calls : map (λ e. e.call) c.entries ≡ take (length c.entries) c.calls
   pub within : length c.entries ≤ length c.calls
   pub drawn : (e : Entry) → c.drew ≡ Some e → current c ≡ Some e.call
   pub here : c.site ≡ record { geometry = t.shape; version = version; caller = number }
 
-abbrev pub AllTold : Task → ℕ → ℕ → List Caller → Type 0
+abbrev pub AllTold : Setup → ℕ → ℕ → List Caller → Type 0
 AllTold t version number [] = ⊤
 AllTold t version number (c ∷ callers) = HasToldInOrder t version number c × AllTold t version (suc number) callers
 
 -- the image is open: the core holds
-pub record IsOpen (t : Task) (core : Core) : Type 0 where
+pub record IsOpen (t : Setup) (core : Core) : Type 0 where
   pub holds : CoreHolds (site_in t) (start_of t) core
   pub scripts : map (λ c. c.calls) core.callers ≡ t.scripts
   pub told : AllTold t (core.words state_word) 1 core.callers
@@ -74,7 +74,7 @@ pub record IsOpen (t : Task) (core : Core) : Type 0 where
   pub keeper_waits : pending 0 core.trace ≡ []
 
 -- the restart has done some of its events
-pub record IsRestarting (t : Task) (op : RestartOp) (core : Core) : Type 0 where
+pub record IsRestarting (t : Setup) (op : RestartOp) (core : Core) : Type 0 where
   pub events : ℕ
   pub few : events < 4
   pub op_is : op ≡ (restarted t.shape t.first events).op
@@ -83,7 +83,7 @@ pub record IsRestarting (t : Task) (op : RestartOp) (core : Core) : Type 0 where
   pub callers_are : core.callers ≡ waiting_from t.shape 1 t.scripts
 
 -- all calls have run out, and the close has done some of its events
-pub record IsClosing (t : Task) (op : CloseOp) (core : Core) : Type 0 where
+pub record IsClosing (t : Setup) (op : CloseOp) (core : Core) : Type 0 where
   pub before : Core
   pub was_open : IsOpen t before
   pub run_out : AllByRecursion (λ c. c.engine ≡ None) before.callers
@@ -93,29 +93,29 @@ pub record IsClosing (t : Task) (op : CloseOp) (core : Core) : Type 0 where
   pub trace_is : core.trace ≡ (close_after t.shape before.words before.trace events).trace
   pub callers_are : core.callers ≡ before.callers
 
-abbrev pub IsRunningBy : Task → Keeper → Core → Type 0
+abbrev pub IsRunningBy : Setup → Keeper → Core → Type 0
 IsRunningBy t (Restarting op) core = IsRestarting t op core
 IsRunningBy t Open core = IsOpen t core
 IsRunningBy t (Closing op) core = IsClosing t op core × (close_wanted op ≡ Done → ⊥)
 IsRunningBy t Closed core = (op : CloseOp) × IsClosing t op core × (close_wanted op ≡ Done)
 
 -- THE STATE is one of a run
-abbrev pub IsRunning : Task → State → Type 0
+abbrev pub IsRunning : Setup → State → Type 0
 IsRunning t s = IsRunningBy t s.keeper s.core
 
 -- ---- the laws
 -- what a memory asks of an event of caller c: its word is one of the memory, its line one of the image, and fewer than eight
 -- lines of the caller wait
-pub record MayBeDone (t : Task) (c : ℕ) (core : Core) (w : Want) : Type 0 where
+pub record MayBeDone (t : Setup) (c : ℕ) (core : Core) (w : Want) : Type 0 where
   pub word : word_of t.shape w < all_words_of t.shape
   pub line : (l : ℕ) → w ≡ Flush l → 8 * l + 8 ≤ words_of t.shape
   pub few : (l : ℕ) → w ≡ Flush l → length (pending c core.trace) < 8
   pub some : w ≡ Done → ⊥
 
 -- an event that a state has may be done, and leaves a state of the run
-pub record DeedIsWell (t : Task) (c : ℕ) (s : State) (d : Deed) : Type 0 where
+pub record DeedIsWell (t : Setup) (c : ℕ) (s : State) (d : Deed) : Type 0 where
   pub may : MayBeDone t c s.core d.want
   pub after : IsRunning t d.state
 
 abbrev pub DeedsAreWell : Type 0
-DeedsAreWell = (t : Task) (c : ℕ) (s : State) (d : Deed) → IsTask t → IsRunning t s → deed t.shape c s ≡ Some d → DeedIsWell t c s d
+DeedsAreWell = (t : Setup) (c : ℕ) (s : State) (d : Deed) → IsSetup t → IsRunning t s → deed t.shape c s ≡ Some d → DeedIsWell t c s d

@@ -6,14 +6,14 @@ use Rattle.session.specs.Session.{Ending, IsSession}
 use Rattle.engine.specs.Core.{tolds_of}
 use Rattle.core_run.specs.State.{State}
 use Rattle.core_run.specs.Run.{core_run, cut_of, medium_words}
-use Rattle.core_run.specs.Running.{Task, IsTask, start_of}
+use Rattle.core_run.specs.Running.{Setup, IsSetup, start_of}
 
 -- the state in which a run ends
-abbrev pub end_state : Task → List Line → State
+abbrev pub end_state : Setup → List Line → State
 end_state t lines = core_run t.shape (start_of t) t.scripts lines
 
 -- the words of the medium at its end
-abbrev pub left_words : Task → List Line → List ℕ
+abbrev pub left_words : Setup → List Line → List ℕ
 left_words t lines = medium_words t.shape (start_of t) (end_state t lines).core (cut_of lines)
 
 -- a run is scheduled, and closes its image unless its script ends with a cut
@@ -22,5 +22,5 @@ ending_of lines = record { closed = not (is_some (cut_of lines)); scheduled = tr
 
 -- A RUN OF ONE CALLER'S SCRIPT IS A SESSION
 abbrev pub RunsAreSessions : Type 0
-RunsAreSessions = (t : Task) (lines : List Line) → IsTask t → length t.scripts ≡ 1
+RunsAreSessions = (t : Setup) (lines : List Line) → IsSetup t → length t.scripts ≡ 1
     → IsSession t.shape t.first (left_words t lines) t.scripts (ending_of lines) (transcript_of (tolds_of (end_state t lines).core))

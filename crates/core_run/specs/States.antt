@@ -22,20 +22,20 @@ use Rattle.engine.specs.Core.{Core, tolds_of, histories}
 use Rattle.engine.specs.Laws.{NoneRuns}
 use Rattle.core_run.specs.declared.keeper.Keeper.TheVariants.{Closing, Closed}
 use Rattle.core_run.specs.State.{State, beginning}
-use Rattle.core_run.specs.Running.{Task, IsTask, start_of, IsOpen, IsRunning}
+use Rattle.core_run.specs.Running.{Setup, IsSetup, start_of, IsOpen, IsRunning}
 
 -- a run begins with a state of it
 abbrev pub RunBegins : Type 0
-RunBegins = (t : Task) → IsTask t → IsRunning t (beginning t.shape (start_of t) t.scripts)
+RunBegins = (t : Setup) → IsSetup t → IsRunning t (beginning t.shape (start_of t) t.scripts)
 
 -- where no engine runs, the close may begin
 abbrev pub CloseMayBegin : Type 0
-CloseMayBegin = (t : Task) (core : Core) → IsTask t → IsOpen t core → NoneRuns core
+CloseMayBegin = (t : Setup) (core : Core) → IsSetup t → IsOpen t core → NoneRuns core
     → IsRunning t (record { keeper = Closing (close_begun t.shape); core = core })
 
 -- a medium that a power cut may leave is a sound image of the same shape, and holds the map of the history so far, each open
 -- call whole or absent
-pub record IsGoodMedium (t : Task) (opening : Map) (core : Core) (medium : List ℕ) : Type 0 where
+pub record IsGoodMedium (t : Setup) (opening : Map) (core : Core) (medium : List ℕ) : Type 0 where
   pub sound : IsSoundImage t.shape medium
   pub same_shape : (i : ℕ) → i < 4 → slice_index medium i ≡ slice_index t.first i
   pub left : IsLeft t.shape (slice_index medium) (replay opening (weave (histories core))) (undrawn t.scripts (tolds_of core))
@@ -54,7 +54,7 @@ WereSpent shape words entries = AllByRecursion (λ e. e.reply ≡ Spent → (2 ^
 
 -- THE MOMENT IS GOOD: the replies so far are one legal history, and so is every medium that a power cut may leave; and each
 -- refusal had its cause
-pub record IsGoodMoment (t : Task) (opening : Map) (s : State) : Type 0 where
+pub record IsGoodMoment (t : Setup) (opening : Map) (s : State) : Type 0 where
   pub legal : IsLegal opening (histories s.core)
   pub media : (medium : List ℕ) → length medium ≡ words_of t.shape → IsPossible (words_of t.shape) (start_of t) s.core.trace (slice_index medium)
       → IsGoodMedium t opening s.core medium
@@ -62,15 +62,15 @@ pub record IsGoodMoment (t : Task) (opening : Map) (s : State) : Type 0 where
   pub spent : WereSpent t.shape s.core.words (entries_of s.core)
 
 abbrev pub MomentsAreGood : Type 0
-MomentsAreGood = (t : Task) (s : State) (opening : Map) → IsTask t → IsRunning t s → HasPairsOf t.shape (start_of t) opening → IsGoodMoment t opening s
+MomentsAreGood = (t : Setup) (s : State) (opening : Map) → IsSetup t → IsRunning t s → HasPairsOf t.shape (start_of t) opening → IsGoodMoment t opening s
 
 -- the newest words of the image
-abbrev pub last_words : Task → Core → List ℕ
+abbrev pub last_words : Setup → Core → List ℕ
 last_words t core = map core.words (range_with_len 0 (words_of t.shape))
 
 -- THE CLOSE HAS ENDED: the newest words may be left, are a sound image with the marker set, and have the map of the history, in
 -- which each call has its reply
-pub record IsClosedWell (t : Task) (opening : Map) (core : Core) : Type 0 where
+pub record IsClosedWell (t : Setup) (opening : Map) (core : Core) : Type 0 where
   pub possible : IsPossible (words_of t.shape) (start_of t) core.trace (slice_index (last_words t core))
   pub sound : IsSoundImage t.shape (last_words t core)
   pub clean : IsClean (frame_of t.shape (slice_index (last_words t core)))
@@ -78,13 +78,13 @@ pub record IsClosedWell (t : Task) (opening : Map) (core : Core) : Type 0 where
   pub answered : AllZip IsAnswered t.scripts (tolds_of core)
 
 abbrev pub ClosedIsClosed : Type 0
-ClosedIsClosed = (t : Task) (s : State) (opening : Map) → IsTask t → IsRunning t s → s.keeper ≡ Closed → HasPairsOf t.shape (start_of t) opening
+ClosedIsClosed = (t : Setup) (s : State) (opening : Map) → IsSetup t → IsRunning t s → s.keeper ≡ Closed → HasPairsOf t.shape (start_of t) opening
     → IsClosedWell t opening s.core
 
 -- what callers were told follows their scripts
 abbrev pub ToldsFollow : Type 0
-ToldsFollow = (t : Task) (s : State) → IsTask t → IsRunning t s → AllZip FollowsScript t.scripts (tolds_of s.core)
+ToldsFollow = (t : Setup) (s : State) → IsSetup t → IsRunning t s → AllZip FollowsScript t.scripts (tolds_of s.core)
 
--- no slot of an image that is run is free: its one segment is live
+-- no slot of an image that is run is free: its table is grown out
 abbrev pub NoSlotIsFree : Type 0
-NoSlotIsFree = (t : Task) (s : ℕ) → IsTask t → s < t.shape.segments → state_at (frame_of t.shape (start_of t)) s ≢ free
+NoSlotIsFree = (t : Setup) (s : ℕ) → IsSetup t → s < t.shape.segments → state_at (frame_of t.shape (start_of t)) s ≢ free

@@ -3,11 +3,11 @@ use Rattle.std.specs.Prelude.{ℕ, ⊤, Option, None, Some, List, [], ◌∷◌}
 use Rattle.script_text.specs.declared.line.Line.{Line}
 use Rattle.core_run.specs.State.{State, beginning}
 use Rattle.core_run.specs.Run.{line_done, lines_done, run_out, cut_of}
-use Rattle.core_run.specs.Running.{Task, IsRunning, start_of}
+use Rattle.core_run.specs.Running.{Setup, IsRunning, start_of}
 use Rattle.core_run.specs.Alone.{IsForOne}
 use Rattle.core_run.specs.Ends.{most_of}
 
-module _ (t : Task) (most : ℕ) where
+module _ (t : Setup) (most : ℕ) where
   -- each line leaves a state of the run
   abbrev pub RunsThrough : List Line → State → Type 0
   RunsThrough [] s = ⊤
@@ -19,13 +19,13 @@ module _ (t : Task) (most : ℕ) where
   RunsOut (Some choice) s = ⊤
 
 -- the state with which a run begins
-abbrev pub start_state : Task → State
+abbrev pub start_state : Setup → State
 start_state t = beginning t.shape (start_of t) t.scripts
 
 -- EACH STATE between the lines, and at the end of the calls, is one of the run
-pub record RunsWell (t : Task) (lines : List Line) : Type 0 where
+pub record RunsWell (t : Setup) (lines : List Line) : Type 0 where
   pub through : RunsThrough t (most_of t) lines (start_state t)
   pub out : RunsOut t (most_of t) (cut_of lines) (lines_done t.shape (most_of t) lines (start_state t))
 
 abbrev pub LinesAreWell : Type 0
-LinesAreWell = (t : Task) (lines : List Line) → IsForOne t → RunsWell t lines
+LinesAreWell = (t : Setup) (lines : List Line) → IsForOne t → RunsWell t lines

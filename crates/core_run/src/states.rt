@@ -14,7 +14,7 @@ pub fn deeds_are_well()
     engine::flushes_are_few();
 }
 
-/// A run of a task begins with a state of the run.
+/// A run begins with a state of the run, whatever it is set up with.
 pub fn run_begins()
     ensures { RunBegins }
 {}
@@ -55,4 +55,6 @@ pub fn tolds_follow()
 /// No slot of an image that is run is free.
 pub fn no_slot_is_free()
     ensures { NoSlotIsFree }
-{}
+{
+    restart_op::one_segment_is_live();
+}

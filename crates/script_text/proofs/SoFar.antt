@@ -13,11 +13,11 @@ use Rattle.script_text.specs.declared.line.Mode.TheVariants.{Play, Serve}
 use Rattle.script_text.specs.declared.phase.Phase.{Phase}
 use Rattle.script_text.specs.declared.phase.Phase.TheVariants.{Calling}
 use Rattle.script_text.specs.declared.run_form.Aim.{Aim}
-use Rattle.script_text.specs.declared.run_form.Aim.TheVariants.{Steps, Events, Place}
+use Rattle.script_text.specs.declared.run_form.Aim.TheVariants.{Steps, Events, StoreTo}
 use Rattle.script_text.specs.declared.reading.Reading.{Reading}
 use Rattle.script_text.specs.declared.reading.Reading.TheVariants.{Skipped, Says, BadWord, BadNumber, BadCaller, BadOrder}
 use Rattle.script_text.specs.Splits.{begins_with, lines, words}
-use Rattle.script_text.specs.Readings.{is_digit, number_behind, number, is_caller, is_seat, get_call, remove_call, insert_call, update_call, says_call, aim_named, run_line, says_run, says_until, says_cut, says_one, says_two, says_three, says_four, says_words, says, line_says}
+use Rattle.script_text.specs.Readings.{is_digit, number_behind, number, is_caller, may_have_runs, get_call, remove_call, insert_call, update_call, says_call, aim_named, run_line, says_run, says_until, says_cut, says_one, says_two, says_three, says_four, says_words, says, line_says}
 use Rattle.script_text.specs.Order.{phase_after, phase_behind, may_follow, in_place, in_order, IsOrdered}
 use Rattle.script_text.specs.Script.{readings, said, IsScript}
 use Rattle.script_text.specs.Calls.{calls_of, IsCallSoFar, IsLineSoFar}
@@ -89,19 +89,19 @@ update_so_far (Some k) None h i = tt
 update_so_far (Some k) (Some v) h i = (h, i)
 
 -- SCHEDULES
-at_most_one : (c : ℕ) → is_seat c ≡ true → c ≤ 1
+at_most_one : (c : ℕ) → may_have_runs c ≡ true → c ≤ 1
 at_most_one c e = grind (arith, nat_tests, e)
 
-run_in_range : (t : Bool) (aim : Aim) (c n : ℕ) → is_seat c ≡ t → n < 2 ^ 64 → SaysSoFar (cond t (Says (run_line aim c n)) BadCaller)
+run_in_range : (t : Bool) (aim : Aim) (c n : ℕ) → may_have_runs c ≡ t → n < 2 ^ 64 → SaysSoFar (cond t (Says (run_line aim c n)) BadCaller)
 run_in_range true Steps c n e h = (at_most_one c e, h)
 run_in_range true (Events event) c n e h = (at_most_one c e, h)
-run_in_range true Place c n e h = (at_most_one c e, h)
+run_in_range true StoreTo c n e h = (at_most_one c e, h)
 run_in_range false aim c n e h = tt
 
 run_so_far : (aim : Aim) (c n : Option ℕ) → IsSmall n → SaysSoFar (says_run aim c n)
 run_so_far aim None n h = tt
 run_so_far aim (Some c) None h = tt
-run_so_far aim (Some c) (Some n) h = run_in_range (is_seat c) aim c n refl h
+run_so_far aim (Some c) (Some n) h = run_in_range (may_have_runs c) aim c n refl h
 
 until_so_far : (aim : Option Aim) (c n : Option ℕ) → IsSmall n → SaysSoFar (says_until aim c n)
 until_so_far None c n h = tt

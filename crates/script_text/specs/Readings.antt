@@ -9,7 +9,7 @@ use Rattle.script_text.specs.declared.line.Counted.TheVariants.{Store, Exchange,
 use Rattle.script_text.specs.declared.line.Mode.{Mode}
 use Rattle.script_text.specs.declared.line.Mode.TheVariants.{Play, Serve}
 use Rattle.script_text.specs.declared.run_form.Aim.{Aim}
-use Rattle.script_text.specs.declared.run_form.Aim.TheVariants.{Steps, Events, Place}
+use Rattle.script_text.specs.declared.run_form.Aim.TheVariants.{Steps, Events, StoreTo}
 use Rattle.script_text.specs.declared.reading.Reading.{Reading}
 use Rattle.script_text.specs.declared.reading.Reading.TheVariants.{Skipped, Says, BadWord, BadNumber, BadCaller}
 use Rattle.script_text.specs.Splits.{begins_with, words}
@@ -33,8 +33,8 @@ abbrev pub is_caller : ℕ → Bool
 is_caller c = nat_le 1 c && nat_le c 1
 
 -- the range of those whom a schedule names: 0, who starts and closes the image, and 1
-abbrev pub is_seat : ℕ → Bool
-is_seat c = nat_le c 1
+abbrev pub may_have_runs : ℕ → Bool
+may_have_runs c = nat_le c 1
 
 -- CALLS
 abbrev pub get_call : Option ℕ → Option Call
@@ -71,19 +71,19 @@ aim_named name =
     if bytes_eq name (codes "fence") then Some (Events Fence) else
     if bytes_eq name (codes "draw") then Some (Events Draw) else
     if bytes_eq name (codes "end") then Some (Events End) else
-    if bytes_eq name (codes "at") then Some Place else None
+    if bytes_eq name (codes "at") then Some StoreTo else None
 
 -- the line that lets a caller run to an aim
 abbrev pub run_line : Aim → ℕ → ℕ → Line
 run_line Steps c n = Step c n
 run_line (Events event) c n = Until c event n
-run_line Place c n = At c n
+run_line StoreTo c n = At c n
 
 -- a run of a caller, where each number is one, and then the caller is in range
 abbrev pub says_run : Aim → Option ℕ → Option ℕ → Reading
 says_run aim None n = BadNumber
 says_run aim (Some c) None = BadNumber
-says_run aim (Some c) (Some n) = if is_seat c then Says (run_line aim c n) else BadCaller
+says_run aim (Some c) (Some n) = if may_have_runs c then Says (run_line aim c n) else BadCaller
 
 -- a run to an aim that has a name
 abbrev pub says_until : Option Aim → Option ℕ → Option ℕ → Reading

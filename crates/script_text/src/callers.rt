@@ -1,6 +1,6 @@
 // Who may stand in a line.
 ghost use Rattle.std.specs.Prelude.{◌≡◌};
-ghost use Rattle.script_text.specs.Readings.{is_caller, is_seat};
+ghost use Rattle.script_text.specs.Readings.{is_caller, may_have_runs};
 
 /// The last caller; callers are counted from 1.
 pub const MOST_CALLERS: u64 = 1;
@@ -14,7 +14,7 @@ pub(crate) fn may_have_calls(caller: u64) -> bool
 
 // Whether this caller may run in a schedule: also 0, who starts and closes the image.
 pub(crate) fn may_have_runs(caller: u64) -> bool
-    ensures { result ≡ is_seat caller }
+    ensures { result ≡ may_have_runs caller }
 {
     caller <= MOST_CALLERS
 }

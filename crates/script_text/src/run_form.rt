@@ -27,8 +27,8 @@ pub(crate) enum Aim {
     Steps,
     // So many events of this kind.
     Events(Counted),
-    // A store to a place.
-    Place,
+    // The next store to this word.
+    StoreTo,
 }
 
 // What an `until` waits for, by its name.
@@ -48,7 +48,7 @@ fn aim_of(name: &[u8]) -> Option<Aim>
     } else if name == END {
         Some(Aim::Events(Counted::End))
     } else if name == AT {
-        Some(Aim::Place)
+        Some(Aim::StoreTo)
     } else {
         None
     }
@@ -61,7 +61,7 @@ fn line_to(aim: Aim, caller: u8, number: u64) -> Line
     match aim {
         Aim::Steps => Line::Step(caller, number),
         Aim::Events(event) => Line::Until(caller, event, number),
-        Aim::Place => Line::At(caller, number),
+        Aim::StoreTo => Line::At(caller, number),
     }
 }
 

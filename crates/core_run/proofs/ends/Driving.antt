@@ -27,7 +27,7 @@ use Rattle.core_run.specs.declared.goal.Goal.{Goal}
 use Rattle.core_run.specs.declared.goal.Goal.TheVariants.{AnyEvent, Kind, StoreTo}
 use Rattle.core_run.specs.State.{State, beginning, Deed, restart_deed, close_deed, keeper_deed, engine_deed, call_deed, open_deed, deed}
 use Rattle.core_run.specs.Run.{is_some_reply, ends_call, counts, ends_in_again, by_deed, drive, restarted_by, restarted, round, has_call, has_calls, rounds, close_begins, run_out, ready_for, line_done, lines_done, closed, cut_of, state_at_end}
-use Rattle.core_run.specs.Running.{Task, site_in, start_of, IsOpen, IsRunningBy, DeedsAreWell}
+use Rattle.core_run.specs.Running.{Setup, site_in, start_of, IsOpen, IsRunningBy, DeedsAreWell}
 use Rattle.core_run.specs.States.{RunBegins, CloseMayBegin}
 use Rattle.core_run.specs.Alone.{IsAloneBy, IsForOne, behind, all_behind, BeginsAlone, AloneStays, AloneReplies}
 use Rattle.core_run.specs.Ends.{IsRun, most_of, HasAnswered, HasRunOut, IsShut, IsWellRun}
@@ -84,10 +84,10 @@ drive_none shape zero c goal s = refl
 drive_none shape (suc m) c goal s = refl
 
 module _ (wells : DeedsAreWell) (stays : AloneStays) (replies : AloneReplies) (laws : EngineLaws) (keepers : KeeperLaws)
-    (close_may : CloseMayBegin) (close_low : (shape : Shape) → IsShape shape → close_left (close_begun shape) ≡ events_of shape) (t : Task) (is : IsForOne t) where
+    (close_may : CloseMayBegin) (close_low : (shape : Shape) → IsShape shape → close_left (close_begun shape) ≡ events_of shape) (t : Setup) (is : IsForOne t) where
   -- ---- one event
   after : (c : ℕ) (s : State) (d : Deed) → IsRun t s → deed t.shape c s ≡ Some d → IsRun t d.state
-  after c s d r e = record { running = (wells t c s d is.task r.running e).after; alone = stays t c s d is r.running r.alone e }
+  after c s d r e = record { running = (wells t c s d is.setup r.running e).after; alone = stays t c s d is r.running r.alone e }
 
   told : (c : ℕ) (s : State) (d : Deed) → IsRun t s → deed t.shape c s ≡ Some d → (end : End) → d.end ≡ Some end → EndsCall (outcome_of_end end)
   told c s d r e end ends = replies t c s d end is r.running r.alone e ends
@@ -316,9 +316,9 @@ module _ (wells : DeedsAreWell) (stays : AloneStays) (replies : AloneReplies) (l
         let few = behind_low laws keepers t is s.core (is_open s here r) in
         let end = rounds_end most s r here (omega (arith, few, enough)) in
         let at_end : State = rounds t.shape most most s in
-        let good = close_low t.shape is.task.served.playable.sound.in_range in
+        let good = close_low t.shape is.setup.served.playable.sound.in_range in
         record {
-          running = close_may t at_end.core is.task (is_open at_end end.still_open (rounds_stay most most s r)) end.none_runs;
+          running = close_may t at_end.core is.setup (is_open at_end end.still_open (rounds_stay most most s r)) end.none_runs;
           alone = omega (arith, good);
         }
     begins_stays (Restarting op) s here r = r
@@ -382,7 +382,7 @@ module _ (wells : DeedsAreWell) (stays : AloneStays) (replies : AloneReplies) (l
       at_lines = lines_done t.shape (most_of t) lines (beginning t.shape (start_of t) t.scripts)
 
       run : IsRun t at_lines
-      run = lines_stay (most_of t) (omega arith) lines (beginning t.shape (start_of t) t.scripts) (record { running = begins t is.task; alone = alone t is })
+      run = lines_stay (most_of t) (omega arith) lines (beginning t.shape (start_of t) t.scripts) (record { running = begins t is.setup; alone = alone t is })
 
       by : (o : Option ℕ) → cut_of lines ≡ o → IsWellRun t lines
       by None none = record {

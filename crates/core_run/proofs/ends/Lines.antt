@@ -3,13 +3,13 @@ use Rattle.std.proofs.Common.{arith, ℕ, ◌≤◌, Option, None, Some, List, [
 use Rattle.script_text.specs.declared.line.Line.{Line}
 use Rattle.core_run.specs.State.{State}
 use Rattle.core_run.specs.Run.{line_done, lines_done, cut_of}
-use Rattle.core_run.specs.Running.{Task}
+use Rattle.core_run.specs.Running.{Setup}
 use Rattle.core_run.specs.States.{RunBegins}
 use Rattle.core_run.specs.Alone.{IsForOne, BeginsAlone}
 use Rattle.core_run.specs.Ends.{most_of, IsRun, LineStays, LinesStay, RunOutStays}
 use Rattle.core_run.specs.Wells.{RunsThrough, RunsOut, start_state, LinesAreWell}
 
-module _ (begins : RunBegins) (alone : BeginsAlone) (line_stays : LineStays) (lines_stay : LinesStay) (out_stays : RunOutStays) (t : Task) (is : IsForOne t) where
+module _ (begins : RunBegins) (alone : BeginsAlone) (line_stays : LineStays) (lines_stay : LinesStay) (out_stays : RunOutStays) (t : Setup) (is : IsForOne t) where
   enough : most_of t ≤ most_of t
   enough = omega arith
 
@@ -22,7 +22,7 @@ module _ (begins : RunBegins) (alone : BeginsAlone) (line_stays : LineStays) (li
   out (Some choice) s run = tt
 
   begun : IsRun t (start_state t)
-  begun = record { running = begins t is.task; alone = alone t is }
+  begun = record { running = begins t is.setup; alone = alone t is }
 
   pub lines_are_well : (lines : List Line) → Rattle.core_run.specs.Wells.RunsWell t lines
   lines_are_well lines = record {

@@ -1,4 +1,4 @@
--- How many events a seat has left at most: each event leaves fewer, and at first there are no more than the run counts.
+-- How many events a caller has left at most: each event leaves fewer, and at first there are no more than the run counts.
 use Rattle.std.proofs.Common.{◌≡◌, ◌≢◌, ℕ, zero, suc, ◌+◌, ◌<◌, ◌≤◌, Some, List, length, map, sym, ◌∙◌, ap, subst, arith}
 use Rattle.std.specs.Prelude.{⊤}
 use Rattle.std.proofs.lemmas.Option.{none-some, same_Some}
@@ -19,7 +19,7 @@ use Rattle.core_run.specs.declared.keeper.Keeper.{Keeper}
 use Rattle.core_run.specs.declared.keeper.Keeper.TheVariants.{Restarting, Open, Closing, Closed}
 use Rattle.core_run.specs.State.{State, Deed, by_keeper, restarting, closing, restart_deed, close_deed, keeper_deed, open_deed, deed}
 use Rattle.core_run.specs.Run.{all_calls}
-use Rattle.core_run.specs.Running.{Task, IsOpen, IsRestarting, IsRunningBy}
+use Rattle.core_run.specs.Running.{Setup, IsOpen, IsRestarting, IsRunningBy}
 use Rattle.core_run.specs.Alone.{IsAloneBy, IsForOne, behind, all_behind}
 use Rattle.core_run.specs.Ends.{IsRun, most_of, IsShut}
 use Rattle.core_run.proofs.ends.Working.{EngineLaws, work_low, work, all_work}
@@ -104,7 +104,7 @@ stays_early shape (Closing op) core d early e = absurd early
 stays_early shape Closed core d early e = absurd early
 
 -- ---- each event leaves fewer
-module _ (laws : EngineLaws) (keepers : KeeperLaws) (t : Task) (is : IsForOne t) where
+module _ (laws : EngineLaws) (keepers : KeeperLaws) (t : Setup) (is : IsForOne t) where
   left_now : (op : RestartOp) (core : Core) (r : IsRestarting t op core) → restart_left op.step + r.events ≡ 4
   left_now op core r = let few = r.few in
       subst (λ (o : RestartOp). restart_left o.step + r.events ≡ 4) (sym r.op_is) (restarted_left keepers t.shape t.first r.events (omega (arith, few)))

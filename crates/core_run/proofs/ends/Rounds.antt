@@ -33,7 +33,7 @@ use Rattle.core_run.specs.declared.goal.Goal.{Goal}
 use Rattle.core_run.specs.declared.goal.Goal.TheVariants.{Kind}
 use Rattle.core_run.specs.State.{State, Deed, by_keeper, restarting, closing, end_by, restart_deed, close_deed, keeper_deed, engine_deed, call_deed, caller_deed, open_deed, deed}
 use Rattle.core_run.specs.Run.{ends_call, ends_in_again, by_deed, drive, round, has_calls, rounds, counts, events_of_call}
-use Rattle.core_run.specs.Running.{Task, IsTask, site_in, IsOpen, IsRunningBy, IsRunning, DeedsAreWell}
+use Rattle.core_run.specs.Running.{Setup, IsSetup, site_in, IsOpen, IsRunningBy, IsRunning, DeedsAreWell}
 use Rattle.core_run.specs.States.{RunBegins, CloseMayBegin}
 use Rattle.core_run.specs.Wells.{start_state}
 use Rattle.core_run.specs.Moments.{Act, event_by, begins_close, after_event, after_beginning, after_act, after_acts}
@@ -88,7 +88,7 @@ stops_by shape m c u end (inl told) =
     either (λ x. x ≡ u) (is_again end) u (drive shape m c (Kind counted.End) (if ends_call (Some end) then 0 else 1) u) refl stop
 stops_by shape m c u end (inr again) = so (λ x. x ≡ u) (is_again end) u (drive shape m c (Kind counted.End) (if ends_call (Some end) then 0 else 1) u) (ap says_again again.1) refl
 
-module _ (laws : EngineLaws) (wells : DeedsAreWell) (t : Task) (is : IsTask t) where
+module _ (laws : EngineLaws) (wells : DeedsAreWell) (t : Setup) (is : IsSetup t) where
   scripts_are : AreScripts t.scripts
   scripts_are = record { few = is.few; words = is.words }
 
@@ -540,7 +540,7 @@ end_rule_closes laws wells may t most b s is enough st few =
     may t (rounds t.shape most most s).core is r.stands.opened r.none_runs
 
 -- ---- each state in which the image is open is one to which turns led
-module _ (laws : EngineLaws) (t : Task) (is : IsTask t) (wells : DeedsAreWell) where
+module _ (laws : EngineLaws) (t : Setup) (is : IsSetup t) (wells : DeedsAreWell) where
   restarts_along : (op : RestartOp) (w : Want) (core : Core)
       → ((restarting t.shape op w core).keeper ≡ Open → (restarting t.shape op w core).core ≡ (at_start t.shape t.first t.scripts).core)
       → HasComeAlong t (restarting t.shape op w core).keeper (restarting t.shape op w core).core
@@ -578,21 +578,21 @@ module _ (laws : EngineLaws) (t : Task) (is : IsTask t) (wells : DeedsAreWell) w
       by_caller None there q = absurd (none-some d q)
       by_caller (Some c) there q = by_call c there (current c) refl c.engine refl q
 
-  seat_along : (j : ℕ) (k : Keeper) (core : Core) → IsRunningBy t k core → HasComeAlong t k core → (d : Deed) → open_deed t.shape j k core ≡ Some d → HasComeAlong t d.state.keeper d.state.core
-  seat_along j Open core o h d q = open_along j core o h d q
-  seat_along j (Restarting op) core o h d q = absurd (none-some d q)
-  seat_along j (Closing op) core o h d q = absurd (none-some d q)
-  seat_along j Closed core o h d q = absurd (none-some d q)
+  caller_along : (j : ℕ) (k : Keeper) (core : Core) → IsRunningBy t k core → HasComeAlong t k core → (d : Deed) → open_deed t.shape j k core ≡ Some d → HasComeAlong t d.state.keeper d.state.core
+  caller_along j Open core o h d q = open_along j core o h d q
+  caller_along j (Restarting op) core o h d q = absurd (none-some d q)
+  caller_along j (Closing op) core o h d q = absurd (none-some d q)
+  caller_along j Closed core o h d q = absurd (none-some d q)
 
   along_by : (c : ℕ) (s : State) (d : Deed) → IsRunning t s → HasComeAlong t s.keeper s.core → deed t.shape c s ≡ Some d → HasComeAlong t d.state.keeper d.state.core
   along_by zero s d r h q = keeper_along s.keeper s.core r d q
-  along_by (suc j) s d r h q = seat_along j s.keeper s.core r h d q
+  along_by (suc j) s d r h q = caller_along j s.keeper s.core r h d q
 
 pub comes_along : EngineLaws → DeedsAreWell → ComesAlong
 comes_along laws wells t c s d is r h q = along_by laws t is wells c s d r h q
 
 -- ---- after any acts
-module _ (comes : ComesAlong) (wells : DeedsAreWell) (may : CloseMayBegin) (t : Task) (is : IsTask t) where
+module _ (comes : ComesAlong) (wells : DeedsAreWell) (may : CloseMayBegin) (t : Setup) (is : IsSetup t) where
   pub record HasCome (s : State) : Type 0 where
     pub running : IsRunning t s
     pub along : HasComeAlong t s.keeper s.core
@@ -632,7 +632,7 @@ stops shape zero c goal n s none = refl
 stops shape (suc m) c goal zero s none = refl
 stops shape (suc m) c goal (suc n) s none = ap (λ o. by_deed o s (λ d. drive shape m c goal (if counts goal d then n else suc n) d.state)) none
 
-module _ (laws : EngineLaws) (wells : DeedsAreWell) (t : Task) (is : IsTask t) (j : ℕ) where
+module _ (laws : EngineLaws) (wells : DeedsAreWell) (t : Setup) (is : IsSetup t) (j : ℕ) where
   abbrev Same : ℕ → Type 0
   Same m = (k : ℕ) (goal : Goal) (n : ℕ) (core : Core) → IsOpen t core → HaveRested t core Nobody → (c : Caller) → slice_get core.callers j ≡ Some c → work c ≤ m → work c ≤ k
       → drive t.shape m (suc j) goal n (at core) ≡ drive t.shape k (suc j) goal n (at core)

@@ -29,7 +29,7 @@ use Rattle.engine.specs.Alone.{EndsCall, IsNext, at_start, along, IsAlone as IsA
 use Rattle.core_run.specs.declared.keeper.Keeper.{Keeper}
 use Rattle.core_run.specs.declared.keeper.Keeper.TheVariants.{Restarting, Open, Closing, Closed}
 use Rattle.core_run.specs.State.{State, Deed, by_keeper, restarting, closing, end_by, restart_deed, close_deed, keeper_deed, engine_deed, call_deed, caller_deed, open_deed, deed}
-use Rattle.core_run.specs.Running.{Task, IsTask, site_in, AllTold, IsOpen, IsRunningBy, IsRunning}
+use Rattle.core_run.specs.Running.{Setup, IsSetup, site_in, AllTold, IsOpen, IsRunningBy, IsRunning}
 use Rattle.core_run.specs.Alone.{StandsAlone, IsAloneBy, IsAlone, IsForOne, behind, all_behind, BeginsAlone, AloneStays, AloneReplies}
 use Rattle.core_run.specs.Run.{events_of_call}
 use Rattle.core_run.proofs.ends.Working.{EngineLaws, work, all_work, work_of, IsWorked, gone_on_works}
@@ -37,7 +37,7 @@ use Rattle.core_run.proofs.events.Turned.{view_at}
 use Rattle.core_run.proofs.events.Opened.{opened_at}
 
 -- ---- one script has one caller, with one view
-module _ (t : Task) (core : Core) where
+module _ (t : Setup) (core : Core) where
   pub record IsOfOne : Type 0 where
     pub caller : Caller
     pub callers_are : core.callers ≡ caller ∷ []
@@ -77,7 +77,7 @@ one_more_turn shape [] c w = refl
 one_more_turn shape (d ∷ turns) c w = one_more_turn shape turns c (watched_turn shape d w)
 
 -- ---- an event of the caller at a place, who is alone among up to 64
-module _ (laws : EngineLaws) (t : Task) (is : IsTask t) where
+module _ (laws : EngineLaws) (t : Setup) (is : IsSetup t) where
   -- what it leaves of an open image
   pub record IsOpenLeft (j : ℕ) (core : Core) (d : Deed) : Type 0 where
     pub still_open : d.state.keeper ≡ Open
@@ -174,19 +174,19 @@ module _ (laws : EngineLaws) (t : Task) (is : IsTask t) where
       by_caller (Some c) at q = by_call c at (current c) refl c.engine refl q
 
 -- ---- one script
-module _ (laws : EngineLaws) (t : Task) (is : IsForOne t) where
+module _ (laws : EngineLaws) (t : Setup) (is : IsForOne t) where
   -- its caller is the one at place 0
   at_first : (core : Core) → IsOpen t core → (j : ℕ) (d : Deed) → open_deed t.shape j Open core ≡ Some d → j ≡ 0
   at_first core o j d e =
       let one = of_one t core is.one o in
-      by_seat j (subst (λ cs. open_deed t.shape j Open (record core { callers = cs }) ≡ Some d) one.callers_are e)
+      by_caller j (subst (λ cs. open_deed t.shape j Open (record core { callers = cs }) ≡ Some d) one.callers_are e)
     where
-      by_seat : (i : ℕ) → caller_deed t.shape i (record core { callers = (of_one t core is.one o).caller ∷ [] }) (slice_get ((of_one t core is.one o).caller ∷ []) i) ≡ Some d → i ≡ 0
-      by_seat zero q = refl
-      by_seat (suc i) q = absurd (none-some d q)
+      by_caller : (i : ℕ) → caller_deed t.shape i (record core { callers = (of_one t core is.one o).caller ∷ [] }) (slice_get ((of_one t core is.one o).caller ∷ []) i) ≡ Some d → i ≡ 0
+      by_caller zero q = refl
+      by_caller (suc i) q = absurd (none-some d q)
 
-  pub one_left : (core : Core) → IsOpen t core → StandsAlone t core 0 → (j : ℕ) (d : Deed) → open_deed t.shape j Open core ≡ Some d → IsOpenLeft laws t is.task 0 core d
-  one_left core o a j d e = open_left laws t is.task core o 0 a d (subst (λ i. open_deed t.shape i Open core ≡ Some d) (at_first core o j d e) e)
+  pub one_left : (core : Core) → IsOpen t core → StandsAlone t core 0 → (j : ℕ) (d : Deed) → open_deed t.shape j Open core ≡ Some d → IsOpenLeft laws t is.setup 0 core d
+  one_left core o a j d e = open_left laws t is.setup core o 0 a d (subst (λ i. open_deed t.shape i Open core ≡ Some d) (at_first core o j d e) e)
 
   -- ---- the state
   record IsGood (d : Deed) : Type 0 where

@@ -14,10 +14,10 @@ use Rattle.engine.specs.Core.{Caller, Core}
 use Rattle.engine.specs.Laws.{NoneRuns}
 use Rattle.core_run.specs.declared.keeper.Keeper.TheVariants.{Closing}
 use Rattle.core_run.specs.State.{closing, close_deed}
-use Rattle.core_run.specs.Running.{Task, IsOpen, IsClosing, IsRunningBy, DeedIsWell}
+use Rattle.core_run.specs.Running.{Setup, IsOpen, IsClosing, IsRunningBy, DeedIsWell}
 
 -- ---- after so many of its events
-module _ (few : FewWait) (t : Task) (before : Core) (o : IsOpen t before) (none : NoneRuns before) where
+module _ (few : FewWait) (t : Setup) (before : Core) (o : IsOpen t before) (none : NoneRuns before) where
   abbrev op_at : ℕ → CloseOp
   op_at k = (close_after t.shape before.words before.trace k).op
 
@@ -71,7 +71,7 @@ module _ (few : FewWait) (t : Task) (before : Core) (o : IsOpen t before) (none 
   }
 
 -- the core of a close
-pub same_core : (t : Task) (op : CloseOp) (core : Core) (r : IsClosing t op core) → core ≡ record {
+pub same_core : (t : Setup) (op : CloseOp) (core : Core) (r : IsClosing t op core) → core ≡ record {
   words = (close_after t.shape r.before.words r.before.trace r.events).words;
   trace = (close_after t.shape r.before.words r.before.trace r.events).trace;
   callers = r.before.callers;
@@ -82,7 +82,7 @@ same_core t op core r =
     ∙ ap (λ (es : Trace). record { words = c.words; trace = es; callers = core.callers }) r.trace_is
     ∙ ap (λ (cs : List Caller). record { words = c.words; trace = c.trace; callers = cs }) r.callers_are
 
-module _ (few : FewWait) (t : Task) where
+module _ (few : FewWait) (t : Setup) where
   abbrev IsWell : CloseOp → Core → Type 0
   IsWell op core = wanted op ≢ want.Done → DeedIsWell t 0 (record { keeper = Closing op; core = core }) (close_deed t.shape op core)
 

@@ -12,14 +12,14 @@ use Rattle.engine.specs.Laws.{OpenedHolds}
 use Rattle.core_run.specs.declared.keeper.Keeper.{Keeper}
 use Rattle.core_run.specs.declared.keeper.Keeper.TheVariants.{Restarting, Open, Closing, Closed}
 use Rattle.core_run.specs.State.{Deed, call_deed, caller_deed, restart_deed, close_deed, engine_deed, deed}
-use Rattle.core_run.specs.Running.{Task, IsTask, IsOpen, IsRunningBy, DeedIsWell, DeedsAreWell}
+use Rattle.core_run.specs.Running.{Setup, IsSetup, IsOpen, IsRunningBy, DeedIsWell, DeedsAreWell}
 use Rattle.core_run.proofs.events.Waits.{EnginesWait}
 use Rattle.core_run.proofs.events.Turned.{engine_well}
 use Rattle.core_run.proofs.events.Opened.{restart_well}
 use Rattle.core_run.proofs.events.Closes.{close_well}
 
 module _ (opens : OpenedHolds) (closes : FewWait) (keeps : TurnKeeps) (asks : AsksWithin) (waits : EnginesWait) (most : (e : Engine) → waiting e ≤ 2)
-    (t : Task) (is : IsTask t) (core : Core) (d : Deed) where
+    (t : Setup) (is : IsSetup t) (core : Core) (d : Deed) where
   abbrev IsWell : ℕ → Keeper → Type 0
   IsWell c keeper = DeedIsWell t c (record { keeper = keeper; core = core }) d
 

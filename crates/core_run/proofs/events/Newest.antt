@@ -14,7 +14,7 @@ use Rattle.restart_op.specs.Closing.{close_after}
 use Rattle.engine.specs.Core.{Core}
 use Rattle.core_run.specs.declared.keeper.Keeper.{Keeper}
 use Rattle.core_run.specs.declared.keeper.Keeper.TheVariants.{Restarting, Open, Closing, Closed}
-use Rattle.core_run.specs.Running.{Task, start_of, IsRestarting, IsClosing, IsRunningBy}
+use Rattle.core_run.specs.Running.{Setup, start_of, IsRestarting, IsClosing, IsRunningBy}
 use Rattle.core_run.proofs.events.Opened.{same_core as same_restart}
 use Rattle.core_run.proofs.events.Closes.{same_core as same_close}
 
@@ -32,10 +32,10 @@ pub close_newest : (shape : Shape) (start words : Words) (es : Trace) → words 
 close_newest shape start words es is n = alone_newest wanted taken shape start (record { words = words; trace = es; op = begun shape }) is n
 
 -- ---- in each state
-abbrev pub IsNewest : Task → Core → Type 0
+abbrev pub IsNewest : Setup → Core → Type 0
 IsNewest t core = core.words ≡ value (start_of t) core.trace
 
-module _ (t : Task) where
+module _ (t : Setup) where
   restart_is_newest : (op : RestartOp) (core : Core) → IsRestarting t op core → IsNewest t core
   restart_is_newest op core r =
       subst (λ (k : Core). IsNewest t k) (sym (same_restart t op core r))

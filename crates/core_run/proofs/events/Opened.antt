@@ -11,7 +11,7 @@ use Rattle.engine.specs.Core.{Caller, Core, callers_from}
 use Rattle.engine.specs.Laws.{opened, OpenedHolds}
 use Rattle.core_run.specs.declared.keeper.Keeper.TheVariants.{Restarting, Open}
 use Rattle.core_run.specs.State.{waiting, waiting_from, awake, restart_deed}
-use Rattle.core_run.specs.Running.{Task, IsTask, FewWait, AllTold, IsOpen, IsRestarting, DeedIsWell}
+use Rattle.core_run.specs.Running.{Setup, IsSetup, FewWait, AllTold, IsOpen, IsRestarting, DeedIsWell}
 use Rattle.core_run.proofs.events.Waits.{EnginesWait, none_waits}
 
 -- ---- callers that have done nothing
@@ -24,13 +24,13 @@ module _ (shape : Shape) (version : ℕ) where
   their_calls number [] = refl
   their_calls number (calls ∷ scripts) = ap (λ (css : List (List Call)). calls ∷ css) (their_calls (suc number) scripts)
 
-none_told : (t : Task) (version number : ℕ) (scripts : List (List Call)) → AllTold t version number (callers_from t.shape version number scripts)
+none_told : (t : Setup) (version number : ℕ) (scripts : List (List Call)) → AllTold t version number (callers_from t.shape version number scripts)
 none_told t version number [] = tt
 none_told t version number (calls ∷ scripts) =
     (record { its_calls = refl; within = omega arith; drawn = λ e q. absurd (none-some e q); here = refl }, none_told t version (suc number) scripts)
 
 -- the core of a restart
-pub same_core : (t : Task) (op : RestartOp) (core : Core) (r : IsRestarting t op core) → core ≡ record {
+pub same_core : (t : Setup) (op : RestartOp) (core : Core) (r : IsRestarting t op core) → core ≡ record {
   words = (restarted t.shape t.first r.events).words;
   trace = (restarted t.shape t.first r.events).trace;
   callers = waiting_from t.shape 1 t.scripts;
@@ -41,7 +41,7 @@ same_core t op core r =
     ∙ ap (λ (es : Trace). record { words = c.words; trace = es; callers = core.callers }) r.trace_is
     ∙ ap (λ (cs : List Caller). record { words = c.words; trace = c.trace; callers = cs }) r.callers_are
 
-module _ (waits : EnginesWait) (t : Task) (is : IsTask t) (opens : OpenedHolds) where
+module _ (waits : EnginesWait) (t : Setup) (is : IsSetup t) (opens : OpenedHolds) where
   abbrev at_end : Core
   at_end = opened t.shape t.first t.scripts
 
@@ -102,7 +102,7 @@ module _ (waits : EnginesWait) (t : Task) (is : IsTask t) (opens : OpenedHolds) 
       subst (λ (o : RestartOp). IsWell o core) (sym r.op_is) (subst (λ (c : Core). IsWell (op_at r.events) c) (sym (same_core t op core r)) (well_at r.events r.few))
 
 -- where the image is open after an event of the restart, the core is that of callers that have done nothing
-module _ (t : Task) where
+module _ (t : Setup) where
   abbrev OpensAt : RestartOp → Core → Type 0
   OpensAt op core = (restart_deed t.shape op core).state.keeper ≡ Open → (restart_deed t.shape op core).state.core ≡ opened t.shape t.first t.scripts
 

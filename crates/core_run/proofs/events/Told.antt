@@ -13,7 +13,7 @@ use Rattle.engine.specs.declared.engine.Engine.{Engine}
 use Rattle.engine.specs.Engine.{wanted, taken, end_of, reply_of_end}
 use Rattle.engine.specs.Core.{Caller, current, entry_of, drawn_by, ended, gone_on, answered}
 use Rattle.engine.proofs.Places.{one_more}
-use Rattle.core_run.specs.Running.{Task, HasToldInOrder, AllTold}
+use Rattle.core_run.specs.Running.{Setup, HasToldInOrder, AllTold}
 
 pub take_more : {A : Type 0} (xs : List A) (n : ℕ) (x : A) → slice_get xs n ≡ Some x → take (suc n) xs ≡ take n xs ++ x ∷ []
 take_more [] n x is = absurd (none-some x is)
@@ -28,7 +28,7 @@ entries_more es calls e same is =
     ∙ ap (λ n. take n calls) (sym (one_more es e))
 
 -- ---- a caller
-module _ (t : Task) (version number : ℕ) (c : Caller) (h : HasToldInOrder t version number c) (call : Call) (is : current c ≡ Some call) where
+module _ (t : Setup) (version number : ℕ) (c : Caller) (h : HasToldInOrder t version number c) (call : Call) (is : current c ≡ Some call) where
   drawn_in : (ans : Ans) (e : Entry) → drawn_by c call ans ≡ Some e → current c ≡ Some e.call
   drawn_in (Drawn n) e q = is ∙ ap (λ (d : Entry). Some d.call) (same_Some (entry_of c call _ n) e q)
   drawn_in (Value v) e q = h.drawn e q
@@ -84,7 +84,7 @@ module _ (c : Caller) (call : Call) where
   gone_on_calls e want.Power = refl
 
 -- ---- all callers
-pub set_told : (t : Task) (version number j : ℕ) (callers : List Caller) (x y : Caller) → slice_get callers j ≡ Some x
+pub set_told : (t : Setup) (version number j : ℕ) (callers : List Caller) (x y : Caller) → slice_get callers j ≡ Some x
     → ((k : ℕ) → HasToldInOrder t version k x → HasToldInOrder t version k y) → AllTold t version number callers → AllTold t version number (slice_set callers j y)
 set_told t version number j [] x y is new h = tt
 set_told t version number zero (z ∷ callers) x y is new h = (new number (subst (λ w. HasToldInOrder t version number w) (same_Some z x is) h.0), h.1)

@@ -18,7 +18,7 @@ use Rattle.engine.specs.Core.{Caller, Core, current, drawn_by, answered, with_ev
 use Rattle.engine.specs.Holding.{IsCalling, DoesCall, CallerFits, CoreHolds, TurnKeeps}
 use Rattle.core_run.specs.declared.keeper.Keeper.TheVariants.{Open}
 use Rattle.core_run.specs.State.{engine_deed}
-use Rattle.core_run.specs.Running.{Task, site_in, start_of, WaitsFor, AllTold, IsOpen, MayBeDone, DeedIsWell}
+use Rattle.core_run.specs.Running.{Setup, site_in, start_of, WaitsFor, AllTold, IsOpen, MayBeDone, DeedIsWell}
 use Rattle.core_run.proofs.events.Waits.{EnginesWait, own_by, gone_on_waits, set_waits, waits_at}
 use Rattle.core_run.proofs.events.Told.{answered_told, gone_on_calls, set_told, set_calls}
 
@@ -34,7 +34,7 @@ pub state_stays : (site : Site) (start : Words) (core : Core) → CoreHolds site
 state_stays site start core h = h.well.holds.media.structure core.words (λ i within. inl refl) state_word (inl (omega arith))
 
 module _ (keeps : TurnKeeps) (asks : AsksWithin) (waits : EnginesWait) (most : (e : Engine) → waiting e ≤ 2)
-    (t : Task) (core : Core) (o : IsOpen t core) (j : ℕ) (c : Caller) (at : slice_get core.callers j ≡ Some c)
+    (t : Setup) (core : Core) (o : IsOpen t core) (j : ℕ) (c : Caller) (at : slice_get core.callers j ≡ Some c)
     (call : Call) (now : current c ≡ Some call) (e : Engine) (runs : c.engine ≡ Some e) where
   abbrev n : ℕ
   n = core.words (word_of t.shape (wanted e))
