@@ -9,7 +9,7 @@ use op_core::{Ans, Want};
 use pm_trace::Device;
 
 /// Does the event that a caller wants, and answers it.
-pub fn event(device: &mut Device, caller: u8, want: Want) -> Ans
+pub fn do_event(device: &mut Device, caller: u8, want: Want) -> Ans
     requires { MayBeAsked caller want device.old }
     ensures answer { result ≡ answer_to want (found_by want device.old) }
     ensures follows { Follows device.old (event_of device.old.shape want (found_by want device.old) caller) device.new }

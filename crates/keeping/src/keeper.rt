@@ -13,7 +13,7 @@ ghost use Rattle.pm_trace.specs.Memory.{unfenced};
 ghost use Rattle.pm_trace.specs.TraceOf.{IsTraceOf};
 ghost use Rattle.keeping.specs.Kept.{IsTraced, image_of, marked_image, IsSettled, FollowsAll, restart_events, steps_for, IsClosedFrom};
 
-use crate::doing::event;
+use crate::doing::do_event;
 use crate::tally::Steps;
 use op_core::{Machine, Want};
 use pm_trace::Device;
@@ -58,7 +58,7 @@ pub fn restart<L: Ledger>(device: &mut Device, steps: &mut Steps<L>) -> Started
             Want::Done => return op.end(),
             want => {
                 count(want, steps);
-                let ans = event(device, 0, want);
+                let ans = do_event(device, 0, want);
                 op.take(ans);
             }
         }
@@ -87,7 +87,7 @@ pub fn close(device: &mut Device)
         match op.want() {
             Want::Done => return,
             want => {
-                let ans = event(device, 0, want);
+                let ans = do_event(device, 0, want);
                 op.take(ans);
             }
         }

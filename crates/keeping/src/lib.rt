@@ -8,7 +8,7 @@ mod doing;
 mod keeper;
 mod tally;
 
-pub use doing::event;
+pub use doing::do_event;
 pub use keeper::{close, restart};
 pub use tally::Steps;
 

@@ -17,7 +17,6 @@ fn kept<L: Ledger>(alloc: Global, blank: Blank) -> Result<(u8, u64, u64), Fail>
     requires parts { blank.parts ≡ L.parts }
     requires some { 0 < blank.parts }
 {
-    restart_op::one_segment_is_enough();
     let medium = format(alloc, Geometry::new(1, 0, 0)?)?;
     let mut device = Device::new(alloc, medium, 1)?;
     let mut steps = Steps::<L>::new(blank);

@@ -9,7 +9,7 @@ use Rattle.reply_text.specs.declared.left.Session.{Session}
 use Rattle.reply_text.specs.Told.{tolds_of}
 use Rattle.engine.specs.Core.{tolds_of as tolds_of_core}
 use Rattle.play.specs.Played.{scripts_of, end_of_run, IsOfRun}
-use Rattle.play.proofs.ended.AtRest.{rest_in_run}
+use Rattle.play.proofs.ended.Begun.{begun_in_run}
 use Rattle.play.proofs.ended.ToldsOfRun.{same_tolds}
 
 pub printed_by_run : (shape : Shape) (first : List ℕ) (lines : List Line) (left : Session) → IsOfRun shape first lines left
@@ -19,4 +19,4 @@ printed_by_run shape first lines left run =
     ap transcript_of
     (ap (λ lists. tolds_of lists left.stops) run.lists
     ∙ ap (λ stops. tolds_of (map (λ c. c.entries) callers) stops) run.stops
-    ∙ same_tolds callers (replicate 63 None) (rest_in_run shape (slice_index first) (scripts_of lines) lines))
+    ∙ same_tolds callers (replicate 63 None) (begun_in_run shape (slice_index first) (scripts_of lines) lines))

@@ -1,6 +1,6 @@
 -- A run state does its events, one after another, line by line.
 pub mod Devices
-pub mod Seats
+pub mod Listed
 pub mod RunStateParts
 pub mod Doing
 pub mod Drives

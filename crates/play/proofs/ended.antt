@@ -1,5 +1,5 @@
 -- What a play has left, and what it prints, is what its run says.
 pub mod Media
 pub mod Whole
-pub mod AtRest
+pub mod Begun
 pub mod ToldsOfRun

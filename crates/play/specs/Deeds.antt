@@ -14,11 +14,11 @@ use Rattle.core_run.specs.declared.deed.Deed.{Deed as ToldDeed}
 use Rattle.core_run.specs.declared.keeper.Keeper.{Keeper}
 use Rattle.core_run.specs.declared.keeper.Keeper.TheVariants.{Restarting, Open, Closing, Closed}
 use Rattle.core_run.specs.State.{State, started_by, restart_deed, close_deed, engine_deed, deed}
-use Rattle.core_run.specs.Running.{Task}
-use Rattle.play.specs.declared.runner.Runner.{Runner}
-use Rattle.play.specs.declared.runner.RunningCall.{RunningCall}
+use Rattle.core_run.specs.Running.{Setup}
+use Rattle.play.specs.declared.caller.Caller.{Caller as PlayCaller}
+use Rattle.play.specs.declared.caller.RunningCall.{RunningCall}
 use Rattle.play.specs.declared.run_state.RunState.{RunState}
-use Rattle.play.specs.Runners.{running_by, awoken, HaveRoom}
+use Rattle.play.specs.Callers.{running_by, awoken, HaveRoom}
 use Rattle.play.specs.RunStates.{IsOf, Stands, IsAfter, HasDone}
 
 -- no caller was told anything yet
@@ -26,35 +26,35 @@ abbrev pub NoneTold : List Kept → Type 0
 NoneTold [] = ⊤
 NoneTold (k ∷ lists) = (k.entries ≡ []) × NoneTold lists
 
--- the call of a runner and the event that it wants, while there are callers' events
-abbrev pub running_of : Option Runner → Option RunningCall
+-- the call of a caller and the event that it wants, while there are callers' events
+abbrev pub running_of : Option PlayCaller → Option RunningCall
 running_of None = None
 running_of (Some r) = running_by r
 
-abbrev pub running_in : Keeper → Option Runner → Option RunningCall
-running_in (Restarting op) runner = None
-running_in Open runner = running_of runner
-running_in (Closing op) runner = None
-running_in Closed runner = None
+abbrev pub running_in : Keeper → Option PlayCaller → Option RunningCall
+running_in (Restarting op) caller = None
+running_in Open caller = running_of caller
+running_in (Closing op) caller = None
+running_in Closed caller = None
 
--- the caller at a place runs this call, and its engine wants this event
-pub record MayGo (place : ℕ) (call : Call) (w : Want) (run_state : RunState) : Type 0 where
-  pub runner : Runner
+-- the caller at an index runs this call, and its engine wants this event
+pub record MayGo (index : ℕ) (call : Call) (w : Want) (run_state : RunState) : Type 0 where
+  pub caller : PlayCaller
   pub engine : Engine
-  pub is_there : slice_get run_state.callers.items place ≡ Some runner
-  pub is_current : slice_get runner.calls.items runner.ended ≡ Some call
-  pub its_engine : runner.engine ≡ Some engine
+  pub is_there : slice_get run_state.callers.items index ≡ Some caller
+  pub is_current : slice_get caller.calls.items caller.ended ≡ Some call
+  pub its_engine : caller.engine ≡ Some engine
   pub wants : wanted engine ≡ w
   pub room : HaveRoom run_state.callers.items run_state.lists
 
--- the keeper and the runners after an event of the restart, by what it wants next
+-- the keeper and the callers after an event of the restart, by what it wants next
 abbrev pub restarting_keeper : RestartOp → Want → Keeper
 restarting_keeper op want.Done = Open
 restarting_keeper op w = Restarting op
 
-abbrev pub restarting_runners : RestartOp → Want → List Runner → List Runner
-restarting_runners op want.Done runners = map (awoken (started_by op).version) runners
-restarting_runners op w runners = runners
+abbrev pub restarting_callers : RestartOp → Want → List PlayCaller → List PlayCaller
+restarting_callers op want.Done callers = map (awoken (started_by op).version) callers
+restarting_callers op w callers = callers
 
 -- the keeper after an event of the close
 abbrev pub closing_keeper : CloseOp → Want → Keeper
@@ -63,20 +63,20 @@ closing_keeper op w = Closing op
 
 -- the lists with an entry, where there is one
 abbrev pub lists_with : List Kept → ℕ → Option Entry → List Kept
-lists_with lists place None = lists
-lists_with lists place (Some e) = with_entry lists place e
+lists_with lists index None = lists
+lists_with lists index (Some e) = with_entry lists index e
 
 -- ---- what an event makes of the run state, whatever the state
 abbrev pub FollowsRestart : RestartOp → RunState → ToldDeed → RunState → Type 0
-FollowsRestart op old told new = (t : Task) (s : State) → IsOf t old s → NoneTold old.lists → IsAfter t told (restart_deed t.shape op s.core) new
+FollowsRestart op old told new = (t : Setup) (s : State) → IsOf t old s → NoneTold old.lists → IsAfter t told (restart_deed t.shape op s.core) new
 
 abbrev pub FollowsClose : CloseOp → RunState → ToldDeed → RunState → Type 0
-FollowsClose op old told new = (t : Task) (s : State) → IsOf t old s → IsAfter t told (close_deed t.shape op s.core) new
+FollowsClose op old told new = (t : Setup) (s : State) → IsOf t old s → IsAfter t told (close_deed t.shape op s.core) new
 
 abbrev pub FollowsCall : ℕ → Call → Engine → RunState → ToldDeed → RunState → Type 0
-FollowsCall place call e old told new = (t : Task) (s : State) (caller : Caller) → IsOf t old s → s.keeper ≡ Open
-    → slice_get s.core.callers place ≡ Some caller → IsAfter t told (engine_deed t.shape place s.core caller call e) new
+FollowsCall index call e old told new = (t : Setup) (s : State) (caller : Caller) → IsOf t old s → s.keeper ≡ Open
+    → slice_get s.core.callers index ≡ Some caller → IsAfter t told (engine_deed t.shape index s.core caller call e) new
 
--- the deed of a seat
+-- the deed of the caller with this number, of which 0 is the keeper
 abbrev pub FollowsDeed : ℕ → RunState → Option ToldDeed → RunState → Type 0
-FollowsDeed seat old told new = (t : Task) (s : State) → Stands t s old → HasDone t s told (deed t.shape seat s) new
+FollowsDeed number old told new = (t : Setup) (s : State) → Stands t s old → HasDone t s told (deed t.shape number s) new

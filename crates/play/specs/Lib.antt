@@ -1,4 +1,4 @@
-pub mod Runners
+pub mod Callers
 pub mod RunStates
 pub mod Played
 pub mod Deeds

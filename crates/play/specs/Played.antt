@@ -11,7 +11,7 @@ use Rattle.reply_text.specs.declared.left.Session.{Session}
 use Rattle.reply_text.specs.Told.{tolds_of}
 use Rattle.core_run.specs.State.{State}
 use Rattle.core_run.specs.Run.{core_run, cut_of, stop_of, medium_words}
-use Rattle.core_run.specs.Running.{Task, start_of}
+use Rattle.core_run.specs.Running.{Setup, start_of}
 use Rattle.core_run.specs.Sessions.{ending_of}
 
 -- the calls of all callers: so far of caller 1 alone
@@ -36,13 +36,13 @@ pub record IsPlay (shape : Shape) (first : List ℕ) (lines : List Line) (left :
   pub session : IsSession shape first left.medium.words (scripts_of lines) (ending_of lines) (transcript_of (tolds_of (lists_of left.lists) left.stops))
 
 -- what is left of a run state that stands for this state, with one caller: the same, of any state
-pub record IsLeftOf (t : Task) (s : State) (choice : Option ℕ) (left : Session) : Type 0 where
+pub record IsLeftOf (t : Setup) (s : State) (choice : Option ℕ) (left : Session) : Type 0 where
   pub same_shape : left.medium.geometry ≡ t.shape
   pub lists : lists_of left.lists ≡ map (λ c. c.entries) s.core.callers
   pub stops : left.stops ≡ map stop_of s.core.callers ++ replicate 63 None
   pub words : left.medium.words ≡ medium_words t.shape (start_of t) s.core choice
   pub cut : left.cut ≡ is_some choice
 
--- the task of a play
-abbrev pub task_of : Shape → List ℕ → List Call → Task
-task_of shape first calls = record { shape = shape; first = first; scripts = calls ∷ [] }
+-- what a play sets up
+abbrev pub setup_of : Shape → List ℕ → List Call → Setup
+setup_of shape first calls = record { shape = shape; first = first; scripts = calls ∷ [] }

@@ -5,27 +5,27 @@ ghost use Rattle.map_model.specs.Kept.{Kept};
 ghost use Rattle.core_run.specs.declared.keeper.Keeper.TheVariants.{Restarting, Open, Closing};
 ghost use Rattle.restart_op.specs.Restart.{wanted as restart_wanted};
 ghost use Rattle.restart_op.specs.Close.{wanted as close_wanted};
-ghost use Rattle.core_run.specs.Running.{Task};
+ghost use Rattle.core_run.specs.Running.{Setup};
 ghost use Rattle.core_run.specs.State.{State, awake, restart_deed, close_deed, keeper_deed, engine_deed, open_deed, deed};
-ghost use Rattle.play.specs.Runners.{awoken};
+ghost use Rattle.play.specs.Callers.{awoken};
 ghost use Rattle.keeping.specs.Asked.{MayBeAsked};
 ghost use Rattle.play.specs.RunStates.{IsOf, Stands, StandsSomewhere, IsAfter, HasDone};
-ghost use Rattle.play.specs.Deeds.{MayGo, FollowsRestart, FollowsClose, FollowsCall, FollowsDeed, running_in, restarting_keeper, restarting_runners, closing_keeper};
+ghost use Rattle.play.specs.Deeds.{MayGo, FollowsRestart, FollowsClose, FollowsCall, FollowsDeed, running_in, restarting_keeper, restarting_callers, closing_keeper};
 
+use crate::caller::{Caller, RunningCall};
 use crate::run_state::RunState;
-use crate::runner::{Runner, RunningCall};
 use core_run::{Deed, Keeper};
-use keeping::event;
+use keeping::do_event;
 use map_model::Call;
 use op_core::{Machine, Want};
 use restart_op::{CloseOp, RestartOp};
 
 /// Lets the callers begin, on an image of this version.
-fn wake(callers: &mut [Runner], version: u8)
+fn wake(callers: &mut [Caller], version: u8)
     ensures { callers.new ≡ map (awoken version) callers.old }
 {
-    for place in 0..callers.len() {
-        callers[place].wake(version);
+    for index in 0..callers.len() {
+        callers[index].wake(version);
     }
 }
 
@@ -44,7 +44,7 @@ impl RunState {
     /// The restart goes on, or leaves the image to the callers.
     fn continue_restart(&mut self, op: RestartOp)
         ensures keeper { self.new.keeper ≡ restarting_keeper op (restart_wanted op) }
-        ensures callers { self.new.callers.items ≡ restarting_runners op (restart_wanted op) self.old.callers.items }
+        ensures callers { self.new.callers.items ≡ restarting_callers op (restart_wanted op) self.old.callers.items }
         ensures device { self.new.device ≡ self.old.device }
         ensures lists { self.new.lists ≡ self.old.lists }
     {
@@ -63,7 +63,7 @@ impl RunState {
     {
         let want = op.want();
         let mut next = op;
-        next.take(event(&mut self.device, 0, want));
+        next.take(do_event(&mut self.device, 0, want));
         self.continue_restart(next);
         Deed { want, end: None }
     }
@@ -75,7 +75,7 @@ impl RunState {
     {
         let want = op.want();
         let mut next = op;
-        next.take(event(&mut self.device, 0, want));
+        next.take(do_event(&mut self.device, 0, want));
         self.keeper = closing(next);
         Deed { want, end: None }
     }
@@ -93,17 +93,17 @@ impl RunState {
         }
     }
 
-    /// Does an event of the engine of the caller at a place, in its call.
-    fn do_call_deed(&mut self, place: usize, call: Call, want: Want) -> Deed
-        requires runs { MayGo place call want self.old }
-        requires few { place < 64 }
-        requires may { MayBeAsked (place + 1) want self.old.device }
-        ensures { (runs : MayGo place call want self.old) → FollowsCall place call runs.engine self.old result self.new }
+    /// Does an event of the engine of the caller at an index, in its call.
+    fn do_call_deed(&mut self, index: usize, call: Call, want: Want) -> Deed
+        requires runs { MayGo index call want self.old }
+        requires few { index < 64 }
+        requires may { MayBeAsked (index + 1) want self.old.device }
+        ensures { (runs : MayGo index call want self.old) → FollowsCall index call runs.engine self.old result self.new }
     {
-        let ans = event(&mut self.device, place as u8 + 1, want);
-        let answered = self.callers[place].take_answer(call, ans);
+        let ans = do_event(&mut self.device, index as u8 + 1, want);
+        let answered = self.callers[index].take_answer(call, ans);
         if let Some(entry) = answered.entry {
-            self.lists.push(place as u8 + 1, entry);
+            self.lists.push(index as u8 + 1, entry);
         }
         Deed {
             want,
@@ -111,37 +111,37 @@ impl RunState {
         }
     }
 
-    /// The call of the caller at a place, and the event that it wants, while there are callers' events.
-    fn running(&self, place: usize) -> Option<RunningCall>
-        ensures { result ≡ running_in self.now.keeper (slice_get self.now.callers.items place) }
+    /// The call of the caller at an index, and the event that it wants, while there are callers' events.
+    fn running(&self, index: usize) -> Option<RunningCall>
+        ensures { result ≡ running_in self.now.keeper (slice_get self.now.callers.items index) }
     {
-        match (&self.keeper, self.callers.get(place)) {
-            (Keeper::Open, Some(runner)) => runner.running(),
+        match (&self.keeper, self.callers.get(index)) {
+            (Keeper::Open, Some(caller)) => caller.running(),
             _ => None,
         }
     }
 
-    /// Does an event of the caller at a place, if it has one left.
-    fn do_caller_deed(&mut self, place: usize) -> Option<Deed>
+    /// Does an event of the caller at an index, if it has one left.
+    fn do_caller_deed(&mut self, index: usize) -> Option<Deed>
         requires { StandsSomewhere self.old }
-        ensures { FollowsDeed (place + 1) self.old result self.new }
+        ensures { FollowsDeed (index + 1) self.old result self.new }
     {
         core_run::deeds_are_well();
-        match self.running(place) {
-            Some(running) => Some(self.do_call_deed(place, running.call, running.want)),
+        match self.running(index) {
+            Some(running) => Some(self.do_call_deed(index, running.call, running.want)),
             None => None,
         }
     }
 
     /// Does an event of a caller, if it has one left.
-    pub(crate) fn do_deed(&mut self, seat: u8) -> Option<Deed>
+    pub(crate) fn do_deed(&mut self, caller: u8) -> Option<Deed>
         requires { StandsSomewhere self.old }
-        ensures { FollowsDeed seat self.old result self.new }
+        ensures { FollowsDeed caller self.old result self.new }
     {
-        if seat == 0 {
+        if caller == 0 {
             self.do_keeper_deed()
         } else {
-            self.do_caller_deed(seat as usize - 1)
+            self.do_caller_deed(caller as usize - 1)
         }
     }
 }

@@ -1,11 +1,11 @@
 //! What the lines of a schedule do to a run state.
 
 ghost use Rattle.std.specs.Prelude.{◌≡◌, ℕ, None, Some, List};
-ghost use Rattle.core_run.specs.Running.{Task, IsRunning};
+ghost use Rattle.core_run.specs.Running.{Setup, IsRunning};
 ghost use Rattle.core_run.specs.State.{State};
 ghost use Rattle.core_run.specs.Run.{drive, restarted, round, rounds, run_out, ready_for, line_done, lines_done, closed};
 ghost use Rattle.core_run.specs.Wells.{RunsThrough, RunsOut};
-ghost use Rattle.play.specs.Runners.{calls_left};
+ghost use Rattle.play.specs.Callers.{calls_left};
 ghost use Rattle.play.specs.RunStates.{Stands, StandsSomewhere, HasTurned, end_state};
 
 use crate::counting::{counts, ends_in_again};
@@ -16,14 +16,14 @@ use script_text::{Counted, Line};
 
 impl RunState {
     /// Does one event of a caller, if some are to be counted yet. How many are to be counted then, unless it stops.
-    fn take_turn(&mut self, seat: u8, goal: Goal, left: u64) -> Option<u64>
+    fn take_turn(&mut self, caller: u8, goal: Goal, left: u64) -> Option<u64>
         requires { StandsSomewhere self.old }
-        ensures { (t : Task) (s : State) → Stands t s self.old → HasTurned t s seat goal left result self.new }
+        ensures { (t : Setup) (s : State) → Stands t s self.old → HasTurned t s caller goal left result self.new }
     {
         if left == 0 {
             return None;
         }
-        let deed = self.do_deed(seat)?;
+        let deed = self.do_deed(caller)?;
         if ends_in_again(deed.end) {
             return None;
         }
@@ -32,13 +32,13 @@ impl RunState {
     }
 
     /// A caller goes on until so many events are counted, or it stops; at most so many events.
-    fn drive(&mut self, most: u64, seat: u8, goal: Goal, n: u64)
+    fn drive(&mut self, most: u64, caller: u8, goal: Goal, n: u64)
         requires { StandsSomewhere self.old }
-        ensures { (t : Task) (s : State) → Stands t s self.old → Stands t (drive t.shape most seat goal n s) self.new }
+        ensures { (t : Setup) (s : State) → Stands t s self.old → Stands t (drive t.shape most caller goal n s) self.new }
     {
         let mut left = n;
         for _event in 0..most {
-            match self.take_turn(seat, goal, left) {
+            match self.take_turn(caller, goal, left) {
                 Some(more) => left = more,
                 None => return,
             }
@@ -48,7 +48,7 @@ impl RunState {
     /// Brings the restart to its end.
     fn end_restart(&mut self, most: u64)
         requires { StandsSomewhere self.old }
-        ensures { (t : Task) (s : State) → Stands t s self.old → Stands t (restarted t.shape most s) self.new }
+        ensures { (t : Setup) (s : State) → Stands t s self.old → Stands t (restarted t.shape most s) self.new }
     {
         if let Keeper::Restarting(_) = self.keeper {
             self.drive(most, 0, Goal::AnyEvent, most);
@@ -58,10 +58,10 @@ impl RunState {
     /// Gives each caller a turn, till its call ends.
     fn do_round(&mut self, most: u64)
         requires { StandsSomewhere self.old }
-        ensures { (t : Task) (s : State) → Stands t s self.old → Stands t (round t.shape most 1 s.core.callers s) self.new }
+        ensures { (t : Setup) (s : State) → Stands t s self.old → Stands t (round t.shape most 1 s.core.callers s) self.new }
     {
-        for place in 0..self.callers.len() {
-            self.drive(most, place as u8 + 1, Goal::Kind(Counted::End), 1);
+        for index in 0..self.callers.len() {
+            self.drive(most, index as u8 + 1, Goal::Kind(Counted::End), 1);
         }
     }
 
@@ -80,7 +80,7 @@ impl RunState {
     /// Does rounds until no call is left.
     fn do_rounds(&mut self, most: u64)
         requires { StandsSomewhere self.old }
-        ensures { (t : Task) (s : State) → Stands t s self.old → Stands t (rounds t.shape most most s) self.new }
+        ensures { (t : Setup) (s : State) → Stands t s self.old → Stands t (rounds t.shape most most s) self.new }
     {
         for _round in 0..most {
             if self.has_calls() {
@@ -94,7 +94,7 @@ impl RunState {
     /// The calls run out, and the close begins.
     fn run_out(&mut self, most: u64)
         requires { StandsSomewhere self.old }
-        ensures { (t : Task) (s : State) → Stands t s self.old → IsRunning t (run_out t.shape most s) → Stands t (run_out t.shape most s) self.new }
+        ensures { (t : Setup) (s : State) → Stands t s self.old → IsRunning t (run_out t.shape most s) → Stands t (run_out t.shape most s) self.new }
     {
         self.end_restart(most);
         if let Keeper::Open = self.keeper {
@@ -104,35 +104,35 @@ impl RunState {
     }
 
     /// A line of a caller above 0 lets the restart end first.
-    fn make_ready_for(&mut self, most: u64, seat: u8)
+    fn make_ready_for(&mut self, most: u64, caller: u8)
         requires { StandsSomewhere self.old }
-        ensures { (t : Task) (s : State) → Stands t s self.old → Stands t (ready_for t.shape most seat s) self.new }
+        ensures { (t : Setup) (s : State) → Stands t s self.old → Stands t (ready_for t.shape most caller s) self.new }
     {
-        if seat > 0 {
+        if caller > 0 {
             self.end_restart(most);
         }
     }
 
     /// A caller that a line names goes on.
-    fn go_on(&mut self, most: u64, seat: u8, goal: Goal, n: u64)
+    fn go_on(&mut self, most: u64, caller: u8, goal: Goal, n: u64)
         requires { StandsSomewhere self.old }
-        ensures { (t : Task) (s : State) → Stands t s self.old
-            → Stands t (drive t.shape most seat goal n (ready_for t.shape most seat s)) self.new }
+        ensures { (t : Setup) (s : State) → Stands t s self.old
+            → Stands t (drive t.shape most caller goal n (ready_for t.shape most caller s)) self.new }
     {
-        self.make_ready_for(most, seat);
-        self.drive(most, seat, goal, n);
+        self.make_ready_for(most, caller);
+        self.drive(most, caller, goal, n);
     }
 
     /// Does one line.
     fn do_line(&mut self, most: u64, line: Line)
         requires { StandsSomewhere self.old }
-        ensures { (t : Task) (s : State) → Stands t s self.old → IsRunning t (line_done t.shape most line s)
+        ensures { (t : Setup) (s : State) → Stands t s self.old → IsRunning t (line_done t.shape most line s)
             → Stands t (line_done t.shape most line s) self.new }
     {
         match line {
-            Line::Step(seat, n) => self.go_on(most, seat, Goal::AnyEvent, n),
-            Line::Until(seat, kind, n) => self.go_on(most, seat, Goal::Kind(kind), n),
-            Line::At(seat, word) => self.go_on(most, seat, Goal::StoreTo(word), 1),
+            Line::Step(caller, n) => self.go_on(most, caller, Goal::AnyEvent, n),
+            Line::Until(caller, kind, n) => self.go_on(most, caller, Goal::Kind(kind), n),
+            Line::At(caller, word) => self.go_on(most, caller, Goal::StoreTo(word), 1),
             Line::Close => self.run_out(most),
             Line::Call(..) | Line::Fuse(..) | Line::Cut(_) => {}
         }
@@ -140,8 +140,8 @@ impl RunState {
 
     /// Does all lines.
     pub(crate) fn do_lines(&mut self, most: u64, lines: &[Line])
-        requires { (t : Task) × (s : State) × Stands t s self.old × RunsThrough t most lines.now s }
-        ensures { (t : Task) (s : State) → Stands t s self.old → RunsThrough t most lines.now s
+        requires { (t : Setup) × (s : State) × Stands t s self.old × RunsThrough t most lines.now s }
+        ensures { (t : Setup) (s : State) → Stands t s self.old → RunsThrough t most lines.now s
             → Stands t (lines_done t.shape most lines.now s) self.new }
     {
         for line in lines {
@@ -151,8 +151,8 @@ impl RunState {
 
     /// The calls run out, and the close is brought to its end.
     pub(crate) fn close(&mut self, most: u64)
-        requires { (t : Task) × (s : State) × Stands t s self.old × IsRunning t (run_out t.shape most s) }
-        ensures { (t : Task) (s : State) → Stands t s self.old → IsRunning t (run_out t.shape most s)
+        requires { (t : Setup) × (s : State) × Stands t s self.old × IsRunning t (run_out t.shape most s) }
+        ensures { (t : Setup) (s : State) → Stands t s self.old → IsRunning t (run_out t.shape most s)
             → Stands t (closed t.shape most s) self.new }
     {
         self.run_out(most);
@@ -161,8 +161,8 @@ impl RunState {
 
     /// Ends a run: by a close, where no cut comes before it.
     pub(crate) fn end_run(&mut self, most: u64, cut: Option<u64>)
-        requires { (t : Task) × (s : State) × Stands t s self.old × RunsOut t most cut s }
-        ensures { (t : Task) (s : State) → Stands t s self.old → RunsOut t most cut s → Stands t (end_state t.shape most cut s) self.new }
+        requires { (t : Setup) × (s : State) × Stands t s self.old × RunsOut t most cut s }
+        ensures { (t : Setup) (s : State) → Stands t s self.old → RunsOut t most cut s → Stands t (end_state t.shape most cut s) self.new }
     {
         match cut {
             None => self.close(most),

@@ -6,14 +6,14 @@ ghost use Rattle.map_model.specs.declared.entry.Entry.{Entry};
 ghost use Rattle.engine.specs.Core.{Core};
 ghost use Rattle.pm_trace.specs.TraceOf.{IsTraceOf};
 ghost use Rattle.core_run.specs.Run.{stop_of, medium_words};
-ghost use Rattle.core_run.specs.Running.{Task};
+ghost use Rattle.core_run.specs.Running.{Setup};
 ghost use Rattle.core_run.specs.State.{State};
-ghost use Rattle.play.specs.Runners.{caller_of};
+ghost use Rattle.play.specs.Callers.{caller_of};
 ghost use Rattle.play.specs.RunStates.{IsOf};
 ghost use Rattle.play.specs.Played.{IsLeftOf};
 
+use crate::caller::Caller;
 use crate::run_state::RunState;
-use crate::runner::Runner;
 use image_file::Medium;
 use map_model::Stop;
 use pm_trace::Device;
@@ -36,11 +36,11 @@ fn medium_of(device: Device, cut: Option<u64>) -> Medium
 }
 
 /// Where the only caller stopped, among those of all callers.
-fn stops_of(runner: &Runner) -> [Option<Stop>; 64]
-    ensures { (told : List Entry) → length told ≡ runner.now.ended → result ≡ stop_of (caller_of runner.now told) ∷ replicate 63 None }
+fn stops_of(caller: &Caller) -> [Option<Stop>; 64]
+    ensures { (told : List Entry) → length told ≡ caller.now.ended → result ≡ stop_of (caller_of caller.now told) ∷ replicate 63 None }
 {
     let mut stops = [None; 64];
-    stops[0] = runner.stop();
+    stops[0] = caller.stop();
     stops
 }
 
@@ -48,7 +48,7 @@ impl RunState {
     /// What it leaves at a cut with this choice, or where it was closed.
     pub(crate) fn into_session(self, cut: Option<u64>) -> Session
         requires { length self.callers.items ≡ 1 }
-        ensures left { (t : Task) (s : State) → IsOf t self s → IsLeftOf t s cut result }
+        ensures left { (t : Setup) (s : State) → IsOf t self s → IsLeftOf t s cut result }
         ensures lists { length result.lists ≡ length self.lists }
     {
         let stops = stops_of(&self.callers[0]);

@@ -5,6 +5,7 @@
 //! said by the definitions of `core_run`.
 #![tactic(auto)]
 
+mod caller;
 mod calls;
 mod counting;
 mod deeds;
@@ -12,7 +13,6 @@ mod driving;
 mod leaving;
 mod playing;
 mod run_state;
-mod runner;
 
 pub use playing::play;
 

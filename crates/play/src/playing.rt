@@ -8,13 +8,13 @@ ghost use Rattle.image_layout.specs.Places.{words_of};
 ghost use Rattle.core_run.specs.Run.{cut_of, most_with, most_events};
 ghost use Rattle.core_run.specs.State.{waiting};
 ghost use Rattle.core_run.specs.Wells.{start_state};
-ghost use Rattle.play.specs.Runners.{caller_of};
+ghost use Rattle.play.specs.Callers.{caller_of};
 ghost use Rattle.play.specs.RunStates.{IsOf};
-ghost use Rattle.play.specs.Played.{IsPlay, task_of};
+ghost use Rattle.play.specs.Played.{IsPlay, setup_of};
 
+use crate::caller::Caller;
 use crate::calls::calls_of_caller;
 use crate::run_state::RunState;
-use crate::runner::Runner;
 use core_run::Keeper;
 use image_file::Medium;
 use image_layout::Geometry;
@@ -53,11 +53,11 @@ fn most_events(geometry: &Geometry, calls: usize) -> u64
 }
 
 /// Caller 1, before the restart has ended.
-fn runner(geometry: Geometry, calls: Vec<Call>) -> Runner
+fn first_caller(geometry: Geometry, calls: Vec<Call>) -> Caller
     ensures caller { caller_of result [] ≡ waiting geometry 1 calls.items }
     ensures ended { result.ended ≡ 0 }
 {
-    Runner {
+    Caller {
         site: Site {
             geometry,
             version: 0,
@@ -74,14 +74,14 @@ fn runner(geometry: Geometry, calls: Vec<Call>) -> Runner
 /// The run state over an image with the calls of caller 1, before its restart.
 fn begin(alloc: Global, medium: Medium, calls: Vec<Call>) -> Result<RunState, NoMemory>
     requires { length medium.words ≡ words_of medium.geometry }
-    ensures is_of { IfOk result (λ run_state. IsOf (task_of medium.geometry medium.words calls.items) run_state
-        (start_state (task_of medium.geometry medium.words calls.items))) }
+    ensures is_of { IfOk result (λ run_state. IsOf (setup_of medium.geometry medium.words calls.items) run_state
+        (start_state (setup_of medium.geometry medium.words calls.items))) }
     ensures one { IfOk result (λ run_state. (length run_state.callers.items ≡ 1) × (length run_state.lists ≡ 1)) }
 {
     let geometry = medium.geometry;
     let lists = Lists::new(alloc, &[calls.len() as u64])?;
     let mut callers = Vec::with_capacity(alloc, 1)?;
-    callers.push(runner(geometry, calls))?;
+    callers.push(first_caller(geometry, calls))?;
     Ok(RunState {
         device: Device::new(alloc, medium, CALLERS)?,
         keeper: Keeper::Restarting(RestartOp::new(geometry)),
@@ -90,22 +90,20 @@ fn begin(alloc: Global, medium: Medium, calls: Vec<Call>) -> Result<RunState, No
     })
 }
 
-/// Runs a script on a sound image of one slot that may be played: its restart, its calls by the lines of the schedule, and a close where no cut ends it. All memory
-/// is taken before the first event.
+/// Runs a script on a sound image that may be played: its restart, its calls by the lines of the schedule, and a close where no
+/// cut ends it. All memory is taken before the first event.
 ///
 /// # Errors
 ///
 /// `NoMemory` if memory runs out.
 pub fn play(alloc: Global, medium: Medium, script: &Script) -> Result<Session, NoMemory>
     requires sound { IsSoundImage medium.geometry medium.words }
-    requires one { medium.geometry.segments ≡ 1 }
-    requires untouched { MayBePlayed medium.geometry (slice_index medium.words) }
+    requires playable { MayBePlayed medium.geometry (slice_index medium.words) }
     requires few { length script.now ≤ 1000000 }
     requires so_far { All IsLineSoFar script.now }
     ensures played { IfOk result (IsPlay medium.geometry medium.words script.now) }
     ensures one_list { IfOk result (λ left. length left.lists ≡ 1) }
 {
-    restart_op::one_segment_is_enough();
     core_run::run_begins();
     core_run::lines_are_well();
     core_run::runs_are_sessions();

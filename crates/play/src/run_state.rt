@@ -1,6 +1,6 @@
 //! What a play has while it runs: a memory, and callers on it.
 
-use crate::runner::Runner;
+use crate::caller::Caller;
 use core_run::Keeper;
 use map_model::Lists;
 use pm_trace::Device;
@@ -13,7 +13,7 @@ pub struct RunState {
     /// Caller 0.
     pub(crate) keeper: Keeper,
     /// The callers from 1 on.
-    pub(crate) callers: Vec<Runner>,
+    pub(crate) callers: Vec<Caller>,
     /// Their entries.
     pub(crate) lists: Lists,
 }

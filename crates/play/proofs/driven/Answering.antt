@@ -1,4 +1,4 @@
--- What a runner makes of the answer to its event, by whether its attempt ended.
+-- What a caller makes of the answer to its event, by whether its attempt ended.
 use Rattle.std.proofs.Common.{◌≡◌, ℕ, Option, None, Some, List, refl, ap, ◌∙◌}
 use Rattle.std.specs.Prelude.{slice_get}
 use Rattle.op_core.specs.declared.want.Want.{Want}
@@ -12,23 +12,23 @@ use Rattle.engine.specs.declared.engine.Engine.{Engine}
 use Rattle.engine.specs.Engine.{end_of, reply_of_end}
 use Rattle.engine.specs.Core.{ended, gone_on}
 use Rattle.core_run.specs.State.{end_by}
-use Rattle.play.specs.declared.runner.Runner.{Runner}
-use Rattle.play.specs.Runners.{caller_of, taken_to}
+use Rattle.play.specs.declared.caller.Caller.{Caller as PlayCaller}
+use Rattle.play.specs.Callers.{caller_of, taken_to}
 
 -- the call is the same after its draw and its engine's step
-pub current_stays : (r drawn next : Runner) (call : Call) → drawn ≡ record r { drew = drawn.drew } → next.calls ≡ drawn.calls → next.ended ≡ drawn.ended
+pub current_stays : (r drawn next : PlayCaller) (call : Call) → drawn ≡ record r { drew = drawn.drew } → next.calls ≡ drawn.calls → next.ended ≡ drawn.ended
     → slice_get r.calls.items r.ended ≡ Some call → slice_get next.calls.items next.ended ≡ Some call
 current_stays r drawn next call others calls count is =
-    ap (λ (n : ℕ). slice_get next.calls.items n) (count ∙ ap (λ (q : Runner). q.ended) others)
-    ∙ ap (λ v. slice_get v.items r.ended) (calls ∙ ap (λ (q : Runner). q.calls) others) ∙ is
+    ap (λ (n : ℕ). slice_get next.calls.items n) (count ∙ ap (λ (q : PlayCaller). q.ended) others)
+    ∙ ap (λ v. slice_get v.items r.ended) (calls ∙ ap (λ (q : PlayCaller). q.calls) others) ∙ is
 
 -- what an attempt leaves at its end has nothing of its engine, and nothing that the call drew
-ended_same : (r : Runner) (drew other : Option Entry) (call : Call) (e : Engine) (told : List Entry) (reply : Option (Reply × ℕ))
+ended_same : (r : PlayCaller) (drew other : Option Entry) (call : Call) (e : Engine) (told : List Entry) (reply : Option (Reply × ℕ))
     → ended (caller_of (taken_to e (record r { drew = drew })) told) call reply ≡ ended (record (caller_of r told) { drew = other }) call reply
 ended_same r drew other call e told None = refl
 ended_same r drew other call e told (Some reply) = refl
 
-pub ended_goes_on : (shape : Shape) (r : Runner) (drew other : Option Entry) (call : Call) (e : Engine) (told : List Entry) (w : Want) (end : End)
+pub ended_goes_on : (shape : Shape) (r : PlayCaller) (drew other : Option Entry) (call : Call) (e : Engine) (told : List Entry) (w : Want) (end : End)
     → Some end ≡ end_by shape e w
     → ended (caller_of (taken_to e (record r { drew = drew })) told) call (reply_of_end end) ≡ gone_on (record (caller_of r told) { drew = other }) call e w
 ended_goes_on shape r drew other call e told (want.Load i) end is = absurd (cc)

@@ -21,15 +21,15 @@ use Rattle.pm_trace.specs.TraceOf.{IsTraceOf, Follows}
 use Rattle.core_run.specs.declared.keeper.Keeper.{Keeper}
 use Rattle.core_run.specs.declared.keeper.Keeper.TheVariants.{Open}
 use Rattle.core_run.specs.State.{State, awake, started_by, by_keeper, restarting, closing, end_by, restart_deed, close_deed, engine_deed}
-use Rattle.core_run.specs.Running.{Task, start_of}
+use Rattle.core_run.specs.Running.{Setup, start_of}
 use Rattle.play.specs.declared.run_state.RunState.{RunState}
-use Rattle.play.specs.declared.runner.Runner.{Runner}
-use Rattle.play.specs.Runners.{caller_of, callers_of, told_with, counted_with}
+use Rattle.play.specs.declared.caller.Caller.{Caller as PlayCaller}
+use Rattle.play.specs.Callers.{caller_of, callers_of, told_with, counted_with}
 use Rattle.keeping.specs.Asked.{found_by}
 use Rattle.play.specs.RunStates.{IsOf, IsAfter}
-use Rattle.play.specs.Deeds.{NoneTold, restarting_keeper, restarting_runners, closing_keeper, lists_with}
+use Rattle.play.specs.Deeds.{NoneTold, restarting_keeper, restarting_callers, closing_keeper, lists_with}
 use Rattle.play.proofs.driven.Devices.{Holds, found_is, holds_after}
-use Rattle.play.proofs.driven.Seats.{seat_at, seat_set, room_set, has_room_more, awake_callers, awake_room}
+use Rattle.play.proofs.driven.Listed.{listed_at, listed_set, room_set, has_room_more, awake_callers, awake_room}
 
 -- an event was done on the memory, and answered
 pub record WasDone (old : Memory) (caller : ℕ) (w : Want) (ans : Ans) (new : Memory) : Type 0 where
@@ -38,10 +38,10 @@ pub record WasDone (old : Memory) (caller : ℕ) (w : Want) (ans : Ans) (new : M
   pub shape : new.shape ≡ old.shape
   pub callers : new.callers ≡ old.callers
 
-pub holds_of : (t : Task) (run_state : RunState) (s : State) → IsOf t run_state s → Holds t run_state.device s.core.words s.core.trace
+pub holds_of : (t : Setup) (run_state : RunState) (s : State) → IsOf t run_state s → Holds t run_state.device s.core.words s.core.trace
 holds_of t run_state s is = record { shape = is.shape; callers = is.callers; traced = is.traced; words_are = is.words }
 
-pub answer_is : (t : Task) (run_state : RunState) (s : State) (c : ℕ) (w : Want) (ans : Ans) (new : Memory) → IsOf t run_state s → WasDone run_state.device c w ans new
+pub answer_is : (t : Setup) (run_state : RunState) (s : State) (c : ℕ) (w : Want) (ans : Ans) (new : Memory) → IsOf t run_state s → WasDone run_state.device c w ans new
     → ans ≡ answer_to w (s.core.words (word_of t.shape w))
 answer_is t run_state s c w ans new is done =
     done.answer ∙ ap (λ (n : ℕ). answer_to w n) (found_is t run_state.device s.core.words s.core.trace w (holds_of t run_state s is))
@@ -58,7 +58,7 @@ closing_is shape op want.Power = refl
 closing_is shape op want.Done = refl
 
 -- the run state after an event of the keeper, which leaves the callers alone
-pub keeper_left : (t : Task) (old new : RunState) (s : State) (w : Want) (ans : Ans) (k : Keeper) → IsOf t old s → WasDone old.device 0 w ans new.device
+pub keeper_left : (t : Setup) (old new : RunState) (s : State) (w : Want) (ans : Ans) (k : Keeper) → IsOf t old s → WasDone old.device 0 w ans new.device
     → new.keeper ≡ k → new.callers.items ≡ old.callers.items → new.lists ≡ old.lists
     → IsOf t new (record { keeper = k; core = by_keeper t.shape w s.core })
 keeper_left t old new s w ans k is done keeper callers lists =
@@ -69,11 +69,11 @@ keeper_left t old new s w ans k is done keeper callers lists =
       traced = h.traced;
       words = h.words_are;
       keeper = keeper;
-      runners = rw (callers, lists) is.runners;
+      its_callers = rw (callers, lists) is.its_callers;
       room = rw (callers, lists) is.room;
     }
 
-pub close_left : (t : Task) (old new : RunState) (s : State) (op next : CloseOp) (w : Want) (ans : Ans) → IsOf t old s → WasDone old.device 0 w ans new.device
+pub close_left : (t : Setup) (old new : RunState) (s : State) (op next : CloseOp) (w : Want) (ans : Ans) → IsOf t old s → WasDone old.device 0 w ans new.device
     → w ≡ close_wanted op → next ≡ close_taken op ans → new.keeper ≡ closing_keeper next (close_wanted next)
     → new.callers.items ≡ old.callers.items → new.lists ≡ old.lists → IsAfter t (record { want = w; end = None }) (close_deed t.shape op s.core) new
 close_left t old new s op next w ans is done wants took keeper callers lists =
@@ -95,7 +95,7 @@ close_left t old new s op next w ans is done wants took keeper callers lists =
     }
 
 -- ---- the restart
-pub left_alone : (t : Task) (middle new : RunState) (k l : Keeper) (core : Core) → IsOf t middle (record { keeper = k; core = core }) → new.device ≡ middle.device
+pub left_alone : (t : Setup) (middle new : RunState) (k l : Keeper) (core : Core) → IsOf t middle (record { keeper = k; core = core }) → new.device ≡ middle.device
     → new.keeper ≡ l → new.callers.items ≡ middle.callers.items → new.lists ≡ middle.lists → IsOf t new (record { keeper = l; core = core })
 left_alone t middle new k l core is device keeper callers lists = record {
   shape = ap (λ (d : Memory). d.shape) device ∙ is.shape;
@@ -103,14 +103,14 @@ left_alone t middle new k l core is device keeper callers lists = record {
   traced = subst (λ (d : Memory). IsTraceOf (start_of t) core.trace d) (sym device) is.traced;
   words = is.words;
   keeper = keeper;
-  runners = rw (callers, lists) is.runners;
+  its_callers = rw (callers, lists) is.its_callers;
   room = rw (callers, lists) is.room;
 }
 
 -- the run state stands for the state that a restart goes on with, or leaves to the callers
-pub restarting_left : (t : Task) (middle new : RunState) (k : Keeper) (core : Core) (op : RestartOp) (w : Want)
+pub restarting_left : (t : Setup) (middle new : RunState) (k : Keeper) (core : Core) (op : RestartOp) (w : Want)
     → IsOf t middle (record { keeper = k; core = core }) → NoneTold middle.lists → new.device ≡ middle.device
-    → new.keeper ≡ restarting_keeper op w → new.callers.items ≡ restarting_runners op w middle.callers.items → new.lists ≡ middle.lists
+    → new.keeper ≡ restarting_keeper op w → new.callers.items ≡ restarting_callers op w middle.callers.items → new.lists ≡ middle.lists
     → IsOf t new (restarting t.shape op w core)
 restarting_left t middle new k core op (want.Load i) is none device keeper callers lists = left_alone t middle new k _ core is device keeper callers lists
 restarting_left t middle new k core op (want.Store i x) is none device keeper callers lists = left_alone t middle new k _ core is device keeper callers lists
@@ -128,14 +128,14 @@ restarting_left t middle new k core op want.Done is none device keeper callers l
       traced = subst (λ (d : Memory). IsTraceOf (start_of t) core.trace d) (sym device) is.traced;
       words = is.words;
       keeper = keeper;
-      runners = rw (callers, lists) (awake_callers v middle.callers.items middle.lists none is.room ∙ ap (λ cs. map (awake v) cs) is.runners);
+      its_callers = rw (callers, lists) (awake_callers v middle.callers.items middle.lists none is.room ∙ ap (λ cs. map (awake v) cs) is.its_callers);
       room = rw (callers, lists) (awake_room v middle.callers.items middle.lists none is.room);
     }
 
-pub restart_left : (t : Task) (old new : RunState) (memory : Memory) (s : State) (op next : RestartOp) (w : Want) (ans : Ans) → IsOf t old s → NoneTold old.lists
+pub restart_left : (t : Setup) (old new : RunState) (memory : Memory) (s : State) (op next : RestartOp) (w : Want) (ans : Ans) → IsOf t old s → NoneTold old.lists
     → WasDone old.device 0 w ans memory → w ≡ restart_wanted op → next ≡ restart_taken op ans → new.device ≡ memory
     → new.keeper ≡ restarting_keeper next (restart_wanted next)
-    → new.callers.items ≡ restarting_runners next (restart_wanted next) old.callers.items → new.lists ≡ old.lists
+    → new.callers.items ≡ restarting_callers next (restart_wanted next) old.callers.items → new.lists ≡ old.lists
     → IsAfter t (record { want = w; end = None }) (restart_deed t.shape op s.core) new
 restart_left t old new memory s op next w ans is none done wants took device keeper callers lists =
     let answers : ans ≡ answer_to (restart_wanted op) (s.core.words (word_of t.shape (restart_wanted op))) =
@@ -155,8 +155,8 @@ restart_left t old new memory s op next w ans is none done wants took device kee
     }
 
 -- ---- a call
--- what a runner made of an answer
-pub record HasAnswered (r : Runner) (call : Call) (e : Engine) (ans : Ans) (new : Runner) (end : Option End) (entry : Option Entry) : Type 0 where
+-- what a caller made of an answer
+pub record HasAnswered (r : PlayCaller) (call : Call) (e : Engine) (ans : Ans) (new : PlayCaller) (end : Option End) (entry : Option Entry) : Type 0 where
   pub caller : (told : List Entry) → length told ≡ r.ended → caller_of new (told_with entry told) ≡ answered (caller_of r told) call e ans
   pub count : new.ended ≡ counted_with entry r.ended
   pub calls : new.calls ≡ r.calls
@@ -172,30 +172,30 @@ end_by_same a b e want.Draw = refl
 end_by_same a b e want.Power = refl
 end_by_same a b e want.Done = refl
 
-pub call_left : (t : Task) (old new : RunState) (s : State) (place seat_number : ℕ) (call : Call) (e : Engine) (caller : Caller) (r after : Runner) (w : Want)
+pub call_left : (t : Setup) (old new : RunState) (s : State) (index number : ℕ) (call : Call) (e : Engine) (caller : Caller) (r after : PlayCaller) (w : Want)
     (ans : Ans)
-    (end : Option End) (entry : Option Entry) → IsOf t old s → s.keeper ≡ Open → slice_get s.core.callers place ≡ Some caller
-    → slice_get old.callers.items place ≡ Some r → slice_get r.calls.items r.ended ≡ Some call
-    → seat_number ≡ suc place → WasDone old.device seat_number w ans new.device → w ≡ wanted e → HasAnswered r call e ans after end entry
-    → new.keeper ≡ old.keeper → new.callers.items ≡ slice_set old.callers.items place after → new.lists ≡ lists_with old.lists place entry
-    → IsAfter t (record { want = w; end = end }) (engine_deed t.shape place s.core caller call e) new
-call_left t old new s place seat_number call e caller r after w ans end entry is opened there its current number was_done wants has keeper callers lists =
-    let done : WasDone old.device (suc place) w ans new.device = subst (λ (n : ℕ). WasDone old.device n w ans new.device) number was_done in
-    let seat = seat_at old.callers.items old.lists place r is.room its in
-    let same : caller_of r seat.kept.entries ≡ caller =
-    let a : slice_get s.core.callers place ≡ Some (caller_of r seat.kept.entries) = ap (λ cs. slice_get cs place) (sym is.runners) ∙ seat.its_caller in
+    (end : Option End) (entry : Option Entry) → IsOf t old s → s.keeper ≡ Open → slice_get s.core.callers index ≡ Some caller
+    → slice_get old.callers.items index ≡ Some r → slice_get r.calls.items r.ended ≡ Some call
+    → number ≡ suc index → WasDone old.device number w ans new.device → w ≡ wanted e → HasAnswered r call e ans after end entry
+    → new.keeper ≡ old.keeper → new.callers.items ≡ slice_set old.callers.items index after → new.lists ≡ lists_with old.lists index entry
+    → IsAfter t (record { want = w; end = end }) (engine_deed t.shape index s.core caller call e) new
+call_left t old new s index number call e caller r after w ans end entry is opened there its current numbered was_done wants has keeper callers lists =
+    let done : WasDone old.device (suc index) w ans new.device = subst (λ (n : ℕ). WasDone old.device n w ans new.device) numbered was_done in
+    let listed = listed_at old.callers.items old.lists index r is.room its in
+    let same : caller_of r listed.kept.entries ≡ caller =
+    let a : slice_get s.core.callers index ≡ Some (caller_of r listed.kept.entries) = ap (λ cs. slice_get cs index) (sym is.its_callers) ∙ listed.its_caller in
     cc in
     let answers : ans ≡ answer_to (wanted e) (s.core.words (word_of t.shape (wanted e))) =
-    answer_is t old s (suc place) w ans new.device is done ∙ ap (λ (v : Want). answer_to v (s.core.words (word_of t.shape v))) wants in
-    let moved : caller_of after (told_with entry seat.kept.entries) ≡ answered caller call e
+    answer_is t old s (suc index) w ans new.device is done ∙ ap (λ (v : Want). answer_to v (s.core.words (word_of t.shape v))) wants in
+    let moved : caller_of after (told_with entry listed.kept.entries) ≡ answered caller call e
     (answer_to (wanted e) (s.core.words (word_of t.shape (wanted e)))) =
-    has.caller seat.kept.entries (sym seat.room.counted) ∙ ap (λ (c : Caller). answered c call e ans) same
+    has.caller listed.kept.entries (sym listed.room.counted) ∙ ap (λ (c : Caller). answered c call e ans) same
     ∙ ap (λ (a : Ans). answered caller call e a) answers in
-    let h = holds_after t old.device new.device s.core.words s.core.trace (suc place) w (holds_of t old s is) done.shape done.callers done.follows in
-    let at_want : Holds t new.device (words_after t.shape (wanted e) (suc place) s.core.words)
-    (event_of t.shape (wanted e) (s.core.words (word_of t.shape (wanted e))) (suc place) ∷ s.core.trace) =
-    subst (λ (v : Want). Holds t new.device (words_after t.shape v (suc place) s.core.words)
-    (event_of t.shape v (s.core.words (word_of t.shape v)) (suc place) ∷ s.core.trace)) wants h in
+    let h = holds_after t old.device new.device s.core.words s.core.trace (suc index) w (holds_of t old s is) done.shape done.callers done.follows in
+    let at_want : Holds t new.device (words_after t.shape (wanted e) (suc index) s.core.words)
+    (event_of t.shape (wanted e) (s.core.words (word_of t.shape (wanted e))) (suc index) ∷ s.core.trace) =
+    subst (λ (v : Want). Holds t new.device (words_after t.shape v (suc index) s.core.words)
+    (event_of t.shape v (s.core.words (word_of t.shape v)) (suc index) ∷ s.core.trace)) wants h in
     record {
       want = wants;
       end = has.end_is ∙ end_by_same r.site.geometry t.shape (taken e ans) (wanted (taken e ans))
@@ -206,10 +206,10 @@ call_left t old new s place seat_number call e caller r after w ans end entry is
         traced = at_want.traced;
         words = at_want.words_are;
         keeper = keeper ∙ is.keeper ∙ opened;
-        runners = rw (callers, lists) (seat_set old.callers.items old.lists place r after entry seat.kept is.room seat.its_list
-            ∙ ap (λ (c : Caller). slice_set (callers_of old.callers.items old.lists) place c) moved
-            ∙ ap (λ cs. slice_set cs place (answered caller call e (answer_to (wanted e) (s.core.words (word_of t.shape (wanted e)))))) is.runners);
-        room = rw (callers, lists) (room_set old.callers.items old.lists place after entry seat.kept is.room seat.its_list
-            (has_room_more r after entry seat.kept call seat.room has.count has.calls current));
+        its_callers = rw (callers, lists) (listed_set old.callers.items old.lists index r after entry listed.kept is.room listed.its_list
+            ∙ ap (λ (c : Caller). slice_set (callers_of old.callers.items old.lists) index c) moved
+            ∙ ap (λ cs. slice_set cs index (answered caller call e (answer_to (wanted e) (s.core.words (word_of t.shape (wanted e)))))) is.its_callers);
+        room = rw (callers, lists) (room_set old.callers.items old.lists index after entry listed.kept is.room listed.its_list
+            (has_room_more r after entry listed.kept call listed.room has.count has.calls current));
       };
     }

@@ -7,7 +7,7 @@ use Rattle.map_model.specs.declared.entry.Stop.{Stop}
 use Rattle.reply_text.specs.Told.{left_by, tolds_of}
 use Rattle.engine.specs.Core.{Caller, current, open_of, told_of}
 use Rattle.core_run.specs.Run.{stop_for, stop_of}
-use Rattle.play.proofs.ended.AtRest.{AreAtRest}
+use Rattle.play.proofs.ended.Begun.{HaveNoneBegun}
 
 same_open : (begun : Bool) (drew : Option Entry) → (if begun then Some drew else None) ≡ open_of begun drew
 same_open true drew = refl
@@ -17,7 +17,7 @@ left_is : (c : Caller) (call : Option Call) → (call ≡ None → c.begun ≡ f
 left_is c None rests = ap (λ (begun : Bool). open_of begun c.drew) (sym (rests refl))
 left_is c (Some call) rests = same_open c.begun c.drew
 
-pub same_tolds : (cs : List Caller) (more : List (Option Stop)) → AreAtRest cs → tolds_of (map (λ c. c.entries) cs) (map stop_of cs ++ more) ≡ map told_of cs
+pub same_tolds : (cs : List Caller) (more : List (Option Stop)) → HaveNoneBegun cs → tolds_of (map (λ c. c.entries) cs) (map stop_of cs ++ more) ≡ map told_of cs
 same_tolds [] more all = refl
 same_tolds (c ∷ cs) more all =
     rw (left_is c (current c) all.0, same_tolds cs more all.1) refl

@@ -1,14 +1,13 @@
 -- A play is its run.
-use Rattle.std.proofs.Common.{◌≡◌, ℕ, ◌+◌, ◌*◌, ◌≤◌, Option, None, Some, Bool, inl, inr, lit<, lit≤, suc, List, [], ◌∷◌, length, refl, ap, sym, ◌∙◌, subst, arith}
+use Rattle.std.proofs.Common.{◌≡◌, ℕ, ◌+◌, ◌≤◌, Option, None, Some, Bool, inl, inr, lit<, lit≤, suc, List, [], ◌∷◌, length, refl, ap, sym, ◌∙◌, subst, arith}
 use Rattle.std.specs.Prelude.{All, slice_index, ◌==◌, if◌then◌else◌}
 use Rattle.std.specs.List.{AllByRecursion}
 use Rattle.std.proofs.lemmas.Bool.{cases_Bool}
-use Rattle.image_layout.specs.Places.{Shape, words_of}
+use Rattle.image_layout.specs.Places.{Shape, head_at}
 use Rattle.map_model.specs.declared.call.Call.{Call}
 use Rattle.map_model.specs.declared.call.Call.TheVariants.{Get, Insert, Update, Remove}
 use Rattle.sound_image.specs.Image.{IsSoundImage}
 use Rattle.image_rules.specs.Stage.{MayBePlayed}
-use Rattle.restart_op.specs.Restarted.{OneSegmentIsPlayable}
 use Rattle.engine.specs.Laws.{IsServedImage}
 use Rattle.engine.specs.Fits.{IsWordCall}
 use Rattle.reply_text.specs.declared.left.Session.{Session}
@@ -17,7 +16,7 @@ use Rattle.script_text.specs.declared.line.Line.TheVariants.{Call as CallLine, F
 use Rattle.script_text.specs.Calls.{calls_of, IsCallSoFar, IsLineSoFar}
 use Rattle.core_run.specs.State.{State}
 use Rattle.core_run.specs.Run.{lines_done, state_at_end, cut_of, most_with, most_events}
-use Rattle.core_run.specs.Running.{Task, IsTask}
+use Rattle.core_run.specs.Running.{Setup, IsSetup}
 use Rattle.core_run.specs.Ends.{most_of}
 use Rattle.core_run.specs.Sessions.{RunsAreSessions}
 use Rattle.core_run.specs.Wells.{start_state, RunsThrough, RunsOut, RunsWell}
@@ -26,7 +25,7 @@ use Rattle.play.specs.RunStates.{Stands, end_state}
 use Rattle.session.specs.Session.{IsSession}
 use Rattle.session.specs.Transcript.{transcript_of}
 use Rattle.core_run.specs.Sessions.{ending_of}
-use Rattle.play.specs.Played.{scripts_of, end_of_run, IsOfRun, IsPlay, IsLeftOf, task_of}
+use Rattle.play.specs.Played.{scripts_of, end_of_run, IsOfRun, IsPlay, IsLeftOf, setup_of}
 use Rattle.play.proofs.Printed.{printed_by_run}
 
 end_is : (shape : Shape) (most : ℕ) (lines : List Line) (cut : Option ℕ) (s : State)
@@ -34,28 +33,28 @@ end_is : (shape : Shape) (most : ℕ) (lines : List Line) (cut : Option ℕ) (s 
 end_is shape most lines None s = refl
 end_is shape most lines (Some choice) s = refl
 
--- at the task, the lines, the cut and the number of events of a play
+-- at the setup, the lines, the cut and the number of events of a play
 abbrev LeavesAt : Shape → List ℕ → List Line → Session → List Call → ℕ → Option ℕ → Type 0
 LeavesAt shape first lines left calls most cut =
-    IsLeftOf (task_of shape first calls) (end_state shape most cut (lines_done shape most lines (start_state (task_of shape first calls)))) cut left
+    IsLeftOf (setup_of shape first calls) (end_state shape most cut (lines_done shape most lines (start_state (setup_of shape first calls)))) cut left
 
 -- the number of events that any line makes at the most
 pub most_is : (shape : Shape) (first : List ℕ) (calls : List Call) (n most : ℕ) → n ≡ length calls → most ≡ most_with shape n
-    → most ≡ most_of (task_of shape first calls)
+    → most ≡ most_of (setup_of shape first calls)
 most_is shape first calls n most e m =
     let none : length calls + 0 ≡ length calls = omega arith in
     m ∙ ap (most_with shape) (e ∙ sym none)
 
 pub play_is : (shape : Shape) (first : List ℕ) (lines : List Line) (left : Session) (calls : List Call) (most : ℕ) (cut : Option ℕ)
-    → calls ≡ calls_of 1 lines → most ≡ most_of (task_of shape first calls) → cut ≡ cut_of lines → LeavesAt shape first lines left calls most cut
+    → calls ≡ calls_of 1 lines → most ≡ most_of (setup_of shape first calls) → cut ≡ cut_of lines → LeavesAt shape first lines left calls most cut
     → IsOfRun shape first lines left
 play_is shape first lines left calls most cut are many cuts leaves =
     let one : LeavesAt shape first lines left calls most (cut_of lines) = subst (λ (c : Option ℕ). LeavesAt shape first lines left calls most c) cuts leaves in
-    let two : LeavesAt shape first lines left calls (most_of (task_of shape first calls)) (cut_of lines) =
+    let two : LeavesAt shape first lines left calls (most_of (setup_of shape first calls)) (cut_of lines) =
     subst (λ (m : ℕ). LeavesAt shape first lines left calls m (cut_of lines)) many one in
-    let three : LeavesAt shape first lines left (calls_of 1 lines) (most_of (task_of shape first (calls_of 1 lines))) (cut_of lines) =
-    subst (λ (cs : List Call). LeavesAt shape first lines left cs (most_of (task_of shape first cs)) (cut_of lines)) are two in
-    let t : Task = task_of shape first (calls_of 1 lines) in
+    let three : LeavesAt shape first lines left (calls_of 1 lines) (most_of (setup_of shape first (calls_of 1 lines))) (cut_of lines) =
+    subst (λ (cs : List Call). LeavesAt shape first lines left cs (most_of (setup_of shape first cs)) (cut_of lines)) are two in
+    let t : Setup = setup_of shape first (calls_of 1 lines) in
     let four : IsLeftOf t (state_at_end shape (most_of t) lines (cut_of lines) (start_state t)) (cut_of lines) left =
     subst (λ (s : State). IsLeftOf t s (cut_of lines) left) (end_is shape (most_of t) lines (cut_of lines) (start_state t)) three in
     record { same_shape = four.same_shape; lists = four.lists; stops = four.stops; words = four.words; cut = four.cut }
@@ -105,14 +104,17 @@ by_recursion : {A : Type 0} (P : A → Type 0) (xs : List A) → All P xs → Al
 by_recursion P [] all = tt
 by_recursion P (x ∷ xs) all = (all 0 x (omega arith), by_recursion P xs (λ i d h. all (suc i) d (omega arith)))
 
--- an image of one slot is served where it is sound and may be played
-pub is_served : OneSegmentIsPlayable → (shape : Shape) (first : List ℕ) → shape.segments ≡ 1 → IsSoundImage shape first → MayBePlayed shape (slice_index first)
+-- a sound image that may be played is served: it is grown out, and no power cut has left it
+pub is_served : (shape : Shape) (first : List ℕ) → IsSoundImage shape first → MayBePlayed shape (slice_index first)
     → IsServedImage shape first
-is_served playable shape first one sound untouched = record { playable = playable shape first one sound untouched; one = one }
+is_served shape first sound may = record {
+  playable = record { sound = sound; untouched = λ w. (may w).untouched };
+  grown = λ s slot. (may (head_at shape s + 1)).grown s slot refl;
+}
 
--- the task of a play is one
+-- the setup of a play is one
 pub is_task : (shape : Shape) (first : List ℕ) (lines : List Line) (calls : List Call) → IsServedImage shape first
-    → All IsLineSoFar lines → calls ≡ calls_of 1 lines → IsTask (task_of shape first calls)
+    → All IsLineSoFar lines → calls ≡ calls_of 1 lines → IsSetup (setup_of shape first calls)
 is_task shape first lines calls served so_far are = record {
   served = served;
   few = lit≤ tt;
@@ -121,10 +123,10 @@ is_task shape first lines calls served so_far are = record {
 }
 
 -- the run state stands at the end of the run
-pub play_stands : (t : Task) (lines : List Line) (most : ℕ) (cut : Option ℕ) (run_state after last : RunState) → Stands t (start_state t) run_state → RunsWell t lines
+pub play_stands : (t : Setup) (lines : List Line) (most : ℕ) (cut : Option ℕ) (run_state after last : RunState) → Stands t (start_state t) run_state → RunsWell t lines
     → most ≡ most_of t → cut ≡ cut_of lines
-    → ((u : Task) (s : State) → Stands u s run_state → RunsThrough u most lines s → Stands u (lines_done u.shape most lines s) after)
-    → ((u : Task) (s : State) → Stands u s after → RunsOut u most cut s → Stands u (end_state u.shape most cut s) last)
+    → ((u : Setup) (s : State) → Stands u s run_state → RunsThrough u most lines s → Stands u (lines_done u.shape most lines s) after)
+    → ((u : Setup) (s : State) → Stands u s after → RunsOut u most cut s → Stands u (end_state u.shape most cut s) last)
     → Stands t (end_state t.shape most cut (lines_done t.shape most lines (start_state t))) last
 play_stands t lines most cut run_state after last begins well many cuts through out =
     let at_lines = through t (start_state t) begins (subst (λ (m : ℕ). RunsThrough t m lines (start_state t)) (sym many) well.through) in
@@ -136,7 +138,7 @@ play_stands t lines most cut run_state after last begins well many cuts through 
 pub is_play : RunsAreSessions → (shape : Shape) (first : List ℕ) (lines : List Line) (left : Session) → IsServedImage shape first → All IsLineSoFar lines
     → IsOfRun shape first lines left → IsPlay shape first lines left
 is_play sessions shape first lines left served so_far run =
-    let t : Task = task_of shape first (calls_of 1 lines) in
+    let t : Setup = setup_of shape first (calls_of 1 lines) in
     let session = sessions t lines (is_task shape first lines (calls_of 1 lines) served so_far refl) refl in
     record {
       run = run;

@@ -38,19 +38,19 @@ pub returns-in-Done-clause-follows : goal.returns-in-Done-clause-follows
 returns-in-Done-clause-follows c =
     closed_from c.args.device.now c.loop-want.device c.loop-want.op c.loop-want.invariant (sym c.want.ensures ∙ c.in-Done.is)
 
-pub event-ans-requires : goal.event-ans-requires
-event-ans-requires c =
+pub do_event-ans-requires : goal.do_event-ans-requires
+do_event-ans-requires c =
     close_may c.args.device.now c.requires.traced c.requires.fenced c.loop-want.device c.loop-want.op c.loop-want.invariant c.want.result
     c.want.ensures (λ done. c.in_default.not-Done done)
 
 pub loop-want-preserved : goal.loop-want-preserved
 loop-want-preserved c =
-    closes_on c.args.device.now c.loop-want.device c.event-ans.new.device c.loop-want.op c.take.new.self c.want.result c.event-ans.result
+    closes_on c.args.device.now c.loop-want.device c.do_event-ans.new.device c.loop-want.op c.take.new.self c.want.result c.do_event-ans.result
     c.loop-want.invariant c.want.ensures
     (record {
-      answer = c.event-ans.ensures.answer;
-      follows = c.event-ans.ensures.follows;
-      shape = c.event-ans.ensures.shape;
-      callers = c.event-ans.ensures.callers;
+      answer = c.do_event-ans.ensures.answer;
+      follows = c.do_event-ans.ensures.follows;
+      shape = c.do_event-ans.ensures.shape;
+      callers = c.do_event-ans.ensures.callers;
     })
     c.take.ensures

@@ -50,8 +50,8 @@ pub returns-in-Done-clause-follows : goal.returns-in-Done-clause-follows
 returns-in-Done-clause-follows g c =
     (has_ended c.args.device.now c.loop-op.device _ _ c.loop-op.op c.end.result c.end.ensures c.loop-op.invariant).follows
 
-pub event-ans-requires : goal.event-ans-requires
-event-ans-requires g c =
+pub do_event-ans-requires : goal.do_event-ans-requires
+do_event-ans-requires g c =
     let is : c.want.result ≡ wanted c.loop-op.op = c.want.ensures in
     subst (λ (w : Want). MayBeAsked 0 w c.loop-op.device) (sym is)
     (restart_may c.args.device.now c.requires.traced c.requires.fenced c.loop-op.device c.args.steps.now c.loop-op.steps c.loop-op.op c.loop-op.invariant
@@ -59,12 +59,12 @@ event-ans-requires g c =
 
 pub loop-op-preserved : goal.loop-op-preserved
 loop-op-preserved g c =
-    step_taken c.args.device.now c.requires.traced c.loop-op.device c.event-ans.new.device c.args.steps.now c.loop-op.steps c.count.new.steps c.loop-op.op
-    c.take.new.self c.want.result c.event-ans.result c.loop-op.invariant (λ done. c.in_default.not-Done done) c.want.ensures
+    step_taken c.args.device.now c.requires.traced c.loop-op.device c.do_event-ans.new.device c.args.steps.now c.loop-op.steps c.count.new.steps c.loop-op.op
+    c.take.new.self c.want.result c.do_event-ans.result c.loop-op.invariant (λ done. c.in_default.not-Done done) c.want.ensures
     (record {
-      answer = c.event-ans.ensures.answer;
-      follows = c.event-ans.ensures.follows;
-      shape = c.event-ans.ensures.shape;
-      callers = c.event-ans.ensures.callers;
+      answer = c.do_event-ans.ensures.answer;
+      follows = c.do_event-ans.ensures.follows;
+      shape = c.do_event-ans.ensures.shape;
+      callers = c.do_event-ans.ensures.callers;
     })
     c.count.ensures c.take.ensures

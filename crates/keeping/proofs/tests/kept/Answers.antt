@@ -41,8 +41,7 @@ restart-started-requires-clause-served g c =
     subst (λ (ws : List ℕ). IsPlayableImage c.in_ok-device.device.shape ws)
     (sym (first_image c.in_ok-device.device c.in_ok-medium.medium.words c.in_ok-device.ensures.begins whole))
     (subst (λ (s : Shape). IsPlayableImage s c.in_ok-medium.medium.words) (sym shape)
-    (c.one_segment_is_enough.ensures.playable _ c.in_ok-medium.medium.words (ap (λ (s : Shape). s.segments) c.in_ok-new.ensures.is)
-    c.in_ok-medium.ensures.sound c.in_ok-medium.ensures.untouched))
+    (record { sound = c.in_ok-medium.ensures.sound; untouched = c.in_ok-medium.ensures.untouched }))
 
 pub close-requires-clause-traced : goal.close-requires-clause-traced
 close-requires-clause-traced g c =

@@ -1,5 +1,5 @@
 use Rattle.std.proofs.Common.{◌≡◌, drop}
-use Rattle.play.specs.Runners.{calls_left}
+use Rattle.play.specs.Callers.{calls_left}
 use Rattle.play.proofs.run_state.RunState.has_calls.Given as goal
 
 abbrev pub invariant-loop-caller : goal.invariant-loop-caller

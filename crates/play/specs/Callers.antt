@@ -1,4 +1,4 @@
--- What the runners and lists of a run state are: callers of the core.
+-- What the callers and lists of a run state are to the callers of the core.
 use Rattle.std.specs.Prelude.{◌≡◌, ℕ, ◌+◌, ⊤, Option, None, Some, List, [], ◌∷◌, ◌++◌, length, slice_get, is_some, Bool, true, false, if◌then◌else◌}
 use Rattle.map_model.specs.declared.entry.Entry.{Entry}
 use Rattle.map_model.specs.Kept.{Kept}
@@ -6,33 +6,33 @@ use Rattle.engine.specs.Core.{Caller, engine_for}
 use Rattle.engine.specs.declared.engine.Engine.{Engine}
 use Rattle.engine.specs.Engine.{wanted}
 use Rattle.map_model.specs.declared.call.Call.{Call}
-use Rattle.play.specs.declared.runner.Runner.{Runner}
-use Rattle.play.specs.declared.runner.RunningCall.{RunningCall}
+use Rattle.play.specs.declared.caller.Caller.{Caller as PlayCaller}
+use Rattle.play.specs.declared.caller.RunningCall.{RunningCall}
 
--- a runner, with the entries that it was told, is a caller
-abbrev pub caller_of : Runner → List Entry → Caller
+-- the caller of the core that a caller is, with the entries that it was told
+abbrev pub caller_of : PlayCaller → List Entry → Caller
 caller_of r told = record { site = r.site; calls = r.calls.items; entries = told; engine = r.engine; begun = r.begun; drew = r.drew }
 
--- the call of a runner and the event that its engine wants, where it has a call left
+-- the call of a caller and the event that its engine wants, where it has a call left
 abbrev pub running_with : Option Call → Option Engine → Option RunningCall
 running_with None engine = None
 running_with (Some call) None = None
 running_with (Some call) (Some e) = Some (record { call = call; want = wanted e })
 
-abbrev pub running_by : Runner → Option RunningCall
+abbrev pub running_by : PlayCaller → Option RunningCall
 running_by r = running_with (slice_get r.calls.items r.ended) r.engine
 
--- a runner whose engine took an answer
-abbrev pub taken_to : Engine → Runner → Runner
+-- a caller whose engine took an answer
+abbrev pub taken_to : Engine → PlayCaller → PlayCaller
 taken_to e r = record r { engine = Some e; begun = true }
 
--- some runner has a call left
-abbrev pub calls_left : List Runner → Bool
+-- some caller has a call left
+abbrev pub calls_left : List PlayCaller → Bool
 calls_left [] = false
-calls_left (r ∷ runners) = if is_some (slice_get r.calls.items r.ended) then true else calls_left runners
+calls_left (r ∷ callers) = if is_some (slice_get r.calls.items r.ended) then true else calls_left callers
 
--- a runner that begins, on an image of a version
-abbrev pub awoken : ℕ → Runner → Runner
+-- a caller that begins, on an image of a version
+abbrev pub awoken : ℕ → PlayCaller → PlayCaller
 awoken version r = record r {
   site = record r.site { version = version };
   ended = 0;
@@ -50,19 +50,19 @@ abbrev pub counted_with : Option Entry → ℕ → ℕ
 counted_with None n = n
 counted_with (Some e) n = n + 1
 
--- runners with their lists, place by place
-abbrev pub callers_of : List Runner → List Kept → List Caller
+-- callers with their lists, one by one
+abbrev pub callers_of : List PlayCaller → List Kept → List Caller
 callers_of [] lists = []
-callers_of (r ∷ runners) [] = []
-callers_of (r ∷ runners) (k ∷ lists) = caller_of r k.entries ∷ callers_of runners lists
+callers_of (r ∷ callers) [] = []
+callers_of (r ∷ callers) (k ∷ lists) = caller_of r k.entries ∷ callers_of callers lists
 
--- a runner counts its entries, and its list has room for those of its other calls
-pub record HasRoom (r : Runner) (k : Kept) : Type 0 where
+-- a caller counts its entries, and its list has room for those of its other calls
+pub record HasRoom (r : PlayCaller) (k : Kept) : Type 0 where
   pub counted : r.ended ≡ length k.entries
   pub spare : length k.entries + k.spare ≡ length r.calls.items
 
-abbrev pub HaveRoom : List Runner → List Kept → Type 0
+abbrev pub HaveRoom : List PlayCaller → List Kept → Type 0
 HaveRoom [] [] = ⊤
 HaveRoom [] (k ∷ lists) = ⊥
-HaveRoom (r ∷ runners) [] = ⊥
-HaveRoom (r ∷ runners) (k ∷ lists) = HasRoom r k × HaveRoom runners lists
+HaveRoom (r ∷ callers) [] = ⊥
+HaveRoom (r ∷ callers) (k ∷ lists) = HasRoom r k × HaveRoom callers lists

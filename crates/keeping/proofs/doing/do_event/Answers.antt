@@ -6,7 +6,7 @@ use Rattle.trace.specs.Events.Event.{loaded}
 use Rattle.image_layout.specs.Volatile.{power_word}
 use Rattle.pm_trace.specs.TraceOf.{Follows}
 use Rattle.keeping.proofs.Events.{follows_wanted, follows_won, follows_lost}
-use Rattle.keeping.proofs.doing.event.Goals as goal
+use Rattle.keeping.proofs.doing.do_event.Goals as goal
 
 pub returns-in-Load-clause-follows : goal.returns-in-Load-clause-follows
 returns-in-Load-clause-follows c =

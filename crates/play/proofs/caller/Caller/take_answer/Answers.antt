@@ -2,10 +2,10 @@
 use Rattle.std.proofs.Common.{◌≡◌, Some, length, ap, ◌∙◌, sym}
 use Rattle.engine.specs.Engine.{wanted, taken, reply_of_end}
 use Rattle.engine.specs.Core.{drawn_by, ended}
-use Rattle.play.specs.declared.runner.Runner.{Runner}
-use Rattle.play.specs.Runners.{caller_of, taken_to}
+use Rattle.play.specs.declared.caller.Caller.{Caller as PlayCaller}
+use Rattle.play.specs.Callers.{caller_of, taken_to}
 use Rattle.play.proofs.driven.Answering.{current_stays, ended_goes_on}
-use Rattle.play.proofs.runner.Runner.take_answer.Goals as goal
+use Rattle.play.proofs.caller.Caller.take_answer.Goals as goal
 
 pub end_attempt-entry-requires : goal.end_attempt-entry-requires
 end_attempt-entry-requires c =
@@ -14,13 +14,13 @@ end_attempt-entry-requires c =
 
 pub returns-in-Some-clause-caller : goal.returns-in-Some-clause-caller
 returns-in-Some-clause-caller c e its told many =
-    let r : Runner = c.args.self.now in let drawn : Runner = c.keep_drawn.new.self in let next : Runner = c.answer_engine-end.new.self in
+    let r : PlayCaller = c.args.self.now in let drawn : PlayCaller = c.keep_drawn.new.self in let next : PlayCaller = c.answer_engine-end.new.self in
     let others : drawn ≡ record r { drew = drawn.drew } = c.keep_drawn.ensures.others in
-    let its_drawn : drawn.engine ≡ Some e = ap (λ (q : Runner). q.engine) others ∙ its in
+    let its_drawn : drawn.engine ≡ Some e = ap (λ (q : PlayCaller). q.engine) others ∙ its in
     let next_is : next ≡ taken_to (taken e c.args.ans) (record r { drew = drawn.drew }) =
-    c.answer_engine-end.ensures.runner e its_drawn ∙ ap (λ (q : Runner). taken_to (taken e c.args.ans) q) others in
-    let counted : length told ≡ next.ended = many ∙ sym (c.answer_engine-end.ensures.count ∙ ap (λ (q : Runner). q.ended) others) in
+    c.answer_engine-end.ensures.taken e its_drawn ∙ ap (λ (q : PlayCaller). taken_to (taken e c.args.ans) q) others in
+    let counted : length told ≡ next.ended = many ∙ sym (c.answer_engine-end.ensures.count ∙ ap (λ (q : PlayCaller). q.ended) others) in
     c.end_attempt-entry.ensures.caller told counted
-    ∙ ap (λ (q : Runner). ended (caller_of q told) c.args.call (reply_of_end c.in-Some.end)) next_is
+    ∙ ap (λ (q : PlayCaller). ended (caller_of q told) c.args.call (reply_of_end c.in-Some.end)) next_is
     ∙ ended_goes_on drawn.site.geometry r drawn.drew (drawn_by (caller_of r told) c.args.call c.args.ans) c.args.call (taken e c.args.ans) told
     (wanted (taken e c.args.ans)) c.in-Some.end (sym c.in-Some.is ∙ c.answer_engine-end.ensures.end e its_drawn)

@@ -9,7 +9,7 @@ ghost use Rattle.engine.specs.declared.engine.Engine.{Engine as SaidEngine};
 ghost use Rattle.engine.specs.Engine.{wanted, taken, end_of, reply_of_end};
 ghost use Rattle.core_run.specs.State.{end_by};
 ghost use Rattle.core_run.specs.Run.{stop_of};
-ghost use Rattle.play.specs.Runners.{caller_of, running_by, taken_to, awoken, told_with, counted_with};
+ghost use Rattle.play.specs.Callers.{caller_of, running_by, taken_to, awoken, told_with, counted_with};
 
 use engine::{End, Engine};
 use map_model::{Call, Entry, Reply, Stop};
@@ -18,7 +18,7 @@ use world::Site;
 
 /// A caller that runs its calls one after another. Its entries stand in the lists of the run state.
 #[derive(Drop)]
-pub struct Runner {
+pub struct Caller {
     /// Where it runs.
     pub(crate) site: Site,
     /// All its calls.
@@ -62,7 +62,7 @@ fn take(engine: &mut Engine, ans: Ans) -> Option<End>
     }
 }
 
-impl Runner {
+impl Caller {
     /// The call that is next, or runs.
     pub(crate) fn current(&self) -> Option<Call>
         ensures { result ≡ slice_get self.now.calls.items self.now.ended }
@@ -157,7 +157,7 @@ impl Runner {
     /// Its engine takes the answer to its event. How its attempt ended, if it did.
     fn answer_engine(&mut self, ans: Ans) -> Option<End>
         requires { (e : SaidEngine) × self.old.engine ≡ Some e }
-        ensures runner { (e : SaidEngine) → self.old.engine ≡ Some e → self.new ≡ taken_to (taken e ans) self.old }
+        ensures taken { (e : SaidEngine) → self.old.engine ≡ Some e → self.new ≡ taken_to (taken e ans) self.old }
         ensures end { (e : SaidEngine) → self.old.engine ≡ Some e
             → result ≡ end_by self.old.site.geometry (taken e ans) (wanted (taken e ans)) }
         ensures count { self.new.ended ≡ self.old.ended }

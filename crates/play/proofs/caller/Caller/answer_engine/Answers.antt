@@ -1,9 +1,9 @@
--- The engine that takes the answer is the runner's.
+-- The engine that takes the answer is the caller's.
 use Rattle.std.proofs.Common.{◌≡◌, ap, ◌∙◌}
 use Rattle.engine.specs.declared.engine.Engine.{Engine}
 use Rattle.engine.specs.Engine.{wanted, taken}
 use Rattle.core_run.specs.State.{end_by}
-use Rattle.play.proofs.runner.Runner.answer_engine.Goals as goal
+use Rattle.play.proofs.caller.Caller.answer_engine.Goals as goal
 
 pub returns-clause-end : goal.returns-clause-end
 returns-clause-end c e its =
