@@ -4,9 +4,7 @@ ghost use Rattle.std.specs.Prelude.{◌≤◌, length, IfOk};
 ghost use Rattle.sound_image.specs.Image.{IsSoundImage};
 
 use crate::faults::{no_data, no_memory};
-use image_file::{
-    Medium, Words, check, format, list, sound_from_bytes, sound_from_words, to_bytes,
-};
+use image_file::{Medium, Words, check, format, from_bytes, from_words, list, to_bytes};
 use image_layout::Geometry;
 use std::alloc::Global;
 use std::fs::{self, Files, OpenFile};
@@ -27,7 +25,7 @@ pub(crate) fn print_small(alloc: Global, rt: &impl Print) -> io::Result<()> {
     let Ok(bytes) = to_bytes(alloc, &medium) else {
         return Err(no_memory());
     };
-    let Ok(medium) = sound_from_bytes(alloc, &bytes) else {
+    let Ok(medium) = from_bytes(alloc, &bytes) else {
         return Err(no_data());
     };
     let summary = check(&medium);
@@ -81,7 +79,7 @@ fn print_load<R: Files + AllocGlobal + Print + Clock>(rt: &R, path: &str) -> io:
     let words = read_words(rt, path)?;
     println!(rt; "read {}", start.elapsed(rt)?.as_nanos())?;
     let start = Instant::now(rt)?;
-    let Ok(medium) = sound_from_words(rt.alloc(), words) else {
+    let Ok(medium) = from_words(rt.alloc(), words) else {
         return Err(no_data());
     };
     println!(rt; "load {}", start.elapsed(rt)?.as_nanos())?;

@@ -44,20 +44,14 @@ fn rule_words(fault: &str) -> &'static str {
     }
 }
 
-// An image that is refused by what this version does not do yet.
+// A sound image that this version does not play yet.
 fn limit_words(word: &[u8]) -> &'static str {
     match word {
-        b"2" => {
-            "it has more than one slot for segments, which this version cannot read yet, and a later one will: until then make images by `format 1 DEPTH KIND`"
-        }
-        b"8" => {
-            "its directory is deeper than 0, which this version cannot read yet, and a later one will: until then use another image"
-        }
         b"16" => {
             "it was left by a power cut, which check and list take, but this version cannot play yet, and a later one will: until then insert the pairs that list prints into a new image"
         }
         _ => {
-            "it has a segment that is split, free or to be repaired, which this version cannot take yet, and a later one will: until then use another image"
+            "a segment of it could be split or is still to be repaired, or a slot is free beside others, which check and list take, but this version cannot play yet, and a later one will: until then insert the pairs that list prints into an image made by `format 1 DEPTH KIND`"
         }
     }
 }

@@ -7,7 +7,7 @@ use Rattle.std.proofs.lemmas.Slice.Eq.{bytes_eq-Decides}
 use Rattle.std.specs.Io.KnownBytes.{Consumes}
 use Rattle.outside.specs.Storing.{IsFront}
 use Rattle.image_file.specs.declared.fault.ImageFault.{ImageFault}
-use Rattle.image_file.specs.declared.fault.ImageFault.TheVariants.{Length, Magic, Format, Geometry, Unsound, NoMemory}
+use Rattle.image_file.specs.declared.fault.ImageFault.TheVariants.{Length, Magic, Format, Geometry, Unsound, Unplayed, NoMemory}
 use Rattle.image_layout.specs.Places.{Shape}
 use Rattle.sound_image.specs.Segments.{ImageWords}
 use Rattle.sound_image.specs.Image.{image_bytes}
@@ -18,7 +18,7 @@ use Rattle.script_text.specs.declared.line.Mode.TheVariants.{Play}
 use Rattle.script_text.specs.declared.fault.ScriptFault.{ScriptFault}
 use Rattle.script_text.specs.Script.{IsScript}
 use Rattle.script_text.proofs.Complete.{no_fault as no_script_fault}
-use Rattle.image_file.proofs.Accepted.{served-no_fault}
+use Rattle.image_file.proofs.Accepted.{no_fault}
 use Rattle.dash_top.specs.Commands.{check_words, list_words, play_words, IsNoCommand, ReadsImage}
 use Rattle.dash_top.specs.Commands.ReadsImage.{for_check, for_list, for_play}
 use Rattle.dash_top.specs.Bytes.{Bytes, RefusesImage, RefusesPlay, RefusesScript}
@@ -57,16 +57,17 @@ pub good_image_is_taken : (t : Bytes) (fault : ImageFault) → RefusesImage t.st
 good_image_is_taken t fault refused good =
     let short : length good.start ≤ 282067200 = subst (λ (x : List ℕ). length x ≤ 282067200) (sym good.good.file) (file-le good.good.shape good.good.words good.good.sound) in
     let whole : refused.start ≡ good.start = whole_front t.store_old 282067200 refused.start good.start good.store_tells refused.reads short in
-    refused.not_memory (served-no_fault good.start good.good fault (subst (λ (x : List ℕ). HasFault x fault) whole refused.has_fault))
+    refused.not_memory (no_fault good.start good.good fault (subst (λ (x : List ℕ). HasFault x fault) whole refused.has_fault))
 
 -- an image that may be played has no fault before a play
-pub untouched-no_fault : (shape : Shape) (word : ImageWords) (fault : ImageFault) → IsPlayFault shape word fault → MayBePlayed shape word → ⊥
-untouched-no_fault shape word Length h may = h
-untouched-no_fault shape word Magic h may = h
-untouched-no_fault shape word Format h may = h
-untouched-no_fault shape word Geometry h may = h
-untouched-no_fault shape word (Unsound rule w) h may = h.1.broken (may w)
-untouched-no_fault shape word NoMemory h may = h
+pub playable-no_fault : (shape : Shape) (word : ImageWords) (fault : ImageFault) → IsPlayFault shape word fault → MayBePlayed shape word → ⊥
+playable-no_fault shape word Length h may = h
+playable-no_fault shape word Magic h may = h
+playable-no_fault shape word Format h may = h
+playable-no_fault shape word Geometry h may = h
+playable-no_fault shape word (Unsound rule w) h may = h
+playable-no_fault shape word (Unplayed w) h may = h.broken (may w)
+playable-no_fault shape word NoMemory h may = h
 
 pub good_image_is_played : (t : Bytes) (fault : ImageFault) → RefusesPlay t.store_old fault → HasPlayableImage t → ⊥
 good_image_is_played t fault refused playable =
@@ -77,9 +78,9 @@ good_image_is_played t fault refused playable =
     whole_front t.store_old 282067200 (image_bytes refused.words) start playable.image.store_tells refused.reads.front short in
     let words : refused.words ≡ good.words = same_words refused.words good.words refused.reads.sound.each_fits good.sound.each_fits (whole ∙ good.file) in
     let shape : refused.shape ≡ good.shape = same_shape refused.shape good.shape refused.words good.words words refused.reads.sound good.sound in
-    untouched-no_fault refused.shape (slice_index refused.words) fault refused.has_fault
+    playable-no_fault refused.shape (slice_index refused.words) fault refused.has_fault
     (subst (λ (s : Shape). MayBePlayed s (slice_index refused.words)) (sym shape)
-    (subst (λ (ws : List ℕ). MayBePlayed good.shape (slice_index ws)) (sym words) playable.untouched))
+    (subst (λ (ws : List ℕ). MayBePlayed good.shape (slice_index ws)) (sym words) playable.playable))
 
 -- THE WORDS: of two forms only one can be said
 check_is_no_list : (words : List (List ℕ)) → words ≡ check_words → words ≡ list_words → ⊥

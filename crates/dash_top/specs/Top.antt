@@ -7,7 +7,7 @@ use Rattle.script_text.specs.declared.fault.ScriptFault.{ScriptFault}
 use Rattle.script_text.specs.Script.{IsScript}
 use Rattle.image_file.specs.declared.fault.ImageFault.{ImageFault}
 use Rattle.image_rules.specs.Stage.{MayBePlayed}
-use Rattle.image_file.specs.Fault.{IsServedFile}
+use Rattle.image_file.specs.Fault.{IsSoundFile}
 use Rattle.dash_top.specs.Commands.{check_words, list_words, play_words, SaysFormat, IsNoCommand}
 use Rattle.dash_top.specs.Texts.{usage_text, script_fault_text, image_fault_text}
 use Rattle.dash_top.specs.Played.{IsPlayed}
@@ -30,16 +30,16 @@ pub data IsText (t : Bytes) (words : List (List ℕ)) : List ℕ → Type 0 wher
   of_bad_image : {fault : ImageFault} → IsRefused t words fault → KeepsStore t → IsText t words (image_fault_text fault)
 
 -- COMPLETE: a good command meets no refusal; so it is done, or memory was wanting
--- the store tells the file of a sound image that the program serves
+-- the store tells the file of a sound image
 pub record HasGoodImage (t : Bytes) : Type 0 where
   pub start : List ℕ
   pub store_tells : t.store_old ≡ Some start
-  pub good : IsServedFile start
+  pub good : IsSoundFile start
 
 -- and it may be played
 pub record HasPlayableImage (t : Bytes) : Type 0 where
   pub image : HasGoodImage t
-  pub untouched : MayBePlayed image.good.shape (slice_index image.good.words)
+  pub playable : MayBePlayed image.good.shape (slice_index image.good.words)
 
 -- the source tells a script of the grammar
 pub record HasGoodScript (t : Bytes) : Type 0 where

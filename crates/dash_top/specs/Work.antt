@@ -6,7 +6,7 @@ use Rattle.outside.specs.Storing.{Holds}
 use Rattle.image_layout.specs.Places.{Shape}
 use Rattle.sound_image.specs.Segments.{frame_of, image_version, IsClean}
 use Rattle.sound_image.specs.Image.{image_bytes}
-use Rattle.image_rules.specs.Stage.{PassesRule8, MayBePlayed}
+use Rattle.image_rules.specs.Stage.{MayBePlayed}
 use Rattle.image_file.specs.Formatted.{IsFormatted}
 use Rattle.image_file.specs.Pairs.{live_slots, keys_of, ArePairs}
 use Rattle.image_file.specs.declared.fault.ImageFault.{ImageFault}
@@ -35,22 +35,20 @@ pub record IsSummary (shape : Shape) (words : List ℕ) (s : Summary) : Type 0 w
   pub pairs : (pairs : List (ℕ × ℕ)) × ArePairs shape (slice_index words) pairs × (s.pairs ≡ length pairs)
   pub clean : IsTrue s.clean ↔ IsClean (frame_of shape (slice_index words))
 
--- the text has the numbers of the image in the store, which is sound and one that the program serves
+-- the text has the numbers of the sound image in the store
 pub record Checks (store : Option (List ℕ)) (text : List ℕ) : Type 0 where
   pub shape : Shape
   pub words : List ℕ
   pub reads : ReadsSound store shape words
-  pub served : PassesRule8 shape (slice_index words)
   pub summary : Summary
   pub is_summary : IsSummary shape words summary
   pub text_is : text ≡ check_text summary
 
--- the text has the pairs of such an image in the store, by rising key, each key once
+-- the text has the pairs of the sound image in the store, by rising key, each key once
 pub record ListsPairs (store : Option (List ℕ)) (text : List ℕ) : Type 0 where
   pub shape : Shape
   pub words : List ℕ
   pub reads : ReadsSound store shape words
-  pub served : PassesRule8 shape (slice_index words)
   pub pairs : List (ℕ × ℕ)
   pub are_pairs : ArePairs shape (slice_index words) pairs
   pub rising : IsStrictlyIncreasing (keys_of pairs)
@@ -64,8 +62,7 @@ pub record Plays (t : Bytes) (transcript : List ℕ) : Type 0 where
   pub shape : Shape
   pub words : List ℕ
   pub reads : ReadsSound t.store_old shape words
-  pub served : PassesRule8 shape (slice_index words)
-  pub untouched : MayBePlayed shape (slice_index words)
+  pub playable : MayBePlayed shape (slice_index words)
   pub ending : List ℕ
   pub stores : Holds t.store_old t.store_new ending
   pub played : IsPlayed (image_bytes words) script transcript ending

@@ -1,11 +1,10 @@
 // The script and the image, read from the outside.
-ghost use Rattle.std.specs.Prelude.{◌≡◌, ◌≤◌, ℕ, List, All, length, slice_index, IfOk, IfErr};
+ghost use Rattle.std.specs.Prelude.{◌≡◌, ◌≤◌, ℕ, List, All, length, IfOk, IfErr};
 ghost use Rattle.outside.specs.Causes.{Rose};
 ghost use Rattle.script_text.specs.declared.line.Line.{Line};
 ghost use Rattle.script_text.specs.declared.line.Mode.TheVariants.{Play as PlayMode};
 ghost use Rattle.script_text.specs.Script.{IsScript};
 ghost use Rattle.script_text.specs.Calls.{IsLineSoFar};
-ghost use Rattle.image_rules.specs.Stage.{PassesRule8};
 ghost use Rattle.dash_top.specs.Bytes.{ReadsScript, ReadsSound};
 ghost use Rattle.dash_top.specs.Reading.{HasScriptCause, HasImageCause};
 
@@ -40,7 +39,6 @@ pub fn read_script<S: Source>(alloc: Global, input: &mut S) -> Result<Script, Re
 /// Reads the image of the store, which stays.
 pub fn read_image<I: Store>(alloc: Global, image: &mut I) -> Result<Medium, Refused>
     ensures ok { IfOk result (λ medium. ReadsSound (I.contents image.old) medium.geometry medium.words) }
-    ensures served { IfOk result (λ medium. PassesRule8 medium.geometry (slice_index medium.words)) }
     ensures err { IfErr result (HasImageCause (I.contents image.old) (I.faults image.old) (I.faults image.new)) }
     ensures later { I.faults image.old ≤ I.faults image.new }
     ensures keeps { I.contents image.new ≡ I.contents image.old }

@@ -14,7 +14,6 @@ returns-in-Ok-from_bytes-clause-ok g c = record {
 pub returns : goal.returns
 returns g c = record {
   ok = tt;
-  served = tt;
   err = record {
     start = c.in-Ok.start.items;
     reads = c.in-Ok.ensures.bytes;

@@ -1,6 +1,5 @@
 use Rattle.std.proofs.Common.{List, ℕ, ◌+◌, subst, refl, sym, ap, ◌∙◌, Option}
 use Rattle.outside.specs.Storing.{Holds}
-use Rattle.image_rules.specs.Stage.{segments_word}
 use Rattle.session.specs.Session.{IsSession}
 use Rattle.core_run.specs.Sessions.{ending_of}
 use Rattle.play.specs.Played.{IsPlay, scripts_of}
@@ -19,10 +18,6 @@ good_script : {source_old source_new : Option (List ℕ)} (lines : List Line) �
     → ReadsGoodScript source_old source_new
 good_script lines read = record { script = read.0; reads = read.1; lines = lines; good = read.2 }
 
--- the image may be given to a play: it has one slot
-pub play-requires-clause-one : goal.play-requires-clause-one
-play-requires-clause-one g c = (c.in_ok-medium.ensures.served segments_word).one_segment refl
-
 -- DONE
 pub returns-in-Ok-clause-ok : goal.returns-in-Ok-clause-ok
 returns-in-Ok-clause-ok g c =
@@ -35,8 +30,7 @@ returns-in-Ok-clause-ok g c =
       shape = c.in_ok-medium.medium.geometry;
       words = c.in_ok-medium.medium.words;
       reads = image;
-      served = c.in_ok-medium.ensures.served;
-      untouched = c.in_default.ensures.ok;
+      playable = c.in_default.ensures.ok;
       ending = c.in_ok-ending.ending.items;
       stores = subst (λ o. Holds o (g.I.Store.contents c.write_all.new.self) c.in_ok-ending.ending.items) c.in_ok-medium.ensures.keeps
           (subst (λ (x : List ℕ). Holds (g.I.Store.contents c.read_image.new.image) (g.I.Store.contents c.write_all.new.self) x) c.deref.ensures.value c.in-Ok.ensures.written);
@@ -72,7 +66,6 @@ returns-in-Err-clause-err g c = (
         shape = c.in_ok-medium.medium.geometry;
         words = c.in_ok-medium.medium.words;
         reads = c.in_ok-medium.ensures.ok;
-        served = c.in_ok-medium.ensures.served;
         has_fault = c.in-Err.ensures.err;
       }),
   record { same = c.in_ok-medium.ensures.keeps; unwritten = c.in_ok-medium.ensures.unwritten },
@@ -87,8 +80,7 @@ returns-clause-err g c = (
         shape = c.in_ok-medium.medium.geometry;
         words = c.in_ok-medium.medium.words;
         reads = c.in_ok-medium.ensures.ok;
-        served = c.in_ok-medium.ensures.served;
-        untouched = c.in_default.ensures.ok;
+        playable = c.in_default.ensures.ok;
       })
       (record {
         once = c.in-Err-write_all.ensures.once ∙ ap (λ (n : ℕ). n + 1) c.in_ok-medium.ensures.unwritten;
