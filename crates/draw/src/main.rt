@@ -6,12 +6,13 @@ ghost use Rattle.std.specs.Prelude.{IfOk};
 ghost use Rattle.sound_image.specs.Image.{IsSoundImage};
 
 mod counts;
+mod directory;
 mod header;
 mod svg;
 mod text;
 
 use anyhow::{Context, Result, bail};
-use image_file::{Medium, sound_from_bytes};
+use image_file::{Medium, from_bytes};
 use std::io::Print;
 use std::rt::Files;
 use std::{env, fs};
@@ -21,9 +22,7 @@ fn image_at<R: Files + AllocGlobal>(rt: &R, path: &str) -> Result<Medium>
     ensures { IfOk result (λ medium. IsSoundImage medium.geometry medium.words) }
 {
     let bytes = fs::read(rt, path).context(format_args!("{path}"))?;
-    let medium = sound_from_bytes(rt.alloc(), &bytes).context(format_args!(
-        "{path} is no sound image"
-    ))?;
+    let medium = from_bytes(rt.alloc(), &bytes).context(format_args!("{path} is no sound image"))?;
     Ok(medium)
 }
 

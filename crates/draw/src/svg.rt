@@ -1,11 +1,13 @@
-//! The picture as an SVG: a row for each segment, with a square for each bucket, the darker the fuller; the stash
-//! stands apart, and a home bucket with records in the stash has a red edge.
+//! The picture as an SVG: the directory, with a square for each entry, in the colour of the slot that it names; and a row for each
+//! segment, with a square for each bucket, the darker the fuller. The stash stands apart, and a home bucket with records in the
+//! stash has a red edge.
 
-ghost use Rattle.std.specs.Prelude.{◌≡◌, ◌+◌, ◌^◌, ◌<◌, length};
+ghost use Rattle.std.specs.Prelude.{◌≡◌, ◌+◌, ◌^◌, ◌<◌, ◌≤◌, length};
 ghost use Rattle.image_layout.specs.Places.{buckets, words_of};
 ghost use Rattle.sound_image.specs.Image.{IsSoundImage};
 
 use crate::counts::{filled, stashed};
+use crate::directory::{entries, entry, root_depth};
 use crate::header::header_of;
 use anyhow::Result;
 use image_file::Medium;
@@ -16,6 +18,47 @@ use std::io::Print;
 const EDGE: u64 = 12;
 
 const ROW: u64 = 34;
+
+/// How many entries of the directory stand beside one another.
+const BESIDE: u64 = 64;
+
+/// The hue of a slot, by which its entries and its row are found.
+fn hue_of(slot: u64) -> u64 {
+    slot % 360 * 47 % 360
+}
+
+/// The square of an entry.
+fn print_entry<R: Print>(rt: &R, i: u64, slot: u64) -> Result<()>
+    requires { i < 65536 }
+{
+    let left = EDGE + EDGE * (i % BESIDE);
+    let top = EDGE * (i / BESIDE) + 8;
+    let hue = hue_of(slot);
+    println!(rt;
+        "<rect x='{left}' y='{top}' width='10' height='10' fill='hsl({hue},70%,60%)'><title>entry {i}: slot {slot}</title></rect>"
+    )?;
+    Ok(())
+}
+
+/// The directory: a square for each entry.
+fn print_directory<R: Print>(rt: &R, medium: &Medium) -> Result<()>
+    requires { IsSoundImage medium.now.geometry medium.now.words }
+{
+    let depth = root_depth(medium);
+    for i in 0..entries(depth) {
+        let slot = entry(&medium.geometry, medium.words.as_slice(), depth, i);
+        print_entry(rt, i, slot)?;
+    }
+    Ok(())
+}
+
+/// How high the directory is.
+fn directory_height(medium: &Medium) -> u64
+    requires { IsSoundImage medium.now.geometry medium.now.words }
+    ensures { result ≤ 20000 }
+{
+    EDGE * (entries(root_depth(medium)) / BESIDE + 1) + 8
+}
 
 /// The left edge of bucket `b`: behind the home buckets there is room of one.
 fn left_of(b: u8) -> u64 {
@@ -55,7 +98,10 @@ fn print_row<R: Print>(rt: &R, geometry: &Geometry, words: &[u64], s: u64, top: 
 {
     let header = header_of(geometry, words, s);
     let line = top + 12;
-    println!(rt; "<text x='{EDGE}' y='{top}'>segment {s}: {header}</text>")?;
+    let hue = hue_of(s);
+    println!(rt;
+        "<text x='{EDGE}' y='{top}' fill='hsl({hue},70%,30%)'>segment {s}: {header}</text>"
+    )?;
     for b in 0..BUCKETS {
         print_bucket(rt, geometry, words, s, b, line)?;
     }
@@ -68,12 +114,14 @@ pub fn print<R: Print>(rt: &R, medium: &Medium) -> Result<()>
 {
     let geometry = &medium.geometry;
     let words = medium.words.as_slice();
-    let height = ROW * (geometry.segments() + 1);
+    let above = directory_height(medium);
+    let height = above + ROW * (geometry.segments() + 1);
     println!(rt;
         "<svg xmlns='http://www.w3.org/2000/svg' width='840' height='{height}' font-family='monospace' font-size='11'>"
     )?;
+    print_directory(rt, medium)?;
     for s in 0..geometry.segments() {
-        print_row(rt, geometry, words, s, ROW * s + 20)?;
+        print_row(rt, geometry, words, s, above + ROW * s + 20)?;
     }
     println!(rt; "</svg>")?;
     Ok(())

@@ -1,11 +1,12 @@
-//! The picture as text: a line for the image, and for each segment a line that says what it is and one with a sign for
-//! each bucket.
+//! The picture as text: a line for the image, one for its directory, and for each segment a line that says what it is and one
+//! with a sign for each bucket.
 
 ghost use Rattle.std.specs.Prelude.{◌≡◌, ◌<◌, length};
 ghost use Rattle.image_layout.specs.Places.{words_of};
 ghost use Rattle.sound_image.specs.Image.{IsSoundImage};
 
 use crate::counts::{filled, sign, stashed};
+use crate::directory::{entries, entry, root_depth};
 use crate::header::header_of;
 use anyhow::Result;
 use image_file::{Medium, check};
@@ -26,6 +27,20 @@ fn print_image<R: Print>(rt: &R, medium: &Medium) -> Result<()>
         summary.live,
         summary.pairs
     )?;
+    Ok(())
+}
+
+/// The line of the directory: its depth, and the slot that each entry names.
+fn print_directory<R: Print>(rt: &R, medium: &Medium) -> Result<()>
+    requires { IsSoundImage medium.now.geometry medium.now.words }
+{
+    let depth = root_depth(medium);
+    print!(rt; "directory of depth {depth}:")?;
+    for i in 0..entries(depth) {
+        let slot = entry(&medium.geometry, medium.words.as_slice(), depth, i);
+        print!(rt; " {slot}")?;
+    }
+    println!(rt; "")?;
     Ok(())
 }
 
@@ -77,6 +92,7 @@ pub fn print<R: Print>(rt: &R, medium: &Medium) -> Result<()>
     requires sound { IsSoundImage medium.now.geometry medium.now.words }
 {
     print_image(rt, medium)?;
+    print_directory(rt, medium)?;
     for s in 0..medium.geometry.segments() {
         print_segment(rt, &medium.geometry, medium.words.as_slice(), s)?;
     }

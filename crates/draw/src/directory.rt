@@ -1,0 +1,38 @@
+//! The directory of an image: how deep it is, and which slot each entry names.
+
+ghost use Rattle.std.specs.Prelude.{◌≡◌, ◌^◌, ◌<◌, ◌≤◌, length, slice_index};
+ghost use Rattle.image_layout.specs.Places.{entry_at, most_depth, root_word, words_of};
+ghost use Rattle.sound_image.specs.Image.{IsSoundImage};
+
+use image_file::Medium;
+use image_layout::{Geometry, ROOT_WORD};
+
+/// How many top bits of a hash choose an entry.
+pub fn root_depth(medium: &Medium) -> u64
+    requires sound { IsSoundImage medium.now.geometry medium.now.words }
+    ensures is { result ≡ slice_index medium.now.words root_word }
+    ensures fits { result ≤ medium.now.geometry.depth }
+    ensures most { result ≤ most_depth }
+{
+    let words = medium.words.as_slice();
+    words[ROOT_WORD as usize]
+}
+
+/// How many entries a directory of this depth has.
+pub fn entries(depth: u64) -> u64
+    requires { depth ≤ most_depth }
+    ensures is { result ≡ 2 ^ depth }
+    ensures most { result ≤ 65536 }
+{
+    1 << depth
+}
+
+/// The slot that entry `i` of a directory of this depth names.
+pub fn entry(geometry: &Geometry, words: &[u64], depth: u64, i: u64) -> u64
+    requires whole { length words.now ≡ words_of geometry.now }
+    requires depth { depth ≤ geometry.now.depth }
+    requires index { i < 2 ^ depth }
+    ensures { result ≡ slice_index words.now (entry_at depth i) }
+{
+    words[geometry.entry_at(depth, i) as usize]
+}
