@@ -6,6 +6,7 @@ use Rattle.std.specs.Cmp.{unsigned_tied}
 use Rattle.std.proofs.lemmas.Cmp.{nat_cmp_total}
 use Rattle.std.specs.Ordering.{nat_cmp}
 use Rattle.std.proofs.lemmas.Bool.{cases_eq, cases_lt, ne_eqb, eqb-true, and_parts}
+use Rattle.std.specs.Cmp.Derive.{both_true}
 use Rattle.bucket_meta.specs.Bucket.{allocated}
 use Rattle.segment_head.specs.HeadWord.{state_in, normal, splitting, is_live, HasLiveState}
 use Rattle.image_layout.specs.Places.{Shape, head_at}
@@ -25,10 +26,6 @@ get-insert_same m k v = get-insert nat_cmp_total m k v k ∙ ap (λ b. cond b (S
 
 get-insert_other : (m : Map) (k v q : ℕ) → q ≢ k → get (insert m k v) q ≡ get m q
 get-insert_other m k v q other = get-insert nat_cmp_total m k v q ∙ ap (λ b. cond b (Some v) (get m q)) (unsigned_tied q k ∙ ne_eqb q k other)
-
-both_true : (a b : Bool) → a ≡ true → b ≡ true → (a && b) ≡ true
-both_true true b p q = q
-both_true false b p q = p
 
 or_parts : (a b : Bool) → (a || b) ≡ true → (a ≡ true) ⊎ (b ≡ true)
 or_parts true b e = inl refl
@@ -174,7 +171,7 @@ module _ (shape : Shape) (words : List ℕ) (image : IsPlayableImage shape words
       record {
         slot = number p.s p.b p.r;
         below = number_below p.s p.b p.r shape.segments there.segment there.bucket there.slot;
-        there = rw (segment, bucket, slot) (both_true _ _ (test_live _ p.own.owned.own.live) (eq-eqb _ 1 there.is_allocated));
+        there = rw (segment, bucket, slot) (both_true (test_live _ p.own.owned.own.live) (eq-eqb _ 1 there.is_allocated));
         key = rw (segment, bucket, slot) p.key_is;
         value = rw (segment, bucket, slot) p.value_is;
       }

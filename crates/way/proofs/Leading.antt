@@ -2,13 +2,10 @@
 use Rattle.std.proofs.Common.{◌≡◌, ℕ, ◌≤◌, Bool, true, false}
 use Rattle.std.specs.Prelude.{◌==◌, ◌&&◌, nat_le}
 use Rattle.std.proofs.lemmas.Bool.{eq-eqb, eqb-true, le-leb, leb-true, and_parts}
+use Rattle.std.specs.Cmp.Derive.{both_true}
 use Rattle.hash_word.specs.Hash.{top}
 use Rattle.segment_head.specs.HeadWord.{state_in, depth_in, pattern_in, normal}
 use Rattle.way.specs.Ways.{is_covering, is_leading}
-
-both_true : (a b : Bool) → a ≡ true → b ≡ true → (a && b) ≡ true
-both_true true b p q = q
-both_true false b p q = p
 
 pub record Leading (head hash : ℕ) : Type 0 where
   pub normal : state_in head ≡ normal
@@ -27,6 +24,6 @@ leading_is head hash leads =
 
 pub is_leading_by : (head hash : ℕ) → Leading head hash → is_leading head hash ≡ true
 is_leading_by head hash leads =
-    both_true (state_in head == normal) (is_covering head hash) (eq-eqb (state_in head) normal leads.normal)
-    (both_true (nat_le (depth_in head) 64) (top (depth_in head) hash == pattern_in head) (le-leb (depth_in head) 64 leads.low)
+    both_true (eq-eqb (state_in head) normal leads.normal)
+    (both_true (le-leb (depth_in head) 64 leads.low)
     (eq-eqb (top (depth_in head) hash) (pattern_in head) leads.covers))

@@ -1,8 +1,13 @@
 -- What a list has that is another one but for some of it.
-use Rattle.std.proofs.Common.{◌≡◌, Bool, true, cond, List, [], ◌∷◌, inl, inr, sym, ap, ◌∙◌, subst}
+use Rattle.std.proofs.Common.{◌≡◌, Bool, true, false, cond, List, [], ◌∷◌, inl, inr, sym, ap, ◌∙◌, subst}
 use Rattle.std.proofs.lemmas.Bool.{cases_Bool}
-use Rattle.std.specs.Prelude.{filter}
+use Rattle.std.specs.Prelude.{filter, not}
 use Rattle.world.specs.Views.{Has}
+
+-- who passes the opposite of a test does not pass it
+pub not_false : (b : Bool) → not b ≡ true → b ≡ true → ⊥
+not_false true e f = cc
+not_false false e f = cc
 
 module _ {A : Type 0} (test : A → Bool) where
   pub filtered_has : (l : List A) (a : A) → Has a (filter test l) → Has a l × (test a ≡ true)

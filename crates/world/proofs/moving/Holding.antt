@@ -9,14 +9,10 @@ use Rattle.world.specs.Views.{Has, HasLock, IsGuarded}
 use Rattle.world.specs.areas.Areas.{Area, Segment, Stale, Side, Free, Whole, Allocation, Directory, InArea, IsDirectoryWord, is_side_at, is_stale_at, is_whole_at, is_of_segment, is_of_allocation, is_of_directory, all_but}
 use Rattle.world.specs.areas.Kinds.{of_free_slots, is_in_slot, out_of_slot, out_of_directory, known_without}
 use Rattle.world.proofs.Grounds.{lock_apart}
-use Rattle.world.proofs.fitting.Filtered.{filtered_has}
+use Rattle.world.proofs.fitting.Filtered.{filtered_has, not_false}
 use Rattle.world.proofs.fitting.OneHolder.{one_slot}
 use Rattle.world.proofs.fitting.Rows.{but_after}
 use Rattle.world.proofs.moving.Known.{guard_in_slot}
-
-not_false : (b : Bool) → not b ≡ true → b ≡ true → ⊥
-not_false true e f = cc
-not_false false e f = cc
 
 -- a word is held by these locks, or lies in one of these areas
 abbrev pub IsHeldBy : Shape → List (ℕ × ℕ) → List Area → ℕ → Type 0

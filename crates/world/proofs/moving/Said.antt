@@ -33,7 +33,7 @@ use Rattle.world.proofs.Seats.{each}
 use Rattle.world.proofs.Structures.{header_is}
 use Rattle.world.proofs.Tables.{core_structure_same, lock_cores}
 use Rattle.world.proofs.holding.Beside.{newest}
-use Rattle.world.proofs.fitting.Filtered.{filtered_has}
+use Rattle.world.proofs.fitting.Filtered.{filtered_has, not_false}
 use Rattle.world.proofs.fitting.OneHolder.{one_holder, head_in_slot}
 use Rattle.world.proofs.fitting.Rows.{head_near, row_slot}
 use Rattle.world.proofs.moving.Known.{grounds, whole_cores, whole_possible, held_within, newest_is, beside}
@@ -76,10 +76,6 @@ not_ended site finishes m fact k ends = ends
 not_ended site unmarks m fact k ends = ends
 not_ended site (frees p) m fact k ends = ends
 not_ended site renews m fact k ends = ends
-
-not_false : (b : Bool) → not b ≡ true → b ≡ true → ⊥
-not_false true e f = cc
-not_false false e f = cc
 
 -- the facts after a row, each of which it leaves
 row_facts : (row : Row) (facts : List Fact) (fact : Fact) → Has fact (facts_by row facts) → Has fact facts × IsNoneOf row fact
