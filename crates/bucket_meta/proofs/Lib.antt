@@ -1,12 +1,7 @@
-pub mod Each
+pub mod fields
 pub mod FullSets
-pub mod OneToOne
-pub mod FieldBits
 pub mod Search
 pub mod Found
 pub mod Marks
 pub mod Fingers
-pub mod ZeroBits
-pub mod Uppers
-pub mod Filled
 pub mod notes

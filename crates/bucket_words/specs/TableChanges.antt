@@ -1,7 +1,7 @@
 -- What a store does to a table: nothing, or one key has another value; and what a store to one record slot is to keep.
 use Rattle.std.specs.Prelude.{◌≡◌, ◌≢◌, ℕ, ◌+◌, ◌<◌, Option, Some, ◌⊎◌}
 use Rattle.hash_word.specs.Hash.{finger_of}
-use Rattle.bucket_meta.specs.Bucket.{allocated, record_slots}
+use Rattle.bucket_meta.specs.Bucket.{allocated, member, record_slots}
 use Rattle.trace.specs.Events.{Words}
 use Rattle.image_layout.specs.Places.{Shape, bucket_at, buckets}
 use Rattle.sound_image.specs.Records.{key_hash}
@@ -46,3 +46,14 @@ pub record ChangesSlot (shape : Shape) (word other : Words) (s b r k : ℕ) : Ty
   pub placed : IsTaken other (bucket_at shape s b) r → (key_in other (bucket_at shape s b) r ≡ k) × IsRight shape other s b r k
   pub agree : owner_of shape word (key_hash shape k) ≡ Some s → IsTaken other (bucket_at shape s b) r → (c t : ℕ) → Hit shape word s c t k
       → (c ≡ b → t ≡ r → ⊥) → value_in word (bucket_at shape s c) t ≡ value_in other (bucket_at shape s b) r
+
+-- A SLOT IS LEFT: it is free after, and was free before or taken by a record that its segment does not own
+pub record IsLeft (shape : Shape) (word other : Words) (s b r : ℕ) : Type 0 where
+  pub free : IsTaken other (bucket_at shape s b) r → ⊥
+  pub foreign : IsTaken word (bucket_at shape s b) r → owner_of shape word (key_hash shape (key_in word (bucket_at shape s b) r)) ≡ Some s → ⊥
+
+-- metadata word x of bucket b of segment s says of slot r what the word there says, or frees it, where its segment does not own its record
+abbrev pub KeepsOrLeaves : Shape → Words → ℕ → ℕ → ℕ → ℕ → Type 0
+KeepsOrLeaves shape word s b x r =
+    ((allocated r x ≡ allocated r (word (bucket_at shape s b + 1))) × (member r x ≡ member r (word (bucket_at shape s b + 1))))
+    ⊎ ((allocated r x ≡ 0) × (IsTaken word (bucket_at shape s b) r → owner_of shape word (key_hash shape (key_in word (bucket_at shape s b) r)) ≡ Some s → ⊥))

@@ -16,7 +16,7 @@ ghost use Rattle.bucket_words.specs.Core.{core_of, core, SameCoresIn};
 ghost use Rattle.bucket_words.specs.Owners.{HasStructure, owner_of, home_at, SameOwners};
 ghost use Rattle.bucket_words.specs.Hits.{Hit, HasNone, HasNoneIn, HasOnly, find};
 ghost use Rattle.bucket_words.specs.Standing.{StandsAt, IsTable};
-ghost use Rattle.bucket_words.specs.TableChanges.{KeepsTable, ChangesKey, OnlyNewHit, IsReadyAt, ChangesSlot};
+ghost use Rattle.bucket_words.specs.TableChanges.{KeepsTable, ChangesKey, OnlyNewHit, IsReadyAt, ChangesSlot, IsLeft, KeepsOrLeaves};
 
 /// Which segment owns a hash depends on the structure alone, which no store to a bucket changes; and the owner is one of the
 /// segments. A key's home bucket begins in the owner, and stays where owners stay.
@@ -71,6 +71,16 @@ pub fn one_slot_changes()
 pub fn no_slot_changes()
     ensures { (shape : Shape) (word other : Words) → IsTable shape word → SameOwners shape word other
         → ((s b r : ℕ) → s < shape.segments → b < buckets → r < record_slots → SameSlot word other (bucket_at shape s b) r) → KeepsTable shape word other }
+{}
+
+/// Where no record slot changes, and no owner, but that slots are freed of records that their segment does not own, a table stays one, with
+/// the same pairs: so where a metadata word is stored that frees such slots alone, however many they are.
+pub fn foreign_records_leave()
+    ensures slots { (shape : Shape) (word other : Words) → IsTable shape word → SameOwners shape word other
+        → ((s b r : ℕ) → s < shape.segments → b < buckets → r < record_slots → SameSlot word other (bucket_at shape s b) r ⊎ IsLeft shape word other s b r)
+        → KeepsTable shape word other }
+    ensures metadata { (shape : Shape) (word : Words) (s b x : ℕ) → IsTable shape word → s < shape.segments → b < buckets
+        → ((r : ℕ) → r < record_slots → KeepsOrLeaves shape word s b x r) → KeepsTable shape word (with_word word (bucket_at shape s b + 1) x) }
 {}
 
 /// What the store of one word does to a record, in any slot of any bucket of any segment. A metadata word that takes the slot

@@ -19,7 +19,7 @@ use Rattle.bucket_words.specs.TableChanges.{KeepsTable}
 use Rattle.bucket_words.proofs.Slots.{same_words}
 use Rattle.bucket_words.proofs.segments.Places.{not_structure, owner_within}
 use Rattle.bucket_words.proofs.segments.Finding.{find_is, find_none, hit_found, none_found, find_alike_any}
-use Rattle.bucket_words.proofs.segments.NoSlot.{keeps}
+use Rattle.bucket_words.proofs.segments.changes.NoSlot.{keeps}
 use Rattle.bucket_words.proofs.segments.Cores.{within_image}
 use Rattle.frame_facts.specs.Copies.{IsNoBucketWord, HasCopies}
 use Rattle.frame_facts.proofs.Owners.{owners_stay, owner_spared}

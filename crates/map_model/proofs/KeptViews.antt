@@ -2,13 +2,13 @@
 use Rattle.std.proofs.Common.{◌≡◌, ◌<◌, ◌+◌, ◌-◌, ℕ, zero, suc, List, [], ◌∷◌, ◌++◌, Some, map, length, refl, ap, arith, vec_len, vec_capacity, Vec, Global}
 use Rattle.std.specs.Prelude.{slice_get, slice_set, slice_index_or}
 use Rattle.map_model.specs.declared.entry.Entry.{Entry}
-use Rattle.map_model.specs.Kept.{Kept, one_more, with_entry, lists_of}
+use Rattle.map_model.specs.Roomed.{Roomed, one_more, with_entry, lists_of}
 
 -- a caller's vector as contracts see it
-abbrev pub kept_of : Vec Entry Global → Kept
+abbrev pub kept_of : Vec Entry Global → Roomed
 kept_of list = record { entries = list.items; spare = vec_capacity list - vec_len list }
 
-abbrev pub all_kept : List (Vec Entry Global) → List Kept
+abbrev pub all_kept : List (Vec Entry Global) → List Roomed
 all_kept lists = map (λ list. kept_of list) lists
 
 pub lists_of-all_kept : (lists : List (Vec Entry Global)) → lists_of (all_kept lists) ≡ map (λ list. list.items) lists

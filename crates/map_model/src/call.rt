@@ -5,7 +5,7 @@ ghost use Rattle.map_model.specs.Map.{key_of, value_of};
 ghost use Rattle.map_model.specs.Legal.{IsChange};
 ghost use Rattle.map_model.specs.Changes.{call_of, change_of};
 
-use crate::change::{Change, Deed};
+use crate::change::{Change, Effect};
 
 /// A call on the table.
 #[derive(Clone, Copy, Debug, PartialEq, Eq)]
@@ -46,12 +46,12 @@ impl Call {
         ensures same { IfSome result (λ change. call_of change ≡ self) }
         ensures none { IsNone result → IsChange self → ⊥ }
     {
-        let (key, deed) = match self {
+        let (key, effect) = match self {
             Call::Get(_) => return None,
-            Call::Insert(key, value) => (key, Deed::Insert(value)),
-            Call::Update(key, value) => (key, Deed::Update(value)),
-            Call::Remove(key) => (key, Deed::Remove),
+            Call::Insert(key, value) => (key, Effect::Insert(value)),
+            Call::Update(key, value) => (key, Effect::Update(value)),
+            Call::Remove(key) => (key, Effect::Remove),
         };
-        Some(Change { key, deed })
+        Some(Change { key, effect })
     }
 }

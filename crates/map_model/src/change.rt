@@ -7,7 +7,7 @@ use crate::call::Call;
 
 /// What a change does with its key.
 #[derive(Clone, Copy, Debug, PartialEq, Eq)]
-pub enum Deed {
+pub enum Effect {
     /// Adds the key, which is absent, with this value.
     Insert(u64),
     /// Gives the key, which is present, this value.
@@ -22,7 +22,7 @@ pub struct Change {
     /// The key that the call speaks of.
     pub key: u64,
     /// What it does with it.
-    pub deed: Deed,
+    pub effect: Effect,
 }
 
 impl Change {
@@ -30,10 +30,10 @@ impl Change {
     pub fn call(self) -> Call
         ensures { result ≡ call_of self }
     {
-        match self.deed {
-            Deed::Insert(value) => Call::Insert(self.key, value),
-            Deed::Update(value) => Call::Update(self.key, value),
-            Deed::Remove => Call::Remove(self.key),
+        match self.effect {
+            Effect::Insert(value) => Call::Insert(self.key, value),
+            Effect::Update(value) => Call::Update(self.key, value),
+            Effect::Remove => Call::Remove(self.key),
         }
     }
 }

@@ -6,7 +6,7 @@ ghost use Rattle.map_model.specs.Map.{is_done};
 ghost use Rattle.map_model.specs.Weave.{all_of, draws};
 ghost use Rattle.map_model.specs.Legal.{InOrder, IsPlace, IsLegal};
 ghost use Rattle.map_model.specs.Apart.{IsRightWoven};
-ghost use Rattle.map_model.specs.Kept.{lists_of};
+ghost use Rattle.map_model.specs.Roomed.{lists_of};
 
 use crate::by_place::{by_place, each_drawn_once, have_places, joined_by_place, seen_by};
 use crate::entry::Entry;

@@ -1,6 +1,6 @@
 // The entries of each caller.
 ghost use Rattle.std.specs.Prelude.{◌≡◌, ◌-◌, ◌<◌, ◌≤◌, length, map, slice_get, IfOk, IfSome, Some};
-ghost use Rattle.map_model.specs.Kept.{with_room, with_entry, lists_of};
+ghost use Rattle.map_model.specs.Roomed.{with_room, with_entry, lists_of};
 
 use crate::entry::Entry;
 use crate::no_memory::NoMemory;
@@ -16,9 +16,9 @@ pub struct Lists {
 
 impl Model for Lists {
     ghost use Rattle.std.specs.Prelude.{List, map, vec_len, vec_capacity, ◌-◌};
-    ghost use Rattle.map_model.specs.Kept.{Kept};
+    ghost use Rattle.map_model.specs.Roomed.{Roomed};
 
-    ghost Value = { List Kept };
+    ghost Value = { List Roomed };
 
     ghost view = { λ inside. map
         (λ list. record { entries = list.items; spare = vec_capacity list - vec_len list })

@@ -1,7 +1,7 @@
 //! The words on the way from a hash to its bucket: root, directory entry, header, bucket.
 //!
 //! A machine that looks for a key loads the root depth, the entry of the key's hash, the header of the segment that the
-//! entry names, and the lock word with which a bucket of that segment begins. Here is said which words these are: a
+//! entry names, and the lock word with which a bucket of that segment begins. Site is said which words these are: a
 //! depth or a slot that the image has not gives the root's word, so each function answers for any numbers.
 #![tactic(auto)]
 

@@ -1,15 +1,9 @@
-pub mod Sets
-pub mod MarkHalves
-pub mod Positions
-pub mod Mended
+pub mod marking
 pub mod Settling
-pub mod Fields
 pub mod Nones
 pub mod StashLists
 pub mod NotesByWords
-pub mod Sides
 pub mod Ascending
-pub mod Marking
 pub mod OneRound
 pub mod Telling
 pub mod Rebuilt

@@ -5,7 +5,7 @@ use Rattle.bucket_meta.specs.declared.metadata.Meta.{Meta}
 use Rattle.bucket_meta.specs.Bucket.{note_used, note_member, note_index, note_finger, finger}
 use Rattle.bucket_meta.specs.MetaWords.{IsMetaOf}
 use Rattle.bucket_meta.specs.Notes.{OverflowNote, AreExact}
-use Rattle.bucket_meta.proofs.FieldBits.{note_used_is, note_member_is, note_index_is}
+use Rattle.bucket_meta.proofs.fields.FieldBits.{note_used_is, note_member_is, note_index_is}
 use Rattle.hash_word.specs.Hash.{probing_of}
 use Rattle.stash.specs.Exact.{notes_at, IsExactFor}
 use Rattle.stash.specs.NoteSlots.{SameSlots}

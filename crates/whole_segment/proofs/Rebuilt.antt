@@ -8,7 +8,7 @@ use Rattle.word_bits.specs.Bits.{bit, bits}
 use Rattle.bucket_meta.specs.declared.metadata.Meta.{Meta}
 use Rattle.bucket_meta.specs.Bucket.{note_used, note_member, note_index, note_finger, overflow_count}
 use Rattle.bucket_meta.specs.MetaWords.{IsMetaOf}
-use Rattle.bucket_meta.proofs.FieldBits.{note_used_is, note_member_is, note_index_is}
+use Rattle.bucket_meta.proofs.fields.FieldBits.{note_used_is, note_member_is, note_index_is}
 use Rattle.hash_word.specs.Hash.{probing_of}
 use Rattle.stash.specs.NoteSlots.{NoteSlot, note_slot_at, filled_note_slot, IsUnused, IsLowest, HoldsNowhere, NoteSlotBecomes, CountBecomes, IsBare}
 use Rattle.stash.specs.Noted.{IsNotedIn, IsNotedInSegment, AreNotedInOrder, IsRebuilt}

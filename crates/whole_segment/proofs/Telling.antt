@@ -11,7 +11,7 @@ use Rattle.whole_segment.specs.Records.{IsCovered, is_covered, covered_set}
 use Rattle.whole_segment.specs.Order.{bucket_at, slot_at, IsAt, is_at, is_below, StandsBefore, stands_before, own_home, own_position}
 use Rattle.whole_segment.specs.Mending.{IsSpoiled, is_spoiled, spoiled_set}
 use Rattle.whole_segment.specs.Room.{HasOnlyMembers, HasNoMembers, HasNoRoom, all_below, is_full, has_only_members, has_no_members, is_crowded, nothing_moves, has_no_room}
-use Rattle.whole_segment.proofs.Sets.{IsSetBelow, none_yet, one_more, no_more, whole_set}
+use Rattle.whole_segment.proofs.marking.Sets.{IsSetBelow, none_yet, one_more, no_more, whole_set}
 
 -- a test that is true exactly where P holds
 abbrev pub Tells : Bool → Type 0 → Type 0

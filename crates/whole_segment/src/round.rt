@@ -2,25 +2,40 @@
 
 ghost use Rattle.std.specs.Prelude.{◌≡◌, ◌<◌, ◌≤◌, [], IsTrue, length, slice_index};
 
+use std::marker::Model;
+
 /// How many lines a round has at most.
 pub const MOST_LINES: u8 = 8;
 
-/// The lines that a round of stores has touched.
+/// The lines that a round of stores has touched. Contracts see the list of them.
 #[derive(Clone, Copy, Debug, PartialEq, Eq)]
 pub struct Round {
     lines: [u64; MOST_LINES as usize],
     count: u8,
-    ghost eight: { length lines ≡ 8 },
-    ghost most: { count ≤ 8 },
+}
+
+impl Model for Round {
+    ghost use Rattle.std.specs.Prelude.{ℕ, List};
+
+    ghost Value = { List ℕ };
+
+    ghost use Rattle.whole_segment.specs.OneRound.{lines_of, round_of, IsRound};
+
+    ghost view = { lines_of };
+
+    ghost invariant = { IsRound };
+
+    ghost inverse = { round_of };
+
+    ghost inverse_ok = { λ a h. h.fields };
 }
 
 impl Round {
     ghost use Rattle.whole_segment.specs.Rounds.{ends_with, takes, touched};
-    ghost use Rattle.whole_segment.specs.OneRound.{lines_of};
 
     /// A round that has touched no line.
     pub fn begun() -> Round
-        ensures { lines_of result ≡ [] }
+        ensures { result ≡ [] }
     {
         Round {
             lines: [0; MOST_LINES as usize],
@@ -30,7 +45,7 @@ impl Round {
 
     /// How many lines it has touched.
     pub fn count(&self) -> u8
-        ensures is { result ≡ length (lines_of self.now) }
+        ensures is { result ≡ length self.now }
         ensures most { result ≤ 8 }
     {
         self.count
@@ -38,30 +53,30 @@ impl Round {
 
     /// One of the lines, by its number among them.
     pub fn line(&self, i: u8) -> u64
-        requires { i < length (lines_of self.now) }
-        ensures { result ≡ slice_index (lines_of self.now) i }
+        requires { i < length self.now }
+        ensures { result ≡ slice_index self.now i }
     {
         self.lines[usize::from(i)]
     }
 
     /// Whether the last of them is this line.
     fn ends_with(&self, line: u64) -> bool
-        ensures { result ≡ ends_with (lines_of self.now) line }
+        ensures { result ≡ ends_with self.now line }
     {
         self.count > 0 && self.lines[usize::from(self.count - 1)] == line
     }
 
     /// Whether a store to a word of this line still belongs to the round.
     pub fn takes(&self, line: u64) -> bool
-        ensures { result ≡ takes (lines_of self.now) line }
+        ensures { result ≡ takes self.now line }
     {
         self.ends_with(line) || self.count < MOST_LINES
     }
 
     /// Notes a store to a word of this line, which the round takes.
     pub fn touch(&mut self, line: u64)
-        requires { IsTrue (takes (lines_of self.old) line) }
-        ensures { lines_of self.new ≡ touched (lines_of self.old) line }
+        requires { IsTrue (takes self.old line) }
+        ensures { self.new ≡ touched self.old line }
     {
         if !self.ends_with(line) {
             self.lines[usize::from(self.count)] = line;

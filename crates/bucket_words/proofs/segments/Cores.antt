@@ -15,7 +15,7 @@ use Rattle.bucket_words.specs.Standing.{IsTable}
 use Rattle.bucket_words.specs.TableChanges.{KeepsTable}
 use Rattle.bucket_words.proofs.segments.Places.{owner_kept, owner_within}
 use Rattle.bucket_words.proofs.segments.Finding.{from_same}
-use Rattle.bucket_words.proofs.segments.NoSlot.{keeps}
+use Rattle.bucket_words.proofs.segments.changes.NoSlot.{keeps}
 
 record_is_whole : (n x : ℕ) → 4 ≤ n → core_in_bucket n x ≡ x
 record_is_whole zero x h = absurd (omega arith)

@@ -15,7 +15,7 @@ use Rattle.bucket_words.specs.Slots.{SameSlot}
 use Rattle.bucket_words.specs.Hits.{Hit}
 use Rattle.bucket_words.specs.HomeNotes.{IsUnnoted}
 use Rattle.bucket_words.specs.TableChanges.{ChangesSlot}
-use Rattle.bucket_words.proofs.segments.OneSlot.{cases_place, new_key, old_key}
+use Rattle.bucket_words.proofs.segments.changes.OneSlot.{cases_place, new_key, old_key}
 
 -- what a slot of stash bucket c gives home d, by its allocation bit and its key: its note, or nothing
 abbrev pub piece_by : Shape → ℕ → ℕ → ℕ → ℕ → List OverflowNote

@@ -15,8 +15,8 @@ use Rattle.bucket_words.specs.Hits.{Hit, HasNone, find}
 use Rattle.bucket_words.specs.Standing.{IsTable}
 use Rattle.bucket_words.specs.TableChanges.{KeepsTable, ChangesKey}
 use Rattle.bucket_words.proofs.segments.Finding.{find_none, none_found}
-use Rattle.bucket_words.proofs.segments.OneRecord.{insert_key, copy_key, clear_key}
-use Rattle.bucket_words.proofs.segments.Prepared.{key_keeps, value_keeps, low_keeps}
+use Rattle.bucket_words.proofs.segments.changes.OneRecord.{insert_key, copy_key, clear_key}
+use Rattle.bucket_words.proofs.segments.changes.Prepared.{key_keeps, value_keeps, low_keeps}
 
 -- two segments of depth 1, keys that are their own hashes: of segment 0 bucket 0 begins at word 96 and stash bucket 64 at word 2144;
 -- of segment 1 stash bucket 64 begins at word 4288

@@ -1,5 +1,5 @@
 -- Each is a lemma.
-use Rattle.bucket_meta.proofs.Uppers.{inserted_upper, member_upper, removed_upper}
+use Rattle.bucket_meta.proofs.fields.Uppers.{inserted_upper, member_upper, removed_upper}
 use Rattle.bucket_meta.proofs.laws.marks_keep_the_upper_part.Goals as goal
 
 pub returns-clause-inserted : goal.returns-clause-inserted

@@ -1,6 +1,6 @@
 -- Both are the words of the fields that were read.
 use Rattle.std.proofs.Common.{rules}
-use Rattle.bucket_meta.proofs.OneToOne.{same_three}
+use Rattle.bucket_meta.proofs.fields.OneToOne.{same_three}
 use Rattle.bucket_meta.proofs.laws.written_of_read.Goals as goal
 
 pub returns : goal.returns

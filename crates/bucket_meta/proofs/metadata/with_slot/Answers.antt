@@ -1,6 +1,6 @@
 -- The shifted 1 is bit slot alone.
 use Rattle.std.proofs.Common.{arith}
-use Rattle.bucket_meta.proofs.FieldBits.{set_same, set_other, set_below}
+use Rattle.bucket_meta.proofs.fields.FieldBits.{set_same, set_other, set_below}
 use Rattle.bucket_meta.proofs.metadata.with_slot.Goals as goal
 
 pub returns-clause-whole : goal.returns-clause-whole

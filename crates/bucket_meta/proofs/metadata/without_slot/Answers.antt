@@ -1,6 +1,6 @@
 -- The mask lacks bit slot alone.
 use Rattle.std.proofs.Common.{arith}
-use Rattle.bucket_meta.proofs.FieldBits.{clear_same, clear_other}
+use Rattle.bucket_meta.proofs.fields.FieldBits.{clear_same, clear_other}
 use Rattle.bucket_meta.proofs.metadata.without_slot.Goals as goal
 
 pub returns-clause-cleared : goal.returns-clause-cleared

@@ -2,7 +2,7 @@
 use Rattle.std.proofs.Common.{◌≡◌, ◌%◌, get_or, ap, rules, arith}
 use Rattle.std.specs.Int.{w64, to_le_bytes}
 use Rattle.std.proofs.lemmas.Nat.{le_bytes_8}
-use Rattle.bucket_meta.proofs.Each.{each_byte}
+use Rattle.bucket_meta.proofs.fields.Each.{each_byte}
 use Rattle.bucket_meta.proofs.metadata.word_of.Goals as goal
 
 pub returns : goal.returns

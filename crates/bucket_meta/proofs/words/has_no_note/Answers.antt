@@ -1,7 +1,7 @@
 -- The bits of the places are 0 exactly where each is.
 use Rattle.std.proofs.Common.{arith}
 use Rattle.std.proofs.lemmas.Bool.Decides.{nat_tests}
-use Rattle.bucket_meta.proofs.ZeroBits.{zero_gives, each_gives}
+use Rattle.bucket_meta.proofs.fields.ZeroBits.{zero_gives, each_gives}
 use Rattle.bucket_meta.proofs.words.has_no_note.Goals as goal
 
 pub returns : goal.returns

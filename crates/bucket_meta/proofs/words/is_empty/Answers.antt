@@ -2,7 +2,7 @@
 use Rattle.std.proofs.Common.{arith, zero-add, ◌∙◌, sym, ap}
 use Rattle.std.proofs.lemmas.Bool.Decides.{nat_tests}
 use Rattle.word_bits.specs.Bits.{bit}
-use Rattle.bucket_meta.proofs.ZeroBits.{zero_gives, each_gives}
+use Rattle.bucket_meta.proofs.fields.ZeroBits.{zero_gives, each_gives}
 use Rattle.bucket_meta.proofs.words.is_empty.Goals as goal
 
 pub returns : goal.returns

@@ -1,6 +1,6 @@
 -- Each clause is a lemma.
 use Rattle.std.proofs.Common.{sym, ◌∙◌}
-use Rattle.bucket_words.proofs.segments.OneRecord.{insert_key, copy_key, clear_key, update_key, remove_key}
+use Rattle.bucket_words.proofs.segments.changes.OneRecord.{insert_key, copy_key, clear_key, update_key, remove_key}
 use Rattle.bucket_words.proofs.records.changes_of_a_record.Goals as goal
 
 pub returns-clause-insert : goal.returns-clause-insert

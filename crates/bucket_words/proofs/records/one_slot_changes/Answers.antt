@@ -1,5 +1,5 @@
 -- Each clause is a lemma.
-use Rattle.bucket_words.proofs.segments.OneSlot.{changed_table, elsewhere, now_taken, now_free, still, still_foreign, only_new}
+use Rattle.bucket_words.proofs.segments.changes.OneSlot.{changed_table, elsewhere, now_taken, now_free, still, still_foreign, only_new}
 use Rattle.bucket_words.proofs.records.one_slot_changes.Goals as goal
 
 pub returns-clause-table : goal.returns-clause-table

@@ -1,5 +1,5 @@
 -- Each clause is a lemma.
-use Rattle.bucket_words.proofs.segments.Prepared.{key_keeps, value_keeps, low_keeps, high_keeps, core_keeps}
+use Rattle.bucket_words.proofs.segments.changes.Prepared.{key_keeps, value_keeps, low_keeps, high_keeps, core_keeps}
 use Rattle.bucket_words.proofs.records.stores_beside_records.Goals as goal
 
 pub returns-clause-key : goal.returns-clause-key

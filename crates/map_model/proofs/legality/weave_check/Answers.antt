@@ -3,7 +3,7 @@ use Rattle.std.specs.List.{AllByRecursion}
 use Rattle.std.specs.FinMap.{from_entries}
 use Rattle.map_model.specs.Weave.{draws}
 use Rattle.map_model.specs.Legal.{IsPlace}
-use Rattle.map_model.specs.Kept.{lists_of}
+use Rattle.map_model.specs.Roomed.{lists_of}
 use Rattle.map_model.proofs.Checks.{ordered}
 use Rattle.map_model.proofs.legality.weave_check.Goals as goal
 

@@ -1,5 +1,5 @@
 -- Bit by bit.
-use Rattle.whole_segment.proofs.MarkHalves.{are_halves}
+use Rattle.whole_segment.proofs.marking.MarkHalves.{are_halves}
 use Rattle.whole_segment.proofs.laws.marks_are_halves.Goals as goal
 
 pub returns : goal.returns

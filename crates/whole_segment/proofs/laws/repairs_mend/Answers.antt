@@ -1,5 +1,5 @@
 -- It is a lemma.
-use Rattle.whole_segment.proofs.Mended.{is_mended}
+use Rattle.whole_segment.proofs.marking.Mended.{is_mended}
 use Rattle.whole_segment.proofs.laws.repairs_mend.Goals as goal
 
 pub returns : goal.returns

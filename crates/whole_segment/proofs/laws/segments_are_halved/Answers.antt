@@ -1,5 +1,5 @@
 -- It is a lemma.
-use Rattle.whole_segment.proofs.Sides.{are_sides}
+use Rattle.whole_segment.proofs.marking.Sides.{are_sides}
 use Rattle.whole_segment.proofs.laws.segments_are_halved.Goals as goal
 
 pub returns : goal.returns

@@ -1,6 +1,6 @@
 -- The fields say what the words say, and neither is chosen exactly where both are full.
 use Rattle.std.proofs.Common.{refl}
-use Rattle.whole_segment.proofs.Fields.{full_is}
+use Rattle.whole_segment.proofs.marking.Fields.{full_is}
 use Rattle.whole_segment.proofs.room.are_full.Goals as goal
 
 pub returns-in-Neither : goal.returns-in-Neither

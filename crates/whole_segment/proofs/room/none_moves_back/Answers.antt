@@ -1,6 +1,6 @@
 -- The fields say what the words say.
 use Rattle.std.proofs.Common.{inl, inr}
-use Rattle.whole_segment.proofs.Fields.{full_is, no_members}
+use Rattle.whole_segment.proofs.marking.Fields.{full_is, no_members}
 use Rattle.whole_segment.proofs.Nones.{none_is}
 use Rattle.whole_segment.proofs.room.none_moves_back.Goals as goal
 

@@ -1,6 +1,6 @@
 -- Each field was taken from its bits, and the bytes of a word are its bits by eights.
 use Rattle.std.proofs.Common.{rules}
-use Rattle.bucket_meta.proofs.Each.{each_place, each_slot}
+use Rattle.bucket_meta.proofs.fields.Each.{each_place, each_slot}
 use Rattle.bucket_meta.proofs.metadata.Meta.read.Goals as goal
 
 pub returns : goal.returns

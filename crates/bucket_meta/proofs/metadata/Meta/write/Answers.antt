@@ -1,6 +1,6 @@
 -- The fields of word 1 are read back by division, and the bytes of words 2 and 3 one by one.
 use Rattle.std.proofs.Common.{lit<, sym, arith}
-use Rattle.bucket_meta.proofs.Each.{each_place, each_slot}
+use Rattle.bucket_meta.proofs.fields.Each.{each_place, each_slot}
 use Rattle.bucket_meta.proofs.metadata.Meta.write.Goals as goal
 
 pub returns-clause-fields : goal.returns-clause-fields

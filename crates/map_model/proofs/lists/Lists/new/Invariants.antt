@@ -1,5 +1,5 @@
 use Rattle.std.proofs.Common.{◌≡◌, map, take}
-use Rattle.map_model.specs.Kept.{with_room}
+use Rattle.map_model.specs.Roomed.{with_room}
 use Rattle.map_model.proofs.KeptViews.{all_kept}
 use Rattle.map_model.proofs.lists.Lists.new.Given as goal
 

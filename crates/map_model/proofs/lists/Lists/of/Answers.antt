@@ -1,7 +1,7 @@
 use Rattle.std.proofs.Common.{◌-◌, ◌<◌, Some, length, arith, ap, sym, ◌∙◌}
 use Rattle.std.proofs.lemmas.List.{length-map}
 use Rattle.std.specs.Prelude.{slice_get}
-use Rattle.map_model.specs.Kept.{lists_of}
+use Rattle.map_model.specs.Roomed.{lists_of}
 use Rattle.map_model.proofs.KeptViews.{kept_of, slice_get-all_kept}
 use Rattle.map_model.proofs.lists.Lists.of.Goals as goal
 

@@ -1,5 +1,5 @@
 use Rattle.std.proofs.Common.{◌-◌, ap, ◌∙◌}
-use Rattle.map_model.specs.Kept.{with_entry}
+use Rattle.map_model.specs.Roomed.{with_entry}
 use Rattle.map_model.proofs.KeptViews.{kept_of-push, all_kept-set}
 use Rattle.map_model.proofs.lists.Lists.push.Goals as goal
 

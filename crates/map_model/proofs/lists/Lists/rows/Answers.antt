@@ -1,5 +1,5 @@
 use Rattle.std.proofs.Common.{map, ap, sym, ◌∙◌}
-use Rattle.map_model.specs.Kept.{lists_of}
+use Rattle.map_model.specs.Roomed.{lists_of}
 use Rattle.map_model.proofs.KeptViews.{lists_of-all_kept}
 use Rattle.map_model.proofs.lists.Lists.rows.Goals as goal
 

@@ -4,7 +4,7 @@ use Rattle.word_bits.specs.Bits.{mask}
 use Rattle.sound_image.specs.Records.{key_hash}
 use Rattle.whole_segment.specs.Records.{first_in, key_in, IsCovered, covered_set}
 use Rattle.whole_segment.proofs.Telling.{sets_agree, covered_is}
-use Rattle.whole_segment.proofs.Sets.{IsSetBelow, one_more, no_more, whole_set}
+use Rattle.whole_segment.proofs.marking.Sets.{IsSetBelow, one_more, no_more, whole_set}
 use Rattle.whole_segment.proofs.loaded.Loaded.covered_slots.Goals as goal
 use Rattle.whole_segment.proofs.loaded.Loaded.covered_slots.Goals.{then-is_covered, else-is_covered}
 

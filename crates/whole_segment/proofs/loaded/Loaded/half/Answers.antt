@@ -5,7 +5,7 @@ use Rattle.sound_image.specs.Records.{key_hash}
 use Rattle.whole_segment.specs.Records.{first_in, key_in, Stands, IsCovered, covered_set}
 use Rattle.whole_segment.specs.Slots.{copied_mark}
 use Rattle.whole_segment.proofs.Telling.{sets_agree, covered_is}
-use Rattle.whole_segment.proofs.Marking.{marked_more, copy_has}
+use Rattle.whole_segment.proofs.marking.Marking.{marked_more, copy_has}
 use Rattle.whole_segment.proofs.loaded.Loaded.half.Goals as goal
 
 pub loop-bucket-preserved : goal.loop-bucket-preserved

@@ -5,7 +5,7 @@ use Rattle.whole_segment.specs.Records.{first_in, key_in}
 use Rattle.whole_segment.specs.Mending.{IsSpoiled, spoiled_set}
 use Rattle.whole_segment.specs.Slots.{cleared_mark}
 use Rattle.whole_segment.proofs.Telling.{sets_agree, spoiled_is}
-use Rattle.whole_segment.proofs.Marking.{marked_more, mended_is}
+use Rattle.whole_segment.proofs.marking.Marking.{marked_more, mended_is}
 use Rattle.whole_segment.proofs.loaded.Loaded.mended.Goals as goal
 
 pub loop-bucket-preserved : goal.loop-bucket-preserved

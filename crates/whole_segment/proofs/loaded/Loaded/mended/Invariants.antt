@@ -4,7 +4,7 @@ use Rattle.sound_image.specs.Records.{key_hash}
 use Rattle.whole_segment.specs.Records.{first_in, key_in}
 use Rattle.whole_segment.specs.Mending.{IsSpoiled}
 use Rattle.whole_segment.specs.Slots.{cleared_mark}
-use Rattle.whole_segment.proofs.Marking.{AreMarkedBelow}
+use Rattle.whole_segment.proofs.marking.Marking.{AreMarkedBelow}
 use Rattle.whole_segment.proofs.loaded.Loaded.mended.Given as goal
 
 abbrev pub invariant-loop-bucket : goal.invariant-loop-bucket

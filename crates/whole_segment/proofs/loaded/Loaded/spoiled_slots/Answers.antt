@@ -5,7 +5,7 @@ use Rattle.sound_image.specs.Records.{key_hash}
 use Rattle.whole_segment.specs.Records.{first_in, key_in}
 use Rattle.whole_segment.specs.Mending.{IsSpoiled, spoiled_set}
 use Rattle.whole_segment.proofs.Telling.{sets_agree, spoiled_is}
-use Rattle.whole_segment.proofs.Sets.{IsSetBelow, one_more, no_more, whole_set}
+use Rattle.whole_segment.proofs.marking.Sets.{IsSetBelow, one_more, no_more, whole_set}
 use Rattle.whole_segment.proofs.loaded.Loaded.spoiled_slots.Goals as goal
 use Rattle.whole_segment.proofs.loaded.Loaded.spoiled_slots.Goals.{then-is_spoiled, else-is_spoiled}
 

@@ -2,7 +2,7 @@
 use Rattle.sound_image.specs.Records.{key_hash}
 use Rattle.whole_segment.specs.Records.{first_in, key_in}
 use Rattle.whole_segment.specs.Mending.{IsSpoiled}
-use Rattle.whole_segment.proofs.Sets.{IsSetBelow}
+use Rattle.whole_segment.proofs.marking.Sets.{IsSetBelow}
 use Rattle.whole_segment.proofs.loaded.Loaded.spoiled_slots.Given as goal
 
 abbrev pub invariant-loop-slot : goal.invariant-loop-slot

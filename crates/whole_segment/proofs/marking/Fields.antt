@@ -3,7 +3,7 @@ use Rattle.std.proofs.Common.{ℕ, ◌↔◌, sym, ◌∙◌}
 use Rattle.bucket_meta.specs.declared.metadata.Meta.{Meta}
 use Rattle.bucket_meta.specs.MetaWords.{IsMetaOf}
 use Rattle.bucket_meta.specs.Slots.{IsFull}
-use Rattle.bucket_meta.proofs.FieldBits.{allocated_is, member_is}
+use Rattle.bucket_meta.proofs.fields.FieldBits.{allocated_is, member_is}
 use Rattle.displace.specs.Members.{OnlyMembersBelow, NoMembersBelow}
 use Rattle.whole_segment.specs.Room.{HasOnlyMembers, HasNoMembers}
 

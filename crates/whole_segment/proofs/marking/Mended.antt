@@ -9,8 +9,8 @@ use Rattle.whole_segment.specs.Slots.{copied_mark, AreHalves}
 use Rattle.whole_segment.specs.Records.{Stands}
 use Rattle.whole_segment.specs.Order.{bucket_at, slot_at, position_of, IsAt, StandsBefore}
 use Rattle.whole_segment.specs.Mending.{IsSpoiled, AreSpoiled, IsLookedFor, IsMended, without_spoiled}
-use Rattle.whole_segment.proofs.MarkHalves.{are_halves}
-use Rattle.whole_segment.proofs.Positions.{IsPlaceOf, position_most, position_again, place_again, bucket_low}
+use Rattle.whole_segment.proofs.marking.MarkHalves.{are_halves}
+use Rattle.whole_segment.proofs.marking.Positions.{IsPlaceOf, position_most, position_again, place_again, bucket_low}
 
 home_low : (h : ℕ) → home_of h < 64
 home_low h = omega arith

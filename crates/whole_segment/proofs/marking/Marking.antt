@@ -6,8 +6,8 @@ use Rattle.hash_word.specs.Hash.{Covers}
 use Rattle.whole_segment.specs.Slots.{IsSetOf, IsMarked, copied_mark, cleared_mark}
 use Rattle.whole_segment.specs.Records.{Stands, IsCovered}
 use Rattle.whole_segment.specs.Mending.{IsSpoiled, IsMended, without_spoiled}
-use Rattle.whole_segment.proofs.Sides.{are_sides}
-use Rattle.whole_segment.proofs.Mended.{is_mended}
+use Rattle.whole_segment.proofs.marking.Sides.{are_sides}
+use Rattle.whole_segment.proofs.marking.Mended.{is_mended}
 
 module _ (mark : ℕ → ℕ → ℕ) (P : ℕ → ℕ → Type 0) (first : ℕ → ℕ) where
   -- the buckets below n are marked

@@ -11,8 +11,8 @@ use Rattle.bucket_words.specs.Slots.{SameSlot}
 use Rattle.bucket_words.specs.Standing.{IsTable}
 use Rattle.bucket_words.specs.TableChanges.{KeepsTable}
 use Rattle.bucket_words.proofs.segments.Places.{other_word, this_word, owners_kept}
-use Rattle.bucket_words.proofs.segments.NoSlot.{keeps}
-use Rattle.bucket_words.proofs.segments.OneRecord.{not_both, finger_of_words}
+use Rattle.bucket_words.proofs.segments.changes.NoSlot.{keeps}
+use Rattle.bucket_words.proofs.segments.changes.OneRecord.{not_both, finger_of_words}
 use Rattle.bucket_words.proofs.segments.Cores.{keeps_of_cores}
 
 module _ (shape : Shape) (word : Words) (table : IsTable shape word) (s b m x i : ℕ) (segment : s < shape.segments) (bucket : b < buckets)

@@ -6,7 +6,7 @@ use Rattle.word_bits.specs.Bits.{bit}
 use Rattle.hash_word.specs.Hash.{Covers}
 use Rattle.whole_segment.specs.Slots.{IsSetOf, copied_mark, cleared_mark, AreHalves}
 use Rattle.whole_segment.specs.Records.{Stands, IsCovered, AreSides}
-use Rattle.whole_segment.proofs.MarkHalves.{are_halves}
+use Rattle.whole_segment.proofs.marking.MarkHalves.{are_halves}
 
 module _ (first covered : ℕ → ℕ) (key : ℕ → ℕ → ℕ) (hash : ℕ → ℕ) (depth pattern : ℕ) (word : (b : ℕ) → first b < 2 ^ 64)
     (are : (b : ℕ) → b < 66 → IsSetOf (IsCovered first key hash depth pattern b) (covered b)) where

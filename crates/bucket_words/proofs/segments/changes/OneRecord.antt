@@ -13,7 +13,7 @@ use Rattle.bucket_words.specs.Hits.{Hit, HasOnly}
 use Rattle.bucket_words.specs.Standing.{IsTable, StandsAt}
 use Rattle.bucket_words.specs.TableChanges.{KeepsTable, ChangesKey, IsReadyAt, OnlyNewHit, ChangesSlot}
 use Rattle.bucket_words.proofs.segments.Places.{other_word, this_word, owners_kept}
-use Rattle.bucket_words.proofs.segments.OneSlot.{changed_table, elsewhere, now_taken, now_free, still, only_new}
+use Rattle.bucket_words.proofs.segments.changes.OneSlot.{changed_table, elsewhere, now_taken, now_free, still, only_new}
 
 pub not_both : (n : ℕ) → n ≡ 1 → n ≡ 0 → ⊥
 not_both n e f = omega arith

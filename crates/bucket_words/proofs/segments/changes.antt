@@ -1,0 +1,6 @@
+-- What a store to one word of a bucket changes.
+pub mod OneSlot
+pub mod NoSlot
+pub mod OneRecord
+pub mod Foreign
+pub mod Prepared
