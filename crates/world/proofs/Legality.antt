@@ -20,12 +20,12 @@ use Rattle.map_model.proofs.Elements.{Has as IsIn, All-from_each, Has-append_cas
 use Rattle.map_model.proofs.Rows.{replay-append}
 use Rattle.map_model.proofs.Places.{and-parts}
 use Rattle.map_model.proofs.Histories.{from_places, replay-weave}
-use Rattle.world.specs.Site.{Site}
+use Rattle.world.specs.Ground.{Ground}
 use Rattle.world.specs.Views.{View, Has, At}
-use Rattle.world.specs.History.{Change, Log, map_now, map_when, Drew, result_of, change_of, reply_by, MayReply, IsRight}
-use Rattle.world.specs.Invariant.{total, History}
+use Rattle.world.specs.History.{DrawnChange, Log, map_now, map_when, Drew, result_of, change_of, reply_by, MayReply, IsRight}
+use Rattle.world.specs.Parts.{total, History}
 use Rattle.world.specs.Laws.{EntriesAreLegal}
-use Rattle.world.proofs.Entries.{when_now, place_le}
+use Rattle.world.proofs.basics.Entries.{when_now, place_le}
 
 -- ---- a reply in the map and by what the key has
 pub same_reply : (m : Map) (call : Call) → reply_by (get m (key_of call)) call ≡ reply_of m call
@@ -68,16 +68,16 @@ when_zero : (start : ℕ → Option ℕ) (log : Log) (k : ℕ) → map_when star
 when_zero start [] k = refl
 when_zero start (c ∷ log) k = ap (λ b. cond b (map_when start log 0 k) (map_now start (c ∷ log) k)) (le-leb 0 (length log) (omega arith)) ∙ when_zero start log k
 
-drew_below : (log : Log) (n : ℕ) (c : Change) → Drew log n c → n < length log
+drew_below : (log : Log) (n : ℕ) (c : DrawnChange) → Drew log n c → n < length log
 drew_below [] n c d = absurd d
 drew_below (e ∷ log) n c d = elim d [ inl q ↦ (let p = q.0 in omega (arith, p)) | inr r ↦ (let p = drew_below log n c r in omega (arith, p)) ]
 
-when_next : (start : ℕ → Option ℕ) (log : Log) (n k : ℕ) (c : Change) → Drew log n c → map_when start log (suc n) k ≡ cond (eqb k c.0) c.1 (map_when start log n k)
+when_next : (start : ℕ → Option ℕ) (log : Log) (n k : ℕ) (c : DrawnChange) → Drew log n c → map_when start log (suc n) k ≡ cond (eqb k c.0) c.1 (map_when start log n k)
 when_next start [] n k c d = absurd d
 when_next start (e ∷ log) n k c d = elim d [
   | inl q ↦ (let p = q.0 in
       ap (λ b. cond b (map_when start log (suc n) k) (map_now start (e ∷ log) k)) (lt-leb (suc n) (length log) (omega (arith, p)))
-      ∙ (ap (λ (x : Change). cond (eqb k x.0) x.1 (map_now start log k)) (sym q.1)
+      ∙ (ap (λ (x : DrawnChange). cond (eqb k x.0) x.1 (map_now start log k)) (sym q.1)
       ∙ ap (λ a. cond (eqb k c.0) c.1 a) (sym (ap (λ b. cond b (map_when start log n k) (map_now start (e ∷ log) k)) (le-leb n (length log) (omega (arith, p))) ∙ when_now start log n k p))))
   | inr r ↦ (let p = drew_below log n c r in
       ap (λ b. cond b (map_when start log (suc n) k) (map_now start (e ∷ log) k)) (le-leb (suc n) (length log) (omega (arith, p)))
@@ -118,7 +118,7 @@ only_one [] one = absurd (omega (arith, one))
 only_one (x ∷ []) one = (x, refl)
 only_one (x ∷ y ∷ es) one = absurd (omega (arith, one))
 
-module _ (site : Site) (words : Words) (views : List View) (log : Log) (o : History site words views log) (start : Map) (same : (k : ℕ) → get start k ≡ site.start k) where
+module _ (site : Ground) (words : Words) (views : List View) (log : Log) (o : History site words views log) (start : Map) (same : (k : ℕ) → get start k ≡ site.start k) where
   abbrev all : List Entry
   all = all_of (map own_of views)
 

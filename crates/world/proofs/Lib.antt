@@ -1,13 +1,9 @@
-pub mod Grounds
-pub mod Structures
-pub mod Tables
-pub mod Lists
-pub mod Seats
-pub mod Entries
-pub mod NotedLists
+pub mod basics
 pub mod fitting
 pub mod moving
 pub mod mild
+pub mod calls
+pub mod holders
 pub mod holding
 pub mod invariant
 pub mod device

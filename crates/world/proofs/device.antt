@@ -1,4 +1,3 @@
 -- The events of the device and what its cut may leave, against the views.
 pub mod Ties
 pub mod Worlds
-pub mod Good

@@ -6,11 +6,7 @@ pub mod Rows
 pub mod Kept
 pub mod Spared
 pub mod Guarding
-pub mod Owning
-pub mod Lasting
-pub mod Readying
-pub mod Saying
+pub mod lasting
 pub mod Learning
 pub mod Beginning
-pub mod Seated
 pub mod Calling

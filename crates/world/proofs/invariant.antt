@@ -1,16 +1,12 @@
 -- Each kind of step keeps the invariant, part by part.
 pub mod Stays
 pub mod KeepLocks
-pub mod KeepStructure
 pub mod KeepOwned
-pub mod KeepKnown
 pub mod KeepMedia
 pub mod KeepCopies
 pub mod KeepOverflow
 pub mod KeepPlans
 pub mod KeepHistory
 pub mod KeepRoom
-pub mod KeepNotes
 pub mod KeepSpending
 pub mod KeepPowered
-pub mod Keeps

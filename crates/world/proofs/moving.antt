@@ -4,12 +4,10 @@ pub mod Words
 pub mod LocksKept
 pub mod Fitting
 pub mod Keepers
+pub mod HeldGuards
 pub mod Stepping
-pub mod Said
-pub mod Whole
-pub mod MediaKept
+pub mod media
 pub mod Begun
-pub mod Tying
 pub mod Restarting
 pub mod Callers
 pub mod SpentNumbers

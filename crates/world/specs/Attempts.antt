@@ -7,7 +7,7 @@ use Rattle.map_model.specs.Legal.{seen_after}
 use Rattle.world.specs.Views.{View}
 use Rattle.world.specs.Kinds.{next_entry}
 
--- these locks, and nothing else: no word known or unsettled, no change planned, no record under way, and no note owed
+-- these locks, and nothing else: no area, no word known or unsettled, no change planned, no record under way, and no note owed
 pub record HoldsOnly (locks : List (ℕ × ℕ)) (v : View) : Type 0 where
   pub held : v.held ≡ locks
   pub known : v.known ≡ []
@@ -16,6 +16,7 @@ pub record HoldsOnly (locks : List (ℕ × ℕ)) (v : View) : Type 0 where
   pub planned : v.planned ≡ []
   pub moving : v.moving ≡ []
   pub owed : v.owed ≡ []
+  pub areas : v.areas ≡ []
 
 -- the replies of another view, and it has seen as much
 pub record HasNoMore (before v : View) : Type 0 where

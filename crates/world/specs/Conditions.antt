@@ -18,10 +18,10 @@ use Rattle.bucket_words.specs.Owners.{owner_of, home_at}
 use Rattle.bucket_words.specs.HomeNotes.{SameHomeNotes}
 use Rattle.bucket_words.specs.TableChanges.{KeepsTable, ChangesKey}
 use Rattle.frame_facts.specs.Facts.{Fact, Lives, Current, Rooted, HoldsFact}
-use Rattle.world.specs.Site.{Site, IsLockWord, IsUnder, version_of, IsStructured}
-use Rattle.world.specs.Views.{Note, Move, Owed, View, Has, HasLock, IsGuarded, IsLoose, IsFirm}
+use Rattle.world.specs.Ground.{Ground, IsLockWord, IsUnder, version_of, IsStructured}
+use Rattle.world.specs.Views.{Glance, Move, Owed, View, Has, HasLock, IsGuarded, IsLoose, IsFirm}
 use Rattle.world.specs.History.{result_of, reply_by, MayReply, HasRoomCause}
-use Rattle.world.specs.Kinds.{Kind, peeks, asks_power, meets_root, meets_entry, meets_head, pins, finds_room, refuses, places, looks, notes_word, validates, learns, meets_lock, tries, stores, copies, clears, repays, publishes, stashes, flushes, fences, draws_place, unlocks, cuts_power}
+use Rattle.world.specs.Kinds.{Kind, peeks, asks_power, meets_root, meets_entry, meets_head, pins, finds_room, refuses, places, looks, glances_word, validates, learns, meets_lock, tries, stores, copies, clears, repays, publishes, stashes, flushes, fences, draws_place, unlocks, cuts_power}
 
 -- ---- what is said of tables
 -- what is owed: with the notes as they were, the one that was owed makes them exact for the records as they are now
@@ -48,15 +48,15 @@ abbrev pub HasNoted : View → Type 0
 HasNoted v = (o : Owed) → Has o v.owed → o.added ≡ false
 
 -- ---- what a view knows
-module _ (site : Site) where
+module _ (site : Ground) where
   -- a medium has the words that a view knows and has not loose. What a cut leaves has their cores alone; since those
   -- decide, it is enough to speak of media that have them whole
   abbrev pub Agrees : View → Words → Type 0
   Agrees v medium = (i x : ℕ) → Has (i, x) v.known → ((y : ℕ) → IsLoose v (i, y) → ⊥) → medium i ≡ x
 
   -- words are those that were noted
-  abbrev pub AgreesWithNotes : List Note → Words → Type 0
-  AgreesWithNotes notes words = (note : Note) (i x : ℕ) → Has note notes → Has (i, x) note.words → words i ≡ x
+  abbrev pub AgreesWithNotes : List Glance → Words → Type 0
+  AgreesWithNotes notes words = (note : Glance) (i x : ℕ) → Has note notes → Has (i, x) note.words → words i ≡ x
 
   -- no change of this key is planned
   abbrev pub IsUnplanned : View → ℕ → Type 0
@@ -164,8 +164,8 @@ module _ (site : Site) where
   IsHomeOf o s b = (o.segment ≡ s) × (o.home ≡ b)
 
   -- a remove takes a record from a stash bucket whose lock is held
-  abbrev pub MayTake : View → Call → ℕ → ℕ → Type 0
-  MayTake v call k lock = (call ≡ Remove k) × HasLock v.held lock
+  abbrev pub TakesFromStash : View → Call → ℕ → ℕ → Type 0
+  TakesFromStash v call k lock = (call ≡ Remove k) × HasLock v.held lock
 
   -- what all stores ask
   pub record IsTidy (v : View) (i x : ℕ) (twin : ℕ → ℕ → ℕ → ℕ → ℕ → ℕ → Type 0) (home : ℕ → ℕ → Type 0) (taken : ℕ → ℕ → Type 0) : Type 0 where
@@ -190,12 +190,12 @@ module _ (site : Site) where
       ⊎ ((s : ℕ) × HoldsHome v s (key_of call) × IsUnplanned v (key_of call) × Always v (λ words. MayReply (find site.shape words (key_of call)) call reply))
 
   -- words may be the newest while all noted locks are free, and the noted header is as it was, as far as a reader can know
-  pub record IsNow (notes : List Note) (words : Words) : Type 0 where
+  pub record IsNow (notes : List Glance) (words : Words) : Type 0 where
     pub structure : IsStructured site words
     pub table : IsTable site.shape words
     pub agrees : AgreesWithNotes notes words
-    pub heads : (s : ℕ) (note : Note) → s < site.shape.segments → Has note notes → note.word ≡ head_at site.shape s + 1 → words (head_at site.shape s + 1) ≡ note.value
-    pub exact : (s b : ℕ) (note : Note) → s < site.shape.segments → b < homes → Has note notes → note.word ≡ bucket_at site.shape s b → HasExactNotes site.shape words s b
+    pub heads : (s : ℕ) (note : Glance) → s < site.shape.segments → Has note notes → note.word ≡ head_at site.shape s + 1 → words (head_at site.shape s + 1) ≡ note.value
+    pub exact : (s b : ℕ) (note : Glance) → s < site.shape.segments → b < homes → Has note notes → note.word ≡ bucket_at site.shape s b → HasExactNotes site.shape words s b
 
   -- a map may be what all keys have, as far as a view can know: it has what the newest words have for the keys of whose homes
   -- the view holds the locks, and the records in the buckets that it holds, which are of different keys
@@ -228,13 +228,13 @@ module _ (site : Site) where
   May (pins s b) v = (b < buckets) × HasLock v.held (bucket_at site.shape s b)
   May (finds_room call) v = IsChange call × (0 < v.callers)
   May (refuses call reply) v = (is_done reply ≡ false) × IsKnownReply v call reply × IsKnownCause v call reply × IsKnownSpent v reply
-  May (places k a) v = (s : ℕ) × ((note : Note) × Has note v.notes × (note.word ≡ bucket_at site.shape s (home_of (key_hash site.shape k))))
+  May (places k a) v = (s : ℕ) × ((note : Glance) × Has note v.notes × (note.word ≡ bucket_at site.shape s (home_of (key_hash site.shape k))))
       × ((words : Words) → IsNow v.notes words → (owner_of site.shape words (key_hash site.shape k) ≡ Some s) × (find site.shape words k ≡ a))
   May (looks lock) v = IsKnownLock v lock
-  May (notes_word lock i) v = IsLockWord site.shape lock × IsUnder lock i
+  May (glances_word lock i) v = IsLockWord site.shape lock × IsUnder lock i
   May (validates lock) v = ⊤
   May (learns i) v = IsGuarded v.held i
-  May (meets_lock lock) v = IsLockWord site.shape lock
+  May (meets_lock lock) v = IsKnownLock v lock
   May (tries lock free) v = IsKnownLock v lock × (free % 2 ≡ 0) × (free ≢ 2 ^ 64 - 2)
   May (stores i x) v = IsTidy v i x NoTwin Nowhere Nowhere × IsHarmless v i x
   May (copies i x m) v = IsTidy v i x (IsMoveOf m) Nowhere Nowhere × IsHarmless v i x
@@ -244,8 +244,8 @@ module _ (site : Site) where
   May (repays i x o) v = IsTidy v i x NoTwin (IsHomeOf o) Nowhere × IsHarmless v i x
       × Always v (λ words. HasExactNotes site.shape (with_word words i x) o.segment o.home)
       × Has o v.owed
-  May (publishes i x call) v = IsTidy v i x NoTwin Nowhere (MayTake v call) × ((s : ℕ) × HoldsHome v s (key_of call)) × IsUnplanned v (key_of call) × IsPublishing v call i x × HoldsPlaces v (key_of call)
-  May (stashes i x call o) v = IsTidy v i x NoTwin (IsHomeOf o) (MayTake v call) × ((s : ℕ) × HoldsHome v s (key_of call)) × IsUnplanned v (key_of call) × IsPublishing v call i x
+  May (publishes i x call) v = IsTidy v i x NoTwin Nowhere (TakesFromStash v call) × ((s : ℕ) × HoldsHome v s (key_of call)) × IsUnplanned v (key_of call) × IsPublishing v call i x × HoldsPlaces v (key_of call)
+  May (stashes i x call o) v = IsTidy v i x NoTwin (IsHomeOf o) (TakesFromStash v call) × ((s : ℕ) × HoldsHome v s (key_of call)) × IsUnplanned v (key_of call) × IsPublishing v call i x
       × (o.segment < site.shape.segments) × (o.home < homes) × HasLock v.held (bucket_at site.shape o.segment o.home) × OwesNone v o.segment o.home
       × Always v (λ words. IsOwed site.shape (with_word words i x) o) × HoldsPlaces v (key_of call)
   May (flushes l) v = ⊤

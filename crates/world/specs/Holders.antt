@@ -18,7 +18,7 @@ use Rattle.bucket_words.specs.HomeNotes.{IsUnnoted}
 use Rattle.bucket_words.specs.Hits.{Hit}
 use Rattle.bucket_words.specs.Standing.{StandsAt}
 use Rattle.bucket_words.specs.TableChanges.{IsReadyAt}
-use Rattle.world.specs.Site.{Site, IsUnder}
+use Rattle.world.specs.Ground.{Ground, IsUnder}
 use Rattle.world.specs.Views.{Move, Owed, View, Has, HasLock, IsLoose, IsFirm}
 use Rattle.world.specs.Kinds.{draws_place, stores, repays, publishes, stashes, copies, clears}
 use Rattle.world.specs.Conditions.{HoldsHome, IsUnplanned, IsKnownReply, OwesNone, May, IsOwedOf, IsKept, HasNoted}
@@ -49,12 +49,12 @@ pub record SparesTaken (word : Words) (at m x : ℕ) : Type 0 where
 
 -- the stores that change no pair: to the key, the value and the fingerprint of a free slot. The words of the slot itself may be
 -- loose: it is enough that the words of metadata are not
-pub record MayPrepare (site : Site) (v : View) : Type 0 where
+pub record MayPrepare (site : Ground) (v : View) : Type 0 where
   pub store : (s b m x : ℕ) (word : Words) → s < site.shape.segments → b < buckets → KnowsMeta site.shape v s b word → SparesTaken word (bucket_at site.shape s b) m x
       → May site (stores (bucket_at site.shape s b + m) x) v
 
 -- the search for a key found nothing: in its home and probing bucket, and in each stash bucket that it had to visit
-pub record FoundNone (site : Site) (v : View) (word : Words) (s k : ℕ) : Type 0 where
+pub record FoundNone (site : Ground) (v : View) (word : Words) (s k : ℕ) : Type 0 where
   pub led : HoldsHome site v s k
   pub unplanned : IsUnplanned site v k
   pub owes : OwesNone site v s (home_of (key_hash site.shape k))
@@ -66,7 +66,7 @@ pub record FoundNone (site : Site) (v : View) (word : Words) (s k : ℕ) : Type 
       ⊎ IsUnnoted site.shape word s (home_of (key_hash site.shape k)) (finger_of (key_hash site.shape k)) c
 
 -- the search for a key found it in slot r of bucket b
-pub record FoundAt (site : Site) (v : View) (word : Words) (s b r k : ℕ) : Type 0 where
+pub record FoundAt (site : Ground) (v : View) (word : Words) (s b r k : ℕ) : Type 0 where
   pub led : HoldsHome site v s k
   pub unplanned : IsUnplanned site v k
   pub still : v.moving ≡ []
@@ -89,7 +89,7 @@ pub record FreesSlot (r w x : ℕ) : Type 0 where
   pub overflow : x / 2 ^ 28 ≡ w / 2 ^ 28
 
 -- the stores by which a record appears whose key stood nowhere
-pub record MayPlace (site : Site) (v : View) : Type 0 where
+pub record MayPlace (site : Ground) (v : View) : Type 0 where
   -- an insert in the home or the probing bucket
   pub insert : (s b r k a x : ℕ) (word : Words) → FoundNone site v word s k → b < homes → KnowsBucket site.shape v s b word → IsReadyAt site.shape word s b r k
       → value_in word (bucket_at site.shape s b) r ≡ a → TakesSlot site.shape b r k (word (bucket_at site.shape s b + 1)) x
@@ -107,14 +107,14 @@ pub record MayPlace (site : Site) (v : View) : Type 0 where
       })) v
 
 -- the stores to a record that was found
-pub record MayChange (site : Site) (v : View) : Type 0 where
+pub record MayChange (site : Ground) (v : View) : Type 0 where
   -- an update wherever the record stands, and a remove in the home or the probing bucket
   pub update : (s b r k a : ℕ) (word : Words) → FoundAt site v word s b r k → May site (publishes (bucket_at site.shape s b + 5 + 2 * r) a (Update k a)) v
   pub remove : (s b r k x : ℕ) (word : Words) → FoundAt site v word s b r k → b < homes → FreesSlot r (word (bucket_at site.shape s b + 1)) x
       → May site (publishes (bucket_at site.shape s b + 1) x (Remove k)) v
 
 -- a remove of a record in the stash, for which a note is owed
-pub record MayUnstash (site : Site) (v : View) : Type 0 where
+pub record MayUnstash (site : Ground) (v : View) : Type 0 where
   pub remove : (s c r k x : ℕ) (word : Words) → FoundAt site v word s (homes + c) r k → OwesNone site v s (home_of (key_hash site.shape k)) → c < stash_buckets
       → FreesSlot r (word (bucket_at site.shape s (homes + c) + 1)) x
       → May site (stashes (bucket_at site.shape s (homes + c) + 1) x (Remove k) (record {
@@ -127,7 +127,7 @@ pub record MayUnstash (site : Site) (v : View) : Type 0 where
       })) v
 
 -- the replies that change nothing
-pub record MayTell (site : Site) (v : View) : Type 0 where
+pub record MayTell (site : Ground) (v : View) : Type 0 where
   pub absent : (call : Call) (reply : Reply) (s : ℕ) (word : Words) → FoundNone site v word s (key_of call) → s < site.shape.segments → MayReply None call reply → IsKnownReply site v call reply
   pub present : (call : Call) (reply : Reply) (s b r : ℕ) (word : Words) → FoundAt site v word s b r (key_of call)
       → MayReply (Some (value_in word (bucket_at site.shape s b) r)) call reply → IsKnownReply site v call reply
@@ -139,7 +139,7 @@ pub record KeepsNeighbours (shape : Shape) (word other : Words) (s b : ℕ) : Ty
   pub count_after : overflow_count (word_in shape other s (probing_of b) 1) ≡ overflow_count (word_in shape word s (probing_of b) 1)
 
 -- such a store to word n of bucket c by one who owes a note
-pub record TouchesNote (site : Site) (v : View) (word : Words) (o : Owed) (c n x : ℕ) : Type 0 where
+pub record TouchesNote (site : Ground) (v : View) (word : Words) (o : Owed) (c n x : ℕ) : Type 0 where
   pub owed : Has o v.owed
   pub segment : o.segment < site.shape.segments
   pub near : o.home < homes
@@ -151,7 +151,7 @@ pub record TouchesNote (site : Site) (v : View) (word : Words) (o : Owed) (c n x
   pub neighbours : KeepsNeighbours site.shape word (with_word word (bucket_at site.shape o.segment c + n) x) o.segment o.home
 
 -- the stores of a note that is owed
-pub record MayRepay (site : Site) (v : View) : Type 0 where
+pub record MayRepay (site : Ground) (v : View) : Type 0 where
   -- one of the stores of a note, and the last one, after which the notes are exact for whatever records the notes of before were to be
   pub part : (o : Owed) (c n x : ℕ) (word : Words) → TouchesNote site v word o c n x → May site (stores (bucket_at site.shape o.segment c + n) x) v
   pub last : (o : Owed) (c n x : ℕ) (word : Words) → TouchesNote site v word o c n x
@@ -161,7 +161,7 @@ pub record MayRepay (site : Site) (v : View) : Type 0 where
       → May site (repays (bucket_at site.shape o.segment c + n) x o) v
 
 -- the draw of a change: what is held and firm, and what of the stash is not held; and that no note is owed of a record that came there
-pub record DrawsWell (site : Site) (v : View) (call : Call) (s : ℕ) (word : Words) : Type 0 where
+pub record DrawsWell (site : Ground) (v : View) (call : Call) (s : ℕ) (word : Words) : Type 0 where
   pub planned : Has call v.planned
   pub room : 0 < v.room
   pub noted : HasNoted v
@@ -172,12 +172,12 @@ pub record DrawsWell (site : Site) (v : View) (call : Call) (s : ℕ) (word : Wo
   pub probing_words : KnowsBucket site.shape v s (probing_of (home_of (key_hash site.shape (key_of call)))) word
 
 -- the view owes the home nothing, or the note of a record that left, with the notes that are known
-abbrev pub OwesAsKnown : Site → View → Words → ℕ → ℕ → Type 0
+abbrev pub OwesAsKnown : Ground → View → Words → ℕ → ℕ → Type 0
 OwesAsKnown site v word s b = OwesNone site v s b
     ⊎ ((o : Owed) × Has o v.owed × (o.segment ≡ s) × (o.home ≡ b) × (o.added ≡ false) × (o.notes ≡ notes_of site.shape word s b) × (o.count ≡ overflow_count (word_in site.shape word s b 1)))
 
 -- the draws of a change
-pub record MayDraw (site : Site) (v : View) : Type 0 where
+pub record MayDraw (site : Ground) (v : View) : Type 0 where
   -- where the key stands in a bucket that is known
   pub shown : (call : Call) (s b r : ℕ) (word : Words) → DrawsWell site v call s word → KnowsBucket site.shape v s b word → Hit site.shape word s b r (key_of call) → v.moving ≡ []
       → ((c : ℕ) → c < stash_buckets → IsKept site v (bucket_at site.shape s (homes + c)) ⊎ (HasLock v.held (bucket_at site.shape s (homes + c)) → ⊥)) → May site (draws_place call) v
@@ -188,7 +188,7 @@ pub record MayDraw (site : Site) (v : View) : Type 0 where
       → May site (draws_place call) v
 
 -- the two stores by which a record is moved
-pub record MayMove (site : Site) (v : View) : Type 0 where
+pub record MayMove (site : Ground) (v : View) : Type 0 where
   -- the copy of a record of bucket b in bucket c
   pub copy : (s b r c t k x : ℕ) (word : Words) → HasLock v.held (bucket_at site.shape s (home_of (key_hash site.shape k))) → c < homes
       → KnowsBucket site.shape v s b word → KnowsBucket site.shape v s c word → Hit site.shape word s b r k → IsReadyAt site.shape word s c t k

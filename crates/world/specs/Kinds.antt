@@ -15,7 +15,7 @@ use Rattle.map_model.specs.Map.{key_of, shown}
 use Rattle.map_model.specs.Legal.{seen_after}
 use Rattle.bucket_words.specs.Core.{core_of}
 use Rattle.frame_facts.specs.Facts.{Fact, Lives, Current, Rooted, Begins}
-use Rattle.world.specs.Views.{Note, Answer, Move, Owed, View}
+use Rattle.world.specs.Views.{Glance, Answer, Move, Owed, View}
 use Rattle.world.specs.History.{Log, change_of}
 
 pub data Kind : Type 0 where
@@ -41,7 +41,7 @@ pub data Kind : Type 0 where
   -- a first load of a lock word
   looks : (lock : ℕ) → Kind
   -- a load of a word of a bucket that is noted
-  notes_word : (lock word : ℕ) → Kind
+  glances_word : (lock word : ℕ) → Kind
   -- a load of a noted lock word, or of the noted header, once more; the last of these makes the entry of a get
   validates : (word : ℕ) → Kind
   -- a load of a word under one's own lock
@@ -82,7 +82,7 @@ wanted shape (finds_room call) = Load (counter_word shape)
 wanted shape (refuses call reply) = Load (counter_word shape)
 wanted shape (places k a) = Load (counter_word shape)
 wanted shape (looks lock) = Load lock
-wanted shape (notes_word lock i) = Load i
+wanted shape (glances_word lock i) = Load i
 wanted shape (validates i) = Load i
 wanted shape (learns i) = Load i
 wanted shape (meets_lock lock) = Load lock
@@ -139,23 +139,23 @@ of_other_homes o [] = []
 of_other_homes o (n ∷ owed) = if (n.segment == o.segment) && (n.home == o.home) then of_other_homes o owed else n ∷ of_other_homes o owed
 
 -- the notes of a bucket with one word more
-abbrev pub with_noted : ℕ → ℕ → ℕ → List Note → List Note
+abbrev pub with_noted : ℕ → ℕ → ℕ → List Glance → List Glance
 with_noted lock i x [] = []
 with_noted lock i x (note ∷ notes) =
     (if note.word == lock then (record note { words = (i, x) ∷ note.words }) else note) ∷ with_noted lock i x notes
 
 -- the notes, of none of which the word was loaded again
-abbrev pub unmarked : List Note → List Note
+abbrev pub unmarked : List Glance → List Glance
 unmarked [] = []
 unmarked (note ∷ notes) = record note { again = false } ∷ unmarked notes
 
 -- the notes, where a noted word was loaded again and found to be x
-abbrev pub marked : ℕ → ℕ → List Note → List Note
+abbrev pub marked : ℕ → ℕ → List Glance → List Glance
 marked word x [] = []
 marked word x (note ∷ notes) =
     (if (note.word == word) && (note.value == x) then (record note { again = true }) else note) ∷ marked word x notes
 
-abbrev pub all_again : List Note → Bool
+abbrev pub all_again : List Glance → Bool
 all_again [] = true
 all_again (note ∷ notes) = note.again && all_again notes
 
@@ -236,7 +236,7 @@ view_after shape (finds_room call) n v = with_count (nat_lt n (2 ^ 63)) call n v
 view_after shape (refuses call reply) n v = with_reply v (next_entry v call reply n false)
 view_after shape (places k a) n v = record v { notes = unmarked v.notes; answer = Some (record { key = k; value = a; place = n }) }
 view_after shape (looks lock) n v = with_look (n % 2 == 0) lock n v
-view_after shape (notes_word lock i) n v = record v { notes = with_noted lock i n v.notes }
+view_after shape (glances_word lock i) n v = record v { notes = with_noted lock i n v.notes }
 view_after shape (validates i) n v = validated (record v { notes = marked i n v.notes })
 view_after shape (learns i) n v = record v { known = (i, n) ∷ v.known }
 view_after shape (meets_lock lock) n v = record v { spent_locks = with_spent (n == 2 ^ 64 - 2) lock v.spent_locks }

@@ -2,9 +2,8 @@
 use Rattle.std.specs.Prelude.{◌≡◌, ℕ, ◌≤◌, List, ◌++◌}
 use Rattle.trace.specs.Events.{Words}
 use Rattle.map_model.specs.declared.entry.Entry.{Entry}
-use Rattle.world.specs.Site.{Site}
+use Rattle.world.specs.Ground.{Ground}
 use Rattle.world.specs.Views.{View, Has, At}
-use Rattle.world.specs.Invariant.{Holds}
 use Rattle.world.specs.Kinds.{Kind, view_after}
 use Rattle.world.specs.Laws.{found_by}
 
@@ -15,8 +14,3 @@ pub record IsLater (before after : View) : Type 0 where
   pub own : after.own ≡ before.own ++ rest
   pub places : (e : Entry) → Has e rest → before.seen ≤ e.place
   pub seen : before.seen ≤ after.seen
-
--- A STEP leaves a later view
-abbrev pub RepliesComeLater : Type 0
-RepliesComeLater = (site : Site) (words : Words) (views : List View) (j : ℕ) (v : View) (kind : Kind) → Holds site words views → At views j v
-    → IsLater v (view_after site.shape kind (found_by site kind words) v)

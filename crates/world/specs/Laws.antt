@@ -12,7 +12,7 @@ use Rattle.bucket_words.specs.Standing.{IsTable}
 use Rattle.bucket_words.specs.Owners.{HasStructure}
 use Rattle.bucket_words.specs.Hits.{find}
 use Rattle.image_layout.specs.Volatile.{power_word}
-use Rattle.world.specs.Site.{Site}
+use Rattle.world.specs.Ground.{Ground}
 use Rattle.world.specs.Views.{View, At}
 use Rattle.world.specs.History.{Log, map_now}
 use Rattle.world.specs.Wants.{word_of, left_by, words_after}
@@ -20,10 +20,10 @@ use Rattle.world.specs.Kinds.{Kind, cuts_power, wanted, view_after}
 use Rattle.world.specs.Conditions.{May}
 use Rattle.world.specs.Entering.{Enters}
 use Rattle.world.specs.Media.{IsPossible, Stands}
-use Rattle.world.specs.Invariant.{History, Holds}
-use Rattle.world.specs.World.{World, step, IsWell, Begins}
+use Rattle.world.specs.Parts.{History}
+use Rattle.world.specs.World.{World}
 
-module _ (site : Site) (kind : Kind) where
+module _ (site : Ground) (kind : Kind) where
   -- the word that a step finds
   abbrev pub found_by : Words → ℕ
   found_by words = words (word_of site.shape (wanted site.shape kind))
@@ -36,27 +36,10 @@ module _ (site : Site) (kind : Kind) where
   abbrev pub views_by : ℕ → View → Words → List View → List View
   views_by j v words views = set views j (view_after site.shape kind (found_by words) v)
 
-  -- A STEP KEEPS THE INVARIANT, by a condition on the view of who takes it
-  abbrev pub Keeps : Type 0
-  Keeps = (words : Words) (views : List View) (j : ℕ) (v : View) → Holds site words views → At views j v → May site kind v
-      → Holds site (words_by j words) (views_by j v words views)
-
--- what a cut may leave has the structure that it had, is a table, and has for each key what the history
--- gives it, or what one change that is stored and not drawn does
-pub record IsGoodMedium (site : Site) (views : List View) (log : Log) (medium : Words) : Type 0 where
-  pub structure : HasStructure site.shape site.front medium
-  pub table : IsTable site.shape medium
-  pub stands : (k : ℕ) → Stands site views log k (find site.shape medium k)
-
--- WHATEVER A CUT MAY LEAVE IS GOOD, over one history in which all replies are right
-abbrev pub MediaStand : Type 0
-MediaStand = (site : Site) (words : Words) (views : List View) → Holds site words views
-    → (log : Log) × History site words views log × ((medium : Words) → IsPossible site words views medium → IsGoodMedium site views log medium)
-
 -- THE REPLIES ARE LEGAL: over a map that starts with the start's pairs, the replies of all callers are one legal history,
 -- whose replay has for each key what the log gives it
 abbrev pub EntriesAreLegal : Type 0
-EntriesAreLegal = (site : Site) (words : Words) (views : List View) (log : Log) → History site words views log
+EntriesAreLegal = (site : Ground) (words : Words) (views : List View) (log : Log) → History site words views log
     → (start : Map) → ((k : ℕ) → get start k ≡ site.start k)
     → IsLegal start (map (λ v. v.own) views) × ((k : ℕ) → get (replay start (weave (map (λ v. v.own) views))) k ≡ map_now site.start log k)
 
@@ -72,27 +55,3 @@ StepsEnter = (shape : Shape) (kind : Kind) (n : ℕ) (v : View) → Enters kind 
 -- and leaves the view for as many callers
 abbrev pub CallersStay : Type 0
 CallersStay = (shape : Shape) (kind : Kind) (n : ℕ) (v : View) → (view_after shape kind n v).callers ≡ v.callers
-
--- no step but its own store changes the power word
-abbrev pub PowerStays : Type 0
-PowerStays = (site : Site) (words : Words) (views : List View) (j : ℕ) (v : View) (kind : Kind) (c : ℕ) → Holds site words views → At views j v → (kind ≡ cuts_power → ⊥) → May site kind v
-    → words_after site.shape (wanted site.shape kind) c words (power_word site.shape) ≡ words (power_word site.shape)
-
--- A STEP DOES WHAT ITS EVENT SAYS: the words after it are those that the events make
-abbrev pub DoesItsEvent : Type 0
-DoesItsEvent = (shape : Shape) (start : Words) (kind : Kind) (j : ℕ) (world : World) → world.words ≡ value start world.trace
-    → (step shape kind j world).words ≡ value start (step shape kind j world).trace
-
--- A STEP KEEPS THE WORLD WELL, by a condition on the view of who takes it
-abbrev pub KeepsWell : Type 0
-KeepsWell = (site : Site) (start : Words) (kind : Kind) (world : World) (j : ℕ) (v : View) → IsWell site start world → At world.views j v → May site kind v
-    → IsWell site start (step site.shape kind j world)
-
--- a restart leaves the world well
-abbrev pub BeginsWell : Type 0
-BeginsWell = (site : Site) (start : Words) (world : World) → Begins site start world → IsWell site start world
-
--- WHAT A CUT OF THE DEVICE MAY LEAVE is what the views say
-abbrev pub DeviceLeaves : Type 0
-DeviceLeaves = (site : Site) (start : Words) (world : World) (medium : Words) → IsWell site start world
-    → DevicePossible (words_of site.shape) start world.trace medium → IsPossible site world.words world.views medium

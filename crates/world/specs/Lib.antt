@@ -1,4 +1,4 @@
-pub mod Site
+pub mod Ground
 pub mod areas
 pub mod Views
 pub mod History
@@ -7,14 +7,16 @@ pub mod Kinds
 pub mod Conditions
 pub mod Entering
 pub mod Media
+pub mod Parts
 pub mod Invariant
+pub mod StepKinds
 pub mod Tied
 pub mod World
 pub mod Seats
 pub mod Laws
+pub mod StepLaws
 pub mod Pairs
 pub mod Later
-pub mod Spent
 pub mod Holders
 pub mod Readers
 pub mod Attempts

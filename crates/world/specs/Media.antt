@@ -6,11 +6,11 @@ use Rattle.image_layout.specs.Places.{words_of}
 use Rattle.map_model.specs.declared.call.Call.{Call}
 use Rattle.map_model.specs.Map.{key_of}
 use Rattle.bucket_words.specs.Core.{core_of}
-use Rattle.world.specs.Site.{Site}
+use Rattle.world.specs.Ground.{Ground}
 use Rattle.world.specs.Views.{View, Has, At, IsLoose}
 use Rattle.world.specs.History.{Log, map_now, result_of}
 
-module _ (site : Site) (words : Words) (views : List View) where
+module _ (site : Ground) (words : Words) (views : List View) where
   -- word i may be left with y
   abbrev pub MayLeave : ℕ → ℕ → Type 0
   MayLeave i y = (core_of site.shape i y ≡ core_of site.shape i (words i))
@@ -25,5 +25,5 @@ abbrev pub IsPlanned : List View → ℕ → Option ℕ → Type 0
 IsPlanned views k a = (j : ℕ) × (u : View) × (call : Call) × At views j u × Has call u.planned × (key_of call ≡ k) × (result_of call ≡ a)
 
 -- what a key may be left with: what the history gives it, or what one such change does
-abbrev pub Stands : Site → List View → Log → ℕ → Option ℕ → Type 0
+abbrev pub Stands : Ground → List View → Log → ℕ → Option ℕ → Type 0
 Stands site views log k a = (a ≡ map_now site.start log k) ⊎ IsPlanned views k a

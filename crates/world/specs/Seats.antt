@@ -2,9 +2,8 @@
 -- told from caller to caller, and at the end of a pass.
 use Rattle.std.specs.Prelude.{◌≢◌, ℕ, ◌+◌, ◌-◌, ◌≤◌, max, ◌||◌, List, [], ◌∷◌, ◌++◌, None, set}
 use Rattle.trace.specs.Events.{Words}
-use Rattle.world.specs.Site.{Site}
+use Rattle.world.specs.Ground.{Ground}
 use Rattle.world.specs.Views.{View, At}
-use Rattle.world.specs.Invariant.{Holds}
 use Rattle.world.specs.World.{fresh_view}
 
 -- the view that is cut off for n callers: it has seen what the other has
@@ -40,13 +39,3 @@ joined v w = record v {
 -- the view that was taken in: its replies stay, as its caller's; what it relied on went with its locks
 abbrev pub spent : View → View
 spent w = record w { held = []; known = []; dirty = []; flushed = []; planned = []; moving = []; owed = []; notes = []; answer = None; callers = 0; room = 0; facts = []; pinned = []; areas = [] }
-
--- A VIEW THAT IS CUT IN TWO keeps the invariant; the new one takes the next seat
-abbrev pub CutsKeep : Type 0
-CutsKeep = (site : Site) (words : Words) (views : List View) (j : ℕ) (v : View) (n : ℕ) → Holds site words views → At views j v → n ≤ v.callers
-    → Holds site words (set views j (left_of v n) ++ cut_off v n ∷ [])
-
--- TWO VIEWS THAT ARE JOINED keep it
-abbrev pub JoinsKeep : Type 0
-JoinsKeep = (site : Site) (words : Words) (views : List View) (j i : ℕ) (v w : View) → Holds site words views → At views j v → At views i w → i ≢ j
-    → Holds site words (set (set views j (joined v w)) i (spent w))

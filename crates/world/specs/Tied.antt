@@ -6,11 +6,11 @@ use Rattle.trace.specs.Progress.{pending, HadSince}
 use Rattle.trace.specs.Steps.{HadSinceSettled}
 use Rattle.image_layout.specs.Places.{words_of}
 use Rattle.bucket_words.specs.Core.{core_of}
-use Rattle.world.specs.Site.{Site}
+use Rattle.world.specs.Ground.{Ground}
 use Rattle.world.specs.Views.{View, Has, At}
 use Rattle.world.specs.Media.{MayLeave}
 
-module _ (site : Site) (start : Words) (es : Trace) where
+module _ (site : Ground) (start : Words) (es : Trace) where
   -- a caller flushed the line of word i and has not fenced since; and since that flush the word had only the core that it
   -- has now, or one that it had before a store which the caller still has dirty
   pub record IsFlushed (c : ℕ) (dirty : List (ℕ × ℕ)) (i : ℕ) : Type 0 where

@@ -6,11 +6,11 @@ use Rattle.map_model.specs.declared.call.Call.{Call}
 use Rattle.map_model.specs.declared.entry.Entry.{Entry}
 use Rattle.frame_facts.specs.Facts.{Fact}
 use Rattle.world.specs.areas.Areas.{Area}
-use Rattle.world.specs.Site.{IsUnder}
+use Rattle.world.specs.Ground.{IsUnder}
 pub use Rattle.trace.specs.Listed.{Has}
 
 -- what a reader noted of a bucket whose lock it found free, or of the header that led it there
-pub record Note : Type 0 where
+pub record Glance : Type 0 where
   -- the lock word, or the header word
   pub word : ℕ
   -- the value that it had, of a lock word a free one
@@ -60,7 +60,7 @@ pub record View : Type 0 where
   pub moving : List Move
   -- the notes that it owes
   pub owed : List Owed
-  pub notes : List Note
+  pub notes : List Glance
   pub answer : Option Answer
   -- its replies, in their order
   pub own : List Entry

@@ -12,9 +12,9 @@ pub mod Seated
 pub mod Calling
 pub mod Kinds
 pub mod Asking
-pub mod Holding
 pub mod Keeping
-pub mod MovingWorld
+pub mod Worlds
 pub mod Restarting
 pub mod Bridging
 pub mod SpentNumbers
+pub mod Splitting

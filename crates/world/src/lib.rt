@@ -1,13 +1,16 @@
 //! The world of many callers: words that they share, what each of them knows and owes, and what stays true between any
 //! two events.
 //!
-//! Definitions and laws alone. `specs/` reads from `Site` over `Views` and `History` to `Invariant`; `Kinds` has the
-//! kinds of step, `Conditions` what each of them asks, and `Laws` the laws.
+//! Definitions and laws alone. `specs/` reads from `Ground` over `Views`, `History` and `Parts` to `Invariant`; `Kinds` has
+//! the kinds of step of calls and `Conditions` what each of them asks, `areas/Kinds` and `areas/Asking` those at the
+//! structure; `StepKinds` puts both together, and `StepLaws` has the laws.
 #![tactic(auto)]
 
 mod areas;
 mod laws;
 pub mod site;
+mod splitting;
+mod steps;
 mod structure;
 
 pub use areas::{
@@ -16,18 +19,23 @@ pub use areas::{
     sides_are_ready_everywhere_or_nowhere, stores_keep_areas, stores_spare_others,
     words_have_one_holder,
 };
-pub use laws::{
-    device_leaves_what_views_say, each_step_keeps, entries_are_legal, holders_may, media_stand,
-    other_steps_keep_pairs, readers_may, replies_come_later, seats_keep, spent_lock_words_stay,
-    steps_add_one_reply, steps_do_events, steps_keep_the_power_word, worlds_stay_well,
-};
+pub use laws::{entries_are_legal, holders_may, readers_may, steps_add_one_reply};
 pub use site::Site;
+pub use splitting::{
+    holders_may_begin_a_split, holders_may_direct, holders_may_fill, holders_may_finish,
+    holders_may_publish, locks_tell_of_records,
+};
+pub use steps::{
+    calls_need_no_areas, calls_spare_the_structure, each_step_keeps, media_stand, mild_kinds_keep,
+    seats_keep, steps_do_events, steps_leave, worlds_stay_well,
+};
 pub use structure::{
-    callers_keep_locks_and_words, callers_keep_other_parts, callers_keep_records,
-    callers_keep_spent_numbers, callers_know_as_before, device_leaves_what_moving_views_say,
+    callers_keep_locks_and_words, callers_keep_media, callers_keep_other_parts,
+    callers_keep_readers_notes, callers_keep_records, callers_keep_spent_numbers,
+    callers_keep_the_structure, callers_know_as_before, device_leaves_what_views_say,
     held_words_stay, locks_stay, notes_of_homes_stay, other_parts_stay, records_stay,
     steps_keep_areas, steps_keep_facts, steps_keep_guards, steps_keep_media,
     steps_keep_the_structure, steps_keep_the_structure_sound, structure_begins,
-    structure_keeps_tied, structure_steps_change_no_pair, structure_steps_keep_what_holds,
+    structure_keeps_tied, structure_steps_change_no_pair, structure_steps_keep,
     what_views_know_is_so,
 };

@@ -2,12 +2,12 @@
 //! nothing: each stands for the law that its contract says.
 
 ghost use Rattle.world.specs.areas.Calling.{CallersKeepLocks, CallersKeepHeldWords};
-ghost use Rattle.world.specs.areas.Keeping.{KnownIsSo, KeepsHeldWords, KeepsLocks, KeepsRecords, KeepsNotesOfHomes, KeepsOthers, KeepsAreas, KeepsGuards, KeepsSayers, KeepsPins, KeepsSound, KeepsFacts, KeepsStructure, KeepsMedia, KeepsHolding, StructureStepsSpare, StructureStepsReplyNothing};
-ghost use Rattle.world.specs.areas.Bridging.{CallersKnowAsBefore, CallersKeepOthers, CallersKeepRecords, CallersKeepNotesOfHomes};
-ghost use Rattle.world.specs.areas.Beginning.{RestartsBeginMoving, RaisedVersionsLeaveNoneCurrent, RaisedVersionsBegin, BeginsBeginMoving};
+ghost use Rattle.world.specs.areas.Keeping.{KnownIsSo, KeepsHeldWords, KeepsLocks, KeepsRecords, KeepsNotesOfHomes, KeepsOthers, KeepsAreas, KeepsGuards, KeepsHeldGuards, KeepsSayers, KeepsPins, KeepsSound, KeepsFacts, KeepsStructure, KeepsMedia, KeepsHolding, StructureStepsSpare, StructureStepsReplyNothing};
+ghost use Rattle.world.specs.areas.Bridging.{CallersKnowAsBefore, CallersKeepOthers, CallersKeepRecords, CallersKeepNotesOfHomes, CallersKeepStructure, CallersKeepMedia, CallersKeepReadersNotes};
+ghost use Rattle.world.specs.areas.Beginning.{RestartsBegin, RaisedVersionsLeaveNoneCurrent, RaisedVersionsBegin};
 ghost use Rattle.world.specs.areas.Restarting.{SoundImagesBegin};
 ghost use Rattle.world.specs.areas.SpentNumbers.{CallersKeepSpending};
-ghost use Rattle.world.specs.areas.MovingWorld.{StructureStepsDoEvents, StructureStepsKeepTied, FlushesKeepTied, CallersKeepTied, StructureStepsMoveWell, RestartsMoveWell, DeviceLeavesMoving};
+ghost use Rattle.world.specs.areas.Worlds.{StructureStepsDoEvents, StructureStepsKeepTied, FlushesKeepTied, CallersKeepTied, StructureStepsKeepWell, BeginsWell, DeviceLeaves};
 
 /// What a view knows is so: of the newest words, and of what a cut may leave, by its cores.
 pub fn what_views_know_is_so()
@@ -48,10 +48,11 @@ pub fn steps_keep_areas()
     ensures { KeepsAreas }
 {}
 
-/// Who has a guard, its word is not 0; who says that a segment claims hashes has its guard or that of the directory; and a pinned header is
-/// as it was.
+/// Who has a guard, its word is not 0; a guard whose word is not 0 is had by some view; who says that a segment claims hashes has its guard or
+/// that of the directory; and a pinned header is as it was.
 pub fn steps_keep_guards()
     ensures guards { KeepsGuards }
+    ensures held { KeepsHeldGuards }
     ensures sayers { KeepsSayers }
     ensures pins { KeepsPins }
 {}
@@ -80,13 +81,12 @@ pub fn steps_keep_media()
 
 /// A restart begins what holds while the structure moves, where each current segment is repaired: of stale segments, new sides and free
 /// slots nothing is asked. So it is after a restart of any sound image. Where it raised the version no segment is current, so nothing is
-/// asked of any; and what a restart leaves where no structure moves is enough.
+/// asked of any.
 pub fn structure_begins()
-    ensures begins { RestartsBeginMoving }
+    ensures begins { RestartsBegin }
     ensures any { SoundImagesBegin }
     ensures none { RaisedVersionsLeaveNoneCurrent }
     ensures raised { RaisedVersionsBegin }
-    ensures closed { BeginsBeginMoving }
 {}
 
 /// Each step at the structure leaves the words that its event makes, and keeps the views tied to the events of the device; so does a flush
@@ -96,23 +96,23 @@ pub fn structure_keeps_tied()
     ensures steps { StructureStepsKeepTied }
     ensures flushes { FlushesKeepTied }
     ensures callers { CallersKeepTied }
-    ensures well { StructureStepsMoveWell }
-    ensures begins { RestartsMoveWell }
+    ensures well { StructureStepsKeepWell }
+    ensures begins { BeginsWell }
 {}
 
 /// What a power cut of the device may leave while the structure moves is what the views say.
-pub fn device_leaves_what_moving_views_say()
-    ensures { DeviceLeavesMoving }
+pub fn device_leaves_what_views_say()
+    ensures { DeviceLeaves }
 {}
 
 /// So each kind of step at the structure keeps all that holds while the structure moves, for any number of callers, by a condition on the
 /// stepping caller's view alone; and none adds to the history.
-pub fn structure_steps_keep_what_holds()
+pub fn structure_steps_keep()
     ensures { KeepsHolding }
 {}
 
-/// And it leaves what each key has in the newest words, the power word, and each lock word that is free with the last version; of its
-/// caller it leaves what it has replied and seen.
+/// And it leaves what each key has in the newest words, the power word, and each lock word of a live segment that is free with the last version;
+/// of its caller it leaves what it has replied and seen.
 pub fn structure_steps_change_no_pair()
     ensures spare { StructureStepsSpare }
     ensures reply { StructureStepsReplyNothing }
@@ -146,4 +146,20 @@ pub fn callers_keep_other_parts()
 pub fn callers_keep_records()
     ensures records { CallersKeepRecords }
     ensures notes { CallersKeepNotesOfHomes }
+{}
+
+/// And that the structure is sound in whatever a cut may leave, that locks and areas fit it, that facts hold and pinned headers are as they
+/// were, where no fence settles a side as a live segment.
+pub fn callers_keep_the_structure()
+    ensures { CallersKeepStructure }
+{}
+
+/// And that whatever a cut may leave is a table, with what the history or one planned change gives each key.
+pub fn callers_keep_media()
+    ensures { CallersKeepMedia }
+{}
+
+/// And that what readers noted falls behind no further than its word comes, so that a noted answer stays right.
+pub fn callers_keep_readers_notes()
+    ensures { CallersKeepReadersNotes }
 {}

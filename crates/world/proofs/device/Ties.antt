@@ -17,19 +17,18 @@ use Rattle.image_layout.specs.Places.{Shape, words_of}
 use Rattle.image_layout.specs.Volatile.{counter_word, power_word}
 use Rattle.map_model.specs.declared.call.Call.{Call}
 use Rattle.bucket_words.specs.Core.{core_of}
-use Rattle.world.specs.Site.{Site, IsLockWord}
+use Rattle.world.specs.Ground.{Ground, IsLockWord}
 use Rattle.world.specs.Views.{Answer, View, Has, At, HasLock, IsGuarded, IsLoose}
 use Rattle.world.specs.Media.{MayLeave}
-use Rattle.world.specs.Invariant.{Holds}
-use Rattle.world.specs.Kinds.{Kind, peeks, asks_power, meets_root, meets_entry, meets_head, pins, finds_room, refuses, places, looks, notes_word, validates, learns, meets_lock, tries, stores, copies, clears, repays, publishes, stashes, flushes, fences, draws_place, unlocks, cuts_power, wanted, on_line, off_line, loosened, marked, all_again, with_answer, with_look, with_count, with_lock, with_draw}
+use Rattle.world.specs.Kinds.{Kind, peeks, asks_power, meets_root, meets_entry, meets_head, pins, finds_room, refuses, places, looks, glances_word, validates, learns, meets_lock, tries, stores, copies, clears, repays, publishes, stashes, flushes, fences, draws_place, unlocks, cuts_power, wanted, on_line, off_line, loosened, marked, all_again, with_answer, with_look, with_count, with_lock, with_draw}
 use Rattle.world.specs.Conditions.{IsKnownLock, May}
 use Rattle.world.specs.Wants.{event_of}
 use Rattle.world.specs.Tied.{IsFlushed, Tied}
 use Rattle.world.specs.Laws.{found_by, views_by}
-use Rattle.world.proofs.Structures.{known_lock}
-use Rattle.world.proofs.Grounds.{lock_core}
-use Rattle.world.proofs.Lists.{set_here, set_there, has_joined}
-use Rattle.world.proofs.Seats.{each, is_v, carry, one_guard, guarded_within, guarded_no_lock}
+use Rattle.world.proofs.basics.Structures.{known_lock}
+use Rattle.world.proofs.basics.Grounds.{lock_core}
+use Rattle.world.proofs.basics.Lists.{set_here, set_there, has_joined}
+use Rattle.world.proofs.basics.Seats.{each, is_v, carry}
 
 -- ---- lists of a view
 has_left : (xs ys : List (ℕ × ℕ)) (p : ℕ × ℕ) → Has p xs → Has p (xs ++ ys)
@@ -101,11 +100,7 @@ answer_loose false a v = (refl, refl)
 answer_loose true None v = (refl, refl)
 answer_loose true (Some a) v = (refl, refl)
 
-lock_loose : (t : Bool) (lock free : ℕ) (v : View) → KeepsLoose (with_lock t lock free v) v
-lock_loose true lock free v = (refl, refl)
-lock_loose false lock free v = (refl, refl)
-
-module _ (site : Site) (start : Words) (es : Trace) (views : List View) (j : ℕ) (v w : View) (at : At views j v) (o : Tied site start es views) where
+module _ (site : Ground) (start : Words) (es : Trace) (views : List View) (j : ℕ) (v w : View) (at : At views j v) (o : Tied site start es views) where
   abbrev now : Words
   now = value start es
 
@@ -209,7 +204,7 @@ module _ (site : Site) (start : Words) (es : Trace) (views : List View) (j : ℕ
       (λ _. elim (loses site.shape now v.dirty i x) [ inl e ↦ inl e | inr d ↦ inr (subst (λ (z : List (ℕ × ℕ)). Has (i, now i) z) (sym dirty) d) ])
       inside alone
 
-module _ (site : Site) (start : Words) (es : Trace) (views : List View) (j : ℕ) (v : View) (at : At views j v) (o : Tied site start es views) where
+module _ (site : Ground) (start : Words) (es : Trace) (views : List View) (j : ℕ) (v : View) (at : At views j v) (o : Tied site start es views) where
   pub tied_flush : (l : ℕ) → Tied site start (flushed j l ∷ es) (set views j (record v { dirty = off_line l v.dirty; flushed = on_line l v.dirty ++ v.flushed }))
   tied_flush l = record {
     covered = λ n y within had. elim (may_more start (flushed j l) es n y had) [
@@ -300,7 +295,7 @@ module _ (site : Site) (start : Words) (es : Trace) (views : List View) (j : ℕ
 
 -- ---- what is said of flushed words, for the steps of a caller to keep it so: they lie within the image; and nobody else has one under
 -- a lock that the view holds, nor the word of a lock that it holds or knows
-pub record SparesFlushed (site : Site) (views : List View) (j : ℕ) (v : View) : Type 0 where
+pub record SparesFlushed (site : Ground) (views : List View) (j : ℕ) (v : View) : Type 0 where
   pub inside : (c : ℕ) (u : View) (n y : ℕ) → At views c u → Has (n, y) u.flushed → n < words_of site.shape
   pub alone : (i : ℕ) → IsGuarded v.held i → (c : ℕ) (u : View) (y : ℕ) → c ≢ j → At views c u → Has (i, y) u.flushed → ⊥
   pub is_lock : (lock : ℕ) → HasLock v.held lock → IsLockWord site.shape lock
@@ -308,7 +303,7 @@ pub record SparesFlushed (site : Site) (views : List View) (j : ℕ) (v : View) 
   pub known : (lock : ℕ) → IsKnownLock site v lock → (c : ℕ) (u : View) (y : ℕ) → c ≢ j → At views c u → Has (lock, y) u.flushed → ⊥
 
 -- ---- by kinds
-module _ (site : Site) (start : Words) (es : Trace) (views : List View) (j : ℕ) (v : View) (f : SparesFlushed site views j v) (at : At views j v) (o : Tied site start es views) where
+module _ (site : Ground) (start : Words) (es : Trace) (views : List View) (j : ℕ) (v : View) (f : SparesFlushed site views j v) (at : At views j v) (o : Tied site start es views) where
   abbrev words : Words
   words = value start es
 
@@ -350,7 +345,7 @@ module _ (site : Site) (start : Words) (es : Trace) (views : List View) (j : ℕ
   tied_by_kind (refuses call reply) may = calm _ _ (refl, refl)
   tied_by_kind (places k a) may = calm _ _ (refl, refl)
   tied_by_kind (looks lock) may = calm _ _ (look_loose (eqb (words lock % 2) 0) lock (words lock) v)
-  tied_by_kind (notes_word lock i) may = calm _ _ (refl, refl)
+  tied_by_kind (glances_word lock i) may = calm _ _ (refl, refl)
   tied_by_kind (validates lock) may = calm _ _ (answer_loose (all_again (marked lock (words lock) v.notes)) v.answer (record v { notes = marked lock (words lock) v.notes }))
   tied_by_kind (learns i) may = calm _ _ (refl, refl)
   tied_by_kind (meets_lock lock) may = calm _ _ (refl, refl)
@@ -368,24 +363,3 @@ module _ (site : Site) (start : Words) (es : Trace) (views : List View) (j : ℕ
   tied_by_kind cuts_power may = tied_write site start es views j v _ at o (stored j (power_word site.shape) 1) (power_word site.shape) 1
       (λ n y q. q) refl (λ c e. absurd (cc)) refl (λ p d. d) (λ within. absurd (omega (arith, within))) inside
       (λ c u y ne a has. let w = f.inside c u (power_word site.shape) y a has in omega (arith, w))
-
--- where no structure moves all that is flushed lies under locks
-module _ (site : Site) (words : Words) (views : List View) (j : ℕ) (v : View) (h : Holds site words views) (at : At views j v) where
-  guarded : (c : ℕ) (u : View) (n y : ℕ) → At views c u → Has (n, y) u.flushed → IsGuarded u.held n
-  guarded c u n y a has = h.known.loose c u n y a (inr has)
-
-  apart : (lock : ℕ) → IsLockWord site.shape lock → (c : ℕ) (u : View) (y : ℕ) → At views c u → Has (lock, y) u.flushed → ⊥
-  apart lock is c u y a has = guarded_no_lock site words views h.locks c u lock lock a (guarded c u lock y a has) is refl
-
-  pub flushed_spared : SparesFlushed site views j v
-  flushed_spared = record {
-    inside = λ c u n y a has. guarded_within site words views h.locks c u n a (guarded c u n y a has);
-    alone = λ i g c u y ne a has. ne (one_guard site words views h.locks c j u v i a at (guarded c u i y a has) g);
-    is_lock = λ lock has. (h.locks.locked j v lock has.0 at has.1).0;
-    held = λ lock has c u y ne. apart lock (h.locks.locked j v lock has.0 at has.1).0 c u y;
-    known = λ lock k c u y ne. apart lock (known_lock site v lock k) c u y;
-  }
-
-pub keep_tied : (site : Site) (start : Words) (es : Trace) (views : List View) (j : ℕ) (v : View) → Holds site (value start es) views → At views j v → Tied site start es views → (kind : Kind) → May site kind v
-    → Tied site start (event_of site.shape (wanted site.shape kind) (found_by site kind (value start es)) j ∷ es) (views_by site kind j v (value start es) views)
-keep_tied site start es views j v h at o kind may = tied_by_kind site start es views j v (flushed_spared site (value start es) views j v h at) at o kind may

@@ -9,16 +9,16 @@ use Rattle.segment_table.proofs.stores.Roots.{untouched_keeps}
 use Rattle.bucket_words.specs.Core.{core}
 use Rattle.bucket_words.specs.Owners.{HasStructure}
 use Rattle.frame_facts.proofs.Structure.{beside}
-use Rattle.world.specs.Site.{Site, IsSite, IsCurrentIn}
+use Rattle.world.specs.Ground.{Ground, IsGround, IsCurrentIn}
 use Rattle.world.specs.Views.{View, Has, At, HasLock, IsLoose}
 use Rattle.world.specs.Media.{IsPossible}
 use Rattle.world.specs.World.{fresh_view}
 use Rattle.world.specs.areas.Areas.{Area}
 use Rattle.world.specs.areas.Beginning.{AreasStand, FreshViewsStand}
-use Rattle.world.proofs.Tables.{core_structure_same, core_owner}
-use Rattle.world.proofs.fitting.Lasting.{heads_of, same_steady, same_live}
+use Rattle.world.proofs.basics.Tables.{core_structure_same, core_owner}
+use Rattle.world.proofs.fitting.lasting.Lasting.{heads_of, same_steady, same_live}
 
-module _ (site : Site) (words : Words) (views : List View) (is : IsSite site) (sound : HasSoundFrame site.shape words)
+module _ (site : Ground) (words : Words) (views : List View) (is : IsGround site) (sound : HasSoundFrame site.shape words)
     (fresh : (j : ℕ) (v : View) → At views j v → v ≡ fresh_view v.callers)
     (unsplit : (s : ℕ) → IsCurrentIn site words s → state_at (frame_of site.shape words) s ≢ splitting) where
   no_area : (j : ℕ) (v : View) (a : Area) → At views j v → Has a v.areas → ⊥

@@ -9,9 +9,9 @@ use Rattle.image_layout.specs.Volatile.{counter_word}
 use Rattle.bucket_words.specs.Core.{core}
 use Rattle.map_model.specs.declared.call.Call.{Call}
 use Rattle.frame_facts.specs.Facts.{Lives, Current}
-use Rattle.world.specs.Site.{Site, IsLockWord, IsUnder}
+use Rattle.world.specs.Ground.{Ground, IsLockWord, IsUnder}
 use Rattle.world.specs.Views.{Answer, View, Has, At, HasLock, IsGuarded}
-use Rattle.world.specs.Kinds.{peeks, asks_power, meets_root, meets_entry, meets_head, pins, finds_room, refuses, places, looks, notes_word, validates, learns, meets_lock, tries, stores, copies, clears, repays, publishes, stashes, flushes, fences, draws_place, unlocks, cuts_power, without, on_line, off_line, marked, all_again, with_answer, with_look, with_count, with_lock}
+use Rattle.world.specs.Kinds.{peeks, asks_power, meets_root, meets_entry, meets_head, pins, finds_room, refuses, places, looks, glances_word, validates, learns, meets_lock, tries, stores, copies, clears, repays, publishes, stashes, flushes, fences, draws_place, unlocks, cuts_power, without, on_line, off_line, marked, all_again, with_answer, with_look, with_count, with_lock}
 use Rattle.world.specs.Conditions.{IsKnownLock}
 use Rattle.world.specs.areas.Areas.{Whole, header_word}
 use Rattle.world.specs.areas.Fitting.{IsLivingLock, Fits, HasGrounds}
@@ -20,16 +20,16 @@ use Rattle.world.specs.areas.Spared.{HasFenced, LooseIsHeld, stays, SparesAreas}
 use Rattle.world.specs.areas.Lasting.{Owners, Lasting}
 use Rattle.world.specs.areas.Beginning.{AreasStand}
 use Rattle.world.specs.areas.Calling.{AsksOfAreas, CallersKeepAreas}
-use Rattle.world.proofs.Seats.{without_has, flush_loose}
-use Rattle.world.proofs.Structures.{known_lock}
-use Rattle.world.proofs.Tables.{lock_cores, counter_cores, power_cores}
+use Rattle.world.proofs.basics.Seats.{without_has, flush_loose}
+use Rattle.world.proofs.basics.Structures.{known_lock}
+use Rattle.world.proofs.basics.Tables.{lock_cores, counter_cores, power_cores}
 use Rattle.world.proofs.holding.Beside.{newest}
 use Rattle.world.proofs.fitting.OneHolder.{near}
 use Rattle.world.proofs.fitting.Spared.{other_stores, fences_keep, sparing_steps}
-use Rattle.world.proofs.fitting.Lasting.{others_last, sparing_lasts, fences_last}
+use Rattle.world.proofs.fitting.lasting.Lasting.{others_last, sparing_lasts, fences_last}
 
 -- a flush loses nothing
-flush_keeps : (l : ℕ) (d f : List (ℕ × ℕ)) (p : ℕ × ℕ) → Has p d ⊎ Has p f → Has p (off_line l d) ⊎ Has p (on_line l d ++ f)
+pub flush_keeps : (l : ℕ) (d f : List (ℕ × ℕ)) (p : ℕ × ℕ) → Has p d ⊎ Has p f → Has p (off_line l d) ⊎ Has p (on_line l d ++ f)
 flush_keeps l [] f p h = elim h [ inl a ↦ absurd a | inr b ↦ inr b ]
 flush_keeps l (q ∷ d) f p h = elim (cases_Bool (eqb (line_of q.0) l)) [
   | inl t ↦ subst (λ b. Has p (cond b (off_line l d) (q ∷ off_line l d)) ⊎ Has p (cond b (q ∷ on_line l d) (on_line l d) ++ f)) (sym t) (elim h [
@@ -48,7 +48,7 @@ flush_keeps l (q ∷ d) f p h = elim (cases_Bool (eqb (line_of q.0) l)) [
   ])
 ]
 
-module _ (site : Site) (words : Words) (views : List View) (j : ℕ) (v : View) (g : HasGrounds site words views) (a : AreasStand site words views)
+module _ (site : Ground) (words : Words) (views : List View) (j : ℕ) (v : View) (g : HasGrounds site words views) (a : AreasStand site words views)
     (loose : LooseIsHeld site.shape views) (at : At views j v) where
   abbrev AllFit : Words → View → Type 0
   AllFit later w = Fits site later (set views j w) × Owners site later (set views j w) × Lasting site later (set views j w)
@@ -174,7 +174,7 @@ callers_keep_areas site (finds_room call) words views j v g a loose at may ask =
 callers_keep_areas site (refuses call reply) words views j v g a loose at may ask = load site words views j v g a loose at _ refl refl refl refl
 callers_keep_areas site (places k o) words views j v g a loose at may ask = load site words views j v g a loose at _ refl refl refl refl
 callers_keep_areas site (looks lock) words views j v g a loose at may ask = look site words views j v g a loose at (eqb (words lock % 2) 0) lock (words lock)
-callers_keep_areas site (notes_word lock i) words views j v g a loose at may ask = load site words views j v g a loose at _ refl refl refl refl
+callers_keep_areas site (glances_word lock i) words views j v g a loose at may ask = load site words views j v g a loose at _ refl refl refl refl
 callers_keep_areas site (validates i) words views j v g a loose at may ask =
     answer site words views j v g a loose at (all_again (marked i (words i) v.notes)) v.answer (record v { notes = marked i (words i) v.notes }) refl refl refl refl
 callers_keep_areas site (learns i) words views j v g a loose at may ask = load site words views j v g a loose at _ refl refl refl refl

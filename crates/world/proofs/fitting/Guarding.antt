@@ -4,12 +4,12 @@ use Rattle.std.proofs.lemmas.Bool.{cases_eq}
 use Rattle.trace.specs.Events.{Words, with_word}
 use Rattle.trace.proofs.Replaced.{replaced_same, replaced_other}
 use Rattle.image_layout.specs.Places.{Shape, words_of}
-use Rattle.world.specs.Site.{Site}
+use Rattle.world.specs.Ground.{Ground}
 use Rattle.world.specs.Views.{View, Has, At}
 use Rattle.world.specs.areas.Areas.{Area, Segment, Stale, Side, Free, Whole, Allocation, Directory}
 use Rattle.world.specs.areas.Fitting.{Fits}
 use Rattle.world.specs.areas.Guarding.{IsGuardOf, FreeGuardsAreNobodys, TakenGuardsAreKept, GivenGuardsAreKept, OtherGuardsAreKept}
-use Rattle.world.proofs.Seats.{each}
+use Rattle.world.proofs.basics.Seats.{each}
 
 -- a guard's word is that of one guard
 one_area : (shape : Shape) (a b : Area) (i : ℕ) → IsGuardOf shape a i → IsGuardOf shape b i → a ≡ b
@@ -53,7 +53,7 @@ one_area shape (Free s) b i p q = absurd p
 one_area shape (Whole s) b i p q = absurd p
 
 -- a guard's holder is one
-one_guard : (site : Site) (words : Words) (views : List View) → Fits site words views → (a : Area) (n : ℕ) → IsGuardOf site.shape a n
+one_guard : (site : Ground) (words : Words) (views : List View) → Fits site words views → (a : Area) (n : ℕ) → IsGuardOf site.shape a n
     → (i j : ℕ) (u v : View) → At views i u → At views j v → Has a u.areas → Has a v.areas → i ≡ j
 one_guard site words views f (Segment s) n k i j u v = f.one_segment i j u v s
 one_guard site words views f Allocation n k i j u v = f.one_allocation i j u v

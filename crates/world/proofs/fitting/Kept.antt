@@ -4,15 +4,15 @@ use Rattle.trace.specs.Events.{Words}
 use Rattle.segment_head.specs.HeadWord.{version_in, state_in, depth_in, pattern_in, free, splitting}
 use Rattle.sound_image.specs.Segments.{frame_of, state_at}
 use Rattle.segment_table.proofs.stores.Moved.{live_same}
-use Rattle.world.specs.Site.{Site, version_of, IsCurrentIn}
+use Rattle.world.specs.Ground.{Ground, version_of, IsCurrentIn}
 use Rattle.world.specs.Views.{View, Has, At, HasLock}
 use Rattle.world.specs.areas.Areas.{Area, Segment, Stale, Side, Free, Whole, Allocation, Directory, header_word}
 use Rattle.world.specs.areas.Fitting.{IsGuardedSide, LivesOn, MayStayDead, IsLivingLock, HoldsAll, Fits}
-use Rattle.world.proofs.Lists.{at_set}
-use Rattle.world.proofs.Seats.{each, carry}
+use Rattle.world.proofs.basics.Lists.{at_set}
+use Rattle.world.proofs.basics.Seats.{each, carry}
 use Rattle.world.proofs.holding.Beside.{newest}
 
-module _ (site : Site) (words later : Words) (views : List View) (j : ℕ) (v w : View) where
+module _ (site : Ground) (words later : Words) (views : List View) (j : ℕ) (v w : View) where
   -- an area is the stepper's from before, or nobody's
   abbrev pub IsFresh : Area → Type 0
   IsFresh a = Has a v.areas ⊎ ((c : ℕ) (u : View) → At views c u → Has a u.areas → ⊥)
@@ -29,7 +29,7 @@ module _ (site : Site) (words later : Words) (views : List View) (j : ℕ) (v w 
     pub allocation : Has Allocation w.areas → IsFresh Allocation
     pub directory : Has Directory w.areas → IsFresh Directory
 
-module _ (site : Site) (words later : Words) (views : List View) (j : ℕ) (v w : View) (f : Fits site words views) (at : At views j v)
+module _ (site : Ground) (words later : Words) (views : List View) (j : ℕ) (v w : View) (f : Fits site words views) (at : At views j v)
     (heads : (s : ℕ) → s < site.shape.segments → later (header_word site.shape s) ≡ words (header_word site.shape s))
     (lives : (s : ℕ) → LivesOn site words views s → LivesOn site later (set views j w) s) where
   pub current : (s : ℕ) → IsCurrentIn site words s → IsCurrentIn site later s
@@ -111,14 +111,14 @@ module _ (site : Site) (words later : Words) (views : List View) (j : ℕ) (v w 
     }
 
 -- THE AREAS ARE SOME OF THOSE FROM BEFORE, with the guards that they hang on
-pub record AreSome (site : Site) (views : List View) (v w : View) : Type 0 where
+pub record AreSome (site : Ground) (views : List View) (v w : View) : Type 0 where
   pub before : (a : Area) → Has a w.areas → Has a v.areas
   pub segments : (s : ℕ) → Has (Segment s) v.areas → Has (Segment s) w.areas
   pub allocation : Has Allocation v.areas → Has Allocation w.areas
   pub wholes : (s : ℕ) → Has (Whole s) v.areas → Has (Whole s) w.areas
   pub held : (s : ℕ) → Has (Whole s) v.areas → HoldsAll site.shape v s → HoldsAll site.shape w s
 
-module _ (site : Site) (words later : Words) (views : List View) (j : ℕ) (v w : View) (f : Fits site words views) (at : At views j v)
+module _ (site : Ground) (words later : Words) (views : List View) (j : ℕ) (v w : View) (f : Fits site words views) (at : At views j v)
     (heads : (s : ℕ) → s < site.shape.segments → later (header_word site.shape s) ≡ words (header_word site.shape s))
     (lives : (s : ℕ) → LivesOn site words views s → LivesOn site later (set views j w) s) (some : AreSome site views v w)
     (locks : (lock : ℕ) → HasLock w.held lock → IsLivingLock site words views lock)

@@ -9,7 +9,7 @@ use Rattle.sound_image.specs.Segments.{frame_of}
 use Rattle.segment_table.proofs.stores.Moved.{live_same}
 use Rattle.frame_facts.specs.Facts.{Rooted, IsLiveSlot, HoldsFact}
 use Rattle.frame_facts.proofs.Told.{current_told, begins_told, rooted_told}
-use Rattle.world.specs.Site.{Site, version_of}
+use Rattle.world.specs.Ground.{Ground, version_of}
 use Rattle.world.specs.Views.{View}
 use Rattle.world.specs.Media.{MayLeave, IsPossible}
 use Rattle.world.specs.areas.Areas.{header_word}
@@ -18,7 +18,7 @@ use Rattle.world.specs.areas.Lasting.{AreSoundMedia}
 use Rattle.world.specs.areas.Learning.{RootsTell, EntriesTell, HeadersTell}
 use Rattle.world.proofs.holding.Beside.{newest}
 
-module _ (site : Site) (words : Words) (views : List View) (g : HasGrounds site words views) (sound : AreSoundMedia site words views) (m : Words) (p : IsPossible site words views m) where
+module _ (site : Ground) (words : Words) (views : List View) (g : HasGrounds site words views) (sound : AreSoundMedia site words views) (m : Words) (p : IsPossible site words views m) where
   -- the medium with the newest words in front of the segments
   abbrev fronted : Words
   fronted n = cond (nat_lt n (first_segment site.shape)) (words n) (m n)

@@ -9,7 +9,7 @@ use Rattle.sound_image.specs.Segments.{frame_of, state_at}
 use Rattle.segment_table.proofs.frames.SoundFrames.{apart}
 use Rattle.frame_facts.specs.Facts.{IsLiveSlot}
 use Rattle.frame_facts.specs.DeadSlots.{IsInSlot}
-use Rattle.world.specs.Site.{Site, IsUnder, version_of, IsCurrentIn}
+use Rattle.world.specs.Ground.{Ground, IsUnder, version_of, IsCurrentIn}
 use Rattle.world.specs.Views.{View, Has, At, HasLock}
 use Rattle.world.specs.Media.{MayLeave, IsPossible}
 use Rattle.world.specs.areas.Areas.{Area, Segment, Stale, Side, Free, Whole, Allocation, Directory, header_word, IsDirectoryWord, InArea}
@@ -26,14 +26,14 @@ pub head_in_slot : (shape : Shape) (s : ℕ) → IsInSlot shape s (header_word s
 head_in_slot shape s = record { from = omega arith; to = omega arith }
 
 -- a slot whose dead header may be left does not live on
-pub side_dies : (site : Site) (words : Words) (views : List View) (n : ℕ) → MayStayDead site words views n → LivesOn site words views n → ⊥
+pub side_dies : (site : Ground) (words : Words) (views : List View) (n : ℕ) → MayStayDead site words views n → LivesOn site words views n → ⊥
 side_dies site words views n f lives =
     let m = with_word words (header_word site.shape n) f.old in
     let possible : IsPossible site words views m = λ i within. cases_at (λ b. MayLeave site words views i (cond b f.old (words i))) i (header_word site.shape n)
     (λ e. subst (λ z. MayLeave site words views z f.old) (sym e) f.may) (λ _. newest site words views i within) in
     f.dead (subst HasLiveState (replaced_same words (header_word site.shape n) f.old) (lives m possible).live)
 
-module _ (site : Site) (words : Words) (views : List View) (g : HasGrounds site words views) (f : Fits site words views) where
+module _ (site : Ground) (words : Words) (views : List View) (g : HasGrounds site words views) (f : Fits site words views) where
   abbrev shape : Shape
   shape = site.shape
 
@@ -124,7 +124,7 @@ module _ (site : Site) (words : Words) (views : List View) (g : HasGrounds site 
   ]
 
 -- ---- held words are near
-module _ (site : Site) (words : Words) (views : List View) (f : Fits site words views) where
+module _ (site : Ground) (words : Words) (views : List View) (f : Fits site words views) where
   abbrev IsNear : ℕ → Type 0
   IsNear i = (i < words_of site.shape) × (i < block → i ≡ root_word)
 

@@ -3,16 +3,16 @@ use Rattle.std.proofs.Common.{◌≡◌, ◌≢◌, ℕ, ◌+◌, ◌*◌, List,
 use Rattle.trace.specs.Events.{Words, with_word}
 use Rattle.trace.proofs.Replaced.{replaced_other}
 use Rattle.segment_head.specs.HeadWord.{version_in, state_in, depth_in, pattern_in}
-use Rattle.world.specs.Site.{Site, version_of, IsCurrentIn}
+use Rattle.world.specs.Ground.{Ground, version_of, IsCurrentIn}
 use Rattle.world.specs.Views.{View, At}
 use Rattle.world.specs.areas.Areas.{Segment, Stale, Side, Free, header_word}
 use Rattle.world.specs.areas.Fitting.{HoldsWord, LivesOn, Fits, HasGrounds}
 use Rattle.world.specs.areas.Rows.{HasStored, OthersFit, StoresSpareOthers}
-use Rattle.world.proofs.Lists.{at_set}
+use Rattle.world.proofs.basics.Lists.{at_set}
 use Rattle.world.proofs.fitting.OneHolder.{one_holder, head_in_slot}
 use Rattle.world.proofs.fitting.Stored.{may_stays}
 
-module _ (site : Site) (words : Words) (views : List View) (j : ℕ) (v w : View) (i x : ℕ) (g : HasGrounds site words views) (f : Fits site words views) (at : At views j v)
+module _ (site : Ground) (words : Words) (views : List View) (j : ℕ) (v w : View) (i x : ℕ) (g : HasGrounds site words views) (f : Fits site words views) (at : At views j v)
     (holds : HoldsWord site.shape v i) (st : HasStored site.shape i (words i) x w.areas v w)
     (current : (s : ℕ) → IsCurrentIn site words s → IsCurrentIn site (with_word words i x) s)
     (lives : (s : ℕ) → LivesOn site words views s → LivesOn site (with_word words i x) (set views j w) s) where

@@ -8,13 +8,13 @@ use Rattle.segment_head.specs.HeadWord.{version_in, state_in, depth_in, pattern_
 use Rattle.image_layout.specs.Places.{first_segment, words_of, bucket_at}
 use Rattle.sound_image.specs.Segments.{Frame, frame_of, state_at, depth_at, pattern_at}
 use Rattle.segment_table.proofs.stores.Moved.{live_same}
-use Rattle.world.specs.Site.{Site, version_of, IsCurrentIn}
+use Rattle.world.specs.Ground.{Ground, version_of, IsCurrentIn}
 use Rattle.world.specs.Views.{View, Has, At, HasLock}
 use Rattle.world.specs.areas.Areas.{Area, Segment, Stale, Side, Free, Whole, Allocation, Directory, header_word, is_side_at, is_stale_at, all_but}
 use Rattle.world.specs.areas.Fitting.{HoldsWord, IsGuardedSide, LivesOn, MayStayDead, IsLivingLock, HoldsAll, Fits, HasGrounds}
 use Rattle.world.specs.areas.Rows.{Row, marks, news, goes_live, finishes, unmarks, frees, renews, IsRow, HasForRow, areas_by, HasStored, OthersFit, RowsKeepFits}
-use Rattle.world.proofs.Lists.{set_here}
-use Rattle.world.proofs.Seats.{each, carry}
+use Rattle.world.proofs.basics.Lists.{set_here}
+use Rattle.world.proofs.basics.Seats.{each, carry}
 use Rattle.world.proofs.holding.Beside.{newest}
 use Rattle.world.proofs.fitting.Filtered.{filtered_has, has_filtered}
 use Rattle.world.proofs.fitting.OneHolder.{head_in_slot}
@@ -60,19 +60,19 @@ row_after (frees p) s a l k q h = inr (but_after (is_side_at s) l a h k)
 row_after renews s a l k q h = but_after (is_stale_at s) l a h q
 
 -- ---- what a row says of its header
-pub one_head : (site : Site) (s t : ℕ) → header_word site.shape s ≡ header_word site.shape t → s ≡ t
+pub one_head : (site : Ground) (s t : ℕ) → header_word site.shape s ≡ header_word site.shape t → s ≡ t
 one_head site s t e = by (first_segment site.shape) s t e
   where
     by : (f s t : ℕ) → f + 2144 * s + 1 ≡ f + 2144 * t + 1 → s ≡ t
     by f s t e = omega (arith, e)
 
-pub head_near : (site : Site) (s : ℕ) → s < site.shape.segments → header_word site.shape s < words_of site.shape
+pub head_near : (site : Ground) (s : ℕ) → s < site.shape.segments → header_word site.shape s < words_of site.shape
 head_near site s slot = by (first_segment site.shape) s site.shape.segments slot
   where
     by : (f s n : ℕ) → s < n → f + 2144 * s + 1 < f + 2144 * n
     by f s n l = omega (arith, l)
 
-module _ (site : Site) (words : Words) (s x : ℕ) where
+module _ (site : Ground) (words : Words) (s x : ℕ) where
   abbrev now : Frame
   now = frame_of site.shape words
 
@@ -131,7 +131,7 @@ module _ (site : Site) (words : Words) (s x : ℕ) where
   row_splitting (frees p) areas q has e = absurd (omega (arith, q.0.becomes, e))
   row_splitting renews areas q has e = absurd (omega (arith, q.0.becomes, q.1, e))
 
-module _ (site : Site) (words : Words) (views : List View) (j : ℕ) (v w : View) (row : Row) (s x : ℕ) (g : HasGrounds site words views) (f : Fits site words views)
+module _ (site : Ground) (words : Words) (views : List View) (j : ℕ) (v w : View) (row : Row) (s x : ℕ) (g : HasGrounds site words views) (f : Fits site words views)
     (at : At views j v) (is : IsRow site words row s x) (has : HasForRow site words row s v.areas)
     (st : HasStored site.shape (header_word site.shape s) (words (header_word site.shape s)) x (areas_by row s v.areas) v w) where
   abbrev i : ℕ

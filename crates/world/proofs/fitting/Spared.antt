@@ -9,15 +9,15 @@ use Rattle.sound_image.specs.Segments.{frame_of, state_at}
 use Rattle.segment_table.proofs.stores.Moved.{live_same}
 use Rattle.bucket_words.specs.Core.{core}
 use Rattle.bucket_words.proofs.segments.Cores.{structure_within}
-use Rattle.world.specs.Site.{Site, version_of}
+use Rattle.world.specs.Ground.{Ground, version_of}
 use Rattle.world.specs.Views.{View, Has, At, HasLock, IsLoose}
 use Rattle.world.specs.areas.Areas.{Area, Segment, Stale, Side, Free, Whole, Allocation, Directory, header_word, is_side_at, is_whole_at, is_of_segment, is_of_allocation, is_of_directory, all_but}
 use Rattle.world.specs.areas.Fitting.{IsGuardedSide, LivesOn, MayStayDead, IsLivingLock, HoldsAll, Fits, HasGrounds}
-use Rattle.world.specs.areas.Spared.{OtherStoresKeepFits, HasFenced, LooseIsHeld, FencesKeepFits, ForeignWordsAreSpared, Change, stays, adds, leaves, gives_segment, gives_allocation, gives_directory, areas_after, MayAdd, IsNotSplit, MayChange, SparingStepsKeepFits}
-use Rattle.world.proofs.Lists.{set_there}
-use Rattle.world.proofs.Seats.{carry}
-use Rattle.world.proofs.Structures.{header_is}
-use Rattle.world.proofs.Tables.{core_structure_same}
+use Rattle.world.specs.areas.Spared.{OtherStoresKeepFits, HasFenced, LooseIsHeld, FencesKeepFits, ForeignWordsAreSpared, AreaChange, stays, adds, leaves, gives_segment, gives_allocation, gives_directory, areas_after, MayAdd, IsNotSplit, AreasMayChange, SparingStepsKeepFits}
+use Rattle.world.proofs.basics.Lists.{set_there}
+use Rattle.world.proofs.basics.Seats.{carry}
+use Rattle.world.proofs.basics.Structures.{header_is}
+use Rattle.world.proofs.basics.Tables.{core_structure_same}
 use Rattle.world.proofs.invariant.KeepMedia.{possible_fewer}
 use Rattle.world.proofs.fitting.OneHolder.{one_holder, head_in_slot}
 use Rattle.world.proofs.fitting.Stored.{may_stays, lives_by}
@@ -25,7 +25,7 @@ use Rattle.world.proofs.fitting.Kept.{IsFresh, StepperFits, living, same_stale, 
 use Rattle.world.proofs.fitting.Rows.{but_before, but_after}
 
 -- the same areas and the same locks
-same_areas : (site : Site) (views : List View) (v w : View) → w.areas ≡ v.areas → ((s : ℕ) → Has (Whole s) v.areas → HoldsAll site.shape v s → HoldsAll site.shape w s) → AreSome site views v w
+same_areas : (site : Ground) (views : List View) (v w : View) → w.areas ≡ v.areas → ((s : ℕ) → Has (Whole s) v.areas → HoldsAll site.shape v s → HoldsAll site.shape w s) → AreSome site views v w
 same_areas site views v w e held = record {
   before = λ a h. subst (Has a) e h;
   segments = λ s h. subst (Has (Segment s)) (sym e) h;
@@ -34,7 +34,7 @@ same_areas site views v w e held = record {
   held = held;
 }
 
-same_held : (site : Site) (v w : View) → w.held ≡ v.held → (s : ℕ) → Has (Whole s) v.areas → HoldsAll site.shape v s → HoldsAll site.shape w s
+same_held : (site : Ground) (v w : View) → w.held ≡ v.held → (s : ℕ) → Has (Whole s) v.areas → HoldsAll site.shape v s → HoldsAll site.shape w s
 same_held site v w e s h all b near = subst (λ l. HasLock l (bucket_at site.shape s b)) (sym e) (all b near)
 
 -- ---- stores
@@ -53,7 +53,7 @@ other_stores site words views j v w i x f at near none st =
     (λ lock h. f.lock j v lock at (subst (λ l. HasLock l lock) st.held h)) (λ c u n k a h. dead n) (λ n h. dead n)
 
 -- ---- fences
-module _ (site : Site) (words : Words) (views : List View) (j : ℕ) (v w : View) (areas : List Area) (g : HasGrounds site words views) (f : Fits site words views) (at : At views j v)
+module _ (site : Ground) (words : Words) (views : List View) (j : ℕ) (v w : View) (areas : List Area) (g : HasGrounds site words views) (f : Fits site words views) (at : At views j v)
     (loose : LooseIsHeld site.shape views) (some : (areas ≡ v.areas) ⊎ ((n : ℕ) × (areas ≡ all_but (is_side_at n) v.areas))) (st : HasFenced areas v w)
     (unborn : (n : ℕ) → Has (Side n) w.areas → HasLiveState (words (header_word site.shape n)) → ⊥) where
   less : (p : ℕ × ℕ) → IsLoose w p → IsLoose v p
@@ -102,14 +102,14 @@ foreign_spared site later views j c u w i x a ne l = inr (c, u, x, set_there vie
 
 -- ---- all else
 -- what a change drops it does not drop of guards that others hang on
-module _ (site : Site) (views : List View) (v w : View) (test : Area → Bool) (e : w.areas ≡ all_but test v.areas) where
+module _ (site : Ground) (views : List View) (v w : View) (test : Area → Bool) (e : w.areas ≡ all_but test v.areas) where
   dropped_before : (a : Area) → Has a w.areas → Has a v.areas × (test a ≡ false)
   dropped_before a h = but_before test v.areas a (subst (Has a) e h)
 
   dropped_after : (a : Area) → test a ≡ false → Has a v.areas → Has a w.areas
   dropped_after a k h = subst (Has a) (sym e) (but_after test v.areas a h k)
 
-module _ (site : Site) (words later : Words) (views : List View) (j : ℕ) (v w : View) (f : Fits site words views) (at : At views j v)
+module _ (site : Ground) (words later : Words) (views : List View) (j : ℕ) (v w : View) (f : Fits site words views) (at : At views j v)
     (cores : (i : ℕ) → i < words_of site.shape → core site.shape later i ≡ core site.shape words i) (no_more : (p : ℕ × ℕ) → IsLoose w p → IsLoose v p)
     (no_less : (p : ℕ × ℕ) → IsLoose v p → IsLoose w p) (locks : (lock : ℕ) → HasLock w.held lock → HasLock v.held lock ⊎ IsLivingLock site words views lock)
     (wholes : (s : ℕ) → Has (Whole s) w.areas → HoldsAll site.shape v s → HoldsAll site.shape w s) where
@@ -237,7 +237,7 @@ module _ (site : Site) (words later : Words) (views : List View) (j : ℕ) (v w 
   no_clash : (P : Type 0) → false ≡ true → P
   no_clash P e = absurd (cc)
 
-  pub changed : (change : Change) → w.areas ≡ areas_after change v.areas → MayChange site words views change v → Fits site later (set views j w)
+  pub changed : (change : AreaChange) → w.areas ≡ areas_after change v.areas → AreasMayChange site words views change v → Fits site later (set views j w)
   changed stays e may = some_fit site words later views j v w f at heads goes (same_areas site views v w e (λ s h. wholes s (subst (Has (Whole s)) (sym e) h))) lock_goes others_dead
       (λ n h q. dead_goes n (f.side j v n at (subst (Has (Side n)) e h)).0.slot q)
   changed (adds a) e may = add_fits a e may
@@ -251,7 +251,7 @@ pub sparing_steps : SparingStepsKeepFits
 sparing_steps site words later views j v w change f at st = changed site words later views j v w f at st.cores st.no_more st.no_less st.locks st.wholes change st.areas_are st.may
 
 -- ---- and no side is dropped
-pub sides_stay : (site : Site) (words : Words) (views : List View) (change : Change) (v w : View) → w.areas ≡ areas_after change v.areas → MayChange site words views change v
+pub sides_stay : (site : Ground) (words : Words) (views : List View) (change : AreaChange) (v w : View) → w.areas ≡ areas_after change v.areas → AreasMayChange site words views change v
     → (n : ℕ) → Has (Side n) v.areas → Has (Side n) w.areas
 sides_stay site words views stays v w e may n h = subst (Has (Side n)) (sym e) h
 sides_stay site words views (adds a) v w e may n h = subst (Has (Side n)) (sym e) (inr h)

@@ -9,17 +9,17 @@ use Rattle.segment_table.proofs.stores.Moved.{live_same}
 use Rattle.bucket_words.specs.Core.{core_of}
 use Rattle.bucket_words.specs.Owners.{HasStructure}
 use Rattle.frame_facts.specs.Facts.{IsLiveSlot}
-use Rattle.world.specs.Site.{Site}
+use Rattle.world.specs.Ground.{Ground}
 use Rattle.world.specs.Views.{View, Has, At, IsLoose}
 use Rattle.world.specs.Kinds.{loosened}
 use Rattle.world.specs.Media.{MayLeave, IsPossible}
 use Rattle.world.specs.areas.Areas.{Area, header_word}
 use Rattle.world.specs.areas.Fitting.{LivesOn}
 use Rattle.world.specs.areas.Rows.{HasStored}
-use Rattle.world.proofs.Lists.{set_here, set_there}
-use Rattle.world.proofs.Seats.{each, carry}
-use Rattle.world.proofs.Structures.{header_is}
-use Rattle.world.proofs.Tables.{core_structure_same}
+use Rattle.world.proofs.basics.Lists.{set_here, set_there}
+use Rattle.world.proofs.basics.Seats.{each, carry}
+use Rattle.world.proofs.basics.Structures.{header_is}
+use Rattle.world.proofs.basics.Tables.{core_structure_same}
 use Rattle.world.proofs.invariant.KeepMedia.{storer, grown}
 
 -- a store takes nothing from what is dirty, and adds its word where its core changes
@@ -35,7 +35,7 @@ loosened_adds shape i n x d = elim (cases_Bool (eqb (core_of shape i n) (core_of
   | inr f ↦ inr (subst (λ b. Has (i, n) (cond b d ((i, n) ∷ d))) (sym f) (inl refl))
 ]
 
-module _ (site : Site) (words : Words) (views : List View) (j : ℕ) (v w : View) (i x : ℕ) (areas : List Area) (at : At views j v)
+module _ (site : Ground) (words : Words) (views : List View) (j : ℕ) (v w : View) (i x : ℕ) (areas : List Area) (at : At views j v)
     (st : HasStored site.shape i (words i) x areas v w) where
   abbrev us : Words
   us = with_word words i x

@@ -7,15 +7,14 @@ use Rattle.trace.specs.Events.{Words}
 use Rattle.image_layout.specs.Places.{bucket_at}
 use Rattle.sound_image.specs.Records.{key_hash}
 use Rattle.bucket_words.specs.Owners.{home_at}
-use Rattle.world.specs.Site.{Site, IsSite}
-use Rattle.world.specs.Views.{Note, Answer, View, Has, At, HasLock}
+use Rattle.world.specs.Ground.{Ground, IsGround}
+use Rattle.world.specs.Views.{Glance, Answer, View, Has, At, HasLock}
 use Rattle.world.specs.History.{Log, map_now}
-use Rattle.world.specs.Invariant.{Locks, Plans, History, Room, Powered, IsUnmoved, IsAnswer, Holds}
+use Rattle.world.specs.Parts.{Locks, Plans, History, Room, Powered, IsUnmoved, IsAnswer}
 use Rattle.world.specs.Conditions.{IsNewest, StandsBeside, HoldsHome, IsMapNow}
-use Rattle.world.proofs.holding.Beside.{newest_is, beside_self, held_is_map, slot_is_pair, slots_differ}
 
-pub record Backing (site : Site) (words : Words) (views : List View) (j : ℕ) (v : View) : Type 0 where
-  pub site_is : IsSite site
+pub record Backing (site : Ground) (words : Words) (views : List View) (j : ℕ) (v : View) : Type 0 where
+  pub site_is : IsGround site
   pub log : Log
   pub locks : Locks site words views
   pub plans : Plans site words views log
@@ -23,33 +22,13 @@ pub record Backing (site : Site) (words : Words) (views : List View) (j : ℕ) (
   pub room : Room site views log
   pub powered : Powered site words views
   -- where each noted word is unmoved the noted answer is right
-  pub answered : (a : Answer) → v.answer ≡ Some a → ((note : Note) → Has note v.notes → IsUnmoved words note) → IsAnswer site log v.seen a
+  pub answered : (a : Answer) → v.answer ≡ Some a → ((note : Glance) → Has note v.notes → IsUnmoved words note) → IsAnswer site log v.seen a
   -- what the view knows of the newest words, of themselves beside them, and of the map
   pub newest : IsNewest site v words
   pub itself : StandsBeside site v words words
   pub map : IsMapNow site v words (map_now site.start log)
 
 -- a home that is led to is where the key's is, so its lock is held
-pub home_held : (site : Site) (words : Words) (views : List View) (j : ℕ) (v : View) (h : Backing site words views j v) (s k : ℕ) → HoldsHome site v s k → HasLock v.held (home_at site.shape words k)
+pub home_held : (site : Ground) (words : Words) (views : List View) (j : ℕ) (v : View) (h : Backing site words views j v) (s k : ℕ) → HoldsHome site v s k → HasLock v.held (home_at site.shape words k)
 home_held site words views j v h s k o =
     subst (λ (z : ℕ). HasLock v.held z) (sym (ap (λ z. bucket_at site.shape (unwrap_or z 0) (home_of (key_hash site.shape k))) (o.0 words h.newest))) o.1
-
--- the invariant has it
-abbrev pub backing : (site : Site) (words : Words) (views : List View) (j : ℕ) (v : View) → Holds site words views → At views j v → Backing site words views j v
-backing site words views j v h at = record {
-  site_is = h.site_is;
-  log = h.log;
-  locks = h.locks;
-  plans = h.plans;
-  history = h.history;
-  room = h.room;
-  powered = h.powered;
-  answered = λ a. h.notes.answered j v a at;
-  newest = newest_is site words views j v h at;
-  itself = beside_self site words views j v h at;
-  map = record {
-    known = λ k held none. sym (held_is_map site words views j v h at k held none);
-    records = λ s b r k lock none own hit. slot_is_pair site words views j v h at s b r k lock none own hit;
-    differ = λ s b r c t k lock still hit other. slots_differ site words views j v h at s b r c t k lock still hit other;
-  };
-}

@@ -13,9 +13,9 @@ use Rattle.bucket_words.specs.Hits.{Hit, HasOnly, find}
 use Rattle.bucket_words.specs.Owners.{owner_of}
 use Rattle.bucket_words.proofs.segments.Finding.{find_is}
 use Rattle.bucket_words.specs.TableChanges.{ChangesSlot}
-use Rattle.bucket_words.proofs.segments.OneSlot.{go, only_new}
-use Rattle.bucket_words.proofs.segments.OneRecord.{not_taken, vanishes, remove_key, update_key, update_changes, updated_kept}
-use Rattle.world.specs.Site.{Site, IsUnder}
+use Rattle.bucket_words.proofs.segments.changes.OneSlot.{go, only_new}
+use Rattle.bucket_words.proofs.segments.changes.OneRecord.{not_taken, vanishes, remove_key, update_key, update_changes, updated_kept}
+use Rattle.world.specs.Ground.{Ground, IsUnder}
 use Rattle.world.specs.Views.{Move, View, Has, HasLock}
 use Rattle.world.specs.History.{reply_by}
 use Rattle.bucket_words.specs.HomeNotes.{SameHomeNotes}
@@ -27,7 +27,7 @@ use Rattle.bucket_words.proofs.segments.Stashed.{piece_by, stashed_by_pieces}
 use Rattle.world.proofs.holding.Known.{hit_to, hit_from, but_slot, high_part, stash_of, newest_same, medium_same}
 use Rattle.world.proofs.holding.Owing.{notes_beside}
 
-module _ (site : Site) (v : View) where
+module _ (site : Ground) (v : View) where
   abbrev home : ℕ → ℕ
   home k = home_of (key_hash site.shape k)
 

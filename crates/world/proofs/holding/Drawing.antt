@@ -9,7 +9,7 @@ use Rattle.sound_image.specs.Records.{key_hash, stashed_of}
 use Rattle.map_model.specs.declared.call.Call.{Call}
 use Rattle.map_model.specs.Map.{key_of}
 use Rattle.bucket_words.specs.Hits.{Hit}
-use Rattle.world.specs.Site.{Site}
+use Rattle.world.specs.Ground.{Ground}
 use Rattle.world.specs.Views.{Move, View, Has, HasLock}
 use Rattle.world.specs.Kinds.{draws_place}
 use Rattle.world.specs.Conditions.{IsNewest, IsOwedOf, IsKept, May}
@@ -19,7 +19,7 @@ use Rattle.world.proofs.holding.Owing.{notes_known, count_known}
 use Rattle.bucket_words.proofs.segments.Stashed.{hit_stashed, not_there}
 use Rattle.world.proofs.holding.Known.{newest_same, hit_from}
 
-module _ (site : Site) (v : View) (call : Call) (s : ℕ) (word : Words) (d : DrawsWell site v call s word) where
+module _ (site : Ground) (v : View) (call : Call) (s : ℕ) (word : Words) (d : DrawsWell site v call s word) where
   abbrev k : ℕ
   k = key_of call
 
@@ -95,7 +95,7 @@ module _ (site : Site) (v : View) (call : Call) (s : ℕ) (word : Words) (d : Dr
     d.noted,
   )
 
-pub may_draw : (site : Site) (v : View) → MayDraw site v
+pub may_draw : (site : Ground) (v : View) → MayDraw site v
 may_draw site v = record {
   shown = λ call s b r word d known hit still stash. may_shown site v call s word d b r known hit still stash;
   unnoted = λ call s word d owes stash. may_unnoted site v call s word d owes stash;

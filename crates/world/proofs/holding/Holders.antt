@@ -2,7 +2,7 @@
 use Rattle.std.proofs.Common.{Some, inr, sym, ap, ◌∙◌, subst}
 use Rattle.map_model.specs.Map.{key_of}
 use Rattle.bucket_words.proofs.segments.Finding.{find_is, find_none}
-use Rattle.world.specs.Site.{Site}
+use Rattle.world.specs.Ground.{Ground}
 use Rattle.world.specs.Views.{View}
 use Rattle.world.specs.History.{MayReply}
 use Rattle.world.specs.Holders.{MayPlace, MayChange, MayUnstash, MayTell}
@@ -12,7 +12,7 @@ use Rattle.world.proofs.holding.Changing.{hit_newest, may_update, may_remove}
 use Rattle.world.proofs.holding.Unstashing.{may_unstash}
 use Rattle.world.proofs.holding.Known.{same_value, newest_same}
 
-module _ (site : Site) (v : View) where
+module _ (site : Ground) (v : View) where
   pub may_unstash_all : MayUnstash site v
   may_unstash_all = record { remove = λ s c r k x word f owes small frees. may_unstash site v word s c r k f owes small x frees }
 

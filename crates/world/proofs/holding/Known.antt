@@ -7,7 +7,7 @@ use Rattle.bucket_words.specs.Buckets.{key_in, value_in, finger_in}
 use Rattle.bucket_meta.specs.Marks.{SameButSlot}
 use Rattle.bucket_words.specs.Hits.{Hit}
 use Rattle.bucket_words.specs.TableChanges.{IsReadyAt}
-use Rattle.world.specs.Site.{Site, IsUnder}
+use Rattle.world.specs.Ground.{Ground, IsUnder}
 use Rattle.world.specs.Views.{View}
 use Rattle.world.specs.Conditions.{IsNewest, StandsBeside}
 use Rattle.world.specs.Holders.{KnowsBucket}
@@ -21,13 +21,13 @@ module _ (shape : Shape) (word w : Words) (s b : ℕ) (same : (i : ℕ) → IsUn
   pub meta : w (at + 1) ≡ word (at + 1)
   meta = same (at + 1) (omega arith, omega arith)
 
-  same_key : (t : ℕ) → t < 14 → key_in w at t ≡ key_in word at t
+  pub same_key : (t : ℕ) → t < 14 → key_in w at t ≡ key_in word at t
   same_key t slot = same (at + 4 + 2 * t) (omega arith, omega (arith, slot))
 
   pub same_value : (t : ℕ) → t < 14 → value_in w at t ≡ value_in word at t
   same_value t slot = same (at + 5 + 2 * t) (omega arith, omega (arith, slot))
 
-  same_finger : (t : ℕ) → finger_in w at t ≡ finger_in word at t
+  pub same_finger : (t : ℕ) → finger_in w at t ≡ finger_in word at t
   same_finger t = ap (λ z. finger t z (w (at + 3))) (same (at + 2) (omega arith, omega arith)) ∙ ap (finger t (word (at + 2))) (same (at + 3) (omega arith, omega arith))
 
   pub ready : (r k : ℕ) → IsReadyAt shape word s b r k → IsReadyAt shape w s b r k
@@ -56,7 +56,7 @@ module _ (shape : Shape) (word w : Words) (s b : ℕ) (same : (i : ℕ) → IsUn
 pub stash_of : (b : ℕ) → b < buckets → homes ≤ b → (c : ℕ) × (c < stash_buckets) × (b ≡ homes + c)
 stash_of b near above = (b - 64, omega (arith, near, above), omega (arith, above))
 
-module _ (site : Site) (v : View) where
+module _ (site : Ground) (v : View) where
   pub newest_same : (words word : Words) (s b : ℕ) → IsNewest site v words → KnowsBucket site.shape v s b word → (i : ℕ) → IsUnder (bucket_at site.shape s b) i → words i ≡ word i
   newest_same words word s b n k i u = n.knows i (word i) (k.words i u).known
 

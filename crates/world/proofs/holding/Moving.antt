@@ -11,9 +11,9 @@ use Rattle.bucket_words.specs.Hits.{Hit}
 use Rattle.bucket_words.specs.Owners.{owner_of}
 use Rattle.bucket_words.specs.TableChanges.{KeepsTable, IsReadyAt, OnlyNewHit}
 use Rattle.bucket_words.specs.TableChanges.{ChangesSlot}
-use Rattle.bucket_words.proofs.segments.OneSlot.{go, only_new}
-use Rattle.bucket_words.proofs.segments.OneRecord.{not_taken, appears, copy_key, vanishes, clear_key}
-use Rattle.world.specs.Site.{Site, IsUnder}
+use Rattle.bucket_words.proofs.segments.changes.OneSlot.{go, only_new}
+use Rattle.bucket_words.proofs.segments.changes.OneRecord.{not_taken, appears, copy_key, vanishes, clear_key}
+use Rattle.world.specs.Ground.{Ground, IsUnder}
 use Rattle.world.specs.Views.{Move, View, Has, HasLock}
 use Rattle.world.specs.Kinds.{copies, clears}
 use Rattle.world.specs.Conditions.{IsNewest, IsMoveOf, May}
@@ -21,7 +21,7 @@ use Rattle.world.specs.Holders.{KnowsBucket, TakesSlot, FreesSlot, MayMove}
 use Rattle.world.proofs.holding.Known.{same_value, ready, hit_from, but_slot, high_part, newest_same, medium_same}
 use Rattle.world.proofs.holding.Owing.{notes_beside}
 
-module _ (site : Site) (v : View) where
+module _ (site : Ground) (v : View) where
   abbrev home : ℕ → ℕ
   home k = home_of (key_hash site.shape k)
 

@@ -11,7 +11,7 @@ use Rattle.bucket_words.specs.HomeNotes.{SameHomeNotes}
 use Rattle.bucket_words.proofs.segments.Cores.{slots_of_cores}
 use Rattle.bucket_words.proofs.segments.Noted.{notes_same, notes_kept, count_kept}
 use Rattle.bucket_words.proofs.segments.Stashed.{stashed_same, others_stashed}
-use Rattle.world.specs.Site.{Site}
+use Rattle.world.specs.Ground.{Ground}
 use Rattle.world.specs.Views.{Owed, View}
 use Rattle.world.specs.Conditions.{IsOwedOf, IsOwed, IsNewest}
 use Rattle.world.specs.Holders.{KnowsBucket}
@@ -44,7 +44,7 @@ notes_beside shape word s b r k x change bucket high q d seg near apart = record
 }
 
 -- the notes of a home whose two buckets are known
-module _ (site : Site) (v : View) where
+module _ (site : Ground) (v : View) where
   pub notes_known : (words word : Words) (s b : ℕ) → IsNewest site v words → KnowsBucket site.shape v s b word → KnowsBucket site.shape v s (probing_of b) word
       → notes_of site.shape words s b ≡ notes_of site.shape word s b
   notes_known words word s b n home probing = notes_same site.shape word words s b

@@ -13,9 +13,9 @@ use Rattle.bucket_words.specs.Hits.{Hit, HasNone}
 use Rattle.bucket_words.specs.TableChanges.{ChangesKey, IsReadyAt, OnlyNewHit}
 use Rattle.bucket_words.proofs.segments.Finding.{find_none}
 use Rattle.bucket_words.specs.TableChanges.{ChangesSlot}
-use Rattle.bucket_words.proofs.segments.OneSlot.{go, only_new}
-use Rattle.bucket_words.proofs.segments.OneRecord.{not_both, appears, now, insert_key}
-use Rattle.world.specs.Site.{Site, IsUnder}
+use Rattle.bucket_words.proofs.segments.changes.OneSlot.{go, only_new}
+use Rattle.bucket_words.proofs.segments.changes.OneRecord.{not_both, appears, now, insert_key}
+use Rattle.world.specs.Ground.{Ground, IsUnder}
 use Rattle.world.specs.Views.{View, HasLock, IsGuarded}
 use Rattle.world.specs.History.{reply_by}
 use Rattle.world.specs.Kinds.{publishes}
@@ -24,11 +24,11 @@ use Rattle.bucket_words.specs.HomeNotes.{IsUnnoted}
 use Rattle.world.specs.Holders.{KnowsBucket, FoundNone, TakesSlot}
 use Rattle.bucket_words.proofs.segments.Stashed.{not_there}
 use Rattle.bucket_meta.specs.Notes.{how_often}
-use Rattle.world.proofs.Grounds.{home_near}
+use Rattle.world.proofs.basics.Grounds.{home_near}
 use Rattle.world.proofs.holding.Known.{same_value, ready, hit_to, but_slot, high_part, stash_of, newest_same, medium_same}
 use Rattle.world.proofs.holding.Owing.{notes_beside, notes_known, count_known}
 
-module _ (site : Site) (v : View) where
+module _ (site : Ground) (v : View) where
   abbrev home : ℕ → ℕ
   home k = home_of (key_hash site.shape k)
 

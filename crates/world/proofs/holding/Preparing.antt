@@ -16,9 +16,9 @@ use Rattle.bucket_words.specs.Standing.{IsTable}
 use Rattle.bucket_words.specs.Hits.{Hit}
 use Rattle.bucket_words.specs.TableChanges.{KeepsTable}
 use Rattle.bucket_words.proofs.segments.Places.{owners_kept, other_word}
-use Rattle.bucket_words.proofs.segments.NoSlot.{same_there, same_back}
-use Rattle.bucket_words.proofs.segments.Prepared.{slots_kept, behind_meta}
-use Rattle.world.specs.Site.{Site}
+use Rattle.bucket_words.proofs.segments.changes.NoSlot.{same_there, same_back}
+use Rattle.bucket_words.proofs.segments.changes.Prepared.{slots_kept, behind_meta}
+use Rattle.world.specs.Ground.{Ground}
 use Rattle.world.specs.Views.{View}
 use Rattle.bucket_words.specs.HomeNotes.{SameHomeNotes}
 use Rattle.world.specs.Kinds.{stores}
@@ -84,7 +84,7 @@ module _ (shape : Shape) (w : Words) (table : IsTable shape w) (s b m x : ℕ) (
     stashed = stashed_same shape w us q d (λ e t small l. slots q (64 + e) t near_q (omega (arith, small)) l);
   }
 
-module _ (site : Site) (v : View) (s b m x : ℕ) (word : Words) (seg : s < site.shape.segments) (bucket : b < 66) (known : KnowsMeta site.shape v s b word)
+module _ (site : Ground) (v : View) (s b m x : ℕ) (word : Words) (seg : s < site.shape.segments) (bucket : b < 66) (known : KnowsMeta site.shape v s b word)
     (spares : SparesTaken word (bucket_at site.shape s b) m x) where
   -- words that agree in the metadata
   spares_there : (w : Words) → ((n : ℕ) → 1 ≤ n → n ≤ 3 → w (bucket_at site.shape s b + n) ≡ word (bucket_at site.shape s b + n)) → SparesTaken w (bucket_at site.shape s b) m x
@@ -132,5 +132,5 @@ module _ (site : Site) (v : View) (s b m x : ℕ) (word : Words) (seg : s < site
     (λ words medium n o. keeping site.shape medium o.table s b m x seg bucket (beside_there words medium o)),
   )
 
-pub may_prepare : (site : Site) (v : View) → MayPrepare site v
+pub may_prepare : (site : Ground) (v : View) → MayPrepare site v
 may_prepare site v = record { store = λ s b m x word seg bucket known spares. may_store site v s b m x word seg bucket known spares }

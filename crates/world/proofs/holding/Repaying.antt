@@ -10,8 +10,8 @@ use Rattle.sound_image.specs.Records.{word_in, notes_in, notes_of, stashed_of, H
 use Rattle.bucket_words.specs.Core.{core_of, core}
 use Rattle.bucket_words.specs.Hits.{Hit}
 use Rattle.bucket_words.proofs.segments.Places.{other_word}
-use Rattle.bucket_words.proofs.segments.Prepared.{core_keeps}
-use Rattle.world.specs.Site.{Site, IsUnder}
+use Rattle.bucket_words.proofs.segments.changes.Prepared.{core_keeps}
+use Rattle.world.specs.Ground.{Ground, IsUnder}
 use Rattle.world.specs.Views.{Owed, View}
 use Rattle.bucket_words.specs.HomeNotes.{SameHomeNotes}
 use Rattle.world.specs.Kinds.{stores, repays}
@@ -20,14 +20,14 @@ use Rattle.world.specs.Holders.{KnowsBucket, TouchesNote, MayRepay}
 use Rattle.bucket_words.proofs.segments.Noted.{notes_by}
 use Rattle.bucket_words.proofs.segments.Stashed.{stashed_same as stashed_stays}
 use Rattle.bucket_words.proofs.segments.Cores.{slots_of_cores}
-use Rattle.world.proofs.Tables.{same_hit, cores_replaced}
+use Rattle.world.proofs.basics.Tables.{same_hit, cores_replaced}
 use Rattle.world.proofs.holding.Known.{newest_same, medium_same}
 
 notes_at : (shape : Shape) (w u : Words) (s e side : ℕ) → w (bucket_at shape s e + 1) ≡ u (bucket_at shape s e + 1) → w (bucket_at shape s e + 3) ≡ u (bucket_at shape s e + 3)
     → notes_in shape w s e side ≡ notes_in shape u s e side
 notes_at shape w u s e side one three = ap (λ z. notes_by z (w (bucket_at shape s e + 3)) side) one ∙ ap (λ z. notes_by (u (bucket_at shape s e + 1)) z side) three
 
-module _ (site : Site) (v : View) (o : Owed) (c n x : ℕ) (word : Words) (touch : TouchesNote site v word o c n x) where
+module _ (site : Ground) (v : View) (o : Owed) (c n x : ℕ) (word : Words) (touch : TouchesNote site v word o c n x) where
   abbrev s : ℕ
   s = o.segment
 
@@ -36,9 +36,6 @@ module _ (site : Site) (v : View) (o : Owed) (c n x : ℕ) (word : Words) (touch
 
   abbrev i : ℕ
   i = bucket_at site.shape s c + n
-
-  some : 0 < site.shape.segments
-  some = let z = touch.segment in omega (arith, z)
 
   near_next : probing_of b < 64
   near_next = omega arith
@@ -199,7 +196,7 @@ module _ (site : Site) (v : View) (o : Owed) (c n x : ℕ) (word : Words) (touch
     touch.owed,
   )
 
-pub may_repay : (site : Site) (v : View) → MayRepay site v
+pub may_repay : (site : Ground) (v : View) → MayRepay site v
 may_repay site v = record {
   part = λ o c n x word touch. may_part site v o c n x word touch;
   last = λ o c n x word touch exact. may_last site v o c n x word touch exact;

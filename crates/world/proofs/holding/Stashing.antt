@@ -12,8 +12,8 @@ use Rattle.bucket_meta.specs.Marks.{SameButSlot}
 use Rattle.bucket_words.specs.Hits.{Hit}
 use Rattle.bucket_words.specs.TableChanges.{IsReadyAt}
 use Rattle.bucket_words.specs.TableChanges.{ChangesSlot}
-use Rattle.bucket_words.proofs.segments.OneRecord.{not_both}
-use Rattle.world.specs.Site.{Site, IsUnder}
+use Rattle.bucket_words.proofs.segments.changes.OneRecord.{not_both}
+use Rattle.world.specs.Ground.{Ground, IsUnder}
 use Rattle.world.specs.Views.{Owed, View}
 use Rattle.bucket_words.specs.HomeNotes.{SameHomeNotes}
 use Rattle.world.specs.Kinds.{stashes}
@@ -22,11 +22,11 @@ use Rattle.world.specs.Holders.{KnowsBucket, FoundNone, TakesSlot}
 use Rattle.bucket_meta.specs.Notes.{AreExact}
 use Rattle.bucket_words.proofs.segments.Stashed.{comes}
 use Rattle.world.proofs.holding.Placing.{guarded, no_twin, none_newest, none_medium, stays, only, is_now, adding, publishing, nowhere, change}
-use Rattle.world.proofs.Grounds.{home_near}
-use Rattle.world.proofs.holding.Known.{ready, but_slot, high_part, newest_same, medium_same}
+use Rattle.world.proofs.basics.Grounds.{home_near}
+use Rattle.world.proofs.holding.Known.{ready, high_part, newest_same, medium_same}
 use Rattle.world.proofs.holding.Owing.{notes_beside, notes_known, count_known}
 
-module _ (site : Site) (v : View) where
+module _ (site : Ground) (v : View) where
   abbrev home : ℕ → ℕ
   home k = home_of (key_hash site.shape k)
 
@@ -50,9 +50,6 @@ module _ (site : Site) (v : View) where
     module _ (words : Words) (n : IsNewest site v words) where
       same_here : (i : ℕ) → IsUnder (bucket_at site.shape s (64 + c)) i → words i ≡ word i
       same_here = newest_same site v words word s (64 + c) n known
-
-      but_here : SameButSlot r (words at_word) x
-      but_here = but_slot site.shape word words s (64 + c) same_here r x takes.others
 
       high_here : x / 2 ^ 28 ≡ words at_word / 2 ^ 28
       high_here = high_part site.shape word words s (64 + c) same_here x takes.overflow

@@ -12,9 +12,9 @@ use Rattle.bucket_meta.specs.Marks.{SameButSlot}
 use Rattle.bucket_words.specs.Standing.{IsTable}
 use Rattle.bucket_words.specs.Hits.{Hit}
 use Rattle.bucket_words.specs.TableChanges.{ChangesSlot}
-use Rattle.bucket_words.proofs.segments.OneSlot.{go, only_new, cases_place, old_key}
-use Rattle.bucket_words.proofs.segments.OneRecord.{not_taken, vanishes, remove_key}
-use Rattle.world.specs.Site.{Site, IsUnder}
+use Rattle.bucket_words.proofs.segments.changes.OneSlot.{go, only_new, cases_place, old_key}
+use Rattle.bucket_words.proofs.segments.changes.OneRecord.{not_taken, vanishes, remove_key}
+use Rattle.world.specs.Ground.{Ground, IsUnder}
 use Rattle.world.specs.Views.{Owed, View, HasLock}
 use Rattle.world.specs.History.{reply_by}
 use Rattle.bucket_words.specs.HomeNotes.{SameHomeNotes}
@@ -24,11 +24,11 @@ use Rattle.world.specs.Holders.{FoundAt, FreesSlot}
 use Rattle.bucket_meta.specs.Notes.{AreExact}
 use Rattle.bucket_words.proofs.segments.Stashed.{leaves}
 use Rattle.world.proofs.holding.Changing.{hit_medium, held_place, own_medium, only_medium, found_medium}
-use Rattle.world.proofs.Grounds.{home_near}
+use Rattle.world.proofs.basics.Grounds.{home_near}
 use Rattle.world.proofs.holding.Known.{hit_from, but_slot, high_part, newest_same, medium_same}
 use Rattle.world.proofs.holding.Owing.{notes_beside, notes_known, count_known}
 
-module _ (site : Site) (v : View) where
+module _ (site : Ground) (v : View) where
   abbrev home : ℕ → ℕ
   home k = home_of (key_hash site.shape k)
 

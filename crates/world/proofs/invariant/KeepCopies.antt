@@ -9,16 +9,16 @@ use Rattle.image_layout.specs.Volatile.{counter_word, power_word}
 use Rattle.map_model.specs.declared.call.Call.{Call}
 use Rattle.bucket_words.specs.Core.{core}
 use Rattle.bucket_words.specs.Hits.{Hit, HasOnly}
-use Rattle.world.specs.Site.{Site, IsLockWord}
+use Rattle.world.specs.Ground.{Ground, IsLockWord}
 use Rattle.world.specs.Views.{Answer, Move, Owed, View, Has, At, HasLock}
-use Rattle.world.specs.Invariant.{IsMoving}
-use Rattle.world.specs.Kinds.{Kind, peeks, asks_power, meets_root, meets_entry, meets_head, pins, finds_room, refuses, places, looks, notes_word, validates, learns, meets_lock, tries, stores, copies, clears, repays, publishes, stashes, flushes, fences, draws_place, unlocks, cuts_power, marked, all_again, with_answer, with_look, with_count, with_lock, of_other_records, of_other_homes}
+use Rattle.world.specs.Parts.{IsMoving}
+use Rattle.world.specs.Kinds.{Kind, peeks, asks_power, meets_root, meets_entry, meets_head, pins, finds_room, refuses, places, looks, glances_word, validates, learns, meets_lock, tries, stores, copies, clears, repays, publishes, stashes, flushes, fences, draws_place, unlocks, cuts_power, marked, all_again, with_answer, with_look, with_count, with_lock, of_other_records, of_other_homes}
 use Rattle.world.specs.Conditions.{IsMoveOf, HoldsMove, IsTidy, May}
 use Rattle.world.specs.Laws.{words_by, views_by}
-use Rattle.world.proofs.Structures.{known_lock}
-use Rattle.world.proofs.Tables.{same_hit, lock_cores, counter_cores, power_cores}
-use Rattle.world.proofs.Lists.{set_here}
-use Rattle.world.proofs.Seats.{each, carry}
+use Rattle.world.proofs.basics.Structures.{known_lock}
+use Rattle.world.proofs.basics.Tables.{same_hit, lock_cores, counter_cores, power_cores}
+use Rattle.world.proofs.basics.Lists.{set_here}
+use Rattle.world.proofs.basics.Seats.{each, carry}
 use Rattle.world.proofs.holding.Backing.{Backing}
 use Rattle.world.proofs.invariant.KeepMedia.{storer}
 
@@ -60,19 +60,19 @@ answer_moving false a v = (refl, refl, refl)
 answer_moving true None v = (refl, refl, refl)
 answer_moving true (Some a) v = (refl, refl, refl)
 
-abbrev Held : Site → List (ℕ × ℕ) → Move → Type 0
+abbrev Held : Ground → List (ℕ × ℕ) → Move → Type 0
 Held site held m = HoldsMove site.shape held m
 
 -- more locks hold a move too
-more_held : (site : Site) (held more : List (ℕ × ℕ)) (m : Move) → ((lock : ℕ) → HasLock held lock → HasLock more lock) → Held site held m → Held site more m
+more_held : (site : Ground) (held more : List (ℕ × ℕ)) (m : Move) → ((lock : ℕ) → HasLock held lock → HasLock more lock) → Held site held m → Held site more m
 more_held site held more m stays o = (stays _ o.0, stays _ o.1, stays _ o.2)
 
 -- a key stands once in a segment of those that P names, or one view has it under way
-pub record CopiesOf (site : Site) (P : ℕ → Type 0) (words : Words) (views : List View) : Type 0 where
+pub record CopiesOf (site : Ground) (P : ℕ → Type 0) (words : Words) (views : List View) : Type 0 where
   pub once : (s b r c t k : ℕ) → P s → Hit site.shape words s b r k → Hit site.shape words s c t k → ((b ≡ c) × (r ≡ t)) ⊎ IsMoving views s k b r c t
   pub held : (j : ℕ) (v : View) (m : Move) → At views j v → Has m v.moving → HoldsMove site.shape v.held m
 
-copies_law : (site : Site) (P W : ℕ → Type 0) (words us : Words) (views : List View) (j : ℕ) (v w : View) → At views j v → CopiesOf site P words views
+copies_law : (site : Ground) (P W : ℕ → Type 0) (words us : Words) (views : List View) (j : ℕ) (v w : View) → At views j v → CopiesOf site P words views
     → ((s b r c t k : ℕ) → W s → Hit site.shape us s b r k → Hit site.shape us s c t k → ((b ≡ c) × (r ≡ t)) ⊎ IsMoving (set views j w) s k b r c t)
     → ((m : Move) → Has m w.moving → Held site w.held m) → CopiesOf site W us (set views j w)
 copies_law site P W words us views j v w at o once held = record {
@@ -80,7 +80,7 @@ copies_law site P W words us views j v w at o once held = record {
   held = λ i u m a has. each views j v w at (λ i u. Has m u.moving → Held site u.held m) (held m) (λ i u n a. o.held i u m a) i u a has;
 }
 
-module _ (site : Site) (words : Words) (views : List View) (j : ℕ) (v : View) (h : Backing site words views j v) (at : At views j v) (P W : ℕ → Type 0)
+module _ (site : Ground) (words : Words) (views : List View) (j : ℕ) (v : View) (h : Backing site words views j v) (at : At views j v) (P W : ℕ → Type 0)
     (back : (s : ℕ) → W s → P s) (o0 : CopiesOf site P words views) where
   mine : (m : Move) → Has m v.moving → Held site v.held m
   mine m has = o0.held j v m at has
@@ -164,7 +164,7 @@ module _ (site : Site) (words : Words) (views : List View) (j : ℕ) (v : View) 
   keep_copies (refuses call reply) may = calm _ (refl, refl, refl)
   keep_copies (places k a) may = calm _ (refl, refl, refl)
   keep_copies (looks lock) may = calm _ (look_moving (eqb (words lock % 2) 0) lock (words lock) v)
-  keep_copies (notes_word lock i) may = calm _ (refl, refl, refl)
+  keep_copies (glances_word lock i) may = calm _ (refl, refl, refl)
   keep_copies (validates lock) may = calm _ (answer_moving (all_again (marked lock (words lock) v.notes)) v.answer (record v { notes = marked lock (words lock) v.notes }))
   keep_copies (learns i) may = calm _ (refl, refl, refl)
   keep_copies (meets_lock lock) may = calm _ (refl, refl, refl)

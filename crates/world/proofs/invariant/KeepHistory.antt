@@ -14,19 +14,19 @@ use Rattle.map_model.specs.declared.entry.Entry.{Entry}
 use Rattle.map_model.specs.Map.{key_of, is_done, shown}
 use Rattle.map_model.specs.Weave.{draws, drew_at}
 use Rattle.map_model.specs.Legal.{IsChange, InOrder, seen_of, seen_after}
-use Rattle.world.specs.Site.{Site, IsLockWord}
+use Rattle.world.specs.Ground.{Ground, IsLockWord}
 use Rattle.world.specs.Views.{Answer, View, Has, At}
 use Rattle.world.specs.History.{Log, map_now, map_when, MayReply, HasRoomCause, IsRight, change_of}
-use Rattle.world.specs.Invariant.{total, History, IsAnswer}
-use Rattle.world.specs.Kinds.{Kind, peeks, asks_power, meets_root, meets_entry, meets_head, pins, finds_room, refuses, places, looks, notes_word, validates, learns, meets_lock, tries, stores, copies, clears, repays, publishes, stashes, flushes, fences, draws_place, unlocks, cuts_power, marked, all_again, next_entry, with_reply, with_answer, with_look, with_count, with_lock, with_draw, log_after}
+use Rattle.world.specs.Parts.{total, History, IsAnswer}
+use Rattle.world.specs.Kinds.{Kind, peeks, asks_power, meets_root, meets_entry, meets_head, pins, finds_room, refuses, places, looks, glances_word, validates, learns, meets_lock, tries, stores, copies, clears, repays, publishes, stashes, flushes, fences, draws_place, unlocks, cuts_power, marked, all_again, next_entry, with_reply, with_answer, with_look, with_count, with_lock, with_draw, log_after}
 use Rattle.world.specs.Conditions.{IsKnownReply, IsKnownCause, May}
 use Rattle.world.specs.Laws.{words_by, views_by}
-use Rattle.world.proofs.Structures.{known_lock}
-use Rattle.world.proofs.Grounds.{lock_within}
-use Rattle.world.proofs.Lists.{total_set, has_joined}
-use Rattle.world.proofs.Seats.{each, guarded_no_counter}
-use Rattle.world.proofs.Entries.{in_order_more, seen_of_more, count_more, count_none, total_none, drew_here, when_now, when_more, right_more, shown_may, shown_keeps, shown_cause, cause_alike}
-use Rattle.world.proofs.NotedLists.{marked_to, again_all}
+use Rattle.world.proofs.basics.Structures.{known_lock}
+use Rattle.world.proofs.basics.Grounds.{lock_within}
+use Rattle.world.proofs.basics.Lists.{total_set, has_joined}
+use Rattle.world.proofs.basics.Seats.{each, guarded_no_counter}
+use Rattle.world.proofs.basics.Entries.{in_order_more, seen_of_more, count_more, count_none, total_none, drew_here, when_now, when_more, right_more, shown_may, shown_keeps, shown_cause, cause_alike}
+use Rattle.world.proofs.basics.NotedLists.{marked_to, again_all}
 use Rattle.world.proofs.holding.Backing.{Backing, home_held}
 
 abbrev drew_of : ℕ → View → ℕ
@@ -36,7 +36,7 @@ abbrev draws_of : View → ℕ
 draws_of v = draws v.own
 
 -- nobody drew a place that is not reached
-beyond : (site : Site) (words : Words) (views : List View) (log : Log) → History site words views log → (n : ℕ) → length log ≤ n → total (drew_of n) views ≡ 0
+beyond : (site : Ground) (words : Words) (views : List View) (log : Log) → History site words views log → (n : ℕ) → length log ≤ n → total (drew_of n) views ≡ 0
 beyond site words views log o n le = total_none (drew_of n) views (λ j v a. count_none (drew_at n) v.own (λ e has. none e (o.right j v e a has)))
   where
     none : (e : Entry) → IsRight site.shape site.start log e → drew_at n e ≡ false
@@ -46,7 +46,7 @@ beyond site words views log o n le = total_none (drew_of n) views (λ j v a. cou
     ]
 
 -- the view keeps its replies
-pub history_same : (site : Site) (words us : Words) (views : List View) (j : ℕ) (v w : View) (log : Log) → At views j v → History site words views log
+pub history_same : (site : Ground) (words us : Words) (views : List View) (j : ℕ) (v w : View) (log : Log) → At views j v → History site words views log
     → us (counter_word site.shape) ≡ words (counter_word site.shape) → w.own ≡ v.own → w.seen ≡ v.seen → History site us (set views j w) log
 history_same site words us views j v w log at o same own seen = record {
   counter = same ∙ o.counter;
@@ -60,7 +60,7 @@ history_same site words us views j v w log at o same own seen = record {
 }
 
 -- the view has one reply more, which may have drawn the next place
-module _ (site : Site) (words us : Words) (views : List View) (j : ℕ) (v w : View) (log log' : Log) (at : At views j v) (o : History site words views log) (e : Entry)
+module _ (site : Ground) (words us : Words) (views : List View) (j : ℕ) (v w : View) (log log' : Log) (at : At views j v) (o : History site words views log) (e : Entry)
     (counter : us (counter_word site.shape) ≡ length log') (more : (x : Entry) → IsRight site.shape site.start log x → IsRight site.shape site.start log' x)
     (own : w.own ≡ v.own ++ e ∷ []) (seen : w.seen ≡ seen_after e)
     (serial : e.serial ≡ suc (length v.own)) (drew : e.drew ≡ is_done e.reply) (later : v.seen ≤ e.place)
@@ -101,7 +101,7 @@ module _ (site : Site) (words us : Words) (views : List View) (j : ℕ) (v w : V
     each_once = once_at;
   }
 
-module _ (site : Site) (words : Words) (views : List View) (j : ℕ) (v : View) (h : Backing site words views j v) (at : At views j v) where
+module _ (site : Ground) (words : Words) (views : List View) (j : ℕ) (v : View) (h : Backing site words views j v) (at : At views j v) where
   calm : (w : View) → w.own ≡ v.own → w.seen ≡ v.seen → History site words (set views j w) h.log
   calm w own seen = history_same site words words views j v w h.log at h.history refl own seen
 
@@ -191,7 +191,7 @@ module _ (site : Site) (words : Words) (views : List View) (j : ℕ) (v : View) 
       looked : (t : Bool) → History site words (set views j (with_look t lock (words lock) v)) h.log
       looked true = calm (with_look true lock (words lock) v) refl refl
       looked false = calm (with_look false lock (words lock) v) refl refl
-  keep_history (notes_word lock i) may = calm _ refl refl
+  keep_history (glances_word lock i) may = calm _ refl refl
   keep_history (validates lock) may = answered lock (all_again (marked lock (words lock) v.notes)) v.answer refl refl
   keep_history (learns i) may = calm _ refl refl
   keep_history (meets_lock lock) may = calm _ refl refl

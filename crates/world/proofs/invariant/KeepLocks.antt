@@ -9,19 +9,19 @@ use Rattle.trace.specs.Events.Event.{loaded, exchanged}
 use Rattle.trace.proofs.Replaced.{replaced_same, replaced_other}
 use Rattle.image_layout.specs.Volatile.{counter_word, power_word}
 use Rattle.bucket_words.specs.Owners.{HasStructure}
-use Rattle.world.specs.Site.{Site, IsLockWord}
+use Rattle.world.specs.Ground.{Ground, IsLockWord}
 use Rattle.world.specs.Views.{Answer, View, Has, At, HasLock, IsGuarded}
-use Rattle.world.specs.Invariant.{Locks}
+use Rattle.world.specs.Parts.{Locks}
 use Rattle.map_model.specs.declared.call.Call.{Call}
-use Rattle.world.specs.Kinds.{Kind, peeks, asks_power, meets_root, meets_entry, meets_head, pins, finds_room, refuses, places, looks, notes_word, validates, learns, meets_lock, tries, stores, copies, clears, repays, publishes, stashes, flushes, fences, draws_place, unlocks, cuts_power, without, marked, all_again, with_answer, with_look, with_count, with_lock}
+use Rattle.world.specs.Kinds.{Kind, peeks, asks_power, meets_root, meets_entry, meets_head, pins, finds_room, refuses, places, looks, glances_word, validates, learns, meets_lock, tries, stores, copies, clears, repays, publishes, stashes, flushes, fences, draws_place, unlocks, cuts_power, without, marked, all_again, with_answer, with_look, with_count, with_lock}
 use Rattle.world.specs.Conditions.{May}
 use Rattle.world.specs.Laws.{words_by, views_by}
-use Rattle.world.proofs.Structures.{lock_of_current, known_lock, lock_back, lock_structure, counter_structure, power_structure}
-use Rattle.world.proofs.Grounds.{lock_within}
-use Rattle.world.proofs.Lists.{set_here}
-use Rattle.world.proofs.Seats.{each, carry, guarded_no_lock, guarded_structure, has_first, without_has, without_stays}
+use Rattle.world.proofs.basics.Structures.{lock_of_current, known_lock, lock_back, lock_structure, counter_structure, power_structure}
+use Rattle.world.proofs.basics.Grounds.{lock_within}
+use Rattle.world.proofs.basics.Lists.{set_here}
+use Rattle.world.proofs.basics.Seats.{each, carry, guarded_no_lock, guarded_structure, has_first, without_has, without_stays}
 
-module _ (site : Site) (words us : Words) (views : List View) (j : ℕ) (v w : View) (at : At views j v) (l : Locks site words views) where
+module _ (site : Ground) (words us : Words) (views : List View) (j : ℕ) (v w : View) (at : At views j v) (l : Locks site words views) where
   -- no lock word changes, nor the structure, and the view holds what it held
   pub locks_same : w.held ≡ v.held → HasStructure site.shape words us → ((lock : ℕ) → IsLockWord site.shape lock → us lock ≡ words lock) → Locks site us (set views j w)
   locks_same held structure same = record {
@@ -36,7 +36,7 @@ module _ (site : Site) (words us : Words) (views : List View) (j : ℕ) (v w : V
       was = each views j v w at (λ i u. (o : View) × At views i o × (u.held ≡ o.held)) (v, at, held) (λ i u n a. (u, a, refl))
 
 -- a free lock is taken
-module _ (site : Site) (words : Words) (views : List View) (j : ℕ) (v : View) (at : At views j v) (l : Locks site words views)
+module _ (site : Ground) (words : Words) (views : List View) (j : ℕ) (v : View) (at : At views j v) (l : Locks site words views)
     (lock free : ℕ) (is : IsLockWord site.shape lock) (even : free % 2 ≡ 0) (now : words lock ≡ free) where
   abbrev us : Words
   us = with_word words lock (free + 1)
@@ -72,7 +72,7 @@ module _ (site : Site) (words : Words) (views : List View) (j : ℕ) (v : View) 
   }
 
 -- a lock is freed
-module _ (site : Site) (words : Words) (views : List View) (j : ℕ) (v w : View) (at : At views j v) (l : Locks site words views)
+module _ (site : Ground) (words : Words) (views : List View) (j : ℕ) (v w : View) (at : At views j v) (l : Locks site words views)
     (lock m next : ℕ) (mine : Has (lock, m) v.held) (is_next : next ≡ m + 1) (held : w.held ≡ without lock v.held) where
   kept : (c p : ℕ) → Has (c, p) w.held → (c ≡ lock → ⊥) × Has (c, p) v.held
   kept c p h = without_has lock c p v.held (subst (λ z. Has (c, p) z) held h)
@@ -111,7 +111,7 @@ answer_held false a v = refl
 answer_held true None v = refl
 answer_held true (Some a) v = refl
 
-module _ (site : Site) (words : Words) (views : List View) (j : ℕ) (v : View) (l : Locks site words views) (at : At views j v) where
+module _ (site : Ground) (words : Words) (views : List View) (j : ℕ) (v : View) (l : Locks site words views) (at : At views j v) where
   calm : (w : View) → w.held ≡ v.held → Locks site words (set views j w)
   calm w held = locks_same site words words views j v w at l held (λ i is. refl) (λ lock is. refl)
 
@@ -140,7 +140,7 @@ module _ (site : Site) (words : Words) (views : List View) (j : ℕ) (v : View) 
   keep_locks (refuses call reply) may = calm _ refl
   keep_locks (places k a) may = calm _ refl
   keep_locks (looks lock) may = calm _ (look_held (eqb (words lock % 2) 0) lock (words lock) v)
-  keep_locks (notes_word lock i) may = calm _ refl
+  keep_locks (glances_word lock i) may = calm _ refl
   keep_locks (validates lock) may = calm _ (answer_held (all_again (marked lock (words lock) v.notes)) v.answer (record v { notes = marked lock (words lock) v.notes }))
   keep_locks (learns i) may = calm _ refl
   keep_locks (meets_lock lock) may = calm _ refl

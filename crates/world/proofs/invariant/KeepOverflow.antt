@@ -13,15 +13,15 @@ use Rattle.sound_image.specs.Records.{HasExactNotes}
 use Rattle.map_model.specs.declared.call.Call.{Call}
 use Rattle.bucket_words.proofs.segments.Cores.{within_image}
 use Rattle.bucket_words.specs.Owners.{HasStructure}
-use Rattle.world.specs.Site.{Site, IsLockWord}
+use Rattle.world.specs.Ground.{Ground, IsLockWord}
 use Rattle.world.specs.Views.{Move, Owed, View, Has, At, HasLock}
-use Rattle.world.specs.Invariant.{NobodyOwes}
-use Rattle.world.specs.Kinds.{Kind, peeks, asks_power, meets_root, meets_entry, meets_head, pins, finds_room, refuses, places, looks, notes_word, validates, learns, meets_lock, tries, stores, copies, clears, repays, publishes, stashes, flushes, fences, draws_place, unlocks, cuts_power, marked, all_again, with_lock, of_other_records, of_other_homes}
+use Rattle.world.specs.Parts.{NobodyOwes}
+use Rattle.world.specs.Kinds.{Kind, peeks, asks_power, meets_root, meets_entry, meets_head, pins, finds_room, refuses, places, looks, glances_word, validates, learns, meets_lock, tries, stores, copies, clears, repays, publishes, stashes, flushes, fences, draws_place, unlocks, cuts_power, marked, all_again, with_lock, of_other_records, of_other_homes}
 use Rattle.world.specs.Conditions.{IsOwed, IsHomeOf, OwesNone, IsTidy, May}
 use Rattle.world.specs.Laws.{words_by, views_by}
-use Rattle.world.proofs.Structures.{known_lock, lock_structure, counter_structure, power_structure}
-use Rattle.world.proofs.Lists.{set_here, set_there}
-use Rattle.world.proofs.Seats.{each, is_v}
+use Rattle.world.proofs.basics.Structures.{known_lock, lock_structure, counter_structure, power_structure}
+use Rattle.world.proofs.basics.Lists.{set_here, set_there}
+use Rattle.world.proofs.basics.Seats.{each, is_v}
 use Rattle.world.proofs.holding.Backing.{Backing}
 use Rattle.world.proofs.invariant.KeepMedia.{storer}
 use Rattle.world.proofs.invariant.KeepCopies.{same_test, look_moving, count_moving, answer_moving}
@@ -51,21 +51,21 @@ other_homes_stays o n (p ∷ owed) apart h = elim (cases_Bool (eqb p.segment o.s
   | inr f ↦ subst (λ b. Has n (cond b (of_other_homes o owed) (p ∷ of_other_homes o owed))) (sym f) (elim h [ inl e ↦ inl e | inr r ↦ inr (other_homes_stays o n owed apart r) ])
 ]
 
-abbrev lock_of_owed : Site → Owed → ℕ
+abbrev lock_of_owed : Ground → Owed → ℕ
 lock_of_owed site o = bucket_at site.shape o.segment o.home
 
 -- what is said of one debt
-abbrev IsDue : Site → Words → View → Owed → Type 0
+abbrev IsDue : Ground → Words → View → Owed → Type 0
 IsDue site us w o = IsOwed site.shape us o × HasLock w.held (lock_of_owed site o) × (o.segment < site.shape.segments) × (o.home < 64)
 
 -- the notes of each home of a segment of those that P names are exact where nobody owes it one; and what is owed is owed as it should be
-pub record HomesOf (site : Site) (P : ℕ → Type 0) (words : Words) (views : List View) : Type 0 where
+pub record HomesOf (site : Ground) (P : ℕ → Type 0) (words : Words) (views : List View) : Type 0 where
   pub exact : (s b : ℕ) → P s → b < homes → NobodyOwes views s b → HasExactNotes site.shape words s b
   pub owes : (j : ℕ) (v : View) (o : Owed) → At views j v → Has o v.owed → IsOwed site.shape words o
   pub held : (j : ℕ) (v : View) (o : Owed) → At views j v → Has o v.owed → HasLock v.held (bucket_at site.shape o.segment o.home)
   pub fits : (j : ℕ) (v : View) (o : Owed) → At views j v → Has o v.owed → (o.segment < site.shape.segments) × (o.home < homes)
 
-overflow_law : (site : Site) (P W : ℕ → Type 0) (words us : Words) (views : List View) (j : ℕ) (v w : View) → At views j v → HomesOf site P words views
+overflow_law : (site : Ground) (P W : ℕ → Type 0) (words us : Words) (views : List View) (j : ℕ) (v w : View) → At views j v → HomesOf site P words views
     → ((s b : ℕ) → W s → b < 64 → NobodyOwes (set views j w) s b → HasExactNotes site.shape us s b)
     → ((i : ℕ) (u : View) (o : Owed) → i ≢ j → At views i u → Has o u.owed → IsOwed site.shape us o)
     → ((o : Owed) → Has o w.owed → IsDue site us w o) → HomesOf site W us (set views j w)
@@ -80,7 +80,7 @@ overflow_law site P W words us views j v w at o exact others own = record {
     all i u d a = each views j v w at (λ i u. Has d u.owed → IsDue site us u d) (own d)
         (λ i u n a has. let f = o.fits i u d a has in (others i u d n a has, o.held i u d a has, f.0, f.1)) i u a
 
-module _ (site : Site) (words : Words) (views : List View) (j : ℕ) (v : View) (h : Backing site words views j v) (at : At views j v) (P W : ℕ → Type 0)
+module _ (site : Ground) (words : Words) (views : List View) (j : ℕ) (v : View) (h : Backing site words views j v) (at : At views j v) (P W : ℕ → Type 0)
     (back : (s : ℕ) → W s → P s) (slot : (s : ℕ) → W s → s < site.shape.segments) (o0 : HomesOf site P words views) where
   due : (o : Owed) → Has o v.owed → IsDue site words v o
   due o has = let f = o0.fits j v o at has in (o0.owes j v o at has, o0.held j v o at has, f.0, f.1)
@@ -210,7 +210,7 @@ module _ (site : Site) (words : Words) (views : List View) (j : ℕ) (v : View) 
   keep_overflow (refuses call reply) may = calm _ (refl, refl, refl)
   keep_overflow (places k a) may = calm _ (refl, refl, refl)
   keep_overflow (looks lock) may = calm _ (look_moving (eqb (words lock % 2) 0) lock (words lock) v)
-  keep_overflow (notes_word lock i) may = calm _ (refl, refl, refl)
+  keep_overflow (glances_word lock i) may = calm _ (refl, refl, refl)
   keep_overflow (validates lock) may = calm _ (answer_moving (all_again (marked lock (words lock) v.notes)) v.answer (record v { notes = marked lock (words lock) v.notes }))
   keep_overflow (learns i) may = calm _ (refl, refl, refl)
   keep_overflow (meets_lock lock) may = calm _ (refl, refl, refl)

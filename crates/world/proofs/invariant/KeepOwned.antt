@@ -7,23 +7,23 @@ use Rattle.image_layout.specs.Volatile.{counter_word, power_word}
 use Rattle.sound_image.specs.Records.{key_hash}
 use Rattle.bucket_words.specs.Core.{core}
 use Rattle.bucket_words.proofs.segments.Places.{owner_kept}
-use Rattle.world.specs.Site.{Site, IsLockWord}
+use Rattle.world.specs.Ground.{Ground, IsLockWord}
 use Rattle.world.specs.Views.{View, At, IsGuarded}
 use Rattle.bucket_words.specs.Hits.{Hit}
 use Rattle.bucket_words.specs.Owners.{owner_of}
-use Rattle.world.specs.Kinds.{Kind, peeks, asks_power, meets_root, meets_entry, meets_head, pins, finds_room, refuses, places, looks, notes_word, validates, learns, meets_lock, tries, stores, copies, clears, repays, publishes, stashes, flushes, fences, draws_place, unlocks, cuts_power}
+use Rattle.world.specs.Kinds.{Kind, peeks, asks_power, meets_root, meets_entry, meets_head, pins, finds_room, refuses, places, looks, glances_word, validates, learns, meets_lock, tries, stores, copies, clears, repays, publishes, stashes, flushes, fences, draws_place, unlocks, cuts_power}
 use Rattle.world.specs.Conditions.{AddsHeld, May}
 use Rattle.world.specs.Laws.{words_by}
-use Rattle.world.proofs.Structures.{known_lock}
-use Rattle.world.proofs.Tables.{core_structure_same, same_hit, lock_cores, counter_cores, power_cores}
-use Rattle.world.proofs.Seats.{guarded_structure}
+use Rattle.world.proofs.basics.Structures.{known_lock}
+use Rattle.world.proofs.basics.Tables.{core_structure_same, same_hit, lock_cores, counter_cores, power_cores}
+use Rattle.world.proofs.basics.Seats.{guarded_structure}
 use Rattle.world.proofs.holding.Backing.{Backing}
 
 -- a segment of those that P names owns each record in it
-pub record OwnedOf (site : Site) (P : ℕ → Type 0) (words : Words) : Type 0 where
+pub record OwnedOf (site : Ground) (P : ℕ → Type 0) (words : Words) : Type 0 where
   pub own : (s b r k : ℕ) → P s → Hit site.shape words s b r k → owner_of site.shape words (key_hash site.shape k) ≡ Some s
 
-module _ (site : Site) (words : Words) (views : List View) (j : ℕ) (v : View) (h : Backing site words views j v) (at : At views j v) (P W : ℕ → Type 0)
+module _ (site : Ground) (words : Words) (views : List View) (j : ℕ) (v : View) (h : Backing site words views j v) (at : At views j v) (P W : ℕ → Type 0)
     (back : (s : ℕ) → W s → P s) (o : OwnedOf site P words) where
   -- no core of the image changes
   quiet : (us : Words) → ((n : ℕ) → n < words_of site.shape → core site.shape us n ≡ core site.shape words n) → OwnedOf site W us
@@ -60,7 +60,7 @@ module _ (site : Site) (words : Words) (views : List View) (j : ℕ) (v : View) 
   keep_owned (refuses call reply) may = record { own = λ s b r k current hit. o.own s b r k (back s current) hit }
   keep_owned (places k a) may = record { own = λ s b r k current hit. o.own s b r k (back s current) hit }
   keep_owned (looks lock) may = record { own = λ s b r k current hit. o.own s b r k (back s current) hit }
-  keep_owned (notes_word lock i) may = record { own = λ s b r k current hit. o.own s b r k (back s current) hit }
+  keep_owned (glances_word lock i) may = record { own = λ s b r k current hit. o.own s b r k (back s current) hit }
   keep_owned (validates lock) may = record { own = λ s b r k current hit. o.own s b r k (back s current) hit }
   keep_owned (learns i) may = record { own = λ s b r k current hit. o.own s b r k (back s current) hit }
   keep_owned (meets_lock lock) may = record { own = λ s b r k current hit. o.own s b r k (back s current) hit }

@@ -13,32 +13,32 @@ use Rattle.bucket_words.specs.Core.{core}
 use Rattle.bucket_words.specs.Hits.{Hit, find}
 use Rattle.bucket_words.specs.Owners.{owner_of, home_at}
 use Rattle.std.specs.Option.{unwrap_or}
-use Rattle.world.specs.Site.{Site, IsLockWord}
+use Rattle.world.specs.Ground.{Ground, IsLockWord}
 use Rattle.world.specs.Views.{Move, Owed, View, Has, At, HasLock, IsGuarded}
 use Rattle.world.specs.History.{Log, map_now, result_of, reply_by, change_of}
-use Rattle.world.specs.Invariant.{Plans}
-use Rattle.world.specs.Kinds.{Kind, peeks, asks_power, meets_root, meets_entry, meets_head, pins, finds_room, refuses, places, looks, notes_word, validates, learns, meets_lock, tries, stores, copies, clears, repays, publishes, stashes, flushes, fences, draws_place, unlocks, cuts_power, marked, all_again, with_lock, with_draw, log_after, of_other_records, of_other_homes}
+use Rattle.world.specs.Parts.{Plans}
+use Rattle.world.specs.Kinds.{Kind, peeks, asks_power, meets_root, meets_entry, meets_head, pins, finds_room, refuses, places, looks, glances_word, validates, learns, meets_lock, tries, stores, copies, clears, repays, publishes, stashes, flushes, fences, draws_place, unlocks, cuts_power, marked, all_again, with_lock, with_draw, log_after, of_other_records, of_other_homes}
 use Rattle.world.specs.Conditions.{IsHarmless, IsPublishing, IsUnplanned, HoldsHome, AddsHeld, HoldsPlaces, May}
 use Rattle.world.specs.Laws.{words_by, views_by}
-use Rattle.world.proofs.Structures.{known_lock}
+use Rattle.world.proofs.basics.Structures.{known_lock}
 use Rattle.bucket_words.proofs.segments.Places.{owner_kept, home_kept}
 use Rattle.hash_word.specs.Hash.{home_of}
 use Rattle.sound_image.specs.Records.{key_hash}
-use Rattle.world.proofs.Tables.{core_owner, same_hit, same_home, same_find, lock_cores, counter_cores, power_cores}
-use Rattle.world.proofs.Seats.{each, guarded_structure, of_other_keys_has}
+use Rattle.world.proofs.basics.Tables.{core_owner, same_hit, same_home, same_find, lock_cores, counter_cores, power_cores}
+use Rattle.world.proofs.basics.Seats.{each, guarded_structure, of_other_keys_has}
 use Rattle.world.proofs.invariant.KeepLocks.{look_held, count_held, answer_held}
 use Rattle.world.proofs.holding.Backing.{Backing, home_held}
 use Rattle.world.proofs.invariant.KeepMedia.{look_quiet, count_quiet, answer_quiet, storer}
 
 -- a view holds the locks of the buckets in which a key stands
-abbrev pub HoldsAll : Site → Words → View → ℕ → Type 0
+abbrev pub HoldsAll : Ground → Words → View → ℕ → Type 0
 HoldsAll site us w k = (s b r : ℕ) → owner_of site.shape us (key_hash site.shape k) ≡ Some s → Hit site.shape us s b r k → HasLock w.held (bucket_at site.shape s b)
 
 -- what is said of one planned change
-abbrev pub IsKept : Site → Words → View → Log → Call → Type 0
+abbrev pub IsKept : Ground → Words → View → Log → Call → Type 0
 IsKept site us w log c = HoldsAll site us w (key_of c) × HasLock w.held (home_at site.shape us (key_of c)) × (find site.shape us (key_of c) ≡ result_of c) × (Done ≡ reply_by (map_now site.start log (key_of c)) c)
 
-pub plans_law : (site : Site) (words us : Words) (views : List View) (log log' : Log) (j : ℕ) (v w : View) → At views j v → Plans site words views log
+pub plans_law : (site : Ground) (words us : Words) (views : List View) (log log' : Log) (j : ℕ) (v w : View) → At views j v → Plans site words views log
     → ((i : ℕ) (u : View) (c : Call) → i ≢ j → At views i u → Has c u.planned → IsKept site words u log c → IsKept site us u log' c)
     → ((c : Call) → Has c w.planned → IsKept site us w log' c) → Plans site us (set views j w) log'
 plans_law site words us views log log' j v w at o others own = record {
@@ -52,7 +52,7 @@ plans_law site words us views log log' j v w at o others own = record {
     all c = each views j v w at (λ i u. Has c u.planned → IsKept site us u log' c) (λ h. own c h)
         (λ i u n a h. others i u c n a h (o.places i u c a h, o.held i u c a h, o.stored i u c a h, o.fits i u c a h))
 
-module _ (site : Site) (words : Words) (views : List View) (j : ℕ) (v : View) (h : Backing site words views j v) (at : At views j v) where
+module _ (site : Ground) (words : Words) (views : List View) (j : ℕ) (v : View) (h : Backing site words views j v) (at : At views j v) where
   mine : (c : Call) → Has c v.planned → IsKept site words v h.log c
   mine c has = (h.plans.places j v c at has, h.plans.held j v c at has, h.plans.stored j v c at has, h.plans.fits j v c at has)
 
@@ -151,7 +151,7 @@ module _ (site : Site) (words : Words) (views : List View) (j : ℕ) (v : View) 
   keep_plans (refuses call reply) may = calm _ refl refl
   keep_plans (places k a) may = calm _ refl refl
   keep_plans (looks lock) may = let t = eqb (words lock % 2) 0 in calm _ (look_quiet t lock (words lock) v).1 (look_held t lock (words lock) v)
-  keep_plans (notes_word lock i) may = calm _ refl refl
+  keep_plans (glances_word lock i) may = calm _ refl refl
   keep_plans (validates lock) may = let o = record v { notes = marked lock (words lock) v.notes } in let t = all_again (marked lock (words lock) v.notes) in calm _ (answer_quiet t v.answer o).1 (answer_held t v.answer o)
   keep_plans (learns i) may = calm _ refl refl
   keep_plans (meets_lock lock) may = calm _ refl refl

@@ -5,19 +5,19 @@ use Rattle.trace.specs.Events.Event.{loaded, exchanged}
 use Rattle.trace.proofs.Replaced.{replaced_other}
 use Rattle.image_layout.specs.Volatile.{counter_word, power_word}
 use Rattle.map_model.specs.declared.call.Call.{Call}
-use Rattle.world.specs.Site.{Site, IsLockWord}
+use Rattle.world.specs.Ground.{Ground, IsLockWord}
 use Rattle.world.specs.Views.{Answer, View, At, IsGuarded}
 use Rattle.world.proofs.holding.Backing.{Backing}
-use Rattle.world.specs.Invariant.{Powered}
-use Rattle.world.specs.Kinds.{Kind, peeks, asks_power, meets_root, meets_entry, meets_head, pins, finds_room, refuses, places, looks, notes_word, validates, learns, meets_lock, tries, stores, copies, clears, repays, publishes, stashes, flushes, fences, draws_place, unlocks, cuts_power, marked, with_answer, with_look, with_count, with_lock}
+use Rattle.world.specs.Parts.{Powered}
+use Rattle.world.specs.Kinds.{Kind, peeks, asks_power, meets_root, meets_entry, meets_head, pins, finds_room, refuses, places, looks, glances_word, validates, learns, meets_lock, tries, stores, copies, clears, repays, publishes, stashes, flushes, fences, draws_place, unlocks, cuts_power, marked, with_answer, with_look, with_count, with_lock}
 use Rattle.world.specs.Conditions.{May}
 use Rattle.world.specs.Laws.{words_by, views_by}
-use Rattle.world.proofs.Structures.{known_lock}
-use Rattle.world.proofs.Grounds.{lock_within}
-use Rattle.world.proofs.Lists.{set_here}
-use Rattle.world.proofs.Seats.{carry, guarded_within}
+use Rattle.world.proofs.basics.Structures.{known_lock}
+use Rattle.world.proofs.basics.Grounds.{lock_within}
+use Rattle.world.proofs.basics.Lists.{set_here}
+use Rattle.world.proofs.basics.Seats.{carry, guarded_within}
 
-module _ (site : Site) (words : Words) (views : List View) (j : ℕ) (v : View) (h : Backing site words views j v) (at : At views j v) where
+module _ (site : Ground) (words : Words) (views : List View) (j : ℕ) (v : View) (h : Backing site words views j v) (at : At views j v) where
   abbrev power : ℕ
   power = power_word site.shape
 
@@ -65,7 +65,7 @@ module _ (site : Site) (words : Words) (views : List View) (j : ℕ) (v : View) 
   keep_powered (refuses call reply) may = calm words _ refl refl
   keep_powered (places k a) may = calm words _ refl refl
   keep_powered (looks lock) may = calm words _ refl (looked lock (words lock) _)
-  keep_powered (notes_word lock i) may = calm words _ refl refl
+  keep_powered (glances_word lock i) may = calm words _ refl refl
   keep_powered (validates lock) may = calm words _ refl (answered (record v { notes = marked lock (words lock) v.notes }) _ _)
   keep_powered (learns i) may = calm words _ refl refl
   keep_powered (meets_lock lock) may = calm words _ refl refl

@@ -5,16 +5,16 @@ use Rattle.std.specs.Prelude.{nat_lt}
 use Rattle.trace.specs.Events.{Words}
 use Rattle.image_layout.specs.Volatile.{counter_word}
 use Rattle.map_model.specs.declared.call.Call.{Call}
-use Rattle.world.specs.Site.{Site}
+use Rattle.world.specs.Ground.{Ground}
 use Rattle.world.specs.Views.{Answer, View, At}
 use Rattle.world.specs.History.{Log}
 use Rattle.world.proofs.holding.Backing.{Backing}
-use Rattle.world.specs.Invariant.{total, Room}
-use Rattle.world.specs.Kinds.{Kind, peeks, asks_power, meets_root, meets_entry, meets_head, pins, finds_room, refuses, places, looks, notes_word, validates, learns, meets_lock, tries, stores, copies, clears, repays, publishes, stashes, flushes, fences, draws_place, unlocks, cuts_power, marked, all_again, with_answer, with_look, with_count, with_lock, with_draw, log_after}
+use Rattle.world.specs.Parts.{total, Room}
+use Rattle.world.specs.Kinds.{Kind, peeks, asks_power, meets_root, meets_entry, meets_head, pins, finds_room, refuses, places, looks, glances_word, validates, learns, meets_lock, tries, stores, copies, clears, repays, publishes, stashes, flushes, fences, draws_place, unlocks, cuts_power, marked, all_again, with_answer, with_look, with_count, with_lock, with_draw, log_after}
 use Rattle.world.specs.Conditions.{May}
 use Rattle.world.specs.Laws.{views_by}
-use Rattle.world.proofs.Lists.{total_set, total_most}
-use Rattle.world.proofs.Seats.{each}
+use Rattle.world.proofs.basics.Lists.{total_set, total_most}
+use Rattle.world.proofs.basics.Seats.{each}
 
 abbrev callers_of : View → ℕ
 callers_of v = v.callers
@@ -22,7 +22,7 @@ callers_of v = v.callers
 abbrev room_of : View → ℕ
 room_of v = v.room
 
-pub room_law : (site : Site) (views : List View) (j : ℕ) (v w : View) (log log' : Log) → At views j v → Room site views log → w.callers ≡ v.callers → w.room ≤ w.callers
+pub room_law : (site : Ground) (views : List View) (j : ℕ) (v w : View) (log log' : Log) → At views j v → Room site views log → w.callers ≡ v.callers → w.room ≤ w.callers
     → length log' + total room_of views + w.room ≤ 2 ^ 63 + site.callers + v.room → Room site (set views j w) log'
 room_law site views j v w log log' at r callers most few = record {
   callers = (let s = total_set callers_of views j v w at in let p = r.callers in omega (arith, s, p, callers));
@@ -30,7 +30,7 @@ room_law site views j v w log log' at r callers most few = record {
   few = (let s = total_set room_of views j v w at in omega (arith, s, few));
 }
 
-module _ (site : Site) (words : Words) (views : List View) (j : ℕ) (v : View) (h : Backing site words views j v) (at : At views j v) where
+module _ (site : Ground) (words : Words) (views : List View) (j : ℕ) (v : View) (h : Backing site words views j v) (at : At views j v) where
   calm : (w : View) → w.callers ≡ v.callers → w.room ≡ v.room → Room site (set views j w) h.log
   calm w p d = let r = h.room.few in let m = h.room.each j v at in room_law site views j v w h.log h.log at h.room p (omega (arith, p, d, m)) (omega (arith, r, d))
 
@@ -72,7 +72,7 @@ module _ (site : Site) (words : Words) (views : List View) (j : ℕ) (v : View) 
   keep_room (refuses call reply) may = calm _ refl refl
   keep_room (places k a) may = calm _ refl refl
   keep_room (looks lock) may = looked lock (words lock) (eqb (words lock % 2) 0)
-  keep_room (notes_word lock i) may = calm _ refl refl
+  keep_room (glances_word lock i) may = calm _ refl refl
   keep_room (validates lock) may = answered (record v { notes = marked lock (words lock) v.notes }) refl refl (all_again (marked lock (words lock) v.notes)) v.answer
   keep_room (learns i) may = calm _ refl refl
   keep_room (meets_lock lock) may = calm _ refl refl

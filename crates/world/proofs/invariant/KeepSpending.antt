@@ -9,20 +9,20 @@ use Rattle.map_model.specs.declared.call.Call.TheVariants.{Get}
 use Rattle.map_model.specs.declared.entry.Reply.TheVariants.{Spent, Done}
 use Rattle.map_model.specs.declared.entry.Entry.{Entry}
 use Rattle.map_model.specs.Map.{shown}
-use Rattle.world.specs.Site.{Site, IsSpentLock, HasSpentLock}
+use Rattle.world.specs.Ground.{Ground, IsSpentLock, HasSpentLock}
 use Rattle.world.specs.Views.{Answer, View, Has, At}
 use Rattle.world.specs.History.{Log}
-use Rattle.world.specs.Invariant.{Spending}
-use Rattle.world.specs.Kinds.{Kind, peeks, asks_power, meets_root, meets_entry, meets_head, pins, finds_room, refuses, places, looks, notes_word, validates, learns, meets_lock, tries, stores, copies, clears, repays, publishes, stashes, flushes, fences, draws_place, unlocks, cuts_power, marked, all_again, next_entry, with_answer, with_look, with_count, with_spent, with_lock, log_after, view_after}
+use Rattle.world.specs.Parts.{Spending}
+use Rattle.world.specs.Kinds.{Kind, peeks, asks_power, meets_root, meets_entry, meets_head, pins, finds_room, refuses, places, looks, glances_word, validates, learns, meets_lock, tries, stores, copies, clears, repays, publishes, stashes, flushes, fences, draws_place, unlocks, cuts_power, marked, all_again, next_entry, with_answer, with_look, with_count, with_spent, with_lock, log_after, view_after}
 use Rattle.world.specs.Conditions.{May}
 use Rattle.world.specs.areas.SpentNumbers.{SpendingParts}
 use Rattle.world.specs.Laws.{found_by, words_by, views_by}
-use Rattle.world.proofs.Lists.{has_joined}
-use Rattle.world.proofs.Seats.{each}
-use Rattle.world.proofs.stepping.SpentLocks.{spent_stays}
+use Rattle.world.proofs.basics.Lists.{has_joined}
+use Rattle.world.proofs.basics.Seats.{each}
+use Rattle.world.proofs.stepping.SpentLocks.{spent_lock_stays}
 
 -- a reply that a number is spent is right over these words and so many changes
-abbrev IsCaused : Site → Words → Log → Type 0
+abbrev IsCaused : Ground → Words → Log → Type 0
 IsCaused site words log = (2 ^ 63 ≤ length log) ⊎ HasSpentLock site.shape words
 
 shown_other : (a : Option ℕ) → shown a ≡ Spent → ⊥
@@ -33,7 +33,7 @@ shown_other (Some v) e = cc
 one_more : (own : List Entry) (e x : Entry) → Has x (own ++ e ∷ []) → Has x own ⊎ (x ≡ e)
 one_more own e x h = elim (has_joined own (e ∷ []) x h) [ inl old ↦ inl old | inr new ↦ elim new [ inl is ↦ inr is | inr none ↦ absurd none ] ]
 
-module _ (site : Site) (words : Words) (views : List View) (j : ℕ) (v : View) (h : SpendingParts site words views) (at : At views j v) where
+module _ (site : Ground) (words : Words) (views : List View) (j : ℕ) (v : View) (h : SpendingParts site words views) (at : At views j v) where
   module _ (kind : Kind) (may : May site kind v) where
     abbrev w : View
     w = view_after site.shape kind (found_by site kind words) v
@@ -42,7 +42,7 @@ module _ (site : Site) (words : Words) (views : List View) (j : ℕ) (v : View) 
     after = words_by site kind j words
 
     still : (lock : ℕ) → IsSpentLock site.shape words lock → IsSpentLock site.shape after lock
-    still lock s = (s.0, spent_stays site words views j v h at lock s.0 s.1 kind may)
+    still lock s = spent_lock_stays site words views j v h at lock kind may s
 
     still_caused : length h.log ≤ length (log_after kind h.log) → IsCaused site words h.log → IsCaused site after (log_after kind h.log)
     still_caused grows c = elim c [ inl many ↦ inl (omega (arith, many, grows)) | inr s ↦ inr (s.0, still s.0 s.1) ]
@@ -110,7 +110,7 @@ module _ (site : Site) (words : Words) (views : List View) (j : ℕ) (v : View) 
       own_by : (t : Bool) → (with_look t lock (words lock) v).own ≡ v.own
       own_by true = refl
       own_by false = refl
-  keep_spending (notes_word lock i) may = calm (notes_word lock i) may refl refl refl
+  keep_spending (glances_word lock i) may = calm (glances_word lock i) may refl refl refl
   keep_spending (validates lock) may = by (all_again (marked lock (words lock) v.notes)) v.answer refl refl
     where
       by : (t : Bool) (a : Option Answer) → (w (validates lock) may).spent_locks ≡ (with_answer t a (noted lock)).spent_locks → (w (validates lock) may).own ≡ (with_answer t a (noted lock)).own
@@ -123,7 +123,7 @@ module _ (site : Site) (words : Words) (views : List View) (j : ℕ) (v : View) 
     where
       by : (t : Bool) → eqb (words lock) (2 ^ 64 - 2) ≡ t → (l : ℕ) → Has l (with_spent t lock v.spent_locks) → Has l v.spent_locks ⊎ IsSpentLock site.shape words l
       by true is l has = elim has [
-        | inl same ↦ inr (subst (λ k. IsSpentLock site.shape words k) (sym same) (may, eqb-true (words lock) (2 ^ 64 - 2) is))
+        | inl same ↦ inr (subst (λ k. IsSpentLock site.shape words k) (sym same) ((may.0, may.1, may.2, may.3, may.4, h.living j v may.0 at may.5), eqb-true (words lock) (2 ^ 64 - 2) is))
         | inr old ↦ inl old
       ]
       by false is l has = inl has

@@ -7,16 +7,16 @@ use Rattle.image_layout.specs.Places.{Shape}
 use Rattle.image_layout.specs.Volatile.{counter_word}
 use Rattle.map_model.specs.declared.call.Call.{Call}
 use Rattle.bucket_words.specs.Owners.{HasStructure}
-use Rattle.world.specs.Site.{Site, IsLockWord}
+use Rattle.world.specs.Ground.{Ground, IsLockWord}
 use Rattle.world.specs.Views.{Answer, View, At}
-use Rattle.world.specs.Invariant.{Locks}
-use Rattle.world.specs.Kinds.{Kind, peeks, asks_power, meets_root, meets_entry, meets_head, pins, finds_room, refuses, places, looks, notes_word, validates, learns, meets_lock, tries, stores, copies, clears, repays, publishes, stashes, flushes, fences, draws_place, unlocks, cuts_power, marked, all_again, with_answer, with_look, with_count, with_lock, view_after}
+use Rattle.world.specs.Parts.{Locks}
+use Rattle.world.specs.Kinds.{Kind, peeks, asks_power, meets_root, meets_entry, meets_head, pins, finds_room, refuses, places, looks, glances_word, validates, learns, meets_lock, tries, stores, copies, clears, repays, publishes, stashes, flushes, fences, draws_place, unlocks, cuts_power, marked, all_again, with_answer, with_look, with_count, with_lock, view_after}
 use Rattle.world.specs.Conditions.{May}
 use Rattle.world.specs.Laws.{words_by}
-use Rattle.world.proofs.Structures.{known_lock, lock_structure, counter_structure, power_structure}
-use Rattle.world.proofs.Seats.{guarded_structure}
+use Rattle.world.proofs.basics.Structures.{known_lock, lock_structure, counter_structure, power_structure}
+use Rattle.world.proofs.basics.Seats.{guarded_structure}
 
-module _ (site : Site) (words : Words) (views : List View) (j : ℕ) (v : View) (l : Locks site words views) (at : At views j v) where
+module _ (site : Ground) (words : Words) (views : List View) (j : ℕ) (v : View) (l : Locks site words views) (at : At views j v) where
   tried : (lock free : ℕ) → IsLockWord site.shape lock → (t : Bool) → HasStructure site.shape words (after (cond t (exchanged j lock (free + 1)) (loaded j lock)) words)
   tried lock free is true = lock_structure site.shape words lock (free + 1) is
   tried lock free is false = λ i s. refl
@@ -32,7 +32,7 @@ module _ (site : Site) (words : Words) (views : List View) (j : ℕ) (v : View) 
   structure_stays (refuses call reply) may = λ i s. refl
   structure_stays (places k a) may = λ i s. refl
   structure_stays (looks lock) may = λ i s. refl
-  structure_stays (notes_word lock n) may = λ i s. refl
+  structure_stays (glances_word lock n) may = λ i s. refl
   structure_stays (validates lock) may = λ i s. refl
   structure_stays (learns n) may = λ i s. refl
   structure_stays (meets_lock lock) may = λ i s. refl
@@ -77,7 +77,7 @@ areas_stay shape (finds_room call) n v = counted (nat_lt n (2 ^ 63)) call n v
 areas_stay shape (refuses call reply) n v = refl
 areas_stay shape (places k a) n v = refl
 areas_stay shape (looks lock) n v = looked (eqb (n % 2) 0) lock n v
-areas_stay shape (notes_word lock i) n v = refl
+areas_stay shape (glances_word lock i) n v = refl
 areas_stay shape (validates lock) n v = answered (all_again (marked lock n v.notes)) v.answer (record v { notes = marked lock n v.notes })
 areas_stay shape (learns i) n v = refl
 areas_stay shape (meets_lock lock) n v = refl

@@ -11,21 +11,21 @@ use Rattle.bucket_words.specs.Buckets.{value_in}
 use Rattle.bucket_words.specs.Hits.{Hit, find}
 use Rattle.bucket_words.specs.Owners.{owner_of, home_at}
 use Rattle.bucket_words.proofs.segments.Finding.{find_is}
-use Rattle.world.specs.Site.{Site}
+use Rattle.world.specs.Ground.{Ground}
 use Rattle.world.specs.Views.{Move, View, Has, At, HasLock}
 use Rattle.world.specs.History.{map_now}
 use Rattle.world.specs.Media.{IsPossible}
-use Rattle.world.specs.Invariant.{IsRemoving}
+use Rattle.world.specs.Parts.{IsRemoving}
+use Rattle.world.specs.Invariant.{Holds}
 use Rattle.world.specs.Conditions.{IsUnplanned, IsNewest, StandsBeside, IsMapNow}
 use Rattle.world.specs.areas.Asking.{MayStandBeside}
-use Rattle.world.specs.areas.Holding.{HoldsMoving}
 use Rattle.world.specs.areas.Keeping.{whole_beside}
 use Rattle.world.specs.areas.Bridging.{HasNoWhole, CallersKnowAsBefore}
-use Rattle.world.proofs.Grounds.{home_near}
+use Rattle.world.proofs.basics.Grounds.{home_near}
 use Rattle.world.proofs.fitting.OneHolder.{side_dies}
 use Rattle.world.proofs.moving.Known as known
 
-module _ (site : Site) (words : Words) (views : List View) (j : ℕ) (v : View) (h : HoldsMoving site words views) (at : At views j v) (none : HasNoWhole v) where
+module _ (site : Ground) (words : Words) (views : List View) (j : ℕ) (v : View) (h : Holds site words views) (at : At views j v) (none : HasNoWhole v) where
   newest_is : IsNewest site v words
   newest_is = let n = known.newest_is site words views h j v at in record {
     structure = n.structure;

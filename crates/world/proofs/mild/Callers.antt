@@ -1,18 +1,18 @@
 -- Each kind of step of a caller that has no segment whole keeps, while the structure moves, what it keeps where none moves.
 use Rattle.std.proofs.Common.{ℕ, List, sym, subst}
 use Rattle.trace.specs.Events.{Words}
-use Rattle.world.specs.Site.{Site}
+use Rattle.world.specs.Ground.{Ground}
 use Rattle.world.specs.Views.{View, Has, At}
 use Rattle.world.specs.Kinds.{Kind, view_after}
 use Rattle.world.specs.Conditions.{May}
-use Rattle.world.specs.Invariant.{Locks}
+use Rattle.world.specs.Parts.{Locks}
+use Rattle.world.specs.Invariant.{IsWatched, Holds}
 use Rattle.world.specs.Laws.{found_by, words_by, views_by}
 use Rattle.world.specs.areas.Areas.{Area, Whole}
-use Rattle.world.specs.areas.Holding.{IsWatched, HoldsMoving}
 use Rattle.world.specs.areas.Bridging.{HasNoWhole, CallersKeepOthers, CallersKeepRecords, CallersKeepNotesOfHomes}
 use Rattle.world.proofs.holding.Backing.{Backing}
-use Rattle.world.proofs.Structures.{current_back}
-use Rattle.world.proofs.Seats.{carry}
+use Rattle.world.proofs.basics.Structures.{current_back}
+use Rattle.world.proofs.basics.Seats.{carry}
 use Rattle.world.proofs.invariant.Stays.{structure_stays, areas_stay}
 use Rattle.world.proofs.invariant.KeepOwned.{keep_owned}
 use Rattle.world.proofs.invariant.KeepCopies.{keep_copies}
@@ -23,7 +23,7 @@ use Rattle.world.proofs.invariant.KeepRoom.{keep_room}
 use Rattle.world.proofs.invariant.KeepPowered.{keep_powered}
 use Rattle.world.proofs.mild.Bridging.{callers_know}
 
-abbrev pub backing_moving : (site : Site) (words : Words) (views : List View) (j : ℕ) (v : View) → HoldsMoving site words views → At views j v → HasNoWhole v → Backing site words views j v
+abbrev pub backing_moving : (site : Ground) (words : Words) (views : List View) (j : ℕ) (v : View) → Holds site words views → At views j v → HasNoWhole v → Backing site words views j v
 backing_moving site words views j v h at none = record {
   site_is = h.site_is;
   log = h.log;
@@ -47,7 +47,7 @@ callers_keep_others = record {
 }
 
 -- what nobody has whole after a step, nobody had before: no kind of a caller changes areas
-watched_back : (site : Site) (kind : Kind) (words : Words) (views : List View) (j : ℕ) (v : View) → Locks site words views → At views j v → May site kind v
+watched_back : (site : Ground) (kind : Kind) (words : Words) (views : List View) (j : ℕ) (v : View) → Locks site words views → At views j v → May site kind v
     → (s : ℕ) → IsWatched site (words_by site kind j words) (views_by site kind j v words views) s → IsWatched site words views s
 watched_back site kind words views j v locks at may s q = (
   current_back site words (words_by site kind j words) (structure_stays site words views j v locks at kind may) s q.0,

@@ -1,10 +1,10 @@
 -- Each kind of step at the structure keeps what holds while it moves: its parts, put together.
 use Rattle.std.proofs.Common.{refl}
 use Rattle.world.specs.areas.Keeping.{KeepsHolding}
-use Rattle.world.proofs.moving.Whole.{structure_kept}
+use Rattle.world.proofs.moving.media.Whole.{structure_kept}
 use Rattle.world.proofs.moving.Words.{keeps_held_words}
 use Rattle.world.proofs.moving.LocksKept.{keeps_locks}
-use Rattle.world.proofs.moving.MediaKept.{media_kept}
+use Rattle.world.proofs.moving.media.MediaKept.{media_kept}
 use Rattle.world.proofs.mild.Kept.{records_kept, notes_of_homes_kept, others_kept}
 
 pub holding_kept : KeepsHolding

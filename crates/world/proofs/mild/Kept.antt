@@ -1,11 +1,11 @@
 -- Each kind of step at the structure keeps plans, records, the notes of homes, the notes of readers, and all that it does not touch.
 use Rattle.std.proofs.Common.{ℕ, List}
 use Rattle.trace.specs.Events.{Words}
-use Rattle.world.specs.Site.{Site}
+use Rattle.world.specs.Ground.{Ground}
 use Rattle.world.specs.Views.{View, At}
 use Rattle.world.specs.areas.Kinds.{StructureKind, view_then}
 use Rattle.world.specs.areas.Asking.{MayBeNewest, MayStandBeside, MayAt}
-use Rattle.world.specs.areas.Holding.{HoldsMoving}
+use Rattle.world.specs.Invariant.{Holds}
 use Rattle.world.specs.areas.Keeping.{found_at, words_then, KeepsRecords, KeepsNotesOfHomes, KeepsOthers, StructureStepsSpare, StructureStepsReplyNothing}
 use Rattle.world.proofs.moving.Known.{known_is_so}
 use Rattle.world.proofs.mild.Mild.{IsMild, records, notes_of_homes, plans}
@@ -13,7 +13,7 @@ use Rattle.world.proofs.mild.Steps.{mild_step}
 use Rattle.world.proofs.mild.Noted.{SparesNotes, spares_notes, notes_stay}
 use Rattle.world.proofs.mild.Rest.{KeepsFar, HasSame, keeps_far, same_view, history, room, spending, powered}
 
-module _ (site : Site) (kind : StructureKind) (words : Words) (views : List View) (j : ℕ) (v : View) (h : HoldsMoving site words views) (at : At views j v) (may : MayAt site kind v) where
+module _ (site : Ground) (kind : StructureKind) (words : Words) (views : List View) (j : ℕ) (v : View) (h : Holds site words views) (at : At views j v) (may : MayAt site kind v) where
   abbrev w : View
   w = view_then site.shape kind (found_at site kind words) v
 
@@ -33,7 +33,7 @@ module _ (site : Site) (kind : StructureKind) (words : Words) (views : List View
   spares = spares_notes site words views j v h at now itself kind may
 
   far : KeepsFar site words us
-  far = keeps_far site words views j v h at now kind may
+  far = keeps_far site words views j v h at now kind may (λ s live. (spares.heads s live).0)
 
   same : HasSame v w
   same = same_view site words v kind

@@ -14,17 +14,17 @@ use Rattle.bucket_words.specs.Hits.{Hit, find}
 use Rattle.bucket_words.specs.Owners.{SameOwners, owner_of, home_at}
 use Rattle.bucket_words.proofs.segments.Cores.{hit_of_cores}
 use Rattle.bucket_words.proofs.segments.Noted.{exact_same}
-use Rattle.world.specs.Site.{Site, IsCurrentIn}
+use Rattle.world.specs.Ground.{Ground, IsCurrentIn}
 use Rattle.world.specs.Views.{Move, Owed, View, Has, At, HasLock}
 use Rattle.world.specs.Conditions.{IsOwed, HoldsMove}
-use Rattle.world.specs.Invariant.{Plans, NobodyOwes}
+use Rattle.world.specs.Parts.{Plans, NobodyOwes}
+use Rattle.world.specs.Invariant.{IsWatched, Records, Overflow, Holds}
 use Rattle.world.specs.areas.Areas.{Whole}
 use Rattle.world.specs.areas.Asking.{IsInOrder}
-use Rattle.world.specs.areas.Holding.{IsWatched, WatchedRecords, WatchedNotes, HoldsMoving}
-use Rattle.world.proofs.Grounds.{home_near}
-use Rattle.world.proofs.Lists.{set_here, set_there}
-use Rattle.world.proofs.Seats.{each, is_v, carry}
-use Rattle.world.proofs.Structures.{one_segment}
+use Rattle.world.proofs.basics.Grounds.{home_near}
+use Rattle.world.proofs.basics.Lists.{set_here, set_there}
+use Rattle.world.proofs.basics.Seats.{each, is_v, carry}
+use Rattle.world.proofs.basics.Structures.{one_segment}
 use Rattle.world.proofs.holding.Owing.{same_notes, owed_same}
 use Rattle.world.proofs.invariant.KeepPlans.{IsKept, plans_law}
 
@@ -33,12 +33,12 @@ abbrev pub SameBuckets : Shape → Words → Words → ℕ → Type 0
 SameBuckets shape words us t = t < shape.segments → (c n : ℕ) → c < buckets → 1 ≤ n → n < block → us (bucket_at shape t c + n) ≡ words (bucket_at shape t c + n)
 
 -- a segment is safe from a view: it is current, and the view has it not whole
-abbrev pub IsSafe : Site → Words → View → ℕ → Type 0
+abbrev pub IsSafe : Ground → Words → View → ℕ → Type 0
 IsSafe site words v t = IsCurrentIn site words t × (Has (Whole t) v.areas → ⊥)
 
 -- A STEP IS MILD, where a view w comes after v and words us after words: safe segments keep their buckets, and their hashes; what others may
 -- rest on after is in order, or was safe; and the view does what it does with nothing planned or owed, or changes no bucket
-pub record IsMild (site : Site) (words us : Words) (v w : View) : Type 0 where
+pub record IsMild (site : Ground) (words us : Words) (v w : View) : Type 0 where
   pub stays : (t : ℕ) → IsSafe site words v t → SameBuckets site.shape words us t
   pub owners : (h : ℕ) → IsSafe site words v (unwrap_or (owner_of site.shape words h) 0) → owner_of site.shape us h ≡ owner_of site.shape words h
   pub watched : (t : ℕ) → IsCurrentIn site us t → (Has (Whole t) w.areas → ⊥) → IsInOrder site us t ⊎ IsSafe site words v t
@@ -56,7 +56,7 @@ hit_there shape words us t same b r k hit = hit_of_cores shape us words t b hit.
     (λ n above inside. ap (core_of shape (bucket_at shape t b + n)) (same hit.segment b n hit.bucket above inside)) r k hit
 
 -- a segment whose buckets and hashes stay is in order as it was
-pub order_stays : (site : Site) (words us : Words) (s : ℕ) → s < site.shape.segments → SameBuckets site.shape words us s → SameOwners site.shape words us → IsInOrder site words s → IsInOrder site us s
+pub order_stays : (site : Ground) (words us : Words) (s : ℕ) → s < site.shape.segments → SameBuckets site.shape words us s → SameOwners site.shape words us → IsInOrder site words s → IsInOrder site us s
 order_stays site words us s slot same owners o = record {
   own = λ b r k hit. owners (key_hash site.shape k) ∙ o.own b r k (hit_there site.shape words us s same b r k hit);
   once = λ b r c t k hit other. o.once b r c t k (hit_there site.shape words us s same b r k hit) (hit_there site.shape words us s same c t k other);
@@ -64,7 +64,7 @@ order_stays site words us s slot same owners o = record {
 }
 
 -- what another view has a lock of is safe
-pub locked : (site : Site) (words : Words) (views : List View) (j : ℕ) (v : View) → HoldsMoving site words views → At views j v
+pub locked : (site : Ground) (words : Words) (views : List View) (j : ℕ) (v : View) → Holds site words views → At views j v
     → (c : ℕ) (u : View) (t b : ℕ) → c ≢ j → At views c u → b < buckets → HasLock u.held (bucket_at site.shape t b) → IsSafe site words v t
 locked site words views j v h at c u t b ne a near l =
     let q = h.structure.fits.lock c u (bucket_at site.shape t b) a l in (
@@ -73,7 +73,7 @@ locked site words views j v h at c u t b ne a near l =
           ne (h.locks.alone c j u v (bucket_at site.shape t b) l.0 mine.0 a at l.1 mine.1),
     )
 
-module _ (site : Site) (words us : Words) (views : List View) (j : ℕ) (v w : View) (h : HoldsMoving site words views) (at : At views j v) (mild : IsMild site words us v w) where
+module _ (site : Ground) (words us : Words) (views : List View) (j : ℕ) (v w : View) (h : Holds site words views) (at : At views j v) (mild : IsMild site words us v w) where
   still_owner : (t hash : ℕ) → IsSafe site words v t → owner_of site.shape words hash ≡ Some t → owner_of site.shape us hash ≡ Some t
   still_owner t hash safe own = mild.owners hash (subst (λ (o : Option ℕ). IsSafe site words v (unwrap_or o 0)) (sym own) safe) ∙ own
 
@@ -104,7 +104,7 @@ module _ (site : Site) (words us : Words) (views : List View) (j : ℕ) (v w : V
         | inr held ↦ subst (λ (l : List (ℕ × ℕ)). HoldsMove site.shape l m) (sym held) (h.records.held j v m at old)
       ]
 
-  pub records : WatchedRecords site us (set views j w)
+  pub records : Records site us (set views j w)
   records = record {
     own = λ t b r k watched hit. elim (watched_before t watched) [
       | inl order ↦ order.own b r k hit
@@ -142,7 +142,7 @@ module _ (site : Site) (words us : Words) (views : List View) (j : ℕ) (v w : V
         )
       ]
 
-  pub notes_of_homes : WatchedNotes site us (set views j w)
+  pub notes_of_homes : Overflow site us (set views j w)
   notes_of_homes = record {
     exact = λ t b watched near none. elim (watched_before t watched) [
       | inl order ↦ order.exact b near

@@ -9,27 +9,27 @@ use Rattle.segment_head.specs.HeadWord.{version_in, state_in, depth_in, HasLiveS
 use Rattle.image_layout.specs.Places.{words_of, bucket_at}
 use Rattle.sound_image.specs.Segments.{frame_of}
 use Rattle.frame_facts.specs.Facts.{IsLiveSlot}
-use Rattle.world.specs.Site.{Site, IsLockWord, IsUnder, version_of, IsCurrentIn, IsCurrentLock}
-use Rattle.world.specs.Views.{Note, View, Has, At}
+use Rattle.world.specs.Ground.{Ground, IsLockWord, IsUnder, version_of, IsCurrentIn, IsCurrentLock}
+use Rattle.world.specs.Views.{Glance, View, Has, At}
 use Rattle.world.specs.History.{Log}
-use Rattle.world.specs.Invariant.{IsPastLock, IsUnmoved, IsAnswer}
+use Rattle.world.specs.Parts.{IsPastLock, IsUnmoved, IsAnswer}
+use Rattle.world.specs.Invariant.{rank, IsPastHeader, Notes, Holds}
 use Rattle.world.specs.areas.Areas.{header_word}
 use Rattle.world.specs.areas.Rows.{Row, marks, news, goes_live, finishes, unmarks, frees, renews, IsRow, HasForRow}
-use Rattle.world.specs.areas.Kinds.{Guard, guard_word, StructureKind, takes, gives, finds_stale, finds_whole, finds_free, finds_side, reads, sets, moves, settles, settles_side, opens}
+use Rattle.world.specs.areas.Kinds.{Guard, guard_word, StructureKind, takes, gives, finds_stale, closes, finds_free, finds_side, reads, sets, moves, settles, settles_side, opens}
 use Rattle.world.specs.areas.Asking.{MayBeNewest, MayStandBeside, MaySet, MayAt}
-use Rattle.world.specs.areas.Holding.{rank, IsPastHeader, MovingNotes, HoldsMoving}
 use Rattle.world.specs.areas.Keeping.{words_then}
-use Rattle.world.proofs.Grounds.{one_lock, lock_apart, lock_within, under_lock}
-use Rattle.world.proofs.Seats.{each}
-use Rattle.world.proofs.Structures.{lock_of_current, lock_no_head, one_segment}
-use Rattle.world.proofs.fitting.Lasting.{same_live}
+use Rattle.world.proofs.basics.Grounds.{one_lock, lock_apart, lock_within, under_lock}
+use Rattle.world.proofs.basics.Seats.{each}
+use Rattle.world.proofs.basics.Structures.{lock_of_current, lock_no_head, one_segment}
+use Rattle.world.proofs.fitting.lasting.Lasting.{same_live}
 use Rattle.world.proofs.fitting.Rows.{head_near, one_head, row_live, row_version, row_slot}
 use Rattle.world.proofs.mild.Steps.{guard_behind, no_head_word, in_area}
 
 -- WHAT IS ENOUGH: a noted lock word does not fall, and while it has the noted value nothing under it changed; current segments stay so; and
 -- the header of a live one is as it was, or has come further
-pub record SparesNotes (site : Site) (words us : Words) : Type 0 where
-  pub rises : (n : Note) → IsPastLock site words n → (words n.word ≤ us n.word) × (us n.word ≡ n.value → (words n.word ≡ n.value) × ((i : ℕ) → IsUnder n.word i → us i ≡ words i))
+pub record SparesNotes (site : Ground) (words us : Words) : Type 0 where
+  pub rises : (n : Glance) → IsPastLock site words n → (words n.word ≤ us n.word) × (us n.word ≡ n.value → (words n.word ≡ n.value) × ((i : ℕ) → IsUnder n.word i → us i ≡ words i))
   pub currents : (s : ℕ) → IsCurrentIn site words s → IsCurrentIn site us s
   pub heads : (s : ℕ) → IsLiveSlot (frame_of site.shape words) s → IsLiveSlot (frame_of site.shape us) s
       × ((us (header_word site.shape s) ≡ words (header_word site.shape s)) ⊎ (rank (version_of site) (words (header_word site.shape s)) < rank (version_of site) (us (header_word site.shape s))))
@@ -40,20 +40,20 @@ pub record IsAlike (v w : View) : Type 0 where
   pub answer : w.answer ≡ v.answer
   pub seen : w.seen ≡ v.seen
 
-module _ (site : Site) (words us : Words) (views : List View) (log : Log) (j : ℕ) (v w : View) (at : At views j v) (o : MovingNotes site words views log) (spares : SparesNotes site words us)
+module _ (site : Ground) (words us : Words) (views : List View) (log : Log) (j : ℕ) (v w : View) (at : At views j v) (o : Notes site words views log) (spares : SparesNotes site words us)
     (alike : IsAlike v w) where
   before : (c : ℕ) (u : View) → At (set views j w) c u → (u' : View) × At views c u' × IsAlike u' u
   before c u a = each views j v w at (λ c u. (u' : View) × At views c u' × IsAlike u' u) (v, at, alike)
       (λ c u n a. (u, a, record { notes = refl; answer = refl; seen = refl })) c u a
 
-  old : (n : Note) (u u' : View) → IsAlike u' u → Has n u.notes → Has n u'.notes
-  old n u u' same has = subst (λ (ns : List Note). Has n ns) same.notes has
+  old : (n : Glance) (u u' : View) → IsAlike u' u → Has n u.notes → Has n u'.notes
+  old n u u' same has = subst (λ (ns : List Glance). Has n ns) same.notes has
 
-  same_header : (n : Note) (d : IsPastHeader site words n)
+  same_header : (n : Glance) (d : IsPastHeader site words n)
       → (us n.word ≡ words n.word) ⊎ (rank (version_of site) (words n.word) < rank (version_of site) (us n.word))
   same_header n d = subst (λ (z : ℕ). (us z ≡ words z) ⊎ (rank (version_of site) (words z) < rank (version_of site) (us z))) (sym d.head) (spares.heads d.slot d.lives).1
 
-  past_header : (n : Note) → IsPastHeader site words n → IsPastHeader site us n
+  past_header : (n : Glance) → IsPastHeader site words n → IsPastHeader site us n
   past_header n d = elim (same_header n d) [
     | inl same ↦ record {
       slot = d.slot;
@@ -79,14 +79,14 @@ module _ (site : Site) (words us : Words) (views : List View) (log : Log) (j : �
       apart : (a b c : ℕ) → a ≤ b → b < c → a ≡ c → ⊥
       apart a b c le lt e = omega (arith, le, lt, e)
 
-  past_lock : (n : Note) → IsPastLock site words n → IsPastLock site us n
+  past_lock : (n : Glance) → IsPastLock site words n → IsPastLock site us n
   past_lock n l = record {
     lock = (l.lock.0, l.lock.1, l.lock.2, l.lock.3, l.lock.4, spares.currents l.lock.0 l.lock.5);
     free = l.free;
     past = (let p = l.past in let r = (spares.rises n l).0 in omega (arith, p, r));
   }
 
-  unmoved : (n : Note) → IsPastLock site words n ⊎ IsPastHeader site words n → IsUnmoved us n → IsUnmoved words n
+  unmoved : (n : Glance) → IsPastLock site words n ⊎ IsPastHeader site words n → IsUnmoved us n → IsUnmoved words n
   unmoved n p q = elim q [
     | inl again ↦ inl again
     | inr e ↦ inr (elim p [
@@ -101,7 +101,7 @@ module _ (site : Site) (words us : Words) (views : List View) (log : Log) (j : �
       apart : (a b c : ℕ) → a ≤ b → b < c → c ≡ a → ⊥
       apart a b c le lt e = omega (arith, le, lt, e)
 
-  pub notes_stay : MovingNotes site us (set views j w) log
+  pub notes_stay : Notes site us (set views j w) log
   notes_stay = record {
     past = λ c u n a has. let b = before c u a in elim (o.past c b.0 n b.1 (old n u b.0 b.2 has)) [ inl l ↦ inl (past_lock n l) | inr d ↦ inr (past_header n d) ];
     inside = λ c u n i x a has. let b = before c u a in o.inside c b.0 n i x b.1 (old n u b.0 b.2 has);
@@ -111,7 +111,7 @@ module _ (site : Site) (words us : Words) (views : List View) (log : Log) (j : �
     ];
     answered = λ c u x a is all. let b = before c u a in subst (λ (z : ℕ). IsAnswer site log z x) (sym b.2.seen)
         (o.answered c b.0 x b.1 (sym b.2.answer ∙ is)
-        (λ n has. unmoved n (o.past c b.0 n b.1 has) (all n (subst (λ (ns : List Note). Has n ns) (sym b.2.notes) has))));
+        (λ n has. unmoved n (o.past c b.0 n b.1 has) (all n (subst (λ (ns : List Glance). Has n ns) (sym b.2.notes) has))));
   }
 
 -- ---- ranks
@@ -130,7 +130,7 @@ rank_split version head n e = rank_old version head n ∙ ap (λ b. cond b 1 0) 
 less : (p q a b : ℕ) → p ≡ a → q ≡ b → a < b → p < q
 less p q a b e f l = omega (arith, e, f, l)
 
-module _ (site : Site) (words : Words) (views : List View) (j : ℕ) (v : View) (h : HoldsMoving site words views) (at : At views j v) where
+module _ (site : Ground) (words : Words) (views : List View) (j : ℕ) (v : View) (h : Holds site words views) (at : At views j v) where
   -- no header changes
   head_stays : (us : Words) → ((s : ℕ) → s < site.shape.segments → us (header_word site.shape s) ≡ words (header_word site.shape s))
       → (s : ℕ) → IsLiveSlot (frame_of site.shape words) s → IsLiveSlot (frame_of site.shape us) s
@@ -141,7 +141,7 @@ module _ (site : Site) (words : Words) (views : List View) (j : ℕ) (v : View) 
   current_stays us same s c = record { live = same_live site.shape words us same s c.live; current = ap version_in (same s c.live.slot) ∙ c.current }
 
   -- no word of the image changes
-  beyond : (us : Words) → ((i : ℕ) → i < words_of site.shape → us i ≡ words i) → SparesNotes site words us
+  pub beyond : (us : Words) → ((i : ℕ) → i < words_of site.shape → us i ≡ words i) → SparesNotes site words us
   beyond us same = record {
     rises = λ n l. let near = lock_within site.shape n.word (lock_of_current site words n.word l.lock) in
         let lock = same n.word (omega (arith, near)) in
@@ -297,7 +297,7 @@ module _ (site : Site) (words : Words) (views : List View) (j : ℕ) (v : View) 
     spares_notes (takes guard caller) may = taken guard caller (eqb (words (guard_word site.shape guard)) 0)
     spares_notes (gives guard) may = guarded guard 0
     spares_notes (finds_stale s version) may = beyond words (λ i _. refl)
-    spares_notes (finds_whole s) may = beyond words (λ i _. refl)
+    spares_notes (closes s i) may = beyond words (λ n _. refl)
     spares_notes (finds_free n) may = beyond words (λ i _. refl)
     spares_notes (finds_side p n depth pattern) may = beyond words (λ i _. refl)
     spares_notes (reads i) may = beyond words (λ n _. refl)

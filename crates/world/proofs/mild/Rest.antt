@@ -9,17 +9,19 @@ use Rattle.segment_head.specs.HeadWord.{version_in, state_in, free}
 use Rattle.image_layout.specs.Places.{words_of}
 use Rattle.image_layout.specs.Volatile.{counter_word, power_word}
 use Rattle.map_model.specs.declared.entry.Entry.{Entry}
-use Rattle.world.specs.Site.{Site, IsSpentLock, HasSpentLock}
+use Rattle.sound_image.specs.Segments.{frame_of}
+use Rattle.frame_facts.specs.Facts.{IsLiveSlot}
+use Rattle.world.specs.Ground.{Ground, IsLockWord, IsSpentLock, HasSpentLock}
 use Rattle.world.specs.Views.{View, Has, At}
-use Rattle.world.specs.Invariant.{History, Room, Spending, Powered}
+use Rattle.world.specs.Parts.{History, Room, Spending, Powered}
+use Rattle.world.specs.Invariant.{Holds}
 use Rattle.world.specs.areas.Areas.{Area, Side, Stale, Free, Whole, header_word}
-use Rattle.world.specs.areas.Kinds.{Guard, guard_word, StructureKind, takes, gives, finds_stale, finds_whole, finds_free, finds_side, reads, sets, moves, settles, settles_side, opens, with_guard, with_area, is_new_side, view_then}
+use Rattle.world.specs.areas.Kinds.{Guard, guard_word, StructureKind, takes, gives, finds_stale, closes, finds_free, finds_side, reads, sets, moves, settles, settles_side, opens, with_guard, with_area, is_new_side, view_then}
 use Rattle.world.specs.areas.Asking.{MayBeNewest, MayAt}
-use Rattle.world.specs.areas.Holding.{HoldsMoving}
 use Rattle.world.specs.areas.Keeping.{found_at, words_then}
-use Rattle.world.proofs.Grounds.{lock_within}
-use Rattle.world.proofs.Structures.{lock_no_head}
-use Rattle.world.proofs.Seats.{each, carry}
+use Rattle.world.proofs.basics.Grounds.{lock_within}
+use Rattle.world.proofs.basics.Structures.{lock_of_live, live_lock, lock_no_head}
+use Rattle.world.proofs.basics.Seats.{each, carry}
 use Rattle.world.proofs.invariant.KeepHistory.{history_same}
 use Rattle.world.proofs.invariant.KeepRoom.{room_law}
 use Rattle.world.proofs.fitting.OneHolder.{held_near}
@@ -61,12 +63,12 @@ area_same : (t : Bool) (area : Area) (i x : ℕ) (v : View) → HasSame v (with_
 area_same true area i x v = plain v (with_area true area i x v) refl refl refl refl refl refl refl refl
 area_same false area i x v = plain v v refl refl refl refl refl refl refl refl
 
-module _ (site : Site) (words : Words) (v : View) where
+module _ (site : Ground) (words : Words) (v : View) where
   pub same_view : (kind : StructureKind) → HasSame v (view_then site.shape kind (found_at site kind words) v)
   same_view (takes guard caller) = guard_same (eqb (words (guard_word site.shape guard)) 0) guard v
   same_view (gives guard) = plain v _ refl refl refl refl refl refl refl refl
   same_view (finds_stale s version) = area_same (not (eqb (version_in (words (header_word site.shape s))) version)) (Stale s) (header_word site.shape s) (words (header_word site.shape s)) v
-  same_view (finds_whole s) = area_same true (Whole s) (header_word site.shape s) (words (header_word site.shape s)) v
+  same_view (closes s i) = area_same true (Whole s) i (words i) v
   same_view (finds_free n) = area_same (eqb (state_in (words (header_word site.shape n))) free) (Free n) (header_word site.shape n) (words (header_word site.shape n)) v
   same_view (finds_side p n depth pattern) = area_same (is_new_side depth pattern (words (header_word site.shape n))) (Side n) (header_word site.shape n) (words (header_word site.shape n)) v
   same_view (reads i) = plain v _ refl refl refl refl refl refl refl refl
@@ -76,23 +78,30 @@ module _ (site : Site) (words : Words) (v : View) where
   same_view (settles_side n depth pattern) = plain v _ refl refl refl refl refl refl refl refl
   same_view (opens s lock next) = plain v _ refl refl refl refl refl refl refl refl
 
--- the counter and the power word are as they were, and a spent lock word stays so
-pub record KeepsFar (site : Site) (words us : Words) : Type 0 where
+-- the counter and the power word are as they were, and a spent lock word of a live segment stays so
+pub record KeepsFar (site : Ground) (words us : Words) : Type 0 where
   pub counter : us (counter_word site.shape) ≡ words (counter_word site.shape)
   pub power : us (power_word site.shape) ≡ words (power_word site.shape)
   pub spent : (lock : ℕ) → IsSpentLock site.shape words lock → IsSpentLock site.shape us lock
 
-module _ (site : Site) (words : Words) (views : List View) (j : ℕ) (v : View) (h : HoldsMoving site words views) (at : At views j v) where
+module _ (site : Ground) (words : Words) (views : List View) (j : ℕ) (v : View) (h : Holds site words views) (at : At views j v) where
   nothing : KeepsFar site words words
   nothing = record { counter = refl; power = refl; spent = λ lock s. s }
 
+  -- live segments stay so
+  abbrev LiveOn : Words → Type 0
+  LiveOn us = (s : ℕ) → IsLiveSlot (frame_of site.shape words) s → IsLiveSlot (frame_of site.shape us) s
+
+  is_lock : (lock : ℕ) → IsSpentLock site.shape words lock → IsLockWord site.shape lock
+  is_lock lock s = lock_of_live site.shape words lock s.0
+
   -- a store to a word of the image
-  near : (i x : ℕ) → i < words_of site.shape → ((lock : ℕ) → IsSpentLock site.shape words lock → lock ≡ i → x ≡ 2 ^ 64 - 2) → KeepsFar site words (with_word words i x)
-  near i x within stays = record {
+  near : (i x : ℕ) → i < words_of site.shape → LiveOn (with_word words i x) → ((lock : ℕ) → IsSpentLock site.shape words lock → lock ≡ i → x ≡ 2 ^ 64 - 2) → KeepsFar site words (with_word words i x)
+  near i x within lives stays = record {
     counter = replaced_other words i x (counter_word site.shape) (λ e. omega (arith, within, e));
     power = replaced_other words i x (power_word site.shape) (λ e. omega (arith, within, e));
     spent = λ lock s. (
-      s.0,
+      live_lock site.shape words (with_word words i x) lock lives s.0,
       elim (cases_eq lock i) [
         | inl e ↦ ap (with_word words i x) e ∙ replaced_same words i x ∙ stays lock s e
         | inr n ↦ replaced_other words i x lock n ∙ s.1
@@ -100,40 +109,44 @@ module _ (site : Site) (words : Words) (views : List View) (j : ℕ) (v : View) 
     );
   }
 
-  guarded : (guard : Guard) (x : ℕ) → KeepsFar site words (with_word words (guard_word site.shape guard) x)
-  guarded guard x = let far = guard_behind site.shape guard in record {
+  guarded : (guard : Guard) (x : ℕ) → LiveOn (with_word words (guard_word site.shape guard) x) → KeepsFar site words (with_word words (guard_word site.shape guard) x)
+  guarded guard x lives = let far = guard_behind site.shape guard in record {
     counter = replaced_other words (guard_word site.shape guard) x (counter_word site.shape) (λ e. omega (arith, far, e));
     power = replaced_other words (guard_word site.shape guard) x (power_word site.shape) (λ e. omega (arith, far, e));
-    spent = λ lock s. (s.0, replaced_other words (guard_word site.shape guard) x lock (λ e. let w = lock_within site.shape lock s.0 in omega (arith, far, w, e)) ∙ s.1);
+    spent = λ lock s. (
+      live_lock site.shape words (with_word words (guard_word site.shape guard) x) lock lives s.0,
+      replaced_other words (guard_word site.shape guard) x lock (λ e. let w = lock_within site.shape lock (is_lock lock s) in omega (arith, far, w, e)) ∙ s.1,
+    );
   }
 
-  taken : (guard : Guard) (caller : ℕ) (t : Bool) → KeepsFar site words (after (cond t (exchanged j (guard_word site.shape guard) caller) (loaded j (guard_word site.shape guard))) words)
-  taken guard caller true = guarded guard caller
-  taken guard caller false = nothing
+  taken : (guard : Guard) (caller : ℕ) (t : Bool) → LiveOn (after (cond t (exchanged j (guard_word site.shape guard) caller) (loaded j (guard_word site.shape guard))) words)
+      → KeepsFar site words (after (cond t (exchanged j (guard_word site.shape guard) caller) (loaded j (guard_word site.shape guard))) words)
+  taken guard caller true lives = guarded guard caller lives
+  taken guard caller false lives = nothing
 
   module _ (now : MayBeNewest site v words) where
-    pub keeps_far : (kind : StructureKind) → MayAt site kind v → KeepsFar site words (words_then site kind j words)
-    keeps_far (takes guard caller) may = taken guard caller (eqb (words (guard_word site.shape guard)) 0)
-    keeps_far (gives guard) may = guarded guard 0
-    keeps_far (finds_stale s version) may = nothing
-    keeps_far (finds_whole s) may = nothing
-    keeps_far (finds_free n) may = nothing
-    keeps_far (finds_side p n depth pattern) may = nothing
-    keeps_far (reads i) may = nothing
-    keeps_far (sets i x) may = near i x (held_near site words views h.structure.fits j v i at may.holds).0
+    pub keeps_far : (kind : StructureKind) → MayAt site kind v → LiveOn (words_then site kind j words) → KeepsFar site words (words_then site kind j words)
+    keeps_far (takes guard caller) may lives = taken guard caller (eqb (words (guard_word site.shape guard)) 0) lives
+    keeps_far (gives guard) may lives = guarded guard 0 lives
+    keeps_far (finds_stale s version) may lives = nothing
+    keeps_far (closes s i) may lives = nothing
+    keeps_far (finds_free n) may lives = nothing
+    keeps_far (finds_side p n depth pattern) may lives = nothing
+    keeps_far (reads i) may lives = nothing
+    keeps_far (sets i x) may lives = near i x (held_near site words views h.structure.fits j v i at may.holds).0 lives
         (λ lock s e. may.spent words now (subst (λ (z : ℕ). IsSpentLock site.shape words z) e s))
-    keeps_far (moves row s x) may = near (header_word site.shape s) x (head_near site s (row_slot site words s x row (may.0 words now).0))
-        (λ lock k e. absurd (lock_no_head site.shape lock s k.0 e))
-    keeps_far (settles facts) may = nothing
-    keeps_far (settles_side n depth pattern) may = nothing
-    keeps_far (opens s lock next) may = let l = h.locks.locked j v lock may.2.0 at may.2.1 in
-        near lock next (let w = lock_within site.shape lock l.0 in omega (arith, w)) (λ other k e. absurd (odd (words other) (words lock) may.2.0 k.1 (ap words e) l.1 l.2))
+    keeps_far (moves row s x) may lives = near (header_word site.shape s) x (head_near site s (row_slot site words s x row (may.0 words now).0)) lives
+        (λ lock k e. absurd (lock_no_head site.shape lock s (is_lock lock k) e))
+    keeps_far (settles facts) may lives = nothing
+    keeps_far (settles_side n depth pattern) may lives = nothing
+    keeps_far (opens s lock next) may lives = let l = h.locks.locked j v lock may.2.0 at may.2.1 in
+        near lock next (let w = lock_within site.shape lock l.0 in omega (arith, w)) lives (λ other k e. absurd (odd (words other) (words lock) may.2.0 k.1 (ap words e) l.1 l.2))
       where
         odd : (a b y : ℕ) → a ≡ 2 ^ 64 - 2 → a ≡ b → b ≡ y → y % 2 ≡ 1 → ⊥
         odd a b y e f g is = omega (arith, e, f, g, is)
 
 -- ---- so the four parts stay
-module _ (site : Site) (words us : Words) (views : List View) (j : ℕ) (v w : View) (h : HoldsMoving site words views) (at : At views j v) (far : KeepsFar site words us) (same : HasSame v w) where
+module _ (site : Ground) (words us : Words) (views : List View) (j : ℕ) (v w : View) (h : Holds site words views) (at : At views j v) (far : KeepsFar site words us) (same : HasSame v w) where
   pub history : History site us (set views j w) h.log
   history = history_same site words us views j v w h.log at h.history far.counter same.own same.seen
 

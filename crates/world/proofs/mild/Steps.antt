@@ -18,21 +18,21 @@ use Rattle.bucket_words.proofs.segments.Cores.{within_image}
 use Rattle.bucket_words.proofs.segments.Places.{not_structure}
 use Rattle.frame_facts.specs.DeadSlots.{IsInSlot}
 use Rattle.frame_facts.proofs.Owners.{owner_moves}
-use Rattle.world.specs.Site.{Site, IsUnder, IsLockWord, version_of, IsCurrentIn}
+use Rattle.world.specs.Ground.{Ground, IsUnder, IsLockWord, version_of, IsCurrentIn}
 use Rattle.world.specs.Views.{View, Has, At}
 use Rattle.world.specs.areas.Areas.{Area, Segment, Stale, Side, Free, Whole, Allocation, Directory, header_word, InArea, is_side_at, is_whole_at}
 use Rattle.world.specs.areas.Fitting.{HasGrounds}
 use Rattle.world.specs.areas.Rows.{Row, marks, news, goes_live, finishes, unmarks, frees, renews, IsRow, HasForRow}
-use Rattle.world.specs.areas.Kinds.{Guard, of_segment, of_free_slots, of_directory, guard_word, goes_with, StructureKind, takes, gives, finds_stale, finds_whole, finds_free, finds_side, reads, sets, moves, settles, settles_side, opens, with_guard, with_area, is_new_side, view_then}
+use Rattle.world.specs.areas.Kinds.{Guard, of_segment, of_free_slots, of_directory, guard_word, goes_with, StructureKind, takes, gives, finds_stale, closes, finds_free, finds_side, reads, sets, moves, settles, settles_side, opens, with_guard, with_area, is_new_side, view_then}
 use Rattle.world.specs.areas.Asking.{MayBeNewest, MayStandBeside, IsInOrder, AsksForRow, MaySet, HasOpened, MayAt}
-use Rattle.world.specs.areas.Holding.{HoldsMoving}
+use Rattle.world.specs.Invariant.{Holds}
 use Rattle.world.specs.areas.Keeping.{found_at, words_then}
-use Rattle.world.proofs.Structures.{header_is, lock_no_head}
-use Rattle.world.proofs.Tables.{same_find, lock_cores}
+use Rattle.world.proofs.basics.Structures.{header_is, lock_no_head}
+use Rattle.world.proofs.basics.Tables.{same_find, lock_cores}
 use Rattle.world.proofs.holding.Beside.{newest}
 use Rattle.world.proofs.fitting.OneHolder.{one_slot}
-use Rattle.world.proofs.fitting.Lasting.{live_back}
-use Rattle.world.proofs.fitting.Owning.{row_owner, spared_owner}
+use Rattle.world.proofs.fitting.lasting.Lasting.{live_back}
+use Rattle.world.proofs.fitting.lasting.Owning.{row_owner, spared_owner}
 use Rattle.world.proofs.fitting.Rows.{but_after, row_after, row_slot, head_near, one_head}
 use Rattle.world.proofs.mild.Mild.{SameBuckets, IsSafe, IsMild, order_stays}
 
@@ -77,16 +77,16 @@ module _ (shape : Shape) (t c n : ℕ) (near : c < buckets) (inside : n < block)
       by f t c n s b near inside lb u0 u1 = omega (arith, near, inside, lb, u0, u1)
 
 -- headers stay
-module _ (site : Site) (words us : Words) (heads : (s : ℕ) → s < site.shape.segments → us (header_word site.shape s) ≡ words (header_word site.shape s)) where
+module _ (site : Ground) (words us : Words) (heads : (s : ℕ) → s < site.shape.segments → us (header_word site.shape s) ≡ words (header_word site.shape s)) where
   pub owners_stay : (h : ℕ) → owner_of site.shape us h ≡ owner_of site.shape words h
   owners_stay h = same_owner (frame_of site.shape words) (frame_of site.shape us) h refl heads
 
   pub was_current : (t : ℕ) → IsCurrentIn site us t → IsCurrentIn site words t
   was_current t c = record { live = live_back site.shape words us heads t c.live; current = ap version_in (sym (heads t c.live.slot)) ∙ c.current }
 
-module _ (site : Site) (words : Words) (views : List View) (j : ℕ) (v : View) (h : HoldsMoving site words views) (at : At views j v) where
+module _ (site : Ground) (words : Words) (views : List View) (j : ℕ) (v : View) (h : Holds site words views) (at : At views j v) where
   -- no word of the image changes, and no whole segment is opened
-  behind : (us : Words) (w : View) → ((i : ℕ) → i < words_of site.shape → us i ≡ words i) → (w.planned ≡ v.planned) × (w.moving ≡ v.moving) × (w.owed ≡ v.owed) × (w.held ≡ v.held)
+  pub behind : (us : Words) (w : View) → ((i : ℕ) → i < words_of site.shape → us i ≡ words i) → (w.planned ≡ v.planned) × (w.moving ≡ v.moving) × (w.owed ≡ v.owed) × (w.held ≡ v.held)
       → ((t : ℕ) → Has (Whole t) v.areas → Has (Whole t) w.areas) → IsMild site words us v w
   behind us w same lists wholes = record {
     stays = λ t _. stays t;
@@ -301,7 +301,7 @@ module _ (site : Site) (words : Words) (views : List View) (j : ℕ) (v : View) 
     mild_step (takes guard caller) may = taken guard caller (eqb (words (guard_word site.shape guard)) 0)
     mild_step (gives guard) may = given guard may.2
     mild_step (finds_stale s version) may = found (Stale s) (header_word site.shape s) (words (header_word site.shape s)) (not (eqb (version_in (words (header_word site.shape s))) version))
-    mild_step (finds_whole s) may = found (Whole s) (header_word site.shape s) (words (header_word site.shape s)) true
+    mild_step (closes s i) may = found (Whole s) i (words i) true
     mild_step (finds_free n) may = found (Free n) (header_word site.shape n) (words (header_word site.shape n)) (eqb (state_in (words (header_word site.shape n))) free)
     mild_step (finds_side p n depth pattern) may = found (Side n) (header_word site.shape n) (words (header_word site.shape n)) (is_new_side depth pattern (words (header_word site.shape n)))
     mild_step (reads i) may = behind words _ (λ n _. refl) (refl, refl, refl, refl) (λ t whole. whole)

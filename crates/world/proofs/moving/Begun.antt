@@ -8,19 +8,22 @@ use Rattle.map_model.specs.Weave.{draws}
 use Rattle.map_model.specs.Legal.{InOrder, seen_of}
 use Rattle.sound_image.specs.Segments.{frame_of, image_version, state_at}
 use Rattle.bucket_words.specs.Core.{core}
-use Rattle.world.specs.Site.{Site, version_of, IsCurrentIn, IsCurrentLock}
+use Rattle.world.specs.Ground.{Ground, version_of, IsCurrentIn, IsCurrentLock}
 use Rattle.world.specs.Views.{View, Has, At, IsLoose}
 use Rattle.world.specs.Media.{IsPossible}
 use Rattle.world.specs.World.{World, fresh_view}
 use Rattle.world.specs.areas.Areas.{header_word}
-use Rattle.world.specs.areas.Holding.{HoldsMoving}
-use Rattle.world.specs.areas.Beginning.{AreasStand, IsRestarted, BeginsMoving, RestartsBeginMoving, RaisedVersionsLeaveNoneCurrent, RaisedVersionsBegin, BeginsBeginMoving}
-use Rattle.world.proofs.Structures.{front_is, structured}
-use Rattle.world.proofs.Tables.{core_structure_same, same_keeps, same_hit, same_find}
-use Rattle.world.proofs.Entries.{total_none}
+use Rattle.world.specs.areas.Kinds.{guard_word}
+use Rattle.world.specs.Invariant.{Holds}
+use Rattle.world.specs.areas.Beginning.{AreasStand, IsRestarted, Begins, RestartsBegin, RaisedVersionsLeaveNoneCurrent, RaisedVersionsBegin}
+use Rattle.world.proofs.basics.Structures.{front_is, structured}
+use Rattle.world.proofs.basics.Tables.{core_structure_same, same_keeps, same_hit, same_find}
+use Rattle.world.proofs.basics.Entries.{total_none}
 use Rattle.world.proofs.fitting.Beginning.{fresh_stand}
+use Rattle.world.proofs.moving.Fitting.{guard_behind}
+use Rattle.world.proofs.moving.HeldGuards.{guard_within}
 
-module _ (site : Site) (start : Words) (world : World) (b : BeginsMoving site start world) where
+module _ (site : Ground) (start : Words) (world : World) (b : Begins site start world) where
   abbrev r : IsRestarted site start world
   r = b.restarted
 
@@ -52,7 +55,7 @@ module _ (site : Site) (start : Words) (world : World) (b : BeginsMoving site st
   lock_is_free : (lock : ℕ) → IsCurrentLock site world.words lock → world.words lock % 2 ≡ 0
   lock_is_free lock is = subst (λ (n : ℕ). world.words n % 2 ≡ 0) (sym is.4) ((b.repaired is.0 is.5).free is.1 is.3)
 
-  holds : HoldsMoving site world.words world.views
+  holds : Holds site world.words world.views
   holds = record {
     site_is = r.site_is;
     log = [];
@@ -65,6 +68,7 @@ module _ (site : Site) (start : Words) (world : World) (b : BeginsMoving site st
       owners = stand.owners;
       lasting = stand.lasting;
       guards = λ j v guard at h. absurd (none (λ v. v.areas) (λ _. refl) j v _ at h);
+      held_guards = λ guard is some. absurd (some (r.behind (guard_word site.shape guard) (guard_behind site.shape guard) (guard_within site.shape guard is)));
       says = λ j v fact m at h p. absurd (none (λ v. v.facts) (λ _. refl) j v fact at h);
       may_say = λ j v fact at h. absurd (none (λ v. v.facts) (λ _. refl) j v fact at h);
       pinned = λ j v s x at h. absurd (none (λ v. v.pinned) (λ _. refl) j v (s, x) at h);
@@ -127,7 +131,7 @@ module _ (site : Site) (start : Words) (world : World) (b : BeginsMoving site st
     powered = λ off. absurd (off power);
   }
 
-pub restarts_begin : RestartsBeginMoving
+pub restarts_begin : RestartsBegin
 restarts_begin site start world b = holds site start world b
 
 -- ---- a raised version
@@ -140,28 +144,3 @@ none_current site before words raised s is = below (version_in (words (header_wo
 
 pub raised_begins : RaisedVersionsBegin
 raised_begins site start before world restarted raised = record { restarted = restarted; repaired = λ s is. absurd (none_current site before world.words raised s is) }
-
--- ---- where no structure moves
-pub begins_moving : BeginsBeginMoving
-begins_moving site start world b normals behind = record {
-  restarted = record {
-    site_is = b.site_is;
-    words_are = b.words_are;
-    settled = b.settled;
-    structured = structured site b.site_is b.sound world.words b.structure;
-    table = b.table;
-    pairs = b.pairs;
-    behind = behind;
-    fresh = b.fresh;
-    callers = b.callers;
-  };
-  repaired = λ s is. record {
-    normal = normals s is;
-    in_order = record {
-      own = λ c q k hit. b.own s c q k is hit;
-      once = λ c q d t k x y. b.once s c q d t k is x y;
-      exact = λ c near. b.exact s c is near;
-    };
-    free = λ c near. b.free (bucket_at site.shape s c) (s, c, is.live.slot, near, refl, is);
-  };
-}

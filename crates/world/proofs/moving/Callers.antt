@@ -8,20 +8,20 @@ use Rattle.image_layout.specs.Places.{Shape, words_of}
 use Rattle.image_layout.specs.Volatile.{counter_word, power_word}
 use Rattle.map_model.specs.declared.call.Call.{Call}
 use Rattle.frame_facts.specs.Facts.{Lives, Current}
-use Rattle.world.specs.Site.{Site, IsUnder, IsCurrentIn}
+use Rattle.world.specs.Ground.{Ground, IsUnder, IsCurrentIn}
 use Rattle.world.specs.Views.{Answer, Move, Owed, View, Has, At, HasLock, IsGuarded, IsLoose}
-use Rattle.world.specs.Kinds.{of_other_records, of_other_homes, with_store, Kind, peeks, asks_power, meets_root, meets_entry, meets_head, pins, finds_room, refuses, places, looks, notes_word, validates, learns, meets_lock, tries, stores, copies, clears, repays, publishes, stashes, flushes, fences, draws_place, unlocks, cuts_power, without, marked, all_again, with_answer, with_look, with_count, with_lock, with_draw}
+use Rattle.world.specs.Kinds.{of_other_records, of_other_homes, with_store, Kind, peeks, asks_power, meets_root, meets_entry, meets_head, pins, finds_room, refuses, places, looks, glances_word, validates, learns, meets_lock, tries, stores, copies, clears, repays, publishes, stashes, flushes, fences, draws_place, unlocks, cuts_power, without, marked, all_again, with_answer, with_look, with_count, with_lock, with_draw}
 use Rattle.world.specs.Conditions.{IsKnownLock, May}
 use Rattle.world.specs.Laws.{words_by, views_by}
 use Rattle.world.specs.areas.Fitting.{HoldsWord, LivesOn, IsLivingLock}
-use Rattle.world.specs.areas.Holding.{HeldWords, HoldsMoving}
+use Rattle.world.specs.Invariant.{KnownWords, Holds}
 use Rattle.world.specs.areas.Calling.{CallersKeepLocks, CallersKeepHeldWords}
-use Rattle.world.proofs.Seats.{has_first, without_stays, not_under_has, flush_loose, lock_of}
+use Rattle.world.proofs.basics.Seats.{has_first, without_stays, not_under_has, flush_loose, lock_of}
 use Rattle.world.proofs.holding.Beside.{newest}
 use Rattle.world.proofs.invariant.KeepLocks.{keep_locks}
 use Rattle.world.proofs.fitting.OneHolder.{side_dies}
 use Rattle.world.proofs.moving.Known.{held_within}
-use Rattle.world.proofs.moving.Holding.{IsHeldBy, HasSlot, stale, side, free, holder_has}
+use Rattle.world.proofs.moving.Holding.{stale, side, free, IsHeldBy, HasSlot, holder_has}
 use Rattle.world.proofs.moving.Words.{HasWords, words_law, stored}
 
 look_words : (shape : Shape) (words : Words) (t : Bool) (lock n : ℕ) (v : View) → HasWords shape words v → HasWords shape words (with_look t lock n v)
@@ -37,14 +37,14 @@ answer_words shape words false a v f = f
 answer_words shape words true None v f = f
 answer_words shape words true (Some a) v f = f
 
-module _ (site : Site) (words : Words) (views : List View) (j : ℕ) (v : View) (h : HoldsMoving site words views) (at : At views j v) where
+module _ (site : Ground) (words : Words) (views : List View) (j : ℕ) (v : View) (h : Holds site words views) (at : At views j v) where
   abbrev shape : Shape
   shape = site.shape
 
   mine : HasWords shape words v
   mine = ((λ i x q. h.known.knows j v i x at q), (λ i x q. h.known.loose j v i x at q))
 
-  calm : (w : View) → HasWords shape words w → HeldWords site words (set views j w)
+  calm : (w : View) → HasWords shape words w → KnownWords site words (set views j w)
   calm w own = words_law site words words views j v w at h.known (λ i u n a m g. refl) own
 
   -- ---- a lock word changes, of a current segment that lives on: nobody holds it
@@ -76,7 +76,7 @@ module _ (site : Site) (words : Words) (views : List View) (j : ℕ) (v : View) 
   holds_locked lock x n (inr q) = inr q
 
   tried : (lock value : ℕ) → IsLivingLock site words views lock → (t : Bool)
-      → HeldWords site (after (cond t (exchanged j lock (value + 1)) (loaded j lock)) words) (set views j (with_lock t lock value v))
+      → KnownWords site (after (cond t (exchanged j lock (value + 1)) (loaded j lock)) words) (set views j (with_lock t lock value v))
   tried lock value q true = words_law site words (with_word words lock (value + 1)) views j v (with_lock true lock value v) at h.known
       (λ i u ne a n g. spared lock (value + 1) q i u a n g) (
         (λ i x k. (let r = mine.0 i x k in (spared lock (value + 1) q j v at i r.1 ∙ r.0, holds_locked lock value i r.1))),
@@ -89,7 +89,7 @@ module _ (site : Site) (words : Words) (views : List View) (j : ℕ) (v : View) 
   still lock n none (inr q) = inr q
 
   freed : (lock next : ℕ) → HasLock v.held lock → ((p : ℕ × ℕ) → IsLoose v p → IsUnder lock p.0 → ⊥)
-      → HeldWords site (with_word words lock next) (views_by site (unlocks lock next) j v words views)
+      → KnownWords site (with_word words lock next) (views_by site (unlocks lock next) j v words views)
   freed lock next has firm = let q = h.structure.fits.lock j v lock at has in
       words_law site words (with_word words lock next) views j v _ at h.known (λ i u ne a n g. spared lock next q i u a n g) (
         (λ n y k. (let o = not_under_has lock n y v.known k in let r = mine.0 n y o.1 in (spared lock next q j v at n r.1 ∙ r.0, still lock n o.0 r.1))),
@@ -97,7 +97,7 @@ module _ (site : Site) (words : Words) (views : List View) (j : ℕ) (v : View) 
       )
 
   -- ---- a word behind the image changes
-  behind : (g x : ℕ) (w : View) → words_of shape ≤ g → HasWords shape (with_word words g x) w → HeldWords site (with_word words g x) (set views j w)
+  behind : (g x : ℕ) (w : View) → words_of shape ≤ g → HasWords shape (with_word words g x) w → KnownWords site (with_word words g x) (set views j w)
   behind g x w far own = words_law site words (with_word words g x) views j v w at h.known
       (λ i u ne a n holds. replaced_other words g x n (λ e. let near = held_within site words views h i u n a holds in omega (arith, near, far, e))) own
 
@@ -106,10 +106,10 @@ module _ (site : Site) (words : Words) (views : List View) (j : ℕ) (v : View) 
       (replaced_other words g x i (λ e. let near = held_within site words views h j v i at r.1 in omega (arith, near, far, e)) ∙ r.0, r.1)
 
   set_by : (i x : ℕ) (calls : List Call) (moves : List Move) (owed : List Owed) → IsGuarded v.held i
-      → HeldWords site (with_word words i x) (set views j (with_store shape i (words i) x calls moves owed v))
+      → KnownWords site (with_word words i x) (set views j (with_store shape i (words i) x calls moves owed v))
   set_by i x calls moves owed g = stored site words views j v h at i x v.areas _ refl refl refl refl refl (inl g) (λ n k. k)
 
-  keep : (kind : Kind) → May site kind v → HeldWords site (words_by site kind j words) (views_by site kind j v words views)
+  keep : (kind : Kind) → May site kind v → KnownWords site (words_by site kind j words) (views_by site kind j v words views)
   keep (peeks i) may = calm _ mine
   keep asks_power may = calm _ mine
   keep meets_root may = calm _ mine
@@ -120,7 +120,7 @@ module _ (site : Site) (words : Words) (views : List View) (j : ℕ) (v : View) 
   keep (refuses call reply) may = calm _ mine
   keep (places k a) may = calm _ mine
   keep (looks lock) may = calm _ (look_words shape words (eqb (words lock % 2) 0) lock (words lock) v mine)
-  keep (notes_word lock i) may = calm _ mine
+  keep (glances_word lock i) may = calm _ mine
   keep (validates lock) may = calm _ (answer_words shape words (all_again (marked lock (words lock) v.notes)) v.answer (record v { notes = marked lock (words lock) v.notes }) mine)
   keep (learns i) may = calm _ (
     (λ n y q. elim (has_first i (words i) n y v.known q) [

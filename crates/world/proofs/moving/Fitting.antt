@@ -10,27 +10,27 @@ use Rattle.image_layout.specs.Places.{Shape, words_of, bucket_at}
 use Rattle.sound_image.specs.Segments.{frame_of, state_at}
 use Rattle.bucket_words.specs.Core.{core_of}
 use Rattle.frame_facts.specs.Facts.{Lives}
-use Rattle.world.specs.Site.{Site, IsLockWord}
+use Rattle.world.specs.Ground.{Ground, IsLockWord}
 use Rattle.world.specs.Views.{View, Has, At, HasLock}
 use Rattle.world.specs.Kinds.{without}
 use Rattle.world.specs.Media.{IsPossible}
 use Rattle.world.specs.areas.Areas.{Area, Segment, Stale, Side, Free, Whole, header_word, is_side_at, is_whole_at, all_but}
 use Rattle.world.specs.areas.Fitting.{Fits, HasGrounds}
 use Rattle.world.specs.areas.Rows.{Row, IsRowIn, areas_by, HasStored}
-use Rattle.world.specs.areas.Spared.{HasFenced, LooseIsHeld, Change, stays, adds, leaves, gives_segment, gives_allocation, gives_directory, areas_after, MayAdd, IsNotSplit, MayChange, SparesAreas}
+use Rattle.world.specs.areas.Spared.{HasFenced, LooseIsHeld, AreaChange, stays, adds, leaves, gives_segment, gives_allocation, gives_directory, areas_after, MayAdd, IsNotSplit, AreasMayChange, SparesAreas}
 use Rattle.world.specs.areas.Lasting.{Owners, Lasting, AreSoundMedia, GivesUp}
-use Rattle.world.specs.areas.Kinds.{Guard, of_segment, of_free_slots, of_directory, guard_word, area_of, goes_with, takes, gives, finds_stale, finds_whole, finds_free, finds_side, reads, sets, moves, settles, settles_side, opens, with_guard, with_area, is_new_side}
+use Rattle.world.specs.areas.Kinds.{Guard, of_segment, of_free_slots, of_directory, guard_word, area_of, goes_with, takes, gives, finds_stale, closes, finds_free, finds_side, reads, sets, moves, settles, settles_side, opens, with_guard, with_area, is_new_side}
 use Rattle.world.specs.areas.Asking.{KnowsDead, MayAt}
-use Rattle.world.specs.areas.Holding.{HoldsMoving}
+use Rattle.world.specs.Invariant.{Holds}
 use Rattle.world.specs.areas.Keeping.{whole_beside, KeepsAreas}
-use Rattle.world.proofs.Seats.{is_v, without_has, without_stays}
-use Rattle.world.proofs.Structures.{one_segment}
-use Rattle.world.proofs.Tables.{core_structure_same, lock_cores}
+use Rattle.world.proofs.basics.Seats.{is_v, without_has, without_stays}
+use Rattle.world.proofs.basics.Structures.{one_segment}
+use Rattle.world.proofs.basics.Tables.{core_structure_same, lock_cores}
 use Rattle.world.proofs.fitting.OneHolder.{head_in_slot}
 use Rattle.world.proofs.fitting.Rows.{but_before, rows_keep}
 use Rattle.world.proofs.fitting.Spared.{other_stores, fences_keep, sparing_steps}
-use Rattle.world.proofs.fitting.Owning.{rows_keep_owners}
-use Rattle.world.proofs.fitting.Lasting.{rows_last, others_last, sparing_lasts, fences_last}
+use Rattle.world.proofs.fitting.lasting.Owning.{rows_keep_owners}
+use Rattle.world.proofs.fitting.lasting.Lasting.{rows_last, others_last, sparing_lasts, fences_last}
 use Rattle.world.proofs.moving.Known.{grounds, held_within, newest_is, beside, whole_cores}
 
 -- a guard's word is none of the image
@@ -48,7 +48,7 @@ not_same a b e is = clash (ap not (eq-eqb a b is) ∙ refl) e
         two : false ≡ true → ⊥
         two e = cc
 
-module _ (site : Site) (words : Words) (views : List View) (j : ℕ) (v : View) (h : HoldsMoving site words views) (at : At views j v) where
+module _ (site : Ground) (words : Words) (views : List View) (j : ℕ) (v : View) (h : Holds site words views) (at : At views j v) where
   abbrev AllFit : Words → View → Type 0
   AllFit later w = Fits site later (set views j w) × Owners site later (set views j w) × Lasting site later (set views j w)
 
@@ -65,13 +65,13 @@ module _ (site : Site) (words : Words) (views : List View) (j : ℕ) (v : View) 
   known i x k = (h.known.knows j v i x at k).0
 
   -- ---- steps that leave all cores
-  spared : (later : Words) (w : View) (change : Change) → SparesAreas site words views later change v w → AllFit later w
+  spared : (later : Words) (w : View) (change : AreaChange) → SparesAreas site words views later change v w → AllFit later w
   spared later w change st =
       let q = sparing_lasts site words later views j v w change at st in
       (sparing_steps site words later views j v w change h.structure.fits at st, q.0 h.structure.owners, q.1 h.structure.lasting)
 
   -- a load, with which the areas change
-  loaded_fit : (w : View) (change : Change) → w.held ≡ v.held → w.dirty ≡ v.dirty → w.flushed ≡ v.flushed → w.areas ≡ areas_after change v.areas → MayChange site words views change v
+  loaded_fit : (w : View) (change : AreaChange) → w.held ≡ v.held → w.dirty ≡ v.dirty → w.flushed ≡ v.flushed → w.areas ≡ areas_after change v.areas → AreasMayChange site words views change v
       → AllFit words w
   loaded_fit w change held dirty flushed areas may = spared words w change (record {
     cores = λ i _. refl;
@@ -87,8 +87,8 @@ module _ (site : Site) (words : Words) (views : List View) (j : ℕ) (v : View) 
   idle = loaded_fit v stays refl refl refl refl tt
 
   -- a store to a guard, with which the areas change
-  guard_stored : (guard : Guard) (x : ℕ) (w : View) (change : Change) → w.held ≡ v.held → w.dirty ≡ v.dirty → w.flushed ≡ v.flushed → w.areas ≡ areas_after change v.areas
-      → MayChange site words views change v → AllFit (with_word words (guard_word site.shape guard) x) w
+  guard_stored : (guard : Guard) (x : ℕ) (w : View) (change : AreaChange) → w.held ≡ v.held → w.dirty ≡ v.dirty → w.flushed ≡ v.flushed → w.areas ≡ areas_after change v.areas
+      → AreasMayChange site words views change v → AllFit (with_word words (guard_word site.shape guard) x) w
   guard_stored guard x w change held dirty flushed areas may = spared (with_word words (guard_word site.shape guard) x) w change (record {
     cores = λ i within. ap (core_of site.shape i) (replaced_other words (guard_word site.shape guard) x i (λ e. omega (arith, within, e, guard_behind site.shape guard)));
     no_more = λ p l. elim l [ inl d ↦ inl (subst (Has p) dirty d) | inr f ↦ inr (subst (Has p) flushed f) ];
@@ -235,8 +235,7 @@ keep_areas site (gives guard) words views j v h at may = given site words views 
 keep_areas site (finds_stale s version) words views j v h at may =
     found site words views j v h at (not (eqb (version_in (words (header_word site.shape s))) version)) (Stale s) (header_word site.shape s) (words (header_word site.shape s))
     (λ e. (may.0, λ z. not_same (version_in (words (header_word site.shape s))) version e (z ∙ sym may.1)))
-keep_areas site (finds_whole s) words views j v h at may =
-    found site words views j v h at true (Whole s) (header_word site.shape s) (words (header_word site.shape s)) (λ e. (may.0, may.1))
+keep_areas site (closes s i) words views j v h at may = found site words views j v h at true (Whole s) i (words i) (λ e. (may.0, may.1))
 keep_areas site (finds_free n) words views j v h at may =
     found site words views j v h at (eqb (state_in (words (header_word site.shape n))) free) (Free n) (header_word site.shape n) (words (header_word site.shape n))
     (λ e. (may.0, may.1, eqb-true (state_in (words (header_word site.shape n))) free e))

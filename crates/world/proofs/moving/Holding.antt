@@ -4,11 +4,11 @@ use Rattle.std.specs.Prelude.{◌==◌, not, nat_lt, nat_le}
 use Rattle.std.proofs.lemmas.Bool.{cases_Bool, eq-eqb, eqb-true, lt-ltb, le-leb}
 use Rattle.image_layout.specs.Places.{Shape, block, root_word, first_segment, head_at, bucket_at, buckets}
 use Rattle.frame_facts.specs.DeadSlots.{IsInSlot}
-use Rattle.world.specs.Site.{IsLockWord, IsUnder}
+use Rattle.world.specs.Ground.{IsLockWord, IsUnder}
 use Rattle.world.specs.Views.{Has, HasLock, IsGuarded}
 use Rattle.world.specs.areas.Areas.{Area, Segment, Stale, Side, Free, Whole, Allocation, Directory, InArea, IsDirectoryWord, is_side_at, is_stale_at, is_whole_at, is_of_segment, is_of_allocation, is_of_directory, all_but}
 use Rattle.world.specs.areas.Kinds.{of_free_slots, is_in_slot, out_of_slot, out_of_directory, known_without}
-use Rattle.world.proofs.Grounds.{lock_apart}
+use Rattle.world.proofs.basics.Grounds.{lock_apart}
 use Rattle.world.proofs.fitting.Filtered.{filtered_has, not_false}
 use Rattle.world.proofs.fitting.OneHolder.{one_slot}
 use Rattle.world.proofs.fitting.Rows.{but_after}

@@ -8,22 +8,22 @@ use Rattle.trace.proofs.Replaced.{replaced_other}
 use Rattle.segment_head.specs.HeadWord.{version_in, state_in, free}
 use Rattle.image_layout.specs.Places.{Shape, words_of, bucket_at, buckets}
 use Rattle.frame_facts.specs.Facts.{Fact, Lives, Current, Rooted, Owns, Lacks, Deep, Begins, Used}
-use Rattle.world.specs.Site.{Site, IsCurrentIn}
+use Rattle.world.specs.Ground.{Ground, IsCurrentIn}
 use Rattle.world.specs.Views.{View, Has, At, HasLock}
 use Rattle.world.specs.Kinds.{without}
-use Rattle.world.specs.Invariant.{IsPinned}
+use Rattle.world.specs.Parts.{IsPinned}
+use Rattle.world.specs.Invariant.{Holds}
 use Rattle.world.specs.areas.Areas.{Area, Segment, Stale, Side, Free, Whole, Allocation, Directory, header_word, is_side_at, is_whole_at, is_of_allocation, all_but}
 use Rattle.world.specs.areas.Rows.{Row, marks, news, goes_live, finishes, unmarks, frees, renews, IsRow, HasForRow, areas_by}
 use Rattle.world.specs.areas.Guarding.{IsGuardOf, Guards}
 use Rattle.world.specs.areas.Saying.{MaySay}
-use Rattle.world.specs.areas.Kinds.{Guard, of_segment, of_free_slots, of_directory, guard_word, area_of, goes_with, StructureKind, takes, gives, finds_stale, finds_whole, finds_free, finds_side, reads, sets, moves, settles, settles_side, opens, with_guard, with_area, is_new_side, is_claim, facts_without, facts_by, is_claim_of, view_then}
+use Rattle.world.specs.areas.Kinds.{Guard, of_segment, of_free_slots, of_directory, guard_word, area_of, goes_with, StructureKind, takes, gives, finds_stale, closes, finds_free, finds_side, reads, sets, moves, settles, settles_side, opens, with_guard, with_area, is_new_side, is_claim, facts_without, facts_by, is_claim_of, view_then}
 use Rattle.world.specs.areas.Asking.{MayAt}
-use Rattle.world.specs.areas.Holding.{HoldsMoving}
 use Rattle.world.specs.areas.Keeping.{words_then, views_then, KeepsGuards, KeepsSayers, KeepsPins}
-use Rattle.world.proofs.Lists.{has_joined}
-use Rattle.world.proofs.Seats.{each, without_has}
-use Rattle.world.proofs.Structures.{lock_no_head}
-use Rattle.world.proofs.Grounds.{lock_within}
+use Rattle.world.proofs.basics.Lists.{has_joined}
+use Rattle.world.proofs.basics.Seats.{each, without_has}
+use Rattle.world.proofs.basics.Structures.{lock_no_head}
+use Rattle.world.proofs.basics.Grounds.{lock_within}
 use Rattle.world.proofs.holding.Beside.{newest}
 use Rattle.world.proofs.fitting.Filtered.{filtered_has}
 use Rattle.world.proofs.fitting.Rows.{but_before, but_after, row_before, row_after, row_slot, head_near, one_head}
@@ -32,7 +32,7 @@ use Rattle.world.proofs.moving.Known.{held_within, newest_is, held_living}
 use Rattle.world.proofs.moving.Fitting.{guard_behind}
 
 -- ---- guards, by areas and by sorts
-guards_of : (site : Site) (words : Words) (views : List View)
+pub guards_of : (site : Ground) (words : Words) (views : List View)
     → ((c : ℕ) (u : View) (guard : Guard) → At views c u → Has (area_of guard) u.areas → words (guard_word site.shape guard) ≢ 0) → Guards site words views
 guards_of site words views taken = record { taken = by }
   where
@@ -50,7 +50,7 @@ is_guard shape (of_segment s) = refl
 is_guard shape of_free_slots = refl
 is_guard shape of_directory = refl
 
-by_guards : (site : Site) (words : Words) (views : List View) → Guards site words views
+by_guards : (site : Ground) (words : Words) (views : List View) → Guards site words views
     → (c : ℕ) (u : View) (guard : Guard) → At views c u → Has (area_of guard) u.areas → words (guard_word site.shape guard) ≢ 0
 by_guards site words views o c u guard at has = o.taken c u (area_of guard) (guard_word site.shape guard) at has (is_guard site.shape guard)
 
@@ -75,7 +75,7 @@ goes_itself of_directory e = cc
 no_false : false ≡ true → ⊥
 no_false e = cc
 
-module _ (site : Site) (words : Words) (views : List View) (j : ℕ) (v : View) (h : HoldsMoving site words views) (at : At views j v) where
+module _ (site : Ground) (words : Words) (views : List View) (j : ℕ) (v : View) (h : Holds site words views) (at : At views j v) where
   was : Guards site words views
   was = guards_of site words views h.structure.guards
 
@@ -119,10 +119,10 @@ module _ (site : Site) (words : Words) (views : List View) (j : ℕ) (v : View) 
   dropped_less : (test : Area → Bool) (w : View) → w.areas ≡ all_but test v.areas → NoMore w
   dropped_less test w e a n has is = (but_before test v.areas a (subst (Has a) e has)).0
 
-  row_near : (row : Row) (s x : ℕ) → MayAt site (moves row s x) v → header_word site.shape s < words_of site.shape
+  pub row_near : (row : Row) (s x : ℕ) → MayAt site (moves row s x) v → header_word site.shape s < words_of site.shape
   row_near row s x may = head_near site s (row_slot site words s x row (may.0 words (newest_is site words views h j v at)).0)
 
-  lock_near : (s lock next : ℕ) → MayAt site (opens s lock next) v → lock < words_of site.shape
+  pub lock_near : (s lock next : ℕ) → MayAt site (opens s lock next) v → lock < words_of site.shape
   lock_near s lock next may =
       let slot = (h.structure.fits.segment j v s at (h.structure.fits.whole j v s at may.0).0 words (newest site words views)).slot in
       let w = lock_within site.shape lock (s, may.1.0, slot, may.1.1, may.1.2) in omega (arith, w)
@@ -214,7 +214,7 @@ module _ (site : Site) (words : Words) (views : List View) (j : ℕ) (v : View) 
   pinned_slot c u s x a p = (held_living site words views h c u a s p.0 p.1 p.2).0.live.slot
 
   -- where headers stay
-  pins_by : (later : Words) (w : View) → ((s : ℕ) → s < site.shape.segments → later (header_word site.shape s) ≡ words (header_word site.shape s))
+  pub pins_by : (later : Words) (w : View) → ((s : ℕ) → s < site.shape.segments → later (header_word site.shape s) ≡ words (header_word site.shape s))
       → ((s x : ℕ) → Has (s, x) w.pinned → Has (s, x) v.pinned × ((lock : ℕ) → HasLock v.held lock → HasLock w.held lock)) → AllPinned later w
   pins_by later w heads mine c u s x a = each views j v w at (λ c u. Has (s, x) u.pinned → IsPinned site later u s x)
       (λ has. let q = mine s x has in let p = h.structure.pinned j v s x at q.0 in (p.0, p.1, q.1 (bucket_at site.shape s p.0) p.2, heads s (pinned_slot j v s x at p) ∙ p.3))
@@ -299,7 +299,7 @@ keep_guards site kind words views j v h at may = by_guards site (words_then site
         (λ has. goes_itself guard (but_before (goes_with guard) v.areas (area_of guard) has).1)
     by (finds_stale s version) may = same_guards site words views j v h at _
         (found_less site words views j v h at (not (eqb (version_in (words (header_word site.shape s))) version)) (Stale s) (header_word site.shape s) (words (header_word site.shape s)) (λ n k. k))
-    by (finds_whole s) may = same_guards site words views j v h at _ (found_less site words views j v h at true (Whole s) (header_word site.shape s) (words (header_word site.shape s)) (λ n k. k))
+    by (closes s i) may = same_guards site words views j v h at _ (found_less site words views j v h at true (Whole s) i (words i) (λ n k. k))
     by (finds_free m) may = same_guards site words views j v h at _
         (found_less site words views j v h at (eqb (state_in (words (header_word site.shape m))) free) (Free m) (header_word site.shape m) (words (header_word site.shape m)) (λ n k. k))
     by (finds_side p m depth pattern) may = same_guards site words views j v h at _
@@ -319,7 +319,7 @@ keep_sayers site (takes guard caller) words views j v h at may = taken_says site
 keep_sayers site (gives guard) words views j v h at may = given_says site words views j v h at guard _ refl refl
 keep_sayers site (finds_stale s version) words views j v h at may =
     found_says site words views j v h at (not (eqb (version_in (words (header_word site.shape s))) version)) (Stale s) (header_word site.shape s) (words (header_word site.shape s))
-keep_sayers site (finds_whole s) words views j v h at may = found_says site words views j v h at true (Whole s) (header_word site.shape s) (words (header_word site.shape s))
+keep_sayers site (closes s i) words views j v h at may = found_says site words views j v h at true (Whole s) i (words i)
 keep_sayers site (finds_free m) words views j v h at may =
     found_says site words views j v h at (eqb (state_in (words (header_word site.shape m))) free) (Free m) (header_word site.shape m) (words (header_word site.shape m))
 keep_sayers site (finds_side p m depth pattern) words views j v h at may =
@@ -336,7 +336,7 @@ keep_pins site (takes guard caller) words views j v h at may = taken_pins site w
 keep_pins site (gives guard) words views j v h at may = stored_pins site words views j v h at (guard_word site.shape guard) 0 _ (no_guard_head site words views j v h at guard) refl refl
 keep_pins site (finds_stale s version) words views j v h at may =
     found_pins site words views j v h at (not (eqb (version_in (words (header_word site.shape s))) version)) (Stale s) (header_word site.shape s) (words (header_word site.shape s))
-keep_pins site (finds_whole s) words views j v h at may = found_pins site words views j v h at true (Whole s) (header_word site.shape s) (words (header_word site.shape s))
+keep_pins site (closes s i) words views j v h at may = found_pins site words views j v h at true (Whole s) i (words i)
 keep_pins site (finds_free m) words views j v h at may =
     found_pins site words views j v h at (eqb (state_in (words (header_word site.shape m))) free) (Free m) (header_word site.shape m) (words (header_word site.shape m))
 keep_pins site (finds_side p m depth pattern) words views j v h at may =

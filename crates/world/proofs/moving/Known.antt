@@ -8,18 +8,18 @@ use Rattle.sound_image.specs.Records.{key_hash}
 use Rattle.bucket_words.specs.Core.{core_of, core}
 use Rattle.bucket_words.specs.Owners.{owner_of}
 use Rattle.frame_facts.specs.DeadSlots.{IsInSlot}
-use Rattle.world.specs.Site.{Site, IsCurrentIn}
+use Rattle.world.specs.Ground.{Ground, IsCurrentIn}
 use Rattle.world.specs.Views.{View, Has, At, HasLock, IsLoose}
 use Rattle.world.specs.Media.{IsPossible}
 use Rattle.world.specs.Conditions.{Agrees}
 use Rattle.world.specs.areas.Areas.{Area, Segment, Stale, Side, Free, Whole, Allocation, Directory, InArea, IsDirectoryWord}
 use Rattle.world.specs.areas.Fitting.{HoldsWord, LivesOn, HasGrounds}
 use Rattle.world.specs.areas.Asking.{IsNotWhole, MayBeNewest, MayStandBeside}
-use Rattle.world.specs.areas.Holding.{IsWatched, HoldsMoving}
+use Rattle.world.specs.Invariant.{IsWatched, Holds}
 use Rattle.world.specs.areas.Keeping.{whole_beside, KnownIsSo}
-use Rattle.world.proofs.Grounds.{home_near}
-use Rattle.world.proofs.Seats.{is_v, guarded_within}
-use Rattle.world.proofs.Structures.{one_segment}
+use Rattle.world.proofs.basics.Grounds.{home_near}
+use Rattle.world.proofs.basics.Seats.{is_v, guarded_within}
+use Rattle.world.proofs.basics.Structures.{one_segment}
 use Rattle.world.proofs.holding.Beside.{newest}
 use Rattle.world.proofs.fitting.OneHolder.{one_holder, side_dies}
 
@@ -41,13 +41,13 @@ pub guard_in_slot : (shape : Shape) (s i : ℕ) → InArea shape (Segment s) i �
 guard_in_slot shape s i w = elim w [ inl e ↦ record { from = omega (arith, e); to = omega (arith, e) } | inr e ↦ record { from = omega (arith, e); to = omega (arith, e) } ]
 
 -- it has the cores that it had
-pub whole_cores : (site : Site) (words m : Words) (n : ℕ) → core site.shape (whole_beside site words m) n ≡ core site.shape m n
+pub whole_cores : (site : Ground) (words m : Words) (n : ℕ) → core site.shape (whole_beside site words m) n ≡ core site.shape m n
 whole_cores site words m n = elim (cases_Bool (eqb (core site.shape m n) (core site.shape words n))) [
   | inl t ↦ ap (λ b. core_of site.shape n (cond b (words n) (m n))) t ∙ sym (eqb-true (core site.shape m n) (core site.shape words n) t)
   | inr f ↦ ap (λ b. core_of site.shape n (cond b (words n) (m n))) f
 ]
 
-module _ (site : Site) (words : Words) (views : List View) (h : HoldsMoving site words views) where
+module _ (site : Ground) (words : Words) (views : List View) (h : Holds site words views) where
   -- the newest words may be left
   pub possible_now : IsPossible site words views words
   possible_now = newest site words views

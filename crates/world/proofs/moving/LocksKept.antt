@@ -11,28 +11,28 @@ use Rattle.sound_image.specs.Segments.{frame_of}
 use Rattle.segment_table.proofs.stores.Moved.{live_same}
 use Rattle.bucket_words.specs.Owners.{IsStructure}
 use Rattle.bucket_words.proofs.segments.Cores.{structure_within}
-use Rattle.world.specs.Site.{Site, IsLockWord, IsCurrentIn, IsCurrentLock}
+use Rattle.world.specs.Ground.{Ground, IsLockWord, IsCurrentIn, IsCurrentLock}
 use Rattle.world.specs.Views.{View, Has, At, HasLock}
-use Rattle.world.specs.Invariant.{Locks}
+use Rattle.world.specs.Parts.{Locks}
+use Rattle.world.specs.Invariant.{Holds}
 use Rattle.world.specs.areas.Areas.{Area, Stale, Side, Free, header_word}
 use Rattle.world.specs.areas.Fitting.{HoldsWord, IsLivingLock}
 use Rattle.world.specs.areas.Rows.{Row, marks, news, goes_live, finishes, unmarks, frees, renews, IsRow}
-use Rattle.world.specs.areas.Kinds.{Guard, guard_word, StructureKind, takes, gives, finds_stale, finds_whole, finds_free, finds_side, reads, sets, moves, settles, settles_side, opens, with_guard, with_area, is_new_side}
+use Rattle.world.specs.areas.Kinds.{Guard, guard_word, StructureKind, takes, gives, finds_stale, closes, finds_free, finds_side, reads, sets, moves, settles, settles_side, opens, with_guard, with_area, is_new_side}
 use Rattle.world.specs.areas.Asking.{KnowsFree, MaySet, AsksForRow, MayAt}
-use Rattle.world.specs.areas.Holding.{HoldsMoving}
 use Rattle.world.specs.areas.Keeping.{words_then, views_then, KeepsLocks}
-use Rattle.world.proofs.Grounds.{lock_within}
-use Rattle.world.proofs.Seats.{each, carry, lock_of}
-use Rattle.world.proofs.Structures.{kept_structure, lock_back, lock_of_current, lock_no_head}
+use Rattle.world.proofs.basics.Grounds.{lock_within}
+use Rattle.world.proofs.basics.Seats.{each, carry, lock_of}
+use Rattle.world.proofs.basics.Structures.{kept_structure, lock_back, lock_of_current, lock_no_head}
 use Rattle.world.proofs.invariant.KeepLocks.{locks_freed}
 use Rattle.world.proofs.fitting.OneHolder.{side_dies}
 use Rattle.world.proofs.fitting.Rows.{one_head}
 use Rattle.world.proofs.moving.Known.{newest_is}
-use Rattle.world.proofs.moving.Holding.{HasSlot, stale, side, free, holder_has}
+use Rattle.world.proofs.moving.Holding.{stale, side, free, HasSlot, holder_has}
 use Rattle.world.proofs.moving.Words.{behind_image}
 
 -- the view holds what it held, no held lock changes, and no odd lock word comes to a current segment
-locks_by : (site : Site) (words us : Words) (views : List View) (j : ℕ) (v w : View) → At views j v → Locks site words views → w.held ≡ v.held
+locks_by : (site : Ground) (words us : Words) (views : List View) (j : ℕ) (v w : View) → At views j v → Locks site words views → w.held ≡ v.held
     → ((i : ℕ) (u : View) (lock : ℕ) → At views i u → HasLock u.held lock → us lock ≡ words lock)
     → ((lock : ℕ) → IsCurrentLock site us lock → us lock % 2 ≡ 1 → IsCurrentLock site words lock × (words lock % 2 ≡ 1)) → Locks site us (set views j w)
 locks_by site words us views j v w at l held same was_odd = record {
@@ -55,7 +55,7 @@ area_held : (t : Bool) (a : Area) (i x : ℕ) (v : View) → (with_area t a i x 
 area_held true a i x v = refl
 area_held false a i x v = refl
 
-module _ (site : Site) (words : Words) (views : List View) (j : ℕ) (v : View) (h : HoldsMoving site words views) (at : At views j v) where
+module _ (site : Ground) (words : Words) (views : List View) (j : ℕ) (v : View) (h : Holds site words views) (at : At views j v) where
   abbrev shape : Shape
   shape = site.shape
 
@@ -190,7 +190,7 @@ module _ (site : Site) (words : Words) (views : List View) (j : ℕ) (v : View) 
   keep (takes guard c) may = taken guard c (eqb (words (guard_word shape guard)) 0)
   keep (gives guard) may = guarded guard 0 _ refl
   keep (finds_stale s version) may = calm _ (area_held (not (version_in (words (header_word shape s)) == version)) (Stale s) (header_word shape s) (words (header_word shape s)) v)
-  keep (finds_whole s) may = calm _ refl
+  keep (closes s i) may = calm _ refl
   keep (finds_free n) may = calm _ (area_held (state_in (words (header_word shape n)) == 0) (Free n) (header_word shape n) (words (header_word shape n)) v)
   keep (finds_side p n depth pattern) may = calm _ (area_held (is_new_side depth pattern (words (header_word shape n))) (Side n) (header_word shape n) (words (header_word shape n)) v)
   keep (reads i) may = calm _ refl

@@ -31,13 +31,13 @@ use Rattle.bucket_words.proofs.segments.Rules.{record_of, cases_order}
 use Rattle.bucket_words.proofs.segments.Rules as table_rules
 use Rattle.bucket_words.proofs.segments.Noted.{notes_same, exact_same}
 use Rattle.bucket_words.proofs.segments.Stashed.{stashed_same}
-use Rattle.bucket_words.proofs.segments.NoSlot.{keeps}
+use Rattle.bucket_words.proofs.segments.changes.NoSlot.{keeps}
 use Rattle.frame_facts.proofs.Owners.{owner_stays}
-use Rattle.world.specs.Site.{Site, version_of, IsCurrentIn}
+use Rattle.world.specs.Ground.{Ground, version_of, IsCurrentIn}
 use Rattle.world.specs.World.{World}
 use Rattle.world.specs.areas.Areas.{header_word}
 use Rattle.world.specs.areas.Asking.{IsInOrder}
-use Rattle.world.specs.areas.Beginning.{IsRepaired, BeginsMoving}
+use Rattle.world.specs.areas.Beginning.{IsRepaired, Begins}
 use Rattle.world.specs.areas.Restarting.{KeepsVersion, RaisesVersion, IsLeftOf, IsRestartOf, SoundImagesBegin}
 
 -- ---- places
@@ -182,7 +182,7 @@ table_of_rules : (shape : Shape) (word : Words) → FollowsRules shape word → 
 table_of_rules shape word rules = table_rules.from_rules shape word (λ w. ((rules 4 w).four refl, (rules 5 w).five refl))
 
 -- a current segment of a closed one is in order
-module _ (site : Site) (word : Words) (is : IsShape site.shape) (fits : (i : ℕ) → word i < 2 ^ 64) (rules : FollowsRules site.shape word) (s : ℕ)
+module _ (site : Ground) (word : Words) (is : IsShape site.shape) (fits : (i : ℕ) → word i < 2 ^ 64) (rules : FollowsRules site.shape word) (s : ℕ)
     (current : IsCleanAndCurrent site.shape word s) where
   sound : HasSoundFrame site.shape word
   sound = frame_of_rules site.shape word is rules
@@ -213,7 +213,7 @@ module _ (site : Site) (word : Words) (is : IsShape site.shape) (fits : (i : ℕ
   }
 
 -- ---- the world
-module _ (site : Site) (image : List ℕ) (world : World) (of : IsRestartOf site image world) where
+module _ (site : Ground) (image : List ℕ) (world : World) (of : IsRestartOf site image world) where
   abbrev word : Words
   word = slice_index image
 
@@ -271,7 +271,7 @@ module _ (site : Site) (image : List ℕ) (world : World) (of : IsRestartOf site
       below : (has now of_site : ℕ) → has < now → of_site ≡ now → has ≡ of_site → ⊥
       below has now of_site less a b = omega (arith, less, a, b)
 
-  begins : BeginsMoving site word world
+  begins : Begins site word world
   begins = record {
     restarted = record {
       site_is = record { shape = is; few = of.few };

@@ -9,43 +9,43 @@ use Rattle.image_layout.specs.Places.{Shape, words_of, bucket_at, buckets}
 use Rattle.sound_image.specs.Segments.{frame_of}
 use Rattle.frame_facts.specs.Facts.{IsLiveSlot}
 use Rattle.frame_facts.specs.DeadSlots.{IsInSlot}
-use Rattle.world.specs.Site.{Site, IsUnder}
+use Rattle.world.specs.Ground.{Ground, IsUnder}
 use Rattle.world.specs.Views.{View, Has, At, IsGuarded, IsLoose}
 use Rattle.world.specs.Kinds.{without, loosened}
 use Rattle.world.specs.areas.Areas.{Area, Segment, Stale, Side, Free, Whole, header_word, InArea, is_side_at, is_stale_at, is_whole_at, all_but}
 use Rattle.world.specs.areas.Fitting.{HoldsWord, LivesOn}
 use Rattle.world.specs.areas.Rows.{Row, marks, news, goes_live, finishes, unmarks, frees, renews, HasForRow, areas_by}
-use Rattle.world.specs.areas.Kinds.{Guard, of_segment, of_free_slots, of_directory, guard_word, area_of, goes_with, StructureKind, takes, gives, finds_stale, finds_whole, finds_free, finds_side, reads, sets, moves, settles, settles_side, opens, with_guard, with_area, is_new_side, known_without, out_of_slot, view_then}
+use Rattle.world.specs.areas.Kinds.{Guard, of_segment, of_free_slots, of_directory, guard_word, area_of, goes_with, StructureKind, takes, gives, finds_stale, closes, finds_free, finds_side, reads, sets, moves, settles, settles_side, opens, with_guard, with_area, is_new_side, known_without, out_of_slot, view_then}
 use Rattle.world.specs.areas.Asking.{IsOf, MayAt, AsksForRow}
-use Rattle.world.specs.areas.Holding.{HeldWords, HoldsMoving}
+use Rattle.world.specs.Invariant.{KnownWords, Holds}
 use Rattle.world.specs.areas.Keeping.{words_then, views_then, KeepsHeldWords}
-use Rattle.world.proofs.Seats.{each, has_first, without_has, without_stays, loosened_has, lock_of}
+use Rattle.world.proofs.basics.Seats.{each, has_first, without_has, without_stays, loosened_has, lock_of}
 use Rattle.world.proofs.holding.Beside.{newest}
 use Rattle.world.proofs.fitting.OneHolder.{one_holder, side_dies, head_in_slot}
 use Rattle.world.proofs.fitting.Rows.{but_after}
 use Rattle.world.proofs.moving.Known.{grounds, held_within, newest_is}
-use Rattle.world.proofs.moving.Holding.{IsHeldBy, holds_more, holds_without, holds_instead, side_word, stale_word, whole_word, segment_word, free_word, front_word, out_of_slot_has, out_of_directory_has, out_of_free_has, bucket_in_slot, under_in_slot, HasSlot, stale, side, free, holder_has}
+use Rattle.world.proofs.moving.Holding.{stale, side, free, IsHeldBy, holds_more, holds_without, holds_instead, side_word, stale_word, whole_word, segment_word, free_word, front_word, out_of_slot_has, out_of_directory_has, out_of_free_has, bucket_in_slot, under_in_slot, HasSlot, holder_has}
 
 -- what is known and loose in a view
 abbrev pub HasWords : Shape → Words → View → Type 0
 HasWords shape us w = ((i x : ℕ) → Has (i, x) w.known → (us i ≡ x) × HoldsWord shape w i) × ((i x : ℕ) → IsLoose w (i, x) → HoldsWord shape w i)
 
-pub words_law : (site : Site) (words us : Words) (views : List View) (j : ℕ) (v w : View) → At views j v → HeldWords site words views
-    → ((i : ℕ) (u : View) → i ≢ j → At views i u → (n : ℕ) → HoldsWord site.shape u n → us n ≡ words n) → HasWords site.shape us w → HeldWords site us (set views j w)
+pub words_law : (site : Ground) (words us : Words) (views : List View) (j : ℕ) (v w : View) → At views j v → KnownWords site words views
+    → ((i : ℕ) (u : View) → i ≢ j → At views i u → (n : ℕ) → HoldsWord site.shape u n → us n ≡ words n) → HasWords site.shape us w → KnownWords site us (set views j w)
 words_law site words us views j v w at o others own = record {
   knows = λ a u i x at' h. each views j v w at (λ a u. Has (i, x) u.known → (us i ≡ x) × HoldsWord site.shape u i) (λ h. own.0 i x h)
       (λ a u n at' h. let r = o.knows a u i x at' h in (others a u n at' i r.1 ∙ r.0, r.1)) a u at' h;
   loose = λ a u i x at' h. each views j v w at (λ a u. IsLoose u (i, x) → HoldsWord site.shape u i) (λ h. own.1 i x h) (λ a u n at' h. o.loose a u i x at' h) a u at' h;
 }
 
-module _ (site : Site) (words : Words) (views : List View) (j : ℕ) (v : View) (h : HoldsMoving site words views) (at : At views j v) where
+module _ (site : Ground) (words : Words) (views : List View) (j : ℕ) (v : View) (h : Holds site words views) (at : At views j v) where
   abbrev shape : Shape
   shape = site.shape
 
   mine : HasWords shape words v
   mine = ((λ i x q. h.known.knows j v i x at q), (λ i x q. h.known.loose j v i x at q))
 
-  calm : (w : View) → HasWords shape words w → HeldWords site words (set views j w)
+  calm : (w : View) → HasWords shape words w → KnownWords site words (set views j w)
   calm w own = words_law site words words views j v w at h.known (λ i u n a m g. refl) own
 
   -- ---- a word behind the image changes
@@ -67,12 +67,12 @@ module _ (site : Site) (words : Words) (views : List View) (j : ℕ) (v : View) 
       by w = omega arith
 
   guard_changes : (guard : Guard) (x : ℕ) (w : View) → HasWords shape (with_word words (guard_word shape guard) x) w
-      → HeldWords site (with_word words (guard_word shape guard) x) (set views j w)
+      → KnownWords site (with_word words (guard_word shape guard) x) (set views j w)
   guard_changes guard x w own = words_law site words (with_word words (guard_word shape guard) x) views j v w at h.known
       (λ i u ne a n g. away i u a (guard_word shape guard) x n (behind_image guard) g) own
 
   taken : (guard : Guard) (c : ℕ) → (t : Bool)
-      → HeldWords site (after (cond t (exchanged j (guard_word shape guard) c) (loaded j (guard_word shape guard))) words) (set views j (with_guard t guard v))
+      → KnownWords site (after (cond t (exchanged j (guard_word shape guard) c) (loaded j (guard_word shape guard))) words) (set views j (with_guard t guard v))
   taken guard c true = guard_changes guard c (with_guard true guard v) (
     (λ i x q. (let r = mine.0 i x q in
         (away j v at (guard_word shape guard) c i (behind_image guard) r.1 ∙ r.0, holds_more shape i v.held v.areas (area_of guard ∷ v.areas) (λ a k. inr k) r.1))),
@@ -104,7 +104,7 @@ module _ (site : Site) (words : Words) (views : List View) (j : ℕ) (v : View) 
           by_test false e = inr (a, but_after (goes_with guard) v.areas a has e, w)
 
   given : (guard : Guard) → ((p : ℕ × ℕ) → IsLoose v p → IsOf shape v guard p.0 → ⊥)
-      → HeldWords site (with_word words (guard_word shape guard) 0) (set views j (view_then shape (gives guard) (words (guard_word shape guard)) v))
+      → KnownWords site (with_word words (guard_word shape guard) 0) (set views j (view_then shape (gives guard) (words (guard_word shape guard)) v))
   given guard firm = guard_changes guard 0 _ (
     (λ n y q. (let o = known_left guard n y q in let r = mine.0 n y o.1 in
         (away j v at (guard_word shape guard) 0 n (behind_image guard) r.1 ∙ r.0, left_holds guard n o.0 r.1))),
@@ -126,7 +126,7 @@ module _ (site : Site) (words : Words) (views : List View) (j : ℕ) (v : View) 
   stored_by : (i x : ℕ) (w : View) → HoldsWord shape v i → HoldsWord shape w i
       → ((n y : ℕ) → Has (n, y) w.known → ((n ≡ i) × (y ≡ x)) ⊎ ((n ≢ i) × (words n ≡ y) × HoldsWord shape w n))
       → ((n y : ℕ) → IsLoose w (n, y) → (n ≡ i) ⊎ HoldsWord shape w n)
-      → HeldWords site (with_word words i x) (set views j w)
+      → KnownWords site (with_word words i x) (set views j w)
   stored_by i x w g holds known loose = words_law site words (with_word words i x) views j v w at h.known
       (λ a u ne a' m g'. replaced_other words i x m
       (λ e. ne (one_holder site words views (grounds site words views h) h.structure.fits a j i u v a' at (subst (λ (n : ℕ). HoldsWord shape u n) e g') g))) (
@@ -148,7 +148,7 @@ module _ (site : Site) (words : Words) (views : List View) (j : ℕ) (v : View) 
   ]
 
   pub stored : (i x : ℕ) (areas : List Area) (w : View) → w.held ≡ v.held → w.areas ≡ areas → w.known ≡ (i, x) ∷ without i v.known → w.dirty ≡ loosened shape i (words i) x v.dirty → w.flushed ≡ v.flushed
-      → HoldsWord shape v i → ((n : ℕ) → HoldsWord shape v n → IsHeldBy shape v.held areas n) → HeldWords site (with_word words i x) (set views j w)
+      → HoldsWord shape v i → ((n : ℕ) → HoldsWord shape v n → IsHeldBy shape v.held areas n) → KnownWords site (with_word words i x) (set views j w)
   stored i x areas w held are known dirty flushed g more = stored_by i x w g (holds i g)
       (λ n y q. elim (known_then i x n y (subst (Has (n, y)) known q)) [ inl e ↦ inl e | inr r ↦ (let k = mine.0 n y r.1 in inr (r.0, k.0, holds n k.1)) ])
       (λ n y q. elim (loose_then i x n y (elim q [ inl d ↦ inl (subst (Has (n, y)) dirty d) | inr f ↦ inr (subst (Has (n, y)) flushed f) ])) [ inl e ↦ inl e | inr r ↦ inr (holds n (mine.1 n y r)) ])
@@ -172,7 +172,7 @@ module _ (site : Site) (words : Words) (views : List View) (j : ℕ) (v : View) 
 
   -- the image's version is stored: the slot's words are held no more, but the header
   renewed : (s x : ℕ) → Has (Stale s) v.areas → ((p : ℕ × ℕ) → IsLoose v p → IsInSlot shape s p.0 → ⊥)
-      → HeldWords site (with_word words (header_word shape s) x) (set views j (view_then shape (moves renews s x) (words (header_word shape s)) v))
+      → KnownWords site (with_word words (header_word shape s) x) (set views j (view_then shape (moves renews s x) (words (header_word shape s)) v))
   renewed s x has firm =
       let g = (h.structure.fits.stale j v s at has).0 in
       let still : (n : ℕ) → (IsInSlot shape s n → ⊥) → HoldsWord shape v n → IsHeldBy shape v.held (all_but (is_stale_at s) v.areas) n =
@@ -186,7 +186,7 @@ module _ (site : Site) (words : Words) (views : List View) (j : ℕ) (v : View) 
       (λ n y q. elim (loose_then (header_word shape s) x n y q) [ inl e ↦ inl e | inr r ↦ inr (still n (firm (n, y) r) (mine.1 n y r)) ])
 
   moved : (row : Row) (s x : ℕ) → HasForRow site words row s v.areas → AsksForRow site row s x v
-      → HeldWords site (with_word words (header_word shape s) x) (set views j (view_then shape (moves row s x) (words (header_word shape s)) v))
+      → KnownWords site (with_word words (header_word shape s) x) (set views j (view_then shape (moves row s x) (words (header_word shape s)) v))
   moved (marks n) s x q ask = stored (header_word shape s) x v.areas _ refl refl refl refl refl (holds_head (marks n) s q) (λ n k. k)
   moved (news p) s x q ask = stored (header_word shape s) x (areas_by (news p) s v.areas) _ refl refl refl refl refl (holds_head (news p) s q)
       (λ n k. holds_instead shape n (is_side_at s) v.held v.areas (Side s) (λ a t w. side_word shape n s a t w) k)
@@ -242,7 +242,7 @@ module _ (site : Site) (words : Words) (views : List View) (j : ℕ) (v : View) 
     still n none (inr q) = holds_without shape n (is_whole_at s) (without lock v.held) v.areas (λ a t w. whole_word shape n s a t w) (inr q)
 
     opened : ((p : ℕ × ℕ) → IsLoose v p → IsInSlot shape s p.0 → ⊥)
-        → HeldWords site (with_word words lock next) (set views j (view_then shape (opens s lock next) (words lock) v))
+        → KnownWords site (with_word words lock next) (set views j (view_then shape (opens s lock next) (words lock) v))
     opened firm = words_law site words (with_word words lock next) views j v _ at h.known
         (λ i u ne a n g. replaced_other words lock next n (λ e. ne (others_hold i u a (subst (λ (z : ℕ). HoldsWord shape u z) e g)))) (
           (λ n y q. (let o = out_of_slot_has shape n s y v.known q in let r = mine.0 n y o.1 in
@@ -250,11 +250,11 @@ module _ (site : Site) (words : Words) (views : List View) (j : ℕ) (v : View) 
           (λ n y q. still n (firm (n, y) q) (mine.1 n y q)),
         )
 
-  keep : (kind : StructureKind) → MayAt site kind v → HeldWords site (words_then site kind j words) (views_then site kind j v words views)
+  keep : (kind : StructureKind) → MayAt site kind v → KnownWords site (words_then site kind j words) (views_then site kind j v words views)
   keep (takes guard c) may = taken guard c (eqb (words (guard_word shape guard)) 0)
   keep (gives guard) may = given guard may.1
   keep (finds_stale s version) may = calm _ (found (not (version_in (words (header_word shape s)) == version)) (Stale s) (header_word shape s) (inr (Stale s, inl refl, head_in_slot shape s)))
-  keep (finds_whole s) may = calm _ (found true (Whole s) (header_word shape s) (inr (Segment s, inr may.0, inl refl)))
+  keep (closes s i) may = calm _ (found true (Whole s) i (holds_more shape i v.held v.areas (Whole s ∷ v.areas) (λ b z. inr z) may.3))
   keep (finds_free n) may = calm _ (found (state_in (words (header_word shape n)) == 0) (Free n) (header_word shape n) (inr (Free n, inl refl, head_in_slot shape n)))
   keep (finds_side p n depth pattern) may = calm _ (found (is_new_side depth pattern (words (header_word shape n))) (Side n) (header_word shape n) (inr (Side n, inl refl, head_in_slot shape n)))
   keep (reads i) may = calm _ (

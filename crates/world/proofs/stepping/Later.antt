@@ -5,13 +5,14 @@ use Rattle.trace.specs.Events.{Words}
 use Rattle.image_layout.specs.Volatile.{counter_word}
 use Rattle.map_model.specs.declared.call.Call.{Call}
 use Rattle.map_model.specs.declared.entry.Entry.{Entry}
-use Rattle.world.specs.Site.{Site}
-use Rattle.world.specs.Views.{Answer, View, At}
-use Rattle.world.specs.Invariant.{IsAnswer, Holds}
-use Rattle.world.specs.Kinds.{Kind, peeks, asks_power, meets_root, meets_entry, meets_head, pins, finds_room, refuses, places, looks, notes_word, validates, learns, meets_lock, tries, stores, copies, clears, repays, publishes, stashes, flushes, fences, draws_place, unlocks, cuts_power, wanted, with_answer, with_look, with_count, with_lock, all_again, marked, view_after}
+use Rattle.world.specs.Ground.{Ground}
+use Rattle.world.specs.Views.{Glance, Answer, View, Has, At}
+use Rattle.world.specs.History.{Log}
+use Rattle.world.specs.Parts.{History, IsUnmoved, IsAnswer}
+use Rattle.world.specs.Kinds.{Kind, peeks, asks_power, meets_root, meets_entry, meets_head, pins, finds_room, refuses, places, looks, glances_word, validates, learns, meets_lock, tries, stores, copies, clears, repays, publishes, stashes, flushes, fences, draws_place, unlocks, cuts_power, wanted, with_answer, with_look, with_count, with_lock, all_again, marked, view_after}
 use Rattle.world.specs.Wants.{word_of}
-use Rattle.world.proofs.NotedLists.{marked_to, again_all}
-use Rattle.world.specs.Later.{IsLater, RepliesComeLater}
+use Rattle.world.proofs.basics.NotedLists.{marked_to, again_all}
+use Rattle.world.specs.Later.{IsLater}
 
 same : (v w : View) → w.own ≡ v.own → w.seen ≡ v.seen → IsLater v w
 same v w own seen = record { rest = []; own = own ∙ sym (append-nil v.own); places = λ e q. absurd q; seen = omega (arith, seen) }
@@ -24,9 +25,10 @@ one v w e own place seen = record {
   seen = seen;
 }
 
-module _ (site : Site) (words : Words) (views : List View) (j : ℕ) (v : View) (h : Holds site words views) (at : At views j v) where
+module _ (site : Ground) (words : Words) (views : List View) (j : ℕ) (v : View) (log : Log) (history : History site words views log)
+    (answered : (a : Answer) → v.answer ≡ Some a → ((note : Glance) → Has note v.notes → IsUnmoved words note) → IsAnswer site log v.seen a) (at : At views j v) where
   at_counter : (n : ℕ) → words (counter_word site.shape) ≡ n → v.seen ≤ n
-  at_counter n is = let c = h.history.counter in let s = h.history.within j v at in omega (arith, c, s, is)
+  at_counter n is = let c = history.counter in let s = history.within j v at in omega (arith, c, s, is)
 
   look : (t : Bool) (lock n : ℕ) → IsLater v (with_look t lock n v)
   look true lock n = same v _ refl refl
@@ -45,10 +47,10 @@ module _ (site : Site) (words : Words) (views : List View) (j : ℕ) (v : View) 
   answer lock false o again is = same v _ refl refl
   answer lock true None again is = same v _ refl refl
   answer lock true (Some a) again is =
-      let good : IsAnswer site h.log v.seen a = h.notes.answered j v a at is (marked_to words lock v.notes (again_all words (marked lock (words lock) v.notes) again)) in
+      let good : IsAnswer site log v.seen a = answered a is (marked_to words lock v.notes (again_all words (marked lock (words lock) v.notes) again)) in
       one v _ _ refl good.after_seen good.after_seen
 
-  later_at : (kind : Kind) → IsLater v (view_after site.shape kind (words (word_of site.shape (wanted site.shape kind))) v)
+  pub later_at : (kind : Kind) → IsLater v (view_after site.shape kind (words (word_of site.shape (wanted site.shape kind))) v)
   later_at (peeks i) = same v _ refl refl
   later_at asks_power = same v _ refl refl
   later_at meets_root = same v _ refl refl
@@ -59,7 +61,7 @@ module _ (site : Site) (words : Words) (views : List View) (j : ℕ) (v : View) 
   later_at (refuses call reply) = one v _ _ refl (at_counter _ refl) (at_counter _ refl)
   later_at (places k a) = same v _ refl refl
   later_at (looks lock) = look (words lock % 2 == 0) lock (words lock)
-  later_at (notes_word lock i) = same v _ refl refl
+  later_at (glances_word lock i) = same v _ refl refl
   later_at (validates lock) = answer lock (all_again (marked lock (words lock) v.notes)) v.answer refl refl
   later_at (learns i) = same v _ refl refl
   later_at (meets_lock lock) = same v _ refl refl
@@ -75,6 +77,3 @@ module _ (site : Site) (words : Words) (views : List View) (j : ℕ) (v : View) 
   later_at (draws_place call) = one v _ _ refl (at_counter _ refl) (let s = at_counter (words (counter_word site.shape)) refl in omega (arith, s))
   later_at (unlocks lock next) = same v _ refl refl
   later_at cuts_power = same v _ refl refl
-
-pub replies_come_later : RepliesComeLater
-replies_come_later site words views j v kind h at = later_at site words views j v h at kind

@@ -3,8 +3,8 @@ use Rattle.std.proofs.Common.{◌≡◌, ◌≢◌, ℕ, Bool, true, false, cond
 use Rattle.std.proofs.lemmas.Bool.{cases_Bool, eqb-true, eq-eqb, ne_eqb}
 use Rattle.map_model.proofs.Places.{and-parts}
 use Rattle.trace.specs.Events.{Words}
-use Rattle.world.specs.Site.{Site}
-use Rattle.world.specs.Views.{Note, Has}
+use Rattle.world.specs.Ground.{Ground}
+use Rattle.world.specs.Views.{Glance, Has}
 use Rattle.world.specs.Kinds.{with_noted, unmarked, marked, all_again}
 use Rattle.world.specs.Conditions.{IsNow}
 
@@ -12,18 +12,18 @@ pub never : {A : Type 0} → false ≡ true → A
 never e = absurd (cc)
 
 -- ---- one word more
-abbrev pub noted_one : ℕ → ℕ → ℕ → Note → Note
+abbrev pub noted_one : ℕ → ℕ → ℕ → Glance → Glance
 noted_one lock i x n = cond (eqb n.word lock) (record n { words = (i, x) ∷ n.words }) n
 
-pub noted_to : (lock i x : ℕ) (notes : List Note) (n : Note) → Has n notes → Has (noted_one lock i x n) (with_noted lock i x notes)
+pub noted_to : (lock i x : ℕ) (notes : List Glance) (n : Glance) → Has n notes → Has (noted_one lock i x n) (with_noted lock i x notes)
 noted_to lock i x [] n h = absurd h
 noted_to lock i x (m ∷ notes) n h = elim h [ inl e ↦ inl (ap (noted_one lock i x) e) | inr r ↦ inr (noted_to lock i x notes n r) ]
 
-pub noted_from : (lock i x : ℕ) (notes : List Note) (o : Note) → Has o (with_noted lock i x notes) → (n : Note) × Has n notes × (o ≡ noted_one lock i x n)
+pub noted_from : (lock i x : ℕ) (notes : List Glance) (o : Glance) → Has o (with_noted lock i x notes) → (n : Glance) × Has n notes × (o ≡ noted_one lock i x n)
 noted_from lock i x [] o h = absurd h
 noted_from lock i x (m ∷ notes) o h = elim h [ inl e ↦ (m, inl refl, e) | inr r ↦ (let s = noted_from lock i x notes o r in (s.0, inr s.1, s.2)) ]
 
-module _ (lock i x : ℕ) (n : Note) where
+module _ (lock i x : ℕ) (n : Glance) where
   same_word_by : (b : Bool) → (cond b (record n { words = (i, x) ∷ n.words }) n).word ≡ n.word
   same_word_by true = refl
   same_word_by false = refl
@@ -49,8 +49,8 @@ module _ (lock i x : ℕ) (n : Note) where
   one_here e = ap (λ b. cond b (record n { words = (i, x) ∷ n.words }) n) (eq-eqb n.word lock e)
 
 -- ---- words that may be the newest with the notes afterwards may be it with those before
-module _ (site : Site) (m : Words) where
-  pub now_noted : (lock i x : ℕ) (notes : List Note) → IsNow site (with_noted lock i x notes) m → IsNow site notes m
+module _ (site : Ground) (m : Words) where
+  pub now_noted : (lock i x : ℕ) (notes : List Glance) → IsNow site (with_noted lock i x notes) m → IsNow site notes m
   now_noted lock i x notes a = record {
     structure = a.structure;
     table = a.table;
@@ -59,7 +59,7 @@ module _ (site : Site) (m : Words) where
     exact = λ s b n segment home h e. a.exact s b (noted_one lock i x n) segment home (noted_to lock i x notes n h) (one_word lock i x n ∙ e);
   }
 
-  pub now_more : (new : Note) (notes : List Note) → IsNow site (new ∷ notes) m → IsNow site notes m
+  pub now_more : (new : Glance) (notes : List Glance) → IsNow site (new ∷ notes) m → IsNow site notes m
   now_more new notes a = record {
     structure = a.structure;
     table = a.table;
@@ -69,23 +69,23 @@ module _ (site : Site) (m : Words) where
   }
 
 -- ---- no mark
-pub unmarked_to : (notes : List Note) (n : Note) → Has n notes → Has (record n { again = false }) (unmarked notes)
+pub unmarked_to : (notes : List Glance) (n : Glance) → Has n notes → Has (record n { again = false }) (unmarked notes)
 unmarked_to [] n h = absurd h
-unmarked_to (m ∷ notes) n h = elim h [ inl e ↦ inl (ap (λ (z : Note). record z { again = false }) e) | inr r ↦ inr (unmarked_to notes n r) ]
+unmarked_to (m ∷ notes) n h = elim h [ inl e ↦ inl (ap (λ (z : Glance). record z { again = false }) e) | inr r ↦ inr (unmarked_to notes n r) ]
 
 -- ---- a lock word found again
-abbrev pub marked_one : ℕ → ℕ → Note → Note
+abbrev pub marked_one : ℕ → ℕ → Glance → Glance
 marked_one lock x n = cond (eqb n.word lock && eqb n.value x) (record n { again = true }) n
 
-pub marked_to : (lock x : ℕ) (notes : List Note) (n : Note) → Has n notes → Has (marked_one lock x n) (marked lock x notes)
+pub marked_to : (lock x : ℕ) (notes : List Glance) (n : Glance) → Has n notes → Has (marked_one lock x n) (marked lock x notes)
 marked_to lock x [] n h = absurd h
 marked_to lock x (m ∷ notes) n h = elim h [ inl e ↦ inl (ap (marked_one lock x) e) | inr r ↦ inr (marked_to lock x notes n r) ]
 
-pub marked_from : (lock x : ℕ) (notes : List Note) (o : Note) → Has o (marked lock x notes) → (n : Note) × Has n notes × (o ≡ marked_one lock x n)
+pub marked_from : (lock x : ℕ) (notes : List Glance) (o : Glance) → Has o (marked lock x notes) → (n : Glance) × Has n notes × (o ≡ marked_one lock x n)
 marked_from lock x [] o h = absurd h
 marked_from lock x (m ∷ notes) o h = elim h [ inl e ↦ (m, inl refl, e) | inr r ↦ (let s = marked_from lock x notes o r in (s.0, inr s.1, s.2)) ]
 
-module _ (lock x : ℕ) (n : Note) where
+module _ (lock x : ℕ) (n : Glance) where
   mark_word_by : (b : Bool) → (cond b (record n { again = true }) n).word ≡ n.word
   mark_word_by true = refl
   mark_word_by false = refl
@@ -112,24 +112,24 @@ module _ (lock x : ℕ) (n : Note) where
   mark_there other = apart_by (eqb n.word lock) (λ t. eqb-true n.word lock t) other
 
 -- ---- whether all are marked
-pub all_marked : (notes : List Note) → ((n : Note) → Has n notes → n.again ≡ true) → all_again notes ≡ true
+pub all_marked : (notes : List Glance) → ((n : Glance) → Has n notes → n.again ≡ true) → all_again notes ≡ true
 all_marked [] all = refl
 all_marked (m ∷ notes) all = ap (λ b. b && all_again notes) (all m (inl refl)) ∙ all_marked notes (λ n h. all n (inr h))
 
-pub one_unmarked : (notes : List Note) (n : Note) → Has n notes → n.again ≡ false → all_again notes ≡ false
+pub one_unmarked : (notes : List Glance) (n : Glance) → Has n notes → n.again ≡ false → all_again notes ≡ false
 one_unmarked notes n h f = elim (cases_Bool (all_again notes)) [
   | inr unlike ↦ unlike
   | inl t ↦ never (sym f ∙ marked_in notes t n h)
 ]
   where
-    marked_in : (notes : List Note) → all_again notes ≡ true → (n : Note) → Has n notes → n.again ≡ true
+    marked_in : (notes : List Glance) → all_again notes ≡ true → (n : Glance) → Has n notes → n.again ≡ true
     marked_in [] t n h = absurd h
     marked_in (m ∷ notes) t n h = let p = and-parts m.again (all_again notes) t in elim h [
-      | inl e ↦ ap (λ (z : Note). z.again) e ∙ p.0
+      | inl e ↦ ap (λ (z : Glance). z.again) e ∙ p.0
       | inr r ↦ marked_in notes p.1 n r
     ]
 
-pub mark_unlike : (lock x : ℕ) (n : Note) → n.value ≢ x → (marked_one lock x n).again ≡ n.again
+pub mark_unlike : (lock x : ℕ) (n : Glance) → n.value ≢ x → (marked_one lock x n).again ≡ n.again
 mark_unlike lock x n other = ap (λ b. (cond (eqb n.word lock && b) (record n { again = true }) n).again) (ne_eqb n.value x other) ∙ by (eqb n.word lock)
   where
     by : (b : Bool) → (cond (b && false) (record n { again = true }) n).again ≡ n.again

@@ -8,7 +8,7 @@ use Rattle.image_layout.specs.Places.{bucket_at}
 use Rattle.sound_image.specs.Records.{key_hash}
 use Rattle.bucket_words.specs.Hits.{Hit, HasNone}
 use Rattle.bucket_words.proofs.segments.Finding.{find_is, find_none}
-use Rattle.world.specs.Site.{Site, IsUnder}
+use Rattle.world.specs.Ground.{Ground, IsUnder}
 use Rattle.world.specs.Views.{View}
 use Rattle.world.specs.Conditions.{IsNow}
 use Rattle.bucket_words.specs.HomeNotes.{IsUnnoted}
@@ -17,7 +17,7 @@ use Rattle.bucket_words.proofs.segments.Noted.{notes_same}
 use Rattle.bucket_words.proofs.segments.Stashed.{not_there}
 use Rattle.world.proofs.holding.Known.{hit_to, hit_from, same_value}
 
-module _ (site : Site) (v : View) where
+module _ (site : Ground) (v : View) where
   abbrev home : ℕ → ℕ
   home k = home_of (key_hash site.shape k)
 

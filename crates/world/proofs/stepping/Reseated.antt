@@ -1,5 +1,5 @@
 -- Views that are cut in two or joined: all that a new view has comes from an old one, whose locks the new one has.
-use Rattle.std.proofs.Common.{◌≡◌, ◌≢◌, ◌⊎◌, ℕ, zero, suc, ◌+◌, ◌≤◌, max, Bool, true, false, cond, ◌||◌, eqb, List, [], ◌∷◌, ◌++◌, length, set, None, inl, inr, refl, sym, ap, ◌∙◌, subst, arith}
+use Rattle.std.proofs.Common.{◌≡◌, ◌≢◌, ◌⊎◌, ℕ, zero, suc, ◌+◌, ◌≤◌, max, Bool, true, false, cond, ◌||◌, eqb, List, [], ◌∷◌, ◌++◌, length, set, Option, None, Some, inl, inr, refl, sym, ap, ◌∙◌, subst, arith}
 use Rattle.std.proofs.lemmas.Bool.{cases_lt, eq-eqb, ne_eqb}
 use Rattle.std.proofs.Math.Nat.{le-max_left, max-eq_left, max-eq_right}
 use Rattle.std.specs.Prelude.{filter}
@@ -13,22 +13,27 @@ use Rattle.map_model.specs.declared.call.Call.TheVariants.{Remove}
 use Rattle.map_model.specs.declared.entry.Entry.{Entry}
 use Rattle.map_model.specs.Weave.{draws, drew_at}
 use Rattle.map_model.specs.Legal.{InOrder, seen_of}
+use Rattle.bucket_words.specs.Hits.{find}
 use Rattle.frame_facts.specs.Facts.{Fact}
-use Rattle.world.specs.Site.{Site}
-use Rattle.world.specs.Views.{Note, Move, Owed, View, Has, At, IsGuarded, IsLoose}
-use Rattle.world.specs.Media.{IsPossible}
-use Rattle.world.specs.Invariant.{total, IsAnswer, Holds}
-use Rattle.world.specs.Seats.{cut_off, left_of, joined, spent, CutsKeep, JoinsKeep}
-use Rattle.world.proofs.Lists.{set_here, set_there, same_at, has_joined, total_set}
-use Rattle.world.proofs.Seats.{each}
+use Rattle.world.specs.Ground.{Ground}
+use Rattle.world.specs.Conditions.{HoldsMove}
+use Rattle.world.specs.Views.{Glance, Answer, Move, Owed, View, Has, At, HasLock, IsGuarded, IsLoose}
+use Rattle.world.specs.History.{Log}
+use Rattle.world.specs.Media.{IsPossible, Stands}
+use Rattle.world.specs.Parts.{total, Locks, Plans, History, Room, Spending, Powered, IsRemoving, IsMoving, NobodyOwes, IsPinned, IsUnmoved, IsAnswer}
+use Rattle.world.specs.Seats.{cut_off, left_of, joined, spent}
+use Rattle.world.specs.areas.Areas.{Area}
+use Rattle.world.proofs.basics.Lists.{set_here, set_there, same_at, has_joined, total_set}
+use Rattle.world.proofs.basics.Seats.{each}
 
--- what a new view at seat i has comes from an old view, which went there with its locks
+-- what a new view at seat i has comes from an old view, which went there with its locks and areas
 pub record From (views : List View) (goes : ℕ → ℕ) (i : ℕ) (u : View) (P : View → Type 0) : Type 0 where
   pub seat : ℕ
   pub old : View
   pub at : At views seat old
   pub went : goes seat ≡ i
   pub locks : (p : ℕ × ℕ) → Has p old.held → Has p u.held
+  pub areas : (a : Area) → Has a old.areas → Has a u.areas
   pub has : P old
 
 -- a new view has no notes, or all those of an old view
@@ -64,115 +69,120 @@ pub record Reseats (views views' : List View) : Type 0 where
   pub pinned : (i : ℕ) (u : View) (p : ℕ × ℕ) → At views' i u → Has p u.pinned → From views goes i u (λ o. Has p o.pinned)
   pub power_stays : (j : ℕ) (o : View) → At views j o → o.stored_power ≡ true → (i : ℕ) × (u : View) × At views' i u × (u.stored_power ≡ true)
 
-module _ (site : Site) (words : Words) (views views' : List View) (h : Holds site words views) (r : Reseats views views') where
-  guarded : (u o : View) (n : ℕ) → ((p : ℕ × ℕ) → Has p o.held → Has p u.held) → IsGuarded o.held n → IsGuarded u.held n
-  guarded u o n locks g = (g.0, (g.1.0, locks (g.0, g.1.0) g.1.1), g.2)
+-- where all noted words are unmoved, the noted answers of views are right
+abbrev pub AreAnswered : Ground → Words → Log → List View → Type 0
+AreAnswered site words log views = (j : ℕ) (v : View) (a : Answer) → At views j v → v.answer ≡ Some a → ((note : Glance) → Has note v.notes → IsUnmoved words note)
+    → IsAnswer site log v.seen a
 
-  fewer : (m : Words) → IsPossible site words views' m → IsPossible site words views m
+module _ (site : Ground) (words : Words) (views views' : List View) (r : Reseats views views') where
+  -- a cut may leave no more than before
+  pub fewer : (m : Words) → IsPossible site words views' m → IsPossible site words views m
   fewer m p i within = elim (p i within) [
     | inl e ↦ inl e
     | inr s ↦ (let f = r.loose s.0 s.1 (i, s.2) s.3 s.4 in inr (f.seat, f.old, s.2, f.at, f.has, s.5))
   ]
 
-  pub reseated : Holds site words views'
-  reseated = record {
-    site_is = h.site_is;
-    log = h.log;
-    structure = record {
-      constant = h.structure.constant;
-      sound = h.structure.sound;
-      says = λ j v f at q. (let s = r.facts j v f at q in h.structure.says s.0 s.1 f s.2 s.3);
-      pinned = λ j v s x at q. (let f = r.pinned j v (s, x) at q in let p = h.structure.pinned f.seat f.old s x f.at f.has in (p.0, p.1, (p.2.0, f.locks _ p.2.1), p.3));
-      locks = λ j v lock at q. (let f = r.held j v (lock, q.0) at q.1 in h.structure.locks f.seat f.old lock f.at (q.0, f.has));
-    };
-    locks = record {
-      alone = λ i n u x lock a b at at' q q'. (let f = r.held i u (lock, a) at q in let g = r.held n x (lock, b) at' q' in
-          sym f.went ∙ (ap r.goes (h.locks.alone f.seat g.seat f.old g.old lock a b f.at g.at f.has g.has) ∙ g.went));
-      locked = λ j v lock x at q. (let f = r.held j v (lock, x) at q in h.locks.locked f.seat f.old lock x f.at f.has);
-      odd = λ lock is odd. (let o = h.locks.odd lock is odd in let s = r.locks_stay o.0 o.1 (lock, o.3.0) o.2 o.3.1 in (r.goes o.0, s.0, s.1, (o.3.0, s.2)));
-    };
-    known = record {
-      knows = λ j v i x at q. (let f = r.known j v (i, x) at q in let k = h.known.knows f.seat f.old i x f.at f.has in (k.0, guarded v f.old i f.locks k.1));
-      loose = λ j v i x at q. (let f = r.loose j v (i, x) at q in guarded v f.old i f.locks (h.known.loose f.seat f.old i x f.at f.has));
-    };
-    plans = record {
-      places = λ j v c at q s b n own hit. (let f = r.planned j v c at q in let l = h.plans.places f.seat f.old c f.at f.has s b n own hit in (l.0, f.locks _ l.1));
-      held = λ j v c at q. (let f = r.planned j v c at q in let l = h.plans.held f.seat f.old c f.at f.has in (l.0, f.locks _ l.1));
-      stored = λ j v c at q. (let f = r.planned j v c at q in h.plans.stored f.seat f.old c f.at f.has);
-      fits = λ j v c at q. (let f = r.planned j v c at q in h.plans.fits f.seat f.old c f.at f.has);
-    };
-    history = record {
-      counter = h.history.counter;
-      right = λ j v e at q. elim (r.own j v at) [
-        | inl none ↦ absurd (subst (λ (es : List Entry). Has e es) none q)
-        | inr s ↦ h.history.right s.0 s.1 e s.2 (subst (λ (es : List Entry). Has e es) s.3 q)
-      ];
-      in_order = λ j v at. elim (r.own j v at) [
-        | inl none ↦ subst (λ (es : List Entry). InOrder 1 0 es) (sym none) tt
-        | inr s ↦ subst (λ (es : List Entry). InOrder 1 0 es) (sym s.3) (h.history.in_order s.0 s.1 s.2)
-      ];
-      after_own = λ j v at. elim (r.own j v at) [
-        | inl none ↦ (let q = ap (seen_of 0) none in omega (arith, q))
-        | inr s ↦ (let q = ap (seen_of 0) s.3 in let a = h.history.after_own s.0 s.1 s.2 in let b = s.4 in omega (arith, q, a, b))
-      ];
-      within = λ j v at. (let s = r.seen j v at in let a = h.history.within s.0 s.1 s.2 in let b = s.3 in omega (arith, a, b));
-      drawn = r.draws ∙ h.history.drawn;
-      each_once = λ n below. r.drew n ∙ h.history.each_once n below;
-    };
-    owned = record { own = h.owned.own };
-    copies = record {
-      once = λ s b n c t k current x y. elim (h.copies.once s b n c t k current x y) [
-        | inl e ↦ inl e
-        | inr o ↦ (let q = r.moving_stays o.0 o.1 o.2 o.3 o.4 in inr (r.goes o.0, q.0, o.2, q.1, q.2, o.5))
-      ];
-      held = λ j v m at q. (let f = r.moving j v m at q in let l = h.copies.held f.seat f.old m f.at f.has in
-          ((l.0.0, f.locks _ l.0.1), (l.1.0, f.locks _ l.1.1), (l.2.0, f.locks _ l.2.1)));
-    };
-    overflow = record {
-      exact = λ s b current near none. h.overflow.exact s b current near (λ j o d at has. (let q = r.owed_stays j o d at has in none (r.goes j) q.0 d q.1 q.2));
-      owes = λ j v d at q. (let f = r.owed j v d at q in h.overflow.owes f.seat f.old d f.at f.has);
-      held = λ j v d at q. (let f = r.owed j v d at q in let l = h.overflow.held f.seat f.old d f.at f.has in (l.0, f.locks _ l.1));
-      fits = λ j v d at q. (let f = r.owed j v d at q in h.overflow.fits f.seat f.old d f.at f.has);
-    };
-    media = record {
-      structure = λ m p. h.media.structure m (fewer m p);
-      table = λ m p. h.media.table m (fewer m p);
-      stashed = λ m p s c t k current small own hit. elim (h.media.stashed m (fewer m p) s c t k current small own hit) [
-        | inl e ↦ inl e
-        | inr o ↦ (let a = r.planned_stays o.0 o.1 (Remove k) o.2 o.3 in let b = r.locks_stay o.0 o.1 (bucket_at site.shape s (64 + c), o.4.0) o.2 o.4.1 in
-            let e : b.0 ≡ a.0 = same_at views' (r.goes o.0) b.0 a.0 b.1 a.1 in
-            inr (r.goes o.0, a.0, a.1, a.2, (o.4.0, subst (λ (z : View). Has (bucket_at site.shape s (64 + c), o.4.0) z.held) e b.2)))
-      ];
-      stands = λ m p k. elim (h.media.stands m (fewer m p) k) [
-        | inl e ↦ inl e
-        | inr s ↦ (let t = r.planned_stays s.0 s.1 s.2 s.3 s.4 in inr (r.goes s.0, t.0, s.2, t.1, t.2, s.5, s.6))
-      ];
-    };
-    notes = record {
-      noted = λ j v n at q. elim (r.notes j v at) [
-        | inl none ↦ absurd (subst (λ (ns : List Note). Has n ns) none.0 q)
-        | inr s ↦ h.notes.noted s.0 s.1 n s.2 (subst (λ (ns : List Note). Has n ns) s.3 q)
-      ];
-      answered = λ j v a at is all. elim (r.notes j v at) [
-        | inl none ↦ absurd (let e = none.1 in cc)
-        | inr s ↦ subst (λ (z : ℕ). IsAnswer site h.log z a) (sym s.5) (h.notes.answered s.0 s.1 a s.2 (sym s.4 ∙ is)
-            (λ n has. all n (subst (λ (ns : List Note). Has n ns) (sym s.3) has)))
-      ];
-    };
-    room = record {
-      callers = r.callers ∙ h.room.callers;
-      each = r.each;
-      few = (let a = r.few in let b = h.room.few in omega (arith, a, b));
-    };
-    spending = record {
-      met = λ j v lock at q. (let s = r.spent_locks j v lock at q in h.spending.met s.0 s.1 lock s.2 s.3);
-      told = λ j v e at q. elim (r.own j v at) [
-        | inl none ↦ absurd (subst (λ (es : List Entry). Has e es) none q)
-        | inr s ↦ h.spending.told s.0 s.1 e s.2 (subst (λ (es : List Entry). Has e es) s.3 q)
-      ];
-    };
-    powered = λ off. (let o = h.powered off in r.power_stays o.0 o.1 o.2 o.3);
+  -- ---- what some view has, some view has afterwards
+  pub still_stands : (log : Log) (k : ℕ) (a : Option ℕ) → Stands site views log k a → Stands site views' log k a
+  still_stands log k a stands = elim stands [
+    | inl e ↦ inl e
+    | inr s ↦ (let t = r.planned_stays s.0 s.1 s.2 s.3 s.4 in inr (r.goes s.0, t.0, s.2, t.1, t.2, s.5, s.6))
+  ]
+
+  pub still_removing : (k lock : ℕ) → IsRemoving views k lock → IsRemoving views' k lock
+  still_removing k lock o =
+      let a = r.planned_stays o.0 o.1 (Remove k) o.2 o.3 in let b = r.locks_stay o.0 o.1 (lock, o.4.0) o.2 o.4.1 in
+      let e : b.0 ≡ a.0 = same_at views' (r.goes o.0) b.0 a.0 b.1 a.1 in
+      (r.goes o.0, a.0, a.1, a.2, (o.4.0, subst (λ (z : View). Has (lock, o.4.0) z.held) e b.2))
+
+  pub still_moving : (s k b r c t : ℕ) → IsMoving views s k b r c t → IsMoving views' s k b r c t
+  still_moving s k b n c t o = let q = r.moving_stays o.0 o.1 o.2 o.3 o.4 in (r.goes o.0, q.0, o.2, q.1, q.2, o.5)
+
+  -- and what nobody owes nobody owed
+  pub none_owed : (s b : ℕ) → NobodyOwes views' s b → NobodyOwes views s b
+  none_owed s b none j o d at has = let q = r.owed_stays j o d at has in none (r.goes j) q.0 d q.1 q.2
+
+  -- ---- each part of what holds of words and views
+  pub pinned_go : (j : ℕ) (v : View) (s x : ℕ) → At views' j v → Has (s, x) v.pinned
+      → ((i : ℕ) (o : View) → At views i o → Has (s, x) o.pinned → IsPinned site words o s x) → IsPinned site words v s x
+  pinned_go j v s x at q was = let f = r.pinned j v (s, x) at q in let p = was f.seat f.old f.at f.has in (p.0, p.1, (p.2.0, f.locks _ p.2.1), p.3)
+
+  pub locks_go : Locks site words views → Locks site words views'
+  locks_go l = record {
+    alone = λ i n u x lock a b at at' q q'. (let f = r.held i u (lock, a) at q in let g = r.held n x (lock, b) at' q' in
+        sym f.went ∙ (ap r.goes (l.alone f.seat g.seat f.old g.old lock a b f.at g.at f.has g.has) ∙ g.went));
+    locked = λ j v lock x at q. (let f = r.held j v (lock, x) at q in l.locked f.seat f.old lock x f.at f.has);
+    odd = λ lock is odd. (let o = l.odd lock is odd in let s = r.locks_stay o.0 o.1 (lock, o.3.0) o.2 o.3.1 in (r.goes o.0, s.0, s.1, (o.3.0, s.2)));
   }
+
+  pub plans_go : (log : Log) → Plans site words views log → Plans site words views' log
+  plans_go log p = record {
+    places = λ j v c at q s b n own hit. (let f = r.planned j v c at q in let l = p.places f.seat f.old c f.at f.has s b n own hit in (l.0, f.locks _ l.1));
+    held = λ j v c at q. (let f = r.planned j v c at q in let l = p.held f.seat f.old c f.at f.has in (l.0, f.locks _ l.1));
+    stored = λ j v c at q. (let f = r.planned j v c at q in p.stored f.seat f.old c f.at f.has);
+    fits = λ j v c at q. (let f = r.planned j v c at q in p.fits f.seat f.old c f.at f.has);
+  }
+
+  pub history_goes : (log : Log) → History site words views log → History site words views' log
+  history_goes log p = record {
+    counter = p.counter;
+    right = λ j v e at q. elim (r.own j v at) [
+      | inl none ↦ absurd (subst (λ (es : List Entry). Has e es) none q)
+      | inr s ↦ p.right s.0 s.1 e s.2 (subst (λ (es : List Entry). Has e es) s.3 q)
+    ];
+    in_order = λ j v at. elim (r.own j v at) [
+      | inl none ↦ subst (λ (es : List Entry). InOrder 1 0 es) (sym none) tt
+      | inr s ↦ subst (λ (es : List Entry). InOrder 1 0 es) (sym s.3) (p.in_order s.0 s.1 s.2)
+    ];
+    after_own = λ j v at. elim (r.own j v at) [
+      | inl none ↦ (let q = ap (seen_of 0) none in omega (arith, q))
+      | inr s ↦ (let q = ap (seen_of 0) s.3 in let a = p.after_own s.0 s.1 s.2 in let b = s.4 in omega (arith, q, a, b))
+    ];
+    within = λ j v at. (let s = r.seen j v at in let a = p.within s.0 s.1 s.2 in let b = s.3 in omega (arith, a, b));
+    drawn = r.draws ∙ p.drawn;
+    each_once = λ n below. r.drew n ∙ p.each_once n below;
+  }
+
+  -- who moves a record, and who owes a note, has the locks that go with it
+  pub moves_held : (j : ℕ) (v : View) (m : Move) → At views' j v → Has m v.moving
+      → ((i : ℕ) (o : View) → At views i o → Has m o.moving → HoldsMove site.shape o.held m) → HoldsMove site.shape v.held m
+  moves_held j v m at q was = let f = r.moving j v m at q in let l = was f.seat f.old f.at f.has in ((l.0.0, f.locks _ l.0.1), (l.1.0, f.locks _ l.1.1), (l.2.0, f.locks _ l.2.1))
+
+  pub owed_held : (j : ℕ) (v : View) (d : Owed) → At views' j v → Has d v.owed
+      → ((i : ℕ) (o : View) → At views i o → Has d o.owed → HasLock o.held (bucket_at site.shape d.segment d.home)) → HasLock v.held (bucket_at site.shape d.segment d.home)
+  owed_held j v d at q was = let f = r.owed j v d at q in let l = was f.seat f.old f.at f.has in (l.0, f.locks _ l.1)
+
+  pub room_goes : (log : Log) → Room site views log → Room site views' log
+  room_goes log p = record {
+    callers = r.callers ∙ p.callers;
+    each = r.each;
+    few = (let a = r.few in let b = p.few in omega (arith, a, b));
+  }
+
+  pub spending_goes : (log : Log) → Spending site words views log → Spending site words views' log
+  spending_goes log p = record {
+    met = λ j v lock at q. (let s = r.spent_locks j v lock at q in p.met s.0 s.1 lock s.2 s.3);
+    told = λ j v e at q. elim (r.own j v at) [
+      | inl none ↦ absurd (subst (λ (es : List Entry). Has e es) none q)
+      | inr s ↦ p.told s.0 s.1 e s.2 (subst (λ (es : List Entry). Has e es) s.3 q)
+    ];
+  }
+
+  pub powered_goes : Powered site words views → Powered site words views'
+  powered_goes p off = let o = p off in r.power_stays o.0 o.1 o.2 o.3
+
+  -- a note is one of an old view, and so is an answer, with all its notes
+  pub noted : (P : Glance → Type 0) → ((j : ℕ) (v : View) (note : Glance) → At views j v → Has note v.notes → P note) → (j : ℕ) (v : View) (note : Glance) → At views' j v → Has note v.notes → P note
+  noted P was j v note at q = elim (r.notes j v at) [
+    | inl none ↦ absurd (subst (λ (ns : List Glance). Has note ns) none.0 q)
+    | inr s ↦ was s.0 s.1 note s.2 (subst (λ (ns : List Glance). Has note ns) s.3 q)
+  ]
+
+  pub answered_goes : (log : Log) → AreAnswered site words log views → AreAnswered site words log views'
+  answered_goes log was j v a at is all = elim (r.notes j v at) [
+    | inl none ↦ absurd (let e = none.1 in cc)
+    | inr s ↦ subst (λ (z : ℕ). IsAnswer site log z a) (sym s.5) (was s.0 s.1 a s.2 (sym s.4 ∙ is) (λ n has. all n (subst (λ (ns : List Glance). Has n ns) (sym s.3) has)))
+  ]
 
 -- ---- a view cut in two
 at_end : (views : List View) (w u : View) (i : ℕ) → At (views ++ w ∷ []) i u → At views i u ⊎ (u ≡ w)
@@ -214,28 +224,29 @@ module _ (views : List View) (j : ℕ) (v : View) (n : ℕ) (at : At views j v) 
   same_total : (f : View → ℕ) → f (left_of v n) + f (cut_off v n) ≡ f v → total f parted ≡ total f views
   same_total f e = let a = total_set f views j v (left_of v n) at in let b = total_end f (set views j (left_of v n)) (cut_off v n) in omega (arith, a, b, e)
 
+  -- what the view had it has, and so has each other
+  pub from_v : {P : View → Type 0} → P v → From views (λ i. i) j (left_of v n) P
+  from_v q = record { seat = j; old = v; at = at; went = refl; locks = λ p l. l; areas = λ a l. l; has = q }
+
+  pub from_other : {P : View → Type 0} (i : ℕ) (u : View) → At views i u → P u → From views (λ i. i) i u P
+  from_other i u a q = record { seat = i; old = u; at = a; went = refl; locks = λ p l. l; areas = λ a l. l; has = q }
+
   module _ (fits : n ≤ v.callers) (room : (i : ℕ) (u : View) → At views i u → u.room ≤ u.callers) where
     pub cut_reseats : Reseats views parted
     cut_reseats = record {
       goes = λ i. i;
       held = λ i u p a q. new_views (λ i u. Has p u.held → From views (λ i. i) i u (λ o. Has p o.held))
-          (λ q. record { seat = j; old = v; at = at; went = refl; locks = λ p l. l; has = q })
-          (λ i u ne a q. record { seat = i; old = u; at = a; went = refl; locks = λ p l. l; has = q }) (λ i q. absurd q) i u a q;
+          (λ q. from_v q) (λ i u ne a q. from_other i u a q) (λ i q. absurd q) i u a q;
       known = λ i u p a q. new_views (λ i u. Has p u.known → From views (λ i. i) i u (λ o. Has p o.known))
-          (λ q. record { seat = j; old = v; at = at; went = refl; locks = λ p l. l; has = q })
-          (λ i u ne a q. record { seat = i; old = u; at = a; went = refl; locks = λ p l. l; has = q }) (λ i q. absurd q) i u a q;
+          (λ q. from_v q) (λ i u ne a q. from_other i u a q) (λ i q. absurd q) i u a q;
       loose = λ i u p a q. new_views (λ i u. IsLoose u p → From views (λ i. i) i u (λ o. IsLoose o p))
-          (λ q. record { seat = j; old = v; at = at; went = refl; locks = λ p l. l; has = q })
-          (λ i u ne a q. record { seat = i; old = u; at = a; went = refl; locks = λ p l. l; has = q }) (λ i q. elim q [ inl d ↦ absurd d | inr f ↦ absurd f ]) i u a q;
+          (λ q. from_v q) (λ i u ne a q. from_other i u a q) (λ i q. elim q [ inl d ↦ absurd d | inr f ↦ absurd f ]) i u a q;
       planned = λ i u c a q. new_views (λ i u. Has c u.planned → From views (λ i. i) i u (λ o. Has c o.planned))
-          (λ q. record { seat = j; old = v; at = at; went = refl; locks = λ p l. l; has = q })
-          (λ i u ne a q. record { seat = i; old = u; at = a; went = refl; locks = λ p l. l; has = q }) (λ i q. absurd q) i u a q;
+          (λ q. from_v q) (λ i u ne a q. from_other i u a q) (λ i q. absurd q) i u a q;
       moving = λ i u c a q. new_views (λ i u. Has c u.moving → From views (λ i. i) i u (λ o. Has c o.moving))
-          (λ q. record { seat = j; old = v; at = at; went = refl; locks = λ p l. l; has = q })
-          (λ i u ne a q. record { seat = i; old = u; at = a; went = refl; locks = λ p l. l; has = q }) (λ i q. absurd q) i u a q;
+          (λ q. from_v q) (λ i u ne a q. from_other i u a q) (λ i q. absurd q) i u a q;
       owed = λ i u c a q. new_views (λ i u. Has c u.owed → From views (λ i. i) i u (λ o. Has c o.owed))
-          (λ q. record { seat = j; old = v; at = at; went = refl; locks = λ p l. l; has = q })
-          (λ i u ne a q. record { seat = i; old = u; at = a; went = refl; locks = λ p l. l; has = q }) (λ i q. absurd q) i u a q;
+          (λ q. from_v q) (λ i u ne a q. from_other i u a q) (λ i q. absurd q) i u a q;
       notes = new_views (λ i u. KeepsNotes views u) (inr (j, v, at, refl, refl, refl)) (λ i u ne a. inr (i, u, a, refl, refl, refl)) (λ i. inl (refl, refl));
       own = new_views (λ i u. KeepsOwn views u) (inr (j, v, at, refl, omega arith)) (λ i u ne a. inr (i, u, a, refl, omega arith)) (λ i. inl refl);
       seen = new_views (λ i u. (j : ℕ) × (o : View) × At views j o × (u.seen ≤ o.seen)) (j, v, at, omega arith) (λ i u ne a. (i, u, a, omega arith)) (λ i. (j, v, at, omega arith));
@@ -253,13 +264,9 @@ module _ (views : List View) (j : ℕ) (v : View) (n : ℕ) (at : At views j v) 
       facts = λ i u f a q. new_views (λ i u. Has f u.facts → (j : ℕ) × (o : View) × At views j o × Has f o.facts)
           (λ q. (j, v, at, q)) (λ i u ne a q. (i, u, a, q)) (λ i q. absurd q) i u a q;
       pinned = λ i u p a q. new_views (λ i u. Has p u.pinned → From views (λ i. i) i u (λ o. Has p o.pinned))
-          (λ q. record { seat = j; old = v; at = at; went = refl; locks = λ p l. l; has = q })
-          (λ i u ne a q. record { seat = i; old = u; at = a; went = refl; locks = λ p l. l; has = q }) (λ i q. absurd q) i u a q;
+          (λ q. from_v q) (λ i u ne a q. from_other i u a q) (λ i q. absurd q) i u a q;
       power_stays = λ i o a q. (let s = still (λ z. z.stored_power ≡ true) (λ q. q) i o a q in (i, s.0, s.1, s.2));
     }
-
-pub cuts_keep : CutsKeep
-cuts_keep site words views j v n h at fits = reseated site words views _ h (cut_reseats views j v n at fits h.room.each)
 
 -- ---- two views joined
 module _ {X : Type 0} where
@@ -307,13 +314,13 @@ module _ (views : List View) (j i : ℕ) (v w : View) (at : At views j v) (at' :
   goes_other n ne = ap (λ b. cond b j n) (ne_eqb n i ne)
 
   pub of_v : (P : View → Type 0) → P v → From views goes j (joined v w) P
-  of_v P p = record { seat = j; old = v; at = at; went = goes_other j (λ e. apart (sym e)); locks = λ p l. before v.held w.held p l; has = p }
+  of_v P p = record { seat = j; old = v; at = at; went = goes_other j (λ e. apart (sym e)); locks = λ p l. before v.held w.held p l; areas = λ a l. before v.areas w.areas a l; has = p }
 
   pub of_w : (P : View → Type 0) → P w → From views goes j (joined v w) P
-  of_w P p = record { seat = i; old = w; at = at'; went = goes_i; locks = λ p l. behind v.held w.held p l; has = p }
+  of_w P p = record { seat = i; old = w; at = at'; went = goes_i; locks = λ p l. behind v.held w.held p l; areas = λ a l. behind v.areas w.areas a l; has = p }
 
   pub of_other : (P : View → Type 0) (n : ℕ) (u : View) → n ≢ i → At views n u → P u → From views goes n u P
-  of_other P n u ne a p = record { seat = n; old = u; at = a; went = goes_other n ne; locks = λ p l. l; has = p }
+  of_other P n u ne a p = record { seat = n; old = u; at = a; went = goes_other n ne; locks = λ p l. l; areas = λ a l. l; has = p }
 
   pub stays : (P : View → Type 0) → (P v → P (joined v w)) → (P w → P (joined v w)) → (n : ℕ) (o : View) → At views n o → P o → (u : View) × At joint (goes n) u × P u
   stays P mine theirs n o a p = dite (ℕ_discrete n i)
@@ -383,6 +390,3 @@ module _ (views : List View) (j i : ℕ) (v w : View) (at : At views j v) (at' :
           (λ q. absurd q) (λ n u ne ne' a q. of_other (λ o. Has p o.pinned) n u ne' a q) n u a q;
       power_stays = λ n o a q. (let s = stays (λ z. z.stored_power ≡ true) (or_left v.stored_power w.stored_power) (or_right v.stored_power w.stored_power) n o a q in (goes n, s.0, s.1, s.2));
     }
-
-pub joins_keep : JoinsKeep
-joins_keep site words views j i v w h at at' apart = reseated site words views _ h (join_reseats views j i v w at at' apart h.room.each)

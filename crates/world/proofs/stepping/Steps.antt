@@ -8,17 +8,17 @@ use Rattle.image_layout.specs.Volatile.{counter_word, power_word}
 use Rattle.map_model.specs.declared.call.Call.TheVariants.{Get}
 use Rattle.map_model.specs.declared.entry.Reply.TheVariants.{Done, Spent}
 use Rattle.map_model.specs.Map.{shown}
-use Rattle.world.specs.Site.{Site, IsLockWord}
+use Rattle.world.specs.Ground.{Ground, IsLockWord}
 use Rattle.world.specs.Views.{Answer, View, At, IsGuarded}
 use Rattle.world.specs.Wants.{words_after}
-use Rattle.world.specs.Kinds.{Kind, peeks, asks_power, meets_root, meets_entry, meets_head, pins, finds_room, refuses, places, looks, notes_word, validates, learns, meets_lock, tries, stores, copies, clears, repays, publishes, stashes, flushes, fences, draws_place, unlocks, cuts_power}
+use Rattle.world.specs.Kinds.{Kind, peeks, asks_power, meets_root, meets_entry, meets_head, pins, finds_room, refuses, places, looks, glances_word, validates, learns, meets_lock, tries, stores, copies, clears, repays, publishes, stashes, flushes, fences, draws_place, unlocks, cuts_power}
 use Rattle.world.specs.Kinds.{wanted, with_look, with_count, with_lock, with_answer, next_entry, marked, all_again}
 use Rattle.world.specs.Conditions.{May}
 use Rattle.world.specs.Entering.{Enters}
-use Rattle.world.specs.Invariant.{Holds}
-use Rattle.world.specs.Laws.{StepsEnter, CallersStay, PowerStays}
-use Rattle.world.proofs.Structures.{known_lock}
-use Rattle.world.proofs.Grounds.{lock_within, under_within}
+use Rattle.world.specs.Parts.{Locks}
+use Rattle.world.specs.Laws.{StepsEnter, CallersStay}
+use Rattle.world.proofs.basics.Structures.{known_lock}
+use Rattle.world.proofs.basics.Grounds.{lock_within, under_within}
 
 -- ---- the replies
 pub steps_enter : StepsEnter
@@ -73,7 +73,7 @@ callers_stay shape (tries lock free) n v = by (eqb n free)
 callers_stay shape kind n v = refl
 
 -- ---- the power word
-module _ (site : Site) (words : Words) (views : List View) (j : ℕ) (v : View) (h : Holds site words views) (at : At views j v) (c : ℕ) where
+module _ (site : Ground) (words : Words) (views : List View) (j : ℕ) (v : View) (l : Locks site words views) (at : At views j v) (c : ℕ) where
   abbrev power : ℕ
   power = power_word site.shape
 
@@ -85,39 +85,36 @@ module _ (site : Site) (words : Words) (views : List View) (j : ℕ) (v : View) 
 
   guarded_apart : (i : ℕ) → IsGuarded v.held i → i ≢ power
   guarded_apart i g same =
-      let low = under_within site.shape g.0 i (h.locks.locked j v g.0 g.1.0 at g.1.1).0 g.2 in omega (arith, low, same)
+      let low = under_within site.shape g.0 i (l.locked j v g.0 g.1.0 at g.1.1).0 g.2 in omega (arith, low, same)
 
   tried : (t : Bool) (lock x : ℕ) → lock ≢ power → after (cond t (exchanged c lock x) (loaded c lock)) words power ≡ words power
   tried true lock x other = elsewhere lock x other
   tried false lock x other = refl
 
-  by_kind : (kind : Kind) → (kind ≡ cuts_power → ⊥) → May site kind v → words_after site.shape (wanted site.shape kind) c words power ≡ words power
-  by_kind (peeks i) other may = refl
-  by_kind asks_power other may = refl
-  by_kind meets_root other may = refl
-  by_kind (meets_entry e i) other may = refl
-  by_kind (meets_head s version) other may = refl
-  by_kind (pins s b) other may = refl
-  by_kind (finds_room call) other may = refl
-  by_kind (refuses call reply) other may = refl
-  by_kind (places k a) other may = refl
-  by_kind (looks lock) other may = refl
-  by_kind (notes_word lock i) other may = refl
-  by_kind (validates lock) other may = refl
-  by_kind (learns i) other may = refl
-  by_kind (meets_lock lock) other may = refl
-  by_kind (tries lock free) other may = tried (eqb (words lock) free) lock (free + 1) (lock_apart lock (known_lock site v lock may.0))
-  by_kind (stores i x) other may = elsewhere i x (guarded_apart i may.0.guarded)
-  by_kind (copies i x m) other may = elsewhere i x (guarded_apart i may.0.guarded)
-  by_kind (clears i x m) other may = elsewhere i x (guarded_apart i may.0.guarded)
-  by_kind (repays i x o) other may = elsewhere i x (guarded_apart i may.0.guarded)
-  by_kind (publishes i x call) other may = elsewhere i x (guarded_apart i may.0.guarded)
-  by_kind (stashes i x call o) other may = elsewhere i x (guarded_apart i may.0.guarded)
-  by_kind (flushes l) other may = refl
-  by_kind fences other may = refl
-  by_kind (draws_place call) other may = elsewhere (counter_word site.shape) ((words (counter_word site.shape) + 1) % 2 ^ 64) (λ q. omega (arith, q))
-  by_kind (unlocks lock next) other may = elsewhere lock next (lock_apart lock (h.locks.locked j v lock may.0 at may.1).0)
-  by_kind cuts_power other may = absurd (other refl)
-
-pub power_stays : PowerStays
-power_stays site words views j v kind c h at other may = by_kind site words views j v h at c kind other may
+  pub power_kept : (kind : Kind) → (kind ≡ cuts_power → ⊥) → May site kind v → words_after site.shape (wanted site.shape kind) c words power ≡ words power
+  power_kept (peeks i) other may = refl
+  power_kept asks_power other may = refl
+  power_kept meets_root other may = refl
+  power_kept (meets_entry e i) other may = refl
+  power_kept (meets_head s version) other may = refl
+  power_kept (pins s b) other may = refl
+  power_kept (finds_room call) other may = refl
+  power_kept (refuses call reply) other may = refl
+  power_kept (places k a) other may = refl
+  power_kept (looks lock) other may = refl
+  power_kept (glances_word lock i) other may = refl
+  power_kept (validates lock) other may = refl
+  power_kept (learns i) other may = refl
+  power_kept (meets_lock lock) other may = refl
+  power_kept (tries lock free) other may = tried (eqb (words lock) free) lock (free + 1) (lock_apart lock (known_lock site v lock may.0))
+  power_kept (stores i x) other may = elsewhere i x (guarded_apart i may.0.guarded)
+  power_kept (copies i x m) other may = elsewhere i x (guarded_apart i may.0.guarded)
+  power_kept (clears i x m) other may = elsewhere i x (guarded_apart i may.0.guarded)
+  power_kept (repays i x o) other may = elsewhere i x (guarded_apart i may.0.guarded)
+  power_kept (publishes i x call) other may = elsewhere i x (guarded_apart i may.0.guarded)
+  power_kept (stashes i x call o) other may = elsewhere i x (guarded_apart i may.0.guarded)
+  power_kept (flushes l) other may = refl
+  power_kept fences other may = refl
+  power_kept (draws_place call) other may = elsewhere (counter_word site.shape) ((words (counter_word site.shape) + 1) % 2 ^ 64) (λ q. omega (arith, q))
+  power_kept (unlocks lock next) other may = elsewhere lock next (lock_apart lock (l.locked j v lock may.0 at may.1).0)
+  power_kept cuts_power other may = absurd (other refl)

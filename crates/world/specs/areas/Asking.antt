@@ -13,7 +13,7 @@ use Rattle.bucket_words.specs.TableChanges.{KeepsTable}
 use Rattle.frame_facts.specs.Facts.{Fact, Lives, Current, HoldsFact}
 use Rattle.frame_facts.specs.Keeping.{KeepsFact, ClaimsNoneOfSide}
 use Rattle.frame_facts.specs.DeadSlots.{IsInSlot}
-use Rattle.world.specs.Site.{Site, version_of, IsStructured, IsLockWord, IsSpentLock, IsUnder}
+use Rattle.world.specs.Ground.{Ground, version_of, IsStructured, IsLockWord, IsSpentLock, IsUnder}
 use Rattle.world.specs.Views.{Move, Owed, View, Has, HasLock, IsLoose}
 use Rattle.world.specs.Conditions.{IsOwed, IsMoveOf, OwesNone, Agrees}
 use Rattle.world.specs.Holders.{KnowsWord}
@@ -21,7 +21,7 @@ use Rattle.world.specs.areas.Areas.{Segment, Stale, Side, Free, Whole, Allocatio
 use Rattle.world.specs.areas.Fitting.{HoldsWord, HoldsAll}
 pub use Rattle.world.specs.areas.Saying.{MaySay}
 use Rattle.world.specs.areas.Rows.{Row, goes_live, renews, HasNoSides, IsRow, HasForRow}
-use Rattle.world.specs.areas.Kinds.{Guard, of_segment, of_free_slots, of_directory, area_of, StructureKind, takes, gives, finds_stale, finds_whole, finds_free, finds_side, reads, sets, moves, settles, settles_side, opens}
+use Rattle.world.specs.areas.Kinds.{Guard, of_segment, of_free_slots, of_directory, area_of, StructureKind, takes, gives, finds_stale, closes, finds_free, finds_side, reads, sets, moves, settles, settles_side, opens}
 
 -- a view has not the segment whole
 abbrev pub IsNotWhole : View → ℕ → Type 0
@@ -46,7 +46,7 @@ HasOpened v guard = ⊤
 abbrev pub once_fenced : View → View
 once_fenced v = record v { flushed = [] }
 
-module _ (site : Site) where
+module _ (site : Ground) where
   -- WORDS MAY BE THE NEWEST, as far as a view with areas can know: as `IsNewest` has it, of segments that it has not whole
   pub record MayBeNewest (v : View) (words : Words) : Type 0 where
     pub structure : IsStructured site words
@@ -115,7 +115,7 @@ module _ (site : Site) where
   IsUnderDead v i = (n : ℕ) → Has (Side n) v.areas → IsInSlot site.shape n i → KnowsDead v n
 
   -- a store to a held word that is no header, by a view that plans and owes nothing: of buckets, to those of whole segments and of slots
-  -- that nobody else touches; a lock word gets a free value, and stays if it is free with the last version
+  -- that nobody else touches; a lock word gets a free value, and stays if it is free with the last version in a live segment
   pub record MaySet (v : View) (i x : ℕ) : Type 0 where
     pub holds : HoldsWord site.shape v i
     pub no_header : (s : ℕ) → s < site.shape.segments → i ≢ header_word site.shape s
@@ -140,7 +140,7 @@ module _ (site : Site) where
   MayAt (takes guard caller) v = 0 < caller
   MayAt (gives guard) v = Has (area_of guard) v.areas × IsFirmIn v (IsOf site.shape v guard) × HasOpened v guard
   MayAt (finds_stale s version) v = Has (Segment s) v.areas × (version ≡ version_of site) × IsFirmIn v (λ i. i ≡ header_word site.shape s)
-  MayAt (finds_whole s) v = Has (Segment s) v.areas × HoldsAll site.shape v s × Has (Current s) v.facts × IsFirmIn v (λ i. i ≡ header_word site.shape s)
+  MayAt (closes s i) v = Has (Segment s) v.areas × HoldsAll site.shape v s × Has (Current s) v.facts × HoldsWord site.shape v i × IsFirmIn v (λ j. j ≡ header_word site.shape s)
   MayAt (finds_free n) v = Has Allocation v.areas × (n < site.shape.segments) × IsFirmIn v (IsInSlot site.shape n)
   MayAt (finds_side p n depth pattern) v = Has (Stale p) v.areas × (n < site.shape.segments) × KnowsWord v (head_at site.shape p + 2) (suc n)
       × ((head : ℕ) × KnowsWord v (header_word site.shape p) head × (state_in head ≡ splitting) × (depth_in head ≡ depth) × (pattern_in head ≡ pattern))

@@ -11,20 +11,20 @@ use Rattle.sound_image.specs.Directory.{VersionIsPast}
 use Rattle.segment_table.specs.Claims.{HasSoundFrame}
 use Rattle.bucket_words.specs.Standing.{IsTable}
 use Rattle.bucket_words.specs.Hits.{find}
-use Rattle.world.specs.Site.{Site, IsSite, version_of, IsStructured, IsCurrentIn}
+use Rattle.world.specs.Ground.{Ground, IsGround, version_of, IsStructured, IsCurrentIn}
 use Rattle.world.specs.Views.{View, At}
-use Rattle.world.specs.Invariant.{total}
-use Rattle.world.specs.World.{World, fresh_view, Begins}
+use Rattle.world.specs.Parts.{total}
+use Rattle.world.specs.Invariant.{Holds}
+use Rattle.world.specs.World.{World, fresh_view}
 use Rattle.world.specs.areas.Areas.{header_word}
 use Rattle.world.specs.areas.Asking.{IsInOrder}
-use Rattle.world.specs.areas.Holding.{HoldsMoving}
 use Rattle.world.specs.areas.Fitting.{Fits}
 use Rattle.world.specs.areas.Lasting.{Owners, Lasting, AreSoundMedia}
 use Rattle.world.specs.areas.Saying.{Saying}
 use Rattle.world.specs.areas.Guarding.{Guards}
 
 -- all that is said of areas
-pub record AreasStand (site : Site) (words : Words) (views : List View) : Type 0 where
+pub record AreasStand (site : Ground) (words : Words) (views : List View) : Type 0 where
   pub fits : Fits site words views
   pub sound : AreSoundMedia site words views
   pub owners : Owners site words views
@@ -34,20 +34,20 @@ pub record AreasStand (site : Site) (words : Words) (views : List View) : Type 0
 
 -- FRESH VIEWS: over a sound structure in which no current segment is split it is so
 abbrev pub FreshViewsStand : Type 0
-FreshViewsStand = (site : Site) (words : Words) (views : List View) → IsSite site → HasSoundFrame site.shape words → ((j : ℕ) (v : View) → At views j v → v ≡ fresh_view v.callers)
+FreshViewsStand = (site : Ground) (words : Words) (views : List View) → IsGround site → HasSoundFrame site.shape words → ((j : ℕ) (v : View) → At views j v → v ≡ fresh_view v.callers)
     → ((s : ℕ) → IsCurrentIn site words s → state_at (frame_of site.shape words) s ≢ splitting) → AreasStand site words views
 
 -- ---- what a restart leaves of any sound image
 -- a segment is repaired: it is NORMAL and in order, and no lock of it is taken
-pub record IsRepaired (site : Site) (words : Words) (s : ℕ) : Type 0 where
+pub record IsRepaired (site : Ground) (words : Words) (s : ℕ) : Type 0 where
   pub normal : state_at (frame_of site.shape words) s ≡ normal
   pub in_order : IsInOrder site words s
   pub free : (b : ℕ) → b < buckets → words (bucket_at site.shape s b) % 2 ≡ 0
 
 -- THE WORLD IS RESTARTED: a sound structure and a table with the start's pairs, with all its words settled; the words behind the image are
 -- 0, so that no change is drawn, the power is on, and nobody has a guard; and nobody has done anything
-pub record IsRestarted (site : Site) (start : Words) (world : World) : Type 0 where
-  pub site_is : IsSite site
+pub record IsRestarted (site : Ground) (start : Words) (world : World) : Type 0 where
+  pub site_is : IsGround site
   pub words_are : world.words ≡ value start world.trace
   pub settled : (i y : ℕ) → i < words_of site.shape → HadSinceSettled start world.trace i y → y ≡ world.words i
   pub structured : IsStructured site world.words
@@ -59,32 +59,27 @@ pub record IsRestarted (site : Site) (start : Words) (world : World) : Type 0 wh
 
 -- and each current segment is repaired. Of stale segments, of new sides and of free slots nothing is said: their locks may be taken, records
 -- may stand there that others own, a key may stand twice, and notes may be wrong
-pub record BeginsMoving (site : Site) (start : Words) (world : World) : Type 0 where
+pub record Begins (site : Ground) (start : Words) (world : World) : Type 0 where
   pub restarted : IsRestarted site start world
   pub repaired : (s : ℕ) → IsCurrentIn site world.words s → IsRepaired site world.words s
 
 -- SO BEGINS what holds while the structure moves
-abbrev pub RestartsBeginMoving : Type 0
-RestartsBeginMoving = (site : Site) (start : Words) (world : World) → BeginsMoving site start world → HoldsMoving site world.words world.views
+abbrev pub RestartsBegin : Type 0
+RestartsBegin = (site : Ground) (start : Words) (world : World) → Begins site start world → Holds site world.words world.views
 
 -- ---- of an image that was cut, the restart raises the version
 -- no header has a version above that of the image before, and the image's version is above that one
-pub record IsRaised (site : Site) (before words : Words) : Type 0 where
+pub record IsRaised (site : Ground) (before words : Words) : Type 0 where
   pub past : (s : ℕ) → s < site.shape.segments → VersionIsPast (frame_of site.shape before) s
   pub headers : (s : ℕ) → s < site.shape.segments → words (header_word site.shape s) ≡ before (header_word site.shape s)
   pub raised : image_version (frame_of site.shape before) < version_of site
 
 -- A RAISED VERSION leaves no segment current
 abbrev pub RaisedVersionsLeaveNoneCurrent : Type 0
-RaisedVersionsLeaveNoneCurrent = (site : Site) (before words : Words) → IsRaised site before words → (s : ℕ) → IsCurrentIn site words s → ⊥
+RaisedVersionsLeaveNoneCurrent = (site : Ground) (before words : Words) → IsRaised site before words → (s : ℕ) → IsCurrentIn site words s → ⊥
 
 -- so a restarted world begins whatever its segments have
 abbrev pub RaisedVersionsBegin : Type 0
-RaisedVersionsBegin = (site : Site) (start before : Words) (world : World) → IsRestarted site start world → IsRaised site before world.words → BeginsMoving site start world
+RaisedVersionsBegin = (site : Ground) (start before : Words) (world : World) → IsRestarted site start world → IsRaised site before world.words → Begins site start world
 
 -- ---- of one that was closed
--- where no structure moves yet a restart leaves no less, if its current segments are NORMAL and nobody has a guard
-abbrev pub BeginsBeginMoving : Type 0
-BeginsBeginMoving = (site : Site) (start : Words) (world : World) → Begins site start world
-    → ((s : ℕ) → IsCurrentIn site world.words s → state_at (frame_of site.shape world.words) s ≡ normal)
-    → ((i : ℕ) → words_of site.shape ≤ i → i < all_words_of site.shape → world.words i ≡ 0) → BeginsMoving site start world

@@ -6,7 +6,7 @@ use Rattle.image_layout.specs.Places.{Shape, block, root_word, words_of, bucket_
 use Rattle.sound_image.specs.Segments.{Frame, frame_of, state_at, depth_at, pattern_at}
 use Rattle.segment_table.specs.Claims.{HasSoundFrame}
 use Rattle.frame_facts.specs.Facts.{IsLiveSlot}
-use Rattle.world.specs.Site.{Site, IsSite, version_of, IsCurrentIn}
+use Rattle.world.specs.Ground.{Ground, IsGround, version_of, IsCurrentIn}
 use Rattle.world.specs.Views.{View, Has, At, HasLock, IsGuarded}
 use Rattle.world.specs.Media.{MayLeave, IsPossible}
 use Rattle.world.specs.areas.Areas.{Area, Segment, Stale, Side, Free, Whole, Allocation, Directory, header_word, InArea}
@@ -30,7 +30,7 @@ pub record IsGuardedSide (frame : Frame) (areas : List Area) (n : ℕ) : Type 0 
   pub depth : depth_at frame n ≡ depth_at frame parent + 1
   pub pattern : pattern_at frame n ≡ 2 * pattern_at frame parent + 1
 
-module _ (site : Site) (words : Words) (views : List View) where
+module _ (site : Ground) (words : Words) (views : List View) where
   -- the segment of a slot lives in whatever a cut may leave
   abbrev pub LivesOn : ℕ → Type 0
   LivesOn s = (medium : Words) → IsPossible site words views medium → IsLiveSlot (frame_of site.shape medium) s
@@ -69,16 +69,16 @@ module _ (site : Site) (words : Words) (views : List View) where
 
   -- what it rests on of the other parts: the newest words have a sound structure, and one view holds a lock
   pub record HasGrounds : Type 0 where
-    pub site_is : IsSite site
+    pub site_is : IsGround site
     pub sound : HasSoundFrame site.shape words
     pub alone : (i j : ℕ) (u v : View) (lock x y : ℕ) → At views i u → At views j v → Has (lock, x) u.held → Has (lock, y) v.held → i ≡ j
 
 -- A WORD HAS ONE HOLDER
 abbrev pub OneHolder : Type 0
-OneHolder = (site : Site) (words : Words) (views : List View) → HasGrounds site words views → Fits site words views
+OneHolder = (site : Ground) (words : Words) (views : List View) → HasGrounds site words views → Fits site words views
     → (i j n : ℕ) (u v : View) → At views i u → At views j v → HoldsWord site.shape u n → HoldsWord site.shape v n → i ≡ j
 
 -- A HELD WORD is one of the image, and of the first words the root alone: all others are as the restart left them
 abbrev pub HeldWordsAreNear : Type 0
-HeldWordsAreNear = (site : Site) (words : Words) (views : List View) → Fits site words views → (j : ℕ) (v : View) (i : ℕ) → At views j v → HoldsWord site.shape v i
+HeldWordsAreNear = (site : Ground) (words : Words) (views : List View) → Fits site words views → (j : ℕ) (v : View) (i : ℕ) → At views j v → HoldsWord site.shape v i
     → (i < words_of site.shape) × (i < block → i ≡ root_word)

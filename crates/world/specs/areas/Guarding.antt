@@ -3,7 +3,7 @@ use Rattle.std.specs.Prelude.{◌≡◌, ◌≢◌, ℕ, ◌∷◌, List, set}
 use Rattle.trace.specs.Events.{Words, with_word}
 use Rattle.image_layout.specs.Places.{Shape}
 use Rattle.image_layout.specs.Volatile.{allocation_guard, directory_guard, segment_guard}
-use Rattle.world.specs.Site.{Site}
+use Rattle.world.specs.Ground.{Ground}
 use Rattle.world.specs.Views.{View, Has, At}
 use Rattle.world.specs.areas.Areas.{Area, Segment, Stale, Side, Free, Whole, Allocation, Directory}
 use Rattle.world.specs.areas.Fitting.{Fits}
@@ -20,25 +20,25 @@ IsGuardOf shape Allocation i = i ≡ allocation_guard shape
 IsGuardOf shape Directory i = i ≡ directory_guard shape
 
 -- GUARDS: who has a guard, its word is not 0
-pub record Guards (site : Site) (words : Words) (views : List View) : Type 0 where
+pub record Guards (site : Ground) (words : Words) (views : List View) : Type 0 where
   pub taken : (j : ℕ) (v : View) (a : Area) (i : ℕ) → At views j v → Has a v.areas → IsGuardOf site.shape a i → words i ≢ 0
 
 -- SO A GUARD WHOSE WORD IS 0 is nobody's, and an exchange from 0 wins it
 abbrev pub FreeGuardsAreNobodys : Type 0
-FreeGuardsAreNobodys = (site : Site) (words : Words) (views : List View) (a : Area) (i : ℕ) → Guards site words views → IsGuardOf site.shape a i → words i ≡ 0 → NobodyHas site words views a
+FreeGuardsAreNobodys = (site : Ground) (words : Words) (views : List View) (a : Area) (i : ℕ) → Guards site words views → IsGuardOf site.shape a i → words i ≡ 0 → NobodyHas site words views a
 
 -- the store that takes a guard keeps it
 abbrev pub TakenGuardsAreKept : Type 0
-TakenGuardsAreKept = (site : Site) (words : Words) (views : List View) (j : ℕ) (v w : View) (a : Area) (i x : ℕ) → At views j v → Guards site words views
+TakenGuardsAreKept = (site : Ground) (words : Words) (views : List View) (j : ℕ) (v w : View) (a : Area) (i x : ℕ) → At views j v → Guards site words views
     → IsGuardOf site.shape a i → x ≢ 0 → w.areas ≡ a ∷ v.areas → Guards site (with_word words i x) (set views j w)
 
 -- so does the one that gives a guard back, with which its holder has it no more
 abbrev pub GivenGuardsAreKept : Type 0
-GivenGuardsAreKept = (site : Site) (words : Words) (views : List View) (j : ℕ) (v w : View) (a : Area) (i : ℕ) → At views j v → Fits site words views → Guards site words views
+GivenGuardsAreKept = (site : Ground) (words : Words) (views : List View) (j : ℕ) (v w : View) (a : Area) (i : ℕ) → At views j v → Fits site words views → Guards site words views
     → IsGuardOf site.shape a i → Has a v.areas → ((b : Area) → Has b w.areas → Has b v.areas) → (Has a w.areas → ⊥) → Guards site (with_word words i 0) (set views j w)
 
 -- and a store to any other word, with which no guard comes to the view
 abbrev pub OtherGuardsAreKept : Type 0
-OtherGuardsAreKept = (site : Site) (words : Words) (views : List View) (j : ℕ) (v w : View) (i x : ℕ) → At views j v → Guards site words views
+OtherGuardsAreKept = (site : Ground) (words : Words) (views : List View) (j : ℕ) (v w : View) (i x : ℕ) → At views j v → Guards site words views
     → ((a : Area) → IsGuardOf site.shape a i → ⊥) → ((a : Area) (n : ℕ) → Has a w.areas → IsGuardOf site.shape a n → Has a v.areas)
     → Guards site (with_word words i x) (set views j w)

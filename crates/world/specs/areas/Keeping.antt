@@ -5,33 +5,33 @@ use Rattle.image_layout.specs.Volatile.{power_word}
 use Rattle.bucket_words.specs.Core.{core}
 use Rattle.bucket_words.specs.Hits.{find}
 use Rattle.frame_facts.specs.Facts.{Fact, HoldsFact}
-use Rattle.world.specs.Site.{Site, version_of, IsStructured, IsSpentLock}
+use Rattle.world.specs.Ground.{Ground, version_of, IsStructured, IsSpentLock}
 use Rattle.world.specs.Views.{View, Has, At}
 use Rattle.world.specs.Wants.{word_of, words_after}
 use Rattle.world.specs.History.{Log}
 use Rattle.world.specs.Media.{IsPossible}
-use Rattle.world.specs.Invariant.{Locks, Plans, History, Room, Spending, Powered, IsPinned}
+use Rattle.world.specs.Parts.{Locks, Plans, History, Room, Spending, Powered, IsPinned}
+use Rattle.world.specs.Invariant.{Structure, KnownWords, Records, Overflow, Media, Notes, Holds}
 use Rattle.world.specs.areas.Fitting.{Fits}
 use Rattle.world.specs.areas.Lasting.{Owners, Lasting}
 use Rattle.world.specs.areas.Saying.{MaySay}
-use Rattle.world.specs.areas.Kinds.{Guard, guard_word, area_of, StructureKind, wanted_at, view_then}
+use Rattle.world.specs.areas.Kinds.{Guard, guard_word, HasGuard, area_of, StructureKind, wanted_at, view_then}
 use Rattle.world.specs.areas.Asking.{MayBeNewest, MayStandBeside, MayAt}
-use Rattle.world.specs.areas.Holding.{StructureMoves, HeldWords, WatchedRecords, WatchedNotes, MovingMedia, MovingNotes, HoldsMoving}
 
 -- the medium of the cores of one that may be left that has the newest words wherever it has their cores: cores decide what a medium is, and a
 -- view knows words whole
-abbrev pub whole_beside : Site → Words → Words → Words
+abbrev pub whole_beside : Ground → Words → Words → Words
 whole_beside site words medium i = if core site.shape medium i == core site.shape words i then words i else medium i
 
 -- WHAT A VIEW CAN KNOW is so: the newest words may be the newest; they may stand beside themselves; and so may each medium that a cut may
 -- leave, with whole words
 pub record KnownIsSo : Type 0 where
-  pub newest : (site : Site) (words : Words) (views : List View) (j : ℕ) (v : View) → HoldsMoving site words views → At views j v → MayBeNewest site v words
-  pub beside : (site : Site) (words medium : Words) (views : List View) (j : ℕ) (v : View) → HoldsMoving site words views → At views j v → IsPossible site words views medium
+  pub newest : (site : Ground) (words : Words) (views : List View) (j : ℕ) (v : View) → Holds site words views → At views j v → MayBeNewest site v words
+  pub beside : (site : Ground) (words medium : Words) (views : List View) (j : ℕ) (v : View) → Holds site words views → At views j v → IsPossible site words views medium
       → MayStandBeside site v words (whole_beside site words medium)
-  pub itself : (site : Site) (words : Words) (views : List View) (j : ℕ) (v : View) → HoldsMoving site words views → At views j v → MayStandBeside site v words words
+  pub itself : (site : Ground) (words : Words) (views : List View) (j : ℕ) (v : View) → Holds site words views → At views j v → MayStandBeside site v words words
 
-module _ (site : Site) (kind : StructureKind) where
+module _ (site : Ground) (kind : StructureKind) where
   -- the word that a step finds, and the words after it
   abbrev pub found_at : Words → ℕ
   found_at words = words (word_of site.shape (wanted_at site.shape kind))
@@ -44,12 +44,12 @@ module _ (site : Site) (kind : StructureKind) where
   views_then j v words views = set views j (view_then site.shape kind (found_at words) v)
 
 -- a step keeps a part, by its condition on the view of who takes it; no such step adds to the history
-abbrev pub KeepsPart : ((site : Site) → Words → List View → Log → Type 0) → Type 0
-KeepsPart Part = (site : Site) (kind : StructureKind) (words : Words) (views : List View) (j : ℕ) (v : View) (h : HoldsMoving site words views) → At views j v → MayAt site kind v
+abbrev pub KeepsPart : ((site : Ground) → Words → List View → Log → Type 0) → Type 0
+KeepsPart Part = (site : Ground) (kind : StructureKind) (words : Words) (views : List View) (j : ℕ) (v : View) (h : Holds site words views) → At views j v → MayAt site kind v
     → Part site (words_then site kind j words) (views_then site kind j v words views) h.log
 
 abbrev pub KeepsStructure : Type 0
-KeepsStructure = KeepsPart (λ site words views log. StructureMoves site words views)
+KeepsStructure = KeepsPart (λ site words views log. Structure site words views)
 
 -- of the structure: that it is sound in whatever a cut may leave, and that facts hold
 abbrev pub KeepsSound : Type 0
@@ -67,6 +67,11 @@ KeepsAreas = KeepsPart (λ site words views log. Fits site words views × Owners
 abbrev pub KeepsGuards : Type 0
 KeepsGuards = KeepsPart (λ site words views log. (c : ℕ) (u : View) (guard : Guard) → At views c u → Has (area_of guard) u.areas → words (guard_word site.shape guard) ≢ 0)
 
+-- that a guard whose word is not 0 is had by some view
+abbrev pub KeepsHeldGuards : Type 0
+KeepsHeldGuards = KeepsPart (λ site words views log. (guard : Guard) → HasGuard site.shape guard → words (guard_word site.shape guard) ≢ 0
+    → (c : ℕ) × (u : View) × At views c u × Has (area_of guard) u.areas)
+
 -- that a view may say its facts
 abbrev pub KeepsSayers : Type 0
 KeepsSayers = KeepsPart (λ site words views log. (c : ℕ) (u : View) (fact : Fact) → At views c u → Has fact u.facts → MaySay u.areas fact)
@@ -79,42 +84,42 @@ abbrev pub KeepsLocks : Type 0
 KeepsLocks = KeepsPart (λ site words views log. Locks site words views)
 
 abbrev pub KeepsHeldWords : Type 0
-KeepsHeldWords = KeepsPart (λ site words views log. HeldWords site words views)
+KeepsHeldWords = KeepsPart (λ site words views log. KnownWords site words views)
 
 abbrev pub KeepsRecords : Type 0
-KeepsRecords = KeepsPart (λ site words views log. WatchedRecords site words views)
+KeepsRecords = KeepsPart (λ site words views log. Records site words views)
 
 abbrev pub KeepsNotesOfHomes : Type 0
-KeepsNotesOfHomes = KeepsPart (λ site words views log. WatchedNotes site words views)
+KeepsNotesOfHomes = KeepsPart (λ site words views log. Overflow site words views)
 
 abbrev pub KeepsMedia : Type 0
-KeepsMedia = KeepsPart (λ site words views log. MovingMedia site words views log)
+KeepsMedia = KeepsPart (λ site words views log. Media site words views log)
 
 -- the parts of which no such step changes much
 pub record KeepsOthers : Type 0 where
   pub plans : KeepsPart (λ site words views log. Plans site words views log)
   pub history : KeepsPart (λ site words views log. History site words views log)
-  pub notes : KeepsPart (λ site words views log. MovingNotes site words views log)
+  pub notes : KeepsPart (λ site words views log. Notes site words views log)
   pub room : KeepsPart (λ site words views log. Room site views log)
   pub spending : KeepsPart (λ site words views log. Spending site words views log)
   pub powered : KeepsPart (λ site words views log. Powered site words views)
 
 -- EACH KIND OF STEP at the structure keeps what holds while it moves, with the same history
 abbrev pub KeepsHolding : Type 0
-KeepsHolding = (site : Site) (kind : StructureKind) (words : Words) (views : List View) (j : ℕ) (v : View) (h : HoldsMoving site words views) → At views j v → MayAt site kind v
-    → (after : HoldsMoving site (words_then site kind j words) (views_then site kind j v words views)) × (after.log ≡ h.log)
+KeepsHolding = (site : Ground) (kind : StructureKind) (words : Words) (views : List View) (j : ℕ) (v : View) (h : Holds site words views) → At views j v → MayAt site kind v
+    → (after : Holds site (words_then site kind j words) (views_then site kind j v words views)) × (after.log ≡ h.log)
 
--- AND IT LEAVES what each key has, the power word, and each lock word that is free with the last version
+-- AND IT LEAVES what each key has, the power word, and each lock word of a live segment that is free with the last version
 pub record StructureStepsSpare : Type 0 where
-  pub pairs : (site : Site) (kind : StructureKind) (words : Words) (views : List View) (j : ℕ) (v : View) → HoldsMoving site words views → At views j v → MayAt site kind v
+  pub pairs : (site : Ground) (kind : StructureKind) (words : Words) (views : List View) (j : ℕ) (v : View) → Holds site words views → At views j v → MayAt site kind v
       → (k : ℕ) → find site.shape (words_then site kind j words) k ≡ find site.shape words k
-  pub power : (site : Site) (kind : StructureKind) (words : Words) (views : List View) (j : ℕ) (v : View) → HoldsMoving site words views → At views j v → MayAt site kind v
+  pub power : (site : Ground) (kind : StructureKind) (words : Words) (views : List View) (j : ℕ) (v : View) → Holds site words views → At views j v → MayAt site kind v
       → words_then site kind j words (power_word site.shape) ≡ words (power_word site.shape)
-  pub spent : (site : Site) (kind : StructureKind) (words : Words) (views : List View) (j : ℕ) (v : View) → HoldsMoving site words views → At views j v → MayAt site kind v
+  pub spent : (site : Ground) (kind : StructureKind) (words : Words) (views : List View) (j : ℕ) (v : View) → Holds site words views → At views j v → MayAt site kind v
       → (lock : ℕ) → IsSpentLock site.shape words lock → IsSpentLock site.shape (words_then site kind j words) lock
 
 -- and what its caller has replied and seen, and for how many callers it stands
 pub record StructureStepsReplyNothing : Type 0 where
-  pub own : (site : Site) (kind : StructureKind) (words : Words) (v : View) → (view_then site.shape kind (found_at site kind words) v).own ≡ v.own
-  pub seen : (site : Site) (kind : StructureKind) (words : Words) (v : View) → (view_then site.shape kind (found_at site kind words) v).seen ≡ v.seen
-  pub callers : (site : Site) (kind : StructureKind) (words : Words) (v : View) → (view_then site.shape kind (found_at site kind words) v).callers ≡ v.callers
+  pub own : (site : Ground) (kind : StructureKind) (words : Words) (v : View) → (view_then site.shape kind (found_at site kind words) v).own ≡ v.own
+  pub seen : (site : Ground) (kind : StructureKind) (words : Words) (v : View) → (view_then site.shape kind (found_at site kind words) v).seen ≡ v.seen
+  pub callers : (site : Ground) (kind : StructureKind) (words : Words) (v : View) → (view_then site.shape kind (found_at site kind words) v).callers ≡ v.callers

@@ -1,6 +1,6 @@
 -- The kinds of step at the structure: guards, headers, links, the root, entries, and the words of slots that nobody else touches. For
--- each: which event it is, and what the stepping view becomes. No machine takes them yet.
-use Rattle.std.specs.Prelude.{◌==◌, ◌&&◌, ◌||◌, not, ℕ, suc, ◌+◌, ◌*◌, nat_lt, nat_le, Bool, true, false, List, [], ◌∷◌, ◌++◌, filter}
+-- each: which event it is, and what the stepping view becomes. No kind of calls is among them.
+use Rattle.std.specs.Prelude.{◌==◌, ◌&&◌, ◌||◌, not, ℕ, suc, ◌+◌, ◌*◌, ◌<◌, nat_lt, nat_le, Bool, true, false, List, [], ◌∷◌, ◌++◌, filter, ⊤}
 use Rattle.op_core.specs.declared.want.Want.{Want}
 use Rattle.op_core.specs.declared.want.Want.TheVariants.{Load, Store, Exchange, Fence}
 use Rattle.segment_head.specs.HeadWord.{version_in, state_in, depth_in, pattern_in, free, fresh}
@@ -21,11 +21,16 @@ pub data Guard : Type 0 where
   of_free_slots : Guard
   of_directory : Guard
 
--- the word of a guard: 0 where nobody has it, and else the number of its caller
+-- the word of a guard: 0 where nobody has it, and else a number that its holder stored
 abbrev pub guard_word : Shape → Guard → ℕ
 guard_word shape (of_segment s) = segment_guard shape s
 guard_word shape of_free_slots = allocation_guard shape
 guard_word shape of_directory = directory_guard shape
+
+-- there is such a guard: one for each slot, that of free slots and that of the directory
+abbrev pub HasGuard : Shape → Guard → Type 0
+HasGuard shape (of_segment s) = s < shape.segments
+HasGuard shape guard = ⊤
 
 -- the area that comes with it
 abbrev pub area_of : Guard → Area
@@ -47,8 +52,8 @@ pub data StructureKind : Type 0 where
   gives : (guard : Guard) → StructureKind
   -- a load of the header of a segment whose guard is held: it has not this version, the image's, or it has
   finds_stale : (slot version : ℕ) → StructureKind
-  -- a load of the header of a current segment whose guard and all locks are held: it is whole
-  finds_whole : (slot : ℕ) → StructureKind
+  -- a load of a held word by who has the guard and all locks of a current segment: from then on the segment is whole
+  closes : (slot word : ℕ) → StructureKind
   -- a load of the header of a slot under the guard of free slots: it is free, or not
   finds_free : (slot : ℕ) → StructureKind
   -- a load of the header of the slot that a stale segment of this depth and pattern has linked: it is the new side, or not
@@ -71,7 +76,7 @@ abbrev pub wanted_at : Shape → StructureKind → Want
 wanted_at shape (takes guard caller) = Exchange (guard_word shape guard) 0 caller
 wanted_at shape (gives guard) = Store (guard_word shape guard) 0
 wanted_at shape (finds_stale s version) = Load (header_word shape s)
-wanted_at shape (finds_whole s) = Load (header_word shape s)
+wanted_at shape (closes s i) = Load i
 wanted_at shape (finds_free n) = Load (header_word shape n)
 wanted_at shape (finds_side p n depth pattern) = Load (header_word shape n)
 wanted_at shape (reads i) = Load i
@@ -149,7 +154,7 @@ view_then shape (takes guard caller) n v = with_guard (n == 0) guard v
 view_then shape (gives guard) n v =
     record v { areas = all_but (goes_with guard) v.areas; facts = facts_without guard v.facts; known = known_without shape guard v.areas v.known }
 view_then shape (finds_stale s version) n v = with_area (not (version_in n == version)) (Stale s) (header_word shape s) n v
-view_then shape (finds_whole s) n v = with_area true (Whole s) (header_word shape s) n v
+view_then shape (closes s i) n v = with_area true (Whole s) i n v
 view_then shape (finds_free m) n v = with_area (state_in n == free) (Free m) (header_word shape m) n v
 view_then shape (finds_side p m depth pattern) n v = with_area (is_new_side depth pattern n) (Side m) (header_word shape m) n v
 view_then shape (reads i) n v = record v { known = (i, n) ∷ v.known }

@@ -9,19 +9,19 @@ use Rattle.segment_table.specs.Media.{IsSteady}
 use Rattle.segment_table.specs.Stores.{GoesOn}
 use Rattle.bucket_words.specs.Owners.{owner_of}
 use Rattle.frame_facts.specs.Facts.{IsLiveSlot}
-use Rattle.world.specs.Site.{Site}
+use Rattle.world.specs.Ground.{Ground}
 use Rattle.world.specs.Views.{View, Has, At, HasLock}
 use Rattle.world.specs.Media.{IsPossible}
 use Rattle.world.specs.areas.Areas.{Area, Side, header_word, is_side_at, all_but}
 use Rattle.world.specs.areas.Fitting.{LivesOn, Fits, HasGrounds}
 use Rattle.world.specs.areas.Rows.{Row, IsRow, IsRowIn, HasForRow, areas_by, HasStored}
-use Rattle.world.specs.areas.Spared.{HasFenced, LooseIsHeld, Change, SparesAreas}
+use Rattle.world.specs.areas.Spared.{HasFenced, LooseIsHeld, AreaChange, SparesAreas}
 
 -- some view has a slot as a side that is not settled
 abbrev pub IsHeldSide : List View → ℕ → Type 0
 IsHeldSide views n = (j : ℕ) × (v : View) × At views j v × Has (Side n) v.areas
 
-module _ (site : Site) (words : Words) (views : List View) where
+module _ (site : Ground) (words : Words) (views : List View) where
   -- OWNERS: in whatever a cut may leave a hash has the owner that it has now, or it is now owned by a side that is not settled
   pub record Owners : Type 0 where
     pub same : (medium : Words) → IsPossible site words views medium → (h : ℕ) → (owner_of site.shape medium h ≡ owner_of site.shape words h)
@@ -39,52 +39,52 @@ module _ (site : Site) (words : Words) (views : List View) where
 
 -- THE OWNER IN EACH MEDIUM, of a segment that lives on: so for who holds one of its locks
 abbrev pub OwnersLast : Type 0
-OwnersLast = (site : Site) (words : Words) (views : List View) → Fits site words views → Owners site words views
+OwnersLast = (site : Ground) (words : Words) (views : List View) → Fits site words views → Owners site words views
     → (s h : ℕ) → LivesOn site words views s → owner_of site.shape words h ≡ Some s → (medium : Words) → IsPossible site words views medium
     → owner_of site.shape medium h ≡ Some s
 
 abbrev pub LockedOwnersLast : Type 0
-LockedOwnersLast = (site : Site) (words : Words) (views : List View) → Fits site words views → Owners site words views
+LockedOwnersLast = (site : Ground) (words : Words) (views : List View) → Fits site words views → Owners site words views
     → (j : ℕ) (v : View) (s b h : ℕ) → At views j v → b < buckets → HasLock v.held (bucket_at site.shape s b) → owner_of site.shape words h ≡ Some s
     → (medium : Words) → IsPossible site words views medium → owner_of site.shape medium h ≡ Some s
 
 -- ---- what rows keep
 -- a frame that is sound, each of whose live segments stays so: of the newest words and of each medium in which a row is such a store
 abbrev pub RowsKeepFrames : Type 0
-RowsKeepFrames = (site : Site) (words medium : Words) (views : List View) (row : Row) (s x : ℕ) → HasGrounds site words views → HasSoundFrame site.shape medium → IsRow site medium row s x
+RowsKeepFrames = (site : Ground) (words medium : Words) (views : List View) (row : Row) (s x : ℕ) → HasGrounds site words views → HasSoundFrame site.shape medium → IsRow site medium row s x
     → GoesOn site.shape.depth (frame_of site.shape medium) (frame_of site.shape (with_word medium (header_word site.shape s) x))
 
 -- owners: what a row must find it finds in each medium
 abbrev pub RowsKeepOwners : Type 0
-RowsKeepOwners = (site : Site) (words : Words) (views : List View) (j : ℕ) (v w : View) (row : Row) (s x : ℕ) → HasGrounds site words views → AreSoundMedia site words views
+RowsKeepOwners = (site : Ground) (words : Words) (views : List View) (j : ℕ) (v w : View) (row : Row) (s x : ℕ) → HasGrounds site words views → AreSoundMedia site words views
     → At views j v → IsRow site words row s x → ((medium : Words) → IsPossible site words views medium → IsRowIn site medium row s x) → HasForRow site words row s v.areas
     → HasStored site.shape (header_word site.shape s) (words (header_word site.shape s)) x (areas_by row s v.areas) v w
     → Owners site words views → Owners site (with_word words (header_word site.shape s) x) (set views j w)
 
 abbrev pub RowsKeepLasting : Type 0
-RowsKeepLasting = (site : Site) (words : Words) (views : List View) (j : ℕ) (v w : View) (row : Row) (s x : ℕ) → HasGrounds site words views → Fits site words views
+RowsKeepLasting = (site : Ground) (words : Words) (views : List View) (j : ℕ) (v w : View) (row : Row) (s x : ℕ) → HasGrounds site words views → Fits site words views
     → At views j v → IsRow site words row s x → HasForRow site words row s v.areas
     → HasStored site.shape (header_word site.shape s) (words (header_word site.shape s)) x (areas_by row s v.areas) v w
     → Lasting site words views → Lasting site (with_word words (header_word site.shape s) x) (set views j w)
 
 -- ---- what other steps keep
 abbrev pub OtherStoresKeepLasting : Type 0
-OtherStoresKeepLasting = (site : Site) (words : Words) (views : List View) (j : ℕ) (v w : View) (i x : ℕ) → At views j v → i < words_of site.shape
+OtherStoresKeepLasting = (site : Ground) (words : Words) (views : List View) (j : ℕ) (v w : View) (i x : ℕ) → At views j v → i < words_of site.shape
     → ((s : ℕ) → s < site.shape.segments → i ≢ header_word site.shape s) → HasStored site.shape i (words i) x v.areas v w
     → (Owners site words views → Owners site (with_word words i x) (set views j w)) × (Lasting site words views → Lasting site (with_word words i x) (set views j w))
 
 abbrev pub SparingStepsKeepLasting : Type 0
-SparingStepsKeepLasting = (site : Site) (words later : Words) (views : List View) (j : ℕ) (v w : View) (change : Change) → At views j v
+SparingStepsKeepLasting = (site : Ground) (words later : Words) (views : List View) (j : ℕ) (v w : View) (change : AreaChange) → At views j v
     → SparesAreas site words views later change v w
     → (Owners site words views → Owners site later (set views j w)) × (Lasting site words views → Lasting site later (set views j w))
 
 -- a fence gives up nothing, or a side whose newest header is NORMAL and was flushed
-abbrev pub GivesUp : Site → Words → View → List Area → Type 0
+abbrev pub GivesUp : Ground → Words → View → List Area → Type 0
 GivesUp site words v areas = (areas ≡ v.areas)
     ⊎ ((n : ℕ) × (areas ≡ all_but (is_side_at n) v.areas) × Has (Side n) v.areas × (state_at (frame_of site.shape words) n ≡ normal)
     × ((y : ℕ) → Has (header_word site.shape n, y) v.dirty → ⊥))
 
 abbrev pub FencesKeepLasting : Type 0
-FencesKeepLasting = (site : Site) (words : Words) (views : List View) (j : ℕ) (v w : View) (areas : List Area) → HasGrounds site words views → Fits site words views
+FencesKeepLasting = (site : Ground) (words : Words) (views : List View) (j : ℕ) (v w : View) (areas : List Area) → HasGrounds site words views → Fits site words views
     → AreSoundMedia site words views → At views j v → LooseIsHeld site.shape views → GivesUp site words v areas → HasFenced areas v w
     → (Owners site words views → Owners site words (set views j w)) × (Lasting site words views → Lasting site words (set views j w))

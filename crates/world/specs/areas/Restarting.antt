@@ -8,12 +8,12 @@ use Rattle.image_layout.specs.Places.{Shape, root_word, state_word, words_of}
 use Rattle.sound_image.specs.Segments.{frame_of, image_version, IsClean}
 use Rattle.sound_image.specs.Image.{IsSoundImage}
 use Rattle.bucket_words.specs.Hits.{find}
-use Rattle.world.specs.Site.{Site}
+use Rattle.world.specs.Ground.{Ground}
 use Rattle.world.specs.Views.{View, At}
-use Rattle.world.specs.Invariant.{total}
+use Rattle.world.specs.Parts.{total}
 use Rattle.world.specs.World.{World, fresh_view}
 use Rattle.world.specs.areas.Areas.{header_word}
-use Rattle.world.specs.areas.Beginning.{BeginsMoving}
+use Rattle.world.specs.areas.Beginning.{Begins}
 
 -- two headers differ in the version byte at most
 pub record SameButVersion (x y : ℕ) : Type 0 where
@@ -40,7 +40,7 @@ module _ (shape : Shape) (image words : Words) where
 
 -- THE WORLD IS THAT OF A RESTART of an image: all words are settled, each key starts with what it has in the image, and nobody has done
 -- anything
-pub record IsRestartOf (site : Site) (image : List ℕ) (world : World) : Type 0 where
+pub record IsRestartOf (site : Ground) (image : List ℕ) (world : World) : Type 0 where
   pub sound : IsSoundImage site.shape image
   pub few : site.callers < 2 ^ 32
   pub words_are : world.words ≡ value (slice_index image) world.trace
@@ -53,4 +53,4 @@ pub record IsRestartOf (site : Site) (image : List ℕ) (world : World) : Type 0
 
 -- A RESTART OF ANY SOUND IMAGE begins what holds while the structure moves
 abbrev pub SoundImagesBegin : Type 0
-SoundImagesBegin = (site : Site) (image : List ℕ) (world : World) → IsRestartOf site image world → BeginsMoving site (slice_index image) world
+SoundImagesBegin = (site : Ground) (image : List ℕ) (world : World) → IsRestartOf site image world → Begins site (slice_index image) world

@@ -6,7 +6,7 @@ use Rattle.image_layout.specs.Places.{Shape}
 use Rattle.sound_image.specs.Segments.{Frame, frame_of, state_at, depth_at, pattern_at}
 use Rattle.segment_table.specs.Stores.{TakesSlot, FreesSlot, BeginsSplit, GoesLive, EndsSplit, DropsSplit, Renews}
 use Rattle.bucket_words.specs.Owners.{HasStructure}
-use Rattle.world.specs.Site.{Site, version_of, IsCurrentIn}
+use Rattle.world.specs.Ground.{Ground, version_of, IsCurrentIn}
 use Rattle.world.specs.Views.{View, Has, At, HasLock}
 use Rattle.world.specs.Kinds.{loosened}
 use Rattle.world.specs.areas.Areas.{Area, Segment, Stale, Side, Free, Whole, Allocation, Directory, header_word, is_side_at, is_stale_at, all_but}
@@ -33,7 +33,7 @@ pub data Row : Type 0 where
 abbrev pub HasNoSides : List Area → Type 0
 HasNoSides areas = (n : ℕ) → Has (Side n) areas → ⊥
 
-module _ (site : Site) (words : Words) where
+module _ (site : Ground) (words : Words) where
   abbrev now : Frame
   now = frame_of site.shape words
 
@@ -70,7 +70,7 @@ module _ (site : Site) (words : Words) where
   HasForRow renews s areas = Has (Stale s) areas
 
 -- A ROW IN A MEDIUM: in one with the same structure, since a view knows words whole of which a medium has the cores alone
-abbrev pub IsRowIn : Site → Words → Row → ℕ → ℕ → Type 0
+abbrev pub IsRowIn : Ground → Words → Row → ℕ → ℕ → Type 0
 IsRowIn site medium row s x = (other : Words) × HasStructure site.shape medium other × IsRow site other row s x
 
 -- and which areas it has after: a slot that was free is a side, a side is free again, and a segment of the image's version is not
@@ -92,7 +92,7 @@ pub record HasStored (shape : Shape) (i old x : ℕ) (areas : List Area) (v w : 
   pub areas_are : w.areas ≡ areas
 
 -- WHAT IS SAID OF THE LOCKS AND AREAS of all views but that of one seat
-pub record OthersFit (site : Site) (words : Words) (views : List View) (j : ℕ) : Type 0 where
+pub record OthersFit (site : Ground) (words : Words) (views : List View) (j : ℕ) : Type 0 where
   pub lock : (c : ℕ) (u : View) (lock : ℕ) → c ≢ j → At views c u → HasLock u.held lock → IsLivingLock site words views lock
   pub segment : (c : ℕ) (u : View) (s : ℕ) → c ≢ j → At views c u → Has (Segment s) u.areas → LivesOn site words views s
   pub stale : (c : ℕ) (u : View) (s : ℕ) → c ≢ j → At views c u → Has (Stale s) u.areas → Has (Segment s) u.areas × (version_in (words (header_word site.shape s)) ≢ version_of site)
@@ -103,7 +103,7 @@ pub record OthersFit (site : Site) (words : Words) (views : List View) (j : ℕ)
 
 -- A STORE TO A HELD WORD spares all others, where no segment ceases to be current or to live on
 abbrev pub StoresSpareOthers : Type 0
-StoresSpareOthers = (site : Site) (words : Words) (views : List View) (j : ℕ) (v w : View) (i x : ℕ) → HasGrounds site words views → Fits site words views
+StoresSpareOthers = (site : Ground) (words : Words) (views : List View) (j : ℕ) (v w : View) (i x : ℕ) → HasGrounds site words views → Fits site words views
     → At views j v → HoldsWord site.shape v i → HasStored site.shape i (words i) x w.areas v w
     → ((s : ℕ) → IsCurrentIn site words s → IsCurrentIn site (with_word words i x) s)
     → ((s : ℕ) → LivesOn site words views s → LivesOn site (with_word words i x) (set views j w) s)
@@ -111,7 +111,7 @@ StoresSpareOthers = (site : Site) (words : Words) (views : List View) (j : ℕ) 
 
 -- A ROW keeps it
 abbrev pub RowsKeepFits : Type 0
-RowsKeepFits = (site : Site) (words : Words) (views : List View) (j : ℕ) (v w : View) (row : Row) (s x : ℕ) → HasGrounds site words views → Fits site words views
+RowsKeepFits = (site : Ground) (words : Words) (views : List View) (j : ℕ) (v w : View) (row : Row) (s x : ℕ) → HasGrounds site words views → Fits site words views
     → At views j v → IsRow site words row s x → HasForRow site words row s v.areas
     → HasStored site.shape (header_word site.shape s) (words (header_word site.shape s)) x (areas_by row s v.areas) v w
     → Fits site (with_word words (header_word site.shape s) x) (set views j w)

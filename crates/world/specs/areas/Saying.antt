@@ -5,17 +5,17 @@ use Rattle.image_layout.specs.Places.{words_of}
 use Rattle.bucket_words.specs.Owners.{HasStructure}
 use Rattle.frame_facts.specs.Facts.{Fact, Lives, Current, Rooted, Owns, Lacks, Deep, Begins, Used, HoldsFact}
 use Rattle.frame_facts.specs.Keeping.{KeepsFact}
-use Rattle.world.specs.Site.{Site, version_of}
+use Rattle.world.specs.Ground.{Ground, version_of}
 use Rattle.world.specs.Views.{View, Has, At}
 use Rattle.world.specs.Media.{IsPossible}
 use Rattle.world.specs.areas.Areas.{Area, Segment, Directory, header_word}
 use Rattle.world.specs.areas.Fitting.{Fits, HasGrounds}
 use Rattle.world.specs.areas.Rows.{Row, goes_live, IsRow, IsRowIn, HasForRow, areas_by, HasStored}
-use Rattle.world.specs.areas.Spared.{HasFenced, Change, SparesAreas}
+use Rattle.world.specs.areas.Spared.{HasFenced, AreaChange, SparesAreas}
 use Rattle.world.specs.areas.Lasting.{AreSoundMedia}
 
 -- a fact holds beside whatever a cut may leave
-abbrev pub IsSaid : Site → Words → List View → Fact → Type 0
+abbrev pub IsSaid : Ground → Words → List View → Fact → Type 0
 IsSaid site words views fact = (medium : Words) → IsPossible site words views medium → HoldsFact site.shape (version_of site) words fact medium
 
 -- who says that a segment claims hashes has its guard or that of the directory: these end its claims
@@ -30,28 +30,28 @@ MaySay areas (Begins s h) = ⊤
 MaySay areas (Used n) = ⊤
 
 -- FACTS: each holds beside whatever a cut may leave, and its view may say it
-pub record Saying (site : Site) (words : Words) (views : List View) : Type 0 where
+pub record Saying (site : Ground) (words : Words) (views : List View) : Type 0 where
   pub said : (j : ℕ) (v : View) (fact : Fact) → At views j v → Has fact v.facts → IsSaid site words views fact
   pub may : (j : ℕ) (v : View) (fact : Fact) → At views j v → Has fact v.facts → MaySay v.areas fact
 
 -- a store keeps a fact beside a medium, or one with the same structure
-abbrev pub KeepsFactIn : Site → Words → Words → ℕ → ℕ → Fact → Type 0
+abbrev pub KeepsFactIn : Ground → Words → Words → ℕ → ℕ → Fact → Type 0
 KeepsFactIn site words medium i x fact = (other : Words) × HasStructure site.shape medium other × KeepsFact site.shape (version_of site) words other i x fact
 
 -- A STORE keeps a fact said that it keeps beside each medium, where the structure stays sound in all
 abbrev pub StoresKeepSaid : Type 0
-StoresKeepSaid = (site : Site) (words : Words) (views : List View) (j : ℕ) (v w : View) (i x : ℕ) (fact : Fact) → HasGrounds site words views → AreSoundMedia site words views → At views j v
+StoresKeepSaid = (site : Ground) (words : Words) (views : List View) (j : ℕ) (v w : View) (i x : ℕ) (fact : Fact) → HasGrounds site words views → AreSoundMedia site words views → At views j v
     → i < words_of site.shape → HasStored site.shape i (words i) x w.areas v w → AreSoundMedia site (with_word words i x) (set views j w)
     → ((medium : Words) → IsPossible site words views medium → KeepsFactIn site words medium i x fact)
     → IsSaid site words views fact → IsSaid site (with_word words i x) (set views j w) fact
 
 -- so do a fence, and a step that leaves all cores
 abbrev pub FencesKeepSaid : Type 0
-FencesKeepSaid = (site : Site) (words : Words) (views : List View) (j : ℕ) (v w : View) (fact : Fact) → At views j v → HasFenced w.areas v w
+FencesKeepSaid = (site : Ground) (words : Words) (views : List View) (j : ℕ) (v w : View) (fact : Fact) → At views j v → HasFenced w.areas v w
     → IsSaid site words views fact → IsSaid site words (set views j w) fact
 
 abbrev pub SparingStepsKeepSaid : Type 0
-SparingStepsKeepSaid = (site : Site) (words later : Words) (views : List View) (j : ℕ) (v w : View) (change : Change) (fact : Fact) → HasGrounds site words views → AreSoundMedia site words views
+SparingStepsKeepSaid = (site : Ground) (words later : Words) (views : List View) (j : ℕ) (v w : View) (change : AreaChange) (fact : Fact) → HasGrounds site words views → AreSoundMedia site words views
     → At views j v → SparesAreas site words views later change v w → IsSaid site words views fact → IsSaid site later (set views j w) fact
 
 -- ---- rows
@@ -62,7 +62,7 @@ IsSpared row fact = ⊤
 
 -- A ROW keeps the facts of all views, but those that it may end, which its holder forgets
 abbrev pub RowsKeepSaying : Type 0
-RowsKeepSaying = (site : Site) (words : Words) (views : List View) (j : ℕ) (v w : View) (row : Row) (s x : ℕ) → HasGrounds site words views → Fits site words views
+RowsKeepSaying = (site : Ground) (words : Words) (views : List View) (j : ℕ) (v w : View) (row : Row) (s x : ℕ) → HasGrounds site words views → Fits site words views
     → AreSoundMedia site words views → At views j v → IsRow site words row s x → ((medium : Words) → IsPossible site words views medium → IsRowIn site medium row s x) → HasForRow site words row s v.areas
     → HasStored site.shape (header_word site.shape s) (words (header_word site.shape s)) x (areas_by row s v.areas) v w
     → ((fact : Fact) → Has fact w.facts → Has fact v.facts × IsSpared row fact)

@@ -5,7 +5,7 @@ use Rattle.segment_head.specs.HeadWord.{version_in, free, splitting, HasLiveStat
 use Rattle.image_layout.specs.Places.{Shape, words_of}
 use Rattle.sound_image.specs.Segments.{frame_of, state_at}
 use Rattle.bucket_words.specs.Core.{core}
-use Rattle.world.specs.Site.{Site, version_of, IsCurrentIn}
+use Rattle.world.specs.Ground.{Ground, version_of, IsCurrentIn}
 use Rattle.world.specs.Views.{View, Has, At, HasLock, IsLoose}
 use Rattle.world.specs.Media.{MayLeave}
 use Rattle.world.specs.areas.Areas.{Area, Segment, Stale, Side, Free, Whole, Allocation, Directory, header_word, is_side_at, is_whole_at, is_of_segment, is_of_allocation, is_of_directory, all_but}
@@ -14,7 +14,7 @@ use Rattle.world.specs.areas.Rows.{HasNoSides, HasStored}
 
 -- A STORE TO A WORD THAT IS NO HEADER keeps it, whoever holds the word: a link, the root, an entry, a word of a bucket
 abbrev pub OtherStoresKeepFits : Type 0
-OtherStoresKeepFits = (site : Site) (words : Words) (views : List View) (j : ℕ) (v w : View) (i x : ℕ) → Fits site words views → At views j v
+OtherStoresKeepFits = (site : Ground) (words : Words) (views : List View) (j : ℕ) (v w : View) (i x : ℕ) → Fits site words views → At views j v
     → i < words_of site.shape → ((s : ℕ) → s < site.shape.segments → i ≢ header_word site.shape s) → HasStored site.shape i (words i) x v.areas v w
     → Fits site (with_word words i x) (set views j w)
 
@@ -32,29 +32,29 @@ LooseIsHeld shape views = (c : ℕ) (u : View) (i x : ℕ) → At views c u → 
 -- A FENCE keeps it, where the newest header of each side that the stepper has after is not live; with the fence that settles the
 -- header of a side as a live one, the side is given up
 abbrev pub FencesKeepFits : Type 0
-FencesKeepFits = (site : Site) (words : Words) (views : List View) (j : ℕ) (v w : View) (areas : List Area) → HasGrounds site words views → Fits site words views
+FencesKeepFits = (site : Ground) (words : Words) (views : List View) (j : ℕ) (v w : View) (areas : List Area) → HasGrounds site words views → Fits site words views
     → At views j v → LooseIsHeld site.shape views → (areas ≡ v.areas) ⊎ ((n : ℕ) × (areas ≡ all_but (is_side_at n) v.areas)) → HasFenced areas v w
     → ((n : ℕ) → Has (Side n) w.areas → HasLiveState (words (header_word site.shape n)) → ⊥)
     → Fits site words (set views j w)
 
 -- WHAT A VIEW HAS NOT SETTLED may be left after any step of another: nobody's flush or fence settles it
 abbrev pub ForeignWordsAreSpared : Type 0
-ForeignWordsAreSpared = (site : Site) (later : Words) (views : List View) (j c : ℕ) (u w : View) (i x : ℕ) → At views c u → c ≢ j → IsLoose u (i, x)
+ForeignWordsAreSpared = (site : Ground) (later : Words) (views : List View) (j c : ℕ) (u w : View) (i x : ℕ) → At views c u → c ≢ j → IsLoose u (i, x)
     → MayLeave site later (set views j w) i x
 
 -- HOW THE AREAS OF A VIEW CHANGE where no header is stored and nothing is settled
-pub data Change : Type 0 where
-  stays : Change
+pub data AreaChange : Type 0 where
+  stays : AreaChange
   -- one more: a guard was taken, a header was found so, or the last lock of a guarded segment was taken
-  adds : (area : Area) → Change
+  adds : (area : Area) → AreaChange
   -- a segment is not whole any more
-  leaves : (slot : ℕ) → Change
+  leaves : (slot : ℕ) → AreaChange
   -- a guard is given back, with what hangs on it
-  gives_segment : (slot : ℕ) → Change
-  gives_allocation : Change
-  gives_directory : Change
+  gives_segment : (slot : ℕ) → AreaChange
+  gives_allocation : AreaChange
+  gives_directory : AreaChange
 
-abbrev pub areas_after : Change → List Area → List Area
+abbrev pub areas_after : AreaChange → List Area → List Area
 areas_after stays areas = areas
 areas_after (adds a) areas = a ∷ areas
 areas_after (leaves s) areas = all_but (is_whole_at s) areas
@@ -62,7 +62,7 @@ areas_after (gives_segment s) areas = all_but (is_of_segment s) areas
 areas_after gives_allocation areas = all_but is_of_allocation areas
 areas_after gives_directory areas = all_but is_of_directory areas
 
-module _ (site : Site) (words : Words) (views : List View) where
+module _ (site : Ground) (words : Words) (views : List View) where
   -- nobody has an area
   abbrev pub NobodyHas : Area → Type 0
   NobodyHas a = (c : ℕ) (u : View) → At views c u → Has a u.areas → ⊥
@@ -81,26 +81,26 @@ module _ (site : Site) (words : Words) (views : List View) where
   abbrev pub IsNotSplit : ℕ → Type 0
   IsNotSplit s = IsCurrentIn site words s → state_at (frame_of site.shape words) s ≡ splitting → ⊥
 
-  abbrev pub MayChange : Change → View → Type 0
-  MayChange stays v = ⊤
-  MayChange (adds a) v = MayAdd a v
-  MayChange (leaves s) v = IsNotSplit s
-  MayChange (gives_segment s) v = IsNotSplit s × HasNoSides v.areas
-  MayChange gives_allocation v = ⊤
-  MayChange gives_directory v = ⊤
+  abbrev pub AreasMayChange : AreaChange → View → Type 0
+  AreasMayChange stays v = ⊤
+  AreasMayChange (adds a) v = MayAdd a v
+  AreasMayChange (leaves s) v = IsNotSplit s
+  AreasMayChange (gives_segment s) v = IsNotSplit s × HasNoSides v.areas
+  AreasMayChange gives_allocation v = ⊤
+  AreasMayChange gives_directory v = ⊤
 
   -- a step leaves the cores of the image, and what is loose in the stepping view: so do loads, flushes, and stores to locks and guards. Each
   -- lock that it adds is of a living segment, and it takes none of a segment that the view goes on having whole
-  pub record SparesAreas (later : Words) (change : Change) (v w : View) : Type 0 where
+  pub record SparesAreas (later : Words) (change : AreaChange) (v w : View) : Type 0 where
     pub cores : (i : ℕ) → i < words_of site.shape → core site.shape later i ≡ core site.shape words i
     pub no_more : (p : ℕ × ℕ) → IsLoose w p → IsLoose v p
     pub no_less : (p : ℕ × ℕ) → IsLoose v p → IsLoose w p
     pub locks : (lock : ℕ) → HasLock w.held lock → HasLock v.held lock ⊎ IsLivingLock site words views lock
     pub wholes : (s : ℕ) → Has (Whole s) w.areas → HoldsAll site.shape v s → HoldsAll site.shape w s
     pub areas_are : w.areas ≡ areas_after change v.areas
-    pub may : MayChange change v
+    pub may : AreasMayChange change v
 
 -- SUCH A STEP keeps it
 abbrev pub SparingStepsKeepFits : Type 0
-SparingStepsKeepFits = (site : Site) (words later : Words) (views : List View) (j : ℕ) (v w : View) (change : Change) → Fits site words views → At views j v
+SparingStepsKeepFits = (site : Ground) (words later : Words) (views : List View) (j : ℕ) (v w : View) (change : AreaChange) → Fits site words views → At views j v
     → SparesAreas site words views later change v w → Fits site later (set views j w)

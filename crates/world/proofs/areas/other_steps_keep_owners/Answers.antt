@@ -1,4 +1,4 @@
-use Rattle.world.proofs.fitting.Lasting.{others_last, sparing_lasts, fences_last}
+use Rattle.world.proofs.fitting.lasting.Lasting.{others_last, sparing_lasts, fences_last}
 use Rattle.world.proofs.areas.other_steps_keep_owners.Goals as goal
 
 pub returns-clause-stores : goal.returns-clause-stores

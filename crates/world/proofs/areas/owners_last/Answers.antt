@@ -1,4 +1,4 @@
-use Rattle.world.proofs.fitting.Owning.{owners_last, locked_owners}
+use Rattle.world.proofs.fitting.lasting.Owning.{owners_last, locked_owners}
 use Rattle.world.proofs.areas.owners_last.Goals as goal
 
 pub returns-clause-living : goal.returns-clause-living

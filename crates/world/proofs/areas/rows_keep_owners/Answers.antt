@@ -1,5 +1,5 @@
-use Rattle.world.proofs.fitting.Owning.{rows_go_on, rows_keep_owners}
-use Rattle.world.proofs.fitting.Lasting.{rows_last}
+use Rattle.world.proofs.fitting.lasting.Owning.{rows_go_on, rows_keep_owners}
+use Rattle.world.proofs.fitting.lasting.Lasting.{rows_last}
 use Rattle.world.proofs.areas.rows_keep_owners.Goals as goal
 
 pub returns-clause-frames : goal.returns-clause-frames

@@ -1,4 +1,4 @@
-use Rattle.world.proofs.fitting.Saying.{stores_keep_said, fences_keep_said, sparing_keeps_said, rows_keep_saying}
+use Rattle.world.proofs.fitting.lasting.Saying.{stores_keep_said, fences_keep_said, sparing_keeps_said, rows_keep_saying}
 use Rattle.world.proofs.areas.said_stays.Goals as goal
 
 pub returns-clause-stores : goal.returns-clause-stores

@@ -1,4 +1,4 @@
-use Rattle.world.proofs.fitting.Seated.{cuts_keep_areas, joins_keep_areas}
+use Rattle.world.proofs.fitting.lasting.Seated.{cuts_keep_areas, joins_keep_areas}
 use Rattle.world.proofs.areas.seats_keep_areas.Goals as goal
 
 pub returns-clause-cuts : goal.returns-clause-cuts

@@ -1,4 +1,4 @@
-use Rattle.world.proofs.fitting.Readying.{ready_everywhere, ready_nowhere}
+use Rattle.world.proofs.fitting.lasting.Readying.{ready_everywhere, ready_nowhere}
 use Rattle.world.proofs.areas.sides_are_ready_everywhere_or_nowhere.Goals as goal
 
 pub returns-clause-everywhere : goal.returns-clause-everywhere

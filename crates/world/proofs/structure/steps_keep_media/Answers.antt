@@ -1,4 +1,4 @@
-use Rattle.world.proofs.moving.MediaKept.{media_kept}
+use Rattle.world.proofs.moving.media.MediaKept.{media_kept}
 use Rattle.world.proofs.structure.steps_keep_media.Goals as goal
 
 pub returns : goal.returns

@@ -1,4 +1,4 @@
-use Rattle.world.proofs.moving.Begun.{restarts_begin, none_current, raised_begins, begins_moving}
+use Rattle.world.proofs.moving.Begun.{restarts_begin, none_current, raised_begins}
 use Rattle.world.proofs.moving.Restarting.{sound_images_begin}
 use Rattle.world.proofs.structure.structure_begins.Goals as goal
 
@@ -13,6 +13,3 @@ returns-clause-none c = none_current
 
 pub returns-clause-raised : goal.returns-clause-raised
 returns-clause-raised c = raised_begins
-
-pub returns-clause-closed : goal.returns-clause-closed
-returns-clause-closed c = begins_moving

@@ -1,4 +1,4 @@
-use Rattle.world.proofs.moving.Tying.{do_events, keep_tied, flushes_keep_tied, callers_keep_tied, steps_move_well, restarts_move_well}
+use Rattle.world.proofs.moving.media.Tying.{do_events, keep_tied, flushes_keep_tied, callers_keep_tied, steps_move_well, restarts_move_well}
 use Rattle.world.proofs.structure.structure_keeps_tied.Goals as goal
 
 pub returns-clause-events : goal.returns-clause-events

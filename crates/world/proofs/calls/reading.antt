@@ -1,0 +1,5 @@
+-- What readers noted, at each kind of step of a caller while the structure moves.
+pub mod Rising
+pub mod FreeLocks
+pub mod Readers
+pub mod Notes

@@ -1,0 +1,4 @@
+-- What the holder of a guarded segment may do.
+pub mod filling
+pub mod publishing
+pub mod directing

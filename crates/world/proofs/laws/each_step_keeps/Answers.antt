@@ -1,5 +1,0 @@
-use Rattle.world.proofs.invariant.Keeps.{keeps_all}
-use Rattle.world.proofs.laws.each_step_keeps.Goals as goal
-
-pub returns : goal.returns
-returns c = keeps_all

@@ -1,5 +1,0 @@
-use Rattle.world.proofs.stepping.Pairs.{keeps_pairs}
-use Rattle.world.proofs.laws.other_steps_keep_pairs.Goals as goal
-
-pub returns : goal.returns
-returns c = keeps_pairs

@@ -1,5 +1,0 @@
-use Rattle.world.proofs.stepping.Later.{replies_come_later}
-use Rattle.world.proofs.laws.replies_come_later.Goals as goal
-
-pub returns : goal.returns
-returns c = replies_come_later

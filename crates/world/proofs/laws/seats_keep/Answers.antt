@@ -1,8 +1,0 @@
-use Rattle.world.proofs.stepping.Reseated.{cuts_keep, joins_keep}
-use Rattle.world.proofs.laws.seats_keep.Goals as goal
-
-pub returns-clause-cuts : goal.returns-clause-cuts
-returns-clause-cuts c = cuts_keep
-
-pub returns-clause-joins : goal.returns-clause-joins
-returns-clause-joins c = joins_keep

@@ -1,0 +1,5 @@
+-- Whatever a cut may leave, and the events of the device.
+pub mod MediaKept
+pub mod Said
+pub mod Tying
+pub mod Whole

@@ -1,0 +1,62 @@
+//! The laws of all kinds of step, while the structure moves. The functions do nothing: each stands for the law that its contract says.
+
+ghost use Rattle.world.specs.Ground.{Ground};
+ghost use Rattle.world.specs.Laws.{ChangesOneWord};
+ghost use Rattle.world.specs.StepKinds.{StepKind};
+ghost use Rattle.world.specs.StepLaws.{Keeps, MildKindsKeep, MediaStand, PowerStays, StepsDoEvents, KeepsWell, OtherStepsKeepPairs, SpentLocksStay, RepliesComeLater, CutsKeep, JoinsKeep, CallsLeaveAreas, CallsWithoutAreas, KnowWithoutAreas, CallsSpareTheStructure};
+
+/// A peek, a look at the power, a flush and the cut of the power keep what holds while the structure moves, whatever areas their view has.
+pub fn mild_kinds_keep()
+    ensures { MildKindsKeep }
+{}
+
+/// Each kind of step keeps what holds while the structure moves, for any number of callers, by a condition on the stepping caller's view
+/// alone.
+pub fn each_step_keeps()
+    ensures { (site : Ground) (kind : StepKind) → Keeps site kind }
+{}
+
+/// Whatever a power cut may leave while the structure moves has a sound structure, is a table, and stands in the history in which all
+/// replies are right.
+pub fn media_stand()
+    ensures { MediaStand }
+{}
+
+/// A step leaves the words that its event makes of them; what a want leaves differs in one word at most.
+pub fn steps_do_events()
+    ensures words { StepsDoEvents }
+    ensures one { ChangesOneWord }
+{}
+
+/// Each step keeps the world well: words, views and the events of the device.
+pub fn worlds_stay_well()
+    ensures { KeepsWell }
+{}
+
+/// No step but the one that stores it changes the power word; each leaves lock words of live segments that are free with the last version;
+/// each that makes no change leaves what every key has; and it leaves a later view.
+pub fn steps_leave()
+    ensures power { PowerStays }
+    ensures spent { SpentLocksStay }
+    ensures pairs { OtherStepsKeepPairs }
+    ensures later { RepliesComeLater }
+{}
+
+/// What holds stays so where a view is cut in two, and where two are joined.
+pub fn seats_keep()
+    ensures cuts { CutsKeep }
+    ensures joins { JoinsKeep }
+{}
+
+/// A step of a caller's kinds leaves the areas of its view; where there are none, no kind asks more of the view than its condition, and the
+/// view knows what the conditions rest on.
+pub fn calls_need_no_areas()
+    ensures leave { CallsLeaveAreas }
+    ensures may { CallsWithoutAreas }
+    ensures know { KnowWithoutAreas }
+{}
+
+/// No step of a caller's kinds stores to a word of the structure: a header, a link, the root, an entry.
+pub fn calls_spare_the_structure()
+    ensures { CallsSpareTheStructure }
+{}
