@@ -11,8 +11,8 @@ use Rattle.trace.specs.Events.{Words}
 use Rattle.image_layout.specs.Places.{Shape}
 use Rattle.image_layout.specs.Volatile.{power_word}
 use Rattle.map_model.specs.declared.call.Call.{Call}
-use Rattle.world.specs.declared.site.Site.{Site as Here}
-use Rattle.world.specs.Site.{Site}
+use Rattle.world.specs.declared.site.Site.{Site}
+use Rattle.world.specs.Ground.{Ground}
 use Rattle.world.specs.Views.{HasLock}
 use Rattle.world.specs.Wants.{answer_to, word_of}
 use Rattle.part.specs.declared.count.CountEnd.TheVariants.{Off}
@@ -32,7 +32,7 @@ use Rattle.part.proofs.Renaming.{renamed_is_part, renamed_ends_by_cause}
 use Rattle.part.proofs.Thens.{then_is_part, then_ends_by_cause}
 
 -- ---- one count
-module _ (site : Site) (here : Here) (call : Call) (words : Words) (did : Doings) where
+module _ (site : Ground) (here : Site) (call : Call) (words : Words) (did : Doings) where
   abbrev Caused : Want → Outcome → Type 0
   Caused event end = HasCause site.shape words did call event here end
 
@@ -84,7 +84,7 @@ pub ends_by_cause : EndsByCause count_part
 ends_by_cause = record {
   steps = λ site here call words views j op before v did h at s asks small r. record {
     remembers = changes site here call words did op.site.geometry op.step (words (word_of site.shape (wanted_in op.site.geometry op.step))) r;
-    caused = λ end none some. by_step site here call words did op op.step asks end some;
+    caused = λ end none some rests. by_step site here call words did op op.step asks end some;
     worked = λ none some. works site here call words did op op.step asks some;
     not_own = λ word value none some has. (let none : HasLock [] word = subst (λ locks. HasLock locks word) s.stands.nothing.held has in none.1);
   };

@@ -1,5 +1,5 @@
 -- Either of two parts is a part: each law by a line for each of the two.
-use Rattle.std.proofs.Common.{◌≡◌, ◌≢◌, ℕ, ◌+◌, ◌^◌, ◌<◌, ◌≤◌, max, true, false, List, None, Some, arith}
+use Rattle.std.proofs.Common.{◌≡◌, ◌≢◌, ℕ, ◌+◌, ◌^◌, ◌<◌, ◌≤◌, max, ◌⊎◌, true, false, List, None, Some, arith}
 use Rattle.std.proofs.Math.Nat.{le-max_left, le-max_right}
 use Rattle.op_core.specs.declared.want.Want.TheVariants.{Flush, Fence, Done}
 use Rattle.op_core.specs.declared.want.Ans.{Ans}
@@ -7,18 +7,18 @@ use Rattle.op_core.specs.Answers.{IsAnswer}
 use Rattle.trace.specs.Events.{Words}
 use Rattle.map_model.specs.declared.call.Call.{Call}
 use Rattle.map_model.specs.declared.entry.Reply.TheVariants as reply
-use Rattle.world.specs.declared.site.Site.{Site as Here}
-use Rattle.world.specs.Site.{Site}
+use Rattle.world.specs.declared.site.Site.{Site}
+use Rattle.world.specs.Ground.{Ground}
 use Rattle.world.specs.Views.{View, At}
 use Rattle.world.specs.Wants.{word_of}
 use Rattle.world.specs.Invariant.{Holds}
 use Rattle.part.specs.Doings.{Doings}
 use Rattle.part.specs.Outcomes.{Outcome, replied}
-use Rattle.part.specs.Part.{Part, Suits, KeepsSuits, EndsBare, AsksWithin, PutsWords, PlansItsCall, HandsOnAtEnd, KeepsPower, IsPart}
+use Rattle.part.specs.Part.{Part, Suits, KeepsSuits, EndsBare, AsksWithin, PutsWords, IsWait, PlansItsCall, HandsOnAtEnd, KeepsPower, IsPart}
 use Rattle.part.specs.Causes.{StepsByCause, EndsByCause}
 use Rattle.part.specs.Either.{Either, one, other, wanted, taken, Stands, outcome, Remembers, HasMade, left, waiting, hands_on, either_part}
 
-module _ {A B : Type 0} (a : Part A) (b : Part B) (site : Site) (here : Here) (call : Call) (before v : View) where
+module _ {A B : Type 0} (a : Part A) (b : Part B) (site : Ground) (here : Site) (call : Call) (before v : View) where
   suits_one : (x : A) → Suits (either_part a b) site here call (one x) before v → Suits a site here call x before v
   suits_one x s = record { stands = s.stands; enters = s.enters; callers = s.callers }
 
@@ -38,7 +38,7 @@ module _ {A B : Type 0} (a : Part A) (b : Part B) (is_a : IsPart a) (is_b : IsPa
   ends site here call (one x) v s done closed = is_a.ends site here call x v s done closed
   ends site here call (other y) v s done closed = is_b.ends site here call y v s done closed
 
-  falls : (m : Either A B) (ans : Ans) → IsAnswer (wanted a b m) ans → left a b (taken a b m ans) < left a b m
+  falls : (m : Either A B) (ans : Ans) → IsAnswer (wanted a b m) ans → (left a b (taken a b m ans) < left a b m) ⊎ IsWait (either_part a b) m ans
   falls (one x) ans i = is_a.time.falls x ans i
   falls (other y) ans i = is_b.time.falls y ans i
 
@@ -105,7 +105,7 @@ module _ {A B : Type 0} (a : Part A) (b : Part B) (is_a : IsPart a) (is_b : IsPa
   }
 
 module _ {A B : Type 0} (a : Part A) (b : Part B) (by_a : EndsByCause a) (by_b : EndsByCause b) where
-  caused_steps : (site : Site) (here : Here) (call : Call) (words : Words) (views : List View) (j : ℕ) (m : Either A B) (before v : View) (did : Doings) → Holds site words views → At views j v
+  caused_steps : (site : Ground) (here : Site) (call : Call) (words : Words) (views : List View) (j : ℕ) (m : Either A B) (before v : View) (did : Doings) → Holds site words views → At views j v
       → Suits (either_part a b) site here call m before v → wanted a b m ≢ Done → words (word_of site.shape (wanted a b m)) < 2 ^ 64 → Remembers a b site m did
       → StepsByCause (either_part a b) site here call words m v did
   caused_steps site here call words views j (one x) before v did h at s asks small r =
@@ -119,7 +119,7 @@ module _ {A B : Type 0} (a : Part A) (b : Part B) (by_a : EndsByCause a) (by_b :
   decided_stays (one x) ans end some = by_a.stays x ans end some
   decided_stays (other y) ans end some = by_b.stays y ans end some
 
-  decided : (site : Site) (here : Here) (call : Call) (m : Either A B) (v : View) → Stands a b site here call m v → wanted a b m ≡ Done → hands_on a b m ≡ false
+  decided : (site : Ground) (here : Site) (call : Call) (m : Either A B) (v : View) → Stands a b site here call m v → wanted a b m ≡ Done → hands_on a b m ≡ false
       → (end : Outcome) × (outcome a b m ≡ Some end)
   decided site here call (one x) v s done closed = by_a.decided site here call x v s done closed
   decided site here call (other y) v s done closed = by_b.decided site here call y v s done closed

@@ -18,11 +18,11 @@ use Rattle.sound_image.proofs.Hashes.{key_hash-fits}
 use Rattle.segment_table.specs.Claims.{Claims, LeadsToClaimer, arrived, on, named_for}
 use Rattle.map_model.specs.declared.call.Call.{Call}
 use Rattle.map_model.specs.Map.{key_of}
-use Rattle.world.specs.Site.{Site, IsSite, IsStructured}
+use Rattle.world.specs.Ground.{Ground, IsGround, IsStructured}
 use Rattle.part.specs.Doings.{Doings, IsStill}
 use Rattle.part.specs.Causes.{LeadsAway, IsUnsplit, AloneNothingLeadsAway}
 
-module _ (site : Site) (words : Words) (did : Doings) (call : Call) (word before after : ℕ) (good : IsSite site) (structure : IsStructured site words)
+module _ (site : Ground) (words : Words) (did : Doings) (call : Call) (word before after : ℕ) (good : IsGround site) (structure : IsStructured site words)
     (unsplit : IsUnsplit site.shape words) (small : key_of call < 2 ^ 64) (still : IsStill site.shape words did) (away : LeadsAway site.shape words did call word before after) where
   abbrev hash : ℕ
   hash = key_hash site.shape (key_of call)

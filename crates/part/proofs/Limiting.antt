@@ -1,14 +1,14 @@
 -- A part that is limited to some images is a part, with the same causes.
 use Rattle.map_model.specs.declared.call.Call.{Call}
-use Rattle.world.specs.declared.site.Site.{Site as Here}
-use Rattle.world.specs.Site.{Site}
+use Rattle.world.specs.declared.site.Site.{Site}
+use Rattle.world.specs.Ground.{Ground}
 use Rattle.world.specs.Views.{View}
 use Rattle.part.specs.Part.{Part, Suits, IsPart}
 use Rattle.part.specs.Causes.{EndsByCause}
 use Rattle.part.specs.Limited.{limited_part}
 
-module _ {M : Type 0} (p : Part M) (Passes : Site → Type 0) where
-  suits : (site : Site) (here : Here) (call : Call) (op : M) (before v : View) → Suits (limited_part p Passes) site here call op before v → Suits p site here call op before v
+module _ {M : Type 0} (p : Part M) (Passes : Ground → Type 0) where
+  suits : (site : Ground) (here : Site) (call : Call) (op : M) (before v : View) → Suits (limited_part p Passes) site here call op before v → Suits p site here call op before v
   suits site here call op before v s = record { stands = s.stands.stands; enters = s.enters; callers = s.callers }
 
   pub limited_is_part : IsPart p → IsPart (limited_part p Passes)

@@ -1,10 +1,10 @@
 -- A part under other names is a part, with the same causes.
-use Rattle.std.proofs.Common.{◌≡◌, ◌≢◌, ℕ, ◌+◌, ◌^◌, ◌<◌, ◌≤◌, List, Some, sym, ap, ◌∙◌, subst}
+use Rattle.std.proofs.Common.{◌≡◌, ◌≢◌, ℕ, ◌+◌, ◌^◌, ◌<◌, ◌≤◌, ◌⊎◌, true, false, List, Some, sym, ap, ◌∙◌, subst}
 use Rattle.op_core.specs.declared.want.Want.TheVariants.{Done}
 use Rattle.trace.specs.Events.{Words}
 use Rattle.map_model.specs.declared.call.Call.{Call}
-use Rattle.world.specs.declared.site.Site.{Site as Here}
-use Rattle.world.specs.Site.{Site}
+use Rattle.world.specs.declared.site.Site.{Site}
+use Rattle.world.specs.Ground.{Ground}
 use Rattle.world.specs.Views.{View, At}
 use Rattle.world.specs.Wants.{answer_to}
 use Rattle.world.specs.Invariant.{Holds}
@@ -19,12 +19,16 @@ module _ {A B : Type 0} (p : Part A) (to : B → A) (from : A → B) (named : Is
   abbrev q : Part B
   q = renamed_part p to from
 
-  suits : (site : Site) (here : Here) (call : Call) (m : B) (before v : View) → Suits q site here call m before v → Suits p site here call (to m) before v
+  suits : (site : Ground) (here : Site) (call : Call) (m : B) (before v : View) → Suits q site here call m before v → Suits p site here call (to m) before v
   suits site here call m before v s = record { stands = s.stands; enters = s.enters; callers = s.callers }
 
   -- what holds of a state holds of the one that its name stands for
   at : (P : A → Type 0) (x : A) → P x → P (to (from x))
   at P x holds = subst P (sym (named x)) holds
+
+  -- a state waits, and so does the one after it, with as many events left
+  abbrev GoesOnWaiting : A → A → Type 0
+  GoesOnWaiting x after = (p.is_waiting x ≡ true) × (p.is_waiting after ≡ true) × (p.left after ≡ p.left x) × (p.hands_on after ≡ false)
 
   module _ (is : IsPart p) where
     steps : KeepsSuits q
@@ -45,7 +49,7 @@ module _ {A B : Type 0} (p : Part A) (to : B → A) (from : A → B) (named : Is
       steps = steps;
       ends = λ site here call m v s done closed. is.ends site here call (to m) v s done closed;
       time = record {
-        falls = λ m ans answer. at (λ x. p.left x < p.left (to m)) (p.taken (to m) ans) (is.time.falls (to m) ans answer);
+        falls = λ m ans answer. at (λ x. (p.left x < p.left (to m)) ⊎ GoesOnWaiting (to m) x) (p.taken (to m) ans) (is.time.falls (to m) ans answer);
         most = λ m. is.time.most (to m);
       };
       within = λ site here call m before v good s. is.within site here call (to m) before v good (suits site here call m before v s);
@@ -66,7 +70,7 @@ module _ {A B : Type 0} (p : Part A) (to : B → A) (from : A → B) (named : Is
     }
 
   module _ (by : EndsByCause p) where
-    caused : (site : Site) (here : Here) (call : Call) (words : Words) (views : List View) (j : ℕ) (m : B) (before v : View) (did : Doings) → Holds site words views → At views j v
+    caused : (site : Ground) (here : Site) (call : Call) (words : Words) (views : List View) (j : ℕ) (m : B) (before v : View) (did : Doings) → Holds site words views → At views j v
         → Suits q site here call m before v → q.wanted m ≢ Done → finds q site words m < 2 ^ 64 → q.Remembers site m did → StepsByCause q site here call words m v did
     caused site here call words views j m before v did h seat s asks small r =
         let w = by.steps site here call words views j (to m) before v did h seat (suits site here call m before v s) asks small r in
@@ -75,7 +79,7 @@ module _ {A B : Type 0} (p : Part A) (to : B → A) (from : A → B) (named : Is
         let doings : Doings = with_event_of (p.wanted (to m)) (answer_to (p.wanted (to m)) (finds p site words (to m))) did in
         record {
           remembers = at (λ x. p.Remembers site x doings) after w.remembers;
-          caused = λ end none some. w.caused end none (same ∙ some);
+          caused = λ end none some rests. w.caused end none (same ∙ some) rests;
           worked = λ none some. at (λ x. p.HasWorked site x doings) after (w.worked none (same ∙ some));
           not_own = λ word value none some. w.not_own word value none (same ∙ some);
         }

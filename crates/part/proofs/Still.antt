@@ -20,7 +20,7 @@ use Rattle.map_model.specs.declared.call.Call.{Call}
 use Rattle.map_model.specs.Map.{key_of}
 use Rattle.world.specs.Views.{Has}
 use Rattle.world.specs.Wants.{answer_to, word_of, words_after}
-use Rattle.world.proofs.holding.Beside.{newest_is}
+use Rattle.world.proofs.moving.Known.{possible_now}
 use Rattle.part.specs.Doings.{Doings, with_event_of, IsStill, NothingIsStill, OwnEventsKeepStill}
 use Rattle.part.specs.Outcomes.{again}
 use Rattle.part.specs.Part.{Part}
@@ -113,8 +113,8 @@ alone_nothing_moves shape words did call word before after is small still m =
 -- ---- a part whose caller is alone
 pub never_moved : {M : Type 0} (p : Part M) → EndsByCause p → AloneNeverMoved p
 never_moved p causes site here call words views j op before v did h at s asks small r unsplit key still none word was is some =
-    let cause = (causes.steps site here call words views j op before v did h at s asks small r).caused (again (Moved word was is)) none some in
+    let cause = (causes.steps site here call words views j op before v did h at s asks small r).caused (again (Moved word was is)) none some tt in
     elim cause.1 [
       | inl moved ↦ alone_nothing_moves site.shape words did call word was is h.site_is.shape key still moved
-      | inr away ↦ alone_nothing_leads_away site words did call word was is h.site_is (newest_is site words views j v h at).structure unsplit key still away
+      | inr away ↦ alone_nothing_leads_away site words did call word was is h.site_is (h.structure.sound words (possible_now site words views h)) unsplit key still away
     ]

@@ -1,5 +1,5 @@
 -- One part after another is a part, whatever the two are.
-use Rattle.std.proofs.Common.{◌≡◌, ◌≢◌, ℕ, ◌+◌, ◌^◌, ◌<◌, ◌≤◌, max, Bool, true, false, List, None, Some, refl, sym, ◌∙◌, subst, arith}
+use Rattle.std.proofs.Common.{◌≡◌, ◌≢◌, ℕ, ◌+◌, ◌^◌, ◌<◌, ◌≤◌, max, ◌⊎◌, inl, inr, Bool, true, false, List, None, Some, refl, sym, ap, ◌∙◌, subst, arith}
 use Rattle.std.proofs.Math.Nat.{le-max_left, le-max_right}
 use Rattle.std.proofs.lemmas.Option.{none-some}
 use Rattle.op_core.specs.declared.want.Want.TheVariants.{Flush, Fence, Done}
@@ -8,21 +8,21 @@ use Rattle.op_core.specs.Answers.{IsAnswer}
 use Rattle.trace.specs.Events.{Words}
 use Rattle.map_model.specs.declared.call.Call.{Call}
 use Rattle.map_model.specs.declared.entry.Reply.TheVariants as reply
-use Rattle.world.specs.declared.site.Site.{Site as Here}
-use Rattle.world.specs.Site.{Site}
+use Rattle.world.specs.declared.site.Site.{Site}
+use Rattle.world.specs.Ground.{Ground}
 use Rattle.world.specs.Views.{View, At}
 use Rattle.world.specs.Wants.{answer_to, word_of}
-use Rattle.world.specs.Kinds.{view_after}
 use Rattle.world.specs.Invariant.{Holds}
 use Rattle.world.specs.Attempts.{EntersReply}
+use Rattle.world.specs.StepKinds.{view_by}
 use Rattle.part.specs.Doings.{Doings, with_event_of}
 use Rattle.part.specs.Outcomes.{Outcome, replied, finished, reply_of}
-use Rattle.part.specs.Part.{Part, Suits, KeepsSuits, EndsBare, AsksWithin, PutsWords, PlansItsCall, HandsOnAtEnd, KeepsPower, IsPart}
+use Rattle.part.specs.Part.{Part, Suits, KeepsSuits, EndsBare, AsksWithin, PutsWords, IsWait, PlansItsCall, HandsOnAtEnd, KeepsPower, IsPart}
 use Rattle.part.specs.Causes.{StepsByCause, EndsByCause}
-use Rattle.part.specs.Then.{Then, first, second, passed, wanted, taken, Stands, outcome, Remembers, HasWorked, HasMade, left, waiting, hands_on, then_part, Passes}
+use Rattle.part.specs.Then.{Then, first, second, passed, wanted, taken, Stands, outcome, Remembers, HasWorked, HasMade, left, is_waiting, waiting, hands_on, then_part, Passes}
 
 -- the view suits the whole as it suits the one of the two that runs
-module _ {A B : Type 0} (a : Part A) (b : Part B) (next : A → B) (site : Site) (here : Here) (call : Call) where
+module _ {A B : Type 0} (a : Part A) (b : Part B) (next : A → B) (site : Ground) (here : Site) (call : Call) where
   suits_first : (x : A) (before v : View) → Suits (then_part a b next) site here call (first x) before v → Suits a site here call x before v
   suits_first x before v s = record { stands = s.stands.stands; enters = s.enters; callers = s.callers }
 
@@ -37,7 +37,7 @@ module _ {A B : Type 0} (a : Part A) (b : Part B) (next : A → B) (is_a : IsPar
   on t x = passed a b next t x
 
   -- ---- where the first hands on, or not
-  stands_on : (site : Site) (here : Here) (call : Call) (before v : View) (x : A) → (t : Bool) → a.hands_on x ≡ t → a.Stands site here call x v → EntersReply call (reply_of (a.outcome x)) before v
+  stands_on : (site : Ground) (here : Site) (call : Call) (before v : View) (x : A) → (t : Bool) → a.hands_on x ≡ t → a.Stands site here call x v → EntersReply call (reply_of (a.outcome x)) before v
       → Stands a b next site here call (on t x) v × EntersReply call (reply_of (outcome a b next (on t x))) before v
   stands_on site here call before v x true h s e = (passes.stands site here call x v s h, subst (λ o. EntersReply call (reply_of o) before v) (by_a.undecided x h ∙ sym (passes.undecided x h)) e)
   stands_on site here call before v x false h s e = (record { stands = s; closed = h }, e)
@@ -45,6 +45,13 @@ module _ {A B : Type 0} (a : Part A) (b : Part B) (next : A → B) (is_a : IsPar
   falls_on : (x y : A) → a.left y < a.left x → (t : Bool) → left a b next (on t y) < a.left x + b.most_events
   falls_on x y low true = let few = is_b.time.most (next y) in omega (arith, few, low)
   falls_on x y low false = omega (arith, low)
+
+  -- where the first goes on waiting, the whole does
+  keeps_waiting : (x : A) (ans : Ans) → IsWait a x ans → IsWait (then_part a b next) (first x) ans
+  keeps_waiting x ans w =
+      let y : A = a.taken x ans in
+      let same : on (a.hands_on y) y ≡ first y = ap (λ t. on t y) w.3 in
+      (w.0, ap (is_waiting a b next) same ∙ w.1, ap (left a b next) same ∙ ap (λ n. n + b.most_events) w.2, ap (hands_on a b next) same)
 
   waits_on : (x : A) (n : ℕ) → n ≤ a.waiting x → (t : Bool) → a.hands_on x ≡ t → n ≤ waiting a b next (on t x)
   waits_on x n low true h = let none = is_a.flushes.ends x (is_a.hands x h) in omega (arith, low, none)
@@ -60,7 +67,7 @@ module _ {A B : Type 0} (a : Part A) (b : Part B) (next : A → B) (is_a : IsPar
       let w = is_a.steps site here call words views j x before v h at (suits_first a b next site here call x before v s) asks in
       let found : ℕ = words (word_of site.shape (a.wanted x)) in
       let y : A = a.taken x (answer_to (a.wanted x) found) in
-      let p = λ (small : found < 2 ^ 64). stands_on site here call before (view_after site.shape (a.kind x found) found v) y (a.hands_on y) refl (w.stands small) (w.enters small) in
+      let p = λ (small : found < 2 ^ 64). stands_on site here call before (view_by site.shape (a.kind x found) found v) y (a.hands_on y) refl (w.stands small) (w.enters small) in
       record {
         wants = w.wants;
         may = w.may;
@@ -76,8 +83,11 @@ module _ {A B : Type 0} (a : Part A) (b : Part B) (next : A → B) (is_a : IsPar
   ends site here call (first x) v s done closed = is_a.ends site here call x v s.stands done s.closed
   ends site here call (second y) v s done closed = is_b.ends site here call y v s done closed
 
-  falls : (m : Whole) (ans : Ans) → IsAnswer (wanted a b next m) ans → left a b next (taken a b next m ans) < left a b next m
-  falls (first x) ans i = falls_on x (a.taken x ans) (is_a.time.falls x ans i) (a.hands_on (a.taken x ans))
+  falls : (m : Whole) (ans : Ans) → IsAnswer (wanted a b next m) ans → (left a b next (taken a b next m ans) < left a b next m) ⊎ IsWait (then_part a b next) m ans
+  falls (first x) ans i = elim (is_a.time.falls x ans i) [
+    | inl low ↦ inl (falls_on x (a.taken x ans) low (a.hands_on (a.taken x ans)))
+    | inr wait ↦ inr (keeps_waiting x ans wait)
+  ]
   falls (second y) ans i = is_b.time.falls y ans i
 
   most_left : (m : Whole) → left a b next m ≤ a.most_events + b.most_events
@@ -144,11 +154,11 @@ module _ {A B : Type 0} (a : Part A) (b : Part B) (next : A → B) (is_a : IsPar
 
 -- and the second's outcomes are the whole's, with the causes of both
 module _ {A B : Type 0} (a : Part A) (b : Part B) (next : A → B) (passes : Passes a b next) (by_a : EndsByCause a) (by_b : EndsByCause b) where
-  remembers_on : (site : Site) (x : A) (did : Doings) → a.Remembers site x did → (t : Bool) → a.hands_on x ≡ t → Remembers a b next site (passed a b next t x) did
+  remembers_on : (site : Ground) (x : A) (did : Doings) → a.Remembers site x did → (t : Bool) → a.hands_on x ≡ t → Remembers a b next site (passed a b next t x) did
   remembers_on site x did r true h = passes.remembers site x did h r
   remembers_on site x did r false h = r
 
-  worked_on : (site : Site) (x : A) (did : Doings) → a.outcome x ≡ Some finished → a.HasWorked site x did → (t : Bool) → a.hands_on x ≡ t → HasWorked a b next site (passed a b next t x) did
+  worked_on : (site : Ground) (x : A) (did : Doings) → a.outcome x ≡ Some finished → a.HasWorked site x did → (t : Bool) → a.hands_on x ≡ t → HasWorked a b next site (passed a b next t x) did
   worked_on site x did some worked true h = absurd (none-some finished (sym (by_a.undecided x h) ∙ some))
   worked_on site x did some worked false h = worked
 
@@ -156,7 +166,7 @@ module _ {A B : Type 0} (a : Part A) (b : Part B) (next : A → B) (passes : Pas
   outcome_on x true h = by_a.undecided x h ∙ sym (passes.undecided x h)
   outcome_on x false h = refl
 
-  caused_steps : (site : Site) (here : Here) (call : Call) (words : Words) (views : List View) (j : ℕ) (m : Then A B) (before v : View) (did : Doings) → Holds site words views → At views j v
+  caused_steps : (site : Ground) (here : Site) (call : Call) (words : Words) (views : List View) (j : ℕ) (m : Then A B) (before v : View) (did : Doings) → Holds site words views → At views j v
       → Suits (then_part a b next) site here call m before v → wanted a b next m ≢ Done → words (word_of site.shape (wanted a b next m)) < 2 ^ 64
       → Remembers a b next site m did → StepsByCause (then_part a b next) site here call words m v did
   caused_steps site here call words views j (first x) before v did h at s asks small r =
@@ -165,7 +175,7 @@ module _ {A B : Type 0} (a : Part A) (b : Part B) (next : A → B) (passes : Pas
       let same : a.outcome y ≡ outcome a b next (passed a b next (a.hands_on y) y) = outcome_on y (a.hands_on y) refl in
       record {
         remembers = remembers_on site y (with_event_of (a.wanted x) (answer_to (a.wanted x) (words (word_of site.shape (a.wanted x)))) did) w.remembers (a.hands_on y) refl;
-        caused = λ end none some. w.caused end none (same ∙ some);
+        caused = λ end none some rests. w.caused end none (same ∙ some) rests;
         worked = λ none some. worked_on site y (with_event_of (a.wanted x) (answer_to (a.wanted x) (words (word_of site.shape (a.wanted x)))) did) (same ∙ some) (w.worked none (same ∙ some)) (a.hands_on y) refl;
         not_own = λ word value none some. w.not_own word value none (same ∙ some);
       }
@@ -177,7 +187,7 @@ module _ {A B : Type 0} (a : Part A) (b : Part B) (next : A → B) (passes : Pas
   decided_stays (first x) ans end some = sym (outcome_on (a.taken x ans) (a.hands_on (a.taken x ans)) refl) ∙ by_a.stays x ans end some
   decided_stays (second y) ans end some = by_b.stays y ans end some
 
-  decided : (site : Site) (here : Here) (call : Call) (m : Then A B) (v : View) → Stands a b next site here call m v → wanted a b next m ≡ Done → hands_on a b next m ≡ false
+  decided : (site : Ground) (here : Site) (call : Call) (m : Then A B) (v : View) → Stands a b next site here call m v → wanted a b next m ≡ Done → hands_on a b next m ≡ false
       → (end : Outcome) × (outcome a b next m ≡ Some end)
   decided site here call (first x) v s done closed = by_a.decided site here call x v s.stands done s.closed
   decided site here call (second y) v s done closed = by_b.decided site here call y v s done closed

@@ -15,14 +15,15 @@ use Rattle.segment_head.specs.HeadWord.{version_in, state_in, depth_in, is_live,
 use Rattle.image_layout.specs.Places.{Shape, IsShape, root_word, head_at, bucket_at, homes, stash_buckets}
 use Rattle.image_layout.specs.Volatile.{counter_word, power_word}
 use Rattle.sound_image.specs.Records.{key_hash}
+use Rattle.bucket_words.specs.Owners.{HasStructure}
 use Rattle.way.specs.Ways.{entry_word, head_word, bucket_word, is_leading}
 use Rattle.map_model.specs.declared.call.Call.{Call}
 use Rattle.map_model.specs.declared.entry.Reply.{Reply}
 use Rattle.map_model.specs.declared.entry.Reply.TheVariants.{Full, Deep, Spent}
 use Rattle.map_model.specs.Map.{key_of}
 use Rattle.map_model.specs.Legal.{IsInsert}
-use Rattle.world.specs.declared.site.Site.{Site as Here}
-use Rattle.world.specs.Site.{Site, IsSite, IsStructured}
+use Rattle.world.specs.declared.site.Site.{Site}
+use Rattle.world.specs.Ground.{Ground, IsGround, IsStructured}
 use Rattle.world.specs.Views.{View, At, Has, HasLock}
 use Rattle.world.specs.Invariant.{Holds}
 use Rattle.world.specs.Wants.{answer_to, word_of}
@@ -249,20 +250,31 @@ module _ (shape : Shape) (words : Words) (did : Doings) (call : Call) where
     IsOff = (event ≡ Power) × (words (power_word shape) ≢ 0)
 
     -- THE CAUSE of each outcome; that a machine has done its own work is its part's to say, below
-    abbrev pub HasCause : Here → Outcome → Type 0
+    abbrev pub HasCause : Site → Outcome → Type 0
     HasCause here (replied reply place) = HasReplyCause reply
     HasCause here (again why) = HasAgainCause why
     HasCause here (stale segment byte) = IsStale here.version segment byte
     HasCause here off = IsOff
     HasCause here finished = ⊤
 
+-- ---- what a cause rests on, so far
+-- FULL, that the structure is that of the start, since who tells it loaded the header of one segment alone; another outcome on nothing
+module _ (site : Ground) (words : Words) where
+  abbrev pub ReplyRestsOn : Reply → Type 0
+  ReplyRestsOn Full = HasStructure site.shape site.front words
+  ReplyRestsOn r = ⊤
+
+  abbrev pub RestsOn : Outcome → Type 0
+  RestsOn (replied reply place) = ReplyRestsOn reply
+  RestsOn outcome = ⊤
+
 -- ---- the causes of a part's outcomes
 module _ {M : Type 0} (p : Part M) where
   -- what a machine has remembered it remembers after its next event, with what that did; and where the event decides the outcome, the
-  -- cause is there: who has finished has done its work; and who is told that a lock is taken does not hold it
-  pub record StepsByCause (site : Site) (here : Here) (call : Call) (words : Words) (op : M) (v : View) (did : Doings) : Type 0 where
+  -- cause is there, with what it rests on: who has finished has done its work; and who is told that a lock is taken does not hold it
+  pub record StepsByCause (site : Ground) (here : Site) (call : Call) (words : Words) (op : M) (v : View) (did : Doings) : Type 0 where
     pub remembers : p.Remembers site (next p site words op) (with_event_of (p.wanted op) (answer_to (p.wanted op) (finds p site words op)) did)
-    pub caused : (outcome : Outcome) → p.outcome op ≡ None → p.outcome (next p site words op) ≡ Some outcome → HasCause site.shape words did call (p.wanted op) here outcome
+    pub caused : (outcome : Outcome) → p.outcome op ≡ None → p.outcome (next p site words op) ≡ Some outcome → RestsOn site words outcome → HasCause site.shape words did call (p.wanted op) here outcome
     pub worked : p.outcome op ≡ None → p.outcome (next p site words op) ≡ Some finished
         → p.HasWorked site (next p site words op) (with_event_of (p.wanted op) (answer_to (p.wanted op) (finds p site words op)) did)
     pub not_own : (word value : ℕ) → p.outcome op ≡ None → p.outcome (next p site words op) ≡ Some (again (Busy word value)) → HasLock v.held word → ⊥
@@ -270,11 +282,11 @@ module _ {M : Type 0} (p : Part M) where
   -- EACH OUTCOME HAS ITS CAUSE, beside any other callers; it stays as it was decided; where a machine wants nothing more, and does not
   -- hand on, it is decided, and where it hands on, it is not
   pub record EndsByCause : Type 0 where
-    pub steps : (site : Site) (here : Here) (call : Call) (words : Words) (views : List View) (j : ℕ) (op : M) (before v : View) (did : Doings)
+    pub steps : (site : Ground) (here : Site) (call : Call) (words : Words) (views : List View) (j : ℕ) (op : M) (before v : View) (did : Doings)
         → Holds site words views → At views j v → Suits p site here call op before v → p.wanted op ≢ Done → finds p site words op < 2 ^ 64 → p.Remembers site op did
         → StepsByCause site here call words op v did
     pub stays : (op : M) (a : Ans) (outcome : Outcome) → p.outcome op ≡ Some outcome → p.outcome (p.taken op a) ≡ Some outcome
-    pub decided : (site : Site) (here : Here) (call : Call) (op : M) (v : View) → p.Stands site here call op v → p.wanted op ≡ Done → p.hands_on op ≡ false
+    pub decided : (site : Ground) (here : Site) (call : Call) (op : M) (v : View) → p.Stands site here call op v → p.wanted op ≡ Done → p.hands_on op ≡ false
         → (outcome : Outcome) × (p.outcome op ≡ Some outcome)
     pub undecided : (op : M) → p.hands_on op ≡ true → p.outcome op ≡ None
 
@@ -290,13 +302,13 @@ IsUnsplit shape words = (s : ℕ) → s < shape.segments → state_in (words (he
 
 -- NOTHING LEADS AWAY from its key for such a caller, where the structure is sound and no segment is being split
 abbrev pub AloneNothingLeadsAway : Type 0
-AloneNothingLeadsAway = (site : Site) (words : Words) (did : Doings) (call : Call) (word before after : ℕ) → IsSite site → IsStructured site words → IsUnsplit site.shape words
+AloneNothingLeadsAway = (site : Ground) (words : Words) (did : Doings) (call : Call) (word before after : ℕ) → IsGround site → IsStructured site words → IsUnsplit site.shape words
     → key_of call < 2 ^ 64 → IsStill site.shape words did → LeadsAway site.shape words did call word before after → ⊥
 
 -- so no event of such a caller decides that its attempt is to be made again since a word moved
 module _ {M : Type 0} (p : Part M) where
   abbrev pub AloneNeverMoved : Type 0
-  AloneNeverMoved = (site : Site) (here : Here) (call : Call) (words : Words) (views : List View) (j : ℕ) (op : M) (before v : View) (did : Doings)
+  AloneNeverMoved = (site : Ground) (here : Site) (call : Call) (words : Words) (views : List View) (j : ℕ) (op : M) (before v : View) (did : Doings)
       → Holds site words views → At views j v → Suits p site here call op before v → p.wanted op ≢ Done → finds p site words op < 2 ^ 64 → p.Remembers site op did
       → IsUnsplit site.shape words → key_of call < 2 ^ 64 → IsStill site.shape words did → p.outcome op ≡ None
       → (word was is : ℕ) → p.outcome (next p site words op) ≡ Some (again (Moved word was is)) → ⊥

@@ -7,10 +7,11 @@ use Rattle.op_core.specs.declared.want.Ans.TheVariants.{Value}
 use Rattle.image_layout.specs.Places.{Shape}
 use Rattle.image_layout.specs.Volatile.{counter_word}
 use Rattle.map_model.specs.declared.call.Call.{Call}
-use Rattle.world.specs.declared.site.Site.{Site as Here}
-use Rattle.world.specs.Site.{Site}
+use Rattle.world.specs.declared.site.Site.{Site}
+use Rattle.world.specs.Ground.{Ground}
 use Rattle.world.specs.Views.{View, Has}
 use Rattle.world.specs.Kinds.{Kind, peeks, asks_power}
+use Rattle.world.specs.StepKinds.{of_call}
 use Rattle.world.specs.Attempts.{HoldsOnly}
 use Rattle.part.specs.declared.count.CountEnd.{CountEnd}
 use Rattle.part.specs.declared.count.CountEnd.TheVariants.{Counted, Off}
@@ -26,7 +27,7 @@ use Rattle.part.specs.Renamed.{renamed_part}
 
 -- ---- the machine
 -- a count that has done nothing yet
-abbrev pub begun : Here → CountOp
+abbrev pub begun : Site → CountOp
 begun here = record { site = here; step = AskPower }
 
 abbrev pub wanted_in : Shape → CountStep → Want
@@ -66,7 +67,7 @@ outcome_in (Ended end) = Some (outcome_of end)
 outcome_in step = None
 
 -- it runs in this image, and its caller holds and owes nothing
-pub record Stands (site : Site) (here : Here) (call : Call) (op : CountOp) (v : View) : Type 0 where
+pub record Stands (site : Ground) (here : Site) (call : Call) (op : CountOp) (v : View) : Type 0 where
   pub at : op.site ≡ here
   pub shape : op.site.geometry ≡ site.shape
   pub nothing : HoldsOnly [] v
@@ -81,7 +82,7 @@ abbrev pub count_part : Part CountOp
 count_part = record {
   wanted = wanted;
   taken = taken;
-  kind = λ op n. kind_in op.site.geometry op.step;
+  kind = λ op n. of_call (kind_in op.site.geometry op.step);
   Stands = Stands;
   outcome = λ op. outcome_in op.step;
   Remembers = λ site op did. did.changed ≡ [];
@@ -89,6 +90,7 @@ count_part = record {
   HasMade = λ op. ⊥;
   left = λ op. left_in op.step;
   most_events = 2;
+  is_waiting = λ op. false;
   waiting = λ op. 0;
   most_waiting = 0;
   hands_on = λ op. false;
@@ -97,15 +99,15 @@ count_part = record {
 -- ---- where it begins
 -- in this image, by a caller that holds and owes nothing
 abbrev pub BeginsAsPart : Type 0
-BeginsAsPart = (site : Site) (here : Here) (call : Call) (v : View) → here.geometry ≡ site.shape → HoldsOnly [] v → count_part.Stands site here call (begun here) v
+BeginsAsPart = (site : Ground) (here : Site) (call : Call) (v : View) → here.geometry ≡ site.shape → HoldsOnly [] v → count_part.Stands site here call (begun here) v
 
 -- it remembers what it did, which is nothing
 abbrev pub BeginsRemembering : Type 0
-BeginsRemembering = (site : Site) (here : Here) → count_part.Remembers site (begun here) nothing_done
+BeginsRemembering = (site : Ground) (here : Site) → count_part.Remembers site (begun here) nothing_done
 
 -- and nothing is decided
 abbrev pub BeginsUndecided : Type 0
-BeginsUndecided = (here : Here) → count_part.outcome (begun here) ≡ None
+BeginsUndecided = (here : Site) → count_part.outcome (begun here) ≡ None
 
 -- ---- two of them, one after another
 -- where the first has counted, the second is begun

@@ -3,10 +3,10 @@ use Rattle.std.specs.Prelude.{ℕ, max, Bool, Option}
 use Rattle.op_core.specs.declared.want.Want.{Want}
 use Rattle.op_core.specs.declared.want.Ans.{Ans}
 use Rattle.map_model.specs.declared.call.Call.{Call}
-use Rattle.world.specs.declared.site.Site.{Site as Here}
-use Rattle.world.specs.Site.{Site}
+use Rattle.world.specs.declared.site.Site.{Site}
+use Rattle.world.specs.Ground.{Ground}
 use Rattle.world.specs.Views.{View}
-use Rattle.world.specs.Kinds.{Kind}
+use Rattle.world.specs.StepKinds.{StepKind}
 use Rattle.part.specs.Doings.{Doings}
 use Rattle.part.specs.Outcomes.{Outcome}
 use Rattle.part.specs.Part.{Part}
@@ -25,11 +25,11 @@ module _ {A B : Type 0} (a : Part A) (b : Part B) where
   taken (one x) ans = one (a.taken x ans)
   taken (other y) ans = other (b.taken y ans)
 
-  abbrev pub kind : Either A B → ℕ → Kind
+  abbrev pub kind : Either A B → ℕ → StepKind
   kind (one x) n = a.kind x n
   kind (other y) n = b.kind y n
 
-  abbrev pub Stands : Site → Here → Call → Either A B → View → Type 0
+  abbrev pub Stands : Ground → Site → Call → Either A B → View → Type 0
   Stands site here call (one x) v = a.Stands site here call x v
   Stands site here call (other y) v = b.Stands site here call y v
 
@@ -37,11 +37,11 @@ module _ {A B : Type 0} (a : Part A) (b : Part B) where
   outcome (one x) = a.outcome x
   outcome (other y) = b.outcome y
 
-  abbrev pub Remembers : Site → Either A B → Doings → Type 0
+  abbrev pub Remembers : Ground → Either A B → Doings → Type 0
   Remembers site (one x) did = a.Remembers site x did
   Remembers site (other y) did = b.Remembers site y did
 
-  abbrev pub HasWorked : Site → Either A B → Doings → Type 0
+  abbrev pub HasWorked : Ground → Either A B → Doings → Type 0
   HasWorked site (one x) did = a.HasWorked site x did
   HasWorked site (other y) did = b.HasWorked site y did
 
@@ -52,6 +52,10 @@ module _ {A B : Type 0} (a : Part A) (b : Part B) where
   abbrev pub left : Either A B → ℕ
   left (one x) = a.left x
   left (other y) = b.left y
+
+  abbrev pub is_waiting : Either A B → Bool
+  is_waiting (one x) = a.is_waiting x
+  is_waiting (other y) = b.is_waiting y
 
   abbrev pub waiting : Either A B → ℕ
   waiting (one x) = a.waiting x
@@ -73,6 +77,7 @@ module _ {A B : Type 0} (a : Part A) (b : Part B) where
     HasMade = HasMade;
     left = left;
     most_events = max a.most_events b.most_events;
+    is_waiting = is_waiting;
     waiting = waiting;
     most_waiting = max a.most_waiting b.most_waiting;
     hands_on = hands_on;

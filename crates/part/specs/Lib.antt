@@ -10,3 +10,4 @@ pub mod Renamed
 pub mod Turns
 pub mod Causes
 pub mod Count
+pub mod Splits

@@ -16,6 +16,7 @@ module _ {A B : Type 0} (p : Part A) (to : B → A) (from : A → B) where
     HasMade = λ m. p.HasMade (to m);
     left = λ m. p.left (to m);
     most_events = p.most_events;
+    is_waiting = λ m. p.is_waiting (to m);
     waiting = λ m. p.waiting (to m);
     most_waiting = p.most_waiting;
     hands_on = λ m. p.hands_on (to m);

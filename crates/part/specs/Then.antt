@@ -3,10 +3,10 @@ use Rattle.std.specs.Prelude.{◌≡◌, ℕ, ◌+◌, max, Bool, true, false, O
 use Rattle.op_core.specs.declared.want.Want.{Want}
 use Rattle.op_core.specs.declared.want.Ans.{Ans}
 use Rattle.map_model.specs.declared.call.Call.{Call}
-use Rattle.world.specs.declared.site.Site.{Site as Here}
-use Rattle.world.specs.Site.{Site}
+use Rattle.world.specs.declared.site.Site.{Site}
+use Rattle.world.specs.Ground.{Ground}
 use Rattle.world.specs.Views.{View}
-use Rattle.world.specs.Kinds.{Kind}
+use Rattle.world.specs.StepKinds.{StepKind}
 use Rattle.part.specs.Doings.{Doings}
 use Rattle.part.specs.Outcomes.{Outcome}
 use Rattle.part.specs.Part.{Part}
@@ -30,16 +30,16 @@ module _ {A B : Type 0} (a : Part A) (b : Part B) (next : A → B) where
   taken (first x) ans = passed (a.hands_on (a.taken x ans)) (a.taken x ans)
   taken (second y) ans = second (b.taken y ans)
 
-  abbrev pub kind : Then A B → ℕ → Kind
+  abbrev pub kind : Then A B → ℕ → StepKind
   kind (first x) n = a.kind x n
   kind (second y) n = b.kind y n
 
   -- the first has not ended, or has ended without handing on
-  pub record StandsFirst (site : Site) (here : Here) (call : Call) (x : A) (v : View) : Type 0 where
+  pub record StandsFirst (site : Ground) (here : Site) (call : Call) (x : A) (v : View) : Type 0 where
     pub stands : a.Stands site here call x v
     pub closed : a.hands_on x ≡ false
 
-  abbrev pub Stands : Site → Here → Call → Then A B → View → Type 0
+  abbrev pub Stands : Ground → Site → Call → Then A B → View → Type 0
   Stands site here call (first x) v = StandsFirst site here call x v
   Stands site here call (second y) v = b.Stands site here call y v
 
@@ -47,11 +47,11 @@ module _ {A B : Type 0} (a : Part A) (b : Part B) (next : A → B) where
   outcome (first x) = a.outcome x
   outcome (second y) = b.outcome y
 
-  abbrev pub Remembers : Site → Then A B → Doings → Type 0
+  abbrev pub Remembers : Ground → Then A B → Doings → Type 0
   Remembers site (first x) did = a.Remembers site x did
   Remembers site (second y) did = b.Remembers site y did
 
-  abbrev pub HasWorked : Site → Then A B → Doings → Type 0
+  abbrev pub HasWorked : Ground → Then A B → Doings → Type 0
   HasWorked site (first x) did = a.HasWorked site x did
   HasWorked site (second y) did = b.HasWorked site y did
 
@@ -62,6 +62,10 @@ module _ {A B : Type 0} (a : Part A) (b : Part B) (next : A → B) where
   abbrev pub left : Then A B → ℕ
   left (first x) = a.left x + b.most_events
   left (second y) = b.left y
+
+  abbrev pub is_waiting : Then A B → Bool
+  is_waiting (first x) = a.is_waiting x
+  is_waiting (second y) = b.is_waiting y
 
   abbrev pub waiting : Then A B → ℕ
   waiting (first x) = a.waiting x
@@ -83,6 +87,7 @@ module _ {A B : Type 0} (a : Part A) (b : Part B) (next : A → B) where
     HasMade = HasMade;
     left = left;
     most_events = a.most_events + b.most_events;
+    is_waiting = is_waiting;
     waiting = waiting;
     most_waiting = max a.most_waiting b.most_waiting;
     hands_on = hands_on;
@@ -91,6 +96,6 @@ module _ {A B : Type 0} (a : Part A) (b : Part B) (next : A → B) where
   -- WHAT THE FIRST OWES THE SECOND where it hands on: its view stands for the second, which is undecided, and remembers by what the first
   -- remembers
   pub record Passes : Type 0 where
-    pub stands : (site : Site) (here : Here) (call : Call) (x : A) (v : View) → a.Stands site here call x v → a.hands_on x ≡ true → b.Stands site here call (next x) v
+    pub stands : (site : Ground) (here : Site) (call : Call) (x : A) (v : View) → a.Stands site here call x v → a.hands_on x ≡ true → b.Stands site here call (next x) v
     pub undecided : (x : A) → a.hands_on x ≡ true → b.outcome (next x) ≡ None
-    pub remembers : (site : Site) (x : A) (did : Doings) → a.hands_on x ≡ true → a.Remembers site x did → b.Remembers site (next x) did
+    pub remembers : (site : Ground) (x : A) (did : Doings) → a.hands_on x ≡ true → a.Remembers site x did → b.Remembers site (next x) did

@@ -6,8 +6,8 @@ use Rattle.image_layout.specs.Volatile.{power_word}
 use Rattle.map_model.specs.declared.call.Call.{Call}
 use Rattle.map_model.specs.declared.entry.Reply.{Reply}
 use Rattle.bucket_words.specs.Hits.{find}
-use Rattle.world.specs.declared.site.Site.{Site as Here}
-use Rattle.world.specs.Site.{Site}
+use Rattle.world.specs.declared.site.Site.{Site}
+use Rattle.world.specs.Ground.{Ground}
 use Rattle.world.specs.Views.{View, At}
 use Rattle.world.specs.Wants.{words_after}
 use Rattle.world.specs.Invariant.{Holds}
@@ -24,7 +24,7 @@ pub record HasEnded (call : Call) (reply : Option (Reply × ℕ)) (before v : Vi
 module _ {M : Type 0} (p : Part M) where
   -- the invariant holds after the event, and the view suits the machine; the event leaves what every key has, or makes the change;
   -- it leaves the power word; and where nothing more is wanted, and no other part goes on, the attempt has ended
-  pub record TurnIsWell (site : Site) (here : Here) (call : Call) (words : Words) (views : List View) (j : ℕ) (op : M) (before v : View) : Type 0 where
+  pub record TurnIsWell (site : Ground) (here : Site) (call : Call) (words : Words) (views : List View) (j : ℕ) (op : M) (before v : View) : Type 0 where
     pub holds : Holds site (words_after site.shape (p.wanted op) j words) (set views j (next_view p site words op v))
     pub suits : Suits p site here call (next p site words op) before (next_view p site words op v)
     pub pairs : ((k : ℕ) → find site.shape (words_after site.shape (p.wanted op) j words) k ≡ find site.shape words k)
@@ -35,5 +35,5 @@ module _ {M : Type 0} (p : Part M) where
 
   -- A TURN of the part, beside any other callers
   abbrev pub TurnKeeps : Type 0
-  TurnKeeps = (site : Site) (here : Here) (call : Call) (words : Words) (views : List View) (j : ℕ) (op : M) (before v : View) → Holds site words views → At views j v
+  TurnKeeps = (site : Ground) (here : Site) (call : Call) (words : Words) (views : List View) (j : ℕ) (op : M) (before v : View) → Holds site words views → At views j v
       → Suits p site here call op before v → p.wanted op ≢ Done → finds p site words op < 2 ^ 64 → TurnIsWell site here call words views j op before v

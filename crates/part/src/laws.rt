@@ -60,7 +60,7 @@ pub fn turns_of_counts_keep()
 {
     world::each_step_keeps();
     world::steps_add_one_reply();
-    world::other_steps_keep_pairs();
-    world::steps_keep_the_power_word();
+    world::structure_steps_change_no_pair();
+    world::steps_leave();
     two_counts_are_a_part();
 }
