@@ -7,15 +7,15 @@ use Rattle.image_layout.specs.Places.{bucket_at, homes}
 use Rattle.sound_image.specs.Records.{key_hash}
 use Rattle.map_model.specs.declared.call.Call.{Call}
 use Rattle.map_model.specs.declared.call.Call.TheVariants as call
-use Rattle.map_model.specs.declared.change.Deed.{Deed}
-use Rattle.map_model.specs.declared.change.Deed.TheVariants as deed
+use Rattle.map_model.specs.declared.change.Effect.{Effect}
+use Rattle.map_model.specs.declared.change.Effect.TheVariants as effect
 use Rattle.map_model.specs.declared.entry.Reply.TheVariants as reply
 use Rattle.map_model.specs.Map.{key_of}
 use Rattle.map_model.specs.Legal.{IsChange, IsInsert}
 use Rattle.map_model.specs.Changes.{doing, call_of}
 use Rattle.bucket_words.specs.Hits.{Hit}
-use Rattle.world.specs.declared.site.Site.{Site as Here}
-use Rattle.world.specs.Site.{Site}
+use Rattle.world.specs.declared.site.Site.{Site}
+use Rattle.world.specs.Ground.{Ground}
 use Rattle.world.specs.Views.{Owed, Move, View, Has, HasLock}
 use Rattle.world.specs.Kinds.{refuses, copies, clears, publishes, draws_place}
 use Rattle.world.specs.Conditions.{May}
@@ -23,7 +23,7 @@ use Rattle.world.specs.Holders.{KnowsBucket}
 use Rattle.world.proofs.holding.Holders.{may_place}
 use Rattle.world.proofs.holding.Moving.{may_move}
 use Rattle.world.proofs.holding.Drawing.{may_draw}
-use Rattle.phase.specs.declared.place.Place.{Place}
+use Rattle.phase.specs.declared.role.Role.{Role}
 use Rattle.phase.specs.declared.make.Make.{Make}
 use Rattle.phase.specs.declared.make.Make.TheVariants.{Key, Value, Fingers, FlushFingers, FlushRecord, FenceRecord, Publish, FlushPublished, FencePublished}
 use Rattle.phase.specs.declared.kept.Kept.{Kept}
@@ -58,15 +58,15 @@ use Rattle.move_op.proofs.keeping.Storing.{leg_held}
 use Rattle.move_op.proofs.keeping.Stepping.{fill_guard}
 
 -- an insert is one of its key and value
-insert_by : (key : ℕ) (d : Deed) → IsInsert (doing key d) → doing key d ≡ call.Insert key (brought d)
-insert_by key (deed.Insert value) is = refl
-insert_by key (deed.Update value) is = absurd is
-insert_by key deed.Remove is = absurd is
+insert_by : (key : ℕ) (d : Effect) → IsInsert (doing key d) → doing key d ≡ call.Insert key (brought d)
+insert_by key (effect.Insert value) is = refl
+insert_by key (effect.Update value) is = absurd is
+insert_by key effect.Remove is = absurd is
 
-change_by : (key : ℕ) (d : Deed) → IsChange (doing key d)
-change_by key (deed.Insert value) = tt
-change_by key (deed.Update value) = tt
-change_by key deed.Remove = tt
+change_by : (key : ℕ) (d : Effect) → IsChange (doing key d)
+change_by key (effect.Insert value) = tt
+change_by key (effect.Update value) = tt
+change_by key effect.Remove = tt
 
 -- the two buckets are home buckets
 target_near : (hash : ℕ) (d : Direction) → bucket_of hash (target_of d) < homes
@@ -78,7 +78,7 @@ source_near hash Forward = omega arith
 source_near hash Backward = omega arith
 
 -- ---- of a record that can move
-module _ (site : Site) (kept : Kept) (d : Direction) (from to : ℕ) (can : CanMove site kept d from to) (v : View) (a : HoldsAll site kept (shift_at kept d from to) v) (all : (place : Place) → AreWords (words_in kept.buckets place)) where
+module _ (site : Ground) (kept : Kept) (d : Direction) (from to : ℕ) (can : CanMove site kept d from to) (v : View) (a : HoldsAll site kept (shift_at kept d from to) v) (all : (place : Role) → AreWords (words_in kept.buckets place)) where
   abbrev shift : Shift
   shift = shift_at kept d from to
 
@@ -115,7 +115,7 @@ module _ (site : Site) (kept : Kept) (d : Direction) (from to : ℕ) (can : CanM
   holds : (w : Words) → Knows (IsOfHeld kept.site kept.hash kept.segment kept.held) w v → HoldsBuckets site kept.site kept.hash kept.segment kept.held w kept.change.key v
   holds w knows = record { located = a.located; hashed = a.hashed; there = a.there; leads = a.leads; locks = a.locks; home = a.near.0; probing = a.near.1; knows = knows }
 
-  bucket : (w : Words) → Knows (IsOfHeld kept.site kept.hash kept.segment kept.held) w v → HasNoneLoose v → (place : Place) → IsHeld kept.held place
+  bucket : (w : Words) → Knows (IsOfHeld kept.site kept.hash kept.segment kept.held) w v → HasNoneLoose v → (place : Role) → IsHeld kept.held place
       → KnowsBucket site.shape v kept.segment (bucket_of kept.hash place) w
   bucket w knows none place is = holders_find.bucket site kept.site kept.hash kept.segment kept.held w kept.change.key v (holds w knows) none place is
 
@@ -169,8 +169,8 @@ module _ (site : Site) (kept : Kept) (d : Direction) (from to : ℕ) (can : CanM
       (λ n has. one_move (moved kept shift) n (subst (λ (ms : List Move). Has n ms) s.moving has)))
 
   -- ---- the store of the new record
-  insert_is : call_of kept.change ≡ call.Insert kept.change.key (brought kept.change.deed)
-  insert_is = insert_by kept.change.key kept.change.deed a.insert
+  insert_is : call_of kept.change ≡ call.Insert kept.change.key (brought kept.change.effect)
+  insert_is = insert_by kept.change.key kept.change.effect a.insert
 
   insert_may : IsShifting site kept shift Insert Publish v → May site (publishes (lock_of kept (source_of d) + 1) shift.insert.mark (call_of kept.change)) v
   insert_may s =
@@ -178,8 +178,8 @@ module _ (site : Site) (kept : Kept) (d : Direction) (from to : ℕ) (can : CanM
       let word : Words = with_insert_ready kept shift in
       let quiet : IsQuiet v = holders_find.quiet v none s.planned s.moving a.owes in
       subst (λ (z : Call). May site (publishes (lock_of kept (source_of d) + 1) shift.insert.mark z) v) (sym insert_is)
-      (subst (λ z. May site (publishes (z + 1) shift.insert.mark (call.Insert kept.change.key (brought kept.change.deed))) v) (sym (at_is site kept l (source_of d)))
-      ((may_place site v).insert kept.segment b from kept.change.key (brought kept.change.deed) shift.insert.mark word
+      (subst (λ z. May site (publishes (z + 1) shift.insert.mark (call.Insert kept.change.key (brought kept.change.effect))) v) (sym (at_is site kept l (source_of d)))
+      ((may_place site v).insert kept.segment b from kept.change.key (brought kept.change.effect) shift.insert.mark word
       (holders_find.none site kept.site kept.hash kept.segment kept.held word kept.change.key v (holds word s.making.knows) quiet (insert_nowhere site kept d from to l can all kept.change.key a.nowhere))
       (source_near kept.hash d) (bucket word s.making.knows none (source_of d) from_held)
       (insert_ready site kept d from to l can all a.hashed) (insert_value site kept d from to l can all) (insert_takes site kept d from to l can all a.hashed)))
@@ -216,7 +216,7 @@ module _ (site : Site) (kept : Kept) (d : Direction) (from to : ℕ) (can : CanM
       (holders_find.kept site kept.site kept.hash kept.segment kept.held word kept.change.key v there s.settled)
 
 -- ---- of any shift
-module _ (site : Site) (kept : Kept) (v : View) (all : (place : Place) → AreWords (words_in kept.buckets place)) where
+module _ (site : Ground) (kept : Kept) (v : View) (all : (place : Role) → AreWords (words_in kept.buckets place)) where
   make_may : (shift : Shift) (leg : Leg) (m : Make) → IsShifting site kept shift leg m v → May site (kind_at kept (step.Make shift leg m)) v
   make_may shift leg m s =
       let is = s.all.shifts in
@@ -227,11 +227,11 @@ module _ (site : Site) (kept : Kept) (v : View) (all : (place : Place) → AreWo
       let is = s.all.shifts in
       subst (λ (z : Shift). IsDrawing site kept z v → May site (kind_at kept (Draw z)) v) (sym is.same) (λ t. draw_by site kept shift.direction is.from is.to is.can v t.all all t) s
 
-spent_may : (site : Site) (kept : Kept) (v : View) → FoundSpent site kept v → May site (refuses (call_of kept.change) reply.Spent) v
-spent_may site kept v spent = (refl, inl (λ a. change_by kept.change.key kept.change.deed), (λ m words newest map. tt), (λ is. spent))
+spent_may : (site : Ground) (kept : Kept) (v : View) → FoundSpent site kept v → May site (refuses (call_of kept.change) reply.Spent) v
+spent_may site kept v spent = (refl, inl (λ a. change_by kept.change.key kept.change.effect), (λ m words newest map. tt), (λ is. spent))
 
 -- EACH STEP MAY BE TAKEN
-module _ (site : Site) (here : Here) (call : Call) (kept : Kept) (may : MayMakeRoom site here call kept) (v : View) where
+module _ (site : Ground) (here : Site) (call : Call) (kept : Kept) (may : MayMakeRoom site here call kept) (v : View) where
   pub may_in : (s : MoveStep) → SuitsStep site kept s v → wanted_in kept s ≢ want.Done → May site (kind_at kept s) v
   may_in (Lock d t) suits asks = take_fits.may site (lock_of kept (target_of d)) t v (known_lock site kept.site kept.hash kept.segment (target_of d) v suits.0.holds.located.shape suits.0.holds.there) suits.2
   may_in (Fill d load) suits asks = fill_guard site kept v d load suits

@@ -8,7 +8,7 @@ use Rattle.bucket_meta.specs.Bucket.{allocated, member}
 use Rattle.bucket_meta.specs.MetaWords.{IsMetaOf}
 use Rattle.bucket_meta.specs.Search.{is_taken, lowest_free}
 use Rattle.bucket_meta.specs.Slots.{IsFull}
-use Rattle.bucket_meta.proofs.FieldBits.{allocated_is, member_is}
+use Rattle.bucket_meta.proofs.fields.FieldBits.{allocated_is, member_is}
 use Rattle.bucket_meta.proofs.Found.{FindsFree, finds_free, none_free}
 use Rattle.displace.specs.Members.{OnlyMembersBelow, NoMembersBelow}
 use Rattle.move_op.specs.declared.step.Direction.TheVariants.{Forward, Backward}

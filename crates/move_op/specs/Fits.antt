@@ -10,14 +10,14 @@ use Rattle.map_model.specs.declared.call.Call.{Call}
 use Rattle.map_model.specs.declared.entry.Reply.TheVariants as reply
 use Rattle.map_model.specs.Changes.{call_of}
 use Rattle.map_model.specs.Legal.{IsInsert}
-use Rattle.world.specs.declared.site.Site.{Site as Here}
-use Rattle.world.specs.Site.{Site}
+use Rattle.world.specs.declared.site.Site.{Site}
+use Rattle.world.specs.Ground.{Ground}
 use Rattle.world.specs.Views.{Move, View, Has}
 use Rattle.world.specs.Kinds.{Kind, peeks, refuses, learns, copies, clears, publishes, draws_place}
 use Rattle.world.specs.Attempts.{HoldsOnly}
 use Rattle.part.specs.Outcomes.{Outcome, replied, again, off}
-use Rattle.phase.specs.declared.place.Place.{Place}
-use Rattle.phase.specs.declared.place.Place.TheVariants.{Home, Probing, Next}
+use Rattle.phase.specs.declared.role.Role.{Role}
+use Rattle.phase.specs.declared.role.Role.TheVariants.{Home, Probing, Next}
 use Rattle.phase.specs.declared.make.Make.{Make}
 use Rattle.phase.specs.declared.make.Make.TheVariants.{FlushPublished, FencePublished}
 use Rattle.phase.specs.declared.held.Held.{Held}
@@ -123,7 +123,7 @@ BehindThird Forward kept = kept.held.previous ≡ None
 BehindThird Backward kept = HasTriedNext kept
 
 -- while the words of a third bucket are loaded: all is kept, but that those words are not known yet
-pub record KeepsBut (direction : Direction) (site : Site) (kept : Kept) (v : View) : Type 0 where
+pub record KeepsBut (direction : Direction) (site : Ground) (kept : Kept) (v : View) : Type 0 where
   pub insert : IsInsert (call_of kept.change)
   pub located : IsLocated site kept.site kept.segment
   pub hashed : kept.hash ≡ key_hash site.shape kept.change.key
@@ -134,7 +134,7 @@ pub record KeepsBut (direction : Direction) (site : Site) (kept : Kept) (v : Vie
   pub locks : HoldsLocks kept.site kept.hash kept.segment kept.held v
   pub near : IsHeld kept.held Home × IsHeld kept.held Probing
   pub third : IsHeld kept.held (target_of direction)
-  pub whole : (place : Place) → IsHeld kept.held place → place ≢ target_of direction → IsWhole (lock_of kept place) (words_in kept.buckets place) v
+  pub whole : (place : Role) → IsHeld kept.held place → place ≢ target_of direction → IsWhole (lock_of kept place) (words_in kept.buckets place) v
   pub quiet : IsQuiet v
   pub nowhere : StandsNowhere site.shape kept.hash kept.segment kept.held (kept_words kept) kept.change.key
   pub home : IsFull kept.buckets.home
@@ -144,7 +144,7 @@ pub record KeepsBut (direction : Direction) (site : Site) (kept : Kept) (v : Vie
 -- ---- the shift
 -- THE RECORD CAN MOVE, by the words that are kept: it stands in its slot, which is one of the bucket that it leaves; the slot to
 -- which it comes is free; and it has the home and the fingerprint that its key gives it
-pub record CanMove (site : Site) (kept : Kept) (direction : Direction) (from to : ℕ) : Type 0 where
+pub record CanMove (site : Ground) (kept : Kept) (direction : Direction) (from to : ℕ) : Type 0 where
   pub from_low : from < record_slots
   pub to_low : to < record_slots
   pub taken : allocated from (slice_index (words_in kept.buckets (source_of direction)) 1) ≡ 1
@@ -154,7 +154,7 @@ pub record CanMove (site : Site) (kept : Kept) (direction : Direction) (from to 
       ≡ finger_of (key_hash site.shape (slice_index (words_in kept.buckets (source_of direction)) (4 + 2 * from)))
 
 -- a shift is that of a record that can move, the lowest one
-pub record IsShift (site : Site) (kept : Kept) (shift : Shift) : Type 0 where
+pub record IsShift (site : Ground) (kept : Kept) (shift : Shift) : Type 0 where
   pub from : ℕ
   pub to : ℕ
   pub same : shift ≡ shift_at kept shift.direction from to
@@ -162,7 +162,7 @@ pub record IsShift (site : Site) (kept : Kept) (shift : Shift) : Type 0 where
   pub order : IsInOrder kept shift
 
 -- all locks are held, the key of the insert stands nowhere, and nothing is owed
-pub record HoldsAll (site : Site) (kept : Kept) (shift : Shift) (v : View) : Type 0 where
+pub record HoldsAll (site : Ground) (kept : Kept) (shift : Shift) (v : View) : Type 0 where
   pub insert : IsInsert (call_of kept.change)
   pub located : IsLocated site kept.site kept.segment
   pub hashed : kept.hash ≡ key_hash site.shape kept.change.key
@@ -199,7 +199,7 @@ IsPrepared Copy = ⊤
 IsPrepared Clear = ⊥
 IsPrepared Insert = ⊤
 
-module _ (site : Site) (kept : Kept) where
+module _ (site : Ground) (kept : Kept) where
   pub record IsShifting (shift : Shift) (leg : Leg) (make : Make) (v : View) : Type 0 where
     pub all : HoldsAll site kept shift v
     pub prepares : IsNew make → IsPrepared leg
@@ -241,12 +241,12 @@ module _ (site : Site) (kept : Kept) where
 
 -- ---- where it may run
 -- what an insert keeps of this call, whose key and value are words, and so are those of its buckets
-pub record MayMakeRoom (site : Site) (here : Here) (call : Call) (kept : Kept) : Type 0 where
+pub record MayMakeRoom (site : Ground) (here : Site) (call : Call) (kept : Kept) : Type 0 where
   pub same : call_of kept.change ≡ call
   pub at : kept.site ≡ here
   pub key : kept.change.key < 2 ^ 64
-  pub value : brought kept.change.deed < 2 ^ 64
-  pub buckets : (place : Place) → AreWords (words_in kept.buckets place)
+  pub value : brought kept.change.effect < 2 ^ 64
+  pub buckets : (place : Role) → AreWords (words_in kept.buckets place)
 
 -- and what is loaded
 abbrev pub HasWordsAt : MoveStep → Type 0
@@ -254,7 +254,7 @@ HasWordsAt (Fill direction load) = AreWords load.words
 HasWordsAt more = ⊤
 
 -- it makes the call's insert
-pub record MoveStands (site : Site) (here : Here) (call : Call) (op : MoveOp) (v : View) : Type 0 where
+pub record MoveStands (site : Ground) (here : Site) (call : Call) (op : MoveOp) (v : View) : Type 0 where
   pub may : MayMakeRoom site here call op.kept
   pub load : HasWordsAt op.step
   pub view : SuitsStep site op.kept op.step v

@@ -1,15 +1,16 @@
 -- A displacement as a part of a call: where no record can move it keeps its locks, and another part goes on.
-use Rattle.std.specs.Prelude.{◌≡◌, ◌-◌, ◌^◌, ⊤, true, Some, None, slice_index}
+use Rattle.std.specs.Prelude.{◌≡◌, ◌-◌, ◌^◌, ⊤, true, false, Some, None, slice_index}
 use Rattle.op_core.specs.declared.want.Want.TheVariants.{Done}
 use Rattle.map_model.specs.declared.call.Call.{Call}
-use Rattle.world.specs.declared.site.Site.{Site as Here}
-use Rattle.world.specs.Site.{Site}
+use Rattle.world.specs.declared.site.Site.{Site}
+use Rattle.world.specs.Ground.{Ground}
 use Rattle.world.specs.Views.{View, Has}
+use Rattle.world.specs.StepKinds.{of_call}
 use Rattle.part.specs.Doings.{Doings}
 use Rattle.part.specs.Outcomes.{finished}
 use Rattle.part.specs.Part.{Part}
 use Rattle.part.specs.Room.{NothingMovesOn}
-use Rattle.phase.specs.declared.place.Place.TheVariants.{Next}
+use Rattle.phase.specs.declared.role.Role.TheVariants.{Next}
 use Rattle.phase.specs.declared.kept.Kept.{Kept}
 use Rattle.phase.specs.Stands.{IsLoading}
 use Rattle.phase.specs.Taking.{RemembersTake}
@@ -31,7 +32,7 @@ use Rattle.move_op.specs.Left.{most_events, left_at, most_waiting, waiting_at, H
 use Rattle.move_op.specs.Fits.{kind_at, MayMakeRoom, MoveStands, outcome_of, outcome_at}
 
 -- ---- what it remembers of what its attempt did
-module _ (site : Site) (kept : Kept) (did : Doings) where
+module _ (site : Ground) (kept : Kept) (did : Doings) where
   -- before the second direction is tried, the words of the next bucket were loaded, and by them no record can move on
   abbrev pub HasTried : Direction → Type 0
   HasTried Forward = ⊤
@@ -48,7 +49,7 @@ module _ (site : Site) (kept : Kept) (did : Doings) where
   RemembersAt (Ended NoMove) = RemembersRoom site kept did.loads × ChangedLocks kept did.changed × NothingToMove kept did.loads
   RemembersAt more = ⊤
 
-abbrev pub Remembers : Site → MoveOp → Doings → Type 0
+abbrev pub Remembers : Ground → MoveOp → Doings → Type 0
 Remembers site op did = RemembersAt site op.kept did op.step
 
 -- A DISPLACEMENT AS A PART
@@ -56,7 +57,7 @@ abbrev pub move_part : Part MoveOp
 move_part = record {
   wanted = wanted;
   taken = taken;
-  kind = λ op n. kind_at op.kept op.step;
+  kind = λ op n. of_call (kind_at op.kept op.step);
   Stands = MoveStands;
   outcome = λ op. outcome_at op.step;
   Remembers = Remembers;
@@ -64,6 +65,7 @@ move_part = record {
   HasMade = λ op. HasMadeAt op.step;
   left = λ op. left_at op.step;
   most_events = most_events;
+  is_waiting = λ op. false;
   waiting = λ op. waiting_at op.step;
   most_waiting = most_waiting;
   hands_on = λ op. is_without_move op.step;
@@ -72,12 +74,12 @@ move_part = record {
 -- ---- where it begins
 -- with what an insert kept that found no slot: its locks are held, but for those of the third buckets, and what they say is known
 abbrev pub MoveBeginsAsPart : Type 0
-MoveBeginsAsPart = (site : Site) (here : Here) (call : Call) (kept : Kept) (v : View) → MayMakeRoom site here call kept → KeepsAll site kept v → HasNoThird kept.held
+MoveBeginsAsPart = (site : Ground) (here : Site) (call : Call) (kept : Kept) (v : View) → MayMakeRoom site here call kept → KeepsAll site kept v → HasNoThird kept.held
     → MoveStands site here call (begun kept) v
 
 -- with what such an attempt remembers
 abbrev pub MoveBeginsRemembering : Type 0
-MoveBeginsRemembering = (site : Site) (kept : Kept) (did : Doings) → RemembersRoom site kept did.loads → ChangedLocks kept did.changed → Remembers site (begun kept) did
+MoveBeginsRemembering = (site : Ground) (kept : Kept) (did : Doings) → RemembersRoom site kept did.loads → ChangedLocks kept did.changed → Remembers site (begun kept) did
 
 -- and nothing is decided
 abbrev pub MoveBeginsUndecided : Type 0
@@ -86,14 +88,14 @@ MoveBeginsUndecided = (kept : Kept) → outcome_at (begun kept).step ≡ None
 -- WHERE IT HANDS ON, all locks are held, those of both third buckets among them, the words of their buckets known, and what was so at the beginning is so still; and its
 -- attempt loaded the words of both third buckets, by which no record can move
 pub record MoveHandsOnAll : Type 0 where
-  pub keeps : (site : Site) (here : Here) (call : Call) (op : MoveOp) (v : View) → MoveStands site here call op v → is_without_move op.step ≡ true
+  pub keeps : (site : Ground) (here : Site) (call : Call) (op : MoveOp) (v : View) → MoveStands site here call op v → is_without_move op.step ≡ true
       → MayMakeRoom site here call op.kept × KeepsAll site op.kept v × HoldsThirds op.kept.held
-  pub remembers : (site : Site) (op : MoveOp) (did : Doings) → Remembers site op did → is_without_move op.step ≡ true
+  pub remembers : (site : Ground) (op : MoveOp) (did : Doings) → Remembers site op did → is_without_move op.step ≡ true
       → RemembersRoom site op.kept did.loads × ChangedLocks op.kept did.changed × NothingToMove op.kept did.loads
 
 -- WHAT IS STORED is the shift of the lowest record that may move
 abbrev pub MovesInOrder : Type 0
-MovesInOrder = (site : Site) (here : Here) (call : Call) (op : MoveOp) (v : View) → MoveStands site here call op v → (shift : Shift) (leg : Leg) (make : MakeStep) → op.step ≡ Make shift leg make
+MovesInOrder = (site : Ground) (here : Site) (call : Call) (op : MoveOp) (v : View) → MoveStands site here call op v → (shift : Shift) (leg : Leg) (make : MakeStep) → op.step ≡ Make shift leg make
     → IsInOrder op.kept shift
 
 -- it never ends but with a reply, or to be made again

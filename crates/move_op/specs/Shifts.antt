@@ -4,8 +4,8 @@ use Rattle.hash_word.specs.Hash.{finger_of}
 use Rattle.bucket_meta.specs.Bucket.{member, finger, record_slots}
 use Rattle.bucket_meta.specs.Search.{is_taken, lowest_free}
 use Rattle.bucket_meta.specs.Marks.{inserted_mark, member_mark, removed_mark, finger_place, with_finger}
-use Rattle.phase.specs.declared.place.Place.{Place}
-use Rattle.phase.specs.declared.place.Place.TheVariants.{Home, Probing, Next, Previous}
+use Rattle.phase.specs.declared.role.Role.{Role}
+use Rattle.phase.specs.declared.role.Role.TheVariants.{Home, Probing, Next, Previous}
 use Rattle.phase.specs.declared.make.Record.{Record}
 use Rattle.phase.specs.declared.kept.Kept.{Kept}
 use Rattle.phase.specs.Buckets.{words_in}
@@ -18,17 +18,17 @@ use Rattle.move_op.specs.declared.step.Leg.TheVariants.{Copy, Clear, Insert}
 
 -- ---- the two buckets
 -- the bucket that the record leaves
-abbrev pub source_of : Direction → Place
+abbrev pub source_of : Direction → Role
 source_of Forward = Probing
 source_of Backward = Home
 
 -- the third bucket, to which it comes
-abbrev pub target_of : Direction → Place
+abbrev pub target_of : Direction → Role
 target_of Forward = Next
 target_of Backward = Previous
 
 -- the bucket that is its home
-abbrev pub home_place : Direction → Place
+abbrev pub home_place : Direction → Role
 home_place Forward = Probing
 home_place Backward = Previous
 
@@ -78,7 +78,7 @@ abbrev pub placed : Direction → Kept → List ℕ → ℕ → Record
 placed direction kept source from = record {
   slot = from;
   key = kept.change.key;
-  value = brought kept.change.deed;
+  value = brought kept.change.effect;
   fingers = with_finger (slice_index source (finger_place from)) from (finger_of kept.hash);
   published = 1;
   mark = arrived_mark direction (removed_mark (slice_index source 1) from) from;
@@ -107,7 +107,7 @@ shift_in kept direction =
 
 -- ---- one after another
 -- the bucket in which this is stored, and what
-abbrev pub place_of : Direction → Leg → Place
+abbrev pub place_of : Direction → Leg → Role
 place_of direction Copy = target_of direction
 place_of direction Clear = source_of direction
 place_of direction Insert = source_of direction

@@ -7,7 +7,7 @@ use Rattle.op_core.specs.declared.want.Ans.{Ans}
 use Rattle.op_core.specs.declared.want.Ans.TheVariants.{Value, Passed, Drawn}
 use Rattle.op_core.specs.declared.why.Why.TheVariants.{Busy, Moved}
 use Rattle.map_model.specs.declared.entry.Reply.TheVariants as reply
-use Rattle.phase.specs.declared.place.Place.{Place}
+use Rattle.phase.specs.declared.role.Role.{Role}
 use Rattle.phase.specs.declared.take.Take.TheVariants.{Look}
 use Rattle.phase.specs.declared.take.Taken.{Taken}
 use Rattle.phase.specs.declared.take.Taken.TheVariants as taking
@@ -49,7 +49,7 @@ end_of (ending.Replied answer place) = ends.Replied answer place
 end_of (ending.Again why) = ends.Again why
 
 -- the locks that are held are given back, one after another, and then it ends so
-abbrev pub given_by : Option (Place × ℕ) → Held → Ending → MoveStep
+abbrev pub given_by : Option (Role × ℕ) → Held → Ending → MoveStep
 given_by (Some next) held end = Give held end
 given_by None held end = Ended (end_of end)
 
@@ -101,7 +101,7 @@ made_to shift leg made.Settled = settled shift leg
 
 -- ---- the machine
 module _ (kept : Kept) where
-  abbrev pub lock_of : Place → ℕ
+  abbrev pub lock_of : Role → ℕ
   lock_of place = lock_word kept.site kept.hash kept.segment place
 
   -- the lock of the bucket in which this is stored

@@ -43,7 +43,7 @@ impl MoveOp {
     }
 
     /// Whether it wants nothing more.
-    pub fn is_done(&self) -> bool
+    pub fn wants_nothing(&self) -> bool
         ensures { IsTrue result ↔ (wanted self.now ≡ want.Done) }
     {
         is_over(&self.step)

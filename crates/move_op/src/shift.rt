@@ -12,27 +12,27 @@ use bucket_meta::words::{
 };
 use displace::{backward, forward};
 use hash_word::finger;
-use phase::{Kept, Place, Record, brought};
+use phase::{Kept, Record, Role, brought};
 
 // ---- the two buckets
 
 /// The bucket that the record leaves.
-pub fn source_of(direction: Direction) -> Place
+pub fn source_of(direction: Direction) -> Role
     ensures { result ≡ source_of direction }
 {
     match direction {
-        Direction::Forward => Place::Probing,
-        Direction::Backward => Place::Home,
+        Direction::Forward => Role::Probing,
+        Direction::Backward => Role::Home,
     }
 }
 
 /// The third bucket, to which it comes.
-pub fn target_of(direction: Direction) -> Place
+pub fn target_of(direction: Direction) -> Role
     ensures { result ≡ target_of direction }
 {
     match direction {
-        Direction::Forward => Place::Next,
-        Direction::Backward => Place::Previous,
+        Direction::Forward => Role::Next,
+        Direction::Backward => Role::Previous,
     }
 }
 
@@ -107,7 +107,7 @@ fn placed(direction: Direction, kept: &Kept, source: &[u64; 32], from: u8) -> Re
     Record {
         slot: from,
         key: kept.change.key,
-        value: brought(kept.change.deed),
+        value: brought(kept.change.effect),
         fingers: with_finger(source[finger_place(from)], from, finger(kept.hash)),
         published: 1,
         mark: arrived_mark(direction, removed_mark(source[1], from), from),
@@ -155,7 +155,7 @@ pub fn shift_in(kept: &Kept, direction: Direction) -> Option<Shift>
 // ---- one after another
 
 /// The bucket in which this is stored.
-pub fn place_of(direction: Direction, leg: Leg) -> Place
+pub fn place_of(direction: Direction, leg: Leg) -> Role
     ensures { result ≡ place_of direction leg }
 {
     match leg {

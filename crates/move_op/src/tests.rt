@@ -1,7 +1,7 @@
 // Inserts that found home and probing bucket full, on the words of an image with one segment and the identity as its hash.
 use super::*;
 use image_layout::Geometry;
-use map_model::{Change, Deed, Reply};
+use map_model::{Change, Effect, Reply};
 use op_core::{Ans, Machine, Want, Why};
 use phase::{Buckets, Held, Kept};
 use std::test::Fail;
@@ -120,7 +120,7 @@ impl Memory {
             },
             change: Change {
                 key,
-                deed: Deed::Insert(7),
+                effect: Effect::Insert(7),
             },
             hash: key,
             segment: 0,
@@ -243,7 +243,7 @@ fn events_of_a_move_forward(rt: HostRuntime) -> Result<(), Fail> {
     let kept = again.kept(27, 96)?;
     let (op, end) = again.run(kept);
     assert_eq!(rt; end, MoveEnd::Replied(Reply::Done, 0));
-    assert!(rt; op.is_done());
+    assert!(rt; op.wants_nothing());
     assert!(rt; !op.hands_on());
     assert_eq!(rt; again.events, 56);
     Ok(())

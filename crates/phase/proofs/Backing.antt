@@ -5,8 +5,8 @@ use Rattle.std.proofs.lemmas.Bool.{eqb-true, lt-ltb, and_parts, false≢true}
 use Rattle.op_core.specs.declared.want.Want.TheVariants.{Load as LoadWord}
 use Rattle.image_layout.specs.Places.{Shape, root_word, head_at}
 use Rattle.way.specs.Ways.{is_leading}
-use Rattle.world.specs.declared.site.Site.{Site as Here}
-use Rattle.world.specs.Site.{Site}
+use Rattle.world.specs.declared.site.Site.{Site}
+use Rattle.world.specs.Ground.{Ground}
 use Rattle.world.specs.Views.{View}
 use Rattle.world.specs.Kinds.{Kind, pins, wanted, view_after}
 use Rattle.world.specs.Conditions.{May}
@@ -20,7 +20,7 @@ use Rattle.phase.specs.Stands.{back_kind, back_left, backed_left}
 use Rattle.phase.specs.Laws.{BackFits, BackLeads, BackLeadsAway}
 
 -- what it makes of a word: the next one, or that it moved or leads away
-module _ (P : Backed → Type 0) (here : Here) (hash : ℕ) (path : Path) (at : Back) (n : ℕ) where
+module _ (P : Backed → Type 0) (here : Site) (hash : ℕ) (path : Path) (at : Back) (n : ℕ) where
   abbrev test : Bool
   test = (n == back_before path at) && back_leads here hash path at
 
@@ -50,11 +50,11 @@ back_few Root = omega arith
 back_few Entry = omega arith
 back_few Head = omega arith
 
-pub back_falls : (here : Here) (hash : ℕ) (path : Path) (at : Back) (n : ℕ) → backed_left (back_taken here hash path at n) < back_left at
+pub back_falls : (here : Site) (hash : ℕ) (path : Path) (at : Back) (n : ℕ) → backed_left (back_taken here hash path at n) < back_left at
 back_falls here hash path at n = back_cases (λ x. backed_left x < back_left at) here hash path at n (on_falls at) (some_left at)
 
 -- ---- its events
-module _ (shape : Shape) (here : Here) (hash : ℕ) (path : Path) (last : Kind) where
+module _ (shape : Shape) (here : Site) (hash : ℕ) (path : Path) (last : Kind) where
   pub back_wants : (at : Back) → wanted shape last ≡ LoadWord (back_word here hash path Head) → LoadWord (back_word here hash path at) ≡ wanted shape (back_kind here hash path last at)
   back_wants Root is = refl
   back_wants Entry is = refl
@@ -65,12 +65,12 @@ module _ (shape : Shape) (here : Here) (hash : ℕ) (path : Path) (last : Kind) 
   back_same Entry n v other = refl
   back_same Head n v other = absurd (other refl)
 
-pub back_may : (site : Site) (here : Here) (hash : ℕ) (path : Path) (last : Kind) (at : Back) (v : View) → May site last v → May site (back_kind here hash path last at) v
+pub back_may : (site : Ground) (here : Site) (hash : ℕ) (path : Path) (last : Kind) (at : Back) (v : View) → May site last v → May site (back_kind here hash path last at) v
 back_may site here hash path last Root v may = tt
 back_may site here hash path last Entry v may = tt
 back_may site here hash path last Head v may = may
 
-pub back_pins : (shape : Shape) (here : Here) (hash : ℕ) (path : Path) (b : ℕ) → here.geometry ≡ shape → path.segment < shape.segments
+pub back_pins : (shape : Shape) (here : Site) (hash : ℕ) (path : Path) (b : ℕ) → here.geometry ≡ shape → path.segment < shape.segments
     → wanted shape (pins path.segment b) ≡ LoadWord (back_word here hash path Head)
 back_pins shape here hash path b same within =
     ap (λ (g : Shape). LoadWord (head_at g path.segment + 1)) (sym same)
@@ -86,7 +86,7 @@ on_same Root e = absurd (let z = e in cc)
 on_same Entry e = absurd (let z = e in cc)
 on_same Head e = refl
 
-module _ (here : Here) (hash : ℕ) (path : Path) (n : ℕ) where
+module _ (here : Site) (hash : ℕ) (path : Path) (n : ℕ) where
   head_found : (at : Back) → at ≡ Head → ((n == back_before path at) && back_leads here hash path at) ≡ true → (n ≡ path.head) × (is_leading path.head hash ≡ true)
   head_found at is t =
       let at_head : ((n == path.head) && is_leading path.head hash) ≡ true = ap (λ (a : Back). (n == back_before path a) && back_leads here hash path a) (sym is) ∙ t in

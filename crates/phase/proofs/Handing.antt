@@ -6,20 +6,20 @@ use Rattle.std.proofs.lemmas.Bool.{eq-eqb}
 use Rattle.op_core.specs.declared.want.Ans.TheVariants.{Passed}
 use Rattle.image_layout.specs.Places.{Shape}
 use Rattle.map_model.specs.declared.call.Call.{Call}
-use Rattle.map_model.specs.declared.change.Deed.{Deed}
-use Rattle.map_model.specs.declared.change.Deed.TheVariants.{Insert, Update, Remove}
+use Rattle.map_model.specs.declared.change.Effect.{Effect}
+use Rattle.map_model.specs.declared.change.Effect.TheVariants.{Insert, Update, Remove}
 use Rattle.map_model.specs.declared.change.Change.{Change}
 use Rattle.map_model.specs.declared.entry.Reply.{Reply}
 use Rattle.map_model.specs.declared.entry.Reply.TheVariants as reply
 use Rattle.map_model.specs.Map.{key_of, is_done}
 use Rattle.map_model.specs.Changes.{doing, call_of}
-use Rattle.world.specs.declared.site.Site.{Site as Here}
+use Rattle.world.specs.declared.site.Site.{Site}
 use Rattle.world.specs.Views.{Owed, View, Has}
 use Rattle.world.specs.Wants.{answer_to}
 use Rattle.world.specs.Kinds.{next_entry, with_reply, of_other_keys, of_other_homes, view_after}
 use Rattle.world.specs.Attempts.{HasNoMore, HasOneMore, EntersReply}
 use Rattle.part.specs.Outcomes.{replied, finished, IsDone}
-use Rattle.phase.specs.declared.place.Place.{Place}
+use Rattle.phase.specs.declared.role.Role.{Role}
 use Rattle.phase.specs.declared.held.Held.{Held}
 use Rattle.phase.specs.declared.ending.Ending.{Ending}
 use Rattle.phase.specs.declared.ending.Ending.TheVariants as ending
@@ -29,13 +29,13 @@ use Rattle.phase.specs.Giving.{IsQuiet, give_kind_of, lock_left, give_left}
 use Rattle.phase.specs.Knows.{HasNoneLoose}
 
 -- ---- a change speaks of its key
-pub key_done : (key : ℕ) (d : Deed) → key_of (doing key d) ≡ key
+pub key_done : (key : ℕ) (d : Effect) → key_of (doing key d) ≡ key
 key_done key (Insert value) = refl
 key_done key (Update value) = refl
 key_done key Remove = refl
 
 pub key_called : (change : Change) → key_of (call_of change) ≡ change.key
-key_called change = key_done change.key change.deed
+key_called change = key_done change.key change.effect
 
 -- ---- a reply that says that something changed is that one
 pub done_is : (answer : Reply) → IsDone answer → answer ≡ reply.Done
@@ -71,15 +71,15 @@ module _ (call : Call) (before v : View) where
   same_more (Some r) u e own seen = record { own = own ∙ e.own; seen = seen ∙ e.seen }
 
 -- ---- locks that are given back
-pub give_answer : (here : Here) (hash segment : ℕ) (next : Option (Place × ℕ)) (n : ℕ) → answer_to (give_wanted_of here hash segment next) n ≡ Passed
+pub give_answer : (here : Site) (hash segment : ℕ) (next : Option (Role × ℕ)) (n : ℕ) → answer_to (give_wanted_of here hash segment next) n ≡ Passed
 give_answer here hash segment (Some next) n = refl
 give_answer here hash segment None n = refl
 
-pub give_own : (shape : Shape) (here : Here) (hash segment : ℕ) (next : Option (Place × ℕ)) (n : ℕ) (v : View) → (view_after shape (give_kind_of here hash segment next) n v).own ≡ v.own
+pub give_own : (shape : Shape) (here : Site) (hash segment : ℕ) (next : Option (Role × ℕ)) (n : ℕ) (v : View) → (view_after shape (give_kind_of here hash segment next) n v).own ≡ v.own
 give_own shape here hash segment (Some next) n v = refl
 give_own shape here hash segment None n v = refl
 
-pub give_seen : (shape : Shape) (here : Here) (hash segment : ℕ) (next : Option (Place × ℕ)) (n : ℕ) (v : View) → (view_after shape (give_kind_of here hash segment next) n v).seen ≡ v.seen
+pub give_seen : (shape : Shape) (here : Site) (hash segment : ℕ) (next : Option (Role × ℕ)) (n : ℕ) (v : View) → (view_after shape (give_kind_of here hash segment next) n v).seen ≡ v.seen
 give_seen shape here hash segment (Some next) n v = refl
 give_seen shape here hash segment None n v = refl
 

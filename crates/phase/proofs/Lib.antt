@@ -1,11 +1,8 @@
-pub mod Asked
+pub mod asking
 pub mod Leading
-pub mod Needing
 pub mod Walking
 pub mod Backing
 pub mod Loading
-pub mod Causing
-pub mod Asking
 pub mod Handing
 pub mod Wording
 pub mod Noting

@@ -11,9 +11,9 @@ use Rattle.frame_facts.specs.Facts.{Fact, Lives, Current, Rooted, IsLiveSlot}
 use Rattle.way.specs.Ways.{entry_word, head_word}
 use Rattle.way.proofs.Indexes.{index_below}
 use Rattle.op_core.specs.declared.want.Want.TheVariants.{Load}
-use Rattle.world.specs.declared.site.Site.{Site as Here}
-use Rattle.world.specs.Site.{Site, version_of}
-use Rattle.world.specs.Views.{Note, Answer, View, Has}
+use Rattle.world.specs.declared.site.Site.{Site}
+use Rattle.world.specs.Ground.{Ground, version_of}
+use Rattle.world.specs.Views.{Glance, Answer, View, Has}
 use Rattle.world.specs.Wants.{word_of}
 use Rattle.world.specs.Kinds.{Kind, peeks, meets_entry, meets_head, says_current, wanted as wanted_by, view_after}
 use Rattle.world.specs.Conditions.{May, IsNewest}
@@ -32,7 +32,7 @@ asks_if : (shape : Shape) (b : Bool) (i : ℕ) (k : Kind) → Load i ≡ wanted_
 asks_if shape true i k is = is
 asks_if shape false i k is = refl
 
-may_if : (site : Site) (v : View) (b : Bool) (k : Kind) → May site k v → May site (if b then k else peeks root_word) v
+may_if : (site : Ground) (v : View) (b : Bool) (k : Kind) → May site k v → May site (if b then k else peeks root_word) v
 may_if site v true k may = may
 may_if site v false k may = tt
 
@@ -40,7 +40,7 @@ but_way_if : (shape : Shape) (n : ℕ) (v : View) (b : Bool) (k : Kind) → IsBu
 but_way_if shape n v true k is = is
 but_way_if shape n v false k is = refl
 
-module _ (shape : Shape) (here : Here) (hash : ℕ) where
+module _ (shape : Shape) (here : Site) (hash : ℕ) where
   pub walk_wants : (w : Walk) → here.geometry ≡ shape → walk_wanted here hash w ≡ wanted_by shape (walk_kind here hash w)
   walk_wants Power same = refl
   walk_wants Root same = refl
@@ -56,13 +56,13 @@ module _ (shape : Shape) (here : Here) (hash : ℕ) where
 
   -- what is said of a view whatever it relies on and has noted, stays
   pub walk_keeps : (P : View → Type 0) (w : Walk) (n : ℕ) (v : View)
-      → ((facts : List Fact) (notes : List Note) (answer : Option Answer) → P (record v { facts = facts; notes = notes; answer = answer }))
+      → ((facts : List Fact) (notes : List Glance) (answer : Option Answer) → P (record v { facts = facts; notes = notes; answer = answer }))
       → P (view_after shape (walk_kind here hash w) n v)
   walk_keeps P w n v p =
       let u : View = view_after shape (walk_kind here hash w) n v in
       subst P (sym (walk_leaves w n v)) (p u.facts u.notes u.answer)
 
-module _ (site : Site) (here : Here) (hash : ℕ) where
+module _ (site : Ground) (here : Site) (hash : ℕ) where
   pub walk_may : (w : Walk) (v : View) → IsShape site.shape → here.geometry ≡ site.shape → here.version ≡ version_of site → hash < 2 ^ 64
       → IsWalking site w v.facts → May site (walk_kind here hash w) v
   walk_may Power v is same current fits known = tt
@@ -77,7 +77,7 @@ pub walk_fits : WalkFits
 walk_fits = record { wants = walk_wants; may = walk_may; leaves = walk_leaves }
 
 -- ---- what a header makes of the way
-module _ (P : Walked → Type 0) (here : Here) (hash root segment n : ℕ) where
+module _ (P : Walked → Type 0) (here : Site) (hash root segment n : ℕ) where
   abbrev there : Walked
   there = There (record { root = root; segment = segment; head = n })
 
@@ -93,7 +93,7 @@ module _ (P : Walked → Type 0) (here : Here) (hash root segment n : ℕ) where
       by_test P (is_live n) (if version_in n == here.version then there else stale) amiss
       (λ live. by_test P (version_in n == here.version) there stale (λ is. current live is) (λ is. old live is)) dead
 
-pub walk_falls : (here : Here) (hash : ℕ) (w : Walk) (n : ℕ) → walked_left (walk_taken here hash w n) < walk_left w
+pub walk_falls : (here : Site) (hash : ℕ) (w : Walk) (n : ℕ) → walked_left (walk_taken here hash w n) < walk_left w
 walk_falls here hash Power n = by_both (λ x. walked_left x < 4) (n == 0) (On Root) Off (omega arith) (omega arith)
 walk_falls here hash Root n = by_both (λ x. walked_left x < 3) (nat_le n here.geometry.depth) (On (Entry n)) (Amiss root_word n) (omega arith) (omega arith)
 walk_falls here hash (Entry root) n =
@@ -120,7 +120,7 @@ live_test head (inr is) = either_live (state_in head == normal) (state_in head =
 true_false : (b : Bool) → b ≡ true → b ≡ false → ⊥
 true_false b is not_so = false≢true (sym not_so ∙ is)
 
-module _ (site : Site) (here : Here) (hash : ℕ) (same : here.geometry ≡ site.shape) where
+module _ (site : Ground) (here : Site) (hash : ℕ) (same : here.geometry ≡ site.shape) where
   depth_is : here.geometry.depth ≡ site.shape.depth
   depth_is = ap (λ (g : Shape). g.depth) same
 

@@ -1,7 +1,7 @@
 -- What machines made of phases cite of their events: none of a phase's is nothing, but where no lock is left to be given back; how each
 -- is answered; what is stored, flushed and fenced; that no event of a lock makes a change or cuts the power; and what the taking of a
 -- lock leaves of the replies.
-use Rattle.std.proofs.Common.{◌≡◌, ℕ, ◌+◌, ◌%◌, ◌^◌, ◌<◌, ◌≤◌, Bool, true, false, Option, Some, None, IsTrue, ◌↔◌, refl, arith}
+use Rattle.std.proofs.Common.{◌≡◌, ℕ, ◌+◌, ◌%◌, ◌^◌, ◌<◌, ◌≤◌, Bool, true, false, Option, Some, None, IsTrue, ◌↔◌, refl, sym, subst, arith}
 use Rattle.std.specs.Prelude.{◌==◌, ⊤, is_none}
 use Rattle.op_core.specs.declared.want.Want.{Want}
 use Rattle.op_core.specs.declared.want.Want.TheVariants as want
@@ -9,12 +9,13 @@ use Rattle.op_core.specs.declared.want.Ans.{Ans}
 use Rattle.op_core.specs.declared.want.Ans.TheVariants.{Value, Passed}
 use Rattle.op_core.specs.Answers.{IsAnswer}
 use Rattle.image_layout.specs.Places.{Shape}
-use Rattle.world.specs.declared.site.Site.{Site as Here}
+use Rattle.world.specs.declared.site.Site.{Site}
 use Rattle.world.specs.Views.{View}
 use Rattle.world.specs.Wants.{answer_to}
 use Rattle.world.specs.Kinds.{Kind, cuts_power, with_lock, view_after}
 use Rattle.world.specs.Pairs.{IsPublishingKind}
-use Rattle.phase.specs.declared.place.Place.{Place}
+use Rattle.world.specs.StepKinds.{StepKind, of_call, of_structure}
+use Rattle.phase.specs.declared.role.Role.{Role}
 use Rattle.phase.specs.declared.take.Take.{Take}
 use Rattle.phase.specs.declared.take.Take.TheVariants.{Look, Try}
 use Rattle.phase.specs.declared.make.Record.{Record}
@@ -50,7 +51,7 @@ makes lock written make.Publish e = cc
 makes lock written make.FlushPublished e = cc
 makes lock written make.FencePublished e = cc
 
-pub gives : (here : Here) (hash segment : ℕ) (next : Option (Place × ℕ)) → IsTrue (is_none next) ↔ (give_wanted_of here hash segment next ≡ want.Done)
+pub gives : (here : Site) (hash segment : ℕ) (next : Option (Role × ℕ)) → IsTrue (is_none next) ↔ (give_wanted_of here hash segment next ≡ want.Done)
 gives here hash segment (Some next) = (λ over. absurd (no over), λ e. absurd (let is : want.Store _ _ ≡ want.Done = e in cc))
 gives here hash segment None = (λ over. refl, λ e. refl)
 
@@ -84,7 +85,7 @@ make_answered lock written make.FlushPublished a is = absurd is
 make_answered lock written make.FencePublished Passed is = refl
 make_answered lock written make.FencePublished a is = absurd is
 
-pub give_answered : (here : Here) (hash segment : ℕ) (next : Option (Place × ℕ)) (a : Ans) → IsAnswer (give_wanted_of here hash segment next) a → a ≡ Passed
+pub give_answered : (here : Site) (hash segment : ℕ) (next : Option (Role × ℕ)) (a : Ans) → IsAnswer (give_wanted_of here hash segment next) a → a ≡ Passed
 give_answered here hash segment (Some next) a is = store_answered (lock_word here hash segment next.0) ((next.1 + 2) % 2 ^ 64) a is
 give_answered here hash segment None a is = absurd is
 
@@ -123,7 +124,7 @@ pub take_small : (lock : ℕ) (t : Take) → number_of (take_wanted lock t) < 2 
 take_small lock Look = omega arith
 take_small lock (Try free) = omega arith
 
-pub give_small : (here : Here) (hash segment : ℕ) (next : Option (Place × ℕ)) → number_of (give_wanted_of here hash segment next) < 2 ^ 64
+pub give_small : (here : Site) (hash segment : ℕ) (next : Option (Role × ℕ)) → number_of (give_wanted_of here hash segment next) < 2 ^ 64
 give_small here hash segment (Some next) = omega arith
 give_small here hash segment None = omega arith
 
@@ -143,7 +144,7 @@ pub take_no_flush : (lock : ℕ) (t : Take) → HasFlush (take_wanted lock t) �
 take_no_flush lock Look p = p
 take_no_flush lock (Try free) p = p
 
-pub give_no_flush : (here : Here) (hash segment : ℕ) (next : Option (Place × ℕ)) → HasFlush (give_wanted_of here hash segment next) → ⊥
+pub give_no_flush : (here : Site) (hash segment : ℕ) (next : Option (Role × ℕ)) → HasFlush (give_wanted_of here hash segment next) → ⊥
 give_no_flush here hash segment (Some next) p = p
 give_no_flush here hash segment None p = p
 
@@ -163,7 +164,7 @@ pub plain_take : (lock : ℕ) (t : Take) → IsPlain (take_kind lock t)
 plain_take lock Look p = p
 plain_take lock (Try free) p = p
 
-pub plain_give : (here : Here) (hash segment : ℕ) (next : Option (Place × ℕ)) → IsPlain (give_kind_of here hash segment next)
+pub plain_give : (here : Site) (hash segment : ℕ) (next : Option (Role × ℕ)) → IsPlain (give_kind_of here hash segment next)
 plain_give here hash segment (Some next) p = p
 plain_give here hash segment None p = p
 
@@ -172,11 +173,19 @@ abbrev pub Cuts : Kind → Type 0
 Cuts cuts_power = ⊤
 Cuts k = ⊥
 
+abbrev CutsAt : StepKind → Type 0
+CutsAt (of_call k) = Cuts k
+CutsAt (of_structure k) = ⊥
+
+-- a step of a call cuts the power by its kind of call alone
+pub cuts_call : (k : Kind) → of_call k ≡ of_call cuts_power → Cuts k
+cuts_call k e = subst (λ (s : StepKind). CutsAt s) (sym e) tt
+
 pub take_on : (lock : ℕ) (t : Take) → Cuts (take_kind lock t) → ⊥
 take_on lock Look p = p
 take_on lock (Try free) p = p
 
-pub give_on : (here : Here) (hash segment : ℕ) (next : Option (Place × ℕ)) → Cuts (give_kind_of here hash segment next) → ⊥
+pub give_on : (here : Site) (hash segment : ℕ) (next : Option (Role × ℕ)) → Cuts (give_kind_of here hash segment next) → ⊥
 give_on here hash segment (Some next) p = p
 give_on here hash segment None p = p
 

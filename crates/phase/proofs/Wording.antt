@@ -4,8 +4,8 @@ use Rattle.std.proofs.Common.{◌≡◌, ◌∙◌, ℕ, zero, suc, ◌+◌, ◌
 use Rattle.std.specs.Prelude.{replicate, nat_lt, if◌then◌else◌}
 use Rattle.std.proofs.lemmas.Bool.{cases_eq, cases_lt}
 use Rattle.std.proofs.lemmas.List.{set_past}
-use Rattle.phase.specs.declared.place.Place.{Place}
-use Rattle.phase.specs.declared.place.Place.TheVariants.{Home, Probing, First, Second, Next, Previous}
+use Rattle.phase.specs.declared.role.Role.{Role}
+use Rattle.phase.specs.declared.role.Role.TheVariants.{Home, Probing, First, Second, Next, Previous}
 use Rattle.phase.specs.declared.load.Load.{Load}
 use Rattle.phase.specs.declared.load.Loaded.{Loaded}
 use Rattle.phase.specs.declared.load.Loaded.TheVariants.{On, All}
@@ -14,7 +14,7 @@ use Rattle.phase.specs.AreWords.{AreWords}
 use Rattle.phase.specs.Asked.{index}
 use Rattle.phase.specs.Buckets.{with_words, words_in}
 use Rattle.phase.specs.Loads.{load_taken}
-use Rattle.phase.proofs.Asked.{cases_place}
+use Rattle.phase.proofs.asking.Asked.{cases_place}
 
 -- ---- one of two words is one
 pub either_small : (b : Bool) (x y : ℕ) → x < 2 ^ 64 → y < 2 ^ 64 → (if b then x else y) < 2 ^ 64
@@ -23,7 +23,7 @@ either_small false x y p q = q
 
 -- ---- the words of one bucket
 module _ (buckets : Buckets) (words : List ℕ) where
-  pub words_this : (p : Place) → words_in (with_words p words buckets) p ≡ words
+  pub words_this : (p : Role) → words_in (with_words p words buckets) p ≡ words
   words_this Home = refl
   words_this Probing = refl
   words_this First = refl
@@ -31,7 +31,7 @@ module _ (buckets : Buckets) (words : List ℕ) where
   words_this Next = refl
   words_this Previous = refl
 
-  pub words_other : (p q : Place) → (index q ≡ index p → ⊥) → words_in (with_words p words buckets) q ≡ words_in buckets q
+  pub words_other : (p q : Role) → (index q ≡ index p → ⊥) → words_in (with_words p words buckets) q ≡ words_in buckets q
   words_other Home Home n = absurd (n refl)
   words_other Home q n = refl
   words_other Probing Probing n = absurd (n refl)
@@ -80,8 +80,8 @@ load_words load n small a = by (nat_lt load.next 31) (set_words load.words load.
     by false w = w
 
 -- those of a bucket are put in
-pub put_words : (buckets : Buckets) (place : Place) (words : List ℕ) → AreWords words → ((p : Place) → AreWords (words_in buckets p)) → (p : Place) → AreWords (words_in (with_words place words buckets) p)
+pub put_words : (buckets : Buckets) (place : Role) (words : List ℕ) → AreWords words → ((p : Role) → AreWords (words_in buckets p)) → (p : Role) → AreWords (words_in (with_words place words buckets) p)
 put_words buckets place words a all p = elim (cases_place p place) [
-  | inl e ↦ subst (λ (q : Place). AreWords (words_in (with_words place words buckets) q)) (sym e) (subst AreWords (sym (words_this buckets words place)) a)
+  | inl e ↦ subst (λ (q : Role). AreWords (words_in (with_words place words buckets) q)) (sym e) (subst AreWords (sym (words_this buckets words place)) a)
   | inr other ↦ subst AreWords (sym (words_other buckets words place p other)) (all p)
 ]

@@ -1,14 +1,14 @@
 -- The words of the buckets that are locked, by their places.
 use Rattle.std.specs.Prelude.{ℕ, List, replicate}
-use Rattle.phase.specs.declared.place.Place.{Place}
-use Rattle.phase.specs.declared.place.Place.TheVariants.{Home, Probing, First, Second, Next, Previous}
+use Rattle.phase.specs.declared.role.Role.{Role}
+use Rattle.phase.specs.declared.role.Role.TheVariants.{Home, Probing, First, Second, Next, Previous}
 use Rattle.phase.specs.declared.kept.Buckets.{Buckets}
 
 abbrev pub no_words : Buckets
 no_words = record { home = replicate 32 0; probing = replicate 32 0; first = replicate 32 0; second = replicate 32 0; next = replicate 32 0; previous = replicate 32 0 }
 
 -- with the words of one bucket put in
-abbrev pub with_words : Place → List ℕ → Buckets → Buckets
+abbrev pub with_words : Role → List ℕ → Buckets → Buckets
 with_words Home words buckets = record buckets { home = words }
 with_words Probing words buckets = record buckets { probing = words }
 with_words First words buckets = record buckets { first = words }
@@ -17,7 +17,7 @@ with_words Next words buckets = record buckets { next = words }
 with_words Previous words buckets = record buckets { previous = words }
 
 -- the words of a bucket
-abbrev pub words_in : Buckets → Place → List ℕ
+abbrev pub words_in : Buckets → Role → List ℕ
 words_in buckets Home = buckets.home
 words_in buckets Probing = buckets.probing
 words_in buckets First = buckets.first

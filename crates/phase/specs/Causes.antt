@@ -6,7 +6,7 @@ use Rattle.trace.specs.Events.{Words}
 use Rattle.image_layout.specs.Places.{Shape}
 use Rattle.way.specs.Ways.{entry_word, head_word}
 use Rattle.map_model.specs.declared.call.Call.{Call}
-use Rattle.world.specs.declared.site.Site.{Site as Here}
+use Rattle.world.specs.declared.site.Site.{Site}
 use Rattle.world.specs.Views.{Has}
 use Rattle.part.specs.Doings.{Doings}
 use Rattle.part.specs.Causes.{IsDepth, HasAgainCause, IsStale, IsOff}
@@ -43,7 +43,7 @@ module _ (shape : Shape) (hash : ℕ) (loads : List (ℕ × ℕ)) where
   RemembersWalked end = ⊤
 
 -- ---- causes, for an attempt of this call that did this
-module _ (here : Here) (hash : ℕ) (words : Words) (did : Doings) (call : Call) where
+module _ (here : Site) (hash : ℕ) (words : Words) (did : Doings) (call : Call) where
   -- THE CAUSE of each end of the way, by its last event
   abbrev pub HasWalkCause : Walk → Walked → Type 0
   HasWalkCause walk walked.Off = IsOff here.geometry words did call (walk_wanted here hash walk)

@@ -12,13 +12,13 @@ use Rattle.map_model.specs.Map.{key_of}
 use Rattle.bucket_words.specs.Hits.{Hit}
 use Rattle.bucket_words.specs.HomeNotes.{IsUnnoted}
 use Rattle.bucket_words.specs.TableChanges.{IsReadyAt}
-use Rattle.world.specs.declared.site.Site.{Site as Here}
-use Rattle.world.specs.Site.{Site}
+use Rattle.world.specs.declared.site.Site.{Site}
+use Rattle.world.specs.Ground.{Ground}
 use Rattle.world.specs.Views.{Owed, View, Has, HasLock}
 use Rattle.world.specs.Conditions.{IsKept, HasNoted}
 use Rattle.world.specs.Holders.{KnowsBucket, FoundNone, FoundAt, DrawsWell, OwesAsKnown}
-use Rattle.phase.specs.declared.place.Place.{Place}
-use Rattle.phase.specs.declared.place.Place.TheVariants.{Home, Probing, First, Second, Next, Previous}
+use Rattle.phase.specs.declared.role.Role.{Role}
+use Rattle.phase.specs.declared.role.Role.TheVariants.{Home, Probing, First, Second, Next, Previous}
 use Rattle.phase.specs.declared.held.Held.{Held}
 use Rattle.phase.specs.declared.kept.Buckets.{Buckets}
 use Rattle.phase.specs.declared.make.Record.{Record}
@@ -29,7 +29,7 @@ use Rattle.phase.specs.Giving.{IsLocated, IsHeld, IsQuiet, IsOfHeld, HoldsLocks}
 use Rattle.phase.specs.Knows.{Knows, HasNoneLoose, IsWhole, with_loaded}
 use Rattle.phase.specs.Making.{FitsSlot, with_record}
 
-module _ (here : Here) (hash segment : ℕ) where
+module _ (here : Site) (hash segment : ℕ) where
   -- THE WORDS OF THE BUCKETS, as one function of all words
   abbrev pub words_of : Buckets → Words
   words_of buckets =
@@ -42,11 +42,11 @@ module _ (here : Here) (hash segment : ℕ) where
 
   -- each bucket whose lock is held was loaded whole
   abbrev pub HasLoadedHeld : Held → Buckets → View → Type 0
-  HasLoadedHeld held buckets v = (place : Place) → IsHeld held place → IsWhole (lock_word here hash segment place) (words_in buckets place) v
+  HasLoadedHeld held buckets v = (place : Role) → IsHeld held place → IsWhole (lock_word here hash segment place) (words_in buckets place) v
 
 -- THE BUCKETS OF A KEY ARE HELD: home and probing bucket, in a segment that is live and current and whose pinned header leads to the
 -- key's hash, and stash buckets and third ones perhaps; and of all that are held each word is known, to be that of `word`
-pub record HoldsBuckets (site : Site) (here : Here) (hash segment : ℕ) (held : Held) (word : Words) (k : ℕ) (v : View) : Type 0 where
+pub record HoldsBuckets (site : Ground) (here : Site) (hash segment : ℕ) (held : Held) (word : Words) (k : ℕ) (v : View) : Type 0 where
   pub located : IsLocated site here segment
   pub hashed : hash ≡ key_hash site.shape k
   pub there : IsThere site segment v.facts
@@ -64,50 +64,50 @@ pub record SparesStash (shape : Shape) (hash segment : ℕ) (held : Held) (word 
 -- THE KEY STANDS NOWHERE: in none of the buckets that are held and where it may stand, by their words, and so far as notes tell in no
 -- other
 pub record StandsNowhere (shape : Shape) (hash segment : ℕ) (held : Held) (word : Words) (k : ℕ) : Type 0 where
-  pub places : (place : Place) → IsHeld held place → is_third place ≡ false → (t : ℕ) → Hit shape word segment (bucket_of hash place) t k → ⊥
+  pub places : (place : Role) → IsHeld held place → is_third place ≡ false → (t : ℕ) → Hit shape word segment (bucket_of hash place) t k → ⊥
   pub stash : SparesStash shape hash segment held word
 
 -- the lock of a stash bucket is not held
-abbrev pub IsLeft : Site → View → ℕ → ℕ → Type 0
+abbrev pub IsLeft : Ground → View → ℕ → ℕ → Type 0
 IsLeft site v segment c = HasLock v.held (bucket_at site.shape segment (homes + c)) → ⊥
 
 -- ---- the laws
 -- the words of a bucket stand where its lock word does, whatever the others are
 abbrev pub WordsStand : Type 0
-WordsStand = (site : Site) (here : Here) (hash segment : ℕ) (buckets : Buckets) (place : Place) → IsLocated site here segment
+WordsStand = (site : Ground) (here : Site) (hash segment : ℕ) (buckets : Buckets) (place : Role) → IsLocated site here segment
     → (j : ℕ) → 1 ≤ j → j < block → words_of here hash segment buckets (lock_word here hash segment place + j) ≡ slice_index (words_in buckets place) j
 
 -- what was loaded of the buckets that are held is known
 abbrev pub LoadsAreKnown : Type 0
-LoadsAreKnown = (site : Site) (here : Here) (hash segment : ℕ) (held : Held) (buckets : Buckets) (v : View) → IsLocated site here segment
+LoadsAreKnown = (site : Ground) (here : Site) (hash segment : ℕ) (held : Held) (buckets : Buckets) (v : View) → IsLocated site here segment
     → HasLoadedHeld here hash segment held buckets v → Knows (IsOfHeld here hash segment held) (words_of here hash segment buckets) v
 
 -- and what is known of them was loaded, so that another bucket may be loaded beside
 abbrev pub KnownWasLoaded : Type 0
-KnownWasLoaded = (site : Site) (here : Here) (hash segment : ℕ) (held : Held) (buckets : Buckets) (v : View) → IsLocated site here segment
+KnownWasLoaded = (site : Ground) (here : Site) (hash segment : ℕ) (held : Held) (buckets : Buckets) (v : View) → IsLocated site here segment
     → Knows (IsOfHeld here hash segment held) (words_of here hash segment buckets) v → HasLoadedHeld here hash segment held buckets v
 
 -- what the words of a bucket say of a key
 pub record SearchTells : Type 0 where
-  pub found : (site : Site) (here : Here) (hash segment : ℕ) (buckets : Buckets) (place : Place) (k r : ℕ) → IsLocated site here segment
+  pub found : (site : Ground) (here : Site) (hash segment : ℕ) (buckets : Buckets) (place : Role) (k r : ℕ) → IsLocated site here segment
       → lowest_with (words_in buckets place) k ≡ Some r → Hit site.shape (words_of here hash segment buckets) segment (bucket_of hash place) r k
-  pub none : (site : Site) (here : Here) (hash segment : ℕ) (buckets : Buckets) (place : Place) (k : ℕ) → IsLocated site here segment
+  pub none : (site : Ground) (here : Site) (hash segment : ℕ) (buckets : Buckets) (place : Role) (k : ℕ) → IsLocated site here segment
       → lowest_with (words_in buckets place) k ≡ None → (t : ℕ) → Hit site.shape (words_of here hash segment buckets) segment (bucket_of hash place) t k → ⊥
 
 -- what is known of a bucket that is held, where nothing is loose; and what `world` asks of a search and of a draw
 pub record HoldersFind : Type 0 where
-  pub bucket : (site : Site) (here : Here) (hash segment : ℕ) (held : Held) (word : Words) (k : ℕ) (v : View) → HoldsBuckets site here hash segment held word k v → HasNoneLoose v
-      → (place : Place) → IsHeld held place → KnowsBucket site.shape v segment (bucket_of hash place) word
-  pub none : (site : Site) (here : Here) (hash segment : ℕ) (held : Held) (word : Words) (k : ℕ) (v : View) → HoldsBuckets site here hash segment held word k v → IsQuiet v
+  pub bucket : (site : Ground) (here : Site) (hash segment : ℕ) (held : Held) (word : Words) (k : ℕ) (v : View) → HoldsBuckets site here hash segment held word k v → HasNoneLoose v
+      → (place : Role) → IsHeld held place → KnowsBucket site.shape v segment (bucket_of hash place) word
+  pub none : (site : Ground) (here : Site) (hash segment : ℕ) (held : Held) (word : Words) (k : ℕ) (v : View) → HoldsBuckets site here hash segment held word k v → IsQuiet v
       → StandsNowhere site.shape hash segment held word k → FoundNone site v word segment k
-  pub at : (site : Site) (here : Here) (hash segment : ℕ) (held : Held) (word : Words) (k : ℕ) (v : View) → HoldsBuckets site here hash segment held word k v → IsQuiet v
-      → (place : Place) → IsHeld held place → (r : ℕ) → Hit site.shape word segment (bucket_of hash place) r k → FoundAt site v word segment (bucket_of hash place) r k
-  pub draw : (site : Site) (here : Here) (hash segment : ℕ) (held : Held) (word : Words) (call : Call) (v : View) → HoldsBuckets site here hash segment held word (key_of call) v → HasNoneLoose v
+  pub at : (site : Ground) (here : Site) (hash segment : ℕ) (held : Held) (word : Words) (k : ℕ) (v : View) → HoldsBuckets site here hash segment held word k v → IsQuiet v
+      → (place : Role) → IsHeld held place → (r : ℕ) → Hit site.shape word segment (bucket_of hash place) r k → FoundAt site v word segment (bucket_of hash place) r k
+  pub draw : (site : Ground) (here : Site) (hash segment : ℕ) (held : Held) (word : Words) (call : Call) (v : View) → HoldsBuckets site here hash segment held word (key_of call) v → HasNoneLoose v
       → Has call v.planned → 0 < v.room → HasNoted v → DrawsWell site v call segment word
   -- each stash bucket is held and has nothing loose, or is not held, and then the notes name no record of the key there
-  pub kept : (site : Site) (here : Here) (hash segment : ℕ) (held : Held) (word : Words) (k : ℕ) (v : View) → HoldsBuckets site here hash segment held word k v → HasNoneLoose v
+  pub kept : (site : Ground) (here : Site) (hash segment : ℕ) (held : Held) (word : Words) (k : ℕ) (v : View) → HoldsBuckets site here hash segment held word k v → HasNoneLoose v
       → (c : ℕ) → c < stash_buckets → IsKept site v (bucket_at site.shape segment (homes + c)) ⊎ IsLeft site v segment c
-  pub spared : (site : Site) (here : Here) (hash segment : ℕ) (held : Held) (word : Words) (k : ℕ) (v : View) → HoldsBuckets site here hash segment held word k v → HasNoneLoose v
+  pub spared : (site : Ground) (here : Site) (hash segment : ℕ) (held : Held) (word : Words) (k : ℕ) (v : View) → HoldsBuckets site here hash segment held word k v → HasNoneLoose v
       → SparesStash site.shape hash segment held word → (c : ℕ) → c < stash_buckets → IsKept site v (bucket_at site.shape segment (homes + c))
       ⊎ (IsLeft site v segment c × IsUnnoted site.shape word segment (home_of (key_hash site.shape k)) (finger_of (key_hash site.shape k)) c)
   pub quiet : (v : View) → HasNoneLoose v → v.planned ≡ [] → v.moving ≡ [] → v.owed ≡ [] → IsQuiet v
@@ -124,6 +124,6 @@ pub record PublishTells : Type 0 where
   pub valued : (shape : Shape) (word : Words) (s b r k x : ℕ) → Hit shape word s b r k → Hit shape (with_word word (bucket_at shape s b + 5 + 2 * r) x) s b r k
   pub spared : (shape : Shape) (hash segment : ℕ) (held : Held) (word : Words) (s b x : ℕ) → b < buckets → x / 2 ^ 28 ≡ word (bucket_at shape s b + 1) / 2 ^ 28
       → SparesStash shape hash segment held word → SparesStash shape hash segment held (with_word word (bucket_at shape s b + 1) x)
-  pub owed : (site : Site) (v : View) (word : Words) (s b d x : ℕ) (o : Owed) → b < buckets → d < homes → x / 2 ^ 28 ≡ word (bucket_at site.shape s b + 1) / 2 ^ 28
+  pub owed : (site : Ground) (v : View) (word : Words) (s b d x : ℕ) (o : Owed) → b < buckets → d < homes → x / 2 ^ 28 ≡ word (bucket_at site.shape s b + 1) / 2 ^ 28
       → Has o v.owed → o.segment ≡ s → o.home ≡ d → o.added ≡ false → o.notes ≡ notes_of site.shape word s d → o.count ≡ overflow_count (word_in site.shape word s d 1)
       → OwesAsKnown site v (with_word word (bucket_at site.shape s b + 1) x) s d

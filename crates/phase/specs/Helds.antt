@@ -2,9 +2,9 @@
 use Rattle.std.specs.Prelude.{ℕ, ◌+◌, ◌%◌, ◌^◌, Option, None, Some}
 use Rattle.op_core.specs.declared.want.Want.{Want}
 use Rattle.op_core.specs.declared.want.Want.TheVariants.{Store, Done}
-use Rattle.world.specs.declared.site.Site.{Site as Here}
-use Rattle.phase.specs.declared.place.Place.{Place}
-use Rattle.phase.specs.declared.place.Place.TheVariants.{Home, Probing, First, Second, Next, Previous}
+use Rattle.world.specs.declared.site.Site.{Site}
+use Rattle.phase.specs.declared.role.Role.{Role}
+use Rattle.phase.specs.declared.role.Role.TheVariants.{Home, Probing, First, Second, Next, Previous}
 use Rattle.phase.specs.declared.held.Held.{Held}
 use Rattle.phase.specs.Places.{lock_word}
 
@@ -12,7 +12,7 @@ abbrev pub none_held : Held
 none_held = record { home = None; probing = None; first = None; second = None; next = None; previous = None }
 
 -- with the lock of one more place, whose word had this free value
-abbrev pub with_held : Place → ℕ → Held → Held
+abbrev pub with_held : Role → ℕ → Held → Held
 with_held Home free held = record held { home = Some free }
 with_held Probing free held = record held { probing = Some free }
 with_held First free held = record held { first = Some free }
@@ -21,7 +21,7 @@ with_held Next free held = record held { next = Some free }
 with_held Previous free held = record held { previous = Some free }
 
 -- without that of a place
-abbrev pub without_held : Place → Held → Held
+abbrev pub without_held : Role → Held → Held
 without_held Home held = record held { home = None }
 without_held Probing held = record held { probing = None }
 without_held First held = record held { first = None }
@@ -30,7 +30,7 @@ without_held Next held = record held { next = None }
 without_held Previous held = record held { previous = None }
 
 -- the free value of a place, if its lock is held
-abbrev pub free_of : Held → Place → Option ℕ
+abbrev pub free_of : Held → Role → Option ℕ
 free_of held Home = held.home
 free_of held Probing = held.probing
 free_of held First = held.first
@@ -40,7 +40,7 @@ free_of held Previous = held.previous
 
 -- ---- given back
 -- the first of these that is held, with its free value
-abbrev pub first_held : (home probing first second next previous : Option ℕ) → Option (Place × ℕ)
+abbrev pub first_held : (home probing first second next previous : Option ℕ) → Option (Role × ℕ)
 first_held (Some free) probing first second next previous = Some (Home, free)
 first_held None (Some free) first second next previous = Some (Probing, free)
 first_held None None (Some free) second next previous = Some (First, free)
@@ -50,18 +50,18 @@ first_held None None None None None (Some free) = Some (Previous, free)
 first_held None None None None None None = None
 
 -- the lock that is given back next
-abbrev pub give_next : Held → Option (Place × ℕ)
+abbrev pub give_next : Held → Option (Role × ℕ)
 give_next held = first_held held.home held.probing held.first held.second held.next held.previous
 
 -- with its version plus one
-abbrev pub give_wanted_of : Here → ℕ → ℕ → Option (Place × ℕ) → Want
+abbrev pub give_wanted_of : Site → ℕ → ℕ → Option (Role × ℕ) → Want
 give_wanted_of here hash segment (Some next) = Store (lock_word here hash segment next.0) ((next.1 + 2) % 2 ^ 64)
 give_wanted_of here hash segment None = Done
 
-abbrev pub give_wanted : Here → ℕ → ℕ → Held → Want
+abbrev pub give_wanted : Site → ℕ → ℕ → Held → Want
 give_wanted here hash segment held = give_wanted_of here hash segment (give_next held)
 
-abbrev pub given_of : Option (Place × ℕ) → Held → Held
+abbrev pub given_of : Option (Role × ℕ) → Held → Held
 given_of (Some next) held = without_held next.0 held
 given_of None held = held
 

@@ -6,11 +6,11 @@ use Rattle.image_layout.specs.Places.{block}
 use Rattle.way.specs.Ways.{is_leading}
 use Rattle.map_model.specs.Changes.{call_of}
 use Rattle.map_model.specs.Legal.{IsInsert}
-use Rattle.world.specs.Site.{Site}
+use Rattle.world.specs.Ground.{Ground}
 use Rattle.world.specs.Views.{View, Has}
 use Rattle.phase.specs.declared.walk.Path.{Path}
-use Rattle.phase.specs.declared.place.Place.{Place}
-use Rattle.phase.specs.declared.place.Place.TheVariants.{Home, Probing, First, Second, Next, Previous}
+use Rattle.phase.specs.declared.role.Role.{Role}
+use Rattle.phase.specs.declared.role.Role.TheVariants.{Home, Probing, First, Second, Next, Previous}
 use Rattle.phase.specs.declared.held.Held.{Held}
 use Rattle.phase.specs.declared.kept.Kept.{Kept}
 use Rattle.phase.specs.Places.{is_third, lock_word}
@@ -29,7 +29,7 @@ IsFull words = lowest_free (slice_index words 1) ≡ None
 
 -- ITS LOCKS ARE HELD, and the words of their buckets known; the header is pinned and leads to its hash; its key stands nowhere, and
 -- home and probing bucket are full; nothing is unsettled, planned, under way or owed, and the list of replies has room
-pub record KeepsAll (site : Site) (kept : Kept) (v : View) : Type 0 where
+pub record KeepsAll (site : Ground) (kept : Kept) (v : View) : Type 0 where
   pub insert : IsInsert (call_of kept.change)
   pub pinned : Has (kept.segment, kept.head) v.pinned
   pub leads : is_leading kept.head kept.hash ≡ true
@@ -41,7 +41,7 @@ pub record KeepsAll (site : Site) (kept : Kept) (v : View) : Type 0 where
   pub room : 0 < v.room
 
 -- A BUCKET IS HELD AND FULL
-pub record IsFullHeld (kept : Kept) (place : Place) : Type 0 where
+pub record IsFullHeld (kept : Kept) (place : Role) : Type 0 where
   pub held : IsHeld kept.held place
   pub full : IsFull (words_in kept.buckets place)
 
@@ -51,7 +51,7 @@ pub record HoldsThirds (held : Held) : Type 0 where
   pub previous : IsHeld held Previous
 
 -- AND BOTH STASH BUCKETS are held and full too, and both third buckets are held
-pub record KeepsFull (site : Site) (kept : Kept) (v : View) : Type 0 where
+pub record KeepsFull (site : Ground) (kept : Kept) (v : View) : Type 0 where
   pub keeps : KeepsAll site kept v
   pub thirds : HoldsThirds kept.held
   pub first : IsFullHeld kept First
@@ -60,25 +60,25 @@ pub record KeepsFull (site : Site) (kept : Kept) (v : View) : Type 0 where
 -- ---- what its attempt did
 module _ (kept : Kept) where
   -- the words of a bucket were loaded as they are kept
-  abbrev pub WasLoaded : List (ℕ × ℕ) → Place → Type 0
+  abbrev pub WasLoaded : List (ℕ × ℕ) → Role → Type 0
   WasLoaded loads place = (j : ℕ) → 1 ≤ j → j < block → Has (lock_word kept.site kept.hash kept.segment place + j, slice_index (words_in kept.buckets place) j) loads
 
   -- it changed no words but those of locks that it holds
   abbrev pub ChangedLocks : List ℕ → Type 0
-  ChangedLocks changed = (word : ℕ) → Has word changed → (place : Place) × IsHeld kept.held place × (word ≡ lock_word kept.site kept.hash kept.segment place)
+  ChangedLocks changed = (word : ℕ) → Has word changed → (place : Role) × IsHeld kept.held place × (word ≡ lock_word kept.site kept.hash kept.segment place)
 
   -- a bucket was loaded, and is full by its words
-  abbrev pub LoadedFull : List (ℕ × ℕ) → Place → Type 0
+  abbrev pub LoadedFull : List (ℕ × ℕ) → Role → Type 0
   LoadedFull loads place = WasLoaded loads place × IsFull (words_in kept.buckets place)
 
 -- IT LOADED the way to its segment, with the header that is kept, and the words of each bucket that is held and where its key may
 -- stand; and of these home and probing bucket are full
-pub record RemembersRoom (site : Site) (kept : Kept) (loads : List (ℕ × ℕ)) : Type 0 where
+pub record RemembersRoom (site : Ground) (kept : Kept) (loads : List (ℕ × ℕ)) : Type 0 where
   pub path : Path
   pub there : path.segment ≡ kept.segment
   pub found : WasFound kept.site.geometry kept.hash loads path
   pub head : path.head ≡ kept.head
-  pub buckets : (place : Place) → IsHeld kept.held place → is_third place ≡ false → WasLoaded kept loads place
+  pub buckets : (place : Role) → IsHeld kept.held place → is_third place ≡ false → WasLoaded kept loads place
   pub home : LoadedFull kept loads Home
   pub probing : LoadedFull kept loads Probing
 

@@ -4,7 +4,7 @@ use Rattle.std.specs.Prelude.{◌≡◌, ℕ, ◌+◌, ◌%◌, ◌-◌, ◌<◌
 use Rattle.trace.specs.Events.{Words, with_word}
 use Rattle.image_layout.specs.Places.{Shape, block, bucket_at}
 use Rattle.map_model.specs.declared.call.Call.{Call}
-use Rattle.world.specs.Site.{Site, IsUnder}
+use Rattle.world.specs.Ground.{Ground, IsUnder}
 use Rattle.world.specs.Views.{Move, Owed, View, Has, HasLock, IsLoose}
 use Rattle.world.specs.Kinds.{learns, with_store, view_after}
 use Rattle.world.specs.Conditions.{May}
@@ -41,7 +41,7 @@ with_loaded lock words word i = if nat_lt lock i && nat_lt i (lock + block) then
 -- a holder may load a bucket word by word, and knows each then; when all are loaded the bucket is known whole, and what was known
 -- is known still
 pub record HoldersLoad : Type 0 where
-  pub may : (site : Site) (lock : ℕ) (load : Load) (v : View) → IsLoading lock v.known load → HasLock v.held lock → May site (learns (lock + load.next % block)) v
+  pub may : (site : Ground) (lock : ℕ) (load : Load) (v : View) → IsLoading lock v.known load → HasLock v.held lock → May site (learns (lock + load.next % block)) v
   pub stands : (shape : Shape) (lock : ℕ) (load : Load) (v : View) (n : ℕ) → IsLoading lock v.known load
       → HasLoaded lock (view_after shape (learns (lock + load.next % block)) n v).known (load_taken load n)
   pub whole : (shape : Shape) (lock : ℕ) (words : List ℕ) (v : View) (i n : ℕ) → IsWhole lock words v → IsWhole lock words (view_after shape (learns i) n v)

@@ -12,9 +12,9 @@ use Rattle.frame_facts.specs.Facts.{Fact}
 use Rattle.way.specs.Ways.{head_word, is_leading}
 use Rattle.map_model.specs.declared.call.Call.{Call}
 use Rattle.map_model.specs.Map.{key_of}
-use Rattle.world.specs.declared.site.Site.{Site as Here}
-use Rattle.world.specs.Site.{Site, version_of, IsStructured}
-use Rattle.world.specs.Views.{Note, View, Has}
+use Rattle.world.specs.declared.site.Site.{Site}
+use Rattle.world.specs.Ground.{Ground, version_of, IsStructured}
+use Rattle.world.specs.Views.{Glance, View, Has}
 use Rattle.world.specs.Wants.{word_of}
 use Rattle.world.specs.Kinds.{Kind, validates, pins, wanted, view_after}
 use Rattle.world.specs.Conditions.{May, IsNewest, IsNow}
@@ -35,78 +35,78 @@ use Rattle.phase.specs.Causes.{WasFound, RemembersWalk, RemembersWalked, HasWalk
 -- ---- where the way leads
 -- THE OWNER of a hash is the segment whose header leads to it, in words whose structure is sound
 abbrev pub HeadersLead : Type 0
-HeadersLead = (site : Site) → IsShape site.shape → (words : Words) → IsStructured site words → (s hash : ℕ) → s < site.shape.segments → hash < 2 ^ 64
+HeadersLead = (site : Ground) → IsShape site.shape → (words : Words) → IsStructured site words → (s hash : ℕ) → s < site.shape.segments → hash < 2 ^ 64
     → is_leading (words (head_at site.shape s + 1)) hash ≡ true → owner_of site.shape words hash ≡ Some s
 
 -- so who has pinned such a header knows the owner while it is pinned
 abbrev pub PinnedLead : Type 0
-PinnedLead = (site : Site) (hash segment : ℕ) (v : View) → Leads site hash segment v.pinned
+PinnedLead = (site : Ground) (hash segment : ℕ) (v : View) → Leads site hash segment v.pinned
     → (words : Words) → IsNewest site v words → owner_of site.shape words hash ≡ Some segment
 
 -- and who has noted one, whenever it is as it was
 abbrev pub NotedLead : Type 0
-NotedLead = (site : Site) (hash : ℕ) (path : Path) (notes : List Note) → IsShape site.shape → hash < 2 ^ 64 → path.segment < site.shape.segments
-    → (note : Note) → Has note notes → note.word ≡ head_at site.shape path.segment + 1 → note.value ≡ path.head → is_leading path.head hash ≡ true
+NotedLead = (site : Ground) (hash : ℕ) (path : Path) (notes : List Glance) → IsShape site.shape → hash < 2 ^ 64 → path.segment < site.shape.segments
+    → (note : Glance) → Has note notes → note.word ≡ head_at site.shape path.segment + 1 → note.value ≡ path.head → is_leading path.head hash ≡ true
     → (words : Words) → IsNow site notes words → owner_of site.shape words hash ≡ Some path.segment
 
 -- ---- the way
 -- each event is of its kind, which who relies on what it loaded may take; and it leaves all but that and the notes as it was
 pub record WalkFits : Type 0 where
-  pub wants : (shape : Shape) (here : Here) (hash : ℕ) (w : Walk) → here.geometry ≡ shape → walk_wanted here hash w ≡ wanted shape (walk_kind here hash w)
-  pub may : (site : Site) (here : Here) (hash : ℕ) (w : Walk) (v : View) → IsShape site.shape → here.geometry ≡ site.shape → here.version ≡ version_of site → hash < 2 ^ 64
+  pub wants : (shape : Shape) (here : Site) (hash : ℕ) (w : Walk) → here.geometry ≡ shape → walk_wanted here hash w ≡ wanted shape (walk_kind here hash w)
+  pub may : (site : Ground) (here : Site) (hash : ℕ) (w : Walk) (v : View) → IsShape site.shape → here.geometry ≡ site.shape → here.version ≡ version_of site → hash < 2 ^ 64
       → IsWalking site w v.facts → May site (walk_kind here hash w) v
-  pub leaves : (shape : Shape) (here : Here) (hash : ℕ) (w : Walk) (n : ℕ) (v : View) → IsButWay v (view_after shape (walk_kind here hash w) n v)
+  pub leaves : (shape : Shape) (here : Site) (hash : ℕ) (w : Walk) (n : ℕ) (v : View) → IsButWay v (view_after shape (walk_kind here hash w) n v)
 
 -- WHAT A VIEW RELIES ON on the way is kept by each event, whatever words may be the newest as far as it can know
 abbrev pub WalkStands : Type 0
-WalkStands = (site : Site) (here : Here) (hash : ℕ) (words : Words) (v : View) → IsShape site.shape → here.geometry ≡ site.shape → hash < 2 ^ 64 → IsNewest site v words
+WalkStands = (site : Ground) (here : Site) (hash : ℕ) (words : Words) (v : View) → IsShape site.shape → here.geometry ≡ site.shape → hash < 2 ^ 64 → IsNewest site v words
     → (w : Walk) → IsWalking site w v.facts → (n : ℕ) → n ≡ words (word_of site.shape (walk_wanted here hash w))
     → HasWalked site (walk_taken here hash w n) (view_after site.shape (walk_kind here hash w) n v).facts
 
 -- WHAT IT HAS NOTED: nothing on the way, and at its end the header
 abbrev pub WalkNotes : Type 0
-WalkNotes = (site : Site) (here : Here) (hash : ℕ) (v : View) → here.geometry ≡ site.shape → (w : Walk) → IsWalking site w v.facts → HasBegun w v
+WalkNotes = (site : Ground) (here : Site) (hash : ℕ) (v : View) → here.geometry ≡ site.shape → (w : Walk) → IsWalking site w v.facts → HasBegun w v
     → (n : ℕ) → NotesWay site.shape (walk_taken here hash w n) (view_after site.shape (walk_kind here hash w) n v)
 
 -- where each live segment has the image's version, no segment is stale
 abbrev pub WalkNeverStale : Type 0
-WalkNeverStale = (site : Site) (here : Here) (hash : ℕ) (words : Words) (facts : List Fact) → here.geometry ≡ site.shape → IsCurrent site.shape words here.version
+WalkNeverStale = (site : Ground) (here : Site) (hash : ℕ) (words : Words) (facts : List Fact) → here.geometry ≡ site.shape → IsCurrent site.shape words here.version
     → (w : Walk) → IsWalking site w facts → (n : ℕ) → n ≡ words (word_of site.shape (walk_wanted here hash w)) → (segment byte : ℕ) → walk_taken here hash w n ≡ Stale segment byte → ⊥
 
 abbrev pub WalkFalls : Type 0
-WalkFalls = (here : Here) (hash : ℕ) (w : Walk) (n : ℕ) → walked_left (walk_taken here hash w n) < walk_left w
+WalkFalls = (here : Site) (hash : ℕ) (w : Walk) (n : ℕ) → walked_left (walk_taken here hash w n) < walk_left w
 
 -- a way asks for words of the image, and for the power word
 abbrev pub WalkAsksWithin : Type 0
-WalkAsksWithin = (here : Here) (hash : ℕ) → IsShape here.geometry → hash < 2 ^ 64 → (w : Walk) → word_of here.geometry (walk_wanted here hash w) < all_words_of here.geometry
+WalkAsksWithin = (here : Site) (hash : ℕ) → IsShape here.geometry → hash < 2 ^ 64 → (w : Walk) → word_of here.geometry (walk_wanted here hash w) < all_words_of here.geometry
 
 -- ---- the way again
 -- each event is of its kind, where the last one looks at the header; whoever may take that may take each; and those before it leave
 -- the view as it was
 pub record BackFits : Type 0 where
-  pub wants : (shape : Shape) (here : Here) (hash : ℕ) (path : Path) (last : Kind) (at : Back) → wanted shape last ≡ LoadWord (back_word here hash path Head)
+  pub wants : (shape : Shape) (here : Site) (hash : ℕ) (path : Path) (last : Kind) (at : Back) → wanted shape last ≡ LoadWord (back_word here hash path Head)
       → LoadWord (back_word here hash path at) ≡ wanted shape (back_kind here hash path last at)
-  pub may : (site : Site) (here : Here) (hash : ℕ) (path : Path) (last : Kind) (at : Back) (v : View) → May site last v → May site (back_kind here hash path last at) v
-  pub view : (shape : Shape) (here : Here) (hash : ℕ) (path : Path) (last : Kind) (at : Back) (n : ℕ) (v : View) → at ≢ Head → view_after shape (back_kind here hash path last at) n v ≡ v
+  pub may : (site : Ground) (here : Site) (hash : ℕ) (path : Path) (last : Kind) (at : Back) (v : View) → May site last v → May site (back_kind here hash path last at) v
+  pub view : (shape : Shape) (here : Site) (hash : ℕ) (path : Path) (last : Kind) (at : Back) (n : ℕ) (v : View) → at ≢ Head → view_after shape (back_kind here hash path last at) n v ≡ v
   -- such a look is that of who validates the noted header, and of who pins it
-  pub validates : (shape : Shape) (here : Here) (hash : ℕ) (path : Path) → wanted shape (validates (head_word here.geometry path.segment)) ≡ LoadWord (back_word here hash path Head)
-  pub pins : (shape : Shape) (here : Here) (hash : ℕ) (path : Path) (b : ℕ) → here.geometry ≡ shape → path.segment < shape.segments
+  pub validates : (shape : Shape) (here : Site) (hash : ℕ) (path : Path) → wanted shape (validates (head_word here.geometry path.segment)) ≡ LoadWord (back_word here hash path Head)
+  pub pins : (shape : Shape) (here : Site) (hash : ℕ) (path : Path) (b : ℕ) → here.geometry ≡ shape → path.segment < shape.segments
       → wanted shape (pins path.segment b) ≡ LoadWord (back_word here hash path Head)
 
 -- IT ENDS at a header that is as it was and leads to the hash
 abbrev pub BackLeads : Type 0
-BackLeads = (here : Here) (hash : ℕ) (path : Path) (at : Back) (n : ℕ) → back_taken here hash path at n ≡ Same → (at ≡ Head) × (n ≡ path.head) × (is_leading path.head hash ≡ true)
+BackLeads = (here : Site) (hash : ℕ) (path : Path) (at : Back) (n : ℕ) → back_taken here hash path at n ≡ Same → (at ≡ Head) × (n ≡ path.head) × (is_leading path.head hash ≡ true)
 
 -- and at none that does not
 abbrev pub BackLeadsAway : Type 0
-BackLeadsAway = (here : Here) (hash : ℕ) (path : Path) (at : Back) (n : ℕ) → is_leading path.head hash ≡ false → back_taken here hash path at n ≢ Same
+BackLeadsAway = (here : Site) (hash : ℕ) (path : Path) (at : Back) (n : ℕ) → is_leading path.head hash ≡ false → back_taken here hash path at n ≢ Same
 
 abbrev pub BackFalls : Type 0
-BackFalls = (here : Here) (hash : ℕ) (path : Path) (at : Back) (n : ℕ) → backed_left (back_taken here hash path at n) < back_left at
+BackFalls = (here : Site) (hash : ℕ) (path : Path) (at : Back) (n : ℕ) → backed_left (back_taken here hash path at n) < back_left at
 
 -- it asks for words of the image
 abbrev pub BackAsksWithin : Type 0
-BackAsksWithin = (here : Here) (hash : ℕ) → IsShape here.geometry → hash < 2 ^ 64 → (path : Path) (at : Back) → back_word here hash path at < words_of here.geometry
+BackAsksWithin = (here : Site) (hash : ℕ) → IsShape here.geometry → hash < 2 ^ 64 → (path : Path) (at : Back) → back_word here hash path at < words_of here.geometry
 
 -- ---- the load of a bucket
 abbrev pub LoadStands : Type 0
@@ -118,16 +118,16 @@ LoadFalls = (load : Load) (n : ℕ) → loaded_left (load_taken load n) < load_l
 -- ---- causes
 -- WHAT IS KEPT on the way was loaded
 abbrev pub WalkRemembers : Type 0
-WalkRemembers = (here : Here) (hash : ℕ) (loads : List (ℕ × ℕ)) (w : Walk) (n : ℕ) → RemembersWalk here.geometry hash loads w
+WalkRemembers = (here : Site) (hash : ℕ) (loads : List (ℕ × ℕ)) (w : Walk) (n : ℕ) → RemembersWalk here.geometry hash loads w
     → RemembersWalked here.geometry hash (load_of (walk_wanted here hash w) (Value n) ++ loads) (walk_taken here hash w n)
 
 -- EACH END of a way HAS ITS CAUSE
 abbrev pub WalkHasCauses : Type 0
-WalkHasCauses = (here : Here) (hash : ℕ) (words : Words) (did : Doings) (call : Call) → hash ≡ key_hash here.geometry (key_of call) → (w : Walk) → RemembersWalk here.geometry hash did.loads w
+WalkHasCauses = (here : Site) (hash : ℕ) (words : Words) (did : Doings) (call : Call) → hash ≡ key_hash here.geometry (key_of call) → (w : Walk) → RemembersWalk here.geometry hash did.loads w
     → (n : ℕ) → n ≡ words (word_of here.geometry (walk_wanted here hash w)) → HasWalkCause here hash words did call w (walk_taken here hash w n)
 
 -- and of a way again, where the attempt did not change its words itself
 abbrev pub BackHasCauses : Type 0
-BackHasCauses = (here : Here) (hash : ℕ) (words : Words) (did : Doings) (call : Call) → hash ≡ key_hash here.geometry (key_of call) → (path : Path) → WasFound here.geometry hash did.loads path
+BackHasCauses = (here : Site) (hash : ℕ) (words : Words) (did : Doings) (call : Call) → hash ≡ key_hash here.geometry (key_of call) → (path : Path) → WasFound here.geometry hash did.loads path
     → ((at : Back) → Has (back_word here hash path at) did.changed → ⊥)
     → (at : Back) (n : ℕ) → n ≡ words (back_word here hash path at) → HasBackCause here hash words did call path at (back_taken here hash path at n)

@@ -2,8 +2,8 @@
 use Rattle.std.specs.Prelude.{ℕ, ◌+◌, ◌*◌, nat_lt, if◌then◌else◌}
 use Rattle.bucket_meta.specs.Marks.{finger_place}
 use Rattle.trace.specs.Events.{line_of}
-use Rattle.map_model.specs.declared.change.Deed.{Deed}
-use Rattle.map_model.specs.declared.change.Deed.TheVariants.{Insert, Update, Remove}
+use Rattle.map_model.specs.declared.change.Effect.{Effect}
+use Rattle.map_model.specs.declared.change.Effect.TheVariants.{Insert, Update, Remove}
 use Rattle.op_core.specs.declared.want.Want.{Want}
 use Rattle.op_core.specs.declared.want.Want.TheVariants.{Store, Flush, Fence}
 use Rattle.phase.specs.declared.make.Record.{Record}
@@ -13,7 +13,7 @@ use Rattle.phase.specs.declared.make.Made.{Made}
 use Rattle.phase.specs.declared.make.Made.TheVariants.{On, Settled}
 
 -- the value that a change brings, and 0 where it brings none
-abbrev pub brought : Deed → ℕ
+abbrev pub brought : Effect → ℕ
 brought (Insert value) = value
 brought (Update value) = value
 brought Remove = 0

@@ -13,12 +13,12 @@ use Rattle.bucket_words.specs.Buckets.{value_in}
 use Rattle.bucket_words.specs.Hits.{Hit}
 use Rattle.bucket_words.specs.HomeNotes.{IsUnnoted}
 use Rattle.bucket_words.specs.TableChanges.{IsReadyAt}
-use Rattle.world.specs.declared.site.Site.{Site as Here}
-use Rattle.world.specs.Site.{Site, IsLockWord, IsUnder}
+use Rattle.world.specs.declared.site.Site.{Site}
+use Rattle.world.specs.Ground.{Ground, IsLockWord, IsUnder}
 use Rattle.world.specs.Views.{Move, Owed, View, Has, HasLock}
 use Rattle.world.specs.Kinds.{Kind, stores, flushes, fences, with_store, wanted, view_after}
 use Rattle.world.specs.Conditions.{May}
-use Rattle.phase.specs.declared.place.Place.{Place}
+use Rattle.phase.specs.declared.role.Role.{Role}
 use Rattle.phase.specs.declared.held.Held.{Held}
 use Rattle.phase.specs.declared.make.Record.{Record}
 use Rattle.phase.specs.declared.make.Make.{Make}
@@ -189,7 +189,7 @@ pub record MakeKnows (S : ℕ → Type 0) : Type 0 where
       → (word before : Words) (make : Make) (v : View) (n : ℕ) → IsMaking lock written S word before make v
       → HasMade lock written S word before (make_taken written.slot make) (view_after shape (make_kind publish lock written make) n v)
   -- who holds the lock may take each, but for the one store that makes the change
-  pub may : (site : Site) (publish : ℕ → ℕ → Kind) (s b lock finger : ℕ) (written : Record) (word before : Words) (make : Make) (v : View)
+  pub may : (site : Ground) (publish : ℕ → ℕ → Kind) (s b lock finger : ℕ) (written : Record) (word before : Words) (make : Make) (v : View)
       → (IsNew make → FitsSlot site.shape word s b lock written finger) → HasLock v.held lock → ((i : ℕ) → IsUnder lock i → S i)
       → IsMaking lock written S word before make v → make ≢ Publish → May site (make_kind publish lock written make) v
   -- at that one nothing is loose, and the machine shows that it may
@@ -197,7 +197,7 @@ pub record MakeKnows (S : ℕ → Type 0) : Type 0 where
 
 -- the stores to the bucket of a place that is held keep what is held
 abbrev pub MakeHolds : Type 0
-MakeHolds = (shape : Shape) (publish : ℕ → ℕ → Kind) → IsStoring publish → (here : Here) (hash segment : ℕ) (held : Held) (place : Place) (written : Record) (make : Make) (n : ℕ) (v : View)
+MakeHolds = (shape : Shape) (publish : ℕ → ℕ → Kind) → IsStoring publish → (here : Site) (hash segment : ℕ) (held : Held) (place : Role) (written : Record) (make : Make) (n : ℕ) (v : View)
     → IsHeld held place → written.slot < record_slots → 1 ≤ written.published → written.published < block → HoldsLocks here hash segment held v
     → HoldsLocks here hash segment held (view_after shape (make_kind publish (lock_word here hash segment place) written make) n v)
 

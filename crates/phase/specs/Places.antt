@@ -3,12 +3,12 @@ use Rattle.std.specs.Prelude.{ℕ, ◌+◌, Bool, true, false}
 use Rattle.hash_word.specs.Hash.{home_of, probing_of, next_of, previous_of}
 use Rattle.image_layout.specs.Places.{homes}
 use Rattle.way.specs.Ways.{bucket_word}
-use Rattle.world.specs.declared.site.Site.{Site as Here}
-use Rattle.phase.specs.declared.place.Place.{Place}
-use Rattle.phase.specs.declared.place.Place.TheVariants.{Home, Probing, First, Second, Next, Previous}
+use Rattle.world.specs.declared.site.Site.{Site}
+use Rattle.phase.specs.declared.role.Role.{Role}
+use Rattle.phase.specs.declared.role.Role.TheVariants.{Home, Probing, First, Second, Next, Previous}
 
 -- the number of the bucket, for a hash
-abbrev pub bucket_of : ℕ → Place → ℕ
+abbrev pub bucket_of : ℕ → Role → ℕ
 bucket_of hash Home = home_of hash
 bucket_of hash Probing = probing_of (home_of hash)
 bucket_of hash First = homes
@@ -17,11 +17,11 @@ bucket_of hash Next = next_of (home_of hash)
 bucket_of hash Previous = previous_of (home_of hash)
 
 -- a third bucket: no key of this hash stands there, and room is made by it
-abbrev pub is_third : Place → Bool
+abbrev pub is_third : Role → Bool
 is_third Next = true
 is_third Previous = true
 is_third place = false
 
 -- the lock word of the bucket, for a hash and a segment
-abbrev pub lock_word : Here → ℕ → ℕ → Place → ℕ
+abbrev pub lock_word : Site → ℕ → ℕ → Role → ℕ
 lock_word here hash segment place = bucket_word here.geometry segment (bucket_of hash place)

@@ -6,9 +6,9 @@ use Rattle.segment_head.specs.HeadWord.{version_in, is_live}
 use Rattle.image_layout.specs.Places.{Shape, IsShape, root_word, head_at}
 use Rattle.frame_facts.specs.Facts.{Fact, Lives, Current, Rooted}
 use Rattle.way.specs.Ways.{entry_word, is_leading}
-use Rattle.world.specs.declared.site.Site.{Site as Here}
-use Rattle.world.specs.Site.{Site}
-use Rattle.world.specs.Views.{Note, View, Has}
+use Rattle.world.specs.declared.site.Site.{Site}
+use Rattle.world.specs.Ground.{Ground}
+use Rattle.world.specs.Views.{Glance, View, Has}
 use Rattle.world.specs.Kinds.{Kind, peeks, asks_power, meets_root, meets_entry, meets_head}
 use Rattle.phase.specs.declared.walk.Path.{Path}
 use Rattle.phase.specs.declared.walk.Walk.{Walk}
@@ -24,7 +24,7 @@ use Rattle.phase.specs.declared.load.Loaded.{Loaded}
 use Rattle.phase.specs.declared.load.Loaded.TheVariants as loaded
 
 -- ---- the kind of each event
-module _ (here : Here) (hash : ℕ) where
+module _ (here : Site) (hash : ℕ) where
   -- where the image has no such depth, or no such slot, the root's word is asked for
   abbrev pub walk_kind : Walk → Kind
   walk_kind Power = asks_power
@@ -45,12 +45,12 @@ abbrev pub IsCurrent : Shape → Words → ℕ → Type 0
 IsCurrent shape words version = (s : ℕ) → s < shape.segments → is_live (words (head_at shape s + 1)) ≡ true → version_in (words (head_at shape s + 1)) ≡ version
 
 -- THE WAY IS AT A SEGMENT of the image, of which a view relies on that it is live and current
-pub record IsThere (site : Site) (segment : ℕ) (facts : List Fact) : Type 0 where
+pub record IsThere (site : Ground) (segment : ℕ) (facts : List Fact) : Type 0 where
   pub within : segment < site.shape.segments
   pub lives : Has (Lives segment) facts
   pub current : Has (Current segment) facts
 
-module _ (site : Site) where
+module _ (site : Ground) where
   -- what a view relies on while it goes the way
   abbrev pub IsWalking : Walk → List Fact → Type 0
   IsWalking Power facts = ⊤
@@ -66,7 +66,7 @@ module _ (site : Site) where
   HasWalked end facts = ⊤
 
 -- THE WAY LEADS to a segment: the header that a view has pinned of it leads to the hash
-pub record Leads (site : Site) (hash segment : ℕ) (pinned : List (ℕ × ℕ)) : Type 0 where
+pub record Leads (site : Ground) (hash segment : ℕ) (pinned : List (ℕ × ℕ)) : Type 0 where
   pub shape : IsShape site.shape
   pub fits : hash < 2 ^ 64
   pub within : segment < site.shape.segments
@@ -86,7 +86,7 @@ HasBegun Power v = ⊤
 HasBegun walk v = IsBare v
 
 -- the note of a header
-abbrev pub head_note : Shape → Path → Note
+abbrev pub head_note : Shape → Path → Glance
 head_note shape path = record { word = head_at shape path.segment + 1; value = path.head; words = []; again = false }
 
 -- at the end of the way it has that one

@@ -6,7 +6,7 @@ use Rattle.op_core.specs.Answers.{IsAnswer, load_of}
 use Rattle.trace.specs.Events.{Words}
 use Rattle.image_layout.specs.Places.{Shape}
 use Rattle.map_model.specs.declared.call.Call.{Call}
-use Rattle.world.specs.Site.{Site}
+use Rattle.world.specs.Ground.{Ground}
 use Rattle.world.specs.Views.{View, Has}
 use Rattle.world.specs.Wants.{answer_to}
 use Rattle.world.specs.Kinds.{Kind, meets_lock, tries, wanted, view_after}
@@ -76,7 +76,7 @@ HasTakeCause shape words did call lock take more = ⊤
 -- each event is of its kind, which a view may take for the lock word of a segment that it knows to be live and current
 pub record TakeFits : Type 0 where
   pub wants : (shape : Shape) (lock : ℕ) (take : Take) → IsTaking take → take_wanted lock take ≡ wanted shape (take_kind lock take)
-  pub may : (site : Site) (lock : ℕ) (take : Take) (v : View) → IsKnownLock site v lock → IsTaking take → May site (take_kind lock take) v
+  pub may : (site : Ground) (lock : ℕ) (take : Take) (v : View) → IsKnownLock site v lock → IsTaking take → May site (take_kind lock take) v
 
 -- WHAT IS KNOWN while a lock is taken is kept by each event, which leaves the view so
 abbrev pub TakeStands : Type 0

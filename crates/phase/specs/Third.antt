@@ -2,7 +2,7 @@
 -- four no record can be moved to make room.
 use Rattle.std.specs.Prelude.{ℕ, List, slice_index}
 use Rattle.part.specs.Room.{NothingMoves}
-use Rattle.phase.specs.declared.place.Place.TheVariants.{Next, Previous}
+use Rattle.phase.specs.declared.role.Role.TheVariants.{Next, Previous}
 use Rattle.phase.specs.declared.kept.Kept.{Kept}
 use Rattle.phase.specs.Keeps.{WasLoaded}
 

@@ -3,7 +3,7 @@
 ghost use Rattle.std.specs.Prelude.{◌≡◌};
 ghost use Rattle.phase.specs.Helds.{none_held, with_held, without_held, free_of, give_next, give_wanted, given};
 
-use crate::place::{Place, lock_word};
+use crate::role::{Role, lock_word};
 use op_core::Want;
 use world::Site;
 
@@ -40,68 +40,68 @@ impl Held {
     }
 
     /// These and that of a place, whose word had this free value.
-    pub fn with(self, place: Place, free: u64) -> Held
+    pub fn with(self, place: Role, free: u64) -> Held
         ensures { result ≡ with_held place free self }
     {
         let mut more = self;
         match place {
-            Place::Home => more.home = Some(free),
-            Place::Probing => more.probing = Some(free),
-            Place::First => more.first = Some(free),
-            Place::Second => more.second = Some(free),
-            Place::Next => more.next = Some(free),
-            Place::Previous => more.previous = Some(free),
+            Role::Home => more.home = Some(free),
+            Role::Probing => more.probing = Some(free),
+            Role::First => more.first = Some(free),
+            Role::Second => more.second = Some(free),
+            Role::Next => more.next = Some(free),
+            Role::Previous => more.previous = Some(free),
         }
         more
     }
 
     /// These without that of a place.
-    pub fn without(self, place: Place) -> Held
+    pub fn without(self, place: Role) -> Held
         ensures { result ≡ without_held place self }
     {
         let mut fewer = self;
         match place {
-            Place::Home => fewer.home = None,
-            Place::Probing => fewer.probing = None,
-            Place::First => fewer.first = None,
-            Place::Second => fewer.second = None,
-            Place::Next => fewer.next = None,
-            Place::Previous => fewer.previous = None,
+            Role::Home => fewer.home = None,
+            Role::Probing => fewer.probing = None,
+            Role::First => fewer.first = None,
+            Role::Second => fewer.second = None,
+            Role::Next => fewer.next = None,
+            Role::Previous => fewer.previous = None,
         }
         fewer
     }
 
     /// The free value of a place, if its lock is held.
-    pub fn of(&self, place: Place) -> Option<u64>
+    pub fn of(&self, place: Role) -> Option<u64>
         ensures { result ≡ free_of self.now place }
     {
         match place {
-            Place::Home => self.home,
-            Place::Probing => self.probing,
-            Place::First => self.first,
-            Place::Second => self.second,
-            Place::Next => self.next,
-            Place::Previous => self.previous,
+            Role::Home => self.home,
+            Role::Probing => self.probing,
+            Role::First => self.first,
+            Role::Second => self.second,
+            Role::Next => self.next,
+            Role::Previous => self.previous,
         }
     }
 }
 
 /// The lock that is given back next, with its free value: the first that is held, in the order of the places.
-pub fn give_next(held: &Held) -> Option<(Place, u64)>
+pub fn give_next(held: &Held) -> Option<(Role, u64)>
     ensures { result ≡ give_next held.now }
 {
     if let Some(free) = held.home {
-        Some((Place::Home, free))
+        Some((Role::Home, free))
     } else if let Some(free) = held.probing {
-        Some((Place::Probing, free))
+        Some((Role::Probing, free))
     } else if let Some(free) = held.first {
-        Some((Place::First, free))
+        Some((Role::First, free))
     } else if let Some(free) = held.second {
-        Some((Place::Second, free))
+        Some((Role::Second, free))
     } else if let Some(free) = held.next {
-        Some((Place::Next, free))
+        Some((Role::Next, free))
     } else if let Some(free) = held.previous {
-        Some((Place::Previous, free))
+        Some((Role::Previous, free))
     } else {
         None
     }

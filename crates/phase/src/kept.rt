@@ -6,7 +6,7 @@ ghost use Rattle.phase.specs.Buckets.{no_words, with_words, words_in};
 ghost use Rattle.phase.specs.Places.{lock_word};
 
 use crate::held::Held;
-use crate::place::{Place, lock_word};
+use crate::role::{Role, lock_word};
 use map_model::Change;
 use world::Site;
 
@@ -43,30 +43,30 @@ impl Buckets {
     }
 
     /// Puts the words of a bucket in their place.
-    pub fn put(&mut self, place: Place, words: [u64; 32])
+    pub fn put(&mut self, place: Role, words: [u64; 32])
         ensures { self.new ≡ with_words place words self.old }
     {
         match place {
-            Place::Home => self.home = words,
-            Place::Probing => self.probing = words,
-            Place::First => self.first = words,
-            Place::Second => self.second = words,
-            Place::Next => self.next = words,
-            Place::Previous => self.previous = words,
+            Role::Home => self.home = words,
+            Role::Probing => self.probing = words,
+            Role::First => self.first = words,
+            Role::Second => self.second = words,
+            Role::Next => self.next = words,
+            Role::Previous => self.previous = words,
         }
     }
 
     /// The words of a bucket.
-    pub fn of(&self, place: Place) -> [u64; 32]
+    pub fn of(&self, place: Role) -> [u64; 32]
         ensures { result ≡ words_in self.now place }
     {
         match place {
-            Place::Home => self.home,
-            Place::Probing => self.probing,
-            Place::First => self.first,
-            Place::Second => self.second,
-            Place::Next => self.next,
-            Place::Previous => self.previous,
+            Role::Home => self.home,
+            Role::Probing => self.probing,
+            Role::First => self.first,
+            Role::Second => self.second,
+            Role::Next => self.next,
+            Role::Previous => self.previous,
         }
     }
 }
@@ -92,7 +92,7 @@ pub struct Kept {
 
 impl Kept {
     /// The lock word of a bucket.
-    pub fn lock_of(&self, place: Place) -> u64
+    pub fn lock_of(&self, place: Role) -> u64
         ensures is { result ≡ lock_word self.now.site self.now.hash self.now.segment place }
         ensures most { result ≤ most_words }
     {

@@ -6,7 +6,7 @@ ghost use Rattle.image_layout.specs.Places.{most_words};
 ghost use Rattle.phase.specs.Makes.{brought, make_wanted, make_taken};
 
 use bucket_meta::words::finger_place;
-use map_model::Deed;
+use map_model::Effect;
 use op_core::Want;
 use trace::line_of;
 
@@ -60,12 +60,12 @@ pub enum Made {
 }
 
 /// The value that a change brings, and 0 where it brings none.
-pub fn brought(deed: Deed) -> u64
-    ensures { result ≡ brought deed }
+pub fn brought(effect: Effect) -> u64
+    ensures { result ≡ brought effect }
 {
-    match deed {
-        Deed::Insert(value) | Deed::Update(value) => value,
-        Deed::Remove => 0,
+    match effect {
+        Effect::Insert(value) | Effect::Update(value) => value,
+        Effect::Remove => 0,
     }
 }
 

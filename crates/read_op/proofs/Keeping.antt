@@ -6,8 +6,8 @@ use Rattle.image_layout.specs.Places.{Shape}
 use Rattle.image_layout.specs.Volatile.{counter_word}
 use Rattle.op_core.specs.declared.want.Want.TheVariants.{Done}
 use Rattle.way.specs.Ways.{head_word}
-use Rattle.world.specs.Site.{Site}
-use Rattle.world.specs.Views.{Note, Answer, View, Has, At}
+use Rattle.world.specs.Ground.{Ground}
+use Rattle.world.specs.Views.{Glance, Answer, View, Has, At}
 use Rattle.world.specs.Wants.{word_of}
 use Rattle.world.specs.Kinds.{peeks, places, validates, view_after, with_look, with_answer, marked, all_again}
 use Rattle.world.specs.Invariant.{Holds}
@@ -21,9 +21,9 @@ use Rattle.phase.specs.Walks.{walk_taken}
 use Rattle.phase.specs.Loads.{load_taken}
 use Rattle.phase.specs.Stands.{walk_kind, HasWalked}
 use Rattle.phase.proofs.Walking.{walk_stands, walk_noted, walk_keeps}
-use Rattle.world.proofs.Structures.{lock_no_head}
-use Rattle.world.proofs.holding.Beside.{newest_is}
-use Rattle.phase.specs.declared.place.Place.{Place}
+use Rattle.world.proofs.basics.Structures.{lock_no_head}
+use Rattle.world.proofs.calls.deeds.Calls.{newest_without}
+use Rattle.phase.specs.declared.role.Role.{Role}
 use Rattle.read_op.specs.declared.step.Seen.{Seen}
 use Rattle.read_op.specs.declared.step.ReadEnd.TheVariants as ends
 use Rattle.read_op.specs.declared.step.ReadStep.{ReadStep}
@@ -34,8 +34,8 @@ use Rattle.read_op.specs.Steps.{wanted_in, next_in, walked_to, with_free, looked
 use Rattle.read_op.specs.Fits.{IsIn, at_bucket, leads, kind_in, kind_of, suits_in, OwesTheSame, EntersAnswer, KeepsSuits}
 use Rattle.read_op.proofs.Opening.{IsOpen, looked_open, filled_open}
 use Rattle.read_op.proofs.Fitting.{lock_word_is, wants_in}
-use Rattle.read_op.proofs.Stepping.{walked_suits, look_suits, fill_suits, count_suits}
-use Rattle.read_op.proofs.Ending.{Kept, relook_kept, check_kept}
+use Rattle.read_op.proofs.steps.Stepping.{walked_suits, look_suits, fill_suits, count_suits}
+use Rattle.read_op.proofs.steps.Ending.{Kept, relook_kept, check_kept}
 
 -- ---- no event of a get changes what is held, known or owed
 module _ (v : View) where
@@ -95,21 +95,21 @@ walked_quiet (walked.Amiss word seen) = tt
 walked_quiet (walked.Stale segment version) = tt
 
 -- ---- one step
-module _ (site : Site) (task : Task) (is : IsIn site task) (words : Words) (views : List View) (j : ℕ) (v : View) (h : Holds site words views) (at : At views j v) where
+module _ (site : Ground) (task : Task) (is : IsIn site task) (words : Words) (views : List View) (j : ℕ) (v : View) (h : Holds site words views) (at : At views j v) (none : v.areas ≡ []) where
   -- what the way makes of a word is what is relied on there
   pub has_walked : (w : Walk) (n : ℕ) → n ≡ words (word_of site.shape (wanted_in task (Way w))) → suits_in site task (Way w) v
       → HasWalked site (walk_taken task.site task.hash w n) (view_after site.shape (walk_kind task.site task.hash w) n v).facts
-  has_walked w n found suits = walk_stands site task.site task.hash words v h.site_is.shape is.shape is.fits (newest_is site words views j v h at) w suits.0 n found
+  has_walked w n found suits = walk_stands site task.site task.hash words v h.site_is.shape is.shape is.fits (newest_without site words views j v h at none) w suits.0 n found
 
   -- a note of a lock word has a free value
-  note_even : (s : Seen) (p : Place) (note : Note) → s.path.segment < site.shape.segments → note.word ≡ lock_of task s p → Has note v.notes → note.value % 2 ≡ 0
-  note_even s p note within word has = elim (h.notes.noted j v note at has).past [
+  note_even : (s : Seen) (p : Role) (note : Glance) → s.path.segment < site.shape.segments → note.word ≡ lock_of task s p → Has note v.notes → note.value % 2 ≡ 0
+  note_even s p note within word has = elim (h.notes.past j v note at has) [
     | inl lock ↦ lock.free
     | inr header ↦ absurd (lock_no_head site.shape (lock_of task s p) header.slot (lock_word_is site task is s p within) (sym word ∙ header.head))
   ]
 
   -- the free value of a lock word that is looked at again is even
-  pub free_even : (s : Seen) (placed : ℕ) (p : Place) → suits_in site task (Relook s placed p) v → free_at s.free p % 2 ≡ 0
+  pub free_even : (s : Seen) (placed : ℕ) (p : Role) → suits_in site task (Relook s placed p) v → free_at s.free p % 2 ≡ 0
   free_even s placed p suits =
       let t = suits.0.checked.to (at_bucket p) suits.1 in
       subst (λ m. m % 2 ≡ 0) t.3 (note_even s p t.0 suits.0.there.within t.2 t.1)
@@ -120,7 +120,7 @@ module _ (site : Site) (task : Task) (is : IsIn site task) (words : Words) (view
   quietly : (s : ReadStep) (u : View) → suits_in site task s u → IsQuiet s → HasNoMore v u → Kept site task is v s u
   quietly s u suits q none = (suits, quiet task.key s v u q none)
 
-  look_by : (s : Seen) (p : Place) (n : ℕ) → suits_in site task (Look s p) v → (b : Bool)
+  look_by : (s : Seen) (p : Role) (n : ℕ) → suits_in site task (Look s p) v → (b : Bool)
       → Kept site task is v (if b then looked (with_free s p n) p else busy (lock_of task s p) n) (with_look b (lock_of task s p) n v)
   look_by s p n suits true = quietly _ _ (look_suits site task is v s p n suits) (open_quiet (looked (with_free s p n) p) (looked_open (with_free s p n) p)) (silent _ refl refl)
   look_by s p n suits false = quietly (busy (lock_of task s p) n) (record v { notes = []; answer = None }) tt tt (silent _ refl refl)
@@ -144,8 +144,8 @@ module _ (site : Site) (task : Task) (is : IsIn site task) (words : Words) (view
   step_in (Ended end) n found suits asks = absurd (asks refl)
 
 pub keeps_suits : KeepsSuits
-keeps_suits site op words views j v h at is suits asks =
+keeps_suits site op words views j v h at none is suits asks =
     let n : ℕ = found_by site (kind_of op) words in
     let found : n ≡ words (word_of site.shape (wanted_in op.task op.step)) = ap (λ w. words (word_of site.shape w)) (sym (wants_in op.task site is op.step asks)) in
-    let kept = step_in site op.task is words views j v h at op.step n found suits asks in
+    let kept = step_in site op.task is words views j v h at none op.step n found suits asks in
     record { is_in = is; suits = kept.0; owes = owes_in v op.task site.shape op.step n; answers = kept.1 }

@@ -1,12 +1,8 @@
-pub mod LastTaken
+pub mod steps
 pub mod Places
-pub mod Falling
 pub mod Opening
 pub mod Fitting
-pub mod Stepping
-pub mod Ending
 pub mod Keeping
-pub mod Asked
 pub mod Sounding
 pub mod causing
 pub mod parts

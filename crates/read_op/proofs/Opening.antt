@@ -7,8 +7,8 @@ use Rattle.phase.specs.declared.walk.Walk.TheVariants as walk
 use Rattle.phase.specs.declared.load.Loaded.{Loaded}
 use Rattle.phase.specs.declared.load.Loaded.TheVariants as loaded
 use Rattle.phase.specs.Walks.{walk_wanted}
-use Rattle.phase.specs.declared.place.Place.{Place}
-use Rattle.phase.specs.declared.place.Place.TheVariants.{Home, Probing, First, Second}
+use Rattle.phase.specs.declared.role.Role.{Role}
+use Rattle.phase.specs.declared.role.Role.TheVariants.{Home, Probing, First, Second}
 use Rattle.read_op.specs.declared.step.Seen.{Seen}
 use Rattle.read_op.specs.declared.step.ReadEnd.{ReadEnd}
 use Rattle.read_op.specs.declared.step.ReadStep.{ReadStep}
@@ -26,7 +26,7 @@ both_open : (b : Bool) (s t : ReadStep) → IsOpen s → IsOpen t → IsOpen (if
 both_open true s t p q = p
 both_open false s t p q = q
 
-pub looked_open : (s : Seen) (p : Place) → IsOpen (looked s p)
+pub looked_open : (s : Seen) (p : Role) → IsOpen (looked s p)
 looked_open s Home = tt
 looked_open s Probing = tt
 looked_open s p = tt
@@ -34,13 +34,13 @@ looked_open s p = tt
 second_open : (s : Seen) → IsOpen (visit_second s)
 second_open s = both_open s.second (Look s Second) (Count s) tt tt
 
-all_open : (key hash : ℕ) (s : Seen) (p : Place) (ws : List ℕ) → IsOpen (read_all key hash s p ws)
+all_open : (key hash : ℕ) (s : Seen) (p : Role) (ws : List ℕ) → IsOpen (read_all key hash s p ws)
 all_open key hash s Home ws = tt
 all_open key hash s Probing ws = let t : Seen = read_probing key hash s ws in both_open t.first (Look t First) (visit_second t) tt (second_open t)
 all_open key hash s First ws = second_open (with_value key s ws)
 all_open key hash s p ws = tt
 
-pub filled_open : (key hash : ℕ) (s : Seen) (p : Place) (x : Loaded) → IsOpen (filled key hash s p x)
+pub filled_open : (key hash : ℕ) (s : Seen) (p : Role) (x : Loaded) → IsOpen (filled key hash s p x)
 filled_open key hash s p (loaded.On load) = tt
 filled_open key hash s p (loaded.All ws) = all_open key hash s p ws
 

@@ -5,15 +5,15 @@ use Rattle.std.proofs.lemmas.Bool.{eqb-true, eqb-false}
 use Rattle.op_core.specs.declared.want.Want.TheVariants.{Load as LoadWord, Done}
 use Rattle.op_core.specs.declared.why.Why.TheVariants.{Busy}
 use Rattle.trace.specs.Events.{Words}
-use Rattle.world.specs.Site.{Site, IsCurrentLock}
+use Rattle.world.specs.Ground.{Ground, IsCurrentLock}
 use Rattle.world.specs.Views.{View, At, HasLock}
 use Rattle.world.specs.Wants.{word_of}
 use Rattle.world.specs.Conditions.{IsKnownLock}
 use Rattle.world.specs.Invariant.{Holds}
 use Rattle.world.specs.Laws.{found_by}
-use Rattle.world.proofs.Lists.{same_at}
-use Rattle.world.proofs.Structures.{lock_of_current}
-use Rattle.world.proofs.holding.Beside.{known_current}
+use Rattle.world.proofs.basics.Lists.{same_at}
+use Rattle.world.proofs.basics.Structures.{lock_of_current}
+use Rattle.world.proofs.calls.deeds.Calls.{lock_current}
 use Rattle.phase.specs.declared.walk.Walk.{Walk}
 use Rattle.phase.specs.declared.walk.Walked.{Walked}
 use Rattle.phase.specs.declared.walk.Walked.TheVariants as walked
@@ -24,8 +24,8 @@ use Rattle.phase.specs.Backs.{back_taken}
 use Rattle.phase.specs.Loads.{load_taken}
 use Rattle.phase.proofs.Walking.{walk_never_stale}
 use Rattle.phase.proofs.locks.Giving.{known_lock}
-use Rattle.phase.specs.declared.place.Place.{Place}
-use Rattle.phase.specs.declared.place.Place.TheVariants.{Home, Probing, First, Second}
+use Rattle.phase.specs.declared.role.Role.{Role}
+use Rattle.phase.specs.declared.role.Role.TheVariants.{Home, Probing, First, Second}
 use Rattle.read_op.specs.declared.step.Seen.{Seen}
 use Rattle.read_op.specs.declared.step.ReadEnd.TheVariants as ends
 use Rattle.read_op.specs.declared.step.ReadStep.{ReadStep}
@@ -75,7 +75,7 @@ backed_same step n s placed (backed.On at) = tt
 backed_same step n s placed backed.Same = tt
 backed_same step n s placed (backed.Moved word before after) = tt
 
-module _ (s : Seen) (placed : ℕ) (p : Place) (n : ℕ) (same : n ≡ free_at s.free p) (even : n % 2 ≢ 1) where
+module _ (s : Seen) (placed : ℕ) (p : Role) (n : ℕ) (same : n ≡ free_at s.free p) (even : n % 2 ≢ 1) where
   abbrev here : ReadStep
   here = Relook s placed p
 
@@ -88,7 +88,7 @@ module _ (s : Seen) (placed : ℕ) (p : Place) (n : ℕ) (same : n ≡ free_at s
   first_same : SameIf here n (relook_first s placed)
   first_same = by_same here n s.first (Relook s placed First) (relook_second s placed) (λ t. tt) (λ f. second_same)
 
-  next_same : (q : Place) → SameIf here n (relook_next s placed q)
+  next_same : (q : Role) → SameIf here n (relook_next s placed q)
   next_same Home = tt
   next_same Probing = first_same
   next_same First = second_same
@@ -112,7 +112,7 @@ pub answers_by_same : AnswersBySame
 answers_by_same op n value place asks so = same_of op.step n value place (subst (SameIf op.step n) so (same_in op.task op.step n asks))
 
 -- ---- a lock that is found taken
-module _ (site : Site) (task : Task) (is : IsIn site task) (v : View) where
+module _ (site : Ground) (task : Task) (is : IsIn site task) (v : View) where
   module _ (step : ReadStep) (n : ℕ) where
     -- if that is the end, the event loaded a lock word of a segment that is known to be live and current, which is odd
     abbrev BusyIf : ReadStep → Type 0
@@ -149,7 +149,7 @@ module _ (site : Site) (task : Task) (is : IsIn site task) (v : View) where
     first_busy : (s : Seen) (placed : ℕ) → BusyIf (relook_first s placed)
     first_busy s placed = by_busy s.first (Relook s placed First) (relook_second s placed) (λ t. tt) (λ f. second_busy s placed)
 
-    next_busy : (s : Seen) (placed : ℕ) (p : Place) → BusyIf (relook_next s placed p)
+    next_busy : (s : Seen) (placed : ℕ) (p : Role) → BusyIf (relook_next s placed p)
     next_busy s placed Home = tt
     next_busy s placed Probing = first_busy s placed
     next_busy s placed First = second_busy s placed
@@ -176,7 +176,7 @@ module _ (site : Site) (task : Task) (is : IsIn site task) (v : View) where
   busy_in (Ended end) n asks suits = absurd (asks refl)
 
 -- ---- in a world
-module _ (site : Site) (op : ReadOp) (words : Words) (views : List View) (j : ℕ) (v : View) (h : Holds site words views) (at : At views j v) (is : IsIn site op.task) (suits : Suits site op v)
+module _ (site : Ground) (op : ReadOp) (words : Words) (views : List View) (j : ℕ) (v : View) (h : Holds site words views) (at : At views j v) (is : IsIn site op.task) (suits : Suits site op v)
     (asks : wanted op ≢ Done) where
   abbrev found : ℕ
   found = found_by site (kind_of op) words
@@ -187,7 +187,7 @@ module _ (site : Site) (op : ReadOp) (words : Words) (views : List View) (j : �
   busy_found : (word value : ℕ) → next_in op.task op.step found ≡ Ended (ends.Again (Busy word value)) → IsCurrentLock site words word × (words word ≡ value) × (value % 2 ≡ 1)
   busy_found word value so =
       let b = subst (BusyIf site op.task is v op.step found) so (busy_in site op.task is v op.step found asks suits) in
-      (known_current site words views j v h at word b.1, sym (found_is ∙ ap (λ w. words (word_of site.shape w)) b.0) ∙ b.2, b.3)
+      (lock_current site words views j v h at word b.1, sym (found_is ∙ ap (λ w. words (word_of site.shape w)) b.0) ∙ b.2, b.3)
 
   -- a lock word that is odd is another's, where this caller holds no lock
   held_elsewhere : v.held ≡ [] → (lock : ℕ) → IsCurrentLock site words lock → words lock % 2 ≡ 1 → IsAnothers views j v lock
@@ -252,7 +252,7 @@ module _ (task : Task) where
   second_fresh : (s : Seen) (placed : ℕ) → NoStale (relook_second s placed)
   second_fresh s placed = both_fresh s.second (Relook s placed Second) (Ended (end_of s.value placed)) tt (end_fresh s.value placed)
 
-  next_fresh : (s : Seen) (placed : ℕ) (p : Place) → NoStale (relook_next s placed p)
+  next_fresh : (s : Seen) (placed : ℕ) (p : Role) → NoStale (relook_next s placed p)
   next_fresh s placed Home = tt
   next_fresh s placed Probing = both_fresh s.first (Relook s placed First) (relook_second s placed) tt (second_fresh s placed)
   next_fresh s placed First = second_fresh s placed

@@ -10,15 +10,15 @@ use Rattle.image_layout.specs.Places.{root_word}
 use Rattle.image_layout.specs.Volatile.{counter_word}
 use Rattle.way.specs.Ways.{entry_word, head_word}
 use Rattle.map_model.specs.declared.call.Call.TheVariants.{Get}
-use Rattle.world.specs.declared.site.Site.{Site as Here}
+use Rattle.world.specs.declared.site.Site.{Site}
 use Rattle.world.specs.Wants.{word_of}
 use Rattle.part.specs.Doings.{Doings, with_event_of, nothing_done}
 use Rattle.part.specs.Outcomes.{Outcome, again}
 use Rattle.part.specs.Causes.{HasAgainCause, HasCause}
 use Rattle.phase.specs.declared.walk.Path.{Path}
 use Rattle.phase.specs.declared.walk.Walk.TheVariants as walk
-use Rattle.phase.specs.declared.place.Place.{Place}
-use Rattle.phase.specs.declared.place.Place.TheVariants.{Home, Probing, First, Second}
+use Rattle.phase.specs.declared.role.Role.{Role}
+use Rattle.phase.specs.declared.role.Role.TheVariants.{Home, Probing, First, Second}
 use Rattle.read_op.specs.declared.step.Seen.{Seen}
 use Rattle.read_op.specs.declared.step.ReadStep.{ReadStep}
 use Rattle.read_op.specs.declared.step.ReadStep.TheVariants.{Way, Look, Fill, Count, Check, Relook, Ended}
@@ -65,7 +65,7 @@ module _ (op : ReadOp) (did : Doings) (words : Words) where
 
 -- EACH END HAS ITS CAUSE, at the event by which it comes, whatever the events before it found and whatever words there are then
 abbrev pub EndsByCauseAnywhere : Type 0
-EndsByCauseAnywhere = (key : ℕ) (site : Here) (seen : List ℕ) (words : Words)
+EndsByCauseAnywhere = (key : ℕ) (site : Site) (seen : List ℕ) (words : Words)
     → EndsByCauseThere (after_all (begun key site) seen) (did_all (begun key site) seen nothing_done) words
 
 -- ---- what a get keeps
@@ -75,7 +75,7 @@ module _ (task : Task) where
   kept_path path = (head_word task.site.geometry path.segment, path.head) ∷ (entry_word task.site.geometry task.hash path.root, path.segment) ∷ (root_word, path.root) ∷ []
 
   -- and the lock words of home and probing bucket, and of each stash bucket that is visited
-  abbrev pub lock_kept : Seen → Place → ℕ × ℕ
+  abbrev pub lock_kept : Seen → Role → ℕ × ℕ
   lock_kept s p = (lock_of task s p, free_at s.free p)
 
   abbrev pub kept_home : Seen → List (ℕ × ℕ)
@@ -118,5 +118,5 @@ IsWithin (x ∷ xs) (y ∷ ys) = ((x ≡ y) × IsWithin xs ys) ⊎ IsWithin (x �
 
 -- WHAT IS KEPT WAS LOADED, by this attempt and in this order
 abbrev pub KeepsLoads : Type 0
-KeepsLoads = (key : ℕ) (site : Here) (seen : List ℕ)
+KeepsLoads = (key : ℕ) (site : Site) (seen : List ℕ)
     → IsWithin (kept_in (after_all (begun key site) seen).task (after_all (begun key site) seen).step) (did_all (begun key site) seen nothing_done).loads

@@ -7,8 +7,8 @@ use Rattle.image_layout.specs.Volatile.{all_words_of}
 use Rattle.world.specs.declared.site.Site.{Site}
 use Rattle.world.specs.Wants.{word_of}
 use Rattle.phase.specs.Stands.{walk_left, back_left, load_left}
-use Rattle.phase.specs.declared.place.Place.{Place}
-use Rattle.phase.specs.declared.place.Place.TheVariants.{Home, Probing, First}
+use Rattle.phase.specs.declared.role.Role.{Role}
+use Rattle.phase.specs.declared.role.Role.TheVariants.{Home, Probing, First}
 use Rattle.read_op.specs.declared.step.ReadStep.{ReadStep}
 use Rattle.read_op.specs.declared.step.ReadStep.TheVariants.{Way, Look, Fill, Count, Check, Relook, Ended}
 use Rattle.read_op.specs.declared.op.ReadOp.{ReadOp}
@@ -19,21 +19,21 @@ abbrev pub most_events : ℕ
 most_events = 140
 
 -- from the look at a lock word on
-abbrev pub left_of_look : Place → ℕ
+abbrev pub left_of_look : Role → ℕ
 left_of_look Home = 136
 left_of_look Probing = 135
 left_of_look First = 72
 left_of_look place = 40
 
 -- behind the last word of a bucket
-abbrev pub left_behind : Place → ℕ
+abbrev pub left_behind : Role → ℕ
 left_behind Home = 103
 left_behind Probing = 72
 left_behind First = 40
 left_behind place = 8
 
 -- from the second look at a lock word on
-abbrev pub left_of_relook : Place → ℕ
+abbrev pub left_of_relook : Role → ℕ
 left_of_relook Home = 4
 left_of_relook Probing = 3
 left_of_relook First = 2

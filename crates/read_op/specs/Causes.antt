@@ -5,11 +5,11 @@ use Rattle.op_core.specs.declared.want.Ans.TheVariants.{Value}
 use Rattle.op_core.specs.declared.why.Why.TheVariants.{Busy}
 use Rattle.op_core.specs.Answers.{IsReading}
 use Rattle.trace.specs.Events.{Words}
-use Rattle.world.specs.Site.{Site, IsLockWord, IsCurrentLock}
+use Rattle.world.specs.Ground.{Ground, IsLockWord, IsCurrentLock}
 use Rattle.world.specs.Views.{View, At, HasLock}
 use Rattle.world.specs.Invariant.{Holds}
 use Rattle.phase.specs.Stands.{IsCurrent}
-use Rattle.phase.specs.declared.place.Place.{Place}
+use Rattle.phase.specs.declared.role.Role.{Role}
 use Rattle.read_op.specs.declared.step.Seen.{Seen}
 use Rattle.read_op.specs.declared.step.ReadEnd.{ReadEnd}
 use Rattle.read_op.specs.declared.step.ReadEnd.TheVariants as ends
@@ -29,7 +29,7 @@ ReadsAlone = (op : ReadOp) → IsReading (wanted op)
 -- place, were found between the two looks
 pub record FindsSame (step : ReadStep) (n : ℕ) (value : Option ℕ) (place : ℕ) : Type 0 where
   pub seen : Seen
-  pub last : Place
+  pub last : Role
   pub at_last : step ≡ Relook seen place last
   pub same : n ≡ free_at seen.free last
   pub even : n % 2 ≢ 1
@@ -49,25 +49,25 @@ pub record IsAnothers (views : List View) (j : ℕ) (v : View) (lock : ℕ) : Ty
   pub there : At views seat holder
   pub holds : HasLock holder.held lock
 
-module _ (site : Site) (op : ReadOp) (words : Words) where
+module _ (site : Ground) (op : ReadOp) (words : Words) where
   -- the next event ends the get so
   abbrev pub EndsSo : ReadEnd → Type 0
   EndsSo end = (next_op site op words).step ≡ Ended end
 
 -- for a caller that holds no lock, a lock that is told busy is one of the image's, odd in the newest words, and another's
 abbrev pub BusyIsAnothers : Type 0
-BusyIsAnothers = (site : Site) (op : ReadOp) (words : Words) (views : List View) (j : ℕ) (v : View) → Holds site words views → At views j v
+BusyIsAnothers = (site : Ground) (op : ReadOp) (words : Words) (views : List View) (j : ℕ) (v : View) → Holds site words views → At views j v
     → IsIn site op.task → Suits site op v → v.held ≡ [] → wanted op ≢ Done
     → (word value : ℕ) → EndsSo site op words (ends.Again (Busy word value)) → IsLockWord site.shape word × (words word ≡ value) × (value % 2 ≡ 1) × IsAnothers views j v word
 
 -- where no lock of a current segment is taken, none is found taken
 abbrev pub NeverBusy : Type 0
-NeverBusy = (site : Site) (op : ReadOp) (words : Words) (views : List View) (j : ℕ) (v : View) → Holds site words views → At views j v
+NeverBusy = (site : Ground) (op : ReadOp) (words : Words) (views : List View) (j : ℕ) (v : View) → Holds site words views → At views j v
     → IsIn site op.task → Suits site op v → wanted op ≢ Done → ((lock : ℕ) → IsCurrentLock site words lock → words lock % 2 ≡ 0)
     → (word value : ℕ) → EndsSo site op words (ends.Again (Busy word value)) → ⊥
 
 -- where each live segment has the image's version, no segment is stale
 abbrev pub NeverStale : Type 0
-NeverStale = (site : Site) (op : ReadOp) (words : Words) (views : List View) (j : ℕ) (v : View) → Holds site words views → At views j v
+NeverStale = (site : Ground) (op : ReadOp) (words : Words) (views : List View) (j : ℕ) (v : View) → Holds site words views → At views j v
     → IsIn site op.task → Suits site op v → wanted op ≢ Done → IsCurrent site.shape words op.task.site.version
     → (segment byte : ℕ) → EndsSo site op words (ends.Stale segment byte) → ⊥

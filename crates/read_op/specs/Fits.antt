@@ -1,6 +1,6 @@
 -- How a get fits the world: the kind of each of its events, the view that its caller has in each step, and what each
 -- event does to that view.
-use Rattle.std.specs.Prelude.{◌≡◌, ◌≢◌, ◌⊎◌, ℕ, suc, ◌+◌, ◌%◌, ◌^◌, ◌<◌, nat_lt, ⊤, Bool, true, false, Option, None, Some, List, if◌then◌else◌}
+use Rattle.std.specs.Prelude.{◌≡◌, ◌≢◌, ◌⊎◌, ℕ, suc, ◌+◌, ◌%◌, ◌^◌, ◌<◌, nat_lt, ⊤, Bool, true, false, Option, None, Some, List, [], if◌then◌else◌}
 use Rattle.op_core.specs.declared.want.Want.TheVariants.{Done}
 use Rattle.op_core.specs.declared.want.Ans.TheVariants.{Value}
 use Rattle.hash_word.specs.Hash.{home_of, finger_of}
@@ -13,21 +13,21 @@ use Rattle.sound_image.specs.Records.{key_hash}
 use Rattle.way.specs.Ways.{head_word, is_leading}
 use Rattle.bucket_words.specs.Buckets.{find_below}
 use Rattle.bucket_words.specs.HomeNotes.{IsUnnoted}
-use Rattle.world.specs.declared.site.Site.{Site as Here}
-use Rattle.world.specs.Site.{Site, IsSite, version_of}
-use Rattle.world.specs.Views.{Note, View, Has, At}
-use Rattle.world.specs.Kinds.{Kind, peeks, looks, notes_word, places, validates, wanted as wanted_by, view_after}
+use Rattle.world.specs.declared.site.Site.{Site}
+use Rattle.world.specs.Ground.{Ground, IsGround, version_of}
+use Rattle.world.specs.Views.{Glance, View, Has, At}
+use Rattle.world.specs.Kinds.{Kind, peeks, looks, glances_word, places, validates, wanted as wanted_by, view_after}
 use Rattle.world.specs.Conditions.{IsNow, May}
 use Rattle.world.specs.Invariant.{Holds}
 use Rattle.world.specs.Laws.{found_by}
 use Rattle.world.specs.Attempts.{HasNoMore, HasOneMore}
 use Rattle.phase.specs.declared.load.Load.{Load}
 use Rattle.phase.specs.Stands.{walk_kind, back_kind, IsThere, IsWalking, HasBegun, IsLoading}
-use Rattle.phase.specs.declared.place.Place.{Place}
-use Rattle.phase.specs.declared.place.Place.TheVariants.{Home, Probing, First, Second, Next, Previous}
+use Rattle.phase.specs.declared.role.Role.{Role}
+use Rattle.phase.specs.declared.role.Role.TheVariants.{Home, Probing, First, Second, Next, Previous}
 use Rattle.phase.specs.Places.{lock_word}
 use Rattle.phase.specs.Asked.{index, asked_by, IsAskedBefore, looked_by, loaded_by}
-use Rattle.read_op.specs.declared.place.Free.{Free}
+use Rattle.read_op.specs.declared.role.Free.{Free}
 use Rattle.read_op.specs.declared.step.Seen.{Seen}
 use Rattle.read_op.specs.declared.step.ReadEnd.TheVariants as ends
 use Rattle.read_op.specs.declared.step.ReadStep.{ReadStep}
@@ -39,20 +39,20 @@ use Rattle.read_op.specs.Steps.{begun, wanted, taken, lock_of}
 
 -- ---- sets of buckets
 -- those that are looked at in all
-abbrev pub is_asked : Seen → Place → Bool
+abbrev pub is_asked : Seen → Role → Bool
 is_asked s q = asked_by s.first s.second q
 
 -- those of them before the k-th
-abbrev pub Upto : Seen → ℕ → Place → Type 0
+abbrev pub Upto : Seen → ℕ → Role → Type 0
 Upto s k q = IsAskedBefore s.first s.second k q
 
 -- ---- the words that are noted and looked at again
 -- the header's, or the lock word of a bucket
 pub data Watched : Type 0 where
   at_head : Watched
-  at_bucket : (place : Place) → Watched
+  at_bucket : (place : Role) → Watched
 
-abbrev pub word_at : Here → (hash segment : ℕ) → Watched → ℕ
+abbrev pub word_at : Site → (hash segment : ℕ) → Watched → ℕ
 word_at here hash segment at_head = head_word here.geometry segment
 word_at here hash segment (at_bucket q) = lock_word here hash segment q
 
@@ -92,7 +92,7 @@ module _ (task : Task) where
   abbrev pub kind_in : ReadStep → Kind
   kind_in (Way walk) = walk_kind task.site task.hash walk
   kind_in (Look s p) = looks (lock_of task s p)
-  kind_in (Fill s p load) = notes_word (lock_of task s p) (lock_of task s p + load.next % 32)
+  kind_in (Fill s p load) = glances_word (lock_of task s p) (lock_of task s p + load.next % 32)
   kind_in (Count s) = if leads task s then places task.key s.value else peeks (counter_word task.site.geometry)
   kind_in (Check s placed back) = back_kind task.site task.hash s.path (validates (head_word task.site.geometry s.path.segment)) back
   kind_in (Relook s placed p) = validates (lock_of task s p)
@@ -104,20 +104,20 @@ kind_of op = kind_in op.task op.step
 
 -- ---- what notes say. It is said of all words that may be the newest while the noted words are as they were, so it stays when more is
 -- noted
-module _ (site : Site) (notes : List Note) where
+module _ (site : Ground) (notes : List Glance) where
   -- the bucket of this lock word has this at the key
   abbrev pub Tells : ℕ → ℕ → Option ℕ → Type 0
   Tells key lock a = (m : Words) → IsNow site notes m → find_below m lock key record_slots ≡ a
 
   -- the notes are that of the header and those of the buckets before the k-th
   pub record NotedAt (task : Task) (s : Seen) (k : ℕ) : Type 0 where
-    pub from : (n : Note) → Has n notes → (w : Watched) × IsNoted s k w × (n.word ≡ watched_word task s w) × (n.value ≡ watched_value s w)
-    pub to : (w : Watched) → IsNoted s k w → (n : Note) × Has n notes × (n.word ≡ watched_word task s w) × (n.value ≡ watched_value s w)
+    pub from : (n : Glance) → Has n notes → (w : Watched) × IsNoted s k w × (n.word ≡ watched_word task s w) × (n.value ≡ watched_value s w)
+    pub to : (w : Watched) → IsNoted s k w → (n : Glance) × Has n notes × (n.word ≡ watched_word task s w) × (n.value ≡ watched_value s w)
 
   -- the value is what the buckets before the k-th have
   pub record Knows (task : Task) (s : Seen) (k : ℕ) : Type 0 where
-    pub none : s.value ≡ None → (q : Place) → Upto s k q → Tells task.key (lock_of task s q) None
-    pub some : (x : ℕ) → s.value ≡ Some x → (q : Place) × Tells task.key (lock_of task s q) (Some x)
+    pub none : s.value ≡ None → (q : Role) → Upto s k q → Tells task.key (lock_of task s q) None
+    pub some : (x : ℕ) → s.value ≡ Some x → (q : Role) × Tells task.key (lock_of task s q) (Some x)
 
   -- a stash bucket that is not visited has no note
   abbrev pub IsSkipped : Task → Seen → Bool → ℕ → Type 0
@@ -131,14 +131,14 @@ module _ (site : Site) (notes : List Note) where
   KeepsMeta task s = (m : Words) → IsNow site notes m → (m (lock_of task s Home + 1) ≡ s.meta) × (m (lock_of task s Home + 3) ≡ s.fingers)
 
   -- a bucket's words are loaded and noted
-  pub record IsFilling (task : Task) (s : Seen) (p : Place) (load : Load) : Type 0 where
-    pub note : Note
+  pub record IsFilling (task : Task) (s : Seen) (p : Role) (load : Load) : Type 0 where
+    pub note : Glance
     pub has : Has note notes
     pub lock : note.word ≡ lock_of task s p
     pub loads : IsLoading (lock_of task s p) note.words load
 
   -- what holds beside, of each bucket, when its lock word is looked at: a third one never is
-  abbrev pub LooksAt : Task → Seen → Place → Type 0
+  abbrev pub LooksAt : Task → Seen → Role → Type 0
   LooksAt task s Home = ⊤
   LooksAt task s Probing = ⊤
   LooksAt task s First = Skips task s × (s.first ≡ true)
@@ -147,7 +147,7 @@ module _ (site : Site) (notes : List Note) where
   LooksAt task s Previous = ⊥
 
   -- and while it is loaded
-  abbrev pub FillsAt : Task → Seen → Place → Type 0
+  abbrev pub FillsAt : Task → Seen → Role → Type 0
   FillsAt task s Home = ⊤
   FillsAt task s Probing = KeepsMeta task s
   FillsAt task s First = Skips task s × (s.first ≡ true)
@@ -157,18 +157,18 @@ module _ (site : Site) (notes : List Note) where
 
   -- all is noted, and of the words before the k-th it is noted that they were the same again
   pub record IsChecked (task : Task) (s : Seen) (k : ℕ) : Type 0 where
-    pub from : (n : Note) → Has n notes → (w : Watched) × (is_watched s w ≡ true) × (n.word ≡ watched_word task s w) × (n.value ≡ watched_value s w) × (n.again ≡ nat_lt (rank w) k)
-    pub to : (w : Watched) → is_watched s w ≡ true → (n : Note) × Has n notes × (n.word ≡ watched_word task s w) × (n.value ≡ watched_value s w)
+    pub from : (n : Glance) → Has n notes → (w : Watched) × (is_watched s w ≡ true) × (n.word ≡ watched_word task s w) × (n.value ≡ watched_value s w) × (n.again ≡ nat_lt (rank w) k)
+    pub to : (w : Watched) → is_watched s w ≡ true → (n : Glance) × Has n notes × (n.word ≡ watched_word task s w) × (n.value ≡ watched_value s w)
 
 -- the segment that was found is live and current, the lock words of so many buckets are noted, and all words of so many
-pub record IsReading (site : Site) (task : Task) (s : Seen) (noted read : ℕ) (v : View) : Type 0 where
+pub record IsReading (site : Ground) (task : Task) (s : Seen) (noted read : ℕ) (v : View) : Type 0 where
   pub there : IsThere site s.path.segment v.facts
   pub no_answer : v.answer ≡ None
   pub noted_at : NotedAt site v.notes task s noted
   pub knows : Knows site v.notes task s read
 
 -- what is to be answered is noted, and all that is to be the same again
-pub record IsAnswering (site : Site) (task : Task) (s : Seen) (placed k : ℕ) (v : View) : Type 0 where
+pub record IsAnswering (site : Ground) (task : Task) (s : Seen) (placed k : ℕ) (v : View) : Type 0 where
   pub there : IsThere site s.path.segment v.facts
   pub leads : leads task s ≡ true
   pub checked : IsChecked site v.notes task s k
@@ -180,7 +180,7 @@ pub record IsAstray (task : Task) (s : Seen) (v : View) : Type 0 where
   pub no_answer : v.answer ≡ None
 
 -- THE VIEW of each step
-abbrev pub suits_in : Site → Task → ReadStep → View → Type 0
+abbrev pub suits_in : Ground → Task → ReadStep → View → Type 0
 suits_in site task (Way walk) v = IsWalking site walk v.facts × HasBegun walk v
 suits_in site task (Look s p) v = IsReading site task s (index p) (loaded_by p) v × LooksAt site v.notes task s p
 suits_in site task (Fill s p load) v = IsReading site task s (looked_by p) (index p) v × FillsAt site v.notes task s p × IsFilling site v.notes task s p load
@@ -190,11 +190,11 @@ suits_in site task (Relook s placed p) v = IsAnswering site task s placed (suc (
 suits_in site task (Ended end) v = ⊤
 
 -- the view suits the get
-abbrev pub Suits : Site → ReadOp → View → Type 0
+abbrev pub Suits : Ground → ReadOp → View → Type 0
 Suits site op v = suits_in site op.task op.step v
 
 -- the get runs in this image, with its version, and its hash is its key's
-pub record IsIn (site : Site) (task : Task) : Type 0 where
+pub record IsIn (site : Ground) (task : Task) : Type 0 where
   pub shape : task.site.geometry ≡ site.shape
   pub version : task.site.version ≡ version_of site
   pub hash : task.hash ≡ key_hash site.shape task.key
@@ -203,17 +203,17 @@ pub record IsIn (site : Site) (task : Task) : Type 0 where
 -- ---- the laws
 -- a get that has done nothing yet, of a key whose hash has 64 bits, is in the image where it runs, and suits any view
 abbrev pub BeginsSuited : Type 0
-BeginsSuited = (site : Site) (here : Here) (key : ℕ) → here.geometry ≡ site.shape → here.version ≡ version_of site → (begun key here).task.hash < 2 ^ 64
+BeginsSuited = (site : Ground) (here : Site) (key : ℕ) → here.geometry ≡ site.shape → here.version ≡ version_of site → (begun key here).task.hash < 2 ^ 64
     → IsIn site (begun key here).task × ((v : View) → Suits site (begun key here) v)
 
-module _ (site : Site) (op : ReadOp) where
+module _ (site : Ground) (op : ReadOp) where
   -- what a get wants is what its kind wants
   abbrev pub WantsByKind : Type 0
   WantsByKind = IsIn site op.task → wanted op ≢ Done → wanted op ≡ wanted_by site.shape (kind_of op)
 
   -- a view that suits may take the step
   abbrev pub MayStep : View → Type 0
-  MayStep v = IsSite site → IsIn site op.task → Suits site op v → May site (kind_of op) v
+  MayStep v = IsGround site → IsIn site op.task → Suits site op v → May site (kind_of op) v
 
 -- the view has its locks, its known and unsettled words, its planned changes, its records under way and the notes that it owes, as
 -- before
@@ -232,7 +232,7 @@ EntersAnswer key (Ended (ends.Found x place)) v after = HasOneMore (Get key) (re
 EntersAnswer key (Ended (ends.Absent place)) v after = HasOneMore (Get key) reply.Absent place v after
 EntersAnswer key s v after = HasNoMore v after
 
-module _ (site : Site) (op : ReadOp) (words : Words) where
+module _ (site : Ground) (op : ReadOp) (words : Words) where
   -- the value that the next event finds, the get after it, and the view
   abbrev pub finds : ℕ
   finds = found_by site (kind_of op) words
@@ -251,6 +251,7 @@ module _ (site : Site) (op : ReadOp) (words : Words) where
     pub owes : OwesTheSame v (next_view v)
     pub answers : EntersAnswer op.task.key next_op.step v (next_view v)
 
+-- so beside any other callers, for a caller that has no areas
 abbrev pub KeepsSuits : Type 0
-KeepsSuits = (site : Site) (op : ReadOp) (words : Words) (views : List View) (j : ℕ) (v : View) → Holds site words views → At views j v
-    → IsIn site op.task → Suits site op v → wanted op ≢ Done → StepsWell site op words v
+KeepsSuits = (site : Ground) (op : ReadOp) (words : Words) (views : List View) (j : ℕ) (v : View) → Holds site words views → At views j v
+    → v.areas ≡ [] → IsIn site op.task → Suits site op v → wanted op ≢ Done → StepsWell site op words v

@@ -5,10 +5,11 @@ use Rattle.image_layout.specs.Volatile.{counter_word}
 use Rattle.map_model.specs.declared.call.Call.{Call}
 use Rattle.map_model.specs.declared.call.Call.TheVariants.{Get}
 use Rattle.map_model.specs.declared.entry.Reply.TheVariants as reply
-use Rattle.world.specs.declared.site.Site.{Site as Here}
-use Rattle.world.specs.Site.{Site, version_of}
+use Rattle.world.specs.declared.site.Site.{Site}
+use Rattle.world.specs.Ground.{Ground, version_of}
 use Rattle.world.specs.Views.{View, Has}
 use Rattle.world.specs.Attempts.{HoldsOnly}
+use Rattle.world.specs.StepKinds.{of_call}
 use Rattle.part.specs.Doings.{Doings, nothing_done}
 use Rattle.part.specs.Outcomes.{Outcome, replied, again, stale, off, finished}
 use Rattle.part.specs.Part.{Part}
@@ -16,8 +17,8 @@ use Rattle.part.specs.Causes.{MustVisit}
 use Rattle.phase.specs.declared.load.Load.{Load}
 use Rattle.phase.specs.Stands.{IsLoading}
 use Rattle.phase.specs.Causes.{WasFound, RemembersWalk}
-use Rattle.phase.specs.declared.place.Place.{Place}
-use Rattle.phase.specs.declared.place.Place.TheVariants.{Home, Probing}
+use Rattle.phase.specs.declared.role.Role.{Role}
+use Rattle.phase.specs.declared.role.Role.TheVariants.{Home, Probing}
 use Rattle.read_op.specs.declared.step.Seen.{Seen}
 use Rattle.read_op.specs.declared.step.ReadEnd.{ReadEnd}
 use Rattle.read_op.specs.declared.step.ReadEnd.TheVariants as ends
@@ -43,7 +44,7 @@ outcome_in (Ended end) = Some (outcome_of end)
 outcome_in step = None
 
 -- it gets the call's key, in this image, and its caller holds and owes nothing
-pub record Stands (site : Site) (here : Here) (call : Call) (op : ReadOp) (v : View) : Type 0 where
+pub record Stands (site : Ground) (here : Site) (call : Call) (op : ReadOp) (v : View) : Type 0 where
   pub same : call ≡ Get op.task.key
   pub at : op.task.site ≡ here
   pub is_in : IsIn site op.task
@@ -60,17 +61,17 @@ module _ (task : Task) (loads : List (ℕ × ℕ)) where
   -- that are visited have to be
   pub record RemembersSeen (s : Seen) (k : ℕ) : Type 0 where
     pub path : WasFound task.site.geometry task.hash loads s.path
-    pub free : (q : Place) → Upto s k q → Has (lock_of task s q, free_at s.free q) loads × (free_at s.free q % 2 ≡ 0)
+    pub free : (q : Role) → Upto s k q → Has (lock_of task s q, free_at s.free q) loads × (free_at s.free q % 2 ≡ 0)
     pub first : HasReason s s.first 0
     pub second : HasReason s s.second 1
 
   -- words 1 and 3 of the home bucket were loaded, as they are kept while the probing bucket is
-  abbrev pub RemembersMeta : Seen → Place → Type 0
+  abbrev pub RemembersMeta : Seen → Role → Type 0
   RemembersMeta s Probing = Has (lock_of task s Home + 1, s.meta) loads × Has (lock_of task s Home + 3, s.fingers) loads
   RemembersMeta s p = ⊤
 
   -- a bucket that is asked for is loaded
-  pub record RemembersFill (s : Seen) (p : Place) (load : Load) : Type 0 where
+  pub record RemembersFill (s : Seen) (p : Role) (load : Load) : Type 0 where
     pub seen : RemembersSeen s (looked_by p)
     pub asked : is_asked s p ≡ true
     pub filling : IsLoading (lock_of task s p) loads load
@@ -92,7 +93,7 @@ module _ (task : Task) (loads : List (ℕ × ℕ)) where
   RemembersIn (Ended end) = ⊤
 
 -- all that it keeps was loaded, and it changed nothing
-pub record Remembers (site : Site) (op : ReadOp) (did : Doings) : Type 0 where
+pub record Remembers (site : Ground) (op : ReadOp) (did : Doings) : Type 0 where
   pub kept : RemembersIn op.task did.loads op.step
   pub none : did.changed ≡ []
 
@@ -100,7 +101,7 @@ abbrev pub get_part : Part ReadOp
 get_part = record {
   wanted = wanted;
   taken = taken;
-  kind = λ op n. kind_of op;
+  kind = λ op n. of_call (kind_of op);
   Stands = Stands;
   outcome = λ op. outcome_in op.step;
   Remembers = Remembers;
@@ -108,6 +109,7 @@ get_part = record {
   HasMade = λ op. ⊥;
   left = λ op. left op.step;
   most_events = most_events;
+  is_waiting = λ op. false;
   waiting = λ op. 0;
   most_waiting = 0;
   hands_on = λ op. false;
@@ -116,16 +118,16 @@ get_part = record {
 -- ---- where it begins and ends
 -- a get of a key that is a word, in an image of this shape and version, by a caller that holds and owes nothing
 abbrev pub BeginsAsPart : Type 0
-BeginsAsPart = (site : Site) (here : Here) (key : ℕ) (v : View) → here.geometry ≡ site.shape → here.version ≡ version_of site → key < 2 ^ 64 → HoldsOnly [] v
+BeginsAsPart = (site : Ground) (here : Site) (key : ℕ) (v : View) → here.geometry ≡ site.shape → here.version ≡ version_of site → key < 2 ^ 64 → HoldsOnly [] v
     → Stands site here (Get key) (begun key here) v
 
 -- nothing is decided there
 abbrev pub BeginsUndecided : Type 0
-BeginsUndecided = (here : Here) (key : ℕ) → outcome_in (begun key here).step ≡ None
+BeginsUndecided = (here : Site) (key : ℕ) → outcome_in (begun key here).step ≡ None
 
 -- it remembers what it did, which is nothing
 abbrev pub BeginsRemembering : Type 0
-BeginsRemembering = (site : Site) (here : Here) (key : ℕ) → Remembers site (begun key here) nothing_done
+BeginsRemembering = (site : Ground) (here : Site) (key : ℕ) → Remembers site (begun key here) nothing_done
 
 -- and at its end it tells its outcome
 abbrev pub EndsAsSaid : Type 0

@@ -25,8 +25,8 @@ use Rattle.phase.specs.declared.load.Loaded.TheVariants as loaded
 use Rattle.phase.specs.Walks.{walk_wanted, walk_taken}
 use Rattle.phase.specs.Backs.{back_word, back_taken}
 use Rattle.phase.specs.Loads.{load_begun, load_taken}
-use Rattle.phase.specs.declared.place.Place.{Place}
-use Rattle.phase.specs.declared.place.Place.TheVariants.{Home, Probing, First, Second, Next, Previous}
+use Rattle.phase.specs.declared.role.Role.{Role}
+use Rattle.phase.specs.declared.role.Role.TheVariants.{Home, Probing, First, Second, Next, Previous}
 use Rattle.read_op.specs.declared.step.Seen.{Seen}
 use Rattle.read_op.specs.declared.step.ReadEnd.{ReadEnd}
 use Rattle.read_op.specs.declared.step.ReadEnd.TheVariants as ends
@@ -72,7 +72,7 @@ visit_second seen = if seen.second then Look seen Second else Count seen
 abbrev pub visit_first : Seen → ReadStep
 visit_first seen = if seen.first then Look seen First else visit_second seen
 
-abbrev pub with_free : Seen → Place → ℕ → Seen
+abbrev pub with_free : Seen → Role → ℕ → Seen
 with_free seen Home free = record seen { free = record (seen.free) { home = free } }
 with_free seen Probing free = record seen { free = record (seen.free) { probing = free } }
 with_free seen First free = record seen { free = record (seen.free) { first = free } }
@@ -80,7 +80,7 @@ with_free seen Second free = record seen { free = record (seen.free) { second = 
 with_free seen Next free = seen
 with_free seen Previous free = seen
 
-abbrev pub looked : Seen → Place → ReadStep
+abbrev pub looked : Seen → Role → ReadStep
 looked seen Home = Look seen Probing
 looked seen Probing = Fill seen Home load_begun
 looked seen place = Fill seen place load_begun
@@ -101,13 +101,13 @@ module _ (key : ℕ) where
       second = must_visit seen.meta seen.fingers (slice_index words 1) (slice_index words 3) (finger_of hash) 1;
     }
 
-    abbrev pub read_all : Seen → Place → List ℕ → ReadStep
+    abbrev pub read_all : Seen → Role → List ℕ → ReadStep
     read_all seen Home words = Fill (read_home seen words) Probing load_begun
     read_all seen Probing words = visit_first (read_probing seen words)
     read_all seen First words = visit_second (with_value seen words)
     read_all seen place words = Count (with_value seen words)
 
-    abbrev pub filled : Seen → Place → Loaded → ReadStep
+    abbrev pub filled : Seen → Role → Loaded → ReadStep
     filled seen place (loaded.On load) = Fill seen place load
     filled seen place (loaded.All words) = read_all seen place words
 
@@ -123,7 +123,7 @@ relook_second seen placed = if seen.second then Relook seen placed Second else E
 abbrev pub relook_first : Seen → ℕ → ReadStep
 relook_first seen placed = if seen.first then Relook seen placed First else relook_second seen placed
 
-abbrev pub relook_next : Seen → ℕ → Place → ReadStep
+abbrev pub relook_next : Seen → ℕ → Role → ReadStep
 relook_next seen placed Home = Relook seen placed Probing
 relook_next seen placed Probing = relook_first seen placed
 relook_next seen placed First = relook_second seen placed
@@ -136,7 +136,7 @@ begun key site = record { task = record { key = key; hash = key_hash site.geomet
 
 module _ (task : Task) where
   -- the lock word of a bucket
-  abbrev pub lock_of : Seen → Place → ℕ
+  abbrev pub lock_of : Seen → Role → ℕ
   lock_of seen place = lock_word task.site task.hash seen.path.segment place
 
   -- THE EVENT that it wants
@@ -150,7 +150,7 @@ module _ (task : Task) where
   wanted_in (Ended end) = Done
 
   -- a lock word that was seen again
-  abbrev pub relooked : Seen → ℕ → Place → ℕ → ReadStep
+  abbrev pub relooked : Seen → ℕ → Role → ℕ → ReadStep
   relooked seen placed place value =
       if value % 2 == 1 then busy (lock_of seen place) value
       else if value == free_at seen.free place then relook_next seen placed place

@@ -1,7 +1,7 @@
 //! The laws of a get. The functions do nothing: each stands for the law that its contract says.
 
 ghost use Rattle.std.specs.Prelude.{◌≤◌};
-ghost use Rattle.world.specs.Site.{Site as Image};
+ghost use Rattle.world.specs.Ground.{Ground as Image};
 ghost use Rattle.world.specs.Views.{View};
 ghost use Rattle.read_op.specs.declared.op.ReadOp.{ReadOp};
 ghost use Rattle.part.specs.Part.{IsPart};

@@ -6,13 +6,13 @@
 
 mod laws;
 mod op;
-mod place;
+mod role;
 mod slots;
 mod step;
 
 pub use laws::{asks_within, ends_have_causes, ends_in_time, fits_the_world, gets_are_parts};
 pub use op::ReadOp;
-pub use place::Free;
+pub use role::Free;
 pub use step::{ReadEnd, ReadStep, Seen, Task};
 
 #[cfg(test)]

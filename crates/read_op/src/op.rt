@@ -9,14 +9,14 @@ ghost use Rattle.read_op.specs.declared.step.ReadStep.TheVariants as steps;
 ghost use Rattle.read_op.specs.declared.step.ReadStep.TheVariants.{Ended};
 ghost use Rattle.read_op.specs.Steps.{begun, seen_none, wanted, taken, moved, busy, end_of, walked_to, visit_first, visit_second, with_free, looked, with_value, read_home, read_probing, read_all, relook_first, relook_second, relook_next, relooked, backed_to, is_filling, read_on, next_in, lock_of};
 
-use crate::place::{Free, free_at};
+use crate::role::{Free, free_at};
 use crate::slots::value_of;
 use crate::step::{ReadEnd, ReadStep, Seen, Task};
 use bucket_meta::words::must_visit;
 use hash_word::finger;
 use op_core::{Ans, Machine, Want, Why};
 use phase::{
-    Back, Backed, Load, Path, Place, Walk, Walked, back_next, back_want, load_put, load_want,
+    Back, Backed, Load, Path, Role, Walk, Walked, back_next, back_want, load_put, load_want,
     lock_word, walk_next, walk_want,
 };
 use way::key_hash;
@@ -87,7 +87,7 @@ fn walked_to(walked: Walked) -> ReadStep
 {
     match walked {
         Walked::On(walk) => ReadStep::Way(walk),
-        Walked::There(path) => look(seen_none(path), Place::Home),
+        Walked::There(path) => look(seen_none(path), Role::Home),
         Walked::Off => ReadStep::Ended(ReadEnd::Off),
         Walked::Amiss { word, seen } => moved(word, seen, seen),
         Walked::Stale { segment, version } => ReadStep::Ended(ReadEnd::Stale(segment, version)),
@@ -97,14 +97,14 @@ fn walked_to(walked: Walked) -> ReadStep
 // ---- looks at lock words
 
 /// The step that looks at the lock word of a bucket.
-fn look(seen: Seen, place: Place) -> ReadStep
+fn look(seen: Seen, place: Role) -> ReadStep
     ensures { result ≡ steps.Look seen place }
 {
     ReadStep::Look { seen, place }
 }
 
 /// The step that begins to load a bucket's words.
-fn fill(seen: Seen, place: Place) -> ReadStep
+fn fill(seen: Seen, place: Role) -> ReadStep
     ensures { result ≡ steps.Fill seen place load_begun }
 {
     ReadStep::Fill {
@@ -119,7 +119,7 @@ fn visit_second(seen: Seen) -> ReadStep
     ensures { result ≡ visit_second seen }
 {
     if seen.second {
-        look(seen, Place::Second)
+        look(seen, Role::Second)
     } else {
         ReadStep::Count { seen }
     }
@@ -130,35 +130,35 @@ fn visit_first(seen: Seen) -> ReadStep
     ensures { result ≡ visit_first seen }
 {
     if seen.first {
-        look(seen, Place::First)
+        look(seen, Role::First)
     } else {
         visit_second(seen)
     }
 }
 
 /// What was seen, with the free value of a lock word.
-fn with_free(seen: Seen, place: Place, free: u64) -> Seen
+fn with_free(seen: Seen, place: Role, free: u64) -> Seen
     ensures { result ≡ with_free seen place free }
 {
     let mut with = seen;
     match place {
-        Place::Home => with.free.home = free,
-        Place::Probing => with.free.probing = free,
-        Place::First => with.free.first = free,
-        Place::Second => with.free.second = free,
-        Place::Next | Place::Previous => {}
+        Role::Home => with.free.home = free,
+        Role::Probing => with.free.probing = free,
+        Role::First => with.free.first = free,
+        Role::Second => with.free.second = free,
+        Role::Next | Role::Previous => {}
     }
     with
 }
 
 /// The step after a lock word that was free: both of home and probing bucket come before the words of either.
-fn looked(seen: Seen, place: Place) -> ReadStep
+fn looked(seen: Seen, place: Role) -> ReadStep
     ensures { result ≡ looked seen place }
 {
     match place {
-        Place::Home => look(seen, Place::Probing),
-        Place::Probing => fill(seen, Place::Home),
-        Place::First | Place::Second | Place::Next | Place::Previous => fill(seen, place),
+        Role::Home => look(seen, Role::Probing),
+        Role::Probing => fill(seen, Role::Home),
+        Role::First | Role::Second | Role::Next | Role::Previous => fill(seen, place),
     }
 }
 
@@ -194,14 +194,14 @@ fn read_probing(seen: Seen, key: u64, hash: u64, words: &[u64; 32]) -> Seen
 }
 
 /// The step after the last word of a bucket.
-fn read_all(seen: Seen, place: Place, key: u64, hash: u64, words: &[u64; 32]) -> ReadStep
+fn read_all(seen: Seen, place: Role, key: u64, hash: u64, words: &[u64; 32]) -> ReadStep
     ensures { result ≡ read_all key hash seen place words.now }
 {
     match place {
-        Place::Home => fill(read_home(seen, key, words), Place::Probing),
-        Place::Probing => visit_first(read_probing(seen, key, hash, words)),
-        Place::First => visit_second(with_value(seen, key, words)),
-        Place::Second | Place::Next | Place::Previous => ReadStep::Count {
+        Role::Home => fill(read_home(seen, key, words), Role::Probing),
+        Role::Probing => visit_first(read_probing(seen, key, hash, words)),
+        Role::First => visit_second(with_value(seen, key, words)),
+        Role::Second | Role::Next | Role::Previous => ReadStep::Count {
             seen: with_value(seen, key, words),
         },
     }
@@ -210,7 +210,7 @@ fn read_all(seen: Seen, place: Place, key: u64, hash: u64, words: &[u64; 32]) ->
 // ---- the way again, and lock words again
 
 /// The step that looks at a lock word again.
-fn relook(seen: Seen, placed: u64, place: Place) -> ReadStep
+fn relook(seen: Seen, placed: u64, place: Role) -> ReadStep
     ensures { result ≡ steps.Relook seen placed place }
 {
     ReadStep::Relook {
@@ -226,7 +226,7 @@ fn backed_to(seen: Seen, placed: u64, backed: Backed) -> ReadStep
 {
     match backed {
         Backed::On(back) => ReadStep::Check { seen, placed, back },
-        Backed::Same => relook(seen, placed, Place::Home),
+        Backed::Same => relook(seen, placed, Role::Home),
         Backed::Moved {
             word,
             before,
@@ -247,7 +247,7 @@ fn relook_second(seen: Seen, placed: u64) -> ReadStep
     ensures { result ≡ relook_second seen placed }
 {
     if seen.second {
-        relook(seen, placed, Place::Second)
+        relook(seen, placed, Role::Second)
     } else {
         answer(&seen, placed)
     }
@@ -258,27 +258,27 @@ fn relook_first(seen: Seen, placed: u64) -> ReadStep
     ensures { result ≡ relook_first seen placed }
 {
     if seen.first {
-        relook(seen, placed, Place::First)
+        relook(seen, placed, Role::First)
     } else {
         relook_second(seen, placed)
     }
 }
 
 /// The step after a lock word that was the same.
-fn relook_next(seen: Seen, placed: u64, place: Place) -> ReadStep
+fn relook_next(seen: Seen, placed: u64, place: Role) -> ReadStep
     ensures { result ≡ relook_next seen placed place }
 {
     match place {
-        Place::Home => relook(seen, placed, Place::Probing),
-        Place::Probing => relook_first(seen, placed),
-        Place::First => relook_second(seen, placed),
-        Place::Second | Place::Next | Place::Previous => answer(&seen, placed),
+        Role::Home => relook(seen, placed, Role::Probing),
+        Role::Probing => relook_first(seen, placed),
+        Role::First => relook_second(seen, placed),
+        Role::Second | Role::Next | Role::Previous => answer(&seen, placed),
     }
 }
 
 impl Task {
     /// The lock word of a bucket.
-    fn lock(&self, seen: &Seen, place: &Place) -> u64
+    fn lock(&self, seen: &Seen, place: &Role) -> u64
         ensures is { result ≡ lock_of self.now seen.now place.now }
         ensures most { result ≤ most_words }
     {
@@ -286,7 +286,7 @@ impl Task {
     }
 
     /// The step after a lock word that was looked at.
-    fn looked_at(&self, seen: Seen, place: Place, value: u64) -> ReadStep
+    fn looked_at(&self, seen: Seen, place: Role, value: u64) -> ReadStep
         ensures { result ≡ next_in self.now (steps.Look seen place) value }
     {
         if value % 2 == 0 {
@@ -297,7 +297,7 @@ impl Task {
     }
 
     /// The step after a lock word that was looked at again.
-    fn relooked(&self, seen: Seen, placed: u64, place: Place, value: u64) -> ReadStep
+    fn relooked(&self, seen: Seen, placed: u64, place: Role, value: u64) -> ReadStep
         ensures { result ≡ relooked self.now seen placed place value }
     {
         let lock = self.lock(&seen, &place);
@@ -329,7 +329,7 @@ impl ReadOp {
     }
 
     /// Whether it wants nothing more.
-    pub fn is_done(&self) -> bool
+    pub fn wants_nothing(&self) -> bool
         ensures { IsTrue result ↔ (wanted self.now ≡ want.Done) }
     {
         matches!(self.step, ReadStep::Ended(_))

@@ -1,8 +1,8 @@
 //! Where a get stands, and how it ends.
 
-use crate::place::Free;
+use crate::role::Free;
 use op_core::Why;
-use phase::{Back, Load, Path, Place, Walk};
+use phase::{Back, Load, Path, Role, Walk};
 use world::Site;
 
 /// What stays the same in an attempt.
@@ -60,14 +60,14 @@ pub enum ReadStep {
         /// What was seen.
         seen: Seen,
         /// Which bucket.
-        place: Place,
+        place: Role,
     },
     /// The other words of a bucket are loaded.
     Fill {
         /// What was seen.
         seen: Seen,
         /// Which bucket.
-        place: Place,
+        place: Role,
         /// Its words.
         load: Load,
     },
@@ -92,7 +92,7 @@ pub enum ReadStep {
         /// The value of the commit counter.
         placed: u64,
         /// Which bucket.
-        place: Place,
+        place: Role,
     },
     /// Nothing more is to be done.
     Ended(ReadEnd),

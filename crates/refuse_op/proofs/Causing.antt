@@ -25,18 +25,17 @@ use Rattle.map_model.specs.declared.entry.Reply.TheVariants.{Full, Deep}
 use Rattle.map_model.specs.Map.{key_of}
 use Rattle.map_model.specs.Legal.{IsInsert}
 use Rattle.map_model.specs.Changes.{call_of}
-use Rattle.world.specs.declared.site.Site.{Site as Here}
-use Rattle.world.specs.Site.{Site, IsSite}
+use Rattle.world.specs.declared.site.Site.{Site}
+use Rattle.world.specs.Ground.{Ground, IsGround}
 use Rattle.world.specs.Views.{View, Has}
 use Rattle.world.specs.Wants.{answer_to, word_of}
 use Rattle.world.specs.Conditions.{IsNewest}
-use Rattle.world.proofs.holding.Beside.{newest_is}
-use Rattle.world.proofs.Structures.{header_is}
+use Rattle.world.proofs.calls.deeds.Calls.{newest_without}
 use Rattle.part.specs.Doings.{Doings}
 use Rattle.part.specs.Outcomes.{Outcome, replied, again, finished}
-use Rattle.part.specs.Causes.{IsNamed, hash_for, WasMeta, IsFullOfOthers, FindsNoRoom, WasHead, HasDepth, NoSlotIsFree, HasReplyCause, HasCause, EndsByCause}
-use Rattle.phase.specs.declared.place.Place.{Place}
-use Rattle.phase.specs.declared.place.Place.TheVariants.{Home, Probing, First, Second, Next, Previous}
+use Rattle.part.specs.Causes.{IsNamed, hash_for, WasMeta, IsFullOfOthers, FindsNoRoom, WasHead, HasDepth, NoSlotIsFree, HasReplyCause, HasCause, ReplyRestsOn, RestsOn, EndsByCause}
+use Rattle.phase.specs.declared.role.Role.{Role}
+use Rattle.phase.specs.declared.role.Role.TheVariants.{Home, Probing, First, Second, Next, Previous}
 use Rattle.phase.specs.declared.held.Held.{Held}
 use Rattle.phase.specs.declared.kept.Kept.{Kept}
 use Rattle.phase.specs.Helds.{give_next, given}
@@ -45,7 +44,7 @@ use Rattle.phase.specs.Giving.{IsHeld}
 use Rattle.phase.specs.Keeps.{kept_words, WasLoaded, KeepsAll, KeepsFull, RemembersRoom}
 use Rattle.phase.specs.Places.{bucket_of, is_third}
 use Rattle.phase.specs.Third.{NothingToMove}
-use Rattle.phase.proofs.Causing.{found_named}
+use Rattle.phase.proofs.asking.Causing.{found_named}
 use Rattle.phase.proofs.Handing.{key_called}
 use Rattle.phase.proofs.locks.Giving.{bucket_near, lock_at}
 use Rattle.refuse_op.specs.declared.op.RefuseStep.{RefuseStep}
@@ -53,11 +52,12 @@ use Rattle.refuse_op.specs.declared.op.RefuseStep.TheVariants.{Count, Give, Ende
 use Rattle.refuse_op.specs.Grown.{AllGrown}
 use Rattle.refuse_op.specs.Steps.{no_room, given_by, giving, wanted_in, next_in, wanted}
 use Rattle.refuse_op.specs.RefusePart.{outcome_at, RefusalStands, RemembersAt, refuse_part, BeginsRemembering, NeverFinished}
+use Rattle.refuse_op.proofs.Alone.{one_slot}
 use Rattle.refuse_op.proofs.Room.{word_here, full_at}
-use Rattle.refuse_op.proofs.RefuseIsPart.{giving_outcome}
+use Rattle.refuse_op.proofs.RefuseIsPart.{giving_outcome, no_areas}
 
 -- ---- the cause of the reply
-module _ (site : Site) (good : IsSite site) (grown : AllGrown site.shape site.front) (words : Words) (constant : HasStructure site.shape site.front words) (call : Call) (kept : Kept) (same : call_of kept.change ≡ call) (v : View)
+module _ (site : Ground) (good : IsGround site) (grown : AllGrown site.shape site.front) (words : Words) (call : Call) (kept : Kept) (same : call_of kept.change ≡ call) (v : View)
     (new : IsNewest site v words) (all : KeepsFull site kept v) (did : Doings) (r : RemembersRoom site kept did.loads) (nothing : NothingToMove kept did.loads) where
   abbrev keeps : KeepsAll site kept v
   keeps = all.keeps
@@ -111,14 +111,8 @@ module _ (site : Site) (good : IsSite site) (grown : AllGrown site.shape site.fr
   low = subst (λ h1. depth_in h1 ≤ site.shape.depth) (sym newest_head)
       ((new.structure.sound.head segment within).depth_fits (not_free (frame_of site.shape words) segment is_live))
 
-  at_front : site.front (head_at site.shape segment + 1) ≡ r.path.head
-  at_front = sym (constant (head_at site.shape segment + 1) (header_is site.shape segment within)) ∙ sym newest_head
-
-  alone : depth_in r.path.head < site.shape.depth → site.shape.segments ≡ 1
-  alone less = elim (grown segment within) [
-    | inl one ↦ one
-    | inr deep ↦ absurd (let d = sym (ap depth_in at_front) ∙ deep.1 in omega (arith, d, less))
-  ]
+  alone : HasStructure site.shape site.front words → depth_in r.path.head < site.shape.depth → site.shape.segments ≡ 1
+  alone constant less = one_slot site grown words constant kept v new keeps (subst (λ head. depth_in head < site.shape.depth) r.head less)
 
   has_depth : (Passes : ℕ → Type 0) → Passes (depth_in r.path.head) → HasDepth site.shape words did call segment Passes
   has_depth Passes passes = (r.path.head, was_head, passes)
@@ -132,17 +126,17 @@ module _ (site : Site) (good : IsSite site) (grown : AllGrown site.shape site.fr
 
   -- ---- its buckets
   -- what was loaded of a bucket
-  loaded : (place : Place) → WasLoaded kept did.loads place → (j : ℕ) → 1 ≤ j → j < 32
+  loaded : (place : Role) → WasLoaded kept did.loads place → (j : ℕ) → 1 ≤ j → j < 32
       → Has (bucket_at site.shape segment (bucket_of hash place) + j, slice_index (words_in kept.buckets place) j) did.loads
   loaded place was j from low =
       subst (λ h. Has (bucket_at site.shape segment (bucket_of h place) + j, slice_index (words_in kept.buckets place) j) did.loads) hash_is
       (subst (λ l. Has (l + j, slice_index (words_in kept.buckets place) j) did.loads) (lock_at site kept.site kept.hash segment keeps.holds.located place) (was j from low))
 
-  meta_loaded : (place : Place) → WasLoaded kept did.loads place → WasMeta site.shape did.loads segment (bucket_of hash place) (slice_index (words_in kept.buckets place) 1)
+  meta_loaded : (place : Role) → WasLoaded kept did.loads place → WasMeta site.shape did.loads segment (bucket_of hash place) (slice_index (words_in kept.buckets place) 1)
   meta_loaded place was = loaded place was 1 (omega arith) (omega arith)
 
   -- none of the keys of a bucket that is full is that of the call
-  other : (place : Place) → IsHeld kept.held place → is_third place ≡ false → ((slot : ℕ) → slot < record_slots → allocated slot (slice_index (words_in kept.buckets place) 1) ≡ 1)
+  other : (place : Role) → IsHeld kept.held place → is_third place ≡ false → ((slot : ℕ) → slot < record_slots → allocated slot (slice_index (words_in kept.buckets place) 1) ≡ 1)
       → (slot : ℕ) → slot < record_slots → slice_index (words_in kept.buckets place) (4 + 2 * slot) ≢ key_of call
   other place held own full slot low e =
       let at : ℕ = bucket_at site.shape segment (bucket_of kept.hash place) in
@@ -155,7 +149,7 @@ module _ (site : Site) (good : IsSite site) (grown : AllGrown site.shape site.fr
             ap (kept_words kept) where_it_is ∙ word_here site kept v all place (4 + 2 * slot) (omega arith) (omega (arith, low)) ∙ e ∙ sym key_is);
       })
 
-  full_of_others : (place : Place) → IsHeld kept.held place → is_third place ≡ false → ((slot : ℕ) → slot < record_slots → allocated slot (slice_index (words_in kept.buckets place) 1) ≡ 1)
+  full_of_others : (place : Role) → IsHeld kept.held place → is_third place ≡ false → ((slot : ℕ) → slot < record_slots → allocated slot (slice_index (words_in kept.buckets place) 1) ≡ 1)
       → IsFullOfOthers site.shape words did call segment (bucket_of hash place) (slice_index (words_in kept.buckets place) 1)
   full_of_others place held own full =
       let was = r.buckets place held own in
@@ -188,29 +182,30 @@ module _ (site : Site) (good : IsSite site) (grown : AllGrown site.shape site.fr
   depth_is : kept.site.geometry.depth ≡ site.shape.depth
   depth_is = ap (λ (g : Shape). g.depth) keeps.holds.located.shape
 
-  reply_by : (b : Bool) → (depth_in kept.head == kept.site.geometry.depth) ≡ b → HasReplyCause site.shape words did call (if b then Deep else Full)
-  reply_by true is =
+  reply_by : (b : Bool) → (depth_in kept.head == kept.site.geometry.depth) ≡ b → ReplyRestsOn site words (if b then Deep else Full) → HasReplyCause site.shape words did call (if b then Deep else Full)
+  reply_by true is rests =
       (segment, no_room_there, has_depth (λ depth. depth ≡ site.shape.depth) (ap depth_in r.head ∙ eqb-true (depth_in kept.head) kept.site.geometry.depth is ∙ depth_is))
-  reply_by false is =
+  reply_by false is constant =
       let differ = eqb-false (depth_in kept.head) kept.site.geometry.depth is in
       let less : depth_in r.path.head < site.shape.depth = (let same = ap depth_in r.head in let d = depth_is in let most = low in omega (arith, differ, same, d, most)) in
-      (segment, no_room_there, has_depth (λ depth. depth < site.shape.depth) less, none_is_free (alone less))
+      (segment, no_room_there, has_depth (λ depth. depth < site.shape.depth) less, none_is_free (alone constant less))
 
-  reply_caused : HasReplyCause site.shape words did call (no_room kept)
+  reply_caused : ReplyRestsOn site words (no_room kept) → HasReplyCause site.shape words did call (no_room kept)
   reply_caused = reply_by (depth_in kept.head == kept.site.geometry.depth) refl
 
 -- ---- by the step
-module _ (site : Site) (good : IsSite site) (here : Here) (call : Call) (words : Words) (constant : HasStructure site.shape site.front words) (kept : Kept) (v : View) (new : IsNewest site v words) (did : Doings) where
+module _ (site : Ground) (good : IsGround site) (here : Site) (call : Call) (words : Words) (kept : Kept) (v : View) (new : IsNewest site v words) (did : Doings) where
   abbrev Caused : Want → Outcome → Type 0
   Caused event outcome = HasCause site.shape words did call event here outcome
 
   caused_at : (s : RefuseStep) (n : ℕ) → RefusalStands site here call (record { kept = kept; step = s }) v → RemembersAt site kept did.loads s → outcome_at kept s ≡ None
-      → (outcome : Outcome) → outcome_at kept (next_in kept s (answer_to (wanted_in kept s) n)) ≡ Some outcome → Caused (wanted_in kept s) outcome
-  caused_at Count n st r none outcome some =
-      subst (Caused (wanted_in kept Count)) (same_Some (replied (no_room kept) n) outcome (sym (giving_outcome kept kept.held n) ∙ some))
-      (reply_caused site good st.may.grown words constant call kept st.may.same v new st.view did r.0 r.1)
-  caused_at (Give held count) n st r none outcome some = absurd (none-some (replied (no_room kept) count) (sym none))
-  caused_at (Ended count) n st r none outcome some = absurd (none-some (replied (no_room kept) count) (sym none))
+      → (outcome : Outcome) → outcome_at kept (next_in kept s (answer_to (wanted_in kept s) n)) ≡ Some outcome → RestsOn site words outcome → Caused (wanted_in kept s) outcome
+  caused_at Count n st r none outcome some rests =
+      let same : replied (no_room kept) n ≡ outcome = same_Some (replied (no_room kept) n) outcome (sym (giving_outcome kept kept.held n) ∙ some) in
+      subst (Caused (wanted_in kept Count)) same
+      (reply_caused site good st.may.grown words call kept st.may.same v new st.view did r.0 r.1 (subst (RestsOn site words) (sym same) rests))
+  caused_at (Give held count) n st r none outcome some rests = absurd (none-some (replied (no_room kept) count) (sym none))
+  caused_at (Ended count) n st r none outcome some rests = absurd (none-some (replied (no_room kept) count) (sym none))
 
 -- what is told is a reply
 told : (kept : Kept) (s : RefuseStep) (n : ℕ) (why : Why) → outcome_at kept s ≡ None → outcome_at kept (next_in kept s (answer_to (wanted_in kept s) n)) ≡ Some (again why) → ⊥
@@ -219,8 +214,8 @@ told kept (Give held count) n why none some = absurd (none-some (replied (no_roo
 told kept (Ended count) n why none some = absurd (none-some (replied (no_room kept) count) (sym none))
 
 -- nothing has to be remembered behind the counter
-module _ (site : Site) (kept : Kept) (loads : List (ℕ × ℕ)) where
-  next_remembers : (held : Held) (count : ℕ) (next : Option (Place × ℕ)) → RemembersAt site kept loads (given_by next held count)
+module _ (site : Ground) (kept : Kept) (loads : List (ℕ × ℕ)) where
+  next_remembers : (held : Held) (count : ℕ) (next : Option (Role × ℕ)) → RemembersAt site kept loads (given_by next held count)
   next_remembers held count (Some next) = tt
   next_remembers held count None = tt
 
@@ -260,7 +255,7 @@ refuse_ends_by_cause = record {
       let n : ℕ = words (word_of site.shape (wanted op)) in
       record {
         remembers = remembers_at site op.kept _ op.step n;
-        caused = λ outcome none some. caused_at site h.site_is here call words h.structure.constant op.kept v (newest_is site words views j v h at) did op.step n s.stands r none outcome some;
+        caused = λ outcome none some rests. caused_at site h.site_is here call words op.kept v (newest_without site words views j v h at (no_areas site op.kept op.step v s.stands.view)) did op.step n s.stands r none outcome some rests;
         worked = λ none some. finished_at op.kept (next_in op.kept op.step (answer_to (wanted op) n)) some;
         not_own = λ word value none some. absurd (told op.kept op.step n _ none some);
       };

@@ -1,3 +1,4 @@
+pub mod Alone
 pub mod Room
 pub mod RefuseIsPart
 pub mod Causing

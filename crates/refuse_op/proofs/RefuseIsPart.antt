@@ -13,8 +13,8 @@ use Rattle.map_model.specs.declared.entry.Reply.{Reply}
 use Rattle.map_model.specs.declared.entry.Reply.TheVariants as reply
 use Rattle.map_model.specs.Map.{is_done}
 use Rattle.map_model.specs.Changes.{call_of}
-use Rattle.world.specs.declared.site.Site.{Site as Here}
-use Rattle.world.specs.Site.{Site, IsSite}
+use Rattle.world.specs.declared.site.Site.{Site}
+use Rattle.world.specs.Ground.{Ground, IsGround}
 use Rattle.world.specs.Views.{View, Has}
 use Rattle.world.specs.Wants.{answer_to, word_of}
 use Rattle.world.specs.Kinds.{cuts_power, wanted as wanted_by, with_reply, next_entry, view_after}
@@ -22,11 +22,13 @@ use Rattle.world.specs.History.{MayReply}
 use Rattle.world.specs.Conditions.{May, IsKnownSpent}
 use Rattle.world.specs.Pairs.{IsPublishingKind}
 use Rattle.world.specs.Attempts.{HoldsOnly, EntersReply}
-use Rattle.world.proofs.Grounds.{lock_within}
+use Rattle.world.specs.StepKinds.{of_call}
+use Rattle.world.proofs.basics.Grounds.{lock_within}
+use Rattle.world.proofs.calls.deeds.Calls.{calls_may}
 use Rattle.part.specs.Outcomes.{Outcome, replied, reply_of}
 use Rattle.part.specs.Part.{IsPart}
 use Rattle.part.specs.Asks.{IsWithin, PutsWord}
-use Rattle.phase.specs.declared.place.Place.{Place}
+use Rattle.phase.specs.declared.role.Role.{Role}
 use Rattle.phase.specs.declared.held.Held.{Held}
 use Rattle.phase.specs.declared.kept.Kept.{Kept}
 use Rattle.phase.specs.Helds.{give_next, give_wanted_of, given}
@@ -55,15 +57,15 @@ module _ (kept : Kept) where
 
 -- ---- what is decided, and the view, where locks are given back
 module _ (kept : Kept) where
-  next_outcome : (held : Held) (count : ℕ) (next : Option (Place × ℕ)) → outcome_at kept (given_by next held count) ≡ Some (replied (no_room kept) count)
+  next_outcome : (held : Held) (count : ℕ) (next : Option (Role × ℕ)) → outcome_at kept (given_by next held count) ≡ Some (replied (no_room kept) count)
   next_outcome held count (Some next) = refl
   next_outcome held count None = refl
 
   pub giving_outcome : (held : Held) (count : ℕ) → outcome_at kept (giving held count) ≡ Some (replied (no_room kept) count)
   giving_outcome held count = next_outcome held count (give_next held)
 
-module _ (site : Site) (kept : Kept) where
-  by_next : (held : Held) (count : ℕ) (u : View) → IsGivingBack kept site held u → (next : Option (Place × ℕ)) → give_next held ≡ next → SuitsStep kept site (given_by next held count) u
+module _ (site : Ground) (kept : Kept) where
+  by_next : (held : Held) (count : ℕ) (u : View) → IsGivingBack kept site held u → (next : Option (Role × ℕ)) → give_next held ≡ next → SuitsStep kept site (given_by next held count) u
   by_next held count u g (Some next) e = g
   by_next held count u g None e =
       give_stands.ends kept.site kept.hash kept.segment held u g.locks g.quiet (ap (give_wanted_of kept.site kept.hash kept.segment) e)
@@ -72,7 +74,7 @@ module _ (site : Site) (kept : Kept) where
   giving_suits held count u g = by_next held count u g (give_next held) refl
 
 -- ---- one step
-module _ (site : Site) (here : Here) (call : Call) (kept : Kept) (before v : View) where
+module _ (site : Ground) (here : Site) (call : Call) (kept : Kept) (before v : View) where
   abbrev Stood : RefuseStep → View → Type 0
   Stood s u = RefusalStands site here call (record { kept = kept; step = s }) u
 
@@ -106,7 +108,7 @@ module _ (site : Site) (here : Here) (call : Call) (kept : Kept) (before v : Vie
       let q = s.view.keeps.quiet in
       again Count (giving kept.held n) u s (giving_suits site kept kept.held n u (record {
         located = s.view.keeps.holds.located;
-        locks = held_stands.same kept.site kept.hash kept.segment kept.held v u refl refl s.view.keeps.holds.locks;
+        locks = held_stands.same kept.site kept.hash kept.segment kept.held v u refl refl refl s.view.keeps.holds.locks;
         quiet = record { dirty = q.dirty; flushed = q.flushed; planned = q.planned; moving = q.moving; owed = q.owed };
       }))
   stands (Give held count) n s asks =
@@ -133,7 +135,7 @@ module _ (site : Site) (here : Here) (call : Call) (kept : Kept) (before v : Vie
   enters (Ended count) n s e asks = absurd (asks refl)
 
 -- it makes no change
-makes_by : (here : Here) (hash segment : ℕ) (next : Option (Place × ℕ)) → IsPublishingKind (give_kind_of here hash segment next) → ⊥
+makes_by : (here : Site) (hash segment : ℕ) (next : Option (Role × ℕ)) → IsPublishingKind (give_kind_of here hash segment next) → ⊥
 makes_by here hash segment (Some next) p = p
 makes_by here hash segment None p = p
 
@@ -143,7 +145,7 @@ makes_none kept (Give held count) p = makes_by kept.site kept.hash kept.segment 
 makes_none kept (Ended count) p = p
 
 -- ---- in any state
-next_left : (held : Held) (count : ℕ) (next : Option (Place × ℕ)) → left_at (given_by next held count) ≤ give_left held
+next_left : (held : Held) (count : ℕ) (next : Option (Role × ℕ)) → left_at (given_by next held count) ≤ give_left held
 next_left held count (Some next) = omega arith
 next_left held count None = omega arith
 
@@ -162,20 +164,20 @@ most_at (Give held count) = let most = give_few held in omega (arith, most)
 most_at (Ended count) = omega arith
 
 -- ---- what it asks
-module _ (site : Site) (good : IsSite site) (here : Here) (hash segment : ℕ) (l : IsLocated site here segment) where
-  give_within : (next : Option (Place × ℕ)) → IsWithin site.shape (give_wanted_of here hash segment next)
+module _ (site : Ground) (good : IsGround site) (here : Site) (hash segment : ℕ) (l : IsLocated site here segment) where
+  give_within : (next : Option (Role × ℕ)) → IsWithin site.shape (give_wanted_of here hash segment next)
   give_within (Some next) = record {
     word = (let low = lock_within site.shape (lock_word here hash segment next.0) (is_lock site here hash segment l next.0) in omega (arith, low));
     line = λ n e. absurd (cc);
   }
   give_within None = record { word = (let some = good.shape.some in omega (arith, some)); line = λ n e. absurd (cc) }
 
-within_at : (site : Site) → IsSite site → (kept : Kept) (s : RefuseStep) (v : View) → SuitsStep kept site s v → IsWithin site.shape (wanted_in kept s)
+within_at : (site : Ground) → IsGround site → (kept : Kept) (s : RefuseStep) (v : View) → SuitsStep kept site s v → IsWithin site.shape (wanted_in kept s)
 within_at site good kept Count v suits = subst (λ (g : Shape). IsWithin site.shape (want.Load (counter_word g))) (sym suits.keeps.holds.located.shape) (record { word = omega arith; line = λ n e. absurd (cc) })
 within_at site good kept (Give held count) v suits = give_within site good kept.site kept.hash kept.segment suits.located (give_next held)
 within_at site good kept (Ended count) v suits = record { word = (let some = good.shape.some in omega (arith, some)); line = λ n e. absurd (cc) }
 
-give_puts : (here : Here) (hash segment : ℕ) (next : Option (Place × ℕ)) → PutsWord (give_wanted_of here hash segment next)
+give_puts : (here : Site) (hash segment : ℕ) (next : Option (Role × ℕ)) → PutsWord (give_wanted_of here hash segment next)
 give_puts here hash segment (Some next) = record {
   stores = λ i x e. (let x_is : (next.1 + 2) % 2 ^ 64 ≡ x = cc in omega (arith, x_is));
   exchanges = λ i a b e. absurd (cc);
@@ -187,7 +189,7 @@ puts_at kept Count = record { stores = λ i x e. absurd (cc); exchanges = λ i a
 puts_at kept (Give held count) = give_puts kept.site kept.hash kept.segment (give_next held)
 puts_at kept (Ended count) = record { stores = λ i x e. absurd (cc); exchanges = λ i a b e. absurd (cc) }
 
-give_flushes : (here : Here) (hash segment : ℕ) (next : Option (Place × ℕ)) (l : ℕ) → give_wanted_of here hash segment next ≡ want.Flush l → ⊥
+give_flushes : (here : Site) (hash segment : ℕ) (next : Option (Role × ℕ)) (l : ℕ) → give_wanted_of here hash segment next ≡ want.Flush l → ⊥
 give_flushes here hash segment (Some next) l e = absurd (cc)
 give_flushes here hash segment None l e = absurd (cc)
 
@@ -196,22 +198,27 @@ flushes_none kept Count l e = absurd (cc)
 flushes_none kept (Give held count) l e = give_flushes kept.site kept.hash kept.segment (give_next held) l e
 flushes_none kept (Ended count) l e = absurd (cc)
 
-give_power : (here : Here) (hash segment : ℕ) (next : Option (Place × ℕ)) → give_kind_of here hash segment next ≢ cuts_power
+give_power : (here : Site) (hash segment : ℕ) (next : Option (Role × ℕ)) → of_call (give_kind_of here hash segment next) ≢ of_call cuts_power
 give_power here hash segment (Some next) e = absurd (cc)
 give_power here hash segment None e = absurd (cc)
 
-power_at : (kept : Kept) (s : RefuseStep) → kind_at kept s ≢ cuts_power
+power_at : (kept : Kept) (s : RefuseStep) → of_call (kind_at kept s) ≢ of_call cuts_power
 power_at kept Count e = absurd (cc)
 power_at kept (Give held count) e = give_power kept.site kept.hash kept.segment (give_next held) e
 power_at kept (Ended count) e = absurd (cc)
 
--- ---- nothing is planned, and nothing held at the end
-no_plan : (site : Site) (kept : Kept) (s : RefuseStep) (v : View) → SuitsStep kept site s v → v.planned ≡ []
+-- ---- it has no areas, nothing is planned, and nothing held at the end
+pub no_areas : (site : Ground) (kept : Kept) (s : RefuseStep) (v : View) → SuitsStep kept site s v → v.areas ≡ []
+no_areas site kept Count v suits = suits.keeps.holds.locks.areas
+no_areas site kept (Give held count) v suits = suits.locks.areas
+no_areas site kept (Ended count) v suits = suits.areas
+
+no_plan : (site : Ground) (kept : Kept) (s : RefuseStep) (v : View) → SuitsStep kept site s v → v.planned ≡ []
 no_plan site kept Count v suits = suits.keeps.quiet.planned
 no_plan site kept (Give held count) v suits = suits.quiet.planned
 no_plan site kept (Ended count) v suits = suits.planned
 
-bare_at : (site : Site) (kept : Kept) (s : RefuseStep) (v : View) → SuitsStep kept site s v → wanted_in kept s ≡ want.Done → HoldsOnly [] v
+bare_at : (site : Ground) (kept : Kept) (s : RefuseStep) (v : View) → SuitsStep kept site s v → wanted_in kept s ≡ want.Done → HoldsOnly [] v
 bare_at site kept Count v suits done = absurd (let z : want.Load (counter_word kept.site.geometry) ≡ want.Done = done in cc)
 bare_at site kept (Give held count) v suits done = give_stands.ends kept.site kept.hash kept.segment held v suits.locks suits.quiet done
 bare_at site kept (Ended count) v suits done = suits
@@ -223,13 +230,13 @@ refuse_is_part = record {
       let n : ℕ = words (word_of site.shape (wanted op)) in
       record {
         wants = wants site here call op.kept before v op.step s.stands asks;
-        may = may site here call op.kept before v op.step s.stands;
+        may = calls_may site (kind_at op.kept op.step) v (no_areas site op.kept op.step v s.stands.view) (may site here call op.kept before v op.step s.stands);
         stands = λ small. stands site here call op.kept before v op.step n s.stands asks;
         enters = λ small. enters site here call op.kept before v op.step n s.stands s.enters asks;
         makes = λ p. absurd (makes_none op.kept op.step p);
       };
   ends = λ site here call op v s done closed. bare_at site op.kept op.step v s.view done;
-  time = record { falls = λ op a i. falls_at op.kept op.step a i; most = λ op. most_at op.step };
+  time = record { falls = λ op a i. inl (falls_at op.kept op.step a i); most = λ op. most_at op.step };
   within = λ site here call op before v good s. within_at site good op.kept op.step v s.stands.view;
   words = λ site here call op before v s. puts_at op.kept op.step;
   flushes = record {

@@ -22,13 +22,13 @@ use Rattle.map_model.specs.declared.call.Call.{Call}
 use Rattle.map_model.specs.declared.entry.Reply.TheVariants.{Full, Deep}
 use Rattle.map_model.specs.Map.{key_of}
 use Rattle.map_model.specs.Changes.{call_of}
-use Rattle.world.specs.Site.{Site}
+use Rattle.world.specs.Ground.{Ground}
 use Rattle.world.specs.Views.{View, Has}
 use Rattle.world.specs.History.{HasFullKeys, HasRoomCause}
 use Rattle.world.specs.Conditions.{IsUnplanned, IsNewest, IsMapNow, IsKnownCause}
 use Rattle.world.specs.Holders.{KnowsBucket}
-use Rattle.phase.specs.declared.place.Place.{Place}
-use Rattle.phase.specs.declared.place.Place.TheVariants.{Home, Probing, First, Second}
+use Rattle.phase.specs.declared.role.Role.{Role}
+use Rattle.phase.specs.declared.role.Role.TheVariants.{Home, Probing, First, Second}
 use Rattle.phase.specs.declared.kept.Kept.{Kept}
 use Rattle.phase.specs.Asked.{index}
 use Rattle.phase.specs.Buckets.{words_in}
@@ -41,7 +41,7 @@ use Rattle.phase.proofs.locks.Finding.{words_stand, holders_find}
 use Rattle.refuse_op.specs.Steps.{no_room}
 
 -- ---- the full buckets, by numbers
-abbrev pub full_place : ℕ → Place
+abbrev pub full_place : ℕ → Role
 full_place zero = Home
 full_place (suc zero) = Probing
 full_place (suc (suc zero)) = First
@@ -62,12 +62,12 @@ place_once hash a b p q e = sym (number_is a p) ∙ ap index (one_number hash (f
 same_slot : (r t : ℕ) → r / 14 ≡ t / 14 → r % 14 ≡ t % 14 → r ≡ t
 same_slot r t bucket slot = omega (arith, bucket, slot)
 
-module _ (site : Site) (kept : Kept) (v : View) (all : KeepsFull site kept v) where
+module _ (site : Ground) (kept : Kept) (v : View) (all : KeepsFull site kept v) where
   abbrev keeps : KeepsAll site kept v
   keeps = all.keeps
 
   -- a word of a bucket stands where its lock word does
-  pub word_here : (place : Place) (j : ℕ) → 1 ≤ j → j < 32 → kept_words kept (bucket_at site.shape kept.segment (bucket_of kept.hash place) + j) ≡ slice_index (words_in kept.buckets place) j
+  pub word_here : (place : Role) (j : ℕ) → 1 ≤ j → j < 32 → kept_words kept (bucket_at site.shape kept.segment (bucket_of kept.hash place) + j) ≡ slice_index (words_in kept.buckets place) j
   word_here place j from low =
       ap (λ l. kept_words kept (l + j)) (sym (lock_at site kept.site kept.hash kept.segment keeps.holds.located place))
       ∙ words_stand site kept.site kept.hash kept.segment kept.buckets place keeps.holds.located j from low

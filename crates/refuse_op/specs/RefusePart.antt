@@ -4,11 +4,12 @@ use Rattle.std.specs.Prelude.{◌≡◌, ℕ, ⊤, false, Option, None, Some, Li
 use Rattle.image_layout.specs.Places.{root_word}
 use Rattle.map_model.specs.declared.call.Call.{Call}
 use Rattle.map_model.specs.Changes.{call_of}
-use Rattle.world.specs.declared.site.Site.{Site as Here}
-use Rattle.world.specs.Site.{Site}
+use Rattle.world.specs.declared.site.Site.{Site}
+use Rattle.world.specs.Ground.{Ground}
 use Rattle.world.specs.Views.{View}
 use Rattle.world.specs.Kinds.{Kind, peeks, refuses}
 use Rattle.world.specs.Attempts.{HoldsOnly}
+use Rattle.world.specs.StepKinds.{of_call}
 use Rattle.part.specs.Doings.{Doings}
 use Rattle.part.specs.Outcomes.{Outcome, replied, finished}
 use Rattle.part.specs.Part.{Part}
@@ -47,30 +48,30 @@ module _ (kept : Kept) where
 
   -- ---- THE VIEW in each step
   -- these locks are held, and nothing is unsettled, planned, under way or owed
-  pub record IsGivingBack (site : Site) (held : Held) (v : View) : Type 0 where
+  pub record IsGivingBack (site : Ground) (held : Held) (v : View) : Type 0 where
     pub located : IsLocated site kept.site kept.segment
     pub locks : HoldsLocks kept.site kept.hash kept.segment held v
     pub quiet : IsQuiet v
 
-  abbrev pub SuitsStep : Site → RefuseStep → View → Type 0
+  abbrev pub SuitsStep : Ground → RefuseStep → View → Type 0
   SuitsStep site Count v = KeepsFull site kept v
   SuitsStep site (Give held count) v = IsGivingBack site held v
   SuitsStep site (Ended count) v = HoldsOnly [] v
 
 -- WHAT MAY BE REFUSED: the call's insert, in a table that is grown out: who loaded the header of one segment alone does not know that
 -- no other slot is free
-pub record MayBeRefused (site : Site) (here : Here) (call : Call) (kept : Kept) : Type 0 where
+pub record MayBeRefused (site : Ground) (here : Site) (call : Call) (kept : Kept) : Type 0 where
   pub same : call_of kept.change ≡ call
   pub at : kept.site ≡ here
   pub grown : AllGrown site.shape site.front
 
-pub record RefusalStands (site : Site) (here : Here) (call : Call) (op : RefuseOp) (v : View) : Type 0 where
+pub record RefusalStands (site : Ground) (here : Site) (call : Call) (op : RefuseOp) (v : View) : Type 0 where
   pub may : MayBeRefused site here call op.kept
   pub view : SuitsStep op.kept site op.step v
 
 -- ---- what it remembers
 -- the way to its segment, the words of the buckets where its key may stand, and that nothing could be moved
-abbrev pub RemembersAt : Site → Kept → List (ℕ × ℕ) → RefuseStep → Type 0
+abbrev pub RemembersAt : Ground → Kept → List (ℕ × ℕ) → RefuseStep → Type 0
 RemembersAt site kept loads Count = RemembersRoom site kept loads × NothingToMove kept loads
 RemembersAt site kept loads more = ⊤
 
@@ -79,7 +80,7 @@ abbrev pub refuse_part : Part RefuseOp
 refuse_part = record {
   wanted = wanted;
   taken = taken;
-  kind = λ op n. kind_at op.kept op.step;
+  kind = λ op n. of_call (kind_at op.kept op.step);
   Stands = RefusalStands;
   outcome = λ op. outcome_at op.kept op.step;
   Remembers = λ site op did. RemembersAt site op.kept did.loads op.step;
@@ -87,6 +88,7 @@ refuse_part = record {
   HasMade = λ op. ⊥;
   left = λ op. left_at op.step;
   most_events = most_events;
+  is_waiting = λ op. false;
   waiting = λ op. 0;
   most_waiting = 0;
   hands_on = λ op. false;
@@ -95,11 +97,11 @@ refuse_part = record {
 -- ---- where it begins
 -- with what may be refused, by a caller that keeps all its locks and what it knows, those of the stash buckets among them
 abbrev pub BeginsAsPart : Type 0
-BeginsAsPart = (site : Site) (here : Here) (call : Call) (kept : Kept) (v : View) → MayBeRefused site here call kept → KeepsFull site kept v → RefusalStands site here call (refused kept) v
+BeginsAsPart = (site : Ground) (here : Site) (call : Call) (kept : Kept) (v : View) → MayBeRefused site here call kept → KeepsFull site kept v → RefusalStands site here call (refused kept) v
 
 -- it remembers what the insert does that hands on to it
 abbrev pub BeginsRemembering : Type 0
-BeginsRemembering = (site : Site) (kept : Kept) (did : Doings) → RemembersRoom site kept did.loads → NothingToMove kept did.loads → refuse_part.Remembers site (refused kept) did
+BeginsRemembering = (site : Ground) (kept : Kept) (did : Doings) → RemembersRoom site kept did.loads → NothingToMove kept did.loads → refuse_part.Remembers site (refused kept) did
 
 -- and nothing is decided
 abbrev pub BeginsUndecided : Type 0

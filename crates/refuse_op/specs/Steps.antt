@@ -8,7 +8,7 @@ use Rattle.op_core.specs.declared.want.Ans.{Ans}
 use Rattle.op_core.specs.declared.want.Ans.TheVariants.{Value, Passed}
 use Rattle.map_model.specs.declared.entry.Reply.{Reply}
 use Rattle.map_model.specs.declared.entry.Reply.TheVariants.{Full, Deep}
-use Rattle.phase.specs.declared.place.Place.{Place}
+use Rattle.phase.specs.declared.role.Role.{Role}
 use Rattle.phase.specs.declared.held.Held.{Held}
 use Rattle.phase.specs.declared.kept.Kept.{Kept}
 use Rattle.phase.specs.Helds.{give_next, give_wanted, given}
@@ -23,7 +23,7 @@ abbrev pub no_room : Kept → Reply
 no_room kept = if depth_in kept.head == kept.site.geometry.depth then Deep else Full
 
 -- the locks that are held are given back, one after another, and then it ends
-abbrev pub given_by : Option (Place × ℕ) → Held → ℕ → RefuseStep
+abbrev pub given_by : Option (Role × ℕ) → Held → ℕ → RefuseStep
 given_by (Some next) held count = Give held count
 given_by None held count = Ended count
 

@@ -7,8 +7,9 @@ ghost use Rattle.refuse_op.specs.Ends.{EndsAsSaid, RepliesByDepth};
 
 /// The refusal of an insert that found no slot, nothing to move, and both stash buckets full, is a part of a call, in a table that is
 /// grown out: the reply is entered with its cause, since all keys of these four buckets are in the map, and of the insert's segment,
-/// and the locks are given back, at most six. Its outcome has its cause in what the attempt loaded. It begins undecided, with the view
-/// and the memory of the insert that hands on to it, and never ends but with a reply.
+/// and the locks are given back, at most six. Its outcome has its cause in what the attempt loaded: that the table is full, so far where
+/// the structure is that of the start. It begins undecided, with the view and the memory of the insert that hands on to it, and never
+/// ends but with a reply.
 pub fn refusals_are_parts()
     ensures part { IsPart refuse_part }
     ensures causes { EndsByCause refuse_part }

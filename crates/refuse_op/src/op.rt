@@ -71,7 +71,7 @@ impl RefuseOp {
     }
 
     /// Whether it wants nothing more.
-    pub fn is_done(&self) -> bool
+    pub fn wants_nothing(&self) -> bool
         ensures { IsTrue result ↔ (wanted self.now ≡ want.Done) }
     {
         want_of(self) == Want::Done

@@ -2,7 +2,7 @@
 //! not asked for.
 use super::*;
 use image_layout::Geometry;
-use map_model::{Change, Deed, Reply};
+use map_model::{Change, Effect, Reply};
 use op_core::{Ans, Machine, Want};
 use phase::{Buckets, Held, Kept};
 use std::test::Fail;
@@ -21,7 +21,7 @@ fn kept(segments: u64, depth: u64, segment: u64, held: Held) -> Result<Kept, Fai
         },
         change: Change {
             key: 5,
-            deed: Deed::Insert(7),
+            effect: Effect::Insert(7),
         },
         hash: 5,
         segment,
@@ -61,17 +61,17 @@ fn gives_six_locks_back(rt: HostRuntime) -> Result<(), Fail> {
         (Want::Store(2112, u64::MAX - 1), Ans::Passed),
     ] {
         assert_eq!(rt; op.want(), want);
-        assert!(rt; !op.is_done());
+        assert!(rt; !op.wants_nothing());
         op.take(ans);
     }
-    assert!(rt; op.is_done());
+    assert!(rt; op.wants_nothing());
     assert_eq!(rt; end_of(op), RefuseEnd::Replied(Reply::Deep, 30));
     Ok(())
 }
 
 #[test]
 fn wider_image_is_full(rt: HostRuntime) -> Result<(), Fail> {
-    let held = Held::none().with(phase::Place::Previous, 0);
+    let held = Held::none().with(phase::Role::Previous, 0);
     let mut op = RefuseOp::new(kept(2, 1, 1, held)?);
     assert_eq!(rt; op.want(), Want::Load(4352));
     op.take(Ans::Value(10));

@@ -1,4 +1,5 @@
 -- Each event leaves a view that suits the next step, with the reply entered that is decided.
+pub mod Areas
 pub mod Going
 pub mod Storing
 pub mod Noting

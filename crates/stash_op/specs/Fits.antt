@@ -11,14 +11,14 @@ use Rattle.map_model.specs.declared.entry.Reply.TheVariants as reply
 use Rattle.map_model.specs.Changes.{call_of}
 use Rattle.map_model.specs.Legal.{IsInsert}
 use Rattle.bucket_words.specs.Hits.{Hit}
-use Rattle.world.specs.declared.site.Site.{Site as Here}
-use Rattle.world.specs.Site.{Site}
+use Rattle.world.specs.declared.site.Site.{Site}
+use Rattle.world.specs.Ground.{Ground}
 use Rattle.world.specs.Views.{Owed, View, Has}
 use Rattle.world.specs.Kinds.{Kind, peeks, refuses, learns, stores, repays, stashes, draws_place}
 use Rattle.world.specs.Attempts.{HoldsOnly}
 use Rattle.part.specs.Outcomes.{Outcome, replied, again, off}
-use Rattle.phase.specs.declared.place.Place.{Place}
-use Rattle.phase.specs.declared.place.Place.TheVariants as place
+use Rattle.phase.specs.declared.role.Role.{Role}
+use Rattle.phase.specs.declared.role.Role.TheVariants as place
 use Rattle.phase.specs.declared.load.Load.{Load}
 use Rattle.phase.specs.declared.make.Make.{Make}
 use Rattle.phase.specs.declared.make.Make.TheVariants.{FlushPublished, FencePublished}
@@ -118,7 +118,7 @@ module _ (kept : Kept) (seen : Seen) where
   IsNext Second = IsFullHeld (kept_in kept seen) place.First
 
 -- ---- what is held, known and owed
-module _ (site : Site) (kept : Kept) (seen : Seen) where
+module _ (site : Ground) (kept : Kept) (seen : Seen) where
   -- THE LOCKS are held, those of home and probing bucket among them, which are full, and of both third buckets; the header that is kept
   -- is pinned; the words of those of `before` are known, and the key stands in none of these
   pub record HasLoaded (before : Held) (v : View) : Type 0 where
@@ -232,7 +232,7 @@ module _ (site : Site) (kept : Kept) (seen : Seen) where
   SuitsStep (Ended end) v = SuitsEnd end v
 
 -- an insert runs in this image, its hash is its key's, and the header that it kept leads there
-pub record IsIn (site : Site) (kept : Kept) : Type 0 where
+pub record IsIn (site : Ground) (kept : Kept) : Type 0 where
   pub shape : kept.site.geometry ≡ site.shape
   pub hash : kept.hash ≡ key_hash site.shape kept.change.key
   pub leading : is_leading kept.head kept.hash ≡ true
@@ -245,12 +245,12 @@ HasWordsAt more = ⊤
 
 pub record HasWords (kept : Kept) (seen : Seen) (at : StashStep) : Type 0 where
   pub key : kept.change.key < 2 ^ 64
-  pub value : brought kept.change.deed < 2 ^ 64
-  pub buckets : (place : Place) → AreWords (words_in seen.buckets place)
+  pub value : brought kept.change.effect < 2 ^ 64
+  pub buckets : (place : Role) → AreWords (words_in seen.buckets place)
   pub load : HasWordsAt at
 
 -- it makes the call's insert
-pub record StashStands (site : Site) (here : Here) (call : Call) (op : StashOp) (v : View) : Type 0 where
+pub record StashStands (site : Ground) (here : Site) (call : Call) (op : StashOp) (v : View) : Type 0 where
   pub same : call_of op.kept.change ≡ call
   pub at : op.kept.site ≡ here
   pub is_in : IsIn site op.kept

@@ -4,8 +4,8 @@ use Rattle.hash_word.specs.Hash.{finger_of}
 use Rattle.bucket_meta.specs.Search.{lowest_free}
 use Rattle.bucket_meta.specs.Marks.{inserted_mark, finger_place, with_finger}
 use Rattle.bucket_meta.specs.NoteWords.{unused_place, noted_mark, noted_fingers, raised_count}
-use Rattle.phase.specs.declared.place.Place.{Place}
-use Rattle.phase.specs.declared.place.Place.TheVariants as place
+use Rattle.phase.specs.declared.role.Role.{Role}
+use Rattle.phase.specs.declared.role.Role.TheVariants as place
 use Rattle.phase.specs.declared.kept.Buckets.{Buckets}
 use Rattle.phase.specs.declared.kept.Kept.{Kept}
 use Rattle.phase.specs.declared.make.Record.{Record}
@@ -20,7 +20,7 @@ use Rattle.stash_op.specs.declared.step.Seen.{Seen}
 
 -- ---- buckets
 -- a stash bucket among the buckets of a key
-abbrev pub place_of : StashBucket → Place
+abbrev pub place_of : StashBucket → Role
 place_of First = place.First
 place_of Second = place.Second
 
@@ -30,7 +30,7 @@ index_of First = 0
 index_of Second = 1
 
 -- the bucket of a note among the buckets of a key
-abbrev pub note_place : NoteBucket → Place
+abbrev pub note_place : NoteBucket → Role
 note_place Home = place.Home
 note_place Probing = place.Probing
 
@@ -49,7 +49,7 @@ abbrev pub record_by : Kept → List ℕ → ℕ → Record
 record_by kept words slot = record {
   slot = slot;
   key = kept.change.key;
-  value = brought kept.change.deed;
+  value = brought kept.change.effect;
   fingers = with_finger (slice_index words (finger_place slot)) slot (finger_of kept.hash);
   published = 1;
   mark = inserted_mark (slice_index words 1) slot;

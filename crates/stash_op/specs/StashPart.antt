@@ -1,15 +1,16 @@
 -- A record that comes to the stash, as a part of a call: where both stash buckets are full its locks are kept, and another part goes on.
-use Rattle.std.specs.Prelude.{◌≡◌, ◌-◌, ◌^◌, ◌<◌, ⊤, true, None, Some}
+use Rattle.std.specs.Prelude.{◌≡◌, ◌-◌, ◌^◌, ◌<◌, ⊤, true, false, None, Some}
 use Rattle.map_model.specs.declared.call.Call.{Call}
 use Rattle.map_model.specs.Changes.{call_of}
-use Rattle.world.specs.declared.site.Site.{Site as Here}
-use Rattle.world.specs.Site.{Site}
+use Rattle.world.specs.declared.site.Site.{Site}
+use Rattle.world.specs.Ground.{Ground}
 use Rattle.world.specs.Views.{View, Has}
+use Rattle.world.specs.StepKinds.{of_call}
 use Rattle.part.specs.Doings.{Doings}
 use Rattle.part.specs.Outcomes.{finished}
 use Rattle.part.specs.Part.{Part}
-use Rattle.phase.specs.declared.place.Place.{Place}
-use Rattle.phase.specs.declared.place.Place.TheVariants as place
+use Rattle.phase.specs.declared.role.Role.{Role}
+use Rattle.phase.specs.declared.role.Role.TheVariants as place
 use Rattle.phase.specs.declared.held.Held.{Held}
 use Rattle.phase.specs.declared.kept.Kept.{Kept}
 use Rattle.phase.specs.Helds.{without_held}
@@ -33,7 +34,7 @@ use Rattle.stash_op.specs.Left.{most_events, left_at, most_waiting, waiting_at, 
 use Rattle.stash_op.specs.Fits.{kind_at, StashStands, outcome_at}
 
 -- ---- what it remembers of what its attempt did
-module _ (site : Site) (kept : Kept) (seen : Seen) (did : Doings) where
+module _ (site : Ground) (kept : Kept) (seen : Seen) (did : Doings) where
   -- as much as of what it goes on from: the way was loaded, with the words of the buckets of these locks, and those by which nothing could
   -- be moved; and it changed no words but those of locks that it holds
   pub record RemembersKept (loaded : Held) : Type 0 where
@@ -62,7 +63,7 @@ abbrev pub stash_part : Part StashOp
 stash_part = record {
   wanted = wanted;
   taken = taken;
-  kind = λ op n. kind_at op.kept op.stage.seen op.stage.step;
+  kind = λ op n. of_call (kind_at op.kept op.stage.seen op.stage.step);
   Stands = StashStands;
   outcome = λ op. outcome_at op.stage.step;
   Remembers = λ site op did. RemembersIn site op.kept op.stage.seen did op.stage.step;
@@ -70,6 +71,7 @@ stash_part = record {
   HasMade = λ op. HasMadeAt op.stage.step;
   left = λ op. left_at op.stage.step;
   most_events = most_events;
+  is_waiting = λ op. false;
   waiting = λ op. waiting_at op.stage.step;
   most_waiting = most_waiting;
   hands_on = λ op. needs_split op.stage.step;
@@ -78,21 +80,21 @@ stash_part = record {
 -- ---- where it begins
 -- what it may go on from: an insert of the call, of a key and a value that are words, whose buckets' words are words, with the locks of
 -- both third buckets
-pub record MayBeStashed (site : Site) (here : Here) (call : Call) (kept : Kept) : Type 0 where
+pub record MayBeStashed (site : Ground) (here : Site) (call : Call) (kept : Kept) : Type 0 where
   pub same : call_of kept.change ≡ call
   pub at : kept.site ≡ here
   pub key : kept.change.key < 2 ^ 64
-  pub value : brought kept.change.deed < 2 ^ 64
-  pub buckets : (place : Place) → AreWords (words_in kept.buckets place)
+  pub value : brought kept.change.effect < 2 ^ 64
+  pub buckets : (place : Role) → AreWords (words_in kept.buckets place)
   pub thirds : HoldsThirds kept.held
 
 -- by a caller who keeps all locks
 abbrev pub BeginsAsPart : Type 0
-BeginsAsPart = (site : Site) (here : Here) (call : Call) (kept : Kept) (v : View) → MayBeStashed site here call kept → KeepsAll site kept v → StashStands site here call (begun kept) v
+BeginsAsPart = (site : Ground) (here : Site) (call : Call) (kept : Kept) (v : View) → MayBeStashed site here call kept → KeepsAll site kept v → StashStands site here call (begun kept) v
 
 -- it remembers what was handed on
 abbrev pub BeginsRemembering : Type 0
-BeginsRemembering = (site : Site) (kept : Kept) (did : Doings) → RemembersRoom site kept did.loads → NothingToMove kept did.loads → ChangedLocks kept did.changed
+BeginsRemembering = (site : Ground) (kept : Kept) (did : Doings) → RemembersRoom site kept did.loads → NothingToMove kept did.loads → ChangedLocks kept did.changed
     → stash_part.Remembers site (begun kept) did
 
 -- and nothing is decided
@@ -100,22 +102,22 @@ abbrev pub BeginsUndecided : Type 0
 BeginsUndecided = (kept : Kept) → outcome_at (begun kept).stage.step ≡ None
 
 -- WHERE IT HANDS ON, both stash buckets are held and full too, and all else is as where it began; and it tells the segment that was kept
-pub record HandsOnFull (site : Site) (here : Here) (call : Call) (op : StashOp) (v : View) : Type 0 where
+pub record HandsOnFull (site : Ground) (here : Site) (call : Call) (op : StashOp) (v : View) : Type 0 where
   pub may : MayBeStashed site here call (kept_of op)
   pub full : KeepsFull site (kept_of op) v
   pub told : end_at op.stage.step ≡ NeedSplit op.kept.segment
 
 abbrev pub HandsOnAll : Type 0
-HandsOnAll = (site : Site) (here : Here) (call : Call) (op : StashOp) (v : View) → StashStands site here call op v → needs_split op.stage.step ≡ true → HandsOnFull site here call op v
+HandsOnAll = (site : Ground) (here : Site) (call : Call) (op : StashOp) (v : View) → StashStands site here call op v → needs_split op.stage.step ≡ true → HandsOnFull site here call op v
 
 -- and it remembers as much, with the words of both stash buckets
-pub record RemembersFull (site : Site) (kept : Kept) (did : Doings) : Type 0 where
+pub record RemembersFull (site : Ground) (kept : Kept) (did : Doings) : Type 0 where
   pub room : RemembersRoom site kept did.loads
   pub nothing : NothingToMove kept did.loads
   pub changed : ChangedLocks kept did.changed
 
 abbrev pub HandsOnRemembering : Type 0
-HandsOnRemembering = (site : Site) (op : StashOp) (did : Doings) → needs_split op.stage.step ≡ true → stash_part.Remembers site op did → RemembersFull site (kept_of op) did
+HandsOnRemembering = (site : Ground) (op : StashOp) (did : Doings) → needs_split op.stage.step ≡ true → stash_part.Remembers site op did → RemembersFull site (kept_of op) did
 
 -- it never ends but with a reply, or to be made again
 abbrev pub NeverFinished : Type 0

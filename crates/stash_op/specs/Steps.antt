@@ -8,7 +8,7 @@ use Rattle.op_core.specs.declared.want.Ans.TheVariants.{Value, Passed, Drawn}
 use Rattle.op_core.specs.declared.why.Why.TheVariants.{Busy, Moved}
 use Rattle.map_model.specs.declared.entry.Reply.{Reply}
 use Rattle.map_model.specs.declared.entry.Reply.TheVariants as reply
-use Rattle.phase.specs.declared.place.Place.{Place}
+use Rattle.phase.specs.declared.role.Role.{Role}
 use Rattle.phase.specs.declared.take.Take.TheVariants.{Look}
 use Rattle.phase.specs.declared.take.Taken.{Taken}
 use Rattle.phase.specs.declared.take.Taken.TheVariants as taking
@@ -52,7 +52,7 @@ end_of (ending.Replied answer place) = ends.Replied answer place
 end_of (ending.Again why) = ends.Again why
 
 -- the locks that are held are given back, one after another, and then it ends so
-abbrev pub given_by : Option (Place × ℕ) → Held → Ending → StashStep
+abbrev pub given_by : Option (Role × ℕ) → Held → Ending → StashStep
 given_by (Some next) held end = Give held end
 given_by None held end = Ended (end_of end)
 
@@ -124,7 +124,7 @@ noted_to hash seen Fingers = go seen Draw
 
 -- ---- the machine
 module _ (kept : Kept) where
-  abbrev pub lock_of : Place → ℕ
+  abbrev pub lock_of : Role → ℕ
   lock_of place = lock_word kept.site kept.hash kept.segment place
 
   abbrev pub note_wanted : NoteWord → NoteWords → Want

@@ -9,17 +9,17 @@ use bucket_meta::words::{
     unused_place, with_finger,
 };
 use hash_word::finger;
-use phase::{Buckets, Kept, Place, Record, brought};
+use phase::{Buckets, Kept, Record, Role, brought};
 
 // ---- buckets
 
 /// A stash bucket among the buckets of a key.
-pub fn place_of(bucket: StashBucket) -> Place
+pub fn place_of(bucket: StashBucket) -> Role
     ensures { result ≡ place_of bucket }
 {
     match bucket {
-        StashBucket::First => Place::First,
-        StashBucket::Second => Place::Second,
+        StashBucket::First => Role::First,
+        StashBucket::Second => Role::Second,
     }
 }
 
@@ -34,12 +34,12 @@ fn index_of(bucket: StashBucket) -> u8
 }
 
 /// The bucket of a note among the buckets of a key.
-pub fn note_place(bucket: NoteBucket) -> Place
+pub fn note_place(bucket: NoteBucket) -> Role
     ensures { result ≡ note_place bucket }
 {
     match bucket {
-        NoteBucket::Home => Place::Home,
-        NoteBucket::Probing => Place::Probing,
+        NoteBucket::Home => Role::Home,
+        NoteBucket::Probing => Role::Probing,
     }
 }
 
@@ -71,7 +71,7 @@ pub fn record_in(kept: &Kept, buckets: &Buckets, bucket: StashBucket, slot: u8) 
     Record {
         slot,
         key: kept.change.key,
-        value: brought(kept.change.deed),
+        value: brought(kept.change.effect),
         fingers: with_finger(words[finger_place(slot)], slot, finger(kept.hash)),
         published: 1,
         mark: inserted_mark(words[1], slot),

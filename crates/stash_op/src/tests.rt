@@ -3,9 +3,9 @@ use super::*;
 use bucket_meta::words::must_visit;
 use hash_word::finger;
 use image_layout::Geometry;
-use map_model::{Change, Deed, Reply};
+use map_model::{Change, Effect, Reply};
 use op_core::{Ans, Machine, Want, Why};
-use phase::{Buckets, Held, Kept, Place};
+use phase::{Buckets, Held, Kept, Role};
 use std::test::Fail;
 use world::Site;
 
@@ -119,8 +119,8 @@ impl Memory {
     /// What an insert of this key keeps that found no slot and nothing to move.
     fn keep(&mut self, key: u64) -> Result<Kept, Fail> {
         let mut buckets = Buckets::none();
-        buckets.put(Place::Home, self.bucket(96));
-        buckets.put(Place::Probing, self.bucket(128));
+        buckets.put(Role::Home, self.bucket(96));
+        buckets.put(Role::Probing, self.bucket(128));
         let mut held = Held {
             home: self.lock(96),
             probing: self.lock(128),
@@ -128,11 +128,11 @@ impl Memory {
         };
         let (h, p) = (buckets.home, buckets.probing);
         if must_visit(h[1], h[3], p[1], p[3], finger(key), 0) {
-            buckets.put(Place::First, self.bucket(2144));
+            buckets.put(Role::First, self.bucket(2144));
             held.first = self.lock(2144);
         }
         if must_visit(h[1], h[3], p[1], p[3], finger(key), 1) {
-            buckets.put(Place::Second, self.bucket(2176));
+            buckets.put(Role::Second, self.bucket(2176));
             held.second = self.lock(2176);
         }
         Ok(Kept {
@@ -143,7 +143,7 @@ impl Memory {
             },
             change: Change {
                 key,
-                deed: Deed::Insert(key.wrapping_add(100)),
+                effect: Effect::Insert(key.wrapping_add(100)),
             },
             hash: key,
             segment: 0,
@@ -296,7 +296,7 @@ fn stash_fills_up(rt: HostRuntime) -> Result<(), Fail> {
     let kept = op.kept();
     assert!(rt; kept.held.first.is_some() && kept.held.second.is_some());
     assert_eq!(rt; op.want(), Want::Done);
-    let end = if op.is_done() {
+    let end = if op.wants_nothing() {
         op.end()
     } else {
         StashEnd::Off

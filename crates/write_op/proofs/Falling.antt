@@ -6,12 +6,12 @@ use Rattle.op_core.specs.declared.want.Ans.TheVariants.{Value, Drawn, Passed}
 use Rattle.op_core.specs.Answers.{IsAnswer}
 use Rattle.op_core.specs.declared.why.Why.TheVariants.{Busy, Moved}
 use Rattle.way.specs.Ways.{entry_word, head_word}
-use Rattle.map_model.specs.declared.change.Deed.{Deed}
-use Rattle.map_model.specs.declared.change.Deed.TheVariants.{Insert, Update, Remove}
+use Rattle.map_model.specs.declared.change.Effect.{Effect}
+use Rattle.map_model.specs.declared.change.Effect.TheVariants.{Insert, Update, Remove}
 use Rattle.map_model.specs.declared.entry.Reply.{Reply}
 use Rattle.map_model.specs.declared.entry.Reply.TheVariants as reply
-use Rattle.phase.specs.declared.place.Place.{Place}
-use Rattle.phase.specs.declared.place.Place.TheVariants.{Home, Probing, First, Second, Next, Previous}
+use Rattle.phase.specs.declared.role.Role.{Role}
+use Rattle.phase.specs.declared.role.Role.TheVariants.{Home, Probing, First, Second, Next, Previous}
 use Rattle.phase.specs.declared.walk.Walk.{Walk}
 use Rattle.phase.specs.declared.walk.Walk.TheVariants as walk
 use Rattle.phase.specs.declared.walk.Walked.{Walked}
@@ -46,7 +46,7 @@ use Rattle.phase.proofs.Wanting.{load_answered, store_answered, make_answered, g
 use Rattle.phase.proofs.locks.Taking.{take_falls}
 use Rattle.phase.proofs.locks.Making.{make_falls}
 use Rattle.phase.proofs.locks.Giving.{give_falls}
-use Rattle.world.specs.declared.site.Site.{Site as Here}
+use Rattle.world.specs.declared.site.Site.{Site}
 use Rattle.image_layout.specs.Places.{root_word}
 use Rattle.image_layout.specs.Volatile.{counter_word}
 use Rattle.write_op.specs.declared.step.Task.{Task}
@@ -78,7 +78,7 @@ either_most n true s t p q = p
 either_most n false s t p q = q
 
 -- ---- locks back
-by_next : (next : Option (Place × ℕ)) (held : Held) (end : Ending) → left_at (given_by next held end) ≤ give_left held
+by_next : (next : Option (Role × ℕ)) (held : Held) (end : Ending) → left_at (given_by next held end) ≤ give_left held
 by_next (Some next) held end = omega arith
 by_next None held end = omega arith
 
@@ -100,7 +100,7 @@ walked_most seen (walked.Amiss word value) = omega arith
 walked_most seen (walked.Stale segment version) = omega arith
 
 -- ---- locks
-locked_most : (place : Place) → left_at (locked place) ≤ left_behind_lock place
+locked_most : (place : Role) → left_at (locked place) ≤ left_behind_lock place
 locked_most Home = omega arith
 locked_most Probing = omega arith
 locked_most First = omega arith
@@ -108,7 +108,7 @@ locked_most Second = omega arith
 locked_most Next = omega arith
 locked_most Previous = omega arith
 
-some_left : (place : Place) → 7 ≤ left_behind_lock place
+some_left : (place : Role) → 7 ≤ left_behind_lock place
 some_left Home = omega arith
 some_left Probing = omega arith
 some_left First = omega arith
@@ -116,7 +116,7 @@ some_left Second = omega arith
 some_left Next = omega arith
 some_left Previous = omega arith
 
-taken_most : (seen : Seen) (place : Place) (lock : ℕ) (x : Taken) → left_of (locked_to seen place lock x) ≤ left_behind_lock place + taken_left x
+taken_most : (seen : Seen) (place : Role) (lock : ℕ) (x : Taken) → left_of (locked_to seen place lock x) ≤ left_behind_lock place + taken_left x
 taken_most seen place lock (taking.On take) = omega arith
 taken_most seen place lock (taking.Held free) = let most = locked_most place in omega (arith, most)
 taken_most seen place lock (taking.Busy value) = let few = give_most seen (ending.Again (Busy lock value)) in let some = some_left place in omega (arith, few, some)
@@ -136,7 +136,7 @@ second_most seen = either_most 52 seen.second (Lock Second Look) Count (omega ar
 first_most : (seen : Seen) → left_at (visit_first seen) ≤ 85
 first_most seen = let rest = second_most seen in either_most 85 seen.first (Lock First Look) (visit_second seen) (omega arith) (omega (arith, rest))
 
-filled_most : (hash : ℕ) (seen : Seen) (place : Place) → left_of (filled hash seen place) ≤ left_behind place
+filled_most : (hash : ℕ) (seen : Seen) (place : Role) → left_of (filled hash seen place) ≤ left_behind place
 filled_most hash seen Home = omega arith
 filled_most hash seen Probing = first_most (with_visits hash seen)
 filled_most hash seen First = second_most seen
@@ -144,7 +144,7 @@ filled_most hash seen Second = omega arith
 filled_most hash seen Next = omega arith
 filled_most hash seen Previous = omega arith
 
-loaded_most : (hash : ℕ) (seen : Seen) (place : Place) (x : Loaded) → left_of (filled_to hash seen place x) ≤ left_behind place + loaded_left x
+loaded_most : (hash : ℕ) (seen : Seen) (place : Role) (x : Loaded) → left_of (filled_to hash seen place x) ≤ left_behind place + loaded_left x
 loaded_most hash seen place (loaded.On load) = omega arith
 loaded_most hash seen place (loaded.All words) = let most : left_of (filled_with hash seen place words) ≤ left_behind place = filled_most hash _ place in omega (arith, most)
 
@@ -158,14 +158,14 @@ changing_most : (task : Task) (seen : Seen) (count : ℕ) (there : Option Spot) 
 changing_most task seen count (Some there) = omega arith
 changing_most task seen count None = let few = answered_most seen count reply.Absent in omega (arith, few)
 
-decided_most : (task : Task) (seen : Seen) (count : ℕ) (deed : Deed) → left_of (decided task seen count deed) ≤ 18
+decided_most : (task : Task) (seen : Seen) (count : ℕ) (effect : Effect) → left_of (decided task seen count effect) ≤ 18
 decided_most task seen count (Insert value) = inserting_most task seen count (found seen task.change.key) (room_in seen.buckets)
 decided_most task seen count (Update value) = changing_most task seen count (found seen task.change.key)
 decided_most task seen count Remove = changing_most task seen count (found seen task.change.key)
 
 counted_most : (task : Task) (seen : Seen) (count : ℕ) → left_of (counted task seen count) ≤ 18
-counted_most task seen count = both_most 18 (nat_le (2 ^ 63) count) (answered seen count reply.Spent) (decided task seen count task.change.deed)
-    (let few = answered_most seen count reply.Spent in omega (arith, few)) (decided_most task seen count task.change.deed)
+counted_most task seen count = both_most 18 (nat_le (2 ^ 63) count) (answered seen count reply.Spent) (decided task seen count task.change.effect)
+    (let few = answered_most seen count reply.Spent in omega (arith, few)) (decided_most task seen count task.change.effect)
 
 -- ---- stores, the draw, and the note
 made_most : (seen : Seen) (x : Made) → left_of (made_to seen x) ≤ 9 + made_left x
@@ -173,7 +173,7 @@ made_most seen (made.On make) = omega arith
 made_most seen made.Settled = omega arith
 
 drawn_most : (task : Task) (seen : Seen) (place : ℕ) → left_of (drawn_to task seen place) ≤ 8
-drawn_most task seen place = both_most 8 (leaves_note task.change.deed seen.place) (go seen (Unnote Mark place)) (answered seen place reply.Done)
+drawn_most task seen place = both_most 8 (leaves_note task.change.effect seen.place) (go seen (Unnote Mark place)) (answered seen place reply.Done)
     (omega arith) (let few = answered_most seen place reply.Done in omega (arith, few))
 
 unnoted_most : (task : Task) (seen : Seen) (place : ℕ) → left_of (unnoted_to task seen Mark place) ≤ 7
@@ -182,7 +182,7 @@ unnoted_most task seen place = both_most 7 (has_finger seen (unnoted task.hash s
 
 -- ---- each event
 -- a load is answered a value
-walk_answer : (here : Here) (hash : ℕ) (w : Walk) (a : Ans) → IsAnswer (walk_wanted here hash w) a → (n : ℕ) × (a ≡ Value n)
+walk_answer : (here : Site) (hash : ℕ) (w : Walk) (a : Ans) → IsAnswer (walk_wanted here hash w) a → (n : ℕ) × (a ≡ Value n)
 walk_answer here hash walk.Power (Value n) is = (n, refl)
 walk_answer here hash walk.Power a is = absurd is
 walk_answer here hash walk.Root a is = load_answered root_word a is
@@ -235,7 +235,7 @@ pub change_falls : (op : WriteOp) (a : Ans) → IsAnswer (wanted op) a → left_
 change_falls op a is = falls_in op.task op.stage.seen op.stage.step a is
 
 -- ---- and never more than so many are left
-take_bound : (place : Place) (t : Take) → left_behind_lock place + take_left t ≤ 154
+take_bound : (place : Role) (t : Take) → left_behind_lock place + take_left t ≤ 154
 take_bound Home Look = omega arith
 take_bound Home (Try free) = omega arith
 take_bound Probing Look = omega arith
@@ -249,7 +249,7 @@ take_bound Next (Try free) = omega arith
 take_bound Previous Look = omega arith
 take_bound Previous (Try free) = omega arith
 
-fill_bound : (place : Place) (load : Load) → left_behind place + load_left load ≤ 148
+fill_bound : (place : Role) (load : Load) → left_behind place + load_left load ≤ 148
 fill_bound Home load = omega arith
 fill_bound Probing load = omega arith
 fill_bound First load = omega arith

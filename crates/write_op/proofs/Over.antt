@@ -1,7 +1,7 @@
 -- A change wants nothing more exactly where it is over, and it is where it hands on.
 use Rattle.std.proofs.Common.{◌≡◌, ℕ, true, false, IsTrue, ◌↔◌, refl}
 use Rattle.op_core.specs.declared.want.Want.TheVariants as want
-use Rattle.world.specs.declared.site.Site.{Site as Here}
+use Rattle.world.specs.declared.site.Site.{Site}
 use Rattle.phase.specs.declared.walk.Walk.{Walk}
 use Rattle.phase.specs.declared.walk.Walk.TheVariants as walk
 use Rattle.phase.specs.Walks.{walk_wanted}
@@ -19,7 +19,7 @@ use Rattle.write_op.specs.declared.step.WriteStep.TheVariants as step
 use Rattle.write_op.specs.Search.{unnoted}
 use Rattle.write_op.specs.Steps.{lock_of, note_wanted, wanted_in, is_over, is_without_slot}
 
-walks : (here : Here) (hash : ℕ) (w : Walk) → IsSome (walk_wanted here hash w)
+walks : (here : Site) (hash : ℕ) (w : Walk) → IsSome (walk_wanted here hash w)
 walks here hash walk.Power e = cc
 walks here hash walk.Root e = cc
 walks here hash (walk.Entry root) e = cc

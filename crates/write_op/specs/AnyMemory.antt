@@ -8,13 +8,13 @@ use Rattle.op_core.specs.declared.why.Why.TheVariants.{Busy, Moved}
 use Rattle.image_layout.specs.Places.{IsShape}
 use Rattle.image_layout.specs.Volatile.{all_words_of}
 use Rattle.map_model.specs.declared.change.Change.{Change}
-use Rattle.world.specs.declared.site.Site.{Site as Here}
+use Rattle.world.specs.declared.site.Site.{Site}
 use Rattle.world.specs.Views.{Has}
 use Rattle.world.specs.Wants.{answer_to, word_of}
 use Rattle.world.specs.Kinds.{wanted as wanted_by}
 use Rattle.part.specs.Doings.{Doings, with_event_of, nothing_done}
 use Rattle.part.specs.Outcomes.{again}
-use Rattle.phase.specs.declared.place.Place.{Place}
+use Rattle.phase.specs.declared.role.Role.{Role}
 use Rattle.phase.specs.declared.take.Take.TheVariants.{Try}
 use Rattle.phase.specs.Taking.{MayBeTaken}
 use Rattle.write_op.specs.declared.step.WriteStep.TheVariants.{Lock}
@@ -40,21 +40,21 @@ HasLoadedKept op did = RemembersIn op.task op.stage.seen did op.stage.step
 
 -- WHAT IS KEPT WAS LOADED, by this attempt
 abbrev pub KeepsLoads : Type 0
-KeepsLoads = (change : Change) (here : Here) (found : List ℕ) → HasLoadedKept (after_all (begun change here) found) (did_all (begun change here) found nothing_done)
+KeepsLoads = (change : Change) (here : Site) (found : List ℕ) → HasLoadedKept (after_all (begun change here) found) (did_all (begun change here) found nothing_done)
 
 -- EACH EVENT IS OF ITS KIND, by the value that it finds, where those that were found before are words
 abbrev pub EventsHaveKinds : Type 0
-EventsHaveKinds = (change : Change) (here : Here) (found : List ℕ) (n : ℕ) → ((m : ℕ) → Has m found → m < 2 ^ 64) → wanted (after_all (begun change here) found) ≢ Done
+EventsHaveKinds = (change : Change) (here : Site) (found : List ℕ) (n : ℕ) → ((m : ℕ) → Has m found → m < 2 ^ 64) → wanted (after_all (begun change here) found) ≢ Done
     → wanted (after_all (begun change here) found) ≡ wanted_by (after_all (begun change here) found).task.site.geometry (kind_of (after_all (begun change here) found) n)
 
 -- A LOCK IS TRIED with a free value that has a next version
 abbrev pub TriesFree : Type 0
-TriesFree = (change : Change) (here : Here) (found : List ℕ) → ((m : ℕ) → Has m found → m < 2 ^ 64)
-    → (place : Place) (free : ℕ) → (after_all (begun change here) found).stage.step ≡ Lock place (Try free) → MayBeTaken free
+TriesFree = (change : Change) (here : Site) (found : List ℕ) → ((m : ℕ) → Has m found → m < 2 ^ 64)
+    → (place : Role) (free : ℕ) → (after_all (begun change here) found).stage.step ≡ Lock place (Try free) → MayBeTaken free
 
 -- EACH WORD THAT IT ASKS FOR is one of the image, or one of those right behind it; of a flush it is the first word of its line
 abbrev pub AsksInside : Type 0
-AsksInside = (change : Change) (here : Here) (found : List ℕ) → IsShape here.geometry → change.key < 2 ^ 64
+AsksInside = (change : Change) (here : Site) (found : List ℕ) → IsShape here.geometry → change.key < 2 ^ 64
     → word_of here.geometry (wanted (after_all (begun change here) found)) < all_words_of here.geometry
 
 -- the word by which a change is told to try again
@@ -65,6 +65,6 @@ told_word (Moved word before after) = word
 -- WHAT MOVED, OR WAS TAKEN, IS ANOTHER'S DOING: an attempt that is told to try again has not changed the word that it is told, however
 -- the event is answered that decides it
 abbrev pub AgainByOthers : Type 0
-AgainByOthers = (change : Change) (here : Here) (found : List ℕ) (a : Ans) (why : Why) → IsShape here.geometry → change.key < 2 ^ 64
+AgainByOthers = (change : Change) (here : Site) (found : List ℕ) (a : Ans) (why : Why) → IsShape here.geometry → change.key < 2 ^ 64
     → outcome_at (after_all (begun change here) found).stage.step ≡ None → outcome_at (taken (after_all (begun change here) found) a).stage.step ≡ Some (again why)
     → Has (told_word why) (did_all (begun change here) found nothing_done).changed → ⊥

@@ -1,17 +1,18 @@
 -- A change as a part of a call: where an insert finds no slot it keeps its locks, and another part goes on.
-use Rattle.std.specs.Prelude.{◌≡◌, ℕ, ◌-◌, ◌^◌, ◌<◌, ⊤, true, Some, [], None}
+use Rattle.std.specs.Prelude.{◌≡◌, ℕ, ◌-◌, ◌^◌, ◌<◌, ⊤, true, false, Some, [], None}
 use Rattle.map_model.specs.declared.call.Call.{Call}
 use Rattle.map_model.specs.declared.change.Change.{Change}
 use Rattle.map_model.specs.Changes.{call_of}
-use Rattle.world.specs.declared.site.Site.{Site as Here}
-use Rattle.world.specs.Site.{Site, IsSite, version_of}
+use Rattle.world.specs.declared.site.Site.{Site}
+use Rattle.world.specs.Ground.{Ground, IsGround, version_of}
 use Rattle.world.specs.Views.{View, Has}
 use Rattle.world.specs.Attempts.{HoldsOnly}
+use Rattle.world.specs.StepKinds.{of_call}
 use Rattle.part.specs.Doings.{Doings, nothing_done}
 use Rattle.part.specs.Outcomes.{finished}
 use Rattle.part.specs.Part.{Part}
-use Rattle.phase.specs.declared.place.Place.{Place}
-use Rattle.phase.specs.declared.place.Place.TheVariants.{Home, Probing, First, Second, Next, Previous}
+use Rattle.phase.specs.declared.role.Role.{Role}
+use Rattle.phase.specs.declared.role.Role.TheVariants.{Home, Probing, First, Second, Next, Previous}
 use Rattle.phase.specs.declared.kept.Kept.{Kept}
 use Rattle.phase.specs.Buckets.{words_in}
 use Rattle.phase.specs.AreWords.{AreWords}
@@ -41,7 +42,7 @@ module _ (task : Task) (seen : Seen) where
 
   -- THE REASON to ask for a bucket: home and probing bucket need none; a stash bucket is to be visited, and whether the second one is, is
   -- known where the first is asked for; for a third one there is none
-  abbrev pub HasReason : Place → Type 0
+  abbrev pub HasReason : Role → Type 0
   HasReason First = IsNoted 0 × (seen.second ≡ visits task.hash seen.buckets 1)
   HasReason Second = IsNoted 1
   HasReason Next = ⊥
@@ -60,20 +61,20 @@ module _ (task : Task) (seen : Seen) (did : Doings) where
 
   -- the words of each bucket that is asked for before the n-th were loaded
   abbrev pub LoadedUpto : ℕ → Type 0
-  LoadedUpto n = (place : Place) → Upto seen n place → WasLoaded (kept_in task seen) did.loads place
+  LoadedUpto n = (place : Role) → Upto seen n place → WasLoaded (kept_in task seen) did.loads place
 
   -- those of each bucket that is held were
   abbrev pub LoadedHeld : Type 0
-  LoadedHeld = (place : Place) → IsHeld seen.held place → WasLoaded (kept_in task seen) did.loads place
+  LoadedHeld = (place : Role) → IsHeld seen.held place → WasLoaded (kept_in task seen) did.loads place
 
   -- there is a reason to ask for a bucket, by words that were loaded before it
-  pub record AsksFor (place : Place) : Type 0 where
+  pub record AsksFor (place : Role) : Type 0 where
     pub reason : HasReason task seen place
     pub before : LoadedUpto (loaded_by place)
 
   -- the lock word of such a bucket was loaded as free with the last version
   abbrev pub LoadedSpent : Type 0
-  LoadedSpent = (place : Place) × AsksFor place × Has (lock_of task seen place, 2 ^ 64 - 2) did.loads
+  LoadedSpent = (place : Role) × AsksFor place × Has (lock_of task seen place, 2 ^ 64 - 2) did.loads
 
   abbrev pub RemembersIn : WriteStep → Type 0
   RemembersIn (Way walk) = RemembersWalk task.site.geometry task.hash did.loads walk × (did.changed ≡ [])
@@ -86,7 +87,7 @@ module _ (task : Task) (seen : Seen) (did : Doings) where
   RemembersIn more = ⊤
 
 -- and so in the step where it stands, in any image
-abbrev pub Remembers : Site → WriteOp → Doings → Type 0
+abbrev pub Remembers : Ground → WriteOp → Doings → Type 0
 Remembers site op did = RemembersIn op.task op.stage.seen did op.stage.step
 
 -- A CHANGE AS A PART
@@ -94,7 +95,7 @@ abbrev pub change_part : Part WriteOp
 change_part = record {
   wanted = wanted;
   taken = taken;
-  kind = kind_of;
+  kind = λ op n. of_call (kind_of op n);
   Stands = ChangeStands;
   outcome = λ op. outcome_at op.stage.step;
   Remembers = Remembers;
@@ -102,6 +103,7 @@ change_part = record {
   HasMade = λ op. HasMadeAt op.stage.step;
   left = λ op. left_at op.stage.step;
   most_events = most_events;
+  is_waiting = λ op. false;
   waiting = λ op. waiting_at op.stage.step;
   most_waiting = most_waiting;
   hands_on = λ op. is_without_slot op.stage.step;
@@ -110,39 +112,39 @@ change_part = record {
 -- ---- where it begins
 -- a change of a key and to a value that are words, in an image of this version, by a caller that holds, knows and owes nothing
 abbrev pub BeginsAsPart : Type 0
-BeginsAsPart = (site : Site) (here : Here) (change : Change) (v : View) → IsSite site → here.geometry ≡ site.shape → here.version ≡ version_of site → change.key < 2 ^ 64 → brought change.deed < 2 ^ 64
+BeginsAsPart = (site : Ground) (here : Site) (change : Change) (v : View) → IsGround site → here.geometry ≡ site.shape → here.version ≡ version_of site → change.key < 2 ^ 64 → brought change.effect < 2 ^ 64
     → HoldsOnly [] v → ChangeStands site here (call_of change) (begun change here) v
 
 -- what it remembers then: nothing yet
 abbrev pub BeginsRemembering : Type 0
-BeginsRemembering = (site : Site) (here : Here) (change : Change) → Remembers site (begun change here) nothing_done
+BeginsRemembering = (site : Ground) (here : Site) (change : Change) → Remembers site (begun change here) nothing_done
 
 -- it holds nothing where it has done nothing
 abbrev pub BeginsBare : Type 0
-BeginsBare = (site : Site) (here : Here) (call : Call) (change : Change) (v : View) → ChangeStands site here call (begun change here) v → v.held ≡ []
+BeginsBare = (site : Ground) (here : Site) (call : Call) (change : Change) (v : View) → ChangeStands site here call (begun change here) v → v.held ≡ []
 
 -- and nothing is decided
 abbrev pub BeginsUndecided : Type 0
-BeginsUndecided = (here : Here) (change : Change) → outcome_at (begun change here).stage.step ≡ None
+BeginsUndecided = (here : Site) (change : Change) → outcome_at (begun change here).stage.step ≡ None
 
 -- WHERE IT HANDS ON, what it keeps is the call's insert, of a key and a value that are words, as is what was loaded; its locks are held,
 -- and no third one; its header is pinned; the words of their buckets are known, its key stands nowhere, and home and probing bucket are full
-pub record HandsOn (site : Site) (here : Here) (call : Call) (kept : Kept) (v : View) : Type 0 where
+pub record HandsOn (site : Ground) (here : Site) (call : Call) (kept : Kept) (v : View) : Type 0 where
   pub same : call_of kept.change ≡ call
   pub at : kept.site ≡ here
   pub key : kept.change.key < 2 ^ 64
-  pub value : brought kept.change.deed < 2 ^ 64
-  pub buckets : (place : Place) → AreWords (words_in kept.buckets place)
+  pub value : brought kept.change.effect < 2 ^ 64
+  pub buckets : (place : Role) → AreWords (words_in kept.buckets place)
   pub keeps : KeepsAll site kept v
   pub thirds : HasNoThird kept.held
 
 abbrev pub HandsOnAll : Type 0
-HandsOnAll = (site : Site) (here : Here) (call : Call) (op : WriteOp) (v : View) → ChangeStands site here call op v → is_without_slot op.stage.step ≡ true
+HandsOnAll = (site : Ground) (here : Site) (call : Call) (op : WriteOp) (v : View) → ChangeStands site here call op v → is_without_slot op.stage.step ≡ true
     → HandsOn site here call (kept_of op) v
 
 -- its attempt loaded the way and the words of the buckets that it holds, and changed no words but those of its locks
 abbrev pub HandsOnRemembering : Type 0
-HandsOnRemembering = (site : Site) (op : WriteOp) (did : Doings) → Remembers site op did → is_without_slot op.stage.step ≡ true
+HandsOnRemembering = (site : Ground) (op : WriteOp) (did : Doings) → Remembers site op did → is_without_slot op.stage.step ≡ true
     → RemembersRoom site (kept_of op) did.loads × ChangedLocks (kept_of op) did.changed
 
 -- it never ends but with a reply, or to be made again, stale or off

@@ -6,17 +6,17 @@ use Rattle.trace.specs.Events.{Words, with_word}
 use Rattle.image_layout.specs.Places.{root_word}
 use Rattle.sound_image.specs.Records.{key_hash, notes_of, word_in}
 use Rattle.map_model.specs.declared.call.Call.{Call}
-use Rattle.map_model.specs.declared.change.Deed.{Deed}
-use Rattle.map_model.specs.declared.change.Deed.TheVariants.{Insert, Update, Remove}
+use Rattle.map_model.specs.declared.change.Effect.{Effect}
+use Rattle.map_model.specs.declared.change.Effect.TheVariants.{Insert, Update, Remove}
 use Rattle.map_model.specs.declared.entry.Reply.TheVariants as reply
 use Rattle.map_model.specs.Changes.{call_of}
-use Rattle.world.specs.declared.site.Site.{Site as Here}
-use Rattle.world.specs.Site.{Site, version_of}
+use Rattle.world.specs.declared.site.Site.{Site}
+use Rattle.world.specs.Ground.{Ground, version_of}
 use Rattle.world.specs.Views.{Owed, View, Has}
 use Rattle.world.specs.Kinds.{Kind, peeks, pins, finds_room, refuses, learns, stores, repays, publishes, stashes, draws_place}
 use Rattle.world.specs.Attempts.{HoldsOnly}
-use Rattle.phase.specs.declared.place.Place.{Place}
-use Rattle.phase.specs.declared.place.Place.TheVariants.{Home, Probing, First, Second}
+use Rattle.phase.specs.declared.role.Role.{Role}
+use Rattle.phase.specs.declared.role.Role.TheVariants.{Home, Probing, First, Second}
 use Rattle.phase.specs.declared.walk.Path.{Path}
 use Rattle.phase.specs.declared.make.Make.{Make}
 use Rattle.phase.specs.declared.make.Make.TheVariants.{FlushPublished, FencePublished}
@@ -58,13 +58,13 @@ module _ (task : Task) (seen : Seen) where
   loaded = words_of task.site task.hash seen.path.segment seen.buckets
 
   -- with the record that an insert prepares: just before the one store that makes the change
-  abbrev pub prepared_by : Deed → Words
+  abbrev pub prepared_by : Effect → Words
   prepared_by (Insert value) = with_record (lock_of task seen seen.place) seen.written loaded
   prepared_by (Update value) = loaded
   prepared_by Remove = loaded
 
   abbrev pub prepared : Words
-  prepared = prepared_by task.change.deed
+  prepared = prepared_by task.change.effect
 
   -- and with that store
   abbrev pub changed : Words
@@ -88,7 +88,7 @@ module _ (task : Task) (seen : Seen) where
 
   -- a remove of a record in the stash owes its note
   abbrev pub publish_kind : ℕ → ℕ → Kind
-  publish_kind = publish_by (leaves_note task.change.deed seen.place)
+  publish_kind = publish_by (leaves_note task.change.effect seen.place)
 
   -- the load of the commit counter under all locks, by where the key stands: it answers a refusal, or finds room
   abbrev pub inserting_kind : Option Spot → Kind
@@ -99,14 +99,14 @@ module _ (task : Task) (seen : Seen) where
   changing_kind (Some there) = finds_room (call_of task.change)
   changing_kind None = refuses (call_of task.change) reply.Absent
 
-  abbrev pub deciding_kind : Deed → Kind
+  abbrev pub deciding_kind : Effect → Kind
   deciding_kind (Insert value) = inserting_kind (found seen task.change.key)
   deciding_kind (Update value) = changing_kind (found seen task.change.key)
   deciding_kind Remove = changing_kind (found seen task.change.key)
 
   -- a counter of 2^63 or more is answered as spent, whatever the key has
   abbrev pub count_kind : ℕ → Kind
-  count_kind n = if nat_le (2 ^ 63) n then finds_room (call_of task.change) else deciding_kind task.change.deed
+  count_kind n = if nat_le (2 ^ 63) n then finds_room (call_of task.change) else deciding_kind task.change.effect
 
   -- the last store of a note repays what is owed
   abbrev pub mark_kind : Bool → ℕ → ℕ → Kind
@@ -135,50 +135,50 @@ abbrev pub kind_of : WriteOp → ℕ → Kind
 kind_of op n = kind_at op.task op.stage.seen op.stage.step n
 
 -- ---- sets of buckets
-abbrev pub is_asked : Seen → Place → Bool
+abbrev pub is_asked : Seen → Role → Bool
 is_asked seen place = asked_by seen.first seen.second place
 
 -- those that are asked for before the n-th
-abbrev pub Upto : Seen → ℕ → Place → Type 0
+abbrev pub Upto : Seen → ℕ → Role → Type 0
 Upto seen n place = IsAskedBefore seen.first seen.second n place
 
 -- the locks that are held are those before the n-th, and no others
 pub record HoldsUpto (seen : Seen) (n : ℕ) : Type 0 where
-  pub these : (place : Place) → Upto seen n place → IsHeld seen.held place
-  pub others : (place : Place) → (Upto seen n place → ⊥) → free_of seen.held place ≡ None
+  pub these : (place : Role) → Upto seen n place → IsHeld seen.held place
+  pub others : (place : Role) → (Upto seen n place → ⊥) → free_of seen.held place ≡ None
 
 -- the stash buckets are visited that the words of home and probing bucket name
 pub record IsVisiting (task : Task) (seen : Seen) : Type 0 where
   pub first : seen.first ≡ visits task.hash seen.buckets 0
   pub second : seen.second ≡ visits task.hash seen.buckets 1
 
-abbrev pub IsInserting : Deed → Type 0
+abbrev pub IsInserting : Effect → Type 0
 IsInserting (Insert value) = ⊤
 IsInserting (Update value) = ⊥
 IsInserting Remove = ⊥
 
 -- THE HEADER that was found on the way is pinned, and leads to the hash, so that the segment owns the key
-pub record IsPinned (site : Site) (hash : ℕ) (path : Path) (pinned : List (ℕ × ℕ)) : Type 0 where
+pub record IsPinned (site : Ground) (hash : ℕ) (path : Path) (pinned : List (ℕ × ℕ)) : Type 0 where
   pub leads : Leads site hash path.segment pinned
   pub same : leads.head ≡ path.head
 
 -- ---- what is held, known and owed
-module _ (site : Site) (task : Task) (seen : Seen) where
+module _ (site : Ground) (task : Task) (seen : Seen) where
   -- THE LOCKS before the n-th are held in a segment that is live and current, and the words of the buckets before the m-th are known
   pub record HasLoaded (n m : ℕ) (v : View) : Type 0 where
     pub there : IsThere site seen.path.segment v.facts
     pub locks : HoldsLocks task.site task.hash seen.path.segment seen.held v
     pub upto : HoldsUpto seen n
-    pub whole : (place : Place) → Upto seen m place → IsWhole (lock_of task seen place) (words_in seen.buckets place) v
+    pub whole : (place : Role) → Upto seen m place → IsWhole (lock_of task seen place) (words_in seen.buckets place) v
 
   -- it is so where the lock of a stash bucket is taken, which comes behind the second look
-  abbrev pub PinnedAt : Place → View → Type 0
+  abbrev pub PinnedAt : Role → View → Type 0
   PinnedAt First v = IsPinned site task.hash seen.path v.pinned
   PinnedAt Second v = IsPinned site task.hash seen.path v.pinned
   PinnedAt near v = ⊤
 
   -- what holds beside, of each bucket
-  abbrev pub VisitsAt : Place → Type 0
+  abbrev pub VisitsAt : Role → Type 0
   VisitsAt Home = ⊤
   VisitsAt Probing = ⊤
   VisitsAt First = IsVisiting task seen × (seen.first ≡ true)
@@ -195,13 +195,13 @@ module _ (site : Site) (task : Task) (seen : Seen) where
     pub still : v.moving ≡ []
 
   -- THE SPOT IS RIGHT: an insert whose key stands nowhere takes a free slot of the bucket, and the others change the slot with the key
-  abbrev pub IsSpot : Deed → Option Spot → Type 0
+  abbrev pub IsSpot : Effect → Option Spot → Type 0
   IsSpot (Insert value) there = (there ≡ None) × (room_in seen.buckets ≡ Some (record { place = seen.place; slot = seen.written.slot }))
   IsSpot (Update value) there = there ≡ Some (record { place = seen.place; slot = seen.written.slot })
   IsSpot Remove there = there ≡ Some (record { place = seen.place; slot = seen.written.slot })
 
   pub record IsChosen : Type 0 where
-    pub spot : IsSpot task.change.deed (found seen task.change.key)
+    pub spot : IsSpot task.change.effect (found seen task.change.key)
     pub written : seen.written ≡ record_at task seen.buckets (record { place = seen.place; slot = seen.written.slot })
 
   -- ---- what is planned and owed
@@ -217,7 +217,7 @@ module _ (site : Site) (task : Task) (seen : Seen) where
   owed_by false = []
 
   abbrev pub owed_then : List Owed
-  owed_then = owed_by (leaves_note task.change.deed seen.place)
+  owed_then = owed_by (leaves_note task.change.effect seen.place)
 
   abbrev pub owed_at : Make → List Owed
   owed_at FlushPublished = owed_then
@@ -228,7 +228,7 @@ module _ (site : Site) (task : Task) (seen : Seen) where
     pub all : HasAll v
     pub chosen : IsChosen
     -- an insert alone prepares a record
-    pub inserts : IsNew make → IsInserting task.change.deed
+    pub inserts : IsNew make → IsInserting task.change.effect
     pub making : IsMaking (lock_of task seen seen.place) seen.written (IsOfHeld task.site task.hash seen.path.segment seen.held) (loaded task seen) (prepared task seen) make v
     pub room : 0 < v.room
     pub planned : v.planned ≡ planned_at make
@@ -251,7 +251,7 @@ module _ (site : Site) (task : Task) (seen : Seen) where
   pub record IsUnnoting (part : NoteWord) (v : View) : Type 0 where
     pub all : HasAll v
     pub chosen : IsChosen
-    pub leaves : leaves_note task.change.deed seen.place ≡ true
+    pub leaves : leaves_note task.change.effect seen.place ≡ true
     pub knows : Knows (IsOfHeld task.site task.hash seen.path.segment seen.held) (words_of_note part) v
     pub settled : HasNoneLoose v
     pub planned : v.planned ≡ []
@@ -287,11 +287,11 @@ module _ (site : Site) (task : Task) (seen : Seen) where
   SuitsStep (Ended end) v = SuitsEnd end v
 
 -- THE VIEW of a stage
-abbrev pub SuitsStage : Site → Task → Stage → View → Type 0
+abbrev pub SuitsStage : Ground → Task → Stage → View → Type 0
 SuitsStage site task stage v = SuitsStep site task stage.seen stage.step v
 
 -- the change runs in this image, with its version, and its hash is its key's
-pub record IsIn (site : Site) (task : Task) : Type 0 where
+pub record IsIn (site : Ground) (task : Task) : Type 0 where
   pub shape : task.site.geometry ≡ site.shape
   pub version : task.site.version ≡ version_of site
   pub hash : task.hash ≡ key_hash site.shape task.change.key
@@ -304,12 +304,12 @@ HasWordsAt more = ⊤
 
 pub record HasWords (task : Task) (seen : Seen) (at : WriteStep) : Type 0 where
   pub key : task.change.key < 2 ^ 64
-  pub value : brought task.change.deed < 2 ^ 64
-  pub buckets : (place : Place) → AreWords (words_in seen.buckets place)
+  pub value : brought task.change.effect < 2 ^ 64
+  pub buckets : (place : Role) → AreWords (words_in seen.buckets place)
   pub load : HasWordsAt at
 
 -- it makes the call's change
-pub record ChangeStands (site : Site) (here : Here) (call : Call) (op : WriteOp) (v : View) : Type 0 where
+pub record ChangeStands (site : Ground) (here : Site) (call : Call) (op : WriteOp) (v : View) : Type 0 where
   pub same : call_of op.task.change ≡ call
   pub at : op.task.site ≡ here
   pub is_in : IsIn site op.task

@@ -1,7 +1,7 @@
 -- How many events a change still makes at most, how many lines wait for its fence, and from when on its change is made.
 use Rattle.std.specs.Prelude.{ℕ, ◌+◌, ⊤}
-use Rattle.phase.specs.declared.place.Place.{Place}
-use Rattle.phase.specs.declared.place.Place.TheVariants.{Home, Probing, First}
+use Rattle.phase.specs.declared.role.Role.{Role}
+use Rattle.phase.specs.declared.role.Role.TheVariants.{Home, Probing, First}
 use Rattle.phase.specs.Stands.{walk_left, back_left, load_left}
 use Rattle.phase.specs.Taking.{take_left}
 use Rattle.part.specs.Outcomes.{IsDone}
@@ -22,13 +22,13 @@ abbrev pub most_events : ℕ
 most_events = 158
 
 -- behind the lock of a bucket, and behind its words
-abbrev pub left_behind_lock : Place → ℕ
+abbrev pub left_behind_lock : Role → ℕ
 left_behind_lock Home = 152
 left_behind_lock Probing = 150
 left_behind_lock First = 83
 left_behind_lock place = 50
 
-abbrev pub left_behind : Place → ℕ
+abbrev pub left_behind : Role → ℕ
 left_behind Home = 116
 left_behind Probing = 85
 left_behind First = 52

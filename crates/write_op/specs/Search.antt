@@ -9,10 +9,10 @@ use Rattle.bucket_meta.specs.Visits.{must_visit}
 use Rattle.balance.specs.declared.choice.Choice.{Choice}
 use Rattle.balance.specs.declared.choice.Choice.TheVariants as choice
 use Rattle.balance.specs.Choices.{choice_of}
-use Rattle.map_model.specs.declared.change.Deed.{Deed}
-use Rattle.map_model.specs.declared.change.Deed.TheVariants.{Insert, Update, Remove}
-use Rattle.phase.specs.declared.place.Place.{Place}
-use Rattle.phase.specs.declared.place.Place.TheVariants.{Home, Probing, First, Second}
+use Rattle.map_model.specs.declared.change.Effect.{Effect}
+use Rattle.map_model.specs.declared.change.Effect.TheVariants.{Insert, Update, Remove}
+use Rattle.phase.specs.declared.role.Role.{Role}
+use Rattle.phase.specs.declared.role.Role.TheVariants.{Home, Probing, First, Second}
 use Rattle.phase.specs.declared.kept.Buckets.{Buckets}
 use Rattle.phase.specs.declared.make.Record.{Record}
 use Rattle.phase.specs.Buckets.{words_in}
@@ -24,7 +24,7 @@ use Rattle.write_op.specs.declared.search.NoteWords.{NoteWords}
 
 -- ---- where the key stands, and where a slot is free
 -- this slot of a bucket, or else what is found behind it
-abbrev pub spot_or : Place → Option ℕ → Option Spot → Option Spot
+abbrev pub spot_or : Role → Option ℕ → Option Spot → Option Spot
 spot_or place (Some slot) rest = Some (record { place = place; slot = slot })
 spot_or place None rest = rest
 
@@ -59,31 +59,31 @@ visits hash buckets index =
 
 -- ---- what is stored of a record
 -- a record that stands in its probing bucket has the membership bit too
-abbrev pub taken_mark : Place → ℕ → ℕ → ℕ
+abbrev pub taken_mark : Role → ℕ → ℕ → ℕ
 taken_mark Probing w1 slot = member_mark w1 slot
 taken_mark place w1 slot = inserted_mark w1 slot
 
 -- the word whose store makes the change, by its number in the bucket
-abbrev pub published_word : Deed → ℕ → ℕ
+abbrev pub published_word : Effect → ℕ → ℕ
 published_word (Insert value) slot = 1
 published_word (Update value) slot = 5 + 2 * slot
 published_word Remove slot = 1
 
 -- what is stored there
-abbrev pub published_mark : Deed → Place → ℕ → ℕ → ℕ
+abbrev pub published_mark : Effect → Role → ℕ → ℕ → ℕ
 published_mark (Insert value) place w1 slot = taken_mark place w1 slot
 published_mark (Update value) place w1 slot = value
 published_mark Remove place w1 slot = removed_mark w1 slot
 
 -- what is stored of the record of a change, in a slot of a bucket with these words
-abbrev pub record_in : Task → Place → List ℕ → ℕ → Record
+abbrev pub record_in : Task → Role → List ℕ → ℕ → Record
 record_in task place words slot = record {
   slot = slot;
   key = task.change.key;
-  value = brought task.change.deed;
+  value = brought task.change.effect;
   fingers = with_finger (slice_index words (finger_place slot)) slot (finger_of task.hash);
-  published = published_word task.change.deed slot;
-  mark = published_mark task.change.deed place (slice_index words 1) slot;
+  published = published_word task.change.effect slot;
+  mark = published_mark task.change.effect place (slice_index words 1) slot;
 }
 
 abbrev pub record_at : Task → Buckets → Spot → Record
@@ -91,18 +91,18 @@ record_at task buckets spot = record_in task spot.place (words_in buckets spot.p
 
 -- ---- the note of a record that leaves the stash
 -- a stash bucket, by its number among them
-abbrev pub stash_index : Place → ℕ
+abbrev pub stash_index : Role → ℕ
 stash_index Second = 1
 stash_index place = 0
 
 -- a remove from there leaves a note that is to be taken away
-abbrev pub leaves_note : Deed → Place → Bool
+abbrev pub leaves_note : Effect → Role → Bool
 leaves_note Remove First = true
 leaves_note Remove Second = true
-leaves_note deed place = false
+leaves_note effect place = false
 
 -- words 1 and 3 of a bucket without the note on a place, or else what is made instead
-abbrev pub freed_or : Place → List ℕ → Option ℕ → NoteWords → NoteWords
+abbrev pub freed_or : Role → List ℕ → Option ℕ → NoteWords → NoteWords
 freed_or place words (Some i) rest = record { place = place; mark = freed_mark (slice_index words 1) i; fingers = freed_fingers (slice_index words 3) i }
 freed_or place words None rest = rest
 

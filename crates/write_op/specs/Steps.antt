@@ -7,14 +7,14 @@ use Rattle.op_core.specs.declared.want.Want.TheVariants as want
 use Rattle.op_core.specs.declared.want.Ans.{Ans}
 use Rattle.op_core.specs.declared.want.Ans.TheVariants.{Value, Passed, Drawn}
 use Rattle.op_core.specs.declared.why.Why.TheVariants.{Busy, Moved}
-use Rattle.map_model.specs.declared.change.Deed.{Deed}
-use Rattle.map_model.specs.declared.change.Deed.TheVariants.{Insert, Update, Remove}
+use Rattle.map_model.specs.declared.change.Effect.{Effect}
+use Rattle.map_model.specs.declared.change.Effect.TheVariants.{Insert, Update, Remove}
 use Rattle.map_model.specs.declared.change.Change.{Change}
 use Rattle.map_model.specs.declared.entry.Reply.{Reply}
 use Rattle.map_model.specs.declared.entry.Reply.TheVariants as reply
 use Rattle.world.specs.declared.site.Site.{Site}
-use Rattle.phase.specs.declared.place.Place.{Place}
-use Rattle.phase.specs.declared.place.Place.TheVariants.{Home, Probing, First, Second}
+use Rattle.phase.specs.declared.role.Role.{Role}
+use Rattle.phase.specs.declared.role.Role.TheVariants.{Home, Probing, First, Second}
 use Rattle.phase.specs.declared.walk.Path.{Path}
 use Rattle.phase.specs.declared.walk.Walk.TheVariants.{Power}
 use Rattle.phase.specs.declared.walk.Walked.{Walked}
@@ -68,7 +68,7 @@ end_of (ending.Replied answer place) = ends.Replied answer place
 end_of (ending.Again why) = ends.Again why
 
 -- the locks that are held are given back, one after another, and then it ends so
-abbrev pub given_by : Option (Place × ℕ) → Held → Ending → WriteStep
+abbrev pub given_by : Option (Role × ℕ) → Held → Ending → WriteStep
 given_by (Some next) held end = Give held end
 given_by None held end = Ended (end_of end)
 
@@ -98,12 +98,12 @@ walked_to seen (walked.Amiss word value) = go seen (amiss word value)
 walked_to seen (walked.Stale segment version) = go seen (Ended (ends.Stale segment version))
 
 -- ---- locks
-abbrev pub locked : Place → WriteStep
+abbrev pub locked : Role → WriteStep
 locked Home = Lock Probing Look
 locked Probing = Check Root
 locked place = Fill place load_begun
 
-abbrev pub locked_to : Seen → Place → ℕ → Taken → Stage
+abbrev pub locked_to : Seen → Role → ℕ → Taken → Stage
 locked_to seen place lock (taking.On take) = go seen (Lock place take)
 locked_to seen place lock (taking.Held free) = go (record seen { held = with_held place free seen.held }) (locked place)
 locked_to seen place lock (taking.Busy value) = give seen (ending.Again (Busy lock value))
@@ -127,16 +127,16 @@ abbrev pub with_visits : ℕ → Seen → Seen
 with_visits hash seen = record seen { first = visits hash seen.buckets 0; second = visits hash seen.buckets 1 }
 
 -- behind the last word of a bucket, whose words were put in
-abbrev pub filled : ℕ → Seen → Place → Stage
+abbrev pub filled : ℕ → Seen → Role → Stage
 filled hash seen Home = go seen (Fill Probing load_begun)
 filled hash seen Probing = go (with_visits hash seen) (visit_first (with_visits hash seen))
 filled hash seen First = go seen (visit_second seen)
 filled hash seen place = go seen Count
 
-abbrev pub filled_with : ℕ → Seen → Place → List ℕ → Stage
+abbrev pub filled_with : ℕ → Seen → Role → List ℕ → Stage
 filled_with hash seen place words = filled hash (record seen { buckets = with_words place words seen.buckets }) place
 
-abbrev pub filled_to : ℕ → Seen → Place → Loaded → Stage
+abbrev pub filled_to : ℕ → Seen → Role → Loaded → Stage
 filled_to hash seen place (loaded.On load) = go seen (Fill place load)
 filled_to hash seen place (loaded.All words) = filled_with hash seen place words
 
@@ -154,14 +154,14 @@ abbrev pub changing : Task → Seen → ℕ → Option Spot → Stage
 changing task seen count (Some there) = making task seen there Publish
 changing task seen count None = answered seen count reply.Absent
 
-abbrev pub decided : Task → Seen → ℕ → Deed → Stage
+abbrev pub decided : Task → Seen → ℕ → Effect → Stage
 decided task seen count (Insert value) = inserting task seen count (found seen task.change.key) (room_in seen.buckets)
 decided task seen count (Update value) = changing task seen count (found seen task.change.key)
 decided task seen count Remove = changing task seen count (found seen task.change.key)
 
 -- the commit counter gives no place from 2^63 on
 abbrev pub counted : Task → Seen → ℕ → Stage
-counted task seen count = if nat_le (2 ^ 63) count then answered seen count reply.Spent else decided task seen count task.change.deed
+counted task seen count = if nat_le (2 ^ 63) count then answered seen count reply.Spent else decided task seen count task.change.effect
 
 -- ---- stores, the draw, and the note
 abbrev pub made_to : Seen → Made → Stage
@@ -169,7 +169,7 @@ made_to seen (made.On make) = go seen (step.Make make)
 made_to seen made.Settled = go seen Draw
 
 abbrev pub drawn_to : Task → Seen → ℕ → Stage
-drawn_to task seen place = if leaves_note task.change.deed seen.place then go seen (Unnote Mark place) else answered seen place reply.Done
+drawn_to task seen place = if leaves_note task.change.effect seen.place then go seen (Unnote Mark place) else answered seen place reply.Done
 
 abbrev pub unnoted_to : Task → Seen → NoteWord → ℕ → Stage
 unnoted_to task seen Mark place = if has_finger seen (unnoted task.hash seen) then go seen (Unnote Fingers place) else answered seen place reply.Done
@@ -177,7 +177,7 @@ unnoted_to task seen Fingers place = answered seen place reply.Done
 
 -- ---- the machine
 module _ (task : Task) (seen : Seen) where
-  abbrev pub lock_of : Place → ℕ
+  abbrev pub lock_of : Role → ℕ
   lock_of place = lock_word task.site task.hash seen.path.segment place
 
   abbrev pub note_wanted : NoteWord → NoteWords → Want

@@ -8,11 +8,11 @@ use crate::search::{NoteWords, unnoted};
 use crate::step::{Seen, Task, WriteStep};
 use op_core::Want;
 use phase::{
-    NoteWord, Place, back_want, give_want, load_want, lock_word, make_want, take_want, walk_want,
+    NoteWord, Role, back_want, give_want, load_want, lock_word, make_want, take_want, walk_want,
 };
 
 /// The lock word of a bucket.
-pub fn lock_of(task: &Task, seen: &Seen, place: Place) -> u64
+pub fn lock_of(task: &Task, seen: &Seen, place: Role) -> u64
     ensures is { result ≡ lock_of task.now seen.now place }
     ensures most { result ≤ most_words }
 {

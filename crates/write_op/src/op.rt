@@ -11,7 +11,7 @@ use crate::step::{Seen, Stage, Task, WriteEnd, WriteStep};
 use crate::taking::{end_of, take_in};
 use map_model::Change;
 use op_core::{Ans, Machine, Want};
-use phase::{Buckets, Held, Kept, Path, Place, Record, Walk, give_next};
+use phase::{Buckets, Held, Kept, Path, Record, Role, Walk, give_next};
 use way::key_hash;
 use world::Site;
 
@@ -38,7 +38,7 @@ fn nothing() -> Seen
         second: false,
         held: Held::none(),
         buckets: Buckets::none(),
-        place: Place::Home,
+        place: Role::Home,
         written: Record {
             slot: 0,
             key: 0,
@@ -81,7 +81,7 @@ impl WriteOp {
     }
 
     /// Whether it wants nothing more.
-    pub fn is_done(&self) -> bool
+    pub fn wants_nothing(&self) -> bool
         ensures { IsTrue result ↔ (wanted self.now ≡ want.Done) }
     {
         is_over(&self.stage.step)

@@ -14,13 +14,13 @@ use bucket_meta::words::{
     lowest_with, member_mark, must_visit, note_place, removed_mark, with_finger,
 };
 use hash_word::finger;
-use map_model::Deed;
-use phase::{Buckets, Place, Record, brought};
+use map_model::Effect;
+use phase::{Buckets, Record, Role, brought};
 
 // ---- where the key stands, and where a slot is free
 
 /// This slot of a bucket, or else what is found behind it.
-fn spot_or(place: Place, slot: Option<u8>, rest: Option<Spot>) -> Option<Spot>
+fn spot_or(place: Role, slot: Option<u8>, rest: Option<Spot>) -> Option<Spot>
     requires slot { IfSome slot (λ slot. slot < record_slots) }
     requires rest { IfSome rest (λ spot. spot.slot < record_slots) }
     ensures is { result ≡ spot_or place slot rest }
@@ -53,8 +53,8 @@ pub fn found(seen: &Seen, key: u64) -> Option<Spot>
     let first = slot_in(seen.first, &seen.buckets.first, key);
     let probing = slot_in(true, &seen.buckets.probing, key);
     let home = slot_in(true, &seen.buckets.home, key);
-    let rest = spot_or(Place::First, first, spot_or(Place::Second, second, None));
-    spot_or(Place::Home, home, spot_or(Place::Probing, probing, rest))
+    let rest = spot_or(Role::First, first, spot_or(Role::Second, second, None));
+    spot_or(Role::Home, home, spot_or(Role::Probing, probing, rest))
 }
 
 /// The metadata of a bucket, by its words.
@@ -71,8 +71,8 @@ pub fn room_in(buckets: &Buckets) -> Option<Spot>
     ensures within { IfSome result (λ spot. spot.slot < record_slots) }
 {
     match choose(&meta_of(&buckets.home), &meta_of(&buckets.probing)) {
-        Choice::Home => spot_or(Place::Home, lowest_free(buckets.home[1]), None),
-        Choice::Probe => spot_or(Place::Probing, lowest_free(buckets.probing[1]), None),
+        Choice::Home => spot_or(Role::Home, lowest_free(buckets.home[1]), None),
+        Choice::Probe => spot_or(Role::Probing, lowest_free(buckets.probing[1]), None),
         Choice::Neither => None,
     }
 }
@@ -95,52 +95,52 @@ pub fn visits(hash: u64, buckets: &Buckets, index: u8) -> bool
 // ---- what is stored of a record
 
 /// The metadata word with a slot taken; a record that stands in its probing bucket has the membership bit too.
-fn taken_mark(place: Place, w1: u64, slot: u8) -> u64
+fn taken_mark(place: Role, w1: u64, slot: u8) -> u64
     ensures { result ≡ taken_mark place w1 slot }
 {
     match place {
-        Place::Probing => member_mark(w1, slot),
-        Place::Home | Place::First | Place::Second | Place::Next | Place::Previous => {
+        Role::Probing => member_mark(w1, slot),
+        Role::Home | Role::First | Role::Second | Role::Next | Role::Previous => {
             inserted_mark(w1, slot)
         }
     }
 }
 
 /// The word whose store makes the change, by its number in the bucket.
-fn published_word(deed: Deed, slot: u8) -> u8
+fn published_word(effect: Effect, slot: u8) -> u8
     requires { slot < record_slots }
-    ensures { result ≡ published_word deed slot }
+    ensures { result ≡ published_word effect slot }
 {
-    match deed {
-        Deed::Update(_) => 5 + 2 * slot,
-        Deed::Insert(_) | Deed::Remove => 1,
+    match effect {
+        Effect::Update(_) => 5 + 2 * slot,
+        Effect::Insert(_) | Effect::Remove => 1,
     }
 }
 
 /// What is stored there.
-fn published_mark(deed: Deed, place: Place, w1: u64, slot: u8) -> u64
-    ensures { result ≡ published_mark deed place w1 slot }
+fn published_mark(effect: Effect, place: Role, w1: u64, slot: u8) -> u64
+    ensures { result ≡ published_mark effect place w1 slot }
 {
-    match deed {
-        Deed::Insert(_) => taken_mark(place, w1, slot),
-        Deed::Update(value) => value,
-        Deed::Remove => removed_mark(w1, slot),
+    match effect {
+        Effect::Insert(_) => taken_mark(place, w1, slot),
+        Effect::Update(value) => value,
+        Effect::Remove => removed_mark(w1, slot),
     }
 }
 
 /// What is stored of the record of a change, in a slot of a bucket with these words.
-fn record_in(task: &Task, place: Place, words: &[u64; 32], slot: u8) -> Record
+fn record_in(task: &Task, place: Role, words: &[u64; 32], slot: u8) -> Record
     requires { slot < record_slots }
     ensures { result ≡ record_in task.now place words.now slot }
 {
-    let deed = task.change.deed;
+    let effect = task.change.effect;
     Record {
         slot,
         key: task.change.key,
-        value: brought(deed),
+        value: brought(effect),
         fingers: with_finger(words[finger_place(slot)], slot, finger(task.hash)),
-        published: published_word(deed, slot),
-        mark: published_mark(deed, place, words[1], slot),
+        published: published_word(effect, slot),
+        mark: published_mark(effect, place, words[1], slot),
     }
 }
 
@@ -159,7 +159,7 @@ pub fn record_at(task: &Task, buckets: &Buckets, spot: Spot) -> Record
 #[derive(Clone, Copy, Debug, PartialEq, Eq)]
 pub struct NoteWords {
     /// Which bucket.
-    pub place: Place,
+    pub place: Role,
     /// Its metadata word.
     pub mark: u64,
     /// Its word 3, which has the fingerprints of two notes.
@@ -167,27 +167,27 @@ pub struct NoteWords {
 }
 
 /// The number of a stash bucket among them.
-fn stash_index(place: Place) -> u8
+fn stash_index(place: Role) -> u8
     ensures { result ≡ stash_index place }
 {
     match place {
-        Place::Second => 1,
-        Place::Home | Place::Probing | Place::First | Place::Next | Place::Previous => 0,
+        Role::Second => 1,
+        Role::Home | Role::Probing | Role::First | Role::Next | Role::Previous => 0,
     }
 }
 
 /// Whether a change in this bucket leaves a note that is to be taken away.
-pub fn leaves_note(deed: Deed, place: Place) -> bool
-    ensures { result ≡ leaves_note deed place }
+pub fn leaves_note(effect: Effect, place: Role) -> bool
+    ensures { result ≡ leaves_note effect place }
 {
-    match (deed, place) {
-        (Deed::Remove, Place::First | Place::Second) => true,
+    match (effect, place) {
+        (Effect::Remove, Role::First | Role::Second) => true,
         _ => false,
     }
 }
 
 /// Words 1 and 3 of a bucket without the note on an note slot, or else what is made instead.
-fn freed_or(place: Place, words: &[u64; 32], at: Option<u8>, rest: NoteWords) -> NoteWords
+fn freed_or(place: Role, words: &[u64; 32], at: Option<u8>, rest: NoteWords) -> NoteWords
     ensures { result ≡ freed_or place words.now at rest }
 {
     match at {
@@ -206,14 +206,14 @@ fn unnoted_by(home: &[u64; 32], probing: &[u64; 32], finger: u8, index: u8) -> N
     ensures { result ≡ unnoted_by home.now probing.now finger index }
 {
     let counted = NoteWords {
-        place: Place::Home,
+        place: Role::Home,
         mark: lowered_count(home[1]),
         fingers: home[3],
     };
     let in_probing = note_place(probing[1], probing[3], 1, finger, index);
     let in_home = note_place(home[1], home[3], 0, finger, index);
-    let rest = freed_or(Place::Probing, probing, in_probing, counted);
-    freed_or(Place::Home, home, in_home, rest)
+    let rest = freed_or(Role::Probing, probing, in_probing, counted);
+    freed_or(Role::Home, home, in_home, rest)
 }
 
 /// What takes away the note of the record that was removed.

@@ -2,7 +2,7 @@
 
 use map_model::{Change, Reply};
 use op_core::Why;
-use phase::{Back, Buckets, Ending, Held, Load, Make, NoteWord, Path, Place, Record, Take, Walk};
+use phase::{Back, Buckets, Ending, Held, Load, Make, NoteWord, Path, Record, Role, Take, Walk};
 use world::Site;
 
 /// What stays the same in an attempt.
@@ -35,7 +35,7 @@ pub enum WriteEnd {
 #[derive(Clone, Copy, Debug, PartialEq, Eq)]
 pub struct Spot {
     /// Which bucket.
-    pub place: Place,
+    pub place: Role,
     /// The slot, 0 to 13.
     pub slot: u8,
 }
@@ -54,7 +54,7 @@ pub struct Seen {
     /// The words of their buckets.
     pub buckets: Buckets,
     /// The bucket of the record that is changed.
-    pub place: Place,
+    pub place: Role,
     /// What is stored of that record.
     pub written: Record,
 }
@@ -65,11 +65,11 @@ pub enum WriteStep {
     /// On the way to the segment.
     Way(Walk),
     /// The lock of a bucket is taken.
-    Lock(Place, Take),
+    Lock(Role, Take),
     /// The words on the way are looked at again.
     Check(Back),
     /// The words of a bucket are loaded.
-    Fill(Place, Load),
+    Fill(Role, Load),
     /// The commit counter is to be loaded.
     Count,
     /// The record is stored.

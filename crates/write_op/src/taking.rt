@@ -7,10 +7,10 @@ ghost use Rattle.write_op.specs.Steps.{end_of, giving, give, answered, amiss, ar
 use crate::asking::lock_of;
 use crate::search::{found, has_finger, leaves_note, record_at, room_in, unnoted, visits};
 use crate::step::{Seen, Spot, Stage, Task, WriteEnd, WriteStep};
-use map_model::{Deed, Reply};
+use map_model::{Effect, Reply};
 use op_core::{Ans, Why};
 use phase::{
-    Back, Backed, Ending, Held, Load, Made, Make, NoteWord, Path, Place, Take, Taken, Walked,
+    Back, Backed, Ending, Held, Load, Made, Make, NoteWord, Path, Role, Take, Taken, Walked,
     back_next, give_next, given, load_put, make_next, take_next, walk_next,
 };
 
@@ -71,7 +71,7 @@ fn arrived(stage: &mut Stage, path: Path)
     ensures { stage.new ≡ arrived stage.old.seen path }
 {
     stage.seen.path = path;
-    stage.step = WriteStep::Lock(Place::Home, Take::Look);
+    stage.step = WriteStep::Lock(Role::Home, Take::Look);
 }
 
 /// After a word on the way.
@@ -92,20 +92,20 @@ fn walked_to(stage: &mut Stage, walked: Walked)
 // ---- locks
 
 /// The step after the lock of a bucket is taken.
-fn locked(place: Place) -> WriteStep
+fn locked(place: Role) -> WriteStep
     ensures { result ≡ locked place }
 {
     match place {
-        Place::Home => WriteStep::Lock(Place::Probing, Take::Look),
-        Place::Probing => WriteStep::Check(Back::Root),
-        Place::First | Place::Second | Place::Next | Place::Previous => {
+        Role::Home => WriteStep::Lock(Role::Probing, Take::Look),
+        Role::Probing => WriteStep::Check(Back::Root),
+        Role::First | Role::Second | Role::Next | Role::Previous => {
             WriteStep::Fill(place, Load::begin())
         }
     }
 }
 
 /// After a look at a lock word, or an exchange of it.
-fn locked_to(stage: &mut Stage, place: Place, lock: u64, taken: Taken)
+fn locked_to(stage: &mut Stage, place: Role, lock: u64, taken: Taken)
     ensures { stage.new ≡ locked_to stage.old.seen place lock taken }
 {
     match taken {
@@ -135,7 +135,7 @@ fn backed_to(stage: &mut Stage, backed: Backed)
 {
     match backed {
         Backed::On(back) => stage.step = WriteStep::Check(back),
-        Backed::Same => stage.step = WriteStep::Fill(Place::Home, Load::begin()),
+        Backed::Same => stage.step = WriteStep::Fill(Role::Home, Load::begin()),
         Backed::Moved {
             word,
             before,
@@ -158,7 +158,7 @@ fn visit_second(seen: &Seen) -> WriteStep
     ensures { result ≡ visit_second seen.now }
 {
     if seen.second {
-        WriteStep::Lock(Place::Second, Take::Look)
+        WriteStep::Lock(Role::Second, Take::Look)
     } else {
         WriteStep::Count
     }
@@ -169,33 +169,33 @@ fn visit_first(seen: &Seen) -> WriteStep
     ensures { result ≡ visit_first seen.now }
 {
     if seen.first {
-        WriteStep::Lock(Place::First, Take::Look)
+        WriteStep::Lock(Role::First, Take::Look)
     } else {
         visit_second(seen)
     }
 }
 
 /// After the last word of a bucket, whose words were put in.
-fn filled(hash: u64, stage: &mut Stage, place: Place)
+fn filled(hash: u64, stage: &mut Stage, place: Role)
     ensures { stage.new ≡ filled hash stage.old.seen place }
 {
     match place {
-        Place::Home => stage.step = WriteStep::Fill(Place::Probing, Load::begin()),
-        Place::Probing => {
+        Role::Home => stage.step = WriteStep::Fill(Role::Probing, Load::begin()),
+        Role::Probing => {
             let first = visits(hash, &stage.seen.buckets, 0);
             let second = visits(hash, &stage.seen.buckets, 1);
             stage.seen.first = first;
             stage.seen.second = second;
             stage.step = visit_first(&stage.seen);
         }
-        Place::First => stage.step = visit_second(&stage.seen),
-        Place::Second | Place::Next | Place::Previous => stage.step = WriteStep::Count,
+        Role::First => stage.step = visit_second(&stage.seen),
+        Role::Second | Role::Next | Role::Previous => stage.step = WriteStep::Count,
     }
 }
 
 /// After the last word of a bucket; a call of its own for the same reason.
 #[inline(never)]
-fn filled_with(hash: u64, stage: &mut Stage, place: Place, words: [u64; 32])
+fn filled_with(hash: u64, stage: &mut Stage, place: Role, words: [u64; 32])
     ensures { stage.new ≡ filled_with hash stage.old.seen place words }
 {
     stage.seen.buckets.put(place, words);
@@ -240,15 +240,15 @@ fn changing(task: &Task, stage: &mut Stage, count: u64, there: Option<Spot>)
 /// What is done under all locks; a call of its own, since it comes once in an attempt and searches all buckets.
 #[inline(never)]
 fn decided(task: &Task, stage: &mut Stage, count: u64)
-    ensures { stage.new ≡ decided task.now stage.old.seen count task.now.change.deed }
+    ensures { stage.new ≡ decided task.now stage.old.seen count task.now.change.effect }
 {
     let there = found(&stage.seen, task.change.key);
-    match task.change.deed {
-        Deed::Insert(_) => {
+    match task.change.effect {
+        Effect::Insert(_) => {
             let room = room_in(&stage.seen.buckets);
             inserting(task, stage, count, there, room);
         }
-        Deed::Update(_) | Deed::Remove => changing(task, stage, count, there),
+        Effect::Update(_) | Effect::Remove => changing(task, stage, count, there),
     }
 }
 
@@ -279,7 +279,7 @@ fn made_to(stage: &mut Stage, made: Made)
 fn drawn_to(task: &Task, stage: &mut Stage, place: u64)
     ensures { stage.new ≡ drawn_to task.now stage.old.seen place }
 {
-    if leaves_note(task.change.deed, stage.seen.place) {
+    if leaves_note(task.change.effect, stage.seen.place) {
         stage.step = WriteStep::Unnote(NoteWord::Mark, place);
     } else {
         answered(stage, place, Reply::Done);

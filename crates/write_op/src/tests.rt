@@ -1,7 +1,7 @@
 // Changes on the words of a new image with one segment, and on such words that another caller changes.
 use super::*;
 use image_layout::Geometry;
-use map_model::{Change, Deed, Reply};
+use map_model::{Change, Effect, Reply};
 use op_core::{Ans, Machine, Want, Why};
 use phase::{Held, Kept};
 use std::process::Abort;
@@ -93,8 +93,8 @@ impl Memory {
     }
 
     /// Runs a change of key 5 to its end: how it ended, and after how many events.
-    fn run(&mut self, deed: Deed) -> Result<(WriteEnd, u64), Fail> {
-        let mut op = WriteOp::new(Change { key: 5, deed }, site()?);
+    fn run(&mut self, effect: Effect) -> Result<(WriteEnd, u64), Fail> {
+        let mut op = WriteOp::new(Change { key: 5, effect }, site()?);
         self.events = 0;
         for _ in 0..200u8 {
             let want = op.want();
@@ -124,7 +124,7 @@ fn decided_in(rt: &impl Abort, memory: &mut Memory) -> Result<WriteOp, Fail> {
     let mut op = WriteOp::new(
         Change {
             key: 5,
-            deed: Deed::Insert(7),
+            effect: Effect::Insert(7),
         },
         site()?,
     );
@@ -177,7 +177,7 @@ fn events_of_an_insert(rt: HostRuntime) -> Result<(), Fail> {
         assert_eq!(rt; op.want(), want);
         op.take(memory.answer(want));
     }
-    let end = fresh().run(Deed::Insert(7))?;
+    let end = fresh().run(Effect::Insert(7))?;
     assert_eq!(rt; end, (replied(Reply::Done, 0), 85));
     Ok(())
 }
@@ -222,7 +222,7 @@ fn record_goes_to_the_less_full_bucket(rt: HostRuntime) -> Result<(), Fail> {
     ];
     for (home, probing, lock, slot) in table {
         let mut memory = with(&[(97, home), (129, probing)]);
-        let (end, _) = memory.run(Deed::Insert(7))?;
+        let (end, _) = memory.run(Effect::Insert(7))?;
         assert_eq!(rt; end, replied(Reply::Done, 0));
         let record = lock.wrapping_add(slot.wrapping_mul(2));
         assert_eq!(rt; memory.word(record.wrapping_add(4)), 5, "at {record}");
@@ -243,15 +243,15 @@ fn record_goes_to_the_less_full_bucket(rt: HostRuntime) -> Result<(), Fail> {
 fn changes_one_after_another(rt: HostRuntime) -> Result<(), Fail> {
     let mut memory = fresh();
     let table = [
-        (Deed::Update(9), Reply::Absent, 0, 76),
-        (Deed::Insert(7), Reply::Done, 0, 85),
-        (Deed::Insert(8), Reply::Exists, 1, 76),
-        (Deed::Update(9), Reply::Done, 1, 80),
-        (Deed::Remove, Reply::Done, 2, 80),
-        (Deed::Remove, Reply::Absent, 3, 76),
+        (Effect::Update(9), Reply::Absent, 0, 76),
+        (Effect::Insert(7), Reply::Done, 0, 85),
+        (Effect::Insert(8), Reply::Exists, 1, 76),
+        (Effect::Update(9), Reply::Done, 1, 80),
+        (Effect::Remove, Reply::Done, 2, 80),
+        (Effect::Remove, Reply::Absent, 3, 76),
     ];
-    for (deed, reply, place, events) in table {
-        let end = memory.run(deed)?;
+    for (effect, reply, place, events) in table {
+        let end = memory.run(effect)?;
         assert_eq!(rt; end, (replied(reply, place), events));
     }
     for (at, value) in [
@@ -272,7 +272,7 @@ fn changes_one_after_another(rt: HostRuntime) -> Result<(), Fail> {
 #[test]
 fn record_of_a_second_line(rt: HostRuntime) -> Result<(), Fail> {
     let mut memory = with(&[(97, 3), (129, 3)]);
-    let end = memory.run(Deed::Insert(7))?;
+    let end = memory.run(Effect::Insert(7))?;
     assert_eq!(rt; end, (replied(Reply::Done, 0), 86));
     assert_eq!(rt; memory.word(97), 7);
     assert_eq!(rt; memory.word(104), 5);
@@ -345,21 +345,21 @@ fn holding(there: &Standing) -> Memory {
 fn record_is_found_everywhere(rt: HostRuntime) -> Result<(), Fail> {
     for there in &standings() {
         let mut memory = holding(there);
-        let end = memory.run(Deed::Insert(8))?;
+        let end = memory.run(Effect::Insert(8))?;
         let back = there.events.wrapping_add(there.locks);
         assert_eq!(rt; end, (replied(Reply::Exists, 0), back));
         assert_eq!(rt; memory.word(there.lock), 2);
-        let end = memory.run(Deed::Update(9))?;
+        let end = memory.run(Effect::Update(9))?;
         assert_eq!(rt; end, (replied(Reply::Done, 0), back.wrapping_add(4)));
         assert_eq!(rt; memory.word(there.lock.wrapping_add(5)), 9);
-        let end = memory.run(Deed::Remove)?;
+        let end = memory.run(Effect::Remove)?;
         let events = back.wrapping_add(4).wrapping_add(there.stores);
         assert_eq!(rt; end, (replied(Reply::Done, 1), events));
         assert_eq!(rt; memory.word(there.lock.wrapping_add(1)), 0);
         for (at, _) in there.notes {
             assert_eq!(rt; memory.word(at), 0, "at {at}");
         }
-        let end = memory.run(Deed::Remove)?;
+        let end = memory.run(Effect::Remove)?;
         assert_eq!(rt; end, (replied(Reply::Absent, 2), 76));
     }
     Ok(())
@@ -370,7 +370,7 @@ fn each_lock_is_another_s(rt: HostRuntime) -> Result<(), Fail> {
     let looks = [4u64, 6, 73, 106];
     for (lock, look) in LOCKS.into_iter().zip(looks) {
         let mut memory = with(&[(97, COUNTED), (lock, 3)]);
-        let (end, _) = memory.run(Deed::Insert(7))?;
+        let (end, _) = memory.run(Effect::Insert(7))?;
         let busy = Why::Busy {
             word: lock,
             seen: 3,
@@ -379,7 +379,7 @@ fn each_lock_is_another_s(rt: HostRuntime) -> Result<(), Fail> {
         for (after, value) in [(3u64, 3u64), (4, 4)] {
             let mut memory = with(&[(97, COUNTED)]);
             memory.other = (look.wrapping_add(1), lock, after);
-            let (end, _) = memory.run(Deed::Insert(7))?;
+            let (end, _) = memory.run(Effect::Insert(7))?;
             let moved = Why::Moved {
                 word: lock,
                 before: 0,
@@ -403,12 +403,12 @@ fn each_lock_is_another_s(rt: HostRuntime) -> Result<(), Fail> {
 fn each_number_is_spent(rt: HostRuntime) -> Result<(), Fail> {
     for lock in LOCKS {
         let mut memory = with(&[(97, COUNTED), (lock, u64::MAX - 1), (2208, 6)]);
-        let (end, _) = memory.run(Deed::Insert(7))?;
+        let (end, _) = memory.run(Effect::Insert(7))?;
         assert_eq!(rt; end, replied(Reply::Spent, 6));
         assert_eq!(rt; memory.word(lock), u64::MAX - 1);
     }
     let mut memory = with(&[(2208, 1 << 63)]);
-    let end = memory.run(Deed::Insert(7))?;
+    let end = memory.run(Effect::Insert(7))?;
     assert_eq!(rt; end, (replied(Reply::Spent, 1 << 63), 76));
     assert_eq!(rt; memory.word(96), 2);
     Ok(())
@@ -418,7 +418,7 @@ fn each_number_is_spent(rt: HostRuntime) -> Result<(), Fail> {
 fn way_is_amiss(rt: HostRuntime) -> Result<(), Fail> {
     let table = [(8u64, 1), (32, 1), (65, 1)];
     for (word, value) in table {
-        let end = with(&[(word, value)]).run(Deed::Remove)?;
+        let end = with(&[(word, value)]).run(Effect::Remove)?;
         let why = Why::Moved {
             word,
             before: value,
@@ -426,16 +426,16 @@ fn way_is_amiss(rt: HostRuntime) -> Result<(), Fail> {
         };
         assert_eq!(rt; end.0, WriteEnd::Again(why), "at {word}");
     }
-    let end = with(&[(65, 258)]).run(Deed::Remove)?;
+    let end = with(&[(65, 258)]).run(Effect::Remove)?;
     assert_eq!(rt; end, (WriteEnd::Stale(0, 2), 4));
     let mut memory = fresh();
     memory.power = 1;
-    let end = memory.run(Deed::Remove)?;
+    let end = memory.run(Effect::Remove)?;
     assert_eq!(rt; end, (WriteEnd::Off, 1));
     for (event, word, before) in [(8u64, 8u64, 0), (9, 32, 0), (10, 65, 257)] {
         let mut memory = fresh();
         memory.other = (event, word, 3);
-        let (end, _) = memory.run(Deed::Remove)?;
+        let (end, _) = memory.run(Effect::Remove)?;
         let why = Why::Moved {
             word,
             before,
@@ -453,7 +453,7 @@ fn header_leads_away(rt: HostRuntime) -> Result<(), Fail> {
     // one of a segment that is being split, and one of the other half of all hashes
     for head in [513u64, 257 + (1 << 16) + (1 << 32)] {
         let mut memory = with(&[(65, head)]);
-        let end = memory.run(Deed::Remove)?;
+        let end = memory.run(Effect::Remove)?;
         let why = Why::Moved {
             word: 65,
             before: head,
@@ -471,7 +471,7 @@ fn kept_in(memory: &mut Memory) -> Result<Kept, Fail> {
     let mut op = WriteOp::new(
         Change {
             key: 5,
-            deed: Deed::Insert(7),
+            effect: Effect::Insert(7),
         },
         site()?,
     );
@@ -485,7 +485,7 @@ fn kept_in(memory: &mut Memory) -> Result<Kept, Fail> {
 #[test]
 fn both_full_are_handed_on(rt: HostRuntime) -> Result<(), Fail> {
     let mut memory = with(&[(97, ALL), (129, ALL)]);
-    let end = memory.run(Deed::Insert(7))?;
+    let end = memory.run(Effect::Insert(7))?;
     assert_eq!(rt; end, (WriteEnd::NoSlot, 74));
     assert_eq!(rt; memory.word(96), 1);
     assert_eq!(rt; memory.word(128), 1);

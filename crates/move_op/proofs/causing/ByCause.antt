@@ -16,8 +16,8 @@ use Rattle.map_model.specs.declared.entry.Reply.{Reply}
 use Rattle.map_model.specs.declared.entry.Reply.TheVariants as reply
 use Rattle.map_model.specs.Map.{key_of}
 use Rattle.map_model.specs.Legal.{IsInsert}
-use Rattle.world.specs.declared.site.Site.{Site as Here}
-use Rattle.world.specs.Site.{Site}
+use Rattle.world.specs.declared.site.Site.{Site}
+use Rattle.world.specs.Ground.{Ground}
 use Rattle.world.specs.Views.{View, HasLock}
 use Rattle.world.specs.Wants.{answer_to, word_of}
 use Rattle.part.specs.Doings.{Doings}
@@ -42,8 +42,8 @@ use Rattle.phase.specs.Helds.{free_of, given}
 use Rattle.phase.specs.Buckets.{with_words}
 use Rattle.phase.specs.Taking.{HasTakeCause}
 use Rattle.phase.specs.Keeps.{KeepsAll, RemembersRoom}
-use Rattle.phase.proofs.Needing.{next_needed, previous_needed}
-use Rattle.phase.proofs.Causing.{found_named}
+use Rattle.phase.proofs.asking.Needing.{next_needed, previous_needed}
+use Rattle.phase.proofs.asking.Causing.{found_named}
 use Rattle.phase.proofs.Handing.{key_called}
 use Rattle.phase.proofs.locks.Taking.{take_caused}
 use Rattle.phase.proofs.locks.Giving.{no_some, lock_at as lock_stands, locks_apart, has_not}
@@ -71,7 +71,7 @@ use Rattle.move_op.proofs.causing.Recalling.{recalls_next}
 use Rattle.move_op.proofs.parts.Parted.{never_finished, end_keeps}
 
 -- ---- by the step
-module _ (site : Site) (here : Here) (call : Call) (kept : Kept) (may : MayMakeRoom site here call kept) (words : Words) (did : Doings) (v : View) where
+module _ (site : Ground) (here : Site) (call : Call) (kept : Kept) (may : MayMakeRoom site here call kept) (words : Words) (did : Doings) (v : View) where
   abbrev Finds : MoveStep → ℕ
   Finds s = words (word_of site.shape (wanted_in kept s))
 
@@ -181,7 +181,7 @@ module _ (site : Site) (here : Here) (call : Call) (kept : Kept) (may : MayMakeR
   step_caused (Ended end) suits r none asks = absurd (asks refl)
 
 -- the lock that is taken is not held
-out : (site : Site) (kept : Kept) (v : View) (s : MoveStep) → SuitsStep site kept s v → (d : Direction) (take : Take) → s ≡ Lock d take → free_of kept.held (target_of d) ≡ None
+out : (site : Ground) (kept : Kept) (v : View) (s : MoveStep) → SuitsStep site kept s v → (d : Direction) (take : Take) → s ≡ Lock d take → free_of kept.held (target_of d) ≡ None
 out site kept v s suits d take e = none_at d kept (subst (λ (z : MoveStep). SuitsStep site kept z v) e suits).1
 
 -- ---- what is decided stays so
@@ -216,7 +216,7 @@ move_ends_by_cause = record {
       let caused = λ (none : outcome_at op.step ≡ None). step_caused site here call kept st.may words did v op.step st.view r none asks in
       record {
         remembers = recalls_next site kept op.step n did r asks (out site kept v op.step st.view);
-        caused = λ outcome none some. (caused none outcome some).0;
+        caused = λ outcome none some rests. (caused none outcome some).0;
         worked = λ none some. never_finished (taken op (answer_to (wanted op) n)) some;
         not_own = λ word value none some. (caused none (again (Busy word value)) some).1;
       };
@@ -229,7 +229,7 @@ move_ends_by_cause = record {
 pub begins_remembering : MoveBeginsRemembering
 begins_remembering site kept did room changed = (room, changed, tt, tt)
 
-end_remembers : (site : Site) (kept : Kept) (did : Doings) (s : MoveStep) → RemembersAt site kept did s → is_without_move s ≡ true → RemembersAt site kept did (Ended ends.NoMove)
+end_remembers : (site : Ground) (kept : Kept) (did : Doings) (s : MoveStep) → RemembersAt site kept did s → is_without_move s ≡ true → RemembersAt site kept did (Ended ends.NoMove)
 end_remembers site kept did (Ended ends.NoMove) r is = r
 end_remembers site kept did s r is = absurd (let f : false ≡ true = is in cc)
 

@@ -4,12 +4,12 @@ use Rattle.std.specs.Prelude.{⊤, ◌==◌, if◌then◌else◌}
 use Rattle.op_core.specs.declared.want.Want.TheVariants as want
 use Rattle.op_core.specs.declared.want.Ans.{Ans}
 use Rattle.op_core.specs.declared.want.Ans.TheVariants.{Value, Won, Lost, Passed}
-use Rattle.world.specs.Site.{Site}
+use Rattle.world.specs.Ground.{Ground}
 use Rattle.world.specs.Views.{Has}
 use Rattle.world.specs.Wants.{answer_to}
 use Rattle.part.specs.Doings.{Doings, with_event_of}
-use Rattle.phase.specs.declared.place.Place.{Place}
-use Rattle.phase.specs.declared.place.Place.TheVariants.{Home, Probing, Next}
+use Rattle.phase.specs.declared.role.Role.{Role}
+use Rattle.phase.specs.declared.role.Role.TheVariants.{Home, Probing, Next}
 use Rattle.phase.specs.declared.take.Take.{Take}
 use Rattle.phase.specs.declared.take.Take.TheVariants.{Look, Try}
 use Rattle.phase.specs.declared.take.Taken.{Taken}
@@ -33,9 +33,9 @@ use Rattle.phase.specs.Taking.{RemembersTaken}
 use Rattle.phase.specs.Giving.{IsHeld}
 use Rattle.phase.specs.Causes.{WasFound}
 use Rattle.phase.specs.Keeps.{IsFull, WasLoaded, ChangedLocks, LoadedFull, RemembersRoom}
-use Rattle.phase.proofs.Asked.{cases_place}
+use Rattle.phase.proofs.asking.Asked.{cases_place}
 use Rattle.phase.proofs.Wording.{words_other}
-use Rattle.phase.proofs.Causing.{has_more, found_more}
+use Rattle.phase.proofs.asking.Causing.{has_more, found_more}
 use Rattle.phase.proofs.Loading.{load_begins, load_stands}
 use Rattle.phase.proofs.locks.Taking.{take_remembers}
 use Rattle.phase.proofs.locks.Giving.{no_some, held_this, held_other}
@@ -57,13 +57,13 @@ use Rattle.move_op.proofs.shifting.Staying.{none_forward, none_backward}
 use Rattle.move_op.proofs.keeping.Going.{other_number}
 
 -- ---- what is remembered
-module _ (site : Site) where
+module _ (site : Ground) where
   abbrev pub Recalls : MoveOp → Doings → Type 0
   Recalls op did = RemembersAt site op.kept did op.step
 
   -- with more that was loaded
   module _ (kept : Kept) (d e : Doings) (more : List (ℕ × ℕ)) (is : e.loads ≡ more ++ d.loads) where
-    loaded_more : (place : Place) → WasLoaded kept d.loads place → WasLoaded kept e.loads place
+    loaded_more : (place : Role) → WasLoaded kept d.loads place → WasLoaded kept e.loads place
     loaded_more place r j from low = subst (λ l. Has (lock_of kept place + j, slice_index (words_in kept.buckets place) j) l) (sym is) (has_more more d.loads _ (r j from low))
 
     room_more : RemembersRoom site kept d.loads → RemembersRoom site kept e.loads
@@ -99,7 +99,7 @@ module _ (site : Site) where
   tried_held kept held d Backward r = r
 
   -- with the words of a third bucket put in
-  full_put : (kept : Kept) (direction : Direction) (words : List ℕ) (loads : List (ℕ × ℕ)) (place : Place) → is_third place ≡ false → LoadedFull kept loads place
+  full_put : (kept : Kept) (direction : Direction) (words : List ℕ) (loads : List (ℕ × ℕ)) (place : Role) → is_third place ≡ false → LoadedFull kept loads place
       → LoadedFull (record kept { buckets = with_words (target_of direction) words kept.buckets }) loads place
   full_put kept direction words loads place own f =
       subst (λ (ws : List ℕ). ((j : ℕ) → 1 ≤ j → j < 32 → Has (lock_of kept place + j, slice_index ws j) loads) × IsFull ws)
@@ -120,7 +120,7 @@ module _ (site : Site) where
   }
 
   -- ---- locks back
-  by_next : (kept : Kept) (d : Doings) (next : Option (Place × ℕ)) (held : Held) (end : Ending) → RemembersAt site kept d (given_by next held end)
+  by_next : (kept : Kept) (d : Doings) (next : Option (Role × ℕ)) (held : Held) (end : Ending) → RemembersAt site kept d (given_by next held end)
   by_next kept d (Some next) held end = tt
   by_next kept d None held (ending.Replied answer place) = tt
   by_next kept d None held (ending.Again why) = tt
@@ -148,7 +148,7 @@ module _ (site : Site) where
     abbrev lock : ℕ
     lock = lock_of kept (target_of direction)
 
-    still_held : (p : Place) (free : ℕ) → IsHeld kept.held p → IsHeld (with_held (target_of direction) free kept.held) p
+    still_held : (p : Role) (free : ℕ) → IsHeld kept.held p → IsHeld (with_held (target_of direction) free kept.held) p
     still_held p free (value, is) = elim (cases_place p (target_of direction)) [
       | inl e ↦ absurd (no_some (sym out ∙ ap (free_of kept.held) (sym e) ∙ is))
       | inr n ↦ (value, held_other kept.held free (target_of direction) p n ∙ is)

@@ -4,7 +4,7 @@ use Rattle.op_core.specs.declared.why.Why.{Why}
 use Rattle.op_core.specs.declared.why.Why.TheVariants.{Busy, Moved}
 use Rattle.map_model.specs.declared.entry.Reply.{Reply}
 use Rattle.part.specs.Outcomes.{reply_of}
-use Rattle.phase.specs.declared.place.Place.{Place}
+use Rattle.phase.specs.declared.role.Role.{Role}
 use Rattle.phase.specs.declared.take.Taken.{Taken}
 use Rattle.phase.specs.declared.take.Taken.TheVariants as taking
 use Rattle.phase.specs.declared.load.Loaded.{Loaded}
@@ -29,7 +29,7 @@ abbrev pub reply_at : MoveStep → Option (Reply × ℕ)
 reply_at s = reply_of (outcome_at s)
 
 -- ---- locks back
-by_next : (next : Option (Place × ℕ)) (held : Held) (end : Ending) → outcome_at (given_by next held end) ≡ Some (outcome_then end)
+by_next : (next : Option (Role × ℕ)) (held : Held) (end : Ending) → outcome_at (given_by next held end) ≡ Some (outcome_then end)
 by_next (Some next) held end = refl
 by_next None held (ending.Replied answer place) = refl
 by_next None held (ending.Again why) = refl

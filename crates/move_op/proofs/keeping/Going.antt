@@ -7,10 +7,10 @@ use Rattle.sound_image.specs.Records.{key_hash}
 use Rattle.bucket_words.specs.Hits.{Hit}
 use Rattle.bucket_words.specs.Owners.{owner_of}
 use Rattle.bucket_words.specs.Standing.{IsTable}
-use Rattle.world.specs.Site.{Site}
+use Rattle.world.specs.Ground.{Ground}
 use Rattle.world.specs.Views.{View, Has, HasLock, IsGuarded}
-use Rattle.phase.specs.declared.place.Place.{Place}
-use Rattle.phase.specs.declared.place.Place.TheVariants.{Home, Probing, First, Second}
+use Rattle.phase.specs.declared.role.Role.{Role}
+use Rattle.phase.specs.declared.role.Role.TheVariants.{Home, Probing, First, Second}
 use Rattle.phase.specs.declared.take.Taken.{Taken}
 use Rattle.phase.specs.declared.take.Taken.TheVariants as taking
 use Rattle.phase.specs.declared.load.Loaded.{Loaded}
@@ -26,7 +26,7 @@ use Rattle.phase.specs.Taking.{MayBeTaken, IsButSpent, HasTaken}
 use Rattle.phase.specs.Giving.{IsHeld, IsOfHeld}
 use Rattle.phase.specs.Knows.{IsWhole}
 use Rattle.phase.specs.Keeps.{kept_words, IsFull, KeepsAll}
-use Rattle.phase.proofs.Asked.{one_place, cases_place}
+use Rattle.phase.proofs.asking.Asked.{one_place, cases_place}
 use Rattle.phase.proofs.Wording.{words_this, words_other}
 use Rattle.phase.proofs.Handing.{none_loose}
 use Rattle.phase.proofs.Loading.{load_begins}
@@ -49,12 +49,12 @@ use Rattle.move_op.proofs.shifting.Deciding.{chosen_shifts, shift_toward}
 use Rattle.move_op.proofs.shifting.Staying.{none_forward}
 
 -- a view suits a machine
-abbrev pub Suits : Site → MoveOp → View → Type 0
+abbrev pub Suits : Ground → MoveOp → View → Type 0
 Suits site op u = SuitsStep site op.kept op.step u
 
 -- ---- locks back
-module _ (site : Site) (kept : Kept) where
-  by_next : (held : Held) (end : Ending) (u : View) → IsGiving site kept held u → (next : Option (Place × ℕ)) → give_next held ≡ next → SuitsStep site kept (given_by next held end) u
+module _ (site : Ground) (kept : Kept) where
+  by_next : (held : Held) (end : Ending) (u : View) → IsGiving site kept held u → (next : Option (Role × ℕ)) → give_next held ≡ next → SuitsStep site kept (given_by next held end) u
   by_next held end u g (Some next) e = g
   by_next held (ending.Replied answer place) u g None e = give_stands.ends kept.site kept.hash kept.segment held u g.locks g.quiet (ap (give_wanted_of kept.site kept.hash kept.segment) e)
   by_next held (ending.Again why) u g None e = give_stands.ends kept.site kept.hash kept.segment held u g.locks g.quiet (ap (give_wanted_of kept.site kept.hash kept.segment) e)
@@ -83,7 +83,7 @@ module _ (site : Site) (kept : Kept) where
           hashed = k.holds.hashed;
           there = k.holds.there;
           leads = k.holds.leads;
-          locks = held_same kept.site kept.hash kept.segment kept.held v w refl refl k.holds.locks;
+          locks = held_same kept.site kept.hash kept.segment kept.held v w refl refl refl k.holds.locks;
           home = k.holds.home;
           probing = k.holds.probing;
           knows = k.holds.knows;
@@ -116,21 +116,21 @@ turn_of Forward kept n = tt
 turn_of Backward kept n = n.stays
 
 -- a place where the key may stand is none of the third ones
-pub other_number : (d : Direction) (place : Place) → is_third place ≡ false → index place ≡ index (target_of d) → ⊥
+pub other_number : (d : Direction) (place : Role) → is_third place ≡ false → index place ≡ index (target_of d) → ⊥
 other_number d place near e = not_third d place near (one_place place (target_of d) e)
 
 -- the lock of a third bucket is held more
-module _ (site : Site) (kept : Kept) (d : Direction) (free : ℕ) where
+module _ (site : Ground) (kept : Kept) (d : Direction) (free : ℕ) where
   abbrev more : Kept
   more = record kept { held = with_held (target_of d) free kept.held }
 
-  old_held : (place : Place) → (index place ≡ index (target_of d) → ⊥) → IsHeld more.held place → IsHeld kept.held place
+  old_held : (place : Role) → (index place ≡ index (target_of d) → ⊥) → IsHeld more.held place → IsHeld kept.held place
   old_held place n is = (is.0, sym (held_other kept.held free (target_of d) place n) ∙ is.1)
 
-  still_held : (place : Place) → (index place ≡ index (target_of d) → ⊥) → IsHeld kept.held place → IsHeld more.held place
+  still_held : (place : Role) → (index place ≡ index (target_of d) → ⊥) → IsHeld kept.held place → IsHeld more.held place
   still_held place n is = (is.0, held_other kept.held free (target_of d) place n ∙ is.1)
 
-  none_before : (place : Place) → (index place ≡ index (target_of d) → ⊥) → free_of more.held place ≡ None → free_of kept.held place ≡ None
+  none_before : (place : Role) → (index place ≡ index (target_of d) → ⊥) → free_of more.held place ≡ None → free_of kept.held place ≡ None
   none_before place n e = sym (held_other kept.held free (target_of d) place n) ∙ e
 
   held_but : (v u : View) → KeepsAll site kept v → BeforeThird d kept → MayBeTaken free → u ≡ record v { held = (lock_of kept (target_of d), free + 1) ∷ v.held } → KeepsBut d site more u
@@ -162,7 +162,7 @@ module _ (site : Site) (kept : Kept) (d : Direction) (free : ℕ) where
         room = k.room;
       })
 
-pub locked_suits : (site : Site) (kept : Kept) (d : Direction) (v u : View) → KeepsAll site kept v → BeforeThird d kept → (x : Taken) → HasTaken (lock_of kept (target_of d)) v x u
+pub locked_suits : (site : Ground) (kept : Kept) (d : Direction) (v u : View) → KeepsAll site kept v → BeforeThird d kept → (x : Taken) → HasTaken (lock_of kept (target_of d)) v x u
     → Suits site (locked_to kept d (lock_of kept (target_of d)) x) u
 locked_suits site kept d v u k none (taking.On take) t = (spent_keeps site kept v u k t.1, none, t.0)
 locked_suits site kept d v u k none (taking.Held free) t = (held_but site kept d free v u k none t.0 t.1, third_held d kept free none, load_begins _ _)
@@ -172,7 +172,7 @@ locked_suits site kept d v u k none taking.Spent t = (spent_keeps site kept v u 
 
 -- ---- a bucket
 -- one word more is known
-pub learnt_but : (site : Site) (kept : Kept) (d : Direction) (i x : ℕ) (v : View) → KeepsBut d site kept v → IsGuarded v.held i → KeepsBut d site kept (record v { known = (i, x) ∷ v.known })
+pub learnt_but : (site : Ground) (kept : Kept) (d : Direction) (i x : ℕ) (v : View) → KeepsBut d site kept v → IsGuarded v.held i → KeepsBut d site kept (record v { known = (i, x) ∷ v.known })
 learnt_but site kept d i x v k guarded = record {
   insert = k.insert;
   located = k.located;
@@ -193,18 +193,18 @@ learnt_but site kept d i x v k guarded = record {
 }
 
 -- all words of the bucket are put in
-module _ (site : Site) (kept : Kept) (d : Direction) (words : List ℕ) (u : View) (k : KeepsBut d site kept u) (all : IsWhole (lock_of kept (target_of d)) words u) where
+module _ (site : Ground) (kept : Kept) (d : Direction) (words : List ℕ) (u : View) (k : KeepsBut d site kept u) (all : IsWhole (lock_of kept (target_of d)) words u) where
   abbrev put : Kept
   put = record kept { buckets = with_words (target_of d) words kept.buckets }
 
-  put_whole : (place : Place) → IsHeld kept.held place → IsWhole (lock_of kept place) (words_in put.buckets place) u
+  put_whole : (place : Role) → IsHeld kept.held place → IsWhole (lock_of kept place) (words_in put.buckets place) u
   put_whole place is = elim (cases_place place (target_of d)) [
-    | inl e ↦ subst (λ (p : Place). IsWhole (lock_of kept p) (words_in put.buckets p) u) (sym e)
+    | inl e ↦ subst (λ (p : Role). IsWhole (lock_of kept p) (words_in put.buckets p) u) (sym e)
         (subst (λ (ws : List ℕ). IsWhole (lock_of kept (target_of d)) ws u) (sym (words_this kept.buckets words (target_of d))) all)
     | inr n ↦ subst (λ (ws : List ℕ). IsWhole (lock_of kept place) ws u) (sym (words_other kept.buckets words (target_of d) place n)) (k.whole place is (λ e. n (ap index e)))
   ]
 
-  same_words : (place : Place) → is_third place ≡ false → words_in put.buckets place ≡ words_in kept.buckets place
+  same_words : (place : Role) → is_third place ≡ false → words_in put.buckets place ≡ words_in kept.buckets place
   same_words place near = words_other kept.buckets words (target_of d) place (other_number d place near)
 
   pub put_keeps : KeepsAll site put u
@@ -232,10 +232,10 @@ module _ (site : Site) (kept : Kept) (d : Direction) (words : List ℕ) (u : Vie
   }
 
 -- what is chosen then, where all words that are known are the newest, and each record under a lock that is held is its segment's
-abbrev pub AreOwned : Site → Words → View → Type 0
+abbrev pub AreOwned : Ground → Words → View → Type 0
 AreOwned site words u = (s b r k : ℕ) → HasLock u.held (bucket_at site.shape s b) → Hit site.shape words s b r k → owner_of site.shape words (key_hash site.shape k) ≡ Some s
 
-module _ (site : Site) (words : Words) (table : IsTable site.shape words) where
+module _ (site : Ground) (words : Words) (table : IsTable site.shape words) where
   module _ (kept : Kept) (u : View) (k : KeepsAll site kept u) (newest : (i x : ℕ) → Has (i, x) u.known → words i ≡ x) (own : AreOwned site words u) where
     source_held : (e : Direction) → IsHeld kept.held (source_of e)
     source_held Forward = k.holds.probing

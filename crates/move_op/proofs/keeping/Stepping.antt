@@ -8,13 +8,13 @@ use Rattle.map_model.specs.declared.entry.Reply.{Reply}
 use Rattle.map_model.specs.declared.entry.Reply.TheVariants as reply
 use Rattle.map_model.specs.Map.{key_of}
 use Rattle.map_model.specs.Changes.{call_of}
-use Rattle.world.specs.Site.{Site}
+use Rattle.world.specs.Ground.{Ground}
 use Rattle.world.specs.Views.{View, Has, At, IsGuarded}
 use Rattle.world.specs.Wants.{answer_to, word_of}
 use Rattle.world.specs.Kinds.{of_other_keys, with_draw, next_entry, with_reply, view_after}
 use Rattle.world.specs.Invariant.{Holds}
 use Rattle.world.specs.Conditions.{IsNewest}
-use Rattle.world.proofs.holding.Beside.{newest_is}
+use Rattle.world.proofs.calls.deeds.Calls.{newest_without}
 use Rattle.world.specs.Attempts.{HasNoMore, HasOneMore, EntersReply}
 use Rattle.part.specs.Outcomes.{reply_of}
 use Rattle.phase.specs.declared.take.Take.{Take}
@@ -48,13 +48,13 @@ use Rattle.move_op.proofs.keeping.Entering.{reply_at, giving_outcome, taken_quie
 use Rattle.move_op.proofs.keeping.Storing.{Goes, make_goes}
 
 -- ---- the counter, the draw, and locks back
-module _ (site : Site) (kept : Kept) (before v : View) where
+module _ (site : Ground) (kept : Kept) (before v : View) where
   spent_goes : HasNoMore before v → IsGiving site kept kept.held v → (n : ℕ) → Goes site before (give kept (ending.Replied reply.Spent n)) (view_after site.shape (kind_at kept CountSpent) n v)
   spent_goes same g n =
       let u : View = with_reply v (next_entry v (call_of kept.change) reply.Spent n false) in (
         give_suits site kept (ending.Replied reply.Spent n) u (record {
           located = g.located;
-          locks = held_same kept.site kept.hash kept.segment kept.held v u refl refl g.locks;
+          locks = held_same kept.site kept.hash kept.segment kept.held v u refl refl refl g.locks;
           quiet = record { dirty = g.quiet.dirty; flushed = g.quiet.flushed; planned = g.quiet.planned; moving = g.quiet.moving; owed = g.quiet.owed };
         }),
         subst (λ (o : Option (Reply × ℕ)). EntersReply (call_of kept.change) o before u) (sym (ap reply_of (giving_outcome kept.held (ending.Replied reply.Spent n))))
@@ -71,7 +71,7 @@ module _ (site : Site) (kept : Kept) (before v : View) where
       } in (
         give_suits site kept (ending.Replied reply.Done n) u (record {
           located = d.all.located;
-          locks = held_same kept.site kept.hash kept.segment kept.held v u refl refl d.all.locks;
+          locks = held_same kept.site kept.hash kept.segment kept.held v u refl refl refl d.all.locks;
           quiet = record {
             dirty = nothing_left v.dirty (λ p h. d.settled p (inl h));
             flushed = nothing_left v.flushed (λ p h. d.settled p (inr h));
@@ -111,17 +111,14 @@ module _ (site : Site) (kept : Kept) (before v : View) where
       )
 
 -- ---- a bucket
-pub fill_guard : (site : Site) (kept : Kept) (v : View) (d : Direction) (load : Load) → SuitsStep site kept (Fill d load) v → IsGuarded v.held (lock_of kept (target_of d) + load.next % 32)
+pub fill_guard : (site : Ground) (kept : Kept) (v : View) (d : Direction) (load : Load) → SuitsStep site kept (Fill d load) v → IsGuarded v.held (lock_of kept (target_of d) + load.next % 32)
 fill_guard site kept v d load suits = learn_may site (lock_of kept (target_of d)) load v suits.2 (held_has kept.site kept.hash kept.segment kept.held (target_of d) v suits.0.locks suits.0.third)
 
-module _ (site : Site) (kept : Kept) (words : Words) (views : List View) (j : ℕ) (before v : View) (h : Holds site words views) (at : At views j v) where
-  new : IsNewest site v words
-  new = newest_is site words views j v h at
-
+module _ (site : Ground) (kept : Kept) (words : Words) (views : List View) (j : ℕ) (before v : View) (h : Holds site words views) (at : At views j v) where
   -- what is known then is the newest
   learnt_newest : (d : Direction) (load : Load) (n : ℕ) → n ≡ words (lock_of kept (target_of d) + load.next % 32)
-      → (i x : ℕ) → Has (i, x) (view_after site.shape (kind_at kept (Fill d load)) n v).known → words i ≡ x
-  learnt_newest d load n found i x has = elim has [
+      → IsNewest site v words → (i x : ℕ) → Has (i, x) (view_after site.shape (kind_at kept (Fill d load)) n v).known → words i ≡ x
+  learnt_newest d load n found new i x has = elim has [
     | inl e ↦ ap (λ (p : ℕ × ℕ). words p.0) e ∙ sym found ∙ sym (ap (λ (p : ℕ × ℕ). p.1) e)
     | inr old ↦ new.knows i x old
   ]
@@ -129,11 +126,12 @@ module _ (site : Site) (kept : Kept) (words : Words) (views : List View) (j : �
   fill_goes : HasNoMore before v → (d : Direction) (load : Load) (n : ℕ) → n ≡ words (lock_of kept (target_of d) + load.next % 32) → SuitsStep site kept (Fill d load) v
       → Goes site before (filled_to kept d (load_taken load n)) (view_after site.shape (kind_at kept (Fill d load)) n v)
   fill_goes same d load n found suits =
+      let new : IsNewest site v words = newest_without site words views j v h at suits.0.locks.areas in
       let u : View = view_after site.shape (kind_at kept (Fill d load)) n v in
       let o : MoveOp = filled_to kept d (load_taken load n) in (
         filled_suits site words new.table kept d u
             (learnt_but site kept d (lock_of kept (target_of d) + load.next % 32) n v suits.0 (fill_guard site kept v d load suits)) suits.1 (load_taken load n)
-            (load_stands (lock_of kept (target_of d)) v.known load n suits.2) (learnt_newest d load n found) new.own,
+            (load_stands (lock_of kept (target_of d)) v.known load n suits.2) (learnt_newest d load n found new) new.own,
         none_more (call_of o.kept.change) before v (reply_at o.step) u (filled_quiet kept d (load_taken load n)) same refl refl,
       )
 

@@ -4,12 +4,12 @@ use Rattle.std.specs.Prelude.{⊤, nat_lt, if◌then◌else◌}
 use Rattle.std.proofs.lemmas.Bool.{eq-eqb}
 use Rattle.bucket_meta.specs.Bucket.{record_slots}
 use Rattle.map_model.specs.Changes.{call_of}
-use Rattle.world.specs.Site.{Site}
+use Rattle.world.specs.Ground.{Ground}
 use Rattle.frame_facts.specs.Facts.{Fact}
 use Rattle.world.specs.Views.{Move, View}
 use Rattle.world.specs.Kinds.{of_other_records, view_after}
 use Rattle.world.specs.Attempts.{HasNoMore, EntersReply}
-use Rattle.phase.specs.declared.place.Place.TheVariants.{Home, Probing}
+use Rattle.phase.specs.declared.role.Role.TheVariants.{Home, Probing}
 use Rattle.phase.specs.declared.make.Record.{Record}
 use Rattle.phase.specs.declared.make.Make.{Make}
 use Rattle.phase.specs.declared.make.Make.TheVariants.{Key, Value, Fingers, FlushFingers, FlushRecord, FenceRecord, Publish, FlushPublished, FencePublished}
@@ -35,11 +35,11 @@ use Rattle.move_op.proofs.keeping.Going.{Suits}
 use Rattle.move_op.proofs.keeping.Entering.{reply_at}
 
 -- a machine that a view suits, with its reply entered
-abbrev pub Goes : Site → View → MoveOp → View → Type 0
+abbrev pub Goes : Ground → View → MoveOp → View → Type 0
 Goes site before op u = Suits site op u × EntersReply (call_of op.kept.change) (reply_at op.step) before u
 
 -- ---- what is stored of a shift
-module _ (site : Site) (kept : Kept) (shift : Shift) (is : IsShift site kept shift) where
+module _ (site : Ground) (kept : Kept) (shift : Shift) (is : IsShift site kept shift) where
   slot_by : (leg : Leg) → (record_of (shift_at kept shift.direction is.from is.to) leg).slot < record_slots
   slot_by Copy = is.can.to_low
   slot_by Clear = is.can.from_low
@@ -61,7 +61,7 @@ source_near : (kept : Kept) → IsHeld kept.held Home × IsHeld kept.held Probin
 source_near kept near Forward = near.1
 source_near kept near Backward = near.0
 
-pub leg_held : (site : Site) (kept : Kept) (shift : Shift) (v : View) → HoldsAll site kept shift v → (leg : Leg) → IsHeld kept.held (place_of shift.direction leg)
+pub leg_held : (site : Ground) (kept : Kept) (shift : Shift) (v : View) → HoldsAll site kept shift v → (leg : Leg) → IsHeld kept.held (place_of shift.direction leg)
 leg_held site kept shift v a Copy = a.third
 leg_held site kept shift v a Clear = source_near kept a.near shift.direction
 leg_held site kept shift v a Insert = source_near kept a.near shift.direction
@@ -114,7 +114,7 @@ own_moved : (m : Move) → of_other_records m (m ∷ []) ≡ []
 own_moved m = ap (λ b. cond (b && (m.key == m.key)) [] (m ∷ [])) (eq-eqb m.segment m.segment refl) ∙ ap (λ b. cond b [] (m ∷ [])) (eq-eqb m.key m.key refl)
 
 -- ---- each event
-module _ (site : Site) (kept : Kept) (shift : Shift) (leg : Leg) (before v : View) (same : HasNoMore before v) (n : ℕ) where
+module _ (site : Ground) (kept : Kept) (shift : Shift) (leg : Leg) (before v : View) (same : HasNoMore before v) (n : ℕ) where
   abbrev S : ℕ → Type 0
   S = IsOfHeld kept.site kept.hash kept.segment kept.held
 
@@ -184,7 +184,7 @@ module _ (site : Site) (kept : Kept) (shift : Shift) (leg : Leg) (before v : Vie
   line_by c false making = early_goes FlushFingers c (λ e. cc) FlushRecord tt tt (λ x. tt) making
 
 -- the one store, by what it stores
-module _ (site : Site) (kept : Kept) (shift : Shift) (before v : View) (same : HasNoMore before v) (n : ℕ) where
+module _ (site : Ground) (kept : Kept) (shift : Shift) (before v : View) (same : HasNoMore before v) (n : ℕ) where
   publish_goes : (leg : Leg) → IsShifting site kept shift leg Publish v → Goes site before (go kept (made_to shift leg (On FlushPublished))) (after site kept shift leg before v same n Publish)
   publish_goes Copy c = next_goes site kept shift Copy before v same n Publish c FlushPublished refl (λ x. absurd x) (has_made site kept shift Copy before v same n Publish c)
       (ap (λ ms. moved kept shift ∷ ms) c.moving) c.planned

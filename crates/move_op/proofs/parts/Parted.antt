@@ -1,5 +1,5 @@
 -- A DISPLACEMENT IS A PART of a call.
-use Rattle.std.proofs.Common.{◌≡◌, ◌≢◌, ℕ, ◌^◌, ◌<◌, arith, true, false, Some, refl, sym, ap, ◌∙◌, subst}
+use Rattle.std.proofs.Common.{◌≡◌, ◌≢◌, ℕ, ◌^◌, ◌<◌, arith, inl, true, false, Some, refl, sym, ap, ◌∙◌, subst}
 use Rattle.std.proofs.lemmas.Option.{none-some}
 use Rattle.op_core.specs.declared.want.Want.{Want}
 use Rattle.op_core.specs.declared.want.Want.TheVariants as want
@@ -8,23 +8,24 @@ use Rattle.image_layout.specs.Places.{Shape, IsShape}
 use Rattle.map_model.specs.declared.call.Call.{Call}
 use Rattle.map_model.specs.declared.change.Change.{Change}
 use Rattle.map_model.specs.Changes.{call_of}
-use Rattle.world.specs.declared.site.Site.{Site as Here}
-use Rattle.world.specs.Site.{Site, IsSite}
+use Rattle.world.specs.declared.site.Site.{Site}
+use Rattle.world.specs.Ground.{Ground, IsGround}
 use Rattle.world.specs.Views.{View}
 use Rattle.world.specs.Wants.{answer_to, word_of}
-use Rattle.world.specs.Kinds.{Kind, wanted as wanted_by, view_after}
+use Rattle.world.specs.Kinds.{wanted as wanted_by, view_after}
 use Rattle.world.specs.Attempts.{EntersReply}
 use Rattle.world.proofs.stepping.Answers.{is_word}
+use Rattle.world.proofs.calls.deeds.Calls.{calls_may}
 use Rattle.image_layout.specs.Volatile.{counter_word}
 use Rattle.part.specs.Asks.{IsWithin}
 use Rattle.part.specs.Outcomes.{finished, reply_of}
 use Rattle.part.specs.Part.{KeepsSuits, PlansItsCall, IsPart}
-use Rattle.phase.specs.declared.place.Place.{Place}
+use Rattle.phase.specs.declared.role.Role.{Role}
 use Rattle.phase.specs.declared.kept.Kept.{Kept}
 use Rattle.phase.specs.AreWords.{AreWords}
 use Rattle.phase.specs.Keeps.{KeepsAll, HoldsThirds}
 use Rattle.phase.specs.Buckets.{words_in}
-use Rattle.phase.proofs.Wanting.{HasFlush, is_fence, Cuts}
+use Rattle.phase.proofs.Wanting.{HasFlush, is_fence, cuts_call}
 use Rattle.phase.proofs.locks.Taking.{take_fits}
 use Rattle.phase.proofs.locks.Giving.{give_stands}
 use Rattle.phase.proofs.locks.Making.{make_fits}
@@ -42,6 +43,7 @@ use Rattle.move_op.specs.MovePart.{move_part, MoveBeginsAsPart, MoveBeginsUndeci
 use Rattle.move_op.proofs.Falling.{move_falls, most_at}
 use Rattle.move_op.proofs.Permitting.{may_in}
 use Rattle.move_op.proofs.keeping.Storing.{storing}
+use Rattle.move_op.proofs.keeping.Areas.{no_areas}
 use Rattle.move_op.proofs.keeping.Stepping.{step_in}
 use Rattle.move_op.proofs.parts.Wording.{words_after, same_after}
 use Rattle.move_op.proofs.parts.Putting.{puts_word, asks_within}
@@ -49,7 +51,7 @@ use Rattle.move_op.proofs.parts.Parting.{makes_in, stays_in, done_in, bare_in, f
 
 -- ---- EACH STEP
 -- the event is that of its kind
-wants_in : (site : Site) (kept : Kept) (shape : kept.site.geometry ≡ site.shape) (v : View) (s : MoveStep) → SuitsStep site kept s v → wanted_in kept s ≢ want.Done → wanted_in kept s ≡ wanted_by site.shape (kind_at kept s)
+wants_in : (site : Ground) (kept : Kept) (shape : kept.site.geometry ≡ site.shape) (v : View) (s : MoveStep) → SuitsStep site kept s v → wanted_in kept s ≢ want.Done → wanted_in kept s ≡ wanted_by site.shape (kind_at kept s)
 wants_in site kept shape v (Lock d t) suits asks = take_fits.wants site.shape (lock_of kept (target_of d)) t suits.2
 wants_in site kept shape v (Fill d load) suits asks = refl
 wants_in site kept shape v CountSpent suits asks = ap (λ g. want.Load (counter_word g)) shape
@@ -59,7 +61,7 @@ wants_in site kept shape v (Give held end) suits asks = give_stands.wants site.s
 wants_in site kept shape v (Ended end) suits asks = absurd (asks refl)
 
 -- where it is located, whatever it does
-shape_of : (site : Site) (kept : Kept) (v : View) (s : MoveStep) → SuitsStep site kept s v → wanted_in kept s ≢ want.Done → kept.site.geometry ≡ site.shape
+shape_of : (site : Ground) (kept : Kept) (v : View) (s : MoveStep) → SuitsStep site kept s v → wanted_in kept s ≢ want.Done → kept.site.geometry ≡ site.shape
 shape_of site kept v (Lock d t) suits asks = suits.0.holds.located.shape
 shape_of site kept v (Fill d load) suits asks = suits.0.located.shape
 shape_of site kept v CountSpent suits asks = suits.0.holds.located.shape
@@ -69,13 +71,13 @@ shape_of site kept v (Give held end) suits asks = suits.located.shape
 shape_of site kept v (Ended end) suits asks = absurd (asks refl)
 
 -- what may run goes on so
-goes_on : (site : Site) (here : Here) (call : Call) (kept next : Kept) → MayMakeRoom site here call kept → next.change ≡ kept.change → next.site ≡ kept.site → ((p : Place) → AreWords (words_in next.buckets p))
+goes_on : (site : Ground) (here : Site) (call : Call) (kept next : Kept) → MayMakeRoom site here call kept → next.change ≡ kept.change → next.site ≡ kept.site → ((p : Role) → AreWords (words_in next.buckets p))
     → MayMakeRoom site here call next
 goes_on site here call kept next may change at all = record {
   same = ap call_of change ∙ may.same;
   at = at ∙ may.at;
   key = subst (λ (c : Change). c.key < 2 ^ 64) (sym change) may.key;
-  value = subst (λ (c : Change). brought c.deed < 2 ^ 64) (sym change) may.value;
+  value = subst (λ (c : Change). brought c.effect < 2 ^ 64) (sym change) may.value;
   buckets = all;
 }
 
@@ -91,7 +93,7 @@ steps site here call words views j op before v h at s asks =
     let goes = λ (small : n < 2 ^ 64). step_in site kept words views j before v h at op.step n small refl st.view enters asks in
     record {
       wants = wants_in site kept (shape_of site kept v op.step st.view asks) v op.step st.view asks;
-      may = may_in site here call kept st.may v op.step st.view asks;
+      may = calls_may site (kind_at kept op.step) v (no_areas site kept v op.step st.view) (may_in site here call kept st.may v op.step st.view asks);
       stands = λ small. let all = words_after kept st.may.buckets op.step a (is_word (wanted op) n small) st.load in record {
         may = goes_on site here call kept (taken op a).kept st.may same.0 same.1 all.0;
         load = all.1;
@@ -109,7 +111,7 @@ plans site here call op before v planned s h =
     (got.0 ∙ st.may.same, got.1)
 
 -- it asks for words of the image
-module _ (site : Site) (good : IsSite site) (kept : Kept) (v : View) where
+module _ (site : Ground) (good : IsGround site) (kept : Kept) (v : View) where
   located_within : (s : MoveStep) → kept.site.geometry ≡ site.shape → SuitsStep site kept s v → IsWithin site.shape (wanted_in kept s)
   located_within s shape suits = subst (λ (g : Shape). IsWithin g (wanted_in kept s)) shape (asks_within site kept (subst (λ (g : Shape). IsShape g) (sym shape) good.shape) v s suits)
 
@@ -130,7 +132,7 @@ pub move_is_part : IsPart move_part
 move_is_part = record {
   steps = steps;
   ends = λ site here call op v st over closed. bare_in site op.kept v op.step st.view over closed;
-  time = record { falls = move_falls; most = λ op. most_at op.step };
+  time = record { falls = λ op a i. inl (move_falls op a i); most = λ op. most_at op.step };
   within = λ site here call op before v good s. within_at site good op.kept v op.step s.stands.view;
   words = λ site here call op before v s. puts_word site here call op.kept s.stands.may v op.step s.stands.view;
   flushes = record {
@@ -145,7 +147,7 @@ move_is_part = record {
   };
   plans = plans;
   hands = λ op h. hands_at op.kept op.step h;
-  power = λ op n e. on_in op.kept op.step (subst (λ (k : Kind). Cuts k) (sym e) tt);
+  power = λ op n e. on_in op.kept op.step (cuts_call (kind_at op.kept op.step) e);
 }
 
 -- ---- where it begins, and how it never ends
@@ -170,6 +172,6 @@ pub never_finished : MoveNeverFinished
 never_finished op some = never_in op.step some
 
 -- where it hands on
-pub end_keeps : (site : Site) (kept : Kept) (v : View) (s : MoveStep) → SuitsStep site kept s v → is_without_move s ≡ true → KeepsAll site kept v × HoldsThirds kept.held
+pub end_keeps : (site : Ground) (kept : Kept) (v : View) (s : MoveStep) → SuitsStep site kept s v → is_without_move s ≡ true → KeepsAll site kept v × HoldsThirds kept.held
 end_keeps site kept v (Ended ends.NoMove) suits is = suits
 end_keeps site kept v s suits is = absurd (let f : false ≡ true = is in cc)

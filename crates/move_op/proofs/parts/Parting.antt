@@ -9,13 +9,13 @@ use Rattle.map_model.specs.declared.call.Call.{Call}
 use Rattle.map_model.specs.declared.entry.Reply.{Reply}
 use Rattle.map_model.specs.declared.entry.Reply.TheVariants as reply
 use Rattle.map_model.specs.Changes.{call_of}
-use Rattle.world.specs.Site.{Site}
+use Rattle.world.specs.Ground.{Ground}
 use Rattle.world.specs.Views.{View, Has}
 use Rattle.world.specs.Wants.{answer_to}
 use Rattle.world.specs.Pairs.{IsPublishingKind}
 use Rattle.world.specs.Attempts.{HoldsOnly, EntersReply}
 use Rattle.part.specs.Outcomes.{IsDone, replied, reply_of}
-use Rattle.phase.specs.declared.place.Place.{Place}
+use Rattle.phase.specs.declared.role.Role.{Role}
 use Rattle.phase.specs.declared.make.Make.{Make}
 use Rattle.phase.specs.declared.make.Make.TheVariants as make
 use Rattle.phase.specs.declared.make.Made.TheVariants as made
@@ -70,7 +70,7 @@ module _ (kept : Kept) where
   makes_in (Ended end) n p = absurd p
 
   -- ---- and it stays made
-  given_made : (next : Option (Place × ℕ)) (held : Held) (answer : Reply) (place : ℕ) → IsDone answer → HasMadeAt (given_by next held (ending.Replied answer place))
+  given_made : (next : Option (Role × ℕ)) (held : Held) (answer : Reply) (place : ℕ) → IsDone answer → HasMadeAt (given_by next held (ending.Replied answer place))
   given_made (Some next) held answer place d = d
   given_made None held answer place d = d
 
@@ -108,13 +108,13 @@ done_in kept (Give held end) d over = done_then end d
 done_in kept s d over = absurd (no ((over_done kept s).1 over))
 
 -- ---- ends
-end_bare : (site : Site) (kept : Kept) (v : View) (end : MoveEnd) → SuitsStep site kept (Ended end) v → is_without_move (Ended end) ≡ false → HoldsOnly [] v
+end_bare : (site : Ground) (kept : Kept) (v : View) (end : MoveEnd) → SuitsStep site kept (Ended end) v → is_without_move (Ended end) ≡ false → HoldsOnly [] v
 end_bare site kept v ends.NoMove suits closed = absurd (let f : true ≡ false = closed in cc)
 end_bare site kept v (ends.Replied answer place) suits closed = suits
 end_bare site kept v (ends.Again why) suits closed = suits
 end_bare site kept v ends.Off suits closed = suits
 
-pub bare_in : (site : Site) (kept : Kept) (v : View) (s : MoveStep) → SuitsStep site kept s v → wanted_in kept s ≡ want.Done → is_without_move s ≡ false → HoldsOnly [] v
+pub bare_in : (site : Ground) (kept : Kept) (v : View) (s : MoveStep) → SuitsStep site kept s v → wanted_in kept s ≡ want.Done → is_without_move s ≡ false → HoldsOnly [] v
 bare_in site kept v (Ended end) suits over closed = end_bare site kept v end suits closed
 bare_in site kept v (Give held end) suits over closed = give_stands.ends kept.site kept.hash kept.segment held v suits.locks suits.quiet over
 bare_in site kept v s suits over closed = absurd (no ((over_done kept s).1 over))
@@ -191,7 +191,7 @@ module _ (kept : Kept) where
   on_in (Ended end) p = p
 
 -- ---- what is planned
-module _ (site : Site) (kept : Kept) (before v : View) (x : Call) where
+module _ (site : Ground) (kept : Kept) (before v : View) (x : Call) where
   make_planned : (shift : Shift) (leg : Leg) (m : Make) → Has x (planned_at kept shift leg m) → x ≡ call_of kept.change
   make_planned shift Insert make.FlushPublished h = one_has (call_of kept.change) x h
   make_planned shift Insert make.FencePublished h = one_has (call_of kept.change) x h

@@ -7,17 +7,17 @@ use Rattle.hash_word.specs.Hash.{finger_of}
 use Rattle.bucket_meta.specs.Bucket.{record_slots}
 use Rattle.bucket_meta.specs.Marks.{finger_place, removed_mark}
 use Rattle.bucket_meta.proofs.Fingers.{finger_below}
-use Rattle.bucket_meta.proofs.Uppers.{removed_fits}
+use Rattle.bucket_meta.proofs.fields.Uppers.{removed_fits}
 use Rattle.trace.specs.Events.{line_of}
 use Rattle.image_layout.specs.Places.{Shape, IsShape, words_of}
 use Rattle.image_layout.specs.Volatile.{all_words_of}
 use Rattle.map_model.specs.declared.call.Call.{Call}
-use Rattle.world.specs.declared.site.Site.{Site as Here}
-use Rattle.world.specs.Site.{Site}
+use Rattle.world.specs.declared.site.Site.{Site}
+use Rattle.world.specs.Ground.{Ground}
 use Rattle.world.specs.Views.{View}
 use Rattle.world.specs.Wants.{word_of}
 use Rattle.part.specs.Asks.{IsWithin, PutsWord}
-use Rattle.phase.specs.declared.place.Place.{Place}
+use Rattle.phase.specs.declared.role.Role.{Role}
 use Rattle.phase.specs.declared.take.Take.{Take}
 use Rattle.phase.specs.declared.take.Take.TheVariants.{Look, Try}
 use Rattle.phase.specs.declared.make.Record.{Record}
@@ -29,7 +29,7 @@ use Rattle.phase.specs.Makes.{make_wanted}
 use Rattle.phase.specs.Helds.{give_next, give_wanted_of}
 use Rattle.phase.specs.Buckets.{words_in}
 use Rattle.phase.specs.Giving.{IsLocated}
-use Rattle.phase.proofs.Asking.{lock_within}
+use Rattle.phase.proofs.asking.Asking.{lock_within}
 use Rattle.phase.proofs.Wanting.{number_of, take_small, give_small}
 use Rattle.phase.proofs.locks.Giving.{lock_at as lock_stands}
 use Rattle.phase.proofs.locks.Storing.{place_near}
@@ -53,7 +53,7 @@ pub record IsSmall (r : Record) : Type 0 where
   pub fingers : r.fingers < 2 ^ 64
   pub mark : r.mark < 2 ^ 64
 
-module _ (site : Site) (here : Here) (call : Call) (kept : Kept) (may : MayMakeRoom site here call kept) where
+module _ (site : Ground) (here : Site) (call : Call) (kept : Kept) (may : MayMakeRoom site here call kept) where
   module _ (d : Direction) (from to : ℕ) (can : CanMove site kept d from to) where
     small_by : (leg : Leg) → IsSmall (record_of (shift_at kept d from to) leg)
     small_by Copy = record {
@@ -110,15 +110,15 @@ module _ (site : Site) (here : Here) (call : Call) (kept : Kept) (may : MayMakeR
       }
 
 -- ---- words of the image
-module _ (site : Site) (kept : Kept) (shape : IsShape kept.site.geometry) where
+module _ (site : Ground) (kept : Kept) (shape : IsShape kept.site.geometry) where
   abbrev g : Shape
   g = kept.site.geometry
 
   -- a word of one of the buckets
-  here_within : (p : Place) (n : ℕ) → n < 32 → lock_of kept p + n < all_words_of g
+  here_within : (p : Role) (n : ℕ) → n < 32 → lock_of kept p + n < all_words_of g
   here_within p n low = let w = lock_within kept.site kept.hash kept.segment shape p n low in omega (arith, w)
 
-  make_within : (p : Place) (r : Record) (m : Make) → r.slot < record_slots → r.published ≡ 1 → word_of g (make_wanted (lock_of kept p) r m) < all_words_of g
+  make_within : (p : Role) (r : Record) (m : Make) → r.slot < record_slots → r.published ≡ 1 → word_of g (make_wanted (lock_of kept p) r m) < all_words_of g
   make_within p r make.Key low one = let w = here_within p (4 + 2 * r.slot) (omega (arith, low)) in omega (arith, w)
   make_within p r make.Value low one = let w = here_within p (5 + 2 * r.slot) (omega (arith, low)) in omega (arith, w)
   make_within p r make.Fingers low one = let near = place_near r.slot in here_within p (finger_place r.slot) (let z = near.1 in omega (arith, z))
@@ -129,11 +129,11 @@ module _ (site : Site) (kept : Kept) (shape : IsShape kept.site.geometry) where
   make_within p r make.FlushPublished low one = let w = here_within p r.published (omega (arith, one)) in omega (arith, w)
   make_within p r make.FencePublished low one = omega arith
 
-  take_within : (p : Place) (t : Take) → word_of g (take_wanted (lock_of kept p) t) < all_words_of g
+  take_within : (p : Role) (t : Take) → word_of g (take_wanted (lock_of kept p) t) < all_words_of g
   take_within p Look = let w = here_within p 0 (omega arith) in omega (arith, w)
   take_within p (Try free) = let w = here_within p 0 (omega arith) in omega (arith, w)
 
-  give_within : (next : Option (Place × ℕ)) → word_of g (give_wanted_of kept.site kept.hash kept.segment next) < all_words_of g
+  give_within : (next : Option (Role × ℕ)) → word_of g (give_wanted_of kept.site kept.hash kept.segment next) < all_words_of g
   give_within (Some next) = let w = here_within next.0 0 (omega arith) in omega (arith, w)
   give_within None = omega arith
 
@@ -151,24 +151,24 @@ module _ (site : Site) (kept : Kept) (shape : IsShape kept.site.geometry) where
   HasLine (want.Flush l) = 8 * l + 8 ≤ words_of g
   HasLine w = ⊤
 
-  line_here : IsLocated site kept.site kept.segment → (p : Place) (k : ℕ) → k < 32 → 8 * line_of (lock_of kept p + k) + 8 ≤ words_of g
+  line_here : IsLocated site kept.site kept.segment → (p : Role) (k : ℕ) → k < 32 → 8 * line_of (lock_of kept p + k) + 8 ≤ words_of g
   line_here at p k low =
       let e = lock_stands site kept.site kept.hash kept.segment at p in
       let w = lock_within kept.site kept.hash kept.segment shape p 31 (omega arith) in
       let even : lock_of kept p % 32 ≡ 0 = omega (arith, e) in
       omega (arith, even, w, low)
 
-  make_line : IsLocated site kept.site kept.segment → (p : Place) (r : Record) (m : Make) → r.slot < record_slots → r.published ≡ 1 → HasLine (make_wanted (lock_of kept p) r m)
+  make_line : IsLocated site kept.site kept.segment → (p : Role) (r : Record) (m : Make) → r.slot < record_slots → r.published ≡ 1 → HasLine (make_wanted (lock_of kept p) r m)
   make_line at p r make.FlushFingers low one = let near = place_near r.slot in line_here at p (finger_place r.slot) (let z = near.1 in omega (arith, z))
   make_line at p r make.FlushRecord low one = subst (λ x. 8 * line_of x + 8 ≤ words_of g) (omega arith) (line_here at p (4 + 2 * r.slot) (omega (arith, low)))
   make_line at p r make.FlushPublished low one = line_here at p r.published (omega (arith, one))
   make_line at p r m low one = tt
 
-  take_line : (p : Place) (t : Take) → HasLine (take_wanted (lock_of kept p) t)
+  take_line : (p : Role) (t : Take) → HasLine (take_wanted (lock_of kept p) t)
   take_line p Look = tt
   take_line p (Try free) = tt
 
-  give_line : (next : Option (Place × ℕ)) → HasLine (give_wanted_of kept.site kept.hash kept.segment next)
+  give_line : (next : Option (Role × ℕ)) → HasLine (give_wanted_of kept.site kept.hash kept.segment next)
   give_line (Some next) = tt
   give_line None = tt
 

@@ -3,7 +3,7 @@ use Rattle.std.proofs.Common.{◌≡◌, ℕ, Option, Some, None, refl}
 use Rattle.op_core.specs.declared.want.Ans.{Ans}
 use Rattle.op_core.specs.declared.want.Ans.TheVariants.{Value, Passed, Drawn}
 use Rattle.op_core.specs.Answers.{IsWord}
-use Rattle.phase.specs.declared.place.Place.{Place}
+use Rattle.phase.specs.declared.role.Role.{Role}
 use Rattle.phase.specs.declared.take.Taken.{Taken}
 use Rattle.phase.specs.declared.take.Taken.TheVariants as taking
 use Rattle.phase.specs.declared.load.Loaded.{Loaded}
@@ -34,9 +34,9 @@ use Rattle.move_op.specs.Steps.{given_by, give, locked_to, chosen, filled_to, ma
 use Rattle.move_op.specs.Fits.{HasWordsAt}
 
 abbrev Words : MoveOp → Type 0
-Words op = ((p : Place) → AreWords (words_in op.kept.buckets p)) × HasWordsAt op.step
+Words op = ((p : Role) → AreWords (words_in op.kept.buckets p)) × HasWordsAt op.step
 
-by_next : (next : Option (Place × ℕ)) (held : Held) (end : Ending) → HasWordsAt (given_by next held end)
+by_next : (next : Option (Role × ℕ)) (held : Held) (end : Ending) → HasWordsAt (given_by next held end)
 by_next (Some next) held end = tt
 by_next None held end = tt
 
@@ -51,7 +51,7 @@ made_words shift Copy made.Settled = tt
 made_words shift Clear made.Settled = tt
 made_words shift Insert made.Settled = tt
 
-module _ (kept : Kept) (all : (p : Place) → AreWords (words_in kept.buckets p)) where
+module _ (kept : Kept) (all : (p : Role) → AreWords (words_in kept.buckets p)) where
   give_words : (end : Ending) → Words (give kept end)
   give_words end = (all, by_next (give_next kept.held) kept.held end)
 

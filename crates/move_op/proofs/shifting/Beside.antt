@@ -5,8 +5,8 @@ use Rattle.bucket_meta.specs.Marks.{finger_place}
 use Rattle.trace.specs.Events.{Words}
 use Rattle.trace.proofs.Replaced.{replaced_other}
 use Rattle.image_layout.specs.Places.{head_at, bucket_at}
-use Rattle.world.specs.Site.{Site}
-use Rattle.phase.specs.declared.place.Place.{Place}
+use Rattle.world.specs.Ground.{Ground}
+use Rattle.phase.specs.declared.role.Role.{Role}
 use Rattle.phase.specs.declared.make.Record.{Record}
 use Rattle.phase.specs.declared.kept.Kept.{Kept}
 use Rattle.phase.specs.Places.{bucket_of}
@@ -29,31 +29,31 @@ value_place a t = omega arith
 one_bucket : (f b c m n : ℕ) → m < 32 → n < 32 → f + 32 + 32 * b + m ≡ f + 32 + 32 * c + n → b ≡ c
 one_bucket f b c m n lm ln e = omega (arith, lm, ln, e)
 
-module _ (site : Site) (kept : Kept) (l : IsLocated site kept.site kept.segment) where
+module _ (site : Ground) (kept : Kept) (l : IsLocated site kept.site kept.segment) where
   -- where a bucket begins
-  abbrev pub at : Place → ℕ
+  abbrev pub at : Role → ℕ
   at place = bucket_at site.shape kept.segment (bucket_of kept.hash place)
 
-  pub at_is : (place : Place) → lock_of kept place ≡ at place
+  pub at_is : (place : Role) → lock_of kept place ≡ at place
   at_is place = lock_at site kept.site kept.hash kept.segment l place
 
   -- the words as they are kept
-  pub kept_here : (place : Place) (j : ℕ) → 1 ≤ j → j < 32 → kept_words kept (lock_of kept place + j) ≡ slice_index (words_in kept.buckets place) j
+  pub kept_here : (place : Role) (j : ℕ) → 1 ≤ j → j < 32 → kept_words kept (lock_of kept place + j) ≡ slice_index (words_in kept.buckets place) j
   kept_here place j from low = words_stand site kept.site kept.hash kept.segment kept.buckets place l j from low
 
-  pub kept_at : (place : Place) (j : ℕ) → 1 ≤ j → j < 32 → kept_words kept (at place + j) ≡ slice_index (words_in kept.buckets place) j
+  pub kept_at : (place : Role) (j : ℕ) → 1 ≤ j → j < 32 → kept_words kept (at place + j) ≡ slice_index (words_in kept.buckets place) j
   kept_at place j from low = subst (λ z. kept_words kept (z + j) ≡ slice_index (words_in kept.buckets place) j) (at_is place) (kept_here place j from low)
 
   -- a word of one bucket is none of another
-  pub apart : (place other : Place) (j n : ℕ) → place ≢ other → j < 32 → n < 32 → at place + j ≡ lock_of kept other + n → ⊥
+  pub apart : (place other : Role) (j n : ℕ) → place ≢ other → j < 32 → n < 32 → at place + j ≡ lock_of kept other + n → ⊥
   apart place other j n differ lj ln e =
       let same : bucket_of kept.hash place ≡ bucket_of kept.hash other =
       one_bucket (head_at site.shape kept.segment) (bucket_of kept.hash place) (bucket_of kept.hash other) j n lj ln (e ∙ ap (λ z. z + n) (at_is other)) in
       locks_apart site kept.site kept.hash kept.segment l place other differ (at_is place ∙ ap (λ b. bucket_at site.shape kept.segment b) same ∙ sym (at_is other))
 
   -- ---- a record is prepared in the bucket of a place
-  module _ (other : Place) (written : Record) (slot : written.slot < record_slots) (word : Words) where
-    pub recorded_beside : (place : Place) (j : ℕ) → place ≢ other → j < 32 → with_record (lock_of kept other) written word (at place + j) ≡ word (at place + j)
+  module _ (other : Role) (written : Record) (slot : written.slot < record_slots) (word : Words) where
+    pub recorded_beside : (place : Role) (j : ℕ) → place ≢ other → j < 32 → with_record (lock_of kept other) written word (at place + j) ≡ word (at place + j)
     recorded_beside place j differ low =
         let near = place_near written.slot in
         replaced_other (with_value (lock_of kept other) written word) (fingers_at (lock_of kept other) written) written.fingers (at place + j)
@@ -64,7 +64,7 @@ module _ (site : Site) (kept : Kept) (l : IsLocated site kept.site kept.segment)
         (λ e. apart place other j (4 + 2 * written.slot) differ low (omega (arith, slot)) (e ∙ key_place (lock_of kept other) written.slot))
 
   -- ---- and counts
-  module _ (other : Place) (written : Record) (one : written.published ≡ 1) (word : Words) where
-    pub marked_beside : (place : Place) (j : ℕ) → place ≢ other → j < 32 → with_mark (lock_of kept other) written word (at place + j) ≡ word (at place + j)
+  module _ (other : Role) (written : Record) (one : written.published ≡ 1) (word : Words) where
+    pub marked_beside : (place : Role) (j : ℕ) → place ≢ other → j < 32 → with_mark (lock_of kept other) written word (at place + j) ≡ word (at place + j)
     marked_beside place j differ low = replaced_other word (published_at (lock_of kept other) written) written.mark (at place + j)
         (λ e. apart place other j 1 differ low (omega arith) (e ∙ ap (λ n. lock_of kept other + n) one))

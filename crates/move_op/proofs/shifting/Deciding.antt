@@ -10,7 +10,7 @@ use Rattle.sound_image.specs.Records.{key_hash}
 use Rattle.bucket_words.specs.Hits.{Hit}
 use Rattle.bucket_words.specs.Owners.{owner_of}
 use Rattle.bucket_words.specs.Standing.{IsRight, IsTable}
-use Rattle.world.specs.Site.{Site}
+use Rattle.world.specs.Ground.{Ground}
 use Rattle.phase.specs.declared.kept.Kept.{Kept}
 use Rattle.phase.specs.Places.{bucket_of}
 use Rattle.phase.specs.Buckets.{words_in}
@@ -51,7 +51,7 @@ home_is Backward hash g bit is stands = elim stands [
   ]
 ]
 
-module _ (site : Site) (kept : Kept) (d : Direction) (l : IsLocated site kept.site kept.segment) (words : Words) (table : IsTable site.shape words)
+module _ (site : Ground) (kept : Kept) (d : Direction) (l : IsLocated site kept.site kept.segment) (words : Words) (table : IsTable site.shape words)
     (own : (r k : ℕ) → Hit site.shape words kept.segment (bucket_of kept.hash (source_of d)) r k → owner_of site.shape words (key_hash site.shape k) ≡ Some kept.segment)
     (newest : (j : ℕ) → 1 ≤ j → j < 32 → words (at site kept l (source_of d) + j) ≡ slice_index (words_in kept.buckets (source_of d)) j) where
   abbrev source : List ℕ

@@ -4,7 +4,7 @@ use Rattle.hash_word.specs.Hash.{home_of, probing_of, next_of}
 use Rattle.bucket_meta.specs.Bucket.{allocated, member}
 use Rattle.bucket_meta.specs.Marks.{SameButSlot}
 use Rattle.bucket_meta.proofs.Marks.{takes_slot, takes_slot_as_member}
-use Rattle.bucket_meta.proofs.Uppers.{inserted_upper, member_upper, inserted_fits, member_fits}
+use Rattle.bucket_meta.proofs.fields.Uppers.{inserted_upper, member_upper, inserted_fits, member_fits}
 use Rattle.image_layout.specs.Places.{Shape}
 use Rattle.sound_image.specs.Records.{key_hash}
 use Rattle.bucket_words.specs.Standing.{StandsAt}

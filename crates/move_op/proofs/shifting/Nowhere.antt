@@ -6,14 +6,14 @@ use Rattle.bucket_meta.specs.Bucket.{allocated, overflow_count}
 use Rattle.bucket_meta.specs.Notes.{how_often}
 use Rattle.bucket_meta.specs.Marks.{removed_mark}
 use Rattle.bucket_meta.proofs.Marks.{frees_slot}
-use Rattle.bucket_meta.proofs.Uppers.{removed_upper}
+use Rattle.bucket_meta.proofs.fields.Uppers.{removed_upper}
 use Rattle.trace.specs.Events.{Words, with_word}
 use Rattle.bucket_words.specs.Hits.{Hit}
 use Rattle.bucket_words.specs.HomeNotes.{IsUnnoted}
 use Rattle.bucket_words.proofs.segments.Noted.{notes_same}
-use Rattle.world.specs.Site.{Site}
-use Rattle.phase.specs.declared.place.Place.{Place}
-use Rattle.phase.specs.declared.place.Place.TheVariants.{Home, Probing}
+use Rattle.world.specs.Ground.{Ground}
+use Rattle.phase.specs.declared.role.Role.{Role}
+use Rattle.phase.specs.declared.role.Role.TheVariants.{Home, Probing}
 use Rattle.phase.specs.declared.held.Held.{Held}
 use Rattle.phase.specs.declared.kept.Kept.{Kept}
 use Rattle.phase.specs.Places.{bucket_of, is_third}
@@ -23,7 +23,7 @@ use Rattle.phase.specs.Giving.{IsLocated}
 use Rattle.phase.specs.Finding.{SparesStash, StandsNowhere}
 use Rattle.phase.specs.Keeps.{kept_words}
 use Rattle.phase.specs.AreWords.{AreWords}
-use Rattle.phase.proofs.Asked.{cases_place}
+use Rattle.phase.proofs.asking.Asked.{cases_place}
 use Rattle.phase.proofs.locks.Giving.{bucket_near}
 use Rattle.phase.proofs.locks.Finding.{prepared_nowhere, publish_tells}
 use Rattle.move_op.specs.declared.step.Direction.{Direction}
@@ -36,14 +36,14 @@ use Rattle.move_op.proofs.shifting.Beside.{key_place, at, at_is, kept_at, marked
 use Rattle.move_op.proofs.shifting.Stored.{leaves, copy_beside, clear_meta, clear_rest, insert_fits}
 
 -- a third bucket is none where the key may stand
-pub not_third : (d : Direction) (place : Place) → is_third place ≡ false → place ≢ target_of d
+pub not_third : (d : Direction) (place : Role) → is_third place ≡ false → place ≢ target_of d
 not_third Forward place near e = absurd (let f : true ≡ false = sym (ap is_third e) ∙ near in cc)
 not_third Backward place near e = absurd (let f : true ≡ false = sym (ap is_third e) ∙ near in cc)
 
 -- words that are as others in all buckets but the third ones
-module _ (site : Site) (kept : Kept) (l : IsLocated site kept.site kept.segment) (held : Held) (word other : Words)
-    (same : (place : Place) → is_third place ≡ false → (j : ℕ) → 1 ≤ j → j < 32 → other (at site kept l place + j) ≡ word (at site kept l place + j)) where
-  hits_same : (place : Place) → is_third place ≡ false → (t k : ℕ) → Hit site.shape other kept.segment (bucket_of kept.hash place) t k → Hit site.shape word kept.segment (bucket_of kept.hash place) t k
+module _ (site : Ground) (kept : Kept) (l : IsLocated site kept.site kept.segment) (held : Held) (word other : Words)
+    (same : (place : Role) → is_third place ≡ false → (j : ℕ) → 1 ≤ j → j < 32 → other (at site kept l place + j) ≡ word (at site kept l place + j)) where
+  hits_same : (place : Role) → is_third place ≡ false → (t k : ℕ) → Hit site.shape other kept.segment (bucket_of kept.hash place) t k → Hit site.shape word kept.segment (bucket_of kept.hash place) t k
   hits_same place near t k h = let low = h.slot in record {
     segment = h.segment;
     bucket = h.bucket;
@@ -69,7 +69,7 @@ module _ (site : Site) (kept : Kept) (l : IsLocated site kept.site kept.segment)
   }
 
 -- ---- at each store
-module _ (site : Site) (kept : Kept) (d : Direction) (from to : ℕ) (l : IsLocated site kept.site kept.segment) (can : CanMove site kept d from to) (all : (place : Place) → AreWords (words_in kept.buckets place)) where
+module _ (site : Ground) (kept : Kept) (d : Direction) (from to : ℕ) (l : IsLocated site kept.site kept.segment) (can : CanMove site kept d from to) (all : (place : Role) → AreWords (words_in kept.buckets place)) where
   abbrev shift : Shift
   shift = shift_at kept d from to
 
@@ -115,7 +115,7 @@ module _ (site : Site) (kept : Kept) (d : Direction) (from to : ℕ) (l : IsLoca
         ∙ sym (ap (with_clearing kept shift) (key_place (at site kept l (source_of d)) t)) ∙ h.key;
   }
 
-  other_hits : (place : Place) → place ≢ source_of d → (t k : ℕ) → Hit site.shape (with_clearing kept shift) kept.segment (bucket_of kept.hash place) t k
+  other_hits : (place : Role) → place ≢ source_of d → (t k : ℕ) → Hit site.shape (with_clearing kept shift) kept.segment (bucket_of kept.hash place) t k
       → Hit site.shape (with_copy kept shift) kept.segment (bucket_of kept.hash place) t k
   other_hits place differ t k h =
       let low = h.slot in
@@ -129,11 +129,11 @@ module _ (site : Site) (kept : Kept) (d : Direction) (from to : ℕ) (l : IsLoca
             ∙ sym (ap (with_clearing kept shift) (key_place (at site kept l place) t)) ∙ h.key;
       }
 
-  clear_hits : (place : Place) (t k : ℕ) → Hit site.shape (with_clearing kept shift) kept.segment (bucket_of kept.hash place) t k
+  clear_hits : (place : Role) (t k : ℕ) → Hit site.shape (with_clearing kept shift) kept.segment (bucket_of kept.hash place) t k
       → Hit site.shape (with_copy kept shift) kept.segment (bucket_of kept.hash place) t k
   clear_hits place t k h = elim (cases_place place (source_of d)) [
-    | inl e ↦ subst (λ (p : Place). Hit site.shape (with_copy kept shift) kept.segment (bucket_of kept.hash p) t k) (sym e)
-        (source_hits t k (subst (λ (p : Place). Hit site.shape (with_clearing kept shift) kept.segment (bucket_of kept.hash p) t k) e h))
+    | inl e ↦ subst (λ (p : Role). Hit site.shape (with_copy kept shift) kept.segment (bucket_of kept.hash p) t k) (sym e)
+        (source_hits t k (subst (λ (p : Role). Hit site.shape (with_clearing kept shift) kept.segment (bucket_of kept.hash p) t k) e h))
     | inr n ↦ other_hits place (λ e. n (ap index e)) t k h
   ]
 

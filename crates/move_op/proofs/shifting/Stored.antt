@@ -5,16 +5,16 @@ use Rattle.hash_word.specs.Hash.{finger_of}
 use Rattle.bucket_meta.specs.Bucket.{allocated, member, finger}
 use Rattle.bucket_meta.specs.Marks.{finger_place, with_finger, removed_mark}
 use Rattle.bucket_meta.proofs.Marks.{frees_slot}
-use Rattle.bucket_meta.proofs.Uppers.{removed_upper, removed_fits}
+use Rattle.bucket_meta.proofs.fields.Uppers.{removed_upper, removed_fits}
 use Rattle.trace.specs.Events.{Words, with_word}
 use Rattle.trace.proofs.Replaced.{replaced_same, replaced_other}
 use Rattle.sound_image.specs.Records.{key_hash}
 use Rattle.bucket_words.specs.Buckets.{value_in}
 use Rattle.bucket_words.specs.Hits.{Hit}
 use Rattle.bucket_words.specs.TableChanges.{IsReadyAt}
-use Rattle.world.specs.Site.{Site}
+use Rattle.world.specs.Ground.{Ground}
 use Rattle.world.specs.Holders.{TakesSlot, FreesSlot}
-use Rattle.phase.specs.declared.place.Place.{Place}
+use Rattle.phase.specs.declared.role.Role.{Role}
 use Rattle.phase.specs.declared.kept.Kept.{Kept}
 use Rattle.phase.specs.Places.{bucket_of}
 use Rattle.phase.specs.Buckets.{words_in}
@@ -40,7 +40,7 @@ pub leaves : (d : Direction) → source_of d ≢ target_of d
 leaves Forward e = cc
 leaves Backward e = cc
 
-module _ (site : Site) (kept : Kept) (d : Direction) (from to : ℕ) (l : IsLocated site kept.site kept.segment) (can : CanMove site kept d from to) (all : (place : Place) → AreWords (words_in kept.buckets place)) where
+module _ (site : Ground) (kept : Kept) (d : Direction) (from to : ℕ) (l : IsLocated site kept.site kept.segment) (can : CanMove site kept d from to) (all : (place : Role) → AreWords (words_in kept.buckets place)) where
   abbrev shift : Shift
   shift = shift_at kept d from to
 
@@ -91,10 +91,10 @@ module _ (site : Site) (kept : Kept) (d : Direction) (from to : ℕ) (l : IsLoca
       ∙ kept_here site kept l (target_of d) 1 (omega arith) (omega arith)
 
   -- the words of another bucket
-  pub ready_beside : (place : Place) (j : ℕ) → place ≢ target_of d → 1 ≤ j → j < 32 → with_copy_ready kept shift (at site kept l place + j) ≡ slice_index (words_in kept.buckets place) j
+  pub ready_beside : (place : Role) (j : ℕ) → place ≢ target_of d → 1 ≤ j → j < 32 → with_copy_ready kept shift (at site kept l place + j) ≡ slice_index (words_in kept.buckets place) j
   ready_beside place j differ some low = recorded_beside site kept l (target_of d) shift.copy can.to_low (kept_words kept) place j differ low ∙ kept_at site kept l place j some low
 
-  pub copy_beside : (place : Place) (j : ℕ) → place ≢ target_of d → 1 ≤ j → j < 32 → with_copy kept shift (at site kept l place + j) ≡ slice_index (words_in kept.buckets place) j
+  pub copy_beside : (place : Role) (j : ℕ) → place ≢ target_of d → 1 ≤ j → j < 32 → with_copy kept shift (at site kept l place + j) ≡ slice_index (words_in kept.buckets place) j
   copy_beside place j differ some low = marked_beside site kept l (target_of d) shift.copy refl (with_copy_ready kept shift) place j differ low ∙ ready_beside place j differ some low
 
   pub copy_value : value_in (with_copy_ready kept shift) (at site kept l (target_of d)) to ≡ value_in (with_copy_ready kept shift) (at site kept l (source_of d)) from
@@ -171,7 +171,7 @@ module _ (site : Site) (kept : Kept) (d : Direction) (from to : ℕ) (l : IsLoca
   insert_meta = ap (λ z. with_insert_ready kept shift (z + 1)) (sym (at_is site kept l (source_of d)))
       ∙ prepares_record.meta site.shape (with_clearing kept shift) kept.segment b from_lock (finger_of kept.hash) shift.insert insert_fits ∙ clear_meta
 
-  pub insert_value : value_in (with_insert_ready kept shift) (at site kept l (source_of d)) from ≡ brought kept.change.deed
+  pub insert_value : value_in (with_insert_ready kept shift) (at site kept l (source_of d)) from ≡ brought kept.change.effect
   insert_value = ap (λ z. value_in (with_insert_ready kept shift) z from) (sym (at_is site kept l (source_of d)))
       ∙ prepares_record.value site.shape (with_clearing kept shift) kept.segment b from_lock (finger_of kept.hash) shift.insert insert_fits
 

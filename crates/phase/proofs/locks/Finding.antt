@@ -16,14 +16,14 @@ use Rattle.bucket_words.specs.Owners.{owner_of}
 use Rattle.bucket_words.specs.TableChanges.{IsReadyAt}
 use Rattle.bucket_words.proofs.segments.Noted.{notes_kept, count_kept}
 use Rattle.bucket_words.proofs.segments.Places.{other_word, this_word}
-use Rattle.world.specs.declared.site.Site.{Site as Here}
-use Rattle.world.specs.Site.{Site, IsUnder}
+use Rattle.world.specs.declared.site.Site.{Site}
+use Rattle.world.specs.Ground.{Ground, IsUnder}
 use Rattle.world.specs.Views.{Owed, View, Has, HasLock}
 use Rattle.world.specs.Conditions.{IsLed, IsKept, IsUnplanned, HasNoted}
 use Rattle.world.specs.Holders.{KnowsBucket, FoundNone, FoundAt, DrawsWell, OwesAsKnown}
-use Rattle.world.proofs.Grounds.{one_lock}
-use Rattle.phase.specs.declared.place.Place.{Place}
-use Rattle.phase.specs.declared.place.Place.TheVariants.{Home, Probing, First, Second, Next, Previous}
+use Rattle.world.proofs.basics.Grounds.{one_lock}
+use Rattle.phase.specs.declared.role.Role.{Role}
+use Rattle.phase.specs.declared.role.Role.TheVariants.{Home, Probing, First, Second, Next, Previous}
 use Rattle.phase.specs.declared.held.Held.{Held}
 use Rattle.phase.specs.declared.kept.Buckets.{Buckets}
 use Rattle.phase.specs.Places.{bucket_of, lock_word}
@@ -38,8 +38,8 @@ use Rattle.phase.proofs.locks.Knowing.{loaded_there, loaded_at, under_at, known_
 use Rattle.phase.proofs.locks.Storing.{hits_back, unnoted_made}
 
 -- ---- the words of the buckets
-module _ (site : Site) (here : Here) (hash segment : ℕ) (bs : Buckets) (l : IsLocated site here segment) where
-  abbrev lock : Place → ℕ
+module _ (site : Ground) (here : Site) (hash segment : ℕ) (bs : Buckets) (l : IsLocated site here segment) where
+  abbrev lock : Role → ℕ
   lock place = lock_word here hash segment place
 
   abbrev word : Words
@@ -62,12 +62,12 @@ module _ (site : Site) (here : Here) (hash segment : ℕ) (bs : Buckets) (l : Is
   five = with_loaded (lock Probing) bs.probing four
 
   -- a word of one bucket is none of another
-  away : (place other : Place) → (other ≡ place → ⊥) → (ws : List ℕ) (w : Words) (j : ℕ) → 1 ≤ j → j < 32 → with_loaded (lock other) ws w (lock place + j) ≡ w (lock place + j)
+  away : (place other : Role) → (other ≡ place → ⊥) → (ws : List ℕ) (w : Words) (j : ℕ) → 1 ≤ j → j < 32 → with_loaded (lock other) ws w (lock place + j) ≡ w (lock place + j)
   away place other apart ws w j from low = loaded_there (lock other) ws w (lock place + j) (λ under.
       locks_apart site here hash segment l other place apart
       (one_lock site.shape (lock other) (lock place) (lock place + j) (is_lock site here hash segment l other) (is_lock site here hash segment l place) under (omega (arith, from), omega (arith, low))))
 
-  pub words_stand_at : (place : Place) (j : ℕ) → 1 ≤ j → j < 32 → word (lock place + j) ≡ slice_index (words_in bs place) j
+  pub words_stand_at : (place : Role) (j : ℕ) → 1 ≤ j → j < 32 → word (lock place + j) ≡ slice_index (words_in bs place) j
   words_stand_at Home j from low = loaded_at (lock Home) bs.home five j from low
   words_stand_at Probing j from low = away Probing Home (λ e. cc) bs.home five j from low ∙ loaded_at (lock Probing) bs.probing four j from low
   words_stand_at First j from low = away First Home (λ e. cc) bs.home five j from low ∙ away First Probing (λ e. cc) bs.probing four j from low ∙ loaded_at (lock First) bs.first three j from low
@@ -102,13 +102,13 @@ module _ (site : Site) (here : Here) (hash segment : ℕ) (bs : Buckets) (l : Is
       subst (λ x. Has (lock place + j, x) v.known) (words_stand_at place j from low) (knows (lock place + j) (place, is, (omega (arith, from), omega (arith, low))))
 
   -- a bucket's words by its number in the segment
-  in_bucket : (place : Place) (j : ℕ) → 1 ≤ j → j < 32 → word (bucket_at site.shape segment (bucket_of hash place) + j) ≡ slice_index (words_in bs place) j
+  in_bucket : (place : Role) (j : ℕ) → 1 ≤ j → j < 32 → word (bucket_at site.shape segment (bucket_of hash place) + j) ≡ slice_index (words_in bs place) j
   in_bucket place j from low = subst (λ (z : ℕ). word (z + j) ≡ slice_index (words_in bs place) j) (lock_at site here hash segment l place) (words_stand_at place j from low)
 
   key_place : (a t : ℕ) → a + 4 + 2 * t ≡ a + (4 + 2 * t)
   key_place a t = omega arith
 
-  found_hit : (place : Place) (k r : ℕ) → lowest_with (words_in bs place) k ≡ Some r → Hit site.shape word segment (bucket_of hash place) r k
+  found_hit : (place : Role) (k r : ℕ) → lowest_with (words_in bs place) k ≡ Some r → Hit site.shape word segment (bucket_of hash place) r k
   found_hit place k r is =
       let there = found_with (words_in bs place) k r is in
       let low = there.1 in
@@ -120,7 +120,7 @@ module _ (site : Site) (here : Here) (hash segment : ℕ) (bs : Buckets) (l : Is
         key = ap word (key_place (bucket_at site.shape segment (bucket_of hash place)) r) ∙ in_bucket place (4 + 2 * r) (omega arith) (omega (arith, low)) ∙ there.0.has_key;
       }
 
-  none_hit : (place : Place) (k : ℕ) → lowest_with (words_in bs place) k ≡ None → (t : ℕ) → Hit site.shape word segment (bucket_of hash place) t k → ⊥
+  none_hit : (place : Role) (k : ℕ) → lowest_with (words_in bs place) k ≡ None → (t : ℕ) → Hit site.shape word segment (bucket_of hash place) t k → ⊥
   none_hit place k is t h =
       let low = h.slot in
       none_with (words_in bs place) k is t low (record {
@@ -144,28 +144,28 @@ search_tells = record {
 }
 
 -- ---- the holder
-module _ (site : Site) (here : Here) (hash segment : ℕ) (held : Held) (word : Words) (k : ℕ) (v : View) (h : HoldsBuckets site here hash segment held word k v) where
-  abbrev at : Place → ℕ
+module _ (site : Ground) (here : Site) (hash segment : ℕ) (held : Held) (word : Words) (k : ℕ) (v : View) (h : HoldsBuckets site here hash segment held word k v) where
+  abbrev at : Role → ℕ
   at place = bucket_at site.shape segment (bucket_of hash place)
 
-  at_is : (place : Place) → lock_word here hash segment place ≡ at place
+  at_is : (place : Role) → lock_word here hash segment place ≡ at place
   at_is place = lock_at site here hash segment h.located place
 
-  has_lock : (place : Place) → IsHeld held place → HasLock v.held (at place)
+  has_lock : (place : Role) → IsHeld held place → HasLock v.held (at place)
   has_lock place is = subst (λ (z : ℕ). HasLock v.held z) (at_is place) (held_has here hash segment held place v h.locks is)
 
-  left : (place : Place) → free_of held place ≡ None → HasLock v.held (at place) → ⊥
+  left : (place : Role) → free_of held place ≡ None → HasLock v.held (at place) → ⊥
   left place none has = has_not site here hash segment held place v h.located h.locks none (subst (λ (z : ℕ). HasLock v.held z) (sym (at_is place)) has)
 
   led : IsLed site v segment k
   led words n = ap (owner_of site.shape words) (sym h.hashed) ∙ pinned_lead site hash segment v h.leads words n
 
   module _ (none : HasNoneLoose v) where
-    pub bucket_known : (place : Place) → IsHeld held place → KnowsBucket site.shape v segment (bucket_of hash place) word
+    pub bucket_known : (place : Role) → IsHeld held place → KnowsBucket site.shape v segment (bucket_of hash place) word
     bucket_known place is = known_bucket (IsOfHeld here hash segment held) word site.shape segment (bucket_of hash place) v (has_lock place is) h.knows
         (λ i u. (place, is, subst (λ (z : ℕ). IsUnder z i) (sym (at_is place)) u)) (λ p loose u. none p loose)
 
-    kept_place : (place : Place) → IsHeld held place → IsKept site v (at place)
+    kept_place : (place : Role) → IsHeld held place → IsKept site v (at place)
     kept_place place is = (has_lock place is, λ p loose u. none p loose)
 
     -- a stash bucket is held, or what holds of one that is not does
@@ -248,7 +248,7 @@ module _ (site : Site) (here : Here) (hash segment : ℕ) (held : Held) (word : 
         stash = nowhere.stash;
       }
 
-    pub found_at : (place : Place) → IsHeld held place → (r : ℕ) → Hit site.shape word segment (bucket_of hash place) r k → FoundAt site v word segment (bucket_of hash place) r k
+    pub found_at : (place : Role) → IsHeld held place → (r : ℕ) → Hit site.shape word segment (bucket_of hash place) r k → FoundAt site v word segment (bucket_of hash place) r k
     found_at place is r hit = let b = both (firm q) in record {
       led = (led, b.home_lock);
       unplanned = no_plan q;
@@ -259,7 +259,7 @@ module _ (site : Site) (here : Here) (hash segment : ℕ) (held : Held) (word : 
       hit = hit;
     }
 
-draws : (site : Site) (here : Here) (hash segment : ℕ) (held : Held) (word : Words) (call : Call) (v : View) → HoldsBuckets site here hash segment held word (key_of call) v → HasNoneLoose v
+draws : (site : Ground) (here : Site) (hash segment : ℕ) (held : Held) (word : Words) (call : Call) (v : View) → HoldsBuckets site here hash segment held word (key_of call) v → HasNoneLoose v
     → Has call v.planned → 0 < v.room → HasNoted v → DrawsWell site v call segment word
 draws site here hash segment held word call v h none planned room noted = let b = both site here hash segment held word (key_of call) v h none in record {
   planned = planned;
@@ -341,7 +341,7 @@ module _ (shape : Shape) (word : Words) (s b x : ℕ) (bucket : b < buckets) (sa
     second = λ e. marked_unnoted segment (home_of hash) (finger_of hash) 1 (home_near hash) (n.second e);
   }
 
-still_owed : (site : Site) (v : View) (word : Words) (s b d x : ℕ) (o : Owed) → b < buckets → d < homes → x / 2 ^ 28 ≡ word (bucket_at site.shape s b + 1) / 2 ^ 28
+still_owed : (site : Ground) (v : View) (word : Words) (s b d x : ℕ) (o : Owed) → b < buckets → d < homes → x / 2 ^ 28 ≡ word (bucket_at site.shape s b + 1) / 2 ^ 28
     → Has o v.owed → o.segment ≡ s → o.home ≡ d → o.added ≡ false → o.notes ≡ notes_of site.shape word s d → o.count ≡ overflow_count (word_in site.shape word s d 1)
     → OwesAsKnown site v (with_word word (bucket_at site.shape s b + 1) x) s d
 still_owed site v word s b d x o bucket near same has segment home added notes count = inr (

@@ -5,15 +5,15 @@ use Rattle.std.proofs.lemmas.Bool.{lt-ltb}
 use Rattle.op_core.specs.declared.want.Want.TheVariants.{Store, Done}
 use Rattle.image_layout.specs.Places.{Shape, root_word, head_at, bucket_at, buckets}
 use Rattle.map_model.specs.declared.call.Call.{Call}
-use Rattle.world.specs.declared.site.Site.{Site as Here}
-use Rattle.world.specs.Site.{Site, IsLockWord, IsUnder}
+use Rattle.world.specs.declared.site.Site.{Site}
+use Rattle.world.specs.Ground.{Ground, IsLockWord, IsUnder}
 use Rattle.world.specs.Views.{Move, Owed, View, Has, HasLock, IsGuarded, IsLoose}
 use Rattle.world.specs.Kinds.{without, not_under, learns, with_store, wanted, view_after}
 use Rattle.world.specs.Conditions.{May, IsKnownLock}
 use Rattle.world.specs.Attempts.{HoldsOnly}
-use Rattle.world.proofs.Seats.{without_has, without_stays, not_under_has}
-use Rattle.phase.specs.declared.place.Place.{Place}
-use Rattle.phase.specs.declared.place.Place.TheVariants.{Home, Probing, First, Second, Next, Previous}
+use Rattle.world.proofs.basics.Seats.{without_has, without_stays, not_under_has}
+use Rattle.phase.specs.declared.role.Role.{Role}
+use Rattle.phase.specs.declared.role.Role.TheVariants.{Home, Probing, First, Second, Next, Previous}
 use Rattle.phase.specs.declared.held.Held.{Held}
 use Rattle.phase.specs.Places.{bucket_of, lock_word}
 use Rattle.phase.specs.Asked.{index}
@@ -21,7 +21,7 @@ use Rattle.phase.specs.Helds.{none_held, with_held, without_held, free_of, first
 use Rattle.phase.specs.Taking.{MayBeTaken}
 use Rattle.phase.specs.Stands.{IsThere}
 use Rattle.phase.specs.Giving.{IsLocated, IsHeld, IsQuiet, HoldsLocks, give_kind_of, lock_left, give_left, PlacesStand, HeldStands, GiveStands, GiveFalls}
-use Rattle.phase.proofs.Asked.{one_place, cases_place}
+use Rattle.phase.proofs.asking.Asked.{one_place, cases_place}
 
 pub no_some : {A : Type 0} {x : A} → None ≡ Some x → ⊥
 no_some e = cc
@@ -34,7 +34,7 @@ nothing_left [] none = refl
 nothing_left (x ∷ xs) none = absurd (none x (inl refl))
 
 -- ---- where the lock words stand
-pub bucket_near : (hash : ℕ) (place : Place) → bucket_of hash place < buckets
+pub bucket_near : (hash : ℕ) (place : Role) → bucket_of hash place < buckets
 bucket_near hash Home = omega arith
 bucket_near hash Probing = omega arith
 bucket_near hash First = omega arith
@@ -42,7 +42,7 @@ bucket_near hash Second = omega arith
 bucket_near hash Next = omega arith
 bucket_near hash Previous = omega arith
 
-numbers_apart : (hash : ℕ) (place other : Place) → place ≢ other → bucket_of hash place ≡ bucket_of hash other → ⊥
+numbers_apart : (hash : ℕ) (place other : Role) → place ≢ other → bucket_of hash place ≡ bucket_of hash other → ⊥
 numbers_apart hash Home Home n e = n refl
 numbers_apart hash Home other n e = omega (arith, e)
 numbers_apart hash Probing Probing n e = n refl
@@ -57,7 +57,7 @@ numbers_apart hash Previous Previous n e = n refl
 numbers_apart hash Previous other n e = omega (arith, e)
 
 -- a bucket is that of one place
-pub one_number : (hash : ℕ) (place other : Place) → bucket_of hash place ≡ bucket_of hash other → place ≡ other
+pub one_number : (hash : ℕ) (place other : Role) → bucket_of hash place ≡ bucket_of hash other → place ≡ other
 one_number hash place other e = elim (cases_place place other) [
   | inl same ↦ same
   | inr apart ↦ absurd (numbers_apart hash place other (λ same. apart (ap index same)) e)
@@ -66,29 +66,29 @@ one_number hash place other e = elim (cases_place place other) [
 same_bucket : (f b c : ℕ) → f + 32 + 32 * b ≡ f + 32 + 32 * c → b ≡ c
 same_bucket f b c e = omega (arith, e)
 
-module _ (here : Here) (hash segment : ℕ) (within : segment < here.geometry.segments) where
-  pub lock_is : (place : Place) → lock_word here hash segment place ≡ bucket_at here.geometry segment (bucket_of hash place)
+module _ (here : Site) (hash segment : ℕ) (within : segment < here.geometry.segments) where
+  pub lock_is : (place : Role) → lock_word here hash segment place ≡ bucket_at here.geometry segment (bucket_of hash place)
   lock_is place = ap (λ t. if t then bucket_at here.geometry segment (bucket_of hash place) else root_word) (lt-ltb segment here.geometry.segments within)
 
   -- a lock word is that of one place
-  pub one_lock_word : (place other : Place) → lock_word here hash segment place ≡ lock_word here hash segment other → place ≡ other
+  pub one_lock_word : (place other : Role) → lock_word here hash segment place ≡ lock_word here hash segment other → place ≡ other
   one_lock_word place other e =
       one_number hash place other (same_bucket (head_at here.geometry segment) (bucket_of hash place) (bucket_of hash other) (sym (lock_is place) ∙ e ∙ lock_is other))
 
-module _ (site : Site) (here : Here) (hash segment : ℕ) (l : IsLocated site here segment) where
+module _ (site : Ground) (here : Site) (hash segment : ℕ) (l : IsLocated site here segment) where
   pub within_here : segment < here.geometry.segments
   within_here = subst (λ (g : Shape). segment < g.segments) (sym l.shape) l.within
 
-  pub lock_at : (place : Place) → lock_word here hash segment place ≡ bucket_at site.shape segment (bucket_of hash place)
+  pub lock_at : (place : Role) → lock_word here hash segment place ≡ bucket_at site.shape segment (bucket_of hash place)
   lock_at place = lock_is here hash segment within_here place ∙ ap (λ (g : Shape). bucket_at g segment (bucket_of hash place)) l.shape
 
-  pub is_lock : (place : Place) → IsLockWord site.shape (lock_word here hash segment place)
+  pub is_lock : (place : Role) → IsLockWord site.shape (lock_word here hash segment place)
   is_lock place = (segment, bucket_of hash place, l.within, bucket_near hash place, lock_at place)
 
-  pub locks_apart : (place other : Place) → place ≢ other → lock_word here hash segment place ≢ lock_word here hash segment other
+  pub locks_apart : (place other : Role) → place ≢ other → lock_word here hash segment place ≢ lock_word here hash segment other
   locks_apart place other n e = n (one_lock_word here hash segment within_here place other e)
 
-pub known_lock : (site : Site) (here : Here) (hash segment : ℕ) (place : Place) (v : View) → here.geometry ≡ site.shape → IsThere site segment v.facts
+pub known_lock : (site : Ground) (here : Site) (hash segment : ℕ) (place : Role) (v : View) → here.geometry ≡ site.shape → IsThere site segment v.facts
     → IsKnownLock site v (lock_word here hash segment place)
 known_lock site here hash segment place v same there =
     (segment, bucket_of hash place, there.within, bucket_near hash place, lock_at site here hash segment (record { shape = same; within = there.within }) place, there.lives, there.current)
@@ -96,18 +96,18 @@ known_lock site here hash segment place v same there =
 pub places_stand : PlacesStand
 places_stand = record { at = lock_at'; are_locks = is_lock'; are_known = known_lock; apart = apart' }
   where
-    lock_at' : (site : Site) (here : Here) (hash segment : ℕ) (place : Place) → IsLocated site here segment → lock_word here hash segment place ≡ bucket_at site.shape segment (bucket_of hash place)
+    lock_at' : (site : Ground) (here : Site) (hash segment : ℕ) (place : Role) → IsLocated site here segment → lock_word here hash segment place ≡ bucket_at site.shape segment (bucket_of hash place)
     lock_at' site here hash segment place l = lock_at site here hash segment l place
 
-    is_lock' : (site : Site) (here : Here) (hash segment : ℕ) (place : Place) → IsLocated site here segment → IsLockWord site.shape (lock_word here hash segment place)
+    is_lock' : (site : Ground) (here : Site) (hash segment : ℕ) (place : Role) → IsLocated site here segment → IsLockWord site.shape (lock_word here hash segment place)
     is_lock' site here hash segment place l = is_lock site here hash segment l place
 
-    apart' : (site : Site) (here : Here) (hash segment : ℕ) (place other : Place) → IsLocated site here segment → place ≢ other
+    apart' : (site : Ground) (here : Site) (hash segment : ℕ) (place other : Role) → IsLocated site here segment → place ≢ other
         → lock_word here hash segment place ≢ lock_word here hash segment other
     apart' site here hash segment place other l n = locks_apart site here hash segment l place other n
 
 -- ---- free values
-pub none_free : (place : Place) → free_of none_held place ≡ None
+pub none_free : (place : Role) → free_of none_held place ≡ None
 none_free Home = refl
 none_free Probing = refl
 none_free First = refl
@@ -117,7 +117,7 @@ none_free Previous = refl
 
 module _ (held : Held) where
   module _ (free : ℕ) where
-    pub held_this : (place : Place) → free_of (with_held place free held) place ≡ Some free
+    pub held_this : (place : Role) → free_of (with_held place free held) place ≡ Some free
     held_this Home = refl
     held_this Probing = refl
     held_this First = refl
@@ -125,7 +125,7 @@ module _ (held : Held) where
     held_this Next = refl
     held_this Previous = refl
 
-    pub held_other : (place other : Place) → (index other ≡ index place → ⊥) → free_of (with_held place free held) other ≡ free_of held other
+    pub held_other : (place other : Role) → (index other ≡ index place → ⊥) → free_of (with_held place free held) other ≡ free_of held other
     held_other Home Home n = absurd (n refl)
     held_other Home other n = refl
     held_other Probing Probing n = absurd (n refl)
@@ -139,13 +139,13 @@ module _ (held : Held) where
     held_other Previous Previous n = absurd (n refl)
     held_other Previous other n = refl
 
-    pub free_more : (place other : Place) → (free_of (with_held place free held) other ≡ Some free) ⊎ (free_of (with_held place free held) other ≡ free_of held other)
+    pub free_more : (place other : Role) → (free_of (with_held place free held) other ≡ Some free) ⊎ (free_of (with_held place free held) other ≡ free_of held other)
     free_more place other = elim (cases_place other place) [
-      | inl e ↦ inl (subst (λ (z : Place). free_of (with_held place free held) z ≡ Some free) (sym e) (held_this place))
+      | inl e ↦ inl (subst (λ (z : Role). free_of (with_held place free held) z ≡ Some free) (sym e) (held_this place))
       | inr n ↦ inr (held_other place other n)
     ]
 
-  gone_this : (place : Place) → free_of (without_held place held) place ≡ None
+  gone_this : (place : Role) → free_of (without_held place held) place ≡ None
   gone_this Home = refl
   gone_this Probing = refl
   gone_this First = refl
@@ -153,7 +153,7 @@ module _ (held : Held) where
   gone_this Next = refl
   gone_this Previous = refl
 
-  pub gone_other : (place other : Place) → (index other ≡ index place → ⊥) → free_of (without_held place held) other ≡ free_of held other
+  pub gone_other : (place other : Role) → (index other ≡ index place → ⊥) → free_of (without_held place held) other ≡ free_of held other
   gone_other Home Home n = absurd (n refl)
   gone_other Home other n = refl
   gone_other Probing Probing n = absurd (n refl)
@@ -168,29 +168,29 @@ module _ (held : Held) where
   gone_other Previous other n = refl
 
   -- what is left of one place is of another
-  pub free_less : (place other : Place) (value : ℕ) → free_of (without_held place held) other ≡ Some value → (free_of held other ≡ Some value) × (index other ≡ index place → ⊥)
+  pub free_less : (place other : Role) (value : ℕ) → free_of (without_held place held) other ≡ Some value → (free_of held other ≡ Some value) × (index other ≡ index place → ⊥)
   free_less place other value e = elim (cases_place other place) [
-    | inl same ↦ absurd (no_some (sym (gone_this place) ∙ subst (λ (z : Place). free_of (without_held place held) z ≡ Some value) same e))
+    | inl same ↦ absurd (no_some (sym (gone_this place) ∙ subst (λ (z : Role). free_of (without_held place held) z ≡ Some value) same e))
     | inr apart ↦ (sym (gone_other place other apart) ∙ e, apart)
   ]
 
   -- the lock that is given back next is held
   next_by : (h p f s n r : Option ℕ) → held.home ≡ h → held.probing ≡ p → held.first ≡ f → held.second ≡ s → held.next ≡ n → held.previous ≡ r
-      → (one : Place × ℕ) → first_held h p f s n r ≡ Some one → free_of held one.0 ≡ Some one.1
-  next_by (Some free) p f s n r eh ep ef es en er one e = subst (λ (z : Place × ℕ). free_of held z.0 ≡ Some z.1) (some_same e) eh
-  next_by None (Some free) f s n r eh ep ef es en er one e = subst (λ (z : Place × ℕ). free_of held z.0 ≡ Some z.1) (some_same e) ep
-  next_by None None (Some free) s n r eh ep ef es en er one e = subst (λ (z : Place × ℕ). free_of held z.0 ≡ Some z.1) (some_same e) ef
-  next_by None None None (Some free) n r eh ep ef es en er one e = subst (λ (z : Place × ℕ). free_of held z.0 ≡ Some z.1) (some_same e) es
-  next_by None None None None (Some free) r eh ep ef es en er one e = subst (λ (z : Place × ℕ). free_of held z.0 ≡ Some z.1) (some_same e) en
-  next_by None None None None None (Some free) eh ep ef es en er one e = subst (λ (z : Place × ℕ). free_of held z.0 ≡ Some z.1) (some_same e) er
+      → (one : Role × ℕ) → first_held h p f s n r ≡ Some one → free_of held one.0 ≡ Some one.1
+  next_by (Some free) p f s n r eh ep ef es en er one e = subst (λ (z : Role × ℕ). free_of held z.0 ≡ Some z.1) (some_same e) eh
+  next_by None (Some free) f s n r eh ep ef es en er one e = subst (λ (z : Role × ℕ). free_of held z.0 ≡ Some z.1) (some_same e) ep
+  next_by None None (Some free) s n r eh ep ef es en er one e = subst (λ (z : Role × ℕ). free_of held z.0 ≡ Some z.1) (some_same e) ef
+  next_by None None None (Some free) n r eh ep ef es en er one e = subst (λ (z : Role × ℕ). free_of held z.0 ≡ Some z.1) (some_same e) es
+  next_by None None None None (Some free) r eh ep ef es en er one e = subst (λ (z : Role × ℕ). free_of held z.0 ≡ Some z.1) (some_same e) en
+  next_by None None None None None (Some free) eh ep ef es en er one e = subst (λ (z : Role × ℕ). free_of held z.0 ≡ Some z.1) (some_same e) er
   next_by None None None None None None eh ep ef es en er one e = absurd (no_some e)
 
-  pub next_free : (one : Place × ℕ) → give_next held ≡ Some one → free_of held one.0 ≡ Some one.1
+  pub next_free : (one : Role × ℕ) → give_next held ≡ Some one → free_of held one.0 ≡ Some one.1
   next_free one e = next_by held.home held.probing held.first held.second held.next held.previous refl refl refl refl refl refl one e
 
   -- and where there is none, none is
   none_by : (h p f s n r : Option ℕ) → held.home ≡ h → held.probing ≡ p → held.first ≡ f → held.second ≡ s → held.next ≡ n → held.previous ≡ r
-      → first_held h p f s n r ≡ None → (place : Place) → free_of held place ≡ None
+      → first_held h p f s n r ≡ None → (place : Role) → free_of held place ≡ None
   none_by (Some x) p f s n r eh ep ef es en er e place = absurd (no_some (sym e))
   none_by None (Some x) f s n r eh ep ef es en er e place = absurd (no_some (sym e))
   none_by None None (Some x) s n r eh ep ef es en er e place = absurd (no_some (sym e))
@@ -204,34 +204,35 @@ module _ (held : Held) where
   none_by None None None None None None eh ep ef es en er e Next = en
   none_by None None None None None None eh ep ef es en er e Previous = er
 
-  next_none : give_next held ≡ None → (place : Place) → free_of held place ≡ None
+  next_none : give_next held ≡ None → (place : Role) → free_of held place ≡ None
   next_none e = none_by held.home held.probing held.first held.second held.next held.previous refl refl refl refl refl refl e
 
 -- ---- what is held
-module _ (here : Here) (hash segment : ℕ) where
+module _ (here : Site) (hash segment : ℕ) where
   pub held_none : (v : View) → HoldsOnly [] v → HoldsLocks here hash segment none_held v
   held_none v o = record {
     has = λ place value e. absurd (no_some (sym (none_free place) ∙ e));
     only = λ p h. absurd (subst (λ (l : List (ℕ × ℕ)). Has p l) o.held h);
     free = λ place value e. absurd (no_some (sym (none_free place) ∙ e));
     known = λ p h. absurd (subst (λ (l : List (ℕ × ℕ)). Has p l) o.known h);
+    areas = o.areas;
   }
 
   -- with one more that was not held
-  module _ (held : Held) (place : Place) (free : ℕ) (v : View) (none : free_of held place ≡ None) (h : HoldsLocks here hash segment held v) where
+  module _ (held : Held) (place : Role) (free : ℕ) (v : View) (none : free_of held place ≡ None) (h : HoldsLocks here hash segment held v) where
     abbrev more : List (ℕ × ℕ)
     more = (lock_word here hash segment place, free + 1) ∷ v.held
 
-    more_has : (other : Place) (value : ℕ) → free_of (with_held place free held) other ≡ Some value → Has (lock_word here hash segment other, value + 1) more
+    more_has : (other : Role) (value : ℕ) → free_of (with_held place free held) other ≡ Some value → Has (lock_word here hash segment other, value + 1) more
     more_has other value e = elim (cases_place other place) [
       | inl same ↦
-          let is : free ≡ value = some_same (sym (held_this held free place) ∙ subst (λ (z : Place). free_of (with_held place free held) z ≡ Some value) same e) in
-          inl (ap (λ (z : Place). (lock_word here hash segment z, value + 1)) same ∙ ap (λ (z : ℕ). (lock_word here hash segment place, z + 1)) (sym is))
+          let is : free ≡ value = some_same (sym (held_this held free place) ∙ subst (λ (z : Role). free_of (with_held place free held) z ≡ Some value) same e) in
+          inl (ap (λ (z : Role). (lock_word here hash segment z, value + 1)) same ∙ ap (λ (z : ℕ). (lock_word here hash segment place, z + 1)) (sym is))
       | inr apart ↦ inr (h.has other value (sym (held_other held free place other apart) ∙ e))
     ]
 
     more_only : (p : ℕ × ℕ) → Has p more
-        → (other : Place) × (value : ℕ) × (free_of (with_held place free held) other ≡ Some value) × (p ≡ (lock_word here hash segment other, value + 1))
+        → (other : Role) × (value : ℕ) × (free_of (with_held place free held) other ≡ Some value) × (p ≡ (lock_word here hash segment other, value + 1))
     more_only p has = elim has [
       | inl e ↦ (place, free, held_this held free place, e)
       | inr r ↦
@@ -248,9 +249,10 @@ module _ (here : Here) (hash segment : ℕ) where
         | inr was ↦ h.free other value (sym was ∙ e)
       ];
       known = λ p k. (let g = h.known p k in (g.0, (g.1.0, inr g.1.1), g.2));
+      areas = h.areas;
     })
 
-  pub held_has : (held : Held) (place : Place) (v : View) → HoldsLocks here hash segment held v → IsHeld held place → HasLock v.held (lock_word here hash segment place)
+  pub held_has : (held : Held) (place : Role) (v : View) → HoldsLocks here hash segment held v → IsHeld held place → HasLock v.held (lock_word here hash segment place)
   held_has held place v h is = (is.0 + 1, h.has place is.0 is.1)
 
   pub held_store : (shape : Shape) (held : Held) (v : View) (i old x : ℕ) (calls : List Call) (moves : List Move) (owed : List Owed) → HoldsLocks here hash segment held v → IsGuarded v.held i
@@ -263,6 +265,7 @@ module _ (here : Here) (hash segment : ℕ) where
       | inl e ↦ subst (λ (z : ℕ × ℕ). IsGuarded v.held z.0) (sym e) guard
       | inr r ↦ h.known p (without_has i p.0 p.1 v.known r).1
     ];
+    areas = h.areas;
   }
 
   pub held_learn : (shape : Shape) (held : Held) (v : View) (i n : ℕ) → HoldsLocks here hash segment held v → IsGuarded v.held i → HoldsLocks here hash segment held (view_after shape (learns i) n v)
@@ -271,25 +274,27 @@ module _ (here : Here) (hash segment : ℕ) where
     only = h.only;
     free = h.free;
     known = λ p k. elim k [ inl e ↦ subst (λ (z : ℕ × ℕ). IsGuarded v.held z.0) (sym e) guard | inr r ↦ h.known p r ];
+    areas = h.areas;
   }
 
-  pub held_same : (held : Held) (v u : View) → u.held ≡ v.held → u.known ≡ v.known → HoldsLocks here hash segment held v → HoldsLocks here hash segment held u
-  held_same held v u locks known h = record {
+  pub held_same : (held : Held) (v u : View) → u.held ≡ v.held → u.known ≡ v.known → u.areas ≡ v.areas → HoldsLocks here hash segment held v → HoldsLocks here hash segment held u
+  held_same held v u locks known areas h = record {
     has = λ place value e. subst (λ (l : List (ℕ × ℕ)). Has (lock_word here hash segment place, value + 1) l) (sym locks) (h.has place value e);
     only = λ p k. h.only p (subst (λ (l : List (ℕ × ℕ)). Has p l) locks k);
     free = h.free;
     known = λ p k. subst (λ (l : List (ℕ × ℕ)). IsGuarded l p.0) (sym locks) (h.known p (subst (λ (l : List (ℕ × ℕ)). Has p l) known k));
+    areas = areas ∙ h.areas;
   }
 
   -- a word of a bucket whose lock is held
-  pub held_guard : (held : Held) (place : Place) (v : View) → HoldsLocks here hash segment held v → IsHeld held place → (j : ℕ) → 1 ≤ j → j < 32 → IsGuarded v.held (lock_word here hash segment place + j)
+  pub held_guard : (held : Held) (place : Role) (v : View) → HoldsLocks here hash segment held v → IsHeld held place → (j : ℕ) → 1 ≤ j → j < 32 → IsGuarded v.held (lock_word here hash segment place + j)
   held_guard held place v h is j from low = (lock_word here hash segment place, held_has held place v h is, (omega (arith, from), omega (arith, low)))
 
   -- each lock that is held is that of a place
-  pub held_place : (held : Held) (v : View) → HoldsLocks here hash segment held v → (lock : ℕ) → HasLock v.held lock → (place : Place) × IsHeld held place × (lock ≡ lock_word here hash segment place)
+  pub held_place : (held : Held) (v : View) → HoldsLocks here hash segment held v → (lock : ℕ) → HasLock v.held lock → (place : Role) × IsHeld held place × (lock ≡ lock_word here hash segment place)
   held_place held v h lock has = let at = h.only (lock, has.0) has.1 in (at.0, (at.1, at.2), ap (λ (z : ℕ × ℕ). z.0) at.3)
 
-pub has_not : (site : Site) (here : Here) (hash segment : ℕ) (held : Held) (place : Place) (v : View) → IsLocated site here segment → HoldsLocks here hash segment held v
+pub has_not : (site : Ground) (here : Site) (hash segment : ℕ) (held : Held) (place : Role) (v : View) → IsLocated site here segment → HoldsLocks here hash segment held v
     → free_of held place ≡ None → HasLock v.held (lock_word here hash segment place) → ⊥
 has_not site here hash segment held place v l h none has =
     let at = held_place here hash segment held v h (lock_word here hash segment place) has in
@@ -307,8 +312,8 @@ held_stands = record {
 }
 
 -- ---- given back
-module _ (here : Here) (hash segment : ℕ) (held : Held) (v : View) (h : HoldsLocks here hash segment held v) where
-  wants_by : (shape : Shape) (o : Option (Place × ℕ)) → give_next held ≡ o → give_wanted_of here hash segment o ≢ Done
+module _ (here : Site) (hash segment : ℕ) (held : Held) (v : View) (h : HoldsLocks here hash segment held v) where
+  wants_by : (shape : Shape) (o : Option (Role × ℕ)) → give_next held ≡ o → give_wanted_of here hash segment o ≢ Done
       → give_wanted_of here hash segment o ≡ wanted shape (give_kind_of here hash segment o)
   wants_by shape (Some next) e asks =
       let fits = h.free next.0 next.1 (next_free held next e) in
@@ -322,7 +327,7 @@ module _ (here : Here) (hash segment : ℕ) (held : Held) (v : View) (h : HoldsL
     | inr f ↦ subst (λ (l : List (ℕ × ℕ)). Has p l) q.flushed f
   ]
 
-  may_by : (site : Site) → IsQuiet v → (o : Option (Place × ℕ)) → give_next held ≡ o → May site (give_kind_of here hash segment o) v
+  may_by : (site : Ground) → IsQuiet v → (o : Option (Role × ℕ)) → give_next held ≡ o → May site (give_kind_of here hash segment o) v
   may_by site q (Some next) e = (
     next.1 + 1,
     h.has next.0 next.1 (next_free held next e),
@@ -335,17 +340,17 @@ module _ (here : Here) (hash segment : ℕ) (held : Held) (v : View) (h : HoldsL
   may_by site q None e = tt
 
   -- without one of them
-  module _ (site : Site) (l : IsLocated site here segment) (place : Place) where
+  module _ (site : Ground) (l : IsLocated site here segment) (place : Role) where
     abbrev lock : ℕ
     lock = lock_word here hash segment place
 
-    less_has : (other : Place) (value : ℕ) → free_of (without_held place held) other ≡ Some value → Has (lock_word here hash segment other, value + 1) (without lock v.held)
+    less_has : (other : Role) (value : ℕ) → free_of (without_held place held) other ≡ Some value → Has (lock_word here hash segment other, value + 1) (without lock v.held)
     less_has other value e =
         let was = free_less held place other value e in
         without_stays lock (lock_word here hash segment other) (value + 1) v.held (λ same. was.1 (ap index (one_lock_word here hash segment (within_here site here hash segment l) other place same))) (h.has other value was.0)
 
     less_only : (p : ℕ × ℕ) → Has p (without lock v.held)
-        → (other : Place) × (value : ℕ) × (free_of (without_held place held) other ≡ Some value) × (p ≡ (lock_word here hash segment other, value + 1))
+        → (other : Role) × (value : ℕ) × (free_of (without_held place held) other ≡ Some value) × (p ≡ (lock_word here hash segment other, value + 1))
     less_only p has =
         let was = without_has lock p.0 p.1 v.held has in
         let at = h.only p was.1 in (
@@ -364,17 +369,18 @@ module _ (here : Here) (hash segment : ℕ) (held : Held) (v : View) (h : HoldsL
           g.2,
         )
 
-  locks_by : (site : Site) (n : ℕ) → IsLocated site here segment → (o : Option (Place × ℕ)) → give_next held ≡ o
+  locks_by : (site : Ground) (n : ℕ) → IsLocated site here segment → (o : Option (Role × ℕ)) → give_next held ≡ o
       → HoldsLocks here hash segment (given_of o held) (view_after site.shape (give_kind_of here hash segment o) n v)
   locks_by site n l (Some next) e = record {
     has = less_has site l next.0;
     only = less_only site l next.0;
     free = λ place value f. h.free place value (free_less held next.0 place value f).0;
     known = less_known site l next.0;
+    areas = h.areas;
   }
   locks_by site n l None e = h
 
-  ends_by : IsQuiet v → (o : Option (Place × ℕ)) → give_next held ≡ o → give_wanted_of here hash segment o ≡ Done → HoldsOnly [] v
+  ends_by : IsQuiet v → (o : Option (Role × ℕ)) → give_next held ≡ o → give_wanted_of here hash segment o ≡ Done → HoldsOnly [] v
   ends_by q (Some next) e done = absurd (let s : Store (lock_word here hash segment next.0) ((next.1 + 2) % 2 ^ 64) ≡ Done = done in cc)
   ends_by q None e done =
       let none : (p : ℕ × ℕ) → Has p v.held → ⊥ = λ p has. (let at = h.only p has in no_some (sym (next_none held e at.0) ∙ at.2)) in
@@ -386,9 +392,10 @@ module _ (here : Here) (hash segment : ℕ) (held : Held) (v : View) (h : HoldsL
         planned = q.planned;
         moving = q.moving;
         owed = q.owed;
+        areas = h.areas;
       }
 
-quiet_by : (shape : Shape) (here : Here) (hash segment : ℕ) (held : Held) (v : View) (n : ℕ) → IsQuiet v → (o : Option (Place × ℕ))
+quiet_by : (shape : Shape) (here : Site) (hash segment : ℕ) (held : Held) (v : View) (n : ℕ) → IsQuiet v → (o : Option (Role × ℕ))
     → IsQuiet (view_after shape (give_kind_of here hash segment o) n v)
 quiet_by shape here hash segment held v n q (Some next) = record { dirty = q.dirty; flushed = q.flushed; planned = q.planned; moving = q.moving; owed = q.owed }
 quiet_by shape here hash segment held v n q None = q
@@ -402,7 +409,7 @@ give_stands = record {
   ends = λ here hash segment held v h q done. ends_by here hash segment held v h q (give_next held) refl done;
 }
 
-falls_by : (here : Here) (hash segment : ℕ) (h p f s n r : Option ℕ) → give_wanted_of here hash segment (first_held h p f s n r) ≢ Done
+falls_by : (here : Site) (hash segment : ℕ) (h p f s n r : Option ℕ) → give_wanted_of here hash segment (first_held h p f s n r) ≢ Done
     → give_left (given_of (first_held h p f s n r) (record { home = h; probing = p; first = f; second = s; next = n; previous = r }))
     < lock_left h + lock_left p + lock_left f + lock_left s + lock_left n + lock_left r
 falls_by here hash segment (Some x) p f s n r asks = omega arith

@@ -1,7 +1,7 @@
 -- The load of a bucket by the holder of its lock, who knows each word then.
 use Rattle.std.proofs.Common.{ℕ, ◌+◌, ◌%◌, inr, arith}
 use Rattle.image_layout.specs.Places.{Shape}
-use Rattle.world.specs.Site.{Site}
+use Rattle.world.specs.Ground.{Ground}
 use Rattle.world.specs.Views.{View, HasLock}
 use Rattle.world.specs.Kinds.{learns, view_after}
 use Rattle.world.specs.Conditions.{May}
@@ -11,7 +11,7 @@ use Rattle.phase.specs.Stands.{IsLoading, HasLoaded}
 use Rattle.phase.specs.Knows.{HoldersLoad}
 use Rattle.phase.proofs.Loading.{load_stands}
 
-pub learn_may : (site : Site) (lock : ℕ) (load : Load) (v : View) → IsLoading lock v.known load → HasLock v.held lock → May site (learns (lock + load.next % 32)) v
+pub learn_may : (site : Ground) (lock : ℕ) (load : Load) (v : View) → IsLoading lock v.known load → HasLock v.held lock → May site (learns (lock + load.next % 32)) v
 learn_may site lock load v l held = (lock, held, (let from = l.from in let last = l.last in (omega (arith, from, last), omega arith)))
 
 pub learn_stands : (shape : Shape) (lock : ℕ) (load : Load) (v : View) (n : ℕ) → IsLoading lock v.known load

@@ -6,11 +6,11 @@ use Rattle.trace.specs.Events.{Words, with_word}
 use Rattle.trace.proofs.Replaced.{cases_at}
 use Rattle.image_layout.specs.Places.{Shape, bucket_at}
 use Rattle.map_model.specs.declared.call.Call.{Call}
-use Rattle.world.specs.Site.{IsUnder}
+use Rattle.world.specs.Ground.{IsUnder}
 use Rattle.world.specs.Views.{Move, Owed, View, Has, HasLock, IsLoose}
 use Rattle.world.specs.Kinds.{without, with_store}
 use Rattle.world.specs.Holders.{KnowsBucket, KnowsMeta}
-use Rattle.world.proofs.Seats.{without_stays, loosened_has}
+use Rattle.world.proofs.basics.Seats.{without_stays, loosened_has}
 use Rattle.phase.specs.Knows.{Knows, OnlyLoose, IsWhole, with_loaded, KnowsMore}
 
 -- ---- a bucket's words among others

@@ -9,15 +9,15 @@ use Rattle.trace.specs.Events.{Words, with_word, line_of}
 use Rattle.trace.proofs.Replaced.{replaced_same, replaced_other}
 use Rattle.image_layout.specs.Places.{Shape}
 use Rattle.bucket_words.specs.Buckets.{IsTaken}
-use Rattle.world.specs.declared.site.Site.{Site as Here}
-use Rattle.world.specs.Site.{Site, IsLockWord, IsUnder}
+use Rattle.world.specs.declared.site.Site.{Site}
+use Rattle.world.specs.Ground.{Ground, IsLockWord, IsUnder}
 use Rattle.world.specs.Views.{View, Has, HasLock, IsLoose, IsGuarded}
 use Rattle.world.specs.Kinds.{Kind, stores, off_line, on_line, wanted, view_after, with_store, flushes, fences}
 use Rattle.world.specs.Conditions.{May}
 use Rattle.world.specs.Holders.{KnowsMeta, SparesTaken}
-use Rattle.world.proofs.Seats.{loosened_has}
+use Rattle.world.proofs.basics.Seats.{loosened_has}
 use Rattle.world.proofs.holding.Preparing.{may_prepare}
-use Rattle.phase.specs.declared.place.Place.{Place}
+use Rattle.phase.specs.declared.role.Role.{Role}
 use Rattle.phase.specs.declared.held.Held.{Held}
 use Rattle.phase.specs.declared.make.Record.{Record}
 use Rattle.phase.specs.declared.make.Make.{Make}
@@ -234,7 +234,7 @@ module _ (shape : Shape) (word w : Words) (s b lock number : ℕ) (written : Rec
         (high_spares high written.fingers (f.fingers ∙ ap (λ m. with_finger (word (lock + m)) slot number) p ∙ ap (λ z. with_finger z slot number) (sym (same 3 (omega arith) (omega arith)))))
   ]
 
-module _ (site : Site) (s b lock number : ℕ) (written : Record) (S : ℕ → Type 0) (word before : Words) (v : View)
+module _ (site : Ground) (s b lock number : ℕ) (written : Record) (S : ℕ → Type 0) (word before : Words) (v : View)
     (f : FitsSlot site.shape word s b lock written number) (held : HasLock v.held lock) (covers : (i : ℕ) → IsUnder lock i → S i) where
   -- a store whose bucket's metadata is known, as the words w, and not loose
   one_may : (w : Words) (m x i : ℕ) → i ≡ lock + m → Knows S w v → ((p : ℕ × ℕ) → IsLoose v p → lock + 3 < p.0) → SparesTaken w lock m x → May site (stores i x) v
@@ -264,7 +264,7 @@ module _ (site : Site) (s b lock number : ℕ) (written : Record) (S : ℕ → T
       (fingers_spare site.shape word (with_value lock written word) s b lock number written f
       (λ n from most. value_kept site.shape word s b lock number written f (lock + n) (λ e. omega (arith, e, most)) (λ e. omega (arith, e, most))))
 
-may : (S : ℕ → Type 0) (site : Site) (publish : ℕ → ℕ → Kind) (s b lock finger : ℕ) (written : Record) (word before : Words) (make : Make) (v : View)
+may : (S : ℕ → Type 0) (site : Ground) (publish : ℕ → ℕ → Kind) (s b lock finger : ℕ) (written : Record) (word before : Words) (make : Make) (v : View)
     → (IsNew make → FitsSlot site.shape word s b lock written finger) → HasLock v.held lock → ((i : ℕ) → IsUnder lock i → S i)
     → IsMaking lock written S word before make v → make ≢ Publish → May site (make_kind publish lock written make) v
 may S site publish s b lock finger written word before Key v fits held covers m other = key_may site s b lock finger written S word before v (fits tt) held covers m
@@ -316,7 +316,7 @@ make_knows S = record {
 }
 
 -- ---- what is held
-module _ (shape : Shape) (publish : ℕ → ℕ → Kind) (storing : IsStoring publish) (here : Here) (hash segment : ℕ) (held : Held) (place : Place) (written : Record) (n : ℕ) (v : View)
+module _ (shape : Shape) (publish : ℕ → ℕ → Kind) (storing : IsStoring publish) (here : Site) (hash segment : ℕ) (held : Held) (place : Role) (written : Record) (n : ℕ) (v : View)
     (is : IsHeld held place) (slot : written.slot < record_slots) (from : 1 ≤ written.published) (low : written.published < 32) (h : HoldsLocks here hash segment held v) where
   abbrev at : ℕ
   at = lock_word here hash segment place
@@ -326,10 +326,10 @@ module _ (shape : Shape) (publish : ℕ → ℕ → Kind) (storing : IsStoring p
       held_store here hash segment shape held v i n x v.planned v.moving v.owed h (subst (λ (z : ℕ). IsGuarded v.held z) (sym same) (held_guard here hash segment held place v h is j above below))
 
   flush_holds : (l : ℕ) → HoldsLocks here hash segment held (view_after shape (flushes l) n v)
-  flush_holds l = held_same here hash segment held v (view_after shape (flushes l) n v) refl refl h
+  flush_holds l = held_same here hash segment held v (view_after shape (flushes l) n v) refl refl refl h
 
   fence_holds : HoldsLocks here hash segment held (view_after shape fences n v)
-  fence_holds = held_same here hash segment held v (view_after shape fences n v) refl refl h
+  fence_holds = held_same here hash segment held v (view_after shape fences n v) refl refl refl h
 
   holds_by : (make : Make) → HoldsLocks here hash segment held (view_after shape (make_kind publish at written make) n v)
   holds_by Key = store_holds (4 + 2 * written.slot) (key_at at written) written.key (omega arith) (omega arith) (omega (arith, slot))

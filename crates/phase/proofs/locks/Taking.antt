@@ -11,7 +11,7 @@ use Rattle.image_layout.specs.Places.{Shape, root_word, bucket_at}
 use Rattle.sound_image.specs.Records.{key_hash}
 use Rattle.map_model.specs.declared.call.Call.{Call}
 use Rattle.map_model.specs.Map.{key_of}
-use Rattle.world.specs.Site.{Site}
+use Rattle.world.specs.Ground.{Ground}
 use Rattle.world.specs.Views.{View, Has}
 use Rattle.world.specs.Kinds.{wanted, with_spent, with_lock}
 use Rattle.world.specs.Conditions.{May, IsKnownLock}
@@ -28,8 +28,8 @@ wants : (shape : Shape) (lock : ℕ) (take : Take) → IsTaking take → take_wa
 wants shape lock Look is = refl
 wants shape lock (Try free) is = let low = is.1 in ap (λ z. Exchange lock free z) (omega (arith, low))
 
-may : (site : Site) (lock : ℕ) (take : Take) (v : View) → IsKnownLock site v lock → IsTaking take → May site (take_kind lock take) v
-may site lock Look v known is = (known.0, known.1, known.2, known.3, known.4)
+may : (site : Ground) (lock : ℕ) (take : Take) (v : View) → IsKnownLock site v lock → IsTaking take → May site (take_kind lock take) v
+may site lock Look v known is = known
 may site lock (Try free) v known is = (known, is.0, (λ last. let low = is.1 in omega (arith, last, low)))
 
 pub take_fits : TakeFits

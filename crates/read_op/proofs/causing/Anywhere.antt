@@ -27,7 +27,7 @@ use Rattle.read_op.specs.Steps.{begun, wanted, wanted_in, taken}
 use Rattle.read_op.specs.Budget.{after_all}
 use Rattle.read_op.specs.GetPart.{RemembersIn}
 use Rattle.read_op.specs.AnyMemory.{did_all, IsAmiss, met, FindsAmiss, HasCauseThere, EndsByCauseAnywhere}
-use Rattle.read_op.proofs.Asked.{reads_alone}
+use Rattle.read_op.proofs.steps.Asked.{reads_alone}
 use Rattle.read_op.proofs.causing.Causing.{step_caused}
 use Rattle.read_op.proofs.parts.Remembering.{remembers_in, reading_changes}
 

@@ -27,9 +27,9 @@ use Rattle.phase.specs.Walks.{walk_wanted, walk_taken}
 use Rattle.phase.specs.Backs.{back_word, back_taken}
 use Rattle.phase.specs.Loads.{load_taken}
 use Rattle.phase.specs.Causes.{WasFound, HasWalkCause, HasBackCause}
-use Rattle.phase.proofs.Causing.{found_named, walk_caused, back_caused}
-use Rattle.phase.specs.declared.place.Place.{Place}
-use Rattle.phase.specs.declared.place.Place.TheVariants.{Home, Probing, First, Second}
+use Rattle.phase.proofs.asking.Causing.{found_named, walk_caused, back_caused}
+use Rattle.phase.specs.declared.role.Role.{Role}
+use Rattle.phase.specs.declared.role.Role.TheVariants.{Home, Probing, First, Second}
 use Rattle.read_op.specs.declared.step.Seen.{Seen}
 use Rattle.read_op.specs.declared.step.ReadEnd.TheVariants as ends
 use Rattle.read_op.specs.declared.step.ReadStep.{ReadStep}
@@ -41,8 +41,8 @@ use Rattle.read_op.specs.Steps.{wanted_in, next_in, walked_to, with_free, looked
 use Rattle.read_op.specs.Fits.{is_asked}
 use Rattle.read_op.specs.GetPart.{outcome_of, outcome_in, RemembersSeen, RemembersIn}
 use Rattle.phase.specs.Asked.{index}
-use Rattle.phase.proofs.Asked.{few}
-use Rattle.phase.proofs.Needing.{visit_needed}
+use Rattle.phase.proofs.asking.Asked.{few}
+use Rattle.phase.proofs.asking.Needing.{visit_needed}
 use Rattle.read_op.proofs.Places.{lock_is}
 use Rattle.read_op.proofs.Opening.{IsOpen, looked_open, filled_open, open_undecided}
 
@@ -91,14 +91,14 @@ module _ (task : Task) (words : Words) (did : Doings) (call : Call) (hash_is : t
 
   -- ---- a lock word
   -- each that is asked for is needed
-  needed : (s : Seen) (k : ℕ) → RemembersSeen task did.loads s k → (p : Place) → is_asked s p ≡ true → NeedsBucket g task.hash did.loads s.path.segment call (bucket_of task.hash p)
+  needed : (s : Seen) (k : ℕ) → RemembersSeen task did.loads s k → (p : Role) → is_asked s p ≡ true → NeedsBucket g task.hash did.loads s.path.segment call (bucket_of task.hash p)
   needed s k r Home asked = inl refl
   needed s k r Probing asked = inr (inl refl)
   needed s k r First asked = visit_needed g task.hash did.loads s.path.segment r.path.0.2 call 0 (omega arith) (r.first asked)
   needed s k r Second asked = visit_needed g task.hash did.loads s.path.segment r.path.0.2 call 1 (omega arith) (r.second asked)
   needed s k r p asked = absurd (false≢true asked)
 
-  module _ (s : Seen) (p : Place) (n : ℕ) (found : n ≡ words (lock_of task s p)) (k : ℕ) (seen : RemembersSeen task did.loads s k) (asked : is_asked s p ≡ true) where
+  module _ (s : Seen) (p : Role) (n : ℕ) (found : n ≡ words (lock_of task s p)) (k : ℕ) (seen : RemembersSeen task did.loads s k) (asked : is_asked s p ≡ true) where
     path : WasFound g task.hash did.loads s.path
     path = seen.path
 
@@ -152,7 +152,7 @@ module _ (task : Task) (words : Words) (did : Doings) (call : Call) (hash_is : t
   first_caused event s placed =
       both_caused event s.first (Relook s placed First) (relook_second s placed) (λ t. open_caused event (Relook s placed First) tt) (λ f. second_caused event s placed)
 
-  next_caused : (event : Want) (s : Seen) (placed : ℕ) (p : Place) → CausedIf event (relook_next s placed p)
+  next_caused : (event : Want) (s : Seen) (placed : ℕ) (p : Role) → CausedIf event (relook_next s placed p)
   next_caused event s placed Home = open_caused event (Relook s placed Probing) tt
   next_caused event s placed Probing = first_caused event s placed
   next_caused event s placed First = second_caused event s placed

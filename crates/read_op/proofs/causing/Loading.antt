@@ -15,8 +15,8 @@ use Rattle.phase.specs.declared.load.Loaded.{Loaded}
 use Rattle.phase.specs.declared.load.Loaded.TheVariants as loaded
 use Rattle.phase.specs.Backs.{back_taken}
 use Rattle.phase.specs.Loads.{load_taken}
-use Rattle.phase.specs.declared.place.Place.{Place}
-use Rattle.phase.specs.declared.place.Place.TheVariants.{Home, Probing, First, Second}
+use Rattle.phase.specs.declared.role.Role.{Role}
+use Rattle.phase.specs.declared.role.Role.TheVariants.{Home, Probing, First, Second}
 use Rattle.phase.proofs.Walking.{by_head}
 use Rattle.phase.proofs.locks.Choosing.{by_both}
 use Rattle.read_op.specs.declared.step.Seen.{Seen}
@@ -63,7 +63,7 @@ module _ (task : Task) where
 
   -- ---- one step, behind events that loaded all that it keeps
   module _ (past : List (ℕ × ℕ)) where
-    look_within : (s : Seen) (p : Place) (n : ℕ) → Kept past (Look s p) → Kept ((lock_of task s p, n) ∷ past) (looked (with_free s p n) p)
+    look_within : (s : Seen) (p : Role) (n : ℕ) → Kept past (Look s p) → Kept ((lock_of task s p, n) ∷ past) (looked (with_free s p n) p)
     look_within s Home n within = inl (refl, within)
     look_within s Probing n within = inl (refl, within)
     look_within s First n within = kept_or_not s.first (lock_of task s First, n) (kept_near task s) past within
@@ -71,19 +71,19 @@ module _ (task : Task) where
     look_within s p n within = later (kept_locks task s) (lock_of task s p, n) past within
 
     module _ (x : ℕ × ℕ) where
-      fill_within : (s : Seen) (p : Place) (load next : Load) → Kept past (Fill s p load) → Kept (x ∷ past) (Fill s p next)
+      fill_within : (s : Seen) (p : Role) (load next : Load) → Kept past (Fill s p load) → Kept (x ∷ past) (Fill s p next)
       fill_within s Home load next within = inr within
       fill_within s Probing load next within = inr within
       fill_within s First load next within = later (kept_first task s) x past within
       fill_within s p load next within = later (kept_locks task s) x past within
 
-      read_within : (s : Seen) (p : Place) (load : Load) (ws : List ℕ) → Kept past (Fill s p load) → Kept (x ∷ past) (read_all task.key task.hash s p ws)
+      read_within : (s : Seen) (p : Role) (load : Load) (ws : List ℕ) → Kept past (Fill s p load) → Kept (x ∷ past) (read_all task.key task.hash s p ws)
       read_within s Home load ws within = inr within
       read_within s Probing load ws within = first_within (x ∷ past) (read_probing task.key task.hash s ws) (inr within)
       read_within s First load ws within = second_within (x ∷ past) (with_value task.key s ws) (later (kept_first task s) x past within)
       read_within s p load ws within = later (kept_locks task s) x past within
 
-      filled_within : (s : Seen) (p : Place) (load : Load) (next : Loaded) → Kept past (Fill s p load) → Kept (x ∷ past) (filled task.key task.hash s p next)
+      filled_within : (s : Seen) (p : Role) (load : Load) (next : Loaded) → Kept past (Fill s p load) → Kept (x ∷ past) (filled task.key task.hash s p next)
       filled_within s p load (loaded.On next) within = fill_within s p load next within
       filled_within s p load (loaded.All ws) within = read_within s p load ws within
 
@@ -95,7 +95,7 @@ module _ (task : Task) where
       relook_second_within : (s : Seen) (placed : ℕ) → IsWithin (kept_in task (Relook s placed Home)) past → Kept (x ∷ past) (relook_second s placed)
       relook_second_within s placed within = either (x ∷ past) s.second (Relook s placed Second) (Ended (end_of s.value placed)) (inr within) tt
 
-      relook_within : (s : Seen) (placed : ℕ) (p : Place) → IsWithin (kept_in task (Relook s placed Home)) past → Kept (x ∷ past) (relook_next s placed p)
+      relook_within : (s : Seen) (placed : ℕ) (p : Role) → IsWithin (kept_in task (Relook s placed Home)) past → Kept (x ∷ past) (relook_next s placed p)
       relook_within s placed Home within = inr within
       relook_within s placed Probing within = either (x ∷ past) s.first (Relook s placed First) (relook_second s placed) (inr within) (relook_second_within s placed within)
       relook_within s placed First within = relook_second_within s placed within

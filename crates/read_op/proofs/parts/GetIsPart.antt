@@ -1,5 +1,5 @@
 -- A get is a part of a call.
-use Rattle.std.proofs.Common.{◌≡◌, ◌≢◌, ℕ, ◌+◌, ◌%◌, ◌<◌, ◌≤◌, Bool, true, false, List, [], ◌∷◌, ◌++◌, Option, None, refl, sym, ◌∙◌, ap, subst, arith}
+use Rattle.std.proofs.Common.{◌≡◌, ◌≢◌, ℕ, ◌+◌, ◌%◌, ◌<◌, ◌≤◌, inl, Bool, true, false, List, [], ◌∷◌, ◌++◌, Option, None, refl, sym, ◌∙◌, ap, subst, arith}
 use Rattle.std.specs.Prelude.{nat_le, nat_lt, if◌then◌else◌}
 use Rattle.op_core.specs.declared.want.Want.TheVariants as want
 use Rattle.op_core.specs.declared.want.Ans.{Ans}
@@ -15,15 +15,17 @@ use Rattle.map_model.specs.declared.call.Call.TheVariants.{Get}
 use Rattle.map_model.specs.declared.entry.Reply.{Reply}
 use Rattle.map_model.specs.declared.entry.Reply.TheVariants as reply
 use Rattle.map_model.specs.Map.{is_done}
-use Rattle.world.specs.declared.site.Site.{Site as Here}
-use Rattle.world.specs.Site.{Site}
+use Rattle.world.specs.declared.site.Site.{Site}
+use Rattle.world.specs.Ground.{Ground}
 use Rattle.world.specs.Views.{View, Has, At}
 use Rattle.world.specs.Wants.{word_of}
-use Rattle.world.specs.Kinds.{Kind, peeks, asks_power, meets_root, meets_entry, meets_head, looks, notes_word, places, validates, cuts_power, wanted as wanted_by, next_entry, view_after}
+use Rattle.world.specs.Kinds.{Kind, peeks, asks_power, meets_root, meets_entry, meets_head, looks, glances_word, places, validates, cuts_power, wanted as wanted_by, next_entry, view_after}
 use Rattle.world.specs.Invariant.{Holds}
 use Rattle.world.specs.Pairs.{IsPublishingKind}
 use Rattle.world.specs.Attempts.{HoldsOnly, HasNoMore, HasOneMore, EntersReply}
+use Rattle.world.specs.StepKinds.{of_call}
 use Rattle.world.proofs.stepping.Answers.{load_asked, load_value, load_answer}
+use Rattle.world.proofs.calls.deeds.Calls.{calls_leave, calls_may}
 use Rattle.part.specs.Outcomes.{reply_of}
 use Rattle.part.specs.Part.{Suits, StepsWell, IsPart}
 use Rattle.phase.specs.declared.walk.Walk.TheVariants as walk
@@ -57,8 +59,8 @@ module _ (key : ℕ) (call : Call) (same : call ≡ Get key) (before v w : View)
   entered (Ended (ends.Absent place)) h = one_more reply.Absent place h
   entered s h = record { own = h.own ∙ more.own; seen = h.seen ∙ more.seen }
 
-holds_still : (v w : View) → OwesTheSame v w → HoldsOnly [] v → HoldsOnly [] w
-holds_still v w o h = record {
+holds_still : (v w : View) → OwesTheSame v w → w.areas ≡ v.areas → HoldsOnly [] v → HoldsOnly [] w
+holds_still v w o same h = record {
   held = o.held ∙ h.held;
   known = o.known ∙ h.known;
   dirty = o.dirty ∙ h.dirty;
@@ -66,6 +68,7 @@ holds_still v w o h = record {
   planned = o.planned ∙ h.planned;
   moving = o.moving ∙ h.moving;
   owed = o.owed ∙ h.owed;
+  areas = same ∙ h.areas;
 }
 
 -- ---- a kind that is one of two is what both are
@@ -75,7 +78,7 @@ kind_if P false k i p q = q
 
 -- what is said of looks alone is said of each event
 module _ (P : Kind → Type 0) (peek : (i : ℕ) → P (peeks i)) (power : P asks_power) (root : P meets_root) (entry : (e i : ℕ) → P (meets_entry e i)) (head : (s version : ℕ) → P (meets_head s version))
-    (look : (lock : ℕ) → P (looks lock)) (note : (lock i : ℕ) → P (notes_word lock i)) (place : (k : ℕ) (a : Option ℕ) → P (places k a)) (validate : (i : ℕ) → P (validates i)) where
+    (look : (lock : ℕ) → P (looks lock)) (note : (lock i : ℕ) → P (glances_word lock i)) (place : (k : ℕ) (a : Option ℕ) → P (places k a)) (validate : (i : ℕ) → P (validates i)) where
   of_looks : (task : Task) (s : ReadStep) → P (kind_in task s)
   of_looks task (Way walk.Power) = power
   of_looks task (Way walk.Root) = root
@@ -92,16 +95,16 @@ module _ (P : Kind → Type 0) (peek : (i : ℕ) → P (peeks i)) (power : P ask
   of_looks task (Ended end) = peek (counter_word task.site.geometry)
 
 -- ---- no event of it cuts the power
-cuts_in : (task : Task) (s : ReadStep) → kind_in task s ≢ cuts_power
-cuts_in task s = of_looks (λ k. k ≢ cuts_power) (λ i e. cc) (λ e. cc) (λ e. cc) (λ e i f. cc) (λ t version e. cc) (λ lock e. cc) (λ lock i e. cc) (λ k a e. cc) (λ i e. cc) task s
+cuts_in : (task : Task) (s : ReadStep) → of_call (kind_in task s) ≢ of_call cuts_power
+cuts_in task s = of_looks (λ k. of_call k ≢ of_call cuts_power) (λ i e. cc) (λ e. cc) (λ e. cc) (λ e i f. cc) (λ t version e. cc) (λ lock e. cc) (λ lock i e. cc) (λ k a e. cc) (λ i e. cc) task s
 
 -- nor does any make a change
 made_in : (task : Task) (s : ReadStep) → IsPublishingKind (kind_in task s) → ⊥
 made_in task s = of_looks (λ k. IsPublishingKind k → ⊥) (λ i f. f) (λ f. f) (λ f. f) (λ e i f. f) (λ t version f. f) (λ lock f. f) (λ lock i f. f) (λ k a f. f) (λ i f. f) task s
 
-module _ (reads : ReadsAlone) (wants : (site : Site) (op : ReadOp) → WantsByKind site op) (may : (site : Site) (op : ReadOp) (v : View) → MayStep site op v) (keeps : KeepsSuits)
+module _ (reads : ReadsAlone) (wants : (site : Ground) (op : ReadOp) → WantsByKind site op) (may : (site : Ground) (op : ReadOp) (v : View) → MayStep site op v) (keeps : KeepsSuits)
     (time : Falls) (most : (op : ReadOp) → left op.step ≤ most_events) (inside : AsksWithin) where
-  steps : (site : Site) (here : Here) (call : Call) (words : Words) (views : List View) (j : ℕ) (op : ReadOp) (before v : View) → Holds site words views → At views j v
+  steps : (site : Ground) (here : Site) (call : Call) (words : Words) (views : List View) (j : ℕ) (op : ReadOp) (before v : View) → Holds site words views → At views j v
       → Suits get_part site here call op before v → wanted op ≢ want.Done → StepsWell get_part site here call words op before v
   steps site here call words views j op before v h at s asks =
       let st : Stands site here call op v = s.stands in
@@ -109,16 +112,16 @@ module _ (reads : ReadsAlone) (wants : (site : Site) (op : ReadOp) → WantsByKi
       let found : ℕ = words (word_of site.shape (wanted op)) in
       let n : ℕ = words (word_of site.shape (wanted_by site.shape (kind_of op))) in
       let same : n ≡ found = ap (λ x. words (word_of site.shape x)) (sym is) in
-      let well = keeps site op words views j v h at st.is_in st.suits asks in
+      let well = keeps site op words views j v h at st.nothing.areas st.is_in st.suits asks in
       let more : HasNoMore before v = subst (λ o. EntersReply call (reply_of o) before v) (open_still op.task op.step asks) s.enters in
       let Goal : ReadOp → ℕ → Type 0 = λ o m. Stands site here call o (view_after site.shape (kind_of op) m v) × EntersReply call (reply_of (outcome_in o.step)) before (view_after site.shape (kind_of op) m v) in
       let one : Goal (taken op (Value n)) n = (
-        record { same = st.same; at = st.at; is_in = well.is_in; suits = well.suits; nothing = holds_still v _ well.owes st.nothing },
+        record { same = st.same; at = st.at; is_in = well.is_in; suits = well.suits; nothing = holds_still v _ well.owes (calls_leave site.shape (kind_of op) n v) st.nothing },
         entered op.task.key call st.same before v _ more (taken op (Value n)).step well.answers,
       ) in
       let two = subst (λ m. Goal (taken op (Value m)) m) same one in
       let three = subst (λ a. Goal (taken op a) found) (sym (load_value (wanted op) found (load_asked (wanted op) (reads op) asks))) two in
-      record { wants = is; may = may site op v h.site_is st.is_in st.suits; stands = λ small. three.0; enters = λ small. three.1; makes = λ change. absurd (made_in op.task op.step change) }
+      record { wants = is; may = calls_may site (kind_of op) v st.nothing.areas (may site op v h.site_is st.is_in st.suits); stands = λ small. three.0; enters = λ small. three.1; makes = λ change. absurd (made_in op.task op.step change) }
 
   falls : (op : ReadOp) (a : Ans) → IsAnswer (wanted op) a → left (taken op a).step < left op.step
   falls op a i =
@@ -140,7 +143,7 @@ module _ (reads : ReadsAlone) (wants : (site : Site) (op : ReadOp) → WantsByKi
   get_is_part = record {
     steps = λ site here call words views j op before v h at s asks. steps site here call words views j op before v h at s asks;
     ends = λ site here call op v s done closed. s.nothing;
-    time = record { falls = falls; most = most };
+    time = record { falls = λ op a i. inl (falls op a i); most = most };
     within = λ site here call op before v is s. record {
       word = subst (λ shape. word_of shape (wanted op) < all_words_of shape) s.stands.is_in.shape (inside op (subst IsShape (sym s.stands.is_in.shape) is.shape) s.stands.is_in.fits);
       line = λ l e. absurd (no_flush op l e);

@@ -10,7 +10,7 @@ use Rattle.op_core.specs.Answers.{IsReading, load_of, change_of}
 use Rattle.bucket_meta.specs.Visits.{must_visit}
 use Rattle.hash_word.specs.Hash.{finger_of}
 use Rattle.image_layout.specs.Volatile.{counter_word}
-use Rattle.world.specs.Site.{Site}
+use Rattle.world.specs.Ground.{Ground}
 use Rattle.world.specs.Views.{Has}
 use Rattle.world.specs.Wants.{answer_to}
 use Rattle.world.proofs.stepping.Answers.{load_asked, load_value}
@@ -29,11 +29,11 @@ use Rattle.phase.specs.Loads.{load_taken}
 use Rattle.phase.specs.Stands.{HasLoaded}
 use Rattle.phase.specs.Causes.{WasFound, RemembersWalked}
 use Rattle.phase.proofs.Loading.{load_begins, load_stands}
-use Rattle.phase.proofs.Needing.{must_visit_by}
-use Rattle.phase.proofs.Causing.{found_more, walk_remembers}
-use Rattle.read_op.specs.declared.place.Free.{Free}
-use Rattle.phase.specs.declared.place.Place.{Place}
-use Rattle.phase.specs.declared.place.Place.TheVariants.{Home, Probing, First, Second}
+use Rattle.phase.proofs.asking.Needing.{must_visit_by}
+use Rattle.phase.proofs.asking.Causing.{found_more, walk_remembers}
+use Rattle.read_op.specs.declared.role.Free.{Free}
+use Rattle.phase.specs.declared.role.Role.{Role}
+use Rattle.phase.specs.declared.role.Role.TheVariants.{Home, Probing, First, Second}
 use Rattle.read_op.specs.declared.step.Seen.{Seen}
 use Rattle.read_op.specs.declared.step.ReadStep.{ReadStep}
 use Rattle.read_op.specs.declared.step.ReadStep.TheVariants.{Way, Look, Fill, Count, Check, Relook, Ended}
@@ -41,13 +41,13 @@ use Rattle.read_op.specs.declared.step.Task.{Task}
 use Rattle.read_op.specs.declared.op.ReadOp.{ReadOp}
 use Rattle.phase.specs.Places.{lock_word}
 use Rattle.phase.specs.Asked.{index, asked_by, looked_by}
-use Rattle.phase.proofs.Asked.{near_asked, none_before, upto_more, upto_less}
+use Rattle.phase.proofs.asking.Asked.{near_asked, none_before, upto_more, upto_less}
 use Rattle.read_op.specs.Places.{free_at}
 use Rattle.read_op.specs.Steps.{wanted, wanted_in, taken, next_in, walked_to, visit_first, visit_second, with_free, looked, with_value, read_home, read_probing, read_all, filled, backed_to, relook_second, relook_next, busy, moved, end_of, lock_of}
 use Rattle.read_op.specs.Fits.{is_asked}
 use Rattle.read_op.specs.GetPart.{HasReason, RemembersSeen, RemembersMeta, RemembersPlaced, RemembersIn, Remembers}
 use Rattle.read_op.proofs.Places.{free_other}
-use Rattle.read_op.proofs.Asked.{reads_alone}
+use Rattle.read_op.proofs.steps.Asked.{reads_alone}
 
 module _ (task : Task) where
   -- ---- with one word more
@@ -72,7 +72,7 @@ module _ (task : Task) where
     second = λ e. visit_more x loads s.path.segment 1 (r.second e);
   }
 
-  meta_more : (x : ℕ × ℕ) (loads : List (ℕ × ℕ)) (s : Seen) (p : Place) → RemembersMeta task loads s p → RemembersMeta task (x ∷ loads) s p
+  meta_more : (x : ℕ × ℕ) (loads : List (ℕ × ℕ)) (s : Seen) (p : Role) → RemembersMeta task loads s p → RemembersMeta task (x ∷ loads) s p
   meta_more x loads s Probing r = (inr r.0, inr r.1)
   meta_more x loads s p r = tt
 
@@ -93,7 +93,7 @@ module _ (task : Task) where
     walked_in (walked.Stale segment version) r = tt
 
     -- ---- what was seen, with the same way and the same free values
-    seen_same : (s s' : Seen) (k : ℕ) → s'.path ≡ s.path → s'.free ≡ s.free → ((q : Place) → index q < k → is_asked s' q ≡ is_asked s q) → HasReason task loads s' s'.first 0 → HasReason task loads s' s'.second 1
+    seen_same : (s s' : Seen) (k : ℕ) → s'.path ≡ s.path → s'.free ≡ s.free → ((q : Role) → index q < k → is_asked s' q ≡ is_asked s q) → HasReason task loads s' s'.first 0 → HasReason task loads s' s'.second 1
         → RemembersSeen task loads s k → RemembersSeen task loads s' k
     seen_same s s' k path free asks first second r = record {
       path = subst (λ p. WasFound task.site.geometry task.hash loads p) (sym path) r.path;
@@ -106,7 +106,7 @@ module _ (task : Task) where
     }
 
     -- where one is not asked
-    seen_skip : (s : Seen) (p : Place) → is_asked s p ≡ false → RemembersSeen task loads s (index p) → RemembersSeen task loads s (index p + 1)
+    seen_skip : (s : Seen) (p : Role) → is_asked s p ≡ false → RemembersSeen task loads s (index p) → RemembersSeen task loads s (index p + 1)
     seen_skip s p out r = record { path = r.path; free = λ q u. r.free q (upto_less s.first s.second p q out u); first = r.first; second = r.second }
 
     second_in : (s : Seen) → RemembersSeen task loads s 3 → RemembersIn task loads (visit_second s)
@@ -122,7 +122,7 @@ module _ (task : Task) where
     visit_is s ws n within meta has visits = must_visit_by task.site.geometry task.hash loads s.path.segment within n s.meta s.fingers (slice_index ws 1) (slice_index ws 3)
         meta.0 meta.1 (has 1 (omega arith) (omega arith)) (has 3 (omega arith) (omega arith)) visits
 
-    all_in : (s : Seen) (p : Place) (ws : List ℕ) → RemembersSeen task loads s (looked_by p) → is_asked s p ≡ true → RemembersMeta task loads s p → HasLoaded (lock_of task s p) loads (loaded.All ws)
+    all_in : (s : Seen) (p : Role) (ws : List ℕ) → RemembersSeen task loads s (looked_by p) → is_asked s p ≡ true → RemembersMeta task loads s p → HasLoaded (lock_of task s p) loads (loaded.All ws)
         → RemembersIn task loads (read_all task.key task.hash s p ws)
     all_in s Home ws r asked meta has = record {
       seen = seen_same s (read_home task.key s ws) 2 refl refl (λ q low. refl) r.first r.second r;
@@ -138,7 +138,7 @@ module _ (task : Task) where
     all_in s Second ws r asked meta has = seen_same s (with_value task.key s ws) 4 refl refl (λ q low. refl) r.first r.second r
     all_in s p ws r asked meta has = absurd (false≢true asked)
 
-    filled_in : (s : Seen) (p : Place) (x : Loaded) → RemembersSeen task loads s (looked_by p) → is_asked s p ≡ true → RemembersMeta task loads s p → HasLoaded (lock_of task s p) loads x
+    filled_in : (s : Seen) (p : Role) (x : Loaded) → RemembersSeen task loads s (looked_by p) → is_asked s p ≡ true → RemembersMeta task loads s p → HasLoaded (lock_of task s p) loads x
         → RemembersIn task loads (filled task.key task.hash s p x)
     filled_in s p (loaded.On load) r asked meta has = record { seen = r; asked = asked; filling = has; meta = meta }
     filled_in s p (loaded.All ws) r asked meta has = all_in s p ws r asked meta has
@@ -152,27 +152,27 @@ module _ (task : Task) where
     relook_second_in : (s : Seen) (placed : ℕ) → RemembersPlaced task loads s placed → RemembersIn task loads (relook_second s placed)
     relook_second_in s placed r = either_in s.second (Relook s placed Second) (Ended (end_of s.value placed)) (λ t. (r, t)) (λ f. tt)
 
-    relook_in : (s : Seen) (placed : ℕ) (p : Place) → RemembersPlaced task loads s placed → RemembersIn task loads (relook_next s placed p)
+    relook_in : (s : Seen) (placed : ℕ) (p : Role) → RemembersPlaced task loads s placed → RemembersIn task loads (relook_next s placed p)
     relook_in s placed Home r = (r, refl)
     relook_in s placed Probing r = either_in s.first (Relook s placed First) (relook_second s placed) (λ t. (r, t)) (λ f. relook_second_in s placed r)
     relook_in s placed First r = relook_second_in s placed r
     relook_in s placed p r = tt
 
     -- ---- a look at a lock word
-    module _ (s : Seen) (p : Place) (n : ℕ) (even : n % 2 ≡ 0) (r : RemembersSeen task loads s (index p)) where
+    module _ (s : Seen) (p : Role) (n : ℕ) (even : n % 2 ≡ 0) (r : RemembersSeen task loads s (index p)) where
       abbrev more : List (ℕ × ℕ)
       more = (lock_of task s p, n) ∷ loads
 
-      look_more : (s' : Seen) → s'.path ≡ s.path → ((q : Place) → index q < index p → free_at s'.free q ≡ free_at s.free q) → free_at s'.free p ≡ n → s'.first ≡ s.first → s'.second ≡ s.second
+      look_more : (s' : Seen) → s'.path ≡ s.path → ((q : Role) → index q < index p → free_at s'.free q ≡ free_at s.free q) → free_at s'.free p ≡ n → s'.first ≡ s.first → s'.second ≡ s.second
           → RemembersSeen task more s' (index p + 1)
       look_more s' path frees here first second =
-          let asks : (q : Place) → is_asked s' q ≡ is_asked s q = λ q. ap (λ b. asked_by b s'.second q) first ∙ ap (λ b. asked_by s.first b q) second in
-          let locks : (q : Place) → lock_of task s' q ≡ lock_of task s q = λ q. ap (λ (z : Path). lock_word task.site task.hash z.segment q) path in
+          let asks : (q : Role) → is_asked s' q ≡ is_asked s q = λ q. ap (λ b. asked_by b s'.second q) first ∙ ap (λ b. asked_by s.first b q) second in
+          let locks : (q : Role) → lock_of task s' q ≡ lock_of task s q = λ q. ap (λ (z : Path). lock_word task.site task.hash z.segment q) path in
           record {
             path = subst (λ z. WasFound task.site.geometry task.hash more z) (sym path) (found_more task.site.geometry task.hash ((lock_of task s p, n) ∷ []) loads s.path r.path);
             free = λ q u. elim (upto_more s.first s.second p q (record { low = u.low; asked = sym (asks q) ∙ u.asked })) [
               | inl e ↦
-                  subst (λ (z : Place). Has (lock_of task s' z, free_at s'.free z) more × (free_at s'.free z % 2 ≡ 0)) (sym e)
+                  subst (λ (z : Role). Has (lock_of task s' z, free_at s'.free z) more × (free_at s'.free z % 2 ≡ 0)) (sym e)
                   (inl (ap (λ l. (l, free_at s'.free p)) (locks p) ∙ ap (λ x. (lock_of task s p, x)) here), ap (λ x. x % 2) here ∙ even)
               | inr old ↦
                   let f = r.free q old in
@@ -185,7 +185,7 @@ module _ (task : Task) where
             second = λ e. let m = visit_more (lock_of task s p, n) loads s.path.segment 1 (r.second (sym second ∙ e)) in subst (λ (z : Path). MustVisit task.site.geometry task.hash more z.segment 1) (sym path) m;
           }
 
-    look_in : (s : Seen) (p : Place) (n : ℕ) → n % 2 ≡ 0 → RemembersSeen task loads s (index p) × (is_asked s p ≡ true) → RemembersIn task ((lock_of task s p, n) ∷ loads) (looked (with_free s p n) p)
+    look_in : (s : Seen) (p : Role) (n : ℕ) → n % 2 ≡ 0 → RemembersSeen task loads s (index p) × (is_asked s p ≡ true) → RemembersIn task ((lock_of task s p, n) ∷ loads) (looked (with_free s p n) p)
     look_in s Home n even r = (look_more s Home n even r.0 (with_free s Home n) refl (λ q low. free_other s Home q n low) refl refl refl, refl)
     look_in s Probing n even r = record {
       seen = look_more s Probing n even r.0 (with_free s Probing n) refl (λ q low. free_other s Probing q n low) refl refl refl;
@@ -227,7 +227,7 @@ reading_changes want.Power a r = refl
 reading_changes want.Done a r = refl
 reading_changes w a r = absurd r
 
-pub remembers_next : (op : ReadOp) (site : Site) (n : ℕ) (did : Doings) → wanted op ≢ want.Done → Remembers site op did
+pub remembers_next : (op : ReadOp) (site : Ground) (n : ℕ) (did : Doings) → wanted op ≢ want.Done → Remembers site op did
     → Remembers site (taken op (answer_to (wanted op) n)) (with_event_of (wanted op) (answer_to (wanted op) n) did)
 remembers_next op site n did asks r =
     subst (λ a. Remembers site (taken op a) (with_event_of (wanted op) a did)) (sym (load_value (wanted op) n (load_asked (wanted op) (reads_alone op) asks))) (record {

@@ -17,14 +17,14 @@ use Rattle.map_model.specs.declared.entry.Reply.{Reply}
 use Rattle.map_model.specs.declared.entry.Reply.TheVariants as reply
 use Rattle.map_model.specs.Map.{key_of}
 use Rattle.map_model.specs.Legal.{IsInsert}
-use Rattle.world.specs.declared.site.Site.{Site as Here}
-use Rattle.world.specs.Site.{Site}
+use Rattle.world.specs.declared.site.Site.{Site}
+use Rattle.world.specs.Ground.{Ground}
 use Rattle.world.specs.Views.{View, HasLock}
 use Rattle.world.specs.Wants.{answer_to, word_of}
 use Rattle.part.specs.Doings.{Doings, with_event_of}
 use Rattle.part.specs.Outcomes.{Outcome, replied, again, off}
 use Rattle.part.specs.Causes.{WereFullBefore, NeedsBucket, IsNamed, IsOwnLock, HasReplyCause, HasCause, EndsByCause}
-use Rattle.phase.specs.declared.place.Place.TheVariants as place
+use Rattle.phase.specs.declared.role.Role.TheVariants as place
 use Rattle.phase.specs.declared.take.Take.{Take}
 use Rattle.phase.specs.declared.take.Take.TheVariants.{Look, Try}
 use Rattle.phase.specs.declared.take.Taken.{Taken}
@@ -40,8 +40,8 @@ use Rattle.phase.specs.Takes.{take_wanted, take_taken}
 use Rattle.phase.specs.Loads.{load_taken}
 use Rattle.phase.specs.Makes.{make_taken}
 use Rattle.phase.specs.Taking.{HasTakeCause}
-use Rattle.phase.proofs.Needing.{first_before, second_before, was_full, stash_needed}
-use Rattle.phase.proofs.Causing.{found_named}
+use Rattle.phase.proofs.asking.Needing.{first_before, second_before, was_full, stash_needed}
+use Rattle.phase.proofs.asking.Causing.{found_named}
 use Rattle.phase.proofs.Handing.{key_called}
 use Rattle.phase.proofs.locks.Taking.{take_caused}
 use Rattle.phase.proofs.locks.Giving.{no_some, locks_apart, has_not}
@@ -60,7 +60,7 @@ use Rattle.stash_op.specs.declared.step.StashStep.TheVariants.{Lock, Fill, Note,
 use Rattle.stash_op.specs.declared.step.StashStep.TheVariants as step
 use Rattle.stash_op.specs.declared.step.Stage.{Stage}
 use Rattle.stash_op.specs.Search.{place_of, index_of, noted, has_finger}
-use Rattle.stash_op.specs.Steps.{go, giving, locked_to, made_to, noted_to, lock_of, wanted_in, next_in, wanted, taken, is_over, needs_split, end_of, kept_in}
+use Rattle.stash_op.specs.Steps.{go, giving, locked_to, made_to, noted_to, lock_of, wanted_in, next_in, wanted, taken, is_over, needs_split, kept_in}
 use Rattle.stash_op.specs.Fits.{SuitsStep, IsIn, outcome_of, outcome_at}
 use Rattle.stash_op.specs.StashPart.{RemembersKept, HasPassed, RemembersIn, stash_part}
 use Rattle.stash_op.proofs.Over.{over_done, full}
@@ -78,7 +78,7 @@ bucket_is hash First = refl
 bucket_is hash Second = refl
 
 -- ---- in a world, for the caller with this view
-module _ (site : Site) (kept : Kept) (is : IsIn site kept) (words : Words) (seen : Seen) (v : View) (did : Doings) (call : Call) (hash_is : kept.hash ≡ key_hash kept.site.geometry (key_of call)) (insert : IsInsert call) where
+module _ (site : Ground) (kept : Kept) (is : IsIn site kept) (words : Words) (seen : Seen) (v : View) (did : Doings) (call : Call) (hash_is : kept.hash ≡ key_hash kept.site.geometry (key_of call)) (insert : IsInsert call) where
   abbrev g : Shape
   g = kept.site.geometry
 
@@ -221,9 +221,9 @@ stash_ends_by_cause = record {
       let caused = λ (none : outcome_at op.stage.step ≡ None). step_caused site kept st.is_in words seen v did call hash_is (subst IsInsert st.same st.is_in.insert) op.stage.step st.view r none asks in
       record {
         remembers = recalled site kept st.is_in words seen v did call hash_is (subst IsInsert st.same st.is_in.insert) op.stage.step st.view r asks;
-        caused = λ outcome none some.
+        caused = λ outcome none some rests.
             subst (λ (g : Shape). HasCause g words did call (wanted op) here outcome) st.is_in.shape
-            (subst (λ (z : Here). HasCause kept.site.geometry words did call (wanted op) z outcome) st.at (caused none outcome some).0);
+            (subst (λ (z : Site). HasCause kept.site.geometry words did call (wanted op) z outcome) st.at (caused none outcome some).0);
         worked = λ none some. never_finished (taken op (answer_to (wanted op) (words (word_of site.shape (wanted op))))) some;
         not_own = λ word value none some. (caused none (again (Busy word value)) some).1;
       };

@@ -4,12 +4,12 @@ use Rattle.std.specs.Prelude.{◌==◌, if◌then◌else◌}
 use Rattle.op_core.specs.declared.want.Want.TheVariants as want
 use Rattle.op_core.specs.declared.want.Ans.{Ans}
 use Rattle.op_core.specs.declared.want.Ans.TheVariants.{Value, Won, Lost, Passed}
-use Rattle.world.specs.Site.{Site}
+use Rattle.world.specs.Ground.{Ground}
 use Rattle.world.specs.Views.{Has}
 use Rattle.world.specs.Wants.{answer_to}
 use Rattle.part.specs.Doings.{Doings, with_event_of}
-use Rattle.phase.specs.declared.place.Place.{Place}
-use Rattle.phase.specs.declared.place.Place.TheVariants as place
+use Rattle.phase.specs.declared.role.Role.{Role}
+use Rattle.phase.specs.declared.role.Role.TheVariants as place
 use Rattle.phase.specs.declared.take.Take.{Take}
 use Rattle.phase.specs.declared.take.Take.TheVariants.{Look, Try}
 use Rattle.phase.specs.declared.take.Taken.TheVariants as taking
@@ -33,9 +33,9 @@ use Rattle.phase.specs.Giving.{IsHeld}
 use Rattle.phase.specs.Keeps.{WasLoaded, ChangedLocks, LoadedFull, RemembersRoom}
 use Rattle.phase.specs.Third.{NothingToMove}
 use Rattle.phase.specs.Causes.{WasFound}
-use Rattle.phase.proofs.Asked.{one_place, cases_place}
+use Rattle.phase.proofs.asking.Asked.{one_place, cases_place}
 use Rattle.phase.proofs.Wording.{words_this, words_other}
-use Rattle.phase.proofs.Causing.{has_more, found_more}
+use Rattle.phase.proofs.asking.Causing.{has_more, found_more}
 use Rattle.phase.proofs.Loading.{load_begins, load_stands}
 use Rattle.phase.proofs.locks.Giving.{no_some, held_this, held_other, gone_other, free_less}
 use Rattle.phase.proofs.locks.Taking.{take_remembers}
@@ -58,10 +58,10 @@ use Rattle.stash_op.specs.StashPart.{RemembersKept, HasPassed, RemembersIn, Begi
 
 -- ---- with more that was loaded
 module _ (kept : Kept) (loads more all : List (ℕ × ℕ)) (is : all ≡ more ++ loads) where
-  loaded_more : (p : Place) → WasLoaded kept loads p → WasLoaded kept all p
+  loaded_more : (p : Role) → WasLoaded kept loads p → WasLoaded kept all p
   loaded_more p r j from low = subst (λ (l : List (ℕ × ℕ)). Has (lock_word kept.site kept.hash kept.segment p + j, slice_index (words_in kept.buckets p) j) l) (sym is) (has_more more loads (lock_word kept.site kept.hash kept.segment p + j, slice_index (words_in kept.buckets p) j) (r j from low))
 
-  room_more : (site : Site) → RemembersRoom site kept loads → RemembersRoom site kept all
+  room_more : (site : Ground) → RemembersRoom site kept loads → RemembersRoom site kept all
   room_more site r = record {
     path = r.path;
     there = r.there;
@@ -75,7 +75,7 @@ module _ (kept : Kept) (loads more all : List (ℕ × ℕ)) (is : all ≡ more +
   nothing_more : NothingToMove kept loads → NothingToMove kept all
   nothing_more r = record { next = loaded_more place.Next r.next; previous = loaded_more place.Previous r.previous; moves = r.moves }
 
-module _ (site : Site) (kept : Kept) where
+module _ (site : Ground) (kept : Kept) where
   -- what a stage remembers
   abbrev pub Recalls : Stage → Doings → Type 0
   Recalls stage d = RemembersIn site kept stage.seen d stage.step
@@ -93,7 +93,7 @@ module _ (site : Site) (kept : Kept) where
     passed_more Second p = (loaded_more (kept_in kept seen) d.loads more e.loads is place.First p.0, p.1)
 
   -- ---- locks back
-  by_next : (seen : Seen) (d : Doings) (next : Option (Place × ℕ)) (held : Held) (end : Ending) → RemembersIn site kept seen d (given_by next held end)
+  by_next : (seen : Seen) (d : Doings) (next : Option (Role × ℕ)) (held : Held) (end : Ending) → RemembersIn site kept seen d (given_by next held end)
   by_next seen d (Some next) held end = tt
   by_next seen d None held (ending.Replied answer place) = tt
   by_next seen d None held (ending.Again why) = tt
@@ -124,7 +124,7 @@ module _ (site : Site) (kept : Kept) where
     abbrev lock : ℕ
     lock = lock_of kept (place_of b)
 
-    still_held : (p : Place) (free : ℕ) → IsHeld seen.held p → IsHeld (with_held (place_of b) free seen.held) p
+    still_held : (p : Role) (free : ℕ) → IsHeld seen.held p → IsHeld (with_held (place_of b) free seen.held) p
     still_held p free (value, is) = (
       value,
       held_other seen.held free (place_of b) p (λ e. no_some (sym out ∙ ap (free_of seen.held) (sym (one_place p (place_of b) e)) ∙ is)) ∙ is,
@@ -137,7 +137,7 @@ module _ (site : Site) (kept : Kept) where
     ]
 
     -- without that lock those are held that were
-    was_held : (free : ℕ) (p : Place) → IsHeld (without_held (place_of b) (with_held (place_of b) free seen.held)) p → IsHeld seen.held p
+    was_held : (free : ℕ) (p : Role) → IsHeld (without_held (place_of b) (with_held (place_of b) free seen.held)) p → IsHeld seen.held p
     was_held free p (value, is) =
         let less = free_less (with_held (place_of b) free seen.held) (place_of b) p value is in
         (value, sym (held_other seen.held free (place_of b) p less.1) ∙ less.0)
@@ -175,10 +175,10 @@ module _ (site : Site) (kept : Kept) where
   -- its words are put in, which were loaded, beside those of the others
   module _ (seen : Seen) (d : Doings) (ws : List ℕ) (b : StashBucket) (r : RemembersKept site kept seen d (without_held (place_of b) seen.held))
       (all : (j : ℕ) → 1 ≤ j → j < 32 → Has (lock_of kept (place_of b) + j, slice_index ws j) d.loads) where
-    put_bucket : (p : Place) → IsHeld seen.held p → is_third p ≡ false → WasLoaded (kept_in kept (put_in seen b ws)) d.loads p
+    put_bucket : (p : Role) → IsHeld seen.held p → is_third p ≡ false → WasLoaded (kept_in kept (put_in seen b ws)) d.loads p
     put_bucket p (value, is) own = elim (cases_place p (place_of b)) [
       | inl same ↦
-          subst (λ (z : Place). WasLoaded (kept_in kept (put_in seen b ws)) d.loads z) (sym same)
+          subst (λ (z : Role). WasLoaded (kept_in kept (put_in seen b ws)) d.loads z) (sym same)
           (subst (λ (l : List ℕ). (j : ℕ) → 1 ≤ j → j < 32 → Has (lock_of kept (place_of b) + j, slice_index l j) d.loads) (sym (words_this seen.buckets ws (place_of b))) all)
       | inr apart ↦
           subst (λ (l : List ℕ). (j : ℕ) → 1 ≤ j → j < 32 → Has (lock_of kept p + j, slice_index l j) d.loads) (sym (words_other seen.buckets ws (place_of b) p apart))

@@ -7,8 +7,8 @@ use Rattle.bucket_meta.proofs.Found.{free_at}
 use Rattle.image_layout.specs.Places.{bucket_at}
 use Rattle.sound_image.specs.Records.{key_hash}
 use Rattle.bucket_words.specs.TableChanges.{IsReadyAt}
-use Rattle.world.specs.Site.{Site}
-use Rattle.phase.specs.declared.place.Place.{Place}
+use Rattle.world.specs.Ground.{Ground}
+use Rattle.phase.specs.declared.role.Role.{Role}
 use Rattle.phase.specs.declared.make.Record.{Record}
 use Rattle.phase.specs.declared.kept.Kept.{Kept}
 use Rattle.phase.specs.Places.{bucket_of}
@@ -24,8 +24,8 @@ use Rattle.stash_op.specs.Search.{place_of}
 use Rattle.stash_op.specs.Steps.{lock_of}
 use Rattle.stash_op.specs.Fits.{loaded, prepared, IsChosen, IsIn}
 
-module _ (site : Site) (kept : Kept) (seen : Seen) (c : IsChosen site kept seen) where
-  abbrev pub place : Place
+module _ (site : Ground) (kept : Kept) (seen : Seen) (c : IsChosen site kept seen) where
+  abbrev pub place : Role
   place = place_of seen.bucket
 
   abbrev words : List ℕ
@@ -41,7 +41,7 @@ module _ (site : Site) (kept : Kept) (seen : Seen) (c : IsChosen site kept seen)
   pub key_is : seen.written.key ≡ kept.change.key
   key_is = ap (λ (w : Record). w.key) c.written
 
-  pub value_is : seen.written.value ≡ brought kept.change.deed
+  pub value_is : seen.written.value ≡ brought kept.change.effect
   value_is = ap (λ (w : Record). w.value) c.written
 
   pub published_is : seen.written.published ≡ 1

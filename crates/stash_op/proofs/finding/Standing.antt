@@ -1,15 +1,15 @@
 -- What is held and known: the locks of the buckets of a key, and the words of each that was loaded; and where the key does not stand once
 -- a stash bucket more is loaded.
-use Rattle.std.proofs.Common.{◌≡◌, ℕ, ◌+◌, ◌<◌, ◌≤◌, Option, None, Some, List, ◌∷◌, inl, inr, refl, sym, ap, ◌∙◌, subst, slice_index}
+use Rattle.std.proofs.Common.{◌≡◌, ℕ, ◌+◌, ◌<◌, ◌≤◌, Option, None, Some, List, [], ◌∷◌, inl, inr, refl, sym, ap, ◌∙◌, subst, slice_index}
 use Rattle.trace.specs.Events.{Words}
 use Rattle.image_layout.specs.Places.{bucket_at}
-use Rattle.world.specs.Site.{Site}
+use Rattle.world.specs.Ground.{Ground}
 use Rattle.world.specs.Views.{View, At}
 use Rattle.world.specs.Conditions.{IsNewest}
 use Rattle.world.specs.Invariant.{Holds}
-use Rattle.world.proofs.holding.Beside.{newest_is}
-use Rattle.phase.specs.declared.place.Place.{Place}
-use Rattle.phase.specs.declared.place.Place.TheVariants as place
+use Rattle.world.proofs.calls.deeds.Calls.{newest_without}
+use Rattle.phase.specs.declared.role.Role.{Role}
+use Rattle.phase.specs.declared.role.Role.TheVariants as place
 use Rattle.phase.specs.declared.held.Held.{Held}
 use Rattle.phase.specs.declared.kept.Kept.{Kept}
 use Rattle.phase.specs.Places.{bucket_of}
@@ -21,7 +21,7 @@ use Rattle.phase.specs.Giving.{IsLocated, IsHeld, HoldsLocks}
 use Rattle.phase.specs.Knows.{Knows, IsWhole}
 use Rattle.phase.specs.Finding.{HasLoadedHeld, HoldsBuckets, StandsNowhere}
 use Rattle.phase.specs.Keeps.{IsFull}
-use Rattle.phase.proofs.Asked.{one_place, cases_place}
+use Rattle.phase.proofs.asking.Asked.{one_place, cases_place}
 use Rattle.phase.proofs.Wording.{words_this, words_other}
 use Rattle.phase.proofs.locks.Giving.{no_some, lock_at, held_other}
 use Rattle.phase.proofs.locks.Finding.{words_stand, loads_are_known}
@@ -32,12 +32,12 @@ use Rattle.stash_op.specs.Steps.{put_in, lock_of}
 use Rattle.stash_op.specs.Fits.{loaded, IsHere, HasLoaded, IsIn}
 use Rattle.stash_op.proofs.finding.Fewer.{none_held_has, nowhere_still}
 
-module _ (site : Site) (kept : Kept) (is : IsIn site kept) where
+module _ (site : Ground) (kept : Kept) (is : IsIn site kept) where
   pub located : kept.segment < site.shape.segments → IsLocated site kept.site kept.segment
   located within = record { shape = is.shape; within = within }
 
   -- the words of a bucket, by its number in the segment
-  pub word_at : (seen : Seen) → IsLocated site kept.site kept.segment → (p : Place) (j : ℕ) → 1 ≤ j → j < 32
+  pub word_at : (seen : Seen) → IsLocated site kept.site kept.segment → (p : Role) (j : ℕ) → 1 ≤ j → j < 32
       → loaded kept seen (bucket_at site.shape kept.segment (bucket_of kept.hash p) + j) ≡ slice_index (words_in seen.buckets p) j
   word_at seen at p j from low = ap (λ l. loaded kept seen (l + j)) (sym (lock_at site kept.site kept.hash kept.segment at p))
       ∙ words_stand site kept.site kept.hash kept.segment seen.buckets p at j from low
@@ -66,22 +66,22 @@ module _ (site : Site) (kept : Kept) (is : IsIn site kept) where
     abbrev now : Seen
     now = put_in seen b words
 
-    still_held : (p : Place) → IsHeld before p → IsHeld seen.held p
+    still_held : (p : Role) → IsHeld before p → IsHeld seen.held p
     still_held p was = (
       was.0,
       ap (λ (z : Held). free_of z p) more
           ∙ held_other before free (place_of b) p (λ e. no_some (sym out ∙ ap (free_of before) (sym (one_place p (place_of b) e)) ∙ was.1)) ∙ was.1,
     )
 
-    was_held : (p : Place) → (index p ≡ index (place_of b) → ⊥) → IsHeld seen.held p → IsHeld before p
+    was_held : (p : Role) → (index p ≡ index (place_of b) → ⊥) → IsHeld seen.held p → IsHeld before p
     was_held p apart is_held = (is_held.0, sym (held_other before free (place_of b) p apart) ∙ sym (ap (λ (z : Held). free_of z p) more) ∙ is_held.1)
 
-    apart_of : (p : Place) → IsHeld before p → index p ≡ index (place_of b) → ⊥
+    apart_of : (p : Role) → IsHeld before p → index p ≡ index (place_of b) → ⊥
     apart_of p was e = no_some (sym out ∙ ap (free_of before) (sym (one_place p (place_of b) e)) ∙ was.1)
 
     now_whole : HasLoadedHeld kept.site kept.hash kept.segment seen.held now.buckets u
     now_whole p is_held = elim (cases_place p (place_of b)) [
-      | inl e ↦ subst (λ (z : Place). IsWhole (lock_of kept z) (words_in now.buckets z) u) (sym e)
+      | inl e ↦ subst (λ (z : Role). IsWhole (lock_of kept z) (words_in now.buckets z) u) (sym e)
           (subst (λ (ws : List ℕ). IsWhole (lock_of kept (place_of b)) ws u) (sym (words_this seen.buckets words (place_of b))) all)
       | inr apart ↦ subst (λ (ws : List ℕ). IsWhole (lock_of kept p) ws u) (sym (words_other seen.buckets words (place_of b) p apart)) (h.whole p (was_held p apart is_held))
     ]
@@ -90,7 +90,7 @@ module _ (site : Site) (kept : Kept) (is : IsIn site kept) where
     now_holds = holds_for now u h.there h.leads h.locks (still_held place.Home h.home) (still_held place.Probing h.probing) (loaded kept now)
         (loads_are_known site kept.site kept.hash kept.segment seen.held now.buckets u (located h.there.within) now_whole)
 
-    words_stay : (p : Place) → IsHeld before p → (j : ℕ) → 1 ≤ j → j < 32
+    words_stay : (p : Role) → IsHeld before p → (j : ℕ) → 1 ≤ j → j < 32
         → loaded kept now (bucket_at site.shape kept.segment (bucket_of kept.hash p) + j) ≡ loaded kept seen (bucket_at site.shape kept.segment (bucket_of kept.hash p) + j)
     words_stay p was j from low =
         word_at now (located h.there.within) p j from low
@@ -100,7 +100,7 @@ module _ (site : Site) (kept : Kept) (is : IsIn site kept) where
     before_nowhere : StandsNowhere site.shape kept.hash kept.segment before (loaded kept now) kept.change.key
     before_nowhere = nowhere_still site.shape kept.hash kept.segment before (loaded kept seen) (loaded kept now) kept.change.key h.home h.probing words_stay h.nowhere
 
-    spared_still : (p : Place) → free_of seen.held p ≡ None → free_of before p ≡ None
+    spared_still : (p : Role) → free_of seen.held p ≡ None → free_of before p ≡ None
     spared_still p none = by (free_of before p) refl
       where
         by : (o : Option ℕ) → free_of before p ≡ o → free_of before p ≡ None
@@ -138,9 +138,9 @@ module _ (site : Site) (kept : Kept) (is : IsIn site kept) where
     }
 
 -- ---- what a view knows that learnt a word
-module _ (site : Site) (words : Words) (views : List View) (j : ℕ) (v : View) (h : Holds site words views) (at : At views j v) (i n : ℕ) (found : n ≡ words i) where
+module _ (site : Ground) (words : Words) (views : List View) (j : ℕ) (v : View) (h : Holds site words views) (at : At views j v) (none : v.areas ≡ []) (i n : ℕ) (found : n ≡ words i) where
   pub newest_after : IsNewest site (record v { known = (i, n) ∷ v.known }) words
-  newest_after = let new = newest_is site words views j v h at in record {
+  newest_after = let new = newest_without site words views j v h at none in record {
     structure = new.structure;
     says = new.says;
     pinned = new.pinned;

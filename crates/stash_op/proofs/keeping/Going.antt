@@ -5,14 +5,14 @@ use Rattle.op_core.specs.declared.why.Why.TheVariants.{Busy, Moved}
 use Rattle.trace.specs.Events.{Words}
 use Rattle.map_model.specs.declared.entry.Reply.{Reply}
 use Rattle.map_model.specs.Changes.{call_of}
-use Rattle.world.specs.Site.{Site}
+use Rattle.world.specs.Ground.{Ground}
 use Rattle.world.specs.Views.{View, Has, IsGuarded}
 use Rattle.world.specs.Kinds.{learns, view_after}
 use Rattle.world.specs.Conditions.{IsNewest}
 use Rattle.world.specs.Attempts.{HoldsOnly, EntersReply}
 use Rattle.part.specs.Outcomes.{reply_of}
-use Rattle.phase.specs.declared.place.Place.{Place}
-use Rattle.phase.specs.declared.place.Place.TheVariants as place
+use Rattle.phase.specs.declared.role.Role.{Role}
+use Rattle.phase.specs.declared.role.Role.TheVariants as place
 use Rattle.phase.specs.declared.take.Taken.{Taken}
 use Rattle.phase.specs.declared.take.Taken.TheVariants as taking
 use Rattle.phase.specs.declared.load.Load.{Load}
@@ -47,7 +47,7 @@ use Rattle.stash_op.specs.Fits as fits
 use Rattle.stash_op.proofs.finding.Standing.{located, holds_loaded, put_loaded}
 
 -- the view suits a stage
-abbrev pub SuitsStage : Site → Kept → Stage → View → Type 0
+abbrev pub SuitsStage : Ground → Kept → Stage → View → Type 0
 SuitsStage site kept stage v = SuitsStep site kept stage.seen stage.step v
 
 -- the reply that is decided
@@ -55,11 +55,11 @@ abbrev pub reply_at : StashStep → Option (Reply × ℕ)
 reply_at s = reply_of (outcome_at s)
 
 -- and that it is entered
-abbrev pub Goes : Site → Kept → View → Stage → View → Type 0
+abbrev pub Goes : Ground → Kept → View → Stage → View → Type 0
 Goes site kept before stage u = SuitsStage site kept stage u × EntersReply (call_of kept.change) (reply_at stage.step) before u
 
 -- ---- locks back
-outcome_by : (next : Option (Place × ℕ)) (held : Held) (end : Ending) → outcome_at (given_by next held end) ≡ Some (outcome_then end)
+outcome_by : (next : Option (Role × ℕ)) (held : Held) (end : Ending) → outcome_at (given_by next held end) ≡ Some (outcome_then end)
 outcome_by (Some next) held end = refl
 outcome_by None held (ending.Replied answer place) = refl
 outcome_by None held (ending.Again why) = refl
@@ -103,12 +103,12 @@ taken_quiet seen bucket lock (taking.Moved before after) = giving_again seen.hel
 taken_quiet seen bucket lock taking.Spent = refl
 
 -- ---- views
-module _ (site : Site) (kept : Kept) (is : IsIn site kept) where
+module _ (site : Ground) (kept : Kept) (is : IsIn site kept) where
   end_suits : (seen : Seen) (end : Ending) (u : View) → HoldsOnly [] u → SuitsEnd site kept seen (end_of end) u
   end_suits seen (ending.Replied answer place) u o = o
   end_suits seen (ending.Again why) u o = o
 
-  by_next : (seen : Seen) (held : Held) (end : Ending) (u : View) → IsGiving site kept seen held u → (next : Option (Place × ℕ)) → give_next held ≡ next
+  by_next : (seen : Seen) (held : Held) (end : Ending) (u : View) → IsGiving site kept seen held u → (next : Option (Role × ℕ)) → give_next held ≡ next
       → SuitsStep site kept seen (given_by next held end) u
   by_next seen held end u g (Some next) e = g
   by_next seen held end u g None e =
@@ -182,7 +182,7 @@ module _ (site : Site) (kept : Kept) (is : IsIn site kept) where
       pinned = h.pinned;
       there = h.there;
       leads = h.leads;
-      locks = held_same kept.site kept.hash kept.segment seen.held v (record v { spent_locks = s.0 }) refl refl h.locks;
+      locks = held_same kept.site kept.hash kept.segment seen.held v (record v { spent_locks = s.0 }) refl refl refl h.locks;
       home = h.home;
       probing = h.probing;
       thirds = h.thirds;
@@ -277,7 +277,7 @@ module _ (site : Site) (kept : Kept) (is : IsIn site kept) where
     filled_suits (loaded.All ws) has = all_suits ws has
 
 -- ---- where it begins
-pub begin_suits : (site : Site) (kept : Kept) (v : View) → KeepsAll site kept v → HoldsThirds kept.held → IsIn site kept → SuitsStage site kept (begun kept).stage v
+pub begin_suits : (site : Ground) (kept : Kept) (v : View) → KeepsAll site kept v → HoldsThirds kept.held → IsIn site kept → SuitsStage site kept (begun kept).stage v
 begin_suits site kept v k thirds is = at_first_suits site kept is (nothing kept) v (record {
   pinned = k.pinned;
   there = k.holds.there;

@@ -8,14 +8,14 @@ use Rattle.trace.specs.Events.{Words, with_word}
 use Rattle.map_model.specs.Changes.{call_of}
 use Rattle.bucket_words.specs.Core.{core_of}
 use Rattle.bucket_words.specs.Hits.{Hit}
-use Rattle.world.specs.Site.{Site}
+use Rattle.world.specs.Ground.{Ground}
 use Rattle.world.specs.Views.{Owed, View, Has, At, IsGuarded}
 use Rattle.world.specs.Wants.{word_of}
 use Rattle.world.specs.Conditions.{IsOwed}
 use Rattle.world.specs.Kinds.{of_other_homes, with_store, view_after}
 use Rattle.world.specs.Invariant.{Holds}
 use Rattle.world.specs.Attempts.{HasNoMore}
-use Rattle.phase.specs.declared.place.Place.{Place}
+use Rattle.phase.specs.declared.role.Role.{Role}
 use Rattle.phase.specs.declared.kept.Kept.{Kept}
 use Rattle.phase.specs.Places.{bucket_of}
 use Rattle.phase.specs.Buckets.{words_in}
@@ -41,12 +41,12 @@ use Rattle.stash_op.proofs.finding.Chosen.{slot_low, mark_is, stands_ready}
 use Rattle.stash_op.proofs.keeping.Going.{reply_at, Goes}
 use Rattle.stash_op.proofs.permitting.Noting.{changed_is, mark_same_core, fingers_same_core, hit_stays}
 
-pub owed_now : (site : Site) (kept : Kept) (seen : Seen) (v : View) (words : Words) (views : List View) (j : ℕ) → Holds site words views → At views j v → (part : NoteWord) → IsNoting site kept seen part v
+pub owed_now : (site : Ground) (kept : Kept) (seen : Seen) (v : View) (words : Words) (views : List View) (j : ℕ) → Holds site words views → At views j v → (part : NoteWord) → IsNoting site kept seen part v
     → IsOwed site.shape words (owed kept seen)
-owed_now site kept seen v words views j h at part u = h.overflow.owes j v (owed kept seen) at (subst (λ (l : List Owed). Has (owed kept seen) l) (sym u.owes) (inl refl))
+owed_now site kept seen v words views j h at part u = h.notes_of_homes.owes j v (owed kept seen) at (subst (λ (l : List Owed). Has (owed kept seen) l) (sym u.owes) (inl refl))
 
-module _ (site : Site) (kept : Kept) (is : IsIn site kept) (seen : Seen) (before v : View) (same : HasNoMore before v) (words : Words) (views : List View) (j : ℕ) (h : Holds site words views) (at : At views j v)
-    (small : (place : Place) → AreWords (words_in seen.buckets place)) where
+module _ (site : Ground) (kept : Kept) (is : IsIn site kept) (seen : Seen) (before v : View) (same : HasNoMore before v) (words : Words) (views : List View) (j : ℕ) (h : Holds site words views) (at : At views j v)
+    (small : (place : Role) → AreWords (words_in seen.buckets place)) where
   abbrev n : NoteWords
   n = noted kept.hash seen
 

@@ -6,7 +6,7 @@ use Rattle.map_model.specs.declared.entry.Reply.{Reply}
 use Rattle.map_model.specs.declared.entry.Reply.TheVariants as reply
 use Rattle.map_model.specs.Map.{key_of}
 use Rattle.map_model.specs.Changes.{call_of}
-use Rattle.world.specs.Site.{Site}
+use Rattle.world.specs.Ground.{Ground}
 use Rattle.world.specs.Views.{View, IsGuarded}
 use Rattle.world.specs.Wants.{answer_to}
 use Rattle.world.specs.Kinds.{of_other_keys, next_entry, with_reply, with_draw, view_after}
@@ -39,7 +39,7 @@ use Rattle.stash_op.specs.Fits.{kind_at, IsFilling, IsDrawing, IsGiving, SuitsSt
 use Rattle.stash_op.proofs.finding.Standing.{located}
 use Rattle.stash_op.proofs.keeping.Going.{reply_at, Goes, giving_outcome, giving_suits, give_suits, taken_quiet, filled_quiet, locked_suits, filled_suits}
 
-module _ (site : Site) (kept : Kept) (is : IsIn site kept) (seen : Seen) (before v : View) where
+module _ (site : Ground) (kept : Kept) (is : IsIn site kept) (seen : Seen) (before v : View) where
   -- ---- a lock
   pub lock_goes : (b : StashBucket) (t : Take) (n : ℕ) → n < 2 ^ 64 → SuitsStep site kept seen (Lock b t) v → HasNoMore before v
       → Goes site kept before (locked_to seen b (lock_of kept (place_of b)) (take_taken t (answer_to (take_wanted (lock_of kept (place_of b)) t) n))) (view_after site.shape (take_kind (lock_of kept (place_of b)) t) n v)
@@ -74,7 +74,7 @@ module _ (site : Site) (kept : Kept) (is : IsIn site kept) (seen : Seen) (before
       let u : View = with_reply v (next_entry v (call_of kept.change) reply.Spent n false) in (
         give_suits site kept is seen (ending.Replied reply.Spent n) u (record {
           located = g.located;
-          locks = held_same kept.site kept.hash kept.segment seen.held v u refl refl g.locks;
+          locks = held_same kept.site kept.hash kept.segment seen.held v u refl refl refl g.locks;
           quiet = record { dirty = g.quiet.dirty; flushed = g.quiet.flushed; planned = g.quiet.planned; moving = g.quiet.moving; owed = g.quiet.owed };
         }),
         subst (λ (o : Option (Reply × ℕ)). EntersReply (call_of kept.change) o before u) (sym (ap reply_of (giving_outcome seen.held (ending.Replied reply.Spent n))))
@@ -99,7 +99,7 @@ module _ (site : Site) (kept : Kept) (is : IsIn site kept) (seen : Seen) (before
     draw_goes = (
       give_suits site kept is seen (ending.Replied reply.Done n) after (record {
         located = located site kept is d.all.there.within;
-        locks = held_same kept.site kept.hash kept.segment seen.held v after refl refl d.all.locks;
+        locks = held_same kept.site kept.hash kept.segment seen.held v after refl refl refl d.all.locks;
         quiet = record {
           dirty = nothing_left v.dirty (λ p has. d.settled p (inl has));
           flushed = nothing_left v.flushed (λ p has. d.settled p (inr has));

@@ -5,7 +5,7 @@ use Rattle.bucket_meta.specs.Bucket.{record_slots}
 use Rattle.bucket_meta.specs.Marks.{finger_place}
 use Rattle.map_model.specs.Changes.{call_of}
 use Rattle.frame_facts.specs.Facts.{Fact}
-use Rattle.world.specs.Site.{Site}
+use Rattle.world.specs.Ground.{Ground}
 use Rattle.world.specs.Views.{View, IsGuarded}
 use Rattle.world.specs.Kinds.{view_after}
 use Rattle.world.specs.Attempts.{HasNoMore}
@@ -36,7 +36,7 @@ use Rattle.stash_op.proofs.keeping.Going.{reply_at, Goes}
 pub publishing : (kept : Kept) (seen : Seen) → IsStoring (publish_kind kept seen)
 publishing kept seen = record { wants = λ shape i x. refl; leaves = λ shape i x n v. (call_of kept.change ∷ v.planned, v.moving, owed kept seen ∷ v.owed, refl) }
 
-module _ (site : Site) (kept : Kept) (is : IsIn site kept) (seen : Seen) (before v : View) (same : HasNoMore before v) (m : Make) (c : IsChanging site kept seen m v) where
+module _ (site : Ground) (kept : Kept) (is : IsIn site kept) (seen : Seen) (before v : View) (same : HasNoMore before v) (m : Make) (c : IsChanging site kept seen m v) where
   abbrev lock : ℕ
   lock = lock_of kept (place_of seen.bucket)
 
@@ -82,7 +82,7 @@ module _ (site : Site) (kept : Kept) (is : IsIn site kept) (seen : Seen) (before
   )
 
 -- ---- each of them
-module _ (site : Site) (kept : Kept) (is : IsIn site kept) (seen : Seen) (before v : View) (same : HasNoMore before v) (n : ℕ) where
+module _ (site : Ground) (kept : Kept) (is : IsIn site kept) (seen : Seen) (before v : View) (same : HasNoMore before v) (n : ℕ) where
   abbrev place_lock : ℕ
   place_lock = lock_of kept (place_of seen.bucket)
 
@@ -100,14 +100,14 @@ module _ (site : Site) (kept : Kept) (is : IsIn site kept) (seen : Seen) (before
       (loaded kept seen) (prepared kept seen) m v n c.making
 
   -- a flush or a fence leaves what is held, and so does a store under a lock
-  still_locks : (m : Make) (u : View) → u.held ≡ v.held → u.known ≡ v.known → IsChanging site kept seen m v → HoldsLocks kept.site kept.hash kept.segment seen.held u
-  still_locks m u held known c = held_same kept.site kept.hash kept.segment seen.held v u held known c.all.locks
+  still_locks : (m : Make) (u : View) → u.held ≡ v.held → u.known ≡ v.known → u.areas ≡ v.areas → IsChanging site kept seen m v → HoldsLocks kept.site kept.hash kept.segment seen.held u
+  still_locks m u held known areas c = held_same kept.site kept.hash kept.segment seen.held v u held known areas c.all.locks
 
   line_by : (c : IsChanging site kept seen FlushFingers v) (b : Bool)
       → HasMade place_lock seen.written (IsHere kept seen) (loaded kept seen) (prepared kept seen) (if b then On FenceRecord else On FlushRecord) (after FlushFingers)
       → Goes site kept before (made_to seen (if b then On FenceRecord else On FlushRecord)) (after FlushFingers)
-  line_by c true making = next_goes site kept is seen before v same FlushFingers c (after FlushFingers) FenceRecord (still_locks FlushFingers (after FlushFingers) refl refl c) refl making (others FlushFingers) c.planned c.owes
-  line_by c false making = next_goes site kept is seen before v same FlushFingers c (after FlushFingers) FlushRecord (still_locks FlushFingers (after FlushFingers) refl refl c) refl making (others FlushFingers) c.planned c.owes
+  line_by c true making = next_goes site kept is seen before v same FlushFingers c (after FlushFingers) FenceRecord (still_locks FlushFingers (after FlushFingers) refl refl refl c) refl making (others FlushFingers) c.planned c.owes
+  line_by c false making = next_goes site kept is seen before v same FlushFingers c (after FlushFingers) FlushRecord (still_locks FlushFingers (after FlushFingers) refl refl refl c) refl making (others FlushFingers) c.planned c.owes
 
   pub make_goes : (m : Make) → IsChanging site kept seen m v → Goes site kept before (made_to seen (make_taken seen.written.slot m)) (after m)
   make_goes Key c = next_goes site kept is seen before v same Key c (after Key) Value
@@ -120,18 +120,18 @@ module _ (site : Site) (kept : Kept) (is : IsIn site kept) (seen : Seen) (before
       (held_store kept.site kept.hash kept.segment site.shape seen.held v (fingers_at place_lock seen.written) n seen.written.fingers v.planned v.moving v.owed c.all.locks (fingers_guard site kept is seen before v same Fingers c))
       refl (has_made Fingers c) (others Fingers) c.planned c.owes
   make_goes FlushFingers c = line_by c (nat_lt seen.written.slot 2) (has_made FlushFingers c)
-  make_goes FlushRecord c = next_goes site kept is seen before v same FlushRecord c (after FlushRecord) FenceRecord (still_locks FlushRecord (after FlushRecord) refl refl c) refl (has_made FlushRecord c) (others FlushRecord) c.planned c.owes
-  make_goes FenceRecord c = next_goes site kept is seen before v same FenceRecord c (after FenceRecord) Publish (still_locks FenceRecord (after FenceRecord) refl refl c) refl (has_made FenceRecord c) (others FenceRecord) c.planned c.owes
+  make_goes FlushRecord c = next_goes site kept is seen before v same FlushRecord c (after FlushRecord) FenceRecord (still_locks FlushRecord (after FlushRecord) refl refl refl c) refl (has_made FlushRecord c) (others FlushRecord) c.planned c.owes
+  make_goes FenceRecord c = next_goes site kept is seen before v same FenceRecord c (after FenceRecord) Publish (still_locks FenceRecord (after FenceRecord) refl refl refl c) refl (has_made FenceRecord c) (others FenceRecord) c.planned c.owes
   make_goes Publish c = next_goes site kept is seen before v same Publish c (after Publish) FlushPublished
       (held_store kept.site kept.hash kept.segment site.shape seen.held v (published_at place_lock seen.written) n seen.written.mark (call_of kept.change ∷ v.planned) v.moving (owed kept seen ∷ v.owed) c.all.locks
       (published_guard site kept is seen before v same Publish c))
       refl (has_made Publish c) (others Publish) (ap (λ calls. call_of kept.change ∷ calls) c.planned) (ap (λ os. owed kept seen ∷ os) c.owes)
-  make_goes FlushPublished c = next_goes site kept is seen before v same FlushPublished c (after FlushPublished) FencePublished (still_locks FlushPublished (after FlushPublished) refl refl c) refl (has_made FlushPublished c) (others FlushPublished) c.planned c.owes
+  make_goes FlushPublished c = next_goes site kept is seen before v same FlushPublished c (after FlushPublished) FencePublished (still_locks FlushPublished (after FlushPublished) refl refl refl c) refl (has_made FlushPublished c) (others FlushPublished) c.planned c.owes
   make_goes FencePublished c =
       let made = has_made FencePublished c in
       let u : View = after FencePublished in (
         record {
-          all = all_with site kept is seen before v same FencePublished c u (still_locks FencePublished u refl refl c) refl (others FencePublished);
+          all = all_with site kept is seen before v same FencePublished c u (still_locks FencePublished u refl refl refl c) refl (others FencePublished);
           chosen = c.chosen;
           knows = made.0;
           settled = made.1;

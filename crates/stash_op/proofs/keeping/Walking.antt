@@ -4,19 +4,19 @@ use Rattle.op_core.specs.declared.want.Want.TheVariants as want
 use Rattle.op_core.specs.declared.want.Ans.{Ans}
 use Rattle.op_core.specs.declared.want.Ans.TheVariants.{Passed}
 use Rattle.trace.specs.Events.{Words}
-use Rattle.map_model.specs.declared.change.Deed.{Deed}
-use Rattle.map_model.specs.declared.change.Deed.TheVariants.{Insert, Update, Remove}
+use Rattle.map_model.specs.declared.change.Effect.{Effect}
+use Rattle.map_model.specs.declared.change.Effect.TheVariants.{Insert, Update, Remove}
 use Rattle.map_model.specs.declared.entry.Reply.TheVariants as reply
 use Rattle.map_model.specs.Legal.{IsInsert, IsChange}
 use Rattle.map_model.specs.Changes.{doing, call_of}
-use Rattle.world.specs.Site.{Site}
+use Rattle.world.specs.Ground.{Ground}
 use Rattle.world.specs.Views.{View, At}
 use Rattle.world.specs.Wants.{answer_to, word_of}
 use Rattle.world.specs.Kinds.{refuses, view_after}
 use Rattle.world.specs.Conditions.{May}
 use Rattle.world.specs.Invariant.{Holds}
 use Rattle.world.specs.Attempts.{EntersReply}
-use Rattle.phase.specs.declared.place.Place.{Place}
+use Rattle.phase.specs.declared.role.Role.{Role}
 use Rattle.phase.specs.declared.make.Record.{Record}
 use Rattle.phase.specs.declared.make.Make.{Make}
 use Rattle.phase.specs.declared.make.Make.TheVariants as make
@@ -65,22 +65,22 @@ note_answer kept Mark note n = refl
 note_answer kept Fingers note n = refl
 
 -- ---- a lock word of the last version was found
-change_by : (key : ℕ) (d : Deed) → IsInsert (doing key d) → IsChange (doing key d)
+change_by : (key : ℕ) (d : Effect) → IsInsert (doing key d) → IsChange (doing key d)
 change_by key (Insert value) i = tt
 change_by key (Update value) i = absurd i
 change_by key Remove i = absurd i
 
-spent_may : (site : Site) (kept : Kept) (is : IsIn site kept) (seen : Seen) (v : View) → FoundSpent site kept seen v → May site (refuses (call_of kept.change) reply.Spent) v
-spent_may site kept is seen v spent = (refl, inl (λ a. change_by kept.change.key kept.change.deed is.insert), (λ m words newest map. tt), (λ spends. spent))
+spent_may : (site : Ground) (kept : Kept) (is : IsIn site kept) (seen : Seen) (v : View) → FoundSpent site kept seen v → May site (refuses (call_of kept.change) reply.Spent) v
+spent_may site kept is seen v spent = (refl, inl (λ a. change_by kept.change.key kept.change.effect is.insert), (λ m words newest map. tt), (λ spends. spent))
 
-module _ (site : Site) (kept : Kept) (is : IsIn site kept) (words : Words) (views : List View) (j : ℕ) (before v : View) (h : Holds site words views) (at : At views j v) (seen : Seen)
-    (small : (place : Place) → AreWords (words_in seen.buckets place)) where
+module _ (site : Ground) (kept : Kept) (is : IsIn site kept) (words : Words) (views : List View) (j : ℕ) (before v : View) (h : Holds site words views) (at : At views j v) (seen : Seen)
+    (small : (place : Role) → AreWords (words_in seen.buckets place)) where
   pub step_in : (s : StashStep) (n : ℕ) → n < 2 ^ 64 → n ≡ words (word_of site.shape (wanted_in kept seen s)) → SuitsStep site kept seen s v
       → EntersReply (call_of kept.change) (reply_at s) before v → wanted_in kept seen s ≢ want.Done
       → Goes site kept before (next_in kept seen s (answer_to (wanted_in kept seen s) n)) (view_after site.shape (kind_at kept seen s) n v)
   step_in (Lock b t) n low found suits enters asks = lock_goes site kept is seen before v b t n low suits enters
   step_in (Fill b load) n low found suits enters asks =
-      fill_goes site kept is seen before v b load n words (newest_after site words views j v h at (lock_of kept (place_of b) + load.next % 32) n found) suits enters
+      fill_goes site kept is seen before v b load n words (newest_after site words views j v h at suits.has.locks.areas (lock_of kept (place_of b) + load.next % 32) n found) suits enters
   step_in (step.Make m) n low found suits enters asks =
       subst (λ (a : Ans). Goes site kept before (next_in kept seen (step.Make m) a) (view_after site.shape (kind_at kept seen (step.Make m)) n v)) (sym (make_answer (lock_of kept (place_of seen.bucket)) seen.written m n))
       (make_goes site kept is seen before v enters n m suits)

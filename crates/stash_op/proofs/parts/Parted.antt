@@ -1,5 +1,5 @@
 -- A RECORD THAT COMES TO THE STASH IS A PART of a call: its laws one by one.
-use Rattle.std.proofs.Common.{◌≡◌, ◌≢◌, ℕ, ◌+◌, ◌^◌, ◌<◌, Bool, true, false, Some, refl, sym, ap, ◌∙◌, subst}
+use Rattle.std.proofs.Common.{◌≡◌, ◌≢◌, ℕ, ◌+◌, ◌^◌, ◌<◌, inl, Bool, true, false, Some, refl, sym, ap, ◌∙◌, subst}
 use Rattle.std.proofs.lemmas.Option.{none-some}
 use Rattle.op_core.specs.declared.want.Want.{Want}
 use Rattle.op_core.specs.declared.want.Want.TheVariants as want
@@ -8,13 +8,14 @@ use Rattle.image_layout.specs.Places.{Shape, IsShape}
 use Rattle.image_layout.specs.Volatile.{counter_word}
 use Rattle.map_model.specs.declared.call.Call.{Call}
 use Rattle.map_model.specs.Changes.{call_of}
-use Rattle.world.specs.declared.site.Site.{Site as Here}
-use Rattle.world.specs.Site.{Site, IsSite}
+use Rattle.world.specs.declared.site.Site.{Site}
+use Rattle.world.specs.Ground.{Ground, IsGround}
 use Rattle.world.specs.Views.{View, Has}
 use Rattle.world.specs.Wants.{answer_to, word_of}
-use Rattle.world.specs.Kinds.{Kind, wanted as wanted_by, view_after}
+use Rattle.world.specs.Kinds.{wanted as wanted_by, view_after}
 use Rattle.world.specs.Attempts.{EntersReply}
 use Rattle.world.proofs.stepping.Answers.{is_word}
+use Rattle.world.proofs.calls.deeds.Calls.{calls_may}
 use Rattle.part.specs.Asks.{IsWithin}
 use Rattle.part.specs.Outcomes.{finished, reply_of}
 use Rattle.part.specs.Part.{KeepsSuits, PlansItsCall, IsPart}
@@ -26,7 +27,7 @@ use Rattle.phase.proofs.locks.Taking.{take_fits}
 use Rattle.phase.proofs.locks.Giving.{give_stands}
 use Rattle.phase.proofs.locks.Making.{make_fits}
 use Rattle.phase.proofs.Handing.{none_has, one_has, not_finished}
-use Rattle.phase.proofs.Wanting.{HasFlush, is_fence, Cuts, take_on, give_on}
+use Rattle.phase.proofs.Wanting.{HasFlush, is_fence, Cuts, cuts_call, take_on, give_on}
 use Rattle.stash_op.specs.declared.step.NoteWords.{NoteWords}
 use Rattle.stash_op.specs.declared.step.Seen.{Seen}
 use Rattle.phase.specs.declared.note.NoteWord.{NoteWord}
@@ -43,6 +44,7 @@ use Rattle.stash_op.specs.Fits.{publish_kind, mark_kind, note_kind, kind_at, pla
 use Rattle.stash_op.specs.StashPart.{stash_part, BeginsAsPart, BeginsUndecided, HandsOnAll, NeverFinished}
 use Rattle.stash_op.proofs.Over.{full}
 use Rattle.stash_op.proofs.Falling.{stash_falls, most_at}
+use Rattle.stash_op.proofs.keeping.Areas.{no_areas}
 use Rattle.stash_op.proofs.keeping.Going.{at_first_quiet, begin_suits}
 use Rattle.stash_op.proofs.keeping.Storing.{publishing}
 use Rattle.stash_op.proofs.keeping.Walking.{step_in, may_in}
@@ -51,7 +53,7 @@ use Rattle.stash_op.proofs.parts.Putting.{puts_word, asks_within}
 use Rattle.stash_op.proofs.parts.Parting.{makes_in, stays_in, done_in, bare_in, few_in, flush_in, keeps_in, none_waits}
 
 -- ---- each event is that of its kind
-module _ (site : Site) (kept : Kept) (is : IsIn site kept) (seen : Seen) (v : View) where
+module _ (site : Ground) (kept : Kept) (is : IsIn site kept) (seen : Seen) (v : View) where
   mark_wants : (b : Bool) (i x : ℕ) → want.Store i x ≡ wanted_by site.shape (mark_kind kept seen b i x)
   mark_wants true i x = refl
   mark_wants false i x = refl
@@ -83,7 +85,8 @@ steps site here call words views j op before v h at s asks =
     let goes = λ (small : n < 2 ^ 64). step_in site kept st.is_in words views j before v h at seen st.has.buckets op.stage.step n small refl st.view enters asks in
     record {
       wants = wants_in site kept st.is_in seen v op.stage.step st.view asks;
-      may = may_in site kept st.is_in words views j before v h at seen st.has.buckets op.stage.step st.view asks;
+      may = calls_may site (kind_at kept seen op.stage.step) v (no_areas site kept seen v op.stage.step st.view)
+          (may_in site kept st.is_in words views j before v h at seen st.has.buckets op.stage.step st.view asks);
       stands = λ small. let all = words_after kept seen st.has.buckets op.stage.step a (is_word (wanted op) n small) st.has.load in record {
         same = st.same;
         at = st.at;
@@ -96,7 +99,7 @@ steps site here call words views j op before v h at s asks =
     }
 
 -- ---- what is planned
-module _ (site : Site) (kept : Kept) (seen : Seen) (before v : View) (x : Call) where
+module _ (site : Ground) (kept : Kept) (seen : Seen) (before v : View) (x : Call) where
   abbrev Plans : Type 0
   Plans = (x ≡ call_of kept.change) × (v.own ≡ before.own)
 
@@ -160,7 +163,7 @@ module _ (kept : Kept) (seen : Seen) where
   on_in (Ended end) p = p
 
 -- ---- IT IS A PART
-within : (site : Site) (here : Here) (call : Call) (op : StashOp) (v : View) → IsSite site → StashStands site here call op v → IsWithin site.shape (wanted op)
+within : (site : Ground) (here : Site) (call : Call) (op : StashOp) (v : View) → IsGround site → StashStands site here call op v → IsWithin site.shape (wanted op)
 within site here call op v good st =
     subst (λ (g : Shape). IsWithin g (wanted op)) st.is_in.shape (asks_within site op.kept st.is_in op.stage.seen (subst (λ (g : Shape). IsShape g) (sym st.is_in.shape) good.shape) v op.stage.step st.view)
 
@@ -168,7 +171,7 @@ pub stash_is_part : IsPart stash_part
 stash_is_part = record {
   steps = steps;
   ends = λ site here call op v st over closed. bare_in site op.kept op.stage.seen v op.stage.step st.view over closed;
-  time = record { falls = stash_falls; most = λ op. most_at op.stage.step };
+  time = record { falls = λ op a i. inl (stash_falls op a i); most = λ op. most_at op.stage.step };
   within = λ site here call op before v good s. within site here call op v good s.stands;
   words = λ site here call op before v s.
       puts_word site op.kept s.stands.is_in op.stage.seen v s.stands.has.buckets s.stands.has.key s.stands.has.value op.stage.step s.stands.view;
@@ -184,7 +187,7 @@ stash_is_part = record {
   };
   plans = plans;
   hands = λ op is. let e = full op.stage.step is in ap (wanted_in op.kept op.stage.seen) e.1;
-  power = λ op n e. on_in op.kept op.stage.seen op.stage.step (subst (λ (k : Kind). Cuts k) (sym e) tt);
+  power = λ op n e. on_in op.kept op.stage.seen op.stage.step (cuts_call (kind_at op.kept op.stage.seen op.stage.step) e);
 }
 
 -- ---- where it begins

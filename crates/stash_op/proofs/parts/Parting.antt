@@ -7,13 +7,13 @@ use Rattle.op_core.specs.declared.want.Ans.TheVariants.{Drawn, Passed}
 use Rattle.op_core.specs.Answers.{IsAnswer}
 use Rattle.map_model.specs.declared.entry.Reply.{Reply}
 use Rattle.map_model.specs.declared.entry.Reply.TheVariants as reply
-use Rattle.world.specs.Site.{Site}
+use Rattle.world.specs.Ground.{Ground}
 use Rattle.world.specs.Views.{View}
 use Rattle.world.specs.Wants.{answer_to}
 use Rattle.world.specs.Pairs.{IsPublishingKind}
 use Rattle.world.specs.Attempts.{HoldsOnly}
 use Rattle.part.specs.Outcomes.{IsDone, replied}
-use Rattle.phase.specs.declared.place.Place.{Place}
+use Rattle.phase.specs.declared.role.Role.{Role}
 use Rattle.phase.specs.declared.make.Make.{Make}
 use Rattle.phase.specs.declared.make.Make.TheVariants as make
 use Rattle.phase.specs.declared.make.Made.TheVariants as made
@@ -81,7 +81,7 @@ module _ (kept : Kept) (seen : Seen) where
   either_made true s t p q = p
   either_made false s t p q = q
 
-  given_made : (next : Option (Place × ℕ)) (held : Held) (answer : Reply) (place : ℕ) → IsDone answer → HasMadeAt (given_by next held (ending.Replied answer place))
+  given_made : (next : Option (Role × ℕ)) (held : Held) (answer : Reply) (place : ℕ) → IsDone answer → HasMadeAt (given_by next held (ending.Replied answer place))
   given_made (Some next) held answer place d = d
   given_made None held answer place d = d
 
@@ -125,13 +125,13 @@ done_in kept seen (Give held end) d over = done_then end d
 done_in kept seen s d over = absurd (no ((over_done kept seen s).1 over))
 
 -- ---- ends
-end_bare : (site : Site) (kept : Kept) (seen : Seen) (v : View) (end : StashEnd) → SuitsStep site kept seen (Ended end) v → needs_split (Ended end) ≡ false → HoldsOnly [] v
+end_bare : (site : Ground) (kept : Kept) (seen : Seen) (v : View) (end : StashEnd) → SuitsStep site kept seen (Ended end) v → needs_split (Ended end) ≡ false → HoldsOnly [] v
 end_bare site kept seen v (ends.NeedSplit segment) suits closed = absurd (let f : true ≡ false = closed in cc)
 end_bare site kept seen v (ends.Replied answer place) suits closed = suits
 end_bare site kept seen v (ends.Again why) suits closed = suits
 end_bare site kept seen v ends.Off suits closed = suits
 
-pub bare_in : (site : Site) (kept : Kept) (seen : Seen) (v : View) (s : StashStep) → SuitsStep site kept seen s v → wanted_in kept seen s ≡ want.Done → needs_split s ≡ false → HoldsOnly [] v
+pub bare_in : (site : Ground) (kept : Kept) (seen : Seen) (v : View) (s : StashStep) → SuitsStep site kept seen s v → wanted_in kept seen s ≡ want.Done → needs_split s ≡ false → HoldsOnly [] v
 bare_in site kept seen v (Ended end) suits over closed = end_bare site kept seen v end suits closed
 bare_in site kept seen v (Give held end) suits over closed = give_stands.ends kept.site kept.hash kept.segment held v suits.locks suits.quiet over
 bare_in site kept seen v s suits over closed = absurd (no ((over_done kept seen s).1 over))

@@ -6,18 +6,18 @@ use Rattle.bucket_meta.specs.Marks.{finger_place}
 use Rattle.bucket_meta.specs.NoteWords.{unused_place, noted_fingers, raised_count}
 use Rattle.bucket_meta.proofs.Fingers.{finger_below}
 use Rattle.bucket_meta.proofs.notes.Noted.{noted_fits}
-use Rattle.bucket_meta.proofs.Uppers.{inserted_fits}
+use Rattle.bucket_meta.proofs.fields.Uppers.{inserted_fits}
 use Rattle.trace.specs.Events.{line_of}
 use Rattle.image_layout.specs.Places.{Shape, IsShape, words_of}
 use Rattle.image_layout.specs.Volatile.{all_words_of}
 use Rattle.op_core.specs.declared.want.Want.{Want}
 use Rattle.op_core.specs.declared.want.Want.TheVariants as want
-use Rattle.world.specs.Site.{Site}
+use Rattle.world.specs.Ground.{Ground}
 use Rattle.world.specs.Views.{View}
 use Rattle.world.specs.Wants.{word_of}
 use Rattle.part.specs.Asks.{IsWithin, PutsWord}
-use Rattle.phase.specs.declared.place.Place.{Place}
-use Rattle.phase.specs.declared.place.Place.TheVariants as place
+use Rattle.phase.specs.declared.role.Role.{Role}
+use Rattle.phase.specs.declared.role.Role.TheVariants as place
 use Rattle.phase.specs.declared.take.Take.{Take}
 use Rattle.phase.specs.declared.take.Take.TheVariants.{Look, Try}
 use Rattle.phase.specs.declared.make.Record.{Record}
@@ -30,7 +30,7 @@ use Rattle.phase.specs.Helds.{give_next, give_wanted_of}
 use Rattle.phase.specs.Buckets.{words_in}
 use Rattle.phase.specs.Giving.{IsLocated}
 use Rattle.phase.specs.AreWords.{AreWords}
-use Rattle.phase.proofs.Asking.{lock_within}
+use Rattle.phase.proofs.asking.Asking.{lock_within}
 use Rattle.phase.proofs.locks.Giving.{lock_at}
 use Rattle.phase.proofs.locks.Storing.{place_near}
 use Rattle.phase.proofs.Wanting.{number_of, take_small, give_small}
@@ -67,7 +67,7 @@ noted_small bucket words finger index small (Some i) e rest w r = record {
 }
 noted_small bucket words finger index small None e rest w r = r
 
-module _ (kept : Kept) (seen : Seen) (all : (p : Place) → AreWords (words_in seen.buckets p)) where
+module _ (kept : Kept) (seen : Seen) (all : (p : Role) → AreWords (words_in seen.buckets p)) where
   abbrev finger : ℕ
   finger = finger_of kept.hash
 
@@ -85,7 +85,7 @@ module _ (kept : Kept) (seen : Seen) (all : (p : Place) → AreWords (words_in s
       (noted_or Probing seen.buckets.probing finger index (unused_place (slice_index seen.buckets.probing 1)) counted) (all place.Home)
       (noted_small Probing seen.buckets.probing finger index (omega arith) (unused_place (slice_index seen.buckets.probing 1)) refl counted (all place.Probing) counted_small)
 
-module _ (site : Site) (kept : Kept) (is : IsIn site kept) (seen : Seen) (v : View) (all : (p : Place) → AreWords (words_in seen.buckets p)) (key : kept.change.key < 2 ^ 64) (value : brought kept.change.deed < 2 ^ 64) where
+module _ (site : Ground) (kept : Kept) (is : IsIn site kept) (seen : Seen) (v : View) (all : (p : Role) → AreWords (words_in seen.buckets p)) (key : kept.change.key < 2 ^ 64) (value : brought kept.change.effect < 2 ^ 64) where
   make_small : (m : Make) → IsChosen site kept seen → number_of (make_wanted (lock_of kept (place_of seen.bucket)) seen.written m) < 2 ^ 64
   make_small make.Key c = subst (λ x. x < 2 ^ 64) (sym (key_is site kept seen c)) key
   make_small make.Value c = subst (λ x. x < 2 ^ 64) (sym (value_is site kept seen c)) value
@@ -122,18 +122,18 @@ module _ (site : Site) (kept : Kept) (is : IsIn site kept) (seen : Seen) (v : Vi
       }
 
 -- ---- words of the image
-module _ (site : Site) (kept : Kept) (is : IsIn site kept) (seen : Seen) (shape : IsShape kept.site.geometry) where
+module _ (site : Ground) (kept : Kept) (is : IsIn site kept) (seen : Seen) (shape : IsShape kept.site.geometry) where
   abbrev g : Shape
   g = kept.site.geometry
 
   -- a word of one of the buckets
-  here_within : (p : Place) (n : ℕ) → n < 32 → lock_of kept p + n < all_words_of g
+  here_within : (p : Role) (n : ℕ) → n < 32 → lock_of kept p + n < all_words_of g
   here_within p n low = let w = lock_within kept.site kept.hash kept.segment shape p n low in omega (arith, w)
 
   published_low : IsChosen site kept seen → seen.written.published < 32
   published_low c = let w = published_is site kept seen c in omega (arith, w)
 
-  abbrev bucket : Place
+  abbrev bucket : Role
   bucket = place_of seen.bucket
 
   make_within : (m : Make) → IsChosen site kept seen → word_of g (make_wanted (lock_of kept bucket) seen.written m) < all_words_of g
@@ -151,11 +151,11 @@ module _ (site : Site) (kept : Kept) (is : IsIn site kept) (seen : Seen) (shape 
   note_within Mark n = here_within (note_place n.bucket) 1 (omega arith)
   note_within Fingers n = here_within (note_place n.bucket) 3 (omega arith)
 
-  take_within : (p : Place) (t : Take) → word_of g (take_wanted (lock_of kept p) t) < all_words_of g
+  take_within : (p : Role) (t : Take) → word_of g (take_wanted (lock_of kept p) t) < all_words_of g
   take_within p Look = let w = here_within p 0 (omega arith) in omega (arith, w)
   take_within p (Try free) = let w = here_within p 0 (omega arith) in omega (arith, w)
 
-  give_within : (next : Option (Place × ℕ)) → word_of g (give_wanted_of kept.site kept.hash kept.segment next) < all_words_of g
+  give_within : (next : Option (Role × ℕ)) → word_of g (give_wanted_of kept.site kept.hash kept.segment next) < all_words_of g
   give_within (Some next) = let w = here_within next.0 0 (omega arith) in omega (arith, w)
   give_within None = omega arith
 
@@ -174,7 +174,7 @@ module _ (site : Site) (kept : Kept) (is : IsIn site kept) (seen : Seen) (shape 
   HasLine (want.Flush l) = 8 * l + 8 ≤ words_of g
   HasLine w = ⊤
 
-  line_here : IsLocated site kept.site kept.segment → (p : Place) (k : ℕ) → k < 32 → 8 * line_of (lock_of kept p + k) + 8 ≤ words_of g
+  line_here : IsLocated site kept.site kept.segment → (p : Role) (k : ℕ) → k < 32 → 8 * line_of (lock_of kept p + k) + 8 ≤ words_of g
   line_here at p k low =
       let e = lock_at site kept.site kept.hash kept.segment at p in
       let w = lock_within kept.site kept.hash kept.segment shape p 31 (omega arith) in
@@ -189,7 +189,7 @@ module _ (site : Site) (kept : Kept) (is : IsIn site kept) (seen : Seen) (shape 
   make_line at make.FlushPublished c = line_here at bucket seen.written.published (published_low c)
   make_line at m c = tt
 
-  take_line : (p : Place) (t : Take) → HasLine (take_wanted (lock_of kept p) t)
+  take_line : (p : Role) (t : Take) → HasLine (take_wanted (lock_of kept p) t)
   take_line p Look = tt
   take_line p (Try free) = tt
 
@@ -197,7 +197,7 @@ module _ (site : Site) (kept : Kept) (is : IsIn site kept) (seen : Seen) (shape 
   note_line Mark n = tt
   note_line Fingers n = tt
 
-  give_line : (next : Option (Place × ℕ)) → HasLine (give_wanted_of kept.site kept.hash kept.segment next)
+  give_line : (next : Option (Role × ℕ)) → HasLine (give_wanted_of kept.site kept.hash kept.segment next)
   give_line (Some next) = tt
   give_line None = tt
 

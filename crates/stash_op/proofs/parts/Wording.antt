@@ -4,7 +4,7 @@ use Rattle.std.specs.Prelude.{nat_lt, if◌then◌else◌}
 use Rattle.op_core.specs.declared.want.Ans.{Ans}
 use Rattle.op_core.specs.declared.want.Ans.TheVariants.{Value, Passed, Drawn}
 use Rattle.op_core.specs.Answers.{IsWord}
-use Rattle.phase.specs.declared.place.Place.{Place}
+use Rattle.phase.specs.declared.role.Role.{Role}
 use Rattle.phase.specs.declared.take.Taken.{Taken}
 use Rattle.phase.specs.declared.take.Taken.TheVariants as taking
 use Rattle.phase.specs.declared.load.Load.{Load}
@@ -34,9 +34,9 @@ use Rattle.stash_op.specs.Steps.{go, given_by, give, in_second, at_second, in_fi
 use Rattle.stash_op.specs.Fits.{HasWordsAt}
 
 abbrev pub Words : Stage → Type 0
-Words st = ((p : Place) → AreWords (words_in st.seen.buckets p)) × HasWordsAt st.step
+Words st = ((p : Role) → AreWords (words_in st.seen.buckets p)) × HasWordsAt st.step
 
-by_next : (next : Option (Place × ℕ)) (held : Held) (end : Ending) → HasWordsAt (given_by next held end)
+by_next : (next : Option (Role × ℕ)) (held : Held) (end : Ending) → HasWordsAt (given_by next held end)
 by_next (Some next) held end = tt
 by_next None held end = tt
 
@@ -44,7 +44,7 @@ both_words : (b : Bool) (s t : Stage) → Words s → Words t → Words (if b th
 both_words true s t p q = p
 both_words false s t p q = q
 
-module _ (kept : Kept) (seen : Seen) (all : (p : Place) → AreWords (words_in seen.buckets p)) where
+module _ (kept : Kept) (seen : Seen) (all : (p : Role) → AreWords (words_in seen.buckets p)) where
   give_words : (end : Ending) → Words (give seen end)
   give_words end = (all, by_next (give_next seen.held) seen.held end)
 
@@ -75,7 +75,7 @@ module _ (kept : Kept) (seen : Seen) (all : (p : Place) → AreWords (words_in s
   taken_words b lock (taking.Moved before after) = give_words _
   taken_words b lock taking.Spent = (all, tt)
 
-module _ (kept : Kept) (seen : Seen) (all : (p : Place) → AreWords (words_in seen.buckets p)) where
+module _ (kept : Kept) (seen : Seen) (all : (p : Role) → AreWords (words_in seen.buckets p)) where
   filled_words : (b : StashBucket) (words : List ℕ) → AreWords words → Words (filled_with kept seen b words)
   filled_words b words a = searched_words kept (put_in seen b words) (put_words seen.buckets (place_of b) words a all) b
 

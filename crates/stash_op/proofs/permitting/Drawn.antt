@@ -3,7 +3,7 @@ use Rattle.std.proofs.Common.{ℕ, List, inl, refl, sym, subst}
 use Rattle.map_model.specs.declared.call.Call.{Call}
 use Rattle.map_model.specs.Changes.{call_of}
 use Rattle.bucket_words.specs.Hits.{Hit}
-use Rattle.world.specs.Site.{Site}
+use Rattle.world.specs.Ground.{Ground}
 use Rattle.world.specs.Views.{Owed, View, Has}
 use Rattle.world.specs.Kinds.{draws_place}
 use Rattle.world.specs.Conditions.{May}
@@ -19,7 +19,7 @@ use Rattle.stash_op.specs.Search.{place_of}
 use Rattle.stash_op.specs.Fits.{IsDrawing, IsIn}
 use Rattle.stash_op.proofs.permitting.Publishing.{holds_all}
 
-module _ (site : Site) (kept : Kept) (is : IsIn site kept) (seen : Seen) (v : View) (d : IsDrawing site kept seen v) where
+module _ (site : Ground) (kept : Kept) (is : IsIn site kept) (seen : Seen) (v : View) (d : IsDrawing site kept seen v) where
   abbrev call : Call
   call = call_of kept.change
 

@@ -13,14 +13,14 @@ use Rattle.bucket_words.specs.Hits.{Hit}
 use Rattle.bucket_words.proofs.segments.Cores.{core_in}
 use Rattle.bucket_words.proofs.segments.Places.{other_word, this_word}
 use Rattle.bucket_words.proofs.segments.Noted.{notes_by}
-use Rattle.world.specs.Site.{Site}
+use Rattle.world.specs.Ground.{Ground}
 use Rattle.world.specs.Views.{Owed, View, Has}
 use Rattle.world.specs.Kinds.{repays}
 use Rattle.world.specs.Conditions.{May, IsOwed}
 use Rattle.world.specs.Holders.{KnowsBucket, KeepsNeighbours, TouchesNote}
 use Rattle.world.proofs.holding.Repaying.{may_repay}
-use Rattle.phase.specs.declared.place.Place.{Place}
-use Rattle.phase.specs.declared.place.Place.TheVariants as place
+use Rattle.phase.specs.declared.role.Role.{Role}
+use Rattle.phase.specs.declared.role.Role.TheVariants as place
 use Rattle.phase.specs.declared.kept.Kept.{Kept}
 use Rattle.phase.specs.Places.{bucket_of}
 use Rattle.phase.specs.Buckets.{words_in}
@@ -150,7 +150,7 @@ three_stays Home x g = refl
 three_stays Probing x g = refl
 
 -- ---- by the hash
-module _ (site : Site) (kept : Kept) (is : IsIn site kept) (seen : Seen) (v : View) (part : NoteWord) (u : IsNoting site kept seen part v) (words : (place : Place) → AreWords (words_in seen.buckets place)) where
+module _ (site : Ground) (kept : Kept) (is : IsIn site kept) (seen : Seen) (v : View) (part : NoteWord) (u : IsNoting site kept seen part v) (words : (place : Role) → AreWords (words_in seen.buckets place)) where
   abbrev b : ℕ
   b = home_of kept.hash
 
@@ -261,7 +261,7 @@ module _ (site : Site) (kept : Kept) (is : IsIn site kept) (seen : Seen) (v : Vi
 
     -- ---- a store to a word of it
     module _ (w : Words) (g k : Four) (has : HasFour site.shape s b near w g) (knows : Knows (IsHere kept seen) w v) where
-      holds_here : (p : Place) → IsHeld seen.held p → KnowsBucket site.shape v s (bucket_of kept.hash p) w
+      holds_here : (p : Role) → IsHeld seen.held p → KnowsBucket site.shape v s (bucket_of kept.hash p) w
       holds_here p held = holders_find.bucket site kept.site kept.hash s seen.held w kept.change.key v (holds_all site kept is seen v u.all w knows) u.settled p held
 
       touches : (m x : ℕ) → (m ≡ 1) ⊎ (m ≡ 3) → core_in_bucket m x ≡ core_in_bucket m (w (bucket_at site.shape s c + m)) → m < 32

@@ -4,25 +4,25 @@ use Rattle.hash_word.specs.Hash.{home_of, finger_of}
 use Rattle.bucket_meta.specs.Bucket.{record_slots, overflow_count}
 use Rattle.bucket_meta.specs.Marks.{inserted_mark}
 use Rattle.bucket_meta.proofs.Marks.{takes_slot}
-use Rattle.bucket_meta.proofs.Uppers.{inserted_upper}
+use Rattle.bucket_meta.proofs.fields.Uppers.{inserted_upper}
 use Rattle.trace.specs.Events.{Words}
 use Rattle.image_layout.specs.Places.{Shape, bucket_at, homes, stash_buckets}
 use Rattle.sound_image.specs.Records.{key_hash, notes_of, word_in}
 use Rattle.map_model.specs.declared.call.Call.{Call}
 use Rattle.map_model.specs.declared.call.Call.TheVariants as call
-use Rattle.map_model.specs.declared.change.Deed.{Deed}
-use Rattle.map_model.specs.declared.change.Deed.TheVariants.{Insert, Update, Remove}
+use Rattle.map_model.specs.declared.change.Effect.{Effect}
+use Rattle.map_model.specs.declared.change.Effect.TheVariants.{Insert, Update, Remove}
 use Rattle.map_model.specs.Legal.{IsInsert}
 use Rattle.map_model.specs.Changes.{doing}
 use Rattle.bucket_words.specs.Buckets.{value_in}
 use Rattle.bucket_words.specs.TableChanges.{IsReadyAt}
-use Rattle.world.specs.Site.{Site}
+use Rattle.world.specs.Ground.{Ground}
 use Rattle.world.specs.Views.{Owed, View, HasLock}
 use Rattle.world.specs.Kinds.{Kind, stashes}
 use Rattle.world.specs.Conditions.{May}
 use Rattle.world.specs.Holders.{FoundNone, KnowsBucket, TakesSlot}
 use Rattle.world.proofs.holding.Holders.{may_place}
-use Rattle.phase.specs.declared.place.Place.{Place}
+use Rattle.phase.specs.declared.role.Role.{Role}
 use Rattle.phase.specs.declared.make.Make.{Make}
 use Rattle.phase.specs.declared.make.Make.TheVariants.{Publish}
 use Rattle.phase.specs.declared.kept.Kept.{Kept}
@@ -61,13 +61,13 @@ index_low First = omega arith
 index_low Second = omega arith
 
 -- the call is an insert of its key
-insert_by : (key : ℕ) (d : Deed) → IsInsert (doing key d) → doing key d ≡ call.Insert key (brought d)
+insert_by : (key : ℕ) (d : Effect) → IsInsert (doing key d) → doing key d ≡ call.Insert key (brought d)
 insert_by key (Insert value) i = refl
 insert_by key (Update value) i = absurd i
 insert_by key Remove i = absurd i
 
 -- ---- what is held
-module _ (site : Site) (kept : Kept) (is : IsIn site kept) (seen : Seen) (v : View) (a : HasAll site kept seen v) where
+module _ (site : Ground) (kept : Kept) (is : IsIn site kept) (seen : Seen) (v : View) (a : HasAll site kept seen v) where
   pub located_all : IsLocated site kept.site kept.segment
   located_all = located site kept is a.there.within
 
@@ -75,7 +75,7 @@ module _ (site : Site) (kept : Kept) (is : IsIn site kept) (seen : Seen) (v : Vi
   holds_all w knows = holds_for site kept is seen v a.there a.leads a.locks a.home a.probing w knows
 
 -- ---- the stores but the one
-module _ (site : Site) (kept : Kept) (is : IsIn site kept) (seen : Seen) (v : View) (m : Make) (c : IsChanging site kept seen m v) where
+module _ (site : Ground) (kept : Kept) (is : IsIn site kept) (seen : Seen) (v : View) (m : Make) (c : IsChanging site kept seen m v) where
   has_lock : HasLock v.held (lock_of kept (place_of seen.bucket))
   has_lock = held_has kept.site kept.hash kept.segment seen.held (place_of seen.bucket) v c.all.locks c.all.bucket
 
@@ -85,11 +85,11 @@ module _ (site : Site) (kept : Kept) (is : IsIn site kept) (seen : Seen) (v : Vi
       (λ new. fits_slot site kept seen c.chosen (located_all site kept is seen v c.all)) has_lock (λ i under. (place_of seen.bucket, c.all.bucket, under)) c.making other
 
 -- ---- the one
-module _ (site : Site) (kept : Kept) (is : IsIn site kept) (seen : Seen) (v : View) (c : IsChanging site kept seen Publish v) (words : (place : Place) → AreWords (words_in seen.buckets place)) where
+module _ (site : Ground) (kept : Kept) (is : IsIn site kept) (seen : Seen) (v : View) (c : IsChanging site kept seen Publish v) (words : (place : Role) → AreWords (words_in seen.buckets place)) where
   abbrev key : ℕ
   key = kept.change.key
 
-  abbrev place : Place
+  abbrev place : Role
   place = place_of seen.bucket
 
   abbrev b : ℕ
@@ -141,7 +141,7 @@ module _ (site : Site) (kept : Kept) (is : IsIn site kept) (seen : Seen) (v : Vi
   ready : IsReadyAt site.shape word kept.segment b slot key
   ready = stands_ready site kept seen c.chosen at is
 
-  value_there : value_in word here slot ≡ brought kept.change.deed
+  value_there : value_in word here slot ≡ brought kept.change.effect
   value_there = ap (λ l. value_in word l slot) (sym lock_here)
       ∙ prepares_record.value site.shape (loaded kept seen) kept.segment b lock (finger_of kept.hash) seen.written fits
       ∙ value_is site kept seen c.chosen
@@ -179,18 +179,18 @@ module _ (site : Site) (kept : Kept) (is : IsIn site kept) (seen : Seen) (v : Vi
   place_is = ap (λ l. l + seen.written.published) lock_here ∙ ap (λ j. here + j) (published_is site kept seen c.chosen)
       ∙ ap (λ d. bucket_at site.shape kept.segment d + 1) (bucket_is kept.hash seen.bucket)
 
-  kind_is : (i x : ℕ) → publish_kind kept seen i x ≡ stashes i x (call.Insert key (brought kept.change.deed)) (owing site.shape (key_hash site.shape key))
-  kind_is i x = ap (λ (d : Call). stashes i x d (owed kept seen)) (insert_by key kept.change.deed is.insert) ∙ ap (λ o. stashes i x (call.Insert key (brought kept.change.deed)) o) owed_is
+  kind_is : (i x : ℕ) → publish_kind kept seen i x ≡ stashes i x (call.Insert key (brought kept.change.effect)) (owing site.shape (key_hash site.shape key))
+  kind_is i x = ap (λ (d : Call). stashes i x d (owed kept seen)) (insert_by key kept.change.effect is.insert) ∙ ap (λ o. stashes i x (call.Insert key (brought kept.change.effect)) o) owed_is
 
   pub publish_may : May site (publish_kind kept seen (published_at lock seen.written) seen.written.mark) v
   publish_may =
       let to = bucket_is kept.hash seen.bucket in
       subst (λ (k : Kind). May site k v)
       (sym (kind_is (published_at lock seen.written) seen.written.mark
-      ∙ ap (λ i. stashes i seen.written.mark (call.Insert key (brought kept.change.deed)) (owing site.shape (key_hash site.shape key))) place_is
-      ∙ ap (λ x. stashes (bucket_at site.shape kept.segment (homes + index_of seen.bucket) + 1) x (call.Insert key (brought kept.change.deed)) (owing site.shape (key_hash site.shape key))) (mark_is site kept seen c.chosen)))
-      ((may_place site v).stash kept.segment (index_of seen.bucket) slot key (brought kept.change.deed) (inserted_mark meta slot) word none (index_low seen.bucket)
+      ∙ ap (λ i. stashes i seen.written.mark (call.Insert key (brought kept.change.effect)) (owing site.shape (key_hash site.shape key))) place_is
+      ∙ ap (λ x. stashes (bucket_at site.shape kept.segment (homes + index_of seen.bucket) + 1) x (call.Insert key (brought kept.change.effect)) (owing site.shape (key_hash site.shape key))) (mark_is site kept seen c.chosen)))
+      ((may_place site v).stash kept.segment (index_of seen.bucket) slot key (brought kept.change.effect) (inserted_mark meta slot) word none (index_low seen.bucket)
       (subst (λ (d : ℕ). KnowsBucket site.shape v kept.segment d word) to knows_here)
       (subst (λ (d : ℕ). IsReadyAt site.shape word kept.segment d slot key) to ready)
-      (subst (λ (d : ℕ). value_in word (bucket_at site.shape kept.segment d) slot ≡ brought kept.change.deed) to value_there)
+      (subst (λ (d : ℕ). value_in word (bucket_at site.shape kept.segment d) slot ≡ brought kept.change.effect) to value_there)
       (subst (λ (d : ℕ). TakesSlot site.shape d slot key (word (bucket_at site.shape kept.segment d + 1)) (inserted_mark meta slot)) to takes))

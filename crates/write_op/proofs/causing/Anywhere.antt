@@ -4,13 +4,13 @@ use Rattle.std.specs.Prelude.{⊤, nat_le, if◌then◌else◌}
 use Rattle.op_core.specs.declared.want.Ans.{Ans}
 use Rattle.op_core.specs.declared.want.Ans.TheVariants.{Value, Drawn, Passed}
 use Rattle.op_core.specs.declared.why.Why.TheVariants.{Busy, Moved}
-use Rattle.map_model.specs.declared.change.Deed.{Deed}
-use Rattle.map_model.specs.declared.change.Deed.TheVariants.{Insert, Update, Remove}
+use Rattle.map_model.specs.declared.change.Effect.{Effect}
+use Rattle.map_model.specs.declared.change.Effect.TheVariants.{Insert, Update, Remove}
 use Rattle.map_model.specs.declared.entry.Reply.TheVariants as reply
 use Rattle.world.specs.Wants.{answer_to}
 use Rattle.part.specs.Doings.{Doings, with_event_of, nothing_done}
-use Rattle.phase.specs.declared.place.Place.{Place}
-use Rattle.phase.specs.declared.place.Place.TheVariants.{Home, Probing, First, Second, Next, Previous}
+use Rattle.phase.specs.declared.role.Role.{Role}
+use Rattle.phase.specs.declared.role.Role.TheVariants.{Home, Probing, First, Second, Next, Previous}
 use Rattle.phase.specs.declared.walk.Walked.{Walked}
 use Rattle.phase.specs.declared.walk.Walked.TheVariants as walked
 use Rattle.phase.specs.declared.take.Take.{Take}
@@ -32,7 +32,7 @@ use Rattle.phase.specs.Takes.{take_taken}
 use Rattle.phase.specs.Backs.{back_taken}
 use Rattle.phase.specs.Loads.{load_taken}
 use Rattle.phase.specs.Makes.{make_taken}
-use Rattle.phase.proofs.Asked.{few, near_asked, none_before, upto_up}
+use Rattle.phase.proofs.asking.Asked.{few, near_asked, none_before, upto_up}
 use Rattle.phase.proofs.locks.Giving.{none_free}
 use Rattle.write_op.specs.declared.step.Task.{Task}
 use Rattle.write_op.specs.declared.step.Spot.{Spot}
@@ -69,7 +69,7 @@ both : (b : Bool) (s t : Stage) → Holds s → Holds t → Holds (if b then s e
 both true s t p q = p
 both false s t p q = q
 
-given_holds : (seen : Seen) (next : Option (Place × ℕ)) (held : Held) (end : Ending) → HoldsIn seen (given_by next held end)
+given_holds : (seen : Seen) (next : Option (Role × ℕ)) (held : Held) (end : Ending) → HoldsIn seen (given_by next held end)
 given_holds seen (Some next) held end = tt
 given_holds seen None held end = tt
 
@@ -90,7 +90,7 @@ module _ (task : Task) (seen : Seen) where
   walked_holds none (walked.Amiss word value) = tt
   walked_holds none (walked.Stale segment version) = tt
 
-  held_holds : (place : Place) (free : ℕ) (lock : ℕ) → HoldsUpto seen (index place) → is_asked seen place ≡ true → Holds (locked_to seen place lock (taking.Held free))
+  held_holds : (place : Role) (free : ℕ) (lock : ℕ) → HoldsUpto seen (index place) → is_asked seen place ≡ true → Holds (locked_to seen place lock (taking.Held free))
   held_holds Home free lock h asked = (holds_more seen Home free refl h, refl)
   held_holds Probing free lock h asked = holds_more seen Probing free refl h
   held_holds First free lock h asked = holds_more seen First free asked h
@@ -98,7 +98,7 @@ module _ (task : Task) (seen : Seen) where
   held_holds Next free lock h asked = never (sym asked)
   held_holds Previous free lock h asked = never (sym asked)
 
-  taken_holds : (place : Place) (lock : ℕ) (x : Taken) → HoldsUpto seen (index place) → is_asked seen place ≡ true → Holds (locked_to seen place lock x)
+  taken_holds : (place : Role) (lock : ℕ) (x : Taken) → HoldsUpto seen (index place) → is_asked seen place ≡ true → Holds (locked_to seen place lock x)
   taken_holds place lock (taking.On take) h asked = (h, asked)
   taken_holds place lock (taking.Held free) h asked = held_holds place free lock h asked
   taken_holds place lock (taking.Busy value) h asked = giving_holds seen seen.held (ending.Again (Busy lock value))
@@ -131,7 +131,7 @@ module _ (task : Task) (seen : Seen) where
     others = λ p out. h.others p (λ u. out (record { low = few s.first s.second p u.asked; asked = u.asked }));
   }
 
-  all_holds : (s : Seen) (place : Place) → HoldsUpto s (looked_by place) → Holds (filled task.hash s place)
+  all_holds : (s : Seen) (place : Role) → HoldsUpto s (looked_by place) → Holds (filled task.hash s place)
   all_holds s Home h = h
   all_holds s Probing h = first_holds (with_visits task.hash s) (visits_holds s h) (with_visits task.hash s).first refl
   all_holds s First h = second_holds s h s.second refl
@@ -139,7 +139,7 @@ module _ (task : Task) (seen : Seen) where
   all_holds s Next h = fewer_holds s 5 (omega arith) h
   all_holds s Previous h = fewer_holds s 6 (omega arith) h
 
-  filled_holds : (place : Place) (x : Loaded) → HoldsUpto seen (looked_by place) → Holds (filled_to task.hash seen place x)
+  filled_holds : (place : Role) (x : Loaded) → HoldsUpto seen (looked_by place) → Holds (filled_to task.hash seen place x)
   filled_holds place (loaded.On load) h = h
   filled_holds place (loaded.All words) h = all_holds (record seen { buckets = with_words place words seen.buckets }) place (record { these = h.these; others = h.others })
 
@@ -152,7 +152,7 @@ module _ (task : Task) (seen : Seen) where
   changing_holds count (Some spot) = tt
   changing_holds count None = giving_holds seen seen.held _
 
-  decided_holds : (count : ℕ) (d : Deed) → Holds (decided task seen count d)
+  decided_holds : (count : ℕ) (d : Effect) → Holds (decided task seen count d)
   decided_holds count (Insert value) = inserting_holds count (found seen task.change.key) (room_in seen.buckets)
   decided_holds count (Update value) = changing_holds count (found seen task.change.key)
   decided_holds count Remove = changing_holds count (found seen task.change.key)
@@ -171,16 +171,16 @@ module _ (task : Task) (seen : Seen) where
   next_holds (Lock place take) a h = taken_holds place (lock_of task seen place) (take_taken take a) h.0 h.1
   next_holds (Check back) (Value n) h = backed_holds (back_taken task.site task.hash seen.path back n) h
   next_holds (Fill place load) (Value n) h = filled_holds place (load_taken load n) h
-  next_holds Count (Value n) h = both (nat_le (2 ^ 63) n) (answered seen n reply.Spent) (decided task seen n task.change.deed) (giving_holds seen seen.held _) (decided_holds n task.change.deed)
+  next_holds Count (Value n) h = both (nat_le (2 ^ 63) n) (answered seen n reply.Spent) (decided task seen n task.change.effect) (giving_holds seen seen.held _) (decided_holds n task.change.effect)
   next_holds (step.Make m) Passed h = made_holds (make_taken seen.written.slot m)
-  next_holds Draw (Drawn n) h = both (leaves_note task.change.deed seen.place) (go seen (Unnote Mark n)) (answered seen n reply.Done) tt (giving_holds seen seen.held _)
+  next_holds Draw (Drawn n) h = both (leaves_note task.change.effect seen.place) (go seen (Unnote Mark n)) (answered seen n reply.Done) tt (giving_holds seen seen.held _)
   next_holds (Unnote part place) Passed h = unnoted_holds part place
   next_holds CountSpent (Value n) h = giving_holds seen seen.held _
   next_holds (Give held end) Passed h = giving_holds seen (given held) end
   next_holds s a h = h
 
   -- the lock that is taken is not held
-  pub out : (s : WriteStep) → HoldsIn seen s → (place : Place) (take : Take) → s ≡ Lock place take → free_of seen.held place ≡ None
+  pub out : (s : WriteStep) → HoldsIn seen s → (place : Role) (take : Take) → s ≡ Lock place take → free_of seen.held place ≡ None
   out s h place take e =
       let at : HoldsIn seen (Lock place take) = subst (λ z. HoldsIn seen z) e h in
       at.0.others place (λ u. let low = u.low in omega (arith, low))

@@ -13,17 +13,17 @@ use Rattle.sound_image.specs.Records.{key_hash}
 use Rattle.map_model.specs.declared.call.Call.{Call}
 use Rattle.map_model.specs.declared.entry.Reply.TheVariants as reply
 use Rattle.map_model.specs.Map.{key_of}
-use Rattle.world.specs.declared.site.Site.{Site as Here}
-use Rattle.world.specs.Site.{Site, IsSite}
+use Rattle.world.specs.declared.site.Site.{Site}
+use Rattle.world.specs.Ground.{Ground, IsGround}
 use Rattle.world.specs.Views.{View}
 use Rattle.world.specs.Wants.{answer_to, word_of}
 use Rattle.world.specs.Kinds.{view_after}
 use Rattle.world.specs.Conditions.{IsNewest}
-use Rattle.world.proofs.holding.Beside.{newest_is}
+use Rattle.world.proofs.calls.deeds.Calls.{newest_without}
 use Rattle.part.specs.Doings.{Doings, with_event_of}
 use Rattle.part.specs.Outcomes.{Outcome, replied, again, stale, off}
 use Rattle.part.specs.Causes.{HasCause, EndsByCause}
-use Rattle.phase.specs.declared.place.Place.{Place}
+use Rattle.phase.specs.declared.role.Role.{Role}
 use Rattle.phase.specs.declared.walk.Walk.{Walk}
 use Rattle.phase.specs.declared.walk.Walked.TheVariants as walked
 use Rattle.phase.specs.declared.take.Take.{Take}
@@ -35,7 +35,7 @@ use Rattle.phase.specs.Loads.{load_taken}
 use Rattle.phase.specs.Helds.{free_of, given}
 use Rattle.phase.specs.Stands.{walk_kind, HasWalked}
 use Rattle.phase.proofs.Walking.{walk_stands}
-use Rattle.phase.proofs.Causing.{walk_caused, back_caused}
+use Rattle.phase.proofs.asking.Causing.{walk_caused, back_caused}
 use Rattle.phase.proofs.locks.Taking.{take_caused}
 use Rattle.phase.proofs.Wanting.{no}
 use Rattle.phase.proofs.locks.Giving.{has_not}
@@ -54,6 +54,7 @@ use Rattle.write_op.specs.Steps.{go, answered, unnoted_to, lock_of, wanted_in, n
 use Rattle.phase.specs.Asked.{index, loaded_by}
 use Rattle.write_op.specs.Fits.{HasLoaded, SuitsStep, outcome_of, outcome_at, IsIn}
 use Rattle.write_op.specs.ChangePart.{RemembersIn, change_part}
+use Rattle.write_op.proofs.keeping.Areas.{no_areas}
 use Rattle.write_op.proofs.keeping.Going.{located}
 use Rattle.write_op.proofs.keeping.Stepping.{walk_answer}
 use Rattle.write_op.proofs.keeping.Entering.{giving_outcome}
@@ -67,12 +68,12 @@ use Rattle.write_op.proofs.causing.Deciding.{CausedIf, walked_caused, locked_cau
 use Rattle.write_op.proofs.causing.Unchanged.{back_unchanged, lock_unchanged}
 
 -- ---- in a world, for the caller with this view
-module _ (site : Site) (good : IsSite site) (task : Task) (is : IsIn site task) (words : Words) (seen : Seen) (v : View) (new : IsNewest site v words) where
+module _ (site : Ground) (good : IsGround site) (task : Task) (is : IsIn site task) (words : Words) (seen : Seen) (v : View) (new : IsNewest site v words) where
   abbrev Finds : WriteStep → ℕ
   Finds s = words (word_of site.shape (wanted_in task seen s))
 
   -- the lock that is taken is not held
-  out : (place : Place) (m : ℕ) → HasLoaded site task seen (index place) m v → free_of seen.held place ≡ None
+  out : (place : Role) (m : ℕ) → HasLoaded site task seen (index place) m v → free_of seen.held place ≡ None
   out place m h = h.upto.others place (λ u. let low = u.low in omega (arith, low))
 
   -- what the way finds is never amiss
@@ -105,7 +106,7 @@ module _ (site : Site) (good : IsSite site) (task : Task) (is : IsIn site task) 
     within_here : (segment : ℕ) → segment < site.shape.segments → segment < task.site.geometry.segments
     within_here segment within = subst (λ (g : Shape). segment < g.segments) (sym is.shape) within
 
-    lock_caused : (place : Place) (take : Take) → SuitsStep site task seen (Lock place take) v → RemembersIn task seen did (Lock place take)
+    lock_caused : (place : Role) (take : Take) → SuitsStep site task seen (Lock place take) v → RemembersIn task seen did (Lock place take)
         → CausedIf task words did call hash_is v (take_wanted (lock_of task seen place) take)
         (next_in task seen (Lock place take) (answer_to (take_wanted (lock_of task seen place) take) (words (lock_of task seen place)))).step
     lock_caused place take suits r =
@@ -177,16 +178,16 @@ change_ends_by_cause = record {
       let st = s.stands in
       let task : Task = op.task in
       let seen : Seen = op.stage.seen in
-      let new : IsNewest site v words = newest_is site words views j v h at in
+      let new : IsNewest site v words = newest_without site words views j v h at (no_areas site task seen v op.stage.step st.view) in
       let hash_is : task.hash ≡ key_hash task.site.geometry (key_of call) =
       st.is_in.hash ∙ ap (λ (g : Shape). key_hash g task.change.key) (sym st.is_in.shape) ∙ ap (key_hash task.site.geometry) (sym (key_called task.change) ∙ ap key_of st.same) in
       let caused = λ (none : outcome_at op.stage.step ≡ None).
       step_caused site h.site_is task st.is_in words seen v new did call hash_is op.stage.step st.view r none asks in
       record {
         remembers = recalled site h.site_is task st.is_in words seen v new op.stage.step did st.view r;
-        caused = λ outcome none some.
+        caused = λ outcome none some rests.
             subst (λ (g : Shape). HasCause g words did call (wanted op) here outcome) st.is_in.shape
-            (subst (λ (z : Here). HasCause task.site.geometry words did call (wanted op) z outcome) st.at (caused none outcome some).0);
+            (subst (λ (z : Site). HasCause task.site.geometry words did call (wanted op) z outcome) st.at (caused none outcome some).0);
         worked = λ none some. never_finished (taken op (answer_to (wanted op) (words (word_of site.shape (wanted op))))) some;
         not_own = λ word value none some. (caused none (again (Busy word value)) some).1;
       };

@@ -19,8 +19,8 @@ use Rattle.world.specs.Views.{View, Has, HasLock}
 use Rattle.part.specs.Doings.{Doings}
 use Rattle.part.specs.Outcomes.{Outcome, replied, again}
 use Rattle.part.specs.Causes.{NeedsBucket, IsNamed, IsOwnLock, HasCause}
-use Rattle.phase.specs.declared.place.Place.{Place}
-use Rattle.phase.specs.declared.place.Place.TheVariants.{Home, Probing, First, Second, Next, Previous}
+use Rattle.phase.specs.declared.role.Role.{Role}
+use Rattle.phase.specs.declared.role.Role.TheVariants.{Home, Probing, First, Second, Next, Previous}
 use Rattle.phase.specs.declared.walk.Walk.{Walk}
 use Rattle.phase.specs.declared.walk.Walked.{Walked}
 use Rattle.phase.specs.declared.walk.Walked.TheVariants as walked
@@ -39,9 +39,9 @@ use Rattle.phase.specs.Backs.{back_word}
 use Rattle.phase.specs.Makes.{make_taken}
 use Rattle.phase.specs.Causes.{WasFound, HasWalkCause, HasBackCause}
 use Rattle.phase.specs.Taking.{HasTakeCause}
-use Rattle.phase.proofs.Causing.{found_named}
-use Rattle.phase.proofs.Asked.{near_asked, upto_up}
-use Rattle.phase.proofs.Needing.{must_visit_by, visit_needed}
+use Rattle.phase.proofs.asking.Causing.{found_named}
+use Rattle.phase.proofs.asking.Asked.{near_asked, upto_up}
+use Rattle.phase.proofs.asking.Needing.{must_visit_by, visit_needed}
 use Rattle.write_op.specs.declared.step.Task.{Task}
 use Rattle.write_op.specs.declared.step.Seen.{Seen}
 use Rattle.phase.specs.declared.ending.Ending.TheVariants as ending
@@ -79,7 +79,7 @@ module _ (task : Task) (words : Words) (did : Doings) (call : Call) (hash_is : t
         (λ segment byte is. (subst (HasWalkCause task.site task.hash words did call w) is cause, tt))
 
     -- ---- a lock
-    pub locked_caused : (place : Place) (take : Take) (x : Taken) → (HasLock v.held (lock_of task seen place) → ⊥) → HasTakeCause g words did call (lock_of task seen place) take x
+    pub locked_caused : (place : Role) (take : Take) (x : Taken) → (HasLock v.held (lock_of task seen place) → ⊥) → HasTakeCause g words did call (lock_of task seen place) take x
         → CausedIf (take_wanted (lock_of task seen place) take) (locked_to seen place (lock_of task seen place) x).step
     locked_caused place take x free cause =
         let lock : ℕ = lock_of task seen place in
@@ -93,7 +93,7 @@ module _ (task : Task) (words : Words) (did : Doings) (call : Call) (hash_is : t
         (λ word first after is. (subst (HasBackCause task.site task.hash words did call seen.path at) is cause, tt))
 
   module _ (event : Want) (seen : Seen) where
-    pub filled_open : (place : Place) (x : Loaded) → CausedIf event (filled_to task.hash seen place x).step
+    pub filled_open : (place : Role) (x : Loaded) → CausedIf event (filled_to task.hash seen place x).step
     filled_open place x = filled_told (Caused event) task seen place x
 
     -- ---- the counter
@@ -111,11 +111,11 @@ module _ (task : Task) (words : Words) (did : Doings) (call : Call) (hash_is : t
 
   -- ---- the locks are those of the call's key
   module _ (seen : Seen) (path : WasFound g task.hash did.loads seen.path) (within : seen.path.segment < g.segments) where
-    lock_is : (place : Place) → lock_of task seen place ≡ bucket_at g seen.path.segment (bucket_of task.hash place)
+    lock_is : (place : Role) → lock_of task seen place ≡ bucket_at g seen.path.segment (bucket_of task.hash place)
     lock_is place = ap (λ b. if b then bucket_at g seen.path.segment (bucket_of task.hash place) else root_word) (lt-ltb seen.path.segment g.segments within)
 
     -- each that is asked for is needed
-    loaded : (place : Place) → LoadedUpto task seen did 2 → index place < 2 → (j : ℕ) → 1 ≤ j → j < 32
+    loaded : (place : Role) → LoadedUpto task seen did 2 → index place < 2 → (j : ℕ) → 1 ≤ j → j < 32
         → Has (lock_of task seen place + j, slice_index (words_in seen.buckets place) j) did.loads
     loaded place two near j from low = two place (record { low = near; asked = near_asked seen.first seen.second place near }) j from low
 
@@ -126,7 +126,7 @@ module _ (task : Task) (words : Words) (did : Doings) (call : Call) (hash_is : t
         (loaded Home two (omega arith) 1 (omega arith) (omega arith)) (loaded Home two (omega arith) 3 (omega arith) (omega arith))
         (loaded Probing two (omega arith) 1 (omega arith) (omega arith)) (loaded Probing two (omega arith) 3 (omega arith) (omega arith)) noted)
 
-    needed : (place : Place) → AsksFor task seen did place → NeedsBucket g task.hash did.loads seen.path.segment call (bucket_of task.hash place)
+    needed : (place : Role) → AsksFor task seen did place → NeedsBucket g task.hash did.loads seen.path.segment call (bucket_of task.hash place)
     needed Home a = inl refl
     needed Probing a = inr (inl refl)
     needed First a = visited 0 (omega arith) a.reason.0 a.before
@@ -134,7 +134,7 @@ module _ (task : Task) (words : Words) (did : Doings) (call : Call) (hash_is : t
     needed Next a = absurd a.reason
     needed Previous a = absurd a.reason
 
-    pub own_lock : (place : Place) → AsksFor task seen did place → IsOwnLock g words did call (lock_of task seen place)
+    pub own_lock : (place : Role) → AsksFor task seen did place → IsOwnLock g words did call (lock_of task seen place)
     own_lock place asks = (
       seen.path.segment,
       subst (λ m. IsNamed g m did.loads seen.path.segment) hash_is (found_named g task.hash did.loads seen.path path),
@@ -144,5 +144,5 @@ module _ (task : Task) (words : Words) (did : Doings) (call : Call) (hash_is : t
       lock_is place,
     )
 
-    pub spent_caused : (event : Want) (n : ℕ) (place : Place) → AsksFor task seen did place → Has (lock_of task seen place, 2 ^ 64 - 2) did.loads → CausedIf event (answered seen n reply.Spent).step
+    pub spent_caused : (event : Want) (n : ℕ) (place : Role) → AsksFor task seen did place → Has (lock_of task seen place, 2 ^ 64 - 2) did.loads → CausedIf event (answered seen n reply.Spent).step
     spent_caused event n place asks last = gives (Caused event) seen.held (ending.Replied reply.Spent n) (replied reply.Spent n) refl (inr (lock_of task seen place, own_lock place asks, last), tt)

@@ -8,12 +8,12 @@ use Rattle.bucket_meta.proofs.Found.{free_at, found_with}
 use Rattle.image_layout.specs.Places.{IsShape}
 use Rattle.image_layout.specs.Volatile.{all_words_of}
 use Rattle.sound_image.proofs.Hashes.{key_hash-fits}
-use Rattle.map_model.specs.declared.change.Deed.{Deed}
-use Rattle.map_model.specs.declared.change.Deed.TheVariants.{Insert, Update, Remove}
+use Rattle.map_model.specs.declared.change.Effect.{Effect}
+use Rattle.map_model.specs.declared.change.Effect.TheVariants.{Insert, Update, Remove}
 use Rattle.map_model.specs.declared.entry.Reply.TheVariants as reply
 use Rattle.world.specs.Wants.{answer_to, word_of}
-use Rattle.phase.specs.declared.place.Place.{Place}
-use Rattle.phase.specs.declared.place.Place.TheVariants.{Home, Probing, First, Second}
+use Rattle.phase.specs.declared.role.Role.{Role}
+use Rattle.phase.specs.declared.role.Role.TheVariants.{Home, Probing, First, Second}
 use Rattle.phase.specs.declared.take.Take.TheVariants.{Look}
 use Rattle.phase.specs.declared.take.Taken.{Taken}
 use Rattle.phase.specs.declared.take.Taken.TheVariants as taking
@@ -68,14 +68,14 @@ either : (seen : Seen) (b : Bool) (s t : WriteStep) → StoresIn seen s → Stor
 either seen true s t p q = p
 either seen false s t p q = q
 
-given_stores : (seen : Seen) (next : Option (Place × ℕ)) (held : Held) (end : Ending) → StoresIn seen (given_by next held end)
+given_stores : (seen : Seen) (next : Option (Role × ℕ)) (held : Held) (end : Ending) → StoresIn seen (given_by next held end)
 given_stores seen (Some next) held end = tt
 given_stores seen None held end = tt
 
 giving_stores : (seen : Seen) (held : Held) (end : Ending) → StoresIn seen (giving held end)
 giving_stores seen held end = given_stores seen (give_next held) held end
 
-published_low : (d : Deed) (slot : ℕ) → slot < record_slots → published_word d slot < 32
+published_low : (d : Effect) (slot : ℕ) → slot < record_slots → published_word d slot < 32
 published_low (Insert value) slot low = omega arith
 published_low (Update value) slot low = omega (arith, low)
 published_low Remove slot low = omega arith
@@ -88,12 +88,12 @@ module _ (task : Task) (seen : Seen) where
   walked_stores (walked.Amiss word value) = tt
   walked_stores (walked.Stale segment version) = tt
 
-  held_stores : (s : Seen) (place : Place) → StoresIn s (locked place)
+  held_stores : (s : Seen) (place : Role) → StoresIn s (locked place)
   held_stores s Home = tt
   held_stores s Probing = tt
   held_stores s place = tt
 
-  taken_stores : (place : Place) (lock : ℕ) (x : Taken) → Stores (locked_to seen place lock x)
+  taken_stores : (place : Role) (lock : ℕ) (x : Taken) → Stores (locked_to seen place lock x)
   taken_stores place lock (taking.On take) = tt
   taken_stores place lock (taking.Held free) = held_stores _ place
   taken_stores place lock (taking.Busy value) = giving_stores seen seen.held _
@@ -111,13 +111,13 @@ module _ (task : Task) (seen : Seen) where
   first_stores : (s : Seen) → StoresIn s (visit_first s)
   first_stores s = either s s.first (Lock First Look) (visit_second s) tt (second_stores s)
 
-  all_stores : (s : Seen) (place : Place) → Stores (filled task.hash s place)
+  all_stores : (s : Seen) (place : Role) → Stores (filled task.hash s place)
   all_stores s Home = tt
   all_stores s Probing = first_stores (with_visits task.hash s)
   all_stores s First = second_stores s
   all_stores s place = tt
 
-  filled_stores : (place : Place) (x : Loaded) → Stores (filled_to task.hash seen place x)
+  filled_stores : (place : Role) (x : Loaded) → Stores (filled_to task.hash seen place x)
   filled_stores place (loaded.On load) = tt
   filled_stores place (loaded.All words) = all_stores (record seen { buckets = with_words place words seen.buckets }) place
 
@@ -126,16 +126,16 @@ module _ (task : Task) (seen : Seen) where
   inserting_stores count (Some spot) room is = giving_stores seen seen.held _
   inserting_stores count None (Some spot) is =
       let low : spot.slot < record_slots = (free_at (slice_index (words_in seen.buckets spot.place) 1) spot.slot (room_some seen.buckets spot is).slot).1 in
-      record { slot = low; published = published_low task.change.deed spot.slot low }
+      record { slot = low; published = published_low task.change.effect spot.slot low }
   inserting_stores count None None is = tt
 
   changing_stores : (count : ℕ) (there : Option Spot) → found seen task.change.key ≡ there → Stores (changing task seen count there)
   changing_stores count (Some spot) is =
       let low : spot.slot < record_slots = (found_with (words_in seen.buckets spot.place) task.change.key spot.slot (found_some seen task.change.key spot is).slot).1 in
-      record { slot = low; published = published_low task.change.deed spot.slot low }
+      record { slot = low; published = published_low task.change.effect spot.slot low }
   changing_stores count None is = giving_stores seen seen.held _
 
-  decided_stores : (count : ℕ) (d : Deed) → Stores (decided task seen count d)
+  decided_stores : (count : ℕ) (d : Effect) → Stores (decided task seen count d)
   decided_stores count (Insert value) = inserting_stores count (found seen task.change.key) (room_in seen.buckets) refl
   decided_stores count (Update value) = changing_stores count (found seen task.change.key) refl
   decided_stores count Remove = changing_stores count (found seen task.change.key) refl
@@ -154,9 +154,9 @@ module _ (task : Task) (seen : Seen) where
   next_stores (Lock place take) a b = taken_stores place (lock_of task seen place) (take_taken take a)
   next_stores (Check at) (Value n) b = backed_stores (back_taken task.site task.hash seen.path at n)
   next_stores (Fill place load) (Value n) b = filled_stores place (load_taken load n)
-  next_stores Count (Value n) b = both (nat_le (2 ^ 63) n) (answered seen n reply.Spent) (decided task seen n task.change.deed) (giving_stores seen seen.held _) (decided_stores n task.change.deed)
+  next_stores Count (Value n) b = both (nat_le (2 ^ 63) n) (answered seen n reply.Spent) (decided task seen n task.change.effect) (giving_stores seen seen.held _) (decided_stores n task.change.effect)
   next_stores (step.Make m) Passed b = made_stores b (make_taken seen.written.slot m)
-  next_stores Draw (Drawn n) b = both (leaves_note task.change.deed seen.place) (go seen (Unnote Mark n)) (answered seen n reply.Done) tt (giving_stores seen seen.held _)
+  next_stores Draw (Drawn n) b = both (leaves_note task.change.effect seen.place) (go seen (Unnote Mark n)) (answered seen n reply.Done) tt (giving_stores seen seen.held _)
   next_stores (Unnote part place) Passed b = unnoted_stores part place
   next_stores CountSpent (Value n) b = giving_stores seen seen.held _
   next_stores (Give held end) Passed b = giving_stores seen (given held) end

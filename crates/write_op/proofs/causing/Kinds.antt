@@ -8,16 +8,16 @@ use Rattle.op_core.specs.declared.want.Ans.{Ans}
 use Rattle.op_core.specs.declared.want.Ans.TheVariants.{Value, Won, Lost, Drawn, Passed}
 use Rattle.op_core.specs.declared.why.Why.TheVariants.{Busy, Moved}
 use Rattle.image_layout.specs.Places.{Shape}
-use Rattle.map_model.specs.declared.change.Deed.{Deed}
-use Rattle.map_model.specs.declared.change.Deed.TheVariants.{Insert, Update, Remove}
+use Rattle.map_model.specs.declared.change.Effect.{Effect}
+use Rattle.map_model.specs.declared.change.Effect.TheVariants.{Insert, Update, Remove}
 use Rattle.map_model.specs.declared.entry.Reply.TheVariants as reply
-use Rattle.world.specs.declared.site.Site.{Site as Here}
+use Rattle.world.specs.declared.site.Site.{Site}
 use Rattle.world.specs.Views.{Has}
 use Rattle.world.specs.Wants.{answer_to}
 use Rattle.world.specs.Kinds.{wanted as wanted_by}
 use Rattle.part.specs.Doings.{Doings, nothing_done}
-use Rattle.phase.specs.declared.place.Place.{Place}
-use Rattle.phase.specs.declared.place.Place.TheVariants.{Home, Probing, First, Second}
+use Rattle.phase.specs.declared.role.Role.{Role}
+use Rattle.phase.specs.declared.role.Role.TheVariants.{Home, Probing, First, Second}
 use Rattle.phase.specs.declared.walk.Walked.{Walked}
 use Rattle.phase.specs.declared.walk.Walked.TheVariants as walked
 use Rattle.phase.specs.declared.take.Take.{Take}
@@ -42,7 +42,7 @@ use Rattle.phase.specs.Loads.{load_taken}
 use Rattle.phase.specs.Makes.{make_taken}
 use Rattle.phase.specs.Taking.{MayBeTaken, IsTaking}
 use Rattle.phase.specs.Giving.{give_kind_of}
-use Rattle.phase.proofs.Asked.{cases_place}
+use Rattle.phase.proofs.asking.Asked.{cases_place}
 use Rattle.phase.proofs.locks.Giving.{no_some, none_free, held_this, held_other, free_less, next_free}
 use Rattle.write_op.specs.declared.step.Task.{Task}
 use Rattle.write_op.specs.declared.step.Spot.{Spot}
@@ -67,7 +67,7 @@ use Rattle.write_op.proofs.causing.Anywhere.{keeps_loads}
 -- ---- free values
 -- each lock that is held was taken with a free value that has a next one
 abbrev MayGive : Held → Type 0
-MayGive held = (place : Place) (value : ℕ) → free_of held place ≡ Some value → MayBeTaken value
+MayGive held = (place : Role) (value : ℕ) → free_of held place ≡ Some value → MayBeTaken value
 
 some_same : (x y : ℕ) → Some x ≡ Some y → x ≡ y
 some_same x y e = cc
@@ -75,13 +75,13 @@ some_same x y e = cc
 none_give : MayGive none_held
 none_give place value e = absurd (no_some (sym (none_free place) ∙ e))
 
-more_give : (held : Held) (p : Place) (free : ℕ) → MayBeTaken free → MayGive held → MayGive (with_held p free held)
+more_give : (held : Held) (p : Role) (free : ℕ) → MayBeTaken free → MayGive held → MayGive (with_held p free held)
 more_give held p free may g place value e = elim (cases_place place p) [
-  | inl same ↦ subst MayBeTaken (some_same free value (sym (held_this held free p) ∙ subst (λ (z : Place). free_of (with_held p free held) z ≡ Some value) same e)) may
+  | inl same ↦ subst MayBeTaken (some_same free value (sym (held_this held free p) ∙ subst (λ (z : Role). free_of (with_held p free held) z ≡ Some value) same e)) may
   | inr other ↦ g place value (sym (held_other held free p place other) ∙ e)
 ]
 
-less_by : (held : Held) (next : Option (Place × ℕ)) → MayGive held → MayGive (given_of next held)
+less_by : (held : Held) (next : Option (Role × ℕ)) → MayGive held → MayGive (given_of next held)
 less_by held (Some next) g place value e = g place value (free_less held next.0 place value e).0
 less_by held None g place value e = g place value e
 
@@ -89,7 +89,7 @@ less_give : (held : Held) → MayGive held → MayGive (given held)
 less_give held g = less_by held (give_next held) g
 
 -- so each goes back by a store of its kind
-gives_by : (shape : Shape) (here : Here) (hash segment : ℕ) (held : Held) → MayGive held → (next : Option (Place × ℕ)) → give_next held ≡ next → give_wanted_of here hash segment next ≢ want.Done
+gives_by : (shape : Shape) (here : Site) (hash segment : ℕ) (held : Held) → MayGive held → (next : Option (Role × ℕ)) → give_next held ≡ next → give_wanted_of here hash segment next ≢ want.Done
     → give_wanted_of here hash segment next ≡ wanted_by shape (give_kind_of here hash segment next)
 gives_by shape here hash segment held g (Some next) e asks =
     let may = g next.0 next.1 (next_free held next e) in
@@ -143,7 +143,7 @@ either : (seen : Seen) (b : Bool) (s t : WriteStep) → TakesIn seen s → Takes
 either seen true s t p q = p
 either seen false s t p q = q
 
-given_takes : (seen : Seen) (next : Option (Place × ℕ)) (held : Held) (end : Ending) → MayGive held → TakesIn seen (given_by next held end)
+given_takes : (seen : Seen) (next : Option (Role × ℕ)) (held : Held) (end : Ending) → MayGive held → TakesIn seen (given_by next held end)
 given_takes seen (Some next) held end g = g
 given_takes seen None held end g = tt
 
@@ -158,12 +158,12 @@ module _ (task : Task) (seen : Seen) (g : MayGive seen.held) where
   walked_takes (walked.Amiss word value) = tt
   walked_takes (walked.Stale segment version) = tt
 
-  held_takes : (place : Place) (lock free : ℕ) → MayBeTaken free → Takes (locked_to seen place lock (taking.Held free))
+  held_takes : (place : Role) (lock free : ℕ) → MayBeTaken free → Takes (locked_to seen place lock (taking.Held free))
   held_takes Home lock free may = (more_give seen.held Home free may g, tt)
   held_takes Probing lock free may = more_give seen.held Probing free may g
   held_takes place lock free may = more_give seen.held place free may g
 
-  taken_takes : (place : Place) (lock : ℕ) (x : Taken) → TakenWell x → Takes (locked_to seen place lock x)
+  taken_takes : (place : Role) (lock : ℕ) (x : Taken) → TakenWell x → Takes (locked_to seen place lock x)
   taken_takes place lock (taking.On take) well = (g, well)
   taken_takes place lock (taking.Held free) well = held_takes place lock free well
   taken_takes place lock (taking.Busy value) well = giving_takes seen seen.held (ending.Again (Busy lock value)) g
@@ -181,13 +181,13 @@ module _ (task : Task) (seen : Seen) (g : MayGive seen.held) where
   first_takes : (s : Seen) → MayGive s.held → TakesIn s (visit_first s)
   first_takes s h = either s s.first (Lock First Look) (visit_second s) (h, tt) (second_takes s h)
 
-  all_takes : (s : Seen) → MayGive s.held → (place : Place) → Takes (filled task.hash s place)
+  all_takes : (s : Seen) → MayGive s.held → (place : Role) → Takes (filled task.hash s place)
   all_takes s h Home = h
   all_takes s h Probing = first_takes (with_visits task.hash s) h
   all_takes s h First = second_takes s h
   all_takes s h place = h
 
-  filled_takes : (place : Place) (x : Loaded) → Takes (filled_to task.hash seen place x)
+  filled_takes : (place : Role) (x : Loaded) → Takes (filled_to task.hash seen place x)
   filled_takes place (loaded.On load) = g
   filled_takes place (loaded.All words) = all_takes (record seen { buckets = with_words place words seen.buckets }) g place
 
@@ -200,7 +200,7 @@ module _ (task : Task) (seen : Seen) (g : MayGive seen.held) where
   changing_takes count (Some spot) = g
   changing_takes count None = giving_takes seen seen.held _ g
 
-  decided_takes : (count : ℕ) (d : Deed) → Takes (decided task seen count d)
+  decided_takes : (count : ℕ) (d : Effect) → Takes (decided task seen count d)
   decided_takes count (Insert value) = inserting_takes count (found seen task.change.key) (room_in seen.buckets)
   decided_takes count (Update value) = changing_takes count (found seen task.change.key)
   decided_takes count Remove = changing_takes count (found seen task.change.key)
@@ -215,15 +215,15 @@ module _ (task : Task) (seen : Seen) (g : MayGive seen.held) where
 
 module _ (task : Task) (seen : Seen) where
   -- an answer to another step than a lock's, whatever it is
-  other_takes : (s : WriteStep) (a : Ans) → ((place : Place) (take : Take) → s ≡ Lock place take → TakenWell (take_taken take a)) → TakesIn seen s → Takes (next_in task seen s a)
+  other_takes : (s : WriteStep) (a : Ans) → ((place : Role) (take : Take) → s ≡ Lock place take → TakenWell (take_taken take a)) → TakesIn seen s → Takes (next_in task seen s a)
   other_takes (Way w) (Value n) well h = walked_takes task seen h (walk_taken task.site task.hash w n)
   other_takes (Lock place take) a well h = taken_takes task seen h.0 place (lock_of task seen place) (take_taken take a) (well place take refl)
   other_takes (Check back) (Value n) well h = backed_takes task seen h (back_taken task.site task.hash seen.path back n)
   other_takes (Fill place load) (Value n) well h = filled_takes task seen h place (load_taken load n)
   other_takes Count (Value n) well h =
-      both (nat_le (2 ^ 63) n) (answered seen n reply.Spent) (decided task seen n task.change.deed) (giving_takes seen seen.held _ h) (decided_takes task seen h n task.change.deed)
+      both (nat_le (2 ^ 63) n) (answered seen n reply.Spent) (decided task seen n task.change.effect) (giving_takes seen seen.held _ h) (decided_takes task seen h n task.change.effect)
   other_takes (step.Make m) Passed well h = made_takes task seen h (make_taken seen.written.slot m)
-  other_takes Draw (Drawn n) well h = both (leaves_note task.change.deed seen.place) (go seen (Unnote Mark n)) (answered seen n reply.Done) h (giving_takes seen seen.held _ h)
+  other_takes Draw (Drawn n) well h = both (leaves_note task.change.effect seen.place) (go seen (Unnote Mark n)) (answered seen n reply.Done) h (giving_takes seen seen.held _ h)
   other_takes (Unnote part place) Passed well h = unnoted_takes task seen h part place
   other_takes CountSpent (Value n) well h = giving_takes seen seen.held _ h
   other_takes (Give held end) Passed well h = giving_takes seen (given held) end (less_give held h)

@@ -4,7 +4,7 @@ use Rattle.std.specs.Prelude.{⊤}
 use Rattle.op_core.specs.declared.want.Ans.{Ans}
 use Rattle.image_layout.specs.Places.{IsShape}
 use Rattle.sound_image.proofs.Hashes.{key_hash-fits}
-use Rattle.world.specs.declared.site.Site.{Site as Here}
+use Rattle.world.specs.declared.site.Site.{Site}
 use Rattle.world.specs.Views.{Has}
 use Rattle.part.specs.Doings.{Doings, nothing_done}
 use Rattle.part.specs.Outcomes.{Outcome, again}
@@ -31,7 +31,7 @@ use Rattle.write_op.proofs.causing.Unchanged.{back_unchanged, lock_unchanged}
 use Rattle.write_op.proofs.causing.Anywhere.{HoldsIn, out, holds_from, same_task, keeps_loads}
 
 -- the word that a way again tells is the one that it looked at
-module _ (here : Here) (hash : ℕ) (path : Path) (at : Back) where
+module _ (here : Site) (hash : ℕ) (path : Path) (at : Back) where
   abbrev TellsWord : Backed → Type 0
   TellsWord (backed.Moved word before after) = word ≡ back_word here hash path at
   TellsWord more = ⊤

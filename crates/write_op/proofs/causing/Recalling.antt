@@ -5,14 +5,14 @@ use Rattle.op_core.specs.declared.want.Ans.{Ans}
 use Rattle.op_core.specs.declared.want.Ans.TheVariants.{Value, Won, Lost, Passed}
 use Rattle.op_core.specs.Answers.{change_of}
 use Rattle.image_layout.specs.Volatile.{counter_word}
-use Rattle.map_model.specs.declared.change.Deed.{Deed}
-use Rattle.map_model.specs.declared.change.Deed.TheVariants.{Insert, Update, Remove}
+use Rattle.map_model.specs.declared.change.Effect.{Effect}
+use Rattle.map_model.specs.declared.change.Effect.TheVariants.{Insert, Update, Remove}
 use Rattle.map_model.specs.declared.entry.Reply.TheVariants as reply
 use Rattle.world.specs.Views.{Has}
 use Rattle.world.specs.Wants.{answer_to}
 use Rattle.part.specs.Doings.{Doings, with_event_of}
-use Rattle.phase.specs.declared.place.Place.{Place}
-use Rattle.phase.specs.declared.place.Place.TheVariants.{Home, Probing, First, Second, Next, Previous}
+use Rattle.phase.specs.declared.role.Role.{Role}
+use Rattle.phase.specs.declared.role.Role.TheVariants.{Home, Probing, First, Second, Next, Previous}
 use Rattle.phase.specs.declared.walk.Walk.{Walk}
 use Rattle.phase.specs.declared.walk.Walk.TheVariants as walk
 use Rattle.phase.specs.declared.walk.Walked.{Walked}
@@ -43,10 +43,10 @@ use Rattle.phase.specs.Asked.{index, loaded_by}
 use Rattle.phase.specs.Keeps.{WasLoaded}
 use Rattle.phase.specs.Buckets.{with_words, words_in}
 use Rattle.phase.specs.Causes.{WasFound, RemembersWalked}
-use Rattle.phase.proofs.Asked.{one_place, none_before, near_asked, upto_more, upto_less}
+use Rattle.phase.proofs.asking.Asked.{one_place, none_before, near_asked, upto_more, upto_less}
 use Rattle.phase.proofs.Wording.{words_this, words_other}
 use Rattle.phase.proofs.locks.Giving.{no_some, held_this, held_other}
-use Rattle.phase.proofs.Causing.{found_more, walk_remembers}
+use Rattle.phase.proofs.asking.Causing.{found_more, walk_remembers}
 use Rattle.phase.proofs.locks.Taking.{take_remembers}
 use Rattle.phase.proofs.Loading.{load_begins, load_stands}
 use Rattle.write_op.specs.declared.step.Task.{Task}
@@ -106,7 +106,7 @@ module _ (task : Task) where
   none_loaded seen d place u = absurd (none_before seen.first seen.second place u)
 
   -- ---- locks back
-  by_next : (seen : Seen) (d : Doings) (next : Option (Place × ℕ)) (held : Held) (end : Ending) → RemembersIn task seen d (given_by next held end)
+  by_next : (seen : Seen) (d : Doings) (next : Option (Role × ℕ)) (held : Held) (end : Ending) → RemembersIn task seen d (given_by next held end)
   by_next seen d (Some next) held end = tt
   by_next seen d None held (ending.Replied answer place) = tt
   by_next seen d None held (ending.Again why) = tt
@@ -129,14 +129,14 @@ module _ (task : Task) where
     walked_recalls (walked.Stale segment version) r = tt
 
   -- ---- a lock
-  module _ (seen : Seen) (place : Place) (d : Doings) (there : WasThere task seen d) (asks : AsksFor task seen d place) where
+  module _ (seen : Seen) (place : Role) (d : Doings) (there : WasThere task seen d) (asks : AsksFor task seen d place) where
     -- by what was made of it
     abbrev Changed : Taken → Type 0
     Changed (taking.On take) = ChangedOwn task seen d
     Changed (taking.Held free) = ChangedOwn task (record seen { held = with_held place free seen.held }) d
     Changed more = ⊤
 
-    held_recalls : (p : Place) (free : ℕ) → ChangedOwn task (record seen { held = with_held p free seen.held }) d → AsksFor task seen d p
+    held_recalls : (p : Role) (free : ℕ) → ChangedOwn task (record seen { held = with_held p free seen.held }) d → AsksFor task seen d p
         → Recalls (locked_to seen p (lock_of task seen p) (taking.Held free)) d
     held_recalls Home free changed a = (there, changed, tt, record { reason = tt; before = a.before })
     held_recalls Probing free changed a = (there, changed)
@@ -153,11 +153,11 @@ module _ (task : Task) where
     locked_recalls taking.Spent r changed = (there, (place, asks, r))
 
   -- which words were changed then
-  module _ (seen : Seen) (place : Place) (d : Doings) (out : free_of seen.held place ≡ None) (changed : ChangedOwn task seen d) where
+  module _ (seen : Seen) (place : Role) (d : Doings) (out : free_of seen.held place ≡ None) (changed : ChangedOwn task seen d) where
     abbrev lock : ℕ
     lock = lock_of task seen place
 
-    still_held : (p : Place) (free : ℕ) → IsHeld seen.held p → IsHeld (with_held place free seen.held) p
+    still_held : (p : Role) (free : ℕ) → IsHeld seen.held p → IsHeld (with_held place free seen.held) p
     still_held p free (value, is) = (
       value,
       held_other seen.held free place p (λ e. no_some (sym out ∙ ap (free_of seen.held) (sym (one_place p place e)) ∙ is)) ∙ is,
@@ -189,7 +189,7 @@ module _ (task : Task) where
   -- ---- buckets
   module _ (d : Doings) (seen : Seen) (there : WasThere task seen d) (changed : ChangedOwn task seen d) where
     -- where one is not asked for
-    skip : (p : Place) → is_asked seen p ≡ false → LoadedUpto task seen d (index p) → LoadedUpto task seen d (index p + 1)
+    skip : (p : Role) → is_asked seen p ≡ false → LoadedUpto task seen d (index p) → LoadedUpto task seen d (index p + 1)
     skip p out loaded q u = loaded q (upto_less seen.first seen.second p q out u)
 
     second_recalls : LoadedUpto task seen d 3 → seen.second ≡ visits task.hash seen.buckets 1 → (b : Bool) → seen.second ≡ b
@@ -203,20 +203,20 @@ module _ (task : Task) where
     first_recalls loaded by_notes second false e = second_recalls (skip First e loaded) second seen.second refl
 
   -- with its words put in
-  module _ (d : Doings) (seen : Seen) (place : Place) (words : List ℕ) where
+  module _ (d : Doings) (seen : Seen) (place : Role) (words : List ℕ) where
     abbrev put : Seen
     put = record seen { buckets = with_words place words seen.buckets }
 
     put_loaded : LoadedUpto task seen d (index place) → HasLoadedWords (lock_of task seen place) d.loads (loaded.All words) → LoadedUpto task put d (index place + 1)
     put_loaded loaded all p u = elim (upto_more seen.first seen.second place p u) [
       | inl same ↦
-          subst (λ (z : Place). WasLoaded (kept_in task put) d.loads z) (sym same)
+          subst (λ (z : Role). WasLoaded (kept_in task put) d.loads z) (sym same)
           (subst (λ (ws : List ℕ). (j : ℕ) → 1 ≤ j → j < 32 → Has (lock_of task seen place + j, slice_index ws j) d.loads) (sym (words_this seen.buckets words place)) all)
       | inr before ↦ subst (λ (ws : List ℕ). (j : ℕ) → 1 ≤ j → j < 32 → Has (lock_of task seen p + j, slice_index ws j) d.loads)
           (sym (words_other seen.buckets words place p (λ e. let low = before.low in omega (arith, low, e)))) (loaded p before)
     ]
 
-  all_recalls : (d : Doings) (seen : Seen) (place : Place) (words : List ℕ) → WasThere task seen d → ChangedOwn task seen d → LoadedUpto task seen d (index place)
+  all_recalls : (d : Doings) (seen : Seen) (place : Role) (words : List ℕ) → WasThere task seen d → ChangedOwn task seen d → LoadedUpto task seen d (index place)
       → HasReason task seen place → HasLoadedWords (lock_of task seen place) d.loads (loaded.All words) → Recalls (filled_with task.hash seen place words) d
   all_recalls d seen Home words there changed loaded reason all = (there, changed, put_loaded d seen Home words loaded all, load_begins _ _, tt)
   all_recalls d seen Probing words there changed loaded reason all =
@@ -230,7 +230,7 @@ module _ (task : Task) where
   all_recalls d seen Next words there changed loaded reason all = absurd reason
   all_recalls d seen Previous words there changed loaded reason all = absurd reason
 
-  fill_recalls : (seen : Seen) (place : Place) (e : Doings) → WasThere task seen e → ChangedOwn task seen e → LoadedUpto task seen e (index place)
+  fill_recalls : (seen : Seen) (place : Role) (e : Doings) → WasThere task seen e → ChangedOwn task seen e → LoadedUpto task seen e (index place)
       → HasReason task seen place → (x : Loaded) → HasLoadedWords (lock_of task seen place) e.loads x → Recalls (filled_to task.hash seen place x) e
   fill_recalls seen place e there changed before reason (loaded.On next) has = (there, changed, before, has, reason)
   fill_recalls seen place e there changed before reason (loaded.All words) has = all_recalls e seen place words there changed before reason has
@@ -238,7 +238,7 @@ module _ (task : Task) where
   -- ---- what is done
   module _ (seen : Seen) (d : Doings) where
     module _ (there : WasThere task seen d) (changed : ChangedOwn task seen d) (all : LoadedHeld task seen d) (near : LoadedUpto task seen d 4) where
-      near_loaded : (place : Place) → index place < 2 → WasLoaded (kept_in task seen) d.loads place
+      near_loaded : (place : Role) → index place < 2 → WasLoaded (kept_in task seen) d.loads place
       near_loaded place low = near place (record { low = omega (arith, low); asked = near_asked seen.first seen.second place low })
 
       inserting_recalls : (count : ℕ) (key room : Option Spot) → room_in seen.buckets ≡ room → Recalls (inserting task seen count key room) d
@@ -250,7 +250,7 @@ module _ (task : Task) where
       changing_recalls count (Some spot) = tt
       changing_recalls count None = giving_recalls seen d seen.held _
 
-      decided_recalls : (count : ℕ) (deed : Deed) → Recalls (decided task seen count deed) d
+      decided_recalls : (count : ℕ) (effect : Effect) → Recalls (decided task seen count effect) d
       decided_recalls count (Insert value) = inserting_recalls count (found seen task.change.key) (room_in seen.buckets) refl
       decided_recalls count (Update value) = changing_recalls count (found seen task.change.key)
       decided_recalls count Remove = changing_recalls count (found seen task.change.key)
@@ -264,7 +264,7 @@ module _ (task : Task) where
     make_recalls m a = tt
 
     draw_recalls : (n : ℕ) → Recalls (drawn_to task seen n) d
-    draw_recalls n = both d (leaves_note task.change.deed seen.place) (go seen (Unnote Mark n)) (answered seen n reply.Done) tt (giving_recalls seen d seen.held _)
+    draw_recalls n = both d (leaves_note task.change.effect seen.place) (go seen (Unnote Mark n)) (answered seen n reply.Done) tt (giving_recalls seen d seen.held _)
 
     unnoted_recalls : (part : NoteWord) (n : ℕ) → Recalls (unnoted_to task seen part n) d
     unnoted_recalls Mark n = both d (has_finger seen (unnoted task.hash seen)) (go seen (Unnote Fingers n)) (answered seen n reply.Done) tt (giving_recalls seen d seen.held _)
@@ -292,10 +292,10 @@ module _ (task : Task) where
       (walk_remembers task.site task.hash d.loads w n r.0))
 
   -- with more that was loaded
-  asks_more : (seen : Seen) (d e : Doings) (more : List (ℕ × ℕ)) → e.loads ≡ more ++ d.loads → (place : Place) → AsksFor task seen d place → AsksFor task seen e place
+  asks_more : (seen : Seen) (d e : Doings) (more : List (ℕ × ℕ)) → e.loads ≡ more ++ d.loads → (place : Role) → AsksFor task seen d place → AsksFor task seen e place
   asks_more seen d e more is place a = record { reason = a.reason; before = loaded_more seen d e more is (loaded_by place) a.before }
 
-  look_next : (seen : Seen) (place : Place) (n : ℕ) (d : Doings) → free_of seen.held place ≡ None → RemembersIn task seen d (Lock place Look) → RecallsNext seen (Lock place Look) n d
+  look_next : (seen : Seen) (place : Role) (n : ℕ) (d : Doings) → free_of seen.held place ≡ None → RemembersIn task seen d (Lock place Look) → RecallsNext seen (Lock place Look) n d
   look_next seen place n d out r =
       let lock : ℕ = lock_of task seen place in
       let e : Doings = record { loads = (lock, n) ∷ d.loads; changed = d.changed } in
@@ -303,7 +303,7 @@ module _ (task : Task) where
       let asks = asks_more seen d e ((lock, n) ∷ []) refl place r.3 in
       locked_recalls seen place e there asks (take_looked n) (take_remembers lock d.loads Look (Value n) tt) (look_changed seen place d out r.1 n e refl (n % 2 == 1) (n == 2 ^ 64 - 2) there asks)
 
-  try_by : (seen : Seen) (place : Place) (free n : ℕ) (d : Doings) → free_of seen.held place ≡ None → RemembersIn task seen d (Lock place (Try free)) → (b : Bool)
+  try_by : (seen : Seen) (place : Role) (free n : ℕ) (d : Doings) → free_of seen.held place ≡ None → RemembersIn task seen d (Lock place (Try free)) → (b : Bool)
       → Recalls (next_in task seen (Lock place (Try free)) (if b then Won else Lost n)) (with_event_of (take_wanted (lock_of task seen place) (Try free)) (if b then Won else Lost n) d)
   try_by seen place free n d out r true =
       let e : Doings = record { loads = d.loads; changed = lock_of task seen place ∷ d.changed } in
@@ -317,7 +317,7 @@ module _ (task : Task) where
       locked_recalls seen place e there asks (take_lost free n) (take_remembers (lock_of task seen place) d.loads (Try free) (Lost n) r.2)
       (lost_changed seen place d out r.1 free n e (n % 2 == 1) there asks)
 
-  fill_next : (seen : Seen) (place : Place) (load : Load) (n : ℕ) (d : Doings) → RemembersIn task seen d (Fill place load) → RecallsNext seen (Fill place load) n d
+  fill_next : (seen : Seen) (place : Role) (load : Load) (n : ℕ) (d : Doings) → RemembersIn task seen d (Fill place load) → RecallsNext seen (Fill place load) n d
   fill_next seen place load n d r =
       let x : ℕ × ℕ = (lock_of task seen place + load.next % 32, n) in
       let e : Doings = record { loads = x ∷ d.loads; changed = d.changed } in
@@ -330,8 +330,8 @@ module _ (task : Task) where
 
   -- WHAT IS REMEMBERED at each step is kept by its event
   pub recalls_next : (seen : Seen) (s : WriteStep) (n : ℕ) (d : Doings) → RemembersIn task seen d s
-      → ((place : Place) (take : Take) → s ≡ Lock place take → free_of seen.held place ≡ None)
-      → (s ≡ Count → (place : Place) → IsHeld seen.held place → Upto seen 4 place) → RecallsNext seen s n d
+      → ((place : Role) (take : Take) → s ≡ Lock place take → free_of seen.held place ≡ None)
+      → (s ≡ Count → (place : Role) → IsHeld seen.held place → Upto seen 4 place) → RecallsNext seen s n d
   recalls_next seen (Way w) n d r out asked = way_next seen w n d r
   recalls_next seen (Lock place Look) n d r out asked = look_next seen place n d (out place Look refl) r
   recalls_next seen (Lock place (Try free)) n d r out asked = try_by seen place free n d (out place (Try free) refl) r (n == free)
@@ -343,9 +343,9 @@ module _ (task : Task) where
   recalls_next seen Count n d r out asked =
       let x : ℕ × ℕ = (counter_word task.site.geometry, n) in
       let e : Doings = record { loads = x ∷ d.loads; changed = d.changed } in
-      both e (nat_le (2 ^ 63) n) (answered seen n reply.Spent) (decided task seen n task.change.deed) (giving_recalls seen e seen.held _)
+      both e (nat_le (2 ^ 63) n) (answered seen n reply.Spent) (decided task seen n task.change.effect) (giving_recalls seen e seen.held _)
       (let four = loaded_more seen d e (x ∷ []) refl 4 r.2 in
-      decided_recalls seen e (there_more seen d e (x ∷ []) refl r.0) r.1 (λ place held. four place (asked refl place held)) four n task.change.deed)
+      decided_recalls seen e (there_more seen d e (x ∷ []) refl r.0) r.1 (λ place held. four place (asked refl place held)) four n task.change.effect)
   recalls_next seen (step.Make m) n d r out asked = make_recalls seen _ m _
   recalls_next seen Draw n d r out asked = draw_recalls seen _ n
   recalls_next seen (Unnote part place) n d r out asked = unnote_recalls seen _ part place _

@@ -11,7 +11,7 @@ use Rattle.bucket_meta.proofs.Found.{found_with, none_with}
 use Rattle.trace.specs.Events.{Words}
 use Rattle.image_layout.specs.Places.{Shape}
 use Rattle.image_layout.specs.Volatile.{counter_word}
-use Rattle.world.specs.Site.{Site, IsLockWord}
+use Rattle.world.specs.Ground.{Ground, IsLockWord}
 use Rattle.world.specs.Views.{View, HasLock}
 use Rattle.world.specs.Wants.{answer_to, word_of}
 use Rattle.world.specs.Pairs.{IsPublishingKind}
@@ -26,7 +26,7 @@ use Rattle.phase.specs.Walks.{walk_wanted, walk_taken}
 use Rattle.phase.specs.Takes.{take_wanted, take_taken}
 use Rattle.phase.specs.Backs.{back_taken}
 use Rattle.phase.specs.Buckets.{words_in}
-use Rattle.phase.proofs.Asked.{few}
+use Rattle.phase.proofs.asking.Asked.{few}
 use Rattle.phase.proofs.Walking.{walk_never_stale}
 use Rattle.phase.proofs.locks.Giving.{is_lock, has_not}
 use Rattle.write_op.specs.declared.step.Task.{Task}
@@ -55,11 +55,11 @@ pub publishes_there : PublishesThere
 publishes_there op n = (
   λ p. only_there op.task op.stage.seen op.stage.step n p,
   λ e. subst (λ s. IsPublishingKind (kind_at op.task op.stage.seen s n)) (sym e)
-      (publishes_by op.task op.stage.seen (leaves_note op.task.change.deed op.stage.seen.place) (lock_of op.task op.stage.seen op.stage.seen.place + op.stage.seen.written.published) op.stage.seen.written.mark),
+      (publishes_by op.task op.stage.seen (leaves_note op.task.change.effect op.stage.seen.place) (lock_of op.task op.stage.seen op.stage.seen.place + op.stage.seen.written.published) op.stage.seen.written.mark),
 )
 
 -- ---- what is answered
-module _ (site : Site) (op : WriteOp) (did : Doings) (a : Ans) (r : Remembers site op did) where
+module _ (site : Ground) (op : WriteOp) (did : Doings) (a : Ans) (r : Remembers site op did) where
   abbrev seen : Seen
   seen = op.stage.seen
 
@@ -127,7 +127,7 @@ busy_odd : (shape : Shape) (lock : ℕ) (t : Take) (words : Words) (value : ℕ)
 busy_odd shape lock Look words value is = look_odd (words lock) value (words lock % 2 == 1) (words lock == 2 ^ 64 - 2) refl is
 busy_odd shape lock (Try free) words value is = try_odd free (words lock) value (words lock == free) is
 
-module _ (site : Site) (task : Task) (is : IsIn site task) (seen : Seen) (v : View) (words : Words) (s : WriteStep) (suits : SuitsStep site task seen s v) (none : outcome_at s ≡ None) where
+module _ (site : Ground) (task : Task) (is : IsIn site task) (seen : Seen) (v : View) (words : Words) (s : WriteStep) (suits : SuitsStep site task seen s v) (none : outcome_at s ≡ None) where
   abbrev met : WriteStep → Ans
   met z = answer_to (wanted_in task seen z) (words (word_of site.shape (wanted_in task seen z)))
 

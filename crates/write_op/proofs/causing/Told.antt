@@ -5,14 +5,14 @@ use Rattle.std.proofs.lemmas.Option.{none-some, same_Some}
 use Rattle.op_core.specs.declared.want.Ans.{Ans}
 use Rattle.op_core.specs.declared.want.Ans.TheVariants.{Value, Drawn, Passed}
 use Rattle.op_core.specs.declared.why.Why.TheVariants.{Busy, Moved}
-use Rattle.map_model.specs.declared.change.Deed.{Deed}
-use Rattle.map_model.specs.declared.change.Deed.TheVariants.{Insert, Update, Remove}
+use Rattle.map_model.specs.declared.change.Effect.{Effect}
+use Rattle.map_model.specs.declared.change.Effect.TheVariants.{Insert, Update, Remove}
 use Rattle.map_model.specs.declared.entry.Reply.TheVariants as reply
 use Rattle.map_model.specs.Changes.{doing, call_of}
 use Rattle.map_model.specs.Legal.{IsInsert}
 use Rattle.part.specs.Outcomes.{Outcome, replied, again, stale, off}
-use Rattle.phase.specs.declared.place.Place.{Place}
-use Rattle.phase.specs.declared.place.Place.TheVariants.{Home, Probing, First, Second}
+use Rattle.phase.specs.declared.role.Role.{Role}
+use Rattle.phase.specs.declared.role.Role.TheVariants.{Home, Probing, First, Second}
 use Rattle.phase.specs.declared.walk.Walk.{Walk}
 use Rattle.phase.specs.declared.walk.Walked.{Walked}
 use Rattle.phase.specs.declared.walk.Walked.TheVariants as walked
@@ -84,12 +84,12 @@ module _ (P : Outcome → Type 0) where
     walked_told (walked.Stale segment byte) cut ill late = so (Ended (ends.Stale segment byte)) (stale segment byte) refl (late segment byte refl)
 
     -- ---- a lock
-    locked_open : (place : Place) → Told (locked place)
+    locked_open : (place : Role) → Told (locked place)
     locked_open Home = λ outcome some. absurd (none-some outcome some)
     locked_open Probing = λ outcome some. absurd (none-some outcome some)
     locked_open place = λ outcome some. absurd (none-some outcome some)
 
-    pub locked_told : (place : Place) (lock : ℕ) (x : Taken) → ((value : ℕ) → x ≡ taking.Busy value → P (again (Busy lock value)))
+    pub locked_told : (place : Role) (lock : ℕ) (x : Taken) → ((value : ℕ) → x ≡ taking.Busy value → P (again (Busy lock value)))
         → ((before after : ℕ) → x ≡ taking.Moved before after → P (again (Moved lock before after))) → Told (locked_to seen place lock x).step
     locked_told place lock (taking.On next) busy moved = λ outcome some. absurd (none-some outcome some)
     locked_told place lock (taking.Held free) busy moved = locked_open place
@@ -110,13 +110,13 @@ module _ (P : Outcome → Type 0) where
     first_open : (s : Seen) → Told (visit_first s)
     first_open s = either s.first (Lock First Look) (visit_second s) (λ outcome some. absurd (none-some outcome some)) (second_open s)
 
-    all_open : (s : Seen) (place : Place) → Told (filled task.hash s place).step
+    all_open : (s : Seen) (place : Role) → Told (filled task.hash s place).step
     all_open s Home = λ outcome some. absurd (none-some outcome some)
     all_open s Probing = first_open (with_visits task.hash s)
     all_open s First = second_open s
     all_open s place = λ outcome some. absurd (none-some outcome some)
 
-    pub filled_told : (place : Place) (x : Loaded) → Told (filled_to task.hash seen place x).step
+    pub filled_told : (place : Role) (x : Loaded) → Told (filled_to task.hash seen place x).step
     filled_told place (loaded.On load) = λ outcome some. absurd (none-some outcome some)
     filled_told place (loaded.All words) = all_open (record seen { buckets = with_words place words seen.buckets }) place
 
@@ -132,14 +132,14 @@ module _ (P : Outcome → Type 0) where
       changing_told other (Some spot) is = λ outcome some. absurd (none-some outcome some)
       changing_told other None is = gives seen.held (ending.Replied reply.Absent count) (replied reply.Absent count) refl (nowhere other is)
 
-      decided_told : (d : Deed) → task.change.deed ≡ d → Told (decided task seen count d).step
-      decided_told (Insert value) e = inserting_told (subst (λ (z : Deed). IsInsert (doing task.change.key z)) (sym e) tt) (found seen task.change.key) (room_in seen.buckets) refl
-      decided_told (Update value) e = changing_told (λ insert. subst (λ (z : Deed). IsInsert (doing task.change.key z)) e insert) (found seen task.change.key) refl
-      decided_told Remove e = changing_told (λ insert. subst (λ (z : Deed). IsInsert (doing task.change.key z)) e insert) (found seen task.change.key) refl
+      decided_told : (d : Effect) → task.change.effect ≡ d → Told (decided task seen count d).step
+      decided_told (Insert value) e = inserting_told (subst (λ (z : Effect). IsInsert (doing task.change.key z)) (sym e) tt) (found seen task.change.key) (room_in seen.buckets) refl
+      decided_told (Update value) e = changing_told (λ insert. subst (λ (z : Effect). IsInsert (doing task.change.key z)) e insert) (found seen task.change.key) refl
+      decided_told Remove e = changing_told (λ insert. subst (λ (z : Effect). IsInsert (doing task.change.key z)) e insert) (found seen task.change.key) refl
 
       pub counted_told : (nat_le (2 ^ 63) count ≡ true → P (replied reply.Spent count)) → Told (counted task seen count).step
-      counted_told spent = both (nat_le (2 ^ 63) count) (answered seen count reply.Spent) (decided task seen count task.change.deed)
-          (λ t. gives seen.held (ending.Replied reply.Spent count) (replied reply.Spent count) refl (spent t)) (λ f. decided_told task.change.deed refl)
+      counted_told spent = both (nat_le (2 ^ 63) count) (answered seen count reply.Spent) (decided task seen count task.change.effect)
+          (λ t. gives seen.held (ending.Replied reply.Spent count) (replied reply.Spent count) refl (spent t)) (λ f. decided_told task.change.effect refl)
 
     -- ---- stores, the draw, and the note
     pub made_told : (x : Made) → Told (made_to seen x).step
@@ -147,13 +147,13 @@ module _ (P : Outcome → Type 0) where
     made_told made.Settled = λ outcome some. absurd (none-some outcome some)
 
     pub drawn_told : (n : ℕ) → P (replied reply.Done n) → Told (drawn_to task seen n).step
-    drawn_told n p = both (leaves_note task.change.deed seen.place) (go seen (Unnote Mark n)) (answered seen n reply.Done)
+    drawn_told n p = both (leaves_note task.change.effect seen.place) (go seen (Unnote Mark n)) (answered seen n reply.Done)
         (λ t. so (Unnote Mark n) (replied reply.Done n) refl p) (λ f. gives seen.held (ending.Replied reply.Done n) (replied reply.Done n) refl p)
 
     -- ---- WHICH EVENTS DECIDE, whatever they are answered
     pub next_told : (s : WriteStep) (a : Ans) → outcome_at s ≡ None
         → ((w : Walk) (n : ℕ) → s ≡ Way w → a ≡ Value n → Told (walked_to seen (walk_taken task.site task.hash w n)).step)
-        → ((place : Place) (take : Take) → s ≡ Lock place take → Told (locked_to seen place (lock_of task seen place) (take_taken take a)).step)
+        → ((place : Role) (take : Take) → s ≡ Lock place take → Told (locked_to seen place (lock_of task seen place) (take_taken take a)).step)
         → ((back : Back) (n : ℕ) → s ≡ Check back → a ≡ Value n → Told (backed_to seen (back_taken task.site task.hash seen.path back n)).step)
         → ((n : ℕ) → s ≡ Count → a ≡ Value n → Told (counted task seen n).step)
         → ((n : ℕ) → s ≡ Draw → a ≡ Drawn n → P (replied reply.Done n))

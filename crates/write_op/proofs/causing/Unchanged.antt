@@ -9,7 +9,7 @@ use Rattle.way.proofs.Indexes.{index_below}
 use Rattle.bucket_words.specs.Owners.{IsStructure}
 use Rattle.bucket_words.proofs.segments.Places.{not_structure}
 use Rattle.world.specs.Views.{Has}
-use Rattle.phase.specs.declared.place.Place.{Place}
+use Rattle.phase.specs.declared.role.Role.{Role}
 use Rattle.phase.specs.declared.back.Back.{Back}
 use Rattle.phase.specs.declared.back.Back.TheVariants as back
 use Rattle.phase.specs.Places.{bucket_of}
@@ -50,7 +50,7 @@ module _ (task : Task) (seen : Seen) (loads : List (ℕ × ℕ)) (path : WasFoun
         not_structure g seen.path.segment (bucket_of task.hash was.0) 0 (back_word task.site task.hash seen.path at) (bucket_near task.hash was.0) (omega arith) (omega (arith, at_bucket)) (back_structure at)
 
   -- nor is one that is not held one of those that are
-  pub lock_unchanged : (place : Place) → free_of seen.held place ≡ None → ChangedLocks (kept_in task seen) changed → Has (lock_of task seen place) changed → ⊥
+  pub lock_unchanged : (place : Role) → free_of seen.held place ≡ None → ChangedLocks (kept_in task seen) changed → Has (lock_of task seen place) changed → ⊥
   lock_unchanged place out locks has =
       let was = locks (lock_of task seen place) has in
       no_some (sym out ∙ ap (free_of seen.held) (one_lock_word task.site task.hash seen.path.segment path.0.2 place was.0 was.2) ∙ was.1.1)

@@ -5,11 +5,11 @@ use Rattle.bucket_meta.specs.Bucket.{allocated, record_slots}
 use Rattle.bucket_meta.specs.Marks.{finger_place, with_finger}
 use Rattle.bucket_meta.proofs.Found.{found_with, free_at}
 use Rattle.image_layout.specs.Places.{bucket_at}
-use Rattle.map_model.specs.declared.change.Deed.{Deed}
-use Rattle.map_model.specs.declared.change.Deed.TheVariants.{Insert, Update, Remove}
-use Rattle.world.specs.Site.{Site}
-use Rattle.phase.specs.declared.place.Place.{Place}
-use Rattle.phase.specs.declared.place.Place.TheVariants.{Home, Probing}
+use Rattle.map_model.specs.declared.change.Effect.{Effect}
+use Rattle.map_model.specs.declared.change.Effect.TheVariants.{Insert, Update, Remove}
+use Rattle.world.specs.Ground.{Ground}
+use Rattle.phase.specs.declared.role.Role.{Role}
+use Rattle.phase.specs.declared.role.Role.TheVariants.{Home, Probing}
 use Rattle.phase.specs.declared.make.Record.{Record}
 use Rattle.phase.specs.Places.{bucket_of}
 use Rattle.phase.specs.Buckets.{words_in}
@@ -28,44 +28,44 @@ use Rattle.write_op.proofs.finding.Searching.{IsFound, found_some}
 use Rattle.write_op.proofs.finding.Rooms.{IsRoom, room_some}
 use Rattle.write_op.proofs.finding.Finding.{asked_held}
 
-module _ (site : Site) (task : Task) (seen : Seen) (upto : HoldsUpto seen 4) (c : IsChosen site task seen) where
+module _ (site : Ground) (task : Task) (seen : Seen) (upto : HoldsUpto seen 4) (c : IsChosen site task seen) where
   abbrev pub spot : Spot
   spot = record { place = seen.place; slot = seen.written.slot }
 
   -- by what it does
-  pub is_spot : (d : Deed) → task.change.deed ≡ d → IsSpot site task seen d (found seen task.change.key)
-  is_spot d e = subst (λ (z : Deed). IsSpot site task seen z (found seen task.change.key)) e c.spot
+  pub is_spot : (d : Effect) → task.change.effect ≡ d → IsSpot site task seen d (found seen task.change.key)
+  is_spot d e = subst (λ (z : Effect). IsSpot site task seen z (found seen task.change.key)) e c.spot
 
-  pub update_found : (value : ℕ) → task.change.deed ≡ Update value → IsFound seen task.change.key spot
+  pub update_found : (value : ℕ) → task.change.effect ≡ Update value → IsFound seen task.change.key spot
   update_found value e = found_some seen task.change.key spot (is_spot (Update value) e)
 
-  pub remove_found : task.change.deed ≡ Remove → IsFound seen task.change.key spot
+  pub remove_found : task.change.effect ≡ Remove → IsFound seen task.change.key spot
   remove_found e = found_some seen task.change.key spot (is_spot Remove e)
 
-  pub room_free : (value : ℕ) → task.change.deed ≡ Insert value → IsRoom seen.buckets spot
+  pub room_free : (value : ℕ) → task.change.effect ≡ Insert value → IsRoom seen.buckets spot
   room_free value e = room_some seen.buckets spot (is_spot (Insert value) e).1
 
-  near_asked : (p : Place) → (p ≡ Home) ⊎ (p ≡ Probing) → is_asked seen p ≡ true
+  near_asked : (p : Role) → (p ≡ Home) ⊎ (p ≡ Probing) → is_asked seen p ≡ true
   near_asked p (inl home) = ap (is_asked seen) home
   near_asked p (inr probing) = ap (is_asked seen) probing
 
   -- its bucket is held
-  held_by : (d : Deed) → task.change.deed ≡ d → IsHeld seen.held seen.place
+  held_by : (d : Effect) → task.change.effect ≡ d → IsHeld seen.held seen.place
   held_by (Insert value) e = asked_held seen upto seen.place (near_asked seen.place (room_free value e).near)
   held_by (Update value) e = asked_held seen upto seen.place (update_found value e).asked
   held_by Remove e = asked_held seen upto seen.place (remove_found e).asked
 
   pub place_held : IsHeld seen.held seen.place
-  place_held = held_by task.change.deed refl
+  place_held = held_by task.change.effect refl
 
   -- and its slot is one of it
-  low_by : (d : Deed) → task.change.deed ≡ d → seen.written.slot < record_slots
+  low_by : (d : Effect) → task.change.effect ≡ d → seen.written.slot < record_slots
   low_by (Insert value) e = (free_at (slice_index (words_in seen.buckets seen.place) 1) seen.written.slot (room_free value e).slot).1
   low_by (Update value) e = (found_with (words_in seen.buckets seen.place) task.change.key seen.written.slot (update_found value e).slot).1
   low_by Remove e = (found_with (words_in seen.buckets seen.place) task.change.key seen.written.slot (remove_found e).slot).1
 
   pub slot_low : seen.written.slot < record_slots
-  slot_low = low_by task.change.deed refl
+  slot_low = low_by task.change.effect refl
 
   -- what is stored
   pub written_is : seen.written ≡ record_at task seen.buckets spot
@@ -81,13 +81,13 @@ module _ (site : Site) (task : Task) (seen : Seen) (upto : HoldsUpto seen 4) (c 
     pub lock_is : lock ≡ bucket_at site.shape seen.path.segment (bucket_of task.hash seen.place)
     lock_is = lock_at site task.site task.hash seen.path.segment at seen.place
 
-    free_here : (value : ℕ) → task.change.deed ≡ Insert value → allocated seen.written.slot (loaded task seen (lock + 1)) ≡ 0
+    free_here : (value : ℕ) → task.change.effect ≡ Insert value → allocated seen.written.slot (loaded task seen (lock + 1)) ≡ 0
     free_here value e =
         let there = free_at (slice_index (words_in seen.buckets seen.place) 1) seen.written.slot (room_free value e).slot in
         ap (allocated seen.written.slot) (word_here 1 (omega arith) (omega arith)) ∙ there.0
 
     -- an insert's record fits its slot
-    pub fits_slot : (value : ℕ) → task.change.deed ≡ Insert value
+    pub fits_slot : (value : ℕ) → task.change.effect ≡ Insert value
         → FitsSlot site.shape (loaded task seen) seen.path.segment (bucket_of task.hash seen.place) lock seen.written (finger_of task.hash)
     fits_slot value e = record {
       segment = at.within;

@@ -5,18 +5,18 @@ use Rattle.trace.specs.Events.{Words}
 use Rattle.image_layout.specs.Places.{bucket_at}
 use Rattle.bucket_words.specs.Hits.{Hit}
 use Rattle.bucket_words.specs.HomeNotes.{IsUnnoted}
-use Rattle.world.specs.Site.{Site}
+use Rattle.world.specs.Ground.{Ground}
 use Rattle.world.specs.Views.{View}
 use Rattle.world.proofs.stepping.Telling.{unvisited}
-use Rattle.phase.specs.declared.place.Place.{Place}
-use Rattle.phase.specs.declared.place.Place.TheVariants.{Home, Probing, First, Second}
+use Rattle.phase.specs.declared.role.Role.{Role}
+use Rattle.phase.specs.declared.role.Role.TheVariants.{Home, Probing, First, Second}
 use Rattle.phase.specs.Places.{bucket_of}
 use Rattle.phase.specs.Helds.{free_of}
 use Rattle.phase.specs.Buckets.{words_in}
 use Rattle.phase.specs.Giving.{IsLocated, IsHeld, IsOfHeld}
 use Rattle.phase.specs.Knows.{Knows}
 use Rattle.phase.specs.Finding.{HasLoadedHeld, HoldsBuckets, SparesStash, StandsNowhere}
-use Rattle.phase.proofs.Asked.{few}
+use Rattle.phase.proofs.asking.Asked.{few}
 use Rattle.phase.proofs.locks.Giving.{lock_at, no_some}
 use Rattle.phase.proofs.locks.Finding.{loads_are_known, words_stand, search_tells}
 use Rattle.write_op.specs.declared.step.Task.{Task}
@@ -30,10 +30,10 @@ use Rattle.write_op.proofs.keeping.Going.{located}
 
 -- ---- which locks are held
 module _ (seen : Seen) (upto : HoldsUpto seen 4) where
-  pub asked_held : (p : Place) → is_asked seen p ≡ true → IsHeld seen.held p
+  pub asked_held : (p : Role) → is_asked seen p ≡ true → IsHeld seen.held p
   asked_held p asked = upto.these p (record { low = few seen.first seen.second p asked; asked = asked })
 
-  pub held_asked : (p : Place) → IsHeld seen.held p → is_asked seen p ≡ true
+  pub held_asked : (p : Role) → IsHeld seen.held p → is_asked seen p ≡ true
   held_asked p held = by (is_asked seen p) refl
     where
       by : (b : Bool) → is_asked seen p ≡ b → is_asked seen p ≡ true
@@ -41,7 +41,7 @@ module _ (seen : Seen) (upto : HoldsUpto seen 4) where
       by false e = absurd (no_some (sym (upto.others p (λ u. never (sym u.asked ∙ e))) ∙ held.1))
 
   -- a stash bucket whose lock is not held was not asked
-  pub none_asked : (p : Place) → free_of seen.held p ≡ None → is_asked seen p ≡ false
+  pub none_asked : (p : Role) → free_of seen.held p ≡ None → is_asked seen p ≡ false
   none_asked p none = by (is_asked seen p) refl
     where
       by : (b : Bool) → is_asked seen p ≡ b → is_asked seen p ≡ false
@@ -49,7 +49,7 @@ module _ (seen : Seen) (upto : HoldsUpto seen 4) where
       by false e = e
 
 -- ---- what is known
-module _ (site : Site) (task : Task) (is : IsIn site task) (seen : Seen) (v : View) (h : HasLoaded site task seen 4 4 v) (pinned : IsPinned site task.hash seen.path v.pinned) where
+module _ (site : Ground) (task : Task) (is : IsIn site task) (seen : Seen) (v : View) (h : HasLoaded site task seen 4 4 v) (pinned : IsPinned site task.hash seen.path v.pinned) where
   abbrev segment : ℕ
   segment = seen.path.segment
 
@@ -78,11 +78,11 @@ module _ (site : Site) (task : Task) (is : IsIn site task) (seen : Seen) (v : Vi
   }
 
 -- ---- where the key stands, by the words alone
-module _ (site : Site) (task : Task) (seen : Seen) (at : IsLocated site task.site seen.path.segment) (upto : HoldsUpto seen 4) (vis : IsVisiting task seen) where
+module _ (site : Ground) (task : Task) (seen : Seen) (at : IsLocated site task.site seen.path.segment) (upto : HoldsUpto seen 4) (vis : IsVisiting task seen) where
   abbrev words : Words
   words = loaded task seen
 
-  pub word_at : (place : Place) (j : ℕ) → 1 ≤ j → j < 32 → words (bucket_at site.shape seen.path.segment (bucket_of task.hash place) + j) ≡ slice_index (words_in seen.buckets place) j
+  pub word_at : (place : Role) (j : ℕ) → 1 ≤ j → j < 32 → words (bucket_at site.shape seen.path.segment (bucket_of task.hash place) + j) ≡ slice_index (words_in seen.buckets place) j
   word_at place j from low = ap (λ l. words (l + j)) (sym (lock_at site task.site task.hash seen.path.segment at place))
       ∙ words_stand site task.site task.hash seen.path.segment seen.buckets place at j from low
 

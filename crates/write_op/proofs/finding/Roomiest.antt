@@ -5,10 +5,10 @@ use Rattle.std.proofs.lemmas.Bool.{ltb-true, ltb-false}
 use Rattle.bucket_meta.specs.Bucket.{record_slots}
 use Rattle.bucket_meta.specs.Search.{lowest_free}
 use Rattle.balance.specs.declared.choice.Choice.TheVariants as choice
-use Rattle.map_model.specs.declared.change.Deed.{Deed}
-use Rattle.map_model.specs.declared.change.Deed.TheVariants.{Insert}
-use Rattle.phase.specs.declared.place.Place.{Place}
-use Rattle.phase.specs.declared.place.Place.TheVariants.{Home, Probing}
+use Rattle.map_model.specs.declared.change.Effect.{Effect}
+use Rattle.map_model.specs.declared.change.Effect.TheVariants.{Insert}
+use Rattle.phase.specs.declared.role.Role.{Role}
+use Rattle.phase.specs.declared.role.Role.TheVariants.{Home, Probing}
 use Rattle.phase.specs.declared.make.Make.TheVariants.{Publish}
 use Rattle.phase.specs.declared.kept.Buckets.{Buckets}
 use Rattle.write_op.specs.declared.step.Spot.{Spot}
@@ -21,7 +21,7 @@ use Rattle.write_op.proofs.finding.Searching.{or_some}
 use Rattle.write_op.proofs.finding.Rooms.{none_some, room_some}
 
 -- the place of what is found in one bucket
-placed : (place : Place) (slot : Option ℕ) (spot : Spot) → spot_or place slot None ≡ Some spot → spot.place ≡ place
+placed : (place : Role) (slot : Option ℕ) (spot : Spot) → spot_or place slot None ≡ Some spot → spot.place ≡ place
 placed place slot spot is = elim (or_some place slot None spot is) [ inl at ↦ at.place | inr none ↦ absurd (none_some none) ]
 
 module _ (buckets : Buckets) (spot : Spot) where
@@ -46,5 +46,5 @@ inserts_where_fewer site here call op v st next value e =
     let task = op.task in
     let seen = op.stage.seen in
     let suits : SuitsStep site task seen (Make Publish) v = subst (λ (z : WriteStep). SuitsStep site task seen z v) next st.view in
-    let right : IsSpot site task seen (Insert value) (found seen task.change.key) = subst (λ (z : Deed). IsSpot site task seen z (found seen task.change.key)) e suits.chosen.spot in
+    let right : IsSpot site task seen (Insert value) (found seen task.change.key) = subst (λ (z : Effect). IsSpot site task seen z (found seen task.change.key)) e suits.chosen.spot in
     roomiest seen.buckets (record { place = seen.place; slot = seen.written.slot }) right.1

@@ -5,8 +5,8 @@ use Rattle.balance.specs.declared.choice.Choice.{Choice}
 use Rattle.balance.specs.declared.choice.Choice.TheVariants as choice
 use Rattle.balance.specs.Choices.{choice_of}
 use Rattle.balance.proofs.Rooms.{has_room}
-use Rattle.phase.specs.declared.place.Place.{Place}
-use Rattle.phase.specs.declared.place.Place.TheVariants.{Home, Probing}
+use Rattle.phase.specs.declared.role.Role.{Role}
+use Rattle.phase.specs.declared.role.Role.TheVariants.{Home, Probing}
 use Rattle.phase.specs.declared.kept.Buckets.{Buckets}
 use Rattle.phase.specs.Buckets.{words_in}
 use Rattle.write_op.specs.declared.step.Spot.{Spot}
@@ -28,13 +28,13 @@ module _ (buckets : Buckets) where
     pub near : (spot.place ≡ Home) ⊎ (spot.place ≡ Probing)
     pub slot : lowest_free (slice_index (words_in buckets spot.place) 1) ≡ Some spot.slot
 
-  room_at : (spot : Spot) (place : Place) → (place ≡ Home) ⊎ (place ≡ Probing) → spot.place ≡ place → lowest_free (slice_index (words_in buckets place) 1) ≡ Some spot.slot → IsRoom spot
+  room_at : (spot : Spot) (place : Role) → (place ≡ Home) ⊎ (place ≡ Probing) → spot.place ≡ place → lowest_free (slice_index (words_in buckets place) 1) ≡ Some spot.slot → IsRoom spot
   room_at spot place near same slot = record {
-    near = subst (λ (p : Place). (p ≡ Home) ⊎ (p ≡ Probing)) (sym same) near;
-    slot = subst (λ (p : Place). lowest_free (slice_index (words_in buckets p) 1) ≡ Some spot.slot) (sym same) slot;
+    near = subst (λ (p : Role). (p ≡ Home) ⊎ (p ≡ Probing)) (sym same) near;
+    slot = subst (λ (p : Role). lowest_free (slice_index (words_in buckets p) 1) ≡ Some spot.slot) (sym same) slot;
   }
 
-  room_of : (spot : Spot) (place : Place) → (place ≡ Home) ⊎ (place ≡ Probing)
+  room_of : (spot : Spot) (place : Role) → (place ≡ Home) ⊎ (place ≡ Probing)
       → spot_or place (lowest_free (slice_index (words_in buckets place) 1)) None ≡ Some spot → IsRoom spot
   room_of spot place near is = elim (or_some place (lowest_free (slice_index (words_in buckets place) 1)) None spot is) [
     | inl at ↦ room_at spot place near at.place at.slot

@@ -1,8 +1,8 @@
 -- What a search of the loaded buckets says: where the key was found, and that it stands in none of them.
 use Rattle.std.proofs.Common.{◌≡◌, ◌⊎◌, ℕ, Bool, true, false, Option, None, Some, List, inl, inr, refl, sym, ap, subst}
 use Rattle.bucket_meta.specs.Search.{lowest_with}
-use Rattle.phase.specs.declared.place.Place.{Place}
-use Rattle.phase.specs.declared.place.Place.TheVariants.{Home, Probing, First, Second, Next, Previous}
+use Rattle.phase.specs.declared.role.Role.{Role}
+use Rattle.phase.specs.declared.role.Role.TheVariants.{Home, Probing, First, Second, Next, Previous}
 use Rattle.phase.specs.Buckets.{words_in}
 use Rattle.write_op.specs.declared.step.Spot.{Spot}
 use Rattle.write_op.specs.declared.step.Seen.{Seen}
@@ -12,16 +12,16 @@ use Rattle.write_op.specs.Fits.{is_asked}
 some_none : {A : Type 0} {x : A} → Some x ≡ None → ⊥
 some_none e = cc
 
-pub or_none : (place : Place) (a : Option ℕ) (rest : Option Spot) → spot_or place a rest ≡ None → (a ≡ None) × (rest ≡ None)
+pub or_none : (place : Role) (a : Option ℕ) (rest : Option Spot) → spot_or place a rest ≡ None → (a ≡ None) × (rest ≡ None)
 or_none place (Some slot) rest e = absurd (some_none e)
 or_none place None rest e = (refl, e)
 
 -- the slot of a bucket
-pub record IsIn (bucket : Place) (a : Option ℕ) (spot : Spot) : Type 0 where
+pub record IsIn (bucket : Role) (a : Option ℕ) (spot : Spot) : Type 0 where
   pub place : spot.place ≡ bucket
   pub slot : a ≡ Some spot.slot
 
-pub or_some : (place : Place) (a : Option ℕ) (rest : Option Spot) (spot : Spot) → spot_or place a rest ≡ Some spot → IsIn place a spot ⊎ (rest ≡ Some spot)
+pub or_some : (place : Role) (a : Option ℕ) (rest : Option Spot) (spot : Spot) → spot_or place a rest ≡ Some spot → IsIn place a spot ⊎ (rest ≡ Some spot)
 or_some place (Some slot) rest spot e =
     let one : Some (record { place = place; slot = slot }) ≡ Some spot = e in
     let same : record { place = place; slot = slot } ≡ spot = cc in
@@ -47,7 +47,7 @@ module _ (seen : Seen) (key : ℕ) where
   in_probing = spot_or Probing (slot_in true seen.buckets.probing key) in_first
 
   -- nowhere in a bucket that was asked
-  pub found_none : found seen key ≡ None → (place : Place) → is_asked seen place ≡ true → lowest_with (words_in seen.buckets place) key ≡ None
+  pub found_none : found seen key ≡ None → (place : Role) → is_asked seen place ≡ true → lowest_with (words_in seen.buckets place) key ≡ None
   found_none e place asked =
       let a = or_none Home (slot_in true seen.buckets.home key) in_probing e in
       let b = or_none Probing (slot_in true seen.buckets.probing key) in_first a.1 in
@@ -55,7 +55,7 @@ module _ (seen : Seen) (key : ℕ) where
       let d = or_none Second (slot_in seen.second seen.buckets.second key) None c.1 in
       by place asked a.0 b.0 c.0 d.0
     where
-      by : (place : Place) → is_asked seen place ≡ true → lowest_with seen.buckets.home key ≡ None → lowest_with seen.buckets.probing key ≡ None
+      by : (place : Role) → is_asked seen place ≡ true → lowest_with seen.buckets.home key ≡ None → lowest_with seen.buckets.probing key ≡ None
           → slot_in seen.first seen.buckets.first key ≡ None → slot_in seen.second seen.buckets.second key ≡ None → lowest_with (words_in seen.buckets place) key ≡ None
       by Home asked a b c d = a
       by Probing asked a b c d = b
@@ -69,10 +69,10 @@ module _ (seen : Seen) (key : ℕ) where
     pub asked : is_asked seen spot.place ≡ true
     pub slot : lowest_with (words_in seen.buckets spot.place) key ≡ Some spot.slot
 
-  at_place : (spot : Spot) (place : Place) → spot.place ≡ place → is_asked seen place ≡ true → lowest_with (words_in seen.buckets place) key ≡ Some spot.slot → IsFound spot
+  at_place : (spot : Spot) (place : Role) → spot.place ≡ place → is_asked seen place ≡ true → lowest_with (words_in seen.buckets place) key ≡ Some spot.slot → IsFound spot
   at_place spot place same asked slot = record {
-    asked = subst (λ (p : Place). is_asked seen p ≡ true) (sym same) asked;
-    slot = subst (λ (p : Place). lowest_with (words_in seen.buckets p) key ≡ Some spot.slot) (sym same) slot;
+    asked = subst (λ (p : Role). is_asked seen p ≡ true) (sym same) asked;
+    slot = subst (λ (p : Role). lowest_with (words_in seen.buckets p) key ≡ Some spot.slot) (sym same) slot;
   }
 
   pub found_some : (spot : Spot) → found seen key ≡ Some spot → IsFound spot

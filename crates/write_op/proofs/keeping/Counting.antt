@@ -3,21 +3,21 @@ use Rattle.std.proofs.Common.{◌≡◌, ℕ, ◌^◌, ◌<◌, Bool, true, fals
 use Rattle.std.specs.Prelude.{nat_le, nat_lt, if◌then◌else◌}
 use Rattle.std.proofs.lemmas.Bool.{lt-ltb, le-ltb, leb-true, leb-false}
 use Rattle.trace.specs.Events.{Words}
-use Rattle.map_model.specs.declared.change.Deed.{Deed}
-use Rattle.map_model.specs.declared.change.Deed.TheVariants.{Insert, Update, Remove}
+use Rattle.map_model.specs.declared.change.Effect.{Effect}
+use Rattle.map_model.specs.declared.change.Effect.TheVariants.{Insert, Update, Remove}
 use Rattle.map_model.specs.declared.entry.Reply.{Reply}
 use Rattle.map_model.specs.declared.entry.Reply.TheVariants as reply
 use Rattle.map_model.specs.Map.{is_done}
 use Rattle.map_model.specs.Legal.{IsInsert}
 use Rattle.map_model.specs.Changes.{doing, call_of}
-use Rattle.world.specs.Site.{Site}
+use Rattle.world.specs.Ground.{Ground}
 use Rattle.way.specs.Ways.{is_leading}
 use Rattle.world.specs.Views.{View, Has}
 use Rattle.world.specs.Kinds.{finds_room, next_entry, with_reply, with_count, view_after}
 use Rattle.world.specs.Attempts.{HasNoMore, EntersReply}
 use Rattle.part.specs.Outcomes.{reply_of}
-use Rattle.phase.specs.declared.place.Place.{Place}
-use Rattle.phase.specs.declared.place.Place.TheVariants.{Next, Previous}
+use Rattle.phase.specs.declared.role.Role.{Role}
+use Rattle.phase.specs.declared.role.Role.TheVariants.{Next, Previous}
 use Rattle.phase.specs.declared.make.Make.{Make}
 use Rattle.phase.specs.declared.make.Make.TheVariants.{Key, Publish}
 use Rattle.phase.specs.Giving.{IsQuiet, IsOfHeld}
@@ -42,10 +42,10 @@ use Rattle.write_op.proofs.finding.Places.{never}
 use Rattle.write_op.proofs.keeping.Entering.{reply_at, giving_outcome}
 
 -- a stage that a view suits, with its reply entered
-abbrev pub Goes : Site → Task → View → Stage → View → Type 0
+abbrev pub Goes : Ground → Task → View → Stage → View → Type 0
 Goes site task before stage u = SuitsStage site task stage u × EntersReply (call_of task.change) (reply_at stage.step) before u
 
-module _ (site : Site) (task : Task) (is : IsIn site task) (seen : Seen) (before v : View) (same : HasNoMore before v) where
+module _ (site : Ground) (task : Task) (is : IsIn site task) (seen : Seen) (before v : View) (same : HasNoMore before v) where
   -- ---- refusals
   pub refused : IsGiving site task seen seen.held v → (r : Reply) (n : ℕ) → is_done r ≡ false
       → Goes site task before (answered seen n r) (with_reply v (next_entry v (call_of task.change) r n false))
@@ -53,7 +53,7 @@ module _ (site : Site) (task : Task) (is : IsIn site task) (seen : Seen) (before
       let u : View = with_reply v (next_entry v (call_of task.change) r n false) in (
         give_suits site task is seen (ending.Replied r n) u (record {
           located = g.located;
-          locks = record { has = g.locks.has; only = g.locks.only; free = g.locks.free; known = g.locks.known };
+          locks = record { has = g.locks.has; only = g.locks.only; free = g.locks.free; known = g.locks.known; areas = g.locks.areas };
           quiet = record { dirty = g.quiet.dirty; flushed = g.quiet.flushed; planned = g.quiet.planned; moving = g.quiet.moving; owed = g.quiet.owed };
         }),
         subst (λ (o : Option (Reply × ℕ)). EntersReply (call_of task.change) o before u) (sym (ap reply_of (giving_outcome seen.held (ending.Replied r n))))
@@ -74,7 +74,7 @@ module _ (site : Site) (task : Task) (is : IsIn site task) (seen : Seen) (before
     room_loaded : HasLoaded site task seen 4 4 with_room
     room_loaded = record {
       there = h.there;
-      locks = record { has = h.locks.has; only = h.locks.only; free = h.locks.free; known = h.locks.known };
+      locks = record { has = h.locks.has; only = h.locks.only; free = h.locks.free; known = h.locks.known; areas = h.locks.areas };
       upto = h.upto;
       whole = h.whole;
     }
@@ -83,7 +83,7 @@ module _ (site : Site) (task : Task) (is : IsIn site task) (seen : Seen) (before
     no_more s quiet = none_more (call_of task.change) before v (reply_at s.step) with_room quiet same refl refl
 
     -- the spot is chosen
-    module _ (spot : Spot) (right : IsSpot site task (record seen { place = spot.place; written = record_at task seen.buckets spot }) task.change.deed (found seen task.change.key)) where
+    module _ (spot : Spot) (right : IsSpot site task (record seen { place = spot.place; written = record_at task seen.buckets spot }) task.change.effect (found seen task.change.key)) where
       abbrev chosen : Seen
       chosen = record seen { place = spot.place; written = record_at task seen.buckets spot }
 
@@ -94,12 +94,12 @@ module _ (site : Site) (task : Task) (is : IsIn site task) (seen : Seen) (before
       knows = (holds_buckets site task is seen with_room room_loaded pinned).knows
 
       changes : (m : Make) → IsMaking lock chosen.written (IsOfHeld task.site task.hash seen.path.segment seen.held) (loaded task seen) (prepared task chosen) m with_room
-          → planned_at site task chosen m ≡ [] → owed_at site task chosen m ≡ [] → (IsNew m → IsInserting task.change.deed) → IsChanging site task chosen m with_room
+          → planned_at site task chosen m ≡ [] → owed_at site task chosen m ≡ [] → (IsNew m → IsInserting task.change.effect) → IsChanging site task chosen m with_room
       changes m making plans owes inserts = record {
         all = record {
           there = h.there;
           pinned = pinned;
-          locks = record { has = h.locks.has; only = h.locks.only; free = h.locks.free; known = h.locks.known };
+          locks = record { has = h.locks.has; only = h.locks.only; free = h.locks.free; known = h.locks.known; areas = h.locks.areas };
           upto = record { these = h.upto.these; others = h.upto.others };
           visits = record { first = vis.first; second = vis.second };
           still = q.moving;
@@ -113,12 +113,12 @@ module _ (site : Site) (task : Task) (is : IsIn site task) (seen : Seen) (before
       }
 
       -- an insert prepares the record
-      key_goes : (value : ℕ) → task.change.deed ≡ Insert value → Goes site task before (making task seen spot Key) with_room
-      key_goes value deed =
+      key_goes : (value : ℕ) → task.change.effect ≡ Insert value → Goes site task before (making task seen spot Key) with_room
+      key_goes value effect =
           let begins = (make_knows (IsOfHeld task.site task.hash seen.path.segment seen.held)).new lock chosen.written (loaded task seen) with_room knows (none_loose with_room room_quiet) in (
             changes Key
-                (subst (λ (d : Deed). IsMaking lock chosen.written (IsOfHeld task.site task.hash seen.path.segment seen.held) (loaded task seen) (prepared_by task chosen d) Key with_room) (sym deed) begins)
-                refl refl (λ new. subst IsInserting (sym deed) tt),
+                (subst (λ (d : Effect). IsMaking lock chosen.written (IsOfHeld task.site task.hash seen.path.segment seen.held) (loaded task seen) (prepared_by task chosen d) Key with_room) (sym effect) begins)
+                refl refl (λ new. subst IsInserting (sym effect) tt),
             no_more (go chosen (step.Make Key)) refl,
           )
 
@@ -133,13 +133,13 @@ module _ (site : Site) (task : Task) (is : IsIn site task) (seen : Seen) (before
           )
 
     -- no slot is free
-    kept_goes : (value : ℕ) → task.change.deed ≡ Insert value → found seen task.change.key ≡ None → room_in seen.buckets ≡ None
+    kept_goes : (value : ℕ) → task.change.effect ≡ Insert value → found seen task.change.key ≡ None → room_in seen.buckets ≡ None
         → Goes site task before (go seen (step.Ended ends.NoSlot)) with_room
-    kept_goes value deed none full =
-        let third = λ (p : Place) (out : is_asked seen p ≡ false). h.upto.others p (λ u. never (sym u.asked ∙ out)) in (
+    kept_goes value effect none full =
+        let third = λ (p : Role) (out : is_asked seen p ≡ false). h.upto.others p (λ u. never (sym u.asked ∙ out)) in (
           (
             record {
-              insert = subst (λ (d : Deed). IsInsert (doing task.change.key d)) (sym deed) tt;
+              insert = subst (λ (d : Effect). IsInsert (doing task.change.key d)) (sym effect) tt;
               pinned = subst (λ m. Has (seen.path.segment, m) v.pinned) pinned.same pinned.leads.has;
               leads = subst (λ m. is_leading m task.hash ≡ true) pinned.same pinned.leads.leads;
               holds = holds_buckets site task is seen with_room room_loaded pinned;
@@ -158,34 +158,34 @@ module _ (site : Site) (task : Task) (is : IsIn site task) (seen : Seen) (before
       room_is : with_room ≡ with_count (nat_lt n (2 ^ 63)) (call_of task.change) n v
       room_is = ap (λ b. with_count b (call_of task.change) n v) (sym small)
 
-      insert_by : (value : ℕ) → task.change.deed ≡ Insert value → (there room : Option Spot) → found seen task.change.key ≡ there → room_in seen.buckets ≡ room
+      insert_by : (value : ℕ) → task.change.effect ≡ Insert value → (there room : Option Spot) → found seen task.change.key ≡ there → room_in seen.buckets ≡ room
           → Goes site task before (inserting task seen n there room) (view_after site.shape (inserting_kind task seen there) n v)
-      insert_by value deed (Some spot) room e f = refused gives reply.Exists n refl
-      insert_by value deed None (Some spot) e f = subst (Goes site task before (making task seen spot Key)) room_is
-          (key_goes spot (subst (λ (d : Deed). IsSpot site task (record seen { place = spot.place; written = record_at task seen.buckets spot }) d (found seen task.change.key)) (sym deed) (e, f)) value deed)
-      insert_by value deed None None e f = subst (Goes site task before (go seen (step.Ended ends.NoSlot))) room_is (kept_goes value deed e f)
+      insert_by value effect (Some spot) room e f = refused gives reply.Exists n refl
+      insert_by value effect None (Some spot) e f = subst (Goes site task before (making task seen spot Key)) room_is
+          (key_goes spot (subst (λ (d : Effect). IsSpot site task (record seen { place = spot.place; written = record_at task seen.buckets spot }) d (found seen task.change.key)) (sym effect) (e, f)) value effect)
+      insert_by value effect None None e f = subst (Goes site task before (go seen (step.Ended ends.NoSlot))) room_is (kept_goes value effect e f)
 
-      change_by : (d : Deed) → task.change.deed ≡ d → (there : Option Spot) → found seen task.change.key ≡ there
+      change_by : (d : Effect) → task.change.effect ≡ d → (there : Option Spot) → found seen task.change.key ≡ there
           → ((spot : Spot) → found seen task.change.key ≡ Some spot → IsSpot site task (record seen { place = spot.place; written = record_at task seen.buckets spot }) d (found seen task.change.key))
           → ((spot : Spot) → prepared_by task (record seen { place = spot.place; written = record_at task seen.buckets spot }) d ≡ loaded task seen)
           → Goes site task before (changing task seen n there) (view_after site.shape (changing_kind task seen there) n v)
-      change_by d deed (Some spot) e right same_words = subst (Goes site task before (making task seen spot Publish)) room_is
-          (publish_goes spot (subst (λ (z : Deed). IsSpot site task (record seen { place = spot.place; written = record_at task seen.buckets spot }) z (found seen task.change.key)) (sym deed) (right spot e))
-          (ap (prepared_by task (record seen { place = spot.place; written = record_at task seen.buckets spot })) deed ∙ same_words spot))
-      change_by d deed None e right same_words = refused gives reply.Absent n refl
+      change_by d effect (Some spot) e right same_words = subst (Goes site task before (making task seen spot Publish)) room_is
+          (publish_goes spot (subst (λ (z : Effect). IsSpot site task (record seen { place = spot.place; written = record_at task seen.buckets spot }) z (found seen task.change.key)) (sym effect) (right spot e))
+          (ap (prepared_by task (record seen { place = spot.place; written = record_at task seen.buckets spot })) effect ∙ same_words spot))
+      change_by d effect None e right same_words = refused gives reply.Absent n refl
 
-      decided_goes : (d : Deed) → task.change.deed ≡ d → Goes site task before (decided task seen n d) (view_after site.shape (deciding_kind task seen d) n v)
-      decided_goes (Insert value) deed = insert_by value deed (found seen task.change.key) (room_in seen.buckets) refl refl
-      decided_goes (Update value) deed = change_by (Update value) deed (found seen task.change.key) refl (λ spot e. e) (λ spot. refl)
-      decided_goes Remove deed = change_by Remove deed (found seen task.change.key) refl (λ spot e. e) (λ spot. refl)
+      decided_goes : (d : Effect) → task.change.effect ≡ d → Goes site task before (decided task seen n d) (view_after site.shape (deciding_kind task seen d) n v)
+      decided_goes (Insert value) effect = insert_by value effect (found seen task.change.key) (room_in seen.buckets) refl refl
+      decided_goes (Update value) effect = change_by (Update value) effect (found seen task.change.key) refl (λ spot e. e) (λ spot. refl)
+      decided_goes Remove effect = change_by Remove effect (found seen task.change.key) refl (λ spot e. e) (λ spot. refl)
 
     count_by : (n : ℕ) (b : Bool) → nat_le (2 ^ 63) n ≡ b
-        → Goes site task before (if b then answered seen n reply.Spent else decided task seen n task.change.deed)
-        (view_after site.shape (if b then finds_room (call_of task.change) else deciding_kind task seen task.change.deed) n v)
+        → Goes site task before (if b then answered seen n reply.Spent else decided task seen n task.change.effect)
+        (view_after site.shape (if b then finds_room (call_of task.change) else deciding_kind task seen task.change.effect) n v)
     count_by n true test =
         subst (λ c. Goes site task before (answered seen n reply.Spent) (with_count c (call_of task.change) n v)) (sym (le-ltb n (2 ^ 63) (leb-true (2 ^ 63) n test)))
         (refused gives reply.Spent n refl)
-    count_by n false test = decided_goes n (lt-ltb n (2 ^ 63) (leb-false (2 ^ 63) n test)) task.change.deed refl
+    count_by n false test = decided_goes n (lt-ltb n (2 ^ 63) (leb-false (2 ^ 63) n test)) task.change.effect refl
 
     pub count_goes : (n : ℕ) → Goes site task before (counted task seen n) (view_after site.shape (count_kind task seen n) n v)
     count_goes n = count_by n (nat_le (2 ^ 63) n) refl

@@ -5,7 +5,7 @@ use Rattle.map_model.specs.declared.call.Call.{Call}
 use Rattle.map_model.specs.declared.entry.Reply.TheVariants as reply
 use Rattle.map_model.specs.Map.{key_of}
 use Rattle.map_model.specs.Changes.{call_of}
-use Rattle.world.specs.Site.{Site}
+use Rattle.world.specs.Ground.{Ground}
 use Rattle.world.specs.Views.{View}
 use Rattle.world.specs.Kinds.{of_other_keys, with_draw}
 use Rattle.world.specs.Attempts.{HasNoMore, HasOneMore, EntersReply}
@@ -24,7 +24,7 @@ use Rattle.write_op.proofs.keeping.Going.{located, give_suits}
 use Rattle.write_op.proofs.keeping.Entering.{giving_outcome}
 use Rattle.write_op.proofs.keeping.Counting.{Goes}
 
-module _ (site : Site) (task : Task) (is : IsIn site task) (seen : Seen) (before v : View) (same : HasNoMore before v) (d : IsDrawing site task seen v) (n : ℕ) where
+module _ (site : Ground) (task : Task) (is : IsIn site task) (seen : Seen) (before v : View) (same : HasNoMore before v) (d : IsDrawing site task seen v) (n : ℕ) where
   abbrev call : Call
   call = call_of task.change
 
@@ -46,13 +46,13 @@ module _ (site : Site) (task : Task) (is : IsIn site task) (seen : Seen) (before
   no_flushed : v.flushed ≡ []
   no_flushed = nothing_left v.flushed (λ p h. d.settled p (inr h))
 
-  by : (b : Bool) → leaves_note task.change.deed seen.place ≡ b → Goes site task before (if b then go seen (Unnote Mark n) else answered seen n reply.Done) after
+  by : (b : Bool) → leaves_note task.change.effect seen.place ≡ b → Goes site task before (if b then go seen (Unnote Mark n) else answered seen n reply.Done) after
   by true e = (
     record {
       all = record {
         there = d.all.there;
         pinned = d.all.pinned;
-        locks = record { has = d.all.locks.has; only = d.all.locks.only; free = d.all.locks.free; known = d.all.locks.known };
+        locks = record { has = d.all.locks.has; only = d.all.locks.only; free = d.all.locks.free; known = d.all.locks.known; areas = d.all.locks.areas };
         upto = d.all.upto;
         visits = d.all.visits;
         still = d.all.still;
@@ -69,11 +69,11 @@ module _ (site : Site) (task : Task) (is : IsIn site task) (seen : Seen) (before
   by false e = (
     give_suits site task is seen (ending.Replied reply.Done n) after (record {
       located = located site task is seen v.facts d.all.there;
-      locks = record { has = d.all.locks.has; only = d.all.locks.only; free = d.all.locks.free; known = d.all.locks.known };
+      locks = record { has = d.all.locks.has; only = d.all.locks.only; free = d.all.locks.free; known = d.all.locks.known; areas = d.all.locks.areas };
       quiet = record { dirty = no_dirty; flushed = no_flushed; planned = drawn; moving = d.all.still; owed = d.owes ∙ ap (owed_by site task seen) e };
     }),
     subst (λ o. EntersReply call o before after) (sym (ap reply_of (giving_outcome seen.held (ending.Replied reply.Done n)))) entered,
   )
 
   pub draw_goes : Goes site task before (drawn_to task seen n) after
-  draw_goes = by (leaves_note task.change.deed seen.place) refl
+  draw_goes = by (leaves_note task.change.effect seen.place) refl

@@ -5,8 +5,8 @@ use Rattle.op_core.specs.declared.why.Why.{Why}
 use Rattle.op_core.specs.declared.why.Why.TheVariants.{Busy, Moved}
 use Rattle.map_model.specs.declared.entry.Reply.{Reply}
 use Rattle.part.specs.Outcomes.{reply_of}
-use Rattle.phase.specs.declared.place.Place.{Place}
-use Rattle.phase.specs.declared.place.Place.TheVariants.{Home, Probing, First, Second}
+use Rattle.phase.specs.declared.role.Role.{Role}
+use Rattle.phase.specs.declared.role.Role.TheVariants.{Home, Probing, First, Second}
 use Rattle.phase.specs.declared.walk.Walked.{Walked}
 use Rattle.phase.specs.declared.walk.Walked.TheVariants as walked
 use Rattle.phase.specs.declared.take.Take.TheVariants.{Look}
@@ -32,7 +32,7 @@ abbrev pub reply_at : WriteStep → Option (Reply × ℕ)
 reply_at s = reply_of (outcome_at s)
 
 -- ---- locks back
-by_next : (next : Option (Place × ℕ)) (held : Held) (end : Ending) → outcome_at (given_by next held end) ≡ Some (outcome_then end)
+by_next : (next : Option (Role × ℕ)) (held : Held) (end : Ending) → outcome_at (given_by next held end) ≡ Some (outcome_then end)
 by_next (Some next) held end = refl
 by_next None held (ending.Replied answer place) = refl
 by_next None held (ending.Again why) = refl
@@ -55,12 +55,12 @@ walked_quiet seen walked.Off = refl
 walked_quiet seen (walked.Amiss word value) = refl
 walked_quiet seen (walked.Stale segment version) = refl
 
-locked_quiet : (place : Place) → reply_at (locked place) ≡ None
+locked_quiet : (place : Role) → reply_at (locked place) ≡ None
 locked_quiet Home = refl
 locked_quiet Probing = refl
 locked_quiet place = refl
 
-pub taken_quiet : (seen : Seen) (place : Place) (lock : ℕ) (x : Taken) → reply_at (locked_to seen place lock x).step ≡ None
+pub taken_quiet : (seen : Seen) (place : Role) (lock : ℕ) (x : Taken) → reply_at (locked_to seen place lock x).step ≡ None
 taken_quiet seen place lock (taking.On take) = refl
 taken_quiet seen place lock (taking.Held free) = locked_quiet place
 taken_quiet seen place lock (taking.Busy value) = giving_again seen.held (Busy lock value)
@@ -78,12 +78,12 @@ second_quiet seen = either_quiet seen.second (Lock Second Look) Count refl refl
 first_quiet : (seen : Seen) → reply_at (visit_first seen) ≡ None
 first_quiet seen = either_quiet seen.first (Lock First Look) (visit_second seen) refl (second_quiet seen)
 
-all_quiet : (hash : ℕ) (seen : Seen) (place : Place) → reply_at (filled hash seen place).step ≡ None
+all_quiet : (hash : ℕ) (seen : Seen) (place : Role) → reply_at (filled hash seen place).step ≡ None
 all_quiet hash seen Home = refl
 all_quiet hash seen Probing = first_quiet (with_visits hash seen)
 all_quiet hash seen First = second_quiet seen
 all_quiet hash seen place = refl
 
-pub filled_quiet : (hash : ℕ) (seen : Seen) (place : Place) (x : Loaded) → reply_at (filled_to hash seen place x).step ≡ None
+pub filled_quiet : (hash : ℕ) (seen : Seen) (place : Role) (x : Loaded) → reply_at (filled_to hash seen place x).step ≡ None
 filled_quiet hash seen place (loaded.On load) = refl
 filled_quiet hash seen place (loaded.All words) = all_quiet hash _ place

@@ -6,12 +6,12 @@ use Rattle.hash_word.specs.Hash.{home_of}
 use Rattle.image_layout.specs.Places.{IsShape}
 use Rattle.frame_facts.specs.Facts.{Fact}
 use Rattle.way.specs.Ways.{is_leading}
-use Rattle.world.specs.Site.{Site}
+use Rattle.world.specs.Ground.{Ground}
 use Rattle.world.specs.Kinds.{pins, view_after}
 use Rattle.world.specs.Views.{View, Has, IsGuarded}
 use Rattle.world.specs.Attempts.{HoldsOnly}
-use Rattle.phase.specs.declared.place.Place.{Place}
-use Rattle.phase.specs.declared.place.Place.TheVariants.{Home, Probing, First, Second, Next, Previous}
+use Rattle.phase.specs.declared.role.Role.{Role}
+use Rattle.phase.specs.declared.role.Role.TheVariants.{Home, Probing, First, Second, Next, Previous}
 use Rattle.phase.specs.declared.walk.Path.{Path}
 use Rattle.phase.specs.declared.walk.Walked.{Walked}
 use Rattle.phase.specs.declared.walk.Walked.TheVariants as walked
@@ -35,7 +35,7 @@ use Rattle.phase.specs.Giving.{IsLocated, IsQuiet, HoldsLocks}
 use Rattle.phase.specs.Knows.{IsWhole}
 use Rattle.phase.proofs.Backing.{back_ends}
 use Rattle.phase.proofs.Loading.{load_begins}
-use Rattle.phase.proofs.Asked.{near_asked, upto_more, upto_less}
+use Rattle.phase.proofs.asking.Asked.{near_asked, upto_more, upto_less}
 use Rattle.phase.proofs.Wording.{words_this, words_other}
 use Rattle.phase.proofs.locks.Giving.{none_free, held_none, held_stands, give_stands}
 use Rattle.write_op.specs.declared.step.Task.{Task}
@@ -51,7 +51,7 @@ use Rattle.write_op.proofs.finding.Places.{holds_more, holds_less}
 pub quiet_only : (v : View) → HoldsOnly [] v → IsQuiet v
 quiet_only v o = record { dirty = o.dirty; flushed = o.flushed; planned = o.planned; moving = o.moving; owed = o.owed }
 
-module _ (site : Site) (task : Task) (is : IsIn site task) where
+module _ (site : Ground) (task : Task) (is : IsIn site task) where
   pub located : (seen : Seen) (facts : List Fact) → IsThere site seen.path.segment facts → IsLocated site task.site seen.path.segment
   located seen facts there = record { shape = is.shape; within = there.within }
 
@@ -60,7 +60,7 @@ module _ (site : Site) (task : Task) (is : IsIn site task) where
   end_suits seen (ending.Replied answer place) u o = o
   end_suits seen (ending.Again why) u o = o
 
-  by_next : (seen : Seen) (held : Held) (end : Ending) (u : View) → IsGiving site task seen held u → (next : Option (Place × ℕ)) → give_next held ≡ next
+  by_next : (seen : Seen) (held : Held) (end : Ending) (u : View) → IsGiving site task seen held u → (next : Option (Role × ℕ)) → give_next held ≡ next
       → SuitsStep site task seen (given_by next held end) u
   by_next seen held end u g (Some next) e = g
   by_next seen held end u g None e =
@@ -97,7 +97,7 @@ module _ (site : Site) (task : Task) (is : IsIn site task) where
     spent_loaded : IsButSpent v u → HasLoaded site task seen n m u
     spent_loaded s = subst (HasLoaded site task seen n m) (sym s.1) (record {
       there = h.there;
-      locks = record { has = h.locks.has; only = h.locks.only; free = h.locks.free; known = h.locks.known };
+      locks = record { has = h.locks.has; only = h.locks.only; free = h.locks.free; known = h.locks.known; areas = h.locks.areas };
       upto = h.upto;
       whole = h.whole;
     })
@@ -108,7 +108,7 @@ module _ (site : Site) (task : Task) (is : IsIn site task) where
     spent_gives : IsButSpent v u → IsGiving site task seen seen.held u
     spent_gives s = loaded_gives seen n m u (spent_loaded s) (spent_quiet s)
 
-  module _ (seen : Seen) (place : Place) (free m : ℕ) (v u : View) (h : HasLoaded site task seen (index place) m v) (q : IsQuiet v)
+  module _ (seen : Seen) (place : Role) (free m : ℕ) (v u : View) (h : HasLoaded site task seen (index place) m v) (q : IsQuiet v)
       (may : MayBeTaken free) (same : u ≡ record v { held = (lock_of task seen place, free + 1) ∷ v.held }) where
     more_loaded : is_asked seen place ≡ true → HasLoaded site task (record seen { held = with_held place free seen.held }) (index place + 1) m u
     more_loaded asked = record {
@@ -122,7 +122,7 @@ module _ (site : Site) (task : Task) (is : IsIn site task) where
     more_quiet = subst IsQuiet (sym same) (record { dirty = q.dirty; flushed = q.flushed; planned = q.planned; moving = q.moving; owed = q.owed })
 
   -- a header that is pinned stays so while locks are taken
-  spent_pinned : (seen : Seen) (place : Place) (v u : View) → IsButSpent v u → PinnedAt site task seen place v → PinnedAt site task seen place u
+  spent_pinned : (seen : Seen) (place : Role) (v u : View) → IsButSpent v u → PinnedAt site task seen place v → PinnedAt site task seen place u
   spent_pinned seen Home v u s p = tt
   spent_pinned seen Probing v u s p = tt
   spent_pinned seen First v u s p = subst (λ (z : View). IsPinned site task.hash seen.path z.pinned) (sym s.1) p
@@ -133,7 +133,7 @@ module _ (site : Site) (task : Task) (is : IsIn site task) where
   visits_still : (seen : Seen) (held : Held) → IsVisiting task seen → IsVisiting task (record seen { held = held })
   visits_still seen held vis = record { first = vis.first; second = vis.second }
 
-  held_suits : (seen : Seen) (place : Place) (free : ℕ) (v u : View) → HasLoaded site task seen (index place) (loaded_by place) v → IsQuiet v → VisitsAt site task seen place
+  held_suits : (seen : Seen) (place : Role) (free : ℕ) (v u : View) → HasLoaded site task seen (index place) (loaded_by place) v → IsQuiet v → VisitsAt site task seen place
       → PinnedAt site task seen place v → MayBeTaken free → u ≡ record v { held = (lock_of task seen place, free + 1) ∷ v.held }
       → SuitsStage site task (locked_to seen place (lock_of task seen place) (taking.Held free)) u
   held_suits seen Home free v u h q vis pinned may same = (more_loaded seen Home free 0 v u h q may same refl, more_quiet seen Home free 0 v u h q may same, tt, tt, tt)
@@ -155,7 +155,7 @@ module _ (site : Site) (task : Task) (is : IsIn site task) where
   held_suits seen Next free v u h q vis pinned may same = absurd vis
   held_suits seen Previous free v u h q vis pinned may same = absurd vis
 
-  pub locked_suits : (seen : Seen) (place : Place) (v u : View) → HasLoaded site task seen (index place) (loaded_by place) v → IsQuiet v → VisitsAt site task seen place
+  pub locked_suits : (seen : Seen) (place : Role) (v u : View) → HasLoaded site task seen (index place) (loaded_by place) v → IsQuiet v → VisitsAt site task seen place
       → PinnedAt site task seen place v → (x : Taken) → HasTaken (lock_of task seen place) v x u → SuitsStage site task (locked_to seen place (lock_of task seen place) x) u
   locked_suits seen place v u h q vis pinned (taking.On take) t =
       (spent_loaded seen (index place) (loaded_by place) v u h q t.1, spent_quiet seen (index place) (loaded_by place) v u h q t.1, vis, t.0, spent_pinned seen place v u t.1 pinned)
@@ -197,7 +197,7 @@ module _ (site : Site) (task : Task) (is : IsIn site task) where
         back_loaded : HasLoaded site task seen 2 0 u
         back_loaded = subst (HasLoaded site task seen 2 0) (sym but) (record {
           there = h.there;
-          locks = record { has = h.locks.has; only = h.locks.only; free = h.locks.free; known = h.locks.known };
+          locks = record { has = h.locks.has; only = h.locks.only; free = h.locks.free; known = h.locks.known; areas = h.locks.areas };
           upto = h.upto;
           whole = h.whole;
         })
@@ -224,7 +224,7 @@ module _ (site : Site) (task : Task) (is : IsIn site task) where
     pub learnt_loaded : HasLoaded site task seen n m after
     learnt_loaded = record {
       there = h.there;
-      locks = record { has = h.locks.has; only = h.locks.only; free = h.locks.free; known = learnt_known };
+      locks = record { has = h.locks.has; only = h.locks.only; free = h.locks.free; known = learnt_known; areas = h.locks.areas };
       upto = h.upto;
       whole = λ p w j from low. inr (h.whole p w j from low);
     }
@@ -233,14 +233,14 @@ module _ (site : Site) (task : Task) (is : IsIn site task) where
     learnt_quiet = record { dirty = q.dirty; flushed = q.flushed; planned = q.planned; moving = q.moving; owed = q.owed }
 
   -- with its words put in
-  module _ (seen : Seen) (place : Place) (words : List ℕ) (n : ℕ) (u : View) (h : HasLoaded site task seen n (index place) u) (all : IsWhole (lock_of task seen place) words u) where
+  module _ (seen : Seen) (place : Role) (words : List ℕ) (n : ℕ) (u : View) (h : HasLoaded site task seen n (index place) u) (all : IsWhole (lock_of task seen place) words u) where
     abbrev put : Seen
     put = record seen { buckets = with_words place words seen.buckets }
 
-    put_whole : (p : Place) → Upto put (index place + 1) p → IsWhole (lock_of task seen p) (words_in put.buckets p) u
+    put_whole : (p : Role) → Upto put (index place + 1) p → IsWhole (lock_of task seen p) (words_in put.buckets p) u
     put_whole p w = elim (upto_more seen.first seen.second place p w) [
       | inl same ↦
-          subst (λ (z : Place). IsWhole (lock_of task seen z) (words_in put.buckets z) u) (sym same)
+          subst (λ (z : Role). IsWhole (lock_of task seen z) (words_in put.buckets z) u) (sym same)
           (subst (λ (ws : List ℕ). IsWhole (lock_of task seen place) ws u) (sym (words_this seen.buckets words place)) all)
       | inr before ↦ subst (λ (ws : List ℕ). IsWhole (lock_of task seen p) ws u)
           (sym (words_other seen.buckets words place p (λ e. let low = before.low in omega (arith, low, e)))) (h.whole p before)
@@ -255,7 +255,7 @@ module _ (site : Site) (task : Task) (is : IsIn site task) where
     }
 
   -- where one is not asked
-  skip : (seen : Seen) (p : Place) (u : View) → is_asked seen p ≡ false → HasLoaded site task seen (index p) (index p) u → HasLoaded site task seen (index p + 1) (index p + 1) u
+  skip : (seen : Seen) (p : Role) (u : View) → is_asked seen p ≡ false → HasLoaded site task seen (index p) (index p) u → HasLoaded site task seen (index p + 1) (index p + 1) u
   skip seen p u out h = record {
     there = h.there;
     locks = h.locks;
@@ -285,7 +285,7 @@ module _ (site : Site) (task : Task) (is : IsIn site task) where
     whole = λ p w. h.whole p (record { low = w.low; asked = near_asked seen.first seen.second p w.low });
   }
 
-  all_suits : (seen : Seen) (place : Place) (words : List ℕ) (u : View) → HasLoaded site task seen (looked_by place) (index place) u → IsQuiet u → VisitsAt site task seen place
+  all_suits : (seen : Seen) (place : Role) (words : List ℕ) (u : View) → HasLoaded site task seen (looked_by place) (index place) u → IsQuiet u → VisitsAt site task seen place
       → IsPinned site task.hash seen.path u.pinned → IsWhole (lock_of task seen place) words u → SuitsStage site task (filled_with task.hash seen place words) u
   all_suits seen Home words u h q vis pinned all = (put_loaded seen Home words 2 u h all, q, tt, load_begins _ _, pinned)
   all_suits seen Probing words u h q vis pinned all =
@@ -298,7 +298,7 @@ module _ (site : Site) (task : Task) (is : IsIn site task) where
   all_suits seen Next words u h q vis pinned all = absurd vis
   all_suits seen Previous words u h q vis pinned all = absurd vis
 
-  pub filled_suits : (seen : Seen) (place : Place) (u : View) → HasLoaded site task seen (looked_by place) (index place) u → IsQuiet u → VisitsAt site task seen place
+  pub filled_suits : (seen : Seen) (place : Role) (u : View) → HasLoaded site task seen (looked_by place) (index place) u → IsQuiet u → VisitsAt site task seen place
       → IsPinned site task.hash seen.path u.pinned → (x : Loaded) → HasLoadedWords (lock_of task seen place) u.known x → SuitsStage site task (filled_to task.hash seen place x) u
   filled_suits seen place u h q vis pinned (loaded.On load) has = (h, q, vis, has, pinned)
   filled_suits seen place u h q vis pinned (loaded.All words) has = all_suits seen place words u h q vis pinned has

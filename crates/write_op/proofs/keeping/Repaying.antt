@@ -7,15 +7,15 @@ use Rattle.map_model.specs.declared.entry.Reply.{Reply}
 use Rattle.map_model.specs.declared.entry.Reply.TheVariants as reply
 use Rattle.map_model.specs.Changes.{call_of}
 use Rattle.bucket_words.specs.Core.{core_of}
-use Rattle.world.specs.Site.{Site}
+use Rattle.world.specs.Ground.{Ground}
 use Rattle.world.specs.Views.{Owed, View, Has, At, IsGuarded}
 use Rattle.world.specs.Conditions.{IsOwed}
 use Rattle.world.specs.Kinds.{of_other_homes, with_store, view_after}
 use Rattle.world.specs.Invariant.{Holds}
 use Rattle.world.specs.Attempts.{EntersReply}
 use Rattle.part.specs.Outcomes.{reply_of}
-use Rattle.phase.specs.declared.place.Place.{Place}
-use Rattle.phase.specs.declared.place.Place.TheVariants.{Home, Probing}
+use Rattle.phase.specs.declared.role.Role.{Role}
+use Rattle.phase.specs.declared.role.Role.TheVariants.{Home, Probing}
 use Rattle.phase.specs.AreWords.{AreWords}
 use Rattle.phase.specs.Giving.{IsHeld, IsOfHeld, HoldsLocks}
 use Rattle.phase.specs.Knows.{Knows, HasNoneLoose}
@@ -40,8 +40,8 @@ use Rattle.write_op.proofs.keeping.Entering.{giving_outcome}
 use Rattle.write_op.proofs.keeping.Counting.{Goes}
 use Rattle.write_op.proofs.permitting.Unnoting.{mark_same_core, fingers_same_core, note_near}
 
-module _ (site : Site) (task : Task) (is : IsIn site task) (seen : Seen) (before v : View) (words : Words) (views : List View) (j : ℕ) (h : Holds site words views) (at : At views j v)
-    (small : (place : Place) → AreWords (words_in seen.buckets place)) where
+module _ (site : Ground) (task : Task) (is : IsIn site task) (seen : Seen) (before v : View) (words : Words) (views : List View) (j : ℕ) (h : Holds site words views) (at : At views j v)
+    (small : (place : Role) → AreWords (words_in seen.buckets place)) where
   abbrev n : NoteWords
   n = unnoted task.hash seen
 
@@ -53,9 +53,9 @@ module _ (site : Site) (task : Task) (is : IsIn site task) (seen : Seen) (before
 
   module _ (part : NoteWord) (u : IsUnnoting site task seen part v) where
     is_owed : IsOwed site.shape words (owed task seen)
-    is_owed = h.overflow.owes j v (owed task seen) at (subst (λ (l : List Owed). Has (owed task seen) l) (sym u.owes) (inl refl))
+    is_owed = h.notes_of_homes.owes j v (owed task seen) at (subst (λ (l : List Owed). Has (owed task seen) l) (sym u.owes) (inl refl))
 
-    place_by : (p : Place) → (p ≡ Home) ⊎ (p ≡ Probing) → IsHeld seen.held p
+    place_by : (p : Role) → (p ≡ Home) ⊎ (p ≡ Probing) → IsHeld seen.held p
     place_by p (inl e) = asked_held seen u.all.upto p (ap (is_asked seen) e)
     place_by p (inr e) = asked_held seen u.all.upto p (ap (is_asked seen) e)
 

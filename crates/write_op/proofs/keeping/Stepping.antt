@@ -4,17 +4,17 @@ use Rattle.op_core.specs.declared.want.Ans.TheVariants.{Value}
 use Rattle.trace.specs.Events.{Words}
 use Rattle.map_model.specs.declared.entry.Reply.{Reply}
 use Rattle.map_model.specs.Changes.{call_of}
-use Rattle.world.specs.declared.site.Site.{Site as Here}
-use Rattle.world.specs.Site.{Site}
+use Rattle.world.specs.declared.site.Site.{Site}
+use Rattle.world.specs.Ground.{Ground}
 use Rattle.world.specs.Views.{View, At, IsGuarded}
 use Rattle.world.specs.Wants.{answer_to, word_of}
 use Rattle.world.specs.Kinds.{view_after}
 use Rattle.world.specs.Invariant.{Holds}
 use Rattle.world.specs.Attempts.{HoldsOnly, HasNoMore, EntersReply}
-use Rattle.world.proofs.holding.Beside.{newest_is}
+use Rattle.world.proofs.calls.deeds.Calls.{newest_without}
 use Rattle.part.specs.Outcomes.{reply_of}
-use Rattle.phase.specs.declared.place.Place.{Place}
-use Rattle.phase.specs.declared.place.Place.TheVariants.{Home, Probing, First, Second, Next, Previous}
+use Rattle.phase.specs.declared.role.Role.{Role}
+use Rattle.phase.specs.declared.role.Role.TheVariants.{Home, Probing, First, Second, Next, Previous}
 use Rattle.phase.specs.declared.walk.Walk.{Walk}
 use Rattle.phase.specs.declared.walk.Walk.TheVariants as walk
 use Rattle.phase.specs.declared.walk.Walked.{Walked}
@@ -51,14 +51,14 @@ use Rattle.write_op.proofs.keeping.Entering.{reply_at, giving_outcome, walked_qu
 use Rattle.write_op.proofs.keeping.Counting.{Goes}
 
 -- ---- answers
-pub walk_answer : (here : Here) (hash : ℕ) (w : Walk) (n : ℕ) → answer_to (walk_wanted here hash w) n ≡ Value n
+pub walk_answer : (here : Site) (hash : ℕ) (w : Walk) (n : ℕ) → answer_to (walk_wanted here hash w) n ≡ Value n
 walk_answer here hash walk.Power n = refl
 walk_answer here hash walk.Root n = refl
 walk_answer here hash (walk.Entry root) n = refl
 walk_answer here hash (walk.Head root segment) n = refl
 
 -- ---- one step
-module _ (site : Site) (task : Task) (is : IsIn site task) (words : Words) (views : List View) (j : ℕ) (before v : View) (h : Holds site words views) (at : At views j v) (some : 0 < v.callers) (seen : Seen) where
+module _ (site : Ground) (task : Task) (is : IsIn site task) (words : Words) (views : List View) (j : ℕ) (before v : View) (h : Holds site words views) (at : At views j v) (some : 0 < v.callers) (seen : Seen) where
   pub quietly : (s : Stage) (u : View) → SuitsStage site task s u → reply_at s.step ≡ None → HasNoMore before v → u.own ≡ v.own → u.seen ≡ v.seen → Goes site task before s u
   quietly s u suits quiet same own sees = (suits, none_more (call_of task.change) before v (reply_at s.step) u quiet same own sees)
 
@@ -67,10 +67,10 @@ module _ (site : Site) (task : Task) (is : IsIn site task) (words : Words) (view
   way_goes w n found suits same =
       let u : View = view_after site.shape (walk_kind task.site task.hash w) n v in
       let x : Walked = walk_taken task.site task.hash w n in
-      let has : HasWalked site x u.facts = walk_stands site task.site task.hash words v h.site_is.shape is.shape is.fits (newest_is site words views j v h at) w suits.1 n found in
+      let has : HasWalked site x u.facts = walk_stands site task.site task.hash words v h.site_is.shape is.shape is.fits (newest_without site words views j v h at suits.0.areas) w suits.1 n found in
       let k = suits.0 in
       let only : HoldsOnly [] u = walk_keeps site.shape task.site task.hash (HoldsOnly []) w n v
-      (λ facts notes answer. record { held = k.held; known = k.known; dirty = k.dirty; flushed = k.flushed; planned = k.planned; moving = k.moving; owed = k.owed }) in
+      (λ facts notes answer. record { held = k.held; known = k.known; dirty = k.dirty; flushed = k.flushed; planned = k.planned; moving = k.moving; owed = k.owed; areas = k.areas }) in
       quietly (walked_to seen x) u (walked_suits site task is seen u only suits.2 x has) (walked_quiet seen x) same
       (walk_keeps site.shape task.site task.hash (λ (z : View). z.own ≡ v.own) w n v (λ facts notes answer. refl))
       (walk_keeps site.shape task.site task.hash (λ (z : View). z.seen ≡ v.seen) w n v (λ facts notes answer. refl))
@@ -85,7 +85,7 @@ module _ (site : Site) (task : Task) (is : IsIn site task) (words : Words) (view
       (backed_quiet seen x) same (ap (λ (z : View). z.own) but.1) (ap (λ (z : View). z.seen) but.1)
 
   -- the bucket that is loaded is held
-  fill_held : (place : Place) (m : ℕ) → HasLoaded site task seen (looked_by place) m v → VisitsAt site task seen place → IsHeld seen.held place
+  fill_held : (place : Role) (m : ℕ) → HasLoaded site task seen (looked_by place) m v → VisitsAt site task seen place → IsHeld seen.held place
   fill_held Home m l vis = l.upto.these Home (record { low = omega arith; asked = refl })
   fill_held Probing m l vis = l.upto.these Probing (record { low = omega arith; asked = refl })
   fill_held First m l vis = l.upto.these First (record { low = omega arith; asked = vis.1 })
@@ -93,11 +93,11 @@ module _ (site : Site) (task : Task) (is : IsIn site task) (words : Words) (view
   fill_held Next m l vis = absurd vis
   fill_held Previous m l vis = absurd vis
 
-  pub fill_guard : (place : Place) (load : Load) → SuitsStep site task seen (Fill place load) v → IsGuarded v.held (lock_of task seen place + load.next % 32)
+  pub fill_guard : (place : Role) (load : Load) → SuitsStep site task seen (Fill place load) v → IsGuarded v.held (lock_of task seen place + load.next % 32)
   fill_guard place load suits = learn_may site (lock_of task seen place) load v suits.3
       (held_has task.site task.hash seen.path.segment seen.held place v suits.0.locks (fill_held place (index place) suits.0 suits.2))
 
-  pub fill_goes : (place : Place) (load : Load) (n : ℕ) → SuitsStep site task seen (Fill place load) v → HasNoMore before v
+  pub fill_goes : (place : Role) (load : Load) (n : ℕ) → SuitsStep site task seen (Fill place load) v → HasNoMore before v
       → Goes site task before (filled_to task.hash seen place (load_taken load n)) (view_after site.shape (kind_at task seen (Fill place load) n) n v)
   fill_goes place load n suits same =
       let guard = fill_guard place load suits in
@@ -108,7 +108,7 @@ module _ (site : Site) (task : Task) (is : IsIn site task) (words : Words) (view
       (learnt_quiet site task is seen (looked_by place) (index place) i n v suits.0 suits.1 guard) suits.2 suits.4 (load_taken load n) (load_stands (lock_of task seen place) v.known load n suits.3))
       (filled_quiet task.hash seen place (load_taken load n)) same refl refl
 
-  pub lock_goes : (place : Place) (t : Take) (n : ℕ) → n < 2 ^ 64 → SuitsStep site task seen (Lock place t) v → HasNoMore before v
+  pub lock_goes : (place : Role) (t : Take) (n : ℕ) → n < 2 ^ 64 → SuitsStep site task seen (Lock place t) v → HasNoMore before v
       → Goes site task before (next_in task seen (Lock place t) (answer_to (take_wanted (lock_of task seen place) t) n)) (view_after site.shape (take_kind (lock_of task seen place) t) n v)
   lock_goes place t n small suits same =
       let lock : ℕ = lock_of task seen place in

@@ -3,10 +3,10 @@ use Rattle.std.proofs.Common.{◌≡◌, ℕ, ◌+◌, ◌*◌, ◌<◌, ◌≤�
 use Rattle.std.specs.Prelude.{nat_lt, if◌then◌else◌}
 use Rattle.bucket_meta.specs.Bucket.{record_slots}
 use Rattle.bucket_meta.specs.Marks.{finger_place}
-use Rattle.map_model.specs.declared.change.Deed.{Deed}
-use Rattle.map_model.specs.declared.change.Deed.TheVariants.{Insert, Update, Remove}
+use Rattle.map_model.specs.declared.change.Effect.{Effect}
+use Rattle.map_model.specs.declared.change.Effect.TheVariants.{Insert, Update, Remove}
 use Rattle.map_model.specs.Changes.{call_of}
-use Rattle.world.specs.Site.{Site}
+use Rattle.world.specs.Ground.{Ground}
 use Rattle.world.specs.Views.{View, IsGuarded}
 use Rattle.world.specs.Kinds.{view_after}
 use Rattle.world.specs.Attempts.{HasNoMore}
@@ -38,12 +38,12 @@ pub publishing : (task : Task) (seen : Seen) (b : Bool) → IsStoring (publish_b
 publishing task seen true = record { wants = λ shape i x. refl; leaves = λ shape i x n v. (call_of task.change ∷ v.planned, v.moving, owed task seen ∷ v.owed, refl) }
 publishing task seen false = record { wants = λ shape i x. refl; leaves = λ shape i x n v. (call_of task.change ∷ v.planned, v.moving, v.owed, refl) }
 
-published_low : (d : Deed) (slot : ℕ) → slot < record_slots → (1 ≤ published_word d slot) × (published_word d slot < 32)
+published_low : (d : Effect) (slot : ℕ) → slot < record_slots → (1 ≤ published_word d slot) × (published_word d slot < 32)
 published_low (Insert value) slot low = (omega arith, omega arith)
 published_low (Update value) slot low = (omega arith, omega (arith, low))
 published_low Remove slot low = (omega arith, omega arith)
 
-module _ (site : Site) (task : Task) (is : IsIn site task) (seen : Seen) (before v : View) (same : HasNoMore before v) (m : Make) (c : IsChanging site task seen m v) where
+module _ (site : Ground) (task : Task) (is : IsIn site task) (seen : Seen) (before v : View) (same : HasNoMore before v) (m : Make) (c : IsChanging site task seen m v) where
   abbrev lock : ℕ
   lock = lock_of task seen seen.place
 
@@ -59,7 +59,7 @@ module _ (site : Site) (task : Task) (is : IsIn site task) (seen : Seen) (before
   slot_small : seen.written.slot < record_slots
   slot_small = slot_low site task seen c.all.upto c.chosen
 
-  published_is : seen.written.published ≡ published_word task.change.deed seen.written.slot
+  published_is : seen.written.published ≡ published_word task.change.effect seen.written.slot
   published_is = ap (λ (w : Record). w.published) (written_is site task seen c.all.upto c.chosen)
 
   key_guard : IsGuarded v.held (key_at lock seen.written)
@@ -73,8 +73,8 @@ module _ (site : Site) (task : Task) (is : IsIn site task) (seen : Seen) (before
 
   published_guard : IsGuarded v.held (published_at lock seen.written)
   published_guard =
-      let low = published_low task.change.deed seen.written.slot slot_small in
-      subst (λ z. IsGuarded v.held (lock + z)) (sym published_is) (guard (published_word task.change.deed seen.written.slot) low.0 low.1)
+      let low = published_low task.change.effect seen.written.slot slot_small in
+      subst (λ z. IsGuarded v.held (lock + z)) (sym published_is) (guard (published_word task.change.effect seen.written.slot) low.0 low.1)
 
   -- what is held stays
   all_with : (u : View) → HoldsLocks task.site task.hash segment seen.held u → u.facts ≡ v.facts → u.pinned ≡ v.pinned → u.moving ≡ v.moving → HasAll site task seen u
@@ -109,28 +109,28 @@ module _ (site : Site) (task : Task) (is : IsIn site task) (seen : Seen) (before
   )
 
 -- ---- each of them
-module _ (site : Site) (task : Task) (is : IsIn site task) (seen : Seen) (before v : View) (same : HasNoMore before v) (n : ℕ) where
+module _ (site : Ground) (task : Task) (is : IsIn site task) (seen : Seen) (before v : View) (same : HasNoMore before v) (n : ℕ) where
   abbrev after : Make → View
   after m = view_after site.shape (make_kind (publish_kind task seen) (lock_of task seen seen.place) seen.written m) n v
 
   -- what is known then
   has_made : (m : Make) → IsChanging site task seen m v
       → HasMade (lock_of task seen seen.place) seen.written (IsOfHeld task.site task.hash seen.path.segment seen.held) (loaded task seen) (prepared task seen) (make_taken seen.written.slot m) (after m)
-  has_made m c = (make_knows (IsOfHeld task.site task.hash seen.path.segment seen.held)).stands site.shape (publish_kind task seen) (publishing task seen (leaves_note task.change.deed seen.place)) (lock_of task seen seen.place) seen.written
+  has_made m c = (make_knows (IsOfHeld task.site task.hash seen.path.segment seen.held)).stands site.shape (publish_kind task seen) (publishing task seen (leaves_note task.change.effect seen.place)) (lock_of task seen seen.place) seen.written
       (is_lock site task.site task.hash seen.path.segment (located site task is seen v.facts c.all.there) seen.place)
       (loaded task seen) (prepared task seen) m v n c.making
 
   line_by : (c : IsChanging site task seen FlushFingers v) (b : Bool)
       → HasMade (lock_of task seen seen.place) seen.written (IsOfHeld task.site task.hash seen.path.segment seen.held) (loaded task seen) (prepared task seen) (if b then On FenceRecord else On FlushRecord) (after FlushFingers)
       → Goes site task before (made_to seen (if b then On FenceRecord else On FlushRecord)) (after FlushFingers)
-  line_by c true making = next_goes site task is seen before v same FlushFingers c (after FlushFingers) FenceRecord (λ x. tt) (held_same task.site task.hash seen.path.segment seen.held v (after FlushFingers) refl refl c.all.locks) refl refl refl making refl c.planned c.owes refl refl
-  line_by c false making = next_goes site task is seen before v same FlushFingers c (after FlushFingers) FlushRecord (λ x. tt) (held_same task.site task.hash seen.path.segment seen.held v (after FlushFingers) refl refl c.all.locks) refl refl refl making refl c.planned c.owes refl refl
+  line_by c true making = next_goes site task is seen before v same FlushFingers c (after FlushFingers) FenceRecord (λ x. tt) (held_same task.site task.hash seen.path.segment seen.held v (after FlushFingers) refl refl refl c.all.locks) refl refl refl making refl c.planned c.owes refl refl
+  line_by c false making = next_goes site task is seen before v same FlushFingers c (after FlushFingers) FlushRecord (λ x. tt) (held_same task.site task.hash seen.path.segment seen.held v (after FlushFingers) refl refl refl c.all.locks) refl refl refl making refl c.planned c.owes refl refl
 
   -- the one store, with what it plans and owes
   abbrev stored_by : Bool → View
   stored_by b = view_after site.shape (publish_by task seen b (published_at (lock_of task seen seen.place) seen.written) seen.written.mark) n v
 
-  publish_by_goes : (c : IsChanging site task seen Publish v) (b : Bool) → leaves_note task.change.deed seen.place ≡ b
+  publish_by_goes : (c : IsChanging site task seen Publish v) (b : Bool) → leaves_note task.change.effect seen.place ≡ b
       → IsMaking (lock_of task seen seen.place) seen.written (IsOfHeld task.site task.hash seen.path.segment seen.held) (loaded task seen) (prepared task seen) FlushPublished (stored_by b)
       → Goes site task before (made_to seen (On FlushPublished)) (stored_by b)
   publish_by_goes c true e making = next_goes site task is seen before v same Publish c (stored_by true) FlushPublished (λ x. absurd x)
@@ -156,15 +156,15 @@ module _ (site : Site) (task : Task) (is : IsIn site task) (seen : Seen) (before
       c.all.locks (fingers_guard site task is seen before v same Fingers c))
       refl refl refl (has_made Fingers c) refl c.planned c.owes refl refl
   make_goes FlushFingers c = line_by c (nat_lt seen.written.slot 2) (has_made FlushFingers c)
-  make_goes FlushRecord c = next_goes site task is seen before v same FlushRecord c (after FlushRecord) FenceRecord (λ x. tt) (held_same task.site task.hash seen.path.segment seen.held v (after FlushRecord) refl refl c.all.locks) refl refl refl (has_made FlushRecord c) refl c.planned c.owes refl refl
-  make_goes FenceRecord c = next_goes site task is seen before v same FenceRecord c (after FenceRecord) Publish (λ x. tt) (held_same task.site task.hash seen.path.segment seen.held v (after FenceRecord) refl refl c.all.locks) refl refl refl (has_made FenceRecord c) refl c.planned c.owes refl refl
-  make_goes Publish c = publish_by_goes c (leaves_note task.change.deed seen.place) refl (has_made Publish c)
-  make_goes FlushPublished c = next_goes site task is seen before v same FlushPublished c (after FlushPublished) FencePublished (λ x. absurd x) (held_same task.site task.hash seen.path.segment seen.held v (after FlushPublished) refl refl c.all.locks) refl refl refl (has_made FlushPublished c) refl c.planned c.owes refl refl
+  make_goes FlushRecord c = next_goes site task is seen before v same FlushRecord c (after FlushRecord) FenceRecord (λ x. tt) (held_same task.site task.hash seen.path.segment seen.held v (after FlushRecord) refl refl refl c.all.locks) refl refl refl (has_made FlushRecord c) refl c.planned c.owes refl refl
+  make_goes FenceRecord c = next_goes site task is seen before v same FenceRecord c (after FenceRecord) Publish (λ x. tt) (held_same task.site task.hash seen.path.segment seen.held v (after FenceRecord) refl refl refl c.all.locks) refl refl refl (has_made FenceRecord c) refl c.planned c.owes refl refl
+  make_goes Publish c = publish_by_goes c (leaves_note task.change.effect seen.place) refl (has_made Publish c)
+  make_goes FlushPublished c = next_goes site task is seen before v same FlushPublished c (after FlushPublished) FencePublished (λ x. absurd x) (held_same task.site task.hash seen.path.segment seen.held v (after FlushPublished) refl refl refl c.all.locks) refl refl refl (has_made FlushPublished c) refl c.planned c.owes refl refl
   make_goes FencePublished c =
       let made = has_made FencePublished c in
       let u : View = after FencePublished in (
         record {
-          all = all_with site task is seen before v same FencePublished c u (held_same task.site task.hash seen.path.segment seen.held v u refl refl c.all.locks) refl refl refl;
+          all = all_with site task is seen before v same FencePublished c u (held_same task.site task.hash seen.path.segment seen.held v u refl refl refl c.all.locks) refl refl refl;
           chosen = c.chosen;
           knows = made.0;
           settled = made.1;

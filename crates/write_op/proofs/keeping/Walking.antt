@@ -8,15 +8,15 @@ use Rattle.trace.specs.Events.{Words}
 use Rattle.image_layout.specs.Places.{bucket_at}
 use Rattle.map_model.specs.declared.entry.Reply.TheVariants as reply
 use Rattle.map_model.specs.Changes.{call_of}
-use Rattle.world.specs.Site.{Site}
+use Rattle.world.specs.Ground.{Ground}
 use Rattle.world.specs.Views.{Owed, View, At, Has, HasLock}
 use Rattle.world.specs.Wants.{answer_to, word_of}
 use Rattle.world.specs.Kinds.{pins, view_after}
 use Rattle.world.specs.Conditions.{May}
 use Rattle.world.specs.Invariant.{Holds}
 use Rattle.world.specs.Attempts.{EntersReply}
-use Rattle.phase.specs.declared.place.Place.{Place}
-use Rattle.phase.specs.declared.place.Place.TheVariants.{Home}
+use Rattle.phase.specs.declared.role.Role.{Role}
+use Rattle.phase.specs.declared.role.Role.TheVariants.{Home}
 use Rattle.phase.specs.declared.make.Make.{Make}
 use Rattle.phase.specs.declared.make.Make.TheVariants.{Key, Value as ValueOf, Fingers as FingersOf, FlushFingers, FlushRecord, FenceRecord, Publish, FlushPublished, FencePublished}
 use Rattle.phase.specs.Helds.{give_next}
@@ -56,8 +56,8 @@ note_answer : (task : Task) (seen : Seen) (part : NoteWord) (note : NoteWords) (
 note_answer task seen Mark note n = refl
 note_answer task seen Fingers note n = refl
 
-module _ (site : Site) (task : Task) (is : IsIn site task) (words : Words) (views : List View) (j : ℕ) (before v : View) (h : Holds site words views) (at : At views j v) (some : 0 < v.callers) (seen : Seen)
-    (small : (place : Place) → AreWords (words_in seen.buckets place)) where
+module _ (site : Ground) (task : Task) (is : IsIn site task) (words : Words) (views : List View) (j : ℕ) (before v : View) (h : Holds site words views) (at : At views j v) (some : 0 < v.callers) (seen : Seen)
+    (small : (place : Role) → AreWords (words_in seen.buckets place)) where
   pub step_in : (s : WriteStep) (n : ℕ) → n < 2 ^ 64 → n ≡ words (word_of site.shape (wanted_in task seen s)) → SuitsStep site task seen s v
       → EntersReply (call_of task.change) (reply_at s) before v → wanted_in task seen s ≢ want.Done
       → Goes site task before (next_in task seen s (answer_to (wanted_in task seen s) n)) (view_after site.shape (kind_at task seen s n) n v)
@@ -106,7 +106,7 @@ module _ (site : Site) (task : Task) (is : IsIn site task) (words : Words) (view
   may_in (step.Make m) n suits asks = make_may m suits
   may_in Draw n suits asks = draw_may site task is seen v suits small
   may_in (Unnote part place) n suits asks = unnote_may site task is seen v part suits small words
-      (h.overflow.owes j v (owed task seen) at (subst (λ (l : List Owed). Has (owed task seen) l) (sym suits.owes) (inl refl)))
+      (h.notes_of_homes.owes j v (owed task seen) at (subst (λ (l : List Owed). Has (owed task seen) l) (sym suits.owes) (inl refl)))
   may_in CountSpent n suits asks = spent_may site task seen v suits.1
   may_in (Give held end) n suits asks = give_stands.may site task.site task.hash seen.path.segment held v suits.locks suits.quiet
   may_in (Ended end) n suits asks = absurd (asks refl)

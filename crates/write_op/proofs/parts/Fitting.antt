@@ -5,13 +5,13 @@ use Rattle.op_core.specs.declared.want.Want.TheVariants as want
 use Rattle.hash_word.specs.Hash.{home_of}
 use Rattle.image_layout.specs.Places.{Shape}
 use Rattle.image_layout.specs.Volatile.{counter_word}
-use Rattle.map_model.specs.declared.change.Deed.{Deed}
-use Rattle.map_model.specs.declared.change.Deed.TheVariants.{Insert, Update, Remove}
+use Rattle.map_model.specs.declared.change.Effect.{Effect}
+use Rattle.map_model.specs.declared.change.Effect.TheVariants.{Insert, Update, Remove}
 use Rattle.map_model.specs.Changes.{call_of}
-use Rattle.world.specs.Site.{Site}
+use Rattle.world.specs.Ground.{Ground}
 use Rattle.world.specs.Views.{View}
 use Rattle.world.specs.Kinds.{pins, wanted as wanted_by, finds_room}
-use Rattle.phase.specs.declared.place.Place.{Place}
+use Rattle.phase.specs.declared.role.Role.{Role}
 use Rattle.phase.specs.declared.take.Take.{Take}
 use Rattle.phase.specs.declared.back.Back.{Back}
 use Rattle.phase.specs.declared.held.Held.{Held}
@@ -48,17 +48,17 @@ module _ (shape : Shape) (task : Task) (seen : Seen) where
   changing_wants (Some spot) = refl
   changing_wants None = refl
 
-  deciding_wants : (d : Deed) → want.Load (counter_word shape) ≡ wanted_by shape (deciding_kind task seen d)
+  deciding_wants : (d : Effect) → want.Load (counter_word shape) ≡ wanted_by shape (deciding_kind task seen d)
   deciding_wants (Insert value) = inserting_wants (found seen task.change.key)
   deciding_wants (Update value) = changing_wants (found seen task.change.key)
   deciding_wants Remove = changing_wants (found seen task.change.key)
 
-  either_wants : (b : Bool) (d : Deed) → want.Load (counter_word shape) ≡ wanted_by shape (if b then finds_room (call_of task.change) else deciding_kind task seen d)
+  either_wants : (b : Bool) (d : Effect) → want.Load (counter_word shape) ≡ wanted_by shape (if b then finds_room (call_of task.change) else deciding_kind task seen d)
   either_wants true d = refl
   either_wants false d = deciding_wants d
 
   count_wants : (n : ℕ) → want.Load (counter_word shape) ≡ wanted_by shape (count_kind task seen n)
-  count_wants n = either_wants (nat_le (2 ^ 63) n) task.change.deed
+  count_wants n = either_wants (nat_le (2 ^ 63) n) task.change.effect
 
   -- ---- the stores of a note
   mark_wants : (b : Bool) (i x : ℕ) → want.Store i x ≡ wanted_by shape (mark_kind task seen b i x)
@@ -71,7 +71,7 @@ module _ (shape : Shape) (task : Task) (seen : Seen) where
 
   -- EACH EVENT is of its kind, where a lock is tried with a free value that has a next one, the header that is looked at again is one of
   -- the image, and the next lock goes back so
-  pub wants_by : task.site.geometry ≡ shape → (s : WriteStep) (n : ℕ) → ((place : Place) (take : Take) → s ≡ Lock place take → IsTaking take)
+  pub wants_by : task.site.geometry ≡ shape → (s : WriteStep) (n : ℕ) → ((place : Role) (take : Take) → s ≡ Lock place take → IsTaking take)
       → ((back : Back) → s ≡ Check back → seen.path.segment < shape.segments)
       → ((held : Held) (end : Ending) → s ≡ Give held end → give_wanted task.site task.hash seen.path.segment held ≢ want.Done
       → give_wanted task.site task.hash seen.path.segment held ≡ wanted_by shape (give_kind task.site task.hash seen.path.segment held))
@@ -83,7 +83,7 @@ module _ (shape : Shape) (task : Task) (seen : Seen) where
   wants_by same (Fill place load) n taking within gives asks = refl
   wants_by same Count n taking within gives asks = ap (λ g. want.Load (counter_word g)) same ∙ count_wants n
   wants_by same (step.Make make) n taking within gives asks =
-      make_fits.wants shape (publish_kind task seen) (publishing task seen (leaves_note task.change.deed seen.place)) (lock_of task seen seen.place) seen.written make
+      make_fits.wants shape (publish_kind task seen) (publishing task seen (leaves_note task.change.effect seen.place)) (lock_of task seen seen.place) seen.written make
   wants_by same Draw n taking within gives asks = refl
   wants_by same (Unnote part place) n taking within gives asks = note_wants part (unnoted task.hash seen)
   wants_by same CountSpent n taking within gives asks = ap (λ g. want.Load (counter_word g)) same
@@ -91,7 +91,7 @@ module _ (shape : Shape) (task : Task) (seen : Seen) where
   wants_by same (Ended end) n taking within gives asks = absurd (asks refl)
 
 -- in a world, by the view of its caller
-pub wants_in : (site : Site) (task : Task) (seen : Seen) → IsIn site task → (v : View) (s : WriteStep) (n : ℕ) → SuitsStep site task seen s v → wanted_in task seen s ≢ want.Done
+pub wants_in : (site : Ground) (task : Task) (seen : Seen) → IsIn site task → (v : View) (s : WriteStep) (n : ℕ) → SuitsStep site task seen s v → wanted_in task seen s ≢ want.Done
     → wanted_in task seen s ≡ wanted_by site.shape (kind_at task seen s n)
 wants_in site task seen is v s n suits asks = wants_by site.shape task seen is.shape s n
     (λ place take e. let at : SuitsStep site task seen (Lock place take) v = subst (λ z. SuitsStep site task seen z v) e suits in at.3)

@@ -1,5 +1,5 @@
 -- A CHANGE IS A PART of a call: its laws one by one.
-use Rattle.std.proofs.Common.{◌≡◌, ℕ, ◌+◌, ◌^◌, ◌<◌, Bool, true, false, Option, None, Some, refl, sym, ap, ◌∙◌, subst}
+use Rattle.std.proofs.Common.{◌≡◌, ℕ, ◌+◌, ◌^◌, ◌<◌, inl, Bool, true, false, Option, None, Some, refl, sym, ap, ◌∙◌, subst}
 use Rattle.std.specs.Prelude.{nat_le, nat_lt, if◌then◌else◌}
 use Rattle.std.proofs.lemmas.Option.{none-some}
 use Rattle.op_core.specs.declared.want.Want.{Want}
@@ -7,23 +7,24 @@ use Rattle.op_core.specs.declared.want.Ans.{Ans}
 use Rattle.hash_word.specs.Hash.{home_of, index_of}
 use Rattle.image_layout.specs.Places.{Shape, IsShape, root_word}
 use Rattle.map_model.specs.declared.call.Call.{Call}
-use Rattle.map_model.specs.declared.change.Deed.{Deed}
-use Rattle.map_model.specs.declared.change.Deed.TheVariants.{Insert, Update, Remove}
+use Rattle.map_model.specs.declared.change.Effect.{Effect}
+use Rattle.map_model.specs.declared.change.Effect.TheVariants.{Insert, Update, Remove}
 use Rattle.map_model.specs.Changes.{call_of}
 use Rattle.sound_image.specs.Records.{key_hash}
 use Rattle.sound_image.proofs.Hashes.{key_hash-fits}
-use Rattle.world.specs.declared.site.Site.{Site as Here}
-use Rattle.world.specs.Site.{Site, IsSite}
+use Rattle.world.specs.declared.site.Site.{Site}
+use Rattle.world.specs.Ground.{Ground, IsGround}
 use Rattle.world.specs.Views.{View, Has}
 use Rattle.world.specs.Wants.{answer_to, word_of}
 use Rattle.world.specs.Kinds.{Kind, peeks, meets_entry, meets_head, pins, finds_room, view_after}
 use Rattle.world.specs.Attempts.{EntersReply}
 use Rattle.world.proofs.stepping.Answers.{is_word}
+use Rattle.world.proofs.calls.deeds.Calls.{calls_may}
 use Rattle.part.specs.Asks.{IsWithin}
 use Rattle.part.specs.Outcomes.{finished, reply_of}
 use Rattle.part.specs.Part.{KeepsSuits, PlansItsCall, IsPart}
-use Rattle.phase.specs.declared.place.Place.{Place}
-use Rattle.phase.specs.declared.place.Place.TheVariants as place
+use Rattle.phase.specs.declared.role.Role.{Role}
+use Rattle.phase.specs.declared.role.Role.TheVariants as place
 use Rattle.phase.specs.declared.walk.Walk.{Walk}
 use Rattle.phase.specs.declared.walk.Walk.TheVariants as walk
 use Rattle.phase.specs.declared.back.Back.{Back}
@@ -51,12 +52,13 @@ use Rattle.write_op.specs.Search.{found, leaves_note, unnoted, has_finger}
 use Rattle.write_op.specs.Steps.{lock_of, wanted, wanted_in, next_in, kept_of}
 use Rattle.write_op.specs.Fits.{publish_by, inserting_kind, changing_kind, deciding_kind, mark_kind, note_kind, kind_at, kind_of, planned_at, SuitsStep, ChangeStands, outcome_of, outcome_at}
 use Rattle.write_op.specs.ChangePart.{RemembersIn, change_part, BeginsAsPart, BeginsBare, BeginsUndecided, BeginsRemembering, HandsOnAll, HandsOnRemembering, NeverFinished}
-use Rattle.phase.proofs.Wanting.{HasFlush, is_fence, Cuts, take_on, give_on}
+use Rattle.phase.proofs.Wanting.{HasFlush, is_fence, Cuts, cuts_call, take_on, give_on}
 use Rattle.phase.proofs.Wording.{none_words}
 use Rattle.phase.proofs.Handing.{none_has, one_has, not_finished}
 use Rattle.write_op.proofs.Over.{without}
 use Rattle.write_op.proofs.Falling.{change_falls, most_at}
 use Rattle.write_op.proofs.parts.Fitting.{wants_in}
+use Rattle.write_op.proofs.keeping.Areas.{no_areas}
 use Rattle.write_op.proofs.keeping.Walking.{step_in, may_in}
 use Rattle.write_op.proofs.parts.Wording.{words_after}
 use Rattle.write_op.proofs.parts.Putting.{puts_word, asks_within}
@@ -75,7 +77,8 @@ steps site here call words views j op before v h at s asks =
     let goes = λ (small : n < 2 ^ 64). step_in site task st.is_in words views j before v h at s.callers seen st.has.buckets op.stage.step n small refl st.view enters asks in
     record {
       wants = wants_in site task seen st.is_in v op.stage.step n st.view asks;
-      may = may_in site task st.is_in words views j before v h at s.callers seen st.has.buckets op.stage.step n st.view asks;
+      may = calls_may site (kind_of op n) v (no_areas site task seen v op.stage.step st.view)
+          (may_in site task st.is_in words views j before v h at s.callers seen st.has.buckets op.stage.step n st.view asks);
       stands = λ small. let all = words_after task seen st.has.buckets op.stage.step a (is_word (wanted op) n small) st.has.load in record {
         same = st.same;
         at = st.at;
@@ -88,7 +91,7 @@ steps site here call words views j op before v h at s asks =
     }
 
 -- ---- what is planned
-module _ (site : Site) (task : Task) (seen : Seen) (before v : View) (x : Call) where
+module _ (site : Ground) (task : Task) (seen : Seen) (before v : View) (x : Call) where
   abbrev Plans : Type 0
   Plans = (x ≡ call_of task.change) × (v.own ≡ before.own)
 
@@ -149,14 +152,14 @@ module _ (task : Task) (seen : Seen) where
   changing_on (Some spot) p = p
   changing_on None p = p
 
-  deciding_on : (d : Deed) → Cuts (deciding_kind task seen d) → ⊥
+  deciding_on : (d : Effect) → Cuts (deciding_kind task seen d) → ⊥
   deciding_on (Insert value) p = inserting_on (found seen task.change.key) p
   deciding_on (Update value) p = changing_on (found seen task.change.key) p
   deciding_on Remove p = changing_on (found seen task.change.key) p
 
-  count_on : (b : Bool) → Cuts (if b then finds_room (call_of task.change) else deciding_kind task seen task.change.deed) → ⊥
+  count_on : (b : Bool) → Cuts (if b then finds_room (call_of task.change) else deciding_kind task seen task.change.effect) → ⊥
   count_on true p = p
-  count_on false p = deciding_on task.change.deed p
+  count_on false p = deciding_on task.change.effect p
 
   mark_on : (b : Bool) (i x : ℕ) → Cuts (mark_kind task seen b i x) → ⊥
   mark_on true i x p = p
@@ -171,7 +174,7 @@ module _ (task : Task) (seen : Seen) where
   publish_on false i x p = p
 
   make_on : (m : Make) (n : ℕ) → Cuts (kind_at task seen (step.Make m) n) → ⊥
-  make_on make.Publish n p = publish_on (leaves_note task.change.deed seen.place) (lock_of task seen seen.place + seen.written.published) seen.written.mark p
+  make_on make.Publish n p = publish_on (leaves_note task.change.effect seen.place) (lock_of task seen seen.place + seen.written.published) seen.written.mark p
   make_on make.Key n p = p
   make_on make.Value n p = p
   make_on make.Fingers n p = p
@@ -195,7 +198,7 @@ module _ (task : Task) (seen : Seen) where
   on_in (Ended end) n p = p
 
 -- ---- A CHANGE IS A PART
-within : (site : Site) (here : Here) (call : Call) (op : WriteOp) (v : View) → IsSite site → ChangeStands site here call op v → IsWithin site.shape (wanted op)
+within : (site : Ground) (here : Site) (call : Call) (op : WriteOp) (v : View) → IsGround site → ChangeStands site here call op v → IsWithin site.shape (wanted op)
 within site here call op v good st =
     subst (λ (g : Shape). IsWithin g (wanted op)) st.is_in.shape (asks_within site op.task st.is_in op.stage.seen (subst (λ (g : Shape). IsShape g) (sym st.is_in.shape) good.shape) v op.stage.step st.view)
 
@@ -203,7 +206,7 @@ pub change_is_part : IsPart change_part
 change_is_part = record {
   steps = steps;
   ends = λ site here call op v st over closed. bare_in site op.task op.stage.seen v op.stage.step st.view over closed;
-  time = record { falls = change_falls; most = λ op. most_at op.stage.step };
+  time = record { falls = λ op a i. inl (change_falls op a i); most = λ op. most_at op.stage.step };
   within = λ site here call op before v good s. within site here call op v good s.stands;
   words = λ site here call op before v s.
       puts_word site op.task s.stands.is_in op.stage.seen v s.stands.has.buckets s.stands.has.key s.stands.has.value op.stage.step s.stands.view;
@@ -219,11 +222,11 @@ change_is_part = record {
   };
   plans = plans;
   hands = λ op is. ap (wanted_in op.task op.stage.seen) (without op.stage.step is);
-  power = λ op n e. on_in op.task op.stage.seen op.stage.step n (subst (λ (k : Kind). Cuts k) (sym e) tt);
+  power = λ op n e. on_in op.task op.stage.seen op.stage.step n (cuts_call (kind_of op n) e);
 }
 
 -- ---- where it begins, and how it never ends
-buckets_none : (place : Place) → AreWords (words_in no_words place)
+buckets_none : (place : Role) → AreWords (words_in no_words place)
 buckets_none place.Home = none_words
 buckets_none place.Probing = none_words
 buckets_none place.First = none_words

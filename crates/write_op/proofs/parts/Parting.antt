@@ -7,20 +7,20 @@ use Rattle.op_core.specs.declared.want.Ans.TheVariants.{Drawn, Passed}
 use Rattle.op_core.specs.Answers.{IsAnswer}
 use Rattle.hash_word.specs.Hash.{home_of, index_of}
 use Rattle.image_layout.specs.Places.{root_word}
-use Rattle.map_model.specs.declared.change.Deed.{Deed}
-use Rattle.map_model.specs.declared.change.Deed.TheVariants.{Insert, Update, Remove}
+use Rattle.map_model.specs.declared.change.Effect.{Effect}
+use Rattle.map_model.specs.declared.change.Effect.TheVariants.{Insert, Update, Remove}
 use Rattle.map_model.specs.declared.entry.Reply.{Reply}
 use Rattle.map_model.specs.declared.entry.Reply.TheVariants as reply
 use Rattle.map_model.specs.Changes.{call_of}
-use Rattle.world.specs.declared.site.Site.{Site as Here}
-use Rattle.world.specs.Site.{Site}
+use Rattle.world.specs.declared.site.Site.{Site}
+use Rattle.world.specs.Ground.{Ground}
 use Rattle.world.specs.Views.{View}
 use Rattle.world.specs.Wants.{answer_to}
 use Rattle.world.specs.Kinds.{Kind, peeks, meets_entry, meets_head, pins, finds_room}
 use Rattle.world.specs.Pairs.{IsPublishingKind}
 use Rattle.world.specs.Attempts.{HoldsOnly}
 use Rattle.part.specs.Outcomes.{IsDone, replied}
-use Rattle.phase.specs.declared.place.Place.{Place}
+use Rattle.phase.specs.declared.role.Role.{Role}
 use Rattle.phase.specs.declared.walk.Walk.{Walk}
 use Rattle.phase.specs.declared.walk.Walk.TheVariants as walk
 use Rattle.phase.specs.declared.back.Back.{Back}
@@ -81,14 +81,14 @@ module _ (task : Task) (seen : Seen) where
   plain_changing (Some spot) p = p
   plain_changing None p = p
 
-  plain_deciding : (d : Deed) → IsPlain (deciding_kind task seen d)
+  plain_deciding : (d : Effect) → IsPlain (deciding_kind task seen d)
   plain_deciding (Insert value) = plain_inserting (found seen task.change.key)
   plain_deciding (Update value) = plain_changing (found seen task.change.key)
   plain_deciding Remove = plain_changing (found seen task.change.key)
 
-  plain_count : (b : Bool) → IsPlain (if b then finds_room (call_of task.change) else deciding_kind task seen task.change.deed)
+  plain_count : (b : Bool) → IsPlain (if b then finds_room (call_of task.change) else deciding_kind task seen task.change.effect)
   plain_count true p = p
-  plain_count false p = plain_deciding task.change.deed p
+  plain_count false p = plain_deciding task.change.effect p
 
   plain_mark : (b : Bool) (i x : ℕ) → IsPlain (mark_kind task seen b i x)
   plain_mark true i x p = p
@@ -137,7 +137,7 @@ module _ (task : Task) (seen : Seen) where
   either_made true s t p q = p
   either_made false s t p q = q
 
-  given_made : (next : Option (Place × ℕ)) (held : Held) (answer : Reply) (place : ℕ) → IsDone answer → HasMadeAt (given_by next held (ending.Replied answer place))
+  given_made : (next : Option (Role × ℕ)) (held : Held) (answer : Reply) (place : ℕ) → IsDone answer → HasMadeAt (given_by next held (ending.Replied answer place))
   given_made (Some next) held answer place d = d
   given_made None held answer place d = d
 
@@ -162,7 +162,7 @@ module _ (task : Task) (seen : Seen) where
 
   pub stays_in : (s : WriteStep) (a : Ans) → HasMadeAt s → HasMadeAt (next_in task seen s a).step
   stays_in (step.Make m) a d = make_stays m a d
-  stays_in Draw (Drawn n) d = either_made (leaves_note task.change.deed seen.place) (go seen (Unnote Mark n)) (answered seen n reply.Done) tt (giving_made seen.held reply.Done n tt)
+  stays_in Draw (Drawn n) d = either_made (leaves_note task.change.effect seen.place) (go seen (Unnote Mark n)) (answered seen n reply.Done) tt (giving_made seen.held reply.Done n tt)
   stays_in Draw a d = tt
   stays_in (Unnote part place) Passed d = unnoted_made part place
   stays_in (Unnote part place) a d = tt
@@ -181,14 +181,14 @@ done_in task seen (Give held end) d over = done_then end d
 done_in task seen s d over = absurd (no ((over_done task seen s).1 over))
 
 -- ---- ends
-end_bare : (site : Site) (task : Task) (seen : Seen) (v : View) (end : WriteEnd) → SuitsStep site task seen (Ended end) v → is_without_slot (Ended end) ≡ false → HoldsOnly [] v
+end_bare : (site : Ground) (task : Task) (seen : Seen) (v : View) (end : WriteEnd) → SuitsStep site task seen (Ended end) v → is_without_slot (Ended end) ≡ false → HoldsOnly [] v
 end_bare site task seen v ends.NoSlot suits closed = absurd (let f : true ≡ false = closed in cc)
 end_bare site task seen v (ends.Replied answer place) suits closed = suits
 end_bare site task seen v (ends.Again why) suits closed = suits
 end_bare site task seen v (ends.Stale segment version) suits closed = suits
 end_bare site task seen v ends.Off suits closed = suits
 
-pub bare_in : (site : Site) (task : Task) (seen : Seen) (v : View) (s : WriteStep) → SuitsStep site task seen s v → wanted_in task seen s ≡ want.Done → is_without_slot s ≡ false → HoldsOnly [] v
+pub bare_in : (site : Ground) (task : Task) (seen : Seen) (v : View) (s : WriteStep) → SuitsStep site task seen s v → wanted_in task seen s ≡ want.Done → is_without_slot s ≡ false → HoldsOnly [] v
 bare_in site task seen v (Ended end) suits over closed = end_bare site task seen v end suits closed
 bare_in site task seen v (Give held end) suits over closed = give_stands.ends task.site task.hash seen.path.segment held v suits.locks suits.quiet over
 bare_in site task seen v s suits over closed = absurd (no ((over_done task seen s).1 over))
@@ -202,7 +202,7 @@ by_line : (b : Bool) (seen : Seen) → 1 ≤ waiting_at (made_to seen (if b then
 by_line true seen = omega arith
 by_line false seen = omega arith
 
-walk_no_flush : (here : Here) (hash : ℕ) (w : Walk) → HasFlush (walk_wanted here hash w) → ⊥
+walk_no_flush : (here : Site) (hash : ℕ) (w : Walk) → HasFlush (walk_wanted here hash w) → ⊥
 walk_no_flush here hash walk.Power p = p
 walk_no_flush here hash walk.Root p = p
 walk_no_flush here hash (walk.Entry root) p = p

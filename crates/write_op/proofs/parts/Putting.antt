@@ -9,21 +9,21 @@ use Rattle.bucket_meta.specs.Bucket.{record_slots}
 use Rattle.bucket_meta.specs.Marks.{finger_place}
 use Rattle.bucket_meta.specs.NoteWords.{note_place, freed_mark, freed_fingers, lowered_count, finger_bits}
 use Rattle.bucket_meta.proofs.Fingers.{finger_below}
-use Rattle.bucket_meta.proofs.Uppers.{inserted_fits, member_fits, removed_fits}
+use Rattle.bucket_meta.proofs.fields.Uppers.{inserted_fits, member_fits, removed_fits}
 use Rattle.trace.specs.Events.{line_of}
 use Rattle.image_layout.specs.Places.{Shape, IsShape, words_of}
 use Rattle.image_layout.specs.Volatile.{all_words_of}
 use Rattle.op_core.specs.declared.want.Want.{Want}
 use Rattle.op_core.specs.declared.want.Want.TheVariants as want
-use Rattle.map_model.specs.declared.change.Deed.{Deed}
-use Rattle.map_model.specs.declared.change.Deed.TheVariants.{Insert, Update, Remove}
-use Rattle.world.specs.declared.site.Site.{Site as Here}
-use Rattle.world.specs.Site.{Site}
+use Rattle.map_model.specs.declared.change.Effect.{Effect}
+use Rattle.map_model.specs.declared.change.Effect.TheVariants.{Insert, Update, Remove}
+use Rattle.world.specs.declared.site.Site.{Site}
+use Rattle.world.specs.Ground.{Ground}
 use Rattle.world.specs.Views.{View}
 use Rattle.world.specs.Wants.{word_of}
 use Rattle.part.specs.Asks.{IsWithin, PutsWord}
-use Rattle.phase.specs.declared.place.Place.{Place}
-use Rattle.phase.specs.declared.place.Place.TheVariants.{Home, Probing}
+use Rattle.phase.specs.declared.role.Role.{Role}
+use Rattle.phase.specs.declared.role.Role.TheVariants.{Home, Probing}
 use Rattle.phase.specs.declared.walk.Walk.{Walk}
 use Rattle.phase.specs.declared.walk.Walk.TheVariants as walk
 use Rattle.phase.specs.declared.take.Take.{Take}
@@ -38,7 +38,7 @@ use Rattle.phase.specs.Helds.{give_next, give_wanted_of}
 use Rattle.phase.specs.Buckets.{words_in}
 use Rattle.phase.proofs.locks.Giving.{lock_at}
 use Rattle.phase.proofs.locks.Storing.{place_near}
-use Rattle.phase.proofs.Asking.{walk_within, back_within, lock_within}
+use Rattle.phase.proofs.asking.Asking.{walk_within, back_within, lock_within}
 use Rattle.write_op.specs.declared.search.NoteWords.{NoteWords}
 use Rattle.write_op.specs.declared.step.Task.{Task}
 use Rattle.write_op.specs.declared.step.Seen.{Seen}
@@ -70,11 +70,11 @@ pub record IsSmall (n : NoteWords) : Type 0 where
   pub mark : n.mark < 2 ^ 64
   pub fingers : n.fingers < 2 ^ 64
 
-freed_or_small : (place : Place) (words : List ℕ) (a : Option ℕ) (rest : NoteWords) → AreWords words → IsSmall rest → IsSmall (freed_or place words a rest)
+freed_or_small : (place : Role) (words : List ℕ) (a : Option ℕ) (rest : NoteWords) → AreWords words → IsSmall rest → IsSmall (freed_or place words a rest)
 freed_or_small place words (Some i) rest w r = record { mark = freed_small (slice_index words 1) i (w.small 1); fingers = fingers_small (slice_index words 3) i (w.small 3) }
 freed_or_small place words None rest w r = r
 
-module _ (task : Task) (seen : Seen) (all : (p : Place) → AreWords (words_in seen.buckets p)) where
+module _ (task : Task) (seen : Seen) (all : (p : Role) → AreWords (words_in seen.buckets p)) where
   abbrev counted : NoteWords
   counted = record { place = Home; mark = lowered_count (slice_index seen.buckets.home 1); fingers = slice_index seen.buckets.home 3 }
 
@@ -91,32 +91,32 @@ module _ (task : Task) (seen : Seen) (all : (p : Place) → AreWords (words_in s
   note_small = freed_or_small Home seen.buckets.home in_home (freed_or Probing seen.buckets.probing in_probing counted) (all Home)
       (freed_or_small Probing seen.buckets.probing in_probing counted (all Probing) counted_small)
 
-  taken_small : (place : Place) (w slot : ℕ) → w < 2 ^ 64 → slot < record_slots → taken_mark place w slot < 2 ^ 64
+  taken_small : (place : Role) (w slot : ℕ) → w < 2 ^ 64 → slot < record_slots → taken_mark place w slot < 2 ^ 64
   taken_small Probing w slot fits low = member_fits w slot fits low
   taken_small place w slot fits low = inserted_fits w slot fits low
 
-  mark_small : (d : Deed) (place : Place) (w slot : ℕ) → brought d < 2 ^ 64 → w < 2 ^ 64 → slot < record_slots → published_mark d place w slot < 2 ^ 64
+  mark_small : (d : Effect) (place : Role) (w slot : ℕ) → brought d < 2 ^ 64 → w < 2 ^ 64 → slot < record_slots → published_mark d place w slot < 2 ^ 64
   mark_small (Insert value) place w slot value_fits fits low = taken_small place w slot fits low
   mark_small (Update value) place w slot value_fits fits low = value_fits
   mark_small Remove place w slot value_fits fits low = removed_fits w slot fits low
 
-walk_small : (here : Here) (hash : ℕ) (w : Walk) → number_of (walk_wanted here hash w) < 2 ^ 64
+walk_small : (here : Site) (hash : ℕ) (w : Walk) → number_of (walk_wanted here hash w) < 2 ^ 64
 walk_small here hash walk.Power = omega arith
 walk_small here hash walk.Root = omega arith
 walk_small here hash (walk.Entry root) = omega arith
 walk_small here hash (walk.Head root segment) = omega arith
 
-module _ (site : Site) (task : Task) (is : IsIn site task) (seen : Seen) (v : View) (all : (p : Place) → AreWords (words_in seen.buckets p)) (key : task.change.key < 2 ^ 64) (value : brought task.change.deed < 2 ^ 64) where
+module _ (site : Ground) (task : Task) (is : IsIn site task) (seen : Seen) (v : View) (all : (p : Role) → AreWords (words_in seen.buckets p)) (key : task.change.key < 2 ^ 64) (value : brought task.change.effect < 2 ^ 64) where
   make_small : (m : Make) → HasAll site task seen v → IsChosen site task seen → number_of (make_wanted (lock_of task seen seen.place) seen.written m) < 2 ^ 64
   make_small make.Key a c = subst (λ x. x < 2 ^ 64) (sym (key_is site task is seen v a c)) key
-  make_small make.Value a c = subst (λ x. x < 2 ^ 64) (sym (value_is site task is seen v a c task.change.deed refl)) value
+  make_small make.Value a c = subst (λ x. x < 2 ^ 64) (sym (value_is site task is seen v a c task.change.effect refl)) value
   make_small make.Fingers a c = subst (λ (w : Record). w.fingers < 2 ^ 64) (sym (written_is site task seen a.upto c))
       (finger_below (slice_index (words_in seen.buckets seen.place) (finger_place seen.written.slot)) seen.written.slot (finger_of task.hash) (omega arith))
   make_small make.FlushFingers a c = omega arith
   make_small make.FlushRecord a c = omega arith
   make_small make.FenceRecord a c = omega arith
-  make_small make.Publish a c = subst (λ x. x < 2 ^ 64) (sym (mark_is site task is seen v a c task.change.deed refl))
-      (mark_small task seen all task.change.deed seen.place (slice_index (words_in seen.buckets seen.place) 1) seen.written.slot value ((all seen.place).small 1) (slot_low site task seen a.upto c))
+  make_small make.Publish a c = subst (λ x. x < 2 ^ 64) (sym (mark_is site task is seen v a c task.change.effect refl))
+      (mark_small task seen all task.change.effect seen.place (slice_index (words_in seen.buckets seen.place) 1) seen.written.slot value ((all seen.place).small 1) (slot_low site task seen a.upto c))
   make_small make.FlushPublished a c = omega arith
   make_small make.FencePublished a c = omega arith
 
@@ -153,7 +153,7 @@ pub record IsInBucket (seen : Seen) : Type 0 where
 
 module _ (task : Task) (seen : Seen) (shape : IsShape task.site.geometry) (fits : task.hash < 2 ^ 64) where
   -- a word of one of the buckets
-  here_within : (p : Place) (n : ℕ) → n < 32 → lock_of task seen p + n < all_words_of task.site.geometry
+  here_within : (p : Role) (n : ℕ) → n < 32 → lock_of task seen p + n < all_words_of task.site.geometry
   here_within p n low = let w = lock_within task.site task.hash seen.path.segment shape p n low in omega (arith, w)
 
   make_within : (m : Make) → IsInBucket seen → word_of task.site.geometry (make_wanted (lock_of task seen seen.place) seen.written m) < all_words_of task.site.geometry
@@ -171,11 +171,11 @@ module _ (task : Task) (seen : Seen) (shape : IsShape task.site.geometry) (fits 
   note_within Mark n = here_within n.place 1 (omega arith)
   note_within Fingers n = here_within n.place 3 (omega arith)
 
-  take_within : (p : Place) (t : Take) → word_of task.site.geometry (take_wanted (lock_of task seen p) t) < all_words_of task.site.geometry
+  take_within : (p : Role) (t : Take) → word_of task.site.geometry (take_wanted (lock_of task seen p) t) < all_words_of task.site.geometry
   take_within p Look = let w = here_within p 0 (omega arith) in omega (arith, w)
   take_within p (Try free) = let w = here_within p 0 (omega arith) in omega (arith, w)
 
-  give_within : (next : Option (Place × ℕ)) → word_of task.site.geometry (give_wanted_of task.site task.hash seen.path.segment next) < all_words_of task.site.geometry
+  give_within : (next : Option (Role × ℕ)) → word_of task.site.geometry (give_wanted_of task.site task.hash seen.path.segment next) < all_words_of task.site.geometry
   give_within (Some next) = let w = here_within next.0 0 (omega arith) in omega (arith, w)
   give_within None = omega arith
 
@@ -192,17 +192,17 @@ module _ (task : Task) (seen : Seen) (shape : IsShape task.site.geometry) (fits 
   within_in (Give held end) stored = give_within (give_next held)
   within_in (Ended end) stored = omega arith
 
-module _ (site : Site) (task : Task) (is : IsIn site task) (seen : Seen) (shape : IsShape task.site.geometry) where
+module _ (site : Ground) (task : Task) (is : IsIn site task) (seen : Seen) (shape : IsShape task.site.geometry) where
   abbrev g : Shape
   g = task.site.geometry
 
-  published_by : (v : View) → HasAll site task seen v → IsChosen site task seen → (d : Deed) → task.change.deed ≡ d → seen.written.published < 32
+  published_by : (v : View) → HasAll site task seen v → IsChosen site task seen → (d : Effect) → task.change.effect ≡ d → seen.written.published < 32
   published_by v a c (Insert value) e = let w = word_is site task is seen v a c (Insert value) e in omega (arith, w)
   published_by v a c (Update value) e = let w = word_is site task is seen v a c (Update value) e in let low = slot_low site task seen a.upto c in omega (arith, w, low)
   published_by v a c Remove e = let w = word_is site task is seen v a c Remove e in omega (arith, w)
 
   published_low : (v : View) → HasAll site task seen v → IsChosen site task seen → seen.written.published < 32
-  published_low v a c = published_by v a c task.change.deed refl
+  published_low v a c = published_by v a c task.change.effect refl
 
   in_bucket : (v : View) (s : WriteStep) → SuitsStep site task seen s v → (m : Make) → s ≡ step.Make m → IsInBucket seen
   in_bucket v s suits m e =
@@ -214,7 +214,7 @@ module _ (site : Site) (task : Task) (is : IsIn site task) (seen : Seen) (shape 
   HasLine (want.Flush l) = 8 * l + 8 ≤ words_of g
   HasLine w = ⊤
 
-  line_here : (v : View) → HasAll site task seen v → (p : Place) (k : ℕ) → k < 32 → 8 * line_of (lock_of task seen p + k) + 8 ≤ words_of g
+  line_here : (v : View) → HasAll site task seen v → (p : Role) (k : ℕ) → k < 32 → 8 * line_of (lock_of task seen p + k) + 8 ≤ words_of g
   line_here v a p k low =
       let e = lock_at site task.site task.hash seen.path.segment (located_all site task is seen v a) p in
       let w = lock_within task.site task.hash seen.path.segment shape p 31 (omega arith) in
@@ -235,7 +235,7 @@ module _ (site : Site) (task : Task) (is : IsIn site task) (seen : Seen) (shape 
   walk_line (walk.Entry root) = tt
   walk_line (walk.Head root segment) = tt
 
-  take_line : (p : Place) (t : Take) → HasLine (take_wanted (lock_of task seen p) t)
+  take_line : (p : Role) (t : Take) → HasLine (take_wanted (lock_of task seen p) t)
   take_line p Look = tt
   take_line p (Try free) = tt
 
@@ -243,7 +243,7 @@ module _ (site : Site) (task : Task) (is : IsIn site task) (seen : Seen) (shape 
   note_line Mark n = tt
   note_line Fingers n = tt
 
-  give_line : (next : Option (Place × ℕ)) → HasLine (give_wanted_of task.site task.hash seen.path.segment next)
+  give_line : (next : Option (Role × ℕ)) → HasLine (give_wanted_of task.site task.hash seen.path.segment next)
   give_line (Some next) = tt
   give_line None = tt
 

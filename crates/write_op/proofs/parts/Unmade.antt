@@ -4,11 +4,11 @@ use Rattle.std.specs.Prelude.{nat_le, nat_lt, if◌then◌else◌}
 use Rattle.op_core.specs.declared.want.Ans.{Ans}
 use Rattle.op_core.specs.declared.want.Ans.TheVariants.{Value, Passed}
 use Rattle.op_core.specs.declared.why.Why.TheVariants.{Busy, Moved}
-use Rattle.map_model.specs.declared.change.Deed.{Deed}
-use Rattle.map_model.specs.declared.change.Deed.TheVariants.{Insert, Update, Remove}
+use Rattle.map_model.specs.declared.change.Effect.{Effect}
+use Rattle.map_model.specs.declared.change.Effect.TheVariants.{Insert, Update, Remove}
 use Rattle.map_model.specs.declared.entry.Reply.TheVariants as reply
-use Rattle.phase.specs.declared.place.Place.{Place}
-use Rattle.phase.specs.declared.place.Place.TheVariants.{Home, Probing, First, Second}
+use Rattle.phase.specs.declared.role.Role.{Role}
+use Rattle.phase.specs.declared.role.Role.TheVariants.{Home, Probing, First, Second}
 use Rattle.phase.specs.declared.take.Take.TheVariants.{Look}
 use Rattle.phase.specs.declared.walk.Walked.{Walked}
 use Rattle.phase.specs.declared.walk.Walked.TheVariants as walked
@@ -55,7 +55,7 @@ both false s t p q = q
 
 -- ---- locks back
 -- the end of locks that are given back is was where their giving is
-given_made : (next : Option (Place × ℕ)) (held : Held) (end : Ending) → HasMadeAt (given_by next held end) → HasMadeAt (Give held end)
+given_made : (next : Option (Role × ℕ)) (held : Held) (end : Ending) → HasMadeAt (given_by next held end) → HasMadeAt (Give held end)
 given_made (Some next) held end was = was
 given_made None held (ending.Replied answer place) was = was
 given_made None held (ending.Again why) was = absurd was
@@ -73,12 +73,12 @@ module _ (task : Task) (seen : Seen) where
   walked_unmade (walked.Stale segment version) = λ was. was
 
   -- ---- locks
-  locked_unmade : (place : Place) → Unmade (locked place)
+  locked_unmade : (place : Role) → Unmade (locked place)
   locked_unmade Home = λ was. was
   locked_unmade Probing = λ was. was
   locked_unmade place = λ was. was
 
-  taken_unmade : (place : Place) (lock : ℕ) (x : Taken) → Unmade (locked_to seen place lock x).step
+  taken_unmade : (place : Role) (lock : ℕ) (x : Taken) → Unmade (locked_to seen place lock x).step
   taken_unmade place lock (taking.On take) = λ was. was
   taken_unmade place lock (taking.Held free) = locked_unmade place
   taken_unmade place lock (taking.Busy value) = giving_unmade seen.held (ending.Again (Busy lock value)) (λ was. was)
@@ -97,13 +97,13 @@ module _ (task : Task) (seen : Seen) where
   first_unmade : (s : Seen) → Unmade (visit_first s)
   first_unmade s = either s.first (Lock First Look) (visit_second s) (λ was. was) (second_unmade s)
 
-  all_unmade : (s : Seen) (place : Place) → Unmade (filled task.hash s place).step
+  all_unmade : (s : Seen) (place : Role) → Unmade (filled task.hash s place).step
   all_unmade s Home = λ was. was
   all_unmade s Probing = first_unmade (with_visits task.hash s)
   all_unmade s First = second_unmade s
   all_unmade s place = λ was. was
 
-  filled_unmade : (place : Place) (x : Loaded) → Unmade (filled_to task.hash seen place x).step
+  filled_unmade : (place : Role) (x : Loaded) → Unmade (filled_to task.hash seen place x).step
   filled_unmade place (loaded.On load) = λ was. was
   filled_unmade place (loaded.All words) = all_unmade (record seen { buckets = with_words place words seen.buckets }) place
 
@@ -117,14 +117,14 @@ module _ (task : Task) (seen : Seen) where
   changing_unmade count (Some spot) = λ was. was
   changing_unmade count None = giving_unmade seen.held (ending.Replied reply.Absent count) (λ was. was)
 
-  decided_unmade : (count : ℕ) (d : Deed) → Unmade (decided task seen count d).step
+  decided_unmade : (count : ℕ) (d : Effect) → Unmade (decided task seen count d).step
   decided_unmade count (Insert value) = inserting_unmade count (found seen task.change.key) (room_in seen.buckets)
   decided_unmade count (Update value) = changing_unmade count (found seen task.change.key)
   decided_unmade count Remove = changing_unmade count (found seen task.change.key)
 
   counted_unmade : (count : ℕ) → Unmade (counted task seen count).step
-  counted_unmade count = both (nat_le (2 ^ 63) count) (answered seen count reply.Spent) (decided task seen count task.change.deed)
-      (giving_unmade seen.held (ending.Replied reply.Spent count) (λ was. was)) (decided_unmade count task.change.deed)
+  counted_unmade count = both (nat_le (2 ^ 63) count) (answered seen count reply.Spent) (decided task seen count task.change.effect)
+      (giving_unmade seen.held (ending.Replied reply.Spent count) (λ was. was)) (decided_unmade count task.change.effect)
 
   -- ---- the stores
   abbrev Before : WriteStep → Type 0

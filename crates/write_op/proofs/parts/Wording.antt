@@ -4,11 +4,11 @@ use Rattle.std.specs.Prelude.{nat_lt, nat_le, if◌then◌else◌}
 use Rattle.op_core.specs.declared.want.Ans.{Ans}
 use Rattle.op_core.specs.declared.want.Ans.TheVariants.{Value, Passed, Drawn}
 use Rattle.op_core.specs.Answers.{IsWord}
-use Rattle.map_model.specs.declared.change.Deed.{Deed}
-use Rattle.map_model.specs.declared.change.Deed.TheVariants.{Insert, Update, Remove}
+use Rattle.map_model.specs.declared.change.Effect.{Effect}
+use Rattle.map_model.specs.declared.change.Effect.TheVariants.{Insert, Update, Remove}
 use Rattle.map_model.specs.declared.entry.Reply.TheVariants as reply
-use Rattle.phase.specs.declared.place.Place.{Place}
-use Rattle.phase.specs.declared.place.Place.TheVariants.{Home, Probing, First, Second, Next, Previous}
+use Rattle.phase.specs.declared.role.Role.{Role}
+use Rattle.phase.specs.declared.role.Role.TheVariants.{Home, Probing, First, Second, Next, Previous}
 use Rattle.phase.specs.declared.walk.Walked.{Walked}
 use Rattle.phase.specs.declared.walk.Walked.TheVariants as walked
 use Rattle.phase.specs.declared.take.Take.TheVariants.{Look}
@@ -45,7 +45,7 @@ use Rattle.phase.proofs.Wording.{none_words, set_words, put_words}
 
 -- ---- what is kept
 abbrev Words : Stage → Type 0
-Words st = ((p : Place) → AreWords (words_in st.seen.buckets p)) × HasWordsAt st.step
+Words st = ((p : Role) → AreWords (words_in st.seen.buckets p)) × HasWordsAt st.step
 
 either_words : (b : Bool) (s t : WriteStep) → HasWordsAt s → HasWordsAt t → HasWordsAt (if b then s else t)
 either_words true s t p q = p
@@ -55,11 +55,11 @@ both_words : (b : Bool) (s t : Stage) → Words s → Words t → Words (if b th
 both_words true s t p q = p
 both_words false s t p q = q
 
-by_next : (next : Option (Place × ℕ)) (held : Held) (end : Ending) → HasWordsAt (given_by next held end)
+by_next : (next : Option (Role × ℕ)) (held : Held) (end : Ending) → HasWordsAt (given_by next held end)
 by_next (Some next) held end = tt
 by_next None held end = tt
 
-module _ (task : Task) (seen : Seen) (all : (p : Place) → AreWords (words_in seen.buckets p)) where
+module _ (task : Task) (seen : Seen) (all : (p : Role) → AreWords (words_in seen.buckets p)) where
   give_words : (end : Ending) → Words (give seen end)
   give_words end = (all, by_next (give_next seen.held) seen.held end)
 
@@ -70,12 +70,12 @@ module _ (task : Task) (seen : Seen) (all : (p : Place) → AreWords (words_in s
   walked_words (walked.Amiss word value) = (all, tt)
   walked_words (walked.Stale segment version) = (all, tt)
 
-  locked_words : (place : Place) → HasWordsAt (locked place)
+  locked_words : (place : Role) → HasWordsAt (locked place)
   locked_words Home = tt
   locked_words Probing = tt
   locked_words place = none_words
 
-  taken_words : (place : Place) (lock : ℕ) (x : Taken) → Words (locked_to seen place lock x)
+  taken_words : (place : Role) (lock : ℕ) (x : Taken) → Words (locked_to seen place lock x)
   taken_words place lock (taking.On take) = (all, tt)
   taken_words place lock (taking.Held free) = (all, locked_words place)
   taken_words place lock (taking.Busy value) = give_words _
@@ -93,7 +93,7 @@ module _ (task : Task) (seen : Seen) (all : (p : Place) → AreWords (words_in s
   first_words : (s : Seen) → HasWordsAt (visit_first s)
   first_words s = either_words s.first (Lock First Look) (visit_second s) tt (second_words s)
 
-  filled_words : (place : Place) (words : List ℕ) → AreWords words → Words (filled_with task.hash seen place words)
+  filled_words : (place : Role) (words : List ℕ) → AreWords words → Words (filled_with task.hash seen place words)
   filled_words Home words a = (put_words seen.buckets Home words a all, none_words)
   filled_words Probing words a = (put_words seen.buckets Probing words a all, first_words (with_visits task.hash (record seen { buckets = with_words Probing words seen.buckets })))
   filled_words First words a = (put_words seen.buckets First words a all, second_words (record seen { buckets = with_words First words seen.buckets }))
@@ -101,7 +101,7 @@ module _ (task : Task) (seen : Seen) (all : (p : Place) → AreWords (words_in s
   filled_words Next words a = (put_words seen.buckets Next words a all, tt)
   filled_words Previous words a = (put_words seen.buckets Previous words a all, tt)
 
-  load_by : (place : Place) (load : Load) (n : ℕ) → AreWords (slice_set load.words load.next n) → (b : Bool)
+  load_by : (place : Role) (load : Load) (n : ℕ) → AreWords (slice_set load.words load.next n) → (b : Bool)
       → Words (filled_to task.hash seen place (if b then loaded.On (record { words = slice_set load.words load.next n; next = load.next + 1 }) else loaded.All (slice_set load.words load.next n)))
   load_by place load n a true = (all, a)
   load_by place load n a false = filled_words place (slice_set load.words load.next n) a
@@ -115,7 +115,7 @@ module _ (task : Task) (seen : Seen) (all : (p : Place) → AreWords (words_in s
   changing_words count (Some there) = (all, tt)
   changing_words count None = give_words _
 
-  decided_words : (count : ℕ) (d : Deed) → Words (decided task seen count d)
+  decided_words : (count : ℕ) (d : Effect) → Words (decided task seen count d)
   decided_words count (Insert value) = inserting_words count (found seen task.change.key) (room_in seen.buckets)
   decided_words count (Update value) = changing_words count (found seen task.change.key)
   decided_words count Remove = changing_words count (found seen task.change.key)
@@ -134,9 +134,9 @@ module _ (task : Task) (seen : Seen) (all : (p : Place) → AreWords (words_in s
   words_after (Lock place take) a small has = taken_words place (lock_of task seen place) (take_taken take a)
   words_after (Check back) (Value n) small has = backed_words (back_taken task.site task.hash seen.path back n)
   words_after (Fill place load) (Value n) small has = load_by place load n (set_words load.words load.next n small has) (nat_lt load.next 31)
-  words_after Count (Value n) small has = both_words (nat_le (2 ^ 63) n) (answered seen n reply.Spent) (decided task seen n task.change.deed) (give_words _) (decided_words n task.change.deed)
+  words_after Count (Value n) small has = both_words (nat_le (2 ^ 63) n) (answered seen n reply.Spent) (decided task seen n task.change.effect) (give_words _) (decided_words n task.change.effect)
   words_after (step.Make m) Passed small has = made_words (make_taken seen.written.slot m)
-  words_after Draw (Drawn n) small has = both_words (leaves_note task.change.deed seen.place) (go seen (Unnote Mark n)) (answered seen n reply.Done) (all, tt) (give_words _)
+  words_after Draw (Drawn n) small has = both_words (leaves_note task.change.effect seen.place) (go seen (Unnote Mark n)) (answered seen n reply.Done) (all, tt) (give_words _)
   words_after (Unnote part place) Passed small has = unnoted_words part place
   words_after CountSpent (Value n) small has = give_words _
   words_after (Give held end) Passed small has = (all, by_next (give_next (given held)) (given held) end)

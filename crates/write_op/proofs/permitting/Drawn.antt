@@ -3,23 +3,23 @@ use Rattle.std.proofs.Common.{◌≡◌, ◌⊎◌, ℕ, ◌+◌, ◌*◌, ◌/�
 use Rattle.hash_word.specs.Hash.{home_of}
 use Rattle.bucket_meta.specs.Bucket.{allocated, record_slots, overflow_count}
 use Rattle.bucket_meta.proofs.Marks.{takes_slot, takes_slot_as_member}
-use Rattle.bucket_meta.proofs.Uppers.{removed_upper}
+use Rattle.bucket_meta.proofs.fields.Uppers.{removed_upper}
 use Rattle.trace.specs.Events.{with_word}
 use Rattle.image_layout.specs.Places.{bucket_at}
 use Rattle.sound_image.specs.Records.{notes_of, word_in}
 use Rattle.map_model.specs.declared.call.Call.{Call}
-use Rattle.map_model.specs.declared.change.Deed.{Deed}
-use Rattle.map_model.specs.declared.change.Deed.TheVariants.{Insert, Update, Remove}
+use Rattle.map_model.specs.declared.change.Effect.{Effect}
+use Rattle.map_model.specs.declared.change.Effect.TheVariants.{Insert, Update, Remove}
 use Rattle.map_model.specs.Changes.{doing, call_of}
 use Rattle.bucket_words.specs.Hits.{Hit}
-use Rattle.world.specs.Site.{Site}
+use Rattle.world.specs.Ground.{Ground}
 use Rattle.world.specs.Views.{Owed, View, Has}
 use Rattle.world.specs.Kinds.{draws_place}
 use Rattle.world.specs.Conditions.{May}
 use Rattle.world.specs.Holders.{DrawsWell, KnowsBucket, OwesAsKnown}
 use Rattle.world.proofs.holding.Drawing.{may_draw}
-use Rattle.phase.specs.declared.place.Place.{Place}
-use Rattle.phase.specs.declared.place.Place.TheVariants.{Home, Probing}
+use Rattle.phase.specs.declared.role.Role.{Role}
+use Rattle.phase.specs.declared.role.Role.TheVariants.{Home, Probing}
 use Rattle.phase.specs.Places.{bucket_of}
 use Rattle.phase.specs.Buckets.{words_in}
 use Rattle.phase.specs.Giving.{IsLocated}
@@ -38,7 +38,7 @@ use Rattle.write_op.proofs.finding.Finding.{spares, hits}
 use Rattle.write_op.proofs.finding.Chosen.{spot as spot_of, update_found, place_held, slot_low, lock_is}
 use Rattle.write_op.proofs.permitting.Publishing.{located_all, holds_for, word_is, mark_is, loaded_meta, insert_ready, insert_near, insert_mark}
 
-module _ (site : Site) (task : Task) (is : IsIn site task) (seen : Seen) (v : View) (d : IsDrawing site task seen v) (words : (place : Place) → AreWords (words_in seen.buckets place)) where
+module _ (site : Ground) (task : Task) (is : IsIn site task) (seen : Seen) (v : View) (d : IsDrawing site task seen v) (words : (place : Role) → AreWords (words_in seen.buckets place)) where
   abbrev key : ℕ
   key = task.change.key
 
@@ -71,43 +71,43 @@ module _ (site : Site) (task : Task) (is : IsIn site task) (seen : Seen) (v : Vi
   none_came o true has = elim has [ inl e ↦ ap (λ (z : Owed). z.added) e | inr none ↦ absurd none ]
   none_came o false has = absurd has
 
-  draws : (z : Deed) → task.change.deed ≡ z → DrawsWell site v (doing key z) seen.path.segment (changed task seen)
+  draws : (z : Effect) → task.change.effect ≡ z → DrawsWell site v (doing key z) seen.path.segment (changed task seen)
   draws z e = holders_find.draw site task.site task.hash seen.path.segment seen.held (changed task seen) (doing key z) v
       (subst (λ k. HoldsBuckets site task.site task.hash seen.path.segment seen.held (changed task seen) k v) (sym (key_done key z)) holds) d.settled
-      (subst (λ (calls : List Call). Has (doing key z) calls) (sym d.planned) (inl (ap (doing key) (sym e)))) d.room (λ o has. none_came o (leaves_note task.change.deed seen.place) (subst (λ (owed : List Owed). Has o owed) d.owes has))
+      (subst (λ (calls : List Call). Has (doing key z) calls) (sym d.planned) (inl (ap (doing key) (sym e)))) d.room (λ o has. none_came o (leaves_note task.change.effect seen.place) (subst (λ (owed : List Owed). Has o owed) d.owes has))
 
   knows_here : KnowsBucket site.shape v seen.path.segment b (changed task seen)
   knows_here = holders_find.bucket site task.site task.hash seen.path.segment seen.held (changed task seen) key v holds d.settled seen.place (place_held site task seen d.all.upto d.chosen)
 
   -- the words after the store, by where it was
-  changed_is : (z : Deed) → task.change.deed ≡ z → (i : ℕ) → here + published_word z slot ≡ i → changed task seen ≡ with_word (prepared_by task seen z) i seen.written.mark
+  changed_is : (z : Effect) → task.change.effect ≡ z → (i : ℕ) → here + published_word z slot ≡ i → changed task seen ≡ with_word (prepared_by task seen z) i seen.written.mark
   changed_is z e i place =
-      ap (λ (y : Deed). with_mark lock seen.written (prepared_by task seen y)) e
+      ap (λ (y : Effect). with_mark lock seen.written (prepared_by task seen y)) e
       ∙ ap (λ j. with_word (prepared_by task seen z) j seen.written.mark)
       (ap (λ l. l + seen.written.published) (lock_is site task seen d.all.upto d.chosen at) ∙ ap (λ j. here + j) (word_is site task is seen v d.all d.chosen z e) ∙ place)
 
   -- the record is shown
-  shown_may : (z : Deed) → task.change.deed ≡ z → Hit site.shape (changed task seen) seen.path.segment b slot key → May site (draws_place (doing key z)) v
+  shown_may : (z : Effect) → task.change.effect ≡ z → Hit site.shape (changed task seen) seen.path.segment b slot key → May site (draws_place (doing key z)) v
   shown_may z e hit = (may_draw site v).shown (doing key z) seen.path.segment b slot (changed task seen) (draws z e) knows_here
       (subst (λ k. Hit site.shape (changed task seen) seen.path.segment b slot k) (sym (key_done key z)) hit) d.all.still
       (holders_find.kept site task.site task.hash seen.path.segment seen.held (changed task seen) key v holds d.settled)
 
-  taken_near : (p : Place) → (p ≡ Home) ⊎ (p ≡ Probing) → allocated slot (taken_mark p meta slot) ≡ 1
-  taken_near p (inl home) = ap (λ (q : Place). allocated slot (taken_mark q meta slot)) home ∙ (takes_slot meta slot low).taken
-  taken_near p (inr probing) = ap (λ (q : Place). allocated slot (taken_mark q meta slot)) probing ∙ (takes_slot_as_member meta slot low).taken
+  taken_near : (p : Role) → (p ≡ Home) ⊎ (p ≡ Probing) → allocated slot (taken_mark p meta slot) ≡ 1
+  taken_near p (inl home) = ap (λ (q : Role). allocated slot (taken_mark q meta slot)) home ∙ (takes_slot meta slot low).taken
+  taken_near p (inr probing) = ap (λ (q : Role). allocated slot (taken_mark q meta slot)) probing ∙ (takes_slot_as_member meta slot low).taken
 
-  insert_hit : (value : ℕ) → task.change.deed ≡ Insert value → Hit site.shape (changed task seen) seen.path.segment b slot key
+  insert_hit : (value : ℕ) → task.change.effect ≡ Insert value → Hit site.shape (changed task seen) seen.path.segment b slot key
   insert_hit value e = subst (λ w. Hit site.shape w seen.path.segment b slot key) (sym (changed_is (Insert value) e (here + 1) refl))
       (publish_tells.taken site.shape (with_record lock seen.written (loaded task seen)) seen.path.segment b slot key seen.written.mark (insert_ready site task is seen v d.all d.chosen value e)
       (ap (allocated slot) (insert_mark site task is seen v d.all d.chosen value e) ∙ taken_near seen.place (insert_near site task is seen v d.all d.chosen value e)))
 
-  update_hit : (value : ℕ) → task.change.deed ≡ Update value → Hit site.shape (changed task seen) seen.path.segment b slot key
+  update_hit : (value : ℕ) → task.change.effect ≡ Update value → Hit site.shape (changed task seen) seen.path.segment b slot key
   update_hit value e = subst (λ w. Hit site.shape w seen.path.segment b slot key) (sym (changed_is (Update value) e (here + 5 + 2 * slot) (omega arith)))
       (publish_tells.valued site.shape (loaded task seen) seen.path.segment b slot key seen.written.mark
       (hits site task seen at d.all.upto d.all.visits (spot_of site task seen d.all.upto d.chosen) (update_found site task seen d.all.upto d.chosen value e)))
 
   -- the record is gone
-  module _ (e : task.change.deed ≡ Remove) where
+  module _ (e : task.change.effect ≡ Remove) where
     upper : seen.written.mark / 2 ^ 28 ≡ loaded task seen (here + 1) / 2 ^ 28
     upper = ap (λ x. x / 2 ^ 28) (mark_is site task is seen v d.all d.chosen Remove e) ∙ removed_upper meta slot ((words seen.place).small 1) low
         ∙ ap (λ x. x / 2 ^ 28) (sym (loaded_meta site task is seen v d.all d.chosen))
@@ -120,7 +120,7 @@ module _ (site : Site) (task : Task) (is : IsIn site task) (seen : Seen) (v : Vi
         (publish_tells.spared site.shape task.hash seen.path.segment seen.held (loaded task seen) seen.path.segment b seen.written.mark (bucket_near task.hash seen.place) upper
         (spares site task seen at d.all.upto d.all.visits))
 
-    owes_by : (t : Bool) → leaves_note task.change.deed seen.place ≡ t → OwesAsKnown site v (changed task seen) seen.path.segment (home_of task.hash)
+    owes_by : (t : Bool) → leaves_note task.change.effect seen.place ≡ t → OwesAsKnown site v (changed task seen) seen.path.segment (home_of task.hash)
     owes_by false none = inl (λ o has s h. subst (λ (l : List Owed). Has o l) (d.owes ∙ ap (owed_by site task seen) none) has)
     owes_by true some = subst (λ w. OwesAsKnown site v w seen.path.segment (home_of task.hash)) (sym gone)
         (publish_tells.owed site v (loaded task seen) seen.path.segment b (home_of task.hash) seen.written.mark (owed task seen) (bucket_near task.hash seen.place) (omega arith) upper
@@ -130,13 +130,13 @@ module _ (site : Site) (task : Task) (is : IsIn site task) (seen : Seen) (v : Vi
 
     remove_may : May site (draws_place (doing key Remove)) v
     remove_may = (may_draw site v).unnoted (doing key Remove) seen.path.segment (changed task seen) (draws Remove e)
-        (subst (λ h. OwesAsKnown site v (changed task seen) seen.path.segment (home_of h)) is.hash (owes_by (leaves_note task.change.deed seen.place) refl))
+        (subst (λ h. OwesAsKnown site v (changed task seen) seen.path.segment (home_of h)) is.hash (owes_by (leaves_note task.change.effect seen.place) refl))
         (holders_find.spared site task.site task.hash seen.path.segment seen.held (changed task seen) key v holds d.settled spares_gone)
 
-  draw_by : (z : Deed) → task.change.deed ≡ z → May site (draws_place (doing key z)) v
+  draw_by : (z : Effect) → task.change.effect ≡ z → May site (draws_place (doing key z)) v
   draw_by (Insert value) e = shown_may (Insert value) e (insert_hit value e)
   draw_by (Update value) e = shown_may (Update value) e (update_hit value e)
   draw_by Remove e = remove_may e
 
   pub draw_may : May site (draws_place (call_of task.change)) v
-  draw_may = draw_by task.change.deed refl
+  draw_may = draw_by task.change.effect refl

@@ -9,29 +9,29 @@ use Rattle.stash.proofs.Counts.{how_often-append}
 use Rattle.stash.proofs.ExactNotes.{more_left, more_right, often_head, each_is_named, same_or_other, exact_without_note, exact_without_count}
 use Rattle.bucket_words.proofs.segments.Noted.{notes_by}
 use Rattle.world.proofs.stepping.Telling.{unnamed}
-use Rattle.phase.specs.declared.place.Place.{Place}
-use Rattle.phase.specs.declared.place.Place.TheVariants.{Home, Probing}
+use Rattle.phase.specs.declared.role.Role.{Role}
+use Rattle.phase.specs.declared.role.Role.TheVariants.{Home, Probing}
 use Rattle.phase.proofs.Noting.{Four, notes_four, KeepsBeside, apart, apart_back}
 use Rattle.write_op.specs.declared.search.NoteWords.{NoteWords}
 use Rattle.write_op.specs.Search.{freed_or, unnoted_by}
 use Rattle.write_op.proofs.permitting.Noted.{IsThere, finds_note, one_less, other_side, lowered_lists, lowered, lowered_slots}
 
-abbrev pub one_of : Place → Four → ℕ
+abbrev pub one_of : Role → Four → ℕ
 one_of Home f = f.h1
 one_of Probing f = f.p1
 one_of place f = 0
 
-abbrev pub three_of : Place → Four → ℕ
+abbrev pub three_of : Role → Four → ℕ
 three_of Home f = f.h3
 three_of Probing f = f.p3
 three_of place f = 0
 
-abbrev pub with_one : Place → ℕ → Four → Four
+abbrev pub with_one : Role → ℕ → Four → Four
 with_one Home x f = record f { h1 = x }
 with_one Probing x f = record f { p1 = x }
 with_one place x f = f
 
-abbrev pub with_three : Place → ℕ → Four → Four
+abbrev pub with_three : Role → ℕ → Four → Four
 with_three Home x f = record f { h3 = x }
 with_three Probing x f = record f { p3 = x }
 with_three place x f = f

@@ -1,12 +1,12 @@
 -- The loads of the commit counter are of kinds that the view may take: a refusal is right by what the holder of the locks knows.
 use Rattle.std.proofs.Common.{◌≡◌, ℕ, ◌^◌, ◌<◌, Bool, true, false, Option, Some, None, inl, refl, sym, subst}
 use Rattle.std.specs.Prelude.{nat_le, if◌then◌else◌}
-use Rattle.map_model.specs.declared.change.Deed.{Deed}
-use Rattle.map_model.specs.declared.change.Deed.TheVariants.{Insert, Update, Remove}
+use Rattle.map_model.specs.declared.change.Effect.{Effect}
+use Rattle.map_model.specs.declared.change.Effect.TheVariants.{Insert, Update, Remove}
 use Rattle.map_model.specs.declared.entry.Reply.TheVariants as reply
 use Rattle.map_model.specs.Legal.{IsChange}
 use Rattle.map_model.specs.Changes.{doing, call_of}
-use Rattle.world.specs.Site.{Site}
+use Rattle.world.specs.Ground.{Ground}
 use Rattle.world.specs.Views.{View}
 use Rattle.world.specs.Kinds.{finds_room, refuses}
 use Rattle.world.specs.Conditions.{May}
@@ -24,16 +24,16 @@ use Rattle.write_op.proofs.keeping.Going.{located}
 use Rattle.write_op.proofs.finding.Searching.{found_some}
 use Rattle.write_op.proofs.finding.Finding.{asked_held, holds_buckets, nowhere, hits}
 
-change_is : (key : ℕ) (d : Deed) → IsChange (doing key d)
+change_is : (key : ℕ) (d : Effect) → IsChange (doing key d)
 change_is key (Insert value) = tt
 change_is key (Update value) = tt
 change_is key Remove = tt
 
 -- a lock word of the last version was found
-pub spent_may : (site : Site) (task : Task) (seen : Seen) (v : View) → FoundSpent site task seen v → May site (refuses (call_of task.change) reply.Spent) v
-spent_may site task seen v spent = (refl, inl (λ a. change_is task.change.key task.change.deed), (λ m words newest map. tt), (λ is. spent))
+pub spent_may : (site : Ground) (task : Task) (seen : Seen) (v : View) → FoundSpent site task seen v → May site (refuses (call_of task.change) reply.Spent) v
+spent_may site task seen v spent = (refl, inl (λ a. change_is task.change.key task.change.effect), (λ m words newest map. tt), (λ is. spent))
 
-module _ (site : Site) (task : Task) (is : IsIn site task) (seen : Seen) (v : View) (some : 0 < v.callers) (h : HasLoaded site task seen 4 4 v) (q : IsQuiet v) (vis : IsVisiting task seen)
+module _ (site : Ground) (task : Task) (is : IsIn site task) (seen : Seen) (v : View) (some : 0 < v.callers) (h : HasLoaded site task seen 4 4 v) (q : IsQuiet v) (vis : IsVisiting task seen)
     (pinned : IsPinned site task.hash seen.path v.pinned) where
   abbrev segment : ℕ
   segment = seen.path.segment
@@ -50,8 +50,8 @@ module _ (site : Site) (task : Task) (is : IsIn site task) (seen : Seen) (v : Vi
       holders_find.at site task.site task.hash segment seen.held (loaded task seen) task.change.key v (holds_buckets site task is seen v h pinned) q spot.place (asked_held seen h.upto spot.place f.asked) spot.slot
       (hits site task seen at h.upto vis spot f)
 
-  exists_may : (value : ℕ) → task.change.deed ≡ Insert value → (spot : Spot) → found seen task.change.key ≡ Some spot → May site (refuses (call_of task.change) reply.Exists) v
-  exists_may value deed spot there = subst (λ (d : Deed). May site (refuses (doing task.change.key d) reply.Exists) v) (sym deed) (
+  exists_may : (value : ℕ) → task.change.effect ≡ Insert value → (spot : Spot) → found seen task.change.key ≡ Some spot → May site (refuses (call_of task.change) reply.Exists) v
+  exists_may value effect spot there = subst (λ (d : Effect). May site (refuses (doing task.change.key d) reply.Exists) v) (sym effect) (
     refl,
     (may_tell site v).present (doing task.change.key (Insert value)) reply.Exists segment (bucket_of task.hash spot.place) spot.slot (loaded task seen) (found_there spot there) refl,
     (λ m words newest map. tt),
@@ -75,25 +75,25 @@ module _ (site : Site) (task : Task) (is : IsIn site task) (seen : Seen) (v : Vi
   )
 
   room_may : May site (finds_room (call_of task.change)) v
-  room_may = (change_is task.change.key task.change.deed, some)
+  room_may = (change_is task.change.key task.change.effect, some)
 
-  insert_may : (value : ℕ) → task.change.deed ≡ Insert value → (there : Option Spot) → found seen task.change.key ≡ there → May site (inserting_kind task seen there) v
-  insert_may value deed (Some spot) e = exists_may value deed spot e
-  insert_may value deed None e = room_may
+  insert_may : (value : ℕ) → task.change.effect ≡ Insert value → (there : Option Spot) → found seen task.change.key ≡ there → May site (inserting_kind task seen there) v
+  insert_may value effect (Some spot) e = exists_may value effect spot e
+  insert_may value effect None e = room_may
 
-  change_may : (d : Deed) → task.change.deed ≡ d → (found seen task.change.key ≡ None → May site (refuses (doing task.change.key d) reply.Absent) v)
+  change_may : (d : Effect) → task.change.effect ≡ d → (found seen task.change.key ≡ None → May site (refuses (doing task.change.key d) reply.Absent) v)
       → (there : Option Spot) → found seen task.change.key ≡ there → May site (changing_kind task seen there) v
-  change_may d deed absent (Some spot) e = room_may
-  change_may d deed absent None e = subst (λ (z : Deed). May site (refuses (doing task.change.key z) reply.Absent) v) (sym deed) (absent e)
+  change_may d effect absent (Some spot) e = room_may
+  change_may d effect absent None e = subst (λ (z : Effect). May site (refuses (doing task.change.key z) reply.Absent) v) (sym effect) (absent e)
 
-  deciding_may : (d : Deed) → task.change.deed ≡ d → May site (deciding_kind task seen d) v
-  deciding_may (Insert value) deed = insert_may value deed (found seen task.change.key) refl
-  deciding_may (Update value) deed = change_may (Update value) deed (absent_update value) (found seen task.change.key) refl
-  deciding_may Remove deed = change_may Remove deed absent_remove (found seen task.change.key) refl
+  deciding_may : (d : Effect) → task.change.effect ≡ d → May site (deciding_kind task seen d) v
+  deciding_may (Insert value) effect = insert_may value effect (found seen task.change.key) refl
+  deciding_may (Update value) effect = change_may (Update value) effect (absent_update value) (found seen task.change.key) refl
+  deciding_may Remove effect = change_may Remove effect absent_remove (found seen task.change.key) refl
 
-  either_may : (b : Bool) → May site (if b then finds_room (call_of task.change) else deciding_kind task seen task.change.deed) v
+  either_may : (b : Bool) → May site (if b then finds_room (call_of task.change) else deciding_kind task seen task.change.effect) v
   either_may true = room_may
-  either_may false = deciding_may task.change.deed refl
+  either_may false = deciding_may task.change.effect refl
 
   pub count_may : (n : ℕ) → May site (count_kind task seen n) v
   count_may n = either_may (nat_le (2 ^ 63) n)

@@ -4,24 +4,24 @@ use Rattle.hash_word.specs.Hash.{home_of, probing_of, finger_of}
 use Rattle.bucket_meta.specs.Bucket.{record_slots, overflow_count}
 use Rattle.bucket_meta.specs.Marks.{removed_mark}
 use Rattle.bucket_meta.proofs.Marks.{takes_slot, takes_slot_as_member, frees_slot}
-use Rattle.bucket_meta.proofs.Uppers.{inserted_upper, member_upper, removed_upper}
+use Rattle.bucket_meta.proofs.fields.Uppers.{inserted_upper, member_upper, removed_upper}
 use Rattle.trace.specs.Events.{Words}
 use Rattle.image_layout.specs.Places.{Shape, bucket_at, homes, stash_buckets}
 use Rattle.sound_image.specs.Records.{key_hash, notes_of, word_in}
 use Rattle.map_model.specs.declared.call.Call.TheVariants as call
-use Rattle.map_model.specs.declared.change.Deed.{Deed}
-use Rattle.map_model.specs.declared.change.Deed.TheVariants.{Insert, Update, Remove}
+use Rattle.map_model.specs.declared.change.Effect.{Effect}
+use Rattle.map_model.specs.declared.change.Effect.TheVariants.{Insert, Update, Remove}
 use Rattle.map_model.specs.Changes.{doing}
 use Rattle.bucket_words.specs.Buckets.{value_in}
 use Rattle.bucket_words.specs.TableChanges.{IsReadyAt}
-use Rattle.world.specs.Site.{Site}
+use Rattle.world.specs.Ground.{Ground}
 use Rattle.world.specs.Views.{Owed, View, Has, HasLock}
 use Rattle.world.specs.Kinds.{Kind, publishes, stashes}
 use Rattle.world.specs.Conditions.{May, OwesNone}
 use Rattle.world.specs.Holders.{FoundNone, FoundAt, TakesSlot, FreesSlot}
 use Rattle.world.proofs.holding.Holders.{may_place, may_change, may_unstash_all}
-use Rattle.phase.specs.declared.place.Place.{Place}
-use Rattle.phase.specs.declared.place.Place.TheVariants.{Home, Probing, First, Second, Next, Previous}
+use Rattle.phase.specs.declared.role.Role.{Role}
+use Rattle.phase.specs.declared.role.Role.TheVariants.{Home, Probing, First, Second, Next, Previous}
 use Rattle.phase.specs.declared.make.Record.{Record}
 use Rattle.phase.specs.declared.make.Make.{Make}
 use Rattle.phase.specs.declared.make.Make.TheVariants.{Publish}
@@ -47,7 +47,7 @@ use Rattle.write_op.proofs.finding.Finding.{asked_held, nowhere, hits}
 use Rattle.write_op.proofs.finding.Chosen.{spot as spot_of, is_spot, update_found, remove_found, room_free, place_held, slot_low, written_is, word_here, lock_is, fits_slot}
 
 -- ---- what is known, for any words
-module _ (site : Site) (task : Task) (is : IsIn site task) (seen : Seen) (v : View) (a : HasAll site task seen v) where
+module _ (site : Ground) (task : Task) (is : IsIn site task) (seen : Seen) (v : View) (a : HasAll site task seen v) where
   abbrev S : ℕ → Type 0
   S = IsOfHeld task.site task.hash seen.path.segment seen.held
 
@@ -68,7 +68,7 @@ module _ (site : Site) (task : Task) (is : IsIn site task) (seen : Seen) (v : Vi
   }
 
 -- ---- what is stored
-module _ (site : Site) (task : Task) (is : IsIn site task) (seen : Seen) (v : View) (a : HasAll site task seen v) (c : IsChosen site task seen) where
+module _ (site : Ground) (task : Task) (is : IsIn site task) (seen : Seen) (v : View) (a : HasAll site task seen v) (c : IsChosen site task seen) where
   abbrev lock : ℕ
   lock = lock_of task seen seen.place
 
@@ -88,21 +88,21 @@ module _ (site : Site) (task : Task) (is : IsIn site task) (seen : Seen) (v : Vi
   pub key_is : seen.written.key ≡ task.change.key
   key_is = ap (λ (w : Record). w.key) (written_is site task seen a.upto c)
 
-  pub value_is : (d : Deed) → task.change.deed ≡ d → seen.written.value ≡ brought d
+  pub value_is : (d : Effect) → task.change.effect ≡ d → seen.written.value ≡ brought d
   value_is d e = ap (λ (w : Record). w.value) (written_is site task seen a.upto c) ∙ ap brought e
 
-  pub word_is : (d : Deed) → task.change.deed ≡ d → seen.written.published ≡ published_word d slot
-  word_is d e = ap (λ (w : Record). w.published) (written_is site task seen a.upto c) ∙ ap (λ (z : Deed). published_word z slot) e
+  pub word_is : (d : Effect) → task.change.effect ≡ d → seen.written.published ≡ published_word d slot
+  word_is d e = ap (λ (w : Record). w.published) (written_is site task seen a.upto c) ∙ ap (λ (z : Effect). published_word z slot) e
 
-  pub mark_is : (d : Deed) → task.change.deed ≡ d → seen.written.mark ≡ published_mark d seen.place w1 slot
-  mark_is d e = ap (λ (w : Record). w.mark) (written_is site task seen a.upto c) ∙ ap (λ (z : Deed). published_mark z seen.place w1 slot) e
+  pub mark_is : (d : Effect) → task.change.effect ≡ d → seen.written.mark ≡ published_mark d seen.place w1 slot
+  mark_is d e = ap (λ (w : Record). w.mark) (written_is site task seen a.upto c) ∙ ap (λ (z : Effect). published_mark z seen.place w1 slot) e
 
   pub loaded_meta : loaded task seen (bucket_at site.shape segment b + 1) ≡ w1
   loaded_meta = ap (λ l. loaded task seen (l + 1)) (sym (lock_is site task seen a.upto c (located_all site task is seen v a)))
       ∙ word_here site task seen a.upto c (located_all site task is seen v a) 1 (omega arith) (omega arith)
 
   -- an insert's record is ready in its slot
-  module _ (value : ℕ) (e : task.change.deed ≡ Insert value) where
+  module _ (value : ℕ) (e : task.change.effect ≡ Insert value) where
     pub insert_fits : FitsSlot site.shape (loaded task seen) segment b lock seen.written (finger_of task.hash)
     insert_fits = fits_slot site task seen a.upto c (located_all site task is seen v a) value e
 
@@ -118,8 +118,8 @@ module _ (site : Site) (task : Task) (is : IsIn site task) (seen : Seen) (v : Vi
     insert_mark = mark_is (Insert value) e
 
 -- ---- the stores but the one
-module _ (site : Site) (task : Task) (is : IsIn site task) (seen : Seen) (v : View) (m : Make) (c : IsChanging site task seen m v) where
-  fits_by : (d : Deed) → task.change.deed ≡ d → IsInserting d
+module _ (site : Ground) (task : Task) (is : IsIn site task) (seen : Seen) (v : View) (m : Make) (c : IsChanging site task seen m v) where
+  fits_by : (d : Effect) → task.change.effect ≡ d → IsInserting d
       → FitsSlot site.shape (loaded task seen) seen.path.segment (bucket_of task.hash seen.place) (lock_of task seen seen.place) seen.written (finger_of task.hash)
   fits_by (Insert value) e ins = fits_slot site task seen c.all.upto c.chosen (located_all site task is seen v c.all) value e
   fits_by (Update value) e ins = absurd ins
@@ -131,10 +131,10 @@ module _ (site : Site) (task : Task) (is : IsIn site task) (seen : Seen) (v : Vi
   pub other_may : m ≢ Publish → May site (make_kind (publish_kind task seen) (lock_of task seen seen.place) seen.written m) v
   other_may other = (make_knows (IsOfHeld task.site task.hash seen.path.segment seen.held)).may site (publish_kind task seen) seen.path.segment (bucket_of task.hash seen.place) (lock_of task seen seen.place) (finger_of task.hash) seen.written
       (loaded task seen) (prepared task seen) m v
-      (λ new. fits_by task.change.deed refl (c.inserts new)) has_lock (λ i under. (seen.place, place_held site task seen c.all.upto c.chosen, under)) c.making other
+      (λ new. fits_by task.change.effect refl (c.inserts new)) has_lock (λ i under. (seen.place, place_held site task seen c.all.upto c.chosen, under)) c.making other
 
 -- ---- the one
-module _ (site : Site) (task : Task) (is : IsIn site task) (seen : Seen) (v : View) (c : IsChanging site task seen Publish v) (words : (place : Place) → AreWords (words_in seen.buckets place)) where
+module _ (site : Ground) (task : Task) (is : IsIn site task) (seen : Seen) (v : View) (c : IsChanging site task seen Publish v) (words : (place : Role) → AreWords (words_in seen.buckets place)) where
   abbrev key : ℕ
   key = task.change.key
 
@@ -159,30 +159,30 @@ module _ (site : Site) (task : Task) (is : IsIn site task) (seen : Seen) (v : Vi
   low : seen.written.slot < record_slots
   low = slot_low site task seen all.upto c.chosen
 
-  knows : (d : Deed) → task.change.deed ≡ d → Knows (IsOfHeld task.site task.hash seen.path.segment seen.held) (prepared_by task seen d) v
-  knows d e = subst (λ (z : Deed). Knows (IsOfHeld task.site task.hash seen.path.segment seen.held) (prepared_by task seen z) v) e c.making.knows
+  knows : (d : Effect) → task.change.effect ≡ d → Knows (IsOfHeld task.site task.hash seen.path.segment seen.held) (prepared_by task seen d) v
+  knows d e = subst (λ (z : Effect). Knows (IsOfHeld task.site task.hash seen.path.segment seen.held) (prepared_by task seen z) v) e c.making.knows
 
   lock_here : lock_of task seen seen.place ≡ here
   lock_here = lock_is site task seen all.upto c.chosen at
 
   -- the kind, by what the change does
-  kind_is : (d : Deed) → task.change.deed ≡ d → (i x : ℕ) → leaves_note d seen.place ≡ false → publish_kind task seen i x ≡ publishes i x (doing key d)
+  kind_is : (d : Effect) → task.change.effect ≡ d → (i x : ℕ) → leaves_note d seen.place ≡ false → publish_kind task seen i x ≡ publishes i x (doing key d)
   kind_is d e i x plain =
-      ap (λ t. publish_by task seen t i x) (ap (λ (z : Deed). leaves_note z seen.place) e ∙ plain)
-      ∙ ap (λ (z : Deed). publishes i x (doing key z)) e
+      ap (λ t. publish_by task seen t i x) (ap (λ (z : Effect). leaves_note z seen.place) e ∙ plain)
+      ∙ ap (λ (z : Effect). publishes i x (doing key z)) e
 
-  may_by : (d : Deed) → task.change.deed ≡ d → leaves_note d seen.place ≡ false → (i x : ℕ) → published_at (lock_of task seen seen.place) seen.written ≡ i → seen.written.mark ≡ x
+  may_by : (d : Effect) → task.change.effect ≡ d → leaves_note d seen.place ≡ false → (i x : ℕ) → published_at (lock_of task seen seen.place) seen.written ≡ i → seen.written.mark ≡ x
       → May site (publishes i x (doing key d)) v → May site (publish_kind task seen (published_at (lock_of task seen seen.place) seen.written) seen.written.mark) v
   may_by d e plain i x place mark may =
       subst (λ (k : Kind). May site k v) (sym (kind_is d e (published_at (lock_of task seen seen.place) seen.written) seen.written.mark plain
       ∙ ap (λ j. publishes j seen.written.mark (doing key d)) place ∙ ap (λ y. publishes i y (doing key d)) mark)) may
 
   -- the metadata word is the second of the bucket
-  meta_place : (d : Deed) → task.change.deed ≡ d → published_word d seen.written.slot ≡ 1 → published_at (lock_of task seen seen.place) seen.written ≡ here + 1
+  meta_place : (d : Effect) → task.change.effect ≡ d → published_word d seen.written.slot ≡ 1 → published_at (lock_of task seen seen.place) seen.written ≡ here + 1
   meta_place d e one = ap (λ l. l + seen.written.published) lock_here ∙ ap (λ j. here + j) (word_is site task is seen v all c.chosen d e ∙ one)
 
   -- ---- an insert
-  module _ (value : ℕ) (e : task.change.deed ≡ Insert value) where
+  module _ (value : ℕ) (e : task.change.effect ≡ Insert value) where
     abbrev word : Words
     word = with_record (lock_of task seen seen.place) seen.written (loaded task seen)
 
@@ -208,7 +208,7 @@ module _ (site : Site) (task : Task) (is : IsIn site task) (seen : Seen) (v : Vi
         ∙ word_here site task seen all.upto c.chosen at 1 (omega arith) (omega arith)
 
     -- in the home bucket it has no membership bit, and in the probing bucket it has
-    abbrev Takes : Place → Type 0
+    abbrev Takes : Role → Type 0
     Takes p = TakesSlot site.shape (bucket_of task.hash p) seen.written.slot key meta (taken_mark p meta seen.written.slot)
 
     takes_home : Takes Home
@@ -226,7 +226,7 @@ module _ (site : Site) (task : Task) (is : IsIn site task) (seen : Seen) (v : Vi
           overflow = member_upper meta seen.written.slot ((words seen.place).small 1) low;
         }
 
-    takes_near : (p : Place) → (p ≡ Home) ⊎ (p ≡ Probing) → Takes p
+    takes_near : (p : Role) → (p ≡ Home) ⊎ (p ≡ Probing) → Takes p
     takes_near p (inl home) = subst Takes (sym home) takes_home
     takes_near p (inr probing) = subst Takes (sym probing) takes_probing
 
@@ -234,9 +234,9 @@ module _ (site : Site) (task : Task) (is : IsIn site task) (seen : Seen) (v : Vi
     insert_takes = subst (λ w. TakesSlot site.shape (bucket_of task.hash seen.place) seen.written.slot key w (taken_mark seen.place meta seen.written.slot)) (sym word_meta)
         (takes_near seen.place (insert_near site task is seen v all c.chosen value e))
 
-    bucket_low : (p : Place) → (p ≡ Home) ⊎ (p ≡ Probing) → bucket_of task.hash p < homes
-    bucket_low p (inl home) = subst (λ (q : Place). bucket_of task.hash q < homes) (sym home) (omega arith)
-    bucket_low p (inr probing) = subst (λ (q : Place). bucket_of task.hash q < homes) (sym probing) (omega arith)
+    bucket_low : (p : Role) → (p ≡ Home) ⊎ (p ≡ Probing) → bucket_of task.hash p < homes
+    bucket_low p (inl home) = subst (λ (q : Role). bucket_of task.hash q < homes) (sym home) (omega arith)
+    bucket_low p (inr probing) = subst (λ (q : Role). bucket_of task.hash q < homes) (sym probing) (omega arith)
 
     insert_may : May site (publish_kind task seen (published_at (lock_of task seen seen.place) seen.written) seen.written.mark) v
     insert_may = may_by (Insert value) e refl (here + 1) (taken_mark seen.place meta seen.written.slot) (meta_place (Insert value) e refl) (insert_mark site task is seen v all c.chosen value e)
@@ -246,7 +246,7 @@ module _ (site : Site) (task : Task) (is : IsIn site task) (seen : Seen) (v : Vi
         (insert_ready site task is seen v all c.chosen value e) insert_value insert_takes)
 
   -- ---- an update
-  update_may : (value : ℕ) → task.change.deed ≡ Update value → May site (publish_kind task seen (published_at (lock_of task seen seen.place) seen.written) seen.written.mark) v
+  update_may : (value : ℕ) → task.change.effect ≡ Update value → May site (publish_kind task seen (published_at (lock_of task seen seen.place) seen.written) seen.written.mark) v
   update_may value e =
       let f = update_found site task seen all.upto c.chosen value e in
       let spot = spot_of site task seen all.upto c.chosen in
@@ -259,7 +259,7 @@ module _ (site : Site) (task : Task) (is : IsIn site task) (seen : Seen) (v : Vi
       ((may_change site v).update seen.path.segment (bucket_of task.hash seen.place) seen.written.slot key value (loaded task seen) there)
 
   -- ---- a remove
-  module _ (e : task.change.deed ≡ Remove) where
+  module _ (e : task.change.effect ≡ Remove) where
     remove_there : FoundAt site v (loaded task seen) seen.path.segment (bucket_of task.hash seen.place) seen.written.slot key
     remove_there = holders_find.at site task.site task.hash seen.path.segment seen.held (loaded task seen) key v (holds_for site task is seen v all (loaded task seen) (knows Remove e)) quiet
         seen.place (place_held site task seen all.upto c.chosen) seen.written.slot
@@ -300,8 +300,8 @@ module _ (site : Site) (task : Task) (is : IsIn site task) (seen : Seen) (v : Vi
 
       stash_kind : (j x : ℕ) → publish_kind task seen j x ≡ stashes j x (call.Remove key) (owing site.shape (key_hash site.shape key) i)
       stash_kind j x =
-          ap (λ t. publish_by task seen t j x) (ap (λ (z : Deed). leaves_note z seen.place) e ∙ leaves)
-          ∙ ap (λ (z : Deed). stashes j x (doing key z) (owed task seen)) e
+          ap (λ t. publish_by task seen t j x) (ap (λ (z : Effect). leaves_note z seen.place) e ∙ leaves)
+          ∙ ap (λ (z : Effect). stashes j x (doing key z) (owed task seen)) e
           ∙ ap (λ o. stashes j x (call.Remove key) o) owed_is
 
       stash_there : FoundAt site v (loaded task seen) seen.path.segment (homes + i) seen.written.slot key
@@ -321,18 +321,18 @@ module _ (site : Site) (task : Task) (is : IsIn site task) (seen : Seen) (v : Vi
           ((may_unstash_all site v).remove seen.path.segment i seen.written.slot key (removed_mark meta seen.written.slot) (loaded task seen) stash_there owes_none near
           (subst (λ b. FreesSlot seen.written.slot (loaded task seen (bucket_at site.shape seen.path.segment b + 1)) (removed_mark meta seen.written.slot)) stash remove_frees))
 
-    remove_by : (p : Place) → seen.place ≡ p → May site (publish_kind task seen (published_at (lock_of task seen seen.place) seen.written) seen.written.mark) v
-    remove_by Home same = plain_may (ap (leaves_note Remove) same) (subst (λ (p : Place). bucket_of task.hash p < homes) (sym same) (omega arith))
-    remove_by Probing same = plain_may (ap (leaves_note Remove) same) (subst (λ (p : Place). bucket_of task.hash p < homes) (sym same) (omega arith))
+    remove_by : (p : Role) → seen.place ≡ p → May site (publish_kind task seen (published_at (lock_of task seen seen.place) seen.written) seen.written.mark) v
+    remove_by Home same = plain_may (ap (leaves_note Remove) same) (subst (λ (p : Role). bucket_of task.hash p < homes) (sym same) (omega arith))
+    remove_by Probing same = plain_may (ap (leaves_note Remove) same) (subst (λ (p : Role). bucket_of task.hash p < homes) (sym same) (omega arith))
     remove_by First same = stash_may 0 (ap (bucket_of task.hash) same) (omega arith) (ap stash_index same) (ap (leaves_note Remove) same)
-    remove_by Next same = plain_may (ap (leaves_note Remove) same) (subst (λ (p : Place). bucket_of task.hash p < homes) (sym same) (omega arith))
-    remove_by Previous same = plain_may (ap (leaves_note Remove) same) (subst (λ (p : Place). bucket_of task.hash p < homes) (sym same) (omega arith))
+    remove_by Next same = plain_may (ap (leaves_note Remove) same) (subst (λ (p : Role). bucket_of task.hash p < homes) (sym same) (omega arith))
+    remove_by Previous same = plain_may (ap (leaves_note Remove) same) (subst (λ (p : Role). bucket_of task.hash p < homes) (sym same) (omega arith))
     remove_by Second same = stash_may 1 (ap (bucket_of task.hash) same) (omega arith) (ap stash_index same) (ap (leaves_note Remove) same)
 
-  publish_by_deed : (d : Deed) → task.change.deed ≡ d → May site (publish_kind task seen (published_at (lock_of task seen seen.place) seen.written) seen.written.mark) v
+  publish_by_deed : (d : Effect) → task.change.effect ≡ d → May site (publish_kind task seen (published_at (lock_of task seen seen.place) seen.written) seen.written.mark) v
   publish_by_deed (Insert value) e = insert_may value e
   publish_by_deed (Update value) e = update_may value e
   publish_by_deed Remove e = remove_by e seen.place refl
 
   pub publish_may : May site (publish_kind task seen (published_at (lock_of task seen seen.place) seen.written) seen.written.mark) v
-  publish_may = publish_by_deed task.change.deed refl
+  publish_may = publish_by_deed task.change.effect refl

@@ -8,20 +8,20 @@ use Rattle.bucket_meta.specs.Notes.{OverflowNote, AreExact}
 use Rattle.trace.specs.Events.{Words, with_word}
 use Rattle.image_layout.specs.Places.{Shape, bucket_at, buckets}
 use Rattle.sound_image.specs.Records.{notes_in, notes_of, word_in, stashed_of}
-use Rattle.map_model.specs.declared.change.Deed.{Deed}
-use Rattle.map_model.specs.declared.change.Deed.TheVariants.{Insert, Update, Remove}
+use Rattle.map_model.specs.declared.change.Effect.{Effect}
+use Rattle.map_model.specs.declared.change.Effect.TheVariants.{Insert, Update, Remove}
 use Rattle.bucket_words.specs.Core.{core_of, core_in_bucket}
 use Rattle.bucket_words.proofs.segments.Cores.{core_in}
 use Rattle.bucket_words.proofs.segments.Places.{other_word, this_word}
 use Rattle.bucket_words.proofs.segments.Noted.{notes_by}
-use Rattle.world.specs.Site.{Site}
+use Rattle.world.specs.Ground.{Ground}
 use Rattle.world.specs.Views.{Owed, View, Has}
 use Rattle.world.specs.Kinds.{repays}
 use Rattle.world.specs.Conditions.{May, IsOwed}
 use Rattle.world.specs.Holders.{KnowsBucket, KeepsNeighbours, TouchesNote}
 use Rattle.world.proofs.holding.Repaying.{may_repay}
-use Rattle.phase.specs.declared.place.Place.{Place}
-use Rattle.phase.specs.declared.place.Place.TheVariants.{Home, Probing, First, Second, Next, Previous}
+use Rattle.phase.specs.declared.role.Role.{Role}
+use Rattle.phase.specs.declared.role.Role.TheVariants.{Home, Probing, First, Second, Next, Previous}
 use Rattle.phase.specs.Places.{bucket_of}
 use Rattle.phase.specs.Buckets.{words_in}
 use Rattle.phase.specs.Giving.{IsLocated, IsHeld, IsOfHeld}
@@ -127,7 +127,7 @@ module _ (shape : Shape) (s b : ℕ) (near : b < 64) where
   }
 
 -- ---- by the hash
-module _ (site : Site) (task : Task) (is : IsIn site task) (seen : Seen) (v : View) (part : NoteWord) (u : IsUnnoting site task seen part v) (words : (place : Place) → AreWords (words_in seen.buckets place)) where
+module _ (site : Ground) (task : Task) (is : IsIn site task) (seen : Seen) (v : View) (part : NoteWord) (u : IsUnnoting site task seen part v) (words : (place : Role) → AreWords (words_in seen.buckets place)) where
   abbrev b : ℕ
   b = home_of task.hash
 
@@ -147,7 +147,7 @@ module _ (site : Site) (task : Task) (is : IsIn site task) (seen : Seen) (v : Vi
   at = located_all site task is seen v u.all
 
   -- the record was removed from the stash
-  leaves_by : (d : Deed) (p : Place) → leaves_note d p ≡ true → (d ≡ Remove) × (64 ≤ bucket_of task.hash p)
+  leaves_by : (d : Effect) (p : Role) → leaves_note d p ≡ true → (d ≡ Remove) × (64 ≤ bucket_of task.hash p)
   leaves_by (Insert value) p e = absurd (let f : false ≡ true = e in cc)
   leaves_by (Update value) p e = absurd (let f : false ≡ true = e in cc)
   leaves_by Remove Home e = absurd (let f : false ≡ true = e in cc)
@@ -157,18 +157,18 @@ module _ (site : Site) (task : Task) (is : IsIn site task) (seen : Seen) (v : Vi
   leaves_by Remove Next e = absurd (let f : false ≡ true = e in cc)
   leaves_by Remove Previous e = absurd (let f : false ≡ true = e in cc)
 
-  removes : (task.change.deed ≡ Remove) × (64 ≤ bucket_of task.hash seen.place)
-  removes = leaves_by task.change.deed seen.place u.leaves
+  removes : (task.change.effect ≡ Remove) × (64 ≤ bucket_of task.hash seen.place)
+  removes = leaves_by task.change.effect seen.place u.leaves
 
   abbrev here : ℕ
   here = bucket_at site.shape s (bucket_of task.hash seen.place)
 
-  lock_at_place : (p : Place) → lock_of task seen p ≡ bucket_at site.shape s (bucket_of task.hash p)
+  lock_at_place : (p : Role) → lock_of task seen p ≡ bucket_at site.shape s (bucket_of task.hash p)
   lock_at_place p = lock_at site task.site task.hash s at p
 
   gone : changed task seen ≡ with_word (loaded task seen) (here + 1) seen.written.mark
   gone =
-      ap (λ (d : Deed). with_mark (lock_of task seen seen.place) seen.written (prepared_by task seen d)) removes.0
+      ap (λ (d : Effect). with_mark (lock_of task seen seen.place) seen.written (prepared_by task seen d)) removes.0
       ∙ ap (λ i. with_word (loaded task seen) i seen.written.mark)
       (ap (λ l. l + seen.written.published) (lock_is site task seen u.all.upto u.chosen at) ∙ ap (λ j. here + j) (word_is site task is seen v u.all u.chosen Remove removes.0))
 
@@ -220,43 +220,43 @@ module _ (site : Site) (task : Task) (is : IsIn site task) (seen : Seen) (v : Vi
     c = bucket_of task.hash n.place
 
     -- ---- by the bucket of the note
-    bucket_by : (p : Place) → (p ≡ Home) ⊎ (p ≡ Probing) → (bucket_of task.hash p ≡ b) ⊎ (bucket_of task.hash p ≡ probing_of b)
+    bucket_by : (p : Role) → (p ≡ Home) ⊎ (p ≡ Probing) → (bucket_of task.hash p ≡ b) ⊎ (bucket_of task.hash p ≡ probing_of b)
     bucket_by p (inl e) = inl (ap (bucket_of task.hash) e)
     bucket_by p (inr e) = inr (ap (bucket_of task.hash) e)
 
-    store_one : (p : Place) (w : Words) (g : Four) (x : ℕ) → (p ≡ Home) ⊎ (p ≡ Probing) → HasFour site.shape s b near w g
+    store_one : (p : Role) (w : Words) (g : Four) (x : ℕ) → (p ≡ Home) ⊎ (p ≡ Probing) → HasFour site.shape s b near w g
         → HasFour site.shape s b near (with_word w (bucket_at site.shape s (bucket_of task.hash p) + 1) x) (with_one p x g)
-    store_one p w g x (inl e) h = subst (λ (q : Place). HasFour site.shape s b near (with_word w (bucket_at site.shape s (bucket_of task.hash q) + 1) x) (with_one q x g)) (sym e) (store_one_home site.shape s b near w g x h)
-    store_one p w g x (inr e) h = subst (λ (q : Place). HasFour site.shape s b near (with_word w (bucket_at site.shape s (bucket_of task.hash q) + 1) x) (with_one q x g)) (sym e) (store_one_probing site.shape s b near w g x h)
+    store_one p w g x (inl e) h = subst (λ (q : Role). HasFour site.shape s b near (with_word w (bucket_at site.shape s (bucket_of task.hash q) + 1) x) (with_one q x g)) (sym e) (store_one_home site.shape s b near w g x h)
+    store_one p w g x (inr e) h = subst (λ (q : Role). HasFour site.shape s b near (with_word w (bucket_at site.shape s (bucket_of task.hash q) + 1) x) (with_one q x g)) (sym e) (store_one_probing site.shape s b near w g x h)
 
-    store_three : (p : Place) (w : Words) (g : Four) (x : ℕ) → (p ≡ Home) ⊎ (p ≡ Probing) → HasFour site.shape s b near w g
+    store_three : (p : Role) (w : Words) (g : Four) (x : ℕ) → (p ≡ Home) ⊎ (p ≡ Probing) → HasFour site.shape s b near w g
         → HasFour site.shape s b near (with_word w (bucket_at site.shape s (bucket_of task.hash p) + 3) x) (with_three p x g)
-    store_three p w g x (inl e) h = subst (λ (q : Place). HasFour site.shape s b near (with_word w (bucket_at site.shape s (bucket_of task.hash q) + 3) x) (with_three q x g)) (sym e) (store_three_home site.shape s b near w g x h)
-    store_three p w g x (inr e) h = subst (λ (q : Place). HasFour site.shape s b near (with_word w (bucket_at site.shape s (bucket_of task.hash q) + 3) x) (with_three q x g)) (sym e) (store_three_probing site.shape s b near w g x h)
+    store_three p w g x (inl e) h = subst (λ (q : Role). HasFour site.shape s b near (with_word w (bucket_at site.shape s (bucket_of task.hash q) + 3) x) (with_three q x g)) (sym e) (store_three_home site.shape s b near w g x h)
+    store_three p w g x (inr e) h = subst (λ (q : Role). HasFour site.shape s b near (with_word w (bucket_at site.shape s (bucket_of task.hash q) + 3) x) (with_three q x g)) (sym e) (store_three_probing site.shape s b near w g x h)
 
-    one_here : (p : Place) (w : Words) (g : Four) → (p ≡ Home) ⊎ (p ≡ Probing) → HasFour site.shape s b near w g → w (bucket_at site.shape s (bucket_of task.hash p) + 1) ≡ one_of p g
-    one_here p w g (inl e) h = subst (λ (q : Place). w (bucket_at site.shape s (bucket_of task.hash q) + 1) ≡ one_of q g) (sym e) h.h1
-    one_here p w g (inr e) h = subst (λ (q : Place). w (bucket_at site.shape s (bucket_of task.hash q) + 1) ≡ one_of q g) (sym e) h.p1
+    one_here : (p : Role) (w : Words) (g : Four) → (p ≡ Home) ⊎ (p ≡ Probing) → HasFour site.shape s b near w g → w (bucket_at site.shape s (bucket_of task.hash p) + 1) ≡ one_of p g
+    one_here p w g (inl e) h = subst (λ (q : Role). w (bucket_at site.shape s (bucket_of task.hash q) + 1) ≡ one_of q g) (sym e) h.h1
+    one_here p w g (inr e) h = subst (λ (q : Role). w (bucket_at site.shape s (bucket_of task.hash q) + 1) ≡ one_of q g) (sym e) h.p1
 
-    three_here : (p : Place) (w : Words) (g : Four) → (p ≡ Home) ⊎ (p ≡ Probing) → HasFour site.shape s b near w g → w (bucket_at site.shape s (bucket_of task.hash p) + 3) ≡ three_of p g
-    three_here p w g (inl e) h = subst (λ (q : Place). w (bucket_at site.shape s (bucket_of task.hash q) + 3) ≡ three_of q g) (sym e) h.h3
-    three_here p w g (inr e) h = subst (λ (q : Place). w (bucket_at site.shape s (bucket_of task.hash q) + 3) ≡ three_of q g) (sym e) h.p3
+    three_here : (p : Role) (w : Words) (g : Four) → (p ≡ Home) ⊎ (p ≡ Probing) → HasFour site.shape s b near w g → w (bucket_at site.shape s (bucket_of task.hash p) + 3) ≡ three_of p g
+    three_here p w g (inl e) h = subst (λ (q : Role). w (bucket_at site.shape s (bucket_of task.hash q) + 3) ≡ three_of q g) (sym e) h.h3
+    three_here p w g (inr e) h = subst (λ (q : Role). w (bucket_at site.shape s (bucket_of task.hash q) + 3) ≡ three_of q g) (sym e) h.p3
 
-    three_stays : (p : Place) (x : ℕ) (g : Four) → three_of p (with_one p x g) ≡ three_of p g
+    three_stays : (p : Role) (x : ℕ) (g : Four) → three_of p (with_one p x g) ≡ three_of p g
     three_stays Home x g = refl
     three_stays Probing x g = refl
     three_stays place x g = refl
 
-    three_loaded : (p : Place) → (p ≡ Home) ⊎ (p ≡ Probing) → three_of p f ≡ slice_index (words_in seen.buckets p) 3
-    three_loaded p (inl e) = subst (λ (q : Place). three_of q f ≡ slice_index (words_in seen.buckets q) 3) (sym e) refl
-    three_loaded p (inr e) = subst (λ (q : Place). three_of q f ≡ slice_index (words_in seen.buckets q) 3) (sym e) refl
+    three_loaded : (p : Role) → (p ≡ Home) ⊎ (p ≡ Probing) → three_of p f ≡ slice_index (words_in seen.buckets p) 3
+    three_loaded p (inl e) = subst (λ (q : Role). three_of q f ≡ slice_index (words_in seen.buckets q) 3) (sym e) refl
+    three_loaded p (inr e) = subst (λ (q : Role). three_of q f ≡ slice_index (words_in seen.buckets q) 3) (sym e) refl
 
     c_low : c < buckets
     c_low = bucket_near task.hash n.place
 
     -- ---- a store to a word of it
     module _ (w : Words) (g k : Four) (has : HasFour site.shape s b near w g) (knows : Knows (IsOfHeld task.site task.hash s seen.held) w v) where
-      holds_here : (p : Place) → IsHeld seen.held p → KnowsBucket site.shape v s (bucket_of task.hash p) w
+      holds_here : (p : Role) → IsHeld seen.held p → KnowsBucket site.shape v s (bucket_of task.hash p) w
       holds_here p held = holders_find.bucket site task.site task.hash s seen.held w task.change.key v (holds_for site task is seen v u.all w knows) u.settled p held
 
       touches : (m x : ℕ) → (m ≡ 1) ⊎ (m ≡ 3) → core_in_bucket m x ≡ core_in_bucket m (w (bucket_at site.shape s c + m)) → m < 32

@@ -1,5 +1,5 @@
 -- Each clause is a lemma.
-use Rattle.phase.proofs.Causing.{walk_remembers, walk_caused, back_caused}
+use Rattle.phase.proofs.asking.Causing.{walk_remembers, walk_caused, back_caused}
 use Rattle.phase.proofs.laws.ends_have_causes.Goals as goal
 
 pub returns-clause-remembers : goal.returns-clause-remembers

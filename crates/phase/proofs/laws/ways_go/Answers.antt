@@ -1,6 +1,6 @@
 -- Each clause is a lemma.
 use Rattle.phase.proofs.Walking.{walk_fits, walk_stands, walk_noted, walk_never_stale, walk_falls}
-use Rattle.phase.proofs.Asking.{walk_within}
+use Rattle.phase.proofs.asking.Asking.{walk_within}
 use Rattle.phase.proofs.laws.ways_go.Goals as goal
 
 pub returns-clause-fits : goal.returns-clause-fits

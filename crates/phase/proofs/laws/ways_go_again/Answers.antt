@@ -1,6 +1,6 @@
 -- Each clause is a lemma.
 use Rattle.phase.proofs.Backing.{back_fits, back_ends, back_never, back_falls}
-use Rattle.phase.proofs.Asking.{back_within}
+use Rattle.phase.proofs.asking.Asking.{back_within}
 use Rattle.phase.proofs.laws.ways_go_again.Goals as goal
 
 pub returns-clause-fits : goal.returns-clause-fits

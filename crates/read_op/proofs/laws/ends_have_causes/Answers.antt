@@ -1,5 +1,5 @@
 -- Each clause is a lemma.
-use Rattle.read_op.proofs.Asked.{reads_alone}
+use Rattle.read_op.proofs.steps.Asked.{reads_alone}
 use Rattle.read_op.proofs.Sounding.{answers_by_same, busy_is_anothers, never_busy, never_stale}
 use Rattle.read_op.proofs.causing.Anywhere.{ends_by_cause_anywhere}
 use Rattle.read_op.proofs.causing.Loading.{keeps_loads}

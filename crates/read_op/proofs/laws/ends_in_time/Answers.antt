@@ -1,5 +1,5 @@
 -- By the step.
-use Rattle.read_op.proofs.Falling.{falls, most, ends_in_time}
+use Rattle.read_op.proofs.steps.Falling.{falls, most, ends_in_time}
 use Rattle.read_op.proofs.laws.ends_in_time.Goals as goal
 
 pub returns-clause-falls : goal.returns-clause-falls

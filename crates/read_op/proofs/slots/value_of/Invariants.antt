@@ -1,5 +1,5 @@
 use Rattle.std.proofs.Common.{◌≡◌}
-use Rattle.read_op.proofs.LastTaken.{below}
+use Rattle.read_op.proofs.steps.LastTaken.{below}
 use Rattle.read_op.proofs.slots.value_of.Given as goal
 
 -- what was found is what the key has in the slots that were looked at

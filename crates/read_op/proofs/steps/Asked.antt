@@ -5,7 +5,7 @@ use Rattle.image_layout.specs.Volatile.{all_words_of}
 use Rattle.op_core.specs.Answers.{IsReading}
 use Rattle.world.specs.Wants.{word_of}
 use Rattle.phase.specs.declared.walk.Walk.TheVariants as walk
-use Rattle.phase.proofs.Asking.{bucket_within, walk_within, back_within}
+use Rattle.phase.proofs.asking.Asking.{bucket_within, walk_within, back_within}
 use Rattle.read_op.specs.declared.step.ReadStep.{ReadStep}
 use Rattle.read_op.specs.declared.step.ReadStep.TheVariants.{Way, Look, Fill, Count, Check, Relook, Ended}
 use Rattle.read_op.specs.declared.step.Task.{Task}

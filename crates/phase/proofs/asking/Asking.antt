@@ -7,10 +7,10 @@ use Rattle.image_layout.specs.Places.{Shape, IsShape, root_word, entry_at, head_
 use Rattle.image_layout.proofs.Areas.{entry_before}
 use Rattle.way.specs.Ways.{entry_word, head_word, bucket_word}
 use Rattle.way.proofs.Indexes.{index_below}
-use Rattle.world.specs.declared.site.Site.{Site as Here}
+use Rattle.world.specs.declared.site.Site.{Site}
 use Rattle.phase.specs.declared.walk.Walk.TheVariants as walk
 use Rattle.phase.specs.declared.back.Back.TheVariants as back
-use Rattle.phase.specs.declared.place.Place.{Place}
+use Rattle.phase.specs.declared.role.Role.{Role}
 use Rattle.phase.specs.Places.{bucket_of, lock_word}
 use Rattle.phase.specs.Laws.{WalkAsksWithin, BackAsksWithin}
 use Rattle.phase.proofs.locks.Giving.{bucket_near}
@@ -60,5 +60,5 @@ back_within here hash is fits path back.Entry = let low = entry_within here.geom
 back_within here hash is fits path back.Head = let low = head_within here.geometry is path.segment in omega (arith, low)
 
 -- ---- a word of one of the six buckets
-pub lock_within : (here : Here) (hash segment : ℕ) → IsShape here.geometry → (place : Place) (n : ℕ) → n < 32 → lock_word here hash segment place + n < words_of here.geometry
+pub lock_within : (here : Site) (hash segment : ℕ) → IsShape here.geometry → (place : Role) (n : ℕ) → n < 32 → lock_word here hash segment place + n < words_of here.geometry
 lock_within here hash segment is place n below = bucket_within here.geometry is segment (bucket_of hash place) n (bucket_near hash place) below

@@ -12,7 +12,7 @@ use world::Site;
 /// A bucket of a key, in the order in which their locks are given back. The key may stand in the first four, and these are locked
 /// and looked at in this order; the last two are third buckets, by which room is made in the first two.
 #[derive(Clone, Copy, Debug, PartialEq, Eq)]
-pub enum Place {
+pub enum Role {
     /// The home bucket.
     Home,
     /// The probing bucket.
@@ -28,22 +28,22 @@ pub enum Place {
 }
 
 /// The number of the bucket in its segment, for a hash.
-pub fn bucket_of(place: Place, hash: u64) -> u8
+pub fn bucket_of(place: Role, hash: u64) -> u8
     ensures is { result ≡ bucket_of hash place }
     ensures within { result < buckets }
 {
     match place {
-        Place::Home => home(hash),
-        Place::Probing => probing(home(hash)),
-        Place::First => HOMES,
-        Place::Second => HOMES + 1,
-        Place::Next => next(home(hash)),
-        Place::Previous => previous(home(hash)),
+        Role::Home => home(hash),
+        Role::Probing => probing(home(hash)),
+        Role::First => HOMES,
+        Role::Second => HOMES + 1,
+        Role::Next => next(home(hash)),
+        Role::Previous => previous(home(hash)),
     }
 }
 
 /// Its lock word, for a hash and the segment in a slot; the root's word where there is no such slot.
-pub fn lock_word(site: &Site, hash: u64, segment: u64, place: Place) -> u64
+pub fn lock_word(site: &Site, hash: u64, segment: u64, place: Role) -> u64
     ensures is { result ≡ lock_word site.now hash segment place }
     ensures most { result ≤ most_words }
 {

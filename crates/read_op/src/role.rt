@@ -3,7 +3,7 @@
 ghost use Rattle.std.specs.Prelude.{◌≡◌};
 ghost use Rattle.read_op.specs.Places.{free_at};
 
-use phase::Place;
+use phase::Role;
 
 /// The values that the lock words of these buckets had when they were found free.
 #[derive(Clone, Copy, Debug, PartialEq, Eq)]
@@ -19,14 +19,14 @@ pub struct Free {
 }
 
 /// The value of one; 0 of a third bucket, whose lock word is not looked at.
-pub fn free_at(free: &Free, place: &Place) -> u64
+pub fn free_at(free: &Free, place: &Role) -> u64
     ensures { result ≡ free_at free.now place.now }
 {
     match place {
-        Place::Home => free.home,
-        Place::Probing => free.probing,
-        Place::First => free.first,
-        Place::Second => free.second,
-        Place::Next | Place::Previous => 0,
+        Role::Home => free.home,
+        Role::Probing => free.probing,
+        Role::First => free.first,
+        Role::Second => free.second,
+        Role::Next | Role::Previous => 0,
     }
 }

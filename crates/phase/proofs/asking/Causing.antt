@@ -9,7 +9,7 @@ use Rattle.way.specs.Ways.{entry_word, head_word, is_leading}
 use Rattle.sound_image.specs.Records.{key_hash}
 use Rattle.map_model.specs.declared.call.Call.{Call}
 use Rattle.map_model.specs.Map.{key_of}
-use Rattle.world.specs.declared.site.Site.{Site as Here}
+use Rattle.world.specs.declared.site.Site.{Site}
 use Rattle.world.specs.Views.{Has}
 use Rattle.part.specs.Doings.{Doings}
 use Rattle.part.specs.Causes.{IsNamed, IsOnWay, HasMoved, LeadsAway}
@@ -75,7 +75,7 @@ walk_caused here hash words did call same (Head root segment) r n is =
     (λ dead. tt)
 
 -- ---- the way again
-module _ (here : Here) (hash : ℕ) (loads : List (ℕ × ℕ)) (path : Path) (r : WasFound here.geometry hash loads path) where
+module _ (here : Site) (hash : ℕ) (loads : List (ℕ × ℕ)) (path : Path) (r : WasFound here.geometry hash loads path) where
   back_kept : (at : Back) → Has (back_word here hash path at, back_before path at) loads
   back_kept back.Root = r.0.0.0
   back_kept back.Entry = r.0.1
@@ -86,12 +86,12 @@ module _ (here : Here) (hash : ℕ) (loads : List (ℕ × ℕ)) (path : Path) (r
   back_on_way back.Entry = inr (inl (path.root, r.0.0, refl))
   back_on_way back.Head = inr (inr (path.segment, found_named here.geometry hash loads path r, refl))
 
-on_caused : (here : Here) (hash : ℕ) (words : Words) (did : Doings) (call : Call) (path : Path) (at : Back) → HasBackCause here hash words did call path at (back_on at)
+on_caused : (here : Site) (hash : ℕ) (words : Words) (did : Doings) (call : Call) (path : Path) (at : Back) → HasBackCause here hash words did call path at (back_on at)
 on_caused here hash words did call path back.Root = tt
 on_caused here hash words did call path back.Entry = tt
 on_caused here hash words did call path back.Head = tt
 
-module _ (here : Here) (hash : ℕ) (words : Words) (did : Doings) (call : Call) (same : hash ≡ key_hash here.geometry (key_of call)) (path : Path)
+module _ (here : Site) (hash : ℕ) (words : Words) (did : Doings) (call : Call) (same : hash ≡ key_hash here.geometry (key_of call)) (path : Path)
     (r : WasFound here.geometry hash did.loads path) (not_own : (at : Back) → Has (back_word here hash path at) did.changed → ⊥) where
   -- a word has another value than it had
   has_moved : (at : Back) (n : ℕ) → n ≡ words (back_word here hash path at) → (n == back_before path at) ≡ false

@@ -3,7 +3,7 @@ use Rattle.std.proofs.Common.{◌≡◌, Bool, IsTrue, ◌↔◌, sym, subst}
 use Rattle.op_core.specs.declared.want.Want.TheVariants.{Done}
 use Rattle.stash_op.specs.Steps.{wanted}
 use Rattle.stash_op.proofs.Over.{over_done}
-use Rattle.stash_op.proofs.op.StashOp.is_done.Goals as goal
+use Rattle.stash_op.proofs.op.StashOp.wants_nothing.Goals as goal
 
 pub returns : goal.returns
 returns c = let op = c.args.self.now in subst (λ (b : Bool). IsTrue b ↔ (wanted op ≡ Done)) (sym c.is_over.ensures) (over_done op.kept op.stage.seen op.stage.step)

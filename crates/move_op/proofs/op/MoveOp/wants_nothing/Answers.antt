@@ -3,7 +3,7 @@ use Rattle.std.proofs.Common.{◌≡◌, Bool, IsTrue, ◌↔◌, sym, subst}
 use Rattle.op_core.specs.declared.want.Want.TheVariants.{Done}
 use Rattle.move_op.specs.Steps.{wanted}
 use Rattle.move_op.proofs.Over.{over_done}
-use Rattle.move_op.proofs.op.MoveOp.is_done.Goals as goal
+use Rattle.move_op.proofs.op.MoveOp.wants_nothing.Goals as goal
 
 pub returns : goal.returns
 returns c = let op = c.args.self.now in subst (λ (b : Bool). IsTrue b ↔ (wanted op ≡ Done)) (sym c.is_over.ensures) (over_done op.kept op.step)

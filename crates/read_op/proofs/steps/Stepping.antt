@@ -8,12 +8,12 @@ use Rattle.trace.specs.Events.{Words}
 use Rattle.bucket_meta.specs.Bucket.{record_slots}
 use Rattle.bucket_meta.specs.Visits.{must_visit}
 use Rattle.bucket_words.specs.Buckets.{find_below}
-use Rattle.world.specs.Site.{Site}
-use Rattle.world.specs.Views.{Note, View, Has}
+use Rattle.world.specs.Ground.{Ground}
+use Rattle.world.specs.Views.{Glance, View, Has}
 use Rattle.image_layout.specs.Volatile.{counter_word}
 use Rattle.world.specs.Kinds.{peeks, places, with_noted, unmarked, view_after}
 use Rattle.world.specs.Conditions.{IsNow}
-use Rattle.world.proofs.NotedLists.{unmarked_from}
+use Rattle.world.proofs.basics.NotedLists.{unmarked_from}
 use Rattle.phase.specs.declared.walk.Path.{Path}
 use Rattle.phase.specs.declared.walk.Walked.{Walked}
 use Rattle.phase.specs.declared.walk.Walked.TheVariants as walked
@@ -25,14 +25,14 @@ use Rattle.phase.specs.Loads.{load_begun, load_taken}
 use Rattle.phase.specs.Stands.{IsThere, HasWalked, head_note, NotesHead, NotesWay, HasLoaded}
 use Rattle.phase.proofs.Walking.{head_is}
 use Rattle.phase.proofs.Loading.{load_begins, load_stands, same_below}
-use Rattle.phase.specs.declared.place.Place.{Place}
-use Rattle.phase.specs.declared.place.Place.TheVariants.{Home, Probing, First, Second, Next, Previous}
+use Rattle.phase.specs.declared.role.Role.{Role}
+use Rattle.phase.specs.declared.role.Role.TheVariants.{Home, Probing, First, Second, Next, Previous}
 use Rattle.read_op.specs.declared.step.Seen.{Seen}
 use Rattle.read_op.specs.declared.step.ReadStep.TheVariants.{Look, Fill, Count, Check}
 use Rattle.read_op.specs.declared.step.Task.{Task}
 use Rattle.phase.specs.Asked.{index, looked_by}
 use Rattle.phase.proofs.locks.Giving.{no_some}
-use Rattle.phase.proofs.Asked.{few, near_asked, none_before, upto_more, upto_less, upto_up}
+use Rattle.phase.proofs.asking.Asked.{few, near_asked, none_before, upto_more, upto_less, upto_up}
 use Rattle.read_op.specs.Places.{free_at}
 use Rattle.read_op.specs.Steps.{value_of, walked_to, visit_first, visit_second, with_free, looked, with_value, read_home, read_probing, read_all, filled, seen_none, lock_of}
 use Rattle.read_op.specs.Fits.{IsIn, is_asked, Upto, Watched, at_head, at_bucket, watched_word, watched_value, is_watched, IsNoted, rank, leads, Tells, IsSkipped, Skips, IsFilling, IsReading, FillsAt, IsChecked, suits_in}
@@ -51,11 +51,11 @@ else_some None b x e = inr e
 else_some (Some y) b x e = inl e
 
 -- ---- which words are noted
-noted_more : (s : Seen) (p : Place) (w : Watched) → IsNoted s (index p) w → IsNoted s (index p + 1) w
+noted_more : (s : Seen) (p : Role) (w : Watched) → IsNoted s (index p) w → IsNoted s (index p + 1) w
 noted_more s p at_head u = tt
 noted_more s p (at_bucket q) u = upto_up s.first s.second (index p) (index p + 1) q (omega arith) u
 
-noted_like : (s s' : Seen) (k : ℕ) → ((q : Place) → index q < k → is_asked s' q ≡ is_asked s q) → (w : Watched) → IsNoted s k w → IsNoted s' k w
+noted_like : (s s' : Seen) (k : ℕ) → ((q : Role) → index q < k → is_asked s' q ≡ is_asked s q) → (w : Watched) → IsNoted s k w → IsNoted s' k w
 noted_like s s' k asks at_head u = tt
 noted_like s s' k asks (at_bucket q) u = record { low = u.low; asked = asks q u.low ∙ u.asked }
 
@@ -67,10 +67,10 @@ watched_noted : (s : Seen) (w : Watched) → is_watched s w ≡ true → IsNoted
 watched_noted s at_head asked = tt
 watched_noted s (at_bucket q) asked = record { low = few s.first s.second q asked; asked = asked }
 
-module _ (site : Site) (task : Task) (is : IsIn site task) where
+module _ (site : Ground) (task : Task) (is : IsIn site task) where
   -- ---- the way
   there_to : (u : View) (path : Path) → NotesHead site.shape path u → path.segment < site.shape.segments → (w : Watched) → IsNoted (seen_none path) 0 w
-      → (n : Note) × Has n u.notes × (n.word ≡ watched_word task (seen_none path) w) × (n.value ≡ watched_value (seen_none path) w)
+      → (n : Glance) × Has n u.notes × (n.word ≡ watched_word task (seen_none path) w) × (n.value ≡ watched_value (seen_none path) w)
   there_to u path noted within at_head t =
       (head_note site.shape path, subst (Has (head_note site.shape path)) (sym noted.notes) (inl refl), sym (head_is site task.site task.hash is.shape path.segment within), refl)
   there_to u path noted within (at_bucket q) t = absurd (none_before false false q t)
@@ -83,7 +83,7 @@ module _ (site : Site) (task : Task) (is : IsIn site task) where
       no_answer = noted.answer;
       noted_at = record {
         from = λ n h. elim (subst (Has n) noted.notes h) [
-          | inl e ↦ (at_head, tt, ap (λ (z : Note). z.word) e ∙ sym (head_is site task.site task.hash is.shape path.segment has.within), ap (λ (z : Note). z.value) e)
+          | inl e ↦ (at_head, tt, ap (λ (z : Glance). z.word) e ∙ sym (head_is site task.site task.hash is.shape path.segment has.within), ap (λ (z : Glance). z.value) e)
           | inr none ↦ absurd none
         ];
         to = there_to u path noted has.within;
@@ -97,17 +97,17 @@ module _ (site : Site) (task : Task) (is : IsIn site task) where
   walked_suits u (walked.Stale segment version) has noted = tt
 
   -- ---- a look at a lock word
-  module _ (v : View) (s s' : Seen) (p : Place) (n k : ℕ) where
-    abbrev new : Note
+  module _ (v : View) (s s' : Seen) (p : Role) (n k : ℕ) where
+    abbrev new : Glance
     new = record { word = lock_of task s p; value = n; words = []; again = false }
 
     abbrev looked_view : View
     looked_view = record v { notes = new ∷ v.notes }
 
     module _ (words : (w : Watched) → watched_word task s' w ≡ watched_word task s w) (values : (w : Watched) → IsNoted s (index p) w → watched_value s' w ≡ watched_value s w)
-        (here : free_at s'.free p ≡ n) (asks : (q : Place) → is_asked s' q ≡ is_asked s q) (r : IsReading site task s (index p) k v) where
+        (here : free_at s'.free p ≡ n) (asks : (q : Role) → is_asked s' q ≡ is_asked s q) (r : IsReading site task s (index p) k v) where
       -- each word that is noted has its note
-      look_to : (w : Watched) → IsNoted s' (index p + 1) w → (m : Note) × Has m (new ∷ v.notes) × (m.word ≡ watched_word task s' w) × (m.value ≡ watched_value s' w)
+      look_to : (w : Watched) → IsNoted s' (index p + 1) w → (m : Glance) × Has m (new ∷ v.notes) × (m.word ≡ watched_word task s' w) × (m.value ≡ watched_value s' w)
       look_to at_head u = let t = r.noted_at.to at_head tt in (t.0, inr t.1, t.2 ∙ sym (words at_head), t.3 ∙ sym (values at_head tt))
       look_to (at_bucket q) u = elim (upto_more s.first s.second p q (record { low = u.low; asked = sym (asks q) ∙ u.asked })) [
         | inl e ↦ (new, inl refl, ap (lock_of task s) (sym e) ∙ sym (words (at_bucket q)), sym here ∙ ap (free_at s'.free) (sym e))
@@ -123,7 +123,7 @@ module _ (site : Site) (task : Task) (is : IsIn site task) where
         no_answer = r.no_answer;
         noted_at = record {
           from = λ m h. elim h [
-            | inl e ↦ (at_bucket p, record { low = omega arith; asked = asks p ∙ asked }, ap (λ (z : Note). z.word) e ∙ sym (words (at_bucket p)), ap (λ (z : Note). z.value) e ∙ sym here)
+            | inl e ↦ (at_bucket p, record { low = omega arith; asked = asks p ∙ asked }, ap (λ (z : Glance). z.word) e ∙ sym (words (at_bucket p)), ap (λ (z : Glance). z.value) e ∙ sym here)
             | inr old ↦ (let f = r.noted_at.from m old in (f.0, noted_up f.0 f.1, f.2 ∙ sym (words f.0), f.3 ∙ sym (values f.0 f.1)))
           ];
           to = look_to;
@@ -136,10 +136,10 @@ module _ (site : Site) (task : Task) (is : IsIn site task) where
         };
       }
 
-  begins_at : (v : View) (s : Seen) (k r : ℕ) (p : Place) → IsReading site task s k r v → Upto s k p → IsFilling site v.notes task s p load_begun
+  begins_at : (v : View) (s : Seen) (k r : ℕ) (p : Role) → IsReading site task s k r v → Upto s k p → IsFilling site v.notes task s p load_begun
   begins_at v s k r p reading u = let t = reading.noted_at.to (at_bucket p) u in record { note = t.0; has = t.1; lock = t.2; loads = load_begins (lock_of task s p) t.0.words }
 
-  pub look_suits : (v : View) (s : Seen) (p : Place) (n : ℕ) → suits_in site task (Look s p) v
+  pub look_suits : (v : View) (s : Seen) (p : Role) (n : ℕ) → suits_in site task (Look s p) v
       → suits_in site task (looked (with_free s p n) p) (record v { notes = record { word = lock_of task s p; value = n; words = []; again = false } ∷ v.notes })
   look_suits v s Home n (r, beside) = (look_more v s (with_free s Home n) Home n 0 (λ w. refl) (λ w u. value_other s Home n w u) refl (λ q. refl) r refl r.there refl, tt)
   look_suits v s Probing n (r, beside) =
@@ -161,7 +161,7 @@ module _ (site : Site) (task : Task) (is : IsIn site task) where
   look_suits v s Previous n (r, beside) = absurd beside
 
   -- ---- where a bucket is not visited
-  reading_skip : (v : View) (s : Seen) (p : Place) → is_asked s p ≡ false → IsReading site task s (index p) (index p) v → IsReading site task s (index p + 1) (index p + 1) v
+  reading_skip : (v : View) (s : Seen) (p : Role) → is_asked s p ≡ false → IsReading site task s (index p) (index p) v → IsReading site task s (index p + 1) (index p + 1) v
   reading_skip v s p out r = record {
     there = r.there;
     no_answer = r.no_answer;
@@ -188,8 +188,8 @@ module _ (site : Site) (task : Task) (is : IsIn site task) where
       by false e = second_suits v s (reading_skip v s First e r) skips
 
   -- ---- a bucket that was read
-  read_more : (v : View) (s s' : Seen) (p : Place) (k : ℕ) (a : Option ℕ) → ((w : Watched) → watched_word task s' w ≡ watched_word task s w) → ((w : Watched) → watched_value s' w ≡ watched_value s w)
-      → ((q : Place) → index q < k → is_asked s' q ≡ is_asked s q) → s'.value ≡ option_or a s.value → IsThere site s'.path.segment v.facts → index p + 1 ≤ k
+  read_more : (v : View) (s s' : Seen) (p : Role) (k : ℕ) (a : Option ℕ) → ((w : Watched) → watched_word task s' w ≡ watched_word task s w) → ((w : Watched) → watched_value s' w ≡ watched_value s w)
+      → ((q : Role) → index q < k → is_asked s' q ≡ is_asked s q) → s'.value ≡ option_or a s.value → IsThere site s'.path.segment v.facts → index p + 1 ≤ k
       → Tells site v.notes task.key (lock_of task s p) a → IsReading site task s k (index p) v → IsReading site task s' k (index p + 1) v
   read_more v s s' p k a words values asks value there most tell r = record {
     there = there;
@@ -214,24 +214,24 @@ module _ (site : Site) (task : Task) (is : IsIn site task) where
   }
 
   -- ---- a word of a bucket
-  module _ (v : View) (s : Seen) (p : Place) (load : Load) (n : ℕ) (r : IsReading site task s (looked_by p) (index p) v) (f : IsFilling site v.notes task s p load) where
+  module _ (v : View) (s : Seen) (p : Role) (load : Load) (n : ℕ) (r : IsReading site task s (looked_by p) (index p) v) (f : IsFilling site v.notes task s p load) where
     abbrev lock : ℕ
     lock = lock_of task s p
 
     abbrev i : ℕ
     i = lock + load.next % 32
 
-    abbrev notes : List Note
+    abbrev notes : List Glance
     notes = with_noted lock i n v.notes
 
     abbrev filled_view : View
     filled_view = record v { notes = notes }
 
-    abbrev note : Note
+    abbrev note : Glance
     note = record (f.note) { words = (i, n) ∷ f.note.words }
 
     has : Has note notes
-    has = subst (λ (z : Note). Has z notes) (one_here lock i n f.note f.lock) (noted_to lock i n v.notes f.note f.has)
+    has = subst (λ (z : Glance). Has z notes) (one_here lock i n f.note f.lock) (noted_to lock i n v.notes f.note f.has)
 
     reading : IsReading site task s (looked_by p) (index p) filled_view
     reading = record {
@@ -241,7 +241,7 @@ module _ (site : Site) (task : Task) (is : IsIn site task) where
         from = λ o h.
             let b = noted_from lock i n v.notes o h in
             let g = r.noted_at.from b.0 b.1 in
-            (g.0, g.1, ap (λ (z : Note). z.word) b.2 ∙ one_word lock i n b.0 ∙ g.2, ap (λ (z : Note). z.value) b.2 ∙ one_value lock i n b.0 ∙ g.3);
+            (g.0, g.1, ap (λ (z : Glance). z.word) b.2 ∙ one_word lock i n b.0 ∙ g.2, ap (λ (z : Glance). z.value) b.2 ∙ one_value lock i n b.0 ∙ g.3);
         to = λ w u. (let t = r.noted_at.to w u in (noted_one lock i n t.0, noted_to lock i n v.notes t.0 t.1, one_word lock i n t.0 ∙ t.2, one_value lock i n t.0 ∙ t.3));
       };
       knows = record {
@@ -253,7 +253,7 @@ module _ (site : Site) (task : Task) (is : IsIn site task) where
     skips_still : Skips site v.notes task s → Skips site notes task s
     skips_still k = (λ out m a. k.0 out m (now_noted site m lock i n v.notes a), λ out m a. k.1 out m (now_noted site m lock i n v.notes a))
 
-    beside_still : (q : Place) → FillsAt site v.notes task s q → FillsAt site notes task s q
+    beside_still : (q : Role) → FillsAt site v.notes task s q → FillsAt site notes task s q
     beside_still Home b = tt
     beside_still Probing b = λ m a. b m (now_noted site m lock i n v.notes a)
     beside_still First b = (skips_still b.0, b.1)
@@ -271,7 +271,7 @@ module _ (site : Site) (task : Task) (is : IsIn site task) where
       tell : Tells site notes task.key lock (value_of ws task.key)
       tell m a = same_below m ws lock task.key record_slots (omega arith) (word_at m a)
 
-  all_suits : (v : View) (s : Seen) (p : Place) (load : Load) (n : ℕ) (r : IsReading site task s (looked_by p) (index p) v) → FillsAt site v.notes task s p
+  all_suits : (v : View) (s : Seen) (p : Role) (load : Load) (n : ℕ) (r : IsReading site task s (looked_by p) (index p) v) → FillsAt site v.notes task s p
       → (f : IsFilling site v.notes task s p load) (ws : List ℕ)
       → ((j : ℕ) → 1 ≤ j → j < 32 → Has (lock_of task s p + j, slice_index ws j) ((lock_of task s p + load.next % 32, n) ∷ f.note.words))
       → suits_in site task (read_all task.key task.hash s p ws) (record v { notes = with_noted (lock_of task s p) (lock_of task s p + load.next % 32) n v.notes })
@@ -308,7 +308,7 @@ module _ (site : Site) (task : Task) (is : IsIn site task) where
   all_suits v s Next load n r beside f ws all = absurd beside
   all_suits v s Previous load n r beside f ws all = absurd beside
 
-  pub fill_suits : (v : View) (s : Seen) (p : Place) (load : Load) (n : ℕ) → suits_in site task (Fill s p load) v
+  pub fill_suits : (v : View) (s : Seen) (p : Role) (load : Load) (n : ℕ) → suits_in site task (Fill s p load) v
       → suits_in site task (filled task.key task.hash s p (load_taken load n)) (record v { notes = with_noted (lock_of task s p) (lock_of task s p + load.next % 32) n v.notes })
   fill_suits v s p load n (r, beside, f) = by (load_taken load n) (loads v s p load n r f)
     where
@@ -329,9 +329,9 @@ module _ (site : Site) (task : Task) (is : IsIn site task) where
         let f = r.noted_at.from b.0 b.1 in (
           f.0,
           noted_watched s 4 f.0 f.1,
-          ap (λ (z : Note). z.word) b.2 ∙ f.2,
-          ap (λ (z : Note). z.value) b.2 ∙ f.3,
-          ap (λ (z : Note). z.again) b.2 ∙ sym (none_again f.0),
+          ap (λ (z : Glance). z.word) b.2 ∙ f.2,
+          ap (λ (z : Glance). z.value) b.2 ∙ f.3,
+          ap (λ (z : Glance). z.again) b.2 ∙ sym (none_again f.0),
         );
     to = λ w asked. (let t = r.noted_at.to w (watched_noted s w asked) in (record (t.0) { again = false }, unmarked_to v.notes t.0 t.1, t.2, t.3));
   }

@@ -6,8 +6,8 @@ use Rattle.map_model.specs.declared.call.Call.TheVariants.{Get}
 use Rattle.map_model.specs.Map.{shown}
 use Rattle.image_layout.specs.Places.{Shape}
 use Rattle.way.specs.Ways.{head_word}
-use Rattle.world.specs.Site.{Site}
-use Rattle.world.specs.Views.{Note, Answer, View, Has}
+use Rattle.world.specs.Ground.{Ground}
+use Rattle.world.specs.Views.{Glance, Answer, View, Has}
 use Rattle.world.specs.Attempts.{HasNoMore}
 use Rattle.world.specs.Kinds.{validates, next_entry, with_reply, with_answer, marked, all_again, view_after}
 use Rattle.phase.specs.declared.back.Back.{Back}
@@ -16,14 +16,14 @@ use Rattle.phase.specs.declared.back.Backed.TheVariants as backed
 use Rattle.phase.specs.Backs.{back_taken}
 use Rattle.phase.specs.Stands.{IsThere, back_kind}
 use Rattle.phase.proofs.Backing.{back_cases}
-use Rattle.phase.specs.declared.place.Place.{Place}
-use Rattle.phase.specs.declared.place.Place.TheVariants.{Home, Probing, First, Second}
+use Rattle.phase.specs.declared.role.Role.{Role}
+use Rattle.phase.specs.declared.role.Role.TheVariants.{Home, Probing, First, Second}
 use Rattle.read_op.specs.declared.step.Seen.{Seen}
 use Rattle.read_op.specs.declared.step.ReadStep.{ReadStep}
 use Rattle.read_op.specs.declared.step.ReadStep.TheVariants.{Check, Relook, Ended}
 use Rattle.read_op.specs.declared.step.Task.{Task}
 use Rattle.phase.specs.Asked.{index}
-use Rattle.phase.proofs.Asked.{few}
+use Rattle.phase.proofs.asking.Asked.{few}
 use Rattle.read_op.specs.Places.{free_at}
 use Rattle.read_op.specs.Steps.{backed_to, relook_first, relook_second, relook_next, relooked, busy, moved, end_of, lock_of}
 use Rattle.read_op.specs.Fits.{IsIn, is_asked, Watched, at_head, at_bucket, watched_word, watched_value, is_watched, rank, leads, IsChecked, suits_in, EntersAnswer}
@@ -41,12 +41,12 @@ few_watched : (s : Seen) (w : Watched) → is_watched s w ≡ true → rank w < 
 few_watched s at_head asked = omega arith
 few_watched s (at_bucket q) asked = let low = few s.first s.second q asked in omega (arith, low)
 
-module _ (site : Site) (task : Task) (is : IsIn site task) (s : Seen) (there : s.path.segment < site.shape.segments) where
+module _ (site : Ground) (task : Task) (is : IsIn site task) (s : Seen) (there : s.path.segment < site.shape.segments) where
   within : s.path.segment < task.site.geometry.segments
   within = subst (λ (g : Shape). s.path.segment < g.segments) (sym is.shape) there
 
   -- ---- one word further
-  checked_skip : (notes : List Note) (w : Watched) → is_watched s w ≡ false → IsChecked site notes task s (rank w) → IsChecked site notes task s (rank w + 1)
+  checked_skip : (notes : List Glance) (w : Watched) → is_watched s w ≡ false → IsChecked site notes task s (rank w) → IsChecked site notes task s (rank w + 1)
   checked_skip notes w out c = record {
     from = λ n h.
         let f = c.from n h in (
@@ -62,7 +62,7 @@ module _ (site : Site) (task : Task) (is : IsIn site task) (s : Seen) (there : s
     to = c.to;
   }
 
-  checked_more : (notes : List Note) (w : Watched) (n : ℕ) → n ≡ watched_value s w → IsChecked site notes task s (rank w)
+  checked_more : (notes : List Glance) (w : Watched) (n : ℕ) → n ≡ watched_value s w → IsChecked site notes task s (rank w)
       → IsChecked site (marked (watched_word task s w) n notes) task s (rank w + 1)
   checked_more notes w n same c = record {
     from = λ o h.
@@ -78,9 +78,9 @@ module _ (site : Site) (task : Task) (is : IsIn site task) (s : Seen) (there : s
         ] in (
           f.0,
           f.1,
-          ap (λ (z : Note). z.word) b.2 ∙ mark_word (watched_word task s w) n b.0 ∙ f.2,
-          ap (λ (z : Note). z.value) b.2 ∙ mark_value (watched_word task s w) n b.0 ∙ f.3,
-          ap (λ (z : Note). z.again) b.2 ∙ again,
+          ap (λ (z : Glance). z.word) b.2 ∙ mark_word (watched_word task s w) n b.0 ∙ f.2,
+          ap (λ (z : Glance). z.value) b.2 ∙ mark_value (watched_word task s w) n b.0 ∙ f.3,
+          ap (λ (z : Glance). z.again) b.2 ∙ again,
         );
     to = λ o asked. (let t = c.to o asked in (
       marked_one (watched_word task s w) n t.0,
@@ -91,28 +91,28 @@ module _ (site : Site) (task : Task) (is : IsIn site task) (s : Seen) (there : s
   }
 
   -- ---- whether all are marked
-  ends_all : (notes : List Note) → IsChecked site notes task s 5 → all_again notes ≡ true
+  ends_all : (notes : List Glance) → IsChecked site notes task s 5 → all_again notes ≡ true
   ends_all notes c = all_marked notes (λ n h. let f = c.from n h in f.4 ∙ lt-ltb (rank f.0) 5 (few_watched s f.0 f.1))
 
   -- the note of a word that is next is not
-  not_again : (notes : List Note) (w : Watched) (k : ℕ) → rank w ≡ k → (n : Note) → Has n notes → n.word ≡ watched_word task s w → IsChecked site notes task s k → n.again ≡ false
+  not_again : (notes : List Glance) (w : Watched) (k : ℕ) → rank w ≡ k → (n : Glance) → Has n notes → n.word ≡ watched_word task s w → IsChecked site notes task s k → n.again ≡ false
   not_again notes w k at n has word c =
       let f = c.from n has in
       let same = ap rank (watched_apart task s f.0 w within (sym f.2 ∙ word)) in
       f.4 ∙ le-ltb (rank f.0) k (omega (arith, same, at))
 
-  one_left : (notes : List Note) (w : Watched) → is_watched s w ≡ true → IsChecked site notes task s (rank w) → all_again notes ≡ false
+  one_left : (notes : List Glance) (w : Watched) → is_watched s w ≡ true → IsChecked site notes task s (rank w) → all_again notes ≡ false
   one_left notes w asked c = let t = c.to w asked in one_unmarked notes t.0 t.1 (not_again notes w (rank w) refl t.0 t.1 t.2 c)
 
   -- a word that is not the same marks nothing
-  one_unlike : (notes : List Note) (w : Watched) (n : ℕ) → is_watched s w ≡ true → (watched_value s w ≡ n → ⊥) → IsChecked site notes task s (rank w)
+  one_unlike : (notes : List Glance) (w : Watched) (n : ℕ) → is_watched s w ≡ true → (watched_value s w ≡ n → ⊥) → IsChecked site notes task s (rank w)
       → all_again (marked (watched_word task s w) n notes) ≡ false
   one_unlike notes w n asked other c =
       let t = c.to w asked in
       one_unmarked (marked (watched_word task s w) n notes) (marked_one (watched_word task s w) n t.0) (marked_to (watched_word task s w) n notes t.0 t.1)
       (mark_unlike (watched_word task s w) n t.0 (λ e. other (sym t.3 ∙ e)) ∙ not_again notes w (rank w) refl t.0 t.1 t.2 c)
 
-module _ (site : Site) (task : Task) (is : IsIn site task) (v : View) where
+module _ (site : Ground) (task : Task) (is : IsIn site task) (v : View) where
   abbrev pub Kept : ReadStep → View → Type 0
   Kept s u = suits_in site task s u × EntersAnswer task.key s v u
 
@@ -121,7 +121,7 @@ module _ (site : Site) (task : Task) (is : IsIn site task) (v : View) where
     abbrev answer : Answer
     answer = record { key = task.key; value = s.value; place = placed }
 
-    module _ (notes : List Note) where
+    module _ (notes : List Glance) where
       abbrev told : View
       told = record v { notes = notes; answer = Some answer }
 
@@ -132,7 +132,7 @@ module _ (site : Site) (task : Task) (is : IsIn site task) (v : View) where
       not_all : (step : ReadStep) → suits_in site task step told → EntersAnswer task.key step v told → all_again notes ≡ false → Kept step (with_answer (all_again notes) (Some answer) told)
       not_all step suits quiet f = subst (λ b. Kept step (with_answer b (Some answer) told)) (sym f) (suits, quiet)
 
-      go_to : (p : Place) → is_asked s p ≡ true → IsChecked site notes task s (suc (index p)) → Kept (Relook s placed p) (with_answer (all_again notes) (Some answer) told)
+      go_to : (p : Role) → is_asked s p ≡ true → IsChecked site notes task s (suc (index p)) → Kept (Relook s placed p) (with_answer (all_again notes) (Some answer) told)
       go_to p asked c = not_all (Relook s placed p) (record { there = there; leads = leading; checked = c; answer = refl }, asked) silent
           (one_left site task is s there.within notes (at_bucket p) asked c)
 
@@ -157,7 +157,7 @@ module _ (site : Site) (task : Task) (is : IsIn site task) (v : View) where
           by true e = go_to First e c
           by false e = second_kept (checked_skip site task is s there.within notes (at_bucket First) e c)
 
-      next_kept : (p : Place) → is_asked s p ≡ true → IsChecked site notes task s (suc (index p) + 1) → Kept (relook_next s placed p) (with_answer (all_again notes) (Some answer) told)
+      next_kept : (p : Role) → is_asked s p ≡ true → IsChecked site notes task s (suc (index p) + 1) → Kept (relook_next s placed p) (with_answer (all_again notes) (Some answer) told)
       next_kept Home asked c = go_to Probing refl c
       next_kept Probing asked c = first_kept c
       next_kept First asked c = second_kept c
@@ -165,7 +165,7 @@ module _ (site : Site) (task : Task) (is : IsIn site task) (v : View) where
       next_kept p asked c = never asked
 
     module _ (w : Watched) (n : ℕ) (asked : is_watched s w ≡ true) (c : IsChecked site v.notes task s (rank w)) where
-      abbrev after : List Note
+      abbrev after : List Glance
       after = marked (watched_word task s w) n v.notes
 
       abbrev u : View
@@ -175,7 +175,7 @@ module _ (site : Site) (task : Task) (is : IsIn site task) (v : View) where
       unlike : (n ≡ watched_value s w → ⊥) → (step : ReadStep) → suits_in site task step (told after) → EntersAnswer task.key step v (told after) → Kept step u
       unlike other step suits quiet = not_all after step suits quiet (one_unlike site task is s there.within v.notes w n asked (λ e. other (sym e)) c)
 
-    module _ (p : Place) (n : ℕ) (asked : is_asked s p ≡ true) (c : IsChecked site v.notes task s (suc (index p))) (even : free_at s.free p % 2 ≡ 0) where
+    module _ (p : Role) (n : ℕ) (asked : is_asked s p ≡ true) (c : IsChecked site v.notes task s (suc (index p))) (even : free_at s.free p % 2 ≡ 0) where
       abbrev lock : ℕ
       lock = lock_of task s p
 
@@ -218,16 +218,16 @@ module _ (site : Site) (task : Task) (is : IsIn site task) (v : View) where
       ]
 
   -- ---- a lock word again
-  pub relook_kept : (s : Seen) (placed : ℕ) (p : Place) (n : ℕ) → suits_in site task (Relook s placed p) v → free_at s.free p % 2 ≡ 0
+  pub relook_kept : (s : Seen) (placed : ℕ) (p : Role) (n : ℕ) → suits_in site task (Relook s placed p) v → free_at s.free p % 2 ≡ 0
       → Kept (relooked task s placed p n) (view_after site.shape (validates (lock_of task s p)) n v)
   relook_kept s placed p n (a, asked) even =
-      let notes : List Note = marked (lock_of task s p) n v.notes in
+      let notes : List Glance = marked (lock_of task s p) n v.notes in
       subst (λ o. Kept (relooked task s placed p n) (with_answer (all_again notes) o (record v { notes = notes; answer = o }))) (sym a.answer)
       (relook_by s placed a.there a.leads p n asked a.checked even)
 
   -- ---- the way again
   -- where the header leads away nothing is entered
-  astray_more : (b : Bool) (notes : List Note) (o : Option Answer) → o ≡ None → HasNoMore v (with_answer b o (record v { notes = notes; answer = o }))
+  astray_more : (b : Bool) (notes : List Glance) (o : Option Answer) → o ≡ None → HasNoMore v (with_answer b o (record v { notes = notes; answer = o }))
   astray_more false notes o none = record { own = refl; seen = refl }
   astray_more true notes o none = subst (λ a. HasNoMore v (with_answer true a (record v { notes = notes; answer = a }))) (sym none) (record { own = refl; seen = refl })
 
@@ -239,11 +239,11 @@ module _ (site : Site) (task : Task) (is : IsIn site task) (v : View) where
   check_kept s placed n back.Entry suits =
       back_cases (λ x. Kept (backed_to s placed x) v) task.site task.hash s.path back.Entry n (suits, record { own = refl; seen = refl }) (tt, record { own = refl; seen = refl })
   check_kept s placed n back.Head (inl a) =
-      let notes : List Note = marked (head_word task.site.geometry s.path.segment) n v.notes in
+      let notes : List Glance = marked (head_word task.site.geometry s.path.segment) n v.notes in
       subst (λ o. Kept (backed_to s placed (back_taken task.site task.hash s.path back.Head n)) (with_answer (all_again notes) o (record v { notes = notes; answer = o }))) (sym a.answer)
       (head_by s placed a.there a.leads n a.checked)
   check_kept s placed n back.Head (inr a) =
-      let notes : List Note = marked (head_word task.site.geometry s.path.segment) n v.notes in
+      let notes : List Glance = marked (head_word task.site.geometry s.path.segment) n v.notes in
       let u : View = with_answer (all_again notes) v.answer (record v { notes = notes }) in
       subst (λ b. Kept (backed_to s placed (if b then backed.Same else backed.Moved (head_word task.site.geometry s.path.segment) s.path.head n)) u)
       (sym (and_right (n == s.path.head) (leads task s) a.away)) (tt, astray_more (all_again notes) notes v.answer a.no_answer)

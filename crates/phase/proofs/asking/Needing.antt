@@ -12,8 +12,8 @@ use Rattle.map_model.specs.Legal.{IsInsert}
 use Rattle.world.specs.Views.{Has}
 use Rattle.part.specs.Room.{NothingMovesOn}
 use Rattle.part.specs.Causes.{WasMeta, WasFull, WereFull, NothingMovedOn, MustVisit, WereFullBefore, NeedsBucket}
-use Rattle.phase.specs.declared.place.Place.{Place}
-use Rattle.phase.specs.declared.place.Place.TheVariants.{Home, Probing, Next, Previous}
+use Rattle.phase.specs.declared.role.Role.{Role}
+use Rattle.phase.specs.declared.role.Role.TheVariants.{Home, Probing, Next, Previous}
 use Rattle.phase.specs.declared.kept.Kept.{Kept}
 use Rattle.phase.specs.Places.{bucket_of}
 use Rattle.phase.specs.Buckets.{words_in}
@@ -57,13 +57,13 @@ module _ (kept : Kept) (loads : List (ℕ × ℕ)) (within : kept.segment < kept
   abbrev g : Shape
   g = kept.site.geometry
 
-  abbrev meta : Place → ℕ
+  abbrev meta : Role → ℕ
   meta place = slice_index (words_in kept.buckets place) 1
 
-  meta_loaded : (place : Place) → WasLoaded kept loads place → WasMeta g loads kept.segment (bucket_of kept.hash place) (meta place)
+  meta_loaded : (place : Role) → WasLoaded kept loads place → WasMeta g loads kept.segment (bucket_of kept.hash place) (meta place)
   meta_loaded place was = word_at g kept.hash loads kept.segment within (bucket_of kept.hash place) 1 (meta place) (was 1 (omega arith) (omega arith))
 
-  pub was_full : (place : Place) → LoadedFull kept loads place → WasFull g loads kept.segment (bucket_of kept.hash place) (meta place)
+  pub was_full : (place : Role) → LoadedFull kept loads place → WasFull g loads kept.segment (bucket_of kept.hash place) (meta place)
   was_full place f = record { loaded = meta_loaded place f.0; full = none_free (meta place) f.1 }
 
   module _ (home : LoadedFull kept loads Home) (probing : LoadedFull kept loads Probing) where

@@ -16,8 +16,8 @@ use Rattle.phase.specs.Stands.{walked_left, backed_left, loaded_left}
 use Rattle.phase.proofs.Walking.{walk_few, walk_falls}
 use Rattle.phase.proofs.Loading.{load_falls}
 use Rattle.phase.proofs.Backing.{back_few, back_falls}
-use Rattle.phase.specs.declared.place.Place.{Place}
-use Rattle.phase.specs.declared.place.Place.TheVariants.{Home, Probing, First, Second}
+use Rattle.phase.specs.declared.role.Role.{Role}
+use Rattle.phase.specs.declared.role.Role.TheVariants.{Home, Probing, First, Second}
 use Rattle.read_op.specs.declared.step.Seen.{Seen}
 use Rattle.read_op.specs.declared.step.ReadStep.{ReadStep}
 use Rattle.read_op.specs.declared.step.ReadStep.TheVariants.{Way, Look, Fill, Count, Check, Relook, Ended}
@@ -44,22 +44,22 @@ second_most s = both_most 40 s.second (Look s Second) (Count s) (omega arith) (o
 first_most : (s : Seen) → left (visit_first s) ≤ 72
 first_most s = let rest = second_most s in both_most 72 s.first (Look s First) (visit_second s) (omega arith) (omega (arith, rest))
 
-all_most : (key hash : ℕ) (s : Seen) (p : Place) (words : List ℕ) → left (read_all key hash s p words) ≤ left_behind p
+all_most : (key hash : ℕ) (s : Seen) (p : Role) (words : List ℕ) → left (read_all key hash s p words) ≤ left_behind p
 all_most key hash s Home words = omega arith
 all_most key hash s Probing words = first_most (read_probing key hash s words)
 all_most key hash s First words = second_most (with_value key s words)
 all_most key hash s p words = omega arith
 
-filled_most : (key hash : ℕ) (s : Seen) (p : Place) (x : Loaded) → left (filled key hash s p x) ≤ left_behind p + loaded_left x
+filled_most : (key hash : ℕ) (s : Seen) (p : Role) (x : Loaded) → left (filled key hash s p x) ≤ left_behind p + loaded_left x
 filled_most key hash s p (loaded.On load) = omega arith
 filled_most key hash s p (loaded.All words) = let most = all_most key hash s p words in omega (arith, most)
 
-looked_most : (s : Seen) (p : Place) → left (looked s p) < left_of_look p
+looked_most : (s : Seen) (p : Role) → left (looked s p) < left_of_look p
 looked_most s Home = omega arith
 looked_most s Probing = omega arith
 looked_most s p = omega arith
 
-some_look : (p : Place) → 0 < left_of_look p
+some_look : (p : Role) → 0 < left_of_look p
 some_look Home = omega arith
 some_look Probing = omega arith
 some_look First = omega arith
@@ -76,19 +76,19 @@ relook_second_most s placed = both_most 1 s.second (Relook s placed Second) (End
 relook_first_most : (s : Seen) (placed : ℕ) → left (relook_first s placed) ≤ 2
 relook_first_most s placed = let rest = relook_second_most s placed in both_most 2 s.first (Relook s placed First) (relook_second s placed) (omega arith) (omega (arith, rest))
 
-relook_most : (s : Seen) (placed : ℕ) (p : Place) → left (relook_next s placed p) + 1 ≤ left_of_relook p
+relook_most : (s : Seen) (placed : ℕ) (p : Role) → left (relook_next s placed p) + 1 ≤ left_of_relook p
 relook_most s placed Home = omega arith
 relook_most s placed Probing = let most = relook_first_most s placed in omega (arith, most)
 relook_most s placed First = let most = relook_second_most s placed in omega (arith, most)
 relook_most s placed p = omega arith
 
-relooked_most : (task : Task) (s : Seen) (placed : ℕ) (p : Place) (n : ℕ) → left (relooked task s placed p n) ≤ left_of_relook p - 1
+relooked_most : (task : Task) (s : Seen) (placed : ℕ) (p : Role) (n : ℕ) → left (relooked task s placed p n) ≤ left_of_relook p - 1
 relooked_most task s placed p n =
     let next = relook_most s placed p in
     both_most (left_of_relook p - 1) (n % 2 == 1) (busy (lock_of task s p) n) (if n == free_at s.free p then relook_next s placed p else moved (lock_of task s p) (free_at s.free p) n) (omega arith)
     (both_most (left_of_relook p - 1) (n == free_at s.free p) (relook_next s placed p) (moved (lock_of task s p) (free_at s.free p) n) (omega (arith, next)) (omega arith))
 
-some_relook : (p : Place) → 0 < left_of_relook p
+some_relook : (p : Role) → 0 < left_of_relook p
 some_relook Home = omega arith
 some_relook Probing = omega arith
 some_relook First = omega arith
@@ -121,19 +121,19 @@ pub falls : Falls
 falls op n asks = let some = some_left op.task op.step asks in let low = lowers op.task op.step n in omega (arith, some, low)
 
 -- ---- at most so many are left
-most_look : (p : Place) → left_of_look p ≤ 136
+most_look : (p : Role) → left_of_look p ≤ 136
 most_look Home = omega arith
 most_look Probing = omega arith
 most_look First = omega arith
 most_look p = omega arith
 
-most_behind : (p : Place) → left_behind p ≤ 103
+most_behind : (p : Role) → left_behind p ≤ 103
 most_behind Home = omega arith
 most_behind Probing = omega arith
 most_behind First = omega arith
 most_behind p = omega arith
 
-most_relook : (p : Place) → left_of_relook p ≤ 4
+most_relook : (p : Role) → left_of_relook p ≤ 4
 most_relook Home = omega arith
 most_relook Probing = omega arith
 most_relook First = omega arith
