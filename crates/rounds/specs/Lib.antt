@@ -1,0 +1,6 @@
+pub mod Steps
+pub mod Events
+pub mod Runs
+pub mod Stands
+pub mod Left
+pub mod Laws
