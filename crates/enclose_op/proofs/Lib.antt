@@ -1,0 +1,12 @@
+pub mod Places
+pub mod Held
+pub mod Backing
+pub mod Locking
+pub mod Filling
+pub mod Causing
+pub mod Owning
+pub mod Stepping
+pub mod EncloseIsPart
+pub mod Found
+pub mod Recalling
+pub mod ByCause

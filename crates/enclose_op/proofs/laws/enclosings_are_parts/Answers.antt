@@ -1,0 +1,15 @@
+-- By its steps.
+use Rattle.enclose_op.proofs.EncloseIsPart.{enclose_is_part, begins_as_part, begins_undecided, hands_on_whole}
+use Rattle.enclose_op.proofs.laws.enclosings_are_parts.Goals as goal
+
+pub returns-clause-part : goal.returns-clause-part
+returns-clause-part c = enclose_is_part
+
+pub returns-clause-begins : goal.returns-clause-begins
+returns-clause-begins c = begins_as_part
+
+pub returns-clause-undecided : goal.returns-clause-undecided
+returns-clause-undecided c = begins_undecided
+
+pub returns-clause-whole : goal.returns-clause-whole
+returns-clause-whole c = hands_on_whole

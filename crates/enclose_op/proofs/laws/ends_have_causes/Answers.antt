@@ -1,0 +1,13 @@
+-- By what each step remembers, and what it decides.
+use Rattle.enclose_op.proofs.ByCause.{ends_by_split_cause}
+use Rattle.enclose_op.proofs.Recalling.{begins_remembering, hands_on_remembered}
+use Rattle.enclose_op.proofs.laws.ends_have_causes.Goals as goal
+
+pub returns-clause-causes : goal.returns-clause-causes
+returns-clause-causes c = ends_by_split_cause
+
+pub returns-clause-remembers : goal.returns-clause-remembers
+returns-clause-remembers c = begins_remembering
+
+pub returns-clause-remembered : goal.returns-clause-remembered
+returns-clause-remembered c = hands_on_remembered

@@ -1,0 +1,303 @@
+//! Enclosings of slot 0 of a small image, for an insert of key 28, whose home bucket is the first, on words that another caller may
+//! change: their events, what is kept, and their ends.
+use super::*;
+use image_layout::Geometry;
+use map_model::{Change, Effect, Reply};
+use op_core::{Ans, Machine, Want, Why};
+use std::test::Fail;
+use world::Site;
+
+/// The header of a normal segment of version 1 and depth 0.
+const HEAD: u64 = 257;
+/// The same of depth 1, which covers the hashes whose top bit is 0.
+const DEEP_HEAD: u64 = 65793;
+/// The words of the commit counter and of the segment's guard.
+const COUNTER: u64 = 4352;
+
+const GUARD: u64 = 4356;
+
+/// A small memory: the words of an image with two slots and those behind it, and a word that another caller stores before an event.
+#[derive(Drop)]
+struct Memory {
+    words: [u64; 4358],
+    events: u64,
+    other: (u64, u64, u64),
+}
+
+/// Bucket 0, bucket 1 and both stash buckets are full, and no record of the first two can be moved; the lock word of bucket 3 had two
+/// versions before.
+fn full() -> Memory {
+    let mut memory = Memory {
+        words: [0; 4358],
+        events: 0,
+        other: (u64::MAX, 0, 0),
+    };
+    for (at, value) in [
+        (65u64, HEAD),
+        (97, 0x3FFF),
+        (129, 0x0FFF_FFFF),
+        (192, 4),
+        (2145, 0x3FFF),
+        (2177, 0x3FFF),
+        (2207, 155),
+        (COUNTER, 30),
+    ] {
+        memory.set(at, value);
+    }
+    memory
+}
+
+/// The same, with another value of a word.
+fn with(at: u64, value: u64) -> Memory {
+    let mut memory = full();
+    memory.set(at, value);
+    memory
+}
+
+/// An enclosing by caller 1.
+fn begun() -> Result<EncloseOp, Fail> {
+    let site = Site {
+        geometry: Geometry::new(2, 1, 0)?,
+        version: 1,
+        caller: 1,
+    };
+    let change = Change {
+        key: 28,
+        effect: Effect::Insert(128),
+    };
+    Ok(EncloseOp::new(site, change, 0))
+}
+
+impl Memory {
+    fn word(&self, at: u64) -> u64 {
+        if at < 4358 {
+            self.words[at as usize]
+        } else {
+            0
+        }
+    }
+
+    fn set(&mut self, at: u64, value: u64) {
+        if at < 4358 {
+            self.words[at as usize] = value;
+        }
+    }
+
+    fn answer(&mut self, want: Want) -> Ans {
+        let (before, at, value) = self.other;
+        if self.events == before {
+            self.set(at, value);
+        }
+        self.events = self.events.wrapping_add(1);
+        match want {
+            Want::Load(at) => Ans::Value(self.word(at)),
+            Want::Store(at, value) => {
+                self.set(at, value);
+                Ans::Passed
+            }
+            Want::Exchange(at, old, new) => {
+                let found = self.word(at);
+                if found == old {
+                    self.set(at, new);
+                    Ans::Won
+                } else {
+                    Ans::Lost(found)
+                }
+            }
+            Want::Draw | Want::Power => Ans::Value(0),
+            Want::Flush(_) | Want::Fence | Want::Done => Ans::Passed,
+        }
+    }
+
+    /// Runs an enclosing: how that ended, and after how many events.
+    fn run(&mut self) -> Result<(EncloseEnd, u64), Fail> {
+        let mut op = begun()?;
+        for _ in 0..2400u16 {
+            let want = op.want();
+            if want == Want::Done {
+                return Ok((op.end(), self.events));
+            }
+            op.take(self.answer(want));
+        }
+        Ok((EncloseEnd::Off, self.events))
+    }
+
+    /// How many locks of the segment are taken, and the word of its guard.
+    fn held(&self) -> (u8, u64) {
+        let mut taken = 0u8;
+        for bucket in 0..66u8 {
+            if self.word(96 + 32 * u64::from(bucket)) % 2 == 1 {
+                taken = taken.wrapping_add(1);
+            }
+        }
+        (taken, self.word(GUARD))
+    }
+}
+
+fn again(why: Why) -> EncloseEnd {
+    EncloseEnd::Back(Ending::Again(why))
+}
+
+fn replied(reply: Reply, place: u64) -> EncloseEnd {
+    EncloseEnd::Back(Ending::Replied(reply, place))
+}
+
+#[test]
+fn events_of_a_whole_segment(rt: HostRuntime) -> Result<(), Fail> {
+    let mut memory = full();
+    let mut op = begun()?;
+    assert_eq!(rt; op.want(), Want::Exchange(GUARD, 0, 1));
+    op.take(memory.answer(Want::Exchange(GUARD, 0, 1)));
+    for bucket in 0..66u8 {
+        let lock = 96 + 32 * u64::from(bucket);
+        let free = if bucket == 3 { 4 } else { 0 };
+        for want in [Want::Load(lock), Want::Exchange(lock, free, free + 1)] {
+            assert_eq!(rt; op.want(), want);
+            op.take(memory.answer(want));
+        }
+    }
+    assert_eq!(rt; op.want(), Want::Load(65));
+    op.take(memory.answer(Want::Load(65)));
+    for at in 96..2208u64 {
+        if at % 32 != 0 {
+            assert!(rt; !op.hands_on());
+            assert_eq!(rt; op.want(), Want::Load(at));
+            op.take(memory.answer(Want::Load(at)));
+        }
+    }
+    assert!(rt; op.hands_on());
+    assert!(rt; op.wants_nothing());
+    assert_eq!(rt; op.want(), Want::Done);
+    assert_eq!(rt; memory.held(), (66, 1));
+    let whole = op.enclosed;
+    assert_eq!(rt; (whole.hash, whole.segment, whole.head), (28, 0, HEAD));
+    assert_eq!(rt; (whole.locks[2], whole.locks[3]), (0, 4));
+    assert_eq!(rt;
+        (whole.buckets[1], whole.buckets[33]),
+        (0x3FFF, 0x0FFF_FFFF)
+    );
+    assert_eq!(rt; (whole.buckets[64], whole.buckets[2111]), (0, 155));
+    Ok(())
+}
+
+#[test]
+fn segment_of_the_greatest_depth_is_deep(rt: HostRuntime) -> Result<(), Fail> {
+    let mut memory = with(65, DEEP_HEAD);
+    let end = memory.run()?;
+    assert_eq!(rt; end, (replied(Reply::Deep, 30), 2248));
+    assert_eq!(rt; memory.held(), (0, 0));
+    assert_eq!(rt;
+        (memory.word(96), memory.word(192), memory.word(2176)),
+        (2, 6, 2)
+    );
+    Ok(())
+}
+
+#[test]
+fn all_is_given_back_in_order(rt: HostRuntime) -> Result<(), Fail> {
+    let mut memory = with(65, HEAD + 1);
+    let mut op = begun()?;
+    for _ in 0..134u8 {
+        let want = op.want();
+        op.take(memory.answer(want));
+    }
+    for bucket in 0..66u8 {
+        let new = if bucket == 3 { 6 } else { 2 };
+        let want = Want::Store(96 + 32 * u64::from(bucket), new);
+        assert_eq!(rt; op.want(), want);
+        op.take(memory.answer(want));
+    }
+    assert_eq!(rt; op.want(), Want::Store(GUARD, 0));
+    op.take(memory.answer(Want::Store(GUARD, 0)));
+    assert_eq!(rt; op.want(), Want::Done);
+    Ok(())
+}
+
+#[test]
+fn there_may_be_room(rt: HostRuntime) -> Result<(), Fail> {
+    // A header of another version, of a free slot, and of a segment that covers the other half of the hashes.
+    for head in [HEAD + 1, 1, DEEP_HEAD + (1 << 32)] {
+        let mut memory = with(65, head);
+        let end = memory.run()?;
+        assert_eq!(rt; end, (EncloseEnd::Back(Ending::Room), 201), "head {head}");
+        assert_eq!(rt; memory.held(), (0, 0));
+    }
+    // A free slot of a stash bucket, and one of the home bucket.
+    for (at, value) in [(2177u64, 0x1FFF), (97, 0x3FFE)] {
+        let mut memory = with(at, value);
+        let end = memory.run()?;
+        assert_eq!(rt; end, (EncloseEnd::Back(Ending::Room), 2247), "at {at}");
+        assert_eq!(rt; memory.held(), (0, 0));
+    }
+    Ok(())
+}
+
+#[test]
+fn guard_of_another(rt: HostRuntime) -> Result<(), Fail> {
+    let mut memory = with(GUARD, 7);
+    let end = memory.run()?;
+    let busy = again(Why::Busy {
+        word: GUARD,
+        seen: 7,
+    });
+    assert_eq!(rt; end, (busy, 1));
+    assert_eq!(rt; memory.held(), (0, 7));
+    Ok(())
+}
+
+#[test]
+fn lock_of_another(rt: HostRuntime) -> Result<(), Fail> {
+    let busy = again(Why::Busy { word: 160, seen: 5 });
+    // It is taken at first.
+    let mut memory = with(160, 5);
+    let end = memory.run()?;
+    assert_eq!(rt; end, (busy, 9));
+    assert_eq!(rt;
+        (memory.word(96), memory.word(128), memory.held()),
+        (2, 2, (1, 0))
+    );
+    // It is taken, or has moved on, after it was looked at.
+    let mut memory = full();
+    memory.other = (6, 160, 5);
+    let end = memory.run()?;
+    assert_eq!(rt; end, (busy, 10));
+    let mut memory = full();
+    memory.other = (6, 160, 4);
+    let end = memory.run()?;
+    let moved = again(Why::Moved {
+        word: 160,
+        before: 0,
+        after: 4,
+    });
+    assert_eq!(rt; end, (moved, 10));
+    assert_eq!(rt;
+        (memory.word(96), memory.word(128), memory.held()),
+        (2, 2, (0, 0))
+    );
+    Ok(())
+}
+
+#[test]
+fn lock_of_the_last_version(rt: HostRuntime) -> Result<(), Fail> {
+    let mut memory = with(160, u64::MAX - 1);
+    let end = memory.run()?;
+    assert_eq!(rt; end, (replied(Reply::Spent, 30), 10));
+    assert_eq!(rt; memory.held(), (0, 0));
+    Ok(())
+}
+
+#[test]
+fn other_answers_change_nothing(rt: HostRuntime) -> Result<(), Fail> {
+    let mut op = begun()?;
+    let same = op;
+    op.take(Ans::Passed);
+    op.take(Ans::Value(1));
+    assert_eq!(rt; op, same);
+    assert!(rt; !op.wants_nothing());
+    op.take(Ans::Lost(3));
+    let ended = op;
+    op.take(Ans::Won);
+    assert_eq!(rt; op, ended);
+    assert!(rt; op.wants_nothing());
+    Ok(())
+}
