@@ -1,0 +1,15 @@
+pub mod Cases
+pub mod Seeking
+pub mod Falling
+pub mod Places
+pub mod Stored
+pub mod Finished
+pub mod Asking
+pub mod Rounding
+pub mod Stepping
+pub mod SplitIsPart
+pub mod Copying
+pub mod Stashing
+pub mod Siding
+pub mod Made
+pub mod Thinning

@@ -1,0 +1,30 @@
+-- A home or a stash bucket more.
+use Rattle.std.proofs.Common.{ℕ, ◌+◌, ◌*◌, List, slice_index, sym, subst, arith}
+use Rattle.std.specs.Prelude.{slice_set}
+use Rattle.whole_segment.specs.Records.{first_in}
+use Rattle.split_op.proofs.Copying.{IsMarking, begun_marking, home_marked, stash_marked, all_marked}
+use Rattle.split_op.proofs.copy.with_marks.Goals as goal
+use Rattle.split_op.proofs.copy.with_marks.Goals.{then-bucket-lt-HOMES, else-bucket-lt-HOMES}
+
+pub loop-bucket-init : goal.loop-bucket-init
+loop-bucket-init c = begun_marking c.args.kept.now c.args.half.now c.args.notes.now c.told-kept
+
+pub loop-bucket-preserved : goal.loop-bucket-preserved
+loop-bucket-preserved c =
+    let kept = c.args.kept.now in
+    let half = c.args.half.now in
+    let notes = c.args.notes.now in
+    let k = c.loop-bucket.bucket in
+    let w = c.loop-bucket.words in
+    let near = c.loop-bucket-test.true in
+    elim c.if-bucket-lt-HOMES.branch [
+      | then-bucket-lt-HOMES z ↦ subst (λ (l : List ℕ). IsMarking kept half notes (k + 1) l) (sym z.words-is)
+          (subst (λ (a : ℕ). IsMarking kept half notes (k + 1) (slice_set (slice_set w (32 * a + 1) (slice_index notes.first a)) (32 * a + 3) (slice_index notes.third a))) (sym c.from-at.ensures)
+          (home_marked kept half notes k w near c.loop-bucket.invariant z.if-bucket-lt-HOMES.true))
+      | else-bucket-lt-HOMES z ↦ subst (λ (l : List ℕ). IsMarking kept half notes (k + 1) l) (sym z.words-is)
+          (subst (λ (a : ℕ). IsMarking kept half notes (k + 1) (slice_set w (32 * a + 1) (first_in half a))) (sym c.from-at.ensures)
+          (stash_marked kept half notes k w near c.loop-bucket.invariant (let past = z.if-bucket-lt-HOMES.false in omega (arith, past))))
+    ]
+
+pub returns : goal.returns
+returns c = all_marked c.args.kept.now c.args.half.now c.args.notes.now c.loop-bucket.bucket c.loop-bucket.words (let past = c.loop-bucket-test.false in omega (arith, past)) c.loop-bucket.invariant

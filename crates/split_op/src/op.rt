@@ -1,0 +1,129 @@
+//! The machine, and what it wants.
+
+ghost use Rattle.std.specs.Prelude.{◌≡◌, ◌↔◌, IsTrue};
+ghost use Rattle.op_core.specs.declared.want.Want.TheVariants as want;
+ghost use Rattle.split_op.specs.Steps.{begun, put_wanted, wanted, taken, end_of};
+
+use crate::copied::Copied;
+use crate::copy::side_words;
+use crate::step::{SplitEnd, SplitStep};
+use crate::taking::{go_on, guard_word};
+use crate::task::{due, slot_word};
+use enclose_op::Enclosed;
+use image_layout::BUCKETS;
+use op_core::{Ans, Machine, Want};
+use rounds::Rounds;
+use whole_segment::MOST_LINES;
+
+/// An enclosed segment is split, up to the copies.
+#[derive(Clone, Copy, Debug, PartialEq, Eq)]
+pub struct SplitOp {
+    /// The segment, the slot of its side once one is found, and what is copied there.
+    pub copied: Copied,
+    /// The lock words of the slot, as they were loaded.
+    pub locks: [u64; 66],
+    /// Where it stands.
+    pub step: SplitStep,
+}
+
+impl SplitOp {
+    ghost use Rattle.map_model.specs.declared.call.Call.{Call};
+    ghost use Rattle.world.specs.declared.site.Site.{Site};
+    ghost use Rattle.world.specs.Ground.{Ground, IsGround};
+    ghost use Rattle.enclose_op.specs.Whole.{IsOf, IsWhole};
+    ghost use Rattle.split_op.specs.Fits.{CopiesFrom};
+
+    /// Goes on from an enclosed segment. The words of the side are made of its records.
+    pub fn new(whole: Enclosed) -> SplitOp
+        ensures is { result ≡ begun whole result.copied.words }
+        ensures copies { (site : Ground) (here : Site) (call : Call) → IsGround site → IsOf site here call whole → IsWhole site whole → CopiesFrom site whole result.copied.words }
+    {
+        let words = side_words(&whole);
+        SplitOp::begun(whole, words)
+    }
+
+    /// Goes on from an enclosed segment, with these words of the side.
+    fn begun(whole: Enclosed, words: [u64; 2112]) -> SplitOp
+        ensures { result ≡ begun whole words }
+    {
+        SplitOp {
+            copied: Copied {
+                whole,
+                side: 0,
+                words,
+            },
+            locks: [0; 66],
+            step: SplitStep::Take,
+        }
+    }
+
+    /// Whether it wants nothing more.
+    pub fn wants_nothing(&self) -> bool
+        ensures { IsTrue result ↔ (wanted self.now ≡ want.Done) }
+    {
+        want_of(self) == Want::Done
+    }
+
+    /// How it ended.
+    pub fn end(self) -> SplitEnd
+        ensures { result ≡ end_of self }
+    {
+        match self.step {
+            SplitStep::Back(_, end) | SplitStep::Ended(end) => end,
+            _ => SplitEnd::Off,
+        }
+    }
+}
+
+/// The event of the rounds, where this store is to come.
+fn put_want(rounds: &Rounds, next: Option<(u64, u64)>) -> Want
+    ensures { result ≡ put_wanted rounds.now next }
+{
+    if rounds.round.count() > MOST_LINES {
+        Want::Done
+    } else {
+        match rounds.want(next) {
+            Some(want) => want,
+            None => Want::Done,
+        }
+    }
+}
+
+/// What a split wants.
+fn want_of(op: &SplitOp) -> Want
+    ensures { result ≡ wanted op.now }
+{
+    let geometry = &op.copied.whole.site.geometry;
+    match &op.step {
+        SplitStep::Take => Want::Exchange(
+            guard_word(geometry),
+            0,
+            u64::from(op.copied.whole.site.caller),
+        ),
+        SplitStep::Search(slot) => Want::Load(slot_word(geometry, *slot, 1)),
+        SplitStep::Count => Want::Load(geometry.counter_word()),
+        SplitStep::Return(_) | SplitStep::Release => Want::Store(guard_word(geometry), 0),
+        SplitStep::Look(bucket) => Want::Load(slot_word(
+            geometry,
+            op.copied.side,
+            32 + 32 * u16::from(*bucket % BUCKETS),
+        )),
+        SplitStep::Put(task, rounds) => put_want(rounds, due(&op.copied, &op.locks, *task)),
+        SplitStep::Back(give, _) => op.copied.whole.give(*give),
+        SplitStep::Ended(_) => Want::Done,
+    }
+}
+
+impl Machine for SplitOp {
+    ghost wanted = { wanted };
+
+    ghost taken = { taken };
+
+    fn want(&self) -> Want {
+        want_of(self)
+    }
+
+    fn take(&mut self, ans: Ans) {
+        go_on(self, ans);
+    }
+}

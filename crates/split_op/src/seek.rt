@@ -1,0 +1,39 @@
+//! Which words of a side are copied.
+
+ghost use Rattle.std.specs.Prelude.{◌≡◌, ◌<◌, ◌≤◌, slice_index};
+ghost use Rattle.word_bits.specs.Bits.{bit};
+ghost use Rattle.split_op.specs.Tasks.{is_copied, copied_from};
+
+use crate::task::SLOT_WORDS;
+use word_bits::is_set;
+
+/// Whether a word of the side is copied, by its number in the slot: of each bucket the metadata that is not 0, and key and value of
+/// each record slot that is taken.
+pub(crate) fn is_copied(words: &[u64; 2112], number: u16) -> bool
+    requires { number < 2144 }
+    ensures { result ≡ is_copied words.now number }
+{
+    let place = number % 32;
+    if place == 0 {
+        false
+    } else if place < 4 {
+        words[usize::from(number.saturating_sub(32))] != 0
+    } else {
+        is_set(
+            words[usize::from((number - place).saturating_sub(31))],
+            u32::from((place - 4) / 2),
+        )
+    }
+}
+
+/// The first word that is copied of those from a number on.
+pub(crate) fn copied_from(words: &[u64; 2112], from: u16) -> u16
+    ensures { result ≡ copied_from words.now from }
+{
+    for number in from..SLOT_WORDS {
+        if is_copied(words, number) {
+            return number;
+        }
+    }
+    SLOT_WORDS
+}

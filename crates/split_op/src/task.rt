@@ -1,0 +1,165 @@
+//! What a split stores, one store after another.
+
+ghost use Rattle.std.specs.Prelude.{◌≡◌, ◌<◌, ◌≤◌, ◌+◌, ◌^◌, length};
+ghost use Rattle.word_bits.specs.Bits.{bit};
+ghost use Rattle.split_op.specs.Copied.{header_of, split_head, side_head};
+ghost use Rattle.split_op.specs.Tasks.{slot_word, empty_value, first_of, after_empty, due, after};
+
+use crate::copied::Copied;
+use crate::seek::copied_from;
+use enclose_op::Enclosed;
+use image_layout::{Geometry, ROOT_WORD};
+use segment_head::word::{FRESH, SPLITTING, depth_of, pattern_of, version_of};
+use word_bits::with_bits;
+
+/// What is stored. Words of a slot are numbered from its first header word on: number 1 is its header, number 2 its link, and number
+/// `32 + 32 * b` the lock word of bucket `b`.
+#[derive(Clone, Copy, Debug, PartialEq, Eq)]
+pub enum Task {
+    /// The link, the locks and the metadata of the slot are emptied, and this word is the next.
+    Empty(u16),
+    /// The slot is linked, or it was.
+    Link(bool),
+    /// The segment is marked as splitting, or it was.
+    Mark(bool),
+    /// The slot is marked as a new side, or it was.
+    New(bool),
+    /// The records are copied, and this word is the next.
+    Copy(u16),
+}
+
+/// How many words a slot has.
+pub const SLOT_WORDS: u16 = 2144;
+
+// ---- headers
+
+/// The header of these fields.
+fn header_of(version: u8, state: u8, depth: u8, pattern: u32) -> u64
+    ensures { result ≡ header_of version state depth pattern }
+{
+    let word = with_bits(u64::from(version), 8, u64::from(state));
+    let word = with_bits(word, 16, u64::from(depth));
+    with_bits(word, 32, u64::from(pattern))
+}
+
+/// The header of a segment while it is split.
+pub fn split_head(whole: &Enclosed) -> u64
+    ensures { result ≡ split_head whole.now }
+{
+    header_of(
+        version_of(whole.head),
+        SPLITTING,
+        depth_of(whole.head),
+        pattern_of(whole.head),
+    )
+}
+
+/// The header of its new side.
+pub fn side_head(whole: &Enclosed) -> u64
+    ensures { result ≡ side_head whole.now }
+{
+    header_of(
+        whole.site.version,
+        FRESH,
+        depth_of(whole.head).wrapping_add(1),
+        pattern_of(whole.head).wrapping_mul(2).wrapping_add(1),
+    )
+}
+
+// ---- words of slots
+
+/// A word of a slot, by its number; a slot that the image has not gives the root's word.
+pub fn slot_word(geometry: &Geometry, slot: u64, number: u16) -> u64
+    ensures { result ≡ slot_word geometry.now slot number }
+{
+    if slot < geometry.segments() {
+        geometry.head_at(slot) + u64::from(number)
+    } else {
+        ROOT_WORD
+    }
+}
+
+/// What a word of the slot is emptied to: a lock word to the free value of its version, and another to 0.
+fn empty_value(locks: &[u64; 66], number: u16) -> u64
+    requires { number < 2144 }
+    ensures { result ≡ empty_value locks.now number }
+{
+    if number < 32 || number % 32 > 0 {
+        0
+    } else {
+        locks[usize::from(number / 32 - 1)] / 2 * 2
+    }
+}
+
+/// The first word of a bucket that is emptied: its lock word where that is not free.
+fn first_of(locks: &[u64; 66], bucket: u16) -> u16
+    ensures is { result ≡ first_of locks.now bucket }
+{
+    if bucket >= 66 {
+        SLOT_WORDS
+    } else if locks[usize::from(bucket)] % 2 == 0 {
+        32 * bucket + 33
+    } else {
+        32 * bucket + 32
+    }
+}
+
+/// The word that is emptied after one: behind the link, and behind the metadata of each bucket, the first one of the next bucket.
+fn after_empty(locks: &[u64; 66], number: u16) -> u16
+    requires { number < 2144 }
+    ensures { result ≡ after_empty locks.now number }
+{
+    if number >= 32 && number % 32 < 3 {
+        number + 1
+    } else {
+        first_of(locks, number / 32)
+    }
+}
+
+// ---- the stores
+
+/// The store that is to come: its word and its value.
+pub fn due(copied: &Copied, locks: &[u64; 66], task: Task) -> Option<(u64, u64)>
+    ensures { result ≡ due copied.now locks.now task }
+{
+    let geometry = &copied.whole.site.geometry;
+    match task {
+        Task::Empty(number) if number < SLOT_WORDS => Some((
+            slot_word(geometry, copied.side, number),
+            empty_value(locks, number),
+        )),
+        Task::Link(false) => Some((
+            slot_word(geometry, copied.whole.segment, 2),
+            copied.side.wrapping_add(1),
+        )),
+        Task::Mark(false) => Some((
+            slot_word(geometry, copied.whole.segment, 1),
+            split_head(&copied.whole),
+        )),
+        Task::New(false) => Some((
+            slot_word(geometry, copied.side, 1),
+            side_head(&copied.whole),
+        )),
+        Task::Copy(number) if number < SLOT_WORDS => Some((
+            slot_word(geometry, copied.side, number),
+            copied.words[usize::from(number.saturating_sub(32))],
+        )),
+        _ => None,
+    }
+}
+
+/// What is to come after it.
+pub fn after(copied: &Copied, locks: &[u64; 66], task: Task) -> Task
+    ensures { result ≡ after copied.now locks.now task }
+{
+    match task {
+        Task::Empty(number) if number < SLOT_WORDS => Task::Empty(after_empty(locks, number)),
+        Task::Copy(number) if number < SLOT_WORDS => {
+            Task::Copy(copied_from(&copied.words, number + 1))
+        }
+        Task::Link(_) => Task::Link(true),
+        Task::Mark(_) => Task::Mark(true),
+        Task::New(_) => Task::New(true),
+        done => done,
+    }
+}
