@@ -1,0 +1,139 @@
+-- Word 1 of a bucket without the records that went to the side: what its store frees.
+use Rattle.std.proofs.Common.{◌≡◌, ◌≢◌, ℕ, ◌+◌, ◌*◌, ◌/◌, ◌^◌, ◌<◌, ◌≤◌, ◌⊎◌, Bool, true, false, inl, inr, refl, sym, ap, ◌∙◌, subst, arith}
+use Rattle.std.specs.Prelude.{◌==◌, not, if◌then◌else◌, slice_index}
+use Rattle.std.proofs.lemmas.Bool.{cases_eq, cases_lt, eqb-true, eq-eqb, ne_eqb, lt-ltb, le-ltb}
+use Rattle.trace.specs.Events.{Words}
+use Rattle.word_bits.specs.Bits.{bit}
+use Rattle.bucket_meta.specs.Bucket.{allocated, member, record_slots}
+use Rattle.hash_word.specs.Hash.{Covers}
+use Rattle.image_layout.specs.Places.{Shape, bucket_at, buckets}
+use Rattle.sound_image.specs.Records.{key_hash}
+use Rattle.whole_segment.specs.Slots.{IsSetOf, AreHalves, copied_mark}
+use Rattle.whole_segment.specs.Records.{IsCovered, covered_set}
+use Rattle.whole_segment.proofs.marking.MarkHalves.{are_halves}
+use Rattle.whole_segment.proofs.Telling.{covered_is}
+use Rattle.bucket_words.specs.Buckets.{key_in}
+use Rattle.world.specs.Ground.{Ground}
+use Rattle.world.specs.areas.Splitting.{ClearsRegion}
+use Rattle.phase.specs.Giving.{IsLocated}
+use Rattle.enclose_op.specs.declared.enclosed.Enclosed.{Enclosed}
+use Rattle.enclose_op.specs.Whole.{kept_first}
+use Rattle.rest_op.specs.declared.op.RestOp.{RestOp}
+use Rattle.rest_op.specs.Steps.{is_cleared, clear_from}
+use Rattle.rest_op.specs.Reckoned.{kept_third, kept_key, side_depth, side_pattern, cleared_of, IsReckoned}
+use Rattle.rest_op.specs.Stands.{cleared_before}
+use Rattle.rest_op.proofs.Seeking.{seek_behind, seek_fails}
+use Rattle.rest_op.proofs.Words.{rest_words, other_value, bucket_here}
+
+-- ---- the slots that it frees
+module _ (e : Enclosed) (small : (i : ℕ) → slice_index e.buckets i < 2 ^ 64) (b : ℕ) where
+  abbrev covered : ℕ
+  covered = covered_set (kept_first e) (kept_key e) (key_hash e.site.geometry) (side_depth e) (side_pattern e) b
+
+  set : IsSetOf (IsCovered (kept_first e) (kept_key e) (key_hash e.site.geometry) (side_depth e) (side_pattern e) b) covered
+  set = covered_is (kept_first e) (kept_key e) (key_hash e.site.geometry) (side_depth e) (side_pattern e) b
+
+  pub halves : AreHalves (kept_first e b) covered (copied_mark (kept_first e b) covered) (cleared_of e b)
+  halves = are_halves (kept_first e b) covered (small (32 * b + 1)) set.within
+
+  -- each slot says what it said, or is free, and then a record there was of the side
+  pub slot_says : (r : ℕ) → r < record_slots → ((allocated r (cleared_of e b) ≡ allocated r (kept_first e b)) × (member r (cleared_of e b) ≡ member r (kept_first e b)))
+      ⊎ ((allocated r (cleared_of e b) ≡ 0) × Covers (side_depth e) (side_pattern e) (key_hash e.site.geometry (kept_key e b r)))
+  slot_says r low = elim (cases_eq (bit r covered) 1) [
+    | inl one ↦ inr ((halves.moved r low one).1.taken, ((set.each r low).0 one).covers)
+    | inr other ↦ (let zero : bit r covered ≡ 0 = omega (arith, other) in let same = (halves.stayed r low zero).1 in inl (same.taken, same.membership))
+  ]
+
+  -- a record of the side is freed
+  pub side_freed : (r : ℕ) → r < record_slots → allocated r (kept_first e b) ≡ 1 → Covers (side_depth e) (side_pattern e) (key_hash e.site.geometry (kept_key e b r)) → allocated r (cleared_of e b) ≡ 0
+  side_freed r low taken covers = (halves.moved r low ((set.each r low).1 (record { taken = taken; covers = covers }))).1.taken
+
+-- ---- as the store of a word
+module _ (site : Ground) (op : RestOp) (l : IsLocated site op.whole.site op.whole.segment) (small : (i : ℕ) → slice_index op.whole.buckets i < 2 ^ 64) (reckoned : IsReckoned op)
+    (first : ℕ → ℕ) (head link b : ℕ) (near : b < buckets) (is : first b ≡ kept_first op.whole b) where
+  abbrev e : Enclosed
+  e = op.whole
+
+  abbrev word : Words
+  word = rest_words site.shape e first (kept_third e) head link
+
+  abbrev at : ℕ
+  at = bucket_at site.shape e.segment b
+
+  mark_here : word (at + 1) ≡ kept_first e b
+  mark_here = bucket_here site.shape e first (kept_third e) head link b 1 (omega arith) ∙ is
+
+  even_apart : (r : ℕ) → 4 + 2 * r ≢ 1
+  even_apart r q = omega (arith, q)
+
+  far_apart : (r : ℕ) → 4 + 2 * r ≢ 3
+  far_apart r q = omega (arith, q)
+
+  key_here : (r : ℕ) → r < record_slots → key_in word at r ≡ kept_key e b r
+  key_here r low =
+      ap word (by at r) ∙ bucket_here site.shape e first (kept_third e) head link b (4 + 2 * r) (omega (arith, low))
+      ∙ other_value e first (kept_third e) b (4 + 2 * r) (even_apart r) (far_apart r)
+    where
+      by : (i r : ℕ) → i + 4 + 2 * r ≡ i + (4 + 2 * r)
+      by i r = omega arith
+
+  -- THE STORE frees no slots but such whose records the side covers
+  pub clears : ClearsRegion site word at (side_depth e) (side_pattern e) (word (at + 1)) (slice_index op.cleared b)
+  clears = record {
+    slots = λ r low. elim (slot_says e small b r low) [
+      | inl same ↦ inl (ap (allocated r) (reckoned.cleared b near) ∙ same.0 ∙ sym (ap (allocated r) mark_here), ap (member r) (reckoned.cleared b near) ∙ same.1 ∙ sym (ap (member r) mark_here))
+      | inr free ↦ inr (
+        ap (allocated r) (reckoned.cleared b near) ∙ free.0,
+        λ taken. subst (λ k. Covers (side_depth e) (side_pattern e) (key_hash site.shape k)) (sym (key_here r low))
+            (subst (λ (g : Shape). Covers (side_depth e) (side_pattern e) (key_hash g (kept_key e b r))) l.shape free.1),
+      )
+    ];
+    overflow = ap (λ w. w / 2 ^ 28) (reckoned.cleared b near) ∙ (halves e small b).upper ∙ sym (ap (λ w. w / 2 ^ 28) mark_here);
+  }
+
+-- ---- word 1 of each bucket, while they are cleared
+module _ (op : RestOp) where
+  pub before_here : (b : ℕ) → cleared_before op b b ≡ kept_first op.whole b
+  before_here b = ap (λ t. if t then slice_index op.cleared b else kept_first op.whole b) (le-ltb b b (omega arith))
+
+  not_true : (b : Bool) → not b ≡ false → b ≡ true
+  not_true true fails = refl
+  not_true false fails = absurd (cc)
+
+  -- a bucket that is passed over is as it was
+  same_here : (c : ℕ) → is_cleared op c ≡ false → slice_index op.cleared c ≡ kept_first op.whole c
+  same_here c fails = eqb-true (slice_index op.cleared c) (kept_first op.whole c) (not_true (slice_index op.cleared c == kept_first op.whole c) fails)
+
+  -- those from one on are passed over up to the next one
+  module _ (from c : ℕ) where
+    abbrev choice : Bool → ℕ
+    choice t = if t then slice_index op.cleared c else kept_first op.whole c
+
+    between : from ≤ c → c < clear_from op from → cleared_before op (clear_from op from) c ≡ cleared_before op from c
+    between behind low =
+        ap choice (lt-ltb c (clear_from op from) low) ∙ same_here c (seek_fails (is_cleared op) buckets from c behind low) ∙ sym (ap choice (le-ltb c from behind))
+
+    pub passed_over : cleared_before op (clear_from op from) c ≡ cleared_before op from c
+    passed_over = elim (cases_lt c from) [
+      | inl low ↦ (let on = seek_behind (is_cleared op) buckets from in ap choice (lt-ltb c (clear_from op from) (omega (arith, low, on)) ∙ sym (lt-ltb c from low)))
+      | inr behind ↦ elim (cases_lt c (clear_from op from)) [ inl low ↦ between behind low | inr high ↦ ap choice (le-ltb c (clear_from op from) high ∙ sym (le-ltb c from behind)) ]
+    ]
+
+  -- once a bucket is cleared those before the next one are; and at the end all are
+  pub cleared_more : (b c : ℕ) → cleared_before op (b + 1) c ≡ (if c == b then slice_index op.cleared b else cleared_before op b c)
+  cleared_more b c = elim (cases_eq c b) [
+    | inl same ↦
+        ap (λ t. if t then slice_index op.cleared c else kept_first op.whole c) (lt-ltb c (b + 1) (omega (arith, same))) ∙ ap (slice_index op.cleared) same
+        ∙ sym (ap (λ t. if t then slice_index op.cleared b else cleared_before op b c) (eq-eqb c b same))
+    | inr apart ↦ elim (cases_lt c b) [
+      | inl low ↦
+          ap (λ t. if t then slice_index op.cleared c else kept_first op.whole c) (lt-ltb c (b + 1) (omega (arith, low)) ∙ sym (lt-ltb c b low))
+          ∙ sym (ap (λ t. if t then slice_index op.cleared b else cleared_before op b c) (ne_eqb c b apart))
+      | inr high ↦
+          ap (λ t. if t then slice_index op.cleared c else kept_first op.whole c) (le-ltb c (b + 1) (omega (arith, high, apart)) ∙ sym (le-ltb c b high))
+          ∙ sym (ap (λ t. if t then slice_index op.cleared b else cleared_before op b c) (ne_eqb c b apart))
+    ]
+  ]
+
+  pub all_cleared : (c : ℕ) → c < buckets → slice_index op.cleared c ≡ cleared_before op buckets c
+  all_cleared c near = sym (ap (λ t. if t then slice_index op.cleared c else kept_first op.whole c) (lt-ltb c buckets near))

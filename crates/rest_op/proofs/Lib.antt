@@ -1,0 +1,15 @@
+pub mod Places
+pub mod Words
+pub mod Seeking
+pub mod Stashing
+pub mod Reckoning
+pub mod Known
+pub mod Clearing
+pub mod Halving
+pub mod Opening
+pub mod Rounding
+pub mod Ending
+pub mod Noting
+pub mod Opens
+pub mod Counting
+pub mod RestIsPart

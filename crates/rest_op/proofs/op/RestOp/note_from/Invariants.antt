@@ -1,0 +1,10 @@
+-- None before this one passes, so the first from here is the first from the beginning.
+use Rattle.std.proofs.Common.{◌≡◌, ◌≤◌, ◌-◌}
+use Rattle.rest_op.specs.Steps.{seek, is_noted, note_from}
+use Rattle.rest_op.proofs.op.RestOp.note_from.Given as goal
+
+abbrev pub invariant-loop-number : goal.invariant-loop-number
+invariant-loop-number l = record {
+  near : l.number ≤ 128;
+  rest : seek (is_noted l.self) (128 - l.number) l.number ≡ note_from l.self l.from;
+}

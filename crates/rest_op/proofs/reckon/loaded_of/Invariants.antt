@@ -1,0 +1,14 @@
+-- The words of the buckets before this one are put.
+use Rattle.std.proofs.Common.{◌≡◌, ◌<◌, ℕ}
+use Rattle.bucket_meta.specs.Bucket.{record_slots}
+use Rattle.whole_segment.specs.Records.{first_in, third_in, key_in}
+use Rattle.enclose_op.specs.Whole.{kept_first}
+use Rattle.rest_op.specs.Reckoned.{kept_third, kept_key}
+use Rattle.rest_op.proofs.reckon.loaded_of.Given as goal
+
+abbrev pub invariant-loop-bucket : goal.invariant-loop-bucket
+invariant-loop-bucket l = record {
+  first : (b : ℕ) → b < l.bucket → first_in l.loaded b ≡ kept_first l.whole b;
+  third : (b : ℕ) → b < l.bucket → third_in l.loaded b ≡ kept_third l.whole b;
+  keys : (b r : ℕ) → b < l.bucket → r < record_slots → key_in l.loaded b r ≡ kept_key l.whole b r;
+}

@@ -1,0 +1,4 @@
+pub mod Steps
+pub mod Reckoned
+pub mod Stands
+pub mod RestPart

@@ -1,0 +1,125 @@
+-- The rest of a split as a part of a call: with what it may begin, and how it ends.
+use Rattle.std.specs.Prelude.{◌≡◌, ℕ, ◌+◌, ◌-◌, nat_lt, ⊤, false, Option, None, Some, [], ◌∷◌, length, if◌then◌else◌}
+use Rattle.op_core.specs.declared.want.Want.TheVariants as want
+use Rattle.segment_head.specs.HeadWord.{version_in, depth_in, pattern_in, splitting}
+use Rattle.image_layout.specs.Places.{buckets}
+use Rattle.frame_facts.specs.Facts.{Lacks, Deep}
+use Rattle.map_model.specs.declared.call.Call.{Call}
+use Rattle.world.specs.declared.site.Site.{Site}
+use Rattle.world.specs.Ground.{Ground}
+use Rattle.world.specs.Views.{View, Has}
+use Rattle.world.specs.Holders.{KnowsWord}
+use Rattle.world.specs.areas.Areas.{Segment, Whole, header_word}
+use Rattle.world.specs.areas.Splitting.{link_word, IsHeader, KnowsBuckets}
+use Rattle.part.specs.Outcomes.{Outcome, finished}
+use Rattle.part.specs.Part.{Part}
+use Rattle.phase.specs.Giving.{IsQuiet}
+use Rattle.rounds.specs.declared.rounds.RoundStep.{RoundStep}
+use Rattle.rounds.specs.declared.rounds.RoundStep.TheVariants.{Storing, Flushing, Fencing}
+use Rattle.rounds.specs.declared.rounds.Rounds.{Rounds}
+use Rattle.rounds.specs.Left.{rounds_left}
+use Rattle.enclose_op.specs.declared.enclosed.Enclosed.{Enclosed}
+use Rattle.enclose_op.specs.Whole.{kept_words, IsOf, IsWhole, HoldsLocks, KnowsOnlyOf}
+use Rattle.enclose_op.specs.Fits.{give_left}
+use Rattle.rest_op.specs.declared.op.RestEnd.TheVariants as ends
+use Rattle.rest_op.specs.declared.op.RestStep.{RestStep}
+use Rattle.rest_op.specs.declared.op.RestStep.TheVariants.{Clear, Head, HeadFlush, HeadFence, Note, Open, Give, Ended}
+use Rattle.rest_op.specs.declared.op.RestOp.{RestOp}
+use Rattle.rest_op.specs.Steps.{most_lines, wanted, taken, begun_in, end_of}
+use Rattle.rest_op.specs.Reckoned.{side_depth, side_pattern, IsReckoned}
+use Rattle.rest_op.specs.Stands.{kind_at, SuitsStep}
+
+-- ---- what is decided
+abbrev pub outcome_at : RestStep → Option Outcome
+outcome_at Ended = Some finished
+outcome_at step = None
+
+-- ---- at most so many events are left
+-- 128 notes, 66 locks and the guard
+abbrev pub after_head : ℕ
+after_head = 195
+
+-- while buckets are cleared, no round has touched more lines than it may
+abbrev pub clear_left : ℕ → Rounds → ℕ
+clear_left b rounds = if nat_lt most_lines (length rounds.round) then 0 else rounds_left rounds (buckets - b) + 3 + after_head
+
+abbrev pub left_at : RestStep → ℕ
+left_at (Clear b rounds) = clear_left b rounds
+left_at Head = 3 + after_head
+left_at HeadFlush = 2 + after_head
+left_at HeadFence = 1 + after_head
+left_at (Note n) = 68 + (127 - n)
+left_at Open = 67
+left_at (Give give) = give_left give
+left_at Ended = 0
+
+abbrev pub most_events : ℕ
+most_events = 405
+
+-- ---- lines that are flushed and not fenced
+abbrev pub round_waiting : RoundStep → ℕ
+round_waiting Storing = 0
+round_waiting (Flushing i) = if nat_lt i 8 then i else 8
+round_waiting Fencing = 8
+
+abbrev pub waiting_at : RestStep → ℕ
+waiting_at (Clear b rounds) = if nat_lt most_lines (length rounds.round) then 0 else round_waiting rounds.step
+waiting_at HeadFence = 1
+waiting_at step = 0
+
+-- ---- THE VIEW
+-- it goes on from a whole segment of this call, by what was reckoned right of it
+pub record RestStands (site : Ground) (here : Site) (call : Call) (op : RestOp) (v : View) : Type 0 where
+  pub is : IsOf site here call op.whole
+  pub whole : IsWhole site op.whole
+  pub reckoned : IsReckoned op
+  pub view : SuitsStep site op op.step v
+
+-- THE REST OF A SPLIT AS A PART
+abbrev pub rest_part : Part RestOp
+rest_part = record {
+  wanted = wanted;
+  taken = taken;
+  kind = λ op n. kind_at op op.step;
+  Stands = RestStands;
+  outcome = λ op. outcome_at op.step;
+  Remembers = λ site op did. ⊤;
+  HasWorked = λ site op did. ⊥;
+  HasMade = λ op. ⊥;
+  left = λ op. left_at op.step;
+  most_events = most_events;
+  is_waiting = λ op. false;
+  waiting = λ op. waiting_at op.step;
+  most_waiting = 8;
+  hands_on = λ op. false;
+}
+
+-- ---- where it begins
+-- WHAT IT GOES ON FROM, once the side is published: the segment is splitting still, and whole; its header, its link and its words are known and
+-- settled; and of its 1-side it claims nothing, and all entries name deeper segments
+pub record KeepsSplit (site : Ground) (here : Site) (call : Call) (e : Enclosed) (v : View) : Type 0 where
+  pub is : IsOf site here call e
+  pub whole : IsWhole site e
+  pub areas : v.areas ≡ Whole e.segment ∷ Segment e.segment ∷ []
+  pub locks : HoldsLocks site e v
+  pub head : ℕ
+  pub header : KnowsWord v (header_word site.shape e.segment) head
+  pub is_head : IsHeader head splitting (depth_in e.head) (pattern_in e.head) (version_in e.head)
+  pub link : (l : ℕ) × KnowsWord v (link_word site.shape e.segment) l
+  pub buckets_are : KnowsBuckets site.shape v e.segment (kept_words e)
+  pub known : KnowsOnlyOf site e v
+  pub lacks : Has (Lacks e.segment (side_depth e) (side_pattern e)) v.facts
+  pub deep : Has (Deep (depth_in e.head) (side_depth e) (side_pattern e)) v.facts
+  pub quiet : IsQuiet v
+
+-- with such a view, where it was reckoned right
+abbrev pub BeginsAsPart : Type 0
+BeginsAsPart = (site : Ground) (here : Site) (call : Call) (op : RestOp) (v : View) → KeepsSplit site here call op.whole v → IsReckoned op → op.step ≡ begun_in op → RestStands site here call op v
+
+-- and nothing is decided
+abbrev pub BeginsUndecided : Type 0
+BeginsUndecided = (op : RestOp) → outcome_at (begun_in op) ≡ None
+
+-- ---- IT ENDS with the split made
+abbrev pub EndsAsSplit : Type 0
+EndsAsSplit = (site : Ground) (here : Site) (call : Call) (op : RestOp) (v : View) → RestStands site here call op v → wanted op ≡ want.Done → (outcome_at op.step ≡ Some finished) × (end_of op ≡ ends.Split)
