@@ -1,0 +1,323 @@
+-- Fewer events are left after each, but while the guard is waited for.
+use Rattle.std.proofs.Common.{◌≡◌, ◌≢◌, ℕ, suc, ◌+◌, ◌-◌, ◌*◌, ◌%◌, ◌^◌, ◌<◌, ◌≤◌, ◌⊎◌, inl, inr, true, false, cond, Option, None, Some, List, length, refl, sym, ap, subst, arith}
+use Rattle.std.specs.Prelude.{◌==◌, min, slice_index}
+use Rattle.std.proofs.Math.Pow.{pow_mono}
+use Rattle.std.proofs.lemmas.Bool.{cases_Bool, cases_lt, lt-ltb, le-ltb, le-leb, lt-leb}
+use Rattle.op_core.specs.declared.want.Want.{Want}
+use Rattle.op_core.specs.declared.want.Want.TheVariants as want
+use Rattle.op_core.specs.declared.want.Ans.{Ans}
+use Rattle.op_core.specs.declared.want.Ans.TheVariants.{Value, Won, Lost, Passed}
+use Rattle.op_core.specs.Answers.{IsAnswer}
+use Rattle.segment_head.specs.HeadWord.{depth_in, pattern_in}
+use Rattle.part.specs.Part.{EndsInTime}
+use Rattle.rounds.specs.declared.rounds.RoundStep.{RoundStep}
+use Rattle.rounds.specs.declared.rounds.RoundStep.TheVariants.{Storing, Flushing, Fencing}
+use Rattle.rounds.specs.declared.rounds.Rounds.{Rounds}
+use Rattle.rounds.specs.Steps.{begun, rounds_stores, rounds_wanted, rounds_taken}
+use Rattle.rounds.specs.Left.{round_left, left_at, rounds_left}
+use Rattle.rounds.proofs.Events.{event_cases, events_end, cases_wanted, none_stored}
+use Rattle.rounds.proofs.Falling.{rounds_fall}
+use Rattle.directory_op.specs.declared.op.DirectoryEnd.TheVariants.{Off}
+use Rattle.directory_op.specs.declared.op.Stage.{Stage}
+use Rattle.directory_op.specs.declared.op.Stage.TheVariants.{Fill, Filled, Deepen, Deepened, GoLive, Live, Enter, Entered}
+use Rattle.directory_op.specs.declared.op.DirectoryStep.{DirectoryStep}
+use Rattle.directory_op.specs.declared.op.DirectoryStep.TheVariants.{LoadHead, LoadSideHead, TakeGuard, AskPower, LoadRoot, LoadEntry, Store, GiveGuard, Ended}
+use Rattle.directory_op.specs.declared.op.DirectoryOp.{DirectoryOp}
+use Rattle.directory_op.specs.Places.{entries_of, run_of, side_first, side_last}
+use Rattle.directory_op.specs.Steps.{shape_of, next_store, fill_on, stage_after, settled_to, settled_by, passed_to, passed, want_or_none, put_wanted, wanted_in, power_step, rooted, with_root, taken_in}
+use Rattle.directory_op.specs.Left.{after_filled, fill_left, stage_left, few_left, step_left, left_of, guarded_left, is_trying}
+use Rattle.directory_op.specs.DirectoryPart.{goes_on, directory_part}
+
+none_some : {A : Type 0} {x : A} → Some x ≡ None → ⊥
+none_some e = cc
+
+-- ---- numbers
+pub few_entries : (depth : ℕ) → entries_of depth ≤ 65536
+few_entries depth = elim (cases_lt 16 depth) [
+  | inl high ↦ (let e = ap (λ b. cond b (2 ^ depth) 0) (lt-leb depth 16 high) in omega (arith, e))
+  | inr low ↦ (let e = ap (λ b. cond b (2 ^ depth) 0) (le-leb depth 16 low) in let most = pow_mono {i = depth} {j = 16} low in omega (arith, e, most))
+]
+
+-- behind one of several entries the next one is to be stored
+next_entry : (all place l m k : ℕ) → place < all → 3 * (all - place) + l < 3 * suc (all - place) + m
+    → 3 * suc (all - (place + 1)) + l + (all - (place + 1)) + k < 3 * suc (all - place) + m + (all - place) + k
+next_entry all place l m k low law = omega (arith, low, law)
+
+load_next : (all place l m k : ℕ) → place < all → 3 * (all - place) + l < 3 * suc (all - place) + m
+    → 1 + (3 * suc (all - (place + 1)) + l + (all - (place + 1)) + k) < 3 * suc (all - place) + m + (all - place) + k
+load_next all place l m k low law = omega (arith, low, law)
+
+none_next : (all place l m k : ℕ) → 3 * (all - place) + l < 3 * suc (all - place) + m → 3 * 0 + l + k < 3 * suc (all - place) + m + (all - place) + k
+none_next all place l m k law = omega (arith, law)
+
+side_next : (all place l m : ℕ) → place < all → 3 * (all - place) + l < 3 * suc (all - place) + m → 3 * suc (all - (place + 1)) + l + 1 < 3 * suc (all - place) + m + 1
+side_next all place l m low law = omega (arith, low, law)
+
+side_over : (all place l m : ℕ) → 3 * (all - place) + l < 3 * suc (all - place) + m → 3 * 0 + l + 1 < 3 * suc (all - place) + m + 1
+side_over all place l m law = omega (arith, law)
+
+below_all : (a b c : ℕ) → a < min b c - 1 → a < c
+below_all a b c low = omega (arith, low)
+
+-- ---- what is answered to an event of the rounds
+store_passes : (i x : ℕ) (a : Ans) → IsAnswer (want.Store i x) a → a ≡ Passed
+store_passes i x Passed e = refl
+store_passes i x a e = absurd e
+
+flush_passes : (l : ℕ) (a : Ans) → IsAnswer (want.Flush l) a → a ≡ Passed
+flush_passes l Passed e = refl
+flush_passes l a e = absurd e
+
+fence_passes : (a : Ans) → IsAnswer want.Fence a → a ≡ Passed
+fence_passes Passed e = refl
+fence_passes a e = absurd e
+
+none_passes : (a : Ans) → IsAnswer want.Done a → ⊥
+none_passes a e = e
+
+pub round_passes : (rounds : Rounds) (next : Option (ℕ × ℕ)) (a : Ans) → IsAnswer (want_or_none (rounds_wanted rounds next)) a → a ≡ Passed
+round_passes rounds next a i = elim (cases_wanted (rounds_wanted rounds next)) [
+  | inl none ↦ absurd (none_passes a (subst (λ (o : Option Want). IsAnswer (want_or_none o) a) none i))
+  | inr some ↦
+      let i : IsAnswer some.0 a = subst (λ (o : Option Want). IsAnswer (want_or_none o) a) some.1 i in
+      elim (event_cases rounds next some.0 some.1) [
+        | inl s ↦ store_passes s.word s.value a (subst (λ (w : Want). IsAnswer w a) s.wants i)
+        | inr f ↦ elim f [
+          | inl f ↦ flush_passes (slice_index rounds.round f.number) a (subst (λ (w : Want). IsAnswer w a) f.wants i)
+          | inr f ↦ fence_passes a (subst (λ (w : Want). IsAnswer w a) f.wants i)
+        ]
+      ]
+]
+
+-- ---- what is left whether or not a round has more lines than it may have
+abbrev raw_left : DirectoryOp → DirectoryStep → ℕ
+raw_left op LoadHead = 3 + guarded_left
+raw_left op LoadSideHead = 2 + guarded_left
+raw_left op TakeGuard = 1 + guarded_left
+raw_left op AskPower = 1 + guarded_left
+raw_left op LoadRoot = guarded_left
+raw_left op (LoadEntry place) = 1 + fill_left op place
+raw_left op (Store stage) = stage_left op stage
+raw_left op GiveGuard = 1
+raw_left op (Ended end) = 0
+
+few_below : (op : DirectoryOp) (left : ℕ) → few_left op left ≤ left
+few_below op left = elim (cases_lt 8 (length op.rounds.round)) [
+  | inl many ↦ subst (λ b. cond b 0 left ≤ left) (sym (lt-ltb 8 (length op.rounds.round) many)) (omega arith)
+  | inr few ↦ subst (λ b. cond b 0 left ≤ left) (sym (le-ltb 8 (length op.rounds.round) few)) (omega arith)
+]
+
+few_is : (op : DirectoryOp) (left : ℕ) → length op.rounds.round ≤ 8 → few_left op left ≡ left
+few_is op left few = ap (λ b. cond b 0 left) (le-ltb 8 (length op.rounds.round) few)
+
+below_raw : (op : DirectoryOp) (step : DirectoryStep) → step_left op step ≤ raw_left op step
+below_raw op LoadHead = omega arith
+below_raw op LoadSideHead = omega arith
+below_raw op TakeGuard = omega arith
+below_raw op AskPower = omega arith
+below_raw op LoadRoot = omega arith
+below_raw op (LoadEntry place) = let low = few_below op (fill_left op place) in omega (arith, low)
+below_raw op (Store stage) = few_below op (stage_left op stage)
+below_raw op GiveGuard = omega arith
+below_raw op (Ended end) = omega arith
+
+-- an event is wanted of a round that has no more lines
+pub put_few : (rounds : Rounds) (next : Option (ℕ × ℕ)) (a : Ans) → IsAnswer (put_wanted rounds next) a → (length rounds.round ≤ 8) × IsAnswer (want_or_none (rounds_wanted rounds next)) a
+put_few rounds next a i = elim (cases_lt 8 (length rounds.round)) [
+  | inl many ↦ absurd (none_passes a (subst (λ b. IsAnswer (cond b want.Done (want_or_none (rounds_wanted rounds next))) a) (lt-ltb 8 (length rounds.round) many) i))
+  | inr few ↦ (few, subst (λ b. IsAnswer (cond b want.Done (want_or_none (rounds_wanted rounds next))) a) (le-ltb 8 (length rounds.round) few) i)
+]
+
+pub put_wants : (rounds : Rounds) (next : Option (ℕ × ℕ)) → length rounds.round ≤ 8 → put_wanted rounds next ≡ want_or_none (rounds_wanted rounds next)
+put_wants rounds next few = ap (λ b. cond b want.Done (want_or_none (rounds_wanted rounds next))) (le-ltb 8 (length rounds.round) few)
+
+-- ---- the stores of a stage
+module _ (op : DirectoryOp) where
+  -- the state with the rounds behind an event
+  abbrev after : Stage → DirectoryOp
+  after stage = record op { rounds = rounds_taken op.rounds (next_store op stage) }
+
+  abbrev lines_left : Rounds → ℕ
+  lines_left rounds = left_at rounds.round rounds.step
+
+  abbrev all : ℕ
+  all = entries_of op.root
+
+  store_falls : (stage : Stage) → rounds_stores op.rounds (next_store op stage) ≡ true → raw_left (after stage) (stage_after op stage) < stage_left op stage
+  store_falls (Fill place value) is =
+      let stage : Stage = Fill place value in
+      let law = rounds_fall.stores op.rounds (next_store op stage) (all - place) is in
+      let l = lines_left (rounds_taken op.rounds (next_store op stage)) in
+      elim (cases_lt place (all - 1)) [
+        | inl low ↦ subst (λ b. raw_left (after stage) (cond b (fill_on (place % 2 == 0) place value) (Store Filled)) < stage_left op stage) (sym (lt-ltb place (all - 1) low))
+            (elim (cases_Bool (place % 2 == 0)) [
+              | inl even ↦ subst (λ b. raw_left (after stage) (fill_on b place value) < stage_left op stage) (sym even) (next_entry all place l (lines_left op.rounds) after_filled (omega (arith, low)) law)
+              | inr odd ↦ subst (λ b. raw_left (after stage) (fill_on b place value) < stage_left op stage) (sym odd) (load_next all place l (lines_left op.rounds) after_filled (omega (arith, low)) law)
+            ])
+        | inr last ↦ subst (λ b. raw_left (after stage) (cond b (fill_on (place % 2 == 0) place value) (Store Filled)) < stage_left op stage) (sym (le-ltb place (all - 1) last))
+            (none_next all place l (lines_left op.rounds) after_filled law)
+      ]
+  store_falls Filled is = absurd (none_stored op.rounds is)
+  store_falls Deepen is = let law = rounds_fall.stores op.rounds (next_store op Deepen) 0 is in omega (arith, law)
+  store_falls Deepened is = absurd (none_stored op.rounds is)
+  store_falls GoLive is = let law = rounds_fall.stores op.rounds (next_store op GoLive) 0 is in omega (arith, law)
+  store_falls Live is = absurd (none_stored op.rounds is)
+  store_falls (Enter index) is =
+      let stage : Stage = Enter index in
+      let law = rounds_fall.stores op.rounds (next_store op stage) (all - index) is in
+      let l = lines_left (rounds_taken op.rounds (next_store op stage)) in
+      elim (cases_lt index (side_last op.root op.side_head)) [
+        | inl low ↦ subst (λ b. raw_left (after stage) (cond b (Store (Enter (index + 1))) (Store Entered)) < stage_left op stage) (sym (lt-ltb index (side_last op.root op.side_head) low))
+            (side_next all index l (lines_left op.rounds) (below_all index ((pattern_in op.side_head + 1) * run_of op.root op.side_head) all low) law)
+        | inr last ↦ subst (λ b. raw_left (after stage) (cond b (Store (Enter (index + 1))) (Store Entered)) < stage_left op stage) (sym (le-ltb index (side_last op.root op.side_head) last))
+            (side_over all index l (lines_left op.rounds) law)
+      ]
+  store_falls Entered is = absurd (none_stored op.rounds is)
+
+  -- ---- the flushes and fences of a stage
+  stage_falls : (stage : Stage) → rounds_wanted op.rounds (next_store op stage) ≢ None → rounds_stores op.rounds (next_store op stage) ≡ false
+      → stage_left (after stage) stage < stage_left op stage
+  stage_falls (Fill place value) some off = let law = rounds_fall.others op.rounds (next_store op (Fill place value)) (suc (all - place)) some off in omega (arith, law)
+  stage_falls Filled some off = let law = rounds_fall.others op.rounds None 0 some off in omega (arith, law)
+  stage_falls Deepen some off = let law = rounds_fall.others op.rounds (next_store op Deepen) 1 some off in omega (arith, law)
+  stage_falls Deepened some off = let law = rounds_fall.others op.rounds None 0 some off in omega (arith, law)
+  stage_falls GoLive some off = let law = rounds_fall.others op.rounds (next_store op GoLive) 1 some off in omega (arith, law)
+  stage_falls Live some off = let law = rounds_fall.others op.rounds None 0 some off in omega (arith, law)
+  stage_falls (Enter index) some off = let law = rounds_fall.others op.rounds (next_store op (Enter index)) (suc (all - index)) some off in omega (arith, law)
+  stage_falls Entered some off = let law = rounds_fall.others op.rounds None 0 some off in omega (arith, law)
+
+  -- a stage without a store that is settled leaves more than the next one has
+  settled_falls : (stage : Stage) → next_store op stage ≡ None → rounds_taken op.rounds (next_store op stage) ≡ begun → rounds_wanted op.rounds (next_store op stage) ≢ None
+      → rounds_stores op.rounds (next_store op stage) ≡ false → raw_left (after stage) (settled_to op stage) < stage_left op stage
+  settled_falls (Fill place value) none is some off = absurd (none_some none)
+  settled_falls Filled none is some off =
+      let law = rounds_fall.others op.rounds None 0 some off in
+      let begins = ap (λ (r : Rounds). rounds_left r 1) is in omega (arith, law, begins)
+  settled_falls Deepen none is some off = absurd (none_some none)
+  settled_falls Deepened none is some off =
+      let law = rounds_fall.others op.rounds None 0 some off in
+      let begins = ap (λ (r : Rounds). rounds_left r 1) is in omega (arith, law, begins)
+  settled_falls GoLive none is some off = absurd (none_some none)
+  settled_falls Live none is some off =
+      let law = rounds_fall.others op.rounds None 0 some off in
+      let begins = ap (λ (r : Rounds). rounds_left r (suc (all - side_first op.root op.side_head))) is in
+      let few = few_entries op.root in omega (arith, law, begins, few)
+  settled_falls (Enter index) none is some off = absurd (none_some none)
+  settled_falls Entered none is some off = let law = rounds_fall.others op.rounds None 0 some off in omega (arith, law)
+
+  others_fall : (stage : Stage) → rounds_wanted op.rounds (next_store op stage) ≢ None → rounds_stores op.rounds (next_store op stage) ≡ false
+      → raw_left (after stage) (passed_to op stage false) < stage_left op stage
+  others_fall stage some off =
+      let next = next_store op stage in
+      let later = rounds_taken op.rounds next in
+      elim (cases_wanted (rounds_wanted later next)) [
+        | inl none ↦ subst (λ (o : Option Want). raw_left (after stage) (settled_by op stage o) < stage_left op stage) (sym none)
+            (settled_falls stage (events_end later next none).1 (events_end later next none).0 some off)
+        | inr more ↦ subst (λ (o : Option Want). raw_left (after stage) (settled_by op stage o) < stage_left op stage) (sym more.1) (stage_falls stage some off)
+      ]
+
+  -- ---- each event of a stage
+  pass_falls : (stage : Stage) → rounds_wanted op.rounds (next_store op stage) ≢ None → raw_left (passed op stage) (passed op stage).step < stage_left op stage
+  pass_falls stage some = elim (cases_Bool (rounds_stores op.rounds (next_store op stage))) [
+    | inl on ↦ subst (λ b. raw_left (after stage) (passed_to op stage b) < stage_left op stage) (sym on) (store_falls stage on)
+    | inr off ↦ subst (λ b. raw_left (after stage) (passed_to op stage b) < stage_left op stage) (sym off) (others_fall stage some off)
+  ]
+
+  -- ---- the root
+  root_falls : (root : ℕ) → left_of (with_root op root) < guarded_left
+  root_falls root = elim (cases_lt (shape_of op).depth root) [
+    | inl none ↦ subst (λ b. left_of (cond b (record op { step = Ended Off }) (rooted (root == depth_in op.head) op root)) < guarded_left) (sym (lt-ltb (shape_of op).depth root none)) (omega arith)
+    | inr some ↦ subst (λ b. left_of (cond b (record op { step = Ended Off }) (rooted (root == depth_in op.head) op root)) < guarded_left) (sym (le-ltb (shape_of op).depth root some))
+        (elim (cases_Bool (root == depth_in op.head)) [
+          | inl same ↦ subst (λ b. left_of (rooted b op root) < guarded_left) (sym same) (let few = few_entries (root + 1) in omega (arith, few))
+          | inr other ↦ subst (λ b. left_of (rooted b op root) < guarded_left) (sym other) (omega arith)
+        ])
+  ]
+
+  -- ---- each event
+  abbrev FallsOrWaits : DirectoryStep → DirectoryOp → Type 0
+  FallsOrWaits step later = (left_of later < step_left op step) ⊎ ((is_trying step ≡ true) × (is_trying later.step ≡ true) × (left_of later ≡ step_left op step) × (goes_on later.step ≡ false))
+
+  power_waits : (value : ℕ) → FallsOrWaits AskPower (record op { step = power_step value })
+  power_waits value = elim (cases_Bool (value == 0)) [
+    | inl on ↦ subst (λ b. FallsOrWaits AskPower (record op { step = cond b TakeGuard (Ended Off) })) (sym on) (inr (refl, refl, refl, refl))
+    | inr off ↦ subst (λ b. FallsOrWaits AskPower (record op { step = cond b TakeGuard (Ended Off) })) (sym off) (inl (omega arith))
+  ]
+
+  no_answer : (want : Option Want) (a : Ans) → want ≡ None → IsAnswer (want_or_none want) a → ⊥
+  no_answer None a e i = i
+  no_answer (Some want) a e i = none_some e
+
+  falls_in : (step : DirectoryStep) (a : Ans) → IsAnswer (wanted_in op step) a → FallsOrWaits step (taken_in op step a)
+  falls_in LoadHead (Value n) i = inl (omega arith)
+  falls_in LoadHead a i = absurd i
+  falls_in LoadSideHead (Value n) i = inl (omega arith)
+  falls_in LoadSideHead a i = absurd i
+  falls_in TakeGuard Won i = inl (omega arith)
+  falls_in TakeGuard (Lost n) i = inr (refl, refl, refl, refl)
+  falls_in TakeGuard a i = absurd i
+  falls_in AskPower (Value n) i = power_waits n
+  falls_in AskPower a i = absurd i
+  falls_in LoadRoot (Value n) i = inl (root_falls n)
+  falls_in LoadRoot a i = absurd i
+  falls_in (LoadEntry place) (Value n) i = inl (omega arith)
+  falls_in (LoadEntry place) a i = absurd i
+  falls_in (Store stage) a i =
+      let put = put_few op.rounds (next_store op stage) a i in
+      let fewer = pass_falls stage (λ none. no_answer (rounds_wanted op.rounds (next_store op stage)) a none put.1) in
+      let below = below_raw (passed op stage) (passed op stage).step in
+      let now = few_is op (stage_left op stage) put.0 in
+      subst (λ (x : Ans). FallsOrWaits (Store stage) (taken_in op (Store stage) x)) (sym (round_passes op.rounds (next_store op stage) a put.1))
+      (inl (omega (arith, fewer, below, now)))
+  falls_in GiveGuard Passed i = inl (omega arith)
+  falls_in GiveGuard a i = absurd i
+  falls_in (Ended end) a i = absurd i
+
+-- ---- at most so many
+left_most : (lines : List ℕ) → round_left lines ≤ length lines + 1
+left_most lines = elim (cases_lt 0 (length lines)) [
+  | inl some ↦ (let e = ap (λ b. cond b (length lines + 1) 0) (lt-ltb 0 (length lines) some) in omega (arith, e))
+  | inr none ↦ (let e = ap (λ b. cond b (length lines + 1) 0) (le-ltb 0 (length lines) none) in omega (arith, e))
+]
+
+few_lines : (rounds : Rounds) → length rounds.round ≤ 8 → left_at rounds.round rounds.step ≤ 9
+few_lines rounds few = few_at rounds.step
+  where
+    few_at : (step : RoundStep) → left_at rounds.round step ≤ 9
+    few_at Storing = let most = left_most rounds.round in omega (arith, most, few)
+    few_at (Flushing i) = omega (arith, few)
+    few_at Fencing = omega arith
+
+module _ (op : DirectoryOp) (few : length op.rounds.round ≤ 8) where
+  stage_most : (stage : Stage) → stage_left op stage ≤ guarded_left + 8
+  stage_most (Fill place value) = let lines = few_lines op.rounds few in let all = few_entries op.root in omega (arith, lines, all)
+  stage_most Filled = let lines = few_lines op.rounds few in omega (arith, lines)
+  stage_most Deepen = let lines = few_lines op.rounds few in omega (arith, lines)
+  stage_most Deepened = let lines = few_lines op.rounds few in omega (arith, lines)
+  stage_most GoLive = let lines = few_lines op.rounds few in omega (arith, lines)
+  stage_most Live = let lines = few_lines op.rounds few in omega (arith, lines)
+  stage_most (Enter index) = let lines = few_lines op.rounds few in let all = few_entries op.root in omega (arith, lines, all)
+  stage_most Entered = let lines = few_lines op.rounds few in omega (arith, lines)
+
+-- at most so many of a round that has no more lines than it may have, and else none
+few_most : (op : DirectoryOp) (left most : ℕ) → (length op.rounds.round ≤ 8 → left ≤ most) → few_left op left ≤ most
+few_most op left most low = elim (cases_lt 8 (length op.rounds.round)) [
+  | inl many ↦ subst (λ b. cond b 0 left ≤ most) (sym (lt-ltb 8 (length op.rounds.round) many)) (omega arith)
+  | inr few ↦ subst (λ b. cond b 0 left ≤ most) (sym (le-ltb 8 (length op.rounds.round) few)) (low few)
+]
+
+module _ (op : DirectoryOp) where
+  most_at : (step : DirectoryStep) → step_left op step ≤ 3 + guarded_left + 8
+  most_at LoadHead = omega arith
+  most_at LoadSideHead = omega arith
+  most_at TakeGuard = omega arith
+  most_at AskPower = omega arith
+  most_at LoadRoot = omega arith
+  most_at (LoadEntry place) = let most = few_most op (fill_left op place) (guarded_left + 8) (λ few. stage_most op few (Fill place 0)) in omega (arith, most)
+  most_at (Store stage) = let most = few_most op (stage_left op stage) (guarded_left + 8) (λ few. stage_most op few stage) in omega (arith, most)
+  most_at GiveGuard = omega arith
+  most_at (Ended end) = omega arith
+
+-- FEWER EVENTS ARE LEFT, unless it waits
+pub ends_in_time : EndsInTime directory_part
+ends_in_time = record { falls = λ op a i. falls_in op op.step a i; most = λ op. most_at op op.step }

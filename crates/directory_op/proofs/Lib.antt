@@ -1,0 +1,16 @@
+pub mod Falling
+pub mod Passing
+pub mod Flushing
+pub mod Words
+pub mod Keeping
+pub mod Sides
+pub mod Waiting
+pub mod Staying
+pub mod Rounding
+pub mod Storing
+pub mod Fencing
+pub mod Guarding
+pub mod Permitting
+pub mod Stepping
+pub mod Suiting
+pub mod Plain

@@ -1,0 +1,5 @@
+pub mod Places
+pub mod Steps
+pub mod Left
+pub mod Fits
+pub mod DirectoryPart
