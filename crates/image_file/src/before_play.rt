@@ -10,7 +10,7 @@ use crate::medium::Medium;
 use image_rules::unplayed_word;
 
 /// Whether a sound image may be played so far: it is marked clean, each live segment has its version, and each slot is grown: there is
-/// no other, or it has a live segment as deep as the image allows.
+/// no other, or a live segment in it is as deep as the image allows.
 ///
 /// # Errors
 ///

@@ -324,6 +324,11 @@ fn images_that_may_be_played(rt: HostRuntime) -> Result<(), Fail> {
         let bytes = file_of(alloc, 4352, &SPLIT, &both)?;
         assert_eq!(rt; said_before_play(alloc, &bytes)?.as_str(), *said);
     }
+    // Beside them a slot in which no segment is live, with any words.
+    let mut beside = normal.to_vec(alloc)?;
+    beside.extend_from_slice(&[(2, 3), (4353, 0x4d_00ff_0001), (4354, 99), (4384, 3)])?;
+    let bytes = file_of(alloc, 6496, &SPLIT, &beside)?;
+    assert_eq!(rt; said_before_play(alloc, &bytes)?.as_str(), "playable");
     Ok(())
 }
 

@@ -4,6 +4,6 @@ use Rattle.image_layout.specs.Places.{Shape}
 use Rattle.sound_image.specs.Segments.{ImageWords, frame_of, depth_at, IsLive}
 
 module _ (shape : Shape) (word : ImageWords) where
-  -- a slot is grown: it is the only one, or it has a live segment as deep as the image allows
+  -- a slot is grown: it is the only one, or a live segment in it is as deep as the image allows
   abbrev pub IsGrown : ℕ → Type 0
-  IsGrown s = (shape.segments ≡ 1) ⊎ (IsLive (frame_of shape word) s × (depth_at (frame_of shape word) s ≡ shape.depth))
+  IsGrown s = (shape.segments ≡ 1) ⊎ (IsLive (frame_of shape word) s → depth_at (frame_of shape word) s ≡ shape.depth)
