@@ -16,7 +16,7 @@ use Rattle.restart_op.specs.declared.restart.RestartOp.{RestartOp}
 use Rattle.op_core.specs.declared.want.Want.{Want}
 use Rattle.op_core.specs.declared.want.Want.TheVariants as want
 use Rattle.world.specs.Wants.{answer_to, word_of}
-use Rattle.world.specs.Site.{Site}
+use Rattle.world.specs.Ground.{Ground}
 use Rattle.world.specs.Views.{View}
 use Rattle.engine.specs.declared.engine.Engine.{Engine}
 use Rattle.engine.specs.Core.{Caller, current, Core}
@@ -94,7 +94,7 @@ acts_are_single shape begins_close s = inl (ap (λ (core : Core). core.trace) (b
 
 -- ---- each act keeps a state of the run
 -- a caller without a call runs no engine
-engine_rests : (site : Site) (c : Caller) (v : View) (e : Option Engine) → c.engine ≡ e → DoesCall site c e v → current c ≡ None → c.engine ≡ None
+engine_rests : (site : Ground) (c : Caller) (v : View) (e : Option Engine) → c.engine ≡ e → DoesCall site c e v → current c ≡ None → c.engine ≡ None
 engine_rests site c v None here does none = here
 engine_rests site c v (Some e) here does none = absurd (none-some does.call (sym none ∙ does.is_current))
 
@@ -106,7 +106,7 @@ no_call_here shape n c cs none = by (current c) refl none
     by None is none = (is, none)
     by (Some call) is none = absurd (let z : true ≡ false = none in cc)
 
-pub all_rest : (shape : Shape) (n : ℕ) (site : Site) (cs : List Caller) (vs : List View) → AllZip (CallerFits site) cs vs → has_calls shape n cs ≡ false
+pub all_rest : (shape : Shape) (n : ℕ) (site : Ground) (cs : List Caller) (vs : List View) → AllZip (CallerFits site) cs vs → has_calls shape n cs ≡ false
     → AllByRecursion (λ (c : Caller). c.engine ≡ None) cs
 all_rest shape n site [] vs fits none = tt
 all_rest shape n site (c ∷ cs) [] fits none = absurd fits

@@ -12,7 +12,7 @@ use Rattle.map_model.specs.Map.{Map}
 use Rattle.image_layout.specs.Places.{Shape, words_of}
 use Rattle.sound_image.specs.Left.{HasPairsOf}
 use Rattle.session.specs.Callers.{IsAnswered}
-use Rattle.world.specs.Site.{Site}
+use Rattle.world.specs.Ground.{Ground}
 use Rattle.world.specs.Views.{View}
 use Rattle.op_core.specs.declared.want.Want.TheVariants.{Done}
 use Rattle.restart_op.specs.declared.close.CloseOp.{CloseOp}
@@ -44,7 +44,7 @@ past_end calls n is = elim (cases_lt n (length calls)) [
   | inr past ↦ past
 ]
 
-is_answered : (site : Site) (t : Setup) (version number : ℕ) (c : Caller) (v : View) → CallerFits site c v → HasToldInOrder t version number c → c.engine ≡ None
+is_answered : (site : Ground) (t : Setup) (version number : ℕ) (c : Caller) (v : View) → CallerFits site c v → HasToldInOrder t version number c → c.engine ≡ None
     → IsAnswered c.calls (told_of c)
 is_answered site t version number c v fits told none =
     let d = subst (λ o. DoesCall site c o v) none fits.does in
@@ -53,7 +53,7 @@ is_answered site t version number c v fits told none =
       none_open = ap (λ b. open_of b c.drew) d.begun;
     }
 
-all_answered : (site : Site) (t : Setup) (version number : ℕ) (callers : List Caller) (views : List View) → AllZip (CallerFits site) callers views
+all_answered : (site : Ground) (t : Setup) (version number : ℕ) (callers : List Caller) (views : List View) → AllZip (CallerFits site) callers views
     → AllTold t version number callers → AllByRecursion (λ (c : Caller). c.engine ≡ None) callers
     → AllZip IsAnswered (map (λ (c : Caller). c.calls) callers) (map told_of callers)
 all_answered site t version number [] views fits told none = tt

@@ -6,7 +6,7 @@ use Rattle.map_model.specs.declared.call.Call.{Call}
 use Rattle.map_model.specs.declared.entry.Entry.{Entry}
 use Rattle.image_layout.specs.Places.{Shape}
 use Rattle.session.specs.Callers.{FollowsScript}
-use Rattle.world.specs.Site.{Site}
+use Rattle.world.specs.Ground.{Ground}
 use Rattle.world.specs.Views.{View}
 use Rattle.engine.specs.declared.engine.Engine.{Engine}
 use Rattle.engine.specs.Core.{Caller, Core, open_of, told_of, tolds_of}
@@ -20,7 +20,7 @@ use Rattle.core_run.proofs.events.Told.{entries_more}
 
 -- ---- a caller
 -- a call that has begun is one of the caller's
-begun_within : (site : Site) (c : Caller) (v : View) (e : Option Engine) → DoesCall site c e v → c.begun ≡ true → length c.entries < length c.calls
+begun_within : (site : Ground) (c : Caller) (v : View) (e : Option Engine) → DoesCall site c e v → c.begun ≡ true → length c.entries < length c.calls
 begun_within site c v None does begun = absurd (let no : true ≡ false = sym begun ∙ does.begun in cc)
 begun_within site c v (Some e) does begun = slice_get_within c.calls (length c.entries) does.call does.is_current
 
@@ -37,7 +37,7 @@ module _ (t : Setup) (version number : ℕ) (c : Caller) (h : HasToldInOrder t v
   follows = follows_by c.begun refl c.drew refl
 
 -- ---- all callers
-all_follow : (site : Site) (t : Setup) (version number : ℕ) (callers : List Caller) (views : List View) → AllZip (CallerFits site) callers views
+all_follow : (site : Ground) (t : Setup) (version number : ℕ) (callers : List Caller) (views : List View) → AllZip (CallerFits site) callers views
     → AllTold t version number callers → AllZip FollowsScript (map (λ (c : Caller). c.calls) callers) (map told_of callers)
 all_follow site t version number [] views fits told = tt
 all_follow site t version number (c ∷ callers) [] fits told = absurd fits

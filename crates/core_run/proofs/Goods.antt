@@ -14,7 +14,7 @@ use Rattle.session.specs.Callers.{history_of, undrawn}
 use Rattle.restart_op.specs.declared.restart.RestartOp.{RestartOp}
 use Rattle.restart_op.specs.declared.close.CloseOp.{CloseOp}
 use Rattle.restart_op.specs.Restarted.{restarted, RestartKeeps, KeepsPairs}
-use Rattle.restart_op.specs.Closing.{close_after, IsQuiet, IsKept, CloseKeeps, ChangesStateAlone}
+use Rattle.restart_op.specs.Closing.{close_after, AllAreQuiet, IsKept, CloseKeeps, ChangesStateAlone}
 use Rattle.engine.specs.Core.{Core, told_of, tolds_of, histories}
 use Rattle.engine.specs.Good.{IsGood}
 use Rattle.engine.specs.Holding.{world_of, HoldingIsGood}
@@ -23,7 +23,7 @@ use Rattle.core_run.specs.declared.keeper.Keeper.{Keeper}
 use Rattle.core_run.specs.declared.keeper.Keeper.TheVariants.{Restarting, Open, Closing, Closed}
 use Rattle.core_run.specs.State.{State, waiting_from}
 use Rattle.core_run.specs.Running.{Setup, IsSetup, site_in, start_of, IsOpen, IsRestarting, IsClosing, IsRunningBy}
-use Rattle.core_run.specs.States.{entries_of, HadNoRooms, WereSpent, IsGoodMoment, MomentsAreGood}
+use Rattle.core_run.specs.States.{entries_of, HadNoRooms, WereAlone, WereSpent, IsGoodMoment, MomentsAreGood}
 use Rattle.core_run.proofs.events.Opened.{same_core as same_restart}
 use Rattle.core_run.proofs.events.Closes.{same_core as same_close}
 use Rattle.core_run.proofs.events.Locks.{were_spent}
@@ -63,7 +63,7 @@ same_shape shape one other a b (suc (suc (suc (suc i)))) low = absurd (omega (ar
 -- ---- during a close
 module _ (quiet : ThroughIsQuiet) (maps : ThroughHasMap) (pairs : KeepsPairs) (cuts : CloseKeeps) (t : Setup) (is : IsSetup t) (opening : Map)
     (has : HasPairsOf t.shape (start_of t) opening) (before : Core) (o : IsOpen t before) (none : NoneRuns before) where
-  pub quiet_before : IsQuiet (site_in t) (start_of t) (world_of before o.holds.views)
+  pub quiet_before : AllAreQuiet (site_in t) (start_of t) (world_of before o.holds.views)
   quiet_before = quiet (site_in t) (start_of t) before o.holds none
 
   pub kept_at : (k : ℕ) (medium : List ℕ) → length medium ≡ words_of t.shape
@@ -96,6 +96,7 @@ module _ (good : HoldingIsGood) (quiet : ThroughIsQuiet) (maps : ThroughHasMap) 
               left = λ k. inl (subst (λ (es : List Entry). HasPairsOf t.shape (slice_index medium) (replay opening es)) (sym (none_woven lists none)) (same.pairs opening has) k);
             };
         had_no_room = subst (λ (es : List Entry). HadNoRooms t.shape opening es) (sym none) tt;
+        full = subst (λ (es : List Entry). WereAlone t.shape es) (sym none) tt;
         spent = subst (λ (es : List Entry). WereSpent t.shape (restarted t.shape t.first r.events).words es) (sym none) tt;
       })
 
@@ -116,6 +117,7 @@ module _ (good : HoldingIsGood) (quiet : ThroughIsQuiet) (maps : ThroughHasMap) 
                   (g.media.left medium whole possible);
             };
         had_no_room = g.had_no_room;
+        full = g.full;
         spent = g.spent;
       }
 
@@ -123,6 +125,7 @@ module _ (good : HoldingIsGood) (quiet : ThroughIsQuiet) (maps : ThroughHasMap) 
   closing_good op core r = subst IsGoodCore (sym (same_close t op core r)) (record {
     legal = (open_is_good r.before r.was_open).legal;
     had_no_room = (open_is_good r.before r.was_open).had_no_room;
+    full = (open_is_good r.before r.was_open).full;
     spent = were_spent others t.shape r.before.words r.before.trace r.events (entries_of r.before) (open_is_good r.before r.was_open).spent;
     media = λ medium whole possible.
         let kept = kept_at quiet maps pairs cuts t is opening has r.before r.was_open r.run_out r.events medium whole possible in
@@ -140,7 +143,7 @@ module _ (good : HoldingIsGood) (quiet : ThroughIsQuiet) (maps : ThroughHasMap) 
   good_core Closed core r = closing_good r.0 core r.1
 
   good_moment : (s : State) → IsRunningBy t s.keeper s.core → IsGoodMoment t opening s
-  good_moment s r = let g = good_core s.keeper s.core r in record { legal = g.legal; media = g.media; had_no_room = g.had_no_room; spent = g.spent }
+  good_moment s r = let g = good_core s.keeper s.core r in record { legal = g.legal; media = g.media; had_no_room = g.had_no_room; full = g.full; spent = g.spent }
 
 pub moments_are_good : HoldingIsGood → ThroughIsQuiet → ThroughHasMap → RestartKeeps → KeepsPairs → CloseKeeps → ChangesStateAlone → MomentsAreGood
 moments_are_good good quiet maps restarts pairs cuts others t s opening is run has = good_moment good quiet maps restarts pairs cuts others t is opening has s run

@@ -17,7 +17,7 @@ use Rattle.sound_image.specs.Left.{HasPairsOf}
 use Rattle.segment_table.proofs.frames.Owner.{found_owns}
 use Rattle.bucket_words.proofs.segments.Rules.{hit_of}
 use Rattle.restart_op.specs.Restarted.{IsPlayableImage}
-use Rattle.restart_op.proofs.Facts.{own_records}
+use Rattle.restart_op.proofs.images.Facts.{own_records}
 use Rattle.core_run.specs.Opening.{has_record, key_of_slot, value_of_slot, map_below, opening_of}
 
 -- what a map has at a key after an insert

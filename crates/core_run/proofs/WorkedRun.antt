@@ -3,7 +3,7 @@ use Rattle.std.proofs.Common.{◌≡◌, refl}
 use Rattle.std.specs.Prelude.{[], ◌∷◌}
 use Rattle.script_text.specs.declared.line.Counted.TheVariants.{Store, Exchange, Flush, Fence, Draw, End}
 use Rattle.script_text.specs.declared.line.Line.TheVariants.{Step, Until, At, Close, Cut}
-use Rattle.phase.specs.declared.place.Place.TheVariants.{Home, Probing}
+use Rattle.phase.specs.declared.role.Role.TheVariants.{Home, Probing}
 use Rattle.write_op.specs.declared.step.WriteStep.TheVariants.{Count}
 use Rattle.bucket_meta.specs.Search.{slot_with, slot_free}
 use Rattle.core_run.specs.WorkedRun.{StopsInRestart, StopsOnTheWay, StopsInChange, ClosesAfter, at_first, at_end, after_line, standing, loading, before_change}

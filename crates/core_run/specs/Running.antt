@@ -9,7 +9,7 @@ use Rattle.image_layout.specs.Places.{Shape, state_word, words_of}
 use Rattle.image_layout.specs.Volatile.{all_words_of}
 use Rattle.map_model.specs.declared.call.Call.{Call}
 use Rattle.map_model.specs.declared.entry.Entry.{Entry}
-use Rattle.world.specs.Site.{Site}
+use Rattle.world.specs.Ground.{Ground}
 use Rattle.world.specs.Wants.{word_of}
 use Rattle.restart_op.specs.declared.restart.RestartOp.{RestartOp}
 use Rattle.restart_op.specs.declared.close.CloseOp.{CloseOp}
@@ -38,7 +38,7 @@ pub record IsSetup (t : Setup) : Type 0 where
   pub words : AllByRecursion (AllByRecursion IsWordCall) t.scripts
 
 -- where the callers run
-abbrev pub site_in : Setup → Site
+abbrev pub site_in : Setup → Ground
 site_in t = site_of t.shape t.first (length t.scripts)
 
 abbrev pub start_of : Setup → Words

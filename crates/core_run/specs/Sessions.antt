@@ -2,7 +2,7 @@
 use Rattle.std.specs.Prelude.{◌≡◌, ℕ, not, is_some, true, List, length}
 use Rattle.script_text.specs.declared.line.Line.{Line}
 use Rattle.session.specs.Transcript.{transcript_of}
-use Rattle.session.specs.Session.{Ending, IsSession}
+use Rattle.session.specs.Session.{SessionEnd, IsSession}
 use Rattle.engine.specs.Core.{tolds_of}
 use Rattle.core_run.specs.State.{State}
 use Rattle.core_run.specs.Run.{core_run, cut_of, medium_words}
@@ -17,7 +17,7 @@ abbrev pub left_words : Setup → List Line → List ℕ
 left_words t lines = medium_words t.shape (start_of t) (end_state t lines).core (cut_of lines)
 
 -- a run is scheduled, and closes its image unless its script ends with a cut
-abbrev pub ending_of : List Line → Ending
+abbrev pub ending_of : List Line → SessionEnd
 ending_of lines = record { closed = not (is_some (cut_of lines)); scheduled = true }
 
 -- A RUN OF ONE CALLER'S SCRIPT IS A SESSION

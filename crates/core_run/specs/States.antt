@@ -4,7 +4,7 @@ use Rattle.std.specs.List.{range_with_len, AllByRecursion, AllZip}
 use Rattle.trace.specs.Events.{Words}
 use Rattle.trace.specs.Media.{IsPossible}
 use Rattle.segment_head.specs.HeadWord.{free}
-use Rattle.map_model.specs.declared.entry.Reply.TheVariants.{Spent}
+use Rattle.map_model.specs.declared.entry.Reply.TheVariants.{Full, Spent}
 use Rattle.map_model.specs.declared.entry.Entry.{Entry}
 use Rattle.map_model.specs.Map.{Map}
 use Rattle.map_model.specs.Weave.{all_of, draws, weave}
@@ -17,7 +17,7 @@ use Rattle.sound_image.specs.Left.{HasPairsOf, IsLeft}
 use Rattle.session.specs.Callers.{FollowsScript, IsAnswered, undrawn}
 use Rattle.session.specs.Session.{HadNoRoom}
 use Rattle.restart_op.specs.Close.{begun as close_begun}
-use Rattle.world.specs.Site.{HasSpentLock}
+use Rattle.world.specs.Ground.{HasSpentLock}
 use Rattle.engine.specs.Core.{Core, tolds_of, histories}
 use Rattle.engine.specs.Laws.{NoneRuns}
 use Rattle.core_run.specs.declared.keeper.Keeper.TheVariants.{Closing, Closed}
@@ -48,7 +48,11 @@ entries_of core = all_of (histories core)
 abbrev pub HadNoRooms : Shape → Map → List Entry → Type 0
 HadNoRooms shape opening entries = AllByRecursion (λ e. HadNoRoom shape (map_at opening entries e.place) e) entries
 
--- where a call was refused for want of a number, 2 ^ 63 changes are drawn, or some lock word has the last version
+-- where a call was told that the table is full, there is one slot alone
+abbrev pub WereAlone : Shape → List Entry → Type 0
+WereAlone shape entries = AllByRecursion (λ e. e.reply ≡ Full → shape.segments ≡ 1) entries
+
+-- where a call was refused for want of a number, 2 ^ 63 changes are drawn, or some lock word of a live segment has the last version
 abbrev pub WereSpent : Shape → Words → List Entry → Type 0
 WereSpent shape words entries = AllByRecursion (λ e. e.reply ≡ Spent → (2 ^ 63 ≤ draws entries) ⊎ HasSpentLock shape words) entries
 
@@ -59,6 +63,7 @@ pub record IsGoodMoment (t : Setup) (opening : Map) (s : State) : Type 0 where
   pub media : (medium : List ℕ) → length medium ≡ words_of t.shape → IsPossible (words_of t.shape) (start_of t) s.core.trace (slice_index medium)
       → IsGoodMedium t opening s.core medium
   pub had_no_room : HadNoRooms t.shape opening (entries_of s.core)
+  pub full : WereAlone t.shape (entries_of s.core)
   pub spent : WereSpent t.shape s.core.words (entries_of s.core)
 
 abbrev pub MomentsAreGood : Type 0
@@ -85,6 +90,6 @@ ClosedIsClosed = (t : Setup) (s : State) (opening : Map) → IsSetup t → IsRun
 abbrev pub ToldsFollow : Type 0
 ToldsFollow = (t : Setup) (s : State) → IsSetup t → IsRunning t s → AllZip FollowsScript t.scripts (tolds_of s.core)
 
--- no slot of an image that is run is free: its table is grown out
+-- no slot of an image that is run is free, where it has one slot alone
 abbrev pub NoSlotIsFree : Type 0
-NoSlotIsFree = (t : Setup) (s : ℕ) → IsSetup t → s < t.shape.segments → state_at (frame_of t.shape (start_of t)) s ≢ free
+NoSlotIsFree = (t : Setup) (s : ℕ) → IsSetup t → t.shape.segments ≡ 1 → s < t.shape.segments → state_at (frame_of t.shape (start_of t)) s ≢ free

@@ -5,13 +5,13 @@ use Rattle.trace.specs.Events.{Words, with_word, Event, Trace, loaded, stored, e
 use Rattle.image_layout.specs.Places.{Shape}
 use Rattle.map_model.specs.declared.call.Call.{Call}
 use Rattle.map_model.specs.declared.call.Call.TheVariants.{Insert}
-use Rattle.map_model.specs.declared.change.Deed.TheVariants as deed
+use Rattle.map_model.specs.declared.change.Effect.TheVariants as effect
 use Rattle.script_text.specs.declared.line.Counted.TheVariants.{Store, Exchange, Flush, Fence, Draw, End}
 use Rattle.script_text.specs.declared.line.Line.{Line}
 use Rattle.script_text.specs.declared.line.Line.TheVariants.{Step, Until, At, Close, Cut}
 use Rattle.restart_op.specs.Close.{begun as close_begun}
-use Rattle.phase.specs.declared.place.Place.{Place}
-use Rattle.phase.specs.declared.place.Place.TheVariants.{Home, Probing}
+use Rattle.phase.specs.declared.role.Role.{Role}
+use Rattle.phase.specs.declared.role.Role.TheVariants.{Home, Probing}
 use Rattle.phase.specs.declared.make.Record.{Record}
 use Rattle.phase.specs.declared.make.Make.TheVariants.{Key}
 use Rattle.phase.specs.Buckets.{no_words}
@@ -104,7 +104,7 @@ caller_at written step = record {
             (record {
               task = record {
                 site = record { geometry = small; version = 1; caller = 1 };
-                change = record { key = 5; deed = deed.Insert 7 };
+                change = record { key = 5; effect = effect.Insert 7 };
                 hash = 5;
               };
               stage = record {
@@ -133,7 +133,7 @@ abbrev pub standing : ℕ → WriteStep → State
 standing n step = standing_with nothing.written n step
 
 -- so many words of a bucket are loaded
-abbrev pub loading : Place → ℕ → WriteStep
+abbrev pub loading : Role → ℕ → WriteStep
 loading place n = Fill place (record { words = replicate 32 0; next = n + 1 })
 
 -- what is stored of its record, in the first slot

@@ -15,5 +15,4 @@ pub fn runs_are_sessions()
     states::tolds_follow();
     states::no_slot_is_free();
     alone::runs_are_well();
-    restart_op::one_segment_is_live();
 }

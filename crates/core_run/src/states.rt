@@ -52,7 +52,7 @@ pub fn tolds_follow()
     ensures { ToldsFollow }
 {}
 
-/// No slot of an image that is run is free.
+/// Where an image that is run has one slot, it is not free.
 pub fn no_slot_is_free()
     ensures { NoSlotIsFree }
 {

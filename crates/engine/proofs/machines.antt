@@ -5,3 +5,4 @@ pub mod Begins
 pub mod Engines
 pub mod Pairs
 pub mod Notes
+pub mod Fulls

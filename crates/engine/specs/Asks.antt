@@ -5,8 +5,8 @@ use Rattle.trace.specs.Events.{Words}
 use Rattle.image_layout.specs.Places.{homes}
 use Rattle.bucket_words.specs.HomeNotes.{SameHomeNotes}
 use Rattle.map_model.specs.declared.call.Call.{Call}
-use Rattle.world.specs.declared.site.Site.{Site as Here}
-use Rattle.world.specs.Site.{Site, IsSite}
+use Rattle.world.specs.declared.site.Site.{Site}
+use Rattle.world.specs.Ground.{Ground, IsGround}
 use Rattle.world.specs.Views.{View, At}
 use Rattle.world.specs.Wants.{words_after}
 use Rattle.world.specs.Conditions.{IsOwing}
@@ -17,14 +17,14 @@ use Rattle.engine.specs.Engine.{wanted}
 use Rattle.engine.specs.Fits.{Suits, next_view}
 
 abbrev pub AsksWithin : Type 0
-AsksWithin = (site : Site) (here : Here) (call : Call) (e : Engine) (before v : View) → IsSite site → Suits site here call e before v → IsWithin site.shape (wanted e)
+AsksWithin = (site : Ground) (here : Site) (call : Call) (e : Engine) (before v : View) → IsGround site → Suits site here call e before v → IsWithin site.shape (wanted e)
 
 abbrev pub AsksWords : Type 0
-AsksWords = (site : Site) (here : Here) (call : Call) (e : Engine) (before v : View) → Suits site here call e before v → PutsWord (wanted e)
+AsksWords = (site : Ground) (here : Site) (call : Call) (e : Engine) (before v : View) → Suits site here call e before v → PutsWord (wanted e)
 
 -- what home b of segment s has noted, and what it has in the stash, stays as it was, or its caller owes it a note before the event or
 -- after it
 abbrev pub KeepsNotes : Type 0
-KeepsNotes = (site : Site) (here : Here) (call : Call) (e : Engine) (words : Words) (views : List View) (j : ℕ) (before v : View) (number : ℕ)
+KeepsNotes = (site : Ground) (here : Site) (call : Call) (e : Engine) (words : Words) (views : List View) (j : ℕ) (before v : View) (number : ℕ)
     → Holds site words views → At views j v → Suits site here call e before v → (s b : ℕ) → s < site.shape.segments → b < homes
     → SameHomeNotes site.shape words (words_after site.shape (wanted e) number words) s b ⊎ IsOwing site v s b ⊎ IsOwing site (next_view site e words v) s b

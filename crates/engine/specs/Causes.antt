@@ -6,8 +6,8 @@ use Rattle.op_core.specs.declared.want.Ans.{Ans}
 use Rattle.trace.specs.Events.{Words}
 use Rattle.image_layout.specs.Places.{Shape}
 use Rattle.map_model.specs.declared.call.Call.{Call}
-use Rattle.world.specs.declared.site.Site.{Site as Here}
-use Rattle.world.specs.Site.{Site}
+use Rattle.world.specs.declared.site.Site.{Site}
+use Rattle.world.specs.Ground.{Ground}
 use Rattle.world.specs.Views.{View}
 use Rattle.world.specs.Wants.{answer_to, word_of}
 use Rattle.part.specs.Doings.{Doings, nothing_done, with_event_of}
@@ -77,12 +77,12 @@ pub record Decides (shape : Shape) (words : Words) (e : Engine) (outcome : Outco
 
 -- an attempt begins with nothing held
 abbrev pub BeginsBare : Type 0
-BeginsBare = (site : Site) (here : Here) (call other : Call) (v : View) → op_part.Stands site here call (begun here other).op v → v.held ≡ []
+BeginsBare = (site : Ground) (here : Site) (call other : Call) (v : View) → op_part.Stands site here call (begun here other).op v → v.held ≡ []
 
 -- EACH OUTCOME IS DECIDED by one event of its attempt: an attempt begins undecided; what is decided stays so; and where an engine
 -- wants nothing more, its end is what was decided
 abbrev pub BeginsUndecided : Type 0
-BeginsUndecided = (here : Here) (call : Call) → op_part.outcome (begun here call).op ≡ None
+BeginsUndecided = (here : Site) (call : Call) → op_part.outcome (begun here call).op ≡ None
 
 abbrev pub DecidedStays : Type 0
 DecidedStays = (e : Engine) (a : Ans) (outcome : Outcome) → op_part.outcome e.op ≡ Some outcome → op_part.outcome (taken e a).op ≡ Some outcome

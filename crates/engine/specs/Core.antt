@@ -71,13 +71,13 @@ ended c call (Some r) = with_entry c (entry_of c call r.0 r.1)
 ended c call None = record c { engine = Some (begun c.site call); begun = true; drew = None }
 
 -- the caller goes on, or its attempt has ended
-abbrev pub gone_on : Caller → Call → Engine → Want → Caller
-gone_on c call e want.Done = ended c call (reply_of_end (end_of e))
-gone_on c call e want = record c { engine = Some e; begun = true }
+abbrev pub ended_or_on : Caller → Call → Engine → Want → Caller
+ended_or_on c call e want.Done = ended c call (reply_of_end (end_of e))
+ended_or_on c call e want = record c { engine = Some e; begun = true }
 
 -- the caller after an event of its engine in this call was answered so
 abbrev pub answered : Caller → Call → Engine → Ans → Caller
-answered c call e ans = gone_on (record c { drew = drawn_by c call ans }) call (taken e ans) (wanted (taken e ans))
+answered c call e ans = ended_or_on (record c { drew = drawn_by c call ans }) call (taken e ans) (wanted (taken e ans))
 
 -- what the caller was told
 abbrev pub open_of : Bool → Option Entry → Option (Option Entry)

@@ -8,7 +8,7 @@ use Rattle.map_model.specs.Map.{key_of}
 use Rattle.map_model.specs.Changes.{change_of}
 use Rattle.map_model.specs.declared.entry.Reply.{Reply}
 use Rattle.world.specs.declared.site.Site.{Site}
-use Rattle.world.specs.Kinds.{Kind}
+use Rattle.world.specs.StepKinds.{StepKind}
 use Rattle.part.specs.Outcomes.{Outcome, again, reply_of}
 use Rattle.read_op.specs.declared.step.ReadEnd.{ReadEnd}
 use Rattle.read_op.specs.declared.step.ReadEnd.TheVariants as read_end
@@ -92,5 +92,5 @@ abbrev pub is_again : End → Bool
 is_again end = says_again (outcome_of_end end)
 
 -- the kind of its next event in the world of many callers, by the value that the event finds
-abbrev pub kind_of : Engine → ℕ → Kind
+abbrev pub kind_of : Engine → ℕ → StepKind
 kind_of e n = op_part.kind e.op n

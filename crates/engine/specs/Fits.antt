@@ -4,12 +4,11 @@ use Rattle.op_core.specs.declared.want.Want.TheVariants.{Done}
 use Rattle.trace.specs.Events.{Words}
 use Rattle.map_model.specs.declared.call.Call.{Call}
 use Rattle.map_model.specs.Map.{key_of, value_of}
-use Rattle.world.specs.declared.site.Site.{Site as Here}
-use Rattle.world.specs.Site.{Site, IsSite, version_of}
+use Rattle.world.specs.declared.site.Site.{Site}
+use Rattle.world.specs.Ground.{Ground, IsGround, version_of}
 use Rattle.world.specs.Views.{View, At}
 use Rattle.world.specs.Wants.{answer_to, word_of}
-use Rattle.world.specs.Kinds.{wanted as wanted_by, view_after}
-use Rattle.world.specs.Conditions.{May}
+use Rattle.world.specs.StepKinds.{wanted_of, view_by, MayTake}
 use Rattle.world.specs.Invariant.{Holds}
 use Rattle.world.specs.Attempts.{HoldsOnly, EntersReply}
 use Rattle.part.specs.Part.{Suits as SuitsPart}
@@ -20,7 +19,7 @@ use Rattle.engine.specs.Engine.{begun, wanted, taken, end_of, reply_of_end, kind
 use Rattle.engine.specs.OpPart.{op_part}
 
 -- THE VIEW suits the machine in the midst of a call, whose attempt began with the view `before`
-pub record Suits (site : Site) (here : Here) (call : Call) (e : Engine) (before v : View) : Type 0 where
+pub record Suits (site : Ground) (here : Site) (call : Call) (e : Engine) (before v : View) : Type 0 where
   pub asks : wanted e ≢ Done
   pub suits : SuitsPart op_part site here call e.op before v
 
@@ -36,16 +35,16 @@ abbrev pub IsWordCall : Call → Type 0
 IsWordCall call = (key_of call < 2 ^ 64) × (value_of call < 2 ^ 64)
 
 -- so far a site is served whose structure is one on which callers run, and is grown out
-pub record IsServed (site : Site) : Type 0 where
+pub record IsServedGround (site : Ground) : Type 0 where
   pub structure : IsOpenStructure site.shape site.front
   pub grown : AllGrown site.shape site.front
 
 -- a call begins, in an image of this shape and version, with any view that holds and owes nothing
 abbrev pub BeginsSuited : Type 0
-BeginsSuited = (site : Site) (here : Here) (call : Call) (v : View) → IsSite site → IsServed site → here.geometry ≡ site.shape → here.version ≡ version_of site → IsWordCall call
+BeginsSuited = (site : Ground) (here : Site) (call : Call) (v : View) → IsGround site → IsServedGround site → here.geometry ≡ site.shape → here.version ≡ version_of site → IsWordCall call
     → HoldsOnly [] v → 0 < v.callers → Suits site here call (begun here call) v v
 
-module _ (site : Site) (e : Engine) (words : Words) where
+module _ (site : Ground) (e : Engine) (words : Words) where
   -- the value that the next event finds, the engine after it, and the view
   abbrev pub finds : ℕ
   finds = words (word_of site.shape (wanted e))
@@ -54,16 +53,16 @@ module _ (site : Site) (e : Engine) (words : Words) where
   next_engine = taken e (answer_to (wanted e) finds)
 
   abbrev pub next_view : View → View
-  next_view v = view_after site.shape (kind_of e finds) finds v
+  next_view v = view_by site.shape (kind_of e finds) finds v
 
   -- the event is that of its kind, which the view may take; and after it the view suits the engine, or the attempt has ended
-  pub record StepsWell (here : Here) (call : Call) (before v : View) : Type 0 where
-    pub wants : wanted e ≡ wanted_by site.shape (kind_of e finds)
-    pub may : May site (kind_of e finds) v
+  pub record StepsWell (here : Site) (call : Call) (before v : View) : Type 0 where
+    pub wants : wanted e ≡ wanted_of site.shape (kind_of e finds)
+    pub may : MayTake site (kind_of e finds) v
     pub suits : wanted next_engine ≢ Done → Suits site here call next_engine before (next_view v)
     pub ends : wanted next_engine ≡ Done → HasEnded call next_engine before (next_view v)
 
 -- A STEP of an engine, beside any other callers
 abbrev pub KeepsSuits : Type 0
-KeepsSuits = (site : Site) (here : Here) (call : Call) (e : Engine) (words : Words) (views : List View) (j : ℕ) (before v : View)
+KeepsSuits = (site : Ground) (here : Site) (call : Call) (e : Engine) (words : Words) (views : List View) (j : ℕ) (before v : View)
     → Holds site words views → At views j v → Suits site here call e before v → finds site e words < 2 ^ 64 → StepsWell site e words here call before v

@@ -6,7 +6,7 @@ use Rattle.trace.specs.Events.{Words}
 use Rattle.trace.specs.Media.{IsPossible}
 use Rattle.map_model.specs.Map.{Map}
 use Rattle.map_model.specs.Weave.{all_of, draws, weave}
-use Rattle.map_model.specs.declared.entry.Reply.TheVariants.{Spent}
+use Rattle.map_model.specs.declared.entry.Reply.TheVariants.{Full, Spent}
 use Rattle.map_model.specs.ByPlaces.{map_at}
 use Rattle.session.specs.Session.{HadNoRoom}
 use Rattle.map_model.specs.Legal.{IsLegal, replay}
@@ -14,7 +14,7 @@ use Rattle.image_layout.specs.Places.{Shape, words_of}
 use Rattle.sound_image.specs.Image.{IsSoundImage}
 use Rattle.sound_image.specs.Left.{IsLeft}
 use Rattle.session.specs.Callers.{FollowsScript, undrawn}
-use Rattle.world.specs.Site.{HasSpentLock}
+use Rattle.world.specs.Ground.{HasSpentLock}
 use Rattle.engine.specs.Core.{Core, tolds_of, histories}
 
 -- every list of words that a power cut may leave now is a sound image, and holds the map of the history so far, each open
@@ -33,5 +33,7 @@ pub record IsGood (shape : Shape) (start : Words) (opening : Map) (core : Core) 
   pub media : MediaAreGood shape start opening core
   -- each insert that was refused for want of room had 56 keys in the map at its place
   pub had_no_room : AllByRecursion (λ e. HadNoRoom shape (map_at opening (all_of (histories core)) e.place) e) (all_of (histories core))
-  -- where a reply is that a number is spent, 2 ^ 63 changes are drawn, or some lock word has the last version
+  -- a reply that the table is full is told where there is one slot alone
+  pub full : AllByRecursion (λ e. e.reply ≡ Full → shape.segments ≡ 1) (all_of (histories core))
+  -- where a reply is that a number is spent, 2 ^ 63 changes are drawn, or some lock word of a live segment has the last version
   pub spent : AllByRecursion (λ e. e.reply ≡ Spent → (2 ^ 63 ≤ draws (all_of (histories core))) ⊎ HasSpentLock shape core.words) (all_of (histories core))

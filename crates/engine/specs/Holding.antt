@@ -2,7 +2,7 @@
 use Rattle.std.specs.Prelude.{◌^◌, map, take, ◌≤◌, ◌≡◌, ℕ, ◌<◌, false, Option, None, Some, List, [], ◌∷◌, ◌++◌, ◌⊎◌, length, replicate}
 use Rattle.std.specs.List.{AllByRecursion, AllZip}
 use Rattle.std.specs.FinMap.{get}
-use Rattle.restart_op.specs.Closing.{SaysShapeInFront, HaveFit, IsQuiet}
+use Rattle.restart_op.specs.Closing.{SaysShapeInFront, HaveFit, AllAreQuiet}
 use Rattle.trace.specs.Progress.{pending}
 use Rattle.trace.specs.Events.{Words}
 use Rattle.image_layout.specs.Places.{Shape}
@@ -10,16 +10,18 @@ use Rattle.map_model.specs.declared.call.Call.{Call}
 use Rattle.map_model.specs.declared.entry.Entry.{Entry}
 use Rattle.map_model.specs.Map.{Map}
 use Rattle.map_model.specs.Weave.{all_of, draws}
-use Rattle.map_model.specs.declared.entry.Reply.TheVariants.{Spent}
+use Rattle.map_model.specs.declared.entry.Reply.TheVariants.{Full, Spent}
 use Rattle.map_model.specs.ByPlaces.{map_at}
 use Rattle.session.specs.Session.{HadNoRoom}
-use Rattle.world.specs.Site.{Site, version_of, HasSpentLock}
+use Rattle.world.specs.Ground.{Ground, version_of, HasSpentLock}
 use Rattle.world.specs.Views.{View, At, Has}
-use Rattle.world.specs.World.{World, IsWell, fresh_view}
+use Rattle.world.specs.World.{World, fresh_view}
+use Rattle.world.specs.areas.Worlds.{IsWell}
+use Rattle.bucket_words.specs.Owners.{HasStructure}
 use Rattle.world.specs.Attempts.{HoldsOnly}
 use Rattle.refuse_op.specs.Grown.{AllGrown}
 use Rattle.engine.specs.declared.engine.Engine.{Engine}
-use Rattle.engine.specs.Fits.{Suits, IsWordCall, IsServed}
+use Rattle.engine.specs.Fits.{Suits, IsWordCall, IsServedGround}
 use Rattle.engine.specs.Core.{Caller, Core, call_at, current, turn, run, callers_from}
 use Rattle.engine.specs.Good.{IsGood}
 
@@ -42,7 +44,7 @@ pub record IsThrough (c : Caller) (v : View) : Type 0 where
   pub drew : c.drew ≡ None
 
 -- a call of the caller runs on this engine, in an attempt that began with the view `before`
-pub record IsCalling (site : Site) (c : Caller) (e : Engine) (v : View) : Type 0 where
+pub record IsCalling (site : Ground) (c : Caller) (e : Engine) (v : View) : Type 0 where
   pub call : Call
   pub is_current : current c ≡ Some call
   pub before : View
@@ -55,12 +57,12 @@ pub record IsCalling (site : Site) (c : Caller) (e : Engine) (v : View) : Type 0
   -- what was drawn is this call's
   pub drew_call : (e : Entry) → c.drew ≡ Some e → e.call ≡ call
 
-abbrev pub DoesCall : Site → Caller → Option Engine → View → Type 0
+abbrev pub DoesCall : Ground → Caller → Option Engine → View → Type 0
 DoesCall site c None v = IsThrough c v
 DoesCall site c (Some e) v = IsCalling site c e v
 
 -- THE VIEW fits its caller
-pub record CallerFits (site : Site) (c : Caller) (v : View) : Type 0 where
+pub record CallerFits (site : Ground) (c : Caller) (v : View) : Type 0 where
   pub place : c.site.geometry ≡ site.shape
   pub version : c.site.version ≡ version_of site
   pub words : (n : ℕ) (call : Call) → call_at c n ≡ Some call → IsWordCall call
@@ -80,21 +82,29 @@ abbrev pub all_own : List View → List Entry
 all_own views = all_of (map (λ (v : View). v.own) views)
 
 -- each insert that was refused for want of room had 56 keys in the map at its place, whatever map the core began with
-abbrev pub FullHad : Site → List View → Type 0
+abbrev pub FullHad : Ground → List View → Type 0
 FullHad site views = (opening : Map) → ((k : ℕ) → get opening k ≡ site.start k) → (j : ℕ) (v : View) (e : Entry) → At views j v → Has e v.own
     → HadNoRoom site.shape (map_at opening (all_own views) e.place) e
 
--- each reply that a number is spent has its cause: 2 ^ 63 changes are drawn, or some lock word has the last version
+-- a reply that the table is full is told where there is one slot alone
+abbrev pub FullAlone : Shape → List View → Type 0
+FullAlone shape views = (j : ℕ) (v : View) (e : Entry) → At views j v → Has e v.own → e.reply ≡ Full → shape.segments ≡ 1
+
+-- each reply that a number is spent has its cause: 2 ^ 63 changes are drawn, or some lock word of a live segment has the last version
 abbrev pub HadSpent : Shape → Words → List View → Type 0
 HadSpent shape words views = (j : ℕ) (v : View) (e : Entry) → At views j v → Has e v.own → e.reply ≡ Spent → (2 ^ 63 ≤ draws (all_own views)) ⊎ HasSpentLock shape words
 
 -- THE CORE HOLDS: so it is from the end of a restart on, between any two turns
-pub record CoreHolds (site : Site) (start : Words) (core : Core) : Type 0 where
+pub record CoreHolds (site : Ground) (start : Words) (core : Core) : Type 0 where
   pub views : List View
   pub well : IsWell site start (world_of core views)
+  -- no caller has stored to the structure: calls do not
+  pub constant : HasStructure site.shape site.front core.words
   pub fits : HaveFit start core.trace
   pub says : SaysShapeInFront site.shape site.front
-  pub served : IsServed site
+  pub served : IsServedGround site
+  -- so far nobody is told FULL but where there is one slot
+  pub full : FullAlone site.shape views
   -- caller 0 has nothing flushed that it has not fenced
   pub fenced : pending 0 core.trace ≡ []
   pub each : AllZip (CallerFits site) core.callers views
@@ -102,11 +112,11 @@ pub record CoreHolds (site : Site) (start : Words) (core : Core) : Type 0 where
 -- ---- the laws
 -- A TURN of any caller, and of a number that is nobody's, keeps the core
 abbrev pub TurnKeeps : Type 0
-TurnKeeps = (site : Site) (start : Words) (core : Core) (c : ℕ) → CoreHolds site start core → CoreHolds site start (turn site.shape c core)
+TurnKeeps = (site : Ground) (start : Words) (core : Core) (c : ℕ) → CoreHolds site start core → CoreHolds site start (turn site.shape c core)
 
 -- A CORE THAT HOLDS IS GOOD
 abbrev pub HoldingIsGood : Type 0
-HoldingIsGood = (site : Site) (start : Words) (core : Core) (opening : Map) → CoreHolds site start core → ((k : ℕ) → get opening k ≡ site.start k)
+HoldingIsGood = (site : Ground) (start : Words) (core : Core) (opening : Map) → CoreHolds site start core → ((k : ℕ) → get opening k ≡ site.start k)
     → IsGood site.shape start opening core
 
 -- the calls of the callers stay as they are
@@ -115,12 +125,12 @@ CallsStay = (shape : Shape) (core : Core) (turns : List ℕ) → map (λ c. c.ca
 
 -- turns of any callers, one after another, keep it
 abbrev pub RunKeeps : Type 0
-RunKeeps = (site : Site) (start : Words) (core : Core) (turns : List ℕ) → CoreHolds site start core → CoreHolds site start (run site.shape turns core)
+RunKeeps = (site : Ground) (start : Words) (core : Core) (turns : List ℕ) → CoreHolds site start core → CoreHolds site start (run site.shape turns core)
 
--- a quiet world in which each caller of the scripts has a view of its own, which has done nothing yet: the core with which they
--- begin holds, where they have the version of the image
+-- a quiet world of the site's words in which each caller of the scripts has a view of its own, which has done nothing yet: the core
+-- with which they begin holds, where they have the version of the image
 abbrev pub CoreBegins : Type 0
-CoreBegins = (site : Site) (start : Words) (core : Core) (version : ℕ) (scripts : List (List Call))
-    → IsQuiet site start (world_of core (replicate (length scripts) (fresh_view 1))) → AllGrown site.shape site.front → version ≡ version_of site
+CoreBegins = (site : Ground) (start : Words) (core : Core) (version : ℕ) (scripts : List (List Call))
+    → AllAreQuiet site start (world_of core (replicate (length scripts) (fresh_view 1))) → core.words ≡ site.front → AllGrown site.shape site.front → version ≡ version_of site
     → AllByRecursion (AllByRecursion IsWordCall) scripts
     → core.callers ≡ callers_from site.shape version 1 scripts → CoreHolds site start core

@@ -9,14 +9,16 @@ use Rattle.map_model.specs.Map.{Map}
 use Rattle.map_model.specs.Weave.{weave}
 use Rattle.map_model.specs.Legal.{AreReplies, replay}
 use Rattle.image_layout.specs.Places.{Shape, state_word, homes}
+use Rattle.sound_image.specs.Segments.{frame_of}
 use Rattle.sound_image.specs.Records.{HasExactNotes}
 use Rattle.sound_image.specs.Left.{HasPairsOf}
 use Rattle.bucket_words.specs.Hits.{find}
+use Rattle.frame_facts.specs.Facts.{IsLiveSlot}
 use Rattle.trace.specs.Events.{Words}
-use Rattle.world.specs.Site.{Site}
+use Rattle.world.specs.Ground.{Ground}
 use Rattle.refuse_op.specs.Grown.{AllGrown}
 use Rattle.restart_op.specs.Restarted.{IsPlayableImage, restarted, words_at_end, site_of}
-use Rattle.restart_op.specs.Closing.{IsQuiet}
+use Rattle.restart_op.specs.Closing.{AllAreQuiet}
 use Rattle.engine.specs.Fits.{IsWordCall}
 use Rattle.engine.specs.Core.{Core, callers_from, run, histories}
 use Rattle.engine.specs.Good.{IsGood}
@@ -77,14 +79,14 @@ NoneRuns core = AllByRecursion (λ c. c.engine ≡ None) core.callers
 
 -- WHERE NO ENGINE RUNS the world is quiet, so that it may be closed
 abbrev pub ThroughIsQuiet : Type 0
-ThroughIsQuiet = (site : Site) (start : Words) (core : Core) (h : CoreHolds site start core) → NoneRuns core → IsQuiet site start (world_of core h.views)
+ThroughIsQuiet = (site : Ground) (start : Words) (core : Core) (h : CoreHolds site start core) → NoneRuns core → AllAreQuiet site start (world_of core h.views)
 
--- the notes of each home are exact for its records in the stash
+-- the notes of each home of a live segment are exact for its records in the stash
 abbrev pub ThroughIsExact : Type 0
-ThroughIsExact = (site : Site) (start : Words) (core : Core) → CoreHolds site start core → NoneRuns core
-    → (s b : ℕ) → s < site.shape.segments → b < homes → HasExactNotes site.shape core.words s b
+ThroughIsExact = (site : Ground) (start : Words) (core : Core) → CoreHolds site start core → NoneRuns core
+    → (s b : ℕ) → IsLiveSlot (frame_of site.shape core.words) s → b < homes → HasExactNotes site.shape core.words s b
 
 -- and the newest words have the map of the history
 abbrev pub ThroughHasMap : Type 0
-ThroughHasMap = (site : Site) (start : Words) (core : Core) (opening : Map) → CoreHolds site start core → ((k : ℕ) → get opening k ≡ site.start k) → NoneRuns core
+ThroughHasMap = (site : Ground) (start : Words) (core : Core) (opening : Map) → CoreHolds site start core → ((k : ℕ) → get opening k ≡ site.start k) → NoneRuns core
     → (k : ℕ) → get (replay opening (weave (histories core))) k ≡ find site.shape core.words k

@@ -1,7 +1,7 @@
 -- THE MACHINES OF A CALL, AS ONE PART: a get, or a change that goes on, where it finds no slot, to the move of a record; where none can
 -- move, to the stash; and where that is full, to its refusal. Each machine has a name of its own.
 use Rattle.std.specs.Prelude.{Bool}
-use Rattle.world.specs.Site.{Site}
+use Rattle.world.specs.Ground.{Ground}
 use Rattle.part.specs.Part.{Part}
 use Rattle.part.specs.Then.{Then, first, second, passed, then_part}
 use Rattle.part.specs.Either.{Either, one, other, either_part}
@@ -27,7 +27,7 @@ use Rattle.engine.specs.declared.engine.Op.TheVariants.{Read, Write, Move, Stash
 
 -- ---- a change, as it goes on
 -- so far in a table that is grown out, as the refusal asks
-abbrev pub IsGrownOut : Site → Type 0
+abbrev pub IsGrownOut : Ground → Type 0
 IsGrownOut site = AllGrown site.shape site.front
 
 -- the move that goes on from what a change kept, the stash from what that kept, and the refusal from what this kept

@@ -8,8 +8,8 @@ use Rattle.trace.specs.Events.{Words}
 use Rattle.map_model.specs.declared.call.Call.{Call}
 use Rattle.map_model.specs.declared.entry.Reply.TheVariants as reply
 use Rattle.bucket_words.specs.Hits.{find}
-use Rattle.world.specs.declared.site.Site.{Site as Here}
-use Rattle.world.specs.Site.{Site}
+use Rattle.world.specs.declared.site.Site.{Site}
+use Rattle.world.specs.Ground.{Ground}
 use Rattle.world.specs.Views.{View, At}
 use Rattle.world.specs.Wants.{words_after}
 use Rattle.world.specs.Invariant.{Holds}
@@ -28,13 +28,13 @@ HasMade e = op_part.HasMade e.op
 -- EACH EVENT leaves what every key has as it was, beside any other callers, or else it is the one by which the attempt makes its
 -- change: not made before it, and made after
 abbrev pub LeavesOrMakes : Type 0
-LeavesOrMakes = (site : Site) (here : Here) (call : Call) (e : Engine) (words : Words) (views : List View) (j : ℕ) (before v : View) (number : ℕ)
+LeavesOrMakes = (site : Ground) (here : Site) (call : Call) (e : Engine) (words : Words) (views : List View) (j : ℕ) (before v : View) (number : ℕ)
     → Holds site words views → At views j v → Suits site here call e before v
     → ((k : ℕ) → find site.shape (words_after site.shape (wanted e) number words) k ≡ find site.shape words k) ⊎ ((HasMade e → ⊥) × HasMade (next_engine site e words))
 
 -- an attempt begins without
 abbrev pub BeginsUnmade : Type 0
-BeginsUnmade = (here : Here) (call : Call) → HasMade (begun here call) → ⊥
+BeginsUnmade = (here : Site) (call : Call) → HasMade (begun here call) → ⊥
 
 -- what is made stays so
 abbrev pub StaysMade : Type 0
@@ -46,7 +46,7 @@ EndsAsDone = (e : Engine) → HasMade e → wanted e ≡ Done → (place : ℕ) 
 
 -- ---- the core
 -- it is the turn of a caller whose attempt makes its change by the event of this turn, and had not before
-pub record MakesAt (site : Site) (core : Core) (c : ℕ) : Type 0 where
+pub record MakesAt (site : Ground) (core : Core) (c : ℕ) : Type 0 where
   pub seat : ℕ
   pub is_number : c ≡ suc seat
   pub caller : Caller
@@ -58,5 +58,5 @@ pub record MakesAt (site : Site) (core : Core) (c : ℕ) : Type 0 where
 
 -- EACH TURN leaves what every key has as it was, or else it is the turn of such a caller, whose attempt can end as done alone
 abbrev pub TurnLeavesOrMakes : Type 0
-TurnLeavesOrMakes = (site : Site) (start : Words) (core : Core) (c : ℕ) → CoreHolds site start core
+TurnLeavesOrMakes = (site : Ground) (start : Words) (core : Core) (c : ℕ) → CoreHolds site start core
     → ((k : ℕ) → find site.shape (turn site.shape c core).words k ≡ find site.shape core.words k) ⊎ MakesAt site core c

@@ -20,5 +20,4 @@ pub fn ends_have_causes()
     laws::calls_are_parts();
     turns::opened_holds();
     turns::turn_keeps();
-    restart_op::one_segment_is_live();
 }

@@ -187,15 +187,15 @@ impl Engine {
     }
 
     /// Whether it wants nothing more.
-    pub fn is_done(&self) -> bool
+    pub fn wants_nothing(&self) -> bool
         ensures { IsTrue result ↔ (wanted self.now ≡ want.Done) }
     {
         match &self.op {
-            Op::Read(op) => op.is_done(),
-            Op::Write(op) => op.is_done(),
-            Op::Move(op) => op.is_done(),
-            Op::Stash(op) => op.is_done(),
-            Op::Refuse(op) => op.is_done(),
+            Op::Read(op) => op.wants_nothing(),
+            Op::Write(op) => op.wants_nothing(),
+            Op::Move(op) => op.wants_nothing(),
+            Op::Stash(op) => op.wants_nothing(),
+            Op::Refuse(op) => op.wants_nothing(),
         }
     }
 

@@ -9,7 +9,7 @@ ghost use Rattle.world.specs.declared.site.Site.{Site};
 ghost use Rattle.op_core.specs.Answers.{IsAnswer};
 ghost use Rattle.engine.specs.declared.engine.Engine.{Engine};
 ghost use Rattle.engine.specs.Engine.{begun, wanted, taken};
-ghost use Rattle.world.specs.Site.{Site as Image};
+ghost use Rattle.world.specs.Ground.{Ground as Image};
 ghost use Rattle.part.specs.Doings.{nothing_done};
 ghost use Rattle.part.specs.Outcomes.{finished};
 ghost use Rattle.part.specs.Part.{IsPart};
@@ -113,6 +113,6 @@ pub fn refusals_leave_pairs()
     ensures done { EndsAsDone }
     ensures turns { TurnLeavesOrMakes }
 {
-    world::other_steps_keep_pairs();
+    world::steps_leave();
     calls_are_parts();
 }

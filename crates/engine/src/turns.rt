@@ -13,6 +13,7 @@ pub fn turn_keeps()
     ensures calls { CallsStay }
 {
     world::worlds_stay_well();
+    world::calls_spare_the_structure();
     world::steps_do_events();
     laws::calls_are_parts();
     laws::fits_the_world();
@@ -56,14 +57,14 @@ pub fn turns_keep()
     holding_is_good();
 }
 
-/// Where no engine runs the world may be closed, the notes of each home are exact, and the newest words have the map of the history.
+/// Where no engine runs the world may be closed, the notes of each home of a live segment are exact, and the newest words have the map of
+/// the history.
 pub fn through_is_quiet()
     ensures quiet { ThroughIsQuiet }
     ensures exact { ThroughIsExact }
     ensures map { ThroughHasMap }
 {
     world::entries_are_legal();
-    restart_op::one_segment_is_live();
 }
 
 /// The replies to a caller that runs alone are, one after another, those of a plain map.

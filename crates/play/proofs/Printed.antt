@@ -1,7 +1,7 @@
 -- What is printed of a session that a run left is what the run's core says.
 use Rattle.std.proofs.Common.{◌≡◌, ℕ, ap, ◌∙◌, List, None, map}
 use Rattle.std.specs.Prelude.{replicate, slice_index}
-use Rattle.map_model.specs.Kept.{lists_of}
+use Rattle.map_model.specs.Roomed.{lists_of}
 use Rattle.image_layout.specs.Places.{Shape}
 use Rattle.script_text.specs.declared.line.Line.{Line}
 use Rattle.session.specs.Transcript.{transcript_of}

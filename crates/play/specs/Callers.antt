@@ -1,7 +1,7 @@
 -- What the callers and lists of a run state are to the callers of the core.
 use Rattle.std.specs.Prelude.{◌≡◌, ℕ, ◌+◌, ⊤, Option, None, Some, List, [], ◌∷◌, ◌++◌, length, slice_get, is_some, Bool, true, false, if◌then◌else◌}
 use Rattle.map_model.specs.declared.entry.Entry.{Entry}
-use Rattle.map_model.specs.Kept.{Kept}
+use Rattle.map_model.specs.Roomed.{Roomed}
 use Rattle.engine.specs.Core.{Caller, engine_for}
 use Rattle.engine.specs.declared.engine.Engine.{Engine}
 use Rattle.engine.specs.Engine.{wanted}
@@ -51,17 +51,17 @@ counted_with None n = n
 counted_with (Some e) n = n + 1
 
 -- callers with their lists, one by one
-abbrev pub callers_of : List PlayCaller → List Kept → List Caller
+abbrev pub callers_of : List PlayCaller → List Roomed → List Caller
 callers_of [] lists = []
 callers_of (r ∷ callers) [] = []
 callers_of (r ∷ callers) (k ∷ lists) = caller_of r k.entries ∷ callers_of callers lists
 
 -- a caller counts its entries, and its list has room for those of its other calls
-pub record HasRoom (r : PlayCaller) (k : Kept) : Type 0 where
+pub record HasRoom (r : PlayCaller) (k : Roomed) : Type 0 where
   pub counted : r.ended ≡ length k.entries
   pub spare : length k.entries + k.spare ≡ length r.calls.items
 
-abbrev pub HaveRoom : List PlayCaller → List Kept → Type 0
+abbrev pub HaveRoom : List PlayCaller → List Roomed → Type 0
 HaveRoom [] [] = ⊤
 HaveRoom [] (k ∷ lists) = ⊥
 HaveRoom (r ∷ callers) [] = ⊥

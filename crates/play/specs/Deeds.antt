@@ -2,7 +2,7 @@
 use Rattle.std.specs.Prelude.{◌≡◌, ℕ, ⊤, Option, None, Some, List, [], ◌∷◌, map, slice_get}
 use Rattle.map_model.specs.declared.call.Call.{Call}
 use Rattle.map_model.specs.declared.entry.Entry.{Entry}
-use Rattle.map_model.specs.Kept.{Kept, with_entry}
+use Rattle.map_model.specs.Roomed.{Roomed, with_entry}
 use Rattle.op_core.specs.declared.want.Want.{Want}
 use Rattle.op_core.specs.declared.want.Want.TheVariants as want
 use Rattle.engine.specs.declared.engine.Engine.{Engine}
@@ -22,7 +22,7 @@ use Rattle.play.specs.Callers.{running_by, awoken, HaveRoom}
 use Rattle.play.specs.RunStates.{IsOf, Stands, IsAfter, HasDone}
 
 -- no caller was told anything yet
-abbrev pub NoneTold : List Kept → Type 0
+abbrev pub NoneTold : List Roomed → Type 0
 NoneTold [] = ⊤
 NoneTold (k ∷ lists) = (k.entries ≡ []) × NoneTold lists
 
@@ -62,7 +62,7 @@ closing_keeper op want.Done = Closed
 closing_keeper op w = Closing op
 
 -- the lists with an entry, where there is one
-abbrev pub lists_with : List Kept → ℕ → Option Entry → List Kept
+abbrev pub lists_with : List Roomed → ℕ → Option Entry → List Roomed
 lists_with lists index None = lists
 lists_with lists index (Some e) = with_entry lists index e
 

@@ -1,6 +1,6 @@
 -- What a play of a script leaves.
 use Rattle.std.specs.Prelude.{◌≡◌, ℕ, Option, None, is_some, List, [], ◌∷◌, ◌++◌, map, replicate, slice_index}
-use Rattle.map_model.specs.Kept.{lists_of}
+use Rattle.map_model.specs.Roomed.{lists_of}
 use Rattle.map_model.specs.declared.call.Call.{Call}
 use Rattle.image_layout.specs.Places.{Shape}
 use Rattle.script_text.specs.declared.line.Line.{Line}

@@ -55,7 +55,7 @@ fn take(engine: &mut Engine, ans: Ans) -> Option<End>
     ensures end { (shape : Shape) → result ≡ end_by shape (taken engine.old ans) (wanted (taken engine.old ans)) }
 {
     engine.take(ans);
-    if engine.is_done() {
+    if engine.wants_nothing() {
         Some(engine.end())
     } else {
         None

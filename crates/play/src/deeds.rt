@@ -1,7 +1,7 @@
 //! One event of a run state.
 
 ghost use Rattle.std.specs.Prelude.{◌≡◌, ◌≢◌, ℕ, ◌+◌, ◌-◌, ◌<◌, List, [], Some, All, length, slice_get, map};
-ghost use Rattle.map_model.specs.Kept.{Kept};
+ghost use Rattle.map_model.specs.Roomed.{Roomed};
 ghost use Rattle.core_run.specs.declared.keeper.Keeper.TheVariants.{Restarting, Open, Closing};
 ghost use Rattle.restart_op.specs.Restart.{wanted as restart_wanted};
 ghost use Rattle.restart_op.specs.Close.{wanted as close_wanted};

@@ -1,7 +1,7 @@
 //! The text of a session.
 
 ghost use Rattle.std.specs.Prelude.{◌≡◌, ◌≤◌, ◌++◌, length, string_bytes, IfOk, OnOk, Some};
-ghost use Rattle.map_model.specs.Kept.{lists_of};
+ghost use Rattle.map_model.specs.Roomed.{lists_of};
 ghost use Rattle.session.specs.Transcript.{line, placed_text, entry_lines, open_text, caller_lines, transcript_of};
 ghost use Rattle.reply_text.specs.Told.{told_by, tolds_of};
 

@@ -12,14 +12,13 @@ use Rattle.trace.proofs.Replaced.{replaced_other}
 use Rattle.trace.proofs.Media.{fence_since, flush_since}
 use Rattle.bucket_meta.specs.Bucket.{lock_of}
 use Rattle.image_layout.specs.Places.{Shape, state_word, bucket_at, words_of, buckets}
-use Rattle.image_layout.specs.Volatile.{power_word}
 use Rattle.sound_image.specs.Segments.{frame_of, IsLive}
 use Rattle.world.specs.Views.{View, At}
-use Rattle.world.specs.Invariant.{total}
+use Rattle.world.specs.Parts.{total}
 use Rattle.world.specs.World.{fresh_view}
 use Rattle.restart_op.specs.Restarted.{IsPlayableImage, restarted, words_at_end, views_of, RestartBegins, HasSeats, KeepsPairs, EndsStarted, EndsAtRest, EndsOwned, EndsOpen}
-use Rattle.restart_op.proofs.Facts.{frame_is}
-use Rattle.restart_op.proofs.Same.{AgreeButForState}
+use Rattle.restart_op.proofs.images.Facts.{frame_is}
+use Rattle.restart_op.proofs.images.Same.{AgreeButForState}
 use Rattle.restart_op.proofs.Opened.{open_structure, open_table, open_rest, open_own, open_found, had_there}
 use Rattle.restart_op.proofs.Cuts.{had}
 
@@ -80,7 +79,7 @@ module _ (shape : Shape) (words : List ℕ) (image : IsPlayableImage shape words
     | inr other ↦ elim (had shape word 4 i y h) [ inl same ↦ same ∙ sym (elsewhere i other) | inr here ↦ absurd (other here.0) ]
   ]
 
-  -- the words behind the image are 0: the commit counter, and the power word
+  -- the words behind the image are 0
   behind : (n : ℕ) → words_of shape ≤ n → at_end n ≡ 0
   behind n past = elsewhere n (λ at. omega (arith, at, past)) ∙ get_or_past words n 0 (let w = image.sound.whole in omega (arith, w, past))
 
@@ -95,21 +94,26 @@ restart_begins shape words callers image few =
     let same = agree shape words image in
     let there = state shape words image in
     record {
-      site_is = record { shape = image.sound.in_range; few = few };
-      words_are = refl;
-      settled = λ i y within h. settled shape words image i y h;
-      structure = λ i is. refl;
-      sound = (open_structure shape words image (words_at_end shape words) same there).frame;
-      table = open_table shape words image (words_at_end shape words) same there;
-      own = λ s b r k current h. open_own shape words image (words_at_end shape words) same there s b r k current.live.live h;
-      once = λ s b r c t k current h g. (open_rest shape words image (words_at_end shape words) same there s current.live.slot current.live.live).once b r c t k h g;
-      exact = λ s b current near. (open_rest shape words image (words_at_end shape words) same there s current.live.slot current.live.live).exact b near;
-      pairs = λ k. refl;
-      free = λ lock is. subst (λ n. words_at_end shape words n % 2 ≡ 0) (sym is.4) (unlocked shape words image is.0 is.1 is.2 is.5.live.live is.3);
-      counter = behind shape words image (words_of shape) (omega arith);
-      power = behind shape words image (power_word shape) (omega arith);
-      fresh = each_fresh callers;
-      callers = (let all = count_fresh callers in omega (arith, all));
+      restarted = record {
+        site_is = record { shape = image.sound.in_range; few = few };
+        words_are = refl;
+        settled = λ i y within h. settled shape words image i y h;
+        structured = record { fixed = λ i low other. refl; sound = (open_structure shape words image (words_at_end shape words) same there).frame };
+        table = open_table shape words image (words_at_end shape words) same there;
+        pairs = λ k. refl;
+        behind = λ i from below. behind shape words image i from;
+        fresh = each_fresh callers;
+        callers = (let all = count_fresh callers in omega (arith, all));
+      };
+      repaired = λ s current. record {
+        normal = ((open_structure shape words image (words_at_end shape words) same there).takes_calls s current.live.slot current.live.live).is_normal;
+        in_order = record {
+          own = λ b r k h. open_own shape words image (words_at_end shape words) same there s b r k current.live.live h;
+          once = (open_rest shape words image (words_at_end shape words) same there s current.live.slot current.live.live).once;
+          exact = (open_rest shape words image (words_at_end shape words) same there s current.live.slot current.live.live).exact;
+        };
+        free = λ b near. unlocked shape words image s b current.live.slot current.live.live near;
+      };
     }
 
 pub keeps_pairs : KeepsPairs

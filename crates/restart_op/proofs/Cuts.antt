@@ -18,7 +18,7 @@ use Rattle.restart_op.specs.declared.restart.RestartStep.TheVariants.{Load, Stor
 use Rattle.restart_op.specs.Restart.{begun, wanted, taken, wanted_in, next_in}
 use Rattle.restart_op.specs.Course.{Course, after_events}
 use Rattle.restart_op.specs.Restarted.{IsPlayableImage, restarted, HasTheSame, RestartKeeps}
-use Rattle.restart_op.proofs.Same.{AgreeButForState}
+use Rattle.restart_op.proofs.images.Same.{AgreeButForState}
 use Rattle.restart_op.proofs.Opened.{open_rules, open_has}
 
 module _ (shape : Shape) (start : Words) where

@@ -1,10 +1,6 @@
-pub mod Frames
+pub mod images
 pub mod Currents
-pub mod Rules
 pub mod OneSegment
-pub mod Pairs
-pub mod Facts
-pub mod Same
 pub mod Opened
 pub mod Cuts
 pub mod Beginning

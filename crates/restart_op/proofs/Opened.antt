@@ -12,12 +12,12 @@ use Rattle.bucket_words.specs.Hits.{find}
 use Rattle.bucket_words.specs.Standing.{IsTable}
 use Rattle.restart_op.specs.AtRest.{IsAtRest, IsOpenStructure, HasOwnRecords}
 use Rattle.restart_op.specs.Restarted.{IsPlayableImage}
-use Rattle.restart_op.proofs.Facts.{frame_is, table_is, takes_calls, own_records, live_at_rest}
-use Rattle.restart_op.proofs.Frames.{live_back, sound_frame}
-use Rattle.restart_op.proofs.Frames as frames
-use Rattle.restart_op.proofs.Rules.{unmarked_rules}
-use Rattle.restart_op.proofs.Pairs as pairs
-use Rattle.restart_op.proofs.Same.{AgreeButForState, same_structure, kept, same_rest, same_own}
+use Rattle.restart_op.proofs.images.Facts.{frame_is, table_is, takes_calls, own_records, live_at_rest}
+use Rattle.restart_op.proofs.images.Frames.{live_back, sound_frame}
+use Rattle.restart_op.proofs.images.Frames as frames
+use Rattle.restart_op.proofs.images.Rules.{unmarked_rules}
+use Rattle.restart_op.proofs.images.Pairs as pairs
+use Rattle.restart_op.proofs.images.Same.{AgreeButForState, same_structure, kept, same_rest, same_own}
 
 module _ (shape : Shape) (words : List ℕ) (image : IsPlayableImage shape words) (other : Words) (agree : AgreeButForState shape (slice_index words) other)
     (state : other state_word ≡ slice_index words state_word % 2 ^ 8) where

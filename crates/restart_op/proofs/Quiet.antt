@@ -8,7 +8,7 @@ use Rattle.trace.proofs.Moments.{value_at_more, value_at_now, newest_is, only_ne
 use Rattle.image_layout.specs.Places.{Shape, state_word}
 use Rattle.world.specs.Views.{View}
 use Rattle.world.specs.World.{fresh_view}
-use Rattle.world.proofs.device.Worlds.{begins_well}
+use Rattle.world.proofs.moving.media.Tying.{restarts_move_well}
 use Rattle.restart_op.specs.Restarted.{IsPlayableImage, restarted, site_of, world_of}
 use Rattle.restart_op.specs.Closing.{OwesNothing, HaveFit, FitsByEvents, QuietAfterRestart}
 use Rattle.restart_op.proofs.Beginning.{restart_begins, ends_open}
@@ -46,6 +46,7 @@ owes_nothing v is = record {
   planned = ap (λ (u : View). u.planned) is;
   moving = ap (λ (u : View). u.moving) is;
   owed = ap (λ (u : View). u.owed) is;
+  areas = ap (λ (u : View). u.areas) is;
 }
 
 module _ (shape : Shape) (words : List ℕ) (image : IsPlayableImage shape words) where
@@ -68,8 +69,8 @@ quiet_after_restart shape words callers image few =
     let begins = restart_begins shape words callers image few in
     let says = image.sound.says_shape in
     record {
-      well = begins_well (site_of shape words callers) (slice_index words) (world_of shape words callers) begins;
-      nothing = λ j v at. owes_nothing v (begins.fresh j v at);
+      well = restarts_move_well (site_of shape words callers) (slice_index words) (world_of shape words callers) begins;
+      nothing = λ j v at. owes_nothing v (begins.restarted.fresh j v at);
       fits = fits_restarted shape words image;
       says = record { magic_word = says.magic_word; format = says.format; segments = says.segments; depth = says.depth };
       structure = ends_open shape words image;

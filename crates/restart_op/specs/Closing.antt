@@ -13,10 +13,11 @@ use Rattle.sound_image.specs.Image.{magic, format_word, IsSoundImage}
 use Rattle.sound_image.specs.Left.{HasPairsOf}
 use Rattle.bucket_words.specs.Owners.{IsStructure}
 use Rattle.bucket_words.specs.Hits.{find}
-use Rattle.world.specs.Site.{Site}
+use Rattle.world.specs.Ground.{Ground}
 use Rattle.world.specs.Views.{View, At}
 use Rattle.world.specs.Wants.{answer_to}
-use Rattle.world.specs.World.{World, IsWell}
+use Rattle.world.specs.World.{World}
+use Rattle.world.specs.areas.Worlds.{IsWell}
 use Rattle.restart_op.specs.declared.close.CloseStep.{CloseStep}
 use Rattle.restart_op.specs.declared.close.CloseStep.TheVariants.{Flush, Fence, Load, Store, FlushState, FenceState, Ended}
 use Rattle.restart_op.specs.declared.close.CloseOp.{CloseOp}
@@ -62,7 +63,7 @@ FewWait = (shape : Shape) (words : Words) (trace : Trace) → pending 0 trace �
     → length (pending 0 (close_after shape words trace n).trace) ≤ 8
 
 -- ---- before a close
--- a view holds no lock, has no record under way, and owes nothing
+-- a view holds no lock and no area, has no record under way, and owes nothing
 pub record OwesNothing (v : View) : Type 0 where
   pub held : v.held ≡ []
   pub dirty : v.dirty ≡ []
@@ -70,6 +71,7 @@ pub record OwesNothing (v : View) : Type 0 where
   pub planned : v.planned ≡ []
   pub moving : v.moving ≡ []
   pub owed : v.owed ≡ []
+  pub areas : v.areas ≡ []
 
 -- the first four words say what the image is and how it is laid out
 pub record SaysShapeInFront (shape : Shape) (front : Words) : Type 0 where
@@ -83,12 +85,12 @@ abbrev pub HaveFit : Words → Trace → Type 0
 HaveFit start es = (i t : ℕ) → value_at start es t i < 2 ^ 64
 
 -- the world is well, and all callers are done: nobody holds or owes anything. Its structure is one on which callers run
-pub record IsQuiet (site : Site) (start : Words) (world : World) : Type 0 where
+pub record AllAreQuiet (site : Ground) (start : Words) (world : World) : Type 0 where
   pub well : IsWell site start world
   pub nothing : (j : ℕ) (v : View) → At world.views j v → OwesNothing v
   pub fits : HaveFit start world.trace
   pub says : SaysShapeInFront site.shape site.front
-  pub structure : IsOpenStructure site.shape site.front
+  pub structure : IsOpenStructure site.shape world.words
   pub fenced : pending 0 world.trace ≡ []
 
 -- values fit where those that an event writes do
@@ -99,11 +101,11 @@ FitsByEvents = (start : Words) (e : Event) (es : Trace) → ((i x : ℕ) → Wri
 -- a restart leaves the world quiet, as long as no caller begins
 abbrev pub QuietAfterRestart : Type 0
 QuietAfterRestart = (shape : Shape) (words : List ℕ) (callers : ℕ) → IsPlayableImage shape words → callers < 2 ^ 32
-    → IsQuiet (site_of shape words callers) (slice_index words) (world_of shape words callers)
+    → AllAreQuiet (site_of shape words callers) (slice_index words) (world_of shape words callers)
 
 -- ---- what it keeps
 -- a medium is a sound image with the pairs of these words, and says its shape as they do
-pub record IsKept (site : Site) (words : Words) (medium : List ℕ) : Type 0 where
+pub record IsKept (site : Ground) (words : Words) (medium : List ℕ) : Type 0 where
   pub sound : IsSoundImage site.shape medium
   pub same : (k : ℕ) → find site.shape (slice_index medium) k ≡ find site.shape words k
   pub pairs : (m : Map) → ((k : ℕ) → get m k ≡ find site.shape words k) → HasPairsOf site.shape (slice_index medium) m
@@ -111,7 +113,7 @@ pub record IsKept (site : Site) (words : Words) (medium : List ℕ) : Type 0 whe
 
 -- WHATEVER A CUT MAY LEAVE DURING A CLOSE is a sound image with the pairs of the table
 abbrev pub CloseKeeps : Type 0
-CloseKeeps = (site : Site) (start : Words) (world : World) → IsQuiet site start world → (n : ℕ) (medium : List ℕ)
+CloseKeeps = (site : Ground) (start : Words) (world : World) → AllAreQuiet site start world → (n : ℕ) (medium : List ℕ)
     → length medium ≡ words_of site.shape
     → IsPossible (words_of site.shape) start (close_after site.shape world.words world.trace n).trace (slice_index medium)
     → IsKept site world.words medium
@@ -124,21 +126,21 @@ pub record IsClosed (shape : Shape) (words : Words) (medium : List ℕ) : Type 0
 
 -- THE END OF A CLOSE: one medium alone may be left, the newest words, which are those of before with the marker set
 abbrev pub CloseSettles : Type 0
-CloseSettles = (site : Site) (start : Words) (world : World) → IsQuiet site start world → (n : ℕ)
+CloseSettles = (site : Ground) (start : Words) (world : World) → AllAreQuiet site start world → (n : ℕ)
     → wanted (close_after site.shape world.words world.trace n).op ≡ Done → (medium : List ℕ) → length medium ≡ words_of site.shape
     → IsPossible (words_of site.shape) start (close_after site.shape world.words world.trace n).trace (slice_index medium)
     → IsClosed site.shape (close_after site.shape world.words world.trace n).words medium
 
 abbrev pub CloseMarks : Type 0
-CloseMarks = (site : Site) (start : Words) (world : World) → IsQuiet site start world → (n : ℕ)
+CloseMarks = (site : Ground) (start : Words) (world : World) → AllAreQuiet site start world → (n : ℕ)
     → wanted (close_after site.shape world.words world.trace n).op ≡ Done
     → (close_after site.shape world.words world.trace n).words ≡ with_word world.words state_word (world.words state_word + 2 ^ 8)
 
--- and leaves the structure of the site, but for the marker
+-- and leaves the structure as it was, but for the marker
 abbrev pub CloseKeepsStructure : Type 0
-CloseKeepsStructure = (site : Site) (start : Words) (world : World) → IsQuiet site start world → (n : ℕ)
+CloseKeepsStructure = (site : Ground) (start : Words) (world : World) → AllAreQuiet site start world → (n : ℕ)
     → wanted (close_after site.shape world.words world.trace n).op ≡ Done → (i : ℕ) → IsStructure site.shape i → i ≢ state_word
-    → (close_after site.shape world.words world.trace n).words i ≡ site.front i
+    → (close_after site.shape world.words world.trace n).words i ≡ world.words i
 
 -- whichever of its events were done, a close has changed the state word alone
 abbrev pub ChangesStateAlone : Type 0

@@ -13,9 +13,10 @@ use Rattle.segment_table.specs.Claims.{HasSoundFrame}
 use Rattle.image_rules.specs.Stage.{IsUntouched}
 use Rattle.bucket_words.specs.Hits.{find}
 use Rattle.op_core.specs.declared.want.Want.TheVariants.{Done}
-use Rattle.world.specs.Site.{Site}
+use Rattle.world.specs.Ground.{Ground}
 use Rattle.world.specs.Views.{View, At}
-use Rattle.world.specs.World.{World, fresh_view, Begins}
+use Rattle.world.specs.World.{World, fresh_view}
+use Rattle.world.specs.areas.Beginning.{Begins}
 use Rattle.restart_op.specs.declared.restart.RestartStep.TheVariants.{Ended}
 use Rattle.restart_op.specs.Restart.{begun, wanted, taken, started_with}
 use Rattle.restart_op.specs.Course.{Course, after_events}
@@ -49,7 +50,7 @@ RestartKeeps = (shape : Shape) (words medium : List ℕ) (n : ℕ) → IsPlayabl
 
 -- ---- the end of the restart
 -- where the callers run: on the words at the end, with the pairs that these have
-abbrev pub site_of : Shape → List ℕ → ℕ → Site
+abbrev pub site_of : Shape → List ℕ → ℕ → Ground
 site_of shape words callers =
     let at_end = words_at_end shape words in
     record { shape = shape; front = at_end; start = find shape at_end; callers = callers }

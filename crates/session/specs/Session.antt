@@ -22,7 +22,7 @@ use Rattle.session.specs.Transcript.{Told, transcript_of}
 use Rattle.session.specs.Callers.{FollowsScript, IsAnswered, history_of, undrawn}
 
 -- how a session ended: by a close, or else by a power cut; and whether it was scheduled, as `play` is
-pub record Ending : Type 0 where
+pub record SessionEnd : Type 0 where
   pub closed : Bool
   pub scheduled : Bool
 
@@ -62,7 +62,7 @@ pub record IsClosed (shape : Shape) (words : List ℕ) (scripts : List (List Cal
 
 -- A session of a script: `scripts` are the calls of callers 1, 2, 3 and so on, `first` and `last` the words of the
 -- image before and after it, and `transcript` is what it printed.
-pub record IsSession (shape : Shape) (first last : List ℕ) (scripts : List (List Call)) (ending : Ending) (transcript : List ℕ) : Type 0 where
+pub record IsSession (shape : Shape) (first last : List ℕ) (scripts : List (List Call)) (ending : SessionEnd) (transcript : List ℕ) : Type 0 where
   -- each line printed is a call of its caller's script, in order, with what became of it
   pub tolds : List Told
   pub printed : transcript ≡ transcript_of tolds

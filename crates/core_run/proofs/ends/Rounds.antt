@@ -22,7 +22,7 @@ use Rattle.engine.specs.declared.engine.End.{End}
 use Rattle.engine.specs.declared.engine.Engine.{Engine}
 use Rattle.engine.specs.Engine.{wanted, end_of, outcome_of_end, reply_of_end, says_again, is_again}
 use Rattle.engine.specs.Left.{left, most_events}
-use Rattle.engine.specs.Core.{Caller, Core, current, entry_of, drawn_by, ended, gone_on, answered, with_event, turn, turn_of_call, turn_of_caller}
+use Rattle.engine.specs.Core.{Caller, Core, current, entry_of, drawn_by, ended, ended_or_on, answered, with_event, turn, turn_of_call, turn_of_caller}
 use Rattle.engine.specs.Holding.{IsCalling, DoesCall, CallerFits}
 use Rattle.engine.specs.Laws.{AreScripts}
 use Rattle.engine.specs.Causes.{Watched, answer_now, engine_next, watched_turn}
@@ -62,7 +62,7 @@ set_get (y ∷ callers) (suc j) c x is = set_get callers j c x is
 -- ---- how an event leaves its caller
 module _ (shape : Shape) (c : Caller) (call : Call) (e : Engine) where
   -- where the attempt goes on
-  goes_on : (w : Want) → end_by shape e w ≡ None → (current (gone_on c call e w) ≡ current c) × ((gone_on c call e w).engine ≡ Some e)
+  goes_on : (w : Want) → end_by shape e w ≡ None → (current (ended_or_on c call e w) ≡ current c) × ((ended_or_on c call e w).engine ≡ Some e)
   goes_on want.Done none = absurd (none-some (end_of e) (sym none))
   goes_on w none = (refl, refl)
 
@@ -75,7 +75,7 @@ module _ (shape : Shape) (c : Caller) (call : Call) (e : Engine) where
   ended_low None = omega arith
   ended_low (Some r) = let more = length-append c.entries (entry_of c call r.0 r.1 ∷ []) in omega (arith, more)
 
-  behind_low : (w : Want) → behind (gone_on c call e w) ≤ behind c
+  behind_low : (w : Want) → behind (ended_or_on c call e w) ≤ behind c
   behind_low want.Done = ended_low (reply_of_end (end_of e))
   behind_low w = omega arith
 

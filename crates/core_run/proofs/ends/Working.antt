@@ -13,7 +13,7 @@ use Rattle.engine.specs.declared.engine.Engine.{Engine}
 use Rattle.engine.specs.declared.engine.End.{End}
 use Rattle.engine.specs.Engine.{begun, wanted, taken, end_of, outcome_of_end, reply_of_end}
 use Rattle.engine.specs.Left.{most_events, left}
-use Rattle.engine.specs.Core.{Caller, call_at, engine_for, ended, gone_on}
+use Rattle.engine.specs.Core.{Caller, call_at, engine_for, ended, ended_or_on}
 use Rattle.core_run.specs.State.{end_by}
 use Rattle.engine.specs.Alone.{IsReply, EndsCall, AllRestAtStart, AloneAtStart, RestingIsAlone, OwnTurnsStayAlone, AloneNeverAgain, EndsAreTold, EndsTell, EndedRests, OthersStayResting}
 use Rattle.core_run.specs.Alone.{behind}
@@ -84,7 +84,7 @@ module _ (shape : Shape) (low : IsLow) (c : Caller) (call : Call) (e : Engine) (
   runs_works less = record { falls = omega (arith, less); answers = λ end is. absurd (none-some end is); goes_on = λ none. refl }
 
   pub gone_on_works : (w : Want) → left e < n → length c.entries < length c.calls → (wanted e ≡ want.Done → EndsCall (outcome_of_end (end_of e))) → wanted e ≡ w
-      → IsWorked (behind c) n (end_by shape e w) (gone_on c call e w)
+      → IsWorked (behind c) n (end_by shape e w) (ended_or_on c call e w)
   gone_on_works want.Done less within told is = ended_works (omega (arith, less)) within (reply_of_end (end_of e)) (told is)
   gone_on_works (want.Load i) less within told is = runs_works less
   gone_on_works (want.Store i x) less within told is = runs_works less

@@ -11,7 +11,7 @@ use Rattle.map_model.specs.declared.entry.Entry.{Entry}
 use Rattle.map_model.specs.declared.entry.Reply.{Reply}
 use Rattle.engine.specs.declared.engine.Engine.{Engine}
 use Rattle.engine.specs.Engine.{wanted, taken, end_of, reply_of_end}
-use Rattle.engine.specs.Core.{Caller, current, entry_of, drawn_by, ended, gone_on, answered}
+use Rattle.engine.specs.Core.{Caller, current, entry_of, drawn_by, ended, ended_or_on, answered}
 use Rattle.engine.proofs.Places.{one_more}
 use Rattle.core_run.specs.Running.{Setup, HasToldInOrder, AllTold}
 
@@ -54,7 +54,7 @@ module _ (t : Setup) (version number : ℕ) (c : Caller) (h : HasToldInOrder t v
     going_told : HasToldInOrder t version number (record c { drew = drew; engine = Some next; begun = true })
     going_told = record { its_calls = h.its_calls; within = h.within; drawn = draws; here = h.here }
 
-    gone_on_told : (w : Want) → HasToldInOrder t version number (gone_on (record c { drew = drew }) call next w)
+    gone_on_told : (w : Want) → HasToldInOrder t version number (ended_or_on (record c { drew = drew }) call next w)
     gone_on_told want.Done = ended_told drew (reply_of_end (end_of next))
     gone_on_told (want.Load i) = going_told
     gone_on_told (want.Store i x) = going_told
@@ -73,7 +73,7 @@ module _ (c : Caller) (call : Call) where
   ended_calls None = refl
   ended_calls (Some r) = refl
 
-  pub gone_on_calls : (e : Engine) (w : Want) → (gone_on c call e w).calls ≡ c.calls
+  pub gone_on_calls : (e : Engine) (w : Want) → (ended_or_on c call e w).calls ≡ c.calls
   gone_on_calls e want.Done = ended_calls (reply_of_end (end_of e))
   gone_on_calls e (want.Load i) = refl
   gone_on_calls e (want.Store i x) = refl

@@ -6,7 +6,7 @@ use Rattle.trace.specs.Events.{Words}
 use Rattle.trace.specs.Progress.{pending}
 use Rattle.image_layout.specs.Places.{state_word}
 use Rattle.map_model.specs.declared.call.Call.{Call}
-use Rattle.world.specs.Site.{Site}
+use Rattle.world.specs.Ground.{Ground}
 use Rattle.world.specs.Views.{View}
 use Rattle.world.specs.Wants.{answer_to, word_of}
 use Rattle.engine.specs.declared.engine.Engine.{Engine}
@@ -30,8 +30,8 @@ view_at R (z ∷ xs) (y ∷ ys) zero x all is = (y, subst (λ w. R w y) (same_So
 view_at R (z ∷ xs) (y ∷ ys) (suc j) x all is = view_at R xs ys j x all.1 is
 
 -- the state word is the one that the restart left
-pub state_stays : (site : Site) (start : Words) (core : Core) → CoreHolds site start core → core.words state_word ≡ site.front state_word
-state_stays site start core h = h.well.holds.media.structure core.words (λ i within. inl refl) state_word (inl (omega arith))
+pub state_stays : (site : Ground) (start : Words) (core : Core) → CoreHolds site start core → core.words state_word ≡ site.front state_word
+state_stays site start core h = (h.well.holds.structure.sound core.words (λ i within. inl refl)).fixed state_word (omega arith) (λ e. omega (arith, e))
 
 module _ (keeps : TurnKeeps) (asks : AsksWithin) (waits : EnginesWait) (most : (e : Engine) → waiting e ≤ 2)
     (t : Setup) (core : Core) (o : IsOpen t core) (j : ℕ) (c : Caller) (at : slice_get core.callers j ≡ Some c)

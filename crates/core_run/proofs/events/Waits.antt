@@ -20,7 +20,7 @@ use Rattle.world.proofs.stepping.Answers.{is_answer}
 use Rattle.engine.specs.declared.engine.Engine.{Engine}
 use Rattle.engine.specs.Engine.{begun, wanted, taken, end_of, reply_of_end}
 use Rattle.engine.specs.Left.{waiting}
-use Rattle.engine.specs.Core.{Caller, call_at, engine_for, ended, gone_on}
+use Rattle.engine.specs.Core.{Caller, call_at, engine_for, ended, ended_or_on}
 use Rattle.core_run.specs.Running.{WaitsFor, FewWait}
 
 -- an event of another caller
@@ -86,7 +86,7 @@ module _ (laws : EnginesWait) where
   ended_waits es c caller call (Some r) none = none_waits es c caller.site (call_at caller (suc (length caller.entries))) none
 
   pub gone_on_waits : (es : Trace) (c : ℕ) (caller : Caller) (call : Call) (e : Engine) (w : Want) → wanted e ≡ w → length (pending c es) ≤ waiting e
-      → WaitsFor es c (gone_on caller call e w).engine
+      → WaitsFor es c (ended_or_on caller call e w).engine
   gone_on_waits es c caller call e want.Done is few = ended_waits es c caller call (reply_of_end (end_of e)) (let l = laws.ends e is in omega (arith, l, few))
   gone_on_waits es c caller call e (want.Load i) is few = few
   gone_on_waits es c caller call e (want.Store i x) is few = few

@@ -13,8 +13,8 @@ use Rattle.image_layout.specs.Places.{Shape, root_word, state_word, head_at}
 use Rattle.image_layout.specs.Volatile.{power_word}
 use Rattle.map_model.specs.declared.call.Call.{Call}
 use Rattle.way.specs.Ways.{head_word}
-use Rattle.world.specs.declared.site.Site.{Site as Here}
-use Rattle.world.specs.Site.{Site, version_of}
+use Rattle.world.specs.declared.site.Site.{Site}
+use Rattle.world.specs.Ground.{Ground, version_of}
 use Rattle.bucket_words.specs.Owners.{HasStructure}
 use Rattle.world.specs.Views.{View, At, HasLock}
 use Rattle.world.specs.Wants.{word_of}
@@ -25,6 +25,7 @@ use Rattle.part.specs.Doings.{Doings}
 use Rattle.part.specs.Outcomes.{Outcome, replied, again, stale, off, finished}
 use Rattle.part.specs.Part.{IsPart}
 use Rattle.part.specs.Causes.{IsStale, HasCause as HasPartCause, StepsByCause, EndsByCause}
+use Rattle.part.proofs.Resting.{rests_on}
 use Rattle.restart_op.specs.AtRest.{IsOpenStructure}
 use Rattle.restart_op.specs.Restarted.{words_at_end, site_of}
 use Rattle.engine.specs.declared.engine.Engine.{Engine}
@@ -53,10 +54,9 @@ small_is_dead head small live =
     let none : state_in head ≡ 0 = omega (arith, small) in
     absurd (false≢true (subst (λ n. ((n == normal) || (n == splitting)) ≡ true) none live))
 
-module _ (site : Site) (words : Words) (views : List View) (h : Holds site words views) (opened : IsOpenStructure site.shape site.front) where
-  structure : HasStructure site.shape site.front words
-  structure = h.structure.constant
-
+-- where the structure is that of the start
+module _ (site : Ground) (words : Words) (views : List View) (h : Holds site words views) (structure : HasStructure site.shape site.front words)
+    (opened : IsOpenStructure site.shape site.front) where
   root_small : words root_word < 2 ^ 8
   root_small =
       let same = structure root_word (inl (omega arith)) in
@@ -86,7 +86,7 @@ module _ (site : Site) (words : Words) (views : List View) (h : Holds site words
       ]
 
   -- so the cause of a part's outcome is one of an engine's
-  module _ (powered : words (power_word site.shape) ≡ 0) (did : Doings) (call : Call) (event : Want) (here : Here) (version : here.version ≡ version_of site) where
+  module _ (powered : words (power_word site.shape) ≡ 0) (did : Doings) (call : Call) (event : Want) (here : Site) (version : here.version ≡ version_of site) where
     cause_of : (outcome : Outcome) → (outcome ≡ finished → ⊥) → HasPartCause site.shape words did call event here outcome → HasCause site.shape words did call event outcome
     cause_of (replied reply place) never c = c
     cause_of (again why) never c = c
@@ -102,7 +102,7 @@ pub record CallCauses : Type 0 where
   pub never : (e : Engine) → op_part.outcome e.op ≡ Some finished → ⊥
 
 -- ---- in a core that holds
-module _ (laws : CallCauses) (keeps : TurnKeeps) (site : Site) (start : Words) (core : Core) (h : CoreHolds site start core)
+module _ (laws : CallCauses) (keeps : TurnKeeps) (site : Ground) (start : Words) (core : Core) (h : CoreHolds site start core)
     (j : ℕ) (c : Caller) (call : Call) (e : Engine) (d : Doings) (there : slice_get core.callers j ≡ Some c) (calls : current c ≡ Some call) (runs : c.engine ≡ Some e)
     (doing : IsDoing laws.causes laws.begins keeps site start c d) where
   seen : (v : View) × At (fresh_view 0 ∷ h.views) (suc j) v × IsCalling site c e v × (c.site.version ≡ version_of site)
@@ -119,8 +119,8 @@ module _ (laws : CallCauses) (keeps : TurnKeeps) (site : Site) (start : Words) (
   core_cause outcome powered decides =
       let same : seen.2.call ≡ call = same_Some seen.2.call call (sym seen.2.is_current ∙ calls) in
       subst (λ x. HasCause site.shape core.words d x (wanted e) outcome) same
-      (cause_of site core.words (fresh_view 0 ∷ h.views) h.well.holds h.served.structure powered d seen.2.call (wanted e) c.site seen.3 outcome
-      (λ is. laws.never (Rattle.engine.specs.Causes.engine_next site.shape core.words e) (decides.decides ∙ ap Some is)) (step.caused outcome decides.undecided decides.decides))
+      (cause_of site core.words (fresh_view 0 ∷ h.views) h.well.holds h.constant h.served.structure powered d seen.2.call (wanted e) c.site seen.3 outcome
+      (λ is. laws.never (Rattle.engine.specs.Causes.engine_next site.shape core.words e) (decides.decides ∙ ap Some is)) (step.caused outcome decides.undecided decides.decides (rests_on site core.words h.constant outcome)))
 
   -- who finds a lock taken does not hold it
   core_not_own : (word value : ℕ) → Decides site.shape core.words e (again (Busy word value)) → (v : View) → At h.views j v → HasLock v.held word → ⊥
@@ -130,7 +130,7 @@ module _ (laws : CallCauses) (keeps : TurnKeeps) (site : Site) (start : Words) (
 -- after any turns
 module _ (opens : OpenedHolds) (keeps : TurnKeeps) (shape : Shape) (words : List ℕ) (image : IsServedImage shape words)
     (scripts : List (List Call)) (are : AreScripts scripts) (turns : List ℕ) where
-  abbrev pub site_there : Site
+  abbrev pub site_there : Ground
   site_there = site_of shape words (length scripts)
 
   abbrev pub there : Watched

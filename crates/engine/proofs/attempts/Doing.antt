@@ -10,8 +10,8 @@ use Rattle.trace.proofs.Moments.{value_at_now}
 use Rattle.image_layout.specs.Places.{Shape}
 use Rattle.map_model.specs.declared.call.Call.{Call}
 use Rattle.map_model.specs.declared.entry.Reply.{Reply}
-use Rattle.world.specs.declared.site.Site.{Site as Here}
-use Rattle.world.specs.Site.{Site}
+use Rattle.world.specs.declared.site.Site.{Site}
+use Rattle.world.specs.Ground.{Ground}
 use Rattle.world.specs.World.{fresh_view}
 use Rattle.world.specs.Wants.{word_of}
 use Rattle.part.specs.Doings.{Doings, nothing_done, with_event_of}
@@ -19,7 +19,7 @@ use Rattle.part.specs.Causes.{EndsByCause}
 use Rattle.engine.specs.declared.engine.Engine.{Engine}
 use Rattle.engine.specs.Engine.{begun, wanted, end_of, reply_of_end}
 use Rattle.engine.specs.OpPart.{op_part}
-use Rattle.engine.specs.Core.{Caller, Core, call_at, current, engine_for, drawn_by, ended, gone_on, answered, callers_from, idle}
+use Rattle.engine.specs.Core.{Caller, Core, call_at, current, engine_for, drawn_by, ended, ended_or_on, answered, callers_from, idle}
 use Rattle.engine.specs.Holding.{IsCalling, DoesCall, CallerFits, CoreHolds, TurnKeeps}
 use Rattle.engine.specs.Causes.{doings_by, Watched, with_doings, answer_now, engine_next, doings_of_call, doings_of_caller, watched_turn, watched_run, WatchingChangesNothing}
 use Rattle.engine.proofs.Places.{zip_at, set_cases}
@@ -35,15 +35,15 @@ set_there (y ∷ callers) (suc j) c d x there is = set_there callers j c d x the
 
 -- what an attempt that has done nothing remembers
 abbrev pub RemembersNothing : Type 0
-RemembersNothing = (site : Site) (here : Here) (call : Call) → op_part.Remembers site (begun here call).op nothing_done
+RemembersNothing = (site : Ground) (here : Site) (call : Call) → op_part.Remembers site (begun here call).op nothing_done
 
-module _ (causes : EndsByCause op_part) (begins : RemembersNothing) (keeps : TurnKeeps) (site : Site) (start : Words) where
+module _ (causes : EndsByCause op_part) (begins : RemembersNothing) (keeps : TurnKeeps) (site : Ground) (start : Words) where
   -- ---- a caller
   -- its engine, if one runs, remembers what its attempt did
   abbrev pub IsDoing : Caller → Doings → Type 0
   IsDoing c d = (e : Engine) → c.engine ≡ Some e → op_part.Remembers site e.op d
 
-  engine_did : (here : Here) (o : Option Call) (e : Engine) → engine_for here o ≡ Some e → op_part.Remembers site e.op nothing_done
+  engine_did : (here : Site) (o : Option Call) (e : Engine) → engine_for here o ≡ Some e → op_part.Remembers site e.op nothing_done
   engine_did here None e is = absurd (none-some e is)
   engine_did here (Some call) e is = subst (λ (z : Engine). op_part.Remembers site z.op nothing_done) (same_Some (begun here call) e is) (begins site here call)
 
@@ -52,7 +52,7 @@ module _ (causes : EndsByCause op_part) (begins : RemembersNothing) (keeps : Tur
   ended_doing c call (Some r) e is = engine_did c.site (call_at c (suc (length c.entries))) e is
 
   gone_on_doing : (c : Caller) (call : Call) (e : Engine) (next w : Want) (a : Ans) (d : Doings) → op_part.Remembers site e.op (with_event_of w a d)
-      → IsDoing (gone_on c call e next) (doings_by next w a d)
+      → IsDoing (ended_or_on c call e next) (doings_by next w a d)
   gone_on_doing c call e want.Done w a d did x is = ended_doing c call (reply_of_end (end_of e)) x is
   gone_on_doing c call e next w a d did x is = subst (λ (z : Engine). op_part.Remembers site z.op (with_event_of w a d)) (same_Some e x is) did
 
@@ -115,6 +115,6 @@ module _ (causes : EndsByCause op_part) (begins : RemembersNothing) (keeps : Tur
   pub begin_doing : (shape : Shape) (version number : ℕ) (scripts : List (List Call)) (j : ℕ) (c : Caller) → slice_get (callers_from shape version number scripts) j ≡ Some c → IsDoing c nothing_done
   begin_doing shape version number [] j c at = absurd (none-some c at)
   begin_doing shape version number (calls ∷ scripts) zero c at =
-      let here : Here = record { geometry = shape; version = version; caller = number } in
+      let here : Site = record { geometry = shape; version = version; caller = number } in
       subst (λ z. IsDoing z nothing_done) (same_Some (idle here calls) c at) (λ e is. engine_did here (slice_get calls 0) e is)
   begin_doing shape version number (calls ∷ scripts) (suc j) c at = begin_doing shape version (suc number) scripts j c at

@@ -1,13 +1,18 @@
 -- The core with which callers begin holds.
-use Rattle.std.proofs.Common.{◌≡◌, ℕ, zero, suc, List, [], ◌∷◌, length, replicate, slice_get, Option, None, Some, inl, refl, sym, subst, arith}
+use Rattle.std.proofs.Common.{◌≡◌, ℕ, zero, suc, List, [], ◌∷◌, length, replicate, slice_get, Option, None, Some, inl, refl, sym, ap, subst, arith}
 use Rattle.std.specs.List.{AllByRecursion, AllZip}
 use Rattle.std.proofs.lemmas.Option.{none-some, same_Some}
+use mathlib.Core.Option.{some-injective, some-ne-none}
+use Rattle.trace.specs.Events.{Words}
 use Rattle.map_model.specs.declared.call.Call.{Call}
-use Rattle.world.specs.declared.site.Site.{Site as Here}
-use Rattle.world.specs.Site.{Site, IsSite, version_of}
+use Rattle.world.specs.declared.site.Site.{Site}
+use Rattle.world.specs.Ground.{Ground, IsGround, version_of}
+use Rattle.map_model.specs.declared.entry.Entry.{Entry}
+use Rattle.world.specs.Views.{View, Has, At}
 use Rattle.world.specs.World.{fresh_view}
 use Rattle.world.specs.Attempts.{HoldsOnly}
-use Rattle.engine.specs.Fits.{IsWordCall, IsServed, BeginsSuited}
+use Rattle.restart_op.specs.AtRest.{IsOpenStructure}
+use Rattle.engine.specs.Fits.{IsWordCall, IsServedGround, BeginsSuited}
 use Rattle.engine.specs.Core.{idle, engine_for, callers_from}
 use Rattle.engine.specs.Holding.{CallerFits, CoreBegins}
 
@@ -17,10 +22,10 @@ word_at (x ∷ calls) all zero call is = subst IsWordCall (same_Some x call is) 
 word_at (x ∷ calls) all (suc n) call is = word_at calls all.1 n call is
 
 holds_nothing : (n : ℕ) → HoldsOnly [] (fresh_view n)
-holds_nothing n = record { held = refl; known = refl; dirty = refl; flushed = refl; planned = refl; moving = refl; owed = refl }
+holds_nothing n = record { held = refl; known = refl; dirty = refl; flushed = refl; planned = refl; moving = refl; owed = refl; areas = refl }
 
-module _ (begins : BeginsSuited) (site : Site) (is_site : IsSite site) (served : IsServed site) where
-  module _ (here : Here) (place : here.geometry ≡ site.shape) (version : here.version ≡ version_of site) (calls : List Call) (all : AllByRecursion IsWordCall calls) where
+module _ (begins : BeginsSuited) (site : Ground) (is_site : IsGround site) (served : IsServedGround site) where
+  module _ (here : Site) (place : here.geometry ≡ site.shape) (version : here.version ≡ version_of site) (calls : List Call) (all : AllByRecursion IsWordCall calls) where
     first : (o : Option Call) → slice_get calls 0 ≡ o → CallerFits site (record (idle here calls) { engine = engine_for here o }) (fresh_view 1)
     first None is = record {
       place = place;
@@ -60,14 +65,24 @@ module _ (begins : BeginsSuited) (site : Site) (is_site : IsSite site) (served :
   all_fit version current number (calls ∷ scripts) all =
       (idle_fits (record { geometry = site.shape; version = version; caller = number }) refl current calls all.0, all_fit version current (suc number) scripts all.1)
 
+-- nobody has replied anything
+none_replied : (n j : ℕ) (v : View) → At (replicate n (fresh_view 1)) j v → v.own ≡ []
+none_replied zero j v at = absurd (some-ne-none v (sym at))
+none_replied (suc n) zero v at = ap (λ (z : View). z.own) (sym (some-injective (fresh_view 1) v at))
+none_replied (suc n) (suc j) v at = none_replied n j v at
+
 pub core_begins : BeginsSuited → CoreBegins
-core_begins begins site start core version scripts quiet grown current words is = record {
-  views = replicate (length scripts) (fresh_view 1);
-  well = quiet.well;
-  fits = quiet.fits;
-  says = quiet.says;
-  served = record { structure = quiet.structure; grown = grown };
-  fenced = quiet.fenced;
-  each = subst (λ callers. AllZip (CallerFits site) callers (replicate (length scripts) (fresh_view 1))) (sym is)
-      (all_fit begins site quiet.well.holds.site_is (record { structure = quiet.structure; grown = grown }) version current 1 scripts words);
-}
+core_begins begins site start core version scripts quiet front grown current words is =
+    let served : IsServedGround site = record { structure = subst (IsOpenStructure site.shape) front quiet.structure; grown = grown } in
+    record {
+      views = replicate (length scripts) (fresh_view 1);
+      well = quiet.well;
+      constant = λ i part. ap (λ (ws : Words). ws i) front;
+      fits = quiet.fits;
+      says = quiet.says;
+      served = served;
+      full = λ j v e at has _. absurd (subst (λ (es : List Entry). Has e es) (none_replied (length scripts) j v at) has);
+      fenced = quiet.fenced;
+      each = subst (λ callers. AllZip (CallerFits site) callers (replicate (length scripts) (fresh_view 1))) (sym is)
+          (all_fit begins site quiet.well.holds.site_is served version current 1 scripts words);
+    }

@@ -13,7 +13,7 @@ use Rattle.engine.specs.Laws.{CallsAreScripts, opened, OpenedHolds, TurnsKeep}
 pub opened_holds : CoreBegins → QuietAfterRestart → EndsStarted → OpenedHolds
 opened_holds begins quiet started shape words scripts image are =
     begins (site_of shape words (length scripts)) (slice_index words) (opened shape words scripts) (words_at_end shape words state_word) scripts
-    (quiet shape words (length scripts) image.playable (let few = are.few in omega (arith, few)))
+    (quiet shape words (length scripts) image.playable (let few = are.few in omega (arith, few))) refl
     (grown_alike shape (slice_index words) (words_at_end shape words) image.grown (λ s slot. agree shape words image.playable (head_at shape s + 1) (omega (arith, slot)) (λ e. omega (arith, e))))
     (let s = started shape words image.playable in let state = s.state in let fits = s.fits in omega (arith, state, fits)) are.words refl
 

@@ -4,8 +4,8 @@ use Rattle.std.proofs.Common.{◌≡◌, ℕ, ◌≤◌, suc, Option, None, Some
 use Rattle.map_model.specs.declared.call.Call.{Call}
 use Rattle.map_model.specs.declared.entry.Reply.{Reply}
 use Rattle.map_model.specs.declared.entry.Entry.{Entry}
-use Rattle.world.specs.declared.site.Site.{Site as Here}
-use Rattle.world.specs.Site.{Site}
+use Rattle.world.specs.declared.site.Site.{Site}
+use Rattle.world.specs.Ground.{Ground}
 use Rattle.world.specs.Views.{View, Has}
 use Rattle.world.specs.Attempts.{EntersReply}
 use Rattle.part.specs.Outcomes.{reply_of}
@@ -28,7 +28,7 @@ short_by : (call : Call) (o : Option (Reply × ℕ)) (before v : View) → Enter
 short_by call None before v enters = same_length v.own before.own enters.own
 short_by call (Some r) before v enters = one_longer v.own before.own _ enters.own
 
-module _ (site : Site) (here : Here) (call : Call) (before v : View) where
+module _ (site : Ground) (here : Site) (call : Call) (before v : View) where
   pub planned_is : IsPart op_part → (e : Engine) (planned : Call) → Suits site here call e before v → Has planned v.planned → (planned ≡ call) × (v.own ≡ before.own)
   planned_is part e planned s has = part.plans site here call e.op before v planned s.suits has
 

@@ -6,10 +6,10 @@ use Rattle.trace.proofs.Replaced.{replaced_other}
 use Rattle.image_layout.specs.Places.{Shape, state_word}
 use Rattle.image_layout.specs.Volatile.{power_word}
 use Rattle.map_model.specs.declared.call.Call.{Call}
-use Rattle.world.specs.Site.{Site}
+use Rattle.world.specs.Ground.{Ground}
 use Rattle.world.specs.Wants.{words_after}
 use Rattle.world.specs.World.{fresh_view}
-use Rattle.world.proofs.stepping.Steps.{power_stays}
+use Rattle.world.proofs.calls.mildly.Leaving.{power_stays}
 use Rattle.restart_op.specs.Restarted.{IsPlayableImage, words_at_end}
 use Rattle.part.specs.Part.{IsPart}
 use Rattle.engine.specs.declared.engine.Engine.{Engine}
@@ -21,7 +21,7 @@ use Rattle.engine.specs.Holding.{IsCalling, DoesCall, CallerFits, CoreHolds, Tur
 use Rattle.engine.proofs.Places.{zip_at}
 
 -- ---- turns
-module _ (part : IsPart op_part) (site : Site) (start : Words) (core : Core) (h : CoreHolds site start core) (off : core.words (power_word site.shape) ≡ 0) where
+module _ (part : IsPart op_part) (site : Ground) (start : Words) (core : Core) (h : CoreHolds site start core) (off : core.words (power_word site.shape) ≡ 0) where
   module _ (j : ℕ) (c : Caller) (there : slice_get core.callers j ≡ Some c) where
     after_event : (call : Call) (e : Engine) → c.engine ≡ Some e → words_after site.shape (wanted e) (suc j) core.words (power_word site.shape) ≡ 0
     after_event call e runs =
@@ -45,7 +45,7 @@ module _ (part : IsPart op_part) (site : Site) (start : Words) (core : Core) (h 
   turn_powered zero = off
   turn_powered (suc j) = by_caller j (slice_get core.callers j) refl
 
-pub run_powered : IsPart op_part → TurnKeeps → (site : Site) (start : Words) (core : Core) (turns : List ℕ) → CoreHolds site start core → core.words (power_word site.shape) ≡ 0
+pub run_powered : IsPart op_part → TurnKeeps → (site : Ground) (start : Words) (core : Core) (turns : List ℕ) → CoreHolds site start core → core.words (power_word site.shape) ≡ 0
     → (run site.shape turns core).words (power_word site.shape) ≡ 0
 run_powered part turned site start core [] h off = off
 run_powered part turned site start core (c ∷ turns) h off =

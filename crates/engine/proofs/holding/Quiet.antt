@@ -4,17 +4,18 @@ use mathlib.Core.Option.{some-injective}
 use Rattle.std.specs.List.{AllByRecursion}
 use Rattle.std.proofs.lemmas.Option.{none-some, same_Some}
 use Rattle.trace.specs.Events.{Words}
-use Rattle.world.specs.Site.{Site}
+use Rattle.world.specs.Ground.{Ground}
 use Rattle.world.specs.Views.{View, At}
 use Rattle.world.specs.World.{fresh_view}
 use Rattle.world.specs.Laws.{EntriesAreLegal}
-use Rattle.restart_op.specs.Restarted.{OneSegmentIsLive}
+use Rattle.world.specs.areas.Areas.{Whole}
 use Rattle.restart_op.specs.Closing.{OwesNothing}
+use Rattle.restart_op.proofs.Currents.{open_stays}
 use Rattle.engine.specs.Core.{Caller, Core}
 use Rattle.engine.specs.Holding.{DoesCall, CallerFits, CoreHolds}
 use Rattle.engine.specs.Laws.{NoneRuns, ThroughIsQuiet, ThroughIsExact, ThroughHasMap}
 use Rattle.engine.proofs.holding.Planned.{none_has}
-use Rattle.engine.proofs.holding.Served.{all_current}
+use Rattle.engine.proofs.holding.Served.{live_current}
 use Rattle.engine.proofs.sessions.Cut.{told_legal}
 use Rattle.engine.proofs.sessions.Goodness.{caller_at}
 
@@ -23,14 +24,14 @@ none_at [] all j c is = absurd (none-some c is)
 none_at (x ∷ callers) all zero c is = subst (λ (z : Caller). z.engine ≡ None) (same_Some x c is) all.0
 none_at (x ∷ callers) all (suc j) c is = none_at callers all.1 j c is
 
-module _ (site : Site) (start : Words) (core : Core) (h : CoreHolds site start core) (none : NoneRuns core) where
+module _ (site : Ground) (start : Words) (core : Core) (h : CoreHolds site start core) (none : NoneRuns core) where
   idle_owes : (c : Caller) (v : View) → CallerFits site c v → c.engine ≡ None → OwesNothing v
   idle_owes c v fits is =
       let d = subst (λ o. DoesCall site c o v) is fits.does in
-      record { held = d.nothing.held; dirty = d.nothing.dirty; flushed = d.nothing.flushed; planned = d.nothing.planned; moving = d.nothing.moving; owed = d.nothing.owed }
+      record { held = d.nothing.held; dirty = d.nothing.dirty; flushed = d.nothing.flushed; planned = d.nothing.planned; moving = d.nothing.moving; owed = d.nothing.owed; areas = d.nothing.areas }
 
   owes : (j : ℕ) (v : View) → At (fresh_view 0 ∷ h.views) j v → OwesNothing v
-  owes zero v at = subst OwesNothing (some-injective (fresh_view 0) v at) (record { held = refl; dirty = refl; flushed = refl; planned = refl; moving = refl; owed = refl })
+  owes zero v at = subst OwesNothing (some-injective (fresh_view 0) v at) (record { held = refl; dirty = refl; flushed = refl; planned = refl; moving = refl; owed = refl; areas = refl })
   owes (suc j) v at = let c = caller_at site core.callers h.views j v h.each at in idle_owes c.0 v c.2 (none_at core.callers none j c.0 c.1)
 
 pub through_is_quiet : ThroughIsQuiet
@@ -39,13 +40,15 @@ through_is_quiet site start core h none = record {
   nothing = owes site start core h none;
   fits = h.fits;
   says = h.says;
-  structure = h.served.structure;
+  structure = open_stays site.shape site.front core.words h.well.holds.site_is.shape h.constant h.served.structure;
   fenced = h.fenced;
 }
 
-pub through_is_exact : OneSegmentIsLive → ThroughIsExact
-through_is_exact is_live site start core h none s b slot near =
-    h.well.holds.overflow.exact s b (all_current site core.words (fresh_view 0 ∷ h.views) h.well.holds h.served is_live s slot) near (λ j v o at has segment home. none_has v.owed o (owes site start core h none j v at).owed has)
+pub through_is_exact : ThroughIsExact
+through_is_exact site start core h none s b live near =
+    h.well.holds.notes_of_homes.exact s b
+    (live_current site core.words (fresh_view 0 ∷ h.views) h.well.holds h.constant h.served s live, λ j v at whole. none_has v.areas (Whole s) (owes site start core h none j v at).areas whole) near
+    (λ j v o at has segment home. none_has v.owed o (owes site start core h none j v at).owed has)
 
 pub through_has_map : EntriesAreLegal → ThroughHasMap
 through_has_map legal site start core opening h same none k =

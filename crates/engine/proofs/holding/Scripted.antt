@@ -8,11 +8,11 @@ use Rattle.map_model.specs.declared.call.Call.{Call}
 use Rattle.map_model.specs.declared.entry.Reply.{Reply}
 use Rattle.map_model.specs.declared.entry.Entry.{Entry}
 use Rattle.session.specs.Callers.{FollowsScript}
-use Rattle.world.specs.Site.{Site}
+use Rattle.world.specs.Ground.{Ground}
 use Rattle.world.specs.Views.{View}
 use Rattle.engine.specs.declared.engine.Engine.{Engine}
 use Rattle.engine.specs.Engine.{end_of, reply_of_end}
-use Rattle.engine.specs.Core.{Caller, open_of, told_of, ended, gone_on}
+use Rattle.engine.specs.Core.{Caller, open_of, told_of, ended, ended_or_on}
 use Rattle.engine.specs.Holding.{DoesCall, CallerFits}
 use Rattle.engine.proofs.Places.{one_more}
 
@@ -45,7 +45,7 @@ ended_calls : (c : Caller) (call : Call) (o : Option (Reply × ℕ)) → (ended 
 ended_calls c call None = refl
 ended_calls c call (Some r) = refl
 
-pub gone_on_calls : (c : Caller) (call : Call) (e : Engine) (w : Want) → (gone_on c call e w).calls ≡ c.calls
+pub gone_on_calls : (c : Caller) (call : Call) (e : Engine) (w : Want) → (ended_or_on c call e w).calls ≡ c.calls
 gone_on_calls c call e want.Done = ended_calls c call (reply_of_end (end_of e))
 gone_on_calls c call e w = refl
 
@@ -76,14 +76,14 @@ follows_idle : (entries : List Entry) (calls : List Call) (begun : Bool) (drew :
 follows_idle entries calls false drew replied within idle = record { its_calls = replied; within = omega (arith, within) }
 follows_idle entries calls true drew replied within idle = absurd (let q = idle in cc)
 
-follows : (site : Site) (c : Caller) (v : View) → CallerFits site c v → FollowsScript c.calls (told_of c)
+follows : (site : Ground) (c : Caller) (v : View) → CallerFits site c v → FollowsScript c.calls (told_of c)
 follows site c v fits = by c.engine fits.does
   where
     by : (engine : Option Engine) → DoesCall site c engine v → FollowsScript c.calls (told_of c)
     by None d = follows_idle c.entries c.calls c.begun c.drew fits.replied fits.within d.begun
     by (Some e) d = follows_open c.entries c.calls c.begun c.drew d.call fits.replied d.is_current d.drew_call
 
-pub all_follow : (site : Site) (callers : List Caller) (views : List View) → AllZip (CallerFits site) callers views
+pub all_follow : (site : Ground) (callers : List Caller) (views : List View) → AllZip (CallerFits site) callers views
     → AllZip FollowsScript (map (λ (c : Caller). c.calls) callers) (map told_of callers)
 all_follow site [] views all = tt
 all_follow site (c ∷ callers) [] all = absurd all

@@ -7,10 +7,11 @@ use Rattle.image_layout.specs.Places.{Shape}
 use Rattle.map_model.specs.declared.call.Call.{Call}
 use Rattle.map_model.specs.declared.entry.Reply.TheVariants as reply
 use Rattle.map_model.specs.declared.entry.Entry.{Entry}
-use Rattle.world.specs.Site.{Site}
+use Rattle.world.specs.Ground.{Ground}
 use Rattle.world.specs.Views.{View, Has}
 use Rattle.world.specs.Kinds.{Kind, finds_room, refuses, validates, draws_place, wanted as wanted_by, view_after}
 use Rattle.world.specs.Conditions.{May}
+use Rattle.world.specs.StepKinds.{StepKind, of_call, wanted_of, view_by, MayTake}
 use Rattle.world.specs.Wants.{answer_to}
 use Rattle.world.specs.Entering.{IsMadeBy}
 use Rattle.world.proofs.stepping.Steps.{steps_enter}
@@ -78,7 +79,7 @@ draws_or_not : (shape : Shape) (kind : Kind) → ((call : Call) × (kind ≡ dra
 draws_or_not shape (draws_place call) = inl (call, refl)
 draws_or_not shape kind = inr tt
 
-module _ (site : Site) (c : Caller) (call : Call) (v : View) (n : ℕ) (has : HasEntries c.entries c.drew v.own)
+module _ (site : Ground) (c : Caller) (call : Call) (v : View) (n : ℕ) (has : HasEntries c.entries c.drew v.own)
     (only : (planned : Call) → Has planned v.planned → (planned ≡ call) × (v.own ≡ c.entries)) where
   drawing : (kind : Kind) (planned : Call) → kind ≡ draws_place planned → May site kind v
       → HasEntries c.entries (drawn_by c call (answer_to (wanted_by site.shape kind) n)) (view_after site.shape kind n v).own
@@ -88,11 +89,17 @@ module _ (site : Site) (c : Caller) (call : Call) (v : View) (n : ℕ) (has : Ha
       ap (λ (es : List Entry). es ++ record { serial = suc (length es); call = planned; reply = reply.Done; place = n; drew = true } ∷ []) p.1
       ∙ ap (λ (k : Call). c.entries ++ entry_of c k reply.Done n ∷ []) p.0)
 
-  -- THE ENTRIES after an event of a kind
-  pub entries_after : (kind : Kind) → May site kind v → length (view_after site.shape kind n v).own ≤ suc (length c.entries)
+  -- THE ENTRIES after an event of a caller's kind
+  entries_after : (kind : Kind) → May site kind v → length (view_after site.shape kind n v).own ≤ suc (length c.entries)
       → HasEntries c.entries (drawn_by c call (answer_to (wanted_by site.shape kind) n)) (view_after site.shape kind n v).own
   entries_after kind may short = elim (draws_or_not site.shape kind) [
     | inl draw ↦ drawing kind draw.0 draw.1 may
     | inr none ↦ subst (λ d. HasEntries c.entries d (view_after site.shape kind n v).own) (sym (not_drawn c call (wanted_by site.shape kind) n none))
         (grown c.entries v.own (view_after site.shape kind n v).own c.drew has (untold_after site.shape kind n v none) short)
   ]
+
+  -- and after one that is of such a kind
+  pub entries_by : (step : StepKind) (kind : Kind) → step ≡ of_call kind → MayTake site step v → length (view_by site.shape step n v).own ≤ suc (length c.entries)
+      → HasEntries c.entries (drawn_by c call (answer_to (wanted_of site.shape step) n)) (view_by site.shape step n v).own
+  entries_by step kind is = subst (λ (k : StepKind). MayTake site k v → length (view_by site.shape k n v).own ≤ suc (length c.entries)
+      → HasEntries c.entries (drawn_by c call (answer_to (wanted_of site.shape k) n)) (view_by site.shape k n v).own) (sym is) (λ may. entries_after kind may.0)

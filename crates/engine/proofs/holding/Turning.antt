@@ -13,27 +13,34 @@ use Rattle.op_core.specs.declared.want.Want.TheVariants as want
 use Rattle.trace.specs.Events.{Words, Event, Trace, value, value_at, with_word}
 use Rattle.trace.proofs.Moments.{value_at_more, value_at_now}
 use Rattle.image_layout.specs.Places.{Shape}
+use Rattle.bucket_words.specs.Owners.{HasStructure}
 use Rattle.map_model.specs.declared.call.Call.{Call}
 use Rattle.map_model.specs.declared.entry.Reply.{Reply}
 use Rattle.map_model.specs.declared.entry.Entry.{Entry}
-use Rattle.world.specs.Site.{Site, IsSite, version_of}
+use Rattle.world.specs.Ground.{Ground, IsGround, version_of}
 use Rattle.map_model.specs.Map.{is_done}
-use Rattle.world.specs.Views.{View, At}
-use Rattle.world.specs.Kinds.{Kind, view_after}
+use Rattle.world.specs.Views.{View, Has, At}
+use Rattle.world.specs.StepKinds.{StepKind, of_call, wanted_of, view_by, MayTake}
+use Rattle.world.specs.areas.Worlds.{IsWell}
+use Rattle.world.specs.StepLaws.{KeepsWell, CallsSpareTheStructure}
 use Rattle.world.specs.Wants.{answer_to, word_of, left_by, event_of, words_after}
-use Rattle.world.specs.World.{changed_at, IsWell, fresh_view}
-use Rattle.world.specs.Laws.{ChangesOneWord, KeepsWell}
+use Rattle.world.specs.World.{changed_at, fresh_view}
+use Rattle.world.specs.Laws.{ChangesOneWord}
+use Rattle.world.proofs.basics.Seats.{each as each_view}
+use Rattle.world.proofs.device.Worlds.{changed_is}
 use Rattle.world.specs.Attempts.{HoldsOnly, EntersReply}
 use Rattle.part.specs.Part.{IsPart}
 use Rattle.engine.specs.declared.engine.Engine.{Engine}
 use Rattle.engine.specs.OpPart.{op_part}
 use Rattle.engine.specs.Engine.{taken, wanted, end_of, reply_of_end, kind_of}
-use Rattle.engine.specs.Fits.{IsWordCall, IsServed, Suits, HasEnded, BeginsSuited, finds, next_engine, StepsWell, KeepsSuits}
-use Rattle.engine.specs.Core.{Caller, Core, call_at, current, engine_for, entry_of, drawn_by, ended, gone_on, answered, with_event, turn_of_call, turn_of_caller, turn}
+use Rattle.engine.specs.Fits.{IsWordCall, IsServedGround, Suits, HasEnded, BeginsSuited, finds, next_engine, StepsWell, KeepsSuits}
+use Rattle.engine.specs.Core.{Caller, Core, call_at, current, engine_for, entry_of, drawn_by, ended, ended_or_on, answered, with_event, turn_of_call, turn_of_caller, turn}
 use Rattle.engine.specs.Asks.{AsksWords}
-use Rattle.engine.specs.Holding.{HasEntries, IsCalling, DoesCall, CallerFits, world_of, CoreHolds, CallsStay, TurnKeeps, RunKeeps}
+use Rattle.engine.specs.Holding.{HasEntries, IsCalling, DoesCall, CallerFits, world_of, FullAlone, CoreHolds, CallsStay, TurnKeeps, RunKeeps}
 use Rattle.engine.proofs.holding.Planned.{planned_is, at_most_one}
-use Rattle.engine.proofs.holding.Told.{entries_after}
+use Rattle.engine.proofs.holding.Told.{entries_by}
+use Rattle.engine.proofs.machines.Ops.{call_of, kind_is}
+use Rattle.engine.proofs.machines.Fulls.{entered_full, told_alone}
 use Rattle.engine.proofs.Places.{zip_at, zip_set, one_more}
 
 -- ---- words
@@ -91,7 +98,7 @@ fenced_still shape want.Power n j es = refl
 fenced_still shape want.Done n j es = refl
 
 -- ---- a caller
-module _ (begins : BeginsSuited) (site : Site) (is_site : IsSite site) (served : IsServed site) (c : Caller) (place : c.site.geometry ≡ site.shape) (version : c.site.version ≡ version_of site)
+module _ (begins : BeginsSuited) (site : Ground) (is_site : IsGround site) (served : IsServedGround site) (c : Caller) (place : c.site.geometry ≡ site.shape) (version : c.site.version ≡ version_of site)
     (words : (n : ℕ) (call : Call) → call_at c n ≡ Some call → IsWordCall call) (call : Call) (is_current : current c ≡ Some call)
     (replied : map (λ (e : Entry). e.call) c.entries ≡ take (length c.entries) c.calls) (within : length c.entries ≤ length c.calls)
     (before w : View) (own_before : before.own ≡ c.entries) (drew : Option Entry) (drew_call : (e : Entry) → drew ≡ Some e → e.call ≡ call) where
@@ -124,12 +131,12 @@ module _ (begins : BeginsSuited) (site : Site) (is_site : IsSite site) (served :
     -- the next call begins, if there is one
     next : (e : Entry) → e.call ≡ call → (o : Option Call) → call_at c (suc (length c.entries)) ≡ o → w.own ≡ c.entries ++ e ∷ []
         → CallerFits site (record drawn { entries = c.entries ++ e ∷ []; engine = engine_for c.site o; begun = false; drew = None }) w
-    next e of_call None is own = record {
+    next e its_call None is own = record {
       place = place;
       version = version;
       words = words;
       callers = callers;
-      replied = replied_more c.entries c.calls e call replied of_call is_current;
+      replied = replied_more c.entries c.calls e call replied its_call is_current;
       within = within_more c.entries c.calls e call is_current;
       does = record {
         no_call = ap (λ n. slice_get c.calls n) (one_more c.entries e) ∙ is;
@@ -139,12 +146,12 @@ module _ (begins : BeginsSuited) (site : Site) (is_site : IsSite site) (served :
         drew = refl;
       };
     }
-    next e of_call (Some following) is own = record {
+    next e its_call (Some following) is own = record {
       place = place;
       version = version;
       words = words;
       callers = callers;
-      replied = replied_more c.entries c.calls e call replied of_call is_current;
+      replied = replied_more c.entries c.calls e call replied its_call is_current;
       within = within_more c.entries c.calls e call is_current;
       does = record {
         call = following;
@@ -183,7 +190,7 @@ module _ (begins : BeginsSuited) (site : Site) (is_site : IsSite site) (served :
         (enters.own ∙ ap (λ (es : List Entry). es ++ record { serial = suc (length es); call = call; reply = r.0; place = r.1; drew = is_done r.0 } ∷ []) own_before)
 
   gone_on_fits : (e : Engine) (asked : Want) → wanted e ≡ asked → (wanted e ≢ want.Done → Suits site c.site call e before w) → (wanted e ≡ want.Done → HasEnded call e before w)
-      → (Suits site c.site call e before w → HasEntries c.entries drew w.own) → CallerFits site (gone_on drawn call e asked) w
+      → (Suits site c.site call e before w → HasEntries c.entries drew w.own) → CallerFits site (ended_or_on drawn call e asked) w
   gone_on_fits e want.Done is suits ends has = let end = ends is in ended_fits end.nothing end.callers (reply_of_end (end_of e)) end.enters
   gone_on_fits e (want.Load i) is suits ends has = (let s = suits (λ q. let z : want.Load i ≡ want.Done = sym is ∙ q in cc) in goes_on e s (has s))
   gone_on_fits e (want.Store i x) is suits ends has = (let s = suits (λ q. let z : want.Store i x ≡ want.Done = sym is ∙ q in cc) in goes_on e s (has s))
@@ -224,8 +231,8 @@ calls_stay shape core [] = refl
 calls_stay shape core (c ∷ turns) = calls_stay shape (turn shape c core) turns ∙ turn_calls shape c core
 
 -- ---- the core
-module _ (part : IsPart op_part) (begins : BeginsSuited) (keeps : KeepsSuits) (are_words : AsksWords) (steps : KeepsWell) (one_word : ChangesOneWord)
-    (site : Site) (start : Words) (core : Core) (h : CoreHolds site start core) where
+module _ (part : IsPart op_part) (begins : BeginsSuited) (keeps : KeepsSuits) (are_words : AsksWords) (steps : KeepsWell) (spares : CallsSpareTheStructure) (one_word : ChangesOneWord)
+    (site : Ground) (start : Words) (core : Core) (h : CoreHolds site start core) where
   now_fits : (i : ℕ) → core.words i < 2 ^ 64
   now_fits i = subst (λ x. x < 2 ^ 64) (value_at_now start core.trace i ∙ sym (ap (λ (ws : Words). ws i) h.well.words_are)) (h.fits i (length core.trace))
 
@@ -234,11 +241,11 @@ module _ (part : IsPart op_part) (begins : BeginsSuited) (keeps : KeepsSuits) (a
       abbrev n : ℕ
       n = finds site e core.words
 
-      abbrev kind : Kind
+      abbrev kind : StepKind
       kind = kind_of e n
 
       abbrev after : List View
-      after = changed_at j (view_after site.shape kind n) h.views
+      after = changed_at j (view_by site.shape kind n) h.views
 
       abbrev core_after : Core
       core_after = with_event site.shape j core c calling.call e
@@ -251,11 +258,33 @@ module _ (part : IsPart op_part) (begins : BeginsSuited) (keeps : KeepsSuits) (a
       IsWellBy w = IsWell site start (record {
         words = words_after site.shape w (suc j) core.words;
         trace = event_of site.shape w (core.words (word_of site.shape w)) (suc j) ∷ core.trace;
-        views = fresh_view 0 ∷ changed_at j (view_after site.shape kind (core.words (word_of site.shape w))) h.views;
+        views = fresh_view 0 ∷ changed_at j (view_by site.shape kind (core.words (word_of site.shape w))) h.views;
       })
 
       well_after : IsWell site start (world_of core_after after)
       well_after = subst IsWellBy (sym well_step.wants) (steps site start kind (world_of core h.views) (suc j) v h.well at well_step.may)
+
+      -- the event is one of a call, and stores to no word of the structure
+      may_call : MayTake site (of_call (call_of e.op n)) v
+      may_call = subst (λ (k : StepKind). MayTake site k v) (kind_is e.op n) well_step.may
+
+      constant_after : HasStructure site.shape site.front core_after.words
+      constant_after i part =
+          subst (λ w. words_after site.shape w (suc j) core.words i ≡ core.words i) (sym (well_step.wants ∙ ap (wanted_of site.shape) (kind_is e.op n)))
+          (spares site core.words (fresh_view 0 ∷ h.views) (suc j) v (call_of e.op n) (suc j) h.well.holds at may_call.0 i part)
+          ∙ h.constant i part
+
+      -- whoever is told FULL is so where there is one slot
+      full_mine : (x : Entry) → Has x (view_by site.shape kind n v).own → x.reply ≡ reply.Full → site.shape.segments ≡ 1
+      full_mine x has full = elim (entered_full site.shape (call_of e.op n) n v x (subst (λ (k : StepKind). Has x (view_by site.shape k n v).own) (kind_is e.op n) has) full) [
+        | inl old ↦ h.full j v x at old full
+        | inr tells ↦ told_alone site h.served.grown core.words h.constant (fresh_view 0 ∷ h.views) (suc j) v h.well.holds at c.site calling.call e.op n calling.suits.suits.stands tells
+      ]
+
+      full_after : FullAlone site.shape after
+      full_after k u x a has full =
+          each_view h.views j v (view_by site.shape kind n v) at (λ _ u. Has x u.own → site.shape.segments ≡ 1) (λ mine. full_mine x mine full) (λ k u _ there old. h.full k u x there old full) k u
+          (subst (λ (vs : List View). At vs k u) (changed_is j (view_by site.shape kind n) h.views v at) a) has
 
       word_after : (i : ℕ) → core_after.words i < 2 ^ 64
       word_after i =
@@ -264,25 +293,27 @@ module _ (part : IsPart op_part) (begins : BeginsSuited) (keeps : KeepsSuits) (a
           (replaced_fits core.words (word_of site.shape (wanted e)) (left_by site.shape (wanted e) n) i
           (left_fits site.shape (wanted e) n a.stores a.exchanges (now_fits (word_of site.shape (wanted e)))) (now_fits i))
 
-      caller_after : CallerFits site (answered c calling.call e (answer_to (wanted e) n)) (view_after site.shape kind n v)
-      caller_after = gone_on_fits begins site h.well.holds.site_is h.served c fits.place fits.version fits.words calling.call calling.is_current fits.replied fits.within calling.before (view_after site.shape kind n v)
+      caller_after : CallerFits site (answered c calling.call e (answer_to (wanted e) n)) (view_by site.shape kind n v)
+      caller_after = gone_on_fits begins site h.well.holds.site_is h.served c fits.place fits.version fits.words calling.call calling.is_current fits.replied fits.within calling.before (view_by site.shape kind n v)
           calling.own_before (drawn_by c calling.call (answer_to (wanted e) n)) (drawn_call c calling.call calling.drew_call (answer_to (wanted e) n)) (next_engine site e core.words) (wanted (next_engine site e core.words)) refl well_step.suits well_step.ends
-          (λ s. subst (λ w. HasEntries c.entries (drawn_by c calling.call (answer_to w n)) (view_after site.shape kind n v).own) (sym well_step.wants)
-          (entries_after site c calling.call v n calling.entries
+          (λ s. subst (λ w. HasEntries c.entries (drawn_by c calling.call (answer_to w n)) (view_by site.shape kind n v).own) (sym well_step.wants)
+          (entries_by site c calling.call v n calling.entries
           (λ planned has. let p = planned_is site c.site calling.call calling.before v part e planned calling.suits has in (p.0, p.1 ∙ calling.own_before))
-          kind well_step.may
-          (let l = at_most_one site c.site calling.call calling.before (view_after site.shape kind n v) (next_engine site e core.words) s in
-          subst (λ (es : List Entry). length (view_after site.shape kind n v).own ≤ suc (length es)) calling.own_before l)))
+          kind (call_of e.op n) (kind_is e.op n) well_step.may
+          (let l = at_most_one site c.site calling.call calling.before (view_by site.shape kind n v) (next_engine site e core.words) s in
+          subst (λ (es : List Entry). length (view_by site.shape kind n v).own ≤ suc (length es)) calling.own_before l)))
 
       stepped : CoreHolds site start core_after
       stepped = record {
         views = after;
         well = well_after;
+        constant = constant_after;
         fits = values_fit start _ core.trace h.fits (λ i. subst (λ (ws : Words). ws i < 2 ^ 64) well_after.words_are (word_after i));
         says = h.says;
         served = h.served;
+        full = full_after;
         fenced = fenced_still site.shape (wanted e) n j core.trace ∙ h.fenced;
-        each = zip_set (CallerFits site) core.callers h.views j (answered c calling.call e (answer_to (wanted e) n)) v (view_after site.shape kind n) h.each at caller_after;
+        each = zip_set (CallerFits site) core.callers h.views j (answered c calling.call e (answer_to (wanted e) n)) v (view_by site.shape kind n) h.each at caller_after;
       }
 
     by_engine : (engine : Option Engine) → c.engine ≡ engine → DoesCall site c engine v → CoreHolds site start (turn_of_call site.shape j core c (current c) engine)
@@ -297,5 +328,5 @@ module _ (part : IsPart op_part) (begins : BeginsSuited) (keeps : KeepsSuits) (a
   turned zero = h
   turned (suc j) = by_caller j (slice_get core.callers j) refl
 
-pub turn_keeps : IsPart op_part → BeginsSuited → KeepsSuits → AsksWords → KeepsWell → ChangesOneWord → TurnKeeps
-turn_keeps part begins keeps are_words steps one_word site start core c h = turned part begins keeps are_words steps one_word site start core h c
+pub turn_keeps : IsPart op_part → BeginsSuited → KeepsSuits → AsksWords → KeepsWell → CallsSpareTheStructure → ChangesOneWord → TurnKeeps
+turn_keeps part begins keeps are_words steps spares one_word site start core c h = turned part begins keeps are_words steps spares one_word site start core h c

@@ -13,7 +13,7 @@ use Rattle.image_layout.specs.Places.{Shape, state_word}
 use Rattle.map_model.specs.declared.call.Call.{Call}
 use Rattle.map_model.specs.declared.entry.Reply.{Reply}
 use Rattle.map_model.specs.Map.{key_of}
-use Rattle.world.specs.declared.site.Site.{Site as Here}
+use Rattle.world.specs.declared.site.Site.{Site}
 use Rattle.world.specs.Wants.{word_of, words_after}
 use Rattle.world.specs.World.{fresh_view}
 use Rattle.part.specs.Doings.{Doings, nothing_done, with_event_of, IsStill}
@@ -26,7 +26,7 @@ use Rattle.restart_op.specs.Restarted.{words_at_end, site_of}
 use Rattle.engine.specs.declared.engine.Engine.{Engine}
 use Rattle.engine.specs.Engine.{begun, wanted, end_of, reply_of_end}
 use Rattle.engine.specs.OpPart.{op_part}
-use Rattle.engine.specs.Core.{Caller, call_at, current, engine_for, idle, callers_from, drawn_by, ended, gone_on, answered, with_event, turn_of_call, turn_of_caller}
+use Rattle.engine.specs.Core.{Caller, call_at, current, engine_for, idle, callers_from, drawn_by, ended, ended_or_on, answered, with_event, turn_of_call, turn_of_caller}
 use Rattle.engine.specs.Holding.{IsCalling, DoesCall, CallerFits, TurnKeeps}
 use Rattle.engine.specs.Laws.{IsServedImage, OpenedHolds, AreScripts}
 use Rattle.engine.specs.Causes.{doings_by, with_doings, Watched, answer_now, engine_next, doings_of_call, doings_of_caller, watched_turn, Decides, BeginsUndecided, DecidedStays, EndsAreDecided, HasCause, EndsHaveCauses, watched_run}
@@ -79,7 +79,7 @@ module _ (P : Outcome → Type 0) where
   Holds c = (e : Engine) (outcome : Outcome) → c.engine ≡ Some e → op_part.outcome e.op ≡ Some outcome → P outcome
 
   module _ (first : BeginsUndecided) where
-    begun_holds : (here : Here) (o : Option Call) (e : Engine) (outcome : Outcome) → engine_for here o ≡ Some e → op_part.outcome e.op ≡ Some outcome → P outcome
+    begun_holds : (here : Site) (o : Option Call) (e : Engine) (outcome : Outcome) → engine_for here o ≡ Some e → op_part.outcome e.op ≡ Some outcome → P outcome
     begun_holds here None e outcome is decided = absurd (none-some e is)
     begun_holds here (Some call) e outcome is decided =
         absurd (none-some outcome (sym (first here call) ∙ subst (λ (x : Engine). op_part.outcome x.op ≡ Some outcome) (sym (same_Some (begun here call) e is)) decided))
@@ -88,7 +88,7 @@ module _ (P : Outcome → Type 0) where
     ended_holds c call None e outcome is decided = begun_holds c.site (Some call) e outcome is decided
     ended_holds c call (Some r) e outcome is decided = begun_holds c.site (call_at c (suc (length c.entries))) e outcome is decided
 
-    gone_on_holds : (c : Caller) (call : Call) (next : Engine) (asked : Want) → ((outcome : Outcome) → op_part.outcome next.op ≡ Some outcome → P outcome) → Holds (gone_on c call next asked)
+    gone_on_holds : (c : Caller) (call : Call) (next : Engine) (asked : Want) → ((outcome : Outcome) → op_part.outcome next.op ≡ Some outcome → P outcome) → Holds (ended_or_on c call next asked)
     gone_on_holds c call next want.Done good e outcome is decided = ended_holds c call (reply_of_end (end_of next)) e outcome is decided
     gone_on_holds c call next asked good e outcome is decided = good outcome (subst (λ (x : Engine). op_part.outcome x.op ≡ Some outcome) (sym (same_Some next e is)) decided)
 
@@ -134,7 +134,7 @@ ended_rested c call (Some r) = engine_rests (ended c call (Some r)) (call_at c (
 fresh_rests : (shape : Shape) (version number : ℕ) (scripts : List (List Call)) (j : ℕ) (c : Caller) → slice_get (callers_from shape version number scripts) j ≡ Some c → IsRestingBy c nothing_done
 fresh_rests shape version number [] j c at = absurd (none-some c at)
 fresh_rests shape version number (calls ∷ scripts) zero c at =
-    let here : Here = record { geometry = shape; version = version; caller = number } in
+    let here : Site = record { geometry = shape; version = version; caller = number } in
     subst (λ x. IsRestingBy x nothing_done) (same_Some (idle here calls) c at) (engine_rests (idle here calls) (slice_get calls 0) refl)
 fresh_rests shape version number (calls ∷ scripts) (suc j) c at = fresh_rests shape version (suc number) scripts j c at
 
@@ -240,7 +240,7 @@ module _ (causes : EndsHaveCauses) (first : BeginsUndecided) (stays : DecidedSta
           elim (causes shape words image scripts are turns j n.caller n.call e (again (Moved word before after)) n.there n.calls n.runs decides).1 [
             | inl moved ↦ alone_nothing_moves shape w.core.words (w.doings j) n.call word before after h.well.holds.site_is.shape key_fits alone.still moved
             | inr away ↦ alone_nothing_leads_away site w.core.words (w.doings j) n.call word before after h.well.holds.site_is
-                (sound_now site w.core.words (fresh_view 0 ∷ h.views) h.well.holds h.served) (unsplit site w.core.words (fresh_view 0 ∷ h.views) h.well.holds h.served) key_fits alone.still away
+                (sound_now site w.core.words (fresh_view 0 ∷ h.views) h.well.holds h.constant h.served) (unsplit site w.core.words (fresh_view 0 ∷ h.views) h.well.holds h.constant h.served) key_fits alone.still away
           ]
 
       next_calm : (outcome : Outcome) → op_part.outcome (engine_next shape w.core.words e).op ≡ Some outcome → IsCalm outcome
@@ -333,7 +333,7 @@ module _ (shape : Shape) (w : Watched) (j : ℕ) (e : Engine) (n : IsNext w j e)
   rests_by done d is =
       let drawn : Caller = record n.caller { drew = drawn_by n.caller n.call a } in
       subst (λ x. IsRestingBy x (by_event.doings j)) (set_there w.core.callers j (answered n.caller n.call e a) d n.caller n.there is)
-      (subst (λ asked. IsRestingBy (gone_on drawn n.call next asked) (by_event.doings j)) (sym done)
+      (subst (λ asked. IsRestingBy (ended_or_on drawn n.call next asked) (by_event.doings j)) (sym done)
       (subst (λ did. IsRestingBy (ended drawn n.call (reply_of_end (end_of next))) did) (sym (ap (λ b. cond b new (w.doings j)) (eq-eqb j j refl) ∙ ap (λ asked. doings_by asked (wanted e) a (w.doings j)) done))
       (ended_rested drawn n.call (reply_of_end (end_of next)))))
 

@@ -2,12 +2,12 @@
 use Rattle.std.proofs.Common.{◌≡◌, ◌^◌, ◌<◌, Some, [], refl, sym, subst}
 use Rattle.map_model.specs.declared.call.Call.{Call}
 use Rattle.map_model.specs.declared.call.Call.TheVariants.{Get, Insert, Update, Remove}
-use Rattle.map_model.specs.declared.change.Deed.TheVariants as deed
+use Rattle.map_model.specs.declared.change.Effect.TheVariants as effect
 use Rattle.map_model.specs.declared.change.Change.{Change}
 use Rattle.map_model.specs.Changes.{call_of}
 use Rattle.op_core.specs.declared.want.Want.TheVariants as want
-use Rattle.world.specs.declared.site.Site.{Site as Here}
-use Rattle.world.specs.Site.{Site, IsSite, version_of}
+use Rattle.world.specs.declared.site.Site.{Site}
+use Rattle.world.specs.Ground.{Ground, IsGround, version_of}
 use Rattle.world.specs.Views.{View}
 use Rattle.world.specs.Attempts.{HoldsOnly}
 use Rattle.part.specs.Doings.{nothing_done}
@@ -29,10 +29,10 @@ use Rattle.engine.specs.OpPart.{op_part}
 use Rattle.engine.specs.Left.{waiting}
 use Rattle.engine.specs.Pairs.{BeginsUnmade}
 use Rattle.engine.specs.Causes.{BeginsBare, BeginsUndecided, EndsAreDecided}
-use Rattle.engine.specs.Fits.{IsServed, Suits, BeginsSuited}
+use Rattle.engine.specs.Fits.{IsServedGround, Suits, BeginsSuited}
 
 -- a change is no get
-change_suits : ChangeBegins → (site : Site) (here : Here) (change : Change) (v : View) → IsSite site → IsServed site → here.geometry ≡ site.shape → here.version ≡ version_of site → change.key < 2 ^ 64 → brought change.deed < 2 ^ 64
+change_suits : ChangeBegins → (site : Ground) (here : Site) (change : Change) (v : View) → IsGround site → IsServedGround site → here.geometry ≡ site.shape → here.version ≡ version_of site → change.key < 2 ^ 64 → brought change.effect < 2 ^ 64
     → HoldsOnly [] v → 0 < v.callers → Suits site here (call_of change) (running (Write (write_begun change here))) v v
 change_suits begins site here change v good served same version key value holds some = record {
   asks = λ e. absurd (cc);
@@ -47,11 +47,11 @@ pub begins_suited : GetBegins → ChangeBegins → BeginsSuited
 begins_suited get change site here (Get key) v good served same version small holds some =
     record { asks = λ e. absurd (cc); suits = record { stands = get site here key v same version small.0 holds; enters = record { own = refl; seen = refl }; callers = some } }
 begins_suited get change site here (Insert key value) v good served same version small holds some =
-    change_suits change site here (record { key = key; deed = deed.Insert value }) v good served same version small.0 small.1 holds some
+    change_suits change site here (record { key = key; effect = effect.Insert value }) v good served same version small.0 small.1 holds some
 begins_suited get change site here (Update key value) v good served same version small holds some =
-    change_suits change site here (record { key = key; deed = deed.Update value }) v good served same version small.0 small.1 holds some
+    change_suits change site here (record { key = key; effect = effect.Update value }) v good served same version small.0 small.1 holds some
 begins_suited get change site here (Remove key) v good served same version small holds some =
-    change_suits change site here (record { key = key; deed = deed.Remove }) v good served same version small.0 small.1 holds some
+    change_suits change site here (record { key = key; effect = effect.Remove }) v good served same version small.0 small.1 holds some
 
 pub begins_undecided : BeginsUndecided
 begins_undecided here (Get key) = refl
@@ -65,24 +65,24 @@ begins_unmade here (Insert key value) made = made
 begins_unmade here (Update key value) made = made
 begins_unmade here (Remove key) made = made
 
-pub begins_waiting : (here : Here) (call : Call) → waiting (begun here call) ≡ 0
+pub begins_waiting : (here : Site) (call : Call) → waiting (begun here call) ≡ 0
 begins_waiting here (Get key) = refl
 begins_waiting here (Insert key value) = refl
 begins_waiting here (Update key value) = refl
 begins_waiting here (Remove key) = refl
 
-pub begins_remembering : GetRemembers → ChangeRemembers → (site : Site) (here : Here) (call : Call) → op_part.Remembers site (begun here call).op nothing_done
+pub begins_remembering : GetRemembers → ChangeRemembers → (site : Ground) (here : Site) (call : Call) → op_part.Remembers site (begun here call).op nothing_done
 begins_remembering get change site here (Get key) = get site here key
-begins_remembering get change site here (Insert key value) = change site here (record { key = key; deed = deed.Insert value })
-begins_remembering get change site here (Update key value) = change site here (record { key = key; deed = deed.Update value })
-begins_remembering get change site here (Remove key) = change site here (record { key = key; deed = deed.Remove })
+begins_remembering get change site here (Insert key value) = change site here (record { key = key; effect = effect.Insert value })
+begins_remembering get change site here (Update key value) = change site here (record { key = key; effect = effect.Update value })
+begins_remembering get change site here (Remove key) = change site here (record { key = key; effect = effect.Remove })
 
 -- who is at the beginning of an attempt holds nothing
 pub begins_bare : ChangeBare → BeginsBare
 begins_bare change site here call (Get key) v s = s.nothing.held
-begins_bare change site here call (Insert key value) v s = change site here call (record { key = key; deed = deed.Insert value }) v s.stands.stands
-begins_bare change site here call (Update key value) v s = change site here call (record { key = key; deed = deed.Update value }) v s.stands.stands
-begins_bare change site here call (Remove key) v s = change site here call (record { key = key; deed = deed.Remove }) v s.stands.stands
+begins_bare change site here call (Insert key value) v s = change site here call (record { key = key; effect = effect.Insert value }) v s.stands.stands
+begins_bare change site here call (Update key value) v s = change site here call (record { key = key; effect = effect.Update value }) v s.stands.stands
+begins_bare change site here call (Remove key) v s = change site here call (record { key = key; effect = effect.Remove }) v s.stands.stands
 
 -- no machine of a call ends but with a reply, or to be made again, stale or off
 pub never_finished : GetFinished → ChangeFinished → MoveFinished → StashFinished → RefusalFinished → (op : Op) → op_part.outcome op ≡ Some finished → ⊥

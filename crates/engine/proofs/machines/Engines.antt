@@ -1,7 +1,7 @@
 -- The laws of an engine, by those of the one part that its machines are.
-use Rattle.std.proofs.Common.{◌<◌, sym, ap, subst, ◌∙◌}
+use Rattle.std.proofs.Common.{◌≡◌, ◌<◌, sym, ap, subst, ◌∙◌}
 use Rattle.world.specs.Views.{View}
-use Rattle.world.specs.Kinds.{view_after}
+use Rattle.world.specs.StepKinds.{StepKind, view_by}
 use Rattle.world.specs.Laws.{CallersStay}
 use Rattle.world.specs.Attempts.{EntersReply}
 use Rattle.part.specs.Outcomes.{reply_of}
@@ -13,15 +13,17 @@ use Rattle.engine.specs.Fits.{finds, next_engine, KeepsSuits}
 use Rattle.engine.specs.Asks.{AsksWithin, AsksWords}
 use Rattle.engine.specs.Pairs.{EndsAsDone}
 use Rattle.engine.specs.Causes.{EndsAreDecided}
-use Rattle.engine.proofs.machines.Ops.{never_hands_on}
+use Rattle.engine.proofs.machines.Ops.{never_hands_on, call_of, kind_is}
 
 module _ (part : IsPart op_part) (says : EndsAreDecided) where
   pub keeps_suits : CallersStay → KeepsSuits
   keeps_suits callers site here call e words views j before v h at s small =
       let w = part.steps site here call words views j e.op before v h at s.suits s.asks in
       let after : Engine = next_engine site e words in
-      let now : View = view_after site.shape (kind_of e (finds site e words)) (finds site e words) v in
-      let some : 0 < now.callers = subst (λ n. 0 < n) (sym (callers site.shape (kind_of e (finds site e words)) (finds site e words) v)) s.suits.callers in
+      let now : View = view_by site.shape (kind_of e (finds site e words)) (finds site e words) v in
+      let same : now.callers ≡ v.callers = subst (λ (k : StepKind). (view_by site.shape k (finds site e words) v).callers ≡ v.callers) (sym (kind_is e.op (finds site e words)))
+      (callers site.shape (call_of e.op (finds site e words)) (finds site e words) v) in
+      let some : 0 < now.callers = subst (λ n. 0 < n) (sym same) s.suits.callers in
       record {
         wants = w.wants;
         may = w.may;

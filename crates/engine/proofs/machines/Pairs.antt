@@ -3,12 +3,12 @@ use Rattle.std.proofs.Common.{◌≡◌, ◌⊎◌, ℕ, zero, suc, inl, inr, �
 use Rattle.op_core.specs.declared.want.Want.{Want}
 use Rattle.trace.specs.Events.{Words}
 use Rattle.bucket_words.specs.Hits.{find}
-use Rattle.world.specs.Site.{Site}
+use Rattle.world.specs.Ground.{Ground}
 use Rattle.world.specs.Views.{View, At}
 use Rattle.world.specs.Wants.{words_after}
-use Rattle.world.specs.Kinds.{Kind}
+use Rattle.world.specs.StepKinds.{StepKind}
+use Rattle.world.specs.StepLaws.{OtherStepsKeepPairs}
 use Rattle.world.specs.World.{fresh_view}
-use Rattle.world.specs.Pairs.{OtherStepsKeepPairs}
 use Rattle.part.specs.Part.{IsPart}
 use Rattle.part.proofs.Turning.{publishing_or_not}
 use Rattle.engine.specs.declared.engine.Engine.{Engine}
@@ -23,7 +23,7 @@ use Rattle.engine.proofs.Places.{zip_at}
 pub leaves_or_makes : IsPart op_part → OtherStepsKeepPairs → LeavesOrMakes
 leaves_or_makes part others site here call e words views j before v number h at s =
     let w = part.steps site here call words views j e.op before v h at s.suits s.asks in
-    let k : Kind = kind_of e (finds site e words) in
+    let k : StepKind = kind_of e (finds site e words) in
     let Same : Want → Type 0 = λ x. (key : ℕ) → find site.shape (words_after site.shape x number words) key ≡ find site.shape words key in
     elim (publishing_or_not k) [
       | inl change ↦ inr (w.makes change)
@@ -31,7 +31,7 @@ leaves_or_makes part others site here call e words views j before v number h at 
     ]
 
 -- ---- the turns
-module _ (leaves : LeavesOrMakes) (site : Site) (start : Words) (core : Core) (h : CoreHolds site start core) where
+module _ (leaves : LeavesOrMakes) (site : Ground) (start : Words) (core : Core) (h : CoreHolds site start core) where
   abbrev LeavesTo : ℕ → Core → Type 0
   LeavesTo c then = ((k : ℕ) → find site.shape then.words k ≡ find site.shape core.words k) ⊎ MakesAt site core c
 

@@ -1,8 +1,8 @@
 -- What the machines of a change owe each other where one goes on from another, so that they are one part, whose outcomes have their causes.
 use Rattle.std.proofs.Common.{◌≡◌, Bool, true, false, None, refl}
 use Rattle.map_model.specs.declared.call.Call.{Call}
-use Rattle.world.specs.declared.site.Site.{Site as Here}
-use Rattle.world.specs.Site.{Site}
+use Rattle.world.specs.declared.site.Site.{Site}
+use Rattle.world.specs.Ground.{Ground}
 use Rattle.world.specs.Views.{View}
 use Rattle.part.specs.Doings.{Doings}
 use Rattle.part.specs.Part.{IsPart}
@@ -66,7 +66,7 @@ module _ (laws : ChangeLaws) where
       (limited_ends_by_cause stash_part IsGrownOut laws.stash_causes) laws.refusal_causes
 
   -- where a move hands on, either of the two may be the one that goes on
-  entered_stands : (site : Site) (here : Here) (call : Call) (op : StashOp) (v : View) → StashStands site here call op v → IsGrownOut site → (t : Bool) → stash_part.hands_on op ≡ t
+  entered_stands : (site : Ground) (here : Site) (call : Call) (op : StashOp) (v : View) → StashStands site here call op v → IsGrownOut site → (t : Bool) → stash_part.hands_on op ≡ t
       → stash_or_refusal.Stands site here call (entered t op) v
   entered_stands site here call op v s grown true h = stash_passes.stands site here call op v (record { stands = s; passes = grown }) h
   entered_stands site here call op v s grown false h = record { stands = record { stands = s; passes = grown }; closed = h }
@@ -75,7 +75,7 @@ module _ (laws : ChangeLaws) where
   entered_undecided op none true = laws.refusal_undecided (stash_kept op)
   entered_undecided op none false = none
 
-  entered_remembers : (site : Site) (op : StashOp) (did : Doings) → stash_part.Remembers site op did → (t : Bool) → stash_part.hands_on op ≡ t
+  entered_remembers : (site : Ground) (op : StashOp) (did : Doings) → stash_part.Remembers site op did → (t : Bool) → stash_part.hands_on op ≡ t
       → stash_or_refusal.Remembers site (entered t op) did
   entered_remembers site op did r true h = stash_passes.remembers site op did h r
   entered_remembers site op did r false h = r

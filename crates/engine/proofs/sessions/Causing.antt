@@ -9,16 +9,17 @@ use Rattle.map_model.specs.Map.{Map}
 use Rattle.map_model.specs.Weave.{draws}
 use Rattle.map_model.specs.ByPlaces.{map_at}
 use Rattle.session.specs.Session.{HasAtLeast, least_full}
-use Rattle.world.specs.Site.{Site}
+use Rattle.world.specs.Ground.{Ground}
 use Rattle.world.specs.Views.{View}
 use Rattle.world.specs.History.{map_when, HasFullKeys, HasRoomCause, IsRight}
-use Rattle.world.specs.Invariant.{total, Holds}
-use Rattle.world.proofs.Entries.{place_le}
+use Rattle.world.specs.Parts.{total}
+use Rattle.world.specs.Invariant.{Holds}
+use Rattle.world.proofs.basics.Entries.{place_le}
 use Rattle.world.proofs.Legality.{map_is}
 use Rattle.engine.specs.Holding.{all_own, FullHad, HadSpent}
 use Rattle.engine.proofs.sessions.Different.{each, Different, different_values}
 
-module _ (site : Site) (words : Words) (views : List View) (h : Holds site words views) where
+module _ (site : Ground) (words : Words) (views : List View) (h : Holds site words views) where
   -- keys enough by the history are keys enough of a map
   module _ (opening : Map) (same : (k : ℕ) → get opening k ≡ site.start k) (place : ℕ) (within : place ≤ length h.log) (Passes : ℕ → Type 0)
       (f : HasFullKeys Passes (map_when site.start h.log place)) where

@@ -1,29 +1,27 @@
 -- A run that ends by a close is a session.
-use Rattle.std.proofs.Common.{◌≡◌, ℕ, zero, suc, ◌+◌, ◌-◌, ◌^◌, ◌<◌, ◌≤◌, List, [], ◌∷◌, length, map, slice_get, slice_index, slice_index_or, None, inl, inr, refl, sym, ap, ◌∙◌, subst, arith}
+use Rattle.std.proofs.Common.{◌≡◌, ℕ, zero, suc, ◌+◌, ◌-◌, ◌^◌, ◌<◌, ◌≤◌, List, [], ◌∷◌, length, map, slice_get, slice_index, None, inl, inr, refl, sym, ap, ◌∙◌, subst, arith}
 use Rattle.std.specs.List.{AllByRecursion, AllZip}
 use Rattle.std.proofs.lemmas.Option.{none-some}
 use Rattle.trace.specs.Events.{Words, with_word}
 use Rattle.trace.proofs.Replaced.{replaced_other}
 use Rattle.bucket_meta.specs.Bucket.{version_of}
 use Rattle.map_model.specs.declared.call.Call.{Call}
-use Rattle.map_model.specs.declared.entry.Entry.{Entry}
 use Rattle.map_model.specs.Weave.{all_of}
 use Rattle.image_layout.specs.Places.{Shape, head_at, bucket_at, state_word}
-use Rattle.restart_op.proofs.Rules.{frame_of_rules}
+use Rattle.sound_image.specs.Segments.{frame_of}
+use Rattle.segment_table.proofs.stores.Moved.{live_same}
 use Rattle.session.specs.Callers.{FollowsScript, IsAnswered}
 use Rattle.session.specs.Session.{HasSpentBucket}
-use Rattle.world.specs.Site.{Site, HasSpentLock}
+use Rattle.world.specs.Ground.{Ground, HasSpentLock}
 use Rattle.world.specs.Views.{View}
-use Rattle.world.specs.World.{fresh_view}
-use Rattle.refuse_op.specs.Grown.{AllGrown}
 use Rattle.restart_op.specs.Restarted.{site_of, KeepsPairs, OneSegmentIsLive}
 use Rattle.restart_op.specs.Closing.{IsClosed, CloseKeeps, CloseSettles, CloseMarks}
 use Rattle.engine.specs.Core.{Caller, run, told_of, tolds_of, histories, open_of}
 use Rattle.engine.specs.Holding.{DoesCall, CallerFits, world_of, RunKeeps}
 use Rattle.engine.specs.Laws.{opened, OpenedHolds, TurnsKeep, CallsAreScripts, ThroughIsQuiet, ThroughHasMap}
 use Rattle.engine.specs.Sessions.{CloseIsSession}
-use Rattle.engine.proofs.Grown.{none_free, all_live, grown_alike, grown_now}
-use Rattle.engine.proofs.sessions.CutSession.{same_shape}
+use Rattle.engine.proofs.Grown.{none_free}
+use Rattle.engine.proofs.sessions.CutSession.{same_shape, holds_at}
 
 -- ---- all calls are answered
 past_end : (calls : List Call) (n : ℕ) → slice_get calls n ≡ None → n ≤ length calls → n ≡ length calls
@@ -31,26 +29,19 @@ past_end [] n is le = omega (arith, le)
 past_end (x ∷ calls) zero is le = absurd (none-some x (sym is))
 past_end (x ∷ calls) (suc n) is le = let r = past_end calls n is (omega (arith, le)) in ap suc r
 
-answered : (site : Site) (c : Caller) (v : View) → CallerFits site c v → c.engine ≡ None → IsAnswered c.calls (told_of c)
+answered : (site : Ground) (c : Caller) (v : View) → CallerFits site c v → c.engine ≡ None → IsAnswered c.calls (told_of c)
 answered site c v fits is =
     let d = subst (λ o. DoesCall site c o v) is fits.does in
     record { each = past_end c.calls (length c.entries) d.no_call fits.within; none_open = ap (λ b. open_of b c.drew) d.begun }
 
-all_answered : (site : Site) (callers : List Caller) (views : List View) → AllZip (CallerFits site) callers views → AllByRecursion (λ c. c.engine ≡ None) callers
+all_answered : (site : Ground) (callers : List Caller) (views : List View) → AllZip (CallerFits site) callers views → AllByRecursion (λ c. c.engine ≡ None) callers
     → AllZip IsAnswered (map (λ (c : Caller). c.calls) callers) (map told_of callers)
 all_answered site [] views all none = tt
 all_answered site (c ∷ callers) [] all none = absurd all
 all_answered site (c ∷ callers) (v ∷ views) all none = (answered site c v all.0 none.0, all_answered site callers views all.1 none.1)
 
--- ---- what holds of all entries holds of each
-holds_at : (P : Entry → Type 0) (es : List Entry) (e : Entry) → AllByRecursion P es → (k : ℕ) → k < length es → slice_index_or es k e ≡ e → P e
-holds_at P [] e all k low is = absurd (omega (arith, low))
-holds_at P (x ∷ es) e all zero low is = subst P is all.0
-holds_at P (x ∷ es) e all (suc k) low is = holds_at P es e all.1 k (omega (arith, low)) is
-
 -- ---- a lock word of the last version stays through a close
-module _ (is_live : OneSegmentIsLive) (shape : Shape) (words after : Words) (grown : AllGrown shape words) (medium : List ℕ) (x : ℕ) (shut : IsClosed shape after medium)
-    (marked : after ≡ with_word words state_word x) where
+module _ (shape : Shape) (words after : Words) (medium : List ℕ) (x : ℕ) (shut : IsClosed shape after medium) (marked : after ≡ with_word words state_word x) where
   -- and a header does
   header : (s : ℕ) → s < shape.segments → slice_index medium (head_at shape s + 1) ≡ words (head_at shape s + 1)
   header s slot =
@@ -64,7 +55,6 @@ module _ (is_live : OneSegmentIsLive) (shape : Shape) (words after : Words) (gro
       let slot = lock.1.0.2 in
       let low = lock.1.0.3 in
       let at = lock.1.0.4 in
-      let sound = shut.served.sound in
       let there : slice_index medium (bucket_at shape s b) ≡ 2 ^ 64 - 2 =
       shut.settled (bucket_at shape s b) (omega (arith, slot, low))
       ∙ (ap (λ (ws : Words). ws (bucket_at shape s b)) marked
@@ -75,8 +65,7 @@ module _ (is_live : OneSegmentIsLive) (shape : Shape) (words after : Words) (gro
         b = b;
         slot = slot;
         bucket = low;
-        live = all_live is_live shape (slice_index medium) sound.in_range (frame_of_rules shape (slice_index medium) sound.in_range sound.follows)
-            (grown_alike shape words (slice_index medium) grown header) s slot;
+        live = live_same (frame_of shape words) (frame_of shape (slice_index medium)) s (header s slot) lock.1.0.5.live;
         spent = ap version_of there;
       }
 
@@ -107,9 +96,9 @@ close_is_session keep are opens keeps is_quiet has_map pairs is_live close_keeps
       };
       after_cut = λ cut. absurd (let z = cut in cc);
       had_no_room = good.had_no_room;
-      none_free = λ e there full s low is_free. absurd (none_free is_live shape words image s low is_free);
+      none_free = λ e there full s low is_free. absurd (none_free is_live shape words image (holds_at _ (all_of (histories core)) e good.full there.0 there.1 there.2 full) s low is_free);
       spent = λ e there is few may. elim (holds_at _ (all_of (histories core)) e good.spent there.0 there.1 there.2 is) [
         | inl many ↦ absurd (omega (arith, many, few))
-        | inr lock ↦ spent_bucket is_live shape core.words _ (grown_now site core.words (fresh_view 0 ∷ h.views) h.well.holds h.served) medium _ shut marked lock
+        | inr lock ↦ spent_bucket shape core.words _ medium _ shut marked lock
       ];
     }

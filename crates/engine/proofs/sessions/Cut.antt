@@ -7,7 +7,7 @@ use Rattle.image_layout.specs.Places.{Shape}
 use Rattle.map_model.specs.ByPlaces.{draws_below, map_at}
 use Rattle.map_model.proofs.Elements.{Has as IsIn, All-from_each, Has-append_cases}
 use Rattle.session.specs.Session.{HadNoRoom}
-use Rattle.map_model.specs.declared.entry.Reply.TheVariants.{Spent}
+use Rattle.map_model.specs.declared.entry.Reply.TheVariants.{Full, Spent}
 use Rattle.std.specs.FinMap.{get}
 use Rattle.trace.specs.Events.{Words}
 use Rattle.map_model.specs.declared.entry.Entry.{Entry}
@@ -15,16 +15,16 @@ use Rattle.map_model.specs.Map.{Map}
 use Rattle.map_model.specs.Weave.{all_of, draws, weave, drew_at}
 use Rattle.map_model.specs.Legal.{InOrder, IsLegal, seen_of, seen_after, replay}
 use Rattle.session.specs.Callers.{with_open, history_of}
-use Rattle.world.specs.Site.{Site, HasSpentLock}
+use Rattle.world.specs.Ground.{Ground, HasSpentLock}
 use Rattle.world.specs.Views.{View, Has, At}
 use Rattle.world.specs.History.{Log, map_now}
-use Rattle.world.specs.Invariant.{total, History}
+use Rattle.world.specs.Parts.{total, History}
 use Rattle.world.specs.World.{fresh_view}
 use Rattle.world.specs.Laws.{EntriesAreLegal}
-use Rattle.world.proofs.Entries.{count_more, seen_of_more}
+use Rattle.world.proofs.basics.Entries.{count_more, seen_of_more}
 use Rattle.world.proofs.Legality.{turned}
 use Rattle.engine.specs.Core.{Caller, Core, open_of, told_of, histories}
-use Rattle.engine.specs.Holding.{HadSpent, all_own, FullHad, HasUntold, HasEntries, DoesCall, CallerFits}
+use Rattle.engine.specs.Holding.{FullAlone, HadSpent, all_own, FullHad, HasUntold, HasEntries, DoesCall, CallerFits}
 
 one_fails : (p : Entry → Bool) (es : List Entry) (x : Entry) → p x ≡ false → filter p (es ++ x ∷ []) ≡ filter p es
 one_fails p es x fails = filter-append p es (x ∷ []) ∙ (ap (λ b. filter p es ++ cond b (x ∷ []) []) fails ∙ append-nil (filter p es))
@@ -41,7 +41,7 @@ told_or_open told own false drew none has = subst (λ d. HasEntries told d own) 
 told_or_open told own true None none has = has
 told_or_open told own true (Some e) none has = inl has
 
-untold_of : (site : Site) (c : Caller) (v : View) → CallerFits site c v → HasUntold (history_of (told_of c)) v.own
+untold_of : (site : Ground) (c : Caller) (v : View) → CallerFits site c v → HasUntold (history_of (told_of c)) v.own
 untold_of site c v fits = by c.engine fits.does
   where
     by : (engine : _) → DoesCall site c engine v → HasUntold (history_of (told_of c)) v.own
@@ -61,13 +61,13 @@ all_cut (c ∷ callers) (v ∷ views) = cut_off c v ∷ all_cut callers views
 abbrev IsCut : View → View → Type 0
 IsCut v w = HasUntold w.own v.own × (w.seen ≡ v.seen)
 
-cuts : (site : Site) (callers : List Caller) (views : List View) → AllZip (CallerFits site) callers views → AllZip IsCut views (all_cut callers views)
+cuts : (site : Ground) (callers : List Caller) (views : List View) → AllZip (CallerFits site) callers views → AllZip IsCut views (all_cut callers views)
 cuts site [] [] all = tt
 cuts site [] (v ∷ views) all = absurd all
 cuts site (c ∷ callers) [] all = absurd all
 cuts site (c ∷ callers) (v ∷ views) all = ((untold_of site c v all.0, refl), cuts site callers views all.1)
 
-own_of_cut : (site : Site) (callers : List Caller) (views : List View) → AllZip (CallerFits site) callers views
+own_of_cut : (site : Ground) (callers : List Caller) (views : List View) → AllZip (CallerFits site) callers views
     → map (λ (v : View). v.own) (all_cut callers views) ≡ map history_of (map told_of callers)
 own_of_cut site [] views all = refl
 own_of_cut site (c ∷ callers) [] all = absurd all
@@ -124,7 +124,7 @@ cut_total p none [] (y ∷ others) all = absurd all
 cut_total p none (x ∷ views) [] all = absurd all
 cut_total p none (x ∷ views) (y ∷ others) all = let a = cut_count x y all.0 p none in let r = cut_total p none views others all.1 in omega (arith, a, r)
 
-module _ (site : Site) (words : Words) (views others : List View) (log : Log) (all : AllZip IsCut views others) (o : History site words views log) where
+module _ (site : Ground) (words : Words) (views others : List View) (log : Log) (all : AllZip IsCut views others) (o : History site words views log) where
   pub cut_history : History site words others log
   cut_history = record {
     counter = o.counter;
@@ -162,7 +162,7 @@ whose (v ∷ views) e h = elim (Has-append_cases v.own (all_own views) e h) [
 abbrev pub HadAll : Shape → Map → List (List Entry) → Type 0
 HadAll shape opening lists = AllByRecursion (λ e. HadNoRoom shape (map_at opening (all_of lists) e.place) e) (all_of lists)
 
-pub told_had : (site : Site) (core : Core) (views : List View) → AllZip (CallerFits site) core.callers views → FullHad site (fresh_view 0 ∷ views)
+pub told_had : (site : Ground) (core : Core) (views : List View) → AllZip (CallerFits site) core.callers views → FullHad site (fresh_view 0 ∷ views)
     → (opening : Map) → ((k : ℕ) → get opening k ≡ site.start k) → HadAll site.shape opening (histories core)
 told_had site core views each had opening same =
     let others = all_cut core.callers views in
@@ -179,7 +179,7 @@ told_had site core views each had opening same =
 abbrev pub SpentAll : Shape → Words → List (List Entry) → Type 0
 SpentAll shape words lists = AllByRecursion (λ e. e.reply ≡ Spent → (2 ^ 63 ≤ draws (all_of lists)) ⊎ HasSpentLock shape words) (all_of lists)
 
-pub told_spent : (site : Site) (core : Core) (views : List View) → AllZip (CallerFits site) core.callers views → HadSpent site.shape core.words (fresh_view 0 ∷ views)
+pub told_spent : (site : Ground) (core : Core) (views : List View) → AllZip (CallerFits site) core.callers views → HadSpent site.shape core.words (fresh_view 0 ∷ views)
     → SpentAll site.shape core.words (histories core)
 told_spent site core views each had =
     let others = all_cut core.callers views in
@@ -192,6 +192,19 @@ told_spent site core views each had =
     (ap length (all_filter (λ (x : Entry). x.drew) (λ x q. q) views others fits))
     (had (suc w.0) c.0 e c.1 (cut_has c.0 w.1 c.2 e w.3) spent)))
 
+abbrev pub FullAll : Shape → List (List Entry) → Type 0
+FullAll shape lists = AllByRecursion (λ e. e.reply ≡ Full → shape.segments ≡ 1) (all_of lists)
+
+pub told_full : (site : Ground) (core : Core) (views : List View) → AllZip (CallerFits site) core.callers views → FullAlone site.shape views → FullAll site.shape (histories core)
+told_full site core views each had =
+    let others = all_cut core.callers views in
+    let fits = cuts site core.callers views each in
+    subst (λ lists. FullAll site.shape lists) (own_of_cut site core.callers views each)
+    (All-from_each (λ e. e.reply ≡ Full → site.shape.segments ≡ 1) (all_own others) (λ e is_in full.
+    let w = whose others e is_in in
+    let c = cut_at views others w.0 w.1 fits w.2 in
+    had w.0 c.0 e c.1 (cut_has c.0 w.1 c.2 e w.3) full))
+
 -- an empty list in front says nothing
 abbrev pub IsLegalWith : Map → Log → (ℕ → Option ℕ) → List (List Entry) → Type 0
 IsLegalWith opening log start lists = IsLegal opening lists × ((k : ℕ) → get (replay opening (weave lists)) k ≡ map_now start log k)
@@ -200,7 +213,7 @@ without_front : (opening : Map) (log : Log) (start : ℕ → Option ℕ) (lists 
 without_front opening log start lists l = (record { callers = l.0.callers.1; places = l.0.places; each_once = l.0.each_once; replies = l.0.replies }, l.1)
 
 -- THE TOLD REPLIES are one legal history, and its map is what the log gives
-pub told_legal : EntriesAreLegal → (site : Site) (words : Words) (core : Core) (views : List View) (log : Log) → AllZip (CallerFits site) core.callers views
+pub told_legal : EntriesAreLegal → (site : Ground) (words : Words) (core : Core) (views : List View) (log : Log) → AllZip (CallerFits site) core.callers views
     → History site words (fresh_view 0 ∷ views) log → (opening : Map) → ((k : ℕ) → get opening k ≡ site.start k) → IsLegalWith opening log site.start (histories core)
 told_legal legal site words core views log each o opening same =
     let fits = cuts site core.callers views each in

@@ -1,7 +1,8 @@
 -- A run that a power cut ends is a session.
-use Rattle.std.proofs.Common.{◌≡◌, ℕ, zero, suc, ◌<◌, List, slice_index, refl, sym, ap, ◌∙◌, subst, arith}
-use Rattle.std.specs.List.{AllZip}
-use Rattle.map_model.specs.Weave.{weave}
+use Rattle.std.proofs.Common.{◌≡◌, ℕ, zero, suc, ◌<◌, List, [], ◌∷◌, length, slice_index, slice_index_or, refl, sym, ◌∙◌, subst, arith}
+use Rattle.std.specs.List.{AllByRecursion, AllZip}
+use Rattle.map_model.specs.declared.entry.Entry.{Entry}
+use Rattle.map_model.specs.Weave.{all_of, weave}
 use Rattle.map_model.specs.Legal.{replay}
 use Rattle.image_layout.specs.Places.{Shape}
 use Rattle.sound_image.specs.Image.{SaysShape}
@@ -9,7 +10,7 @@ use Rattle.sound_image.specs.Left.{IsLeft}
 use Rattle.session.specs.Callers.{FollowsScript, undrawn}
 use Rattle.restart_op.specs.Restarted.{OneSegmentIsLive}
 use Rattle.engine.specs.Core.{run, tolds_of, histories}
-use Rattle.engine.specs.Laws.{IsServedImage, opened, TurnsKeep, CallsAreScripts}
+use Rattle.engine.specs.Laws.{opened, TurnsKeep, CallsAreScripts}
 use Rattle.engine.specs.Sessions.{CutIsSession}
 use Rattle.engine.proofs.Grown.{none_free}
 
@@ -20,6 +21,12 @@ same_shape shape old new o n (suc zero) low = n.format ∙ sym o.format
 same_shape shape old new o n (suc (suc zero)) low = n.segments ∙ sym o.segments
 same_shape shape old new o n (suc (suc (suc zero))) low = n.depth ∙ sym o.depth
 same_shape shape old new o n (suc (suc (suc (suc i)))) low = absurd (omega (arith, low))
+
+-- what holds of all entries holds of each
+pub holds_at : (P : Entry → Type 0) (es : List Entry) (e : Entry) → AllByRecursion P es → (k : ℕ) → k < length es → slice_index_or es k e ≡ e → P e
+holds_at P [] e all k low is = absurd (omega (arith, low))
+holds_at P (x ∷ es) e all zero low is = subst P is all.0
+holds_at P (x ∷ es) e all (suc k) low is = holds_at P es e all.1 k (omega (arith, low)) is
 
 pub cut_is_session : TurnsKeep → CallsAreScripts → OneSegmentIsLive → CutIsSession
 cut_is_session keep are live shape words image opening has scripts fit turns medium whole possible =
@@ -40,6 +47,6 @@ cut_is_session keep are live shape words image opening has scripts fit turns med
       after_cut = λ _. subst (λ css. IsLeft shape (slice_index medium) (replay opening (weave (histories core))) (undrawn css (tolds_of core))) calls
           (good.media.left medium whole possible);
       had_no_room = good.had_no_room;
-      none_free = λ e there full s low is_free. absurd (none_free live shape words image s low is_free);
+      none_free = λ e there full s low is_free. absurd (none_free live shape words image (holds_at _ (all_of (histories core)) e good.full there.0 there.1 there.2 full) s low is_free);
       spent = λ e there is few cut. absurd (let z = cut refl in cc);
     }

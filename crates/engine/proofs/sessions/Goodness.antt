@@ -1,5 +1,5 @@
 -- A core that holds is good.
-use Rattle.std.proofs.Common.{◌≡◌, ℕ, zero, suc, ◌^◌, ◌<◌, ◌≤◌, ◌⊎◌, ◌%◌, Bool, true, false, cond, List, [], ◌∷◌, ◌++◌, length, map, slice_get, slice_index, Contains, Option, None, Some, inl, inr, refl, sym, ap, ◌∙◌, subst, arith}
+use Rattle.std.proofs.Common.{◌≡◌, ℕ, zero, suc, ◌^◌, ◌<◌, ◌≤◌, ◌⊎◌, Bool, true, false, cond, List, [], ◌∷◌, ◌++◌, length, map, slice_get, slice_index, Contains, Option, None, Some, inl, inr, refl, sym, ap, ◌∙◌, subst, arith}
 use mathlib.Core.Option.{some-injective, some-ne-none}
 use Rattle.std.specs.List.{AllZip}
 use Rattle.std.specs.Cmp.{nat_cmp_total, unsigned_tied}
@@ -24,19 +24,18 @@ use Rattle.sound_image.specs.Image.{IsSoundImage}
 use Rattle.sound_image.specs.Left.{AgreesAt}
 use Rattle.session.specs.Callers.{undrawn_call, undrawn}
 use Rattle.segment_table.specs.Claims.{HasSoundFrame}
-use Rattle.bucket_words.specs.Owners.{HasStructure}
 use Rattle.bucket_words.specs.Hits.{find}
 use Rattle.bucket_words.specs.Standing.{IsTable}
-use Rattle.world.specs.Site.{Site}
+use Rattle.world.specs.Ground.{Ground, IsStructured}
 use Rattle.world.specs.Views.{View, Has, At}
 use Rattle.world.specs.History.{result_of, reply_by}
 use Rattle.world.specs.Media.{IsPossible}
 use Rattle.world.specs.World.{fresh_view}
-use Rattle.world.specs.Laws.{EntriesAreLegal, DeviceLeaves}
+use Rattle.world.specs.Laws.{EntriesAreLegal}
+use Rattle.world.specs.areas.Worlds.{DeviceLeaves}
 use Rattle.world.proofs.Legality.{same_reply, not_shown}
-use Rattle.restart_op.proofs.Frames.{sound_frame}
-use Rattle.restart_op.proofs.Rules.{unmarked_rules}
-use Rattle.restart_op.proofs.Pairs.{has_of_found}
+use Rattle.restart_op.proofs.images.Rules.{unmarked_rules}
+use Rattle.restart_op.proofs.images.Pairs.{has_of_found}
 use Rattle.engine.specs.Core.{Caller, Core, current, open_of, told_of, tolds_of, histories}
 use Rattle.engine.specs.Good.{IsGood}
 use Rattle.engine.specs.Holding.{HasEntries, DoesCall, CallerFits, world_of, CoreHolds, HoldingIsGood}
@@ -46,7 +45,7 @@ use Rattle.part.specs.Part.{IsPart}
 use Rattle.engine.specs.OpPart.{op_part}
 use Rattle.engine.proofs.Places.{one_more}
 use Rattle.engine.proofs.holding.Scripted.{all_follow}
-use Rattle.engine.proofs.sessions.Cut.{told_had, told_spent, told_legal, IsLegalWith}
+use Rattle.engine.proofs.sessions.Cut.{told_had, told_full, told_spent, told_legal, IsLegalWith}
 
 -- ---- a change of the map
 changed_has : (m : Map) (call : Call) → reply.Done ≡ reply_by (get m (key_of call)) call → get (changed m call) (key_of call) ≡ result_of call
@@ -75,7 +74,7 @@ begun_open : (b : Bool) (drew : Option Entry) → (b ≡ false → ⊥) → drew
 begun_open false drew not_idle none = absurd (not_idle refl)
 begun_open true drew not_idle none = ap Some none
 
-opens : IsPart op_part → (site : Site) (c : Caller) (v : View) (call : Call) → CallerFits site c v → Has call v.planned → HasOpen c call
+opens : IsPart op_part → (site : Ground) (c : Caller) (v : View) (call : Call) → CallerFits site c v → Has call v.planned → HasOpen c call
 opens part site c v call fits has = by c.engine fits.does
   where
     by : (engine : _) → DoesCall site c engine v → HasOpen c call
@@ -87,7 +86,7 @@ opens part site c v call fits has = by c.engine fits.does
           open_call = begun_open c.begun c.drew (λ idle. none_has v.planned call (d.planned idle) has) (none_drawn c.entries v.own c.drew d.entries (p.1 ∙ d.own_before));
         }
 
-pub caller_at : (site : Site) (callers : List Caller) (views : List View) (j : ℕ) (v : View) → AllZip (CallerFits site) callers views → At views j v
+pub caller_at : (site : Ground) (callers : List Caller) (views : List View) (j : ℕ) (v : View) → AllZip (CallerFits site) callers views → At views j v
     → (c : Caller) × (slice_get callers j ≡ Some c) × CallerFits site c v
 caller_at site [] [] j v all at = absurd (some-ne-none v (sym at))
 caller_at site [] (w ∷ views) j v all at = absurd all
@@ -112,7 +111,7 @@ undrawn_has (x ∷ callers) (suc j) c call is open_here =
 
 -- ---- the core
 module _ (part : IsPart op_part) (legal : EntriesAreLegal) (leaves : DeviceLeaves)
-    (site : Site) (start : Words) (core : Core) (opening : Map) (h : CoreHolds site start core) (same : (k : ℕ) → get opening k ≡ site.start k) where
+    (site : Ground) (start : Words) (core : Core) (opening : Map) (h : CoreHolds site start core) (same : (k : ℕ) → get opening k ≡ site.start k) where
   abbrev now : Map
   now = replay opening (weave (histories core))
 
@@ -126,14 +125,14 @@ module _ (part : IsPart op_part) (legal : EntriesAreLegal) (leaves : DeviceLeave
     by_views : IsPossible site core.words (fresh_view 0 ∷ h.views) word
     by_views = leaves site start (world_of core h.views) word h.well possible
 
-    structure : HasStructure site.shape site.front word
-    structure = h.well.holds.media.structure word by_views
+    structure : IsStructured site word
+    structure = h.well.holds.structure.sound word by_views
 
     table : IsTable site.shape word
     table = h.well.holds.media.table word by_views
 
     frame : HasSoundFrame site.shape word
-    frame = sound_frame site.shape site.front word (λ i is _. structure i is) (ap (λ n. n % 2 ^ 8) (structure state_word (inl (omega arith)))) h.well.holds.site_is.shape h.served.structure.frame
+    frame = structure.sound
 
     each_fits : (i : ℕ) → word i < 2 ^ 64
     each_fits i = elim (cases_lt i (words_of site.shape)) [
@@ -142,7 +141,7 @@ module _ (part : IsPart op_part) (legal : EntriesAreLegal) (leaves : DeviceLeave
     ]
 
     front_is : (i : ℕ) → i < 4 → word i ≡ site.front i
-    front_is i low = structure i (inl (omega (arith, low)))
+    front_is i low = structure.fixed i (omega (arith, low)) (λ e. omega (arith, low, e))
 
     is_sound : IsSoundImage site.shape medium
     is_sound = record {
@@ -155,7 +154,7 @@ module _ (part : IsPart op_part) (legal : EntriesAreLegal) (leaves : DeviceLeave
         segments = front_is 2 (omega arith) ∙ h.says.segments;
         depth = front_is 3 (omega arith) ∙ h.says.depth;
       };
-      follows = unmarked_rules site.shape word h.well.holds.site_is.shape frame table each_fits (ap marker_in (structure state_word (inl (omega arith))) ∙ h.served.structure.not_clean);
+      follows = unmarked_rules site.shape word h.well.holds.site_is.shape frame table each_fits (ap marker_in (structure.fixed state_word (omega arith) (λ e. omega (arith, e))) ∙ h.served.structure.not_clean);
     }
 
     has_at : (k : ℕ) (a : Option ℕ) → find site.shape word k ≡ a → HasAt site.shape word k a
@@ -195,6 +194,7 @@ module _ (part : IsPart op_part) (legal : EntriesAreLegal) (leaves : DeviceLeave
     legal = told.0;
     media = record { sound = is_sound; left = left_at };
     had_no_room = told_had site core h.views h.each (full_had site core.words (fresh_view 0 ∷ h.views) h.well.holds) opening same;
+    full = told_full site core h.views h.each h.full;
     spent = told_spent site core h.views h.each (spent_had site core.words (fresh_view 0 ∷ h.views) h.well.holds);
   }
 

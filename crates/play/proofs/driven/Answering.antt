@@ -10,7 +10,7 @@ use Rattle.map_model.specs.declared.entry.Entry.{Entry}
 use Rattle.engine.specs.declared.engine.End.{End}
 use Rattle.engine.specs.declared.engine.Engine.{Engine}
 use Rattle.engine.specs.Engine.{end_of, reply_of_end}
-use Rattle.engine.specs.Core.{ended, gone_on}
+use Rattle.engine.specs.Core.{ended, ended_or_on}
 use Rattle.core_run.specs.State.{end_by}
 use Rattle.play.specs.declared.caller.Caller.{Caller as PlayCaller}
 use Rattle.play.specs.Callers.{caller_of, taken_to}
@@ -30,7 +30,7 @@ ended_same r drew other call e told (Some reply) = refl
 
 pub ended_goes_on : (shape : Shape) (r : PlayCaller) (drew other : Option Entry) (call : Call) (e : Engine) (told : List Entry) (w : Want) (end : End)
     → Some end ≡ end_by shape e w
-    → ended (caller_of (taken_to e (record r { drew = drew })) told) call (reply_of_end end) ≡ gone_on (record (caller_of r told) { drew = other }) call e w
+    → ended (caller_of (taken_to e (record r { drew = drew })) told) call (reply_of_end end) ≡ ended_or_on (record (caller_of r told) { drew = other }) call e w
 ended_goes_on shape r drew other call e told (want.Load i) end is = absurd (cc)
 ended_goes_on shape r drew other call e told (want.Store i x) end is = absurd (cc)
 ended_goes_on shape r drew other call e told (want.Exchange i x y) end is = absurd (cc)

@@ -6,7 +6,7 @@ use Rattle.op_core.specs.declared.want.Want.{Want}
 use Rattle.image_layout.specs.Places.{Shape, words_of}
 use Rattle.image_layout.specs.Volatile.{all_words_of}
 use Rattle.map_model.specs.declared.call.Call.{Call}
-use Rattle.map_model.specs.Kept.{Kept}
+use Rattle.map_model.specs.Roomed.{Roomed}
 use Rattle.world.specs.Wants.{word_of}
 use Rattle.restart_op.specs.declared.restart.RestartOp.{RestartOp}
 use Rattle.engine.specs.declared.engine.Engine.{Engine}
@@ -55,7 +55,7 @@ keeper_is t s run_state k is e = sym is.keeper ∙ e
 pub deed_of_keeper : (t : Setup) (s : State) (run_state : RunState) (k : Keeper) → IsOf t run_state s → run_state.keeper ≡ k → deed t.shape 0 s ≡ keeper_deed t.shape k s.core
 deed_of_keeper t s run_state k is e = ap (λ (l : Keeper). keeper_deed t.shape l s.core) (keeper_is t s run_state k is e)
 
-none_told : (shape : Shape) (n : ℕ) (scripts : List (List Call)) (callers : List PlayCaller) (lists : List Kept) → HaveRoom callers lists
+none_told : (shape : Shape) (n : ℕ) (scripts : List (List Call)) (callers : List PlayCaller) (lists : List Roomed) → HaveRoom callers lists
     → callers_of callers lists ≡ waiting_from shape n scripts → NoneTold lists
 none_told shape n scripts [] [] room e = tt
 none_told shape n scripts [] (k ∷ lists) room e = absurd room
@@ -152,7 +152,7 @@ call_none shape index core caller None e h = refl
 call_none shape index core caller (Some call) None h = refl
 call_none shape index core caller (Some call) (Some e) h = absurd (cc)
 
-open_none : (shape : Shape) (k : Keeper) (callers : List PlayCaller) (lists : List Kept) (index : ℕ) (core : Core) (o : Option PlayCaller) → HaveRoom callers lists
+open_none : (shape : Shape) (k : Keeper) (callers : List PlayCaller) (lists : List Roomed) (index : ℕ) (core : Core) (o : Option PlayCaller) → HaveRoom callers lists
     → slice_get callers index ≡ o → running_in k o ≡ None → callers_of callers lists ≡ core.callers → open_deed shape index k core ≡ None
 open_none shape (Restarting op) callers lists index core o room is h same = refl
 open_none shape (Closing op) callers lists index core o room is h same = refl

@@ -2,7 +2,7 @@
 use Rattle.std.proofs.Common.{◌≡◌, ℕ, zero, suc, ◌+◌, ◌-◌, ◌<◌, ◌≤◌, Option, None, Some, Bool, true, false, List, [], ◌∷◌, length, drop, refl, ap, sym, ◌∙◌, subst, arith}
 use Rattle.std.specs.Prelude.{if◌then◌else◌, slice_get, slice_index_or, is_some}
 use Rattle.map_model.specs.declared.call.Call.{Call}
-use Rattle.map_model.specs.Kept.{Kept}
+use Rattle.map_model.specs.Roomed.{Roomed}
 use Rattle.image_layout.specs.Places.{Shape}
 use Rattle.script_text.specs.declared.line.Line.{Line}
 use Rattle.script_text.specs.declared.line.Counted.TheVariants as counted
@@ -70,7 +70,7 @@ same_test : (shape : Shape) (most : ℕ) (o : Option Call) → is_some o ≡ has
 same_test shape most None = refl
 same_test shape most (Some call) = refl
 
-calls_are : (shape : Shape) (most : ℕ) (callers : List PlayCaller) (lists : List Kept) → HaveRoom callers lists
+calls_are : (shape : Shape) (most : ℕ) (callers : List PlayCaller) (lists : List Roomed) → HaveRoom callers lists
     → calls_left callers ≡ has_calls shape most (callers_of callers lists)
 calls_are shape most [] [] room = refl
 calls_are shape most [] (k ∷ lists) room = refl

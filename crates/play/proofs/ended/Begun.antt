@@ -15,7 +15,7 @@ use Rattle.script_text.specs.declared.line.Line.{Line}
 use Rattle.script_text.specs.declared.line.Line.TheVariants as line
 use Rattle.engine.specs.declared.engine.Engine.{Engine}
 use Rattle.engine.specs.Engine.{wanted, taken}
-use Rattle.engine.specs.Core.{Caller, current, Core, drawn_by, ended, gone_on, answered}
+use Rattle.engine.specs.Core.{Caller, current, Core, drawn_by, ended, ended_or_on, answered}
 use Rattle.core_run.specs.declared.keeper.Keeper.{Keeper}
 use Rattle.core_run.specs.declared.keeper.Keeper.TheVariants.{Restarting, Open, Closing, Closed}
 use Rattle.core_run.specs.declared.goal.Goal.{Goal}
@@ -42,7 +42,7 @@ begun_ended : (c : Caller) (call : Call) (r : Option (Reply × ℕ)) → current
 begun_ended c call (Some r) is = λ none. refl
 begun_ended c call None is = λ none. no_call (current c) call true is none
 
-begun_gone_on : (c : Caller) (call : Call) (e : Engine) (w : Want) → current c ≡ Some call → HasNoneBegun (gone_on c call e w)
+begun_gone_on : (c : Caller) (call : Call) (e : Engine) (w : Want) → current c ≡ Some call → HasNoneBegun (ended_or_on c call e w)
 begun_gone_on c call e want.Done is = begun_ended c call _ is
 begun_gone_on c call e (want.Load w) is = λ none. no_call (current c) call true is none
 begun_gone_on c call e (want.Store w x) is = λ none. no_call (current c) call true is none

@@ -143,7 +143,7 @@ is_play sessions shape first lines left served so_far run =
     record {
       run = run;
       session = subst (λ (words : List ℕ). IsSession shape first words (scripts_of lines) (ending_of lines)
-          (transcript_of (Rattle.reply_text.specs.Told.tolds_of (Rattle.map_model.specs.Kept.lists_of left.lists) left.stops)))
+          (transcript_of (Rattle.reply_text.specs.Told.tolds_of (Rattle.map_model.specs.Roomed.lists_of left.lists) left.stops)))
           (sym run.words)
           (subst (λ (text : List ℕ). IsSession shape first (Rattle.core_run.specs.Run.medium_words shape (slice_index first)
           (end_of_run shape first lines).core (cut_of lines)) (scripts_of lines) (ending_of lines) text)

@@ -9,7 +9,7 @@ use Rattle.bucket_meta.specs.Bucket.{lock_of}
 use Rattle.trace.specs.Events.{Words, Trace, with_word, value_at}
 use Rattle.trace.specs.Media.{IsPossible}
 use Rattle.trace.specs.Steps.{HadSinceSettled}
-use Rattle.trace.proofs.Replaced.{cases_at, replaced_same, replaced_other}
+use Rattle.trace.proofs.Replaced.{cases_at, replaced_same}
 use Rattle.trace.proofs.Moments.{value_at_now}
 use Rattle.trace.proofs.Media.{had_of_may, may_of_had, newest_may}
 use Rattle.image_layout.specs.Places.{Shape, state_word, bucket_at, words_of, buckets}
@@ -18,24 +18,25 @@ use Rattle.sound_image.specs.Segments.{frame_of, IsLive}
 use Rattle.sound_image.specs.Image.{SaysShape, IsSoundImage}
 use Rattle.segment_table.specs.Claims.{HasSoundFrame}
 use Rattle.bucket_words.specs.Core.{core}
-use Rattle.bucket_words.proofs.segments.Cores.{structure_within}
-use Rattle.bucket_words.specs.Owners.{HasStructure}
 use Rattle.bucket_words.specs.Standing.{IsTable}
 use Rattle.bucket_words.specs.Hits.{find}
-use Rattle.world.specs.Site.{Site, IsCurrentIn}
+use Rattle.world.specs.Ground.{Ground, IsStructured, IsCurrentIn}
 use Rattle.world.specs.Views.{Move, Owed, View, Has, At, IsLoose, HasLock}
 use Rattle.world.specs.Media.{IsPossible as MayBeLeft}
 use Rattle.world.specs.World.{World}
-use Rattle.world.proofs.Tables.{same_find}
-use Rattle.world.proofs.device.Worlds.{device_leaves}
+use Rattle.world.specs.areas.Areas.{Area, Whole}
+use Rattle.world.specs.Invariant.{IsWatched}
+use Rattle.world.proofs.basics.Tables.{same_find}
+use Rattle.world.proofs.moving.media.Tying.{device_leaves_moving}
 use Rattle.restart_op.specs.AtRest.{IsAtRest, TakesCalls, HasOwnRecords}
 use Rattle.restart_op.specs.Restarted.{IsPlayableImage}
-use Rattle.restart_op.specs.Closing.{close_after, IsQuiet, IsKept, IsClosed, CloseKeeps, CloseSettles, CloseMarks, CloseKeepsStructure}
-use Rattle.restart_op.proofs.Frames.{SameStructure, live_back, takes_calls, sound_frame}
+use Rattle.restart_op.specs.Closing.{close_after, AllAreQuiet, IsKept, IsClosed, CloseKeeps, CloseSettles, CloseMarks, CloseKeepsStructure}
+use Rattle.restart_op.proofs.images.Frames.{SameStructure, live_back, takes_calls, sound_frame}
 use Rattle.restart_op.proofs.Currents.{live_is_current}
-use Rattle.restart_op.proofs.Rules.{unmarked_rules, marked_rules}
-use Rattle.restart_op.proofs.Pairs.{has_of_found}
-use Rattle.restart_op.proofs.Same.{AgreeButForState, same_structure, kept, same_rest, same_own}
+use Rattle.restart_op.proofs.images.Rules.{unmarked_rules, marked_rules}
+use Rattle.restart_op.proofs.images.Pairs.{has_of_found}
+use Rattle.restart_op.proofs.images.Same.{AgreeButForState, same_structure, kept, same_rest, same_own}
+use Rattle.restart_op.proofs.closes.CloseAlong.{changes_state_alone}
 use Rattle.restart_op.proofs.closes.ClosePhases.{marked, Before, After, IsSettledNow, elsewhere, phase_at, at_end, either}
 
 -- ---- the marker
@@ -48,7 +49,7 @@ with_marker_is x clear = cases_at (λ b. cond b x (x + 2 ^ 8) ≡ x + 2 ^ 8) (x 
 past : (xs : List ℕ) (i : ℕ) → length xs ≤ i → slice_index xs i ≡ 0
 past xs i away = get_or_past xs i 0 away
 
-module _ (site : Site) (start : Words) (world : World) (quiet : IsQuiet site start world) where
+module _ (site : Ground) (start : Words) (world : World) (quiet : AllAreQuiet site start world) where
   abbrev shape : Shape
   shape = site.shape
 
@@ -66,14 +67,14 @@ module _ (site : Site) (start : Words) (world : World) (quiet : IsQuiet site sta
   cores : (m : Words) → MayBeLeft site was world.views m → (i : ℕ) → i < words_of shape → core shape m i ≡ core shape was i
   cores m p i within = elim (p i within) [ inl e ↦ e | inr e ↦ absurd (not_loose e.0 e.1 (i, e.2) e.3 e.4) ]
 
-  -- the newest words are a table, on the structure of the site
+  -- the newest words are a table, on a sound structure
   table_now : IsTable shape was
   table_now = quiet.well.holds.media.table was (λ i within. inl refl)
 
-  structure_now : HasStructure shape site.front was
-  structure_now = quiet.well.holds.media.structure was (λ i within. inl refl)
+  structured_now : IsStructured site was
+  structured_now = quiet.well.holds.structure.sound was (λ i within. inl refl)
 
-  -- no lock is taken, no record is under way, and no note is owed
+  -- no lock is taken, no record is under way, no note is owed, and no segment is whole
   not_locked : (lock : ℕ) (v : View) (j : ℕ) → At world.views j v → HasLock v.held lock → ⊥
   not_locked lock v j at (x, h) = subst (λ (ps : List (ℕ × ℕ)). Has (lock, x) ps) (quiet.nothing j v at).held h
 
@@ -82,6 +83,9 @@ module _ (site : Site) (start : Words) (world : World) (quiet : IsQuiet site sta
 
   not_owed : (j : ℕ) (v : View) (o : Owed) → At world.views j v → Has o v.owed → ⊥
   not_owed j v o at h = subst (λ (os : List Owed). Has o os) (quiet.nothing j v at).owed h
+
+  not_whole : (s j : ℕ) (v : View) → At world.views j v → Has (Whole s) v.areas → ⊥
+  not_whole s j v at h = subst (λ (areas : List Area). Has (Whole s) areas) (quiet.nothing j v at).areas h
 
   free_now : (s b : ℕ) → IsCurrentIn site was s → b < buckets → lock_of (was (bucket_at shape s b)) ≡ 0
   free_now s b current near = elim (cases_eq (was (bucket_at shape s b) % 2) 1) [
@@ -92,23 +96,26 @@ module _ (site : Site) (start : Words) (world : World) (quiet : IsQuiet site sta
       unlocked : (x : ℕ) → (x % 2 ≡ 1 → ⊥) → lock_of x ≡ 0
       unlocked x even = omega (arith, even)
 
-  -- each live segment has the version of the image
+  -- each live segment has the version of the image, and is watched
   current_now : (s : ℕ) → s < shape.segments → IsLive (frame_of shape was) s → IsCurrentIn site was s
-  current_now = live_is_current site was structure_now quiet.structure
+  current_now = live_is_current site was structured_now quiet.structure
+
+  watched_now : (s : ℕ) → s < shape.segments → IsLive (frame_of shape was) s → IsWatched site was world.views s
+  watched_now s slot live = (current_now s slot live, not_whole s)
 
   -- so it is at rest, and owns its records
   rest_now : (s : ℕ) → s < shape.segments → IsLive (frame_of shape was) s → IsAtRest shape was s
   rest_now s slot live = record {
     free = λ b near. free_now s b (current_now s slot live) near;
-    once = λ b r c t k h g. elim (quiet.well.holds.copies.once s b r c t k (current_now s slot live) h g) [
+    once = λ b r c t k h g. elim (quiet.well.holds.records.once s b r c t k (watched_now s slot live) h g) [
       | inl same ↦ same
       | inr m ↦ absurd (not_moving m.0 m.1 m.2 m.3 m.4)
     ];
-    exact = λ b near. quiet.well.holds.overflow.exact s b (current_now s slot live) near (λ j v o at h _ _. not_owed j v o at h);
+    exact = λ b near. quiet.well.holds.notes_of_homes.exact s b (watched_now s slot live) near (λ j v o at h _ _. not_owed j v o at h);
   }
 
   own_now : HasOwnRecords shape was
-  own_now s b r k live h = quiet.well.holds.owned.own s b r k (current_now s h.segment live) h
+  own_now s b r k live h = quiet.well.holds.records.own s b r k (watched_now s h.segment live) h
 
   fits_now : (i : ℕ) → was i < 2 ^ 64
   fits_now i =
@@ -116,11 +123,8 @@ module _ (site : Site) (start : Words) (world : World) (quiet : IsQuiet site sta
       subst (λ (n : ℕ). n < 2 ^ 64) now (quiet.fits i (length world.trace))
 
   -- the marker is clear
-  state_is : was state_word ≡ site.front state_word
-  state_is = structure_now state_word (inl (omega arith))
-
   clear_now : was state_word / 2 ^ 8 % 2 ≡ 0
-  clear_now = ap (λ n. n / 2 ^ 8 % 2) state_is ∙ quiet.structure.not_clean
+  clear_now = quiet.structure.not_clean
 
   says_by : (medium : List ℕ) → ((i : ℕ) → i < 4 → slice_index medium i ≡ site.front i) → SaysShape shape medium
   says_by medium same = record {
@@ -130,9 +134,12 @@ module _ (site : Site) (start : Words) (world : World) (quiet : IsQuiet site sta
     depth = same 3 (omega arith) ∙ quiet.says.depth;
   }
 
-  -- a word of the first four is one of the structure
-  early : (i : ℕ) (word : Words) → i < 4 → HasStructure shape site.front word → word i ≡ site.front i
-  early i word few same = same i (inl (omega (arith, few)))
+  -- the first four words and the state word are those of the site
+  early : (i : ℕ) (word : Words) → i < 4 → IsStructured site word → word i ≡ site.front i
+  early i word few structured = structured.fixed i (omega (arith, few)) (λ e. omega (arith, few, e))
+
+  state_of : (word : Words) → IsStructured site word → word state_word ≡ site.front state_word
+  state_of word structured = structured.fixed state_word (omega arith) (λ e. omega (arith, e))
 
   module _ (medium : List ℕ) (whole : length medium ≡ words_of shape) where
     abbrev word : Words
@@ -141,22 +148,16 @@ module _ (site : Site) (start : Words) (world : World) (quiet : IsQuiet site sta
     -- ---- a medium of the world before the close
     module _ (possible : IsPossible (words_of shape) start world.trace word) where
       may_be_left : MayBeLeft site was world.views word
-      may_be_left = device_leaves site start world word quiet.well possible
+      may_be_left = device_leaves_moving site start world word quiet.well possible
 
       table_left : IsTable shape word
       table_left = quiet.well.holds.media.table word may_be_left
 
-      structure_left : HasStructure shape site.front word
-      structure_left = quiet.well.holds.media.structure word may_be_left
-
-      state_left_is : word state_word ≡ site.front state_word
-      state_left_is = structure_left state_word (inl (omega arith))
-
-      frame_left : HasSoundFrame shape word
-      frame_left = sound_frame shape site.front word (λ i is _. structure_left i is) (ap (λ n. n % 2 ^ 8) state_left_is) quiet.well.holds.site_is.shape quiet.structure.frame
+      structured_left : IsStructured site word
+      structured_left = quiet.well.holds.structure.sound word may_be_left
 
       clear_left : marker_in (word state_word) ≡ 0
-      clear_left = ap marker_in state_left_is ∙ quiet.structure.not_clean
+      clear_left = ap marker_in (state_of word structured_left ∙ sym (state_of was structured_now)) ∙ quiet.structure.not_clean
 
       fits_left : (i : ℕ) → word i < 2 ^ 64
       fits_left i = elim (cases_lt i (words_of shape)) [
@@ -173,12 +174,12 @@ module _ (site : Site) (start : Words) (world : World) (quiet : IsQuiet site sta
           in_range = quiet.well.holds.site_is.shape;
           whole = whole;
           each_fits = fits_left;
-          says_shape = says_by medium (λ i few. early i word few structure_left);
-          follows = unmarked_rules shape word quiet.well.holds.site_is.shape frame_left table_left fits_left clear_left;
+          says_shape = says_by medium (λ i few. early i word few structured_left);
+          follows = unmarked_rules shape word quiet.well.holds.site_is.shape structured_left.sound table_left fits_left clear_left;
         };
         same = same_left;
-        pairs = λ m agree k. has_of_found shape quiet.well.holds.site_is.shape word frame_left fits_left table_left k (get m k) (same_left k ∙ sym (agree k));
-        front = λ i few. early i word few structure_left;
+        pairs = λ m agree k. has_of_found shape quiet.well.holds.site_is.shape word structured_left.sound fits_left table_left k (get m k) (same_left k ∙ sym (agree k));
+        front = λ i few. early i word few structured_left;
       }
 
     -- ---- the newest words with the marker
@@ -189,31 +190,30 @@ module _ (site : Site) (start : Words) (world : World) (quiet : IsQuiet site sta
       state_left : word state_word ≡ with_marker (was state_word)
       state_left = newest state_word (omega arith) ∙ replaced_same was state_word (with_marker (was state_word))
 
-      state_sum : word state_word ≡ site.front state_word + 2 ^ 8
-      state_sum = state_left ∙ with_marker_is (was state_word) clear_now ∙ ap (λ n. n + 2 ^ 8) state_is
+      state_sum : word state_word ≡ was state_word + 2 ^ 8
+      state_sum = state_left ∙ with_marker_is (was state_word) clear_now
 
       clean_left : word state_word / 2 ^ 8 % 2 ≡ 1
       clean_left = ap (λ n. n / 2 ^ 8 % 2) state_left ∙ marker_set (was state_word)
 
-      version_left : word state_word % 2 ^ 8 ≡ site.front state_word % 2 ^ 8
+      version_left : word state_word % 2 ^ 8 ≡ was state_word % 2 ^ 8
       version_left = ap (λ n. n % 2 ^ 8) state_sum ∙ omega arith
 
-      structure_marked : SameStructure shape site.front word
-      structure_marked i is other = same_word i (structure_within shape i is) other ∙ structure_now i is
+      structure_marked : SameStructure shape was word
+      structure_marked = same_structure shape was word same_word
 
       frame_marked : HasSoundFrame shape word
-      frame_marked = sound_frame shape site.front word structure_marked version_left quiet.well.holds.site_is.shape quiet.structure.frame
+      frame_marked = sound_frame shape was word structure_marked version_left quiet.well.holds.site_is.shape quiet.structure.frame
 
       takes_calls_marked : (s : ℕ) → s < shape.segments → IsLive (frame_of shape word) s → TakesCalls shape word s
       takes_calls_marked s slot live =
-          takes_calls shape site.front word structure_marked version_left s slot
-          (quiet.structure.takes_calls s slot (live_back shape site.front word structure_marked s slot live))
+          takes_calls shape was word structure_marked version_left s slot (quiet.structure.takes_calls s slot (live_back shape was word structure_marked s slot live))
 
       fits_marked : (i : ℕ) → word i < 2 ^ 64
       fits_marked i = elim (cases_lt i (words_of shape)) [
         | inl within ↦ elim (cases_eq i state_word) [
           | inl at ↦ let low = fits_now state_word in let clear = clear_now in
-              subst (λ (j : ℕ). word j < 2 ^ 64) (sym at) (bounded (word state_word) (was state_word) (state_left ∙ with_marker_is (was state_word) clear_now) low clear)
+              subst (λ (j : ℕ). word j < 2 ^ 64) (sym at) (bounded (word state_word) (was state_word) state_sum low clear)
           | inr other ↦ subst (λ (n : ℕ). n < 2 ^ 64) (sym (same_word i within other)) (fits_now i)
         ]
         | inr away ↦ let e = past medium i (omega (arith, whole, away)) in omega (arith, e)
@@ -223,7 +223,7 @@ module _ (site : Site) (start : Words) (world : World) (quiet : IsQuiet site sta
           bounded y x is low clear = omega arith
 
       rest_marked : (s : ℕ) → s < shape.segments → IsLive (frame_of shape word) s → IsAtRest shape word s
-      rest_marked s slot live = same_rest shape was word same_word s slot (rest_now s slot (live_back shape was word (same_structure shape was word same_word) s slot live))
+      rest_marked s slot live = same_rest shape was word same_word s slot (rest_now s slot (live_back shape was word structure_marked s slot live))
 
       table_marked : IsTable shape word
       table_marked = (kept shape was word same_word table_now).table
@@ -232,7 +232,7 @@ module _ (site : Site) (start : Words) (world : World) (quiet : IsQuiet site sta
       same_marked k = (kept shape was word same_word table_now).pairs k
 
       front_marked : (i : ℕ) → i < 4 → word i ≡ site.front i
-      front_marked i few = structure_marked i (inl (omega (arith, few))) (λ e. omega (arith, few, e))
+      front_marked i few = same_word i (omega (arith, few)) (λ e. omega (arith, few, e)) ∙ early i was few structured_now
 
       sound_marked : IsSoundImage shape medium
       sound_marked = record {
@@ -320,6 +320,4 @@ close_marks site start world quiet n done =
     end.0.words_are ∙ ap (λ x. with_word world.words state_word x) (with_marker_is (world.words state_word) (clear_now site start world quiet))
 
 pub close_keeps_structure : CloseKeepsStructure
-close_keeps_structure site start world quiet n done i is other =
-    ap (λ (ws : Words). ws i) (close_marks site start world quiet n done)
-    ∙ replaced_other world.words state_word (world.words state_word + 2 ^ 8) i other ∙ structure_now site start world quiet i is
+close_keeps_structure site start world quiet n done i is other = changes_state_alone site.shape world.words world.trace n i other

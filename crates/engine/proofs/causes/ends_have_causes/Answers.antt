@@ -31,4 +31,4 @@ returns-clause-busy c = busy_others (record {
   causes = c.calls_are_parts.ensures.causes;
   begins = c.calls_are_parts.ensures.remembers;
   never = c.calls_are_parts.ensures.finished;
-}) c.calls_are_parts.ensures.bare c.opened_holds.ensures c.turn_keeps.ensures.one c.one_segment_is_live.ensures (returns-clause-causes c)
+}) c.calls_are_parts.ensures.bare c.opened_holds.ensures c.turn_keeps.ensures.one (returns-clause-causes c)

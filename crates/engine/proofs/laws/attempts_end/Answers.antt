@@ -1,10 +1,11 @@
--- By the law of a part, and the sums of what its machines ask at most.
+-- By the law of a part, where no machine waits, and the sums of what its machines ask at most.
 use Rattle.std.proofs.Common.{arith}
 use Rattle.read_op.specs.Steps.{begun as read_begun}
+use Rattle.engine.proofs.machines.Ops.{always_falls}
 use Rattle.engine.proofs.laws.attempts_end.Goals as goal
 
 pub returns-clause-falls : goal.returns-clause-falls
-returns-clause-falls c = λ e ans i. c.calls_are_parts.ensures.part.time.falls e.op ans i
+returns-clause-falls c = λ e ans i. always_falls c.calls_are_parts.ensures.part e.op ans i
 
 pub returns-clause-most : goal.returns-clause-most
 returns-clause-most c = λ e. c.calls_are_parts.ensures.part.time.most e.op

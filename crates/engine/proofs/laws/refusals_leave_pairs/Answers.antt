@@ -5,7 +5,7 @@ use Rattle.engine.proofs.machines.Pairs.{leaves_or_makes, turn_leaves_or_makes}
 use Rattle.engine.proofs.laws.refusals_leave_pairs.Goals as goal
 
 pub returns-clause-leaves : goal.returns-clause-leaves
-returns-clause-leaves c = leaves_or_makes c.calls_are_parts.ensures.part c.other_steps_keep_pairs.ensures
+returns-clause-leaves c = leaves_or_makes c.calls_are_parts.ensures.part c.steps_leave.ensures.pairs
 
 pub returns-clause-begins : goal.returns-clause-begins
 returns-clause-begins c = begins_unmade
@@ -17,4 +17,4 @@ pub returns-clause-done : goal.returns-clause-done
 returns-clause-done c = ends_as_done c.calls_are_parts.ensures.part c.calls_are_parts.ensures.ends
 
 pub returns-clause-turns : goal.returns-clause-turns
-returns-clause-turns c = turn_leaves_or_makes (leaves_or_makes c.calls_are_parts.ensures.part c.other_steps_keep_pairs.ensures)
+returns-clause-turns c = turn_leaves_or_makes (leaves_or_makes c.calls_are_parts.ensures.part c.steps_leave.ensures.pairs)

@@ -6,7 +6,7 @@ pub returns-clause-quiet : goal.returns-clause-quiet
 returns-clause-quiet c = through_is_quiet
 
 pub returns-clause-exact : goal.returns-clause-exact
-returns-clause-exact c = through_is_exact c.one_segment_is_live.ensures
+returns-clause-exact c = through_is_exact
 
 pub returns-clause-map : goal.returns-clause-map
 returns-clause-map c = through_has_map c.entries_are_legal.ensures

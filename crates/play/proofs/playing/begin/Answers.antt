@@ -1,5 +1,5 @@
 use Rattle.std.proofs.Common.{◌≡◌, [], ◌∷◌, ◌++◌, length, refl, ap, ◌∙◌, arith}
-use Rattle.map_model.specs.Kept.{with_room}
+use Rattle.map_model.specs.Roomed.{with_room}
 use Rattle.core_run.specs.declared.keeper.Keeper.TheVariants.{Restarting}
 use Rattle.play.proofs.Beginning.{one_caller, one_room}
 use Rattle.play.proofs.playing.begin.Goals as goal

@@ -1,5 +1,5 @@
 use Rattle.std.proofs.Common.{rules}
-use Rattle.map_model.specs.Kept.{lists_of}
+use Rattle.map_model.specs.Roomed.{lists_of}
 use Rattle.reply_text.proofs.Callers.{caller_written}
 use Rattle.reply_text.proofs.text.transcript.Goals as goal
 

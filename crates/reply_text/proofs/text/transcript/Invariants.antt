@@ -1,5 +1,5 @@
 use Rattle.std.proofs.Common.{◌≡◌, ◌++◌, suc, drop, string_bytes}
-use Rattle.map_model.specs.Kept.{lists_of}
+use Rattle.map_model.specs.Roomed.{lists_of}
 use Rattle.session.specs.Transcript.{lines_from, transcript_of}
 use Rattle.reply_text.specs.Told.{tolds_of}
 use Rattle.reply_text.proofs.text.transcript.Given as goal

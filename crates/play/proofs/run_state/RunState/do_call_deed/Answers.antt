@@ -3,7 +3,7 @@ use Rattle.std.proofs.Common.{◌≡◌, ℕ, ◌+◌, ◌-◌, ◌<◌, length,
 use Rattle.std.specs.Prelude.{slice_get}
 use Rattle.std.specs.Option.{IfSome}
 use Rattle.std.proofs.lemmas.Option.{slice_get_within, slice_get_read}
-use Rattle.map_model.specs.Kept.{Kept, with_entry}
+use Rattle.map_model.specs.Roomed.{Roomed, with_entry}
 use Rattle.play.specs.declared.caller.Caller.{Caller as PlayCaller}
 use Rattle.play.specs.Deeds.{lists_with}
 use Rattle.play.proofs.driven.Listed.{listed_at, lists_many, room_left}
@@ -22,7 +22,7 @@ push-requires-clause-has_spare c =
     let runs = c.requires.runs in
     let listed = listed_at c.args.self.now.callers.items c.args.self.now.lists c.args.index runs.caller runs.room runs.is_there in
     let here : c.args.index + 1 - 1 ≡ c.args.index = omega arith in
-    subst (λ (o : Option Kept). IfSome o (λ (kept : Kept). 0 < kept.spare)) (sym (ap (λ (n : ℕ). slice_get c.args.self.now.lists n) here ∙ listed.its_list))
+    subst (λ (o : Option Roomed). IfSome o (λ (kept : Roomed). 0 < kept.spare)) (sym (ap (λ (n : ℕ). slice_get c.args.self.now.lists n) here ∙ listed.its_list))
     (room_left runs.caller listed.kept c.args.call listed.room runs.is_current)
 
 pub returns-in-Some : goal.returns-in-Some

@@ -14,9 +14,9 @@ use Rattle.bucket_words.proofs.Slots.{same_words}
 use Rattle.bucket_words.proofs.segments.Cores.{structure_within, within_image}
 use Rattle.bucket_words.proofs.segments.Noted.{notes_same, exact_same}
 use Rattle.bucket_words.proofs.segments.Stashed.{stashed_same}
-use Rattle.bucket_words.proofs.segments.NoSlot.{keeps}
+use Rattle.bucket_words.proofs.segments.changes.NoSlot.{keeps}
 use Rattle.restart_op.specs.AtRest.{IsAtRest, HasOwnRecords}
-use Rattle.restart_op.proofs.Frames.{SameStructure, live_back, owners}
+use Rattle.restart_op.proofs.images.Frames.{SameStructure, live_back, owners}
 
 -- every word of the image but the state word is the same
 abbrev pub AgreeButForState : Shape → Words → Words → Type 0

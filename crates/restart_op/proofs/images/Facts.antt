@@ -14,7 +14,7 @@ use Rattle.bucket_words.specs.Standing.{IsTable}
 use Rattle.bucket_words.proofs.segments.Rules.{record_of, cases_order}
 use Rattle.restart_op.specs.AtRest.{IsAtRest, TakesCalls, HasOwnRecords}
 use Rattle.restart_op.specs.Restarted.{IsPlayableImage}
-use Rattle.restart_op.proofs.Rules.{frame_of_rules, table_of_rules}
+use Rattle.restart_op.proofs.images.Rules.{frame_of_rules, table_of_rules}
 
 module _ (shape : Shape) (words : List ℕ) (image : IsPlayableImage shape words) where
   abbrev word : ImageWords
