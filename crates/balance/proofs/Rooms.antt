@@ -3,7 +3,7 @@ use Rattle.std.proofs.Common.{◌≡◌, ℕ, ◌<◌, ◌≤◌, Bool, true, fa
 use Rattle.std.specs.Prelude.{nat_lt, if◌then◌else◌}
 use Rattle.std.proofs.lemmas.Bool.{ltb-true, ltb-false}
 use Rattle.word_bits.specs.Bits.{bits}
-use Rattle.bucket_meta.proofs.Filled.{most_taken, all_taken, none_left}
+use Rattle.bucket_meta.proofs.fields.Filled.{most_taken, all_taken, none_left}
 use Rattle.balance.specs.declared.choice.Choice.TheVariants.{Home, Probe, Neither}
 use Rattle.balance.specs.Choices.{HasRoom}
 
