@@ -27,6 +27,10 @@ buckets = homes + stash_buckets
 abbrev pub segment_words : ℕ
 segment_words = block * (1 + buckets)
 
+-- how many words its buckets have together
+abbrev pub words_of_buckets : ℕ
+words_of_buckets = block * buckets
+
 -- how many words an image has at most
 abbrev pub most_words : ℕ
 most_words = 35258400

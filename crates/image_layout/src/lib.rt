@@ -9,7 +9,10 @@ mod shape;
 pub mod state;
 
 pub use laws::{parts_apart, parts_within, shape_in_range};
-pub use shape::{BLOCK, BUCKETS, GeoFault, Geometry, HOMES, ROOT_WORD, STASH_BUCKETS, STATE_WORD};
+pub use shape::{
+    BLOCK, BUCKETS, GeoFault, Geometry, HOMES, MOST_DEPTH, MOST_SEGMENTS, ROOT_WORD, SEGMENT_WORDS,
+    STASH_BUCKETS, STATE_WORD, WORDS_OF_BUCKETS,
+};
 
 #[cfg(test)]
 mod tests;

@@ -1,8 +1,8 @@
 //! How an image is laid out.
 
 ghost use Rattle.std.specs.Prelude.{◌≡◌, ◌<◌, ◌≤◌, ◌+◌, ◌*◌, ◌%◌, ◌^◌, IfOk, IfErr};
-ghost use Rattle.image_layout.specs.Volatile.{counter_word, power_word};
-ghost use Rattle.image_layout.specs.Places.{IsShape, first_segment, words_of, entry_at, head_at, bucket_at, block, homes, stash_buckets, buckets, segment_words, most_words};
+ghost use Rattle.image_layout.specs.Volatile.{counter_word, power_word, allocation_guard, directory_guard, segment_guard, all_words_of};
+ghost use Rattle.image_layout.specs.Places.{IsShape, first_segment, words_of, entry_at, head_at, bucket_at, block, homes, stash_buckets, buckets, segment_words, most_words, most_segments, most_depth};
 
 use bucket_meta::words::BUCKET_WORDS;
 use std::error::Error;
@@ -21,12 +21,14 @@ pub const HOMES: u8 = 64;
 pub const STASH_BUCKETS: u8 = 2;
 /// How many buckets a segment has.
 pub const BUCKETS: u8 = HOMES + STASH_BUCKETS;
-/// The most slots for segments that an image may have.
-const MOST_SEGMENTS: u64 = 16384;
-/// The greatest depth that a directory may have.
-const MOST_DEPTH: u64 = 16;
 /// How many words a segment has: a header and its buckets.
-const SEGMENT: u64 = 2144;
+pub const SEGMENT_WORDS: u64 = 2144;
+/// How many words the buckets of a segment have together.
+pub const WORDS_OF_BUCKETS: u64 = SEGMENT_WORDS - BLOCK;
+/// The most slots for segments that an image may have.
+pub const MOST_SEGMENTS: u64 = 16384;
+/// The greatest depth that a directory may have.
+pub const MOST_DEPTH: u64 = 16;
 
 /// The first of the three numbers that is out of range.
 #[derive(Clone, Copy, Debug, PartialEq, Eq)]
@@ -117,7 +119,7 @@ impl Geometry {
     pub fn segments(&self) -> u64
         ensures is { result ≡ self.now.segments }
         ensures some { 1 ≤ result }
-        ensures most { result ≤ 16384 }
+        ensures most { result ≤ most_segments }
     {
         self.segments
     }
@@ -125,7 +127,7 @@ impl Geometry {
     /// The greatest depth of the directory.
     pub fn depth(&self) -> u64
         ensures is { result ≡ self.now.depth }
-        ensures most { result ≤ 16 }
+        ensures most { result ≤ most_depth }
     {
         self.depth
     }
@@ -144,7 +146,7 @@ impl Geometry {
         ensures shape { IsShape self.now }
         ensures most { result ≤ most_words }
     {
-        self.first_segment() + SEGMENT * self.segments
+        self.first_segment() + SEGMENT_WORDS * self.segments
     }
 
     /// The word where the segments begin: the next multiple of 32 behind the directory's areas.
@@ -178,7 +180,7 @@ impl Geometry {
         ensures most { result + segment_words ≤ most_words }
     {
         let _ = &self.segments;
-        self.first_segment() + SEGMENT * slot
+        self.first_segment() + SEGMENT_WORDS * slot
     }
 
     /// The first of the 32 words of bucket `b`, 0 to 65 with the stash buckets, of the segment in this slot.
@@ -219,5 +221,31 @@ impl Geometry {
         ensures most { result ≤ most_words + 1 }
     {
         self.words() + 1
+    }
+
+    /// The word of the guard of free slots for segments.
+    pub fn allocation_guard(&self) -> u64
+        ensures is { result ≡ allocation_guard self.now }
+        ensures most { result ≤ most_words + 2 }
+    {
+        self.words() + 2
+    }
+
+    /// The word of the guard of the directory.
+    pub fn directory_guard(&self) -> u64
+        ensures is { result ≡ directory_guard self.now }
+        ensures most { result ≤ most_words + 3 }
+    {
+        self.words() + 3
+    }
+
+    /// The word of the guard of the segment in this slot.
+    pub fn segment_guard(&self, slot: u64) -> u64
+        requires { slot < self.now.segments }
+        ensures is { result ≡ segment_guard self.now slot }
+        ensures within { result < all_words_of self.now }
+        ensures most { result < most_words + 4 + most_segments }
+    {
+        self.words() + 4 + slot
     }
 }

@@ -29,6 +29,18 @@ fn places_of_three_shapes(rt: HostRuntime) -> Result<(), Fail> {
 }
 
 #[test]
+fn words_behind_the_image(rt: HostRuntime) -> Result<(), Fail> {
+    let geometry = Geometry::new(256, 8, 1)?;
+    assert_eq!(rt; geometry.counter_word(), 549408);
+    assert_eq!(rt; geometry.power_word(), 549409);
+    assert_eq!(rt; geometry.allocation_guard(), 549410);
+    assert_eq!(rt; geometry.directory_guard(), 549411);
+    assert_eq!(rt; geometry.segment_guard(0), 549412);
+    assert_eq!(rt; geometry.segment_guard(255), 549667);
+    Ok(())
+}
+
+#[test]
 fn numbers_out_of_range(rt: HostRuntime) {
     assert_eq!(rt; Geometry::new(0, 17, 2).err(), Some(GeoFault::Segments));
     assert_eq!(rt; Geometry::new(16385, 0, 0).err(), Some(GeoFault::Segments));

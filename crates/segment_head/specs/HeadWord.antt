@@ -1,5 +1,5 @@
 -- The fields of the header word of a segment.
-use Rattle.std.specs.Prelude.{◌≡◌, ◌⊎◌, ℕ, Bool, ◌==◌, ◌||◌, ◌/◌, ◌%◌, ◌^◌}
+use Rattle.std.specs.Prelude.{◌≡◌, ◌⊎◌, ℕ, Bool, ◌==◌, ◌||◌, ◌+◌, ◌*◌, ◌/◌, ◌%◌, ◌^◌}
 
 -- bits 0 to 7: the version of the image when the segment was last current
 abbrev pub version_in : ℕ → ℕ
@@ -16,6 +16,10 @@ depth_in h1 = h1 / 2 ^ 16 % 2 ^ 8
 -- bits 32 to 63: the pattern
 abbrev pub pattern_in : ℕ → ℕ
 pattern_in h1 = h1 / 2 ^ 32
+
+-- a header word of these fields, with bits 24 to 31 zero
+abbrev pub header_of : ℕ → ℕ → ℕ → ℕ → ℕ
+header_of version state depth pattern = version + 2 ^ 8 * state + 2 ^ 16 * depth + 2 ^ 32 * pattern
 
 -- the numbers of the four states
 abbrev pub free : ℕ

@@ -1,5 +1,5 @@
 -- Which hashes a header covers, and its 1-side.
-use Rattle.std.specs.Prelude.{◌≡◌, ℕ, ◌+◌, ◌-◌, ◌*◌, ◌/◌, ◌%◌, ◌^◌, ◌<◌, ◌↔◌}
+use Rattle.std.specs.Prelude.{◌≡◌, ℕ, ◌+◌, ◌*◌, ◌%◌, ◌^◌, ◌<◌, ◌↔◌}
 use Rattle.hash_word.specs.Hash.{top, Covers}
 use Rattle.segment_head.specs.declared.Head.{Head}
 

@@ -14,9 +14,10 @@ mod laws;
 pub mod prefix;
 pub mod word;
 
-use crate::word::{FREE, FRESH, NORMAL, SPLITTING, depth_of, pattern_of, state_of, version_of};
+use crate::word::{
+    FREE, FRESH, NORMAL, SPLITTING, depth_of, header_of, pattern_of, state_of, version_of,
+};
 pub use laws::{head_gives_word, read_of_written, word_gives_head, written_of_read};
-use word_bits::with_bits;
 
 /// What a segment is in the middle of.
 #[derive(Clone, Copy, Debug, PartialEq, Eq)]
@@ -45,15 +46,15 @@ pub struct Head {
 }
 
 /// The number of a state in a header word, from 0 to 3.
-fn state_number(state: State) -> u64
+fn state_number(state: State) -> u8
     ensures value { result ≡ number_of state }
     ensures range { result < 4 }
 {
     match state {
-        State::Free => u64::from(FREE),
-        State::Normal => u64::from(NORMAL),
-        State::Splitting => u64::from(SPLITTING),
-        State::Fresh => u64::from(FRESH),
+        State::Free => FREE,
+        State::Normal => NORMAL,
+        State::Splitting => SPLITTING,
+        State::Fresh => FRESH,
     }
 }
 
@@ -84,10 +85,12 @@ impl Head {
         ensures word { IsHeadOf self.now result }
         ensures spare { spare_in result ≡ 0 }
     {
-        let word = u64::from(self.version);
-        let word = with_bits(word, 8, state_number(self.state));
-        let word = with_bits(word, 16, u64::from(self.depth));
-        with_bits(word, 32, u64::from(self.pattern))
+        header_of(
+            self.version,
+            state_number(self.state),
+            self.depth,
+            self.pattern,
+        )
     }
 
     /// The header of the 1-side: one bit deeper, with a 1 behind the pattern, and else the same.

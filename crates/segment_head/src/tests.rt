@@ -26,6 +26,17 @@ fn words_from_outside(rt: HostRuntime) {
 }
 
 #[test]
+fn words_put_together(rt: HostRuntime) {
+    assert_eq!(rt; word::header_of(1, word::NORMAL, 0, 0), 257);
+    assert_eq!(rt; word::header_of(1, word::FRESH, 1, 1), 4295033601);
+    assert_eq!(rt; word::header_of(7, 4, 0, 0), 0x0407);
+    assert_eq!(rt;
+        word::header_of(0xAB, 2, 0x10, 0xFEDC_BA98),
+        0xFEDC_BA98_0010_02AB
+    );
+}
+
+#[test]
 fn the_sibling_of_the_first_segment(rt: HostRuntime) {
     let first = Head {
         version: 1,

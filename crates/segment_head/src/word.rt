@@ -1,8 +1,10 @@
-//! The header word of a segment, field by field, for those who hold the word itself. It may have bits that no field has,
-//! and a state byte that is none of the four.
+//! The header word of a segment, field by field, for those who hold the word itself, and put together of its fields. It may
+//! have bits that no field has, and a state byte that is none of the four.
 
 ghost use Rattle.std.specs.Prelude.{◌≡◌, ◌↔◌, ◌⊎◌, IsTrue};
-ghost use Rattle.segment_head.specs.HeadWord.{version_in, state_in, depth_in, pattern_in, is_live, HasLiveState, normal};
+ghost use Rattle.segment_head.specs.HeadWord.{version_in, state_in, depth_in, pattern_in, header_of, is_live, HasLiveState, normal};
+
+use word_bits::with_bits;
 
 /// The state byte of a segment that holds nothing, and may be taken by a split.
 pub const FREE: u8 = 0;
@@ -39,6 +41,15 @@ pub fn pattern_of(h1: u64) -> u32
     ensures { result ≡ pattern_in h1 }
 {
     (h1 >> 32) as u32
+}
+
+/// The header word of these fields: a version, a state byte, a depth and a pattern. Its bits 24 to 31 are 0.
+pub fn header_of(version: u8, state: u8, depth: u8, pattern: u32) -> u64
+    ensures { result ≡ header_of version state depth pattern }
+{
+    let word = with_bits(u64::from(version), 8, u64::from(state));
+    let word = with_bits(word, 16, u64::from(depth));
+    with_bits(word, 32, u64::from(pattern))
 }
 
 /// Whether the segment is live: normal or splitting.
