@@ -10,10 +10,10 @@ use Rattle.sound_image.specs.Segments.{frame_of, depth_at}
 use Rattle.segment_table.specs.Claims.{Claims, named_for}
 use Rattle.segment_table.specs.Media.{first_hash}
 use Rattle.segment_table.specs.Stores.{GoesOn}
-use Rattle.frame_facts.specs.Facts.{Fact, Lives, Current, Rooted, Owns, Lacks, Deep, Begins, Used, IsLiveSlot, IsCurrentSlot, IsNewSide, IsUsedSlot, ClaimsAll, HoldsFact}
+use Rattle.frame_facts.specs.Facts.{Fact, Lives, Current, Rooted, Owns, Lacks, Deep, Begins, Used, Taken, IsLiveSlot, IsCurrentSlot, IsNewSide, IsUsedSlot, IsTakenSlot, ClaimsAll, HoldsFact}
 use Rattle.frame_facts.specs.Keeping.{IsEntry, KeepsFact}
 
--- all that facts look at but the claims that one may lose
+-- all that facts look at but the claims that one may lose, and the slots that are taken
 pub record Carries (shape : Shape) (version : ℕ) (words later medium other : Words) : Type 0 where
   pub lives : (s : ℕ) → IsLiveSlot (frame_of shape medium) s → IsLiveSlot (frame_of shape other) s
   pub current : (s : ℕ) → IsCurrentSlot (frame_of shape words) version s → IsCurrentSlot (frame_of shape later) version s
@@ -26,13 +26,14 @@ pub record Carries (shape : Shape) (version : ℕ) (words later medium other : W
   pub used : (s n : ℕ) → IsNewSide (frame_of shape medium) version s n → IsUsedSlot (frame_of shape other) version n
   pub gains : (s h : ℕ) → h < 2 ^ 64 → IsLiveSlot (frame_of shape medium) s → Claims (frame_of shape other) s h → Claims (frame_of shape medium) s h
 
--- the claims of one fact stay
-abbrev pub ClaimsStay : Shape → Words → Words → Fact → Type 0
-ClaimsStay shape medium other (Owns s d p) = ClaimsAll (frame_of shape medium) s d p → ClaimsAll (frame_of shape other) s d p
-ClaimsStay shape medium other fact = ⊤
+-- what one fact says of claims, or of a taken slot, stays so
+abbrev pub StaysSo : Shape → Words → Words → Fact → Type 0
+StaysSo shape medium other (Owns s d p) = ClaimsAll (frame_of shape medium) s d p → ClaimsAll (frame_of shape other) s d p
+StaysSo shape medium other (Taken n) = IsTakenSlot (frame_of shape medium) n → IsTakenSlot (frame_of shape other) n
+StaysSo shape medium other fact = ⊤
 
 module _ (shape : Shape) (version : ℕ) (words later medium other : Words) (carries : Carries shape version words later medium other) where
-  pub carried : (fact : Fact) → ClaimsStay shape medium other fact → HoldsFact shape version words fact medium → HoldsFact shape version later fact other
+  pub carried : (fact : Fact) → StaysSo shape medium other fact → HoldsFact shape version words fact medium → HoldsFact shape version later fact other
   carried (Lives s) stay was = carries.lives s was
   carried (Current s) stay was = carries.current s was
   carried (Rooted e) stay was = (omega (arith, was.0, carries.root), λ i below. carries.entries e i was.0 below (was.1 i below))
@@ -44,6 +45,7 @@ module _ (shape : Shape) (version : ℕ) (words later medium other : Words) (car
     | inl live ↦ inl (carries.lives n live)
     | inr side ↦ carries.used side.0 n side.1
   ]
+  carried (Taken n) stay was = stay was
 
 -- A STORE to both, or to the newest words alone
 module _ (shape : Shape) (version : ℕ) (words medium : Words) (i x : ℕ)
@@ -95,7 +97,7 @@ module _ (shape : Shape) (version : ℕ) (words medium : Words) (i x : ℕ)
     gains = λ s h fits is claims. claims;
   }
 
-  all_stay : (fact : Fact) → ClaimsStay shape medium medium fact
+  all_stay : (fact : Fact) → StaysSo shape medium medium fact
   all_stay (Lives s) = tt
   all_stay (Current s) = tt
   all_stay (Rooted e) = tt
@@ -104,6 +106,7 @@ module _ (shape : Shape) (version : ℕ) (words medium : Words) (i x : ℕ)
   all_stay (Deep f d p) = tt
   all_stay (Begins s h) = tt
   all_stay (Used n) = tt
+  all_stay (Taken n) = λ was. was
 
   module _ (there : GoesOn shape.depth (frame_of shape medium) (frame_of shape other))
       (used : (s n : ℕ) → IsNewSide (frame_of shape medium) version s n → IsUsedSlot (frame_of shape other) version n)
@@ -123,7 +126,7 @@ module _ (shape : Shape) (version : ℕ) (words medium : Words) (i x : ℕ)
       gains = gains;
     }
 
-    pub keeps_fact : (fact : Fact) → ClaimsStay shape medium other fact → KeepsFact shape version words medium i x fact
+    pub keeps_fact : (fact : Fact) → StaysSo shape medium other fact → KeepsFact shape version words medium i x fact
     keeps_fact fact stay = record {
       has = carried shape version words later medium other carries_has fact stay;
       without = carried shape version words later medium medium carries_without fact (all_stay fact);

@@ -2,7 +2,7 @@
 use Rattle.std.proofs.Common.{◌≡◌, ◌≢◌, ℕ, ◌+◌, ◌^◌, ◌<◌, ◌≤◌, ◌⊎◌, inl, inr, refl, sym, ap, subst, ◌∙◌, arith}
 use Rattle.std.proofs.lemmas.Bool.{cases_eq}
 use Rattle.trace.specs.Events.{Words, with_word}
-use Rattle.trace.proofs.Replaced.{replaced_same}
+use Rattle.trace.proofs.Replaced.{replaced_same, replaced_other}
 use Rattle.segment_head.specs.HeadWord.{version_in, state_in, depth_in, pattern_in, free, normal, splitting, fresh}
 use Rattle.image_layout.specs.Places.{Shape, first_segment, root_word, entry_at, head_at, bucket_at, block, buckets}
 use Rattle.image_layout.proofs.Areas.{entry_before}
@@ -17,9 +17,9 @@ use Rattle.segment_table.proofs.Words.{header_stored}
 use Rattle.segment_table.proofs.FrameWords.{other_areas_apart, buckets_apart}
 use Rattle.segment_table.proofs.Claimers.{kept_back}
 use Rattle.segment_table.proofs.StoreLaws.{takes_slot, frees_slot, links, begins_split, doubles, goes_live, names_claimer, ends_split, names_side, drops_split, renews, stores_apart}
-use Rattle.frame_facts.specs.Facts.{Fact, Lives, Current, Rooted, Owns, Lacks, Deep, Begins, Used, IsLiveSlot, IsCurrentSlot, IsNewSide, IsUsedSlot}
-use Rattle.frame_facts.specs.Keeping.{Both, AreSound, HaveOneRoot, KeepsVersion, IsEntry, ClaimsNoneOfSide, KeepsFact, KeepsFacts, Spares}
-use Rattle.frame_facts.proofs.Carrying.{ClaimsStay, keeps_fact}
+use Rattle.frame_facts.specs.Facts.{Fact, Lives, Current, Rooted, Owns, Lacks, Deep, Begins, Used, Taken, IsLiveSlot, IsCurrentSlot, IsNewSide, IsUsedSlot, IsTakenSlot}
+use Rattle.frame_facts.specs.Keeping.{Both, AreSound, HaveOneRoot, KeepsVersion, IsEntry, ClaimsNoneOfSide, FreesNone, KeepsFact, KeepsFacts, Spares}
+use Rattle.frame_facts.proofs.Carrying.{StaysSo, keeps_fact}
 use Rattle.frame_facts.proofs.Sides.{side_moved, side_apart, other_slot}
 
 not_live : (frame : Frame) (s a : ℕ) → state_at frame s ≡ a → a ≢ normal → a ≢ splitting → IsLive frame s → ⊥
@@ -35,6 +35,45 @@ handed_back greatest before after sound s n hands t h fits other claims = elim (
       subst (λ u. Claims before u h) (hands.goes_on.sound.one h c.0 t fits (hands.claims c.0 h fits c.1 (λ is. outside)) claims) c.1
 ]
 
+-- ---- slots that are taken
+module _ (shape : Shape) (medium : Words) (i x : ℕ) where
+  -- one stays so whose header is not stored, or not with that of a free slot
+  taken_still : (n : ℕ) → (head_at shape n + 1 ≡ i → state_in x ≢ free) → IsTakenSlot (frame_of shape medium) n → IsTakenSlot (frame_of shape (with_word medium i x)) n
+  taken_still n some was = record {
+    slot = was.slot;
+    taken = elim (cases_eq (head_at shape n + 1) i) [
+      | inl e ↦ λ is. some e (sym (ap state_in (ap (with_word medium i x) e ∙ replaced_same medium i x)) ∙ is)
+      | inr apart ↦ λ is. was.taken (sym (ap state_in (replaced_other medium i x (head_at shape n + 1) apart)) ∙ is)
+    ];
+  }
+
+  -- so all do
+  frees_none : ((n : ℕ) → IsTakenSlot (frame_of shape medium) n → head_at shape n + 1 ≡ i → state_in x ≢ free) → (fact : Fact) → FreesNone shape medium i x fact
+  frees_none some (Taken n) = λ was. taken_still n (some n was) was
+  frees_none some (Lives s) = tt
+  frees_none some (Current s) = tt
+  frees_none some (Rooted e) = tt
+  frees_none some (Owns s d p) = tt
+  frees_none some (Lacks s d p) = tt
+  frees_none some (Deep f d p) = tt
+  frees_none some (Begins s h) = tt
+  frees_none some (Used n) = tt
+
+  -- and all but one
+  frees_one : (t : ℕ) → i ≡ head_at shape t + 1 → (fact : Fact) → fact ≢ Taken t → FreesNone shape medium i x fact
+  frees_one t at (Taken n) other = λ was. taken_still n (λ e. absurd (other (ap Taken (same n e)))) was
+    where
+      same : (n : ℕ) → head_at shape n + 1 ≡ i → n ≡ t
+      same n e = omega (arith, e, at)
+  frees_one t at (Lives s) other = tt
+  frees_one t at (Current s) other = tt
+  frees_one t at (Rooted e) other = tt
+  frees_one t at (Owns s d p) other = tt
+  frees_one t at (Lacks s d p) other = tt
+  frees_one t at (Deep f d p) other = tt
+  frees_one t at (Begins s h) other = tt
+  frees_one t at (Used n) other = tt
+
 module _ (shape : Shape) (version : ℕ) (words medium : Words) (sound : AreSound shape words medium) where
   low : words root_word ≤ shape.depth
   low = sound.newest.root
@@ -43,21 +82,26 @@ module _ (shape : Shape) (version : ℕ) (words medium : Words) (sound : AreSoun
   front = omega arith
 
   -- KEPT CLAIMS
-  pub spares : (i x : ℕ) → Spares shape version words medium i x → KeepsFacts shape version words medium i x
-  spares i x is fact =
+  pub spares : (i x : ℕ) → Spares shape version words medium i x → (fact : Fact) → FreesNone shape medium i x fact → KeepsFact shape version words medium i x fact
+  spares i x is fact none =
       keeps_fact shape version words medium i x is.newest.goes_on is.current is.root is.entries is.there.goes_on is.used
       (λ s h fits live. kept_back shape.depth sound.shape_fits.depth (frame_of shape medium) (frame_of shape (with_word medium i x)) sound.there is.there s h fits)
-      fact (stay fact)
+      fact (stay fact none)
     where
-      stay : (fact : Fact) → ClaimsStay shape medium (with_word medium i x) fact
-      stay (Lives s) = tt
-      stay (Current s) = tt
-      stay (Rooted e) = tt
-      stay (Owns s d p) = λ claims h fits covers. is.there.claims s h fits (claims h fits covers)
-      stay (Lacks s d p) = tt
-      stay (Deep f d p) = tt
-      stay (Begins s h) = tt
-      stay (Used n) = tt
+      stay : (fact : Fact) → FreesNone shape medium i x fact → StaysSo shape medium (with_word medium i x) fact
+      stay (Lives s) none = tt
+      stay (Current s) none = tt
+      stay (Rooted e) none = tt
+      stay (Owns s d p) none = λ claims h fits covers. is.there.claims s h fits (claims h fits covers)
+      stay (Lacks s d p) none = tt
+      stay (Deep f d p) none = tt
+      stay (Begins s h) none = tt
+      stay (Used n) none = tt
+      stay (Taken n) none = none
+
+  -- where no header of a taken slot is stored
+  spares_all : (i x : ℕ) → Spares shape version words medium i x → ((n : ℕ) → IsTakenSlot (frame_of shape medium) n → head_at shape n + 1 ≡ i → ⊥) → KeepsFacts shape version words medium i x
+  spares_all i x is apart fact = spares i x is fact (frees_none shape medium i x (λ n was e. absurd (apart n was e)) fact)
 
   -- no entry lies among the segments
   entry_in_front : (i : ℕ) → IsEntry words i → i < first_segment shape
@@ -70,8 +114,8 @@ module _ (shape : Shape) (version : ℕ) (words medium : Words) (sound : AreSoun
 
     header : StoreKeeps shape words at x → StoreKeeps shape medium at x → (IsCurrentSlot (frame_of shape words) version t → version_in x ≡ version)
         → ((s n : ℕ) → IsNewSide (frame_of shape medium) version s n → ((s ≢ t) × (n ≢ t)) ⊎ IsUsedSlot (frame_of shape (with_word medium at x)) version n)
-        → KeepsFacts shape version words medium at x
-    header newest there current side = spares at x (record {
+        → (fact : Fact) → FreesNone shape medium at x fact → KeepsFact shape version words medium at x fact
+    header newest there current side fact none = spares at x (record {
       newest = newest;
       there = there;
       current = λ s is same. current (subst (IsCurrentSlot (frame_of shape words) version) (one_slot s same) is);
@@ -81,36 +125,46 @@ module _ (shape : Shape) (version : ℕ) (words medium : Words) (sound : AreSoun
         | inl apart ↦ side_apart shape version medium at x s n (λ e. apart.0 (omega (arith, e))) (λ e. omega (arith, e)) (λ e. apart.1 (omega (arith, e))) is
         | inr used ↦ used
       ];
-    })
+    }) fact none
       where
         one_slot : (s : ℕ) → at ≡ head_at shape s + 1 → s ≡ t
         one_slot s e = omega (arith, e)
 
+    -- a header that is not that of a free slot, if the slot was not free
+    takes_none : (state_at (frame_of shape medium) t ≢ free → state_in x ≢ free) → (fact : Fact) → FreesNone shape medium at x fact
+    takes_none some = frees_none shape medium at x (λ n was e. some (λ is. was.taken (ap (state_at (frame_of shape medium)) (one_slot n e) ∙ is)))
+      where
+        one_slot : (n : ℕ) → head_at shape n + 1 ≡ at → n ≡ t
+        one_slot n e = omega (arith, e)
+
   pub takes : (n x : ℕ) → Both words medium (λ word. TakesSlot (frame_of shape word) shape.depth n x) → KeepsFacts shape version words medium (head_at shape n + 1) x
-  takes n x may = header n x (takes_slot shape words sound.shape_fits sound.newest n x may.0) (takes_slot shape medium sound.shape_fits sound.there n x may.1)
+  takes n x may fact = header n x (takes_slot shape words sound.shape_fits sound.newest n x may.0) (takes_slot shape medium sound.shape_fits sound.there n x may.1)
       (λ is. absurd (not_live (frame_of shape words) n free may.0.was (λ e. omega (arith, e)) (λ e. omega (arith, e)) is.live.live))
       (λ s m side. inl (
         other_slot (frame_of shape medium) s n splitting free side.splits may.1.was (λ e. omega (arith, e)),
         other_slot (frame_of shape medium) m n fresh free side.new may.1.was (λ e. omega (arith, e)),
       ))
+      fact (takes_none n x (λ was e. omega (arith, may.1.becomes, e)) fact)
 
   pub frees : (n x : ℕ) → Both words medium (λ word. FreesSlot (frame_of shape word) n x) → ((s : ℕ) → IsNewSide (frame_of shape medium) version s n → ⊥)
-      → KeepsFacts shape version words medium (head_at shape n + 1) x
-  frees n x may unused = header n x (frees_slot shape words sound.shape_fits sound.newest n x may.0) (frees_slot shape medium sound.shape_fits sound.there n x may.1)
+      → (fact : Fact) → fact ≢ Taken n → KeepsFact shape version words medium (head_at shape n + 1) x fact
+  frees n x may unused fact other = header n x (frees_slot shape words sound.shape_fits sound.newest n x may.0) (frees_slot shape medium sound.shape_fits sound.there n x may.1)
       (λ is. absurd (not_live (frame_of shape words) n fresh may.0.was (λ e. omega (arith, e)) (λ e. omega (arith, e)) is.live.live))
       (λ s m side. inl (
         other_slot (frame_of shape medium) s n splitting fresh side.splits may.1.was (λ e. omega (arith, e)),
         λ same. unused s (subst (IsNewSide (frame_of shape medium) version s) same side),
       ))
+      fact (frees_one shape medium (head_at shape n + 1) x n refl fact other)
 
   pub begins : (s x : ℕ) → Both words medium (λ word. BeginsSplit (frame_of shape word) s x) → KeepsVersion shape version s x words
       → KeepsFacts shape version words medium (head_at shape s + 1) x
-  begins s x may keeps = header s x (begins_split shape words sound.shape_fits sound.newest s x may.0) (begins_split shape medium sound.shape_fits sound.there s x may.1)
+  begins s x may keeps fact = header s x (begins_split shape words sound.shape_fits sound.newest s x may.0) (begins_split shape medium sound.shape_fits sound.there s x may.1)
       (λ is. keeps is.current)
       (λ t m side. inl (
         other_slot (frame_of shape medium) t s splitting normal side.splits may.1.was (λ e. omega (arith, e)),
         other_slot (frame_of shape medium) m s fresh normal side.new may.1.was (λ e. omega (arith, e)),
       ))
+      fact (takes_none s x (λ was e. omega (arith, may.1.becomes, e)) fact)
 
   -- the linked slot of a segment with a ready side is live, so it is no new one
   no_new_side : (s n : ℕ) → HasReadySide (frame_of shape medium) s → IsNewSide (frame_of shape medium) version s n → ⊥
@@ -120,21 +174,23 @@ module _ (shape : Shape) (version : ℕ) (words medium : Words) (sound : AreSoun
 
   pub ends : (s x : ℕ) → Both words medium (λ word. EndsSplit (frame_of shape word) s x) → KeepsVersion shape version s x words
       → KeepsFacts shape version words medium (head_at shape s + 1) x
-  ends s x may keeps = header s x (ends_split shape words sound.shape_fits sound.newest s x may.0) (ends_split shape medium sound.shape_fits sound.there s x may.1)
+  ends s x may keeps fact = header s x (ends_split shape words sound.shape_fits sound.newest s x may.0) (ends_split shape medium sound.shape_fits sound.there s x may.1)
       (λ is. keeps is.current)
       (λ t m side. inl (
         (λ same. no_new_side s m may.1.ready (subst (λ u. IsNewSide (frame_of shape medium) version u m) same side)),
         other_slot (frame_of shape medium) m s fresh splitting side.new may.1.was (λ e. omega (arith, e)),
       ))
+      fact (takes_none s x (λ was e. omega (arith, may.1.becomes, e)) fact)
 
   pub drops : (s x : ℕ) → Both words medium (λ word. DropsSplit (frame_of shape word) s x) → KeepsVersion shape version s x words
       → ((n : ℕ) → IsNewSide (frame_of shape medium) version s n → ⊥) → KeepsFacts shape version words medium (head_at shape s + 1) x
-  drops s x may keeps none = header s x (drops_split shape words sound.shape_fits sound.newest s x may.0) (drops_split shape medium sound.shape_fits sound.there s x may.1)
+  drops s x may keeps none fact = header s x (drops_split shape words sound.shape_fits sound.newest s x may.0) (drops_split shape medium sound.shape_fits sound.there s x may.1)
       (λ is. keeps is.current)
       (λ t m side. inl (
         (λ same. none m (subst (λ u. IsNewSide (frame_of shape medium) version u m) same side)),
         other_slot (frame_of shape medium) m s fresh splitting side.new may.1.was (λ e. omega (arith, e)),
       ))
+      fact (takes_none s x (λ was e. omega (arith, may.1.becomes, e)) fact)
 
   -- THE VERSION BYTE ALONE
   module _ (s x : ℕ) (may : Both words medium (λ word. Renews (frame_of shape word) s x)) (keeps : Both words medium (KeepsVersion shape version s x)) where
@@ -167,12 +223,12 @@ module _ (shape : Shape) (version : ℕ) (words medium : Words) (sound : AreSoun
         (same_field pattern_in may.1.region.pattern m side.side_slot) side
 
     pub renewed : KeepsFacts shape version words medium (head_at shape s + 1) x
-    renewed = header s x (renews shape words sound.shape_fits sound.newest s x may.0) (renews shape medium sound.shape_fits sound.there s x may.1)
-        (λ is. keeps.0 is.current) (λ t m side. inr (inr (t, side_still t m side)))
+    renewed fact = header s x (renews shape words sound.shape_fits sound.newest s x may.0) (renews shape medium sound.shape_fits sound.there s x may.1)
+        (λ is. keeps.0 is.current) (λ t m side. inr (inr (t, side_still t m side))) fact (takes_none s x (λ was e. was (sym may.1.becomes ∙ e)) fact)
 
   -- A LINK
   pub linked : (s l : ℕ) → Both words medium (λ word. Links (frame_of shape word) s l) → KeepsFacts shape version words medium (head_at shape s + 2) l
-  linked s l may = spares (head_at shape s + 2) l (record {
+  linked s l may = spares_all (head_at shape s + 2) l (record {
     newest = links shape words sound.shape_fits sound.newest s l may.0;
     there = links shape medium sound.shape_fits sound.there s l may.1;
     current = λ t is e. absurd (omega (arith, e));
@@ -180,7 +236,7 @@ module _ (shape : Shape) (version : ℕ) (words medium : Words) (sound : AreSoun
     entries = λ is. absurd (omega (arith, entry_in_front (head_at shape s + 2) is));
     used = λ t n side.
         side_apart shape version medium (head_at shape s + 2) l t n (λ e. omega (arith, e)) (λ e. splits_not t (one_slot t e) side.splits) (λ e. omega (arith, e)) side;
-  })
+  }) (λ n was e. omega (arith, e))
     where
       one_slot : (t : ℕ) → head_at shape t + 2 ≡ head_at shape s + 2 → t ≡ s
       one_slot t e = omega (arith, e)
@@ -190,7 +246,7 @@ module _ (shape : Shape) (version : ℕ) (words medium : Words) (sound : AreSoun
 
   -- THE ROOT AND ITS ENTRIES
   pub doubled : HaveOneRoot shape words medium → Both words medium (Doubles shape) → KeepsFacts shape version words medium root_word (words root_word + 1)
-  doubled one may = spares root_word (words root_word + 1) (record {
+  doubled one may = spares_all root_word (words root_word + 1) (record {
     newest = doubles shape words sound.shape_fits sound.newest may.0;
     there = subst (λ r. StoreKeeps shape medium root_word (r + 1)) one (doubles shape medium sound.shape_fits sound.there may.1);
     current = λ s is e. absurd (omega (arith, e, front));
@@ -198,7 +254,7 @@ module _ (shape : Shape) (version : ℕ) (words medium : Words) (sound : AreSoun
     entries = λ is. absurd (omega (arith, is.4));
     used = λ s n side. side_apart shape version medium root_word (words root_word + 1) s n
         (λ e. omega (arith, e, front)) (λ e. omega (arith, e, front)) (λ e. omega (arith, e, front)) side;
-  })
+  }) (λ n was e. omega (arith, e, front))
 
   -- an entry of the root's area, which names what lives
   module _ (i n : ℕ) (below : i < 2 ^ words root_word) where
@@ -209,7 +265,7 @@ module _ (shape : Shape) (version : ℕ) (words medium : Words) (sound : AreSoun
     before_segments = entry_before shape (words root_word) i low below
 
     named : StoreKeeps shape words place n → StoreKeeps shape medium place n → IsLiveSlot (frame_of shape medium) n → KeepsFacts shape version words medium place n
-    named newest there live = spares place n (record {
+    named newest there live = spares_all place n (record {
       newest = newest;
       there = there;
       current = λ s is e. absurd (omega (arith, e, before_segments));
@@ -217,7 +273,7 @@ module _ (shape : Shape) (version : ℕ) (words medium : Words) (sound : AreSoun
       entries = λ is. live;
       used = λ s m side. side_apart shape version medium place n s m
           (λ e. omega (arith, e, before_segments)) (λ e. omega (arith, e, before_segments)) (λ e. omega (arith, e, before_segments)) side;
-    })
+    }) (λ m was e. omega (arith, e, before_segments))
 
   pub named_claimer : HaveOneRoot shape words medium → (i n : ℕ) → Both words medium (λ word. NamesClaimer (frame_of shape word) i n)
       → KeepsFacts shape version words medium (entry_at (words root_word) i) n
@@ -239,7 +295,7 @@ module _ (shape : Shape) (version : ℕ) (words medium : Words) (sound : AreSoun
 
   -- ANY OTHER WORD
   pub untouched : (i x : ℕ) → Both words medium (λ word. IsFrameWord shape word i → ⊥) → (IsEntry words i → ⊥) → KeepsFacts shape version words medium i x
-  untouched i x apart no_entry = spares i x (record {
+  untouched i x apart no_entry = spares_all i x (record {
     newest = stores_apart shape words sound.shape_fits sound.newest i x apart.0;
     there = stores_apart shape medium sound.shape_fits sound.there i x apart.1;
     current = λ s is e. absurd (apart.0 (inr (inr (inl (s, is.live.slot, inl e)))));
@@ -249,7 +305,7 @@ module _ (shape : Shape) (version : ℕ) (words medium : Words) (sound : AreSoun
         (λ e. apart.1 (inr (inr (inl (s, side.slot, inl (sym e))))))
         (λ e. apart.1 (inr (inr (inl (s, side.slot, inr (sym e))))))
         (λ e. apart.1 (inr (inr (inl (n, side.side_slot, inl (sym e)))))) side;
-  })
+  }) (λ n was e. apart.1 (inr (inr (inl (n, was.slot, inl (sym e))))))
 
   -- an entry of an area that no root has come to
   pub deeper_area : HaveOneRoot shape words medium → (e i x : ℕ) → words root_word < e → e ≤ shape.depth → i < 2 ^ e
@@ -314,7 +370,7 @@ module _ (shape : Shape) (version : ℕ) (words medium : Words) (sound : AreSoun
           side_apart shape version medium (head_at shape n + 1) x t m (λ e. other (omega (arith, e))) (λ e. omega (arith, e)) (λ e. apart (omega (arith, e))) side
     ]
 
-    spared : (fact : Fact) → ClaimsNoneOfSide there_before s fact → ClaimsStay shape medium (with_word medium (head_at shape n + 1) x) fact
+    spared : (fact : Fact) → ClaimsNoneOfSide there_before s fact → StaysSo shape medium (with_word medium (head_at shape n + 1) x) fact
     spared (Lives t) none = tt
     spared (Current t) none = tt
     spared (Rooted e) none = tt
@@ -323,6 +379,7 @@ module _ (shape : Shape) (version : ℕ) (words medium : Words) (sound : AreSoun
     spared (Deep f d p) none = tt
     spared (Begins t h) none = tt
     spared (Used m) none = tt
+    spared (Taken m) none = λ was. taken_still shape medium (head_at shape n + 1) x m (λ _ e. omega (arith, may.1.becomes, e)) was
 
     pub went_live : (fact : Fact) → ClaimsNoneOfSide there_before s fact → KeepsFact shape version words medium (head_at shape n + 1) x fact
     went_live fact none =

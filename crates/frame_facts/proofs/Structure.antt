@@ -1,7 +1,7 @@
 -- Facts look at the structure alone.
 use Rattle.std.proofs.Common.{◌≡◌, ℕ, ◌+◌, ◌^◌, ◌<◌, ◌≤◌, inl, inr, refl, sym, ap, subst, ◌∙◌, arith}
 use Rattle.trace.specs.Events.{Words}
-use Rattle.segment_head.specs.HeadWord.{version_in}
+use Rattle.segment_head.specs.HeadWord.{version_in, state_in}
 use Rattle.image_layout.specs.Places.{Shape, root_word, state_word, entry_at, head_at}
 use Rattle.image_layout.proofs.Areas.{entry_before}
 use Rattle.sound_image.specs.Segments.{frame_of}
@@ -10,9 +10,9 @@ use Rattle.segment_table.proofs.stores.Moved.{live_same}
 use Rattle.segment_table.proofs.stores.Roots.{Beside, untouched_keeps}
 use Rattle.segment_table.proofs.Claimers.{kept_back}
 use Rattle.bucket_words.specs.Owners.{HasStructure}
-use Rattle.frame_facts.specs.Facts.{Fact, Lives, Current, Rooted, Owns, Lacks, Deep, Begins, Used, IsLiveSlot, HoldsFact}
+use Rattle.frame_facts.specs.Facts.{Fact, Lives, Current, Rooted, Owns, Lacks, Deep, Begins, Used, Taken, IsLiveSlot, HoldsFact}
 use Rattle.frame_facts.specs.Keeping.{AreSound}
-use Rattle.frame_facts.proofs.Carrying.{Carries, ClaimsStay, carried}
+use Rattle.frame_facts.proofs.Carrying.{Carries, StaysSo, carried}
 use Rattle.frame_facts.proofs.Sides.{side_kept}
 
 module _ (shape : Shape) (one other : Words) (same : HasStructure shape one other) where
@@ -69,7 +69,7 @@ module _ (shape : Shape) (version : ℕ) (words later medium other : Words) (sou
     gains = λ s h fits is claims. kept_back shape.depth sound.shape_fits.depth (frame_of shape medium) (frame_of shape other) sound.there kept s h fits claims;
   }
 
-  stay : (fact : Fact) → ClaimsStay shape medium other fact
+  stay : (fact : Fact) → StaysSo shape medium other fact
   stay (Lives s) = tt
   stay (Current s) = tt
   stay (Rooted e) = tt
@@ -78,6 +78,7 @@ module _ (shape : Shape) (version : ℕ) (words later medium other : Words) (sou
   stay (Deep f d p) = tt
   stay (Begins s h) = tt
   stay (Used n) = tt
+  stay (Taken n) = λ was. record { slot = was.slot; taken = λ is. was.taken (sym (ap state_in (header_same shape medium other there n was.slot)) ∙ is) }
 
   pub followed : (fact : Fact) → HoldsFact shape version words fact medium → HoldsFact shape version later fact other
   followed fact = carried shape version words later medium other carries fact (stay fact)

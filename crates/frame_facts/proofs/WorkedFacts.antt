@@ -12,7 +12,7 @@ use Rattle.segment_table.proofs.frames.Regions.{top_below}
 use Rattle.segment_table.proofs.StoreLaws.{opens, links, begins_split, takes_slot, doubles, goes_live, names_claimer}
 use Rattle.segment_table.proofs.Claimers.{ready_claims_none}
 use Rattle.segment_table.proofs.WorkedSplit.{eight, formatted, formatted-sound}
-use Rattle.frame_facts.specs.Facts.{Fact, Lives, Current, Rooted, Owns, Lacks, Deep, Begins, Used, HoldsFact}
+use Rattle.frame_facts.specs.Facts.{Fact, Lives, Current, Rooted, Owns, Lacks, Deep, Begins, Used, Taken, HoldsFact}
 use Rattle.frame_facts.specs.Keeping.{AreSound, ClaimsNoneOfSide, KeepsFact, KeepsFacts}
 use Rattle.frame_facts.proofs.Stores.{takes, begins, ends, linked, doubled, named_claimer, went_live}
 use Rattle.frame_facts.proofs.Told.{unready_claims, normal_unready, side_claims, segment_lacks, deep_told, claimer_by_claims}
@@ -135,6 +135,9 @@ deeper_first =
     first_goes_on taken 8 1 deeper_keeps (first_goes_on split 2209 4295033601 taken_keeps
     (first_goes_on joined 65 513 split_keeps (first_goes_on opened 66 2 joined_keeps opened_first)))
 
+taken_taken : Says taken (Taken 1)
+taken_taken = record { slot = lit< tt; taken = λ e. omega (arith, e) }
+
 deeper_used : Says deeper (Used 1)
 deeper_used = (deeper_keeps (Used 1)).has taken_used
 
@@ -179,6 +182,9 @@ shared_first = record {
   rooted = (shared_keeps (Rooted 0) tt).has deeper_first.rooted;
   begins = (shared_keeps (Begins 0 0) tt).has deeper_first.begins;
 }
+
+shared_taken : Says shared (Taken 1)
+shared_taken = (shared_keeps (Taken 1) tt).has ((deeper_keeps (Taken 1)).has taken_taken)
 
 shared_used : Says shared (Used 1)
 shared_used = (shared_keeps (Used 1) tt).has deeper_used

@@ -1,6 +1,6 @@
 -- Repairs of the first split of a table of eight slots, cut off before its side is live and after: what facts let them store, and what
 -- may be said throughout.
-use Rattle.std.proofs.Common.{◌≡◌, ℕ, suc, ◌+◌, ◌%◌, ◌^◌, ◌<◌, ◌≤◌, ◌⊎◌, inl, inr, refl, sym, ap, subst, lit<, lit≤, arith}
+use Rattle.std.proofs.Common.{◌≡◌, ◌≢◌, ℕ, suc, ◌+◌, ◌%◌, ◌^◌, ◌<◌, ◌≤◌, ◌⊎◌, inl, inr, refl, sym, ap, subst, lit<, lit≤, arith}
 use Rattle.trace.specs.Events.{Words, with_word}
 use Rattle.segment_head.specs.HeadWord.{version_in, state_in, normal, splitting}
 use Rattle.sound_image.specs.Segments.{frame_of, IsReadySide, HasReadySide}
@@ -10,8 +10,8 @@ use Rattle.segment_table.proofs.frames.Regions.{top_below}
 use Rattle.segment_table.proofs.Claimers.{unready_claims_all}
 use Rattle.segment_table.proofs.StoreLaws.{opens, frees_slot, drops_split}
 use Rattle.segment_table.proofs.WorkedSplit.{eight}
-use Rattle.frame_facts.specs.Facts.{Fact, Lives, Current, Rooted, Owns, Begins, IsNewSide, HoldsFact}
-use Rattle.frame_facts.specs.Keeping.{KeepsFacts}
+use Rattle.frame_facts.specs.Facts.{Fact, Lives, Current, Rooted, Owns, Begins, Taken, IsNewSide, HoldsFact}
+use Rattle.frame_facts.specs.Keeping.{KeepsFact, KeepsFacts}
 use Rattle.frame_facts.proofs.Sides.{one_parent}
 use Rattle.frame_facts.proofs.Stores.{frees, drops, renewed, named_side}
 use Rattle.frame_facts.proofs.Told.{current_told, unready_claims, names_side}
@@ -55,8 +55,18 @@ frees_one = record { slot = lit< tt; was = refl; becomes = refl; past = lit≤ t
 freed-sound : HasSoundFrame eight freed
 freed-sound = (frees_slot eight cut eight-IsShape cut-sound 1 4295032833 frees_one).goes_on.sound
 
-freed_keeps : KeepsFacts eight 2 cut cut 2209 4295032833
+freed_keeps : (fact : Fact) → fact ≢ Taken 1 → KeepsFact eight 2 cut cut 2209 4295032833 fact
 freed_keeps = frees eight 2 cut cut (settled cut cut-sound) 1 4295032833 (frees_one, frees_one) unused
+
+-- but one fact: that it is taken
+cut_taken : Says cut (Taken 1)
+cut_taken = record { slot = lit< tt; taken = λ e. omega (arith, e) }
+
+freed_lost : Says freed (Taken 1) → ⊥
+freed_lost is = is.taken refl
+
+begins_not_taken : Begins 0 0 ≢ Taken 1
+begins_not_taken e = cc
 
 -- THE SPLIT of slot 0 is dropped: it has no ready side
 abbrev dropped : Words
@@ -110,7 +120,7 @@ renewed_owns : Says renewed_words (Owns 0 0 0)
 renewed_owns = (renewed_keeps (Owns 0 0 0)).has ((dropped_keeps (Owns 0 0 0)).has freed_owns)
 
 renewed_begins : Says renewed_words (Begins 0 0)
-renewed_begins = (renewed_keeps (Begins 0 0)).has ((dropped_keeps (Begins 0 0)).has ((freed_keeps (Begins 0 0)).has cut_begins))
+renewed_begins = (renewed_keeps (Begins 0 0)).has ((dropped_keeps (Begins 0 0)).has ((freed_keeps (Begins 0 0) begins_not_taken).has cut_begins))
 
 renewed_current : Says renewed_words (Current 0)
 renewed_current = current_told eight 2 renewed_words renewed_words 0 (lit< tt) (inl refl) refl

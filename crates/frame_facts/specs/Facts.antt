@@ -1,8 +1,8 @@
 -- What a caller may rely on of the structure, beside the words that it holds: facts that each store of other callers leaves true.
-use Rattle.std.specs.Prelude.{◌≡◌, ℕ, suc, ◌+◌, ◌*◌, ◌^◌, ◌<◌, ◌≤◌, ◌⊎◌}
+use Rattle.std.specs.Prelude.{◌≡◌, ◌≢◌, ℕ, suc, ◌+◌, ◌*◌, ◌^◌, ◌<◌, ◌≤◌, ◌⊎◌}
 use Rattle.trace.specs.Events.{Words}
 use Rattle.hash_word.specs.Hash.{Covers}
-use Rattle.segment_head.specs.HeadWord.{version_in, splitting, fresh}
+use Rattle.segment_head.specs.HeadWord.{version_in, free, splitting, fresh}
 use Rattle.image_layout.specs.Places.{Shape, root_word, entry_at}
 use Rattle.sound_image.specs.Segments.{Frame, frame_of, state_at, depth_at, pattern_at, IsLive}
 use Rattle.segment_table.specs.Claims.{Claims, named_for}
@@ -26,6 +26,8 @@ pub data Fact : Type 0 where
   Begins : (slot hash : ℕ) → Fact
   -- a slot is taken for good: its segment is live, or is the new side of a splitting one that has the image's version
   Used : (slot : ℕ) → Fact
+  -- a slot is none that is free
+  Taken : (slot : ℕ) → Fact
 
 module _ (frame : Frame) where
   -- slot s is there, and its segment is live
@@ -53,6 +55,11 @@ module _ (frame : Frame) where
   abbrev pub IsUsedSlot : ℕ → ℕ → Type 0
   IsUsedSlot version n = IsLiveSlot n ⊎ ((s : ℕ) × IsNewSide version s n)
 
+  -- slot n is there, and is not FREE
+  pub record IsTakenSlot (n : ℕ) : Type 0 where
+    pub slot : n < frame.segments
+    pub taken : state_at frame n ≢ free
+
   -- a segment claims each hash of a region, or none
   abbrev pub ClaimsAll : ℕ → ℕ → ℕ → Type 0
   ClaimsAll s depth pattern = (h : ℕ) → h < 2 ^ 64 → Covers depth pattern h → Claims frame s h
@@ -76,3 +83,4 @@ module _ (shape : Shape) (version : ℕ) (words : Words) where
   HoldsFact (Deep f d p) medium = NamesDeeper (frame_of shape medium) f d p
   HoldsFact (Begins s h) medium = IsLiveSlot (frame_of shape medium) s × (first_hash (frame_of shape medium) s ≡ h)
   HoldsFact (Used n) medium = IsUsedSlot (frame_of shape medium) version n
+  HoldsFact (Taken n) medium = IsTakenSlot (frame_of shape medium) n

@@ -7,7 +7,7 @@ use Rattle.image_layout.specs.Places.{Shape, IsShape, root_word, entry_at, head_
 use Rattle.sound_image.specs.Segments.{Frame, frame_of, InOneSide}
 use Rattle.segment_table.specs.Claims.{HasSoundFrame}
 use Rattle.segment_table.specs.Stores.{StoreKeeps}
-use Rattle.frame_facts.specs.Facts.{Fact, Owns, IsLiveSlot, IsCurrentSlot, IsNewSide, IsUsedSlot, HoldsFact}
+use Rattle.frame_facts.specs.Facts.{Fact, Owns, Taken, IsLiveSlot, IsCurrentSlot, IsNewSide, IsUsedSlot, IsTakenSlot, HoldsFact}
 
 -- so it is in the newest words, and so in the medium
 abbrev pub Both : Words → Words → (Words → Type 0) → Type 0
@@ -41,6 +41,11 @@ IsEntry words i = (e : ℕ) × (k : ℕ) × (e ≤ words root_word) × (k < 2 ^ 
 abbrev pub ClaimsNoneOfSide : Frame → ℕ → Fact → Type 0
 ClaimsNoneOfSide frame s (Owns t depth pattern) = t ≡ s → (h : ℕ) → h < 2 ^ 64 → Covers depth pattern h → InOneSide frame s h → ⊥
 ClaimsNoneOfSide frame s fact = ⊤
+
+-- a fact that says nothing of taken slots, or of one that a store does not free
+abbrev pub FreesNone : Shape → Words → ℕ → ℕ → Fact → Type 0
+FreesNone shape medium i x (Taken n) = IsTakenSlot (frame_of shape medium) n → IsTakenSlot (frame_of shape (with_word medium i x)) n
+FreesNone shape medium i x fact = ⊤
 
 module _ (shape : Shape) (version : ℕ) (words medium : Words) (i x : ℕ) where
   -- A STORE KEEPS A FACT beside a medium: where the medium has the store, and where it has not

@@ -1,30 +1,30 @@
 //! What stores keep of facts. The functions do nothing: each stands for the law that its contract says.
 
-ghost use Rattle.std.specs.Prelude.{◌≡◌, ℕ, ◌+◌, ◌^◌, ◌<◌, ◌≤◌};
+ghost use Rattle.std.specs.Prelude.{◌≡◌, ◌≢◌, ℕ, ◌+◌, ◌^◌, ◌<◌, ◌≤◌};
 ghost use Rattle.trace.specs.Events.{Words, with_word};
 ghost use Rattle.image_layout.specs.Places.{Shape, root_word, entry_at, head_at, bucket_at, block, buckets};
 ghost use Rattle.sound_image.specs.Segments.{Frame, frame_of};
 ghost use Rattle.segment_table.specs.Claims.{IsSoundFrame};
 ghost use Rattle.segment_table.specs.Stores.{TakesSlot, FreesSlot, Links, BeginsSplit, GoesLive, NamesClaimer, NamesSide, EndsSplit, DropsSplit, Renews};
 ghost use Rattle.segment_table.specs.Stores.{Doubles, IsFrameWord};
-ghost use Rattle.frame_facts.specs.Facts.{Fact, IsNewSide};
-ghost use Rattle.frame_facts.specs.Keeping.{Both, AreSound, HaveOneRoot, KeepsVersion, IsEntry, ClaimsNoneOfSide, KeepsFact, KeepsFacts, Spares};
+ghost use Rattle.frame_facts.specs.Facts.{Fact, Taken, IsNewSide};
+ghost use Rattle.frame_facts.specs.Keeping.{Both, AreSound, HaveOneRoot, KeepsVersion, IsEntry, ClaimsNoneOfSide, FreesNone, KeepsFact, KeepsFacts, Spares};
 
 /// A store that keeps the claims keeps every fact, where no current segment loses the version, the root does not fall, what an
-/// entry is to name lives, and new sides stay.
+/// entry is to name lives, and new sides stay; but that a slot is taken which it frees.
 pub fn kept_claims_keep_facts()
     ensures { (shape : Shape) (version : ℕ) (words medium : Words) → AreSound shape words medium → (i x : ℕ) → Spares shape version words medium i x
-        → KeepsFacts shape version words medium i x }
+        → (fact : Fact) → FreesNone shape medium i x fact → KeepsFact shape version words medium i x fact }
 {}
 
-/// The stores of a header keep every fact: of a slot that is taken, or freed, while no current segment splits to it; of a
-/// segment that begins, ends or drops a split, with the version that it had; of a version byte.
+/// The stores of a header keep every fact: of a slot that is taken, or freed, while no current segment splits to it, but that it is
+/// taken; of a segment that begins, ends or drops a split, with the version that it had; of a version byte.
 pub fn header_stores_keep_facts()
     ensures takes { (shape : Shape) (version : ℕ) (words medium : Words) → AreSound shape words medium → (n x : ℕ)
         → Both words medium (λ word. TakesSlot (frame_of shape word) shape.depth n x) → KeepsFacts shape version words medium (head_at shape n + 1) x }
     ensures frees { (shape : Shape) (version : ℕ) (words medium : Words) → AreSound shape words medium → (n x : ℕ)
         → Both words medium (λ word. FreesSlot (frame_of shape word) n x) → ((s : ℕ) → IsNewSide (frame_of shape medium) version s n → ⊥)
-        → KeepsFacts shape version words medium (head_at shape n + 1) x }
+        → (fact : Fact) → fact ≢ Taken n → KeepsFact shape version words medium (head_at shape n + 1) x fact }
     ensures begins { (shape : Shape) (version : ℕ) (words medium : Words) → AreSound shape words medium → (s x : ℕ)
         → Both words medium (λ word. BeginsSplit (frame_of shape word) s x) → KeepsVersion shape version s x words → KeepsFacts shape version words medium (head_at shape s + 1) x }
     ensures ends { (shape : Shape) (version : ℕ) (words medium : Words) → AreSound shape words medium → (s x : ℕ)
