@@ -4,10 +4,9 @@ pub mod Backing
 pub mod Known
 pub mod Owing
 pub mod Placing
-pub mod Stashing
+pub mod stash
 pub mod Moving
 pub mod Changing
-pub mod Unstashing
 pub mod Holders
 pub mod Preparing
 pub mod Drawing

@@ -7,7 +7,6 @@ pub mod Keepers
 pub mod HeldGuards
 pub mod Stepping
 pub mod media
-pub mod Begun
-pub mod Restarting
+pub mod beginning
 pub mod Callers
 pub mod SpentNumbers

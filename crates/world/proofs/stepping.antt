@@ -5,6 +5,9 @@ pub mod Readers
 pub mod Reseated
 pub mod Pairs
 pub mod SpentLocks
+pub mod Slots
+pub mod Taken
+pub mod Rests
 pub mod Later
 pub mod Noting
 pub mod Telling

@@ -5,7 +5,7 @@ use Rattle.image_layout.specs.Places.{Shape, head_at, bucket_at, homes, stash_bu
 use Rattle.map_model.specs.declared.call.Call.{Call}
 use Rattle.map_model.specs.declared.call.Call.TheVariants.{Remove}
 use Rattle.map_model.specs.declared.entry.Reply.{Reply}
-use Rattle.map_model.specs.declared.entry.Reply.TheVariants.{Done, Spent}
+use Rattle.map_model.specs.declared.entry.Reply.TheVariants.{Done, Full, Spent}
 use Rattle.map_model.specs.Map.{key_of, is_done}
 use Rattle.map_model.specs.Legal.{IsChange}
 use Rattle.bucket_meta.specs.Notes.{AreExact}
@@ -17,7 +17,7 @@ use Rattle.bucket_words.specs.Buckets.{value_in}
 use Rattle.bucket_words.specs.Owners.{owner_of, home_at}
 use Rattle.bucket_words.specs.HomeNotes.{SameHomeNotes}
 use Rattle.bucket_words.specs.TableChanges.{KeepsTable, ChangesKey}
-use Rattle.frame_facts.specs.Facts.{Fact, Lives, Current, Rooted, HoldsFact}
+use Rattle.frame_facts.specs.Facts.{Fact, Lives, Current, Rooted, Taken, HoldsFact}
 use Rattle.world.specs.Ground.{Ground, IsLockWord, IsUnder, version_of, IsStructured}
 use Rattle.world.specs.Views.{Glance, Move, Owed, View, Has, HasLock, IsGuarded, IsLoose, IsFirm}
 use Rattle.world.specs.History.{result_of, reply_by, MayReply, HasRoomCause}
@@ -214,6 +214,10 @@ module _ (site : Ground) where
   abbrev pub IsKnownSpent : View → Reply → Type 0
   IsKnownSpent v reply = reply ≡ Spent → (lock : ℕ) × Has lock v.spent_locks
 
+  -- and one that no slot is free from who knows each to be taken
+  abbrev pub IsKnownFull : View → Reply → Type 0
+  IsKnownFull v reply = reply ≡ Full → (n : ℕ) → n < site.shape.segments → Has (Taken n) v.facts
+
   -- the lock word of a bucket of a segment that the view knows to be live and current
   abbrev pub IsKnownLock : View → ℕ → Type 0
   IsKnownLock v lock = (s : ℕ) × (b : ℕ) × (s < site.shape.segments) × (b < buckets) × (lock ≡ bucket_at site.shape s b) × Has (Lives s) v.facts × Has (Current s) v.facts
@@ -227,7 +231,7 @@ module _ (site : Ground) where
   May (meets_head s version) v = Has (Lives s) v.facts × (version ≡ version_of site)
   May (pins s b) v = (b < buckets) × HasLock v.held (bucket_at site.shape s b)
   May (finds_room call) v = IsChange call × (0 < v.callers)
-  May (refuses call reply) v = (is_done reply ≡ false) × IsKnownReply v call reply × IsKnownCause v call reply × IsKnownSpent v reply
+  May (refuses call reply) v = (is_done reply ≡ false) × IsKnownReply v call reply × IsKnownCause v call reply × IsKnownSpent v reply × IsKnownFull v reply
   May (places k a) v = (s : ℕ) × ((note : Glance) × Has note v.notes × (note.word ≡ bucket_at site.shape s (home_of (key_hash site.shape k))))
       × ((words : Words) → IsNow v.notes words → (owner_of site.shape words (key_hash site.shape k) ≡ Some s) × (find site.shape words k ≡ a))
   May (looks lock) v = IsKnownLock v lock

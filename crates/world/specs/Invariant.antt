@@ -1,5 +1,5 @@
--- What holds between any two events while the structure moves: as the invariant of callers has it, but that headers, links, root and
--- entries are stored to, by who holds them; and what is said of records, copies, notes and locks is said of segments that are watched.
+-- What holds between any two events, whoever takes the next one. Headers, links, the root and entries are stored to by who holds them; and
+-- what is said of records, notes of homes and the stash is said of segments that are watched.
 use Rattle.std.specs.Prelude.{◌≡◌, ◌≢◌, ◌==◌, ℕ, ◌+◌, ◌*◌, ◌<◌, ◌≤◌, Some, List, ◌⊎◌, if◌then◌else◌}
 use Rattle.trace.specs.Events.{Words}
 use Rattle.segment_head.specs.HeadWord.{version_in, state_in, depth_in, normal}
@@ -18,7 +18,7 @@ use Rattle.world.specs.Media.{IsPossible, Stands}
 use Rattle.world.specs.Parts.{Locks, Plans, History, Room, Spending, Powered, IsRemoving, IsMoving, NobodyOwes, IsPinned, IsPastLock, IsUnmoved, IsAnswer}
 use Rattle.world.specs.areas.Areas.{Whole, header_word}
 use Rattle.world.specs.areas.Fitting.{HoldsWord, Fits}
-use Rattle.world.specs.areas.Lasting.{Owners, Lasting}
+use Rattle.world.specs.areas.Lasting.{Owners, Lasting, SettledSlots}
 use Rattle.world.specs.areas.Kinds.{Guard, guard_word, HasGuard, area_of}
 use Rattle.world.specs.areas.Asking.{MaySay}
 
@@ -38,9 +38,10 @@ module _ (site : Ground) (words : Words) (views : List View) where
         → HoldsFact site.shape (version_of site) words fact medium
     pub may_say : (j : ℕ) (v : View) (fact : Fact) → At views j v → Has fact v.facts → MaySay v.areas fact
     pub pinned : (j : ℕ) (v : View) (s x : ℕ) → At views j v → Has (s, x) v.pinned → IsPinned site words v s x
-    -- owners and live segments in whatever a cut may leave
+    -- owners, live segments and taken slots in whatever a cut may leave
     pub owners : Owners site words views
     pub lasting : Lasting site words views
+    pub settled_slots : SettledSlots site words views
 
   -- WORDS: a known word is the newest, and known words and loose ones are held by their view
   pub record KnownWords : Type 0 where
@@ -88,7 +89,7 @@ pub record Notes (site : Ground) (words : Words) (views : List View) (log : Log)
   pub same : (j : ℕ) (v : View) (note : Glance) (i x : ℕ) → At views j v → Has note v.notes → words note.word ≡ note.value → Has (i, x) note.words → words i ≡ x
   pub answered : (j : ℕ) (v : View) (a : Answer) → At views j v → v.answer ≡ Some a → ((note : Glance) → Has note v.notes → IsUnmoved words note) → IsAnswer site log v.seen a
 
--- THE INVARIANT while the structure moves
+-- THE INVARIANT
 pub record Holds (site : Ground) (words : Words) (views : List View) : Type 0 where
   pub site_is : IsGround site
   pub log : Log

@@ -1,11 +1,7 @@
 -- What a caller has seen only grows, and its replies come at places not before that.
-use Rattle.std.specs.Prelude.{◌≡◌, ℕ, ◌≤◌, List, ◌++◌}
-use Rattle.trace.specs.Events.{Words}
+use Rattle.std.specs.Prelude.{◌≡◌, ◌≤◌, List, ◌++◌}
 use Rattle.map_model.specs.declared.entry.Entry.{Entry}
-use Rattle.world.specs.Ground.{Ground}
-use Rattle.world.specs.Views.{View, Has, At}
-use Rattle.world.specs.Kinds.{Kind, view_after}
-use Rattle.world.specs.Laws.{found_by}
+use Rattle.world.specs.Views.{View, Has}
 
 -- a view is a later one of another: it has these replies more, each at a place not before what the other had seen, and it has
 -- seen no less

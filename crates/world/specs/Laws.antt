@@ -4,24 +4,16 @@ use Rattle.std.specs.FinMap.{get}
 use Rattle.map_model.specs.Map.{Map}
 use Rattle.map_model.specs.Weave.{weave}
 use Rattle.map_model.specs.Legal.{replay, IsLegal}
-use Rattle.trace.specs.Events.{Words, with_word, value}
-use Rattle.trace.specs.Media.{IsPossible as DevicePossible}
+use Rattle.trace.specs.Events.{Words, with_word}
 use Rattle.op_core.specs.declared.want.Want.{Want}
-use Rattle.image_layout.specs.Places.{Shape, words_of}
-use Rattle.bucket_words.specs.Standing.{IsTable}
-use Rattle.bucket_words.specs.Owners.{HasStructure}
-use Rattle.bucket_words.specs.Hits.{find}
-use Rattle.image_layout.specs.Volatile.{power_word}
+use Rattle.image_layout.specs.Places.{Shape}
 use Rattle.world.specs.Ground.{Ground}
-use Rattle.world.specs.Views.{View, At}
+use Rattle.world.specs.Views.{View}
 use Rattle.world.specs.History.{Log, map_now}
 use Rattle.world.specs.Wants.{word_of, left_by, words_after}
-use Rattle.world.specs.Kinds.{Kind, cuts_power, wanted, view_after}
-use Rattle.world.specs.Conditions.{May}
+use Rattle.world.specs.Kinds.{Kind, wanted, view_after}
 use Rattle.world.specs.Entering.{Enters}
-use Rattle.world.specs.Media.{IsPossible, Stands}
 use Rattle.world.specs.Parts.{History}
-use Rattle.world.specs.World.{World}
 
 module _ (site : Ground) (kind : Kind) where
   -- the word that a step finds

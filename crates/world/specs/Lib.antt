@@ -15,6 +15,7 @@ pub mod World
 pub mod Seats
 pub mod Laws
 pub mod StepLaws
+pub mod Slots
 pub mod Pairs
 pub mod Later
 pub mod Holders

@@ -9,19 +9,15 @@ use Rattle.map_model.specs.declared.entry.Entry.{Entry}
 use Rattle.map_model.specs.Map.{key_of}
 use Rattle.map_model.specs.Weave.{draws, drew_at}
 use Rattle.map_model.specs.Legal.{InOrder, seen_of}
-use Rattle.image_layout.specs.Places.{head_at, bucket_at, homes, stash_buckets, buckets}
-use Rattle.segment_table.specs.Claims.{HasSoundFrame}
-use Rattle.sound_image.specs.Records.{key_hash, HasExactNotes}
+use Rattle.image_layout.specs.Places.{head_at, bucket_at, buckets}
+use Rattle.sound_image.specs.Records.{key_hash}
 use Rattle.map_model.specs.declared.call.Call.TheVariants.{Remove}
-use Rattle.bucket_words.specs.Standing.{IsTable}
 use Rattle.bucket_words.specs.Hits.{Hit, find}
-use Rattle.bucket_words.specs.Owners.{HasStructure, owner_of, home_at}
-use Rattle.frame_facts.specs.Facts.{Fact, HoldsFact}
-use Rattle.world.specs.Conditions.{IsOwed, IsMoveOf, HoldsMove}
-use Rattle.world.specs.Ground.{Ground, IsGround, IsLockWord, IsSpentLock, HasSpentLock, IsUnder, version_of, IsCurrentIn, IsCurrentLock}
-use Rattle.world.specs.Views.{Glance, Answer, Move, Owed, View, Has, At, HasLock, IsGuarded, IsLoose}
+use Rattle.bucket_words.specs.Owners.{owner_of, home_at}
+use Rattle.world.specs.Conditions.{IsMoveOf}
+use Rattle.world.specs.Ground.{Ground, IsLockWord, IsSpentLock, HasSpentLock, IsCurrentLock}
+use Rattle.world.specs.Views.{Glance, Answer, Move, Owed, View, Has, At, HasLock}
 use Rattle.world.specs.History.{Log, map_now, map_when, result_of, reply_by, IsRight}
-use Rattle.world.specs.Media.{IsPossible, Stands}
 
 -- the sum of a number over all views
 abbrev pub total : (View → ℕ) → List View → ℕ

@@ -1,9 +1,7 @@
 -- A view is cut in two, and two are joined: so it is where words alone are shared, for a new caller's pass, for what is
 -- told from caller to caller, and at the end of a pass.
-use Rattle.std.specs.Prelude.{◌≢◌, ℕ, ◌+◌, ◌-◌, ◌≤◌, max, ◌||◌, List, [], ◌∷◌, ◌++◌, None, set}
-use Rattle.trace.specs.Events.{Words}
-use Rattle.world.specs.Ground.{Ground}
-use Rattle.world.specs.Views.{View, At}
+use Rattle.std.specs.Prelude.{ℕ, ◌+◌, ◌-◌, max, ◌||◌, [], ◌++◌, None}
+use Rattle.world.specs.Views.{View}
 use Rattle.world.specs.World.{fresh_view}
 
 -- the view that is cut off for n callers: it has seen what the other has

@@ -1,5 +1,5 @@
--- The laws of the world while the structure moves, each to be read on its own.
-use Rattle.std.specs.Prelude.{◌≡◌, ◌≢◌, ℕ, ◌≤◌, List, [], ◌∷◌, ◌++◌, set, ⊤}
+-- The laws of the world at a step of any kind, each to be read on its own.
+use Rattle.std.specs.Prelude.{◌≡◌, ◌≢◌, ℕ, ◌≤◌, List, [], ◌∷◌, ◌++◌, set}
 use Rattle.trace.specs.Events.{Words, value}
 use Rattle.image_layout.specs.Places.{Shape}
 use Rattle.image_layout.specs.Volatile.{power_word}

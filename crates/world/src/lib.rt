@@ -27,7 +27,7 @@ pub use splitting::{
 };
 pub use steps::{
     calls_need_no_areas, calls_spare_the_structure, each_step_keeps, media_stand, mild_kinds_keep,
-    seats_keep, steps_do_events, steps_leave, worlds_stay_well,
+    rests_are_quiet, seats_keep, slots_stay, steps_do_events, steps_leave, worlds_stay_well,
 };
 pub use structure::{
     callers_keep_locks_and_words, callers_keep_media, callers_keep_other_parts,

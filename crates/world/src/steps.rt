@@ -1,22 +1,22 @@
-//! The laws of all kinds of step, while the structure moves. The functions do nothing: each stands for the law that its contract says.
+//! The laws of all kinds of step. The functions do nothing: each stands for the law that its contract says.
 
 ghost use Rattle.world.specs.Ground.{Ground};
 ghost use Rattle.world.specs.Laws.{ChangesOneWord};
 ghost use Rattle.world.specs.StepKinds.{StepKind};
+ghost use Rattle.world.specs.Slots.{SlotsStayTaken, TakenStays, FullsAreTaken, StaysCurrent, NewSlotsWereFree, RestsAreQuiet, OthersAreQuiet};
 ghost use Rattle.world.specs.StepLaws.{Keeps, MildKindsKeep, MediaStand, PowerStays, StepsDoEvents, KeepsWell, OtherStepsKeepPairs, SpentLocksStay, RepliesComeLater, CutsKeep, JoinsKeep, CallsLeaveAreas, CallsWithoutAreas, KnowWithoutAreas, CallsSpareTheStructure};
 
-/// A peek, a look at the power, a flush and the cut of the power keep what holds while the structure moves, whatever areas their view has.
+/// A peek, a look at the power, a flush and the cut of the power keep the invariant, whatever areas their view has.
 pub fn mild_kinds_keep()
     ensures { MildKindsKeep }
 {}
 
-/// Each kind of step keeps what holds while the structure moves, for any number of callers, by a condition on the stepping caller's view
-/// alone.
+/// Each kind of step keeps the invariant, for any number of callers, by a condition on the stepping caller's view alone.
 pub fn each_step_keeps()
     ensures { (site : Ground) (kind : StepKind) → Keeps site kind }
 {}
 
-/// Whatever a power cut may leave while the structure moves has a sound structure, is a table, and stands in the history in which all
+/// Whatever a power cut may leave has a sound structure, is a table, and stands in the history in which all
 /// replies are right.
 pub fn media_stand()
     ensures { MediaStand }
@@ -59,4 +59,22 @@ pub fn calls_need_no_areas()
 /// No step of a caller's kinds stores to a word of the structure: a header, a link, the root, an entry.
 pub fn calls_spare_the_structure()
     ensures { CallsSpareTheStructure }
+{}
+
+/// Where each live segment has the image's version, a step leaves each taken slot taken, in the newest words and in whatever a cut may leave,
+/// and each live segment of that version; and the slot that it takes for a new side was free. Who tells that no slot is free finds each taken
+/// in whatever a cut may leave.
+pub fn slots_stay()
+    ensures taken { SlotsStayTaken }
+    ensures media { TakenStays }
+    ensures full { FullsAreTaken }
+    ensures current { StaysCurrent }
+    ensures new { NewSlotsWereFree }
+{}
+
+/// Where no view has areas, no guard is taken, and no segment is split, where each live one has the image's version. Where no view but one has
+/// areas, a guard that is taken is that view's, and it has each segment whole that is split.
+pub fn rests_are_quiet()
+    ensures nobody { RestsAreQuiet }
+    ensures others { OthersAreQuiet }
 {}

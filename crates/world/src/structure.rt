@@ -1,8 +1,8 @@
-//! The laws of the kinds of step at the structure: each keeps each part of what holds while the structure moves. The functions do
-//! nothing: each stands for the law that its contract says.
+//! The laws of the kinds of step at the structure and, part by part, of those of calls: each keeps each part of the invariant. The functions
+//! do nothing: each stands for the law that its contract says.
 
 ghost use Rattle.world.specs.areas.Calling.{CallersKeepLocks, CallersKeepHeldWords};
-ghost use Rattle.world.specs.areas.Keeping.{KnownIsSo, KeepsHeldWords, KeepsLocks, KeepsRecords, KeepsNotesOfHomes, KeepsOthers, KeepsAreas, KeepsGuards, KeepsHeldGuards, KeepsSayers, KeepsPins, KeepsSound, KeepsFacts, KeepsStructure, KeepsMedia, KeepsHolding, StructureStepsSpare, StructureStepsReplyNothing};
+ghost use Rattle.world.specs.areas.Keeping.{KnownIsSo, KeepsHeldWords, KeepsLocks, KeepsRecords, KeepsNotesOfHomes, KeepsOthers, KeepsAreas, KeepsSettledSlots, KeepsGuards, KeepsHeldGuards, KeepsSayers, KeepsPins, KeepsSound, KeepsFacts, KeepsStructure, KeepsMedia, KeepsHolding, StructureStepsSpare, StructureStepsReplyNothing};
 ghost use Rattle.world.specs.areas.Bridging.{CallersKnowAsBefore, CallersKeepOthers, CallersKeepRecords, CallersKeepNotesOfHomes, CallersKeepStructure, CallersKeepMedia, CallersKeepReadersNotes};
 ghost use Rattle.world.specs.areas.Beginning.{RestartsBegin, RaisedVersionsLeaveNoneCurrent, RaisedVersionsBegin};
 ghost use Rattle.world.specs.areas.Restarting.{SoundImagesBegin};
@@ -24,7 +24,7 @@ pub fn locks_stay()
     ensures { KeepsLocks }
 {}
 
-/// A segment that nobody has whole owns each record in it, and each key stands once there, or its mover has it under way: steps at the
+/// A current segment that nobody has whole owns each record in it, and each key stands once there, or its mover has it under way: steps at the
 /// structure keep that, and a segment that others may rest on from then on is in order.
 pub fn records_stay()
     ensures { KeepsRecords }
@@ -43,9 +43,11 @@ pub fn other_parts_stay()
 {}
 
 /// The words are such after a step that all views may have their locks and areas; and in whatever a cut may leave a hash has the owner that it
-/// has now, and the same segments live, but for sides that are not settled.
+/// has now, and the same segments live, but for sides that are not settled. And a slot that is taken is so there, or who took it has the guard
+/// of free slots still.
 pub fn steps_keep_areas()
-    ensures { KeepsAreas }
+    ensures areas { KeepsAreas }
+    ensures slots { KeepsSettledSlots }
 {}
 
 /// Who has a guard, its word is not 0; a guard whose word is not 0 is had by some view; who says that a segment claims hashes has its guard or
@@ -68,7 +70,7 @@ pub fn steps_keep_facts()
     ensures { KeepsFacts }
 {}
 
-/// So each kind of step keeps all that is said of the structure while it moves.
+/// So each kind of step keeps all that is said of the structure.
 pub fn steps_keep_the_structure()
     ensures { KeepsStructure }
 {}
@@ -79,7 +81,7 @@ pub fn steps_keep_media()
     ensures { KeepsMedia }
 {}
 
-/// A restart begins what holds while the structure moves, where each current segment is repaired: of stale segments, new sides and free
+/// A restart begins the invariant, where each current segment is repaired: of stale segments, new sides and free
 /// slots nothing is asked. So it is after a restart of any sound image. Where it raised the version no segment is current, so nothing is
 /// asked of any.
 pub fn structure_begins()
@@ -100,13 +102,13 @@ pub fn structure_keeps_tied()
     ensures begins { BeginsWell }
 {}
 
-/// What a power cut of the device may leave while the structure moves is what the views say.
+/// What a power cut of the device may leave is what the views say.
 pub fn device_leaves_what_views_say()
     ensures { DeviceLeaves }
 {}
 
-/// So each kind of step at the structure keeps all that holds while the structure moves, for any number of callers, by a condition on the
-/// stepping caller's view alone; and none adds to the history.
+/// So each kind of step at the structure keeps the invariant, for any number of callers, by a condition on the stepping caller's view alone;
+/// and none adds to the history.
 pub fn structure_steps_keep()
     ensures { KeepsHolding }
 {}
@@ -118,30 +120,29 @@ pub fn structure_steps_change_no_pair()
     ensures reply { StructureStepsReplyNothing }
 {}
 
-/// Each kind of step of a caller keeps the locks, and known and loose words held, while the structure moves.
+/// Each kind of step of a caller keeps the locks, and known and loose words held.
 pub fn callers_keep_locks_and_words()
     ensures locks { CallersKeepLocks }
     ensures words { CallersKeepHeldWords }
 {}
 
-/// Each step of a caller keeps what is said of spent numbers, while the structure moves, whatever areas its view has.
+/// Each step of a caller keeps what is said of spent numbers, whatever areas its view has.
 pub fn callers_keep_spent_numbers()
     ensures { CallersKeepSpending }
 {}
 
-/// A view that has no segment whole knows, while the structure moves, all that the conditions of callers' kinds rest on: what the newest
-/// words may be, what may stand beside them, and what all keys may have.
+/// A view that has no segment whole knows all that the conditions of callers' kinds rest on: what the newest words may be,
+/// what may stand beside them, and what all keys may have.
 pub fn callers_know_as_before()
     ensures { CallersKnowAsBefore }
 {}
 
-/// So each kind of step of such a caller keeps planned changes, the history, the room for places and the power
-/// while the structure moves.
+/// So each kind of step of such a caller keeps planned changes, the history, the room for places and the power.
 pub fn callers_keep_other_parts()
     ensures { CallersKeepOthers }
 {}
 
-/// And that a segment which nobody has whole owns each record in it, and has each key once, or its mover has it under way, and
+/// And that a current segment which nobody has whole owns each record in it, and has each key once, or its mover has it under way, and
 /// that the notes of its homes are exact, but for those that are owed.
 pub fn callers_keep_records()
     ensures records { CallersKeepRecords }

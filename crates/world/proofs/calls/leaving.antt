@@ -1,4 +1,4 @@
--- What a cut may leave after a step of a caller, while the structure moves.
+-- What a cut may leave after a step of a caller.
 pub mod Stored
 pub mod Drawn
 pub mod Media

@@ -1,4 +1,4 @@
--- What readers noted, at each kind of step of a caller while the structure moves.
+-- What readers noted, at each kind of step of a caller.
 pub mod Rising
 pub mod FreeLocks
 pub mod Readers

@@ -1,2 +1,2 @@
--- Views that are cut in two or joined, while the structure moves.
+-- Views that are cut in two or joined.
 pub mod Moving

@@ -1,3 +1,3 @@
--- Each kind of step of a caller keeps what is said of the structure while it moves; and each kind of step keeps all that holds.
+-- Each kind of step of a caller keeps what is said of the structure; and each kind of step keeps the invariant.
 pub mod Structure
 pub mod Every

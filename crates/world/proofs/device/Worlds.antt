@@ -1,25 +1,14 @@
 -- The world: one step does what its event says and keeps it well, and a restart leaves it well.
-use Rattle.std.proofs.Common.{◌≡◌, ℕ, zero, suc, ◌+◌, ◌*◌, ◌<◌, ◌≤◌, Bool, true, false, cond, eqb, List, [], ◌∷◌, set, inl, inr, refl, sym, ap, ◌∙◌, subst, arith}
+use Rattle.std.proofs.Common.{◌≡◌, ℕ, zero, suc, ◌*◌, Bool, true, false, cond, eqb, List, [], ◌∷◌, set, refl, sym, ap}
 use mathlib.Core.Option.{some-injective, some-ne-none}
 use Rattle.op_core.specs.declared.want.Want.TheVariants.{Load, Store, Exchange, Flush, Fence, Draw, Power, Done}
-use Rattle.trace.specs.Events.{Words, with_word, Trace, value, after}
+use Rattle.trace.specs.Events.{with_word, after}
 use Rattle.trace.specs.Events.Event.{loaded, exchanged}
 use Rattle.trace.proofs.Replaced.{replaced_self}
-use Rattle.trace.proofs.Media.{had_of_may}
-use Rattle.image_layout.specs.Places.{words_of}
 use Rattle.image_layout.specs.Volatile.{counter_word, power_word}
-use Rattle.bucket_words.specs.Core.{core_of, core}
-use Rattle.world.specs.Ground.{Ground}
-use Rattle.world.specs.Views.{View, Has, At, IsLoose}
-use Rattle.world.specs.Wants.{word_of, event_of}
-use Rattle.world.specs.Media.{MayLeave, IsPossible}
-use Rattle.map_model.specs.Weave.{draws}
-use Rattle.map_model.specs.Legal.{InOrder, seen_of}
-use Rattle.world.specs.Kinds.{Kind, wanted, view_after}
-use Rattle.world.specs.Conditions.{May}
-use Rattle.world.specs.Tied.{Tied}
-use Rattle.world.specs.World.{World, changed_at, fresh_view}
-use Rattle.world.specs.Laws.{found_by, words_by, views_by, ChangesOneWord}
+use Rattle.world.specs.Views.{View, At}
+use Rattle.world.specs.World.{changed_at}
+use Rattle.world.specs.Laws.{ChangesOneWord}
 
 -- ---- what an event does
 pub one_word : ChangesOneWord

@@ -104,7 +104,7 @@ module _ (site : Ground) (words : Words) (s x : ℕ) where
   pub row_version : (row : Row) → IsRow site words row s x → HasLiveState (now.header s) → version_in (now.header s) ≡ version_of site → version_in x ≡ version_of site
   row_version (marks n) q l e = q.2 ∙ e
   row_version (news p) q l e = q.2
-  row_version (goes_live p) q l e = q.1 ∙ e
+  row_version (goes_live p) q l e = q.1
   row_version finishes q l e = q.1 ∙ e
   row_version unmarks q l e = q.1 ∙ e
   row_version (frees p) q l e = absurd (dead_new q.0.was l)
@@ -115,7 +115,7 @@ module _ (site : Ground) (words : Words) (s x : ℕ) where
       → Has (Stale s) (areas_by row s areas) → version_in x ≢ version_of site
   row_stale (marks n) areas q l e h = λ z. e (sym q.2 ∙ z)
   row_stale (news p) areas q l e h = absurd (dead_free q.0.was l)
-  row_stale (goes_live p) areas q l e h = λ z. e (sym q.1 ∙ z)
+  row_stale (goes_live p) areas q l e h = absurd (dead_new q.0.was l)
   row_stale finishes areas q l e h = λ z. e (sym q.1 ∙ z)
   row_stale unmarks areas q l e h = λ z. e (sym q.1 ∙ z)
   row_stale (frees p) areas q l e h = absurd (dead_new q.0.was l)

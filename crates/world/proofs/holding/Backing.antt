@@ -8,7 +8,7 @@ use Rattle.image_layout.specs.Places.{bucket_at}
 use Rattle.sound_image.specs.Records.{key_hash}
 use Rattle.bucket_words.specs.Owners.{home_at}
 use Rattle.world.specs.Ground.{Ground, IsGround}
-use Rattle.world.specs.Views.{Glance, Answer, View, Has, At, HasLock}
+use Rattle.world.specs.Views.{Glance, Answer, View, Has, HasLock}
 use Rattle.world.specs.History.{Log, map_now}
 use Rattle.world.specs.Parts.{Locks, Plans, History, Room, Powered, IsUnmoved, IsAnswer}
 use Rattle.world.specs.Conditions.{IsNewest, StandsBeside, HoldsHome, IsMapNow}

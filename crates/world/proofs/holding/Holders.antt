@@ -7,9 +7,9 @@ use Rattle.world.specs.Views.{View}
 use Rattle.world.specs.History.{MayReply}
 use Rattle.world.specs.Holders.{MayPlace, MayChange, MayUnstash, MayTell}
 use Rattle.world.proofs.holding.Placing.{none_newest, may_insert}
-use Rattle.world.proofs.holding.Stashing.{may_stash}
+use Rattle.world.proofs.holding.stash.Stashing.{may_stash}
 use Rattle.world.proofs.holding.Changing.{hit_newest, may_update, may_remove}
-use Rattle.world.proofs.holding.Unstashing.{may_unstash}
+use Rattle.world.proofs.holding.stash.Unstashing.{may_unstash}
 use Rattle.world.proofs.holding.Known.{same_value, newest_same}
 
 module _ (site : Ground) (v : View) where

@@ -1,32 +1,18 @@
 -- What a cut may leave is a table and stands in the history, at each kind of step.
-use Rattle.std.proofs.Common.{◌≡◌, ◌≢◌, ◌⊎◌, ℕ, ◌+◌, ◌%◌, ◌^◌, ◌<◌, List, [], ◌∷◌, set, cond, eqb, Bool, true, false, Option, None, Some, inl, inr, refl, sym, ap, ◌∙◌, subst, arith}
-use Rattle.std.proofs.lemmas.Bool.{cases_eq, eq-eqb, ne_eqb}
-use Rattle.std.specs.Prelude.{nat_lt}
+use Rattle.std.proofs.Common.{◌≡◌, ◌≢◌, ◌⊎◌, ℕ, ◌<◌, List, set, cond, Bool, true, false, Option, None, Some, inl, inr, refl, sym, ap, ◌∙◌, subst}
 use mathlib.Core.Logic.{dite}
 use native.Mathlib.Decide.{ℕ_discrete}
-use Rattle.trace.specs.Events.{Words, with_word, after}
-use Rattle.trace.specs.Events.Event.{loaded, exchanged}
+use Rattle.trace.specs.Events.{Words, with_word}
 use Rattle.trace.proofs.Replaced.{cases_at, replaced_same, replaced_other}
-use Rattle.image_layout.specs.Places.{words_of, bucket_at}
-use Rattle.image_layout.specs.Volatile.{counter_word, power_word}
+use Rattle.image_layout.specs.Places.{words_of}
 use Rattle.map_model.specs.declared.call.Call.{Call}
 use Rattle.map_model.specs.Map.{key_of}
 use Rattle.bucket_words.specs.Core.{core_of, core}
-use Rattle.bucket_words.specs.Standing.{IsTable}
-use Rattle.bucket_words.specs.Hits.{Hit, find}
-use Rattle.bucket_words.specs.Owners.{HasStructure, owner_of}
-use Rattle.world.specs.Ground.{Ground, IsLockWord, IsUnder, IsCurrentIn}
+use Rattle.world.specs.Ground.{Ground}
 use Rattle.world.specs.Views.{Answer, Move, Owed, View, Has, At, HasLock, IsLoose}
-use Rattle.world.specs.History.{Log, map_now, result_of, change_of}
-use Rattle.world.specs.Media.{MayLeave, IsPossible, IsPlanned, Stands}
+use Rattle.world.specs.Media.{MayLeave, IsPossible, IsPlanned}
 use Rattle.world.specs.Parts.{IsRemoving}
-use Rattle.world.specs.Kinds.{Kind, peeks, asks_power, meets_root, meets_entry, meets_head, pins, finds_room, refuses, places, looks, glances_word, validates, learns, meets_lock, tries, stores, copies, clears, repays, publishes, stashes, flushes, fences, draws_place, unlocks, cuts_power, marked, all_again, with_answer, with_look, with_count, with_lock, with_draw, log_after, of_other_records, of_other_homes, with_store}
-use Rattle.world.specs.Conditions.{IsNewest, IsTidy, IsKept, TakesFromStash, IsHarmless, IsPublishing, May}
-use Rattle.world.specs.Laws.{words_by, views_by}
-use Rattle.bucket_words.proofs.segments.Finding.{find_is}
-use Rattle.bucket_words.specs.Buckets.{value_in}
-use Rattle.hash_word.specs.Hash.{home_of, probing_of}
-use Rattle.sound_image.specs.Records.{key_hash}
+use Rattle.world.specs.Kinds.{with_answer, with_look, with_count, with_store}
 use Rattle.map_model.specs.declared.call.Call.TheVariants.{Remove}
 use Rattle.world.proofs.basics.Seats.{each, carry, loosened_has}
 

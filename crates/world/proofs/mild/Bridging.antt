@@ -1,4 +1,4 @@
--- A view that has no segment whole knows what it would know if no structure moved.
+-- A view that has no segment whole knows what the conditions of callers' kinds rest on.
 use Rattle.std.proofs.Common.{◌≡◌, ℕ, ◌+◌, ◌<◌, List, [], Some, inl, inr, refl, sym, ap, ◌∙◌, subst, arith}
 use Rattle.std.specs.Option.{unwrap_or}
 use Rattle.hash_word.specs.Hash.{home_of}

@@ -1,4 +1,4 @@
--- Each kind of step of a caller that has no segment whole keeps, while the structure moves, what it keeps where none moves.
+-- Each kind of step of a caller that has no segment whole keeps planned changes, the history, room, the power, and records and notes of homes.
 use Rattle.std.proofs.Common.{ℕ, List, sym, subst}
 use Rattle.trace.specs.Events.{Words}
 use Rattle.world.specs.Ground.{Ground}
@@ -23,8 +23,8 @@ use Rattle.world.proofs.invariant.KeepRoom.{keep_room}
 use Rattle.world.proofs.invariant.KeepPowered.{keep_powered}
 use Rattle.world.proofs.mild.Bridging.{callers_know}
 
-abbrev pub backing_moving : (site : Ground) (words : Words) (views : List View) (j : ℕ) (v : View) → Holds site words views → At views j v → HasNoWhole v → Backing site words views j v
-backing_moving site words views j v h at none = record {
+abbrev pub backing_stands : (site : Ground) (words : Words) (views : List View) (j : ℕ) (v : View) → Holds site words views → At views j v → HasNoWhole v → Backing site words views j v
+backing_stands site words views j v h at none = record {
   site_is = h.site_is;
   log = h.log;
   locks = h.locks;
@@ -40,10 +40,10 @@ backing_moving site words views j v h at none = record {
 
 pub callers_keep_others : CallersKeepOthers
 callers_keep_others = record {
-  plans = λ site kind words views j v h at none may. keep_plans site words views j v (backing_moving site words views j v h at none) at kind may;
-  history = λ site kind words views j v h at none may. keep_history site words views j v (backing_moving site words views j v h at none) at kind may;
-  room = λ site kind words views j v h at none may. keep_room site words views j v (backing_moving site words views j v h at none) at kind may;
-  powered = λ site kind words views j v h at none may. keep_powered site words views j v (backing_moving site words views j v h at none) at kind may;
+  plans = λ site kind words views j v h at none may. keep_plans site words views j v (backing_stands site words views j v h at none) at kind may;
+  history = λ site kind words views j v h at none may. keep_history site words views j v (backing_stands site words views j v h at none) at kind may;
+  room = λ site kind words views j v h at none may. keep_room site words views j v (backing_stands site words views j v h at none) at kind may;
+  powered = λ site kind words views j v h at none may. keep_powered site words views j v (backing_stands site words views j v h at none) at kind may;
 }
 
 -- what nobody has whole after a step, nobody had before: no kind of a caller changes areas
@@ -59,7 +59,7 @@ watched_back site kind words views j v locks at may s q = (
 pub callers_keep_records : CallersKeepRecords
 callers_keep_records site kind words views j v h at none may =
     let back = watched_back site kind words views j v h.locks at may in
-    let b = backing_moving site words views j v h at none in
+    let b = backing_stands site words views j v h at none in
     let o = keep_owned site words views j v b at (IsWatched site words views) (IsWatched site (words_by site kind j words) (views_by site kind j v words views)) back (record { own = h.records.own }) kind may in
     let c = keep_copies site words views j v b at (IsWatched site words views) (IsWatched site (words_by site kind j words) (views_by site kind j v words views)) back
     (record { once = h.records.once; held = h.records.held }) kind may in
@@ -67,7 +67,7 @@ callers_keep_records site kind words views j v h at none may =
 
 pub callers_keep_notes_of_homes : CallersKeepNotesOfHomes
 callers_keep_notes_of_homes site kind words views j v h at none may =
-    let q = keep_overflow site words views j v (backing_moving site words views j v h at none) at (IsWatched site words views) (IsWatched site (words_by site kind j words) (views_by site kind j v words views))
+    let q = keep_overflow site words views j v (backing_stands site words views j v h at none) at (IsWatched site words views) (IsWatched site (words_by site kind j words) (views_by site kind j v words views))
     (watched_back site kind words views j v h.locks at may) (λ s watched. watched.0.live.slot)
     (record { exact = h.notes_of_homes.exact; owes = h.notes_of_homes.owes; held = h.notes_of_homes.held; fits = h.notes_of_homes.fits }) kind may in
     record { exact = q.exact; owes = q.owes; held = q.held; fits = q.fits }

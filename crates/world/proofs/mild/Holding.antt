@@ -1,4 +1,4 @@
--- Each kind of step at the structure keeps what holds while it moves: its parts, put together.
+-- Each kind of step at the structure keeps the invariant: its parts, put together.
 use Rattle.std.proofs.Common.{refl}
 use Rattle.world.specs.areas.Keeping.{KeepsHolding}
 use Rattle.world.proofs.moving.media.Whole.{structure_kept}

@@ -16,7 +16,7 @@ use Rattle.world.specs.Views.{View, Has, At}
 use Rattle.world.specs.Parts.{History, Room, Spending, Powered}
 use Rattle.world.specs.Invariant.{Holds}
 use Rattle.world.specs.areas.Areas.{Area, Side, Stale, Free, Whole, header_word}
-use Rattle.world.specs.areas.Kinds.{Guard, guard_word, StructureKind, takes, gives, finds_stale, closes, finds_free, finds_side, reads, sets, moves, settles, settles_side, opens, with_guard, with_area, is_new_side, view_then}
+use Rattle.world.specs.areas.Kinds.{Guard, guard_word, StructureKind, takes, gives, finds_stale, closes, finds_free, finds_side, reads, sets, moves, settles, settles_side, opens, with_guard, with_area, with_slot, is_new_side, view_then}
 use Rattle.world.specs.areas.Asking.{MayBeNewest, MayAt}
 use Rattle.world.specs.areas.Keeping.{found_at, words_then}
 use Rattle.world.proofs.basics.Grounds.{lock_within}
@@ -63,13 +63,17 @@ area_same : (t : Bool) (area : Area) (i x : ℕ) (v : View) → HasSame v (with_
 area_same true area i x v = plain v (with_area true area i x v) refl refl refl refl refl refl refl refl
 area_same false area i x v = plain v v refl refl refl refl refl refl refl refl
 
+slot_same : (t : Bool) (n i x : ℕ) (v : View) → HasSame v (with_slot t n i x v)
+slot_same true n i x v = area_same true (Free n) i x v
+slot_same false n i x v = plain v (with_slot false n i x v) refl refl refl refl refl refl refl refl
+
 module _ (site : Ground) (words : Words) (v : View) where
   pub same_view : (kind : StructureKind) → HasSame v (view_then site.shape kind (found_at site kind words) v)
   same_view (takes guard caller) = guard_same (eqb (words (guard_word site.shape guard)) 0) guard v
   same_view (gives guard) = plain v _ refl refl refl refl refl refl refl refl
   same_view (finds_stale s version) = area_same (not (eqb (version_in (words (header_word site.shape s))) version)) (Stale s) (header_word site.shape s) (words (header_word site.shape s)) v
   same_view (closes s i) = area_same true (Whole s) i (words i) v
-  same_view (finds_free n) = area_same (eqb (state_in (words (header_word site.shape n))) free) (Free n) (header_word site.shape n) (words (header_word site.shape n)) v
+  same_view (finds_free n) = slot_same (eqb (state_in (words (header_word site.shape n))) free) n (header_word site.shape n) (words (header_word site.shape n)) v
   same_view (finds_side p n depth pattern) = area_same (is_new_side depth pattern (words (header_word site.shape n))) (Side n) (header_word site.shape n) (words (header_word site.shape n)) v
   same_view (reads i) = plain v _ refl refl refl refl refl refl refl refl
   same_view (sets i x) = plain v _ refl refl refl refl refl refl refl refl

@@ -23,7 +23,7 @@ use Rattle.world.specs.Views.{View, Has, At}
 use Rattle.world.specs.areas.Areas.{Area, Segment, Stale, Side, Free, Whole, Allocation, Directory, header_word, InArea, is_side_at, is_whole_at}
 use Rattle.world.specs.areas.Fitting.{HasGrounds}
 use Rattle.world.specs.areas.Rows.{Row, marks, news, goes_live, finishes, unmarks, frees, renews, IsRow, HasForRow}
-use Rattle.world.specs.areas.Kinds.{Guard, of_segment, of_free_slots, of_directory, guard_word, goes_with, StructureKind, takes, gives, finds_stale, closes, finds_free, finds_side, reads, sets, moves, settles, settles_side, opens, with_guard, with_area, is_new_side, view_then}
+use Rattle.world.specs.areas.Kinds.{Guard, of_segment, of_free_slots, of_directory, guard_word, goes_with, StructureKind, takes, gives, finds_stale, closes, finds_free, finds_side, reads, sets, moves, settles, settles_side, opens, with_guard, with_area, with_slot, is_new_side, view_then}
 use Rattle.world.specs.areas.Asking.{MayBeNewest, MayStandBeside, IsInOrder, AsksForRow, MaySet, HasOpened, MayAt}
 use Rattle.world.specs.Invariant.{Holds}
 use Rattle.world.specs.areas.Keeping.{found_at, words_then}
@@ -119,8 +119,12 @@ module _ (site : Ground) (words : Words) (views : List View) (j : ℕ) (v : View
   found area i x true = behind words (with_area true area i x v) (λ n _. refl) (refl, refl, refl, refl) (λ t whole. inr whole)
   found area i x false = behind words v (λ n _. refl) (refl, refl, refl, refl) (λ t whole. whole)
 
+  found_slot : (n i x : ℕ) (t : Bool) → IsMild site words words v (with_slot t n i x v)
+  found_slot n i x true = found (Free n) i x true
+  found_slot n i x false = behind words (with_slot false n i x v) (λ k _. refl) (refl, refl, refl, refl) (λ t whole. whole)
+
   -- a guard is given back once its segment is whole no more
-  wholes_stay : (guard : Guard) → HasOpened v guard → (t : ℕ) → Has (Whole t) v.areas → goes_with guard (Whole t) ≡ false
+  wholes_stay : (guard : Guard) → HasOpened site.shape v guard → (t : ℕ) → Has (Whole t) v.areas → goes_with guard (Whole t) ≡ false
   wholes_stay (of_segment s) opened t whole = elim (cases_eq t s) [
     | inl e ↦ absurd (opened.1 (subst (λ (z : ℕ). Has (Whole z) v.areas) e whole))
     | inr n ↦ ne_eqb t s n
@@ -128,7 +132,7 @@ module _ (site : Ground) (words : Words) (views : List View) (j : ℕ) (v : View
   wholes_stay of_free_slots opened t whole = refl
   wholes_stay of_directory opened t whole = refl
 
-  given : (guard : Guard) → HasOpened v guard → IsMild site words (with_word words (guard_word site.shape guard) 0) v (view_then site.shape (gives guard) (words (guard_word site.shape guard)) v)
+  given : (guard : Guard) → HasOpened site.shape v guard → IsMild site words (with_word words (guard_word site.shape guard) 0) v (view_then site.shape (gives guard) (words (guard_word site.shape guard)) v)
   given guard opened = behind _ _ (guarded guard 0) (refl, refl, refl, refl) (λ t whole. but_after (goes_with guard) v.areas (Whole t) whole (wholes_stay guard opened t whole))
 
   module _ (now : MayBeNewest site v words) (itself : MayStandBeside site v words words) where
@@ -225,7 +229,7 @@ module _ (site : Ground) (words : Words) (views : List View) (j : ℕ) (v : View
       here : (r : Row) → IsRow site words r s x → AsksForRow site r s x v → HasLiveState x → version_in x ≡ version_of site → IsInOrder site us s ⊎ IsCurrentIn site words s
       here (marks n) q asks live e = inr (current_by (inl q.0.was) q.2 e)
       here (news p) q asks live e = absurd (elim live [ inl a ↦ omega (arith, a, q.0.becomes) | inr a ↦ omega (arith, a, q.0.becomes) ])
-      here (goes_live p) q asks live e = inl (asks.2 words now)
+      here (goes_live p) q asks live e = inl (asks.1 words now)
       here finishes q asks live e = inr (current_by (inr q.0.was) q.1 e)
       here unmarks q asks live e = inr (current_by (inr q.0.was) q.1 e)
       here (frees p) q asks live e = absurd (elim live [ inl a ↦ omega (arith, a, q.0.becomes) | inr a ↦ omega (arith, a, q.0.becomes) ])
@@ -302,7 +306,7 @@ module _ (site : Ground) (words : Words) (views : List View) (j : ℕ) (v : View
     mild_step (gives guard) may = given guard may.2
     mild_step (finds_stale s version) may = found (Stale s) (header_word site.shape s) (words (header_word site.shape s)) (not (eqb (version_in (words (header_word site.shape s))) version))
     mild_step (closes s i) may = found (Whole s) i (words i) true
-    mild_step (finds_free n) may = found (Free n) (header_word site.shape n) (words (header_word site.shape n)) (eqb (state_in (words (header_word site.shape n))) free)
+    mild_step (finds_free n) may = found_slot n (header_word site.shape n) (words (header_word site.shape n)) (eqb (state_in (words (header_word site.shape n))) free)
     mild_step (finds_side p n depth pattern) may = found (Side n) (header_word site.shape n) (words (header_word site.shape n)) (is_new_side depth pattern (words (header_word site.shape n)))
     mild_step (reads i) may = behind words _ (λ n _. refl) (refl, refl, refl, refl) (λ t whole. whole)
     mild_step (sets i x) may = set i x may

@@ -1,4 +1,4 @@
--- Known words are the newest, and known and loose words are held by their view, at each kind of step of a caller while the structure moves.
+-- Known words are the newest, and known and loose words are held by their view, at each kind of step of a caller.
 use Rattle.std.proofs.Common.{◌≡◌, ℕ, ◌+◌, ◌%◌, ◌^◌, ◌≤◌, List, ◌∷◌, set, cond, eqb, Bool, true, false, Option, None, Some, inl, inr, refl, sym, ap, ◌∙◌, subst, arith}
 use Rattle.std.specs.Prelude.{nat_lt}
 use Rattle.trace.specs.Events.{Words, with_word, after}

@@ -19,7 +19,7 @@ use Rattle.world.specs.areas.Fitting.{Fits, HasGrounds}
 use Rattle.world.specs.areas.Rows.{Row, IsRowIn, areas_by, HasStored}
 use Rattle.world.specs.areas.Spared.{HasFenced, LooseIsHeld, AreaChange, stays, adds, leaves, gives_segment, gives_allocation, gives_directory, areas_after, MayAdd, IsNotSplit, AreasMayChange, SparesAreas}
 use Rattle.world.specs.areas.Lasting.{Owners, Lasting, AreSoundMedia, GivesUp}
-use Rattle.world.specs.areas.Kinds.{Guard, of_segment, of_free_slots, of_directory, guard_word, area_of, goes_with, takes, gives, finds_stale, closes, finds_free, finds_side, reads, sets, moves, settles, settles_side, opens, with_guard, with_area, is_new_side}
+use Rattle.world.specs.areas.Kinds.{Guard, of_segment, of_free_slots, of_directory, guard_word, area_of, goes_with, takes, gives, finds_stale, closes, finds_free, finds_side, reads, sets, moves, settles, settles_side, opens, with_guard, with_area, with_slot, is_new_side}
 use Rattle.world.specs.areas.Asking.{KnowsDead, MayAt}
 use Rattle.world.specs.Invariant.{Holds}
 use Rattle.world.specs.areas.Keeping.{whole_beside, KeepsAreas}
@@ -129,6 +129,10 @@ module _ (site : Ground) (words : Words) (views : List View) (j : ℕ) (v : View
   found true area i x may = loaded_fit (with_area true area i x v) (adds area) refl refl refl refl (may refl)
   found false area i x may = idle
 
+  found_slot : (t : Bool) (n i x : ℕ) → (t ≡ true → MayAdd site words views (Free n) v) → AllFit words (with_slot t n i x v)
+  found_slot true n i x may = found true (Free n) i x may
+  found_slot false n i x may = loaded_fit (with_slot false n i x v) stays refl refl refl refl tt
+
   new_side : (p n depth pattern : ℕ) → MayAt site (finds_side p n depth pattern) v → is_new_side depth pattern (words (header_word site.shape n)) ≡ true → MayAdd site words views (Side n) v
   new_side p n depth pattern may is =
       let head = words (header_word site.shape n) in
@@ -237,7 +241,7 @@ keep_areas site (finds_stale s version) words views j v h at may =
     (λ e. (may.0, λ z. not_same (version_in (words (header_word site.shape s))) version e (z ∙ sym may.1)))
 keep_areas site (closes s i) words views j v h at may = found site words views j v h at true (Whole s) i (words i) (λ e. (may.0, may.1))
 keep_areas site (finds_free n) words views j v h at may =
-    found site words views j v h at (eqb (state_in (words (header_word site.shape n))) free) (Free n) (header_word site.shape n) (words (header_word site.shape n))
+    found_slot site words views j v h at (eqb (state_in (words (header_word site.shape n))) free) n (header_word site.shape n) (words (header_word site.shape n))
     (λ e. (may.0, may.1, eqb-true (state_in (words (header_word site.shape n))) free e))
 keep_areas site (finds_side p n depth pattern) words views j v h at may =
     found site words views j v h at (is_new_side depth pattern (words (header_word site.shape n))) (Side n) (header_word site.shape n) (words (header_word site.shape n))

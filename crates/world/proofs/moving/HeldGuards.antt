@@ -10,8 +10,8 @@ use Rattle.image_layout.specs.Places.{Shape, words_of}
 use Rattle.image_layout.specs.Volatile.{all_words_of}
 use Rattle.world.specs.Ground.{Ground}
 use Rattle.world.specs.Views.{View, Has, At}
-use Rattle.world.specs.areas.Areas.{Area, Stale, Side, Free, Whole, header_word, is_side_at, is_stale_at, is_whole_at}
-use Rattle.world.specs.areas.Kinds.{Guard, of_segment, of_free_slots, of_directory, guard_word, HasGuard, area_of, goes_with, StructureKind, takes, gives, finds_stale, closes, finds_free, finds_side, reads, sets, moves, settles, settles_side, opens, with_guard, with_area, is_new_side}
+use Rattle.world.specs.areas.Areas.{Area, Stale, Side, Whole, header_word, is_side_at, is_stale_at, is_whole_at}
+use Rattle.world.specs.areas.Kinds.{Guard, of_segment, of_free_slots, of_directory, guard_word, HasGuard, area_of, goes_with, StructureKind, takes, gives, finds_stale, closes, finds_free, finds_side, reads, sets, moves, settles, settles_side, opens, with_guard, with_area, with_slot, is_new_side}
 use Rattle.world.specs.areas.Asking.{MayAt}
 use Rattle.world.specs.areas.Keeping.{words_then, views_then, KeepsHeldGuards}
 use Rattle.world.proofs.basics.Lists.{set_here}
@@ -106,6 +106,10 @@ found_more : (v : View) (t : Bool) (area : Area) (i x : ℕ) → KeepsItsGuards 
 found_more v true area i x guard has = inr has
 found_more v false area i x guard has = has
 
+slot_more : (v : View) (t : Bool) (n i x : ℕ) → KeepsItsGuards v (with_slot t n i x v)
+slot_more v true n i x guard has = inr has
+slot_more v false n i x guard has = has
+
 module _ (site : Ground) (words : Words) (views : List View) (j : ℕ) (v : View) (at : At views j v) (held : AreHeld site words views) where
   -- who had a guard has it after a step whose view keeps it
   still_held : (w : View) (guard : Guard) → HasGuard site.shape guard → words (guard_word site.shape guard) ≢ 0 → (Has (area_of guard) v.areas → Has (area_of guard) w.areas)
@@ -159,7 +163,7 @@ keep_held_guards site kind words views j v h at may = by kind may
         (found_more v (not (eqb (version_in (words (header_word site.shape s))) version)) (Stale s) (header_word site.shape s) (words (header_word site.shape s)))
     by (closes s i) may = held_same site words views j v at held words _ (λ guard. refl) (found_more v true (Whole s) i (words i))
     by (finds_free m) may = held_same site words views j v at held words _ (λ guard. refl)
-        (found_more v (eqb (state_in (words (header_word site.shape m))) free) (Free m) (header_word site.shape m) (words (header_word site.shape m)))
+        (slot_more v (eqb (state_in (words (header_word site.shape m))) free) m (header_word site.shape m) (words (header_word site.shape m)))
     by (finds_side p m depth pattern) may = held_same site words views j v at held words _ (λ guard. refl)
         (found_more v (is_new_side depth pattern (words (header_word site.shape m))) (Side m) (header_word site.shape m) (words (header_word site.shape m)))
     by (reads i) may = held_same site words views j v at held words _ (λ guard. refl) (λ guard has. has)

@@ -7,17 +7,17 @@ use Rattle.trace.specs.Events.Event.{loaded, exchanged}
 use Rattle.trace.proofs.Replaced.{replaced_other}
 use Rattle.segment_head.specs.HeadWord.{version_in, state_in, free}
 use Rattle.image_layout.specs.Places.{Shape, words_of, bucket_at, buckets}
-use Rattle.frame_facts.specs.Facts.{Fact, Lives, Current, Rooted, Owns, Lacks, Deep, Begins, Used}
+use Rattle.frame_facts.specs.Facts.{Fact, Lives, Current, Rooted, Owns, Lacks, Deep, Begins, Used, Taken}
 use Rattle.world.specs.Ground.{Ground, IsCurrentIn}
 use Rattle.world.specs.Views.{View, Has, At, HasLock}
 use Rattle.world.specs.Kinds.{without}
 use Rattle.world.specs.Parts.{IsPinned}
 use Rattle.world.specs.Invariant.{Holds}
-use Rattle.world.specs.areas.Areas.{Area, Segment, Stale, Side, Free, Whole, Allocation, Directory, header_word, is_side_at, is_whole_at, is_of_allocation, all_but}
+use Rattle.world.specs.areas.Areas.{Area, Segment, Stale, Side, Free, Whole, Allocation, Directory, header_word, is_side_at, is_whole_at, all_but}
 use Rattle.world.specs.areas.Rows.{Row, marks, news, goes_live, finishes, unmarks, frees, renews, IsRow, HasForRow, areas_by}
 use Rattle.world.specs.areas.Guarding.{IsGuardOf, Guards}
 use Rattle.world.specs.areas.Saying.{MaySay}
-use Rattle.world.specs.areas.Kinds.{Guard, of_segment, of_free_slots, of_directory, guard_word, area_of, goes_with, StructureKind, takes, gives, finds_stale, closes, finds_free, finds_side, reads, sets, moves, settles, settles_side, opens, with_guard, with_area, is_new_side, is_claim, facts_without, facts_by, is_claim_of, view_then}
+use Rattle.world.specs.areas.Kinds.{Guard, of_segment, of_free_slots, of_directory, guard_word, area_of, goes_with, StructureKind, takes, gives, finds_stale, closes, finds_free, finds_side, reads, sets, moves, settles, settles_side, opens, with_guard, with_area, with_slot, is_new_side, is_claim, is_taken, is_taken_at, facts_without, facts_by, is_claim_of, view_then}
 use Rattle.world.specs.areas.Asking.{MayAt}
 use Rattle.world.specs.areas.Keeping.{words_then, views_then, KeepsGuards, KeepsSayers, KeepsPins}
 use Rattle.world.proofs.basics.Lists.{has_joined}
@@ -97,6 +97,10 @@ module _ (site : Ground) (words : Words) (views : List View) (j : ℕ) (v : View
   found_less true area i x none a n has is = elim has [ inl e ↦ absurd (none n (subst (λ z. IsGuardOf site.shape z n) e is)) | inr old ↦ old ]
   found_less false area i x none a n has is = has
 
+  slot_less : (t : Bool) (m i x : ℕ) → NoMore (with_slot t m i x v)
+  slot_less true m i x = found_less true (Free m) i x (λ n k. k)
+  slot_less false m i x = λ a n has is. has
+
   taken : (guard : Guard) (caller : ℕ) → caller ≢ 0 → (t : Bool)
       → Guards site (after (cond t (exchanged j (guard_word site.shape guard) caller) (loaded j (guard_word site.shape guard))) words) (set views j (with_guard t guard v))
   taken guard caller some true = taken_guards site words views j v (with_guard true guard v) (area_of guard) (guard_word site.shape guard) caller at was (is_guard site.shape guard) some refl
@@ -134,59 +138,85 @@ module _ (site : Ground) (words : Words) (views : List View) (j : ℕ) (v : View
   says_all : (w : View) → ((fact : Fact) → Has fact w.facts → MaySay w.areas fact) → AllMaySay w
   says_all w mine c u fact a = each views j v w at (λ c u. Has fact u.facts → MaySay u.areas fact) (mine fact) (λ c u ne a has. h.structure.may_say c u fact a has) c u a
 
-  -- areas that have the guards that others have
-  may_after : (areas : List Area) → ((s : ℕ) → Has (Segment s) v.areas → Has (Segment s) areas) → (Has Directory v.areas → Has Directory areas) → (fact : Fact) → MaySay v.areas fact → MaySay areas fact
-  may_after areas segments directory (Owns s d p) m = elim m [ inl a ↦ inl (segments s a) | inr a ↦ inr (directory a) ]
-  may_after areas segments directory (Lives s) m = tt
-  may_after areas segments directory (Current s) m = tt
-  may_after areas segments directory (Rooted e) m = tt
-  may_after areas segments directory (Lacks s d p) m = tt
-  may_after areas segments directory (Deep f d p) m = tt
-  may_after areas segments directory (Begins s k) m = tt
-  may_after areas segments directory (Used n) m = tt
+  -- areas have a guard that those of the view have
+  abbrev Keeps : List Area → Area → Type 0
+  Keeps areas guard = Has guard v.areas → Has guard areas
 
-  same_says : (w : View) → ((fact : Fact) → Has fact w.facts → Has fact v.facts) → ((s : ℕ) → Has (Segment s) v.areas → Has (Segment s) w.areas) → (Has Directory v.areas → Has Directory w.areas)
-      → AllMaySay w
-  same_says w facts segments directory = says_all w (λ fact has. may_after w.areas segments directory fact (h.structure.may_say j v fact at (facts fact has)))
+  -- areas that have the guards that others have
+  may_after : (areas : List Area) → ((s : ℕ) → Keeps areas (Segment s)) → Keeps areas Directory → Keeps areas Allocation → (fact : Fact) → MaySay v.areas fact → MaySay areas fact
+  may_after areas segments directory allocation (Owns s d p) m = elim m [ inl a ↦ inl (segments s a) | inr a ↦ inr (directory a) ]
+  may_after areas segments directory allocation (Lives s) m = tt
+  may_after areas segments directory allocation (Current s) m = tt
+  may_after areas segments directory allocation (Rooted e) m = tt
+  may_after areas segments directory allocation (Lacks s d p) m = tt
+  may_after areas segments directory allocation (Deep f d p) m = tt
+  may_after areas segments directory allocation (Begins s k) m = tt
+  may_after areas segments directory allocation (Used n) m = tt
+  may_after areas segments directory allocation (Taken n) m = allocation m
+
+  same_says : (w : View) → ((fact : Fact) → Has fact w.facts → Has fact v.facts) → ((s : ℕ) → Keeps w.areas (Segment s)) → Keeps w.areas Directory → Keeps w.areas Allocation → AllMaySay w
+  same_says w facts segments directory allocation = says_all w (λ fact has. may_after w.areas segments directory allocation fact (h.structure.may_say j v fact at (facts fact has)))
 
   found_says : (t : Bool) (area : Area) (i x : ℕ) → AllMaySay (with_area t area i x v)
-  found_says true area i x = same_says (with_area true area i x v) (λ fact has. has) (λ s a. inr a) (λ a. inr a)
-  found_says false area i x = same_says v (λ fact has. has) (λ s a. a) (λ a. a)
+  found_says true area i x = same_says (with_area true area i x v) (λ fact has. has) (λ s a. inr a) (λ a. inr a) (λ a. inr a)
+  found_says false area i x = same_says v (λ fact has. has) (λ s a. a) (λ a. a) (λ a. a)
+
+  slot_says : (t : Bool) (m i x : ℕ) → Has Allocation v.areas → AllMaySay (with_slot t m i x v)
+  slot_says true m i x guard = found_says true (Free m) i x
+  slot_says false m i x guard = says_all (with_slot false m i x v) (λ fact has. elim has [ inl e ↦ subst (MaySay v.areas) (sym e) guard | inr old ↦ h.structure.may_say j v fact at old ])
 
   taken_says : (t : Bool) (guard : Guard) → AllMaySay (with_guard t guard v)
-  taken_says true guard = same_says (with_guard true guard v) (λ fact has. has) (λ s a. inr a) (λ a. inr a)
-  taken_says false guard = same_says v (λ fact has. has) (λ s a. a) (λ a. a)
+  taken_says true guard = same_says (with_guard true guard v) (λ fact has. has) (λ s a. inr a) (λ a. inr a) (λ a. inr a)
+  taken_says false guard = same_says v (λ fact has. has) (λ s a. a) (λ a. a) (λ a. a)
 
-  -- without claims, whatever the areas
-  no_claims : (areas : List Area) (fact : Fact) → Has fact (facts_without (of_segment 0) v.facts) → MaySay areas fact
-  no_claims areas (Owns s d p) has = absurd (no_false (filtered_has (λ k. not (is_claim k)) v.facts (Owns s d p) has).1)
-  no_claims areas (Lives s) has = tt
-  no_claims areas (Current s) has = tt
-  no_claims areas (Rooted e) has = tt
-  no_claims areas (Lacks s d p) has = tt
-  no_claims areas (Deep f d p) has = tt
-  no_claims areas (Begins s k) has = tt
-  no_claims areas (Used n) has = tt
+  -- without claims, where the guard of free slots is kept
+  no_claims : (areas : List Area) → Keeps areas Allocation → (fact : Fact) → Has fact (facts_without (of_segment 0) v.facts) → MaySay areas fact
+  no_claims areas allocation (Owns s d p) has = absurd (no_false (filtered_has (λ k. not (is_claim k)) v.facts (Owns s d p) has).1)
+  no_claims areas allocation (Lives s) has = tt
+  no_claims areas allocation (Current s) has = tt
+  no_claims areas allocation (Rooted e) has = tt
+  no_claims areas allocation (Lacks s d p) has = tt
+  no_claims areas allocation (Deep f d p) has = tt
+  no_claims areas allocation (Begins s k) has = tt
+  no_claims areas allocation (Used n) has = tt
+  no_claims areas allocation (Taken n) has = allocation (h.structure.may_say j v (Taken n) at (filtered_has (λ k. not (is_claim k)) v.facts (Taken n) has).0)
+
+  -- without taken slots, where the other guards are kept
+  no_taken : (areas : List Area) → ((s : ℕ) → Keeps areas (Segment s)) → Keeps areas Directory → (fact : Fact) → Has fact (facts_without of_free_slots v.facts) → MaySay areas fact
+  no_taken areas segments directory (Owns s d p) has =
+      elim (h.structure.may_say j v (Owns s d p) at (filtered_has (λ k. not (is_taken k)) v.facts (Owns s d p) has).0) [ inl a ↦ inl (segments s a) | inr a ↦ inr (directory a) ]
+  no_taken areas segments directory (Lives s) has = tt
+  no_taken areas segments directory (Current s) has = tt
+  no_taken areas segments directory (Rooted e) has = tt
+  no_taken areas segments directory (Lacks s d p) has = tt
+  no_taken areas segments directory (Deep f d p) has = tt
+  no_taken areas segments directory (Begins s k) has = tt
+  no_taken areas segments directory (Used n) has = tt
+  no_taken areas segments directory (Taken n) has = absurd (no_false (filtered_has (λ k. not (is_taken k)) v.facts (Taken n) has).1)
+
+  -- a guard is kept that does not go with the one that is given back
+  given_keeps : (guard : Guard) (w : View) → w.areas ≡ all_but (goes_with guard) v.areas → (other : Area) → goes_with guard other ≡ false → Keeps w.areas other
+  given_keeps guard w a other apart k = subst (Has other) (sym a) (but_after (goes_with guard) v.areas other k apart)
 
   given_says : (guard : Guard) (w : View) → w.facts ≡ facts_without guard v.facts → w.areas ≡ all_but (goes_with guard) v.areas → AllMaySay w
-  given_says (of_segment s) w e a = says_all w (λ fact has. no_claims w.areas fact (subst (Has fact) e has))
-  given_says of_directory w e a = says_all w (λ fact has. no_claims w.areas fact (subst (Has fact) e has))
-  given_says of_free_slots w e a = same_says w (λ fact has. subst (Has fact) e has) (λ s k. subst (Has (Segment s)) (sym a) (but_after is_of_allocation v.areas (Segment s) k refl))
-      (λ k. subst (Has Directory) (sym a) (but_after is_of_allocation v.areas Directory k refl))
+  given_says (of_segment s) w e a = says_all w (λ fact has. no_claims w.areas (given_keeps (of_segment s) w a Allocation refl) fact (subst (Has fact) e has))
+  given_says of_directory w e a = says_all w (λ fact has. no_claims w.areas (given_keeps of_directory w a Allocation refl) fact (subst (Has fact) e has))
+  given_says of_free_slots w e a = says_all w (λ fact has. no_taken w.areas (λ s. given_keeps of_free_slots w a (Segment s) refl) (given_keeps of_free_slots w a Directory refl) fact (subst (Has fact) e has))
 
   -- a row forgets some facts
-  row_facts : (row : Row) (fact : Fact) → Has fact (facts_by row v.facts) → Has fact v.facts
-  row_facts (goes_live p) fact has = (filtered_has (λ k. not (is_claim_of p k)) v.facts fact has).0
-  row_facts (marks n) fact has = has
-  row_facts (news p) fact has = has
-  row_facts finishes fact has = has
-  row_facts unmarks fact has = has
-  row_facts (frees p) fact has = has
-  row_facts renews fact has = has
+  row_facts : (row : Row) (s : ℕ) (fact : Fact) → Has fact (facts_by row s v.facts) → Has fact v.facts
+  row_facts (goes_live p) s fact has = (filtered_has (λ k. not (is_claim_of p k)) v.facts fact has).0
+  row_facts (marks n) s fact has = has
+  row_facts (news p) s fact has = has
+  row_facts finishes s fact has = has
+  row_facts unmarks s fact has = has
+  row_facts (frees p) s fact has = (filtered_has (λ k. not (is_taken_at s k)) v.facts fact has).0
+  row_facts renews s fact has = has
 
-  row_says : (row : Row) (s : ℕ) (w : View) → w.facts ≡ facts_by row v.facts → w.areas ≡ areas_by row s v.areas → AllMaySay w
-  row_says row s w e a = same_says w (λ fact has. row_facts row fact (subst (Has fact) e has))
+  row_says : (row : Row) (s : ℕ) (w : View) → w.facts ≡ facts_by row s v.facts → w.areas ≡ areas_by row s v.areas → AllMaySay w
+  row_says row s w e a = same_says w (λ fact has. row_facts row s fact (subst (Has fact) e has))
       (λ t k. subst (Has (Segment t)) (sym a) (row_after row s (Segment t) v.areas refl refl k)) (λ k. subst (Has Directory) (sym a) (row_after row s Directory v.areas refl refl k))
+      (λ k. subst (Has Allocation) (sym a) (row_after row s Allocation v.areas refl refl k))
 
   settled_says : (facts : List Fact) (w : View) → ((fact : Fact) → Has fact facts → MaySay v.areas fact) → w.facts ≡ facts ++ v.facts → w.areas ≡ v.areas → AllMaySay w
   settled_says facts w may e a = says_all w (λ fact has. subst (λ z. MaySay z fact) (sym a) (elim (has_joined facts v.facts fact (subst (Has fact) e has)) [
@@ -198,12 +228,13 @@ module _ (site : Ground) (words : Words) (views : List View) (j : ℕ) (v : View
   side_says n depth pattern w guard e a = says_all w (λ fact has. elim (subst (Has fact) e has) [
     | inl new ↦ subst (MaySay w.areas) (sym new) (inr (subst (Has Directory) (sym a) (but_after (is_side_at n) v.areas Directory guard refl)))
     | inr old ↦ may_after w.areas (λ s k. subst (Has (Segment s)) (sym a) (but_after (is_side_at n) v.areas (Segment s) k refl))
-        (λ k. subst (Has Directory) (sym a) (but_after (is_side_at n) v.areas Directory k refl)) fact (h.structure.may_say j v fact at old)
+        (λ k. subst (Has Directory) (sym a) (but_after (is_side_at n) v.areas Directory k refl)) (λ k. subst (Has Allocation) (sym a) (but_after (is_side_at n) v.areas Allocation k refl))
+        fact (h.structure.may_say j v fact at old)
   ])
 
   opened_says : (s : ℕ) (w : View) → w.facts ≡ v.facts → w.areas ≡ all_but (is_whole_at s) v.areas → AllMaySay w
   opened_says s w e a = same_says w (λ fact has. subst (Has fact) e has) (λ t k. subst (Has (Segment t)) (sym a) (but_after (is_whole_at s) v.areas (Segment t) k refl))
-      (λ k. subst (Has Directory) (sym a) (but_after (is_whole_at s) v.areas Directory k refl))
+      (λ k. subst (Has Directory) (sym a) (but_after (is_whole_at s) v.areas Directory k refl)) (λ k. subst (Has Allocation) (sym a) (but_after (is_whole_at s) v.areas Allocation k refl))
 
   -- ---- pinned headers
   abbrev AllPinned : Words → View → Type 0
@@ -230,6 +261,10 @@ module _ (site : Ground) (words : Words) (views : List View) (j : ℕ) (v : View
   found_pins : (t : Bool) (area : Area) (i x : ℕ) → AllPinned words (with_area t area i x v)
   found_pins true area i x = loaded_pins (with_area true area i x v) refl refl
   found_pins false area i x = loaded_pins v refl refl
+
+  slot_pins : (t : Bool) (m i x : ℕ) → AllPinned words (with_slot t m i x v)
+  slot_pins true m i x = found_pins true (Free m) i x
+  slot_pins false m i x = loaded_pins (with_slot false m i x v) refl refl
 
   no_guard_head : (guard : Guard) (s : ℕ) → s < site.shape.segments → guard_word site.shape guard ≢ header_word site.shape s
   no_guard_head guard s slot e = omega (arith, e, head_near site s slot, guard_behind site.shape guard)
@@ -301,7 +336,7 @@ keep_guards site kind words views j v h at may = by_guards site (words_then site
         (found_less site words views j v h at (not (eqb (version_in (words (header_word site.shape s))) version)) (Stale s) (header_word site.shape s) (words (header_word site.shape s)) (λ n k. k))
     by (closes s i) may = same_guards site words views j v h at _ (found_less site words views j v h at true (Whole s) i (words i) (λ n k. k))
     by (finds_free m) may = same_guards site words views j v h at _
-        (found_less site words views j v h at (eqb (state_in (words (header_word site.shape m))) free) (Free m) (header_word site.shape m) (words (header_word site.shape m)) (λ n k. k))
+        (slot_less site words views j v h at (eqb (state_in (words (header_word site.shape m))) free) m (header_word site.shape m) (words (header_word site.shape m)))
     by (finds_side p m depth pattern) may = same_guards site words views j v h at _
         (found_less site words views j v h at (is_new_side depth pattern (words (header_word site.shape m))) (Side m) (header_word site.shape m) (words (header_word site.shape m)) (λ n k. k))
     by (reads i) may = same_guards site words views j v h at _ (λ a n has is. has)
@@ -321,11 +356,11 @@ keep_sayers site (finds_stale s version) words views j v h at may =
     found_says site words views j v h at (not (eqb (version_in (words (header_word site.shape s))) version)) (Stale s) (header_word site.shape s) (words (header_word site.shape s))
 keep_sayers site (closes s i) words views j v h at may = found_says site words views j v h at true (Whole s) i (words i)
 keep_sayers site (finds_free m) words views j v h at may =
-    found_says site words views j v h at (eqb (state_in (words (header_word site.shape m))) free) (Free m) (header_word site.shape m) (words (header_word site.shape m))
+    slot_says site words views j v h at (eqb (state_in (words (header_word site.shape m))) free) m (header_word site.shape m) (words (header_word site.shape m)) may.0
 keep_sayers site (finds_side p m depth pattern) words views j v h at may =
     found_says site words views j v h at (is_new_side depth pattern (words (header_word site.shape m))) (Side m) (header_word site.shape m) (words (header_word site.shape m))
-keep_sayers site (reads i) words views j v h at may = same_says site words views j v h at _ (λ fact has. has) (λ s a. a) (λ a. a)
-keep_sayers site (sets i x) words views j v h at may = same_says site words views j v h at _ (λ fact has. has) (λ s a. a) (λ a. a)
+keep_sayers site (reads i) words views j v h at may = same_says site words views j v h at _ (λ fact has. has) (λ s a. a) (λ a. a) (λ a. a)
+keep_sayers site (sets i x) words views j v h at may = same_says site words views j v h at _ (λ fact has. has) (λ s a. a) (λ a. a) (λ a. a)
 keep_sayers site (moves row s x) words views j v h at may = row_says site words views j v h at row s _ refl refl
 keep_sayers site (settles facts) words views j v h at may = settled_says site words views j v h at facts _ (λ fact has. (may.1 fact has).0) refl refl
 keep_sayers site (settles_side m depth pattern) words views j v h at may = side_says site words views j v h at m depth pattern _ may.1 refl refl
@@ -338,7 +373,7 @@ keep_pins site (finds_stale s version) words views j v h at may =
     found_pins site words views j v h at (not (eqb (version_in (words (header_word site.shape s))) version)) (Stale s) (header_word site.shape s) (words (header_word site.shape s))
 keep_pins site (closes s i) words views j v h at may = found_pins site words views j v h at true (Whole s) i (words i)
 keep_pins site (finds_free m) words views j v h at may =
-    found_pins site words views j v h at (eqb (state_in (words (header_word site.shape m))) free) (Free m) (header_word site.shape m) (words (header_word site.shape m))
+    slot_pins site words views j v h at (eqb (state_in (words (header_word site.shape m))) free) m (header_word site.shape m) (words (header_word site.shape m))
 keep_pins site (finds_side p m depth pattern) words views j v h at may =
     found_pins site words views j v h at (is_new_side depth pattern (words (header_word site.shape m))) (Side m) (header_word site.shape m) (words (header_word site.shape m))
 keep_pins site (reads i) words views j v h at may = loaded_pins site words views j v h at _ refl refl

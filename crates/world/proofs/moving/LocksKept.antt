@@ -15,10 +15,10 @@ use Rattle.world.specs.Ground.{Ground, IsLockWord, IsCurrentIn, IsCurrentLock}
 use Rattle.world.specs.Views.{View, Has, At, HasLock}
 use Rattle.world.specs.Parts.{Locks}
 use Rattle.world.specs.Invariant.{Holds}
-use Rattle.world.specs.areas.Areas.{Area, Stale, Side, Free, header_word}
+use Rattle.world.specs.areas.Areas.{Area, Stale, Side, header_word}
 use Rattle.world.specs.areas.Fitting.{HoldsWord, IsLivingLock}
 use Rattle.world.specs.areas.Rows.{Row, marks, news, goes_live, finishes, unmarks, frees, renews, IsRow}
-use Rattle.world.specs.areas.Kinds.{Guard, guard_word, StructureKind, takes, gives, finds_stale, closes, finds_free, finds_side, reads, sets, moves, settles, settles_side, opens, with_guard, with_area, is_new_side}
+use Rattle.world.specs.areas.Kinds.{Guard, guard_word, StructureKind, takes, gives, finds_stale, closes, finds_free, finds_side, reads, sets, moves, settles, settles_side, opens, with_guard, with_area, with_slot, is_new_side}
 use Rattle.world.specs.areas.Asking.{KnowsFree, MaySet, AsksForRow, MayAt}
 use Rattle.world.specs.areas.Keeping.{words_then, views_then, KeepsLocks}
 use Rattle.world.proofs.basics.Grounds.{lock_within}
@@ -54,6 +54,10 @@ guard_held false guard v = refl
 area_held : (t : Bool) (a : Area) (i x : ℕ) (v : View) → (with_area t a i x v).held ≡ v.held
 area_held true a i x v = refl
 area_held false a i x v = refl
+
+slot_held : (t : Bool) (n i x : ℕ) (v : View) → (with_slot t n i x v).held ≡ v.held
+slot_held true n i x v = refl
+slot_held false n i x v = refl
 
 module _ (site : Ground) (words : Words) (views : List View) (j : ℕ) (v : View) (h : Holds site words views) (at : At views j v) where
   abbrev shape : Shape
@@ -152,7 +156,7 @@ module _ (site : Ground) (words : Words) (views : List View) (j : ℕ) (v : View
         by_row : (row : Row) → IsRow site words row s x → AsksForRow site row s x v → IsCurrentIn site words s
         by_row (marks n) q ask = was_live (inl q.0.was) q.2 c
         by_row (news p) q ask = absurd (let e = q.0.becomes in elim (live_now c) [ inl a ↦ omega (arith, a, e) | inr a ↦ omega (arith, a, e) ])
-        by_row (goes_live p) q ask = absurd (no_odd ask.1 b near odd k)
+        by_row (goes_live p) q ask = absurd (no_odd ask.0 b near odd k)
         by_row finishes q ask = was_live (inr q.0.was) q.1 c
         by_row unmarks q ask = was_live (inr q.0.was) q.1 c
         by_row (frees p) q ask = absurd (let e = q.0.becomes in elim (live_now c) [ inl a ↦ omega (arith, a, e) | inr a ↦ omega (arith, a, e) ])
@@ -191,7 +195,7 @@ module _ (site : Ground) (words : Words) (views : List View) (j : ℕ) (v : View
   keep (gives guard) may = guarded guard 0 _ refl
   keep (finds_stale s version) may = calm _ (area_held (not (version_in (words (header_word shape s)) == version)) (Stale s) (header_word shape s) (words (header_word shape s)) v)
   keep (closes s i) may = calm _ refl
-  keep (finds_free n) may = calm _ (area_held (state_in (words (header_word shape n)) == 0) (Free n) (header_word shape n) (words (header_word shape n)) v)
+  keep (finds_free n) may = calm _ (slot_held (state_in (words (header_word shape n)) == 0) n (header_word shape n) (words (header_word shape n)) v)
   keep (finds_side p n depth pattern) may = calm _ (area_held (is_new_side depth pattern (words (header_word shape n))) (Side n) (header_word shape n) (words (header_word shape n)) v)
   keep (reads i) may = calm _ refl
   keep (sets i x) may = set_locks i x may _ refl

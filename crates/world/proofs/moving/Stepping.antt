@@ -13,7 +13,7 @@ use Rattle.world.specs.Views.{View, Has, At, IsLoose}
 use Rattle.world.specs.Media.{IsPossible}
 use Rattle.world.specs.areas.Areas.{Area}
 use Rattle.world.specs.areas.Rows.{HasStored}
-use Rattle.world.specs.areas.Kinds.{Guard, of_segment, of_free_slots, of_directory, guard_word, with_area}
+use Rattle.world.specs.areas.Kinds.{Guard, of_segment, of_free_slots, of_directory, guard_word, with_area, with_slot}
 use Rattle.world.specs.areas.Keeping.{whole_beside}
 use Rattle.world.proofs.basics.Structures.{front_is}
 use Rattle.world.proofs.basics.Tables.{core_structure_same, cores_with}
@@ -62,6 +62,10 @@ guard_still site words v w guard x less = record { cores = λ n near. guard_core
 pub found_less : (t : Bool) (area : Area) (i x : ℕ) (v : View) (p : ℕ × ℕ) → IsLoose (with_area t area i x v) p → IsLoose v p
 found_less true area i x v p l = l
 found_less false area i x v p l = l
+
+pub slot_less : (t : Bool) (n i x : ℕ) (v : View) (p : ℕ × ℕ) → IsLoose (with_slot t n i x v) p → IsLoose v p
+slot_less true n i x v p l = l
+slot_less false n i x v p l = l
 
 -- what is loose once all that was flushed is settled was loose
 pub fenced_less : (v w : View) → w.dirty ≡ v.dirty → ((p : ℕ × ℕ) → Has p w.flushed → ⊥) → (p : ℕ × ℕ) → IsLoose w p → IsLoose v p

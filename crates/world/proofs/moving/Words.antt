@@ -15,7 +15,7 @@ use Rattle.world.specs.Kinds.{without, loosened}
 use Rattle.world.specs.areas.Areas.{Area, Segment, Stale, Side, Free, Whole, header_word, InArea, is_side_at, is_stale_at, is_whole_at, all_but}
 use Rattle.world.specs.areas.Fitting.{HoldsWord, LivesOn}
 use Rattle.world.specs.areas.Rows.{Row, marks, news, goes_live, finishes, unmarks, frees, renews, HasForRow, areas_by}
-use Rattle.world.specs.areas.Kinds.{Guard, of_segment, of_free_slots, of_directory, guard_word, area_of, goes_with, StructureKind, takes, gives, finds_stale, closes, finds_free, finds_side, reads, sets, moves, settles, settles_side, opens, with_guard, with_area, is_new_side, known_without, out_of_slot, view_then}
+use Rattle.world.specs.areas.Kinds.{Guard, of_segment, of_free_slots, of_directory, guard_word, area_of, goes_with, StructureKind, takes, gives, finds_stale, closes, finds_free, finds_side, reads, sets, moves, settles, settles_side, opens, with_guard, with_area, with_slot, is_new_side, known_without, out_of_slot, view_then}
 use Rattle.world.specs.areas.Asking.{IsOf, MayAt, AsksForRow}
 use Rattle.world.specs.Invariant.{KnownWords, Holds}
 use Rattle.world.specs.areas.Keeping.{words_then, views_then, KeepsHeldWords}
@@ -121,6 +121,10 @@ module _ (site : Ground) (words : Words) (views : List View) (j : ℕ) (v : View
     (λ n y q. holds_more shape n v.held v.areas (a ∷ v.areas) (λ b z. inr z) (mine.1 n y q)),
   )
   found false a i holds = mine
+
+  found_slot : (t : Bool) (m : ℕ) → HasWords shape words (with_slot t m (header_word shape m) (words (header_word shape m)) v)
+  found_slot true m = found true (Free m) (header_word shape m) (inr (Free m, inl refl, head_in_slot shape m))
+  found_slot false m = mine
 
   -- ---- a held word is stored
   stored_by : (i x : ℕ) (w : View) → HoldsWord shape v i → HoldsWord shape w i
@@ -254,8 +258,8 @@ module _ (site : Ground) (words : Words) (views : List View) (j : ℕ) (v : View
   keep (takes guard c) may = taken guard c (eqb (words (guard_word shape guard)) 0)
   keep (gives guard) may = given guard may.1
   keep (finds_stale s version) may = calm _ (found (not (version_in (words (header_word shape s)) == version)) (Stale s) (header_word shape s) (inr (Stale s, inl refl, head_in_slot shape s)))
-  keep (closes s i) may = calm _ (found true (Whole s) i (holds_more shape i v.held v.areas (Whole s ∷ v.areas) (λ b z. inr z) may.3))
-  keep (finds_free n) may = calm _ (found (state_in (words (header_word shape n)) == 0) (Free n) (header_word shape n) (inr (Free n, inl refl, head_in_slot shape n)))
+  keep (closes s i) may = calm _ (found true (Whole s) i (holds_more shape i v.held v.areas (Whole s ∷ v.areas) (λ b z. inr z) may.2))
+  keep (finds_free n) may = calm _ (found_slot (state_in (words (header_word shape n)) == 0) n)
   keep (finds_side p n depth pattern) may = calm _ (found (is_new_side depth pattern (words (header_word shape n))) (Side n) (header_word shape n) (inr (Side n, inl refl, head_in_slot shape n)))
   keep (reads i) may = calm _ (
     (λ n y q. elim (has_first i (words i) n y v.known q) [

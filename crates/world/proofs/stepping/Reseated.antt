@@ -13,11 +13,10 @@ use Rattle.map_model.specs.declared.call.Call.TheVariants.{Remove}
 use Rattle.map_model.specs.declared.entry.Entry.{Entry}
 use Rattle.map_model.specs.Weave.{draws, drew_at}
 use Rattle.map_model.specs.Legal.{InOrder, seen_of}
-use Rattle.bucket_words.specs.Hits.{find}
 use Rattle.frame_facts.specs.Facts.{Fact}
 use Rattle.world.specs.Ground.{Ground}
 use Rattle.world.specs.Conditions.{HoldsMove}
-use Rattle.world.specs.Views.{Glance, Answer, Move, Owed, View, Has, At, HasLock, IsGuarded, IsLoose}
+use Rattle.world.specs.Views.{Glance, Answer, Move, Owed, View, Has, At, HasLock, IsLoose}
 use Rattle.world.specs.History.{Log}
 use Rattle.world.specs.Media.{IsPossible, Stands}
 use Rattle.world.specs.Parts.{total, Locks, Plans, History, Room, Spending, Powered, IsRemoving, IsMoving, NobodyOwes, IsPinned, IsUnmoved, IsAnswer}

@@ -5,7 +5,6 @@ use Rattle.trace.specs.Events.{Words, with_word, after}
 use Rattle.trace.specs.Events.Event.{loaded, exchanged}
 use Rattle.trace.proofs.Replaced.{replaced_other}
 use Rattle.image_layout.specs.Volatile.{counter_word, power_word}
-use Rattle.frame_facts.specs.Facts.{Lives}
 use Rattle.world.specs.Ground.{Ground, IsLockWord, IsSpentLock}
 use Rattle.world.specs.Views.{View, At, IsGuarded}
 use Rattle.world.specs.Kinds.{Kind, peeks, asks_power, meets_root, meets_entry, meets_head, pins, finds_room, refuses, places, looks, glances_word, validates, learns, meets_lock, tries, stores, copies, clears, repays, publishes, stashes, flushes, fences, draws_place, unlocks, cuts_power}

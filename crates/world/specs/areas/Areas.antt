@@ -20,9 +20,12 @@ pub data Area : Type 0 where
   -- the guard of the directory: the root and all entries
   Directory : Area
 
--- the header word of a slot
+-- the header word of a slot, and the word of its link
 abbrev pub header_word : Shape → ℕ → ℕ
 header_word shape s = head_at shape s + 1
+
+abbrev pub link_word : Shape → ℕ → ℕ
+link_word shape s = head_at shape s + 2
 
 -- a word is the root, or lies where entries stand
 abbrev pub IsDirectoryWord : Shape → ℕ → Type 0
@@ -30,7 +33,7 @@ IsDirectoryWord shape i = (i ≡ root_word) ⊎ ((block ≤ i) × (i < first_seg
 
 -- THE WORDS OF AN AREA, which nobody else may store to
 abbrev pub InArea : Shape → Area → ℕ → Type 0
-InArea shape (Segment s) i = (i ≡ header_word shape s) ⊎ (i ≡ head_at shape s + 2)
+InArea shape (Segment s) i = (i ≡ header_word shape s) ⊎ (i ≡ link_word shape s)
 InArea shape (Stale s) i = IsInSlot shape s i
 InArea shape (Side n) i = IsInSlot shape n i
 InArea shape (Free n) i = IsInSlot shape n i

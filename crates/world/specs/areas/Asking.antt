@@ -1,26 +1,26 @@
 -- What each kind of step at the structure asks of the stepping view alone.
-use Rattle.std.specs.Prelude.{◌≡◌, ◌≢◌, ℕ, suc, ◌+◌, ◌-◌, ◌%◌, ◌^◌, ◌<◌, ◌⊎◌, ⊤, Some, []}
+use Rattle.std.specs.Prelude.{◌≡◌, ◌≢◌, ℕ, suc, ◌-◌, ◌%◌, ◌^◌, ◌<◌, ◌⊎◌, ⊤, Some, []}
 use Rattle.trace.specs.Events.{Words, with_word}
 use Rattle.hash_word.specs.Hash.{home_of}
 use Rattle.segment_head.specs.HeadWord.{state_in, depth_in, pattern_in, normal, splitting, HasLiveState}
-use Rattle.image_layout.specs.Places.{Shape, state_word, head_at, bucket_at, homes, buckets}
+use Rattle.image_layout.specs.Places.{Shape, state_word, bucket_at, homes, buckets}
 use Rattle.sound_image.specs.Segments.{frame_of}
 use Rattle.sound_image.specs.Records.{key_hash, HasExactNotes}
 use Rattle.bucket_words.specs.Standing.{IsTable}
 use Rattle.bucket_words.specs.Hits.{Hit}
 use Rattle.bucket_words.specs.Owners.{owner_of}
 use Rattle.bucket_words.specs.TableChanges.{KeepsTable}
-use Rattle.frame_facts.specs.Facts.{Fact, Lives, Current, HoldsFact}
+use Rattle.frame_facts.specs.Facts.{Fact, Lives, Taken, HoldsFact}
 use Rattle.frame_facts.specs.Keeping.{KeepsFact, ClaimsNoneOfSide}
 use Rattle.frame_facts.specs.DeadSlots.{IsInSlot}
 use Rattle.world.specs.Ground.{Ground, version_of, IsStructured, IsLockWord, IsSpentLock, IsUnder}
 use Rattle.world.specs.Views.{Move, Owed, View, Has, HasLock, IsLoose}
 use Rattle.world.specs.Conditions.{IsOwed, IsMoveOf, OwesNone, Agrees}
 use Rattle.world.specs.Holders.{KnowsWord}
-use Rattle.world.specs.areas.Areas.{Segment, Stale, Side, Free, Whole, Allocation, Directory, header_word, IsDirectoryWord}
+use Rattle.world.specs.areas.Areas.{Segment, Stale, Side, Free, Whole, Allocation, Directory, header_word, link_word, IsDirectoryWord}
 use Rattle.world.specs.areas.Fitting.{HoldsWord, HoldsAll}
 pub use Rattle.world.specs.areas.Saying.{MaySay}
-use Rattle.world.specs.areas.Rows.{Row, goes_live, renews, HasNoSides, IsRow, HasForRow}
+use Rattle.world.specs.areas.Rows.{Row, goes_live, frees, renews, HasNoSides, IsRow, HasForRow}
 use Rattle.world.specs.areas.Kinds.{Guard, of_segment, of_free_slots, of_directory, area_of, StructureKind, takes, gives, finds_stale, closes, finds_free, finds_side, reads, sets, moves, settles, settles_side, opens}
 
 -- a view has not the segment whole
@@ -37,10 +37,11 @@ IsOf shape v (of_segment s) i = IsInSlot shape s i
 IsOf shape v of_free_slots i = (n : ℕ) × Has (Free n) v.areas × IsInSlot shape n i
 IsOf shape v of_directory i = IsDirectoryWord shape i
 
--- sides are given up, and whole segments opened, before their guards
-abbrev pub HasOpened : View → Guard → Type 0
-HasOpened v (of_segment s) = HasNoSides v.areas × IsNotWhole v s
-HasOpened v guard = ⊤
+-- sides are given up, and whole segments opened, before their guards; and the header of a side that was taken is settled before that of free slots
+abbrev pub HasOpened : Shape → View → Guard → Type 0
+HasOpened shape v (of_segment s) = HasNoSides v.areas × IsNotWhole v s
+HasOpened shape v of_free_slots = (n : ℕ) → Has (Side n) v.areas → IsFirmIn v (λ i. i ≡ header_word shape n)
+HasOpened shape v of_directory = ⊤
 
 -- the view once all that it flushed is settled
 abbrev pub once_fenced : View → View
@@ -84,11 +85,13 @@ module _ (site : Ground) where
   abbrev pub EndsClaims : ℕ → Words → Fact → Type 0
   EndsClaims p medium fact = ClaimsNoneOfSide (frame_of site.shape medium) p fact → ⊥
 
-  abbrev pub ends_by : Row → Words → Fact → Type 0
-  ends_by (goes_live p) medium fact = EndsClaims p medium fact
-  ends_by row medium fact = ⊥
+  -- the one that frees a slot ends that it is taken
+  abbrev pub ends_by : Row → ℕ → Words → Fact → Type 0
+  ends_by (goes_live p) s medium fact = EndsClaims p medium fact
+  ends_by (frees p) s medium fact = fact ≡ Taken s
+  ends_by row s medium fact = ⊥
 
-  -- A SEGMENT IS IN ORDER: it owns each record in it, a key stands once, notes are exact, and no lock of it is taken
+  -- A SEGMENT IS IN ORDER: it owns each record in it, a key stands once, and notes are exact
   pub record IsInOrder (words : Words) (s : ℕ) : Type 0 where
     pub own : (b r k : ℕ) → Hit site.shape words s b r k → owner_of site.shape words (key_hash site.shape k) ≡ Some s
     pub once : (b r c t k : ℕ) → Hit site.shape words s b r k → Hit site.shape words s c t k → (b ≡ c) × (r ≡ t)
@@ -130,7 +133,7 @@ module _ (site : Ground) where
 
   -- what a row asks beside: a segment that others may lock from then on is in order, and its locks are free
   abbrev pub AsksForRow : Row → ℕ → ℕ → View → Type 0
-  AsksForRow (goes_live p) s x v = (v.planned ≡ []) × KnowsFree v s × BringsInOrder v s (header_word site.shape s) x × IsFirmIn v (IsInSlot site.shape s)
+  AsksForRow (goes_live p) s x v = KnowsFree v s × BringsInOrder v s (header_word site.shape s) x × IsFirmIn v (IsInSlot site.shape s)
   AsksForRow renews s x v = IsFirmIn v (IsInSlot site.shape s) × KnowsFree v s × BringsInOrder v s (header_word site.shape s) x
   AsksForRow row s x v = ⊤
 
@@ -138,16 +141,16 @@ module _ (site : Ground) where
   abbrev pub MayAt : StructureKind → View → Type 0
   MayAt (takes (of_segment s) caller) v = (0 < caller) × Has (Lives s) v.facts
   MayAt (takes guard caller) v = 0 < caller
-  MayAt (gives guard) v = Has (area_of guard) v.areas × IsFirmIn v (IsOf site.shape v guard) × HasOpened v guard
-  MayAt (finds_stale s version) v = Has (Segment s) v.areas × (version ≡ version_of site) × IsFirmIn v (λ i. i ≡ header_word site.shape s)
-  MayAt (closes s i) v = Has (Segment s) v.areas × HoldsAll site.shape v s × Has (Current s) v.facts × HoldsWord site.shape v i × IsFirmIn v (λ j. j ≡ header_word site.shape s)
+  MayAt (gives guard) v = Has (area_of guard) v.areas × IsFirmIn v (IsOf site.shape v guard) × HasOpened site.shape v guard
+  MayAt (finds_stale s version) v = Has (Segment s) v.areas × (version ≡ version_of site)
+  MayAt (closes s i) v = Has (Segment s) v.areas × HoldsAll site.shape v s × HoldsWord site.shape v i
   MayAt (finds_free n) v = Has Allocation v.areas × (n < site.shape.segments) × IsFirmIn v (IsInSlot site.shape n)
-  MayAt (finds_side p n depth pattern) v = Has (Stale p) v.areas × (n < site.shape.segments) × KnowsWord v (head_at site.shape p + 2) (suc n)
+  MayAt (finds_side p n depth pattern) v = Has (Stale p) v.areas × (n < site.shape.segments) × KnowsWord v (link_word site.shape p) (suc n)
       × ((head : ℕ) × KnowsWord v (header_word site.shape p) head × (state_in head ≡ splitting) × (depth_in head ≡ depth) × (pattern_in head ≡ pattern))
   MayAt (reads i) v = HoldsWord site.shape v i
   MayAt (sets i x) v = MaySet v i x
   MayAt (moves row s x) v = ((words : Words) → MayBeNewest v words → IsRow site words row s x × HasForRow site words row s v.areas)
-      × (v.planned ≡ []) × IsHarmlessStore v (ends_by row) (header_word site.shape s) x × AsksForRow row s x v
+      × (v.planned ≡ []) × IsHarmlessStore v (ends_by row s) (header_word site.shape s) x × AsksForRow row s x v
       × ((words medium : Words) → MayBeNewest v words → MayStandBeside v words medium → IsRow site medium row s x)
   MayAt (settles facts) v = ((n : ℕ) → Has (Side n) v.areas → KnowsDead v n)
       × ((fact : Fact) → Has fact facts → MaySay v.areas fact

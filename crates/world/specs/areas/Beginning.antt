@@ -1,5 +1,5 @@
 -- What a restart leaves: of areas, that nobody has one; of the words, a sound structure and a table, in which each current segment is
--- repaired; and that so begins what holds while the structure moves.
+-- repaired; and that so begins the invariant.
 use Rattle.std.specs.Prelude.{◌≡◌, ◌≢◌, ℕ, ◌%◌, ◌<◌, ◌≤◌, List}
 use Rattle.trace.specs.Events.{Words, value}
 use Rattle.trace.specs.Steps.{HadSinceSettled}
@@ -63,7 +63,7 @@ pub record Begins (site : Ground) (start : Words) (world : World) : Type 0 where
   pub restarted : IsRestarted site start world
   pub repaired : (s : ℕ) → IsCurrentIn site world.words s → IsRepaired site world.words s
 
--- SO BEGINS what holds while the structure moves
+-- SO BEGINS the invariant
 abbrev pub RestartsBegin : Type 0
 RestartsBegin = (site : Ground) (start : Words) (world : World) → Begins site start world → Holds site world.words world.views
 

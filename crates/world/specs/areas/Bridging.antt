@@ -1,4 +1,4 @@
--- What the conditions of callers' kinds rest on is so while the structure moves too, for a view that has no segment whole.
+-- What the conditions of callers' kinds rest on is so, for a view that has no segment whole; and which parts of the invariant the kinds keep then.
 use Rattle.std.specs.Prelude.{ℕ, List}
 use Rattle.trace.specs.Events.{Words}
 use Rattle.world.specs.Ground.{Ground}
@@ -28,7 +28,7 @@ pub record CallersKnowAsBefore : Type 0 where
   pub map : (site : Ground) (words : Words) (views : List View) (j : ℕ) (v : View) (h : Holds site words views) → At views j v → HasNoWhole v
       → IsMapNow site v words (map_now site.start h.log)
 
--- a step of a caller that has no segment whole keeps a part, while the structure moves
+-- a step of a caller that has no segment whole keeps a part
 abbrev pub CallersKeepPart : ((site : Ground) → Words → List View → Log → Type 0) → Type 0
 CallersKeepPart Part = (site : Ground) (kind : Kind) (words : Words) (views : List View) (j : ℕ) (v : View) (h : Holds site words views) → At views j v → HasNoWhole v → May site kind v
     → Part site (words_by site kind j words) (views_by site kind j v words views) (log_after kind h.log)
@@ -40,7 +40,7 @@ pub record CallersKeepOthers : Type 0 where
   pub room : CallersKeepPart (λ site words views log. Room site views log)
   pub powered : CallersKeepPart (λ site words views log. Powered site words views)
 
--- and that a segment which nobody has whole owns its records, with each key once
+-- and that a current segment which nobody has whole owns its records, with each key once, or its mover has it under way
 abbrev pub CallersKeepRecords : Type 0
 CallersKeepRecords = CallersKeepPart (λ site words views log. Records site words views)
 
@@ -48,7 +48,7 @@ CallersKeepRecords = CallersKeepPart (λ site words views log. Records site word
 abbrev pub CallersKeepNotesOfHomes : Type 0
 CallersKeepNotesOfHomes = CallersKeepPart (λ site words views log. Overflow site words views)
 
--- ---- with the three laws that follow each kind of step of such a caller keeps all that holds while the structure moves
+-- ---- with the three laws that follow each kind of step of such a caller keeps the invariant
 -- THE STRUCTURE, where no fence settles a side as a live segment
 abbrev pub CallersKeepStructure : Type 0
 CallersKeepStructure = (site : Ground) (kind : Kind) (words : Words) (views : List View) (j : ℕ) (v : View) → Holds site words views → At views j v → HasNoWhole v → May site kind v

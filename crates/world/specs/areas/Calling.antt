@@ -33,7 +33,7 @@ abbrev pub CallersKeepLocks : Type 0
 CallersKeepLocks = (site : Ground) (kind : Kind) (words : Words) (views : List View) (j : ℕ) (v : View) → Locks site words views → At views j v → May site kind v
     → Locks site (words_by site kind j words) (views_by site kind j v words views)
 
--- and known and loose words held, while the structure moves
+-- and known and loose words held
 abbrev pub CallersKeepHeldWords : Type 0
 CallersKeepHeldWords = (site : Ground) (kind : Kind) (words : Words) (views : List View) (j : ℕ) (v : View) → Holds site words views → At views j v → May site kind v
     → KnownWords site (words_by site kind j words) (views_by site kind j v words views)

@@ -1,4 +1,4 @@
--- The laws of the kinds of step at the structure: each keeps each part of what holds while the structure moves.
+-- The laws of the kinds of step at the structure: each keeps each part of the invariant.
 use Rattle.std.specs.Prelude.{◌≡◌, ◌≢◌, ◌==◌, ℕ, List, set, if◌then◌else◌}
 use Rattle.trace.specs.Events.{Words}
 use Rattle.image_layout.specs.Volatile.{power_word}
@@ -13,7 +13,7 @@ use Rattle.world.specs.Media.{IsPossible}
 use Rattle.world.specs.Parts.{Locks, Plans, History, Room, Spending, Powered, IsPinned}
 use Rattle.world.specs.Invariant.{Structure, KnownWords, Records, Overflow, Media, Notes, Holds}
 use Rattle.world.specs.areas.Fitting.{Fits}
-use Rattle.world.specs.areas.Lasting.{Owners, Lasting}
+use Rattle.world.specs.areas.Lasting.{Owners, Lasting, SettledSlots}
 use Rattle.world.specs.areas.Saying.{MaySay}
 use Rattle.world.specs.areas.Kinds.{Guard, guard_word, HasGuard, area_of, StructureKind, wanted_at, view_then}
 use Rattle.world.specs.areas.Asking.{MayBeNewest, MayStandBeside, MayAt}
@@ -63,6 +63,10 @@ KeepsFacts = KeepsPart (λ site words views log. (c : ℕ) (u : View) (fact : Fa
 abbrev pub KeepsAreas : Type 0
 KeepsAreas = KeepsPart (λ site words views log. Fits site words views × Owners site words views × Lasting site words views)
 
+-- that a taken slot is so in whatever a cut may leave, or is being taken
+abbrev pub KeepsSettledSlots : Type 0
+KeepsSettledSlots = KeepsPart (λ site words views log. SettledSlots site words views)
+
 -- that the word of a guard is not 0 which a view has
 abbrev pub KeepsGuards : Type 0
 KeepsGuards = KeepsPart (λ site words views log. (c : ℕ) (u : View) (guard : Guard) → At views c u → Has (area_of guard) u.areas → words (guard_word site.shape guard) ≢ 0)
@@ -104,7 +108,7 @@ pub record KeepsOthers : Type 0 where
   pub spending : KeepsPart (λ site words views log. Spending site words views log)
   pub powered : KeepsPart (λ site words views log. Powered site words views)
 
--- EACH KIND OF STEP at the structure keeps what holds while it moves, with the same history
+-- EACH KIND OF STEP at the structure keeps the invariant, with the same history
 abbrev pub KeepsHolding : Type 0
 KeepsHolding = (site : Ground) (kind : StructureKind) (words : Words) (views : List View) (j : ℕ) (v : View) (h : Holds site words views) → At views j v → MayAt site kind v
     → (after : Holds site (words_then site kind j words) (views_then site kind j v words views)) × (after.log ≡ h.log)

@@ -6,12 +6,12 @@ use Rattle.op_core.specs.declared.want.Want.TheVariants.{Load, Store, Exchange, 
 use Rattle.segment_head.specs.HeadWord.{version_in, state_in, depth_in, pattern_in, free, fresh}
 use Rattle.image_layout.specs.Places.{Shape, block, root_word, first_segment, head_at, segment_words}
 use Rattle.image_layout.specs.Volatile.{allocation_guard, directory_guard, segment_guard}
-use Rattle.frame_facts.specs.Facts.{Fact, Lives, Current, Rooted, Owns, Lacks, Deep, Begins, Used}
+use Rattle.frame_facts.specs.Facts.{Fact, Lives, Current, Rooted, Owns, Lacks, Deep, Begins, Used, Taken}
 use Rattle.world.specs.Views.{View}
 use Rattle.world.specs.Kinds.{with_store, without}
 use Rattle.world.specs.areas.Areas.{Area, Segment, Stale, Side, Free, Whole, Allocation, Directory, header_word, all_but, is_side_at, is_of_segment, is_of_allocation, is_of_directory}
 pub use Rattle.world.specs.areas.Areas.{is_whole_at}
-use Rattle.world.specs.areas.Rows.{Row, goes_live, renews, areas_by}
+use Rattle.world.specs.areas.Rows.{Row, goes_live, frees, renews, areas_by}
 
 -- ---- guards
 pub data Guard : Type 0 where
@@ -52,9 +52,9 @@ pub data StructureKind : Type 0 where
   gives : (guard : Guard) → StructureKind
   -- a load of the header of a segment whose guard is held: it has not this version, the image's, or it has
   finds_stale : (slot version : ℕ) → StructureKind
-  -- a load of a held word by who has the guard and all locks of a current segment: from then on the segment is whole
+  -- a load of a held word by who has the guard and all locks of a segment: from then on the segment is whole
   closes : (slot word : ℕ) → StructureKind
-  -- a load of the header of a slot under the guard of free slots: it is free, or not
+  -- a load of the header of a slot under the guard of free slots: it is free, or it is known to be taken
   finds_free : (slot : ℕ) → StructureKind
   -- a load of the header of the slot that a stale segment of this depth and pattern has linked: it is the new side, or not
   finds_side : (parent slot depth pattern : ℕ) → StructureKind
@@ -110,8 +110,13 @@ abbrev pub is_claim : Fact → Bool
 is_claim (Owns s depth pattern) = true
 is_claim fact = false
 
+-- and who says that a slot is taken has the guard of free slots
+abbrev pub is_taken : Fact → Bool
+is_taken (Taken n) = true
+is_taken fact = false
+
 abbrev pub facts_without : Guard → List Fact → List Fact
-facts_without of_free_slots facts = facts
+facts_without of_free_slots facts = filter (λ fact. not (is_taken fact)) facts
 facts_without guard facts = filter (λ fact. not (is_claim fact)) facts
 
 -- a view that won a guard, or not
@@ -123,6 +128,11 @@ with_guard false guard v = v
 abbrev pub with_area : Bool → Area → ℕ → ℕ → View → View
 with_area true area i x v = record v { areas = area ∷ v.areas; known = (i, x) ∷ v.known }
 with_area false area i x v = v
+
+-- a view that looked at the header of a slot: a free one is an area of it, and one that is not is known to be taken
+abbrev pub with_slot : Bool → ℕ → ℕ → ℕ → View → View
+with_slot true n i x v = with_area true (Free n) i x v
+with_slot false n i x v = record v { facts = Taken n ∷ v.facts }
 
 -- a header is that of the new side of a segment of this depth and pattern
 abbrev pub is_new_side : ℕ → ℕ → ℕ → Bool
@@ -143,10 +153,17 @@ is_claim_of p (Lacks s depth pattern) = false
 is_claim_of p (Deep f depth pattern) = false
 is_claim_of p (Begins s hash) = false
 is_claim_of p (Used n) = false
+is_claim_of p (Taken n) = false
 
-abbrev pub facts_by : Row → List Fact → List Fact
-facts_by (goes_live p) facts = filter (λ fact. not (is_claim_of p fact)) facts
-facts_by row facts = facts
+-- and that a slot is taken when it is freed
+abbrev pub is_taken_at : ℕ → Fact → Bool
+is_taken_at s (Taken n) = n == s
+is_taken_at s fact = false
+
+abbrev pub facts_by : Row → ℕ → List Fact → List Fact
+facts_by (goes_live p) s facts = filter (λ fact. not (is_claim_of p fact)) facts
+facts_by (frees p) s facts = filter (λ fact. not (is_taken_at s fact)) facts
+facts_by row s facts = facts
 
 -- THE VIEW AFTER, by the word that was found
 abbrev pub view_then : Shape → StructureKind → ℕ → View → View
@@ -155,13 +172,13 @@ view_then shape (gives guard) n v =
     record v { areas = all_but (goes_with guard) v.areas; facts = facts_without guard v.facts; known = known_without shape guard v.areas v.known }
 view_then shape (finds_stale s version) n v = with_area (not (version_in n == version)) (Stale s) (header_word shape s) n v
 view_then shape (closes s i) n v = with_area true (Whole s) i n v
-view_then shape (finds_free m) n v = with_area (state_in n == free) (Free m) (header_word shape m) n v
+view_then shape (finds_free m) n v = with_slot (state_in n == free) m (header_word shape m) n v
 view_then shape (finds_side p m depth pattern) n v = with_area (is_new_side depth pattern n) (Side m) (header_word shape m) n v
 view_then shape (reads i) n v = record v { known = (i, n) ∷ v.known }
 view_then shape (sets i x) n v = with_store shape i n x v.planned v.moving v.owed v
 view_then shape (moves row s x) n v =
     let stored = with_store shape (header_word shape s) n x v.planned v.moving v.owed v in
-    record stored { areas = areas_by row s v.areas; known = known_by shape row s x stored.known; pinned = without s v.pinned; facts = facts_by row v.facts }
+    record stored { areas = areas_by row s v.areas; known = known_by shape row s x stored.known; pinned = without s v.pinned; facts = facts_by row s v.facts }
 view_then shape (settles facts) n v = record v { flushed = []; facts = facts ++ v.facts }
 view_then shape (settles_side m depth pattern) n v =
     record v { flushed = []; areas = all_but (is_side_at m) v.areas; facts = Owns m depth pattern ∷ v.facts; known = out_of_slot shape m v.known }

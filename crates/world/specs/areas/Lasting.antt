@@ -1,7 +1,7 @@
--- Owners and live segments in whatever a cut may leave, beside the newest words.
+-- Owners, live segments and taken slots in whatever a cut may leave, beside the newest words.
 use Rattle.std.specs.Prelude.{◌≡◌, ◌≢◌, ℕ, ◌<◌, ◌⊎◌, Some, List, set}
 use Rattle.trace.specs.Events.{Words, with_word}
-use Rattle.segment_head.specs.HeadWord.{normal}
+use Rattle.segment_head.specs.HeadWord.{state_in, free, normal}
 use Rattle.image_layout.specs.Places.{words_of, bucket_at, buckets}
 use Rattle.sound_image.specs.Segments.{frame_of, state_at}
 use Rattle.segment_table.specs.Claims.{HasSoundFrame}
@@ -12,7 +12,7 @@ use Rattle.frame_facts.specs.Facts.{IsLiveSlot}
 use Rattle.world.specs.Ground.{Ground}
 use Rattle.world.specs.Views.{View, Has, At, HasLock}
 use Rattle.world.specs.Media.{IsPossible}
-use Rattle.world.specs.areas.Areas.{Area, Side, header_word, is_side_at, all_but}
+use Rattle.world.specs.areas.Areas.{Area, Side, Allocation, header_word, is_side_at, all_but}
 use Rattle.world.specs.areas.Fitting.{LivesOn, Fits, HasGrounds}
 use Rattle.world.specs.areas.Rows.{Row, IsRow, IsRowIn, HasForRow, areas_by, HasStored}
 use Rattle.world.specs.areas.Spared.{HasFenced, LooseIsHeld, AreaChange, SparesAreas}
@@ -20,6 +20,10 @@ use Rattle.world.specs.areas.Spared.{HasFenced, LooseIsHeld, AreaChange, SparesA
 -- some view has a slot as a side that is not settled
 abbrev pub IsHeldSide : List View → ℕ → Type 0
 IsHeldSide views n = (j : ℕ) × (v : View) × At views j v × Has (Side n) v.areas
+
+-- a view took it, and has the guard of free slots still
+abbrev pub IsBeingTaken : List View → ℕ → Type 0
+IsBeingTaken views n = (j : ℕ) × (v : View) × At views j v × Has Allocation v.areas × Has (Side n) v.areas
 
 module _ (site : Ground) (words : Words) (views : List View) where
   -- OWNERS: in whatever a cut may leave a hash has the owner that it has now, or it is now owned by a side that is not settled
@@ -32,6 +36,14 @@ module _ (site : Ground) (words : Words) (views : List View) where
   pub record Lasting : Type 0 where
     pub steady : (medium : Words) → IsPossible site words views medium → IsSteady (frame_of site.shape medium) (frame_of site.shape words)
     pub living : (s : ℕ) → IsLiveSlot (frame_of site.shape words) s → LivesOn site words views s ⊎ IsHeldSide views s
+
+  -- a slot is taken in whatever a cut may leave
+  abbrev pub IsTakenInMedia : ℕ → Type 0
+  IsTakenInMedia n = (medium : Words) → IsPossible site words views medium → state_in (medium (header_word site.shape n)) ≢ free
+
+  -- TAKEN SLOTS: a slot that is taken is so in whatever a cut may leave, or it is being taken
+  abbrev pub SettledSlots : Type 0
+  SettledSlots = (n : ℕ) → n < site.shape.segments → state_in (words (header_word site.shape n)) ≢ free → IsBeingTaken views n ⊎ IsTakenInMedia n
 
   -- the structure is sound in whatever a cut may leave
   abbrev pub AreSoundMedia : Type 0

@@ -1,12 +1,11 @@
 -- Whether a guarded segment has a ready side is the same in whatever a cut may leave: what a repair stands on.
-use Rattle.std.specs.Prelude.{◌≡◌, ℕ, ◌+◌, List}
+use Rattle.std.specs.Prelude.{◌≡◌, ℕ, List}
 use Rattle.trace.specs.Events.{Words}
-use Rattle.image_layout.specs.Places.{head_at}
 use Rattle.sound_image.specs.Segments.{frame_of, IsReadySide, HasReadySide}
 use Rattle.world.specs.Ground.{Ground}
 use Rattle.world.specs.Views.{View, Has, At}
 use Rattle.world.specs.Media.{IsPossible}
-use Rattle.world.specs.areas.Areas.{Segment, Side, header_word}
+use Rattle.world.specs.areas.Areas.{Segment, Side, header_word, link_word}
 use Rattle.world.specs.areas.Fitting.{Fits, HasGrounds}
 use Rattle.world.specs.areas.Lasting.{Lasting, AreSoundMedia}
 
@@ -19,7 +18,7 @@ pub record IsGuardedFirm (site : Ground) (words : Words) (views : List View) (c 
   pub at : At views c v
   pub guarded : Has (Segment s) v.areas
   pub head : (medium : Words) → IsPossible site words views medium → medium (header_word site.shape s) ≡ words (header_word site.shape s)
-  pub link : (medium : Words) → IsPossible site words views medium → medium (head_at site.shape s + 2) ≡ words (head_at site.shape s + 2)
+  pub link : (medium : Words) → IsPossible site words views medium → medium (link_word site.shape s) ≡ words (link_word site.shape s)
 
 -- READY NOW, ready in each medium, where the view has not that side as one that is not settled
 abbrev pub SidesAreReadyEverywhere : Type 0

@@ -1,5 +1,5 @@
 -- A restart of any sound image. Of an image that was closed it keeps the version; of any other it raises it, and where there is none above
--- it sets the version bytes of all headers to 0 before. Of the marker nothing is asked here. So begins what holds while the structure moves.
+-- it sets the version bytes of all headers to 0 before. Of the marker nothing is asked here. So begins the invariant.
 use Rattle.std.specs.Prelude.{◌≡◌, ◌≢◌, ℕ, ◌^◌, ◌<◌, ◌⊎◌, List, slice_index}
 use Rattle.trace.specs.Events.{Words, value}
 use Rattle.trace.specs.Steps.{HadSinceSettled}
@@ -51,6 +51,6 @@ pub record IsRestartOf (site : Ground) (image : List ℕ) (world : World) : Type
   pub fresh : (j : ℕ) (v : View) → At world.views j v → v ≡ fresh_view v.callers
   pub callers : total (λ v. v.callers) world.views ≡ site.callers
 
--- A RESTART OF ANY SOUND IMAGE begins what holds while the structure moves
+-- A RESTART OF ANY SOUND IMAGE begins the invariant
 abbrev pub SoundImagesBegin : Type 0
 SoundImagesBegin = (site : Ground) (image : List ℕ) (world : World) → IsRestartOf site image world → Begins site (slice_index image) world

@@ -53,7 +53,7 @@ module _ (site : Ground) (words : Words) where
   abbrev pub IsRow : Row → ℕ → ℕ → Type 0
   IsRow (marks n) s x = BeginsSplit now s x × (now.link s ≡ suc n) × HasSameVersion s x
   IsRow (news p) s x = TakesSlot now site.shape.depth s x × IsSideOf p s x × (version_in x ≡ version_of site)
-  IsRow (goes_live p) s x = GoesLive now p s x × HasSameVersion s x
+  IsRow (goes_live p) s x = GoesLive now p s x × (version_in x ≡ version_of site)
   IsRow finishes s x = EndsSplit now s x × HasSameVersion s x
   IsRow unmarks s x = DropsSplit now s x × HasSameVersion s x
   IsRow (frees p) s x = FreesSlot now s x × IsSideOf p s (now.header s) × (version_in (now.header p) ≢ version_of site)

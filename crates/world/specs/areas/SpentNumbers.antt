@@ -1,5 +1,4 @@
--- Each kind of step of a caller keeps what is said of spent numbers by locks, history and live segments alone: so where no structure moves, and while it
--- does, whatever areas its view has.
+-- Each kind of step of a caller keeps what is said of spent numbers, by locks, history and live segments alone: so whatever areas its view has.
 use Rattle.std.specs.Prelude.{ℕ, List}
 use Rattle.trace.specs.Events.{Words}
 use Rattle.sound_image.specs.Segments.{frame_of}

@@ -5,7 +5,7 @@ use Rattle.trace.specs.Events.{Words}
 use Rattle.hash_word.specs.Hash.{Covers}
 use Rattle.bucket_meta.specs.Bucket.{record_slots, allocated, member}
 use Rattle.segment_head.specs.HeadWord.{version_in, state_in, depth_in, pattern_in, free, fresh, normal, splitting, HasLiveState}
-use Rattle.image_layout.specs.Places.{Shape, block, root_word, entry_at, head_at, bucket_at, homes, buckets}
+use Rattle.image_layout.specs.Places.{Shape, block, root_word, entry_at, bucket_at, homes, buckets}
 use Rattle.sound_image.specs.Records.{key_hash, HasExactNotes}
 use Rattle.bucket_words.specs.Buckets.{IsTaken, key_in}
 use Rattle.bucket_words.specs.Hits.{Hit}
@@ -13,18 +13,15 @@ use Rattle.bucket_words.specs.Core.{core_of}
 use Rattle.frame_facts.specs.Facts.{Owns, Lacks, Deep}
 use Rattle.frame_facts.specs.DeadSlots.{IsInSlot, IsPlainInSlot}
 use Rattle.frame_facts.specs.Copies.{IsSlotCopy}
-use Rattle.world.specs.Ground.{Ground, IsLockWord, IsSpentLock, version_of}
+use Rattle.world.specs.Ground.{Ground, IsLockWord, version_of}
 use Rattle.world.specs.Views.{View, Has, HasLock}
 use Rattle.world.specs.Conditions.{IsNewest}
 use Rattle.world.specs.Holders.{KnowsWord}
 use Rattle.world.specs.areas.Areas.{Segment, Side, Free, Whole, Directory, header_word}
+pub use Rattle.world.specs.areas.Areas.{link_word}
 use Rattle.world.specs.areas.Rows.{HasNoSides, marks, news, goes_live, finishes}
 use Rattle.world.specs.areas.Kinds.{sets, moves, settles, opens}
-use Rattle.world.specs.areas.Asking.{MayBeNewest, KnowsFree, IsFirmIn, MayAt}
-
--- the word of a slot's link
-abbrev pub link_word : Shape → ℕ → ℕ
-link_word shape s = head_at shape s + 2
+use Rattle.world.specs.areas.Asking.{KnowsFree, IsFirmIn, MayAt}
 
 module _ (shape : Shape) (v : View) where
   -- the view plans, moves and owes nothing, and the locks that it holds are those of segments that it has whole
@@ -61,7 +58,7 @@ module _ (shape : Shape) (v : View) where
 -- the stores to a slot of one's own, to any word but the header; and of a link, where the segment is not splitting
 pub record MayFill (site : Ground) (v : View) : Type 0 where
   pub word : (n i x head : ℕ) → IsSettledHolder site.shape v → HasOwnSlot site.shape v n head → IsPlainInSlot site.shape n i → (IsLockWord site.shape i → x % 2 ≡ 0)
-      → ((words : Words) → MayBeNewest site v words → IsSpentLock site.shape words i → x ≡ 2 ^ 64 - 2) → MayAt site (sets i x) v
+      → MayAt site (sets i x) v
   pub side_link : (n l head : ℕ) → IsSettledHolder site.shape v → HasOwnSlot site.shape v n head → l ≤ site.shape.segments → MayAt site (sets (link_word site.shape n) l) v
   pub link : (s l head : ℕ) → IsSettledHolder site.shape v → s < site.shape.segments → Has (Segment s) v.areas → (Has (Side s) v.areas → ⊥) → KnowsWord v (header_word site.shape s) head → state_in head ≢ splitting
       → l ≤ site.shape.segments → MayAt site (sets (link_word site.shape s) l) v
@@ -129,7 +126,7 @@ pub record MayDirect (site : Ground) (v : View) : Type 0 where
       → MayAt site (sets (entry_at g i) n) v
   -- the fence after the last one: of the 1-side of the segment that was split all entries are known to name its side, another slot, which owns that; so they
   -- name a deeper segment than it is, and it claims none of it
-  pub settled : (s n g : ℕ) (word : Words) → IsSettledHolder site.shape v → HasNoSides v.areas → Has (Segment s) v.areas → s ≢ n → KnowsHead site.shape v s word
+  pub settled : (s n g : ℕ) (word : Words) → HasNoSides v.areas → s ≢ n → KnowsHead site.shape v s word
       → state_in (word (header_word site.shape s)) ≡ splitting → word (link_word site.shape s) ≡ suc n
       → KnowsWord v root_word g → depth_in (word (header_word site.shape s)) < g
       → Has (Owns n (suc (depth_in (word (header_word site.shape s)))) (2 * pattern_in (word (header_word site.shape s)) + 1)) v.facts
@@ -146,11 +143,10 @@ pub record HoldsBucketOf (shape : Shape) (v : View) (s b : ℕ) : Type 0 where
   pub lock : HasLock v.held (bucket_at shape s b)
   pub no_side : Has (Side s) v.areas → ⊥
 
--- metadata word x frees no slots but such whose records lie in a region, and says all else that w says
+-- metadata word x frees no record slots but such whose records lie in a region, and says of the others what w says
 pub record ClearsRegion (site : Ground) (word : Words) (at depth pattern w x : ℕ) : Type 0 where
   pub slots : (r : ℕ) → r < record_slots → ((allocated r x ≡ allocated r w) × (member r x ≡ member r w))
       ⊎ ((allocated r x ≡ 0) × (IsTaken word at r → Covers depth pattern (key_hash site.shape (key_in word at r))))
-  pub overflow : x / 2 ^ 28 ≡ w / 2 ^ 28
 
 pub record MayFinish (site : Ground) (v : View) : Type 0 where
   -- records are cleared of a region of which the segment has nothing
@@ -181,5 +177,5 @@ pub record IsInOrderByLocks (site : Ground) (v : View) : Type 0 where
   pub once : (words word : Words) (s : ℕ) → IsNewest site v words → v.moving ≡ [] → s < site.shape.segments → ((b : ℕ) → b < buckets → HasLock v.held (bucket_at site.shape s b))
       → KnowsBuckets site.shape v s word → (b r c t k : ℕ) → Hit site.shape word s b r k → Hit site.shape word s c t k → (b ≡ c) × (r ≡ t)
   pub own : (words word : Words) (s : ℕ) → IsNewest site v words → s < site.shape.segments → ((b : ℕ) → b < buckets → HasLock v.held (bucket_at site.shape s b))
-      → KnowsHead site.shape v s word → KnowsBuckets site.shape v s word
+      → Has (header_word site.shape s, word (header_word site.shape s)) v.known → KnowsBuckets site.shape v s word
       → (b r k : ℕ) → Hit site.shape word s b r k → Covers (depth_in (word (header_word site.shape s))) (pattern_in (word (header_word site.shape s))) (key_hash site.shape k)

@@ -1,5 +1,5 @@
--- The world while the structure moves: each step at the structure does what its event says, and keeps the events of the device and the
--- views tied, so that a power cut leaves no more than the views say.
+-- The world at a step at the structure: it does what its event says, and keeps the events of the device and the views tied,
+-- so that a power cut leaves no more than the views say.
 use Rattle.std.specs.Prelude.{◌≡◌, ℕ, ◌∷◌, List, set}
 use Rattle.trace.specs.Events.{Words, Trace, value}
 use Rattle.trace.specs.Events.Event.{flushed}
@@ -28,8 +28,7 @@ step_at shape kind j world = record {
   views = changed_at j (view_then shape kind (world.words (word_of shape (wanted_at shape kind)))) world.views;
 }
 
--- the world is well: its words are those that its events made, what holds while the structure moves holds of words and views, and views
--- and events are tied
+-- the world is well: its words are those that its events made, the invariant holds of words and views, and views and events are tied
 pub record IsWell (site : Ground) (start : Words) (world : World) : Type 0 where
   pub words_are : world.words ≡ value start world.trace
   pub holds : Holds site world.words world.views

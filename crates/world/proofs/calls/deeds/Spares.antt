@@ -1,5 +1,5 @@
 -- No step of a caller's kinds stores to a word of the structure, whatever number its caller has.
-use Rattle.std.proofs.Common.{◌≡◌, ℕ, ◌+◌, ◌%◌, ◌^◌, Bool, true, false, cond, eqb, List, refl}
+use Rattle.std.proofs.Common.{ℕ, ◌+◌, ◌%◌, ◌^◌, Bool, true, false, cond, eqb, List, refl}
 use Rattle.trace.specs.Events.{Words, after}
 use Rattle.trace.specs.Events.Event.{loaded, exchanged}
 use Rattle.image_layout.specs.Volatile.{counter_word}

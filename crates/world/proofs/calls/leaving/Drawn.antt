@@ -1,4 +1,4 @@
--- Whatever a cut may leave is a table and stands in the history after a change drew its place, while the structure moves.
+-- Whatever a cut may leave is a table and stands in the history after a change drew its place.
 use Rattle.std.proofs.Common.{◌≡◌, ℕ, ◌+◌, ◌<◌, List, ◌∷◌, set, cond, None, Some, inl, inr, sym, ap, ◌∙◌, subst, arith}
 use Rattle.std.proofs.lemmas.Bool.{cases_eq, eq-eqb, ne_eqb}
 use Rattle.std.specs.Option.{unwrap_or}

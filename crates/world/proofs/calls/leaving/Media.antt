@@ -1,4 +1,4 @@
--- What a cut may leave is a table and stands in the history, at each kind of step of a caller while the structure moves.
+-- What a cut may leave is a table and stands in the history, at each kind of step of a caller.
 use Rattle.std.proofs.Common.{◌≡◌, ℕ, ◌+◌, ◌%◌, ◌^◌, ◌<◌, List, [], ◌∷◌, set, cond, eqb, Bool, true, false, inl, inr, refl, sym, subst}
 use Rattle.std.specs.Prelude.{nat_lt}
 use Rattle.trace.specs.Events.{Words, with_word, after}

@@ -1,4 +1,4 @@
--- Whatever a cut may leave is a table and stands in the history after a store of a caller, while the structure moves.
+-- Whatever a cut may leave is a table and stands in the history after a store of a caller.
 use Rattle.std.proofs.Common.{◌≡◌, ◌⊎◌, ℕ, ◌+◌, ◌<◌, List, ◌∷◌, set, Option, Some, inl, inr, refl, sym, ap, ◌∙◌, subst}
 use Rattle.std.proofs.lemmas.Bool.{cases_eq}
 use Rattle.trace.specs.Events.{Words, with_word}

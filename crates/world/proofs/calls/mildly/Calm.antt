@@ -1,5 +1,5 @@
 -- A step is calm: it changes no word of the image, and of its view no more than notes, which of its words are flushed, and whether it stored
--- the power word. Such a step keeps what holds while the structure moves, whatever areas its view has.
+-- the power word. Such a step keeps the invariant, whatever areas its view has.
 use Rattle.std.proofs.Common.{◌≡◌, ◌⊎◌, ℕ, ◌<◌, true, List, [], set, None, Some, inl, sym, ap, ◌∙◌, subst, arith}
 use Rattle.map_model.specs.declared.call.Call.{Call}
 use Rattle.trace.specs.Events.{Words}
@@ -12,7 +12,7 @@ use Rattle.world.specs.Views.{Glance, View, Has, At, HasLock, IsLoose}
 use Rattle.world.specs.History.{Log}
 use Rattle.world.specs.Parts.{History, Room, Powered, IsPastLock, IsUnmoved, IsAnswer}
 use Rattle.world.specs.Invariant.{Structure, Media, IsPastHeader, Notes, Holds}
-use Rattle.world.specs.areas.Areas.{Area, Whole, header_word}
+use Rattle.world.specs.areas.Areas.{Area, Side, Whole, Allocation, header_word}
 use Rattle.world.specs.areas.Spared.{stays, SparesAreas}
 use Rattle.world.specs.areas.Saying.{MaySay}
 use Rattle.world.specs.areas.Kinds.{Guard, guard_word, area_of}
@@ -24,6 +24,7 @@ use Rattle.world.proofs.fitting.Spared.{sparing_steps}
 use Rattle.world.proofs.fitting.lasting.Lasting.{sparing_lasts}
 use Rattle.world.proofs.moving.Stepping.{IsStill}
 use Rattle.world.proofs.moving.media.Said.{sound_still, said_still}
+use Rattle.world.proofs.moving.media.Settled.{still_settled}
 use Rattle.world.proofs.moving.Keepers.{pins_by}
 use Rattle.world.proofs.moving.HeldGuards.{held_same}
 use Rattle.world.proofs.moving.media.MediaKept.{media_still}
@@ -101,6 +102,8 @@ module _ (site : Ground) (words us : Words) (views : List View) (j : ℕ) (v w :
             (λ s x has. (subst (λ (pairs : List (ℕ × ℕ)). Has (s, x) pairs) same.pinned has, locks));
         owners = last.0 h.structure.owners;
         lasting = last.1 h.structure.lasting;
+        settled_slots = still_settled site words views j v h at us w still
+            (λ n guard side. inl (subst (λ (areas : List Area). Has Allocation areas) (sym same.areas) guard, subst (λ (areas : List Area). Has (Side n) areas) (sym same.areas) side));
       }
 
   -- ---- buckets, media, the history and the room

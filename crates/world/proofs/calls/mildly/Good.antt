@@ -1,4 +1,4 @@
--- What a cut may leave while the structure moves is good.
+-- What a cut may leave is good.
 use Rattle.world.specs.StepLaws.{MediaStand}
 
 pub moving_media_good : MediaStand

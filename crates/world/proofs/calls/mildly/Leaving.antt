@@ -1,4 +1,4 @@
--- What each step leaves while the structure moves: the power word, lock words that are free with the last version, what every key has but for
+-- What each step leaves as it was: the power word, lock words that are free with the last version, what every key has but for
 -- the two that make a change, and what its caller has seen.
 use Rattle.std.proofs.Common.{◌≡◌, ℕ, [], inl, inr, refl, sym, ap, ◌∙◌, arith, append-nil}
 use Rattle.op_core.specs.declared.want.Want.{Want}
@@ -20,8 +20,8 @@ use Rattle.world.proofs.stepping.SpentLocks.{spent_lock_stays}
 use Rattle.world.proofs.stepping.Pairs.{pairs_kept}
 use Rattle.world.proofs.stepping.Later.{later_at}
 use Rattle.world.proofs.mild.Kept.{steps_spare, steps_reply_nothing}
-use Rattle.world.proofs.mild.Callers.{backing_moving}
-use Rattle.world.proofs.moving.SpentNumbers.{moving_parts}
+use Rattle.world.proofs.mild.Callers.{backing_stands}
+use Rattle.world.proofs.moving.SpentNumbers.{spending_stands}
 use Rattle.world.proofs.calls.mildly.Mildly.{mild_or_none}
 
 -- the words that a want leaves are the same whoever wants it
@@ -34,7 +34,7 @@ power_stays site words views j v (of_structure kind) c h at other may =
     ap (λ (us : Words). us (power_word site.shape)) (same_for_all site.shape (wanted_at site.shape kind) c j words) ∙ steps_spare.power site kind words views j v h at may
 
 pub spent_locks_stay : SpentLocksStay
-spent_locks_stay site words views j v (of_call kind) lock h at may is = spent_lock_stays site words views j v (moving_parts site words views h) at lock kind may.0 is
+spent_locks_stay site words views j v (of_call kind) lock h at may is = spent_lock_stays site words views j v (spending_stands site words views h) at lock kind may.0 is
 spent_locks_stay site words views j v (of_structure kind) lock h at may is = steps_spare.spent site kind words views j v h at may lock is
 
 -- a mild kind stores to no word that has a part in a pair
@@ -47,7 +47,7 @@ mild_pairs site words kind of_cut number k = same_find site (with_word words (po
 pub pairs_stay : OtherStepsKeepPairs
 pairs_stay site words views j v (of_call kind) number h at may other k = elim (mild_or_none site v kind) [
   | inl mild ↦ mild_pairs site words kind mild number k
-  | inr none ↦ pairs_kept site words views j v (backing_moving site words views j v h at (none may.1)) at number kind may.0 other k
+  | inr none ↦ pairs_kept site words views j v (backing_stands site words views j v h at (none may.1)) at number kind may.0 other k
 ]
 pairs_stay site words views j v (of_structure kind) number h at may other k =
     ap (λ (us : Words). find site.shape us k) (same_for_all site.shape (wanted_at site.shape kind) number j words) ∙ steps_spare.pairs site kind words views j v h at may k

@@ -1,4 +1,4 @@
--- A peek, a look at the power, a flush and the cut of the power keep what holds while the structure moves, whatever areas their view has.
+-- A peek, a look at the power, a flush and the cut of the power keep the invariant, whatever areas their view has.
 use Rattle.std.proofs.Common.{◌≡◌, ◌⊎◌, ℕ, true, List, [], ◌++◌, set, None, inl, inr, refl, subst, arith}
 use Rattle.trace.specs.Events.{Words, with_word}
 use Rattle.trace.proofs.Replaced.{replaced_other}

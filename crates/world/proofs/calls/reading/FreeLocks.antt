@@ -1,4 +1,4 @@
--- What is so while a lock is free, though the structure moves: nobody holds it, so nobody has its segment whole, owes its home a note, or has
+-- What is so while a lock is free: nobody holds it, so nobody has its segment whole, owes its home a note, or has
 -- a change of a key of that home planned.
 use Rattle.std.proofs.Common.{◌≡◌, ℕ, ◌%◌, ◌<◌, List, inl, inr, ap, ◌∙◌, subst, arith}
 use Rattle.trace.specs.Events.{Words}

@@ -1,4 +1,4 @@
--- Notes of readers stay notes, and noted answers right, at each kind of step of a caller while the structure moves.
+-- Notes of readers stay notes, and noted answers right, at each kind of step of a caller.
 use Rattle.std.proofs.Common.{◌≡◌, ℕ, ◌+◌, ◌%◌, ◌^◌, ◌≤◌, Bool, true, false, cond, eqb, List, ◌∷◌, set, Option, None, Some, inl, inr, refl, sym, ap, ◌∙◌, subst, arith}
 use Rattle.std.proofs.lemmas.Bool.{eqb-true}
 use Rattle.std.specs.Option.{unwrap_or}

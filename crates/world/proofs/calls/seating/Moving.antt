@@ -1,5 +1,5 @@
--- Views that are cut in two or joined keep what holds while the structure moves: each part of it goes with the views to their seats.
-use Rattle.std.proofs.Common.{◌≡◌, ◌⊎◌, ℕ, ◌+◌, List, inl, inr}
+-- Views that are cut in two or joined keep the invariant: each part of it goes with the views to their seats.
+use Rattle.std.proofs.Common.{◌≡◌, ◌⊎◌, ℕ, ◌+◌, List, inl, inr, subst}
 use Rattle.trace.specs.Events.{Words}
 use Rattle.image_layout.specs.Places.{bucket_at, homes}
 use Rattle.bucket_words.specs.Hits.{find}
@@ -8,10 +8,11 @@ use Rattle.world.specs.Views.{Glance, View, Has}
 use Rattle.world.specs.History.{Log}
 use Rattle.world.specs.Parts.{IsPastLock}
 use Rattle.world.specs.Invariant.{IsWatched, Structure, KnownWords, Records, Overflow, Media, IsPastHeader, Notes, Holds}
-use Rattle.world.specs.areas.Areas.{Area, Whole}
+use Rattle.world.specs.areas.Areas.{Area, Side, Whole, Allocation}
 use Rattle.world.specs.areas.Fitting.{HoldsWord}
 use Rattle.world.specs.areas.Kinds.{area_of}
 use Rattle.world.specs.StepLaws.{CutsKeep, JoinsKeep}
+use Rattle.world.proofs.basics.Lists.{same_at}
 use Rattle.world.proofs.stepping.Reseated.{Reseats, fewer, still_stands, still_removing, still_moving, none_owed, pinned_go, locks_go, plans_go, history_goes, moves_held, owed_held, room_goes, spending_goes, powered_goes, noted, answered_goes, cut_reseats, join_reseats}
 use Rattle.world.proofs.fitting.lasting.Seated.{SeatsMove, may_move, fits_go, owners_go, lasting_goes, cut_moves, join_moves}
 
@@ -25,7 +26,7 @@ module _ (site : Ground) (words : Words) (views views' : List View) (r : Reseats
   was_watched : (s : ℕ) → IsWatched site words views' s → IsWatched site words views s
   was_watched s q = (q.0, λ j o at whole. let t = g.areas_stay j o (Whole s) at whole in q.1 (g.goes j) t.0 t.1 t.2)
 
-  -- ---- each part of what holds while the structure moves
+  -- ---- each part of the invariant
   structure_goes : Structure site words views → Structure site words views'
   structure_goes q = record {
     sound = λ m p. q.sound m (fewer site words views views' r m p);
@@ -37,6 +38,14 @@ module _ (site : Ground) (words : Words) (views views' : List View) (r : Reseats
     pinned = λ j v s x at has. pinned_go site words views views' r j v s x at has (λ i o a is. q.pinned i o s x a is);
     owners = owners_go site words views views' g q.owners;
     lasting = lasting_goes site words views views' g q.lasting;
+    settled_slots = λ n slot some. elim (q.settled_slots n slot some) [
+      | inl o ↦
+          let a = g.areas_stay o.0 o.1 Allocation o.2 o.3 in
+          let b = g.areas_stay o.0 o.1 (Side n) o.2 o.4 in
+          let same : b.0 ≡ a.0 = same_at views' (g.goes o.0) b.0 a.0 b.1 a.1 in
+          inl (g.goes o.0, a.0, a.1, a.2, subst (λ (z : View). Has (Side n) z.areas) same b.2)
+      | inr taken ↦ inr (λ m p. taken m (fewer site words views views' r m p))
+    ];
   }
 
   words_go : KnownWords site words views → KnownWords site words views'
@@ -99,9 +108,9 @@ module _ (site : Ground) (words : Words) (views views' : List View) (r : Reseats
     powered = powered_goes site words views views' r h.powered;
   }
 
-pub cuts_keep_moving : CutsKeep
-cuts_keep_moving site words views j v n h at fits = holding_goes site words views _ (cut_reseats views j v n at fits h.room.each) (cut_moves views j v n at) h
+pub cuts_keep : CutsKeep
+cuts_keep site words views j v n h at fits = holding_goes site words views _ (cut_reseats views j v n at fits h.room.each) (cut_moves views j v n at) h
 
-pub joins_keep_moving : JoinsKeep
-joins_keep_moving site words views j i v w h at at' apart =
+pub joins_keep : JoinsKeep
+joins_keep site words views j i v w h at at' apart =
     holding_goes site words views _ (join_reseats views j i v w at at' apart h.room.each) (join_moves views j i v w at at' apart) h

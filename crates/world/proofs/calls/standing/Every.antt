@@ -1,4 +1,4 @@
--- Each kind of step keeps what holds while the structure moves: its parts, put together.
+-- Each kind of step keeps the invariant: its parts, put together.
 use Rattle.std.proofs.Common.{◌≡◌, ℕ, List, refl, subst}
 use Rattle.trace.specs.Events.{Words}
 use Rattle.segment_head.specs.HeadWord.{HasLiveState}

@@ -6,7 +6,7 @@ use Rattle.std.proofs.lemmas.Bool.{eqb-true, and_parts}
 use Rattle.trace.specs.Events.{Words, with_word, after}
 use Rattle.trace.specs.Events.Event.{loaded, exchanged}
 use Rattle.trace.proofs.Replaced.{replaced_other}
-use Rattle.segment_head.specs.HeadWord.{version_in, is_live}
+use Rattle.segment_head.specs.HeadWord.{version_in, state_in, is_live}
 use Rattle.image_layout.specs.Places.{root_word, entry_at, head_at, words_of, bucket_at}
 use Rattle.image_layout.specs.Volatile.{counter_word, power_word}
 use Rattle.map_model.specs.declared.call.Call.{Call}
@@ -22,6 +22,7 @@ use Rattle.world.specs.Conditions.{May}
 use Rattle.world.specs.Parts.{IsPinned}
 use Rattle.world.specs.Invariant.{Structure, Holds}
 use Rattle.world.specs.Laws.{found_by, words_by, views_by}
+use Rattle.world.specs.areas.Areas.{Side, Allocation, header_word}
 use Rattle.world.specs.areas.Fitting.{Fits}
 use Rattle.world.specs.areas.Rows.{HasStored}
 use Rattle.world.specs.areas.Lasting.{Owners, Lasting, AreSoundMedia}
@@ -41,6 +42,7 @@ use Rattle.world.proofs.moving.Known.{grounds, held_living}
 use Rattle.world.proofs.moving.Stepping.{structured_by, still_back, fenced_less}
 use Rattle.world.proofs.moving.Keepers.{guards_of}
 use Rattle.world.proofs.moving.HeldGuards.{held_same}
+use Rattle.world.proofs.moving.media.Settled.{stays_settled}
 use Rattle.world.proofs.mild.Steps.{guard_behind}
 
 -- ---- what becomes of a view
@@ -76,7 +78,7 @@ pub record LeavesStructure (site : Ground) (words us : Words) (views views' : Li
   pub media : (m : Words) → IsPossible site us views' m → (q : Words) × IsPossible site words views q × HasStructure site.shape q m
   pub guards : (guard : Guard) → us (guard_word site.shape guard) ≡ words (guard_word site.shape guard)
 
--- all that is said of areas is so while the structure moves
+-- all that is said of areas is so
 pub areas_stand : (site : Ground) (words : Words) (views : List View) → Structure site words views → AreasStand site words views
 areas_stand site words views s = record {
   fits = s.fits;
@@ -133,6 +135,10 @@ module _ (site : Ground) (words : Words) (views : List View) (j : ℕ) (v : View
           (λ c u ne a has. still_pinned c u u s x a (h.structure.pinned c u s x a has) (λ lock l. l)) c u a has;
       owners = fit.1;
       lasting = fit.2;
+      settled_slots = λ n slot some. stays_settled site words views j v h at us w n slot
+          (λ is. some (ap state_in (leaves.now (header_word site.shape n) (header_is site.shape n slot)) ∙ is))
+          (λ guard side. inl (subst (Has Allocation) (sym areas) guard, subst (Has (Side n)) (sym areas) side))
+          (λ m p is. let q = leaves.media m p in (q.0, q.1, sym (ap state_in (q.2 (header_word site.shape n) (header_is site.shape n slot))) ∙ is));
     }
 
   -- ---- which words a step leaves
@@ -187,7 +193,7 @@ module _ (site : Ground) (words : Words) (views : List View) (j : ℕ) (v : View
         guards = λ guard. replaced_other words i x (guard_word site.shape guard) (λ e. omega (arith, near, guard_behind site.shape guard, e));
       }
 
-  leaves : (kind : Kind) → May site kind v → LeavesStructure site words (words_by site kind j words) views (views_by site kind j v words views)
+  pub leaves : (kind : Kind) → May site kind v → LeavesStructure site words (words_by site kind j words) views (views_by site kind j v words views)
   leaves (peeks i) may = like_leaves _ (refl, refl, refl, refl, refl)
   leaves asks_power may = like_leaves _ (refl, refl, refl, refl, refl)
   leaves meets_root may = less_leaves _ (λ p l. l)

@@ -8,7 +8,7 @@ use Rattle.sound_image.specs.Segments.{frame_of}
 use Rattle.segment_table.specs.Claims.{HasSoundFrame}
 use Rattle.bucket_words.specs.Core.{core_of}
 use Rattle.bucket_words.specs.Owners.{HasStructure}
-use Rattle.frame_facts.specs.Facts.{Fact, HoldsFact, Lives, Current, Rooted, Owns, Lacks, Deep, Begins, Used, IsNewSide}
+use Rattle.frame_facts.specs.Facts.{Fact, HoldsFact, Lives, Current, Rooted, Owns, Lacks, Deep, Begins, Used, Taken, IsNewSide}
 use Rattle.frame_facts.specs.Keeping.{AreSound, ClaimsNoneOfSide, KeepsFact}
 use Rattle.frame_facts.proofs.Structure.{followed}
 use Rattle.frame_facts.proofs.Stores.{takes, frees as frees_facts, begins, ends, drops, renewed, went_live}
@@ -16,7 +16,7 @@ use Rattle.frame_facts.proofs.Sides.{one_parent}
 use Rattle.world.specs.Ground.{Ground, version_of}
 use Rattle.world.specs.Views.{View, Has, At}
 use Rattle.world.specs.Media.{MayLeave, IsPossible}
-use Rattle.world.specs.areas.Areas.{Area, Segment, Directory, header_word}
+use Rattle.world.specs.areas.Areas.{Area, Segment, Allocation, Directory, header_word}
 use Rattle.world.specs.areas.Fitting.{Fits, HasGrounds}
 use Rattle.world.specs.areas.Rows.{Row, marks, news, goes_live, finishes, unmarks, frees, renews, IsRow, IsRowIn, HasForRow, areas_by, HasStored}
 use Rattle.world.specs.areas.Lasting.{AreSoundMedia}
@@ -117,7 +117,7 @@ module _ (site : Ground) (words q : Words) (s x : ℕ) (a : AreSound site.shape 
       let one : t ≡ p = one_parent site.shape.depth (frame_of site.shape q) a.shape_fits.depth a.there (version_of site) (version_in (q (header_word site.shape p))) t p s side of_p in
       row.2 (subst (λ z. version_in (q (header_word site.shape z)) ≡ version_of site) one side.current)
 
-  spared_claims : (p : ℕ) (fact : Fact) → IsSpared (goes_live p) fact → ClaimsNoneOfSide (frame_of site.shape q) p fact
+  spared_claims : (p : ℕ) (fact : Fact) → IsSpared (goes_live p) s fact → ClaimsNoneOfSide (frame_of site.shape q) p fact
   spared_claims p (Lives t) k = tt
   spared_claims p (Current t) k = tt
   spared_claims p (Rooted e) k = tt
@@ -126,16 +126,17 @@ module _ (site : Ground) (words q : Words) (s x : ℕ) (a : AreSound site.shape 
   spared_claims p (Deep f d y) k = tt
   spared_claims p (Begins t h) k = tt
   spared_claims p (Used n) k = tt
+  spared_claims p (Taken n) k = tt
 
   pub row_keeps_fact : (row : Row) → IsRow site words row s x → IsRow site q row s x → (row ≡ unmarks → version_in (words (header_word site.shape s)) ≢ version_of site)
-      → (fact : Fact) → IsSpared row fact → KeepsFact site.shape (version_of site) words q i x fact
+      → (fact : Fact) → IsSpared row s fact → KeepsFact site.shape (version_of site) words q i x fact
   row_keeps_fact (marks n) now there stale fact k = begins site.shape (version_of site) words q a s x (now.0, there.0) (λ e. now.2 ∙ e) fact
   row_keeps_fact (news p) now there stale fact k = takes site.shape (version_of site) words q a s x (now.0, there.0) fact
   row_keeps_fact (goes_live p) now there stale fact k = went_live site.shape (version_of site) words q a p s x (now.0, there.0) fact (spared_claims p fact k)
   row_keeps_fact finishes now there stale fact k = ends site.shape (version_of site) words q a s x (now.0, there.0) (λ e. now.1 ∙ e) fact
   row_keeps_fact unmarks now there stale fact k = drops site.shape (version_of site) words q a s x (now.0, there.0) (λ e. now.1 ∙ e)
       (λ n. stale_side n (λ e. stale refl (sym now.1 ∙ there.1 ∙ e))) fact
-  row_keeps_fact (frees p) now there stale fact k = frees_facts site.shape (version_of site) words q a s x (now.0, there.0) (freed_side p there) fact
+  row_keeps_fact (frees p) now there stale fact k = frees_facts site.shape (version_of site) words q a s x (now.0, there.0) (freed_side p there) fact k
   row_keeps_fact renews now there stale fact k = renewed site.shape (version_of site) words q a s x (now.0, there.0) ((λ e. now.2), (λ e. now.2)) fact
 
 module _ (site : Ground) (words : Words) (views : List View) (j : ℕ) (v w : View) (row : Row) (s x : ℕ) (g : HasGrounds site words views) (f : Fits site words views)
@@ -143,7 +144,7 @@ module _ (site : Ground) (words : Words) (views : List View) (j : ℕ) (v w : Vi
     (is : (medium : Words) → IsPossible site words views medium → IsRowIn site medium row s x)
     (has : HasForRow site words row s v.areas)
     (st : HasStored site.shape (header_word site.shape s) (words (header_word site.shape s)) x (areas_by row s v.areas) v w)
-    (facts : (fact : Fact) → Has fact w.facts → Has fact v.facts × IsSpared row fact) (o : Saying site words views) where
+    (facts : (fact : Fact) → Has fact w.facts → Has fact v.facts × IsSpared row s fact) (o : Saying site words views) where
   stale_by : (r : Row) → HasForRow site words r s v.areas → r ≡ unmarks → version_in (words (header_word site.shape s)) ≢ version_of site
   stale_by (marks n) h e = absurd (let k : marks n ≡ unmarks = e in cc)
   stale_by (news p) h e = absurd (let k : news p ≡ unmarks = e in cc)
@@ -153,7 +154,7 @@ module _ (site : Ground) (words : Words) (views : List View) (j : ℕ) (v w : Vi
   stale_by (frees p) h e = absurd (let k : frees p ≡ unmarks = e in cc)
   stale_by renews h e = absurd (let k : renews ≡ unmarks = e in cc)
 
-  stays : (fact : Fact) → IsSpared row fact → IsSaid site words views fact → IsSaid site (with_word words (header_word site.shape s) x) (set views j w) fact
+  stays : (fact : Fact) → IsSpared row s fact → IsSaid site words views fact → IsSaid site (with_word words (header_word site.shape s) x) (set views j w) fact
   stays fact k = stays_said site words views j v w (header_word site.shape s) x (areas_by row s v.areas) g at (head_near site s (row_slot site words s x row now)) st fact sound
       (λ q p. let z = is q p in let there = sound_same site words views g q z.0 (sound q p) z.1 in
       sound_same site words views g (with_word z.0 (header_word site.shape s) x) (with_word q (header_word site.shape s) x)
@@ -166,8 +167,8 @@ module _ (site : Ground) (words : Words) (views : List View) (j : ℕ) (v w : Vi
             row now z.2 (stale_by row has) fact k,
       ))
 
-  -- what another view says is no claim that the row ends: it would have a guard that the stepper has
-  spared_by : (r : Row) → HasForRow site words r s v.areas → (c : ℕ) (u : View) → c ≢ j → At views c u → (fact : Fact) → MaySay u.areas fact → IsSpared r fact
+  -- what another view says the row does not end: it would have a guard that the stepper has
+  spared_by : (r : Row) → HasForRow site words r s v.areas → (c : ℕ) (u : View) → c ≢ j → At views c u → (fact : Fact) → MaySay u.areas fact → IsSpared r s fact
   spared_by (marks n) h c u ne a fact may = tt
   spared_by (news p) h c u ne a fact may = tt
   spared_by (goes_live p) h c u ne a (Owns t d y) may = λ e. elim may [
@@ -181,9 +182,10 @@ module _ (site : Ground) (words : Words) (views : List View) (j : ℕ) (v w : Vi
   spared_by (goes_live p) h c u ne a (Deep k d y) may = tt
   spared_by (goes_live p) h c u ne a (Begins t y) may = tt
   spared_by (goes_live p) h c u ne a (Used n) may = tt
+  spared_by (goes_live p) h c u ne a (Taken n) may = tt
   spared_by finishes h c u ne a fact may = tt
   spared_by unmarks h c u ne a fact may = tt
-  spared_by (frees p) h c u ne a fact may = tt
+  spared_by (frees p) h c u ne a fact may = λ e. ne (f.one_allocation c j u v a at (subst (MaySay u.areas) e may) h.1)
   spared_by renews h c u ne a fact may = tt
 
   -- guards stay
@@ -199,6 +201,7 @@ module _ (site : Ground) (words : Words) (views : List View) (j : ℕ) (v w : Vi
   may_after (Deep k d y) m = tt
   may_after (Begins t y) m = tt
   may_after (Used n) m = tt
+  may_after (Taken n) m = subst (Has Allocation) (sym st.areas_are) (row_after row s Allocation v.areas refl refl m)
 
   pub saying : Saying site (with_word words (header_word site.shape s) x) (set views j w)
   saying = record {

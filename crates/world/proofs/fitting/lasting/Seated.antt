@@ -2,7 +2,7 @@
 use Rattle.std.proofs.Common.{◌≡◌, ◌≢◌, ℕ, List, [], ◌∷◌, ◌++◌, set, inl, inr, sym, ap, ◌∙◌}
 use Rattle.trace.specs.Events.{Words}
 use Rattle.image_layout.specs.Places.{bucket_at}
-use Rattle.frame_facts.specs.Facts.{Fact, Lives, Current, Rooted, Owns, Lacks, Deep, Begins, Used}
+use Rattle.frame_facts.specs.Facts.{Fact, Lives, Current, Rooted, Owns, Lacks, Deep, Begins, Used, Taken}
 use Rattle.world.specs.Ground.{Ground}
 use Rattle.world.specs.Views.{View, Has, At, IsLoose}
 use Rattle.world.specs.Media.{IsPossible}
@@ -56,6 +56,7 @@ module _ (site : Ground) (words : Words) (views views' : List View) (r : SeatsMo
   may_move i u f (Deep k d p) m = tt
   may_move i u f (Begins s k) m = tt
   may_move i u f (Used n) m = tt
+  may_move i u f (Taken n) m = f.areas Allocation m
 
   -- a guard has one holder
   one : (a : Area) → ((i k : ℕ) (u y : View) → At views i u → At views k y → Has a u.areas → Has a y.areas → i ≡ k)

@@ -10,5 +10,5 @@ may_direct site v ground = record {
   fill = λ g e i x holder guard root above within below. fill site ground v holder guard g e i x root above within below;
   root = λ g word holder guard root room upper deeper filled. double site ground v holder guard g word root room upper deeper filled;
   enter = λ g i n d p holder guard root within less below inside owns. enter site ground v holder guard g i n d p root within less below inside owns;
-  settled = λ s n g word holder sides guard apart head splits linked root shallow owns named. settle site ground v s n g word sides apart head splits linked root shallow owns named;
+  settled = λ s n g word sides apart head splits linked root shallow owns named. settle site ground v s n g word sides apart head splits linked root shallow owns named;
 }

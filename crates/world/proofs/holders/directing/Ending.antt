@@ -72,11 +72,11 @@ module _ (site : Ground) (ground : IsGround site) (v : View) (s x : ℕ) (word :
   row_there : (words medium : Words) → MayBeNewest site v words → MayStandBeside site v words medium → IsRow site medium finishes s x
   row_there words medium new side = row medium side.structure (known_there site ground v words medium new side i (word i) head.header) (side.says _ lacks).1 (side.says _ deep)
 
-  harmless : IsHarmlessStore site v (ends_by site finishes) i x
+  harmless : IsHarmlessStore site v (ends_by site finishes s) i x
   harmless words medium new side =
       let here = row_now words new in
       let other = row_there words medium new side in
-      kept_all site ground words medium (ends_by site finishes medium) i x side.structure side.table (head_far shape s) (structure_apart shape i (header_is shape s head.slot))
+      kept_all site ground words medium (ends_by site finishes s medium) i x side.structure side.table (head_far shape s) (structure_apart shape i (header_is shape s head.slot))
       (ends_split shape medium ground.shape side.structure.sound s x other.0)
       (ends shape (version_of site) words medium (both_sound site ground v words medium new side) s x (here.0, other.0) (λ was. here.1 ∙ was))
 

@@ -53,7 +53,7 @@ module _ (site : Ground) (ground : IsGround site) (v : View) (s n x : ℕ) (word
   marks_there : (words : Words) → IsStructured site words → HasHead site word words s → IsRow site words (marks n) s x
   marks_there words sound same = (begins_there words sound same, same.link ∙ named, is.version_is ∙ ap version_in (sym same.header))
 
-  marks_harmless : IsHarmlessStore site v (ends_by site (marks n)) (header_word site.shape s) x
+  marks_harmless : IsHarmlessStore site v (ends_by site (marks n) s) (header_word site.shape s) x
   marks_harmless words medium new side =
       let now = begins_there words new.structure (head_now site ground v s word knows words new) in
       let there = begins_there medium side.structure (head_there site ground v s word knows words medium new side) in
@@ -138,7 +138,7 @@ module _ (site : Ground) (ground : IsGround site) (v : View) (s n x : ℕ) (word
   news_beside : (words medium : Words) → MayBeNewest site v words → MayStandBeside site v words medium → IsRow site medium (news s) n x
   news_beside words medium new side = news_there medium side.structure (head_there site ground v s word knows words medium new side) (head_there site ground v n word finds words medium new side)
 
-  news_harmless : IsHarmlessStore site v (ends_by site (news s)) (header_word site.shape n) x
+  news_harmless : IsHarmlessStore site v (ends_by site (news s) n) (header_word site.shape n) x
   news_harmless words medium new side =
       let there = (news_beside words medium new side).0 in
       let keeps = takes_slot site.shape medium ground.shape side.structure.sound n x there in

@@ -1,5 +1,5 @@
 -- The stores to a slot of one's own, and those of links.
-use Rattle.std.proofs.Common.{◌≡◌, ◌≢◌, ℕ, ◌+◌, ◌*◌, ◌-◌, ◌%◌, ◌^◌, ◌<◌, ◌≤◌, inl, inr, refl, sym, ap, ◌∙◌, subst, arith}
+use Rattle.std.proofs.Common.{◌≡◌, ◌≢◌, ℕ, ◌+◌, ◌*◌, ◌%◌, ◌<◌, ◌≤◌, inl, inr, refl, sym, ap, ◌∙◌, subst, arith}
 use Rattle.trace.specs.Events.{Words}
 use Rattle.segment_head.specs.HeadWord.{state_in, splitting, HasLiveState}
 use Rattle.image_layout.specs.Places.{Shape, state_word, first_segment}
@@ -9,7 +9,7 @@ use Rattle.segment_table.proofs.StoreLaws.{links, stores_apart}
 use Rattle.frame_facts.specs.DeadSlots.{IsInSlot, IsPlainInSlot}
 use Rattle.frame_facts.proofs.Stores.{linked, untouched}
 use Rattle.frame_facts.proofs.DeadSlots.{plain_apart, plain_no_entry, dead_store}
-use Rattle.world.specs.Ground.{Ground, IsGround, version_of, IsLockWord, IsSpentLock}
+use Rattle.world.specs.Ground.{Ground, IsGround, version_of, IsLockWord, IsLiveLock}
 use Rattle.world.specs.Views.{View, Has}
 use Rattle.world.specs.Holders.{KnowsWord}
 use Rattle.world.specs.areas.Areas.{Segment, Side, Free, header_word}
@@ -19,6 +19,7 @@ use Rattle.world.specs.areas.Asking.{MayBeNewest, IsUnderWhole, IsUnderDead, Kno
 use Rattle.world.specs.areas.Splitting.{link_word, IsSettledHolder, HasOwnSlot, MayFill}
 use Rattle.world.proofs.basics.Structures.{lock_no_structure, link_is, lock_of_live}
 use Rattle.world.proofs.fitting.OneHolder.{one_slot, head_in_slot}
+use Rattle.world.proofs.moving.Holding.{bucket_in_slot}
 use Rattle.world.proofs.holders.filling.Known.{slot_far, structure_stays, both_sound, known_there, table_stays}
 
 -- the link of a slot is a word of it, and no header
@@ -75,9 +76,14 @@ module _ (site : Ground) (ground : IsGround site) (v : View) (n head : ℕ) (own
             (apart words new.structure.sound.root, apart medium side.structure.sound.root) (plain_no_entry site.shape n i plain words new.structure.sound.root) fact;
       }
 
-  pub word_set : (i x : ℕ) → IsSettledHolder site.shape v → IsPlainInSlot site.shape n i → (IsLockWord site.shape i → x % 2 ≡ 0)
-      → ((words : Words) → MayBeNewest site v words → IsSpentLock site.shape words i → x ≡ 2 ^ 64 - 2) → MayAt site (sets i x) v
-  word_set i x holder plain even spent = record {
+  -- so no lock word there is one of a live segment
+  no_live_lock : (i : ℕ) → IsInSlot site.shape n i → (words : Words) → MayBeNewest site v words → IsLiveLock site.shape words i → ⊥
+  no_live_lock i inside words new lock =
+      let same : lock.0 ≡ n = one_slot site.shape lock.0 n i (subst (IsInSlot site.shape lock.0) (sym lock.4) (bucket_in_slot site.shape lock.0 lock.1 lock.3)) inside in
+      dead_there words (new.knows (header_word site.shape n) head own.header.known) (subst (IsLive (frame_of site.shape words)) same lock.5.live)
+
+  pub word_set : (i x : ℕ) → IsSettledHolder site.shape v → IsPlainInSlot site.shape n i → (IsLockWord site.shape i → x % 2 ≡ 0) → MayAt site (sets i x) v
+  word_set i x holder plain even = record {
     holds = holds_own i plain.inside;
     no_header = λ s _. plain_no_header site.shape n i s plain;
     no_state = no_state site.shape n i plain.inside;
@@ -86,7 +92,7 @@ module _ (site : Ground) (ground : IsGround site) (v : View) (n head : ℕ) (own
     planned = holder.planned;
     owed = holder.owed;
     even = even;
-    spent = spent;
+    spent = λ words new is. absurd (no_live_lock i plain.inside words new is.0);
     harmless = word_harmless i x plain;
   }
 
@@ -130,7 +136,7 @@ not_splitting head dead is = dead (inr is)
 
 pub may_fill : (site : Ground) (v : View) → IsGround site → MayFill site v
 may_fill site v ground = record {
-  word = λ n i x head holder own plain even spent. word_set site ground v n head own i x holder plain even spent;
+  word = λ n i x head holder own plain even. word_set site ground v n head own i x holder plain even;
   side_link = λ n l head holder own low. link_set site ground v n l head own.slot own.header (not_splitting head own.dead) low holder
       (holds_own site ground v n head own (link_word site.shape n) (link_in_slot site.shape n)) (own_dead site ground v n head own (link_word site.shape n) (link_in_slot site.shape n));
   link = λ s l head holder slot has none knows still low. link_set site ground v s l head slot knows still low holder (inr (Segment s, has, inr refl))

@@ -12,7 +12,7 @@ use Rattle.world.specs.Ground.{Ground, IsUnder}
 use Rattle.world.specs.Views.{Move, View, Has, HasLock}
 use Rattle.world.specs.Conditions.{IsNewest}
 use Rattle.world.specs.areas.Areas.{header_word}
-use Rattle.world.specs.areas.Splitting.{KnowsHead, KnowsBuckets, IsInOrderByLocks}
+use Rattle.world.specs.areas.Splitting.{KnowsBuckets, IsInOrderByLocks}
 use Rattle.world.proofs.basics.Grounds.{home_near, under_lock}
 use Rattle.world.proofs.holding.Known.{hit_from}
 
@@ -37,13 +37,13 @@ module _ (site : Ground) (v : View) (words word : Words) (s : ℕ) (new : IsNewe
           | inr m ↦ absurd (subst (λ (ms : List Move). Has m.0 ms) none m.1)
         ]
 
-    pub is_own : KnowsHead site.shape v s word → (b r k : ℕ) → Hit site.shape word s b r k
+    pub is_own : Has (header_word site.shape s, word (header_word site.shape s)) v.known → (b r k : ℕ) → Hit site.shape word s b r k
         → Covers (depth_in (word (header_word site.shape s))) (pattern_in (word (header_word site.shape s))) (key_hash site.shape k)
     is_own head b r k hit =
         let own = new.own s b r k (locks b hit.bucket) (stands_now b r k hit) in
         let owns = found_owns (frame_of site.shape words) (key_hash site.shape k) s own in
         subst (λ (z : ℕ). Covers (depth_in z) (pattern_in z) (key_hash site.shape k))
-        (new.knows (header_word site.shape s) (word (header_word site.shape s)) head.header.known) owns.own.covers
+        (new.knows (header_word site.shape s) (word (header_word site.shape s)) head) owns.own.covers
 
 pub in_order_by_locks : (site : Ground) (v : View) → IsInOrderByLocks site v
 in_order_by_locks site v = record {

@@ -12,7 +12,7 @@ use Rattle.segment_table.proofs.StoreLaws.{goes_live as side_goes_live}
 use Rattle.bucket_words.specs.Owners.{owner_of}
 use Rattle.bucket_words.specs.Standing.{IsTable}
 use Rattle.bucket_words.specs.TableChanges.{KeepsTable}
-use Rattle.frame_facts.specs.Facts.{Fact, Lives, Current, Rooted, Owns, Lacks, Deep, Begins, Used}
+use Rattle.frame_facts.specs.Facts.{Fact, Lives, Current, Rooted, Owns, Lacks, Deep, Begins, Used, Taken}
 use Rattle.frame_facts.specs.Keeping.{ClaimsNoneOfSide}
 use Rattle.frame_facts.specs.Copies.{IsNoBucketWord}
 use Rattle.frame_facts.proofs.Owners.{owner_moves}
@@ -48,6 +48,7 @@ claims_none frame s (Lacks t d p) k = tt
 claims_none frame s (Deep f d p) k = tt
 claims_none frame s (Begins t h) k = tt
 claims_none frame s (Used t) k = tt
+claims_none frame s (Taken t) k = tt
 
 module _ (site : Ground) (ground : IsGround site) (v : View) (s n x : ℕ) (word : Words) (ready : IsReadyToLive site v s n word)
     (is : IsHeader x normal (depth_in (word (header_word site.shape n))) (pattern_in (word (header_word site.shape n))) (version_in (word (header_word site.shape n)))) where
@@ -102,7 +103,7 @@ module _ (site : Ground) (ground : IsGround site) (v : View) (s n x : ℕ) (word
     }
 
     row : IsRow site w (goes_live s) n x
-    row = (goes, is.version_is ∙ ap version_in (sym side_head))
+    row = (goes, is.version_is ∙ ready.new.version_is)
 
     hands : StoreHandsOver shape w s n at x
     hands = side_goes_live shape w ground.shape structured.sound s n x goes
@@ -152,7 +153,6 @@ module _ (site : Ground) (ground : IsGround site) (v : View) (s n x : ℕ) (word
     ready.holder.planned,
     keeps,
     (
-      ready.holder.planned,
       ready.free,
       (λ words now. in_order words (shown_now site v words now) now.structure),
       ready.firm,

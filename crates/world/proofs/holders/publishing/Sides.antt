@@ -2,7 +2,7 @@
 use Rattle.std.proofs.Common.{◌≡◌, ℕ, ◌+◌, ◌*◌, ◌<◌, ◌≤◌, ap, sym, ◌∙◌, arith}
 use Rattle.bucket_meta.specs.Bucket.{allocated, member, finger, overflow_count, record_slots}
 use Rattle.trace.specs.Events.{Words}
-use Rattle.image_layout.specs.Places.{Shape, bucket_at, homes, stash_buckets, buckets}
+use Rattle.image_layout.specs.Places.{Shape, bucket_at, homes, buckets}
 use Rattle.sound_image.specs.Records.{HasExactNotes}
 use Rattle.hash_word.specs.Hash.{probing_of}
 use Rattle.bucket_words.specs.Hits.{Hit}

@@ -17,7 +17,7 @@ use Rattle.bucket_words.specs.Core.{core_of, core}
 use Rattle.bucket_words.specs.Hits.{Hit, find}
 use Rattle.bucket_words.specs.Owners.{owner_of}
 use Rattle.bucket_words.proofs.segments.Cores.{hit_of_cores, core_structure}
-use Rattle.frame_facts.specs.Facts.{Fact, Owns}
+use Rattle.frame_facts.specs.Facts.{Fact, Owns, Taken}
 use Rattle.frame_facts.specs.DeadSlots.{IsInSlot}
 use Rattle.frame_facts.proofs.Owners.{owned_fits}
 use Rattle.world.specs.Ground.{Ground, version_of, IsUnder, IsCurrentIn}
@@ -28,7 +28,7 @@ use Rattle.world.specs.Invariant.{IsWatched, Media, Holds}
 use Rattle.world.specs.areas.Areas.{Area, Segment, Stale, Side, Free, Whole, Allocation, Directory, header_word, InArea, is_side_at, is_whole_at, all_but}
 use Rattle.world.specs.areas.Fitting.{HoldsWord}
 use Rattle.world.specs.areas.Rows.{Row, marks, news, goes_live, finishes, unmarks, frees, renews, IsRow, HasForRow, HasStored}
-use Rattle.world.specs.areas.Kinds.{Guard, of_segment, of_free_slots, of_directory, guard_word, goes_with, view_then, StructureKind, takes, gives, finds_stale, closes, finds_free, finds_side, reads, sets, moves, settles, settles_side, opens, with_guard, with_area}
+use Rattle.world.specs.areas.Kinds.{Guard, of_segment, of_free_slots, of_directory, guard_word, goes_with, view_then, StructureKind, takes, gives, finds_stale, closes, finds_free, finds_side, reads, sets, moves, settles, settles_side, opens, with_guard, with_area, with_slot}
 use Rattle.world.specs.areas.Asking.{IsFirmIn, HasOpened, IsUnderWhole, IsUnderDead, KeepsAll, EndsNothing, ends_by, MaySet, AsksForRow, MayAt}
 use Rattle.world.specs.areas.Keeping.{whole_beside, found_at, words_then, KeepsMedia}
 use Rattle.world.proofs.basics.Lists.{set_here}
@@ -40,7 +40,7 @@ use Rattle.world.proofs.fitting.OneHolder.{one_holder, one_slot, head_in_slot}
 use Rattle.world.proofs.fitting.Rows.{but_after, row_after, row_slot, head_near}
 use Rattle.world.proofs.moving.Known.{grounds, whole_possible, held_within, newest_is}
 use Rattle.world.proofs.moving.Stepping.{IsStill, still_back, calm_still, grown_whole}
-use Rattle.world.proofs.moving.media.Said.{by_known, taken_still, found_still, fence_still, opened_still, row_stored}
+use Rattle.world.proofs.moving.media.Said.{by_known, taken_still, found_still, slot_still, fence_still, opened_still, row_stored}
 use Rattle.world.proofs.moving.Stepping.{guard_still}
 
 -- ---- which words are none of a segment's buckets
@@ -197,13 +197,13 @@ module _ (site : Ground) (words : Words) (views : List View) (j : ℕ) (v : View
 
   module _ (i x : ℕ) (ends : Words → Fact → Type 0) (harmless : (q : Words) → IsPossible site words views q → KeepsAll site (ends (old_of q)) words (old_of q) i x) where
     -- facts tell owners, where none of them is ended
-    pub facts_back : (s : ℕ) → ((m : Words) (fact : Fact) → ends m fact → ⊥) → IsBack i x s
+    pub facts_back : (s : ℕ) → ((m : Words) (c d e : ℕ) → ends m (Owns c d e) → ⊥) → IsBack i x s
     facts_back s never q p k own =
         let there = (harmless q p).structure.sound in
         let most = h.site_is.shape.depth in
         let fits = owned_fits site.shape.depth most (frame_of site.shape (with_word (old_of q) i x)) there s k own in
         let was = (old_sound q p).some k fits in
-        let stays = ((harmless q p).facts (Owns was.0 64 k) (never (old_of q) (Owns was.0 64 k))).has
+        let stays = ((harmless q p).facts (Owns was.0 64 k) (never (old_of q) was.0 64 k)).has
         (λ l below covers. subst (λ (z : ℕ). Claims (frame_of site.shape (old_of q)) was.0 z) (sym (all_bits l k covers)) was.1) in
         claimer_found site.shape.depth (frame_of site.shape (old_of q)) most (old_sound q p) was.0 k fits was.1
         ∙ sym (claimer_found site.shape.depth (frame_of site.shape (with_word (old_of q) i x)) most there was.0 k fits (stays k fits (no_bits k))) ∙ own
@@ -299,7 +299,7 @@ module _ (site : Ground) (words : Words) (views : List View) (j : ℕ) (v : View
       let current = was s watched.0 in
       let before = watched_before (with_word words i x) w s current (λ has. has) watched in (
         held_apart i may.holds may.under_whole may.under_dead s current (λ has. before.1 j v at has),
-        inl (before, facts_back i x (EndsNothing site) harmless s (λ m fact none. none)),
+        inl (before, facts_back i x (EndsNothing site) harmless s (λ m c d e none. none)),
       ))
     where
       was : (s : ℕ) → IsCurrentIn site (with_word words i x) s → IsCurrentIn site words s
@@ -315,7 +315,7 @@ module _ (site : Ground) (words : Words) (views : List View) (j : ℕ) (v : View
         → (Has (Whole s) v.areas → ⊥) → AreFirm s
     firm_here (marks n) is has asks live current none = absurd (none has.0)
     firm_here (news p) is has asks live current none = absurd (elim live [ inl a ↦ omega (arith, a, is.0.becomes) | inr a ↦ omega (arith, a, is.0.becomes) ])
-    firm_here (goes_live p) is has asks live current none = area_firm s (Side s) has.0 (λ i inside. inside) asks.3
+    firm_here (goes_live p) is has asks live current none = area_firm s (Side s) has.0 (λ i inside. inside) asks.2
     firm_here finishes is has asks live current none = absurd (none (has.1 (record { live = record { slot = is.0.slot; live = inr is.0.was }; current = sym is.1 ∙ current })))
     firm_here unmarks is has asks live current none = absurd ((h.structure.fits.stale j v s at has.0).1 (sym is.1 ∙ current))
     firm_here (frees p) is has asks live current none = absurd (elim live [ inl a ↦ omega (arith, a, is.0.becomes) | inr a ↦ omega (arith, a, is.0.becomes) ])
@@ -335,20 +335,24 @@ module _ (site : Ground) (words : Words) (views : List View) (j : ℕ) (v : View
         new_dead : (head : ℕ) → state_in head ≡ fresh → HasLiveState head → ⊥
         new_dead head e l = elim l [ inl a ↦ omega (arith, a, e) | inr a ↦ omega (arith, a, e) ]
 
+    -- a claim is not that the slot is taken
+    no_claim : (c d e : ℕ) → Owns c d e ≡ Taken s → ⊥
+    no_claim c d e ended = cc
+
     -- other segments own in each medium what they own there after
     back_by : (row : Row) → IsRow site words row s x → HasForRow site words row s v.areas → AsksForRow site row s x v
-        → ((q : Words) → IsPossible site words views q → KeepsAll site (ends_by site row (old_of q)) words (old_of q) (header_word site.shape s) x)
+        → ((q : Words) → IsPossible site words views q → KeepsAll site (ends_by site row s (old_of q)) words (old_of q) (header_word site.shape s) x)
         → (t : ℕ) → t ≢ s → IsBack (header_word site.shape s) x t
-    back_by (marks n) is has asks harmless t ne q possible k own = facts_back (header_word site.shape s) x (ends_by site (marks n)) harmless t (λ m fact ended. ended) q possible k own
-    back_by (news p) is has asks harmless t ne q possible k own = facts_back (header_word site.shape s) x (ends_by site (news p)) harmless t (λ m fact ended. ended) q possible k own
+    back_by (marks n) is has asks harmless t ne q possible k own = facts_back (header_word site.shape s) x (ends_by site (marks n) s) harmless t (λ m c d e ended. ended) q possible k own
+    back_by (news p) is has asks harmless t ne q possible k own = facts_back (header_word site.shape s) x (ends_by site (news p) s) harmless t (λ m c d e ended. ended) q possible k own
     back_by (goes_live p) is has asks harmless t ne q possible k own =
         owned_before site.shape (old_of q) (with_word (old_of q) (header_word site.shape s) x) s h.site_is.shape.depth (old_sound q possible) (harmless q possible).structure.sound
         (λ c slot other. replaced_other (old_of q) (header_word site.shape s) x (header_word site.shape c) (other_head site.shape c s other))
-        (side_dead p is has.0 asks.3 q possible) t k ne own
-    back_by finishes is has asks harmless t ne q possible k own = facts_back (header_word site.shape s) x (ends_by site finishes) harmless t (λ m fact ended. ended) q possible k own
-    back_by unmarks is has asks harmless t ne q possible k own = facts_back (header_word site.shape s) x (ends_by site unmarks) harmless t (λ m fact ended. ended) q possible k own
-    back_by (frees p) is has asks harmless t ne q possible k own = facts_back (header_word site.shape s) x (ends_by site (frees p)) harmless t (λ m fact ended. ended) q possible k own
-    back_by renews is has asks harmless t ne q possible k own = facts_back (header_word site.shape s) x (ends_by site renews) harmless t (λ m fact ended. ended) q possible k own
+        (side_dead p is has.0 asks.2 q possible) t k ne own
+    back_by finishes is has asks harmless t ne q possible k own = facts_back (header_word site.shape s) x (ends_by site finishes s) harmless t (λ m c d e ended. ended) q possible k own
+    back_by unmarks is has asks harmless t ne q possible k own = facts_back (header_word site.shape s) x (ends_by site unmarks s) harmless t (λ m c d e ended. ended) q possible k own
+    back_by (frees p) is has asks harmless t ne q possible k own = facts_back (header_word site.shape s) x (ends_by site (frees p) s) harmless t (λ m c d e ended. no_claim c d e ended) q possible k own
+    back_by renews is has asks harmless t ne q possible k own = facts_back (header_word site.shape s) x (ends_by site renews s) harmless t (λ m c d e ended. ended) q possible k own
 
   abbrev row_view : Row → ℕ → ℕ → View
   row_view row s x = view_then site.shape (moves row s x) (words (header_word site.shape s)) v
@@ -358,8 +362,8 @@ module _ (site : Ground) (words : Words) (views : List View) (j : ℕ) (v : View
       let w = row_view row s x in
       let i = header_word site.shape s in
       let is = may.0 words (newest_is site words views h j v at) in
-      let harmless = by_known site words views j v h at i x (ends_by site row) may.2 in
-      media_stored i x w (row_stored site words views j v h at row s x w refl refl refl) (head_near site s (row_slot site words s x row is.0)) may.1 (ends_by site row) harmless
+      let harmless = by_known site words views j v h at i x (ends_by site row s) may.2 in
+      media_stored i x w (row_stored site words views j v h at row s x w refl refl refl) (head_near site s (row_slot site words s x row is.0)) may.1 (ends_by site row s) harmless
       (λ t watched. (
         head_apart site.shape t s,
         elim (cases_eq t s) [
@@ -399,10 +403,22 @@ module _ (site : Ground) (words : Words) (views : List View) (j : ℕ) (v : View
   found_whole true area i x s has = inr has
   found_whole false area i x s has = has
 
+  slot_keeps : (t : Bool) (n i x : ℕ) (call : Call) → Has call v.planned
+      → Has call (with_slot t n i x v).planned × ((lock : ℕ) → HasLock v.held lock → HasLock (with_slot t n i x v).held lock)
+  slot_keeps true n i x call has = (has, (λ lock l. l))
+  slot_keeps false n i x call has = (has, (λ lock l. l))
+
+  slot_whole : (t : Bool) (n i x : ℕ) (s : ℕ) → Has (Whole s) v.areas → Has (Whole s) (with_slot t n i x v).areas
+  slot_whole true n i x s has = inr has
+  slot_whole false n i x s has = has
+
+  slot_media : (t : Bool) (n i x : ℕ) → Media site words (set views j (with_slot t n i x v)) h.log
+  slot_media t n i x = media_still words (with_slot t n i x v) (slot_still site words views j v h at t n i x) (slot_keeps t n i x) (λ s watched. inl (slot_whole t n i x s))
+
   found_media : (t : Bool) (area : Area) (i x : ℕ) → Media site words (set views j (with_area t area i x v)) h.log
   found_media t area i x = media_still words (with_area t area i x v) (found_still site words views j v h at t area i x) (found_keeps t area i x) (λ s watched. inl (found_whole t area i x s))
 
-  given_whole : (guard : Guard) → HasOpened v guard → (s : ℕ) → Has (Whole s) v.areas → Has (Whole s) (all_but (goes_with guard) v.areas)
+  given_whole : (guard : Guard) → HasOpened site.shape v guard → (s : ℕ) → Has (Whole s) v.areas → Has (Whole s) (all_but (goes_with guard) v.areas)
   given_whole (of_segment t) opened s has = elim (cases_eq s t) [
     | inl e ↦ absurd (opened.1 (subst (λ (z : ℕ). Has (Whole z) v.areas) e has))
     | inr ne ↦ but_after (goes_with (of_segment t)) v.areas (Whole s) has (ne_eqb s t ne)
@@ -416,7 +432,7 @@ module _ (site : Ground) (words : Words) (views : List View) (j : ℕ) (v : View
   keeps_media (gives guard) may = media_still _ _ (guard_still site words v _ guard 0 (λ p l. l)) (λ call has. (has, (λ lock l. l))) (λ s watched. inl (given_whole guard may.2 s))
   keeps_media (finds_stale s version) may = found_media _ _ _ _
   keeps_media (closes s i) may = found_media true (Whole s) i (words i)
-  keeps_media (finds_free n) may = found_media _ _ _ _
+  keeps_media (finds_free n) may = slot_media _ _ _ _
   keeps_media (finds_side p n depth pattern) may = found_media _ _ _ _
   keeps_media (reads i) may = media_still _ _ (calm_still site words v _ (λ p l. l)) (λ call has. (has, (λ lock l. l))) (λ s watched. inl (λ has. has))
   keeps_media (sets i x) may = set_media i x may

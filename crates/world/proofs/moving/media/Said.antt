@@ -1,17 +1,17 @@
 -- The structure is sound in whatever a cut may leave, and the facts of all views hold beside it, at each kind of step at the structure.
 use Rattle.std.proofs.Common.{◌≡◌, ◌≢◌, ◌⊎◌, ℕ, ◌<◌, Bool, true, false, cond, eqb, List, [], set, inl, inr, refl, sym, ap, ◌∙◌, subst, arith}
 use Rattle.std.specs.Prelude.{not, ⊤}
-use Rattle.std.proofs.lemmas.Bool.{eq-eqb}
+use Rattle.std.proofs.lemmas.Bool.{eq-eqb, eqb-false}
 use Rattle.trace.specs.Events.{Words, with_word, after}
 use Rattle.trace.specs.Events.Event.{loaded, exchanged}
 use Rattle.hash_word.specs.Hash.{Covers}
-use Rattle.segment_head.specs.HeadWord.{state_in, depth_in, pattern_in, normal, splitting}
+use Rattle.segment_head.specs.HeadWord.{state_in, depth_in, pattern_in, free, normal, splitting}
 use Rattle.image_layout.specs.Places.{Shape, words_of}
 use Rattle.sound_image.specs.Segments.{Frame, frame_of}
 use Rattle.bucket_words.specs.Core.{core}
 use Rattle.bucket_words.specs.Owners.{HasStructure}
 use Rattle.bucket_words.proofs.segments.Cores.{core_structure}
-use Rattle.frame_facts.specs.Facts.{Fact, Lives, Current, Rooted, Owns, Lacks, Deep, Begins, Used, HoldsFact}
+use Rattle.frame_facts.specs.Facts.{Fact, Lives, Current, Rooted, Owns, Lacks, Deep, Begins, Used, Taken, HoldsFact}
 use Rattle.frame_facts.specs.Keeping.{AreSound, ClaimsNoneOfSide}
 use Rattle.frame_facts.specs.DeadSlots.{IsInSlot}
 use Rattle.frame_facts.proofs.Structure.{followed}
@@ -24,20 +24,21 @@ use Rattle.world.specs.areas.Areas.{Area, Segment, Side, header_word}
 use Rattle.world.specs.areas.Fitting.{HoldsWord}
 use Rattle.world.specs.areas.Rows.{Row, marks, news, goes_live, finishes, unmarks, frees, renews, IsRow, HasForRow, HasStored}
 use Rattle.world.specs.areas.Saying.{MaySay}
-use Rattle.world.specs.areas.Kinds.{Guard, of_segment, of_free_slots, of_directory, guard_word, view_then, StructureKind, takes, gives, finds_stale, closes, finds_free, finds_side, reads, sets, moves, settles, settles_side, opens, with_guard, with_area, facts_without, is_claim_of, facts_by}
+use Rattle.world.specs.areas.Kinds.{Guard, of_segment, of_free_slots, of_directory, guard_word, view_then, StructureKind, takes, gives, finds_stale, closes, finds_free, finds_side, reads, sets, moves, settles, settles_side, opens, with_guard, with_area, with_slot, facts_without, is_claim_of, is_taken_at, facts_by}
 use Rattle.world.specs.areas.Asking.{MayBeNewest, MayStandBeside, KeepsAll, EndsNothing, ends_by, once_fenced, MayAt}
 use Rattle.world.specs.Invariant.{Holds}
 use Rattle.world.specs.areas.Keeping.{whole_beside, found_at, words_then, KeepsSound, KeepsFacts}
 use Rattle.world.proofs.basics.Lists.{has_joined}
-use Rattle.world.proofs.basics.Seats.{each}
+use Rattle.world.proofs.basics.Seats.{each, is_v}
 use Rattle.world.proofs.basics.Structures.{header_is}
 use Rattle.world.proofs.basics.Tables.{core_structure_same, lock_cores}
 use Rattle.world.proofs.holding.Beside.{newest}
 use Rattle.world.proofs.fitting.Filtered.{filtered_has, not_false}
-use Rattle.world.proofs.fitting.OneHolder.{one_holder, head_in_slot}
+use Rattle.world.proofs.fitting.OneHolder.{head_in_slot}
 use Rattle.world.proofs.fitting.Rows.{head_near, row_slot}
 use Rattle.world.proofs.moving.Known.{grounds, whole_cores, whole_possible, held_within, newest_is, beside}
-use Rattle.world.proofs.moving.Stepping.{IsStill, structured_by, structure_of, still_back, calm_still, guard_still, found_less, fenced_less, grown_whole}
+use Rattle.world.proofs.moving.Stepping.{IsStill, structured_by, structure_of, still_back, calm_still, guard_still, found_less, slot_less, fenced_less, grown_whole}
+use Rattle.world.proofs.moving.media.Settled.{held_settled, head_settled}
 
 same_words : (shape : Shape) (word : Words) → HasStructure shape word word
 same_words shape word i is = refl
@@ -45,7 +46,7 @@ same_words shape word i is = refl
 -- ---- facts that are said no more
 some_facts : (guard : Guard) (facts : List Fact) (fact : Fact) → Has fact (facts_without guard facts) → Has fact facts
 some_facts (of_segment s) facts fact has = (filtered_has _ facts fact has).0
-some_facts of_free_slots facts fact has = has
+some_facts of_free_slots facts fact has = (filtered_has _ facts fact has).0
 some_facts of_directory facts fact has = (filtered_has _ facts fact has).0
 
 -- a view that found an area, or not, relies on what it did
@@ -53,10 +54,11 @@ found_facts : (t : Bool) (area : Area) (i x : ℕ) (v : View) (fact : Fact) → 
 found_facts true area i x v fact has = has
 found_facts false area i x v fact has = has
 
--- a fact is no claim that a row ends
-abbrev pub IsNoneOf : Row → Fact → Type 0
-IsNoneOf (goes_live p) fact = (s d q : ℕ) → fact ≡ Owns s d q → s ≢ p
-IsNoneOf row fact = ⊤
+-- a fact is none that a row ends
+abbrev pub IsNoneOf : Row → ℕ → Fact → Type 0
+IsNoneOf (goes_live p) n fact = (s d q : ℕ) → fact ≡ Owns s d q → s ≢ p
+IsNoneOf (frees p) n fact = fact ≢ Taken n
+IsNoneOf row n fact = ⊤
 
 no_claim : (frame : Frame) (p : ℕ) (fact : Fact) → ((s d q : ℕ) → fact ≡ Owns s d q → s ≢ p) → ClaimsNoneOfSide frame p fact
 no_claim frame p (Lives t) k = tt
@@ -67,26 +69,28 @@ no_claim frame p (Lacks t d q) k = tt
 no_claim frame p (Deep f d q) k = tt
 no_claim frame p (Begins t h) k = tt
 no_claim frame p (Used n) k = tt
+no_claim frame p (Taken n) k = tt
 
-not_ended : (site : Ground) (row : Row) (m : Words) (fact : Fact) → IsNoneOf row fact → ends_by site row m fact → ⊥
-not_ended site (marks n) m fact k ends = ends
-not_ended site (news p) m fact k ends = ends
-not_ended site (goes_live p) m fact k ends = ends (no_claim (frame_of site.shape m) p fact k)
-not_ended site finishes m fact k ends = ends
-not_ended site unmarks m fact k ends = ends
-not_ended site (frees p) m fact k ends = ends
-not_ended site renews m fact k ends = ends
+not_ended : (site : Ground) (row : Row) (s : ℕ) (m : Words) (fact : Fact) → IsNoneOf row s fact → ends_by site row s m fact → ⊥
+not_ended site (marks n) s m fact k ends = ends
+not_ended site (news p) s m fact k ends = ends
+not_ended site (goes_live p) s m fact k ends = ends (no_claim (frame_of site.shape m) p fact k)
+not_ended site finishes s m fact k ends = ends
+not_ended site unmarks s m fact k ends = ends
+not_ended site (frees p) s m fact k ends = k ends
+not_ended site renews s m fact k ends = ends
 
 -- the facts after a row, each of which it leaves
-row_facts : (row : Row) (facts : List Fact) (fact : Fact) → Has fact (facts_by row facts) → Has fact facts × IsNoneOf row fact
-row_facts (marks n) facts fact has = (has, tt)
-row_facts (news p) facts fact has = (has, tt)
-row_facts (goes_live p) facts fact has = let q = filtered_has (λ f. not (is_claim_of p f)) facts fact has in
+row_facts : (row : Row) (n : ℕ) (facts : List Fact) (fact : Fact) → Has fact (facts_by row n facts) → Has fact facts × IsNoneOf row n fact
+row_facts (marks m) n facts fact has = (has, tt)
+row_facts (news p) n facts fact has = (has, tt)
+row_facts (goes_live p) n facts fact has = let q = filtered_has (λ f. not (is_claim_of p f)) facts fact has in
     (q.0, λ s d e is same. not_false (is_claim_of p fact) q.1 (ap (is_claim_of p) is ∙ eq-eqb s p same))
-row_facts finishes facts fact has = (has, tt)
-row_facts unmarks facts fact has = (has, tt)
-row_facts (frees p) facts fact has = (has, tt)
-row_facts renews facts fact has = (has, tt)
+row_facts finishes n facts fact has = (has, tt)
+row_facts unmarks n facts fact has = (has, tt)
+row_facts (frees p) n facts fact has = let q = filtered_has (λ f. not (is_taken_at n f)) facts fact has in
+    (q.0, λ is. not_false (is_taken_at n fact) q.1 (ap (is_taken_at n) is ∙ eq-eqb n n refl))
+row_facts renews n facts fact has = (has, tt)
 
 module _ (site : Ground) (words : Words) (views : List View) (j : ℕ) (v : View) (h : Holds site words views) (at : At views j v) where
   -- a fact is said beside the newest words
@@ -171,8 +175,8 @@ module _ (site : Ground) (words : Words) (views : List View) (j : ℕ) (v : View
     head_within : header_word site.shape s < words_of site.shape
     head_within = head_near site s (row_slot site words s x row row_is.0)
 
-    -- what another view says is no claim that the row ends: it would have a guard that the stepper has
-    others_none : (r : Row) → HasForRow site words r s v.areas → (c : ℕ) (u : View) → c ≢ j → At views c u → (fact : Fact) → MaySay u.areas fact → IsNoneOf r fact
+    -- what another view says the row does not end: it would have a guard that the stepper has
+    others_none : (r : Row) → HasForRow site words r s v.areas → (c : ℕ) (u : View) → c ≢ j → At views c u → (fact : Fact) → MaySay u.areas fact → IsNoneOf r s fact
     others_none (marks n) has c u ne a fact said = tt
     others_none (news p) has c u ne a fact said = tt
     others_none (goes_live p) has c u ne a fact said = λ t d q is same. elim (subst (MaySay u.areas) is said) [
@@ -181,7 +185,7 @@ module _ (site : Ground) (words : Words) (views : List View) (j : ℕ) (v : View
     ]
     others_none finishes has c u ne a fact said = tt
     others_none unmarks has c u ne a fact said = tt
-    others_none (frees p) has c u ne a fact said = tt
+    others_none (frees p) has c u ne a fact said = λ is. ne (h.structure.fits.one_allocation c j u v a at (subst (MaySay u.areas) is said) has.1)
     others_none renews has c u ne a fact said = tt
 
   -- ---- fences
@@ -191,13 +195,8 @@ module _ (site : Ground) (words : Words) (views : List View) (j : ℕ) (v : View
 
     -- a held word of which nothing is dirty is settled
     settled : (m : Words) → IsPossible site words (set views j w) m → (i : ℕ) → HoldsWord site.shape v i → ((y : ℕ) → Has (i, y) v.dirty → ⊥) → core site.shape m i ≡ core site.shape words i
-    settled m p i holds firm = elim (p i (held_within site words views h j v i at holds)) [
-      | inl e ↦ e
-      | inr e ↦ absurd (each views j v w at (λ c u. IsLoose u (i, e.2) → ⊥)
-          (λ l. elim l [ inl d ↦ firm e.2 (subst (Has (i, e.2)) dirty d) | inr f ↦ subst (Has (i, e.2)) flushed f ])
-          (λ c u ne a l. ne (one_holder site words views (grounds site words views h) h.structure.fits c j i u v a at (h.known.loose c u i e.2 a l) holds))
-          e.0 e.1 e.3 e.4)
-    ]
+    settled m p i holds firm = held_settled site words views j v h at words w i holds
+        (λ y l. elim l [ inl d ↦ firm y (subst (Has (i, y)) dirty d) | inr f ↦ subst (Has (i, y)) flushed f ]) m p
 
     fenced_agrees : (m : Words) → IsPossible site words (set views j w) m → Agrees site (once_fenced v) (whole_beside site words m)
     fenced_agrees m p i x known firm = let k = h.known.knows j v i x at known in
@@ -273,6 +272,31 @@ module _ (site : Ground) (words : Words) (views : List View) (j : ℕ) (v : View
   pub found_still : (t : Bool) (area : Area) (i x : ℕ) → IsStill site words words v (with_area t area i x v)
   found_still t area i x = calm_still site words v (with_area t area i x v) (found_less t area i x v)
 
+  pub slot_still : (t : Bool) (n i x : ℕ) → IsStill site words words v (with_slot t n i x v)
+  slot_still t n i x = calm_still site words v (with_slot t n i x v) (slot_less t n i x v)
+
+  -- a slot whose header is not that of a free one is taken in whatever a cut may leave: nothing of it is loose in who has the guard of free slots
+  taken_said : (n : ℕ) (w : View) → MayAt site (finds_free n) v → ((p : ℕ × ℕ) → IsLoose w p → IsLoose v p) → state_in (words (header_word site.shape n)) ≢ free → IsSaidBy words w (Taken n)
+  taken_said n w may less some m p = record {
+    slot = may.1;
+    taken = elim (h.structure.settled_slots n may.1 some) [
+      | inl o ↦ (let mine = subst (λ (u : View). Has (Side n) u.areas) (is_v views j v w at o.0 o.1 o.2 (h.structure.fits.one_allocation o.0 j o.1 v o.2 at o.3 may.0)) o.4 in
+          λ is. some (sym (ap state_in (head_settled site words views j v h at words w n may.1 (inr (Side n, mine, head_in_slot site.shape n))
+          (λ y l. may.2 (header_word site.shape n, y) (less (header_word site.shape n, y) l) (head_in_slot site.shape n)) m p)) ∙ is))
+      | inr taken ↦ taken m (still_back site words words views j v w at (calm_still site words v w less) m p)
+    ];
+  }
+
+  slot_facts : (n : ℕ) (t : Bool) → eqb (state_in (words (header_word site.shape n))) free ≡ t → MayAt site (finds_free n) v
+      → (fact : Fact) → Has fact (with_slot t n (header_word site.shape n) (words (header_word site.shape n)) v).facts
+      → Has fact v.facts ⊎ IsSaidBy words (with_slot t n (header_word site.shape n) (words (header_word site.shape n)) v) fact
+  slot_facts n true e may fact has = inl has
+  slot_facts n false e may fact has = elim has [
+    | inl is ↦ (let w = with_slot false n (header_word site.shape n) (words (header_word site.shape n)) v in
+        inr (subst (IsSaidBy words w) (sym is) (taken_said n w may (λ p l. l) (eqb-false (state_in (words (header_word site.shape n))) free e))))
+    | inr old ↦ inl old
+  ]
+
   pub fence_still : (w : View) → w.dirty ≡ v.dirty → w.flushed ≡ [] → IsStill site words words v w
   fence_still w dirty flushed = calm_still site words v w (fenced_less v w dirty (λ p f. subst (Has p) flushed f))
 
@@ -291,12 +315,12 @@ module _ (site : Ground) (words : Words) (views : List View) (j : ℕ) (v : View
   keeps_sound (gives guard) may = sound_still _ _ (guard_still site words v _ guard 0 (λ p l. l))
   keeps_sound (finds_stale s version) may = sound_still _ _ (found_still _ _ _ _)
   keeps_sound (closes s i) may = sound_still _ _ (calm_still site words v _ (λ p l. l))
-  keeps_sound (finds_free n) may = sound_still _ _ (found_still _ _ _ _)
+  keeps_sound (finds_free n) may = sound_still _ _ (slot_still _ _ _ _)
   keeps_sound (finds_side p n depth pattern) may = sound_still _ _ (found_still _ _ _ _)
   keeps_sound (reads i) may = sound_still _ _ (calm_still site words v _ (λ p l. l))
   keeps_sound (sets i x) may = sound_stored i x _ (record { held = refl; dirty = refl; flushed = refl; areas_are = refl }) (held_within site words views h j v i at may.holds)
       (EndsNothing site) (by_known i x (EndsNothing site) may.harmless)
-  keeps_sound (moves row s x) may = sound_stored (header_word site.shape s) x _ (row_stored row s x _ refl refl refl) (head_within row s x may) (ends_by site row) (by_known (header_word site.shape s) x (ends_by site row) may.2)
+  keeps_sound (moves row s x) may = sound_stored (header_word site.shape s) x _ (row_stored row s x _ refl refl refl) (head_within row s x may) (ends_by site row s) (by_known (header_word site.shape s) x (ends_by site row s) may.2)
   keeps_sound (settles facts) may = sound_still _ _ (fence_still _ refl refl)
   keeps_sound (settles_side n depth pattern) may = sound_still _ _ (fence_still _ refl refl)
   keeps_sound (opens s lock next) may = sound_still _ _ (opened_still s lock next _ may refl refl)
@@ -306,14 +330,14 @@ module _ (site : Ground) (words : Words) (views : List View) (j : ℕ) (v : View
   keeps_facts (gives guard) may = said_still _ _ (guard_still site words v _ guard 0 (λ p l. l)) (λ fact has. inl (some_facts guard v.facts fact has))
   keeps_facts (finds_stale s version) may = said_still _ _ (found_still _ _ _ _) (λ fact has. inl (found_facts _ _ _ _ v fact has))
   keeps_facts (closes s i) may = said_still _ _ (calm_still site words v _ (λ p l. l)) (λ fact has. inl has)
-  keeps_facts (finds_free n) may = said_still _ _ (found_still _ _ _ _) (λ fact has. inl (found_facts _ _ _ _ v fact has))
+  keeps_facts (finds_free n) may = said_still _ _ (slot_still _ _ _ _) (slot_facts n (eqb (state_in (words (header_word site.shape n))) free) refl may)
   keeps_facts (finds_side p n depth pattern) may = said_still _ _ (found_still _ _ _ _) (λ fact has. inl (found_facts _ _ _ _ v fact has))
   keeps_facts (reads i) may = said_still _ _ (calm_still site words v _ (λ p l. l)) (λ fact has. inl has)
   keeps_facts (sets i x) may = said_stored i x _ (record { held = refl; dirty = refl; flushed = refl; areas_are = refl }) (held_within site words views h j v i at may.holds)
       (EndsNothing site) (by_known i x (EndsNothing site) may.harmless) (λ fact has. (has, (λ m none. none))) (λ c u ne a fact has m none. none)
-  keeps_facts (moves row s x) may = said_stored (header_word site.shape s) x _ (row_stored row s x _ refl refl refl) (head_within row s x may) (ends_by site row) (by_known (header_word site.shape s) x (ends_by site row) may.2)
-      (λ fact has. let q = row_facts row v.facts fact has in (q.0, λ m. not_ended site row m fact q.1))
-      (λ c u ne a fact has m. not_ended site row m fact (others_none row s x may row (row_is row s x may).1 c u ne a fact (h.structure.may_say c u fact a has)))
+  keeps_facts (moves row s x) may = said_stored (header_word site.shape s) x _ (row_stored row s x _ refl refl refl) (head_within row s x may) (ends_by site row s) (by_known (header_word site.shape s) x (ends_by site row s) may.2)
+      (λ fact has. let q = row_facts row s v.facts fact has in (q.0, λ m. not_ended site row s m fact q.1))
+      (λ c u ne a fact has m. not_ended site row s m fact (others_none row s x may row (row_is row s x may).1 c u ne a fact (h.structure.may_say c u fact a has)))
   keeps_facts (settles facts) may = said_still _ _ (fence_still _ refl refl) (λ fact has. elim (has_joined facts v.facts fact has) [
     | inl new ↦ inr (follows _ refl refl refl fact (may.1 fact new).1)
     | inr old ↦ inl old

@@ -19,7 +19,7 @@ use Rattle.world.specs.Tied.{Tied}
 use Rattle.world.specs.areas.Areas.{Area, Segment, Stale, Side, Free, Whole, Allocation, Directory, header_word, InArea}
 use Rattle.world.specs.areas.Fitting.{HoldsWord, LivesOn, IsLivingLock}
 use Rattle.world.specs.areas.Rows.{Row, marks, news, goes_live, finishes, unmarks, frees, renews, HasForRow}
-use Rattle.world.specs.areas.Kinds.{Guard, of_segment, of_free_slots, of_directory, guard_word, StructureKind, takes, gives, finds_stale, closes, finds_free, finds_side, reads, sets, moves, settles, settles_side, opens, wanted_at, with_guard, with_area, is_new_side, view_then}
+use Rattle.world.specs.areas.Kinds.{Guard, of_segment, of_free_slots, of_directory, guard_word, StructureKind, takes, gives, finds_stale, closes, finds_free, finds_side, reads, sets, moves, settles, settles_side, opens, wanted_at, with_guard, with_area, with_slot, is_new_side, view_then}
 use Rattle.world.specs.areas.Asking.{MayAt}
 use Rattle.world.specs.Invariant.{Holds}
 use Rattle.world.specs.areas.Keeping.{found_at, words_then, views_then}
@@ -31,13 +31,17 @@ use Rattle.world.proofs.device.Ties.{KeepsLoose, SparesFlushed, tied_load, tied_
 use Rattle.world.proofs.device.Worlds.{changed_is}
 use Rattle.world.proofs.fitting.OneHolder.{one_holder, one_slot, head_in_slot, side_dies}
 use Rattle.world.proofs.moving.Known.{grounds, held_within, newest_is}
-use Rattle.world.proofs.moving.Begun.{restarts_begin}
+use Rattle.world.proofs.moving.beginning.Begun.{restarts_begin}
 use Rattle.world.proofs.mild.Holding.{holding_kept}
 
 -- ---- what is loose in a view after a load
 area_loose : (t : Bool) (a : Area) (i x : ℕ) (v : View) → KeepsLoose (with_area t a i x v) v
 area_loose true a i x v = (refl, refl)
 area_loose false a i x v = (refl, refl)
+
+slot_loose : (t : Bool) (n i x : ℕ) (v : View) → KeepsLoose (with_slot t n i x v) v
+slot_loose true n i x v = (refl, refl)
+slot_loose false n i x v = (refl, refl)
 
 -- ---- places
 -- a guard stands behind the image
@@ -144,7 +148,7 @@ module _ (site : Ground) (start : Words) (es : Trace) (views : List View) (j : �
   by_kind (finds_stale s version) may = let n = words (header_word site.shape s) in
       tied_calm (header_word site.shape s) _ (area_loose (not (eqb (version_in n) version)) (Stale s) (header_word site.shape s) n v)
   by_kind (closes s i) may = tied_calm i _ (refl, refl)
-  by_kind (finds_free n) may = let x = words (header_word site.shape n) in tied_calm (header_word site.shape n) _ (area_loose (eqb (state_in x) free) (Free n) (header_word site.shape n) x v)
+  by_kind (finds_free n) may = let x = words (header_word site.shape n) in tied_calm (header_word site.shape n) _ (slot_loose (eqb (state_in x) free) n (header_word site.shape n) x v)
   by_kind (finds_side p n depth pattern) may = let x = words (header_word site.shape n) in
       tied_calm (header_word site.shape n) _ (area_loose (is_new_side depth pattern x) (Side n) (header_word site.shape n) x v)
   by_kind (reads i) may = tied_calm i _ (refl, refl)

@@ -4,6 +4,7 @@ use Rattle.world.proofs.moving.Fitting.{keep_areas}
 use Rattle.world.proofs.moving.Keepers.{keep_guards, keep_sayers, keep_pins}
 use Rattle.world.proofs.moving.HeldGuards.{keep_held_guards}
 use Rattle.world.proofs.moving.media.Said.{sound_kept, facts_kept}
+use Rattle.world.proofs.moving.media.Taken.{slots_settled}
 
 pub structure_kept : KeepsStructure
 structure_kept site kind words views j v h at may =
@@ -18,4 +19,5 @@ structure_kept site kind words views j v h at may =
       pinned = keep_pins site kind words views j v h at may;
       owners = all.1;
       lasting = all.2;
+      settled_slots = slots_settled site kind words views j v h at may;
     }

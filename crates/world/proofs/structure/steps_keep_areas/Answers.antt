@@ -1,5 +1,9 @@
 use Rattle.world.proofs.moving.Fitting.{keep_areas}
+use Rattle.world.proofs.moving.media.Taken.{slots_settled}
 use Rattle.world.proofs.structure.steps_keep_areas.Goals as goal
 
-pub returns : goal.returns
-returns c = keep_areas
+pub returns-clause-areas : goal.returns-clause-areas
+returns-clause-areas c = keep_areas
+
+pub returns-clause-slots : goal.returns-clause-slots
+returns-clause-slots c = slots_settled

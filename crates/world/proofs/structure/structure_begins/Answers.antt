@@ -1,5 +1,5 @@
-use Rattle.world.proofs.moving.Begun.{restarts_begin, none_current, raised_begins}
-use Rattle.world.proofs.moving.Restarting.{sound_images_begin}
+use Rattle.world.proofs.moving.beginning.Begun.{restarts_begin, none_current, raised_begins}
+use Rattle.world.proofs.moving.beginning.Restarting.{sound_images_begin}
 use Rattle.world.proofs.structure.structure_begins.Goals as goal
 
 pub returns-clause-begins : goal.returns-clause-begins

@@ -1,8 +1,8 @@
--- A restart begins what holds while the structure moves: nobody has anything, and whatever a cut may leave has the cores of the newest words.
+-- A restart begins the invariant: nobody has anything, and whatever a cut may leave has the cores of the newest words.
 use Rattle.std.proofs.Common.{◌≡◌, ◌≢◌, ℕ, ◌+◌, ◌%◌, ◌<◌, ◌≤◌, List, [], inl, inr, refl, sym, ap, ◌∙◌, subst, arith}
 use Rattle.trace.specs.Events.{Words}
-use Rattle.segment_head.specs.HeadWord.{version_in, splitting}
-use Rattle.image_layout.specs.Places.{words_of, bucket_at}
+use Rattle.segment_head.specs.HeadWord.{version_in, state_in, splitting}
+use Rattle.image_layout.specs.Places.{words_of}
 use Rattle.image_layout.specs.Volatile.{counter_word, power_word}
 use Rattle.map_model.specs.Weave.{draws}
 use Rattle.map_model.specs.Legal.{InOrder, seen_of}
@@ -16,7 +16,7 @@ use Rattle.world.specs.areas.Areas.{header_word}
 use Rattle.world.specs.areas.Kinds.{guard_word}
 use Rattle.world.specs.Invariant.{Holds}
 use Rattle.world.specs.areas.Beginning.{AreasStand, IsRestarted, Begins, RestartsBegin, RaisedVersionsLeaveNoneCurrent, RaisedVersionsBegin}
-use Rattle.world.proofs.basics.Structures.{front_is, structured}
+use Rattle.world.proofs.basics.Structures.{front_is, header_is}
 use Rattle.world.proofs.basics.Tables.{core_structure_same, same_keeps, same_hit, same_find}
 use Rattle.world.proofs.basics.Entries.{total_none}
 use Rattle.world.proofs.fitting.Beginning.{fresh_stand}
@@ -67,6 +67,8 @@ module _ (site : Ground) (start : Words) (world : World) (b : Begins site start 
       fits = stand.fits;
       owners = stand.owners;
       lasting = stand.lasting;
+      settled_slots = λ n slot some. inr (λ m p is. some
+          (sym (ap state_in (core_structure_same site world.words m (cores m p) (header_word site.shape n) (header_is site.shape n slot))) ∙ is));
       guards = λ j v guard at h. absurd (none (λ v. v.areas) (λ _. refl) j v _ at h);
       held_guards = λ guard is some. absurd (some (r.behind (guard_word site.shape guard) (guard_behind site.shape guard) (guard_within site.shape guard is)));
       says = λ j v fact m at h p. absurd (none (λ v. v.facts) (λ _. refl) j v fact at h);

@@ -8,7 +8,6 @@ use Rattle.image_layout.specs.Places.{bucket_at}
 use Rattle.sound_image.specs.Records.{key_hash, word_in, notes_of, stashed_of}
 use Rattle.map_model.specs.declared.call.Call.TheVariants.{Insert}
 use Rattle.bucket_words.specs.Buckets.{value_in}
-use Rattle.bucket_meta.specs.Marks.{SameButSlot}
 use Rattle.bucket_words.specs.Hits.{Hit}
 use Rattle.bucket_words.specs.TableChanges.{IsReadyAt}
 use Rattle.bucket_words.specs.TableChanges.{ChangesSlot}

@@ -1,0 +1,3 @@
+-- A restart begins the invariant.
+pub mod Begun
+pub mod Restarting
