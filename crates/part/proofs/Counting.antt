@@ -84,7 +84,7 @@ pub ends_by_cause : EndsByCause count_part
 ends_by_cause = record {
   steps = λ site here call words views j op before v did h at s asks small r. record {
     remembers = changes site here call words did op.site.geometry op.step (words (word_of site.shape (wanted_in op.site.geometry op.step))) r;
-    caused = λ end none some rests. by_step site here call words did op op.step asks end some;
+    caused = λ end none some. by_step site here call words did op op.step asks end some;
     worked = λ none some. works site here call words did op op.step asks some;
     not_own = λ word value none some has. (let none : HasLock [] word = subst (λ locks. HasLock locks word) s.stands.nothing.held has in none.1);
   };
@@ -106,13 +106,13 @@ begins_undecided here = refl
 -- ---- two counts
 passes : Passes first_count count_part begun_again
 passes = record {
-  stands = λ site here call op v s h. record { at = s.at; shape = s.shape; nothing = s.nothing };
+  stands = λ site here call op v good s h. record { at = s.at; shape = s.shape; nothing = s.nothing };
   undecided = λ op h. refl;
   remembers = λ site op did h r. r;
 }
 
 pub two_are_a_part : IsPart first_count → EndsByCause first_count → IsPart count_part → IsPart two_counts
-two_are_a_part before causes after = then_is_part first_count count_part begun_again before causes after passes
+two_are_a_part before causes after = then_is_part first_count count_part begun_again before causes.undecided after passes
 
 pub two_end_by_cause : EndsByCause first_count → EndsByCause count_part → EndsByCause two_counts
 two_end_by_cause before after = then_ends_by_cause first_count count_part begun_again passes before after

@@ -35,8 +35,8 @@ module _ {A B : Type 0} (a : Part A) (b : Part B) (is_a : IsPart a) (is_b : IsPa
       record { wants = w.wants; may = w.may; stands = w.stands; enters = w.enters; makes = w.makes }
 
   ends : EndsBare (either_part a b)
-  ends site here call (one x) v s done closed = is_a.ends site here call x v s done closed
-  ends site here call (other y) v s done closed = is_b.ends site here call y v s done closed
+  ends site here call (one x) v s done closed on = is_a.ends site here call x v s done closed on
+  ends site here call (other y) v s done closed on = is_b.ends site here call y v s done closed on
 
   falls : (m : Either A B) (ans : Ans) → IsAnswer (wanted a b m) ans → (left a b (taken a b m ans) < left a b m) ⊎ IsWait (either_part a b) m ans
   falls (one x) ans i = is_a.time.falls x ans i

@@ -1,7 +1,7 @@
 pub mod Thens
+pub mod Splitting
 pub mod Eithers
 pub mod Limiting
-pub mod Resting
 pub mod Renaming
 pub mod Turning
 pub mod Leading

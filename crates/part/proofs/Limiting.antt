@@ -22,7 +22,7 @@ module _ {M : Type 0} (p : Part M) (Passes : Ground → Type 0) where
           enters = w.enters;
           makes = w.makes;
         };
-    ends = λ site here call op v s done closed. is.ends site here call op v s.stands done closed;
+    ends = λ site here call op v s done closed on. is.ends site here call op v s.stands done closed on;
     time = record { falls = is.time.falls; most = is.time.most };
     within = λ site here call op before v good s. is.within site here call op before v good (suits site here call op before v s);
     words = λ site here call op before v s. is.words site here call op before v (suits site here call op before v s);

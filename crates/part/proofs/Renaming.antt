@@ -47,7 +47,7 @@ module _ {A B : Type 0} (p : Part A) (to : B → A) (from : A → B) (named : Is
     pub renamed_is_part : IsPart q
     renamed_is_part = record {
       steps = steps;
-      ends = λ site here call m v s done closed. is.ends site here call (to m) v s done closed;
+      ends = λ site here call m v s done closed on. is.ends site here call (to m) v s done closed on;
       time = record {
         falls = λ m ans answer. at (λ x. (p.left x < p.left (to m)) ⊎ GoesOnWaiting (to m) x) (p.taken (to m) ans) (is.time.falls (to m) ans answer);
         most = λ m. is.time.most (to m);
@@ -79,7 +79,7 @@ module _ {A B : Type 0} (p : Part A) (to : B → A) (from : A → B) (named : Is
         let doings : Doings = with_event_of (p.wanted (to m)) (answer_to (p.wanted (to m)) (finds p site words (to m))) did in
         record {
           remembers = at (λ x. p.Remembers site x doings) after w.remembers;
-          caused = λ end none some rests. w.caused end none (same ∙ some) rests;
+          caused = λ end none some. w.caused end none (same ∙ some);
           worked = λ none some. at (λ x. p.HasWorked site x doings) after (w.worked none (same ∙ some));
           not_own = λ word value none some. w.not_own word value none (same ∙ some);
         }

@@ -9,7 +9,7 @@ use Rattle.trace.specs.Events.{Words}
 use Rattle.map_model.specs.declared.call.Call.{Call}
 use Rattle.map_model.specs.declared.entry.Reply.TheVariants as reply
 use Rattle.world.specs.declared.site.Site.{Site}
-use Rattle.world.specs.Ground.{Ground}
+use Rattle.world.specs.Ground.{Ground, IsGround}
 use Rattle.world.specs.Views.{View, At}
 use Rattle.world.specs.Wants.{answer_to, word_of}
 use Rattle.world.specs.Invariant.{Holds}
@@ -23,13 +23,14 @@ use Rattle.part.specs.Then.{Then, first, second, passed, wanted, taken, Stands, 
 
 -- the view suits the whole as it suits the one of the two that runs
 module _ {A B : Type 0} (a : Part A) (b : Part B) (next : A → B) (site : Ground) (here : Site) (call : Call) where
-  suits_first : (x : A) (before v : View) → Suits (then_part a b next) site here call (first x) before v → Suits a site here call x before v
+  pub suits_first : (x : A) (before v : View) → Suits (then_part a b next) site here call (first x) before v → Suits a site here call x before v
   suits_first x before v s = record { stands = s.stands.stands; enters = s.enters; callers = s.callers }
 
-  suits_second : (y : B) (before v : View) → Suits (then_part a b next) site here call (second y) before v → Suits b site here call y before v
+  pub suits_second : (y : B) (before v : View) → Suits (then_part a b next) site here call (second y) before v → Suits b site here call y before v
   suits_second y before v s = record { stands = s.stands; enters = s.enters; callers = s.callers }
 
-module _ {A B : Type 0} (a : Part A) (b : Part B) (next : A → B) (is_a : IsPart a) (by_a : EndsByCause a) (is_b : IsPart b) (passes : Passes a b next) where
+module _ {A B : Type 0} (a : Part A) (b : Part B) (next : A → B) (is_a : IsPart a) (undecided_a : (x : A) → a.hands_on x ≡ true → a.outcome x ≡ None) (is_b : IsPart b)
+    (passes : Passes a b next) where
   abbrev Whole : Type 0
   Whole = Then A B
 
@@ -37,10 +38,10 @@ module _ {A B : Type 0} (a : Part A) (b : Part B) (next : A → B) (is_a : IsPar
   on t x = passed a b next t x
 
   -- ---- where the first hands on, or not
-  stands_on : (site : Ground) (here : Site) (call : Call) (before v : View) (x : A) → (t : Bool) → a.hands_on x ≡ t → a.Stands site here call x v → EntersReply call (reply_of (a.outcome x)) before v
+  stands_on : (site : Ground) (here : Site) (call : Call) (before v : View) (x : A) → IsGround site → (t : Bool) → a.hands_on x ≡ t → a.Stands site here call x v → EntersReply call (reply_of (a.outcome x)) before v
       → Stands a b next site here call (on t x) v × EntersReply call (reply_of (outcome a b next (on t x))) before v
-  stands_on site here call before v x true h s e = (passes.stands site here call x v s h, subst (λ o. EntersReply call (reply_of o) before v) (by_a.undecided x h ∙ sym (passes.undecided x h)) e)
-  stands_on site here call before v x false h s e = (record { stands = s; closed = h }, e)
+  stands_on site here call before v x good true h s e = (passes.stands site here call x v good s h, subst (λ o. EntersReply call (reply_of o) before v) (undecided_a x h ∙ sym (passes.undecided x h)) e)
+  stands_on site here call before v x good false h s e = (record { stands = s; closed = h }, e)
 
   falls_on : (x y : A) → a.left y < a.left x → (t : Bool) → left a b next (on t y) < a.left x + b.most_events
   falls_on x y low true = let few = is_b.time.most (next y) in omega (arith, few, low)
@@ -58,7 +59,7 @@ module _ {A B : Type 0} (a : Part A) (b : Part B) (next : A → B) (is_a : IsPar
   waits_on x n low false h = low
 
   made_on : (x : A) → a.HasMade x → (t : Bool) → a.hands_on x ≡ t → HasMade a b next (on t x)
-  made_on x made true h = let done = is_a.made.done x made (is_a.hands x h) in absurd (none-some (replied reply.Done done.0) (sym (by_a.undecided x h) ∙ done.1))
+  made_on x made true h = let done = is_a.made.done x made (is_a.hands x h) in absurd (none-some (replied reply.Done done.0) (sym (undecided_a x h) ∙ done.1))
   made_on x made false h = made
 
   -- ---- the laws
@@ -67,7 +68,7 @@ module _ {A B : Type 0} (a : Part A) (b : Part B) (next : A → B) (is_a : IsPar
       let w = is_a.steps site here call words views j x before v h at (suits_first a b next site here call x before v s) asks in
       let found : ℕ = words (word_of site.shape (a.wanted x)) in
       let y : A = a.taken x (answer_to (a.wanted x) found) in
-      let p = λ (small : found < 2 ^ 64). stands_on site here call before (view_by site.shape (a.kind x found) found v) y (a.hands_on y) refl (w.stands small) (w.enters small) in
+      let p = λ (small : found < 2 ^ 64). stands_on site here call before (view_by site.shape (a.kind x found) found v) y h.site_is (a.hands_on y) refl (w.stands small) (w.enters small) in
       record {
         wants = w.wants;
         may = w.may;
@@ -80,8 +81,8 @@ module _ {A B : Type 0} (a : Part A) (b : Part B) (next : A → B) (is_a : IsPar
       record { wants = w.wants; may = w.may; stands = w.stands; enters = w.enters; makes = w.makes }
 
   ends : EndsBare (then_part a b next)
-  ends site here call (first x) v s done closed = is_a.ends site here call x v s.stands done s.closed
-  ends site here call (second y) v s done closed = is_b.ends site here call y v s done closed
+  ends site here call (first x) v s done closed on = is_a.ends site here call x v s.stands done s.closed on
+  ends site here call (second y) v s done closed on = is_b.ends site here call y v s done closed on
 
   falls : (m : Whole) (ans : Ans) → IsAnswer (wanted a b next m) ans → (left a b next (taken a b next m ans) < left a b next m) ⊎ IsWait (then_part a b next) m ans
   falls (first x) ans i = elim (is_a.time.falls x ans i) [
@@ -152,19 +153,21 @@ module _ {A B : Type 0} (a : Part A) (b : Part B) (next : A → B) (is_a : IsPar
     power = power;
   }
 
--- and the second's outcomes are the whole's, with the causes of both
-module _ {A B : Type 0} (a : Part A) (b : Part B) (next : A → B) (passes : Passes a b next) (by_a : EndsByCause a) (by_b : EndsByCause b) where
-  remembers_on : (site : Ground) (x : A) (did : Doings) → a.Remembers site x did → (t : Bool) → a.hands_on x ≡ t → Remembers a b next site (passed a b next t x) did
+-- what the first remembers and how it ends is so of the whole, where it hands on, undecided, or not
+module _ {A B : Type 0} (a : Part A) (b : Part B) (next : A → B) (passes : Passes a b next) (undecided : (x : A) → a.hands_on x ≡ true → a.outcome x ≡ None) where
+  pub remembers_on : (site : Ground) (x : A) (did : Doings) → a.Remembers site x did → (t : Bool) → a.hands_on x ≡ t → Remembers a b next site (passed a b next t x) did
   remembers_on site x did r true h = passes.remembers site x did h r
   remembers_on site x did r false h = r
 
+  pub outcome_on : (x : A) (t : Bool) → a.hands_on x ≡ t → a.outcome x ≡ outcome a b next (passed a b next t x)
+  outcome_on x true h = undecided x h ∙ sym (passes.undecided x h)
+  outcome_on x false h = refl
+
+-- and the second's outcomes are the whole's, with the causes of both
+module _ {A B : Type 0} (a : Part A) (b : Part B) (next : A → B) (passes : Passes a b next) (by_a : EndsByCause a) (by_b : EndsByCause b) where
   worked_on : (site : Ground) (x : A) (did : Doings) → a.outcome x ≡ Some finished → a.HasWorked site x did → (t : Bool) → a.hands_on x ≡ t → HasWorked a b next site (passed a b next t x) did
   worked_on site x did some worked true h = absurd (none-some finished (sym (by_a.undecided x h) ∙ some))
   worked_on site x did some worked false h = worked
-
-  outcome_on : (x : A) (t : Bool) → a.hands_on x ≡ t → a.outcome x ≡ outcome a b next (passed a b next t x)
-  outcome_on x true h = by_a.undecided x h ∙ sym (passes.undecided x h)
-  outcome_on x false h = refl
 
   caused_steps : (site : Ground) (here : Site) (call : Call) (words : Words) (views : List View) (j : ℕ) (m : Then A B) (before v : View) (did : Doings) → Holds site words views → At views j v
       → Suits (then_part a b next) site here call m before v → wanted a b next m ≢ Done → words (word_of site.shape (wanted a b next m)) < 2 ^ 64
@@ -172,10 +175,10 @@ module _ {A B : Type 0} (a : Part A) (b : Part B) (next : A → B) (passes : Pas
   caused_steps site here call words views j (first x) before v did h at s asks small r =
       let w = by_a.steps site here call words views j x before v did h at (suits_first a b next site here call x before v s) asks small r in
       let y : A = a.taken x (answer_to (a.wanted x) (words (word_of site.shape (a.wanted x)))) in
-      let same : a.outcome y ≡ outcome a b next (passed a b next (a.hands_on y) y) = outcome_on y (a.hands_on y) refl in
+      let same : a.outcome y ≡ outcome a b next (passed a b next (a.hands_on y) y) = outcome_on a b next passes by_a.undecided y (a.hands_on y) refl in
       record {
-        remembers = remembers_on site y (with_event_of (a.wanted x) (answer_to (a.wanted x) (words (word_of site.shape (a.wanted x)))) did) w.remembers (a.hands_on y) refl;
-        caused = λ end none some rests. w.caused end none (same ∙ some) rests;
+        remembers = remembers_on a b next passes by_a.undecided site y (with_event_of (a.wanted x) (answer_to (a.wanted x) (words (word_of site.shape (a.wanted x)))) did) w.remembers (a.hands_on y) refl;
+        caused = λ end none some. w.caused end none (same ∙ some);
         worked = λ none some. worked_on site y (with_event_of (a.wanted x) (answer_to (a.wanted x) (words (word_of site.shape (a.wanted x)))) did) (same ∙ some) (w.worked none (same ∙ some)) (a.hands_on y) refl;
         not_own = λ word value none some. w.not_own word value none (same ∙ some);
       }
@@ -184,7 +187,7 @@ module _ {A B : Type 0} (a : Part A) (b : Part B) (next : A → B) (passes : Pas
       record { remembers = w.remembers; caused = w.caused; worked = w.worked; not_own = w.not_own }
 
   decided_stays : (m : Then A B) (ans : Ans) (end : Outcome) → outcome a b next m ≡ Some end → outcome a b next (taken a b next m ans) ≡ Some end
-  decided_stays (first x) ans end some = sym (outcome_on (a.taken x ans) (a.hands_on (a.taken x ans)) refl) ∙ by_a.stays x ans end some
+  decided_stays (first x) ans end some = sym (outcome_on a b next passes by_a.undecided (a.taken x ans) (a.hands_on (a.taken x ans)) refl) ∙ by_a.stays x ans end some
   decided_stays (second y) ans end some = by_b.stays y ans end some
 
   decided : (site : Ground) (here : Site) (call : Call) (m : Then A B) (v : View) → Stands a b next site here call m v → wanted a b next m ≡ Done → hands_on a b next m ≡ false

@@ -54,8 +54,8 @@ module _ {M : Type 0} (p : Part M) (part : IsPart p) (each : (site : Ground) (ki
           | inr other ↦ inl (subst Same (sym w.wants) (others site words views j v k j h at w.may other))
         ];
         power = subst On (sym w.wants) (powers site words views j v k j h at (part.power op n) w.may);
-        ends = λ done closed. record {
-          nothing = part.ends site here call (next p site words op) (next_view p site words op v) (w.stands small) done closed;
+        ends = λ done closed on. record {
+          nothing = part.ends site here call (next p site words op) (next_view p site words op v) (w.stands small) done closed on;
           callers = some;
           enters = w.enters small;
         };

@@ -15,7 +15,6 @@ use Rattle.segment_head.specs.HeadWord.{version_in, state_in, depth_in, is_live,
 use Rattle.image_layout.specs.Places.{Shape, IsShape, root_word, head_at, bucket_at, homes, stash_buckets}
 use Rattle.image_layout.specs.Volatile.{counter_word, power_word}
 use Rattle.sound_image.specs.Records.{key_hash}
-use Rattle.bucket_words.specs.Owners.{HasStructure}
 use Rattle.way.specs.Ways.{entry_word, head_word, bucket_word, is_leading}
 use Rattle.map_model.specs.declared.call.Call.{Call}
 use Rattle.map_model.specs.declared.entry.Reply.{Reply}
@@ -28,7 +27,7 @@ use Rattle.world.specs.Views.{View, At, Has, HasLock}
 use Rattle.world.specs.Invariant.{Holds}
 use Rattle.world.specs.Wants.{answer_to, word_of}
 use Rattle.part.specs.Doings.{Doings, with_event_of, IsStill}
-use Rattle.part.specs.Outcomes.{Outcome, replied, again, stale, off, finished}
+use Rattle.part.specs.Outcomes.{Outcome, replied, again, stale, need_split, off, finished}
 use Rattle.part.specs.Part.{Part, Suits, finds, next}
 use Rattle.part.specs.Room.{NothingMovesOn, NothingMovesBack, NothingMoves}
 
@@ -217,10 +216,11 @@ module _ (shape : Shape) (words : Words) (did : Doings) (call : Call) where
   abbrev pub IsSpent : Type 0
   IsSpent = (2 ^ 63 ≤ words (counter_word shape)) ⊎ ((lock : ℕ) × IsOwnLock lock × Has (lock, 2 ^ 64 - 2) did.loads)
 
-  -- THE CAUSE of each reply; the other replies are those of the plain map, and have no more
+  -- THE CAUSE of each reply: that there is no room in the table who splits tells alone; the other replies are those of the plain map, and
+  -- have no more
   abbrev pub HasReplyCause : Reply → Type 0
-  HasReplyCause Full = (segment : ℕ) × FindsNoRoom segment × HasDepth segment (λ depth. depth < shape.depth) × NoSlotIsFree
-  HasReplyCause Deep = (segment : ℕ) × FindsNoRoom segment × HasDepth segment (λ depth. depth ≡ shape.depth)
+  HasReplyCause Full = ⊥
+  HasReplyCause Deep = ⊥
   HasReplyCause Spent = IsSpent
   HasReplyCause r = ⊤
 
@@ -254,27 +254,17 @@ module _ (shape : Shape) (words : Words) (did : Doings) (call : Call) where
     HasCause here (replied reply place) = HasReplyCause reply
     HasCause here (again why) = HasAgainCause why
     HasCause here (stale segment byte) = IsStale here.version segment byte
+    HasCause here (need_split segment) = FindsNoRoom segment
     HasCause here off = IsOff
     HasCause here finished = ⊤
-
--- ---- what a cause rests on, so far
--- FULL, that the structure is that of the start, since who tells it loaded the header of one segment alone; another outcome on nothing
-module _ (site : Ground) (words : Words) where
-  abbrev pub ReplyRestsOn : Reply → Type 0
-  ReplyRestsOn Full = HasStructure site.shape site.front words
-  ReplyRestsOn r = ⊤
-
-  abbrev pub RestsOn : Outcome → Type 0
-  RestsOn (replied reply place) = ReplyRestsOn reply
-  RestsOn outcome = ⊤
 
 -- ---- the causes of a part's outcomes
 module _ {M : Type 0} (p : Part M) where
   -- what a machine has remembered it remembers after its next event, with what that did; and where the event decides the outcome, the
-  -- cause is there, with what it rests on: who has finished has done its work; and who is told that a lock is taken does not hold it
+  -- cause is there: who has finished has done its work; and who is told that a lock is taken does not hold it
   pub record StepsByCause (site : Ground) (here : Site) (call : Call) (words : Words) (op : M) (v : View) (did : Doings) : Type 0 where
     pub remembers : p.Remembers site (next p site words op) (with_event_of (p.wanted op) (answer_to (p.wanted op) (finds p site words op)) did)
-    pub caused : (outcome : Outcome) → p.outcome op ≡ None → p.outcome (next p site words op) ≡ Some outcome → RestsOn site words outcome → HasCause site.shape words did call (p.wanted op) here outcome
+    pub caused : (outcome : Outcome) → p.outcome op ≡ None → p.outcome (next p site words op) ≡ Some outcome → HasCause site.shape words did call (p.wanted op) here outcome
     pub worked : p.outcome op ≡ None → p.outcome (next p site words op) ≡ Some finished
         → p.HasWorked site (next p site words op) (with_event_of (p.wanted op) (answer_to (p.wanted op) (finds p site words op)) did)
     pub not_own : (word value : ℕ) → p.outcome op ≡ None → p.outcome (next p site words op) ≡ Some (again (Busy word value)) → HasLock v.held word → ⊥

@@ -11,6 +11,8 @@ pub data Outcome : Type 0 where
   again : (why : Why) → Outcome
   -- the segment in this slot is live and has this version, which is not the image's
   stale : (segment version : ℕ) → Outcome
+  -- the segment in this slot has no room for the call's key: it is to be split, and the call made again
+  need_split : (segment : ℕ) → Outcome
   -- the power is off
   off : Outcome
   -- it has done its work, which gives the call no reply

@@ -18,7 +18,7 @@ use Rattle.world.specs.Invariant.{Holds}
 use Rattle.world.specs.StepKinds.{StepKind, of_call, wanted_of, view_by, MayTake}
 use Rattle.world.specs.StepLaws.{IsPublishingStep}
 use Rattle.part.specs.Doings.{Doings}
-use Rattle.part.specs.Outcomes.{Outcome, replied, reply_of}
+use Rattle.part.specs.Outcomes.{Outcome, replied, off, reply_of}
 use Rattle.part.specs.Asks.{IsWithin, PutsWord}
 
 pub record Part (M : Type 0) : Type 1 where
@@ -81,9 +81,10 @@ module _ {M : Type 0} (p : Part M) where
   KeepsSuits = (site : Ground) (here : Site) (call : Call) (words : Words) (views : List View) (j : ℕ) (op : M) (before v : View)
       → Holds site words views → At views j v → Suits site here call op before v → p.wanted op ≢ Done → StepsWell site here call words op before v
 
-  -- a machine that wants nothing more holds, knows and owes nothing, but where it hands on
+  -- a machine that wants nothing more holds, knows and owes nothing, but where it hands on, and where it found the power off
   abbrev pub EndsBare : Type 0
-  EndsBare = (site : Ground) (here : Site) (call : Call) (op : M) (v : View) → p.Stands site here call op v → p.wanted op ≡ Done → p.hands_on op ≡ false → HoldsOnly [] v
+  EndsBare = (site : Ground) (here : Site) (call : Call) (op : M) (v : View) → p.Stands site here call op v → p.wanted op ≡ Done → p.hands_on op ≡ false → p.outcome op ≢ Some off
+      → HoldsOnly [] v
 
   -- it waited and goes on waiting, with as many events left as before, and does not hand on
   abbrev pub IsWait : M → Ans → Type 0

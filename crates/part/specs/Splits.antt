@@ -17,9 +17,10 @@ use Rattle.world.specs.Invariant.{Holds}
 use Rattle.op_core.specs.declared.why.Why.TheVariants.{Busy, Moved}
 use Rattle.part.specs.Doings.{Doings, with_event_of}
 use Rattle.part.specs.Room.{NothingMoves}
-use Rattle.part.specs.Outcomes.{Outcome, replied, again, stale, off, finished}
+use Rattle.part.specs.Outcomes.{Outcome, replied, again, stale, need_split, off, finished}
 use Rattle.part.specs.Causes.{hash_for, WasFull, WasMeta, HasDepth, NoSlotIsFree, Looked, IsOff}
 use Rattle.part.specs.Part.{Part, Suits, finds, next}
+use Rattle.part.specs.Then.{Then, first, second}
 
 module _ (shape : Shape) (words : Words) (did : Doings) (call : Call) (segment : ℕ) where
   -- the attempt took a lock or a guard: it changed its word
@@ -89,6 +90,7 @@ module _ (shape : Shape) (words : Words) (did : Doings) (call : Call) (segment :
   HasSplitCause event (again (Busy word value)) = Looked shape words did call event word value × IsTakenByOthers word value
   HasSplitCause event (again (Moved word before after)) = Looked shape words did call event word after × HasMovedLock word before after
   HasSplitCause event (stale slot version) = ⊥
+  HasSplitCause event (need_split slot) = ⊥
   HasSplitCause event off = IsOff shape words did call event
   HasSplitCause event finished = ⊤
 
@@ -109,3 +111,14 @@ module _ {M : Type 0} (p : Part M) (segment_of : M → ℕ) where
         → (outcome : Outcome) × (p.outcome op ≡ Some outcome)
     pub undecided : (op : M) → p.hands_on op ≡ true → p.outcome op ≡ None
     pub same_segment : (op : M) (a : Ans) → segment_of (p.taken op a) ≡ segment_of op
+
+-- ---- of one part after another
+module _ {A B : Type 0} (of_a : A → ℕ) (of_b : B → ℕ) where
+  -- the segment that a state of the whole names is the one that the state of the first names, or of the second
+  abbrev pub segment_of_then : Then A B → ℕ
+  segment_of_then (first x) = of_a x
+  segment_of_then (second y) = of_b y
+
+  -- where the first hands on, the second goes on with the same segment
+  abbrev pub KeepsSegment : Part A → (A → B) → Type 0
+  KeepsSegment a next = (x : A) → a.hands_on x ≡ true → of_b (next x) ≡ of_a x

@@ -4,7 +4,7 @@ use Rattle.op_core.specs.declared.want.Want.{Want}
 use Rattle.op_core.specs.declared.want.Ans.{Ans}
 use Rattle.map_model.specs.declared.call.Call.{Call}
 use Rattle.world.specs.declared.site.Site.{Site}
-use Rattle.world.specs.Ground.{Ground}
+use Rattle.world.specs.Ground.{Ground, IsGround}
 use Rattle.world.specs.Views.{View}
 use Rattle.world.specs.StepKinds.{StepKind}
 use Rattle.part.specs.Doings.{Doings}
@@ -96,6 +96,7 @@ module _ {A B : Type 0} (a : Part A) (b : Part B) (next : A → B) where
   -- WHAT THE FIRST OWES THE SECOND where it hands on: its view stands for the second, which is undecided, and remembers by what the first
   -- remembers
   pub record Passes : Type 0 where
-    pub stands : (site : Ground) (here : Site) (call : Call) (x : A) (v : View) → a.Stands site here call x v → a.hands_on x ≡ true → b.Stands site here call (next x) v
+    pub stands : (site : Ground) (here : Site) (call : Call) (x : A) (v : View) → IsGround site → a.Stands site here call x v → a.hands_on x ≡ true
+        → b.Stands site here call (next x) v
     pub undecided : (x : A) → a.hands_on x ≡ true → b.outcome (next x) ≡ None
     pub remembers : (site : Ground) (x : A) (did : Doings) → a.hands_on x ≡ true → a.Remembers site x did → b.Remembers site (next x) did

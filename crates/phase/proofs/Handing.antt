@@ -18,7 +18,7 @@ use Rattle.world.specs.Views.{Owed, View, Has}
 use Rattle.world.specs.Wants.{answer_to}
 use Rattle.world.specs.Kinds.{next_entry, with_reply, of_other_keys, of_other_homes, view_after}
 use Rattle.world.specs.Attempts.{HasNoMore, HasOneMore, EntersReply}
-use Rattle.part.specs.Outcomes.{replied, finished, IsDone}
+use Rattle.part.specs.Outcomes.{replied, need_split, finished, IsDone}
 use Rattle.phase.specs.declared.role.Role.{Role}
 use Rattle.phase.specs.declared.held.Held.{Held}
 use Rattle.phase.specs.declared.ending.Ending.{Ending}
@@ -42,7 +42,8 @@ pub done_is : (answer : Reply) → IsDone answer → answer ≡ reply.Done
 done_is reply.Done d = refl
 done_is answer d = absurd d
 
--- ---- while locks are given back the outcome is decided: that it is done, where the change is made, and never that it is finished
+-- ---- while locks are given back the outcome is decided: that it is done, where the change is made, and never that it is finished or is to
+-- be split
 pub done_then : (end : Ending) → HasMadeThen end → (place : ℕ) × (Some (outcome_then end) ≡ Some (replied reply.Done place))
 done_then (ending.Replied answer place) d = (place, ap (λ r. Some (replied r place)) (done_is answer d))
 done_then (ending.Again why) d = absurd d
@@ -50,6 +51,10 @@ done_then (ending.Again why) d = absurd d
 pub not_finished : (end : Ending) → Some (outcome_then end) ≡ Some finished → ⊥
 not_finished (ending.Replied answer place) is = absurd (cc)
 not_finished (ending.Again why) is = absurd (cc)
+
+pub not_split : (end : Ending) (segment : ℕ) → Some (outcome_then end) ≡ Some (need_split segment) → ⊥
+not_split (ending.Replied answer place) segment is = absurd (cc)
+not_split (ending.Again why) segment is = absurd (cc)
 
 -- ---- what is entered
 module _ (call : Call) (before v : View) where
