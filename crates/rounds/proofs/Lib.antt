@@ -5,3 +5,4 @@ pub mod Loose
 pub mod Keeping
 pub mod Falling
 pub mod Running
+pub mod Waiting

@@ -1,5 +1,5 @@
 -- The laws of the rounds.
-use Rattle.std.specs.Prelude.{◌≡◌, ◌≢◌, ℕ, suc, ◌*◌, ◌<◌, ◌≤◌, ◌⊎◌, true, false, Option, None, Some, List, [], ◌++◌, length}
+use Rattle.std.specs.Prelude.{◌≡◌, ◌≢◌, ℕ, suc, ◌+◌, ◌*◌, ◌<◌, ◌≤◌, ◌⊎◌, true, false, Option, None, Some, List, [], ◌++◌, length}
 use Rattle.op_core.specs.declared.want.Want.{Want}
 use Rattle.op_core.specs.declared.want.Want.TheVariants.{Flush, Fence}
 use Rattle.trace.specs.Events.{line_of}
@@ -10,13 +10,14 @@ use Rattle.world.specs.Views.{View, Has, IsLoose}
 use Rattle.world.specs.areas.Kinds.{sets, settles}
 use Rattle.world.specs.areas.Asking.{MayAt}
 use Rattle.world.specs.StepKinds.{wanted_of, view_by, MayTake}
-use Rattle.whole_segment.specs.Rounds.{Settles, rounds}
+use Rattle.whole_segment.specs.Rounds.{Settles, rounds, most_lines}
 use Rattle.rounds.specs.declared.rounds.Rounds.{Rounds}
 use Rattle.rounds.specs.Steps.{begun, rounds_stores, rounds_wanted, rounds_taken}
 use Rattle.rounds.specs.Events.{IsRoundEvent}
 use Rattle.rounds.specs.Runs.{Runs, deeds_of, stored_of, lines_of}
 use Rattle.rounds.specs.Stands.{rounds_kind, RoundStands, IsSettled, IsButRound, KnowsSidesDead}
 use Rattle.rounds.specs.Left.{rounds_left}
+use Rattle.rounds.specs.Waiting.{rounds_waiting}
 
 -- ---- the order
 -- ALL STORES of a list are made in rounds: there are events that make them, which are the stores, flushes and fences of `rounds`, with
@@ -89,3 +90,15 @@ pub record RoundsFall : Type 0 where
   pub stores : (rounds : Rounds) (next : Option (ℕ × ℕ)) (stores : ℕ) → rounds_stores rounds next ≡ true → rounds_left (rounds_taken rounds next) stores < rounds_left rounds (suc stores)
   pub others : (rounds : Rounds) (next : Option (ℕ × ℕ)) (stores : ℕ) → rounds_wanted rounds next ≢ None → rounds_stores rounds next ≡ false
       → rounds_left (rounds_taken rounds next) stores < rounds_left rounds stores
+
+-- ---- what waits
+-- LINES WAIT FOR A FENCE, at most eight: none at first, before a store and behind it; one more behind each flush; none behind a fence, and
+-- none at the end
+pub record RoundsWait : Type 0 where
+  pub begins : rounds_waiting begun ≡ 0
+  pub few : (rounds : Rounds) → rounds_waiting rounds ≤ most_lines
+  pub stores : (rounds : Rounds) (next : Option (ℕ × ℕ)) → rounds_stores rounds next ≡ true → (rounds_waiting rounds ≡ 0) × (rounds_waiting (rounds_taken rounds next) ≡ 0)
+  pub flushes : (rounds : Rounds) (next : Option (ℕ × ℕ)) (line : ℕ) → length rounds.round ≤ most_lines → rounds_wanted rounds next ≡ Some (Flush line)
+      → rounds_waiting (rounds_taken rounds next) ≡ rounds_waiting rounds + 1
+  pub fences : (rounds : Rounds) (next : Option (ℕ × ℕ)) → rounds_wanted rounds next ≡ Some Fence → rounds_waiting (rounds_taken rounds next) ≡ 0
+  pub ends : (rounds : Rounds) (next : Option (ℕ × ℕ)) → rounds_wanted rounds next ≡ None → rounds_waiting rounds ≡ 0

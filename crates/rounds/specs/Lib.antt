@@ -3,4 +3,5 @@ pub mod Events
 pub mod Runs
 pub mod Stands
 pub mod Left
+pub mod Waiting
 pub mod Laws

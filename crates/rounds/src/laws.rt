@@ -1,7 +1,7 @@
 //! The laws of the rounds. The functions do nothing: each stands for the law that its contract says.
 
 ghost use Rattle.std.specs.Prelude.{ℕ, Bool, IsTrue};
-ghost use Rattle.rounds.specs.Laws.{RoundsRun, EventsStand, LinesAreStored, RoundsSettle, LooseIsStored, RoundsKeep, RoundsMay, RoundsFall};
+ghost use Rattle.rounds.specs.Laws.{RoundsRun, EventsStand, LinesAreStored, RoundsSettle, LooseIsStored, RoundsKeep, RoundsMay, RoundsFall, RoundsWait};
 
 /// Stores of a list, in any order of their words, are all made in rounds, in the order of the list: the events are the stores, flushes
 /// and fences of a segment's rounds, so each line is flushed after its last store and fenced, and at most eight lines are flushed
@@ -34,4 +34,10 @@ pub fn rounds_keep_what_is_known()
 pub fn rounds_may_go()
     ensures may { RoundsMay }
     ensures falls { RoundsFall }
+{}
+
+/// At most eight lines are flushed and wait for a fence: as many as were flushed since the last one. None waits where words are stored,
+/// and none at the end.
+pub fn lines_wait_for_a_fence()
+    ensures { RoundsWait }
 {}

@@ -9,8 +9,8 @@ mod laws;
 pub mod rounds;
 
 pub use laws::{
-    events_are_three, rounds_are_made, rounds_keep_what_is_known, rounds_may_go,
-    rounds_settle_views,
+    events_are_three, lines_wait_for_a_fence, rounds_are_made, rounds_keep_what_is_known,
+    rounds_may_go, rounds_settle_views,
 };
 pub use rounds::{RoundStep, Rounds};
 

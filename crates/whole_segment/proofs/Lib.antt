@@ -1,9 +1,10 @@
 pub mod marking
+pub mod rebuilding
+pub mod Words
 pub mod Settling
 pub mod Nones
 pub mod StashLists
-pub mod NotesByWords
+pub mod Stashing
 pub mod Ascending
 pub mod OneRound
 pub mod Telling
-pub mod Rebuilt

@@ -8,3 +8,4 @@ pub mod Rounds
 pub mod OneRound
 pub mod Gathered
 pub mod Rebuilding
+pub mod Words

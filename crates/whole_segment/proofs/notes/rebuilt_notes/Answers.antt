@@ -11,9 +11,9 @@ use Rattle.stash.specs.Segment.{Stashed, IsStashed, bucket, of_home}
 use Rattle.whole_segment.specs.Records.{first_in, third_in, key_in}
 use Rattle.whole_segment.specs.Notes.{stash_entries}
 use Rattle.whole_segment.specs.Rebuilding.{rebuilt}
-use Rattle.whole_segment.proofs.Rebuilt.{rebuilt_says, first_says, third_says}
+use Rattle.whole_segment.proofs.rebuilding.Rebuilt.{rebuilt_says, first_says, third_says}
 use Rattle.whole_segment.proofs.StashLists.{entries_of_home}
-use Rattle.whole_segment.proofs.NotesByWords.{exact_by_words, keeps_records}
+use Rattle.whole_segment.proofs.rebuilding.NotesByWords.{exact_by_words, keeps_records}
 use Rattle.whole_segment.proofs.notes.rebuilt_notes.Goals as goal
 
 -- some metadata, for what no list of 64 lacks
