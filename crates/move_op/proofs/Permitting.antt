@@ -228,7 +228,7 @@ module _ (site : Ground) (kept : Kept) (v : View) (all : (place : Role) → AreW
       subst (λ (z : Shift). IsDrawing site kept z v → May site (kind_at kept (Draw z)) v) (sym is.same) (λ t. draw_by site kept shift.direction is.from is.to is.can v t.all all t) s
 
 spent_may : (site : Ground) (kept : Kept) (v : View) → FoundSpent site kept v → May site (refuses (call_of kept.change) reply.Spent) v
-spent_may site kept v spent = (refl, inl (λ a. change_by kept.change.key kept.change.effect), (λ m words newest map. tt), (λ is. spent))
+spent_may site kept v spent = (refl, inl (λ a. change_by kept.change.key kept.change.effect), (λ m words newest map. tt), (λ is. spent), (λ full. absurd (let e : reply.Spent ≡ reply.Full = full in cc)))
 
 -- EACH STEP MAY BE TAKEN
 module _ (site : Ground) (here : Site) (call : Call) (kept : Kept) (may : MayMakeRoom site here call kept) (v : View) where

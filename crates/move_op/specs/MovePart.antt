@@ -1,5 +1,5 @@
 -- A displacement as a part of a call: where no record can move it keeps its locks, and another part goes on.
-use Rattle.std.specs.Prelude.{◌≡◌, ◌-◌, ◌^◌, ⊤, true, false, Some, None, slice_index}
+use Rattle.std.specs.Prelude.{◌≡◌, ℕ, ◌-◌, ◌^◌, ⊤, true, false, Some, None, slice_index}
 use Rattle.op_core.specs.declared.want.Want.TheVariants.{Done}
 use Rattle.map_model.specs.declared.call.Call.{Call}
 use Rattle.world.specs.declared.site.Site.{Site}
@@ -7,7 +7,7 @@ use Rattle.world.specs.Ground.{Ground}
 use Rattle.world.specs.Views.{View, Has}
 use Rattle.world.specs.StepKinds.{of_call}
 use Rattle.part.specs.Doings.{Doings}
-use Rattle.part.specs.Outcomes.{finished}
+use Rattle.part.specs.Outcomes.{need_split, finished}
 use Rattle.part.specs.Part.{Part}
 use Rattle.part.specs.Room.{NothingMovesOn}
 use Rattle.phase.specs.declared.role.Role.TheVariants.{Next}
@@ -101,6 +101,10 @@ MovesInOrder = (site : Ground) (here : Site) (call : Call) (op : MoveOp) (v : Vi
 -- it never ends but with a reply, or to be made again
 abbrev pub MoveNeverFinished : Type 0
 MoveNeverFinished = (op : MoveOp) → outcome_at op.step ≡ Some finished → ⊥
+
+-- nor with a segment that is to be split
+abbrev pub MoveNeverSplits : Type 0
+MoveNeverSplits = (op : MoveOp) (segment : ℕ) → outcome_at op.step ≡ Some (need_split segment) → ⊥
 
 -- at its end it tells its outcome
 abbrev pub MoveEndsAsSaid : Type 0

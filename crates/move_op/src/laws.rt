@@ -2,7 +2,7 @@
 
 ghost use Rattle.part.specs.Part.{IsPart};
 ghost use Rattle.part.specs.Causes.{EndsByCause};
-ghost use Rattle.move_op.specs.MovePart.{move_part, MoveBeginsAsPart, MoveBeginsRemembering, MoveBeginsUndecided, MoveHandsOnAll, MovesInOrder, MoveNeverFinished, MoveEndsAsSaid};
+ghost use Rattle.move_op.specs.MovePart.{move_part, MoveBeginsAsPart, MoveBeginsRemembering, MoveBeginsUndecided, MoveHandsOnAll, MovesInOrder, MoveNeverFinished, MoveNeverSplits, MoveEndsAsSaid};
 ghost use Rattle.move_op.specs.Replies.{MoveRepliesAsSeen};
 
 /// A displacement is a part of a call, by the laws of `part`: each event is of its kind, which its
@@ -19,6 +19,7 @@ pub fn moves_are_parts()
     ensures remembers { MoveBeginsRemembering }
     ensures hands_on { MoveHandsOnAll }
     ensures finished { MoveNeverFinished }
+    ensures splits { MoveNeverSplits }
 {}
 
 /// Where a record is stored, the one that moves is the lowest that may, by the words that are kept: forward where one may move on to the

@@ -6,7 +6,7 @@ ghost use Rattle.world.specs.Views.{View};
 ghost use Rattle.read_op.specs.declared.op.ReadOp.{ReadOp};
 ghost use Rattle.part.specs.Part.{IsPart};
 ghost use Rattle.part.specs.Causes.{EndsByCause};
-ghost use Rattle.read_op.specs.GetPart.{get_part, BeginsAsPart, BeginsUndecided, BeginsRemembering, EndsAsSaid, NeverFinished};
+ghost use Rattle.read_op.specs.GetPart.{get_part, BeginsAsPart, BeginsUndecided, BeginsRemembering, EndsAsSaid, NeverFinished, NeverSplits};
 ghost use Rattle.read_op.specs.Fits.{BeginsSuited, WantsByKind, MayStep, KeepsSuits};
 ghost use Rattle.read_op.specs.Budget.{most_events, left, Falls, EndsInTime, AsksWithin};
 ghost use Rattle.read_op.specs.Causes.{ReadsAlone, AnswersBySame, BusyIsAnothers, NeverBusy, NeverStale};
@@ -34,7 +34,7 @@ pub fn fits_the_world()
 
 /// A get is a part of a call: it fits the world, ends in time, asks for words of the image alone, and stores nothing; and each of
 /// its outcomes has its cause, in what its attempt did. It begins with a view that suits it, undecided, having done nothing, and
-/// at its end it tells its outcome.
+/// at its end it tells its outcome: a reply, or that it is to be made again, stale or off.
 pub fn gets_are_parts()
     ensures part { IsPart get_part }
     ensures causes { EndsByCause get_part }
@@ -43,6 +43,7 @@ pub fn gets_are_parts()
     ensures remembers { BeginsRemembering }
     ensures ends { EndsAsSaid }
     ensures finished { NeverFinished }
+    ensures splits { NeverSplits }
 {
     ends_in_time();
     asks_within();

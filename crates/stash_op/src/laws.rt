@@ -2,7 +2,7 @@
 
 ghost use Rattle.part.specs.Part.{IsPart};
 ghost use Rattle.part.specs.Causes.{EndsByCause};
-ghost use Rattle.stash_op.specs.StashPart.{stash_part, BeginsAsPart, BeginsRemembering, BeginsUndecided, HandsOnAll, HandsOnRemembering, NeverFinished};
+ghost use Rattle.stash_op.specs.StashPart.{stash_part, BeginsAsPart, BeginsRemembering, BeginsUndecided, HandsOnAll, HandsOnRemembering, NeverFinished, NeverSplits};
 ghost use Rattle.stash_op.specs.Ends.{EndsAsSaid};
 ghost use Rattle.stash_op.specs.Replies.{RepliesAsSeen};
 
@@ -20,6 +20,7 @@ pub fn stashes_are_parts()
     ensures hands_on { HandsOnAll }
     ensures hands_memory { HandsOnRemembering }
     ensures finished { NeverFinished }
+    ensures splits { NeverSplits }
 {}
 
 /// Each reply is told as it was seen: that a lock is spent with the commit counter's value as its place, and that the insert is done

@@ -9,7 +9,7 @@ use Rattle.world.specs.Views.{View, Has}
 use Rattle.world.specs.Attempts.{HoldsOnly}
 use Rattle.world.specs.StepKinds.{of_call}
 use Rattle.part.specs.Doings.{Doings, nothing_done}
-use Rattle.part.specs.Outcomes.{finished}
+use Rattle.part.specs.Outcomes.{need_split, finished}
 use Rattle.part.specs.Part.{Part}
 use Rattle.phase.specs.declared.role.Role.{Role}
 use Rattle.phase.specs.declared.role.Role.TheVariants.{Home, Probing, First, Second, Next, Previous}
@@ -150,3 +150,7 @@ HandsOnRemembering = (site : Ground) (op : WriteOp) (did : Doings) → Remembers
 -- it never ends but with a reply, or to be made again, stale or off
 abbrev pub NeverFinished : Type 0
 NeverFinished = (op : WriteOp) → outcome_at op.stage.step ≡ Some finished → ⊥
+
+-- nor with a segment that is to be split
+abbrev pub NeverSplits : Type 0
+NeverSplits = (op : WriteOp) (segment : ℕ) → outcome_at op.stage.step ≡ Some (need_split segment) → ⊥

@@ -2,7 +2,7 @@
 
 ghost use Rattle.part.specs.Part.{IsPart};
 ghost use Rattle.part.specs.Causes.{EndsByCause};
-ghost use Rattle.write_op.specs.ChangePart.{change_part, BeginsAsPart, BeginsBare, BeginsRemembering, BeginsUndecided, HandsOnAll, HandsOnRemembering, NeverFinished};
+ghost use Rattle.write_op.specs.ChangePart.{change_part, BeginsAsPart, BeginsBare, BeginsRemembering, BeginsUndecided, HandsOnAll, HandsOnRemembering, NeverFinished, NeverSplits};
 ghost use Rattle.write_op.specs.AnyMemory.{EventsHaveKinds, KeepsLoads, TriesFree, AsksInside, AgainByOthers};
 ghost use Rattle.write_op.specs.Causes.{PublishesThere, MadeOnlySo, InsertsWhereFewer, RepliesAsSeen, NeverBusy, NeverStale};
 ghost use Rattle.write_op.specs.Ends.{EndsAsSaid};
@@ -10,8 +10,8 @@ ghost use Rattle.write_op.specs.Ends.{EndsAsSaid};
 /// A change is a part of a call, by the laws of `part`: each event is of its kind, which its caller's view may take beside any
 /// other callers, and the view after it suits the next step; it ends in time, asks for words of the image, puts words there, leaves
 /// no line waiting, and makes its change with one store, once. It begins with a caller that holds and owes nothing; where it finds no
-/// slot it hands on its locks and what it knows; else it ends bare, with a reply, or to be made again, stale or off. Each of its
-/// outcomes has its cause, in what its attempt did.
+/// slot it hands on its locks and what it knows; else it ends bare, with a reply, or to be made again or stale, or it finds the power
+/// off. Each of its outcomes has its cause, in what its attempt did.
 pub fn changes_are_parts()
     ensures part { IsPart change_part }
     ensures causes { EndsByCause change_part }
@@ -22,6 +22,7 @@ pub fn changes_are_parts()
     ensures hands_on { HandsOnAll }
     ensures handed { HandsOnRemembering }
     ensures finished { NeverFinished }
+    ensures splits { NeverSplits }
 {}
 
 /// An event is of a kind that makes a change exactly at the one store of the record that makes it, and nothing but that store makes the

@@ -216,7 +216,7 @@ move_ends_by_cause = record {
       let caused = λ (none : outcome_at op.step ≡ None). step_caused site here call kept st.may words did v op.step st.view r none asks in
       record {
         remembers = recalls_next site kept op.step n did r asks (out site kept v op.step st.view);
-        caused = λ outcome none some rests. (caused none outcome some).0;
+        caused = λ outcome none some. (caused none outcome some).0;
         worked = λ none some. never_finished (taken op (answer_to (wanted op) n)) some;
         not_own = λ word value none some. (caused none (again (Busy word value)) some).1;
       };

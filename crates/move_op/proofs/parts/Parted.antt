@@ -18,7 +18,7 @@ use Rattle.world.proofs.stepping.Answers.{is_word}
 use Rattle.world.proofs.calls.deeds.Calls.{calls_may}
 use Rattle.image_layout.specs.Volatile.{counter_word}
 use Rattle.part.specs.Asks.{IsWithin}
-use Rattle.part.specs.Outcomes.{finished, reply_of}
+use Rattle.part.specs.Outcomes.{need_split, finished, reply_of}
 use Rattle.part.specs.Part.{KeepsSuits, PlansItsCall, IsPart}
 use Rattle.phase.specs.declared.role.Role.{Role}
 use Rattle.phase.specs.declared.kept.Kept.{Kept}
@@ -32,14 +32,14 @@ use Rattle.phase.proofs.locks.Making.{make_fits}
 use Rattle.move_op.specs.declared.step.MoveEnd.{MoveEnd}
 use Rattle.move_op.specs.declared.step.MoveEnd.TheVariants as ends
 use Rattle.phase.specs.Makes.{brought}
-use Rattle.phase.proofs.Handing.{not_finished}
+use Rattle.phase.proofs.Handing.{not_finished, not_split}
 use Rattle.move_op.specs.declared.step.MoveStep.{MoveStep}
 use Rattle.move_op.specs.declared.step.MoveStep.TheVariants.{Lock, Fill, CountSpent, Draw, Give, Ended}
 use Rattle.move_op.specs.declared.step.MoveStep.TheVariants as step
 use Rattle.move_op.specs.Shifts.{target_of, record_of}
 use Rattle.move_op.specs.Steps.{lock_of, lock_at, wanted, taken, wanted_in, next_in, is_without_move}
 use Rattle.move_op.specs.Fits.{leg_kind, kind_at, SuitsStep, MayMakeRoom, MoveStands, outcome_of, outcome_at}
-use Rattle.move_op.specs.MovePart.{move_part, MoveBeginsAsPart, MoveBeginsUndecided, MoveNeverFinished}
+use Rattle.move_op.specs.MovePart.{move_part, MoveBeginsAsPart, MoveBeginsUndecided, MoveNeverFinished, MoveNeverSplits}
 use Rattle.move_op.proofs.Falling.{move_falls, most_at}
 use Rattle.move_op.proofs.Permitting.{may_in}
 use Rattle.move_op.proofs.keeping.Storing.{storing}
@@ -131,7 +131,7 @@ hands_at kept s is = absurd (let f : false ≡ true = is in cc)
 pub move_is_part : IsPart move_part
 move_is_part = record {
   steps = steps;
-  ends = λ site here call op v st over closed. bare_in site op.kept v op.step st.view over closed;
+  ends = λ site here call op v st over closed on. bare_in site op.kept v op.step st.view over closed;
   time = record { falls = λ op a i. inl (move_falls op a i); most = λ op. most_at op.step };
   within = λ site here call op before v good s. within_at site good op.kept v op.step s.stands.view;
   words = λ site here call op before v s. puts_word site here call op.kept s.stands.may v op.step s.stands.view;
@@ -170,6 +170,20 @@ never_in s some = none-some finished some
 
 pub never_finished : MoveNeverFinished
 never_finished op some = never_in op.step some
+
+splits : (end : MoveEnd) (segment : ℕ) → outcome_of end ≡ Some (need_split segment) → ⊥
+splits (ends.Replied answer place) segment is = absurd (cc)
+splits ends.NoMove segment is = absurd (cc)
+splits (ends.Again why) segment is = absurd (cc)
+splits ends.Off segment is = absurd (cc)
+
+unsplit_in : (s : MoveStep) (segment : ℕ) → outcome_at s ≡ Some (need_split segment) → ⊥
+unsplit_in (Give held end) segment some = not_split end segment some
+unsplit_in (Ended end) segment some = splits end segment some
+unsplit_in s segment some = none-some (need_split segment) some
+
+pub never_splits : MoveNeverSplits
+never_splits op segment some = unsplit_in op.step segment some
 
 -- where it hands on
 pub end_keeps : (site : Ground) (kept : Kept) (v : View) (s : MoveStep) → SuitsStep site kept s v → is_without_move s ≡ true → KeepsAll site kept v × HoldsThirds kept.held

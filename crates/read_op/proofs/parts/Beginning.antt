@@ -1,14 +1,15 @@
--- A get that has done nothing suits a caller that holds and owes nothing; and no end of it is that it has finished.
-use Rattle.std.proofs.Common.{◌≡◌, Some, refl}
+-- A get that has done nothing suits a caller that holds and owes nothing; and no end of it is that it has finished, or that a
+-- segment is to be split.
+use Rattle.std.proofs.Common.{◌≡◌, ℕ, Some, refl}
 use Rattle.std.proofs.lemmas.Option.{none-some, same_Some}
 use Rattle.sound_image.proofs.Hashes.{key_hash-fits}
-use Rattle.part.specs.Outcomes.{finished}
+use Rattle.part.specs.Outcomes.{need_split, finished}
 use Rattle.read_op.specs.declared.step.ReadEnd.{ReadEnd}
 use Rattle.read_op.specs.declared.step.ReadEnd.TheVariants as ends
 use Rattle.read_op.specs.declared.step.ReadStep.{ReadStep}
 use Rattle.read_op.specs.declared.step.ReadStep.TheVariants.{Ended}
 use Rattle.read_op.specs.Fits.{BeginsSuited}
-use Rattle.read_op.specs.GetPart.{outcome_of, outcome_in, BeginsAsPart, BeginsUndecided, BeginsRemembering, NeverFinished}
+use Rattle.read_op.specs.GetPart.{outcome_of, outcome_in, BeginsAsPart, BeginsUndecided, BeginsRemembering, NeverFinished, NeverSplits}
 
 pub begins_as_part : BeginsSuited → BeginsAsPart
 begins_as_part begins site here key v same version small nothing =
@@ -35,3 +36,18 @@ never_in s some = none-some finished some
 
 pub never_finished : NeverFinished
 never_finished op some = never_in op.step some
+
+-- nor that a segment is to be split
+splits : (end : ReadEnd) (segment : ℕ) → outcome_of end ≡ need_split segment → ⊥
+splits (ends.Found value place) segment is = absurd (cc)
+splits (ends.Absent place) segment is = absurd (cc)
+splits (ends.Again why) segment is = absurd (cc)
+splits (ends.Stale slot byte) segment is = absurd (cc)
+splits ends.Off segment is = absurd (cc)
+
+unsplit_in : (s : ReadStep) (segment : ℕ) → outcome_in s ≡ Some (need_split segment) → ⊥
+unsplit_in (Ended end) segment some = splits end segment (same_Some (outcome_of end) (need_split segment) some)
+unsplit_in s segment some = none-some (need_split segment) some
+
+pub never_splits : NeverSplits
+never_splits op segment some = unsplit_in op.step segment some

@@ -79,7 +79,7 @@ pub get_ends_by_cause : EndsByCause get_part
 get_ends_by_cause = record {
   steps = λ site here call words views j op before v did h at s asks small r. record {
     remembers = remembers_next op site (words (word_of site.shape (wanted op))) did asks r;
-    caused = λ outcome none some rests. caused site here call words views j op before v h at s asks did r outcome some;
+    caused = λ outcome none some. caused site here call words views j op before v h at s asks did r outcome some;
     worked = λ none some. never_finished (taken op (answer_to (wanted op) (words (word_of site.shape (wanted op))))) some;
     not_own = λ word value none some has. (let none : HasLock [] word = subst (λ locks. HasLock locks word) s.stands.nothing.held has in none.1);
   };

@@ -142,7 +142,7 @@ module _ (reads : ReadsAlone) (wants : (site : Ground) (op : ReadOp) → WantsBy
   pub get_is_part : IsPart get_part
   get_is_part = record {
     steps = λ site here call words views j op before v h at s asks. steps site here call words views j op before v h at s asks;
-    ends = λ site here call op v s done closed. s.nothing;
+    ends = λ site here call op v s done closed on. s.nothing;
     time = record { falls = λ op a i. inl (falls op a i); most = most };
     within = λ site here call op before v is s. record {
       word = subst (λ shape. word_of shape (wanted op) < all_words_of shape) s.stands.is_in.shape (inside op (subst IsShape (sym s.stands.is_in.shape) is.shape) s.stands.is_in.fits);

@@ -221,7 +221,7 @@ stash_ends_by_cause = record {
       let caused = λ (none : outcome_at op.stage.step ≡ None). step_caused site kept st.is_in words seen v did call hash_is (subst IsInsert st.same st.is_in.insert) op.stage.step st.view r none asks in
       record {
         remembers = recalled site kept st.is_in words seen v did call hash_is (subst IsInsert st.same st.is_in.insert) op.stage.step st.view r asks;
-        caused = λ outcome none some rests.
+        caused = λ outcome none some.
             subst (λ (g : Shape). HasCause g words did call (wanted op) here outcome) st.is_in.shape
             (subst (λ (z : Site). HasCause kept.site.geometry words did call (wanted op) z outcome) st.at (caused none outcome some).0);
         worked = λ none some. never_finished (taken op (answer_to (wanted op) (words (word_of site.shape (wanted op))))) some;

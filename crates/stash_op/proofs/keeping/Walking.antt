@@ -71,7 +71,7 @@ change_by key (Update value) i = absurd i
 change_by key Remove i = absurd i
 
 spent_may : (site : Ground) (kept : Kept) (is : IsIn site kept) (seen : Seen) (v : View) → FoundSpent site kept seen v → May site (refuses (call_of kept.change) reply.Spent) v
-spent_may site kept is seen v spent = (refl, inl (λ a. change_by kept.change.key kept.change.effect is.insert), (λ m words newest map. tt), (λ spends. spent))
+spent_may site kept is seen v spent = (refl, inl (λ a. change_by kept.change.key kept.change.effect is.insert), (λ m words newest map. tt), (λ spends. spent), (λ full. absurd (let e : reply.Spent ≡ reply.Full = full in cc)))
 
 module _ (site : Ground) (kept : Kept) (is : IsIn site kept) (words : Words) (views : List View) (j : ℕ) (before v : View) (h : Holds site words views) (at : At views j v) (seen : Seen)
     (small : (place : Role) → AreWords (words_in seen.buckets place)) where

@@ -17,7 +17,7 @@ use Rattle.world.specs.Attempts.{EntersReply}
 use Rattle.world.proofs.stepping.Answers.{is_word}
 use Rattle.world.proofs.calls.deeds.Calls.{calls_may}
 use Rattle.part.specs.Asks.{IsWithin}
-use Rattle.part.specs.Outcomes.{finished, reply_of}
+use Rattle.part.specs.Outcomes.{need_split, finished, reply_of}
 use Rattle.part.specs.Part.{KeepsSuits, PlansItsCall, IsPart}
 use Rattle.phase.specs.declared.make.Make.{Make}
 use Rattle.phase.specs.declared.make.Make.TheVariants as make
@@ -26,7 +26,7 @@ use Rattle.phase.specs.Helds.{give_next}
 use Rattle.phase.proofs.locks.Taking.{take_fits}
 use Rattle.phase.proofs.locks.Giving.{give_stands}
 use Rattle.phase.proofs.locks.Making.{make_fits}
-use Rattle.phase.proofs.Handing.{none_has, one_has, not_finished}
+use Rattle.phase.proofs.Handing.{none_has, one_has, not_finished, not_split}
 use Rattle.phase.proofs.Wanting.{HasFlush, is_fence, Cuts, cuts_call, take_on, give_on}
 use Rattle.stash_op.specs.declared.step.NoteWords.{NoteWords}
 use Rattle.stash_op.specs.declared.step.Seen.{Seen}
@@ -41,7 +41,7 @@ use Rattle.stash_op.specs.declared.op.StashOp.{StashOp}
 use Rattle.stash_op.specs.Search.{place_of, note_place, noted, has_finger}
 use Rattle.stash_op.specs.Steps.{lock_of, note_wanted, wanted, wanted_in, next_in, end_at, nothing}
 use Rattle.stash_op.specs.Fits.{publish_kind, mark_kind, note_kind, kind_at, planned_at, SuitsStep, IsIn, StashStands, outcome_of, outcome_at}
-use Rattle.stash_op.specs.StashPart.{stash_part, BeginsAsPart, BeginsUndecided, HandsOnAll, NeverFinished}
+use Rattle.stash_op.specs.StashPart.{stash_part, BeginsAsPart, BeginsUndecided, HandsOnAll, NeverFinished, NeverSplits}
 use Rattle.stash_op.proofs.Over.{full}
 use Rattle.stash_op.proofs.Falling.{stash_falls, most_at}
 use Rattle.stash_op.proofs.keeping.Areas.{no_areas}
@@ -170,7 +170,7 @@ within site here call op v good st =
 pub stash_is_part : IsPart stash_part
 stash_is_part = record {
   steps = steps;
-  ends = λ site here call op v st over closed. bare_in site op.kept op.stage.seen v op.stage.step st.view over closed;
+  ends = λ site here call op v st over closed on. bare_in site op.kept op.stage.seen v op.stage.step st.view over closed;
   time = record { falls = λ op a i. inl (stash_falls op a i); most = λ op. most_at op.stage.step };
   within = λ site here call op before v good s. within site here call op v good s.stands;
   words = λ site here call op before v s.
@@ -230,3 +230,17 @@ never_in s some = none-some finished some
 
 pub never_finished : NeverFinished
 never_finished op some = never_in op.stage.step some
+
+splits : (end : StashEnd) (segment : ℕ) → outcome_of end ≡ Some (need_split segment) → ⊥
+splits (ends.Replied answer place) segment is = absurd (cc)
+splits (ends.NeedSplit slot) segment is = absurd (cc)
+splits (ends.Again why) segment is = absurd (cc)
+splits ends.Off segment is = absurd (cc)
+
+unsplit_in : (s : StashStep) (segment : ℕ) → outcome_at s ≡ Some (need_split segment) → ⊥
+unsplit_in (Give held end) segment some = not_split end segment some
+unsplit_in (Ended end) segment some = splits end segment some
+unsplit_in s segment some = none-some (need_split segment) some
+
+pub never_splits : NeverSplits
+never_splits op segment some = unsplit_in op.stage.step segment some

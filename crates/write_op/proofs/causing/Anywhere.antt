@@ -46,7 +46,7 @@ use Rattle.write_op.specs.declared.step.WriteStep.TheVariants.{Way, Lock, Check,
 use Rattle.write_op.specs.declared.step.WriteStep.TheVariants as step
 use Rattle.write_op.specs.declared.step.Stage.{Stage}
 use Rattle.write_op.specs.declared.op.WriteOp.{WriteOp}
-use Rattle.write_op.specs.Search.{found, room_in, visits, leaves_note, unnoted, has_finger}
+use Rattle.write_op.specs.Search.{found, room_in, leaves_note, unnoted, has_finger}
 use Rattle.write_op.specs.Steps.{go, given_by, giving, answered, walked_to, locked_to, lock_of, backed_to, visit_second, with_visits, filled, filled_to, inserting, changing, decided, made_to, unnoted_to, begun, next_in, wanted, taken}
 use Rattle.write_op.specs.Fits.{is_asked, HoldsUpto}
 use Rattle.write_op.specs.AnyMemory.{after_all, did_all, HasLoadedKept, KeepsLoads}

@@ -185,7 +185,7 @@ change_ends_by_cause = record {
       step_caused site h.site_is task st.is_in words seen v new did call hash_is op.stage.step st.view r none asks in
       record {
         remembers = recalled site h.site_is task st.is_in words seen v new op.stage.step did st.view r;
-        caused = λ outcome none some rests.
+        caused = λ outcome none some.
             subst (λ (g : Shape). HasCause g words did call (wanted op) here outcome) st.is_in.shape
             (subst (λ (z : Site). HasCause task.site.geometry words did call (wanted op) z outcome) st.at (caused none outcome some).0);
         worked = λ none some. never_finished (taken op (answer_to (wanted op) (words (word_of site.shape (wanted op))))) some;

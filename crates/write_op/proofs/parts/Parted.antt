@@ -21,7 +21,7 @@ use Rattle.world.specs.Attempts.{EntersReply}
 use Rattle.world.proofs.stepping.Answers.{is_word}
 use Rattle.world.proofs.calls.deeds.Calls.{calls_may}
 use Rattle.part.specs.Asks.{IsWithin}
-use Rattle.part.specs.Outcomes.{finished, reply_of}
+use Rattle.part.specs.Outcomes.{need_split, finished, reply_of}
 use Rattle.part.specs.Part.{KeepsSuits, PlansItsCall, IsPart}
 use Rattle.phase.specs.declared.role.Role.{Role}
 use Rattle.phase.specs.declared.role.Role.TheVariants as place
@@ -51,10 +51,10 @@ use Rattle.write_op.specs.declared.op.WriteOp.{WriteOp}
 use Rattle.write_op.specs.Search.{found, leaves_note, unnoted, has_finger}
 use Rattle.write_op.specs.Steps.{lock_of, wanted, wanted_in, next_in, kept_of}
 use Rattle.write_op.specs.Fits.{publish_by, inserting_kind, changing_kind, deciding_kind, mark_kind, note_kind, kind_at, kind_of, planned_at, SuitsStep, ChangeStands, outcome_of, outcome_at}
-use Rattle.write_op.specs.ChangePart.{RemembersIn, change_part, BeginsAsPart, BeginsBare, BeginsUndecided, BeginsRemembering, HandsOnAll, HandsOnRemembering, NeverFinished}
+use Rattle.write_op.specs.ChangePart.{RemembersIn, change_part, BeginsAsPart, BeginsBare, BeginsUndecided, BeginsRemembering, HandsOnAll, HandsOnRemembering, NeverFinished, NeverSplits}
 use Rattle.phase.proofs.Wanting.{HasFlush, is_fence, Cuts, cuts_call, take_on, give_on}
 use Rattle.phase.proofs.Wording.{none_words}
-use Rattle.phase.proofs.Handing.{none_has, one_has, not_finished}
+use Rattle.phase.proofs.Handing.{none_has, one_has, not_finished, not_split}
 use Rattle.write_op.proofs.Over.{without}
 use Rattle.write_op.proofs.Falling.{change_falls, most_at}
 use Rattle.write_op.proofs.parts.Fitting.{wants_in}
@@ -205,7 +205,7 @@ within site here call op v good st =
 pub change_is_part : IsPart change_part
 change_is_part = record {
   steps = steps;
-  ends = λ site here call op v st over closed. bare_in site op.task op.stage.seen v op.stage.step st.view over closed;
+  ends = λ site here call op v st over closed on. bare_in site op.task op.stage.seen v op.stage.step st.view over closed;
   time = record { falls = λ op a i. inl (change_falls op a i); most = λ op. most_at op.stage.step };
   within = λ site here call op before v good s. within site here call op v good s.stands;
   words = λ site here call op before v s.
@@ -297,3 +297,19 @@ never_in s some = none-some finished some
 
 pub never_finished : NeverFinished
 never_finished op some = never_in op.stage.step some
+
+splits : (end : WriteEnd) (segment : ℕ) → outcome_of end ≡ Some (need_split segment) → ⊥
+splits (ends.Replied answer place) segment is = absurd (cc)
+splits ends.NoSlot segment is = absurd (cc)
+splits (ends.Again why) segment is = absurd (cc)
+splits (ends.Stale slot version) segment is = absurd (cc)
+splits ends.Off segment is = absurd (cc)
+
+unsplit_in : (s : WriteStep) (segment : ℕ) → outcome_at s ≡ Some (need_split segment) → ⊥
+unsplit_in (Unnote part place) segment some = absurd (cc)
+unsplit_in (Give held end) segment some = not_split end segment some
+unsplit_in (Ended end) segment some = splits end segment some
+unsplit_in s segment some = none-some (need_split segment) some
+
+pub never_splits : NeverSplits
+never_splits op segment some = unsplit_in op.stage.step segment some

@@ -31,7 +31,7 @@ change_is key Remove = tt
 
 -- a lock word of the last version was found
 pub spent_may : (site : Ground) (task : Task) (seen : Seen) (v : View) → FoundSpent site task seen v → May site (refuses (call_of task.change) reply.Spent) v
-spent_may site task seen v spent = (refl, inl (λ a. change_is task.change.key task.change.effect), (λ m words newest map. tt), (λ is. spent))
+spent_may site task seen v spent = (refl, inl (λ a. change_is task.change.key task.change.effect), (λ m words newest map. tt), (λ is. spent), (λ full. absurd (let e : reply.Spent ≡ reply.Full = full in cc)))
 
 module _ (site : Ground) (task : Task) (is : IsIn site task) (seen : Seen) (v : View) (some : 0 < v.callers) (h : HasLoaded site task seen 4 4 v) (q : IsQuiet v) (vis : IsVisiting task seen)
     (pinned : IsPinned site task.hash seen.path v.pinned) where
@@ -56,6 +56,7 @@ module _ (site : Ground) (task : Task) (is : IsIn site task) (seen : Seen) (v : 
     (may_tell site v).present (doing task.change.key (Insert value)) reply.Exists segment (bucket_of task.hash spot.place) spot.slot (loaded task seen) (found_there spot there) refl,
     (λ m words newest map. tt),
     (λ spent. absurd (let e : reply.Exists ≡ reply.Spent = spent in cc)),
+    (λ full. absurd (let e : reply.Exists ≡ reply.Full = full in cc)),
   )
 
   absent_update : (value : ℕ) → found seen task.change.key ≡ None → May site (refuses (doing task.change.key (Update value)) reply.Absent) v
@@ -64,6 +65,7 @@ module _ (site : Ground) (task : Task) (is : IsIn site task) (seen : Seen) (v : 
     (may_tell site v).absent (doing task.change.key (Update value)) reply.Absent segment (loaded task seen) (found_nowhere none) at.within refl,
     (λ m words newest map. tt),
     (λ spent. absurd (let e : reply.Absent ≡ reply.Spent = spent in cc)),
+    (λ full. absurd (let e : reply.Absent ≡ reply.Full = full in cc)),
   )
 
   absent_remove : found seen task.change.key ≡ None → May site (refuses (doing task.change.key Remove) reply.Absent) v
@@ -72,6 +74,7 @@ module _ (site : Ground) (task : Task) (is : IsIn site task) (seen : Seen) (v : 
     (may_tell site v).absent (doing task.change.key Remove) reply.Absent segment (loaded task seen) (found_nowhere none) at.within refl,
     (λ m words newest map. tt),
     (λ spent. absurd (let e : reply.Absent ≡ reply.Spent = spent in cc)),
+    (λ full. absurd (let e : reply.Absent ≡ reply.Full = full in cc)),
   )
 
   room_may : May site (finds_room (call_of task.change)) v

@@ -1,5 +1,5 @@
 -- A displacement is a part of a call.
-use Rattle.move_op.proofs.parts.Parted.{move_is_part, begins_as_part, begins_undecided, never_finished}
+use Rattle.move_op.proofs.parts.Parted.{move_is_part, begins_as_part, begins_undecided, never_finished, never_splits}
 use Rattle.move_op.proofs.causing.ByCause.{move_ends_by_cause, begins_remembering, hands_on_all}
 use Rattle.move_op.proofs.laws.moves_are_parts.Goals as goal
 
@@ -23,3 +23,6 @@ returns-clause-hands_on c = hands_on_all
 
 pub returns-clause-finished : goal.returns-clause-finished
 returns-clause-finished c = never_finished
+
+pub returns-clause-splits : goal.returns-clause-splits
+returns-clause-splits c = never_splits

@@ -1,7 +1,7 @@
 -- By the laws of a get.
 use Rattle.read_op.proofs.parts.GetIsPart.{get_is_part}
 use Rattle.read_op.proofs.parts.Deciding.{get_ends_by_cause}
-use Rattle.read_op.proofs.parts.Beginning.{begins_as_part, begins_undecided, begins_remembering, never_finished}
+use Rattle.read_op.proofs.parts.Beginning.{begins_as_part, begins_undecided, begins_remembering, never_finished, never_splits}
 use Rattle.read_op.proofs.Opening.{has_ended}
 use Rattle.read_op.proofs.laws.gets_are_parts.Goals as goal
 
@@ -27,3 +27,6 @@ returns-clause-ends c = λ op done. has_ended op.task op.step done
 
 pub returns-clause-finished : goal.returns-clause-finished
 returns-clause-finished c = never_finished
+
+pub returns-clause-splits : goal.returns-clause-splits
+returns-clause-splits c = never_splits

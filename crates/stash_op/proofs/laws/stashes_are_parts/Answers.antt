@@ -1,5 +1,5 @@
 -- Its laws, one by one.
-use Rattle.stash_op.proofs.parts.Parted.{stash_is_part, begins_as_part, begins_undecided, hands_on_all, never_finished}
+use Rattle.stash_op.proofs.parts.Parted.{stash_is_part, begins_as_part, begins_undecided, hands_on_all, never_finished, never_splits}
 use Rattle.stash_op.proofs.causing.Recalling.{begins_remembering, hands_on_remembering}
 use Rattle.stash_op.proofs.causing.ByCause.{stash_ends_by_cause}
 use Rattle.stash_op.proofs.laws.stashes_are_parts.Goals as goal
@@ -27,3 +27,6 @@ returns-clause-hands_memory c = hands_on_remembering
 
 pub returns-clause-finished : goal.returns-clause-finished
 returns-clause-finished c = never_finished
+
+pub returns-clause-splits : goal.returns-clause-splits
+returns-clause-splits c = never_splits

@@ -1,5 +1,5 @@
 -- A change is a part of a call.
-use Rattle.write_op.proofs.parts.Parted.{change_is_part, begins_as_part, begins_bare, begins_undecided, begins_remembering, hands_on_all, hands_on_remembering, never_finished}
+use Rattle.write_op.proofs.parts.Parted.{change_is_part, begins_as_part, begins_bare, begins_undecided, begins_remembering, hands_on_all, hands_on_remembering, never_finished, never_splits}
 use Rattle.write_op.proofs.causing.ByCause.{change_ends_by_cause}
 use Rattle.write_op.proofs.laws.changes_are_parts.Goals as goal
 
@@ -29,3 +29,6 @@ returns-clause-handed c = hands_on_remembering
 
 pub returns-clause-finished : goal.returns-clause-finished
 returns-clause-finished c = never_finished
+
+pub returns-clause-splits : goal.returns-clause-splits
+returns-clause-splits c = never_splits
