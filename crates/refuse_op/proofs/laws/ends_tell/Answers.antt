@@ -1,6 +1,0 @@
--- By the steps.
-use Rattle.refuse_op.proofs.Ends.{ends_as_said}
-use Rattle.refuse_op.proofs.laws.ends_tell.Goals as goal
-
-pub returns : goal.returns
-returns c = ends_as_said

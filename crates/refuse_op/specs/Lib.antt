@@ -1,4 +1,0 @@
-pub mod Grown
-pub mod Steps
-pub mod RefusePart
-pub mod Ends

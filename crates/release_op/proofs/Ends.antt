@@ -1,0 +1,47 @@
+-- A release tells no other outcome than that its segment is to be split, and tells it at its end.
+use Rattle.std.proofs.Common.{◌≡◌, ℕ, Option, None, Some, refl, sym, ap, ◌∙◌}
+use Rattle.std.proofs.lemmas.Option.{none-some, same_Some}
+use Rattle.op_core.specs.declared.want.Ans.{Ans}
+use Rattle.op_core.specs.declared.want.Ans.TheVariants.{Passed}
+use Rattle.part.specs.Outcomes.{Outcome, need_split, finished}
+use Rattle.phase.specs.declared.role.Role.{Role}
+use Rattle.phase.specs.declared.held.Held.{Held}
+use Rattle.phase.specs.declared.kept.Kept.{Kept}
+use Rattle.phase.specs.Helds.{give_next, given}
+use Rattle.release_op.specs.declared.op.ReleaseStep.{ReleaseStep}
+use Rattle.release_op.specs.declared.op.ReleaseStep.TheVariants.{Begin, Give, Ended}
+use Rattle.release_op.specs.Steps.{given_by, giving, held_in, next_in, end_at}
+use Rattle.release_op.specs.ReleasePart.{outcome_at}
+use Rattle.release_op.specs.Ends.{outcome_of, EndsAsSaid, TellsNoOther, NeverFinished}
+
+ends_at : (kept : Kept) (s : ReleaseStep) → outcome_at kept s ≡ outcome_of (end_at kept s)
+ends_at kept Begin = refl
+ends_at kept (Give held) = refl
+ends_at kept Ended = refl
+
+pub ends_as_said : EndsAsSaid
+ends_as_said op done = ends_at op.kept op.step
+
+-- ---- no other
+pub no_other_at : (kept : Kept) (s : ReleaseStep) (outcome : Outcome) → outcome_at kept s ≡ Some outcome → outcome ≡ need_split kept.segment
+no_other_at kept Begin outcome some = absurd (none-some outcome some)
+no_other_at kept (Give held) outcome some = sym (same_Some (need_split kept.segment) outcome some)
+no_other_at kept Ended outcome some = sym (same_Some (need_split kept.segment) outcome some)
+
+pub tells_no_other : TellsNoOther
+tells_no_other op outcome some = no_other_at op.kept op.step outcome some
+
+pub never_finished : NeverFinished
+never_finished op some = absurd (let same = no_other_at op.kept op.step finished some in cc)
+
+-- ---- what is decided stays
+next_outcome : (kept : Kept) (held : Held) (next : Option (Role × ℕ)) → outcome_at kept (given_by next held) ≡ Some (need_split kept.segment)
+next_outcome kept held (Some next) = refl
+next_outcome kept held None = refl
+
+pub giving_outcome : (kept : Kept) (held : Held) → outcome_at kept (giving held) ≡ Some (need_split kept.segment)
+giving_outcome kept held = next_outcome kept held (give_next held)
+
+pub stays_at : (kept : Kept) (s : ReleaseStep) (a : Ans) (outcome : Outcome) → outcome_at kept s ≡ Some outcome → outcome_at kept (next_in kept s a) ≡ Some outcome
+stays_at kept s Passed outcome some = giving_outcome kept (given (held_in kept s)) ∙ ap Some (sym (no_other_at kept s outcome some))
+stays_at kept s a outcome some = some

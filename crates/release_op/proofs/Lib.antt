@@ -1,0 +1,5 @@
+pub mod ReleaseIsPart
+pub mod Causing
+pub mod Ends
+pub mod NoRoom
+pub mod Leaving

@@ -1,0 +1,4 @@
+pub mod Steps
+pub mod ReleasePart
+pub mod Ends
+pub mod Split
