@@ -5,7 +5,7 @@ use Rattle.std.proofs.lemmas.Bool.{cases_lt, ltb-true}
 use Rattle.std.proofs.lemmas.List.{length-replicate, get_or-replicate, get_or_past}
 use Rattle.op_core.specs.declared.want.Want.TheVariants as want
 use Rattle.op_core.specs.declared.want.Ans.{Ans}
-use Rattle.op_core.specs.declared.want.Ans.TheVariants.{Value, Won, Lost, Passed}
+use Rattle.op_core.specs.declared.want.Ans.TheVariants.{Value, Won, Lost}
 use Rattle.op_core.specs.Answers.{IsAnswer}
 use Rattle.hash_word.specs.Hash.{home_of}
 use Rattle.segment_head.specs.HeadWord.{depth_in}
@@ -30,7 +30,6 @@ use Rattle.world.specs.areas.Kinds.{with_guard, of_segment}
 use Rattle.world.specs.areas.Bridging.{HasNoWhole}
 use Rattle.world.specs.StepKinds.{of_call, view_by}
 use Rattle.world.specs.StepLaws.{IsPublishingStep}
-use Rattle.world.proofs.basics.Grounds.{lock_within}
 use Rattle.world.proofs.calls.deeds.Calls.{has_no_whole}
 use Rattle.world.proofs.mild.Bridging.{callers_know}
 use Rattle.part.specs.Outcomes.{Outcome, reply_of}
@@ -48,22 +47,22 @@ use Rattle.phase.proofs.Handing.{one_more, none_more, same_more}
 use Rattle.phase.proofs.Wanting.{takes, plain_take, take_own, take_seen}
 use Rattle.enclose_op.specs.declared.enclosed.Enclosed.{Enclosed}
 use Rattle.enclose_op.specs.declared.give.Give.{Give as Giving}
-use Rattle.enclose_op.specs.declared.give.Give.TheVariants as giving
-use Rattle.enclose_op.specs.declared.op.Ending.{Ending}
-use Rattle.enclose_op.specs.declared.op.Ending.TheVariants.{Room}
+use Rattle.enclose_op.specs.declared.op.NotEnclosed.{NotEnclosed}
+use Rattle.enclose_op.specs.declared.op.NotEnclosed.TheVariants.{Room}
 use Rattle.enclose_op.specs.declared.op.EncloseStep.{EncloseStep}
 use Rattle.enclose_op.specs.declared.op.EncloseStep.TheVariants.{Guard, Lock, Head, Fill, CountSpent, CountDeep, Give, Ended, Whole}
 use Rattle.enclose_op.specs.Whole.{kept_first, IsOf, KeepsWhole}
-use Rattle.enclose_op.specs.Giving.{guard_of, lock_of, free_value, give_wanted, given}
+use Rattle.enclose_op.specs.Giving.{guard_of, lock_of, given}
 use Rattle.enclose_op.specs.Steps.{giving as backing, given_by, locked_to, is_followed, word_after, decided, with_word, end_at, is_whole, wanted_in, next_in, wanted}
-use Rattle.enclose_op.specs.Fits.{kind_at, give_kind, give_left, outcome_of, outcome_at, left_at, SuitsGive, SuitsStep}
+use Rattle.enclose_op.specs.Fits.{kind_at, give_left, outcome_of, outcome_at, left_at, SuitsStep}
 use Rattle.enclose_op.specs.EnclosePart.{enclose_part, BeginsAsPart, BeginsUndecided, HandsOnWhole}
-use Rattle.enclose_op.proofs.Places.{bucket_is, guard_is, head_is, is_lock}
+use Rattle.enclose_op.proofs.Places.{bucket_is, head_is}
 use Rattle.enclose_op.proofs.Held.{no_whole}
 use Rattle.enclose_op.specs.GiveLaws.{left_of}
 use Rattle.enclose_op.specs.Ends.{outcome_told, EndsAsSaid}
 use Rattle.enclose_op.proofs.Backing.{give_falls, give_few, give_most}
-use Rattle.enclose_op.proofs.Stepping.{give_answer, wants, may, stands}
+use Rattle.enclose_op.proofs.Giving.{give_some, give_answer, give_answered, give_flushes, give_puts, give_makes, give_power, give_own, give_seen, give_plan, give_whole, guard_low, lock_low, give_in}
+use Rattle.enclose_op.proofs.Stepping.{wants, may, stands}
 
 -- ---- which replies are entered
 -- none in a step before all is given back
@@ -94,7 +93,7 @@ silent_fill : (e : Enclosed) (at : ℕ) (t : Bool) → IsSilent (if t then Fill 
 silent_fill e at true = refl
 silent_fill e at false = silent_decided (has_no_room (kept_first e) (home_of e.hash)) (depth_in e.head == e.site.geometry.depth)
 
-pub same_outcome : (more : Option Giving) (end : Ending) → outcome_at (given_by more end) ≡ Some (outcome_of end)
+pub same_outcome : (more : Option Giving) (end : NotEnclosed) → outcome_at (given_by more end) ≡ Some (outcome_of end)
 same_outcome (Some more) end = refl
 same_outcome None end = refl
 
@@ -109,14 +108,6 @@ guard_own e false v = refl
 guard_seen : (e : Enclosed) (t : Bool) (v : View) → (with_guard t (of_segment e.segment) v).seen ≡ v.seen
 guard_seen e true v = refl
 guard_seen e false v = refl
-
-give_own : (shape : Shape) (e : Enclosed) (give : Giving) (n : ℕ) (v : View) → (view_by shape (give_kind e give) n v).own ≡ v.own
-give_own shape e (giving.Lock b to) n v = refl
-give_own shape e giving.Guard n v = refl
-
-give_seen : (shape : Shape) (e : Enclosed) (give : Giving) (n : ℕ) (v : View) → (view_by shape (give_kind e give) n v).seen ≡ v.seen
-give_seen shape e (giving.Lock b to) n v = refl
-give_seen shape e giving.Guard n v = refl
 
 module _ (site : Ground) (here : Site) (call : Call) (e : Enclosed) (is : IsOf site here call e) (before v : View) where
   abbrev Enters : EncloseStep → View → Type 0
@@ -151,10 +142,6 @@ module _ (site : Ground) (here : Site) (call : Call) (e : Enclosed) (is : IsOf s
   enters Whole n same asks = absurd (asks refl)
 
 -- ---- no step makes a change, or cuts the power
-give_makes : (e : Enclosed) (give : Giving) → IsPublishingStep (give_kind e give) → ⊥
-give_makes e (giving.Lock b to) p = p
-give_makes e giving.Guard p = p
-
 makes_none : (e : Enclosed) (s : EncloseStep) → IsPublishingStep (kind_at e s) → ⊥
 makes_none e Guard p = p
 makes_none e (Lock b take) p = plain_take (lock_of e b) take p
@@ -169,10 +156,6 @@ makes_none e Whole p = p
 take_power : (lock : ℕ) (take : Take) → of_call (take_kind lock take) ≢ of_call cuts_power
 take_power lock Look same = absurd (cc)
 take_power lock (Try free) same = absurd (cc)
-
-give_power : (e : Enclosed) (give : Giving) → give_kind e give ≢ of_call cuts_power
-give_power e (giving.Lock b to) same = absurd (cc)
-give_power e giving.Guard same = absurd (cc)
 
 power_at : (e : Enclosed) (s : EncloseStep) → kind_at e s ≢ of_call cuts_power
 power_at e Guard same = absurd (cc)
@@ -216,15 +199,9 @@ fill_left e at false high =
     let low = decided_left (has_no_room (kept_first e) (home_of e.hash)) (depth_in e.head == e.site.geometry.depth) in
     omega (arith, low)
 
-given_left : (more : Option Giving) (end : Ending) (n : ℕ) → left_of more < n → left_at (given_by more end) < n
+given_left : (more : Option Giving) (end : NotEnclosed) (n : ℕ) → left_of more < n → left_at (given_by more end) < n
 given_left (Some more) end n fewer = fewer
 given_left None end n fewer = fewer
-
-give_answered : (e : Enclosed) (give : Giving) (a : Ans) → IsAnswer (give_wanted e give) a → a ≡ Passed
-give_answered e (giving.Lock b to) Passed i = refl
-give_answered e (giving.Lock b to) a i = absurd i
-give_answered e giving.Guard Passed i = refl
-give_answered e giving.Guard a i = absurd i
 
 falls_at : (e : Enclosed) (s : EncloseStep) (a : Ans) → IsAnswer (wanted_in e s) a → left_at (next_in e s a).step < left_at s
 falls_at e Guard Won i = omega arith
@@ -267,19 +244,9 @@ module _ (site : Ground) (good : IsGround site) (here : Site) (call : Call) (e :
   counter_in : IsWithin site.shape (want.Load (counter_word e.site.geometry))
   counter_in = subst (λ (g : Shape). IsWithin site.shape (want.Load (counter_word g))) (sym l.shape) (record { word = omega arith; line = λ n e. absurd (cc) })
 
-  guard_low : guard_of e < all_words_of site.shape
-  guard_low = let at = guard_is site e l in let within = l.within in omega (arith, at, within)
-
-  lock_low : (b : ℕ) → b < buckets → lock_of e b < all_words_of site.shape
-  lock_low b near = let low = lock_within site.shape (lock_of e b) (is_lock site e l b near) in omega (arith, low)
-
   take_in : (b : ℕ) (take : Take) → b < buckets → IsWithin site.shape (take_wanted (lock_of e b) take)
-  take_in b Look near = record { word = lock_low b near; line = λ n e. absurd (cc) }
-  take_in b (Try free) near = record { word = lock_low b near; line = λ n e. absurd (cc) }
-
-  give_in : (give : Giving) (v : View) → SuitsGive site e give v → IsWithin site.shape (give_wanted e give)
-  give_in (giving.Lock b to) v s = record { word = (let low = s.0 in let most = s.1 in lock_low b (omega (arith, low, most))); line = λ n e. absurd (cc) }
-  give_in giving.Guard v s = record { word = guard_low; line = λ n e. absurd (cc) }
+  take_in b Look near = record { word = lock_low site e l b near; line = λ n e. absurd (cc) }
+  take_in b (Try free) near = record { word = lock_low site e l b near; line = λ n e. absurd (cc) }
 
   slot_low : (f s n w : ℕ) → s < n → w < 2144 → f + 2144 * s + w < f + 2144 * n + 4 + n
   slot_low f s n w within low = omega (arith, within, low)
@@ -291,7 +258,7 @@ module _ (site : Ground) (good : IsGround site) (here : Site) (call : Call) (e :
   none_in = record { word = (let some = good.shape.some in omega (arith, some)); line = λ n e. absurd (cc) }
 
   within_at : (s : EncloseStep) (v : View) → SuitsStep site here call e s v → IsWithin site.shape (wanted_in e s)
-  within_at Guard v s = record { word = guard_low; line = λ n e. absurd (cc) }
+  within_at Guard v s = record { word = guard_low site e l; line = λ n e. absurd (cc) }
   within_at (Lock b take) v s = take_in b take s.1
   within_at Head v s = record {
     word = subst (λ (n : ℕ). n < all_words_of site.shape) (sym (head_is site e l)) (slot_low (first_segment site.shape) e.segment site.shape.segments 1 l.within (omega arith));
@@ -303,7 +270,7 @@ module _ (site : Ground) (good : IsGround site) (here : Site) (call : Call) (e :
   }
   within_at (CountSpent b) v s = counter_in
   within_at CountDeep v s = counter_in
-  within_at (Give give end) v s = give_in give v s
+  within_at (Give give end) v s = give_in site e l give v s
   within_at (Ended end) v s = none_in
   within_at Whole v s = none_in
 
@@ -313,26 +280,15 @@ module _ (site : Ground) (here : Site) (call : Call) (e : Enclosed) (is : IsOf s
   take_puts b Look = record { stores = λ i x e. absurd (cc); exchanges = λ i a b e. absurd (cc) }
   take_puts b (Try free) = record { stores = λ i x e. absurd (cc); exchanges = λ i a b same. (let is : (free + 1) % 2 ^ 64 ≡ b = cc in omega (arith, is)) }
 
-  give_puts : (give : Giving) → PutsWord (give_wanted e give)
-  give_puts (giving.Lock b to) = record {
-    stores = λ i x same. (let is : (free_value e b + 2) % 2 ^ 64 ≡ x = cc in omega (arith, is));
-    exchanges = λ i a b e. absurd (cc);
-  }
-  give_puts giving.Guard = record { stores = λ i x same. (let is : 0 ≡ x = cc in omega (arith, is)); exchanges = λ i a b e. absurd (cc) }
-
   puts_at : (s : EncloseStep) → PutsWord (wanted_in e s)
   puts_at Guard = record { stores = λ i x e. absurd (cc); exchanges = λ i a b same. (let is_caller : e.site.caller ≡ b = cc in let low = is.caller in omega (arith, is_caller, low)) }
   puts_at (Lock b take) = take_puts b take
-  puts_at (Give give end) = give_puts give
+  puts_at (Give give end) = give_puts e give
   puts_at s = record { stores = λ i x e. absurd (cc); exchanges = λ i a b e. absurd (cc) }
 
 take_flushes : (lock : ℕ) (take : Take) (l : ℕ) → take_wanted lock take ≡ want.Flush l → ⊥
 take_flushes lock Look l same = absurd (cc)
 take_flushes lock (Try free) l same = absurd (cc)
-
-give_flushes : (e : Enclosed) (give : Giving) (l : ℕ) → give_wanted e give ≡ want.Flush l → ⊥
-give_flushes e (giving.Lock b to) l same = absurd (cc)
-give_flushes e giving.Guard l same = absurd (cc)
 
 flushes_none : (e : Enclosed) (s : EncloseStep) (l : ℕ) → wanted_in e s ≡ want.Flush l → ⊥
 flushes_none e Guard l same = absurd (cc)
@@ -346,10 +302,6 @@ flushes_none e (Ended end) l same = absurd (cc)
 flushes_none e Whole l same = absurd (cc)
 
 -- ---- nothing is planned, no segment is whole, and nothing is held at the end but what is handed on
-give_plan : (site : Ground) (e : Enclosed) (give : Giving) (v : View) → SuitsGive site e give v → v.planned ≡ []
-give_plan site e (giving.Lock b to) v s = s.2.quiet.planned
-give_plan site e giving.Guard v s = s.quiet.planned
-
 no_plan : (site : Ground) (here : Site) (call : Call) (e : Enclosed) (s : EncloseStep) (v : View) → SuitsStep site here call e s v → v.planned ≡ []
 no_plan site here call e Guard v s = s.0.planned
 no_plan site here call e (Lock b take) v s = s.0.part.quiet.planned
@@ -361,10 +313,6 @@ no_plan site here call e (Give give end) v s = give_plan site e give v s
 no_plan site here call e (Ended end) v s = s.planned
 no_plan site here call e Whole v s = s.quiet.planned
 
-give_whole : (site : Ground) (e : Enclosed) (give : Giving) (v : View) → SuitsGive site e give v → HasNoWhole v
-give_whole site e (giving.Lock b to) v s = no_whole e v s.2.areas
-give_whole site e giving.Guard v s = no_whole e v s.areas
-
 none_whole : (site : Ground) (here : Site) (call : Call) (e : Enclosed) (s : EncloseStep) (v : View) → SuitsStep site here call e s v → HasNoWhole v
 none_whole site here call e Guard v s = has_no_whole v s.0.areas
 none_whole site here call e (Lock b take) v s = no_whole e v s.0.part.areas
@@ -375,10 +323,6 @@ none_whole site here call e CountDeep v s = no_whole e v s.0.headed.taking.part.
 none_whole site here call e (Give give end) v s = give_whole site e give v s
 none_whole site here call e (Ended end) v s = has_no_whole v s.areas
 none_whole site here call e Whole v s = no_whole e v s.areas
-
-pub give_some : (e : Enclosed) (give : Giving) → give_wanted e give ≢ want.Done
-give_some e (giving.Lock b to) same = absurd (cc)
-give_some e giving.Guard same = absurd (cc)
 
 bare_at : (site : Ground) (here : Site) (call : Call) (e : Enclosed) (s : EncloseStep) (v : View) → SuitsStep site here call e s v → wanted_in e s ≡ want.Done → is_whole s ≡ false → HoldsOnly [] v
 bare_at site here call e Guard v s done closed = absurd (let z : want.Exchange (guard_of e) 0 e.site.caller ≡ want.Done = done in cc)
@@ -413,7 +357,7 @@ enclose_is_part = record {
         enters = λ small. enters site here call op.enclosed is before v op.step n s.enters asks;
         makes = λ p. absurd (makes_none op.enclosed op.step p);
       };
-  ends = λ site here call op v s done closed. bare_at site here call op.enclosed op.step v s.view done closed;
+  ends = λ site here call op v s done closed on. bare_at site here call op.enclosed op.step v s.view done closed;
   time = record { falls = λ op a i. inl (falls_at op.enclosed op.step a i); most = λ op. most_at op.step };
   within = λ site here call op before v good s. within_at site good here call op.enclosed s.stands.is op.step v s.stands.view;
   words = λ site here call op before v s. puts_at site here call op.enclosed s.stands.is op.step;

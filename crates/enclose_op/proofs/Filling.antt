@@ -17,7 +17,7 @@ use Rattle.world.specs.StepKinds.{wanted_of, MayTake}
 use Rattle.phase.specs.Stands.{IsThere}
 use Rattle.phase.specs.Giving.{IsLocated}
 use Rattle.enclose_op.specs.declared.enclosed.Enclosed.{Enclosed}
-use Rattle.enclose_op.specs.declared.op.Ending.TheVariants.{Room}
+use Rattle.enclose_op.specs.declared.op.NotEnclosed.TheVariants.{Room}
 use Rattle.enclose_op.specs.declared.op.EncloseStep.TheVariants.{Head, Fill}
 use Rattle.enclose_op.specs.Whole.{kept_words, IsOf}
 use Rattle.enclose_op.specs.Steps.{giving, is_followed, with_head, headed, with_word, wanted_in}

@@ -1,12 +1,11 @@
 pub mod Places
 pub mod Held
 pub mod Backing
+pub mod Giving
 pub mod Locking
 pub mod Filling
-pub mod Causing
 pub mod Owning
 pub mod Stepping
 pub mod EncloseIsPart
-pub mod Found
-pub mod Recalling
-pub mod ByCause
+pub mod Rooms
+pub mod causes

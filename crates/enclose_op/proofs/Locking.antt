@@ -24,7 +24,7 @@ use Rattle.phase.specs.Taking.{take_kind, MayBeTaken, HasTaken}
 use Rattle.phase.specs.Giving.{IsLocated}
 use Rattle.phase.proofs.locks.Taking.{take_fits, take_stands}
 use Rattle.enclose_op.specs.declared.enclosed.Enclosed.{Enclosed}
-use Rattle.enclose_op.specs.declared.op.Ending.TheVariants.{Again}
+use Rattle.enclose_op.specs.declared.op.NotEnclosed.TheVariants.{Again}
 use Rattle.enclose_op.specs.declared.op.EncloseStep.TheVariants.{Guard, Lock, Head}
 use Rattle.enclose_op.specs.declared.op.EncloseOp.{EncloseOp}
 use Rattle.enclose_op.specs.Whole.{IsOf}

@@ -19,7 +19,7 @@ use Rattle.world.proofs.holders.filling.Ordered.{in_order_by_locks}
 use Rattle.world.proofs.holding.Known.{hit_from}
 use Rattle.enclose_op.specs.declared.enclosed.Enclosed.{Enclosed}
 use Rattle.enclose_op.specs.Whole.{kept_words}
-use Rattle.enclose_op.proofs.Causing.{IsCrowd}
+use Rattle.enclose_op.proofs.causes.Causing.{IsCrowd}
 
 module _ (site : Ground) (e : Enclosed) (v : View) (crowd : IsCrowd site e v) (words : Words) (new : IsNewest site v words) where
   pub stands_once : (b r c t k : ℕ) → Hit site.shape (kept_words e) e.segment b r k → Hit site.shape (kept_words e) e.segment c t k → (b ≡ c) × (r ≡ t)

@@ -2,7 +2,7 @@
 use Rattle.std.proofs.Common.{◌≡◌, ℕ, ◌+◌, ◌-◌, ◌*◌, ◌%◌, ◌<◌, slice_index, sym, ap, ◌∙◌, subst, arith}
 use Rattle.std.specs.Prelude.{if◌then◌else◌}
 use Rattle.std.proofs.lemmas.Bool.{eq-eqb, ne_eqb, lt-ltb}
-use Rattle.image_layout.specs.Places.{Shape, root_word, head_at, bucket_at, buckets, block}
+use Rattle.image_layout.specs.Places.{Shape, root_word, first_segment, head_at, bucket_at, buckets, block}
 use Rattle.image_layout.specs.Volatile.{segment_guard}
 use Rattle.way.specs.Ways.{head_word, bucket_word}
 use Rattle.frame_facts.specs.DeadSlots.{IsInSlot}
@@ -42,6 +42,13 @@ head_in_slot shape s = record { from = omega arith; to = by (head_at shape s) }
   where
     by : (f : ℕ) → f + 1 < f + 2144
     by f = omega arith
+
+-- a guard is no lock word
+pub guard_apart : (site : Ground) (s b : ℕ) → s < site.shape.segments → b < buckets → bucket_at site.shape s b ≡ segment_guard site.shape s → ⊥
+guard_apart site s b within near same = by (first_segment site.shape) s site.shape.segments b within near same
+  where
+    by : (f s n b : ℕ) → s < n → b < 66 → f + 2144 * s + 32 + 32 * b ≡ f + 2144 * n + 4 + s → ⊥
+    by f s n b within near same = omega (arith, within, near, same)
 
 module _ (site : Ground) (e : Enclosed) (l : IsLocated site e.site e.segment) where
   within_here : e.segment < e.site.geometry.segments

@@ -4,7 +4,6 @@ use Rattle.std.specs.Prelude.{◌==◌, nat_lt, if◌then◌else◌}
 use Rattle.std.proofs.lemmas.Bool.{eqb-true, eqb-false, ltb-true, ltb-false}
 use Rattle.op_core.specs.declared.want.Want.TheVariants as want
 use Rattle.op_core.specs.declared.want.Ans.{Ans}
-use Rattle.op_core.specs.declared.want.Ans.TheVariants.{Passed}
 use Rattle.hash_word.specs.Hash.{home_of}
 use Rattle.segment_head.specs.HeadWord.{depth_in}
 use Rattle.trace.specs.Events.{Words}
@@ -30,23 +29,23 @@ use Rattle.world.specs.StepKinds.{wanted_of, view_by, MayTake}
 use Rattle.phase.specs.Giving.{IsLocated}
 use Rattle.enclose_op.specs.declared.enclosed.Enclosed.{Enclosed}
 use Rattle.enclose_op.specs.declared.give.Give.{Give as Giving}
-use Rattle.enclose_op.specs.declared.give.Give.TheVariants as giving
-use Rattle.enclose_op.specs.declared.op.Ending.{Ending}
-use Rattle.enclose_op.specs.declared.op.Ending.TheVariants.{Room}
+use Rattle.enclose_op.specs.declared.op.NotEnclosed.{NotEnclosed}
+use Rattle.enclose_op.specs.declared.op.NotEnclosed.TheVariants.{Room}
 use Rattle.enclose_op.specs.declared.op.EncloseStep.{EncloseStep}
 use Rattle.enclose_op.specs.declared.op.EncloseStep.TheVariants.{Guard, Lock, Head, Fill, CountSpent, CountDeep, Give, Ended, Whole}
 use Rattle.enclose_op.specs.declared.op.EncloseOp.{EncloseOp}
 use Rattle.enclose_op.specs.Whole.{kept_words, kept_first, IsOf}
-use Rattle.enclose_op.specs.Giving.{give_wanted, given}
+use Rattle.enclose_op.specs.Giving.{given}
 use Rattle.enclose_op.specs.Steps.{go, giving as backing, given_by, word_after, decided, with_word, wanted_in, next_in}
 use Rattle.enclose_op.specs.Fits.{kind_at, HoldsPart, IsHeaded, IsCrammed, SuitsStep}
 use Rattle.enclose_op.specs.GiveLaws.{SuitsNext}
 use Rattle.enclose_op.specs.EnclosePart.{EnclosureStands}
 use Rattle.enclose_op.proofs.Held.{no_whole, hold_same}
 use Rattle.enclose_op.proofs.Backing.{quiet_still, give_suits, give_wants, give_may, give_next}
+use Rattle.enclose_op.proofs.Giving.{give_answer}
 use Rattle.enclose_op.proofs.Locking.{guard_wants, guard_may, guard_stands, lock_wants, lock_may, lock_stands}
 use Rattle.enclose_op.proofs.Filling.{is_with_word, head_may, head_stands, fill_may, fill_headed, fill_next, all_known}
-use Rattle.enclose_op.proofs.Causing.{IsCrowd, knows_deep}
+use Rattle.enclose_op.proofs.causes.Causing.{IsCrowd, knows_deep}
 use Rattle.enclose_op.proofs.Owning.{stands_once, covers_own, less_deep}
 
 -- an insert is a change
@@ -54,11 +53,6 @@ changes : (key : ℕ) (d : Effect) → IsInsert (doing key d) → IsChange (doin
 changes key (Insert value) is = tt
 changes key (Update value) is = tt
 changes key Remove is = tt
-
--- an event that gives back is answered that it passed
-pub give_answer : (e : Enclosed) (give : Giving) (n : ℕ) → answer_to (give_wanted e give) n ≡ Passed
-give_answer e (giving.Lock b to) n = refl
-give_answer e giving.Guard n = refl
 
 module _ (site : Ground) (here : Site) (call : Call) (e : Enclosed) (is : IsOf site here call e) (v : View) where
   abbrev l : IsLocated site e.site e.segment
@@ -108,11 +102,11 @@ module _ (site : Ground) (here : Site) (call : Call) (e : Enclosed) (is : IsOf s
   may Head s = head_may site here call e is v s
   may (Fill at) s = fill_may site here call e is v at s
   may (CountSpent b) s = (
-    (refl, inl (λ a. changes e.change.key e.change.effect is.insert), (λ m words new known. tt), (λ spent. s.2)),
+    (refl, inl (λ a. changes e.change.key e.change.effect is.insert), (λ m words new known. tt), (λ spent. s.2), (λ full. absurd (cc))),
     no_whole e v s.0.areas,
   )
   may CountDeep s = (
-    (refl, inl (λ a. is.insert), knows_deep site e v (crowd_of s.0) s.1, (λ spent. absurd (cc))),
+    (refl, inl (λ a. is.insert), knows_deep site e v (crowd_of s.0) s.1, (λ spent. absurd (cc)), (λ full. absurd (cc))),
     no_whole e v s.0.headed.taking.part.areas,
   )
   may (Give give end) s = give_may site e l v give s
@@ -210,7 +204,7 @@ module _ (site : Ground) (here : Site) (call : Call) (e : Enclosed) (is : IsOf s
       (fill_headed site here call e is v at s n small) (all_known site here call e is v at s n small (ltb-false at 2111 high))
 
   -- what is given back
-  back_to : (more : Option Giving) (end : Ending) (u : View) → SuitsNext site e more u → Stood (go e (given_by more end)) u
+  back_to : (more : Option Giving) (end : NotEnclosed) (u : View) → SuitsNext site e more u → Stood (go e (given_by more end)) u
   back_to (Some more) end u next = record { is = is; view = next }
   back_to None end u next = record { is = is; view = next }
 

@@ -1,15 +1,25 @@
--- The enclosing as a part of a call: what may be enclosed, where it begins, and what it hands on.
-use Rattle.std.specs.Prelude.{◌≡◌, ℕ, ◌<◌, ◌^◌, true, false, None, []}
+-- The enclosing as a part of a call: what may be enclosed, where it begins, what it hands on, and where there is room.
+use Rattle.std.specs.Prelude.{◌≡◌, ◌≢◌, ℕ, ◌<◌, ◌^◌, true, false, None, Some, List, []}
+use Rattle.trace.specs.Events.{Words}
+use Rattle.segment_head.specs.HeadWord.{version_in}
+use Rattle.sound_image.specs.Records.{key_hash}
+use Rattle.op_core.specs.declared.want.Want.TheVariants.{Done}
 use Rattle.map_model.specs.declared.call.Call.{Call}
 use Rattle.map_model.specs.declared.change.Change.{Change}
+use Rattle.map_model.specs.Map.{key_of}
 use Rattle.map_model.specs.Changes.{call_of}
 use Rattle.map_model.specs.Legal.{IsInsert}
 use Rattle.world.specs.declared.site.Site.{Site}
 use Rattle.world.specs.Ground.{Ground, version_of}
-use Rattle.world.specs.Views.{View}
+use Rattle.world.specs.Views.{View, At}
+use Rattle.world.specs.Wants.{words_after}
+use Rattle.world.specs.Invariant.{Holds}
+use Rattle.world.specs.areas.Areas.{header_word}
 use Rattle.world.specs.Attempts.{HoldsOnly}
 use Rattle.part.specs.Doings.{Doings}
-use Rattle.part.specs.Part.{Part}
+use Rattle.part.specs.Outcomes.{finished}
+use Rattle.part.specs.Room.{HasNoRoom}
+use Rattle.part.specs.Part.{Part, Suits, finds, next}
 use Rattle.phase.specs.Stands.{IsThere}
 use Rattle.enclose_op.specs.declared.op.EncloseOp.{EncloseOp}
 use Rattle.enclose_op.specs.Whole.{IsOf, KeepsWhole, RemembersWhole}
@@ -66,3 +76,16 @@ HandsOnWhole = (site : Ground) (here : Site) (call : Call) (op : EncloseOp) (v :
 -- and what the attempt did is remembered of all of it
 abbrev pub HandsOnRemembered : Type 0
 HandsOnRemembered = (site : Ground) (op : EncloseOp) (did : Doings) → is_whole op.step ≡ true → enclose_part.Remembers site op did → RemembersWhole site op.enclosed did
+
+-- ---- where there is room
+-- WHERE IT SAYS THAT THERE MAY BE ROOM, the segment is not one of the image's version without room for the call's key, by the newest words
+abbrev pub FindsRoom : Type 0
+FindsRoom = (site : Ground) (here : Site) (call : Call) (words : Words) (views : List View) (j : ℕ) (op : EncloseOp) (before v : View)
+    → Holds site words views → At views j v → Suits enclose_part site here call op before v → wanted op ≢ Done → finds enclose_part site words op < 2 ^ 64
+    → outcome_at op.step ≡ None → outcome_at (next enclose_part site words op).step ≡ Some finished
+    → version_in (words (header_word site.shape (segment_of op))) ≡ version_of site → HasNoRoom site.shape words (segment_of op) (key_hash site.shape (key_of call)) → ⊥
+
+-- AND NO EVENT OF IT MAKES ROOM: it stores to no header and to no metadata word, so that a segment without room is so after it
+abbrev pub KeepsRoom : Type 0
+KeepsRoom = (site : Ground) (here : Site) (call : Call) (words : Words) (op : EncloseOp) (before v : View) → Suits enclose_part site here call op before v
+    → (number s hash : ℕ) → s < site.shape.segments → HasNoRoom site.shape words s hash → HasNoRoom site.shape (words_after site.shape (wanted op) number words) s hash

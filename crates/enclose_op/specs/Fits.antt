@@ -2,7 +2,7 @@
 use Rattle.std.specs.Prelude.{◌≡◌, ◌≢◌, ℕ, ◌+◌, ◌-◌, ◌*◌, ◌%◌, ◌^◌, ◌<◌, ◌≤◌, true, Option, None, Some, [], ◌∷◌, slice_index}
 use Rattle.hash_word.specs.Hash.{home_of}
 use Rattle.segment_head.specs.HeadWord.{depth_in}
-use Rattle.image_layout.specs.Places.{root_word, bucket_at, buckets, block}
+use Rattle.image_layout.specs.Places.{root_word, bucket_at, buckets, block, words_of_buckets}
 use Rattle.way.specs.Ways.{head_word, bucket_word}
 use Rattle.whole_segment.specs.Room.{has_no_room}
 use Rattle.map_model.specs.declared.call.Call.{Call}
@@ -24,11 +24,11 @@ use Rattle.phase.specs.Giving.{IsQuiet}
 use Rattle.enclose_op.specs.declared.enclosed.Enclosed.{Enclosed}
 use Rattle.enclose_op.specs.declared.give.Give.{Give as Giving}
 use Rattle.enclose_op.specs.declared.give.Give.TheVariants as giving
-use Rattle.enclose_op.specs.declared.op.Ending.{Ending}
-use Rattle.enclose_op.specs.declared.op.Ending.TheVariants.{Replied, Again, Room}
+use Rattle.enclose_op.specs.declared.op.NotEnclosed.{NotEnclosed}
+use Rattle.enclose_op.specs.declared.op.NotEnclosed.TheVariants.{Replied, Again, Room}
 use Rattle.enclose_op.specs.declared.op.EncloseStep.{EncloseStep}
 use Rattle.enclose_op.specs.declared.op.EncloseStep.TheVariants.{Guard, Lock, Head, Fill, CountSpent, CountDeep, Give, Ended, Whole}
-use Rattle.enclose_op.specs.Whole.{words_of_buckets, kept_words, kept_first, HasHead, HoldsBetween, KnowsOnlyOf, KnowsHeader, KeepsWhole}
+use Rattle.enclose_op.specs.Whole.{kept_words, kept_first, HasHead, HoldsBetween, KnowsOnlyOf, KnowsHeader, KeepsWhole}
 use Rattle.enclose_op.specs.Giving.{lock_of, free_value}
 
 -- ---- the kind of each event
@@ -49,7 +49,7 @@ module _ (e : Enclosed) where
   kind_at Whole = of_call (peeks root_word)
 
 -- ---- what is decided
-abbrev pub outcome_of : Ending → Outcome
+abbrev pub outcome_of : NotEnclosed → Outcome
 outcome_of (Replied reply place) = replied reply place
 outcome_of (Again why) = again why
 outcome_of Room = finished

@@ -21,8 +21,8 @@ use Rattle.phase.specs.declared.take.Taken.TheVariants as taking
 use Rattle.phase.specs.Takes.{take_wanted, take_taken}
 use Rattle.enclose_op.specs.declared.enclosed.Enclosed.{Enclosed}
 use Rattle.enclose_op.specs.declared.give.Give.{Give as Giving}
-use Rattle.enclose_op.specs.declared.op.Ending.{Ending}
-use Rattle.enclose_op.specs.declared.op.Ending.TheVariants as ending
+use Rattle.enclose_op.specs.declared.op.NotEnclosed.{NotEnclosed}
+use Rattle.enclose_op.specs.declared.op.NotEnclosed.TheVariants as not_enclosed
 use Rattle.enclose_op.specs.declared.op.EncloseEnd.{EncloseEnd}
 use Rattle.enclose_op.specs.declared.op.EncloseEnd.TheVariants as ends
 use Rattle.enclose_op.specs.declared.op.EncloseStep.{EncloseStep}
@@ -37,14 +37,14 @@ go e next = record { enclosed = e; step = next }
 
 -- ---- what is held is given back
 -- the guard and the locks before a bucket, and then it ends so
-abbrev pub giving : ℕ → Ending → EncloseStep
+abbrev pub giving : ℕ → NotEnclosed → EncloseStep
 giving to end = Give (give_from 0 to) end
 
-abbrev pub given_by : Option Giving → Ending → EncloseStep
+abbrev pub given_by : Option Giving → NotEnclosed → EncloseStep
 given_by (Some more) end = Give more end
 given_by None end = Ended end
 
-abbrev pub given_to : Giving → Ending → EncloseStep
+abbrev pub given_to : Giving → NotEnclosed → EncloseStep
 given_to give end = given_by (given give) end
 
 -- ---- a lock
@@ -57,8 +57,8 @@ with_lock e b free = record e { locks = slice_set e.locks b free }
 abbrev pub locked_to : Enclosed → ℕ → Taken → EncloseOp
 locked_to e b (taking.On take) = go e (Lock b take)
 locked_to e b (taking.Held free) = go (with_lock e b free) (next_lock b)
-locked_to e b (taking.Busy seen) = go e (giving b (ending.Again (Busy (lock_of e b) seen)))
-locked_to e b (taking.Moved before after) = go e (giving b (ending.Again (Moved (lock_of e b) before after)))
+locked_to e b (taking.Busy seen) = go e (giving b (not_enclosed.Again (Busy (lock_of e b) seen)))
+locked_to e b (taking.Moved before after) = go e (giving b (not_enclosed.Again (Moved (lock_of e b) before after)))
 locked_to e b taking.Spent = go e (CountSpent b)
 
 -- ---- the header
@@ -70,7 +70,7 @@ abbrev pub with_head : Enclosed → ℕ → Enclosed
 with_head e head = record e { head = head }
 
 abbrev pub headed : Enclosed → ℕ → EncloseOp
-headed e head = go (with_head e head) (if is_followed e head then Fill 1 else giving buckets ending.Room)
+headed e head = go (with_head e head) (if is_followed e head then Fill 1 else giving buckets not_enclosed.Room)
 
 -- ---- the words
 -- the number of the word after one: lock words are left out
@@ -79,7 +79,7 @@ word_after at = if (at + 1) % 32 == 0 then at + 2 else at + 1
 
 -- where there is no room, the segment is too deep to be split, or it is handed on
 abbrev pub decided : Enclosed → EncloseStep
-decided e = if has_no_room (kept_first e) (home_of e.hash) then (if depth_in e.head == e.site.geometry.depth then CountDeep else Whole) else giving buckets ending.Room
+decided e = if has_no_room (kept_first e) (home_of e.hash) then (if depth_in e.head == e.site.geometry.depth then CountDeep else Whole) else giving buckets not_enclosed.Room
 
 abbrev pub with_word : Enclosed → ℕ → ℕ → Enclosed
 with_word e at seen = record e { buckets = slice_set e.buckets at seen }
@@ -107,12 +107,12 @@ module _ (e : Enclosed) where
   -- WHAT AN ANSWER makes of it; one of another kind than was asked for leaves it as it is
   abbrev pub next_in : EncloseStep → Ans → EncloseOp
   next_in Guard Won = go e (Lock 0 Look)
-  next_in Guard (Lost seen) = go e (Ended (ending.Again (Busy (guard_of e) seen)))
+  next_in Guard (Lost seen) = go e (Ended (not_enclosed.Again (Busy (guard_of e) seen)))
   next_in (Lock b take) ans = locked_to e b (take_taken take ans)
   next_in Head (Value head) = headed e head
   next_in (Fill at) (Value seen) = filled e at seen
-  next_in (CountSpent b) (Value place) = go e (giving b (ending.Replied Spent place))
-  next_in CountDeep (Value place) = go e (giving buckets (ending.Replied Deep place))
+  next_in (CountSpent b) (Value place) = go e (giving b (not_enclosed.Replied Spent place))
+  next_in CountDeep (Value place) = go e (giving buckets (not_enclosed.Replied Deep place))
   next_in (Give give end) Passed = go e (given_to give end)
   next_in same ans = go e same
 

@@ -1,13 +1,16 @@
 -- WHAT IS ENCLOSED: a segment whose guard and locks are all held and whose words are all known, as one machine of a split hands it on to the
 -- next.
-use Rattle.std.specs.Prelude.{◌≡◌, ℕ, ◌+◌, ◌*◌, ◌-◌, ◌^◌, ◌<◌, ◌≤◌, ◌==◌, ◌⊎◌, true, [], ◌∷◌, length, slice_index, if◌then◌else◌}
+use Rattle.std.specs.Prelude.{◌≡◌, ℕ, min, ◌%◌, suc, ◌+◌, ◌*◌, ◌-◌, ◌^◌, ◌<◌, ◌≤◌, ◌==◌, ◌⊎◌, true, [], ◌∷◌, length, slice_index, if◌then◌else◌}
 use Rattle.trace.specs.Events.{Words}
+use Rattle.bucket_meta.specs.Bucket.{record_slots}
 use Rattle.hash_word.specs.Hash.{Covers, home_of}
 use Rattle.segment_head.specs.HeadWord.{version_in, depth_in, pattern_in}
-use Rattle.image_layout.specs.Places.{bucket_at, buckets, block}
+use Rattle.image_layout.specs.Places.{bucket_at, buckets, block, words_of_buckets}
 use Rattle.image_layout.specs.Volatile.{segment_guard}
 use Rattle.sound_image.specs.Records.{key_hash}
 use Rattle.way.specs.Ways.{head_word, bucket_word, is_leading}
+use Rattle.whole_segment.specs.declared.loaded.Loaded.{Loaded}
+use Rattle.whole_segment.specs.Records.{first_in, third_in, key_in, covered_set}
 use Rattle.whole_segment.specs.Room.{has_no_room}
 use Rattle.bucket_words.specs.Hits.{Hit}
 use Rattle.frame_facts.specs.DeadSlots.{IsInSlot}
@@ -27,10 +30,6 @@ use Rattle.phase.specs.Giving.{IsLocated, IsQuiet}
 use Rattle.enclose_op.specs.declared.enclosed.Enclosed.{Enclosed}
 
 -- ---- its words
--- how many words its buckets have
-abbrev pub words_of_buckets : ℕ
-words_of_buckets = block * buckets
-
 -- word n of bucket b, as it is kept
 abbrev pub kept_word : Enclosed → ℕ → ℕ → ℕ
 kept_word e b n = slice_index e.buckets (block * b + n)
@@ -39,9 +38,33 @@ kept_word e b n = slice_index e.buckets (block * b + n)
 abbrev pub kept_words : Enclosed → Words
 kept_words e i = if i == head_word e.site.geometry e.segment then e.head else slice_index e.buckets (i - bucket_word e.site.geometry e.segment 0)
 
--- word 1 of each bucket
+-- word 1 of each bucket, word 3, and the key in each record slot
 abbrev pub kept_first : Enclosed → ℕ → ℕ
 kept_first e b = kept_word e b 1
+
+abbrev pub kept_third : Enclosed → ℕ → ℕ
+kept_third e b = kept_word e b 3
+
+abbrev pub kept_key : Enclosed → ℕ → ℕ → ℕ
+kept_key e b r = kept_word e b (4 + 2 * r)
+
+-- these words, as what is loaded of a segment
+pub record HasKept (e : Enclosed) (loaded : Loaded) : Type 0 where
+  pub first : (b : ℕ) → b < buckets → first_in loaded b ≡ kept_first e b
+  pub third : (b : ℕ) → b < buckets → third_in loaded b ≡ kept_third e b
+  pub keys : (b r : ℕ) → b < buckets → r < record_slots → key_in loaded b r ≡ kept_key e b r
+
+-- ---- the records that go to its side where it is split
+-- the depth and the pattern of the side: one deeper, with a 1 behind the pattern of the segment
+abbrev pub side_depth : Enclosed → ℕ
+side_depth e = suc (depth_in e.head)
+
+abbrev pub side_pattern : Enclosed → ℕ
+side_pattern e = 2 * pattern_in e.head + 1
+
+-- the slots of bucket b with records that the side covers, as a set; whatever the header is, the depth is at most 64, and the pattern has 32 bits
+abbrev pub side_slots : Enclosed → ℕ → ℕ
+side_slots e b = covered_set (kept_first e) (kept_key e) (key_hash e.site.geometry) (min (side_depth e) 64) (side_pattern e % 2 ^ 32) b
 
 -- ---- what is so of what is kept, whatever the view
 -- it runs here, in a call that inserts, as a caller that has a number, in an image of this version; and what is kept are words

@@ -52,7 +52,7 @@ impl Enclosed {
     {
         let geometry = &self.site.geometry;
         if self.segment < geometry.segments() {
-            geometry.words() + 4 + self.segment
+            geometry.segment_guard(self.segment)
         } else {
             ROOT_WORD
         }

@@ -8,18 +8,17 @@ ghost use Rattle.enclose_op.specs.Steps.{begun, giving, next_lock, locked_to, is
 
 use crate::enclosed::Enclosed;
 use crate::give::{Give, give_from, given};
-use image_layout::BUCKETS;
+use image_layout::{BUCKETS, WORDS_OF_BUCKETS};
 use map_model::{Change, Reply};
 use op_core::{Ans, Machine, Want, Why};
 use phase::{Take, Taken, take_next, take_want};
 use segment_head::word::{depth_of, version_of};
 use way::{bucket_word, head_word, is_leading, key_hash};
-use whole_segment::Loaded;
 use world::Site;
 
 /// How an attempt is to end once all is given back.
 #[derive(Clone, Copy, Debug, PartialEq, Eq)]
-pub enum Ending {
+pub enum NotEnclosed {
     /// It is answered, with its place.
     Replied(Reply, u64),
     /// It is to be made again.
@@ -32,7 +31,7 @@ pub enum Ending {
 #[derive(Clone, Copy, Debug, PartialEq, Eq)]
 pub enum EncloseEnd {
     /// All is given back.
-    Back(Ending),
+    Back(NotEnclosed),
     /// The segment is enclosed, and another machine goes on.
     Whole,
     /// It was cut off.
@@ -55,9 +54,9 @@ pub enum EncloseStep {
     /// The commit counter is to be loaded, since the segment is as deep as the image allows.
     CountDeep,
     /// What is held is given back.
-    Give(Give, Ending),
+    Give(Give, NotEnclosed),
     /// All is given back.
-    Ended(Ending),
+    Ended(NotEnclosed),
     /// All is held and known, and kept.
     Whole,
 }
@@ -72,10 +71,10 @@ pub struct EncloseOp {
 }
 
 /// The step in which the guard and the locks before a bucket are given back.
-fn giving(to: u8, ending: Ending) -> EncloseStep
-    ensures { result ≡ giving to ending }
+fn giving(to: u8, end: NotEnclosed) -> EncloseStep
+    ensures { result ≡ giving to end }
 {
-    EncloseStep::Give(give_from(0, to), ending)
+    EncloseStep::Give(give_from(0, to), end)
 }
 
 /// The step after the lock of a bucket was taken.
@@ -102,20 +101,9 @@ impl Enclosed {
     fn set_word(&mut self, at: u16, seen: u64)
         ensures { self.new ≡ with_word self.old at seen }
     {
-        if at < 2112 {
+        if u64::from(at) < WORDS_OF_BUCKETS {
             self.buckets[usize::from(at)] = seen;
         }
-    }
-
-    /// What word 1 of each bucket says of its slots.
-    fn firsts(&self) -> Loaded
-        ensures { (b : ℕ) → b < buckets → slice_index result.first b ≡ kept_first self.now b }
-    {
-        let mut loaded = Loaded::blank();
-        for bucket in 0..BUCKETS {
-            loaded.set_first(bucket, self.buckets[32 * usize::from(bucket) + 1]);
-        }
-        loaded
     }
 
     /// Whether a header is followed: it has the image's version, is that of a normal segment, and covers the hash.
@@ -129,8 +117,8 @@ impl Enclosed {
     fn decided(&self) -> EncloseStep
         ensures { result ≡ decided self.now }
     {
-        if !self.firsts().has_no_room(self.hash) {
-            giving(BUCKETS, Ending::Room)
+        if !self.loaded().has_no_room(self.hash) {
+            giving(BUCKETS, NotEnclosed::Room)
         } else if u64::from(depth_of(self.head)) == self.site.geometry.depth() {
             EncloseStep::CountDeep
         } else {
@@ -152,11 +140,13 @@ fn locked_to(op: &mut EncloseOp, bucket: u8, taken: Taken)
             }
             op.step = next_lock(bucket);
         }
-        Taken::Busy { seen } => op.step = giving(bucket, Ending::Again(Why::Busy { word, seen })),
+        Taken::Busy { seen } => {
+            op.step = giving(bucket, NotEnclosed::Again(Why::Busy { word, seen }));
+        }
         Taken::Moved { before, after } => {
             op.step = giving(
                 bucket,
-                Ending::Again(Why::Moved {
+                NotEnclosed::Again(Why::Moved {
                     word,
                     before,
                     after,
@@ -174,7 +164,7 @@ fn headed(op: &mut EncloseOp, head: u64)
     op.step = if op.enclosed.is_followed(head) {
         EncloseStep::Fill(1)
     } else {
-        giving(BUCKETS, Ending::Room)
+        giving(BUCKETS, NotEnclosed::Room)
     };
     op.enclosed.head = head;
 }
@@ -192,12 +182,12 @@ fn filled(op: &mut EncloseOp, at: u16, seen: u64)
 }
 
 /// The step after something was given back.
-fn given_to(give: Give, ending: Ending) -> EncloseStep
-    ensures { result ≡ given_to give ending }
+fn given_to(give: Give, end: NotEnclosed) -> EncloseStep
+    ensures { result ≡ given_to give end }
 {
     match given(give) {
-        Some(more) => EncloseStep::Give(more, ending),
-        None => EncloseStep::Ended(ending),
+        Some(more) => EncloseStep::Give(more, end),
+        None => EncloseStep::Ended(end),
     }
 }
 
@@ -209,7 +199,7 @@ fn take_in(op: &mut EncloseOp, ans: Ans)
         (EncloseStep::Guard, Ans::Won) => op.step = EncloseStep::Lock(0, Take::Look),
         (EncloseStep::Guard, Ans::Lost(seen)) => {
             let word = op.enclosed.guard();
-            op.step = EncloseStep::Ended(Ending::Again(Why::Busy { word, seen }));
+            op.step = EncloseStep::Ended(NotEnclosed::Again(Why::Busy { word, seen }));
         }
         (EncloseStep::Lock(bucket, take), ans) => {
             locked_to(op, bucket, take_next(&take, ans));
@@ -217,12 +207,12 @@ fn take_in(op: &mut EncloseOp, ans: Ans)
         (EncloseStep::Head, Ans::Value(head)) => headed(op, head),
         (EncloseStep::Fill(at), Ans::Value(seen)) => filled(op, at, seen),
         (EncloseStep::CountSpent(bucket), Ans::Value(place)) => {
-            op.step = giving(bucket, Ending::Replied(Reply::Spent, place));
+            op.step = giving(bucket, NotEnclosed::Replied(Reply::Spent, place));
         }
         (EncloseStep::CountDeep, Ans::Value(place)) => {
-            op.step = giving(BUCKETS, Ending::Replied(Reply::Deep, place));
+            op.step = giving(BUCKETS, NotEnclosed::Replied(Reply::Deep, place));
         }
-        (EncloseStep::Give(give, ending), Ans::Passed) => op.step = given_to(give, ending),
+        (EncloseStep::Give(give, end), Ans::Passed) => op.step = given_to(give, end),
         _ => {}
     }
 }
@@ -260,8 +250,8 @@ impl EncloseOp {
                 hash: key_hash(&site.geometry, change.key),
                 segment,
                 head: 0,
-                locks: [0; 66],
-                buckets: [0; 2112],
+                locks: [0; BUCKETS as usize],
+                buckets: [0; WORDS_OF_BUCKETS as usize],
             },
             step: EncloseStep::Guard,
         }
@@ -280,7 +270,7 @@ impl EncloseOp {
         ensures { result ≡ end_at self.step }
     {
         match self.step {
-            EncloseStep::Ended(ending) => EncloseEnd::Back(ending),
+            EncloseStep::Ended(end) => EncloseEnd::Back(end),
             EncloseStep::Whole => EncloseEnd::Whole,
             _ => EncloseEnd::Off,
         }

@@ -135,11 +135,11 @@ impl Memory {
 }
 
 fn again(why: Why) -> EncloseEnd {
-    EncloseEnd::Back(Ending::Again(why))
+    EncloseEnd::Back(NotEnclosed::Again(why))
 }
 
 fn replied(reply: Reply, place: u64) -> EncloseEnd {
-    EncloseEnd::Back(Ending::Replied(reply, place))
+    EncloseEnd::Back(NotEnclosed::Replied(reply, place))
 }
 
 #[test]
@@ -219,14 +219,18 @@ fn there_may_be_room(rt: HostRuntime) -> Result<(), Fail> {
     for head in [HEAD + 1, 1, DEEP_HEAD + (1 << 32)] {
         let mut memory = with(65, head);
         let end = memory.run()?;
-        assert_eq!(rt; end, (EncloseEnd::Back(Ending::Room), 201), "head {head}");
+        assert_eq!(rt;
+            end,
+            (EncloseEnd::Back(NotEnclosed::Room), 201),
+            "head {head}"
+        );
         assert_eq!(rt; memory.held(), (0, 0));
     }
     // A free slot of a stash bucket, and one of the home bucket.
     for (at, value) in [(2177u64, 0x1FFF), (97, 0x3FFE)] {
         let mut memory = with(at, value);
         let end = memory.run()?;
-        assert_eq!(rt; end, (EncloseEnd::Back(Ending::Room), 2247), "at {at}");
+        assert_eq!(rt; end, (EncloseEnd::Back(NotEnclosed::Room), 2247), "at {at}");
         assert_eq!(rt; memory.held(), (0, 0));
     }
     Ok(())

@@ -4,20 +4,21 @@ use Rattle.std.specs.Prelude.{nat_lt, ◌==◌, ◌||◌, not, if◌then◌else�
 use Rattle.word_bits.specs.Bits.{bit}
 use Rattle.std.proofs.lemmas.Bool.{eq-eqb, ne_eqb, both_ways}
 use Rattle.trace.specs.Events.{Words}
-use Rattle.segment_head.specs.HeadWord.{version_in, state_in, depth_in, pattern_in, free, normal, splitting, fresh, HasLiveState}
-use Rattle.image_layout.specs.Places.{head_at, buckets}
+use Rattle.segment_head.specs.HeadWord.{version_in, state_in, depth_in, pattern_in, free, normal, splitting, fresh, HasLiveState, header_of}
+use Rattle.image_layout.specs.Places.{head_at, segment_words}
 use Rattle.frame_facts.specs.DeadSlots.{IsPlainInSlot}
 use Rattle.hash_word.specs.Hash.{top}
 use Rattle.segment_table.proofs.frames.Regions.{top_below}
 use Rattle.image_layout.proofs.Areas.{power_le}
 use Rattle.way.proofs.Leading.{leading_is}
 use Rattle.map_model.specs.declared.call.Call.{Call}
+use Rattle.segment_head.proofs.Headers.{header_version, header_state, header_depth, header_pattern}
 use Rattle.world.specs.declared.site.Site.{Site}
-use Rattle.world.specs.Ground.{Ground, IsGround, IsLockWord, IsLiveLock, IsSpentLock, version_of}
+use Rattle.world.specs.Ground.{Ground, IsGround, IsLockWord, version_of}
 use Rattle.world.specs.Views.{View, Has, IsLoose}
 use Rattle.world.specs.Holders.{KnowsWord}
 use Rattle.world.specs.areas.Areas.{Area, Segment, Side, Free, Whole, Allocation, header_word}
-use Rattle.world.specs.areas.Asking.{MayBeNewest, MayAt}
+use Rattle.world.specs.areas.Asking.{MayAt}
 use Rattle.world.specs.areas.Kinds.{sets, moves}
 use Rattle.world.specs.areas.Rows.{marks, news}
 use Rattle.world.specs.areas.Splitting.{link_word, IsSettledHolder, KnowsHead, HasOwnSlot, IsHeader}
@@ -25,21 +26,21 @@ use Rattle.world.proofs.holders.filling.Filling.{may_fill}
 use Rattle.world.proofs.holders.filling.Beginning.{may_begin}
 use Rattle.enclose_op.specs.declared.enclosed.Enclosed.{Enclosed}
 use Rattle.split_op.specs.declared.copied.Copied.{Copied}
-use Rattle.split_op.specs.declared.task.Task.TheVariants.{Empty, Link, Mark, New, Copy}
-use Rattle.split_op.specs.Copied.{header_of, split_head, side_head}
-use Rattle.split_op.specs.Tasks.{slot_words, empty_value, is_copied}
+use Rattle.split_op.specs.declared.batch.Batch.TheVariants.{Empty, Link, Mark, New, Copy}
+use Rattle.split_op.specs.Copied.{split_head, side_head}
+use Rattle.split_op.specs.Batches.{empty_value, is_copied}
 use Rattle.split_op.specs.Fits.{KeepsOn, side_at, IsEmptying, IsCopying, IsSplitting}
 use Rattle.split_op.proofs.Cases.{choose}
-use Rattle.split_op.proofs.Places.{in_slot_at, slot_apart, number_apart, lock_value, other_value}
+use Rattle.split_op.proofs.Places.{in_slot_at, slot_apart, number_apart, other_value}
 
 -- ---- headers
 -- fields of a header that is made of them
 pub fields_are : (v t d p : ℕ) → v < 2 ^ 8 → t < 2 ^ 8 → d < 2 ^ 8 → IsHeader (header_of v t d p) t d p v
 fields_are v t d p small state depth = record {
-  state_is = omega (arith, small, state, depth);
-  depth_is = omega (arith, small, state, depth);
-  pattern_is = omega (arith, small, state, depth);
-  version_is = omega (arith, small, state, depth);
+  state_is = header_state v t d p small state depth;
+  depth_is = header_depth v t d p small state depth;
+  pattern_is = header_pattern v t d p small state depth;
+  version_is = header_version v t d p small state depth;
 }
 
 free_dead : (head : ℕ) → state_in head ≡ free → HasLiveState head → ⊥
@@ -108,16 +109,12 @@ module _ (site : Ground) (ground : IsGround site) (here : Site) (call : Call) (c
   own_side h has slot is known = record { slot = slot; own = inr has; header = known; dead = fresh_dead h is }
 
   -- a word of it that is neither header nor link
-  plain : (p : ℕ) → 32 ≤ p → p < slot_words → IsPlainInSlot site.shape n (head_at site.shape n + p)
+  plain : (p : ℕ) → 32 ≤ p → p < segment_words → IsPlainInSlot site.shape n (head_at site.shape n + p)
   plain p from low = record {
     inside = in_slot_at site.shape n p low;
     no_header = number_apart site.shape n p 1 (λ e. omega (arith, e, from));
     no_link = number_apart site.shape n p 2 (λ e. omega (arith, e, from));
   }
-
-  -- a lock word of a live segment is one
-  of_live : (i : ℕ) (words : Words) → IsLiveLock site.shape words i → IsLockWord site.shape i
-  of_live i words l = (l.0, l.1, l.2, l.3, l.4)
 
   -- a lock word has a number that 32 divides
   lock_at : (p : ℕ) → IsLockWord site.shape (head_at site.shape n + p) → p % 32 ≡ 0
@@ -131,11 +128,11 @@ module _ (site : Ground) (ground : IsGround site) (here : Site) (call : Call) (c
 
   module _ (locks : List ℕ) where
     -- what may be loose is no header of the side, and no word of the segment, while words of the slot are stored
-    header_firm : (h : ℕ) → ((p : ℕ × ℕ) → IsLoose v p → (q : ℕ) × (2 ≤ q) × (q < slot_words) × (p.0 ≡ side_at site here call c q)) → Has (header_word site.shape n, h) v.known → KnowsWord v (header_word site.shape n) h
+    header_firm : (h : ℕ) → ((p : ℕ × ℕ) → IsLoose v p → (q : ℕ) × (2 ≤ q) × (q < segment_words) × (p.0 ≡ side_at site here call c q)) → Has (header_word site.shape n, h) v.known → KnowsWord v (header_word site.shape n) h
     header_firm h loose has = record { known = has; firm = λ y l. (let at = loose (header_word site.shape n, y) l in number_apart site.shape n 1 at.0 (λ e. (let from = at.1 in omega (arith, e, from))) at.3) }
 
     -- a word is emptied
-    pub may_empty : (k : ℕ) → k < slot_words → IsSplitting site here call c locks (Empty k) v → MayAt site (sets (head_at site.shape n + k) (empty_value locks k)) v
+    pub may_empty : (k : ℕ) → k < segment_words → IsSplitting site here call c locks (Empty k) v → MayAt site (sets (head_at site.shape n + k) (empty_value locks k)) v
     may_empty k low is =
         let h : ℕ = is.side_header.0 in
         let whole : Has (Whole s) v.areas = subst (λ (l : List Area). Has (Whole s) l) (sym is.areas) (inl refl) in
@@ -147,25 +144,12 @@ module _ (site : Ground) (ground : IsGround site) (here : Site) (call : Call) (c
             | inl two ↦ subst (λ (x : ℕ). MayAt site (sets (head_at site.shape n + k) x) v) (sym (other_value locks k (inl (omega (arith, two)))))
                 (subst (λ (p : ℕ). MayAt site (sets (head_at site.shape n + p) 0) v) (sym two) ((may_fill site v ground).side_link n 0 h (holder is.keeps whole) own (omega arith)))
             | inr far ↦ (may_fill site v ground).word n (head_at site.shape n + k) (empty_value locks k) h (holder is.keeps whole) own (plain k far.0 low) (λ _. empty_even locks k)
-                (λ words new spent. spent_stays k far.0 low w words new spent)
           ]
           | inr past ↦ absurd (omega (arith, low, past))
         ]
-      where
-        by_number : (k b : ℕ) → 32 ≤ k → k < slot_words → k % 32 ≡ 0 → b ≡ k / 32 - 1 → (k ≡ 32 + 32 * b) × (b < buckets)
-        by_number k b from low even is = (omega (arith, from, even, is), omega (arith, from, low, is))
-
-        spent_stays : (k : ℕ) → 32 ≤ k → k < slot_words → IsEmptying site here call c locks k v → (words : Words) → MayBeNewest site v words → IsSpentLock site.shape words (head_at site.shape n + k) → empty_value locks k ≡ 2 ^ 64 - 2
-        spent_stays k from low w words new spent =
-            let b : ℕ = k / 32 - 1 in
-            let at = by_number k b from low (lock_at k (of_live (head_at site.shape n + k) words spent.0)) refl in
-            let same : k ≡ 32 + 32 * b = at.0 in
-            let now : slice_index locks b ≡ 2 ^ 64 - 2 = sym (new.knows (side_at site here call c (32 + 32 * b)) (slice_index locks b) (w.above b at.1 (omega (arith, same))))
-            ∙ ap (λ (p : ℕ). words (head_at site.shape n + p)) (sym same) ∙ spent.1 in
-            ap (empty_value locks) same ∙ lock_value locks b ∙ ap (λ (x : ℕ). x / 2 * 2) now
 
     -- a word is copied
-    pub may_copy : (k : ℕ) → k < slot_words → IsSplitting site here call c locks (Copy k) v → MayAt site (sets (head_at site.shape n + k) (slice_index c.words (k - 32))) v
+    pub may_copy : (k : ℕ) → k < segment_words → IsSplitting site here call c locks (Copy k) v → MayAt site (sets (head_at site.shape n + k) (slice_index c.words (k - 32))) v
     may_copy k low is =
         let whole : Has (Whole s) v.areas = subst (λ (l : List Area). Has (Whole s) l) (sym is.areas) (inr (inl refl)) in
         let has : Has (Side n) v.areas = subst (λ (l : List Area). Has (Side n) l) (sym is.areas) (inl refl) in
@@ -173,7 +157,7 @@ module _ (site : Ground) (ground : IsGround site) (here : Site) (call : Call) (c
         let w : IsCopying site here call c locks k v = is.side_words in
         elim w.next [
           | inl this ↦ (may_fill site v ground).word n (head_at site.shape n + k) (slice_index c.words (k - 32)) (side_head e) (holder is.keeps whole) own (plain k this.0 low)
-              (λ lock. absurd (no_lock k this.2 (lock_at k lock))) (λ words new spent. absurd (no_lock k this.2 (lock_at k (of_live (head_at site.shape n + k) words spent.0))))
+              (λ lock. absurd (no_lock k this.2 (lock_at k lock)))
           | inr past ↦ absurd (omega (arith, low, past))
         ]
       where
@@ -268,7 +252,7 @@ module _ (site : Ground) (ground : IsGround site) (here : Site) (call : Call) (c
         let h : ℕ = is.side_header.0 in
         let word : Words = heads (split_head e) (suc n) h 0 in
         let header = own_header apart (split_head e) (suc n) h 0 in
-        let w : IsEmptying site here call c locks slot_words v = is.side_words in
+        let w : IsEmptying site here call c locks segment_words v = is.side_words in
         let si = split_is is.keeps in
         let link : Has (link_word site.shape n, 0) v.known = subst (λ (x : ℕ). Has (link_word site.shape n, x) v.known) (other_value locks 2 (inl (omega arith))) (w.below 2 (inl refl) (omega arith)) in
         (may_begin site v ground).news s n (side_head e) word (holder is.keeps whole) own has

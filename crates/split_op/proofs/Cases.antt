@@ -1,5 +1,5 @@
 -- What is so in either branch is so; and what the events of rounds are answered.
-use Rattle.std.proofs.Common.{◌≡◌, ℕ, ◌+◌, ◌%◌, ◌^◌, Bool, true, false, Option, None, Some, slice_index, inl, inr, refl, subst}
+use Rattle.std.proofs.Common.{◌≡◌, ℕ, Bool, true, false, Option, None, Some, slice_index, inl, inr, refl, subst}
 use Rattle.std.proofs.lemmas.Bool.{both_ways}
 use Rattle.std.specs.Prelude.{if◌then◌else◌}
 use Rattle.op_core.specs.declared.want.Want.{Want}
@@ -7,10 +7,6 @@ use Rattle.op_core.specs.declared.want.Want.TheVariants.{Store, Flush, Fence}
 use Rattle.op_core.specs.declared.want.Ans.{Ans}
 use Rattle.op_core.specs.declared.want.Ans.TheVariants.{Value, Won, Lost, Drawn, Passed}
 use Rattle.op_core.specs.Answers.{IsAnswer}
-use Rattle.enclose_op.specs.declared.enclosed.Enclosed.{Enclosed}
-use Rattle.enclose_op.specs.declared.give.Give.{Give}
-use Rattle.enclose_op.specs.declared.give.Give.TheVariants as giving
-use Rattle.enclose_op.specs.Giving.{guard_of, lock_of, free_value, give_wanted}
 use Rattle.rounds.proofs.Events.{event_cases, some_store}
 use Rattle.rounds.specs.declared.rounds.Rounds.{Rounds}
 use Rattle.rounds.specs.Steps.{rounds_stores}
@@ -50,10 +46,6 @@ pub round_answered : (rounds : Rounds) (next : Option (ℕ × ℕ)) (w : Want) (
 round_answered rounds next w a (inl s) i = stored_is s.word s.value a (subst (λ (z : Want). IsAnswer z a) s.wants i)
 round_answered rounds next w a (inr (inl f)) i = flushed_is (slice_index rounds.round f.number) a (subst (λ (z : Want). IsAnswer z a) f.wants i)
 round_answered rounds next w a (inr (inr f)) i = fenced_is a (subst (λ (z : Want). IsAnswer z a) f.wants i)
-
-pub give_answered : (e : Enclosed) (give : Give) (a : Ans) → IsAnswer (give_wanted e give) a → a ≡ Passed
-give_answered e (giving.Lock b to) a i = stored_is (lock_of e b) ((free_value e b + 2) % 2 ^ 64) a i
-give_answered e giving.Guard a i = stored_is (guard_of e) 0 a i
 
 -- where the next event is a store, it is the one that was to come
 came_by : (rounds : Rounds) (next : Option (ℕ × ℕ)) (w : Want) → rounds_stores rounds next ≡ true → IsRoundEvent rounds next w → (word : ℕ) × (value : ℕ) × (next ≡ Some (word, value))

@@ -1,11 +1,11 @@
--- What comes once all of a task is stored and settled suits the view; behind the last one the side has its copies.
+-- What comes once all of a batch is stored and settled suits the view; behind the last one the side has its copies.
 use Rattle.std.proofs.Common.{◌≡◌, ◌≢◌, ℕ, suc, ◌+◌, ◌-◌, ◌*◌, ◌/◌, ◌%◌, ◌<◌, ◌≤◌, ◌⊎◌, Bool, true, false, Option, None, Some, List, slice_index, inl, inr, refl, sym, ap, ◌∙◌, subst, arith}
 use Rattle.std.specs.Prelude.{nat_lt, nat_le, ◌==◌, ◌&&◌, not, if◌then◌else◌}
 use Rattle.std.proofs.lemmas.Bool.{cases_Bool, lt-ltb, le-ltb, ltb-true, ltb-false, le-leb, leb-true, eq-eqb, ne_eqb, eqb-true, and_parts}
 use Rattle.op_core.specs.declared.want.Want.{Want}
 use Rattle.word_bits.specs.Bits.{bit}
 use Rattle.bucket_meta.specs.Bucket.{record_slots, allocated}
-use Rattle.image_layout.specs.Places.{Shape, words_of, head_at, bucket_at, buckets, block}
+use Rattle.image_layout.specs.Places.{Shape, words_of, head_at, bucket_at, buckets, block, segment_words}
 use Rattle.bucket_words.specs.Buckets.{IsTaken}
 use Rattle.frame_facts.specs.DeadSlots.{IsInSlot}
 use Rattle.map_model.specs.declared.call.Call.{Call}
@@ -24,10 +24,10 @@ use Rattle.rounds.proofs.Settling.{rounds_settle}
 use Rattle.enclose_op.specs.Whole.{kept_words}
 use Rattle.enclose_op.proofs.Places.{in_slot}
 use Rattle.split_op.specs.declared.copied.Copied.{Copied}
-use Rattle.split_op.specs.declared.task.Task.{Task}
-use Rattle.split_op.specs.declared.task.Task.TheVariants.{Empty, Link, Mark, New, Copy}
+use Rattle.split_op.specs.declared.batch.Batch.{Batch}
+use Rattle.split_op.specs.declared.batch.Batch.TheVariants.{Empty, Link, Mark, New, Copy}
 use Rattle.split_op.specs.Copied.{split_head, side_head, copied_words, KeepsCopied}
-use Rattle.split_op.specs.Tasks.{slot_words, empty_value, is_copied, due}
+use Rattle.split_op.specs.Batches.{empty_value, is_copied, due}
 use Rattle.split_op.specs.Steps.{finished, put_by}
 use Rattle.split_op.specs.Fits.{side_at, IsEmptying, IsCopying, IsSplitting, SuitsStep}
 use Rattle.split_op.proofs.Cases.{none_some}
@@ -147,7 +147,7 @@ module _ (site : Ground) (here : Site) (call : Call) (c : Copied) (locks : List 
   knows e i x has = record { known = has; firm = λ y l. none_loose e (i, y) l }
 
   -- ---- THE COPIES ARE THERE
-  module _ (k : ℕ) (past : slot_words ≤ k) (is : IsSplitting site here call c locks (Copy k) u) (e : IsSettled u) where
+  module _ (k : ℕ) (past : segment_words ≤ k) (is : IsSplitting site here call c locks (Copy k) u) (e : IsSettled u) where
     abbrev g : c.whole.site.geometry ≡ site.shape
     g = is.keeps.is.located.shape
 
@@ -229,14 +229,14 @@ module _ (site : Ground) (here : Site) (call : Call) (c : Copied) (locks : List 
 
   -- ---- WHAT COMES THEN
   module _ (rounds : Rounds) (stands : RoundStands rounds u) (lines : (line : ℕ) → Has line rounds.round → 8 * line + 8 ≤ words_of site.shape) where
-    past_by : {X : Type 0} (k : ℕ) (x : X) (b : Bool) → nat_lt k slot_words ≡ b → (if b then Some x else None) ≡ None → slot_words ≤ k
+    past_by : {X : Type 0} (k : ℕ) (x : X) (b : Bool) → nat_lt k segment_words ≡ b → (if b then Some x else None) ≡ None → segment_words ≤ k
     past_by k x true is none = absurd (none_some (sym none))
-    past_by k x false is none = ltb-false k slot_words is
+    past_by k x false is none = ltb-false k segment_words is
 
-    pub finished_suits : (task : Task) → IsSplitting site here call c locks task u → rounds_wanted rounds (due c locks task) ≡ None → SuitsStep site here call c locks (finished task) u
+    pub finished_suits : (batch : Batch) → IsSplitting site here call c locks batch u → rounds_wanted rounds (due c locks batch) ≡ None → SuitsStep site here call c locks (finished batch) u
     finished_suits (Empty k) is none =
         let e = rounds_settle.ends rounds (due c locks (Empty k)) u stands none in
-        let past = past_by k _ (nat_lt k slot_words) refl (events_end rounds (due c locks (Empty k)) none).1 in
+        let past = past_by k _ (nat_lt k segment_words) refl (events_end rounds (due c locks (Empty k)) none).1 in
         let w : IsEmptying site here call c locks k u = is.side_words in
         record {
           splits = record {
@@ -279,11 +279,11 @@ module _ (site : Ground) (here : Site) (call : Call) (c : Copied) (locks : List 
     finished_suits (New false) is none = absurd (none_some (sym (events_end rounds (due c locks (New false)) none).1))
     finished_suits (New true) is none = (is, rounds_settle.ends rounds None u stands none)
     finished_suits (Copy k) is none =
-        all_copied k (past_by k _ (nat_lt k slot_words) refl (events_end rounds (due c locks (Copy k)) none).1) is (rounds_settle.ends rounds (due c locks (Copy k)) u stands none)
+        all_copied k (past_by k _ (nat_lt k segment_words) refl (events_end rounds (due c locks (Copy k)) none).1) is (rounds_settle.ends rounds (due c locks (Copy k)) u stands none)
 
-    by_suits : (task : Task) → IsSplitting site here call c locks task u → (want : Option Want) → rounds_wanted rounds (due c locks task) ≡ want → SuitsStep site here call c locks (put_by want task rounds) u
-    by_suits task is (Some w) e = record { splits = is; stands = stands; lines = lines; asks = λ none. none_some (sym none ∙ e) }
-    by_suits task is None e = finished_suits task is e
+    by_suits : (batch : Batch) → IsSplitting site here call c locks batch u → (want : Option Want) → rounds_wanted rounds (due c locks batch) ≡ want → SuitsStep site here call c locks (put_by want batch rounds) u
+    by_suits batch is (Some w) e = record { splits = is; stands = stands; lines = lines; asks = λ none. none_some (sym none ∙ e) }
+    by_suits batch is None e = finished_suits batch is e
 
-    pub to_suits : (task : Task) → IsSplitting site here call c locks task u → SuitsStep site here call c locks (put_by (rounds_wanted rounds (due c locks task)) task rounds) u
-    to_suits task is = by_suits task is (rounds_wanted rounds (due c locks task)) refl
+    pub to_suits : (batch : Batch) → IsSplitting site here call c locks batch u → SuitsStep site here call c locks (put_by (rounds_wanted rounds (due c locks batch)) batch rounds) u
+    to_suits batch is = by_suits batch is (rounds_wanted rounds (due c locks batch)) refl

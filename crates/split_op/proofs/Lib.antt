@@ -1,5 +1,5 @@
 pub mod Cases
-pub mod Seeking
+pub mod sides
 pub mod Falling
 pub mod Places
 pub mod Stored
@@ -8,8 +8,4 @@ pub mod Asking
 pub mod Rounding
 pub mod Stepping
 pub mod SplitIsPart
-pub mod Copying
-pub mod Stashing
-pub mod Siding
-pub mod Made
-pub mod Thinning
+pub mod causes

@@ -1,25 +1,29 @@
 -- Where the words of the slot of a side stand, and that they are none of the segment.
 use Rattle.std.proofs.Common.{◌≡◌, ℕ, ◌+◌, ◌-◌, ◌*◌, ◌/◌, ◌%◌, ◌<◌, ◌≤◌, ◌⊎◌, Bool, List, slice_index, inl, inr, sym, ap, ◌∙◌, subst, arith}
-use Rattle.std.specs.Prelude.{nat_lt, ◌||◌, ◌&&◌, not, ◌==◌, if◌then◌else◌}
+use Rattle.std.specs.Prelude.{nat_lt, ◌||◌, ◌&&◌, not, ◌==◌, min, if◌then◌else◌}
 use Rattle.std.proofs.lemmas.Bool.{cases_lt, cases_Bool, lt-ltb, le-ltb, eqb-true}
-use Rattle.image_layout.specs.Places.{Shape, root_word, head_at, bucket_at, buckets}
+use Rattle.image_layout.specs.Places.{Shape, root_word, head_at, bucket_at, buckets, segment_words, most_segments}
 use Rattle.frame_facts.specs.DeadSlots.{IsInSlot}
 use Rattle.world.proofs.fitting.OneHolder.{one_slot}
-use Rattle.split_op.specs.Tasks.{slot_words, slot_word, empty_value, first_of, after_empty}
+use Rattle.split_op.specs.Batches.{slot_word, empty_value, first_of, after_empty}
 
 pub slot_is : (geometry shape : Shape) → geometry ≡ shape → (n number : ℕ) → n < shape.segments → slot_word geometry n number ≡ head_at shape n + number
 slot_is geometry shape g n number low =
     ap (λ (z : Shape). slot_word z n number) g ∙ ap (λ (b : Bool). if b then head_at shape n + number else root_word) (lt-ltb n shape.segments low)
 
+-- the slots of an image are those up to the last one in which a free one is looked for
+pub all_slots : (n slot : ℕ) → n ≤ most_segments → min n most_segments - 1 ≤ slot → n ≤ slot + 1
+all_slots n slot few last = omega (arith, few, last)
+
 -- a word of a slot, by its number
-pub in_slot_at : (shape : Shape) (n p : ℕ) → p < slot_words → IsInSlot shape n (head_at shape n + p)
+pub in_slot_at : (shape : Shape) (n p : ℕ) → p < segment_words → IsInSlot shape n (head_at shape n + p)
 in_slot_at shape n p low = record { from = omega arith; to = by (head_at shape n) p low }
   where
     by : (f p : ℕ) → p < 2144 → f + p < f + 2144
     by f p low = omega (arith, low)
 
 -- it is none of another slot
-pub slot_apart : (shape : Shape) (s n i p : ℕ) → (n ≡ s → ⊥) → IsInSlot shape s i → p < slot_words → i ≡ head_at shape n + p → ⊥
+pub slot_apart : (shape : Shape) (s n i p : ℕ) → (n ≡ s → ⊥) → IsInSlot shape s i → p < segment_words → i ≡ head_at shape n + p → ⊥
 slot_apart shape s n i p apart inside low e = apart (sym (one_slot shape s n i inside (subst (IsInSlot shape n) (sym e) (in_slot_at shape n p low))))
 
 -- words of other numbers are others
@@ -71,21 +75,21 @@ even_value x even = omega (arith, even)
 -- ---- which word is emptied behind one
 -- a word of the slot that is emptied
 abbrev pub IsFirst : ℕ → Type 0
-IsFirst p = (p ≡ 2) ⊎ ((32 ≤ p) × (p < slot_words) × (p % 32 < 4))
+IsFirst p = (p ≡ 2) ⊎ ((32 ≤ p) × (p < segment_words) × (p % 32 < 4))
 
 module _ (locks : List ℕ) (k : ℕ) where
   -- behind the link and behind the metadata of a bucket it is the first one of the next bucket
-  first_cases : (b : ℕ) → ((b < 66) × (slice_index locks b % 2 ≡ 0) × (first_of locks b ≡ 32 * b + 33)) ⊎ ((b < 66) × (first_of locks b ≡ 32 * b + 32)) ⊎ ((66 ≤ b) × (first_of locks b ≡ slot_words))
-  first_cases b = elim (cases_lt b 66) [
+  first_cases : (b : ℕ) → ((b < 66) × (slice_index locks b % 2 ≡ 0) × (first_of locks b ≡ 32 * b + 33)) ⊎ ((b < 66) × (first_of locks b ≡ 32 * b + 32)) ⊎ ((66 ≤ b) × (first_of locks b ≡ segment_words))
+  first_cases b = elim (cases_lt b buckets) [
     | inl low ↦ elim (cases_Bool (slice_index locks b % 2 == 0)) [
       | inl even ↦ inl (low, eqb-true (slice_index locks b % 2) 0 even, near low ∙ ap (λ (t : Bool). if t then 32 * b + 33 else 32 * b + 32) even)
       | inr odd ↦ inr (inl (low, near low ∙ ap (λ (t : Bool). if t then 32 * b + 33 else 32 * b + 32) odd))
     ]
-    | inr high ↦ inr (inr (high, ap (λ (t : Bool). if t then (if slice_index locks b % 2 == 0 then 32 * b + 33 else 32 * b + 32) else slot_words) (le-ltb b 66 high)))
+    | inr high ↦ inr (inr (high, ap (λ (t : Bool). if t then (if slice_index locks b % 2 == 0 then 32 * b + 33 else 32 * b + 32) else segment_words) (le-ltb b buckets high)))
   ]
     where
       near : b < 66 → first_of locks b ≡ (if slice_index locks b % 2 == 0 then 32 * b + 33 else 32 * b + 32)
-      near low = ap (λ (t : Bool). if t then (if slice_index locks b % 2 == 0 then 32 * b + 33 else 32 * b + 32) else slot_words) (lt-ltb b 66 low)
+      near low = ap (λ (t : Bool). if t then (if slice_index locks b % 2 == 0 then 32 * b + 33 else 32 * b + 32) else segment_words) (lt-ltb b buckets low)
 
   after_cases : IsFirst k → ((32 ≤ k) × (k % 32 < 3) × (after_empty locks k ≡ k + 1)) ⊎ (((k ≡ 2) ⊎ ((32 ≤ k) × (k % 32 ≡ 3))) × (after_empty locks k ≡ first_of locks (k / 32)))
   after_cases (inl two) = inr (inl two, ap (λ (t : Bool). if not t && nat_lt (k % 32) 3 then k + 1 else first_of locks (k / 32)) (lt-ltb k 32 (omega (arith, two))))
@@ -100,7 +104,7 @@ module _ (locks : List ℕ) (k : ℕ) where
       ]
 
   -- it is emptied too, or all are
-  pub after_first : k < slot_words → IsFirst k → IsFirst (after_empty locks k) ⊎ (slot_words ≤ after_empty locks k)
+  pub after_first : k < segment_words → IsFirst k → IsFirst (after_empty locks k) ⊎ (segment_words ≤ after_empty locks k)
   after_first low is = elim (after_cases is) [
     | inl one ↦ (let from = one.0 in let small = one.1 in let next = one.2 in inl (inr (omega (arith, from, next), omega (arith, low, small, next), omega (arith, small, next))))
     | inr more ↦ (let next = more.1 in elim (first_cases (k / 32)) [
@@ -111,7 +115,7 @@ module _ (locks : List ℕ) (k : ℕ) where
   ]
 
   -- what is passed over is a free lock word
-  pub passed_over : k < slot_words → IsFirst k → (p : ℕ) → IsFirst p → k < p → p < after_empty locks k → (b : ℕ) × (b < buckets) × (p ≡ 32 + 32 * b) × (slice_index locks b % 2 ≡ 0)
+  pub passed_over : k < segment_words → IsFirst k → (p : ℕ) → IsFirst p → k < p → p < after_empty locks k → (b : ℕ) × (b < buckets) × (p ≡ 32 + 32 * b) × (slice_index locks b % 2 ≡ 0)
   passed_over low is p first from to = elim (after_cases is) [
     | inl one ↦ absurd (let next = one.2 in omega (arith, next, from, to))
     | inr more ↦ (let next = more.1 in elim (first_cases (k / 32)) [

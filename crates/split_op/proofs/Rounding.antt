@@ -1,11 +1,11 @@
--- The events of a task: each is of its kind, which the view may take, and leaves a view that suits what comes next.
+-- The events of a batch: each is of its kind, which the view may take, and leaves a view that suits what comes next.
 use Rattle.std.proofs.Common.{◌≡◌, ℕ, suc, ◌+◌, ◌-◌, ◌*◌, ◌/◌, ◌%◌, ◌^◌, ◌<◌, ◌≤◌, Bool, true, false, Option, None, Some, List, [], ◌∷◌, slice_index, inl, inr, refl, sym, ap, ◌∙◌, subst, arith}
 use Rattle.std.specs.Prelude.{nat_lt, not, if◌then◌else◌}
 use Rattle.std.proofs.lemmas.Bool.{ltb-true, eq-eqb}
 use Rattle.op_core.specs.declared.want.Want.{Want}
 use Rattle.op_core.specs.declared.want.Want.TheVariants as want
 use Rattle.op_core.specs.declared.want.Ans.TheVariants.{Passed}
-use Rattle.image_layout.specs.Places.{words_of, head_at}
+use Rattle.image_layout.specs.Places.{words_of, head_at, segment_words}
 use Rattle.trace.specs.Events.{line_of}
 use Rattle.rounds.proofs.Lines.{lines_are_stored}
 use Rattle.map_model.specs.declared.call.Call.{Call}
@@ -30,12 +30,12 @@ use Rattle.rounds.specs.Stands.{kind_of, IsLooseOn, RoundStands, KnowsSidesDead}
 use Rattle.rounds.proofs.Settling.{rounds_settle}
 use Rattle.rounds.proofs.Keeping.{rounds_may}
 use Rattle.split_op.specs.declared.copied.Copied.{Copied}
-use Rattle.split_op.specs.declared.task.Task.{Task}
-use Rattle.split_op.specs.declared.task.Task.TheVariants.{Empty, Link, Mark, New, Copy}
+use Rattle.split_op.specs.declared.batch.Batch.{Batch}
+use Rattle.split_op.specs.declared.batch.Batch.TheVariants.{Empty, Link, Mark, New, Copy}
 use Rattle.split_op.specs.declared.op.SplitOp.{SplitOp}
 use Rattle.split_op.specs.Copied.{split_head, side_head}
-use Rattle.split_op.specs.Tasks.{slot_words, slot_word, empty_value, after_empty, copied_from, due, after}
-use Rattle.split_op.specs.Steps.{put_to, task_after, stored}
+use Rattle.split_op.specs.Batches.{slot_word, empty_value, after_empty, copied_from, due, after}
+use Rattle.split_op.specs.Steps.{put_to, batch_after, stored}
 use Rattle.split_op.specs.Fits.{put_kind, KeepsOn, side_at, areas_at, KnowsFreeHeader, KnowsLink, KnowsSideHeader, KnowsSideWords, IsEmptying, IsSplitting, SuitsStep}
 use Rattle.split_op.proofs.Cases.{none_some}
 use Rattle.split_op.proofs.Places.{slot_is}
@@ -66,8 +66,8 @@ module _ (site : Ground) (ground : IsGround site) (here : Site) (call : Call) (o
   abbrev locks : List ℕ
   locks = op.locks
 
-  abbrev Splits : Task → View → Type 0
-  Splits task u = IsSplitting site here call c locks task u
+  abbrev Splits : Batch → View → Type 0
+  Splits batch u = IsSplitting site here call c locks batch u
 
   -- ---- where nothing is stored
   -- a view is another, but that less is loose
@@ -79,7 +79,7 @@ module _ (site : Ground) (ground : IsGround site) (here : Site) (call : Call) (o
     calm_free : KnowsFreeHeader site here call c v → KnowsFreeHeader site here call c u
     calm_free k = (k.0, calm_has (side_at site here call c 1) k.0 k.1, k.2)
 
-    calm_link : (task : Task) → KnowsLink site here call c locks task v → KnowsLink site here call c locks task u
+    calm_link : (batch : Batch) → KnowsLink site here call c locks batch v → KnowsLink site here call c locks batch u
     calm_link (Empty k) is = tt
     calm_link (Link false) is = tt
     calm_link (Link true) is = calm_has (link_word site.shape c.whole.segment) (suc c.side) is
@@ -87,7 +87,7 @@ module _ (site : Ground) (ground : IsGround site) (here : Site) (call : Call) (o
     calm_link (New stored) is = calm_has (link_word site.shape c.whole.segment) (suc c.side) is
     calm_link (Copy k) is = calm_has (link_word site.shape c.whole.segment) (suc c.side) is
 
-    calm_header : (task : Task) → KnowsSideHeader site here call c locks task v → KnowsSideHeader site here call c locks task u
+    calm_header : (batch : Batch) → KnowsSideHeader site here call c locks batch v → KnowsSideHeader site here call c locks batch u
     calm_header (Empty k) is = calm_free is
     calm_header (Link stored) is = calm_free is
     calm_header (Mark stored) is = calm_free is
@@ -102,40 +102,40 @@ module _ (site : Ground) (ground : IsGround site) (here : Site) (call : Call) (o
       above = λ b near past. calm_has (side_at site here call c (32 + 32 * b)) (slice_index locks b) (w.above b near past);
     }
 
-    calm_words : (task : Task) → KnowsSideWords site here call c locks task v → KnowsSideWords site here call c locks task u
+    calm_words : (batch : Batch) → KnowsSideWords site here call c locks batch v → KnowsSideWords site here call c locks batch u
     calm_words (Empty k) w = calm_emptying k w
-    calm_words (Link stored) w = calm_emptying slot_words w
-    calm_words (Mark stored) w = calm_emptying slot_words w
-    calm_words (New stored) w = calm_emptying slot_words w
+    calm_words (Link stored) w = calm_emptying segment_words w
+    calm_words (Mark stored) w = calm_emptying segment_words w
+    calm_words (New stored) w = calm_emptying segment_words w
     calm_words (Copy k) w = record {
       next = w.next;
       below = λ p from small low is. calm_has (side_at site here call c p) (slice_index c.words (p - 32)) (w.below p from small low is);
       rest = λ p from small meta none. calm_has (side_at site here call c p) (empty_value locks p) (w.rest p from small meta none);
     }
 
-    pub calm : (task : Task) → Splits task v → Splits task u
-    calm task is = record {
+    pub calm : (batch : Batch) → Splits batch v → Splits batch u
+    calm batch is = record {
       keeps = keeps_by site here call c v u is.keeps held facts planned moving owed (λ b m y _ _ _ has. calm_has _ y has);
       slot = is.slot;
       areas = areas ∙ is.areas;
       header = calm_has _ _ is.header;
-      link = calm_link task is.link;
-      side_header = calm_header task is.side_header;
-      side_words = calm_words task is.side_words;
+      link = calm_link batch is.link;
+      side_header = calm_header batch is.side_header;
+      side_words = calm_words batch is.side_words;
       loose = λ p l. is.loose p (loose p l);
       only = λ p has. is.only p (subst (λ (l : List (ℕ × ℕ)). Has p l) known has);
     }
 
   -- ---- an event of the rounds
-  module _ (task : Task) (rounds : Rounds) (is : Splits task v) (stands : RoundStands rounds v) (lines : (line : ℕ) → Has line rounds.round → 8 * line + 8 ≤ words_of site.shape) where
+  module _ (batch : Batch) (rounds : Rounds) (is : Splits batch v) (stands : RoundStands rounds v) (lines : (line : ℕ) → Has line rounds.round → 8 * line + 8 ≤ words_of site.shape) where
     abbrev next : Option (ℕ × ℕ)
-    next = due c locks task
+    next = due c locks batch
 
     -- WHAT IS SO OF AN EVENT of a kind
     pub record Fits (w : Want) (kind : StepKind) : Type 0 where
       pub wants : w ≡ wanted_of site.shape kind
       pub may : MayTake site kind v
-      pub suits : (n : ℕ) → SuitsStep site here call c locks (stored op task rounds) (view_by site.shape kind n v)
+      pub suits : (n : ℕ) → SuitsStep site here call c locks (stored op batch rounds) (view_by site.shape kind n v)
       pub own : (n : ℕ) → (view_by site.shape kind n v).own ≡ v.own
       pub seen : (n : ℕ) → (view_by site.shape kind n v).seen ≡ v.seen
       pub answer : (n : ℕ) → answer_to w n ≡ Passed
@@ -145,23 +145,23 @@ module _ (site : Ground) (ground : IsGround site) (here : Site) (call : Call) (o
     round_after w n e = subst (λ (o : Option Want). RoundStands (rounds_taken rounds next) (view_by site.shape (kind_of [] o) n v)) e (rounds_settle.stands site.shape [] rounds next n v stands)
 
     -- its lines are lines of the image, since words of slots are stored
-    in_image : (n p : ℕ) → n < site.shape.segments → p < slot_words → 8 * line_of (head_at site.shape n + p) + 8 ≤ words_of site.shape
+    in_image : (n p : ℕ) → n < site.shape.segments → p < segment_words → 8 * line_of (head_at site.shape n + p) + 8 ≤ words_of site.shape
     in_image n p low small = by ((32 + 2 ^ (site.shape.depth + 1) - 1 + 31) / 32) n p site.shape.segments low small
       where
         by : (f n p k : ℕ) → n < k → p < 2144 → 8 * ((f * 32 + 2144 * n + p) / 8) + 8 ≤ f * 32 + 2144 * k
         by f n p k low small = omega (arith, low, small)
 
-    word_in_image : (n p word : ℕ) → n < site.shape.segments → p < slot_words → slot_word c.whole.site.geometry n p ≡ word → 8 * line_of word + 8 ≤ words_of site.shape
+    word_in_image : (n p word : ℕ) → n < site.shape.segments → p < segment_words → slot_word c.whole.site.geometry n p ≡ word → 8 * line_of word + 8 ≤ words_of site.shape
     word_in_image n p word low small e =
         subst (λ (i : ℕ). 8 * line_of i + 8 ≤ words_of site.shape) (sym (slot_is c.whole.site.geometry site.shape is.keeps.is.located.shape n p low) ∙ e) (in_image n p low small)
 
     first_is : (q r : ℕ × ℕ) → Some q ≡ Some r → q.0 ≡ r.0
     first_is q r e = ap (λ (z : ℕ × ℕ). z.0) (some_same e)
 
-    pub due_in_image : (t : Task) (word value : ℕ) → due c locks t ≡ Some (word, value) → 8 * line_of word + 8 ≤ words_of site.shape
+    pub due_in_image : (t : Batch) (word value : ℕ) → due c locks t ≡ Some (word, value) → 8 * line_of word + 8 ≤ words_of site.shape
     due_in_image (Empty k) word value e =
-        let o = due_if (nat_lt k slot_words) (slot_word c.whole.site.geometry c.side k, empty_value locks k) (word, value) e in
-        word_in_image c.side k word is.slot.slot (ltb-true k slot_words o.0) (ap (λ (z : ℕ × ℕ). z.0) o.1)
+        let o = due_if (nat_lt k segment_words) (slot_word c.whole.site.geometry c.side k, empty_value locks k) (word, value) e in
+        word_in_image c.side k word is.slot.slot (ltb-true k segment_words o.0) (ap (λ (z : ℕ × ℕ). z.0) o.1)
     due_in_image (Link false) word value e = word_in_image c.whole.segment 2 word is.keeps.is.located.within (omega arith) (first_is (slot_word c.whole.site.geometry c.whole.segment 2, (c.side + 1) % 2 ^ 64) (word, value) e)
     due_in_image (Link true) word value e = absurd (none_some e)
     due_in_image (Mark false) word value e = word_in_image c.whole.segment 1 word is.keeps.is.located.within (omega arith) (first_is (slot_word c.whole.site.geometry c.whole.segment 1, split_head c.whole) (word, value) e)
@@ -169,40 +169,40 @@ module _ (site : Ground) (ground : IsGround site) (here : Site) (call : Call) (o
     due_in_image (New false) word value e = word_in_image c.side 1 word is.slot.slot (omega arith) (first_is (slot_word c.whole.site.geometry c.side 1, side_head c.whole) (word, value) e)
     due_in_image (New true) word value e = absurd (none_some e)
     due_in_image (Copy k) word value e =
-        let o = due_if (nat_lt k slot_words) (slot_word c.whole.site.geometry c.side k, slice_index c.words (k - 32)) (word, value) e in
-        word_in_image c.side k word is.slot.slot (ltb-true k slot_words o.0) (ap (λ (z : ℕ × ℕ). z.0) o.1)
+        let o = due_if (nat_lt k segment_words) (slot_word c.whole.site.geometry c.side k, slice_index c.words (k - 32)) (word, value) e in
+        word_in_image c.side k word is.slot.slot (ltb-true k segment_words o.0) (ap (λ (z : ℕ × ℕ). z.0) o.1)
 
     lines_after : (line : ℕ) → Has line (rounds_taken rounds next).round → 8 * line + 8 ≤ words_of site.shape
-    lines_after = (lines_are_stored (λ line. 8 * line + 8 ≤ words_of site.shape)).keeps rounds next lines (due_in_image task)
+    lines_after = (lines_are_stored (λ line. 8 * line + 8 ≤ words_of site.shape)).keeps rounds next lines (due_in_image batch)
 
-    -- the task that is at it then
-    module _ (u : View) (t : Task) (stores : Bool) (e : rounds_stores rounds next ≡ stores) (at : (if stores then after c locks task else task) ≡ t) where
-      pub suits_then : Splits t u → RoundStands (rounds_taken rounds next) u → SuitsStep site here call c locks (stored op task rounds) u
+    -- the batch that is at it then
+    module _ (u : View) (t : Batch) (stores : Bool) (e : rounds_stores rounds next ≡ stores) (at : (if stores then after c locks batch else batch) ≡ t) where
+      pub suits_then : Splits t u → RoundStands (rounds_taken rounds next) u → SuitsStep site here call c locks (stored op batch rounds) u
       suits_then later r =
-          let same : task_after op task rounds ≡ t = ap (λ (b : Bool). if b then after c locks task else task) e ∙ at in
-          subst (λ (z : Task). SuitsStep site here call c locks (put_to op z (rounds_taken rounds next)) u) (sym same) (to_suits site here call c locks u (rounds_taken rounds next) r lines_after t later)
+          let same : batch_after op batch rounds ≡ t = ap (λ (b : Bool). if b then after c locks batch else batch) e ∙ at in
+          subst (λ (z : Batch). SuitsStep site here call c locks (put_to op z (rounds_taken rounds next)) u) (sym same) (to_suits site here call c locks u (rounds_taken rounds next) r lines_after t later)
 
     -- ---- a flush
-    flush_kind : (task : Task) (l : ℕ) → put_kind op task (Some (want.Flush l)) ≡ of_call (flushes l)
+    flush_kind : (batch : Batch) (l : ℕ) → put_kind op batch (Some (want.Flush l)) ≡ of_call (flushes l)
     flush_kind (Empty k) l = refl
     flush_kind (Link stored) l = refl
     flush_kind (Mark stored) l = refl
     flush_kind (New stored) l = refl
     flush_kind (Copy k) l = refl
 
-    flushed : (l : ℕ) → rounds_wanted rounds next ≡ Some (want.Flush l) → rounds_stores rounds next ≡ false → Fits (want.Flush l) (put_kind op task (Some (want.Flush l)))
-    flushed l e none = subst (λ (k : StepKind). Fits (want.Flush l) k) (sym (flush_kind task l)) (record {
+    flushed : (l : ℕ) → rounds_wanted rounds next ≡ Some (want.Flush l) → rounds_stores rounds next ≡ false → Fits (want.Flush l) (put_kind op batch (Some (want.Flush l)))
+    flushed l e none = subst (λ (k : StepKind). Fits (want.Flush l) k) (sym (flush_kind batch l)) (record {
       wants = refl;
       may = (tt, tt);
       suits = λ n. (let u : View = view_by site.shape (of_call (flushes l)) n v in
-          suits_then u task false none refl (calm u refl refl refl refl refl refl refl (λ p h. flush_loose l v.dirty v.flushed p h) task is) (round_after (want.Flush l) n e));
+          suits_then u batch false none refl (calm u refl refl refl refl refl refl refl (λ p h. flush_loose l v.dirty v.flushed p h) batch is) (round_after (want.Flush l) n e));
       own = λ n. refl;
       seen = λ n. refl;
       answer = λ n. refl;
     })
 
     -- ---- a fence
-    fence_kind : (task : Task) → put_kind op task (Some want.Fence) ≡ of_structure (settles [])
+    fence_kind : (batch : Batch) → put_kind op batch (Some want.Fence) ≡ of_structure (settles [])
     fence_kind (Empty k) = refl
     fence_kind (Link stored) = refl
     fence_kind (Mark stored) = refl
@@ -226,7 +226,7 @@ module _ (site : Ground) (ground : IsGround site) (here : Site) (call : Call) (o
     new_dead : KeepsOn site here call c v → Has (side_at site here call c 1, side_head c.whole) v.known → (m : ℕ) → m ≡ c.side → KnowsDead site v m
     new_dead keeps has m same = subst (λ (z : ℕ). KnowsDead site v z) (sym same) (side_head c.whole, has, fresh_dead (side_head c.whole) (side_is site ground here call c v keeps).state_is)
 
-    sides_dead : (task : Task) → Splits task v → KnowsSidesDead site v
+    sides_dead : (batch : Batch) → Splits batch v → KnowsSidesDead site v
     sides_dead (Empty k) is m has = absurd (no_side m (subst (λ (l : List Area). Has (Side m) l) is.areas has))
     sides_dead (Link stored) is m has = absurd (no_side m (subst (λ (l : List Area). Has (Side m) l) is.areas has))
     sides_dead (Mark stored) is m has = absurd (no_side m (subst (λ (l : List Area). Has (Side m) l) is.areas has))
@@ -240,12 +240,12 @@ module _ (site : Ground) (ground : IsGround site) (here : Site) (call : Call) (o
       | inr more ↦ elim more [ inl e ↦ absurd (cc) | inr more ↦ elim more [ inl e ↦ absurd (cc) | inr none ↦ absurd none ] ]
     ]
 
-    fenced : rounds_wanted rounds next ≡ Some want.Fence → rounds_stores rounds next ≡ false → Fits want.Fence (put_kind op task (Some want.Fence))
-    fenced e none = subst (λ (k : StepKind). Fits want.Fence k) (sym (fence_kind task)) (record {
+    fenced : rounds_wanted rounds next ≡ Some want.Fence → rounds_stores rounds next ≡ false → Fits want.Fence (put_kind op batch (Some want.Fence))
+    fenced e none = subst (λ (k : StepKind). Fits want.Fence k) (sym (fence_kind batch)) (record {
       wants = refl;
-      may = rounds_may.fence site v (sides_dead task is);
+      may = rounds_may.fence site v (sides_dead batch is);
       suits = λ n. (let u : View = view_by site.shape (of_structure (settles [])) n v in
-          suits_then u task false none refl (calm u refl refl refl refl refl refl refl (less_loose u refl) task is) (round_after want.Fence n e));
+          suits_then u batch false none refl (calm u refl refl refl refl refl refl refl (less_loose u refl) batch is) (round_after want.Fence n e));
       own = λ n. refl;
       seen = λ n. refl;
       answer = λ n. refl;
@@ -268,7 +268,7 @@ module _ (site : Ground) (ground : IsGround site) (here : Site) (call : Call) (o
     }
 
     -- of a word that is no header
-    set_fits : (i x : ℕ) (t : Task) → rounds_wanted rounds next ≡ Some (want.Store i x) → rounds_stores rounds next ≡ true → after c locks task ≡ t
+    set_fits : (i x : ℕ) (t : Batch) → rounds_wanted rounds next ≡ Some (want.Store i x) → rounds_stores rounds next ≡ true → after c locks batch ≡ t
         → MayAt site (sets i x) v → ((u : View) → HasStored v u i x → u.areas ≡ v.areas → Splits t u) → Fits (want.Store i x) (of_structure (sets i x))
     set_fits i x t e stores at may more = record {
       wants = refl;
@@ -281,7 +281,7 @@ module _ (site : Ground) (ground : IsGround site) (here : Site) (call : Call) (o
     }
 
     -- the segment is marked
-    mark_fits : (x : ℕ) → x ≡ split_head c.whole → rounds_wanted rounds next ≡ Some (want.Store (header_word site.shape c.whole.segment) x) → rounds_stores rounds next ≡ true → after c locks task ≡ Mark true
+    mark_fits : (x : ℕ) → x ≡ split_head c.whole → rounds_wanted rounds next ≡ Some (want.Store (header_word site.shape c.whole.segment) x) → rounds_stores rounds next ≡ true → after c locks batch ≡ Mark true
         → Splits (Mark false) v → Fits (want.Store (header_word site.shape c.whole.segment) x) (of_structure (moves (marks c.side) c.whole.segment (split_head c.whole)))
     mark_fits x same e stores at is = record {
       wants = ap (want.Store (header_word site.shape c.whole.segment)) same;
@@ -303,7 +303,7 @@ module _ (site : Ground) (ground : IsGround site) (here : Site) (call : Call) (o
     new_areas areas = ap (λ (l : List Area). Side c.side ∷ all_but (is_side_at c.side) l) areas
         ∙ ap (λ (t : Bool). Side c.side ∷ (Whole c.whole.segment ∷ (if not t then Free c.side ∷ (Allocation ∷ Segment c.whole.segment ∷ []) else Allocation ∷ Segment c.whole.segment ∷ []))) (eq-eqb c.side c.side refl)
 
-    new_fits : (x : ℕ) → x ≡ side_head c.whole → rounds_wanted rounds next ≡ Some (want.Store (header_word site.shape c.side) x) → rounds_stores rounds next ≡ true → after c locks task ≡ New true
+    new_fits : (x : ℕ) → x ≡ side_head c.whole → rounds_wanted rounds next ≡ Some (want.Store (header_word site.shape c.side) x) → rounds_stores rounds next ≡ true → after c locks batch ≡ New true
         → Splits (New false) v → Fits (want.Store (header_word site.shape c.side) x) (of_structure (moves (news c.whole.segment) c.side (side_head c.whole)))
     new_fits x same e stores at is = record {
       wants = ap (want.Store (header_word site.shape c.side)) same;
@@ -320,17 +320,17 @@ module _ (site : Ground) (ground : IsGround site) (here : Site) (call : Call) (o
       answer = λ n. refl;
     }
 
-  -- ---- the stores of each task
+  -- ---- the stores of each batch
   module _ (rounds : Rounds) (stands : RoundStands rounds v) (lines : (line : ℕ) → Has line rounds.round → 8 * line + 8 ≤ words_of site.shape) where
     -- what is due stands where the image has it
     at_slot : (k : KeepsOn site here call c v) (n number x : ℕ) → n < site.shape.segments → (q : ℕ × ℕ) → (slot_word c.whole.site.geometry n number, x) ≡ q → (head_at site.shape n + number, x) ≡ q
     at_slot k n number x low q e = ap (λ (z : ℕ). (z, x)) (sym (slot_is c.whole.site.geometry site.shape k.is.located.shape n number low)) ∙ e
 
-    store_by : (task : Task) (is : Splits task v) (i x : ℕ) → due c locks task ≡ Some (i, x) → rounds_wanted rounds (due c locks task) ≡ Some (want.Store i x) → rounds_stores rounds (due c locks task) ≡ true
-        → Fits task rounds is stands lines (want.Store i x) (put_kind op task (Some (want.Store i x)))
+    store_by : (batch : Batch) (is : Splits batch v) (i x : ℕ) → due c locks batch ≡ Some (i, x) → rounds_wanted rounds (due c locks batch) ≡ Some (want.Store i x) → rounds_stores rounds (due c locks batch) ≡ true
+        → Fits batch rounds is stands lines (want.Store i x) (put_kind op batch (Some (want.Store i x)))
     store_by (Empty k) is i x is_due e stores =
-        let o = due_if (nat_lt k slot_words) (slot_word c.whole.site.geometry c.side k, empty_value locks k) (i, x) is_due in
-        let low = ltb-true k slot_words o.0 in
+        let o = due_if (nat_lt k segment_words) (slot_word c.whole.site.geometry c.side k, empty_value locks k) (i, x) is_due in
+        let low = ltb-true k segment_words o.0 in
         let q = at_slot is.keeps c.side k (empty_value locks k) is.slot.slot (i, x) o.1 in
         set_fits (Empty k) rounds is stands lines i x (Empty (after_empty locks k)) e stores (ap (λ (b : Bool). if b then Empty (after_empty locks k) else Empty k) o.0)
         (subst (λ (z : ℕ × ℕ). MayAt site (sets z.0 z.1) v) q (may_empty site ground here call c v locks k low is))
@@ -357,17 +357,17 @@ module _ (site : Ground) (ground : IsGround site) (here : Site) (call : Call) (o
         (new_fits (New false) rounds is stands lines x (sym (ap (λ (z : ℕ × ℕ). z.1) q)) (e ∙ ap (λ (j : ℕ). Some (want.Store j x)) (sym at)) stores refl is)
     store_by (New true) is i x is_due e stores = absurd (none_some is_due)
     store_by (Copy k) is i x is_due e stores =
-        let o = due_if (nat_lt k slot_words) (slot_word c.whole.site.geometry c.side k, slice_index c.words (k - 32)) (i, x) is_due in
-        let low = ltb-true k slot_words o.0 in
+        let o = due_if (nat_lt k segment_words) (slot_word c.whole.site.geometry c.side k, slice_index c.words (k - 32)) (i, x) is_due in
+        let low = ltb-true k segment_words o.0 in
         let q = at_slot is.keeps c.side k (slice_index c.words (k - 32)) is.slot.slot (i, x) o.1 in
         set_fits (Copy k) rounds is stands lines i x (Copy (copied_from c.words (k + 1))) e stores (ap (λ (b : Bool). if b then Copy (copied_from c.words (k + 1)) else Copy k) o.0)
         (subst (λ (z : ℕ × ℕ). MayAt site (sets z.0 z.1) v) q (may_copy site ground here call c v locks k low is))
         (λ u st areas. copy_more site here call c locks v u k low is (subst (λ (z : ℕ × ℕ). HasStored v u z.0 z.1) (sym q) st) areas)
 
     -- ---- EACH EVENT
-    pub event_fits : (task : Task) (is : Splits task v) (w : Want) → rounds_wanted rounds (due c locks task) ≡ Some w → IsRoundEvent rounds (due c locks task) w
-        → Fits task rounds is stands lines w (put_kind op task (Some w))
-    event_fits task is w e (inl s) = subst (λ (z : Want). Fits task rounds is stands lines z (put_kind op task (Some z))) (sym s.wants) (store_by task is s.word s.value s.comes (e ∙ ap Some s.wants) s.stores)
-    event_fits task is w e (inr (inl f)) =
-        subst (λ (z : Want). Fits task rounds is stands lines z (put_kind op task (Some z))) (sym f.wants) (flushed task rounds is stands lines (slice_index rounds.round f.number) (e ∙ ap Some f.wants) f.stores)
-    event_fits task is w e (inr (inr f)) = subst (λ (z : Want). Fits task rounds is stands lines z (put_kind op task (Some z))) (sym f.wants) (fenced task rounds is stands lines (e ∙ ap Some f.wants) f.stores)
+    pub event_fits : (batch : Batch) (is : Splits batch v) (w : Want) → rounds_wanted rounds (due c locks batch) ≡ Some w → IsRoundEvent rounds (due c locks batch) w
+        → Fits batch rounds is stands lines w (put_kind op batch (Some w))
+    event_fits batch is w e (inl s) = subst (λ (z : Want). Fits batch rounds is stands lines z (put_kind op batch (Some z))) (sym s.wants) (store_by batch is s.word s.value s.comes (e ∙ ap Some s.wants) s.stores)
+    event_fits batch is w e (inr (inl f)) =
+        subst (λ (z : Want). Fits batch rounds is stands lines z (put_kind op batch (Some z))) (sym f.wants) (flushed batch rounds is stands lines (slice_index rounds.round f.number) (e ∙ ap Some f.wants) f.stores)
+    event_fits batch is w e (inr (inr f)) = subst (λ (z : Want). Fits batch rounds is stands lines z (put_kind op batch (Some z))) (sym f.wants) (fenced batch rounds is stands lines (e ∙ ap Some f.wants) f.stores)

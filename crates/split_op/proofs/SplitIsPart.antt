@@ -1,6 +1,9 @@
 -- The split of a segment, up to the copies, is a part of a call.
 use Rattle.std.proofs.Common.{◌≡◌, ◌≢◌, ℕ, zero, suc, ◌+◌, ◌-◌, ◌*◌, ◌/◌, ◌%◌, ◌^◌, ◌<◌, ◌≤◌, Bool, true, false, Option, None, Some, List, [], length, replicate, slice_index, inl, inr, refl, sym, ap, ◌∙◌, subst, arith}
 use Rattle.std.specs.Prelude.{nat_lt, ◌==◌, ◌||◌, if◌then◌else◌}
+use Rattle.enclose_op.proofs.Giving.{give_some, give_answer, give_puts, give_makes, give_power, give_own, give_seen, give_plan, give_in}
+use Rattle.segment_head.proofs.Headers.{header_below}
+use Rattle.whole_segment.specs.Rounds.{most_lines}
 use Rattle.std.proofs.lemmas.Bool.{cases_lt, le-ltb}
 use Rattle.std.proofs.lemmas.List.{length-replicate, get_or-replicate, get_or_past}
 use Rattle.op_core.specs.declared.want.Want.{Want}
@@ -8,7 +11,7 @@ use Rattle.op_core.specs.declared.want.Want.TheVariants as want
 use Rattle.op_core.specs.declared.want.Ans.{Ans}
 use Rattle.op_core.specs.declared.want.Ans.TheVariants.{Won, Lost, Passed}
 use Rattle.trace.specs.Events.{Words}
-use Rattle.image_layout.specs.Places.{Shape, buckets, words_of, first_segment}
+use Rattle.image_layout.specs.Places.{Shape, buckets, words_of, first_segment, segment_words}
 use Rattle.image_layout.specs.Volatile.{counter_word, allocation_guard, all_words_of}
 use Rattle.map_model.specs.declared.call.Call.{Call}
 use Rattle.map_model.specs.declared.entry.Reply.TheVariants.{Full}
@@ -19,9 +22,9 @@ use Rattle.world.specs.Views.{View, Has, At}
 use Rattle.world.specs.Wants.{answer_to, word_of}
 use Rattle.world.specs.Kinds.{cuts_power, with_reply, next_entry}
 use Rattle.world.specs.Attempts.{HoldsOnly, HasNoMore, EntersReply}
-use Rattle.world.specs.areas.Areas.{Area, Allocation, Free, header_word}
+use Rattle.world.specs.areas.Areas.{Area, Allocation, header_word}
 use Rattle.world.specs.Invariant.{Holds}
-use Rattle.world.specs.areas.Kinds.{of_free_slots, with_guard, with_area}
+use Rattle.world.specs.areas.Kinds.{of_free_slots, with_guard, with_slot}
 use Rattle.world.specs.areas.Rows.{Row, marks, news}
 use Rattle.world.specs.StepKinds.{StepKind, of_call, wanted_of, view_by, MayTake}
 use Rattle.world.specs.StepLaws.{IsPublishingStep}
@@ -38,25 +41,21 @@ use Rattle.rounds.proofs.Events.{event_cases}
 use Rattle.rounds.proofs.Lines.{lines_are_stored}
 use Rattle.enclose_op.specs.declared.enclosed.Enclosed.{Enclosed}
 use Rattle.enclose_op.specs.declared.give.Give.{Give}
-use Rattle.enclose_op.specs.declared.give.Give.TheVariants as giving
-use Rattle.enclose_op.specs.Giving.{lock_of, free_value, give_wanted, given}
+use Rattle.enclose_op.specs.Giving.{given}
 use Rattle.enclose_op.specs.Whole.{IsOf}
-use Rattle.enclose_op.specs.Fits.{give_kind, SuitsGive}
-use Rattle.enclose_op.proofs.Places.{guard_is as segment_guard_is, is_lock}
+use Rattle.enclose_op.specs.Fits.{give_kind}
 use Rattle.enclose_op.proofs.Backing.{give_wants, give_may, give_next}
-use Rattle.enclose_op.proofs.Stepping.{give_answer}
-use Rattle.enclose_op.proofs.Causing.{knows_full}
-use Rattle.world.proofs.basics.Grounds.{lock_within}
-use Rattle.split_op.specs.declared.task.Task.{Task}
-use Rattle.split_op.specs.declared.task.Task.TheVariants.{Empty, Link, Mark, New, Copy}
+use Rattle.enclose_op.proofs.causes.Causing.{knows_full}
+use Rattle.split_op.specs.declared.batch.Batch.{Batch}
+use Rattle.split_op.specs.declared.batch.Batch.TheVariants.{Empty, Link, Mark, New, Copy}
 use Rattle.split_op.specs.declared.step.SplitEnd.{SplitEnd}
 use Rattle.split_op.specs.declared.step.SplitEnd.TheVariants as ends
 use Rattle.split_op.specs.declared.step.SplitStep.{SplitStep}
 use Rattle.split_op.specs.declared.step.SplitStep.TheVariants.{Take, Search, Count, Return, Look, Put, Release, Back, Ended}
 use Rattle.split_op.specs.declared.op.SplitOp.{SplitOp}
 use Rattle.split_op.specs.Copied.{split_head, side_head, KeepsCopied}
-use Rattle.split_op.specs.Tasks.{slot_words, slot_word, empty_value, due}
-use Rattle.split_op.specs.Steps.{go, guard_word, last_slot, searched, finished, put_by, stored, given_to, wanted_by, put_wanted, wanted_in, next_in, wanted}
+use Rattle.split_op.specs.Batches.{slot_word, empty_value, due}
+use Rattle.split_op.specs.Steps.{go, last_slot, searched, finished, put_by, stored, given_to, wanted_by, put_wanted, wanted_in, next_in, wanted}
 use Rattle.split_op.specs.Fits.{head_kind, put_kind, look_word, look_kind, kind_at, outcome_of, outcome_at, is_copied_end, hands_on_at, IsPutting, SuitsStep}
 use Rattle.split_op.specs.SplitPart.{SplitStands, split_part, BeginsAsPart, BeginsUndecided, HandsOnCopied}
 use Rattle.split_op.proofs.Cases.{choose, none_some}
@@ -64,6 +63,33 @@ use Rattle.split_op.proofs.Falling.{falls, most, waiting_most, flushes, keeps, e
 use Rattle.split_op.proofs.Places.{slot_is}
 use Rattle.split_op.proofs.Rounding.{Fits, event_fits, due_in_image, due_if, some_same}
 use Rattle.split_op.proofs.Stepping.{settled_none, take_suits, search_suits, searching_none, crowd, count_suits, return_suits, look_may, look_suits, release_suits, given_suits}
+
+-- ---- what is decided
+-- nothing, while a free slot is looked for and words are stored
+abbrev IsOpen : SplitStep → Type 0
+IsOpen s = outcome_at s ≡ None
+
+pub open_search : (op : SplitOp) (slot n : ℕ) → IsOpen (searched op slot n).step
+open_search op slot n = choose (λ (o : SplitOp). IsOpen o.step) (state_in n == free) _ _ (λ _. refl)
+    (λ _. choose (λ (o : SplitOp). IsOpen o.step) (nat_lt slot (last_slot op.copied.whole.site.geometry)) _ _ (λ _. refl) (λ _. refl))
+
+pub open_look : (b : ℕ) → IsOpen (if nat_lt b (buckets - 1) then Look (b + 1) else Put (Empty 2) round.begun)
+open_look b = choose IsOpen (nat_lt b (buckets - 1)) (Look (b + 1)) (Put (Empty 2) round.begun) (λ _. refl) (λ _. refl)
+
+open_finished : (batch : Batch) → IsOpen (finished batch)
+open_finished (Empty k) = refl
+open_finished (Link stored) = refl
+open_finished (Mark stored) = refl
+open_finished (New stored) = refl
+open_finished (Copy k) = refl
+
+pub open_put : (want : Option Want) (batch : Batch) (rounds : Rounds) → IsOpen (put_by want batch rounds)
+open_put (Some w) batch rounds = refl
+open_put None batch rounds = open_finished batch
+
+pub same_outcome : (more : Option Give) (end : SplitEnd) → outcome_at (given_to more end) ≡ outcome_of end
+same_outcome (Some more) end = refl
+same_outcome None end = refl
 
 -- ---- which replies are entered
 -- none in a step before the reply is placed
@@ -74,28 +100,6 @@ silent_take : (op : SplitOp) (t : Bool) (n : ℕ) → IsSilent (next_in op Take 
 silent_take op true n = refl
 silent_take op false n = refl
 
-silent_search : (op : SplitOp) (slot n : ℕ) → IsSilent (searched op slot n).step
-silent_search op slot n = choose (λ (o : SplitOp). IsSilent o.step) (state_in n == free) _ _ (λ _. refl)
-    (λ _. choose (λ (o : SplitOp). IsSilent o.step) (nat_lt slot (last_slot op.copied.whole.site.geometry)) _ _ (λ _. refl) (λ _. refl))
-
-silent_look : (b : ℕ) → IsSilent (if nat_lt b 65 then Look (b + 1) else Put (Empty 2) round.begun)
-silent_look b = choose IsSilent (nat_lt b 65) (Look (b + 1)) (Put (Empty 2) round.begun) (λ _. refl) (λ _. refl)
-
-silent_finished : (task : Task) → IsSilent (finished task)
-silent_finished (Empty k) = refl
-silent_finished (Link stored) = refl
-silent_finished (Mark stored) = refl
-silent_finished (New stored) = refl
-silent_finished (Copy k) = refl
-
-silent_put : (want : Option Want) (task : Task) (rounds : Rounds) → IsSilent (put_by want task rounds)
-silent_put (Some w) task rounds = refl
-silent_put None task rounds = silent_finished task
-
-same_outcome : (more : Option Give) (end : SplitEnd) → outcome_at (given_to more end) ≡ outcome_of end
-same_outcome (Some more) end = refl
-same_outcome None end = refl
-
 guard_own : (t : Bool) (v : View) → (with_guard t of_free_slots v).own ≡ v.own
 guard_own true v = refl
 guard_own false v = refl
@@ -104,13 +108,13 @@ guard_seen : (t : Bool) (v : View) → (with_guard t of_free_slots v).seen ≡ v
 guard_seen true v = refl
 guard_seen false v = refl
 
-area_own : (t : Bool) (a : Area) (i x : ℕ) (v : View) → (with_area t a i x v).own ≡ v.own
-area_own true a i x v = refl
-area_own false a i x v = refl
+slot_own : (t : Bool) (m i x : ℕ) (v : View) → (with_slot t m i x v).own ≡ v.own
+slot_own true m i x v = refl
+slot_own false m i x v = refl
 
-area_seen : (t : Bool) (a : Area) (i x : ℕ) (v : View) → (with_area t a i x v).seen ≡ v.seen
-area_seen true a i x v = refl
-area_seen false a i x v = refl
+slot_seen : (t : Bool) (m i x : ℕ) (v : View) → (with_slot t m i x v).seen ≡ v.seen
+slot_seen true m i x v = refl
+slot_seen false m i x v = refl
 
 look_own : (shape : Shape) (op : SplitOp) (b n : ℕ) (v : View) → (view_by shape (look_kind op b) n v).own ≡ v.own
 look_own shape op zero n v = refl
@@ -119,14 +123,6 @@ look_own shape op (suc b) n v = refl
 look_seen : (shape : Shape) (op : SplitOp) (b n : ℕ) (v : View) → (view_by shape (look_kind op b) n v).seen ≡ v.seen
 look_seen shape op zero n v = refl
 look_seen shape op (suc b) n v = refl
-
-give_own : (shape : Shape) (e : Enclosed) (give : Give) (n : ℕ) (v : View) → (view_by shape (give_kind e give) n v).own ≡ v.own
-give_own shape e (giving.Lock b to) n v = refl
-give_own shape e giving.Guard n v = refl
-
-give_seen : (shape : Shape) (e : Enclosed) (give : Give) (n : ℕ) (v : View) → (view_by shape (give_kind e give) n v).seen ≡ v.seen
-give_seen shape e (giving.Lock b to) n v = refl
-give_seen shape e giving.Guard n v = refl
 
 look_wants : (shape : Shape) (op : SplitOp) (b : ℕ) → want.Load (look_word op b) ≡ wanted_of shape (look_kind op b)
 look_wants shape op zero = refl
@@ -146,9 +142,9 @@ module _ (site : Ground) (here : Site) (call : Call) (op : SplitOp) (is : IsOf s
   Suited step = SuitsStep site here call op.copied op.locks step v
 
   -- ---- an event of the rounds
-  module _ (task : Task) (rounds : Rounds) (s : IsPutting site here call op.copied op.locks task rounds v) where
+  module _ (batch : Batch) (rounds : Rounds) (s : IsPutting site here call op.copied op.locks batch rounds v) where
     abbrev next : Option (ℕ × ℕ)
-    next = due op.copied op.locks task
+    next = due op.copied op.locks batch
 
     some_event : (o : Option Want) → rounds_wanted rounds next ≡ o → (w : Want) × (rounds_wanted rounds next ≡ Some w)
     some_event (Some w) same = (w, same)
@@ -158,9 +154,9 @@ module _ (site : Ground) (here : Site) (call : Call) (op : SplitOp) (is : IsOf s
     event = some_event (rounds_wanted rounds next) refl
 
     is_event : put_wanted rounds next ≡ event.0
-    is_event = ap (λ (b : Bool). if b then want.Done else wanted_by (rounds_wanted rounds next)) (le-ltb 8 (length rounds.round) s.stands.few) ∙ ap wanted_by event.1
+    is_event = ap (λ (b : Bool). if b then want.Done else wanted_by (rounds_wanted rounds next)) (le-ltb most_lines (length rounds.round) s.stands.few) ∙ ap wanted_by event.1
 
-    put_asks : put_wanted rounds next ≢ want.Done
+    pub put_asks : put_wanted rounds next ≢ want.Done
     put_asks done = never (event_cases rounds next event.0 event.1) (sym is_event ∙ done)
       where
         never : IsRoundEvent rounds next event.0 → event.0 ≡ want.Done → ⊥
@@ -169,13 +165,6 @@ module _ (site : Ground) (here : Site) (call : Call) (op : SplitOp) (is : IsOf s
         never (inr (inr z)) d = absurd (let f : want.Fence ≡ want.Done = sym z.wants ∙ d in cc)
 
   -- ---- what it puts into the memory
-  give_puts : (give : Give) → PutsWord (give_wanted e give)
-  give_puts (giving.Lock b to) = record {
-    stores = λ i x same. (let at : (free_value e b + 2) % 2 ^ 64 ≡ x = cc in omega (arith, at));
-    exchanges = λ i a b e. absurd (cc);
-  }
-  give_puts giving.Guard = record { stores = λ i x same. (let at : 0 ≡ x = cc in omega (arith, at)); exchanges = λ i a b e. absurd (cc) }
-
   zero_puts : (i : ℕ) → PutsWord (want.Store i 0)
   zero_puts i = record { stores = λ j x same. (let at : 0 ≡ x = cc in omega (arith, at)); exchanges = λ i a b e. absurd (cc) }
 
@@ -185,12 +174,9 @@ module _ (site : Ground) (here : Site) (call : Call) (op : SplitOp) (is : IsOf s
   half_fits : (x : ℕ) → x < 2 ^ 64 → x / 2 * 2 < 2 ^ 64
   half_fits x small = omega (arith, small)
 
-  header_fits : (a t d p : ℕ) → a < 2 ^ 8 → t < 2 ^ 8 → d < 2 ^ 8 → p < 2 ^ 32 → a + 2 ^ 8 * t + 2 ^ 16 * d + 2 ^ 32 * p < 2 ^ 64
-  header_fits a t d p one two three four = omega (arith, one, two, three, four)
-
-  value_fits : (task : Task) (rounds : Rounds) → IsPutting site here call op.copied op.locks task rounds v → (word value : ℕ) → due op.copied op.locks task ≡ Some (word, value) → value < 2 ^ 64
+  value_fits : (batch : Batch) (rounds : Rounds) → IsPutting site here call op.copied op.locks batch rounds v → (word value : ℕ) → due op.copied op.locks batch ≡ Some (word, value) → value < 2 ^ 64
   value_fits (Empty k) rounds s word value f =
-      let o = due_if (nat_lt k slot_words) (slot_word e.site.geometry op.copied.side k, empty_value op.locks k) (word, value) f in
+      let o = due_if (nat_lt k segment_words) (slot_word e.site.geometry op.copied.side k, empty_value op.locks k) (word, value) f in
       subst (λ (z : ℕ). z < 2 ^ 64) (ap (λ (z : ℕ × ℕ). z.1) o.1)
       (choose (λ (z : ℕ). z < 2 ^ 64) (nat_lt k 32 || nat_lt 0 (k % 32)) 0 (slice_index op.locks (k / 32 - 1) / 2 * 2) (λ _. omega arith) (λ _. half_fits (slice_index op.locks (k / 32 - 1)) (s.splits.slot.row.small (k / 32 - 1))))
   value_fits (Link false) rounds s word value f =
@@ -198,84 +184,73 @@ module _ (site : Ground) (here : Site) (call : Call) (op : SplitOp) (is : IsOf s
   value_fits (Link true) rounds s word value f = absurd (none_some f)
   value_fits (Mark false) rounds s word value f =
       subst (λ (z : ℕ). z < 2 ^ 64) (second_is (slot_word e.site.geometry e.segment 1, split_head e) (word, value) f)
-      (let fits = s.splits.keeps.whole.head.head_fits in header_fits (version_in e.head) splitting (depth_in e.head) (pattern_in e.head) (omega arith) (omega arith) (omega arith) (omega (arith, fits)))
+      (let fits = s.splits.keeps.whole.head.head_fits in header_below (version_in e.head) splitting (depth_in e.head) (pattern_in e.head) (omega arith) (omega arith) (omega arith) (omega (arith, fits)))
   value_fits (Mark true) rounds s word value f = absurd (none_some f)
   value_fits (New false) rounds s word value f =
       subst (λ (z : ℕ). z < 2 ^ 64) (second_is (slot_word e.site.geometry op.copied.side 1, side_head e) (word, value) f)
-      (let version = is.version in header_fits e.site.version fresh ((depth_in e.head + 1) % 2 ^ 8) ((2 * pattern_in e.head + 1) % 2 ^ 32) (omega (arith, version)) (omega arith) (omega arith) (omega arith))
+      (let version = is.version in header_below e.site.version fresh ((depth_in e.head + 1) % 2 ^ 8) ((2 * pattern_in e.head + 1) % 2 ^ 32) (omega (arith, version)) (omega arith) (omega arith) (omega arith))
   value_fits (New true) rounds s word value f = absurd (none_some f)
   value_fits (Copy k) rounds s word value f =
-      let o = due_if (nat_lt k slot_words) (slot_word e.site.geometry op.copied.side k, slice_index op.copied.words (k - 32)) (word, value) f in
+      let o = due_if (nat_lt k segment_words) (slot_word e.site.geometry op.copied.side k, slice_index op.copied.words (k - 32)) (word, value) f in
       subst (λ (z : ℕ). z < 2 ^ 64) (ap (λ (z : ℕ × ℕ). z.1) o.1) (s.splits.keeps.words.small (k - 32))
 
-  event_puts : (task : Task) (rounds : Rounds) → IsPutting site here call op.copied op.locks task rounds v → (w : Want) → IsRoundEvent rounds (due op.copied op.locks task) w → PutsWord w
-  event_puts task rounds s w (inl z) = subst PutsWord (sym z.wants) (record {
-    stores = λ i x same. (let at : z.value ≡ x = cc in let fits = value_fits task rounds s z.word z.value z.comes in omega (arith, at, fits));
+  event_puts : (batch : Batch) (rounds : Rounds) → IsPutting site here call op.copied op.locks batch rounds v → (w : Want) → IsRoundEvent rounds (due op.copied op.locks batch) w → PutsWord w
+  event_puts batch rounds s w (inl z) = subst PutsWord (sym z.wants) (record {
+    stores = λ i x same. (let at : z.value ≡ x = cc in let fits = value_fits batch rounds s z.word z.value z.comes in omega (arith, at, fits));
     exchanges = λ i a b e. absurd (cc);
   })
-  event_puts task rounds s w (inr (inl z)) = subst PutsWord (sym z.wants) (record { stores = λ i x e. absurd (cc); exchanges = λ i a b e. absurd (cc) })
-  event_puts task rounds s w (inr (inr z)) = subst PutsWord (sym z.wants) (record { stores = λ i x e. absurd (cc); exchanges = λ i a b e. absurd (cc) })
+  event_puts batch rounds s w (inr (inl z)) = subst PutsWord (sym z.wants) (record { stores = λ i x e. absurd (cc); exchanges = λ i a b e. absurd (cc) })
+  event_puts batch rounds s w (inr (inr z)) = subst PutsWord (sym z.wants) (record { stores = λ i x e. absurd (cc); exchanges = λ i a b e. absurd (cc) })
 
   puts_at : (step : SplitStep) → Suited step → PutsWord (wanted_in op step)
   puts_at Take s = record { stores = λ i x e. absurd (cc); exchanges = λ i a b same. (let at : e.site.caller ≡ b = cc in let low = is.caller in omega (arith, at, low)) }
   puts_at (Search slot) s = record { stores = λ i x e. absurd (cc); exchanges = λ i a b e. absurd (cc) }
   puts_at Count s = record { stores = λ i x e. absurd (cc); exchanges = λ i a b e. absurd (cc) }
-  puts_at (Return count) s = zero_puts (guard_word e.site.geometry)
+  puts_at (Return count) s = zero_puts (allocation_guard e.site.geometry)
   puts_at (Look b) s = record { stores = λ i x e. absurd (cc); exchanges = λ i a b e. absurd (cc) }
-  puts_at (Put task rounds) s =
-      let w = event task rounds s in subst PutsWord (sym (is_event task rounds s)) (event_puts task rounds s w.0 (event_cases rounds (due op.copied op.locks task) w.0 w.1))
-  puts_at Release s = zero_puts (guard_word e.site.geometry)
-  puts_at (Back give end) s = give_puts give
+  puts_at (Put batch rounds) s =
+      let w = event batch rounds s in subst PutsWord (sym (is_event batch rounds s)) (event_puts batch rounds s w.0 (event_cases rounds (due op.copied op.locks batch) w.0 w.1))
+  puts_at Release s = zero_puts (allocation_guard e.site.geometry)
+  puts_at (Back give end) s = give_puts e give
   puts_at (Ended end) s = record { stores = λ i x e. absurd (cc); exchanges = λ i a b e. absurd (cc) }
 
   -- ---- nothing is planned, and nothing is held at the end but what is handed on
-  give_plan : (give : Give) → SuitsGive site e give v → v.planned ≡ []
-  give_plan (giving.Lock b to) s = s.2.quiet.planned
-  give_plan giving.Guard s = s.quiet.planned
-
   end_plan : (end : SplitEnd) → Suited (Ended end) → v.planned ≡ []
   end_plan ends.Copied s = s.quiet.planned
   end_plan (ends.Again why) s = s.planned
   end_plan (ends.Full count) s = s.planned
-  end_plan ends.Off s = s.planned
 
   no_plan : (step : SplitStep) → Suited step → v.planned ≡ []
   no_plan Take s = s.0.quiet.planned
   no_plan (Search slot) s = s.0.keeps.planned
-  no_plan Count s = s.keeps.planned
+  no_plan Count s = s.0.keeps.planned
   no_plan (Return count) s = s.keeps.planned
   no_plan (Look b) s = s.keeps.planned
-  no_plan (Put task rounds) s = s.splits.keeps.planned
+  no_plan (Put batch rounds) s = s.splits.keeps.planned
   no_plan Release s = s.0.keeps.planned
-  no_plan (Back give end) s = give_plan give s.0
+  no_plan (Back give end) s = give_plan site e give v s.0
   no_plan (Ended end) s = end_plan end s
-
-  give_some : (give : Give) → give_wanted e give ≢ want.Done
-  give_some (giving.Lock b to) same = absurd (cc)
-  give_some giving.Guard same = absurd (cc)
 
   end_bare : (end : SplitEnd) → Suited (Ended end) → is_copied_end end ≡ false → HoldsOnly [] v
   end_bare ends.Copied s closed = absurd (let z : true ≡ false = closed in cc)
   end_bare (ends.Again why) s closed = s
   end_bare (ends.Full count) s closed = s
-  end_bare ends.Off s closed = s
 
   bare_at : (step : SplitStep) → Suited step → wanted_in op step ≡ want.Done → hands_on_at step ≡ false → HoldsOnly [] v
-  bare_at Take s done closed = absurd (let z : want.Exchange (guard_word e.site.geometry) 0 e.site.caller ≡ want.Done = done in cc)
+  bare_at Take s done closed = absurd (let z : want.Exchange (allocation_guard e.site.geometry) 0 e.site.caller ≡ want.Done = done in cc)
   bare_at (Search slot) s done closed = absurd (let z : want.Load (slot_word e.site.geometry slot 1) ≡ want.Done = done in cc)
   bare_at Count s done closed = absurd (let z : want.Load (counter_word e.site.geometry) ≡ want.Done = done in cc)
-  bare_at (Return count) s done closed = absurd (let z : want.Store (guard_word e.site.geometry) 0 ≡ want.Done = done in cc)
+  bare_at (Return count) s done closed = absurd (let z : want.Store (allocation_guard e.site.geometry) 0 ≡ want.Done = done in cc)
   bare_at (Look b) s done closed = absurd (let z : want.Load (look_word op b) ≡ want.Done = done in cc)
-  bare_at (Put task rounds) s done closed = absurd (put_asks task rounds s done)
-  bare_at Release s done closed = absurd (let z : want.Store (guard_word e.site.geometry) 0 ≡ want.Done = done in cc)
-  bare_at (Back give end) s done closed = absurd (give_some give done)
+  bare_at (Put batch rounds) s done closed = absurd (put_asks batch rounds s done)
+  bare_at Release s done closed = absurd (let z : want.Store (allocation_guard e.site.geometry) 0 ≡ want.Done = done in cc)
+  bare_at (Back give end) s done closed = absurd (give_some e give done)
   bare_at (Ended end) s done closed = end_bare end s closed
 
   copied_end : (end : SplitEnd) → Suited (Ended end) → is_copied_end end ≡ true → KeepsCopied site here call op.copied v
   copied_end ends.Copied s hands = s
   copied_end (ends.Again why) s hands = absurd (let z : false ≡ true = hands in cc)
   copied_end (ends.Full count) s hands = absurd (let z : false ≡ true = hands in cc)
-  copied_end ends.Off s hands = absurd (let z : false ≡ true = hands in cc)
 
   copied_at : (step : SplitStep) → Suited step → hands_on_at step ≡ true → KeepsCopied site here call op.copied v
   copied_at (Ended end) s hands = copied_end end s hands
@@ -284,7 +259,7 @@ module _ (site : Ground) (here : Site) (call : Call) (op : SplitOp) (is : IsOf s
   copied_at Count s hands = absurd (cc)
   copied_at (Return count) s hands = absurd (cc)
   copied_at (Look b) s hands = absurd (cc)
-  copied_at (Put task rounds) s hands = absurd (cc)
+  copied_at (Put batch rounds) s hands = absurd (cc)
   copied_at Release s hands = absurd (cc)
   copied_at (Back give end) s hands = absurd (cc)
 
@@ -300,44 +275,44 @@ module _ (site : Ground) (ground : IsGround site) (here : Site) (call : Call) (o
   g = is.located.shape
 
   -- ---- an event of the rounds
-  module _ (task : Task) (rounds : Rounds) (s : IsPutting site here call op.copied op.locks task rounds v) where
+  module _ (batch : Batch) (rounds : Rounds) (s : IsPutting site here call op.copied op.locks batch rounds v) where
     abbrev coming : Option (ℕ × ℕ)
-    coming = due op.copied op.locks task
+    coming = due op.copied op.locks batch
 
     abbrev at : (w : Want) × (rounds_wanted rounds coming ≡ Some w)
-    at = event site here call op is v task rounds s
+    at = event site here call op is v batch rounds s
 
-    fit : Fits site ground here call op v task rounds s.splits s.stands s.lines at.0 (put_kind op task (Some at.0))
-    fit = event_fits site ground here call op v rounds s.stands s.lines task s.splits at.0 at.1 (event_cases rounds coming at.0 at.1)
+    fit : Fits site ground here call op v batch rounds s.splits s.stands s.lines at.0 (put_kind op batch (Some at.0))
+    fit = event_fits site ground here call op v rounds s.stands s.lines batch s.splits at.0 at.1 (event_cases rounds coming at.0 at.1)
 
-    kind_is : put_kind op task (rounds_wanted rounds coming) ≡ put_kind op task (Some at.0)
-    kind_is = ap (put_kind op task) at.1
+    kind_is : put_kind op batch (rounds_wanted rounds coming) ≡ put_kind op batch (Some at.0)
+    kind_is = ap (put_kind op batch) at.1
 
-    put_wants : put_wanted rounds coming ≡ wanted_of site.shape (put_kind op task (rounds_wanted rounds coming))
-    put_wants = is_event site here call op is v task rounds s ∙ fit.wants ∙ ap (wanted_of site.shape) (sym kind_is)
+    put_wants : put_wanted rounds coming ≡ wanted_of site.shape (put_kind op batch (rounds_wanted rounds coming))
+    put_wants = is_event site here call op is v batch rounds s ∙ fit.wants ∙ ap (wanted_of site.shape) (sym kind_is)
 
-    put_may : MayTake site (put_kind op task (rounds_wanted rounds coming)) v
+    put_may : MayTake site (put_kind op batch (rounds_wanted rounds coming)) v
     put_may = subst (λ (k : StepKind). MayTake site k v) (sym kind_is) fit.may
 
-    passes : (n : ℕ) → answer_to (put_wanted rounds coming) n ≡ Passed
-    passes n = ap (λ (w : Want). answer_to w n) (is_event site here call op is v task rounds s) ∙ fit.answer n
+    pub passes : (n : ℕ) → answer_to (put_wanted rounds coming) n ≡ Passed
+    passes n = ap (λ (w : Want). answer_to w n) (is_event site here call op is v batch rounds s) ∙ fit.answer n
 
-    put_stands : (n : ℕ) → SplitStands site here call (next_in op (Put task rounds) (answer_to (put_wanted rounds coming) n)) (view_by site.shape (put_kind op task (rounds_wanted rounds coming)) n v)
+    put_stands : (n : ℕ) → SplitStands site here call (next_in op (Put batch rounds) (answer_to (put_wanted rounds coming) n)) (view_by site.shape (put_kind op batch (rounds_wanted rounds coming)) n v)
     put_stands n =
-        subst (λ (a : Ans). SplitStands site here call (next_in op (Put task rounds) a) (view_by site.shape (put_kind op task (rounds_wanted rounds coming)) n v)) (sym (passes n))
-        (subst (λ (k : StepKind). SplitStands site here call (go op (stored op task rounds)) (view_by site.shape k n v)) (sym kind_is) (record { is = is; view = fit.suits n }))
+        subst (λ (a : Ans). SplitStands site here call (next_in op (Put batch rounds) a) (view_by site.shape (put_kind op batch (rounds_wanted rounds coming)) n v)) (sym (passes n))
+        (subst (λ (k : StepKind). SplitStands site here call (go op (stored op batch rounds)) (view_by site.shape k n v)) (sym kind_is) (record { is = is; view = fit.suits n }))
 
-    put_silent : (n : ℕ) → IsSilent (next_in op (Put task rounds) (answer_to (put_wanted rounds coming) n)).step
-    put_silent n = subst (λ (a : Ans). IsSilent (next_in op (Put task rounds) a).step) (sym (passes n)) (silent_put _ _ _)
+    put_silent : (n : ℕ) → IsSilent (next_in op (Put batch rounds) (answer_to (put_wanted rounds coming) n)).step
+    put_silent n = subst (λ (a : Ans). IsSilent (next_in op (Put batch rounds) a).step) (sym (passes n)) (ap reply_of (open_put _ _ _))
 
-    put_own : (n : ℕ) → (view_by site.shape (put_kind op task (rounds_wanted rounds coming)) n v).own ≡ v.own
+    put_own : (n : ℕ) → (view_by site.shape (put_kind op batch (rounds_wanted rounds coming)) n v).own ≡ v.own
     put_own n = ap (λ (k : StepKind). (view_by site.shape k n v).own) kind_is ∙ fit.own n
 
-    put_seen : (n : ℕ) → (view_by site.shape (put_kind op task (rounds_wanted rounds coming)) n v).seen ≡ v.seen
+    put_seen : (n : ℕ) → (view_by site.shape (put_kind op batch (rounds_wanted rounds coming)) n v).seen ≡ v.seen
     put_seen n = ap (λ (k : StepKind). (view_by site.shape k n v).seen) kind_is ∙ fit.seen n
 
   -- ---- what it wants
-  guard_at : want.Store (guard_word whole.site.geometry) 0 ≡ want.Store (allocation_guard site.shape) 0
+  guard_at : want.Store (allocation_guard whole.site.geometry) 0 ≡ want.Store (allocation_guard site.shape) 0
   guard_at = ap (λ (z : Shape). want.Store (allocation_guard z) 0) g
 
   wants : (step : SplitStep) → Suits step → wanted_in op step ≢ want.Done → wanted_in op step ≡ wanted_of site.shape (kind_at op step)
@@ -346,7 +321,7 @@ module _ (site : Ground) (ground : IsGround site) (here : Site) (call : Call) (o
   wants Count s asks = ap (λ (z : Shape). want.Load (counter_word z)) g
   wants (Return count) s asks = guard_at
   wants (Look b) s asks = look_wants site.shape op b
-  wants (Put task rounds) s asks = put_wants task rounds s
+  wants (Put batch rounds) s asks = put_wants batch rounds s
   wants Release s asks = guard_at
   wants (Back give end) s asks = give_wants site whole is.located v give s.0
   wants (Ended end) s asks = absurd (asks refl)
@@ -355,11 +330,11 @@ module _ (site : Ground) (ground : IsGround site) (here : Site) (call : Call) (o
   may : (step : SplitStep) → Suits step → MayTake site (kind_at op step) v
   may Take s = is.numbered
   may (Search slot) s = (subst (λ (l : List Area). Has Allocation l) (sym s.0.areas) (inl refl), s.1, (λ p l inside. settled_none site ground here call op v s.0.settled p l))
-  may Count s = ((refl, inl (λ a. is.insert), knows_full site whole v (crowd site ground here call op v s), (λ spent. absurd (cc))), searching_none site ground here call op v s)
-  may (Return count) s = (subst (λ (l : List Area). Has Allocation l) (sym s.areas) (inl refl), (λ p l inside. settled_none site ground here call op v s.settled p l), tt)
+  may Count s = ((refl, inl (λ a. is.insert), knows_full site whole v (crowd site ground here call op v s.0), (λ spent. absurd (cc)), (λ full. s.1)), searching_none site ground here call op v s.0)
+  may (Return count) s = (subst (λ (l : List Area). Has Allocation l) (sym s.areas) (inl refl), (λ p l inside. settled_none site ground here call op v s.settled p l), (λ n side p l is. settled_none site ground here call op v s.settled p l))
   may (Look b) s = look_may site ground here call op v b s
-  may (Put task rounds) s = put_may task rounds s
-  may Release s = (subst (λ (l : List Area). Has Allocation l) (sym s.0.areas) (inr (inr (inl refl))), (λ p l inside. settled_none site ground here call op v s.1 p l), tt)
+  may (Put batch rounds) s = put_may batch rounds s
+  may Release s = (subst (λ (l : List Area). Has Allocation l) (sym s.0.areas) (inr (inr (inl refl))), (λ p l inside. settled_none site ground here call op v s.1 p l), (λ n side p l is. settled_none site ground here call op v s.1 p l))
   may (Back give end) s = give_may site whole is.located v give s.0
   may (Ended end) s = (tt, tt)
 
@@ -378,7 +353,7 @@ module _ (site : Ground) (ground : IsGround site) (here : Site) (call : Call) (o
   stands Count n small s asks same = record { is = is; view = count_suits site ground here call op v n s }
   stands (Return count) n small s asks same = record { is = is; view = return_suits site ground here call op v count n s }
   stands (Look b) n small s asks same = record { is = is; view = look_suits site ground here call op v b n small s }
-  stands (Put task rounds) n small s asks same = put_stands task rounds s n
+  stands (Put batch rounds) n small s asks same = put_stands batch rounds s n
   stands Release n small s asks same = record { is = is; view = release_suits site ground here call op v n s }
   stands (Back give end) n small s asks same =
       let u : View = view_by site.shape (give_kind whole give) n v in
@@ -402,13 +377,13 @@ module _ (site : Ground) (ground : IsGround site) (here : Site) (call : Call) (o
   enters : (step : SplitStep) (n : ℕ) → Suits step → Enters step v → wanted_in op step ≢ want.Done → Enters (next_step step n) (next_view step n)
   enters Take n s same asks = silent Take n (silent_take op (n == 0) n) same (guard_own (n == 0) v) (guard_seen (n == 0) v)
   enters (Search slot) n s same asks =
-      silent (Search slot) n (silent_search op slot n) same (area_own (state_in n == free) (Free slot) (header_word site.shape slot) n v) (area_seen (state_in n == free) (Free slot) (header_word site.shape slot) n v)
+      silent (Search slot) n (ap reply_of (open_search op slot n)) same (slot_own (state_in n == free) slot (header_word site.shape slot) n v) (slot_seen (state_in n == free) slot (header_word site.shape slot) n v)
   enters Count n s same asks =
       subst (λ (z : Call). EntersReply call (Some (Full, n)) before (with_reply v (next_entry v z Full n false))) (sym is.same) (one_more call before v Full n refl same)
   enters (Return count) n s same asks = same_more call before v (Some (Full, count)) (next_view (Return count) n) same refl refl
-  enters (Look b) n s same asks = silent (Look b) n (silent_look b) same (look_own site.shape op b n v) (look_seen site.shape op b n v)
-  enters (Put task rounds) n s same asks = silent (Put task rounds) n (put_silent task rounds s n) same (put_own task rounds s n) (put_seen task rounds s n)
-  enters Release n s same asks = silent Release n (silent_put _ _ _) same refl refl
+  enters (Look b) n s same asks = silent (Look b) n (ap reply_of (open_look b)) same (look_own site.shape op b n v) (look_seen site.shape op b n v)
+  enters (Put batch rounds) n s same asks = silent (Put batch rounds) n (put_silent batch rounds s n) same (put_own batch rounds s n) (put_seen batch rounds s n)
+  enters Release n s same asks = silent Release n (ap reply_of (open_put _ _ _)) same refl refl
   enters (Back give end) n s same asks =
       let u : View = next_view (Back give end) n in
       subst (λ (a : Ans). Enters (next_in op (Back give end) a).step u) (sym (give_answer whole give n))
@@ -420,39 +395,32 @@ module _ (site : Ground) (ground : IsGround site) (here : Site) (call : Call) (o
   none_in : IsWithin site.shape want.Done
   none_in = record { word = (let some = ground.shape.some in omega (arith, some)); line = λ n e. absurd (cc) }
 
-  slot_low : (n p : ℕ) → n < site.shape.segments → p < slot_words → slot_word whole.site.geometry n p < all_words_of site.shape
+  slot_low : (n p : ℕ) → n < site.shape.segments → p < segment_words → slot_word whole.site.geometry n p < all_words_of site.shape
   slot_low n p low small = subst (λ (i : ℕ). i < all_words_of site.shape) (sym (slot_is whole.site.geometry site.shape g n p low)) (by (first_segment site.shape) n p site.shape.segments low small)
     where
       by : (f n p k : ℕ) → n < k → p < 2144 → f + 2144 * n + p < f + 2144 * k + 4 + k
       by f n p k low small = omega (arith, low, small)
 
-  guard_low : guard_word whole.site.geometry < all_words_of site.shape
+  guard_low : allocation_guard whole.site.geometry < all_words_of site.shape
   guard_low = subst (λ (z : Shape). allocation_guard z < all_words_of site.shape) (sym g) (omega arith)
 
-  give_in : (give : Give) → SuitsGive site whole give v → IsWithin site.shape (give_wanted whole give)
-  give_in (giving.Lock b to) s = record {
-    word = (let low = s.0 in let most = s.1 in let at = lock_within site.shape (lock_of whole b) (is_lock site whole is.located b (omega (arith, low, most))) in omega (arith, at));
-    line = λ n e. absurd (cc);
-  }
-  give_in giving.Guard s = record { word = (let at = segment_guard_is site whole is.located in let within = is.located.within in omega (arith, at, within)); line = λ n e. absurd (cc) }
-
-  event_in : (task : Task) (rounds : Rounds) (s : IsPutting site here call op.copied op.locks task rounds v) (w : Want) → rounds_wanted rounds (due op.copied op.locks task) ≡ Some w
-      → IsRoundEvent rounds (due op.copied op.locks task) w → IsWithin site.shape w
-  event_in task rounds s w at (inl z) = subst (λ (y : Want). IsWithin site.shape y) (sym z.wants) (record {
-    word = (let low = due_low task s z.word z.value z.comes in low);
+  event_in : (batch : Batch) (rounds : Rounds) (s : IsPutting site here call op.copied op.locks batch rounds v) (w : Want) → rounds_wanted rounds (due op.copied op.locks batch) ≡ Some w
+      → IsRoundEvent rounds (due op.copied op.locks batch) w → IsWithin site.shape w
+  event_in batch rounds s w at (inl z) = subst (λ (y : Want). IsWithin site.shape y) (sym z.wants) (record {
+    word = (let low = due_low batch s z.word z.value z.comes in low);
     line = λ l e. absurd (cc);
   })
     where
-      due_low : (t : Task) → IsPutting site here call op.copied op.locks t rounds v → (word value : ℕ) → due op.copied op.locks t ≡ Some (word, value) → word < all_words_of site.shape
+      due_low : (t : Batch) → IsPutting site here call op.copied op.locks t rounds v → (word value : ℕ) → due op.copied op.locks t ≡ Some (word, value) → word < all_words_of site.shape
       due_low t p word value f =
           let line = due_in_image site ground here call op v t rounds p.splits p.stands p.lines t word value f in omega (arith, line)
-  event_in task rounds s w at (inr (inl z)) =
-      let low = (lines_are_stored (λ (line : ℕ). 8 * line + 8 ≤ words_of site.shape)).flushes rounds (due op.copied op.locks task) s.lines (slice_index rounds.round z.number) (at ∙ ap Some z.wants) in
+  event_in batch rounds s w at (inr (inl z)) =
+      let low = (lines_are_stored (λ (line : ℕ). 8 * line + 8 ≤ words_of site.shape)).flushes rounds (due op.copied op.locks batch) s.lines (slice_index rounds.round z.number) (at ∙ ap Some z.wants) in
       subst (λ (y : Want). IsWithin site.shape y) (sym z.wants) (record {
         word = omega (arith, low);
         line = λ l e. (let same : slice_index rounds.round z.number ≡ l = cc in omega (arith, low, same));
       })
-  event_in task rounds s w at (inr (inr z)) = subst (λ (y : Want). IsWithin site.shape y) (sym z.wants) (record { word = omega arith; line = λ l e. absurd (cc) })
+  event_in batch rounds s w at (inr (inr z)) = subst (λ (y : Want). IsWithin site.shape y) (sym z.wants) (record { word = omega arith; line = λ l e. absurd (cc) })
 
   within_at : (step : SplitStep) → Suits step → IsWithin site.shape (wanted_in op step)
   within_at Take s = record { word = guard_low; line = λ n e. absurd (cc) }
@@ -460,11 +428,11 @@ module _ (site : Ground) (ground : IsGround site) (here : Site) (call : Call) (o
   within_at Count s = subst (λ (z : Shape). IsWithin site.shape (want.Load (counter_word z))) (sym g) (record { word = omega arith; line = λ n e. absurd (cc) })
   within_at (Return count) s = record { word = guard_low; line = λ n e. absurd (cc) }
   within_at (Look b) s = record { word = slot_low op.copied.side (32 + 32 * (b % buckets)) s.slot.slot (omega arith); line = λ n e. absurd (cc) }
-  within_at (Put task rounds) s =
-      let w = event site here call op is v task rounds s in
-      subst (λ (z : Want). IsWithin site.shape z) (sym (is_event site here call op is v task rounds s)) (event_in task rounds s w.0 w.1 (event_cases rounds (due op.copied op.locks task) w.0 w.1))
+  within_at (Put batch rounds) s =
+      let w = event site here call op is v batch rounds s in
+      subst (λ (z : Want). IsWithin site.shape z) (sym (is_event site here call op is v batch rounds s)) (event_in batch rounds s w.0 w.1 (event_cases rounds (due op.copied op.locks batch) w.0 w.1))
   within_at Release s = record { word = guard_low; line = λ n e. absurd (cc) }
-  within_at (Back give end) s = give_in give s.0
+  within_at (Back give end) s = give_in site whole is.located give v s.0
   within_at (Ended end) s = none_in
 
 -- ---- no step makes a change, or cuts the power
@@ -482,16 +450,12 @@ head_makes row s x (Some (want.Flush l)) p = p
 head_makes row s x (Some want.Fence) p = p
 head_makes row s x (Some w) p = p
 
-put_makes : (op : SplitOp) (task : Task) (o : Option Want) → IsPublishingStep (put_kind op task o) → ⊥
+put_makes : (op : SplitOp) (batch : Batch) (o : Option Want) → IsPublishingStep (put_kind op batch o) → ⊥
 put_makes op (Empty k) o p = round_makes o p
 put_makes op (Link stored) o p = round_makes o p
 put_makes op (Mark stored) o p = head_makes (marks op.copied.side) op.copied.whole.segment (split_head op.copied.whole) o p
 put_makes op (New stored) o p = head_makes (news op.copied.whole.segment) op.copied.side (side_head op.copied.whole) o p
 put_makes op (Copy k) o p = round_makes o p
-
-give_makes : (e : Enclosed) (give : Give) → IsPublishingStep (give_kind e give) → ⊥
-give_makes e (giving.Lock b to) p = p
-give_makes e giving.Guard p = p
 
 look_makes : (op : SplitOp) (b : ℕ) → IsPublishingStep (look_kind op b) → ⊥
 look_makes op zero p = p
@@ -503,7 +467,7 @@ makes_none op (Search slot) p = p
 makes_none op Count p = p
 makes_none op (Return count) p = p
 makes_none op (Look b) p = look_makes op b p
-makes_none op (Put task rounds) p = put_makes op task (rounds_wanted rounds (due op.copied op.locks task)) p
+makes_none op (Put batch rounds) p = put_makes op batch (rounds_wanted rounds (due op.copied op.locks batch)) p
 makes_none op Release p = p
 makes_none op (Back give end) p = give_makes op.copied.whole give p
 makes_none op (Ended end) p = p
@@ -522,16 +486,12 @@ head_power row s x (Some (want.Flush l)) same = absurd (cc)
 head_power row s x (Some want.Fence) same = absurd (cc)
 head_power row s x (Some w) same = absurd (cc)
 
-put_power : (op : SplitOp) (task : Task) (o : Option Want) → put_kind op task o ≢ of_call cuts_power
+put_power : (op : SplitOp) (batch : Batch) (o : Option Want) → put_kind op batch o ≢ of_call cuts_power
 put_power op (Empty k) o same = round_power o same
 put_power op (Link stored) o same = round_power o same
 put_power op (Mark stored) o same = head_power (marks op.copied.side) op.copied.whole.segment (split_head op.copied.whole) o same
 put_power op (New stored) o same = head_power (news op.copied.whole.segment) op.copied.side (side_head op.copied.whole) o same
 put_power op (Copy k) o same = round_power o same
-
-give_power : (e : Enclosed) (give : Give) → give_kind e give ≢ of_call cuts_power
-give_power e (giving.Lock b to) same = absurd (cc)
-give_power e giving.Guard same = absurd (cc)
 
 look_power : (op : SplitOp) (b : ℕ) → look_kind op b ≢ of_call cuts_power
 look_power op zero same = absurd (cc)
@@ -543,7 +503,7 @@ power_at op (Search slot) same = absurd (cc)
 power_at op Count same = absurd (cc)
 power_at op (Return count) same = absurd (cc)
 power_at op (Look b) same = look_power op b same
-power_at op (Put task rounds) same = put_power op task (rounds_wanted rounds (due op.copied op.locks task)) same
+power_at op (Put batch rounds) same = put_power op batch (rounds_wanted rounds (due op.copied op.locks batch)) same
 power_at op Release same = absurd (cc)
 power_at op (Back give end) same = give_power op.copied.whole give same
 power_at op (Ended end) same = absurd (cc)
@@ -555,7 +515,7 @@ hands_at op (Search slot) hands = absurd (cc)
 hands_at op Count hands = absurd (cc)
 hands_at op (Return count) hands = absurd (cc)
 hands_at op (Look b) hands = absurd (cc)
-hands_at op (Put task rounds) hands = absurd (cc)
+hands_at op (Put batch rounds) hands = absurd (cc)
 hands_at op Release hands = absurd (cc)
 hands_at op (Back give end) hands = absurd (cc)
 
@@ -588,8 +548,8 @@ split_is_part = record {
         enters = λ small. enters site h.site_is here call op is before v op.step n view s.enters asks;
         makes = λ p. absurd (makes_none op op.step p);
       };
-  ends = λ site here call op v s done closed. bare_at site here call op s.is v op.step s.view done closed;
-  time = record { falls = λ op a i. inl (falls op op.step a i); most = λ op. most op op.step };
+  ends = λ site here call op v s done closed on. bare_at site here call op s.is v op.step s.view done closed;
+  time = record { falls = λ op a i. inl (falls op op.step a i); most = most };
   within = λ site here call op before v good s. within_at site good here call op s.stands.is before v op.step s.stands.view;
   words = λ site here call op before v s. puts_at site here call op s.stands.is v op.step s.stands.view;
   flushes = record {

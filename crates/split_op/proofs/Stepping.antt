@@ -1,13 +1,14 @@
 -- Each step of a split: its event is of its kind, which the view may take, and leaves a view that suits the next.
-use Rattle.std.proofs.Common.{◌≡◌, ◌≢◌, ℕ, zero, suc, ◌+◌, ◌*◌, ◌%◌, ◌^◌, ◌<◌, ◌≤◌, Bool, true, false, Option, None, Some, List, [], ◌∷◌, slice_index, inl, inr, refl, sym, ap, ◌∙◌, subst, arith}
-use Rattle.std.specs.Prelude.{nat_lt, ◌==◌, slice_set, min, if◌then◌else◌}
+use Rattle.std.proofs.Common.{◌≡◌, ◌≢◌, ℕ, zero, suc, ◌+◌, ◌-◌, ◌*◌, ◌%◌, ◌^◌, ◌<◌, ◌≤◌, Bool, true, false, Option, None, Some, List, [], ◌∷◌, slice_index, inl, inr, refl, sym, ap, ◌∙◌, subst, arith}
+use Rattle.std.specs.Prelude.{nat_lt, ◌==◌, not, slice_set, min, if◌then◌else◌}
 use Rattle.std.proofs.lemmas.Bool.{cases_lt, cases_eq, ltb-true, ltb-false, eqb-true, both_ways}
 use Rattle.std.proofs.lemmas.List.{get_or-set_same, get_or-set_other, length-set}
 use Rattle.op_core.specs.declared.why.Why.TheVariants.{Busy}
 use Rattle.op_core.specs.declared.want.Ans.TheVariants.{Won, Lost}
-use Rattle.image_layout.specs.Places.{Shape, buckets}
+use Rattle.image_layout.specs.Places.{Shape, buckets, segment_words, most_segments}
 use Rattle.image_layout.specs.Volatile.{allocation_guard}
 use Rattle.frame_facts.specs.DeadSlots.{IsInSlot}
+use Rattle.frame_facts.specs.Facts.{Lives, Current, Taken}
 use Rattle.map_model.specs.declared.call.Call.{Call}
 use Rattle.map_model.specs.declared.entry.Reply.TheVariants.{Full}
 use Rattle.map_model.specs.Changes.{call_of}
@@ -19,8 +20,10 @@ use Rattle.world.specs.Kinds.{next_entry, with_reply}
 use Rattle.world.specs.areas.Areas.{Area, Segment, Free, Whole, Allocation, header_word, all_but}
 use Rattle.world.specs.areas.Bridging.{HasNoWhole}
 use Rattle.world.specs.areas.Fitting.{HoldsWord}
-use Rattle.world.specs.areas.Kinds.{of_free_slots, goes_with, known_without, with_guard, with_area, gives}
+use Rattle.world.specs.areas.Kinds.{of_free_slots, goes_with, known_without, is_taken, facts_without, with_guard, with_slot, gives}
 use Rattle.world.specs.StepKinds.{of_structure, view_by, MayTake}
+use Rattle.world.proofs.fitting.Filtered.{has_filtered}
+use Rattle.phase.specs.Stands.{IsThere}
 use Rattle.rounds.specs.Steps.{rounds_wanted}
 use Rattle.rounds.specs.Steps as round
 use Rattle.rounds.specs.Stands.{IsSettled}
@@ -33,26 +36,26 @@ use Rattle.enclose_op.specs.Fits.{HoldsPart}
 use Rattle.enclose_op.specs.GiveLaws.{SuitsNext}
 use Rattle.enclose_op.proofs.Backing.{give_suits}
 use Rattle.enclose_op.proofs.Held.{hold_same}
-use Rattle.enclose_op.proofs.Causing.{IsCrowd}
+use Rattle.enclose_op.proofs.causes.Causing.{IsCrowd}
 use Rattle.split_op.specs.declared.copied.Copied.{Copied}
-use Rattle.split_op.specs.declared.task.Task.TheVariants.{Empty, Copy}
+use Rattle.split_op.specs.declared.batch.Batch.TheVariants.{Empty, Copy}
 use Rattle.split_op.specs.declared.step.SplitEnd.{SplitEnd}
 use Rattle.split_op.specs.declared.step.SplitEnd.TheVariants as ends
 use Rattle.split_op.specs.declared.step.SplitStep.{SplitStep}
 use Rattle.split_op.specs.declared.step.SplitStep.TheVariants.{Take, Search, Count, Return, Look, Put, Release, Back}
 use Rattle.split_op.specs.declared.op.SplitOp.{SplitOp}
 use Rattle.split_op.specs.Copied.{KnowsOnlyOfBoth}
-use Rattle.split_op.specs.Tasks.{slot_words, is_copied, copied_from}
-use Rattle.split_op.specs.Steps.{guard_word, last_slot, searched, looked, given_to, copying, next_in}
-use Rattle.split_op.specs.Fits.{look_word, look_kind, is_copied_end, CopiesFrom, IsLockRow, KeepsOn, IsSearching, HasSlot, side_at, look_areas, IsLooking, IsEmptying, SuitsStep}
+use Rattle.split_op.specs.Batches.{is_copied, copied_from}
+use Rattle.split_op.specs.Steps.{last_slot, searched, looked, given_to, copying, next_in}
+use Rattle.split_op.specs.Fits.{look_word, look_kind, is_copied_end, CopiesFrom, IsLockRow, KnowsTaken, KeepsOn, IsSearching, HasSlot, side_at, look_areas, IsLooking, IsEmptying, SuitsStep}
 use Rattle.split_op.proofs.Cases.{none_some}
-use Rattle.split_op.proofs.Places.{slot_is, in_slot_at}
-use Rattle.split_op.proofs.Seeking.{found_at, copied_behind, none_before}
-use Rattle.split_op.proofs.Stored.{keeps_by}
+use Rattle.split_op.proofs.Places.{slot_is, in_slot_at, all_slots}
+use Rattle.split_op.proofs.sides.Seeking.{found_at, copied_behind, none_before}
+use Rattle.split_op.proofs.Stored.{keeps_there, keeps_by}
 use Rattle.split_op.proofs.Finished.{none_loose, to_suits}
 use Rattle.split_op.proofs.Asking.{head_normal}
 
-least_slots : (n : ℕ) → min n 16384 ≤ n
+least_slots : (n : ℕ) → min n most_segments ≤ n
 least_slots n = omega arith
 
 free_or_normal : (a : ℕ) → a ≡ free → a ≡ normal → ⊥
@@ -81,7 +84,7 @@ module _ (site : Ground) (ground : IsGround site) (here : Site) (call : Call) (o
   pub settled_none : IsSettled v → (p : ℕ × ℕ) → IsLoose v p → ⊥
   settled_none q p l = none_loose site here call c locks v q p l
 
-  guard_is : KeepsOn site here call c v → guard_word e.site.geometry ≡ allocation_guard site.shape
+  guard_is : KeepsOn site here call c v → allocation_guard e.site.geometry ≡ allocation_guard site.shape
   guard_is k = ap allocation_guard k.is.located.shape
 
   -- ---- what is held of the segment
@@ -125,13 +128,14 @@ module _ (site : Ground) (ground : IsGround site) (here : Site) (call : Call) (o
         },
         (let within = k.is.located.within in omega (arith, within)),
         st.2,
+        (λ m low. absurd (omega (arith, low))),
       )
   take_suits st false n =
       let w = st.0 in
-      back_suits v (ends.Again (Busy (guard_word e.site.geometry) n)) refl (record { areas = w.areas; locks = w.locks; known = w.known; quiet = w.quiet })
+      back_suits v (ends.Again (Busy (allocation_guard e.site.geometry) n)) refl (record { areas = w.areas; locks = w.locks; known = w.known; quiet = w.quiet })
 
   -- ---- a header of a slot is loaded
-  pub search_suits : (slot n : ℕ) → Suited (Search slot) → (slot ≡ s → n ≡ e.head) → SuitsOp (searched op slot n) (with_area (state_in n == free) (Free slot) (header_word site.shape slot) n v)
+  pub search_suits : (slot n : ℕ) → Suited (Search slot) → (slot ≡ s → n ≡ e.head) → SuitsOp (searched op slot n) (with_slot (state_in n == free) slot (header_word site.shape slot) n v)
   search_suits slot n st same = by (state_in n == free) refl
     where
       k : KeepsOn site here call c v
@@ -143,9 +147,9 @@ module _ (site : Ground) (ground : IsGround site) (here : Site) (call : Call) (o
       on : SplitOp
       on = record op { copied = record op.copied { side = slot }; step = Look 0 }
 
-      found : state_in n ≡ free → SuitsOp on (with_area true (Free slot) (header_word site.shape slot) n v)
+      found : state_in n ≡ free → SuitsOp on (with_slot true slot (header_word site.shape slot) n v)
       found is =
-          let u : View = with_area true (Free slot) (header_word site.shape slot) n v in
+          let u : View = with_slot true slot (header_word site.shape slot) n v in
           record {
             keeps = (let more = keeps_by site here call c v u k refl refl refl refl refl (λ b m y _ _ _ has. inr has) in
                 record { is = more.is; whole = more.whole; words = more.words; there = more.there; locks = more.locks; buckets_are = more.buckets_are; planned = more.planned; moving = more.moving; owed = more.owed });
@@ -162,17 +166,40 @@ module _ (site : Ground) (ground : IsGround site) (here : Site) (call : Call) (o
             ];
           }
 
-      past : (t : Bool) → nat_lt slot (last_slot e.site.geometry) ≡ t → SuitsOp (if t then record op { step = Search (slot + 1) } else record op { step = Count }) v
+      -- a slot that is not free is known to be taken, and so are those before it
+      more : View
+      more = with_slot false slot (header_word site.shape slot) n v
+
+      searching : IsSearching site here call c more
+      searching = record {
+        keeps = keeps_there site here call c v more k (record { within = k.there.within; lives = inr k.there.lives; current = inr k.there.current }) refl refl refl refl (λ b m y _ _ _ has. has);
+        areas = st.0.areas;
+        header = st.0.header;
+        settled = record { dirty = st.0.settled.dirty; flushed = st.0.settled.flushed };
+        only = st.0.only;
+      }
+
+      taken : (to : ℕ) → to ≤ slot + 1 → KnowsTaken to more
+      taken to most m low = elim (cases_eq m slot) [ inl same ↦ inl (ap Taken same) | inr apart ↦ inr (st.3 m (omega (arith, low, most, apart))) ]
+
+      all : nat_lt slot (last_slot e.site.geometry) ≡ false → site.shape.segments ≤ slot + 1
+      all is =
+          let shape = ap (λ (g : Shape). g.segments) k.is.located.shape in
+          let few = ground.shape.segments in
+          subst (λ (z : ℕ). z ≤ slot + 1) shape (all_slots e.site.geometry.segments slot (omega (arith, shape, few)) (ltb-false slot (last_slot e.site.geometry) is))
+
+      past : (t : Bool) → nat_lt slot (last_slot e.site.geometry) ≡ t → SuitsOp (if t then record op { step = Search (slot + 1) } else record op { step = Count }) more
       past true is = (
-        st.0,
+        searching,
         (let low = ltb-true slot (last_slot e.site.geometry) is in let most = least_slots e.site.geometry.segments in
             let shape = ap (λ (g : Shape). g.segments) k.is.located.shape in omega (arith, low, most, shape)),
         st.2,
+        taken (slot + 1) (omega arith),
       )
-      past false is = st.0
+      past false is = (searching, taken site.shape.segments (all is))
 
       by : (t : Bool) → (state_in n == free) ≡ t → SuitsOp (if t then on else (if nat_lt slot (last_slot e.site.geometry) then record op { step = Search (slot + 1) } else record op { step = Count }))
-          (with_area t (Free slot) (header_word site.shape slot) n v)
+          (with_slot t slot (header_word site.shape slot) n v)
       by true is = found (eqb-true (state_in n) free is)
       by false is = past (nat_lt slot (last_slot e.site.geometry)) refl
 
@@ -204,11 +231,11 @@ module _ (site : Ground) (ground : IsGround site) (here : Site) (call : Call) (o
   count_suits n st =
       let u : View = with_reply v (next_entry v (call_of e.change) Full n false) in
       record {
-        keeps = keeps_by site here call c v u st.keeps refl refl refl refl refl (λ b m y _ _ _ has. has);
-        areas = st.areas;
-        header = st.header;
-        settled = record { dirty = st.settled.dirty; flushed = st.settled.flushed };
-        only = st.only;
+        keeps = keeps_by site here call c v u st.0.keeps refl refl refl refl refl (λ b m y _ _ _ has. has);
+        areas = st.0.areas;
+        header = st.0.header;
+        settled = record { dirty = st.0.settled.dirty; flushed = st.0.settled.flushed };
+        only = st.0.only;
       }
 
   pub return_suits : (count n : ℕ) → Suited (Return count) → SuitsStep site here call c locks (Back (give_from 0 buckets) (ends.Full count)) (view_by site.shape (of_structure (gives of_free_slots)) n v)
@@ -234,9 +261,7 @@ module _ (site : Ground) (ground : IsGround site) (here : Site) (call : Call) (o
   look_may zero st = (
     subst (λ (l : List Area). Has (Segment s) l) (sym st.areas) (inr (inr (inl refl))),
     (λ b near. (slice_index e.locks b + 1, st.keeps.locks.has b (omega arith) near)),
-    st.keeps.there.current,
     look_holds zero st,
-    (λ p l at. settled_none st.settled p l),
   )
   look_may (suc b) st = look_holds (suc b) st
 
@@ -300,11 +325,11 @@ module _ (site : Ground) (ground : IsGround site) (here : Site) (call : Call) (o
       areas_more : u.areas ≡ look_areas site here call c (b + 1)
       areas_more = areas ∙ ap (look_areas site here call c) (let one : suc b ≡ b + 1 = omega arith in one)
 
-      looked_by : (t : Bool) → nat_lt b 65 ≡ t → SuitsStep site here call c more (if t then Look (b + 1) else Put (Empty 2) round.begun) u
+      looked_by : (t : Bool) → nat_lt b (buckets - 1) ≡ t → SuitsStep site here call c more (if t then Look (b + 1) else Put (Empty 2) round.begun) u
       looked_by true is = record {
         keeps = keeps_look;
         slot = slot_look;
-        near = (let low = ltb-true b 65 is in omega (arith, low));
+        near = (let low = ltb-true b (buckets - 1) is in omega (arith, low));
         areas = areas_more;
         header = had _ _ st.header;
         side_header = (st.side_header.0, had _ _ st.side_header.1, st.side_header.2);
@@ -313,7 +338,7 @@ module _ (site : Ground) (ground : IsGround site) (here : Site) (call : Call) (o
         only = only_look;
       }
       looked_by false is =
-          let last = ltb-false b 65 is in
+          let last = ltb-false b (buckets - 1) is in
           let near = st.near in
           record {
             splits = record {
@@ -337,8 +362,8 @@ module _ (site : Ground) (ground : IsGround site) (here : Site) (call : Call) (o
           }
 
   pub look_suits : (b n : ℕ) → n < 2 ^ 64 → IsLooking site here call c locks b v → SuitsOp (looked op b n) (view_by site.shape (look_kind op b) n v)
-  look_suits zero n small st = looked_by zero n small st (view_by site.shape (look_kind op zero) n v) refl refl refl refl refl refl refl refl (ap (λ (l : List Area). Whole s ∷ l) st.areas) (nat_lt zero 65) refl
-  look_suits (suc b) n small st = looked_by (suc b) n small st (view_by site.shape (look_kind op (suc b)) n v) refl refl refl refl refl refl refl refl st.areas (nat_lt (suc b) 65) refl
+  look_suits zero n small st = looked_by zero n small st (view_by site.shape (look_kind op zero) n v) refl refl refl refl refl refl refl refl (ap (λ (l : List Area). Whole s ∷ l) st.areas) (nat_lt zero (buckets - 1)) refl
+  look_suits (suc b) n small st = looked_by (suc b) n small st (view_by site.shape (look_kind op (suc b)) n v) refl refl refl refl refl refl refl refl st.areas (nat_lt (suc b) (buckets - 1)) refl
 
   -- ---- the guard of free slots is given back, and the copies begin
   pub release_suits : (n : ℕ) → Suited Release → SuitsStep site here call c locks (copying op) (view_by site.shape (of_structure (gives of_free_slots)) n v)
@@ -347,9 +372,9 @@ module _ (site : Ground) (ground : IsGround site) (here : Site) (call : Call) (o
       let is = st.0 in
       let q : IsSettled u = record { dirty = st.1.dirty; flushed = st.1.flushed } in
       let known : u.known ≡ v.known = ap (λ (l : List Area). known_without site.shape of_free_slots l v.known) is.areas in
-      let w : IsEmptying site here call c locks slot_words v = is.side_words in
+      let w : IsEmptying site here call c locks segment_words v = is.side_words in
       to_suits site here call c locks u round.begun (rounds_settle.begins u q) (λ l has. absurd has) (Copy (copied_from c.words 32)) (record {
-        keeps = keeps_by site here call c v u is.keeps refl refl refl refl refl (λ b m y _ _ _ has. still known _ y has);
+        keeps = keeps_there site here call c v u is.keeps (there_still is.keeps.there) refl refl refl refl (λ b m y _ _ _ has. still known _ y has);
         slot = is.slot;
         areas = ap (λ (l : List Area). all_but (goes_with of_free_slots) l) is.areas;
         header = still known _ _ is.header;
@@ -367,10 +392,17 @@ module _ (site : Ground) (ground : IsGround site) (here : Site) (call : Call) (o
       still : {l : List (ℕ × ℕ)} → l ≡ v.known → (i x : ℕ) → Has (i, x) v.known → Has (i, x) l
       still same i x has = subst (λ (z : List (ℕ × ℕ)). Has (i, x) z) (sym same) has
 
+      -- with the guard goes only which slots are taken
+      there_still : IsThere site s v.facts → IsThere site s (facts_without of_free_slots v.facts)
+      there_still there = record {
+        within = there.within;
+        lives = has_filtered (λ fact. not (is_taken fact)) v.facts (Lives s) there.lives refl;
+        current = has_filtered (λ fact. not (is_taken fact)) v.facts (Current s) there.current refl;
+      }
+
   -- ---- what is held is given back
   pub given_suits : (next : Option Give) (end : SplitEnd) (u : View) → is_copied_end end ≡ false → SuitsNext site e next u → SuitsStep site here call c locks (given_to next end) u
   given_suits (Some give) end u bare n = (n, bare)
   given_suits None (ends.Again why) u bare n = n
   given_suits None (ends.Full count) u bare n = n
-  given_suits None ends.Off u bare n = n
   given_suits None ends.Copied u bare n = absurd (let f : true ≡ false = bare in cc)

@@ -1,9 +1,9 @@
 -- What a store of a split leaves: the word is known, and all else is as it was.
 use Rattle.std.proofs.Common.{◌≡◌, ℕ, suc, ◌+◌, ◌-◌, ◌*◌, ◌%◌, ◌<◌, ◌≤◌, ◌⊎◌, true, false, List, ◌∷◌, slice_index, inl, inr, refl, sym, ap, ◌∙◌, subst, arith}
 use Rattle.std.proofs.lemmas.Bool.{cases_lt, cases_eq, both_ways}
-use Rattle.image_layout.specs.Places.{head_at, bucket_at, buckets, block}
+use Rattle.image_layout.specs.Places.{head_at, bucket_at, buckets, block, segment_words}
 use Rattle.frame_facts.specs.DeadSlots.{IsInSlot}
-use Rattle.frame_facts.specs.Facts.{Fact, Lives, Current}
+use Rattle.frame_facts.specs.Facts.{Fact}
 use Rattle.map_model.specs.declared.call.Call.{Call}
 use Rattle.world.specs.declared.site.Site.{Site}
 use Rattle.world.specs.Ground.{Ground}
@@ -12,16 +12,17 @@ use Rattle.world.specs.Kinds.{without}
 use Rattle.world.specs.areas.Areas.{header_word}
 use Rattle.world.specs.areas.Splitting.{link_word}
 use Rattle.world.proofs.basics.Seats.{without_has, without_stays}
+use Rattle.phase.specs.Stands.{IsThere}
 use Rattle.enclose_op.specs.Whole.{kept_words}
 use Rattle.enclose_op.proofs.Held.{hold_same}
 use Rattle.enclose_op.proofs.Places.{in_slot}
 use Rattle.split_op.specs.declared.copied.Copied.{Copied}
-use Rattle.split_op.specs.declared.task.Task.TheVariants.{Empty, Link, Mark, New, Copy}
+use Rattle.split_op.specs.declared.batch.Batch.TheVariants.{Empty, Link, Mark, New, Copy}
 use Rattle.split_op.specs.Copied.{split_head, side_head, KnowsOnlyOfBoth}
-use Rattle.split_op.specs.Tasks.{slot_words, empty_value, after_empty, is_copied, copied_from}
+use Rattle.split_op.specs.Batches.{empty_value, after_empty, is_copied, copied_from}
 use Rattle.split_op.specs.Fits.{KeepsOn, HasSlot, side_at, areas_at, IsEmptied, IsEmptying, IsCopying, IsSplitting}
 use Rattle.split_op.proofs.Falling.{empty_behind}
-use Rattle.split_op.proofs.Seeking.{found_at, copied_behind, none_before}
+use Rattle.split_op.proofs.sides.Seeking.{found_at, copied_behind, none_before}
 use Rattle.split_op.proofs.Places.{in_slot_at, slot_apart, number_apart, bucket_no_head, lock_value, even_value, after_first, passed_over}
 
 -- A STORE: locks and what is relied on are as they were, the word is known, and nothing else became loose
@@ -48,18 +49,14 @@ module _ (site : Ground) (here_site : Site) (call : Call) (c : Copied) where
   abbrev s : ℕ
   s = c.whole.segment
 
-  -- what is kept stays so, where these lists do and the words of its buckets are known
-  pub keeps_by : (v u : View) → KeepsOn site here_site call c v → u.held ≡ v.held → u.facts ≡ v.facts → u.planned ≡ v.planned → u.moving ≡ v.moving → u.owed ≡ v.owed
+  -- what is kept stays so, where these lists do, the segment is relied on, and the words of its buckets are known
+  pub keeps_there : (v u : View) → KeepsOn site here_site call c v → IsThere site s u.facts → u.held ≡ v.held → u.planned ≡ v.planned → u.moving ≡ v.moving → u.owed ≡ v.owed
       → ((b m y : ℕ) → b < buckets → 1 ≤ m → m < block → Has (bucket_at site.shape s b + m, y) v.known → Has (bucket_at site.shape s b + m, y) u.known) → KeepsOn site here_site call c u
-  keeps_by v u k held facts planned moving owed more = record {
+  keeps_there v u k there held planned moving owed more = record {
     is = k.is;
     whole = k.whole;
     words = k.words;
-    there = record {
-      within = k.there.within;
-      lives = subst (λ (l : List Fact). Has (Lives s) l) (sym facts) k.there.lives;
-      current = subst (λ (l : List Fact). Has (Current s) l) (sym facts) k.there.current;
-    };
+    there = there;
     locks = hold_same site c.whole 0 buckets v u c.whole refl refl held k.locks;
     buckets_are = λ b m near from low. more b m (kept_words c.whole (bucket_at site.shape s b + m)) near from low (k.buckets_are b m near from low);
     planned = planned ∙ k.planned;
@@ -67,9 +64,14 @@ module _ (site : Ground) (here_site : Site) (call : Call) (c : Copied) where
     owed = owed ∙ k.owed;
   }
 
+  -- and where what is relied on does
+  pub keeps_by : (v u : View) → KeepsOn site here_site call c v → u.held ≡ v.held → u.facts ≡ v.facts → u.planned ≡ v.planned → u.moving ≡ v.moving → u.owed ≡ v.owed
+      → ((b m y : ℕ) → b < buckets → 1 ≤ m → m < block → Has (bucket_at site.shape s b + m, y) v.known → Has (bucket_at site.shape s b + m, y) u.known) → KeepsOn site here_site call c u
+  keeps_by v u k held facts planned moving owed more = keeps_there v u k (subst (λ (l : List Fact). IsThere site s l) (sym facts) k.there) held planned moving owed more
+
   module _ (locks : List ℕ) (v u : View) where
     -- ---- a store to a word of the side's slot
-    module _ (k x : ℕ) (low : k < slot_words) (slot : HasSlot site here_site call c locks) (st : HasStored v u (side_at site here_site call c k) x) where
+    module _ (k x : ℕ) (low : k < segment_words) (slot : HasSlot site here_site call c locks) (st : HasStored v u (side_at site here_site call c k) x) where
       abbrev at : ℕ
       at = side_at site here_site call c k
 
@@ -98,7 +100,7 @@ module _ (site : Ground) (here_site : Site) (call : Call) (c : Copied) where
       own_inside : IsInSlot site.shape s own_at
       own_inside = in_slot_at site.shape s q (omega (arith, low))
 
-      pub slot_still : (p y : ℕ) → p < slot_words → Has (side_at site here_site call c p, y) v.known → Has (side_at site here_site call c p, y) u.known
+      pub slot_still : (p y : ℕ) → p < segment_words → Has (side_at site here_site call c p, y) v.known → Has (side_at site here_site call c p, y) u.known
       slot_still p y small has = still v u own_at x st (side_at site here_site call c p) y (λ e. slot_apart site.shape s c.side own_at p slot.apart own_inside small (sym e)) has
 
       pub head_still : (p y : ℕ) → (p ≡ q → ⊥) → Has (head_at site.shape s + p, y) v.known → Has (head_at site.shape s + p, y) u.known
@@ -114,7 +116,7 @@ module _ (site : Ground) (here_site : Site) (call : Call) (c : Copied) where
         | inr was ↦ only p was
       ]
 
-      pub emptied_own : IsEmptying site here_site call c locks slot_words v → IsEmptying site here_site call c locks slot_words u
+      pub emptied_own : IsEmptying site here_site call c locks segment_words v → IsEmptying site here_site call c locks segment_words u
       emptied_own w = record {
         next = inr (omega arith);
         below = λ p is small. slot_still p (empty_value locks p) small (w.below p is small);
@@ -122,7 +124,7 @@ module _ (site : Ground) (here_site : Site) (call : Call) (c : Copied) where
       }
 
     -- ---- the stores, one after another: a word is emptied
-    module _ (k : ℕ) (low : k < slot_words) (is : IsSplitting site here_site call c locks (Empty k) v) (st : HasStored v u (side_at site here_site call c k) (empty_value locks k)) where
+    module _ (k : ℕ) (low : k < segment_words) (is : IsSplitting site here_site call c locks (Empty k) v) (st : HasStored v u (side_at site here_site call c k) (empty_value locks k)) where
       abbrev w : IsEmptying site here_site call c locks k v
       w = is.side_words
 
@@ -173,14 +175,14 @@ module _ (site : Ground) (here_site : Site) (call : Call) (c : Copied) where
       }
 
     -- a word is copied
-    module _ (k : ℕ) (low : k < slot_words) (is : IsSplitting site here_site call c locks (Copy k) v) (st : HasStored v u (side_at site here_site call c k) (slice_index c.words (k - 32))) where
+    module _ (k : ℕ) (low : k < segment_words) (is : IsSplitting site here_site call c locks (Copy k) v) (st : HasStored v u (side_at site here_site call c k) (slice_index c.words (k - 32))) where
       abbrev cw : IsCopying site here_site call c locks k v
       cw = is.side_words
 
       abbrev val : ℕ
       val = slice_index c.words (k - 32)
 
-      this : (32 ≤ k) × (k < slot_words) × (is_copied c.words k ≡ true)
+      this : (32 ≤ k) × (k < segment_words) × (is_copied c.words k ≡ true)
       this = elim cw.next [ inl at ↦ at | inr past ↦ absurd (omega (arith, low, past)) ]
 
       from_k : 32 ≤ k
@@ -192,7 +194,7 @@ module _ (site : Ground) (here_site : Site) (call : Call) (c : Copied) where
       behind : k + 1 ≤ later
       behind = copied_behind c.words (k + 1) (omega (arith, low))
 
-      copied_below : (p : ℕ) → 32 ≤ p → p < slot_words → p < later → is_copied c.words p ≡ true → Has (side_at site here_site call c p, slice_index c.words (p - 32)) u.known
+      copied_below : (p : ℕ) → 32 ≤ p → p < segment_words → p < later → is_copied c.words p ≡ true → Has (side_at site here_site call c p, slice_index c.words (p - 32)) u.known
       copied_below p from small before yes_it = elim (cases_lt p k) [
         | inl less ↦ side_still k val low is.slot st p (slice_index c.words (p - 32)) (λ e. omega (arith, e, less)) (cw.below p from small less yes_it)
         | inr more ↦ elim (cases_eq p k) [
@@ -201,13 +203,13 @@ module _ (site : Ground) (here_site : Site) (call : Call) (c : Copied) where
         ]
       ]
 
-      rest_there : (p : ℕ) → 32 ≤ p → p < slot_words → p % 32 < 4 → (p < later → is_copied c.words p ≡ false) → Has (side_at site here_site call c p, empty_value locks p) u.known
+      rest_there : (p : ℕ) → 32 ≤ p → p < segment_words → p % 32 < 4 → (p < later → is_copied c.words p ≡ false) → Has (side_at site here_site call c p, empty_value locks p) u.known
       rest_there p from small meta none = elim (cases_eq p k) [
         | inl same ↦ absurd (both_ways (is_copied c.words p) (none (omega (arith, same, behind))) (ap (is_copied c.words) same ∙ this.2))
         | inr apart ↦ side_still k val low is.slot st p (empty_value locks p) apart (cw.rest p from small meta (λ less. none (omega (arith, less, behind))))
       ]
 
-      found : ((32 ≤ later) × (later < slot_words) × (is_copied c.words later ≡ true)) ⊎ (slot_words ≤ later)
+      found : ((32 ≤ later) × (later < segment_words) × (is_copied c.words later ≡ true)) ⊎ (segment_words ≤ later)
       found = elim (found_at c.words (k + 1) (omega (arith, low))) [
         | inl at ↦ inl (omega (arith, behind, from_k), at.0, at.1)
         | inr past ↦ inr past
@@ -264,7 +266,7 @@ module _ (site : Ground) (here_site : Site) (call : Call) (c : Copied) where
       header = own_still 1 (side_head c.whole) (omega arith) is.slot st (header_word site.shape s) (split_head c.whole) (in_slot_at site.shape s 1 (omega arith)) is.header;
       link = own_still 1 (side_head c.whole) (omega arith) is.slot st (link_word site.shape s) (suc c.side) (in_slot_at site.shape s 2 (omega arith)) is.link;
       side_header = here v u (side_at site here_site call c 1) (side_head c.whole) st;
-      side_words = (let w : IsEmptying site here_site call c locks slot_words v = is.side_words in record {
+      side_words = (let w : IsEmptying site here_site call c locks segment_words v = is.side_words in record {
         next = inr (omega arith);
         below = λ p of_slot small. side_still 1 (side_head c.whole) (omega arith) is.slot st p (empty_value locks p) (no_one p of_slot) (w.below p of_slot small);
         above = λ b near past. absurd (omega (arith, near, past));

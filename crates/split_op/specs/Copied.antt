@@ -2,8 +2,8 @@
 -- it on to who publishes the side.
 use Rattle.std.specs.Prelude.{◌≡◌, ◌≢◌, ℕ, suc, ◌+◌, ◌*◌, ◌-◌, ◌%◌, ◌^◌, ◌<◌, ◌==◌, ◌⊎◌, [], ◌∷◌, length, slice_index, if◌then◌else◌}
 use Rattle.trace.specs.Events.{Words}
-use Rattle.segment_head.specs.HeadWord.{version_in, depth_in, pattern_in, splitting, fresh}
-use Rattle.image_layout.specs.Places.{bucket_at, homes}
+use Rattle.segment_head.specs.HeadWord.{version_in, depth_in, pattern_in, header_of, splitting, fresh}
+use Rattle.image_layout.specs.Places.{bucket_at, homes, words_of_buckets}
 use Rattle.sound_image.specs.Records.{HasExactNotes}
 use Rattle.bucket_words.specs.Hits.{Hit}
 use Rattle.frame_facts.specs.Copies.{IsSlotCopy}
@@ -20,14 +20,10 @@ use Rattle.world.specs.areas.Splitting.{link_word, KnowsHead, KnowsBuckets, Know
 use Rattle.phase.specs.Stands.{IsThere}
 use Rattle.phase.specs.Giving.{IsQuiet}
 use Rattle.enclose_op.specs.declared.enclosed.Enclosed.{Enclosed}
-use Rattle.enclose_op.specs.Whole.{words_of_buckets, kept_words, IsOf, IsWhole, HoldsLocks}
+use Rattle.enclose_op.specs.Whole.{kept_words, IsOf, IsWhole, HoldsLocks}
 use Rattle.split_op.specs.declared.copied.Copied.{Copied}
 
 -- ---- headers
--- the header of these fields
-abbrev pub header_of : ℕ → ℕ → ℕ → ℕ → ℕ
-header_of version state depth pattern = version + 2 ^ 8 * state + 2 ^ 16 * depth + 2 ^ 32 * pattern
-
 -- that of a segment while it is split
 abbrev pub split_head : Enclosed → ℕ
 split_head e = header_of (version_in e.head) splitting (depth_in e.head) (pattern_in e.head)

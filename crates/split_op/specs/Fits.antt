@@ -3,10 +3,11 @@ use Rattle.std.specs.Prelude.{◌≡◌, ◌≢◌, ℕ, zero, suc, ◌+◌, ◌
 use Rattle.op_core.specs.declared.want.Want.{Want}
 use Rattle.op_core.specs.declared.want.Want.TheVariants.{Store}
 use Rattle.segment_head.specs.HeadWord.{state_in, free}
-use Rattle.image_layout.specs.Places.{root_word, words_of, head_at, bucket_at, buckets, block}
+use Rattle.image_layout.specs.Places.{root_word, words_of, head_at, bucket_at, buckets, block, segment_words, words_of_buckets}
 use Rattle.map_model.specs.declared.call.Call.{Call}
 use Rattle.map_model.specs.declared.entry.Reply.TheVariants.{Full}
 use Rattle.map_model.specs.Changes.{call_of}
+use Rattle.frame_facts.specs.Facts.{Taken}
 use Rattle.world.specs.declared.site.Site.{Site}
 use Rattle.world.specs.Ground.{Ground}
 use Rattle.world.specs.Views.{View, Has, IsLoose}
@@ -23,18 +24,18 @@ use Rattle.rounds.specs.declared.rounds.Rounds.{Rounds}
 use Rattle.rounds.specs.Steps.{rounds_wanted}
 use Rattle.rounds.specs.Stands.{kind_of, RoundStands, IsSettled}
 use Rattle.enclose_op.specs.declared.enclosed.Enclosed.{Enclosed}
-use Rattle.enclose_op.specs.Whole.{words_of_buckets, kept_words, IsOf, IsWhole, HoldsLocks, KnowsOnlyOf, KeepsWhole}
+use Rattle.enclose_op.specs.Whole.{kept_words, IsOf, IsWhole, HoldsLocks, KnowsOnlyOf, KeepsWhole}
 use Rattle.enclose_op.specs.Fits.{give_kind, SuitsGive}
 use Rattle.split_op.specs.declared.copied.Copied.{Copied}
-use Rattle.split_op.specs.declared.task.Task.{Task}
-use Rattle.split_op.specs.declared.task.Task.TheVariants.{Empty, Link, Mark, New, Copy}
+use Rattle.split_op.specs.declared.batch.Batch.{Batch}
+use Rattle.split_op.specs.declared.batch.Batch.TheVariants.{Empty, Link, Mark, New, Copy}
 use Rattle.split_op.specs.declared.step.SplitEnd.{SplitEnd}
 use Rattle.split_op.specs.declared.step.SplitEnd.TheVariants as ends
 use Rattle.split_op.specs.declared.step.SplitStep.{SplitStep}
 use Rattle.split_op.specs.declared.step.SplitStep.TheVariants.{Take, Search, Count, Return, Look, Put, Release, Back, Ended}
 use Rattle.split_op.specs.declared.op.SplitOp.{SplitOp}
 use Rattle.split_op.specs.Copied.{split_head, side_head, IsCopy, KnowsOnlyOfBoth, KeepsCopied}
-use Rattle.split_op.specs.Tasks.{slot_words, slot_word, empty_value, is_copied, due}
+use Rattle.split_op.specs.Batches.{slot_word, empty_value, is_copied, due}
 
 -- ---- the kind of each event
 -- the store of a header is a row of the structure; flushes and fences are those of any round
@@ -43,7 +44,7 @@ head_kind row s x (Some (Store word value)) = of_structure (moves row s x)
 head_kind row s x other = kind_of [] other
 
 module _ (op : SplitOp) where
-  abbrev pub put_kind : Task → Option Want → StepKind
+  abbrev pub put_kind : Batch → Option Want → StepKind
   put_kind (Mark stored) want = head_kind (marks op.copied.side) op.copied.whole.segment (split_head op.copied.whole) want
   put_kind (New stored) want = head_kind (news op.copied.whole.segment) op.copied.side (side_head op.copied.whole) want
   put_kind (Empty number) want = kind_of [] want
@@ -65,7 +66,7 @@ module _ (op : SplitOp) where
   kind_at Count = of_call (refuses (call_of op.copied.whole.change) Full)
   kind_at (Return count) = of_structure (gives of_free_slots)
   kind_at (Look b) = look_kind b
-  kind_at (Put task rounds) = put_kind task (rounds_wanted rounds (due op.copied op.locks task))
+  kind_at (Put batch rounds) = put_kind batch (rounds_wanted rounds (due op.copied op.locks batch))
   kind_at Release = of_structure (gives of_free_slots)
   kind_at (Back give end) = give_kind op.copied.whole give
   kind_at (Ended end) = of_call (peeks root_word)
@@ -75,7 +76,6 @@ abbrev pub outcome_of : SplitEnd → Option Outcome
 outcome_of ends.Copied = None
 outcome_of (ends.Again why) = Some (again why)
 outcome_of (ends.Full count) = Some (replied Full count)
-outcome_of ends.Off = None
 
 abbrev pub outcome_at : SplitStep → Option Outcome
 outcome_at (Return count) = Some (replied Full count)
@@ -105,6 +105,10 @@ pub record IsLockRow (locks : List ℕ) : Type 0 where
   pub small : (i : ℕ) → slice_index locks i < 2 ^ 64
 
 -- ---- THE VIEW
+-- the slots before this one are known to be taken
+abbrev pub KnowsTaken : ℕ → View → Type 0
+KnowsTaken to v = (slot : ℕ) → slot < to → Has (Taken slot) v.facts
+
 module _ (site : Ground) (here : Site) (call : Call) where
   -- the segment is as it was enclosed, with all its locks held and its words known; nothing is planned, under way or owed
   pub record KeepsOn (c : Copied) (v : View) : Type 0 where
@@ -159,7 +163,7 @@ module _ (site : Ground) (here : Site) (call : Call) where
   -- ---- while words are stored
   module _ (c : Copied) (locks : List ℕ) where
     -- before the side is new, behind that, and behind the guard of free slots
-    abbrev pub areas_at : Task → List Area
+    abbrev pub areas_at : Batch → List Area
     areas_at (Empty number) = Whole c.whole.segment ∷ Free c.side ∷ Allocation ∷ Segment c.whole.segment ∷ []
     areas_at (Link stored) = Whole c.whole.segment ∷ Free c.side ∷ Allocation ∷ Segment c.whole.segment ∷ []
     areas_at (Mark stored) = Whole c.whole.segment ∷ Free c.side ∷ Allocation ∷ Segment c.whole.segment ∷ []
@@ -168,7 +172,7 @@ module _ (site : Ground) (here : Site) (call : Call) where
     areas_at (Copy number) = Side c.side ∷ Whole c.whole.segment ∷ Segment c.whole.segment ∷ []
 
     -- the header of the segment
-    abbrev pub head_of : Task → ℕ
+    abbrev pub head_of : Batch → ℕ
     head_of (Empty number) = c.whole.head
     head_of (Link stored) = c.whole.head
     head_of (Mark false) = c.whole.head
@@ -180,7 +184,7 @@ module _ (site : Ground) (here : Site) (call : Call) where
     IsLinked v = Has (link_word site.shape c.whole.segment, suc c.side) v.known
 
     -- its link, once it is stored
-    abbrev pub KnowsLink : Task → View → Type 0
+    abbrev pub KnowsLink : Batch → View → Type 0
     KnowsLink (Empty number) v = ⊤
     KnowsLink (Link false) v = ⊤
     KnowsLink (Link true) v = IsLinked v
@@ -192,7 +196,7 @@ module _ (site : Ground) (here : Site) (call : Call) where
     IsNewSide v = Has (side_at c 1, side_head c.whole) v.known
 
     -- the header of the side
-    abbrev pub KnowsSideHeader : Task → View → Type 0
+    abbrev pub KnowsSideHeader : Batch → View → Type 0
     KnowsSideHeader (Empty number) v = KnowsFreeHeader c v
     KnowsSideHeader (Link stored) v = KnowsFreeHeader c v
     KnowsSideHeader (Mark stored) v = KnowsFreeHeader c v
@@ -202,56 +206,56 @@ module _ (site : Ground) (here : Site) (call : Call) where
 
     -- a word of the slot that is emptied, by its number: the link, and the first four of each bucket
     abbrev pub IsEmptied : ℕ → Type 0
-    IsEmptied number = (number ≡ 2) ⊎ ((32 ≤ number) × (number < slot_words) × (number % 32 < 4))
+    IsEmptied number = (number ≡ 2) ⊎ ((32 ≤ number) × (number < segment_words) × (number % 32 < 4))
 
     -- THE WORDS BEFORE ONE are emptied, and the lock words from there on are as they were loaded
     pub record IsEmptying (number : ℕ) (v : View) : Type 0 where
-      pub next : IsEmptied number ⊎ (slot_words ≤ number)
+      pub next : IsEmptied number ⊎ (segment_words ≤ number)
       pub below : (p : ℕ) → IsEmptied p → p < number → Has (side_at c p, empty_value locks p) v.known
       pub above : (b : ℕ) → b < buckets → number ≤ 32 + 32 * b → Has (side_at c (32 + 32 * b), slice_index locks b) v.known
 
     -- THE WORDS BEFORE ONE are copied, and the others that were emptied are so
     pub record IsCopying (number : ℕ) (v : View) : Type 0 where
-      pub next : ((32 ≤ number) × (number < slot_words) × (is_copied c.words number ≡ true)) ⊎ (slot_words ≤ number)
-      pub below : (p : ℕ) → 32 ≤ p → p < slot_words → p < number → is_copied c.words p ≡ true → Has (side_at c p, slice_index c.words (p - 32)) v.known
-      pub rest : (p : ℕ) → 32 ≤ p → p < slot_words → p % 32 < 4 → (p < number → is_copied c.words p ≡ false) → Has (side_at c p, empty_value locks p) v.known
+      pub next : ((32 ≤ number) × (number < segment_words) × (is_copied c.words number ≡ true)) ⊎ (segment_words ≤ number)
+      pub below : (p : ℕ) → 32 ≤ p → p < segment_words → p < number → is_copied c.words p ≡ true → Has (side_at c p, slice_index c.words (p - 32)) v.known
+      pub rest : (p : ℕ) → 32 ≤ p → p < segment_words → p % 32 < 4 → (p < number → is_copied c.words p ≡ false) → Has (side_at c p, empty_value locks p) v.known
 
-    abbrev pub KnowsSideWords : Task → View → Type 0
+    abbrev pub KnowsSideWords : Batch → View → Type 0
     KnowsSideWords (Empty number) v = IsEmptying number v
-    KnowsSideWords (Link stored) v = IsEmptying slot_words v
-    KnowsSideWords (Mark stored) v = IsEmptying slot_words v
-    KnowsSideWords (New stored) v = IsEmptying slot_words v
+    KnowsSideWords (Link stored) v = IsEmptying segment_words v
+    KnowsSideWords (Mark stored) v = IsEmptying segment_words v
+    KnowsSideWords (New stored) v = IsEmptying segment_words v
     KnowsSideWords (Copy number) v = IsCopying number v
 
     -- what may be loose: words of the slot but its header, or the one word that was stored
-    abbrev pub MayBeLoose : Task → ℕ → Type 0
-    MayBeLoose (Empty number) i = (p : ℕ) × (2 ≤ p) × (p < slot_words) × (i ≡ side_at c p)
+    abbrev pub MayBeLoose : Batch → ℕ → Type 0
+    MayBeLoose (Empty number) i = (p : ℕ) × (2 ≤ p) × (p < segment_words) × (i ≡ side_at c p)
     MayBeLoose (Link false) i = ⊥
     MayBeLoose (Link true) i = i ≡ link_word site.shape c.whole.segment
     MayBeLoose (Mark false) i = ⊥
     MayBeLoose (Mark true) i = i ≡ header_word site.shape c.whole.segment
     MayBeLoose (New false) i = ⊥
     MayBeLoose (New true) i = i ≡ side_at c 1
-    MayBeLoose (Copy number) i = (p : ℕ) × (2 ≤ p) × (p < slot_words) × (i ≡ side_at c p)
+    MayBeLoose (Copy number) i = (p : ℕ) × (2 ≤ p) × (p < segment_words) × (i ≡ side_at c p)
 
     -- WHILE A TASK IS STORED
-    pub record IsSplitting (task : Task) (v : View) : Type 0 where
+    pub record IsSplitting (batch : Batch) (v : View) : Type 0 where
       pub keeps : KeepsOn c v
       pub slot : HasSlot c locks
-      pub areas : v.areas ≡ areas_at task
-      pub header : Has (header_word site.shape c.whole.segment, head_of task) v.known
-      pub link : KnowsLink task v
-      pub side_header : KnowsSideHeader task v
-      pub side_words : KnowsSideWords task v
-      pub loose : (p : ℕ × ℕ) → IsLoose v p → MayBeLoose task p.0
+      pub areas : v.areas ≡ areas_at batch
+      pub header : Has (header_word site.shape c.whole.segment, head_of batch) v.known
+      pub link : KnowsLink batch v
+      pub side_header : KnowsSideHeader batch v
+      pub side_words : KnowsSideWords batch v
+      pub loose : (p : ℕ × ℕ) → IsLoose v p → MayBeLoose batch p.0
       pub only : KnowsOnlyOfBoth site c v
 
   -- IN ROUNDS: the lines of the round are lines of the image, and an event is still to come
-  pub record IsPutting (c : Copied) (locks : List ℕ) (task : Task) (rounds : Rounds) (v : View) : Type 0 where
-    pub splits : IsSplitting c locks task v
+  pub record IsPutting (c : Copied) (locks : List ℕ) (batch : Batch) (rounds : Rounds) (v : View) : Type 0 where
+    pub splits : IsSplitting c locks batch v
     pub stands : RoundStands rounds v
     pub lines : (line : ℕ) → Has line rounds.round → 8 * line + 8 ≤ words_of site.shape
-    pub asks : rounds_wanted rounds (due c locks task) ≢ None
+    pub asks : rounds_wanted rounds (due c locks batch) ≢ None
 
   -- ---- IN EACH STEP
   abbrev pub SuitsEnd : Copied → SplitEnd → View → Type 0
@@ -260,11 +264,11 @@ module _ (site : Ground) (here : Site) (call : Call) where
 
   abbrev pub SuitsStep : Copied → List ℕ → SplitStep → View → Type 0
   SuitsStep c locks Take v = KeepsWhole site here call c.whole v × CopiesFrom site c.whole c.words × IsLockRow locks
-  SuitsStep c locks (Search slot) v = IsSearching c v × (slot < site.shape.segments) × IsLockRow locks
-  SuitsStep c locks Count v = IsSearching c v
+  SuitsStep c locks (Search slot) v = IsSearching c v × (slot < site.shape.segments) × IsLockRow locks × KnowsTaken slot v
+  SuitsStep c locks Count v = IsSearching c v × KnowsTaken site.shape.segments v
   SuitsStep c locks (Return count) v = IsSearching c v
   SuitsStep c locks (Look b) v = IsLooking c locks b v
-  SuitsStep c locks (Put task rounds) v = IsPutting c locks task rounds v
+  SuitsStep c locks (Put batch rounds) v = IsPutting c locks batch rounds v
   SuitsStep c locks Release v = IsSplitting c locks (New true) v × IsSettled v
   SuitsStep c locks (Back give end) v = SuitsGive site c.whole give v × (is_copied_end end ≡ false)
   SuitsStep c locks (Ended end) v = SuitsEnd c end v

@@ -1,6 +1,7 @@
 pub mod Copied
-pub mod Tasks
+pub mod Batches
 pub mod Steps
 pub mod Sides
 pub mod Fits
+pub mod Remembers
 pub mod SplitPart

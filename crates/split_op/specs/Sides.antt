@@ -1,68 +1,80 @@
--- What the words of a side are made of: the records that are loaded, a half of them, and its notes.
-use Rattle.std.specs.Prelude.{◌≡◌, ◌≢◌, ◌↔◌, ℕ, suc, ◌+◌, ◌*◌, ◌/◌, ◌%◌, ◌^◌, ◌<◌, ◌≤◌, length, slice_index, List}
-use Rattle.bucket_meta.specs.Bucket.{allocated, member, finger, record_slots}
-use Rattle.hash_word.specs.Hash.{Covers}
-use Rattle.segment_head.specs.HeadWord.{depth_in, pattern_in}
-use Rattle.image_layout.specs.Places.{homes, buckets}
+-- THE WORDS OF A SIDE, by what is kept of its segment: all are as they are kept, but for the metadata, which is that of the records of the 1-side
+-- alone.
+use Rattle.std.specs.Prelude.{◌≡◌, ◌≢◌, ℕ, zero, suc, ◌+◌, ◌*◌, ◌/◌, ◌%◌, ◌<◌, ◌≤◌, ◌==◌, nat_lt, length, slice_index, List, if◌then◌else◌}
+use Rattle.word_bits.specs.Bits.{bits}
+use Rattle.bucket_meta.specs.Bucket.{allocated}
+use Rattle.bucket_meta.specs.Marks.{with_finger}
+use Rattle.image_layout.specs.Places.{homes, buckets, block, words_of_buckets}
 use Rattle.sound_image.specs.Records.{key_hash}
-use Rattle.whole_segment.specs.Records.{first_in, third_in, key_in}
-use Rattle.whole_segment.specs.Notes.{stashed_of, HasExactNotes}
+use Rattle.whole_segment.specs.Slots.{copied_mark}
+use Rattle.whole_segment.specs.Words.{words_by}
+use Rattle.whole_segment.specs.Records.{first_in}
+use Rattle.whole_segment.specs.Rebuilding.{Overflow, first_with, third_with, rebuilt}
 use Rattle.whole_segment.specs.declared.loaded.Loaded.{Loaded}
 use Rattle.whole_segment.specs.declared.notes.Notes.{Notes}
 use Rattle.enclose_op.specs.declared.enclosed.Enclosed.{Enclosed}
-use Rattle.enclose_op.specs.Whole.{words_of_buckets, kept_word, kept_first}
-
--- word 3 of each bucket, and the key in each record slot
-abbrev pub kept_third : Enclosed → ℕ → ℕ
-kept_third e b = kept_word e b 3
-
-abbrev pub kept_key : Enclosed → ℕ → ℕ → ℕ
-kept_key e b r = kept_word e b (4 + 2 * r)
-
--- these words, as they are loaded
-pub record HasKept (e : Enclosed) (loaded : Loaded) : Type 0 where
-  pub first : (b : ℕ) → b < buckets → first_in loaded b ≡ kept_first e b
-  pub third : (b : ℕ) → b < buckets → third_in loaded b ≡ kept_third e b
-  pub keys : (b r : ℕ) → b < buckets → r < record_slots → key_in loaded b r ≡ kept_key e b r
+use Rattle.enclose_op.specs.Whole.{kept_word, kept_first, kept_third, kept_key, side_slots}
 
 -- word m of bucket b of a side
 abbrev pub side_word : List ℕ → ℕ → ℕ → ℕ
 side_word words b m = slice_index words (32 * b + m)
 
--- THE METADATA is that of the notes in homes, and of the half in stash buckets; all other words are as they are kept
+-- ---- fingerprints
+-- a word of fingerprints in which so many slots, from one on, have none where they are not taken
+unfoldable pub without_free : (mark word from : ℕ) → ℕ → ℕ
+without_free mark word from zero = word
+without_free mark word from (suc n) = if allocated (from + n) mark == 1 then without_free mark word from n else with_finger (without_free mark word from n) (from + n) 0
+
+-- word 2 with the fingerprints of its taken slots alone, and word 3, whose notes are as they are
+abbrev pub low_fingers : (mark word : ℕ) → ℕ
+low_fingers mark word = without_free mark word 0 8
+
+abbrev pub high_fingers : (mark word : ℕ) → ℕ
+high_fingers mark word = without_free mark word 8 6
+
+-- ---- a side
+module _ (e : Enclosed) where
+  -- word 1 of each bucket with the records of the 1-side alone, and without notes
+  abbrev pub side_first : ℕ → ℕ
+  side_first b = copied_mark (kept_first e b) (side_slots e b)
+
+  -- the notes of each home, made anew of those records that stand in the stash
+  abbrev pub side_notes : ℕ → Overflow
+  side_notes = rebuilt side_first (kept_key e) (key_hash e.site.geometry)
+
+  -- words 1 and 3 with these notes in homes, and without notes in stash buckets
+  abbrev pub side_mark : ℕ → ℕ
+  side_mark b = if nat_lt b homes then first_with (side_first b) (side_notes b) else side_first b
+
+  abbrev pub side_third : ℕ → ℕ
+  side_third b = if nat_lt b homes then third_with (kept_third e b) (side_notes b) else bits 0 48 (kept_third e b)
+
+  -- word m of bucket b of a side, with the fingerprints of all slots
+  abbrev pub marked_word : ℕ → ℕ → ℕ
+  marked_word b m = if m == 1 then side_mark b else if m == 3 then side_third b else kept_word e b m
+
+-- of words of buckets, those that have the fingerprints of taken slots alone
+abbrev pub thinned_word : (word : ℕ → ℕ → ℕ) → ℕ → ℕ → ℕ
+thinned_word word b m = if m == 2 then low_fingers (word b 1) (word b 2) else if m == 3 then high_fingers (word b 1) (word b 3) else word b m
+
+-- THE WORDS OF A SIDE: word m of bucket b is number 32 * b + m
+abbrev pub side_words : Enclosed → List ℕ
+side_words e = words_by words_of_buckets (λ i. thinned_word (marked_word e) (i / block) (i % block))
+
+-- ---- how they are made
+-- THE METADATA is that of the notes in homes, and of the half in stash buckets, whose word 3 has fingerprints of slots alone; all other words are
+-- as they are kept
 pub record HasMarks (kept : List ℕ) (half : Loaded) (notes : Notes) (words : List ℕ) : Type 0 where
   pub each : length words ≡ words_of_buckets
   pub first : (b : ℕ) → b < homes → side_word words b 1 ≡ slice_index notes.first b
   pub third : (b : ℕ) → b < homes → side_word words b 3 ≡ slice_index notes.third b
   pub stash : (b : ℕ) → homes ≤ b → b < buckets → side_word words b 1 ≡ first_in half b
-  pub stash_third : (b : ℕ) → homes ≤ b → b < buckets → side_word words b 3 ≡ side_word kept b 3
+  pub stash_third : (b : ℕ) → homes ≤ b → b < buckets → side_word words b 3 ≡ bits 0 48 (side_word kept b 3)
   pub others : (b m : ℕ) → b < buckets → m < 32 → m ≢ 1 → m ≢ 3 → side_word words b m ≡ side_word kept b m
 
--- A SIDE: it has the records of the 1-side, each where it stands in the segment, with exact notes
-pub record IsSide (e : Enclosed) (words : List ℕ) : Type 0 where
-  pub taken : (b r : ℕ) → b < buckets → r < record_slots
-      → allocated r (side_word words b 1) ≡ 1 ↔ ((allocated r (kept_first e b) ≡ 1) × Covers (suc (depth_in e.head)) (2 * pattern_in e.head + 1) (key_hash e.site.geometry (kept_key e b r)))
-  pub membership : (b r : ℕ) → b < buckets → r < record_slots → allocated r (side_word words b 1) ≡ 1 → member r (side_word words b 1) ≡ member r (kept_first e b)
-  pub fingers : (b r : ℕ) → b < buckets → r < record_slots → allocated r (side_word words b 1) ≡ 1
-      → finger r (side_word words b 2) (side_word words b 3) ≡ finger r (kept_word e b 2) (kept_word e b 3)
-  pub records : (b m : ℕ) → b < buckets → 4 ≤ m → m < 32 → side_word words b m ≡ kept_word e b m
-  pub exact : (b : ℕ) → b < homes → HasExactNotes (λ c. side_word words c 1) (λ c. side_word words c 3) b (stashed_of (λ c. side_word words c 1) (kept_key e) (key_hash e.site.geometry) b)
-
--- ---- fingerprints
--- word 2 of a bucket with the fingerprints of its taken slots alone
-pub record HasLowFingers (mark word thin : ℕ) : Type 0 where
-  pub kept : (w3 r : ℕ) → r < 8 → allocated r mark ≡ 1 → finger r thin w3 ≡ finger r word w3
-  pub none : (w3 r : ℕ) → r < 8 → allocated r mark ≢ 1 → finger r thin w3 ≡ 0
-
--- and word 3, with its notes as they are
-pub record HasHighFingers (mark word thin : ℕ) : Type 0 where
-  pub kept : (w2 r : ℕ) → 8 ≤ r → r < record_slots → allocated r mark ≡ 1 → finger r w2 thin ≡ finger r w2 word
-  pub none : (w2 r : ℕ) → 8 ≤ r → r < record_slots → allocated r mark ≢ 1 → finger r w2 thin ≡ 0
-  pub upper : thin / 2 ^ 48 % 2 ^ 16 ≡ word / 2 ^ 48 % 2 ^ 16
-
--- so it is in each bucket, and all other words are the same
+-- EACH BUCKET has the fingerprints of taken slots alone, and all other words are the same
 pub record IsThinned (words thin : List ℕ) : Type 0 where
   pub each : length thin ≡ words_of_buckets
-  pub low : (b : ℕ) → b < buckets → HasLowFingers (side_word words b 1) (side_word words b 2) (side_word thin b 2)
-  pub high : (b : ℕ) → b < buckets → HasHighFingers (side_word words b 1) (side_word words b 3) (side_word thin b 3)
+  pub low : (b : ℕ) → b < buckets → side_word thin b 2 ≡ low_fingers (side_word words b 1) (side_word words b 2)
+  pub high : (b : ℕ) → b < buckets → side_word thin b 3 ≡ high_fingers (side_word words b 1) (side_word words b 3)
   pub others : (b m : ℕ) → b < buckets → m < 32 → m ≢ 2 → m ≢ 3 → side_word thin b m ≡ side_word words b m

@@ -1,41 +1,51 @@
 -- The split as a part of a call: how many events are left, where it begins, and what it hands on.
-use Rattle.std.specs.Prelude.{◌≡◌, ℕ, ◌+◌, ◌-◌, nat_lt, min, ⊤, true, false, None, List, length, if◌then◌else◌}
+use Rattle.std.specs.Prelude.{◌≡◌, ◌≢◌, ℕ, ◌+◌, ◌-◌, ◌<◌, ◌≤◌, nat_lt, Bool, true, false, None, List, length, if◌then◌else◌}
+use Rattle.op_core.specs.declared.want.Want.TheVariants.{Done}
+use Rattle.whole_segment.specs.Rounds.{most_lines}
+use Rattle.image_layout.specs.Places.{Shape, segment_words, buckets}
+use Rattle.op_core.specs.declared.want.Ans.{Ans}
+use Rattle.trace.specs.Events.{Words}
 use Rattle.map_model.specs.declared.call.Call.{Call}
 use Rattle.world.specs.declared.site.Site.{Site}
-use Rattle.world.specs.Ground.{Ground}
-use Rattle.world.specs.Views.{View}
-use Rattle.part.specs.Part.{Part}
+use Rattle.world.specs.Ground.{Ground, IsGround}
+use Rattle.world.specs.Views.{View, At}
+use Rattle.world.specs.Invariant.{Holds}
+use Rattle.world.specs.areas.Kinds.{moves}
+use Rattle.world.specs.areas.Rows.{news}
+use Rattle.world.specs.StepKinds.{of_structure}
+use Rattle.part.specs.Doings.{Doings}
+use Rattle.part.specs.Part.{Part, Suits, finds, next}
 use Rattle.rounds.specs.declared.rounds.Rounds.{Rounds}
-use Rattle.rounds.specs.declared.rounds.RoundStep.{RoundStep}
-use Rattle.rounds.specs.declared.rounds.RoundStep.TheVariants.{Storing, Flushing, Fencing}
 use Rattle.rounds.specs.Left.{rounds_left}
+use Rattle.rounds.specs.Waiting.{rounds_waiting}
 use Rattle.enclose_op.specs.declared.enclosed.Enclosed.{Enclosed}
-use Rattle.enclose_op.specs.Whole.{IsOf, KeepsWhole}
+use Rattle.enclose_op.specs.Whole.{IsOf, IsWhole, KeepsWhole, RemembersWhole}
 use Rattle.enclose_op.specs.Fits.{give_left}
-use Rattle.split_op.specs.declared.task.Task.{Task}
-use Rattle.split_op.specs.declared.task.Task.TheVariants.{Empty, Link, Mark, New, Copy}
+use Rattle.split_op.specs.declared.batch.Batch.{Batch}
+use Rattle.split_op.specs.declared.batch.Batch.TheVariants.{Empty, Link, Mark, New, Copy}
 use Rattle.split_op.specs.declared.step.SplitStep.{SplitStep}
 use Rattle.split_op.specs.declared.step.SplitStep.TheVariants.{Take, Search, Count, Return, Look, Put, Release, Back, Ended}
 use Rattle.split_op.specs.declared.op.SplitOp.{SplitOp}
 use Rattle.split_op.specs.Copied.{KeepsCopied}
-use Rattle.split_op.specs.Tasks.{slot_words}
-use Rattle.split_op.specs.Steps.{begun, wanted, taken}
-use Rattle.split_op.specs.Fits.{kind_at, outcome_at, hands_on_at, CopiesFrom, SuitsStep}
+use Rattle.split_op.specs.Sides.{side_words}
+use Rattle.split_op.specs.Steps.{last_slot, begun, wanted, taken}
+use Rattle.split_op.specs.Fits.{kind_at, outcome_at, is_copied_end, hands_on_at, CopiesFrom, SuitsStep}
+use Rattle.split_op.specs.Remembers.{RemembersAt}
 
 -- ---- at most so many events are left
--- so many stores of a task are to come
-abbrev pub stores_left : Task → ℕ
-stores_left (Empty number) = slot_words - number
+-- so many stores of a batch are to come
+abbrev pub stores_left : Batch → ℕ
+stores_left (Empty number) = segment_words - number
 stores_left (Link false) = 1
 stores_left (Link true) = 0
 stores_left (Mark false) = 1
 stores_left (Mark true) = 0
 stores_left (New false) = 1
 stores_left (New true) = 0
-stores_left (Copy number) = slot_words - number
+stores_left (Copy number) = segment_words - number
 
 -- and so many events behind it
-abbrev pub left_behind : Task → ℕ
+abbrev pub left_behind : Batch → ℕ
 left_behind (Empty number) = 6442
 left_behind (Link stored) = 6439
 left_behind (Mark stored) = 6436
@@ -43,34 +53,38 @@ left_behind (New stored) = 6433
 left_behind (Copy number) = 0
 
 -- of a round with more lines than there are, none is wanted
-abbrev pub put_left : Task → Rounds → ℕ
-put_left task rounds = if nat_lt 8 (length rounds.round) then 0 else rounds_left rounds (stores_left task) + left_behind task
+abbrev pub put_left : Batch → Rounds → ℕ
+put_left batch rounds = if nat_lt most_lines (length rounds.round) then 0 else rounds_left rounds (stores_left batch) + left_behind batch
 
-abbrev pub left_at : SplitStep → ℕ
-left_at Take = 29319
-left_at (Search slot) = 12935 + (16383 - slot)
-left_at Count = 69
-left_at (Return count) = 68
-left_at (Look b) = 12869 + (65 - b)
-left_at (Put task rounds) = put_left task rounds
-left_at Release = 6433
-left_at (Back give end) = give_left give
-left_at (Ended end) = 0
+-- IN AN IMAGE OF THIS SHAPE it makes at most so many: the header of each slot may be loaded
+abbrev pub events_in : Shape → ℕ
+events_in shape = 12936 + last_slot shape
 
+abbrev pub left_at : Shape → SplitStep → ℕ
+left_at shape Take = events_in shape
+left_at shape (Search slot) = 12935 + (last_slot shape - slot)
+left_at shape Count = 69
+left_at shape (Return count) = 68
+left_at shape (Look b) = 12869 + (buckets - 1 - b)
+left_at shape (Put batch rounds) = put_left batch rounds
+left_at shape Release = 6433
+left_at shape (Back give end) = give_left give
+left_at shape (Ended end) = 0
+
+abbrev pub left_of : SplitOp → ℕ
+left_of op = left_at op.copied.whole.site.geometry op.step
+
+-- and in any image so many
 abbrev pub most_events : ℕ
 most_events = 29319
 
+-- THE IMAGE BOUNDS them: no state of the machine has more left than the shape of its image allows
+abbrev pub IsWithinImage : Type 0
+IsWithinImage = (op : SplitOp) → left_of op ≤ events_in op.copied.whole.site.geometry
+
 -- ---- lines that are flushed and not fenced
-abbrev pub waiting_in : List ℕ → RoundStep → ℕ
-waiting_in lines Storing = 0
-waiting_in lines (Flushing i) = min i (length lines)
-waiting_in lines Fencing = length lines
-
-abbrev pub put_waiting : Rounds → ℕ
-put_waiting rounds = if nat_lt 8 (length rounds.round) then 0 else waiting_in rounds.round rounds.step
-
 abbrev pub waiting_at : SplitStep → ℕ
-waiting_at (Put task rounds) = put_waiting rounds
+waiting_at (Put batch rounds) = rounds_waiting rounds
 waiting_at step = 0
 
 -- ---- THE SPLIT AS A PART
@@ -85,26 +99,67 @@ split_part = record {
   kind = λ op n. kind_at op op.step;
   Stands = SplitStands;
   outcome = λ op. outcome_at op.step;
-  Remembers = λ site op did. ⊤;
+  Remembers = λ site op did. RemembersAt site op.copied did op.step;
   HasWorked = λ site op did. ⊥;
   HasMade = λ op. ⊥;
-  left = λ op. left_at op.step;
+  left = left_of;
   most_events = most_events;
   is_waiting = λ op. false;
   waiting = λ op. waiting_at op.step;
-  most_waiting = 8;
+  most_waiting = most_lines;
   hands_on = λ op. hands_on_at op.step;
 }
+
+-- the segment that it splits
+abbrev pub segment_of : SplitOp → ℕ
+segment_of op = op.copied.whole.segment
 
 -- ---- where it begins
 -- with an enclosed segment that is kept whole, and the words of its side
 abbrev pub BeginsAsPart : Type 0
 BeginsAsPart = (site : Ground) (here : Site) (call : Call) (e : Enclosed) (words : List ℕ) (v : View) → KeepsWhole site here call e v → CopiesFrom site e words → SplitStands site here call (begun e words) v
 
+-- THE WORDS OF A SIDE are what is to be copied, of each whole segment
+abbrev pub CopiesSide : Type 0
+CopiesSide = (site : Ground) (here : Site) (call : Call) (e : Enclosed) → IsGround site → IsOf site here call e → IsWhole site e → CopiesFrom site e (side_words e)
+
 -- and nothing is decided
 abbrev pub BeginsUndecided : Type 0
 BeginsUndecided = (e : Enclosed) (words : List ℕ) → split_part.outcome (begun e words) ≡ None
 
+-- in an attempt that enclosed it, and changed no other word
+abbrev pub BeginsRemembering : Type 0
+BeginsRemembering = (site : Ground) (e : Enclosed) (words : List ℕ) (did : Doings) → RemembersWhole site e did → split_part.Remembers site (begun e words) did
+
 -- WHERE IT HANDS ON the side has the copies
 abbrev pub HandsOnCopied : Type 0
 HandsOnCopied = (site : Ground) (here : Site) (call : Call) (op : SplitOp) (v : View) → SplitStands site here call op v → hands_on_at op.step ≡ true → KeepsCopied site here call op.copied v
+
+-- ---- the slot that becomes a side
+-- its header as a new one is stored
+abbrev pub is_new_batch : Batch → Bool
+is_new_batch (New stored) = stored
+is_new_batch (Copy number) = true
+is_new_batch batch = false
+
+abbrev pub is_new_at : SplitStep → Bool
+is_new_at (Put batch rounds) = is_new_batch batch
+is_new_at Release = true
+is_new_at (Ended end) = is_copied_end end
+is_new_at step = false
+
+abbrev pub is_new_slot : SplitOp → Bool
+is_new_slot op = is_new_at op.step
+
+-- THE SLOT WAS FREE: beside any other callers, the event with which it becomes new is the store of its header, by the row that asks for a free
+-- slot
+abbrev pub TakesFreeSlot : Type 0
+TakesFreeSlot = (site : Ground) (here : Site) (call : Call) (words : Words) (views : List View) (j : ℕ) (op : SplitOp) (before v : View) → Holds site words views → At views j v
+    → Suits split_part site here call op before v → wanted op ≢ Done → is_new_slot op ≡ false → is_new_slot (next split_part site words op) ≡ true
+    → (slot : ℕ) × (slot < site.shape.segments) × (head : ℕ) × (split_part.kind op (finds split_part site words op) ≡ of_structure (moves (news (segment_of op)) slot head))
+
+-- it is not new at first, stays so whatever is answered, and is new where the split hands on
+pub record NewSlotStays : Type 0 where
+  pub begins : (e : Enclosed) (words : List ℕ) → is_new_slot (begun e words) ≡ false
+  pub stays : (op : SplitOp) (a : Ans) → is_new_slot op ≡ true → is_new_slot (taken op a) ≡ true
+  pub hands : (op : SplitOp) → hands_on_at op.step ≡ true → is_new_slot op ≡ true

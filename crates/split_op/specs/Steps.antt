@@ -1,6 +1,7 @@
 -- What a split wants in each step, and what an answer makes of it.
 use Rattle.std.specs.Prelude.{ℕ, ◌+◌, ◌-◌, ◌*◌, ◌%◌, nat_lt, ◌==◌, false, min, Option, None, Some, List, replicate, length, slice_set, if◌then◌else◌}
 use Rattle.segment_head.specs.HeadWord.{state_in, free}
+use Rattle.whole_segment.specs.Rounds.{most_lines}
 use Rattle.image_layout.specs.Places.{Shape, buckets, most_segments}
 use Rattle.image_layout.specs.Volatile.{counter_word, allocation_guard}
 use Rattle.op_core.specs.declared.want.Want.{Want}
@@ -14,22 +15,19 @@ use Rattle.rounds.specs.Steps as round
 use Rattle.enclose_op.specs.declared.enclosed.Enclosed.{Enclosed}
 use Rattle.enclose_op.specs.declared.give.Give.{Give}
 use Rattle.enclose_op.specs.Giving.{give_from, give_wanted, given}
-use Rattle.split_op.specs.declared.task.Task.{Task}
-use Rattle.split_op.specs.declared.task.Task.TheVariants.{Empty, Link, Mark, New, Copy}
+use Rattle.split_op.specs.declared.batch.Batch.{Batch}
+use Rattle.split_op.specs.declared.batch.Batch.TheVariants.{Empty, Link, Mark, New, Copy}
 use Rattle.split_op.specs.declared.step.SplitEnd.{SplitEnd}
 use Rattle.split_op.specs.declared.step.SplitEnd.TheVariants as ends
 use Rattle.split_op.specs.declared.step.SplitStep.{SplitStep}
 use Rattle.split_op.specs.declared.step.SplitStep.TheVariants.{Take, Search, Count, Return, Look, Put, Release, Back, Ended}
 use Rattle.split_op.specs.declared.op.SplitOp.{SplitOp}
-use Rattle.split_op.specs.Tasks.{slot_word, copied_from, due, after}
+use Rattle.split_op.specs.Sides.{side_words}
+use Rattle.split_op.specs.Batches.{slot_word, copied_from, due, after}
 
 -- the same, at another step
 abbrev pub go : SplitOp → SplitStep → SplitOp
 go op step = record op { step = step }
-
--- the word of the guard of free slots
-abbrev pub guard_word : Shape → ℕ
-guard_word shape = allocation_guard shape
 
 -- the last slot in which a free one is looked for
 abbrev pub last_slot : Shape → ℕ
@@ -53,30 +51,30 @@ searched op slot head =
 -- behind that of a lock word of the slot
 abbrev pub looked : SplitOp → ℕ → ℕ → SplitOp
 looked op bucket lock =
-    record op { locks = slice_set op.locks (bucket % buckets) lock; step = if nat_lt bucket 65 then Look (bucket + 1) else Put (Empty 2) round.begun }
+    record op { locks = slice_set op.locks (bucket % buckets) lock; step = if nat_lt bucket (buckets - 1) then Look (bucket + 1) else Put (Empty 2) round.begun }
 
--- once all of a task is stored and settled
-abbrev pub finished : Task → SplitStep
+-- once all of a batch is stored and settled
+abbrev pub finished : Batch → SplitStep
 finished (Empty number) = Put (Link false) round.begun
 finished (Link stored) = Put (Mark false) round.begun
 finished (Mark stored) = Put (New false) round.begun
 finished (New stored) = Release
 finished (Copy number) = Ended ends.Copied
 
-abbrev pub put_by : Option Want → Task → Rounds → SplitStep
-put_by (Some wanted) task rounds = Put task rounds
-put_by None task rounds = finished task
+abbrev pub put_by : Option Want → Batch → Rounds → SplitStep
+put_by (Some wanted) batch rounds = Put batch rounds
+put_by None batch rounds = finished batch
 
--- a task in rounds, until all of it is stored and settled
-abbrev pub put_to : SplitOp → Task → Rounds → SplitStep
-put_to op task rounds = put_by (rounds_wanted rounds (due op.copied op.locks task)) task rounds
+-- a batch in rounds, until all of it is stored and settled
+abbrev pub put_to : SplitOp → Batch → Rounds → SplitStep
+put_to op batch rounds = put_by (rounds_wanted rounds (due op.copied op.locks batch)) batch rounds
 
 -- behind an event of the rounds
-abbrev pub task_after : SplitOp → Task → Rounds → Task
-task_after op task rounds = if rounds_stores rounds (due op.copied op.locks task) then after op.copied op.locks task else task
+abbrev pub batch_after : SplitOp → Batch → Rounds → Batch
+batch_after op batch rounds = if rounds_stores rounds (due op.copied op.locks batch) then after op.copied op.locks batch else batch
 
-abbrev pub stored : SplitOp → Task → Rounds → SplitStep
-stored op task rounds = put_to op (task_after op task rounds) (rounds_taken rounds (due op.copied op.locks task))
+abbrev pub stored : SplitOp → Batch → Rounds → SplitStep
+stored op batch rounds = put_to op (batch_after op batch rounds) (rounds_taken rounds (due op.copied op.locks batch))
 
 -- the copies begin
 abbrev pub copying : SplitOp → SplitStep
@@ -89,29 +87,29 @@ wanted_by (Some wanted) = wanted
 wanted_by None = want.Done
 
 abbrev pub put_wanted : Rounds → Option (ℕ × ℕ) → Want
-put_wanted rounds next = if nat_lt 8 (length rounds.round) then want.Done else wanted_by (rounds_wanted rounds next)
+put_wanted rounds next = if nat_lt most_lines (length rounds.round) then want.Done else wanted_by (rounds_wanted rounds next)
 
 -- THE EVENT that it wants
 abbrev pub wanted_in : SplitOp → SplitStep → Want
-wanted_in op Take = want.Exchange (guard_word op.copied.whole.site.geometry) 0 op.copied.whole.site.caller
+wanted_in op Take = want.Exchange (allocation_guard op.copied.whole.site.geometry) 0 op.copied.whole.site.caller
 wanted_in op (Search slot) = want.Load (slot_word op.copied.whole.site.geometry slot 1)
 wanted_in op Count = want.Load (counter_word op.copied.whole.site.geometry)
-wanted_in op (Return count) = want.Store (guard_word op.copied.whole.site.geometry) 0
+wanted_in op (Return count) = want.Store (allocation_guard op.copied.whole.site.geometry) 0
 wanted_in op (Look bucket) = want.Load (slot_word op.copied.whole.site.geometry op.copied.side (32 + 32 * (bucket % buckets)))
-wanted_in op (Put task rounds) = put_wanted rounds (due op.copied op.locks task)
-wanted_in op Release = want.Store (guard_word op.copied.whole.site.geometry) 0
+wanted_in op (Put batch rounds) = put_wanted rounds (due op.copied op.locks batch)
+wanted_in op Release = want.Store (allocation_guard op.copied.whole.site.geometry) 0
 wanted_in op (Back give end) = give_wanted op.copied.whole give
 wanted_in op (Ended end) = want.Done
 
 -- WHAT AN ANSWER makes of it; one of another kind than was asked for leaves it as it is
 abbrev pub next_in : SplitOp → SplitStep → Ans → SplitOp
 next_in op Take Won = go op (Search 0)
-next_in op Take (Lost seen) = go op (back (ends.Again (Busy (guard_word op.copied.whole.site.geometry) seen)))
+next_in op Take (Lost seen) = go op (back (ends.Again (Busy (allocation_guard op.copied.whole.site.geometry) seen)))
 next_in op (Search slot) (Value head) = searched op slot head
 next_in op Count (Value count) = go op (Return count)
 next_in op (Return count) Passed = go op (back (ends.Full count))
 next_in op (Look bucket) (Value lock) = looked op bucket lock
-next_in op (Put task rounds) Passed = go op (stored op task rounds)
+next_in op (Put batch rounds) Passed = go op (stored op batch rounds)
 next_in op Release Passed = go op (copying op)
 next_in op (Back give end) Passed = go op (given_to (given give) end)
 next_in op same ans = go op same
@@ -124,13 +122,16 @@ taken op ans = next_in op op.step ans
 
 -- one that goes on from an enclosed segment, with these words of the side
 abbrev pub begun : Enclosed → List ℕ → SplitOp
-begun e words = record { copied = record { whole = e; side = 0; words = words }; locks = replicate 66 0; step = Take }
+begun e words = record { copied = record { whole = e; side = 0; words = words }; locks = replicate buckets 0; step = Take }
 
--- ---- how it ends
-abbrev pub end_at : SplitStep → SplitEnd
-end_at (Back give end) = end
-end_at (Ended end) = end
-end_at more = ends.Off
+-- THE SPLIT of an enclosed segment, with the words that are made of its records
+abbrev pub split_of : Enclosed → SplitOp
+split_of e = begun e (side_words e)
 
-abbrev pub end_of : SplitOp → SplitEnd
+-- ---- how it ended, once it has
+abbrev pub end_at : SplitStep → Option SplitEnd
+end_at (Ended end) = Some end
+end_at more = None
+
+abbrev pub end_of : SplitOp → Option SplitEnd
 end_of op = end_at op.step

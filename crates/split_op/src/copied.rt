@@ -3,6 +3,7 @@
 ghost use Rattle.std.specs.Prelude.{◌≡◌};
 
 use enclose_op::Enclosed;
+use image_layout::WORDS_OF_BUCKETS;
 
 /// A segment that is being split, and whose side has copies of its records.
 #[derive(Clone, Copy, Debug, PartialEq, Eq)]
@@ -13,5 +14,5 @@ pub struct Copied {
     pub side: u64,
     /// The words of the side's buckets: word `n` of bucket `b` is number `32 * b + n`. Lock words are left out, and what stands in a
     /// record slot that is not taken was not stored.
-    pub words: [u64; 2112],
+    pub words: [u64; WORDS_OF_BUCKETS as usize],
 }

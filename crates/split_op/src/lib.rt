@@ -7,6 +7,7 @@
 //! same by cases.
 #![tactic(auto)]
 
+pub mod batch;
 pub mod copied;
 pub mod copy;
 mod laws;
@@ -14,10 +15,12 @@ pub mod op;
 pub mod seek;
 pub mod step;
 pub mod taking;
-pub mod task;
 
+pub use batch::Batch;
 pub use copied::Copied;
-pub use laws::splits_are_parts;
+pub use laws::{ends_have_causes, new_slots_were_free, splits_are_parts};
 pub use op::SplitOp;
 pub use step::{SplitEnd, SplitStep};
-pub use task::Task;
+
+#[cfg(test)]
+mod tests;

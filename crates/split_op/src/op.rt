@@ -2,13 +2,14 @@
 
 ghost use Rattle.std.specs.Prelude.{◌≡◌, ◌↔◌, IsTrue};
 ghost use Rattle.op_core.specs.declared.want.Want.TheVariants as want;
-ghost use Rattle.split_op.specs.Steps.{begun, put_wanted, wanted, taken, end_of};
+ghost use Rattle.split_op.specs.Fits.{hands_on_at};
+ghost use Rattle.split_op.specs.Steps.{split_of, put_wanted, wanted, taken, end_of};
 
+use crate::batch::{due, slot_word};
 use crate::copied::Copied;
 use crate::copy::side_words;
 use crate::step::{SplitEnd, SplitStep};
-use crate::taking::{go_on, guard_word};
-use crate::task::{due, slot_word};
+use crate::taking::go_on;
 use enclose_op::Enclosed;
 use image_layout::BUCKETS;
 use op_core::{Ans, Machine, Want};
@@ -21,38 +22,24 @@ pub struct SplitOp {
     /// The segment, the slot of its side once one is found, and what is copied there.
     pub copied: Copied,
     /// The lock words of the slot, as they were loaded.
-    pub locks: [u64; 66],
+    pub locks: [u64; BUCKETS as usize],
     /// Where it stands.
     pub step: SplitStep,
 }
 
 impl SplitOp {
-    ghost use Rattle.map_model.specs.declared.call.Call.{Call};
-    ghost use Rattle.world.specs.declared.site.Site.{Site};
-    ghost use Rattle.world.specs.Ground.{Ground, IsGround};
-    ghost use Rattle.enclose_op.specs.Whole.{IsOf, IsWhole};
-    ghost use Rattle.split_op.specs.Fits.{CopiesFrom};
-
     /// Goes on from an enclosed segment. The words of the side are made of its records.
     pub fn new(whole: Enclosed) -> SplitOp
-        ensures is { result ≡ begun whole result.copied.words }
-        ensures copies { (site : Ground) (here : Site) (call : Call) → IsGround site → IsOf site here call whole → IsWhole site whole → CopiesFrom site whole result.copied.words }
+        ensures { result ≡ split_of whole }
     {
         let words = side_words(&whole);
-        SplitOp::begun(whole, words)
-    }
-
-    /// Goes on from an enclosed segment, with these words of the side.
-    fn begun(whole: Enclosed, words: [u64; 2112]) -> SplitOp
-        ensures { result ≡ begun whole words }
-    {
         SplitOp {
             copied: Copied {
                 whole,
                 side: 0,
                 words,
             },
-            locks: [0; 66],
+            locks: [0; BUCKETS as usize],
             step: SplitStep::Take,
         }
     }
@@ -64,14 +51,21 @@ impl SplitOp {
         want_of(self) == Want::Done
     }
 
-    /// How it ended.
-    pub fn end(self) -> SplitEnd
+    /// How it ended, once it has.
+    pub fn end(self) -> Option<SplitEnd>
         ensures { result ≡ end_of self }
     {
         match self.step {
-            SplitStep::Back(_, end) | SplitStep::Ended(end) => end,
-            _ => SplitEnd::Off,
+            SplitStep::Ended(end) => Some(end),
+            _ => None,
         }
+    }
+
+    /// Whether the side is made: another machine goes on with what is [`copied`](SplitOp::copied).
+    pub fn hands_on(&self) -> bool
+        ensures { result ≡ hands_on_at self.now.step }
+    {
+        matches!(self.step, SplitStep::Ended(SplitEnd::Copied))
     }
 }
 
@@ -96,19 +90,19 @@ fn want_of(op: &SplitOp) -> Want
     let geometry = &op.copied.whole.site.geometry;
     match &op.step {
         SplitStep::Take => Want::Exchange(
-            guard_word(geometry),
+            geometry.allocation_guard(),
             0,
             u64::from(op.copied.whole.site.caller),
         ),
         SplitStep::Search(slot) => Want::Load(slot_word(geometry, *slot, 1)),
         SplitStep::Count => Want::Load(geometry.counter_word()),
-        SplitStep::Return(_) | SplitStep::Release => Want::Store(guard_word(geometry), 0),
+        SplitStep::Return(_) | SplitStep::Release => Want::Store(geometry.allocation_guard(), 0),
         SplitStep::Look(bucket) => Want::Load(slot_word(
             geometry,
             op.copied.side,
             32 + 32 * u16::from(*bucket % BUCKETS),
         )),
-        SplitStep::Put(task, rounds) => put_want(rounds, due(&op.copied, &op.locks, *task)),
+        SplitStep::Put(batch, rounds) => put_want(rounds, due(&op.copied, &op.locks, *batch)),
         SplitStep::Back(give, _) => op.copied.whole.give(*give),
         SplitStep::Ended(_) => Want::Done,
     }

@@ -2,15 +2,17 @@
 
 ghost use Rattle.std.specs.Prelude.{◌≡◌, ◌<◌, ◌≤◌, slice_index};
 ghost use Rattle.word_bits.specs.Bits.{bit};
-ghost use Rattle.split_op.specs.Tasks.{is_copied, copied_from};
+ghost use Rattle.image_layout.specs.Places.{segment_words};
+ghost use Rattle.split_op.specs.Batches.{is_copied, copied_from};
 
-use crate::task::SLOT_WORDS;
+use crate::batch::SLOT_WORDS;
+use image_layout::WORDS_OF_BUCKETS;
 use word_bits::is_set;
 
 /// Whether a word of the side is copied, by its number in the slot: of each bucket the metadata that is not 0, and key and value of
 /// each record slot that is taken.
-pub(crate) fn is_copied(words: &[u64; 2112], number: u16) -> bool
-    requires { number < 2144 }
+pub(crate) fn is_copied(words: &[u64; WORDS_OF_BUCKETS as usize], number: u16) -> bool
+    requires { number < segment_words }
     ensures { result ≡ is_copied words.now number }
 {
     let place = number % 32;
@@ -27,7 +29,7 @@ pub(crate) fn is_copied(words: &[u64; 2112], number: u16) -> bool
 }
 
 /// The first word that is copied of those from a number on.
-pub(crate) fn copied_from(words: &[u64; 2112], from: u16) -> u16
+pub(crate) fn copied_from(words: &[u64; WORDS_OF_BUCKETS as usize], from: u16) -> u16
     ensures { result ≡ copied_from words.now from }
 {
     for number in from..SLOT_WORDS {

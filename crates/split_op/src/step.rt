@@ -1,6 +1,6 @@
 //! Where a split stands, and how it ends.
 
-use crate::task::Task;
+use crate::batch::Batch;
 use enclose_op::Give;
 use op_core::Why;
 use rounds::Rounds;
@@ -14,8 +14,6 @@ pub enum SplitEnd {
     Again(Why),
     /// No slot was free, after this many changes.
     Full(u64),
-    /// It has not ended.
-    Off,
 }
 
 /// Which event a split does next.
@@ -32,7 +30,7 @@ pub enum SplitStep {
     /// The lock word of this bucket of the slot is to be loaded.
     Look(u8),
     /// Words are stored in rounds.
-    Put(Task, Rounds),
+    Put(Batch, Rounds),
     /// The guard of free slots is to be given back, since the side is new.
     Release,
     /// What is held is given back, and then it ends so.

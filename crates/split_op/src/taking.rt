@@ -1,34 +1,23 @@
 //! What an answer makes of a split.
 
 ghost use Rattle.std.specs.Prelude.{◌≡◌};
-ghost use Rattle.image_layout.specs.Volatile.{allocation_guard};
-ghost use Rattle.split_op.specs.Steps.{go, back, searched, looked, finished, put_to, stored, given_to, next_in, guard_word, last_slot};
+ghost use Rattle.split_op.specs.Steps.{go, back, searched, looked, finished, put_to, stored, given_to, next_in, last_slot};
 
+use crate::batch::{Batch, after, due};
 use crate::op::SplitOp;
 use crate::seek::copied_from;
 use crate::step::{SplitEnd, SplitStep};
-use crate::task::{Task, after, due};
 use enclose_op::{Give, give_from, given};
-use image_layout::{BUCKETS, Geometry};
+use image_layout::{BUCKETS, Geometry, MOST_SEGMENTS};
 use op_core::{Ans, Why};
 use rounds::Rounds;
 use segment_head::word::{FREE, state_of};
-
-/// The most slots that an image has.
-const MOST_SLOTS: u64 = 16384;
-
-/// The word of the guard of free slots.
-pub fn guard_word(geometry: &Geometry) -> u64
-    ensures { result ≡ guard_word geometry.now }
-{
-    geometry.words() + 2
-}
 
 /// The last slot in which a free one is looked for.
 fn last_slot(geometry: &Geometry) -> u64
     ensures { result ≡ last_slot geometry.now }
 {
-    geometry.segments().min(MOST_SLOTS).saturating_sub(1)
+    geometry.segments().min(MOST_SEGMENTS).saturating_sub(1)
 }
 
 /// What is held of the segment is given back, and then it ends so.
@@ -60,45 +49,45 @@ fn looked(op: &mut SplitOp, bucket: u8, lock: u64)
     if bucket < BUCKETS - 1 {
         op.step = SplitStep::Look(bucket + 1);
     } else {
-        op.step = SplitStep::Put(Task::Empty(2), Rounds::begun());
+        op.step = SplitStep::Put(Batch::Empty(2), Rounds::begun());
     }
 }
 
-/// What comes once all of a task is stored and settled.
-fn finished(task: Task) -> SplitStep
-    ensures { result ≡ finished task }
+/// What comes once all of a batch is stored and settled.
+fn finished(batch: Batch) -> SplitStep
+    ensures { result ≡ finished batch }
 {
-    match task {
-        Task::Empty(_) => SplitStep::Put(Task::Link(false), Rounds::begun()),
-        Task::Link(_) => SplitStep::Put(Task::Mark(false), Rounds::begun()),
-        Task::Mark(_) => SplitStep::Put(Task::New(false), Rounds::begun()),
-        Task::New(_) => SplitStep::Release,
-        Task::Copy(_) => SplitStep::Ended(SplitEnd::Copied),
+    match batch {
+        Batch::Empty(_) => SplitStep::Put(Batch::Link(false), Rounds::begun()),
+        Batch::Link(_) => SplitStep::Put(Batch::Mark(false), Rounds::begun()),
+        Batch::Mark(_) => SplitStep::Put(Batch::New(false), Rounds::begun()),
+        Batch::New(_) => SplitStep::Release,
+        Batch::Copy(_) => SplitStep::Ended(SplitEnd::Copied),
     }
 }
 
-/// The step in which a task is stored; where all of it is stored and settled, what comes then.
-fn put_to(op: &SplitOp, task: Task, rounds: Rounds) -> SplitStep
-    ensures { result ≡ put_to op.now task rounds }
+/// The step in which a batch is stored; where all of it is stored and settled, what comes then.
+fn put_to(op: &SplitOp, batch: Batch, rounds: Rounds) -> SplitStep
+    ensures { result ≡ put_to op.now batch rounds }
 {
-    match rounds.want(due(&op.copied, &op.locks, task)) {
-        Some(_) => SplitStep::Put(task, rounds),
-        None => finished(task),
+    match rounds.want(due(&op.copied, &op.locks, batch)) {
+        Some(_) => SplitStep::Put(batch, rounds),
+        None => finished(batch),
     }
 }
 
 /// After an event of the rounds.
-fn stored(op: &SplitOp, task: Task, mut rounds: Rounds) -> SplitStep
-    ensures { result ≡ stored op.now task rounds }
+fn stored(op: &SplitOp, batch: Batch, mut rounds: Rounds) -> SplitStep
+    ensures { result ≡ stored op.now batch rounds }
 {
-    let next = due(&op.copied, &op.locks, task);
-    let task = if rounds.stores(next) {
-        after(&op.copied, &op.locks, task)
+    let next = due(&op.copied, &op.locks, batch);
+    let batch = if rounds.stores(next) {
+        after(&op.copied, &op.locks, batch)
     } else {
-        task
+        batch
     };
     rounds.take(next);
-    put_to(op, task, rounds)
+    put_to(op, batch, rounds)
 }
 
 /// After something was given back.
@@ -118,17 +107,17 @@ pub fn go_on(op: &mut SplitOp, ans: Ans)
     match (op.step, ans) {
         (SplitStep::Take, Ans::Won) => op.step = SplitStep::Search(0),
         (SplitStep::Take, Ans::Lost(seen)) => {
-            let word = guard_word(&op.copied.whole.site.geometry);
+            let word = op.copied.whole.site.geometry.allocation_guard();
             op.step = back(SplitEnd::Again(Why::Busy { word, seen }));
         }
         (SplitStep::Search(slot), Ans::Value(head)) => searched(op, slot, head),
         (SplitStep::Count, Ans::Value(count)) => op.step = SplitStep::Return(count),
         (SplitStep::Return(count), Ans::Passed) => op.step = back(SplitEnd::Full(count)),
         (SplitStep::Look(bucket), Ans::Value(lock)) => looked(op, bucket, lock),
-        (SplitStep::Put(task, rounds), Ans::Passed) => op.step = stored(op, task, rounds),
+        (SplitStep::Put(batch, rounds), Ans::Passed) => op.step = stored(op, batch, rounds),
         (SplitStep::Release, Ans::Passed) => {
-            let task = Task::Copy(copied_from(&op.copied.words, 32));
-            op.step = put_to(op, task, Rounds::begun());
+            let batch = Batch::Copy(copied_from(&op.copied.words, 32));
+            op.step = put_to(op, batch, Rounds::begun());
         }
         (SplitStep::Back(give, end), Ans::Passed) => op.step = given_to(given(give), end),
         _ => (),

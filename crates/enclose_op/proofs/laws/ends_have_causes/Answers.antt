@@ -1,6 +1,6 @@
 -- By what each step remembers, and what it decides.
-use Rattle.enclose_op.proofs.ByCause.{ends_by_split_cause}
-use Rattle.enclose_op.proofs.Recalling.{begins_remembering, hands_on_remembered}
+use Rattle.enclose_op.proofs.causes.ByCause.{ends_by_split_cause}
+use Rattle.enclose_op.proofs.causes.Recalling.{begins_remembering, hands_on_remembered}
 use Rattle.enclose_op.proofs.laws.ends_have_causes.Goals as goal
 
 pub returns-clause-causes : goal.returns-clause-causes

@@ -1,27 +1,26 @@
 -- One slot after another.
-use Rattle.std.proofs.Common.{ℕ, ◌+◌, sym, subst, ◌∙◌, arith}
+use Rattle.std.proofs.Common.{◌≡◌, ℕ, ◌+◌, refl, sym, ap, ◌∙◌, arith}
 use Rattle.std.proofs.lemmas.Bool.{eqb-true, eqb-false}
 use Rattle.bucket_meta.specs.Bucket.{allocated}
-use Rattle.split_op.proofs.Thinning.{IsThinLow, low_begun, low_taken, low_free, low_done}
+use Rattle.bucket_meta.specs.Marks.{with_finger}
+use Rattle.split_op.specs.Sides.{without_free}
+use Rattle.split_op.proofs.sides.Thinning.{with_taken, with_free}
 use Rattle.split_op.proofs.copy.low_fingers.Goals as goal
 use Rattle.split_op.proofs.copy.low_fingers.Goals.{then-not-is_taken, else-not-is_taken}
 
 pub loop-slot-init : goal.loop-slot-init
-loop-slot-init c = low_begun c.args.mark c.args.word
+unfolding without_free
+loop-slot-init c = refl
 
 pub loop-slot-preserved : goal.loop-slot-preserved
 loop-slot-preserved c =
     let mark = c.args.mark in
-    let word = c.args.word in
     let k = c.loop-slot.slot in
-    let now = c.loop-slot.thin in
-    let small = c.loop-slot-test.true in
+    let first : 0 + k ≡ k = omega arith in
     elim c.if-not-is_taken.branch [
-      | then-not-is_taken w ↦ subst (λ (x : ℕ). IsThinLow mark word (k + 1) x) (sym (w.thin-is ∙ w.with_finger-thin.ensures))
-          (low_free mark word k now small (λ t. (let free = w.if-not-is_taken.true in eqb-false (allocated k mark) 1 (sym c.is_taken.ensures ∙ free) t)) c.loop-slot.invariant)
-      | else-not-is_taken w ↦ subst (λ (x : ℕ). IsThinLow mark word (k + 1) x) (sym w.thin-is)
-          (low_taken mark word k now (eqb-true (allocated k mark) 1 (sym c.is_taken.ensures ∙ w.if-not-is_taken.false)) c.loop-slot.invariant)
+      | then-not-is_taken w ↦ w.thin-is ∙ w.with_finger-thin.ensures ∙ ap (λ n. with_finger n k 0) c.loop-slot.invariant
+          ∙ sym (with_free mark c.args.word 0 k (λ t. (let free = w.if-not-is_taken.true in eqb-false (allocated k mark) 1 (sym c.is_taken.ensures ∙ free) (ap (λ (z : ℕ). allocated z mark) (sym first) ∙ t)))
+          ∙ ap (λ (z : ℕ). with_finger (without_free mark c.args.word 0 k) z 0) first)
+      | else-not-is_taken w ↦ w.thin-is ∙ c.loop-slot.invariant
+          ∙ sym (with_taken mark c.args.word 0 k (ap (λ (z : ℕ). allocated z mark) first ∙ eqb-true (allocated k mark) 1 (sym c.is_taken.ensures ∙ w.if-not-is_taken.false)))
     ]
-
-pub returns : goal.returns
-returns c = low_done c.args.mark c.args.word c.loop-slot.slot c.loop-slot.thin (let past = c.loop-slot-test.false in omega (arith, past)) c.loop-slot.invariant

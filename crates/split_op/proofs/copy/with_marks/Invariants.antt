@@ -1,5 +1,5 @@
 -- The metadata of the buckets before this one is put.
-use Rattle.split_op.proofs.Copying.{IsMarking}
+use Rattle.split_op.proofs.sides.Copying.{IsMarking}
 use Rattle.split_op.proofs.copy.with_marks.Given as goal
 
 abbrev pub invariant-loop-bucket : goal.invariant-loop-bucket

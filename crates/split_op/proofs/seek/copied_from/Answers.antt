@@ -1,6 +1,6 @@
 -- One word after another.
 use Rattle.std.proofs.Common.{refl, sym, ◌∙◌, arith}
-use Rattle.split_op.proofs.Seeking.{seek_on, seek_here, seek_end}
+use Rattle.split_op.proofs.sides.Seeking.{seek_on, seek_here, seek_end}
 use Rattle.split_op.proofs.seek.copied_from.Goals as goal
 
 pub loop-number-init : goal.loop-number-init

@@ -2,12 +2,12 @@
 use Rattle.std.proofs.Common.{◌≡◌, ◌<◌, ℕ}
 use Rattle.bucket_meta.specs.Bucket.{record_slots}
 use Rattle.whole_segment.specs.Records.{key_in}
-use Rattle.split_op.specs.Sides.{kept_key}
-use Rattle.split_op.proofs.copy.put_keys.Given as goal
+use Rattle.enclose_op.specs.Whole.{kept_key}
+use Rattle.enclose_op.proofs.enclosed.Enclosed.put_keys.Given as goal
 
 abbrev pub invariant-loop-slot : goal.invariant-loop-slot
 invariant-loop-slot l = record {
-  here : (r : ℕ) → r < l.slot → key_in l.loaded l.bucket r ≡ kept_key l.whole l.bucket r;
+  here : (r : ℕ) → r < l.slot → key_in l.loaded l.bucket r ≡ kept_key l.self l.bucket r;
   others : (b r : ℕ) → b < l.bucket → r < record_slots → key_in l.loaded b r ≡ key_in l.fn.loaded b r;
   first : l.loaded.first ≡ l.fn.loaded.first;
   third : l.loaded.third ≡ l.fn.loaded.third;

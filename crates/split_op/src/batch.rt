@@ -1,21 +1,20 @@
 //! What a split stores, one store after another.
 
 ghost use Rattle.std.specs.Prelude.{◌≡◌, ◌<◌, ◌≤◌, ◌+◌, ◌^◌, length};
-ghost use Rattle.word_bits.specs.Bits.{bit};
-ghost use Rattle.split_op.specs.Copied.{header_of, split_head, side_head};
-ghost use Rattle.split_op.specs.Tasks.{slot_word, empty_value, first_of, after_empty, due, after};
+ghost use Rattle.image_layout.specs.Places.{segment_words};
+ghost use Rattle.split_op.specs.Copied.{split_head, side_head};
+ghost use Rattle.split_op.specs.Batches.{slot_word, empty_value, first_of, after_empty, due, after};
 
 use crate::copied::Copied;
 use crate::seek::copied_from;
 use enclose_op::Enclosed;
-use image_layout::{Geometry, ROOT_WORD};
-use segment_head::word::{FRESH, SPLITTING, depth_of, pattern_of, version_of};
-use word_bits::with_bits;
+use image_layout::{BUCKETS, Geometry, ROOT_WORD, SEGMENT_WORDS};
+use segment_head::word::{FRESH, SPLITTING, depth_of, header_of, pattern_of, version_of};
 
 /// What is stored. Words of a slot are numbered from its first header word on: number 1 is its header, number 2 its link, and number
 /// `32 + 32 * b` the lock word of bucket `b`.
 #[derive(Clone, Copy, Debug, PartialEq, Eq)]
-pub enum Task {
+pub enum Batch {
     /// The link, the locks and the metadata of the slot are emptied, and this word is the next.
     Empty(u16),
     /// The slot is linked, or it was.
@@ -29,18 +28,9 @@ pub enum Task {
 }
 
 /// How many words a slot has.
-pub const SLOT_WORDS: u16 = 2144;
+pub const SLOT_WORDS: u16 = SEGMENT_WORDS as u16;
 
 // ---- headers
-
-/// The header of these fields.
-fn header_of(version: u8, state: u8, depth: u8, pattern: u32) -> u64
-    ensures { result ≡ header_of version state depth pattern }
-{
-    let word = with_bits(u64::from(version), 8, u64::from(state));
-    let word = with_bits(word, 16, u64::from(depth));
-    with_bits(word, 32, u64::from(pattern))
-}
 
 /// The header of a segment while it is split.
 pub fn split_head(whole: &Enclosed) -> u64
@@ -80,8 +70,8 @@ pub fn slot_word(geometry: &Geometry, slot: u64, number: u16) -> u64
 }
 
 /// What a word of the slot is emptied to: a lock word to the free value of its version, and another to 0.
-fn empty_value(locks: &[u64; 66], number: u16) -> u64
-    requires { number < 2144 }
+fn empty_value(locks: &[u64; BUCKETS as usize], number: u16) -> u64
+    requires { number < segment_words }
     ensures { result ≡ empty_value locks.now number }
 {
     if number < 32 || number % 32 > 0 {
@@ -92,10 +82,10 @@ fn empty_value(locks: &[u64; 66], number: u16) -> u64
 }
 
 /// The first word of a bucket that is emptied: its lock word where that is not free.
-fn first_of(locks: &[u64; 66], bucket: u16) -> u16
+fn first_of(locks: &[u64; BUCKETS as usize], bucket: u16) -> u16
     ensures is { result ≡ first_of locks.now bucket }
 {
-    if bucket >= 66 {
+    if bucket >= u16::from(BUCKETS) {
         SLOT_WORDS
     } else if locks[usize::from(bucket)] % 2 == 0 {
         32 * bucket + 33
@@ -105,8 +95,8 @@ fn first_of(locks: &[u64; 66], bucket: u16) -> u16
 }
 
 /// The word that is emptied after one: behind the link, and behind the metadata of each bucket, the first one of the next bucket.
-fn after_empty(locks: &[u64; 66], number: u16) -> u16
-    requires { number < 2144 }
+fn after_empty(locks: &[u64; BUCKETS as usize], number: u16) -> u16
+    requires { number < segment_words }
     ensures { result ≡ after_empty locks.now number }
 {
     if number >= 32 && number % 32 < 3 {
@@ -119,28 +109,28 @@ fn after_empty(locks: &[u64; 66], number: u16) -> u16
 // ---- the stores
 
 /// The store that is to come: its word and its value.
-pub fn due(copied: &Copied, locks: &[u64; 66], task: Task) -> Option<(u64, u64)>
-    ensures { result ≡ due copied.now locks.now task }
+pub fn due(copied: &Copied, locks: &[u64; BUCKETS as usize], batch: Batch) -> Option<(u64, u64)>
+    ensures { result ≡ due copied.now locks.now batch }
 {
     let geometry = &copied.whole.site.geometry;
-    match task {
-        Task::Empty(number) if number < SLOT_WORDS => Some((
+    match batch {
+        Batch::Empty(number) if number < SLOT_WORDS => Some((
             slot_word(geometry, copied.side, number),
             empty_value(locks, number),
         )),
-        Task::Link(false) => Some((
+        Batch::Link(false) => Some((
             slot_word(geometry, copied.whole.segment, 2),
             copied.side.wrapping_add(1),
         )),
-        Task::Mark(false) => Some((
+        Batch::Mark(false) => Some((
             slot_word(geometry, copied.whole.segment, 1),
             split_head(&copied.whole),
         )),
-        Task::New(false) => Some((
+        Batch::New(false) => Some((
             slot_word(geometry, copied.side, 1),
             side_head(&copied.whole),
         )),
-        Task::Copy(number) if number < SLOT_WORDS => Some((
+        Batch::Copy(number) if number < SLOT_WORDS => Some((
             slot_word(geometry, copied.side, number),
             copied.words[usize::from(number.saturating_sub(32))],
         )),
@@ -149,17 +139,17 @@ pub fn due(copied: &Copied, locks: &[u64; 66], task: Task) -> Option<(u64, u64)>
 }
 
 /// What is to come after it.
-pub fn after(copied: &Copied, locks: &[u64; 66], task: Task) -> Task
-    ensures { result ≡ after copied.now locks.now task }
+pub fn after(copied: &Copied, locks: &[u64; BUCKETS as usize], batch: Batch) -> Batch
+    ensures { result ≡ after copied.now locks.now batch }
 {
-    match task {
-        Task::Empty(number) if number < SLOT_WORDS => Task::Empty(after_empty(locks, number)),
-        Task::Copy(number) if number < SLOT_WORDS => {
-            Task::Copy(copied_from(&copied.words, number + 1))
+    match batch {
+        Batch::Empty(number) if number < SLOT_WORDS => Batch::Empty(after_empty(locks, number)),
+        Batch::Copy(number) if number < SLOT_WORDS => {
+            Batch::Copy(copied_from(&copied.words, number + 1))
         }
-        Task::Link(_) => Task::Link(true),
-        Task::Mark(_) => Task::Mark(true),
-        Task::New(_) => Task::New(true),
+        Batch::Link(_) => Batch::Link(true),
+        Batch::Mark(_) => Batch::Mark(true),
+        Batch::New(_) => Batch::New(true),
         done => done,
     }
 }

@@ -1,15 +1,11 @@
 -- WHAT A SPLIT STORES, one store after another: to empty a slot, to link it, the two headers, and the copies.
 use Rattle.std.specs.Prelude.{ℕ, zero, suc, ◌+◌, ◌-◌, ◌*◌, ◌/◌, ◌%◌, ◌^◌, nat_lt, ◌==◌, ◌&&◌, ◌||◌, not, Bool, true, false, Option, None, Some, List, slice_index, if◌then◌else◌}
 use Rattle.word_bits.specs.Bits.{bit}
-use Rattle.image_layout.specs.Places.{Shape, root_word, head_at}
-use Rattle.split_op.specs.declared.task.Task.{Task}
-use Rattle.split_op.specs.declared.task.Task.TheVariants.{Empty, Link, Mark, New, Copy}
+use Rattle.image_layout.specs.Places.{Shape, root_word, head_at, segment_words, buckets}
+use Rattle.split_op.specs.declared.batch.Batch.{Batch}
+use Rattle.split_op.specs.declared.batch.Batch.TheVariants.{Empty, Link, Mark, New, Copy}
 use Rattle.split_op.specs.declared.copied.Copied.{Copied}
 use Rattle.split_op.specs.Copied.{split_head, side_head}
-
--- how many words a slot has
-abbrev pub slot_words : ℕ
-slot_words = 2144
 
 -- a word of a slot, by its number; a slot that the image has not gives the root's word
 abbrev pub slot_word : Shape → ℕ → ℕ → ℕ
@@ -22,7 +18,7 @@ empty_value locks number = if nat_lt number 32 || nat_lt 0 (number % 32) then 0 
 
 -- the first word of a bucket that is emptied: its lock word where that is not free
 abbrev pub first_of : List ℕ → ℕ → ℕ
-first_of locks bucket = if nat_lt bucket 66 then (if slice_index locks bucket % 2 == 0 then 32 * bucket + 33 else 32 * bucket + 32) else slot_words
+first_of locks bucket = if nat_lt bucket buckets then (if slice_index locks bucket % 2 == 0 then 32 * bucket + 33 else 32 * bucket + 32) else segment_words
 
 -- the word that is emptied after one
 abbrev pub after_empty : List ℕ → ℕ → ℕ
@@ -39,27 +35,27 @@ is_copied words number = is_copied_at (number % 32) (slice_index words (number -
 
 -- the first one of n from a number on
 unfoldable pub seek : List ℕ → ℕ → ℕ → ℕ
-seek words number zero = slot_words
+seek words number zero = segment_words
 seek words number (suc n) = if is_copied words number then number else seek words (number + 1) n
 
 abbrev pub copied_from : List ℕ → ℕ → ℕ
-copied_from words number = seek words number (slot_words - number)
+copied_from words number = seek words number (segment_words - number)
 
 -- ---- the stores
 module _ (c : Copied) (locks : List ℕ) where
   -- THE STORE that is to come: its word and its value
-  abbrev pub due : Task → Option (ℕ × ℕ)
-  due (Empty number) = if nat_lt number slot_words then Some (slot_word c.whole.site.geometry c.side number, empty_value locks number) else None
+  abbrev pub due : Batch → Option (ℕ × ℕ)
+  due (Empty number) = if nat_lt number segment_words then Some (slot_word c.whole.site.geometry c.side number, empty_value locks number) else None
   due (Link false) = Some (slot_word c.whole.site.geometry c.whole.segment 2, (c.side + 1) % 2 ^ 64)
   due (Mark false) = Some (slot_word c.whole.site.geometry c.whole.segment 1, split_head c.whole)
   due (New false) = Some (slot_word c.whole.site.geometry c.side 1, side_head c.whole)
-  due (Copy number) = if nat_lt number slot_words then Some (slot_word c.whole.site.geometry c.side number, slice_index c.words (number - 32)) else None
+  due (Copy number) = if nat_lt number segment_words then Some (slot_word c.whole.site.geometry c.side number, slice_index c.words (number - 32)) else None
   due done = None
 
   -- WHAT IS TO COME after it
-  abbrev pub after : Task → Task
-  after (Empty number) = if nat_lt number slot_words then Empty (after_empty locks number) else Empty number
+  abbrev pub after : Batch → Batch
+  after (Empty number) = if nat_lt number segment_words then Empty (after_empty locks number) else Empty number
   after (Link stored) = Link true
   after (Mark stored) = Mark true
   after (New stored) = New true
-  after (Copy number) = if nat_lt number slot_words then Copy (copied_from c.words (number + 1)) else Copy number
+  after (Copy number) = if nat_lt number segment_words then Copy (copied_from c.words (number + 1)) else Copy number

@@ -25,8 +25,8 @@ use Rattle.phase.specs.Takes.{take_wanted, take_taken}
 use Rattle.phase.specs.Giving.{IsLocated}
 use Rattle.enclose_op.specs.declared.enclosed.Enclosed.{Enclosed}
 use Rattle.enclose_op.specs.declared.give.Give.{Give as Giving}
-use Rattle.enclose_op.specs.declared.op.Ending.{Ending}
-use Rattle.enclose_op.specs.declared.op.Ending.TheVariants.{Room}
+use Rattle.enclose_op.specs.declared.op.NotEnclosed.{NotEnclosed}
+use Rattle.enclose_op.specs.declared.op.NotEnclosed.TheVariants.{Room}
 use Rattle.enclose_op.specs.declared.op.EncloseStep.{EncloseStep}
 use Rattle.enclose_op.specs.declared.op.EncloseStep.TheVariants.{Guard, Lock, Head, Fill, CountSpent, CountDeep, Give, Ended, Whole}
 use Rattle.enclose_op.specs.declared.op.EncloseOp.{EncloseOp}
@@ -38,7 +38,7 @@ use Rattle.enclose_op.specs.Remembers.{RemembersLocks, RemembersWords, Remembers
 use Rattle.enclose_op.specs.EnclosePart.{BeginsRemembering, HandsOnRemembered}
 use Rattle.enclose_op.proofs.Places.{guard_is, head_is, lock_is}
 use Rattle.enclose_op.proofs.Filling.{upto_in, by_buckets}
-use Rattle.enclose_op.proofs.Stepping.{give_answer}
+use Rattle.enclose_op.proofs.Giving.{give_answer}
 
 -- THE NEXT STATE remembers
 abbrev Recalls : Ground → EncloseOp → Doings → Type 0
@@ -196,8 +196,8 @@ module _ (site : Ground) (here : Site) (call : Call) (e : Enclosed) (is : IsOf s
     fill_by false high = decided_by (ltb-false at 2111 high) (has_no_room (kept_first f) (home_of f.hash)) (depth_in f.head == f.site.geometry.depth)
 
   -- ---- what is given back
-  back_by : (did : Doings) (more : Option Giving) (end : Ending) → Recalls site (go e (given_by more end)) did
-  back_by did (Some more) end = tt
+  back_by : (did : Doings) (more : Option Giving) (end : NotEnclosed) → Recalls site (go e (given_by more end)) did
+  back_by did (Some left) end = tt
   back_by did None end = tt
 
   -- ---- EACH STEP

@@ -1,14 +1,15 @@
 -- The words of a side, beside those of the segment, are a copy in whichever other slot they stand.
-use Rattle.std.proofs.Common.{◌≡◌, ◌≢◌, ℕ, suc, ◌+◌, ◌*◌, ◌^◌, ◌<◌, ◌≤◌, List, ◌++◌, length, slice_index, sym, ap, subst, ◌∙◌, arith}
+use Rattle.std.proofs.Common.{◌≡◌, ◌≢◌, ℕ, suc, ◌+◌, ◌*◌, ◌^◌, ◌<◌, ◌≤◌, List, ◌++◌, length, sym, ap, subst, ◌∙◌, arith}
 use Rattle.bucket_meta.specs.Bucket.{allocated, member, finger, overflow_count, record_slots}
 use Rattle.bucket_meta.specs.Notes.{OverflowNote, AreExact}
 use Rattle.hash_word.specs.Hash.{Covers, probing_of, top}
 use Rattle.segment_head.specs.HeadWord.{version_in, depth_in, pattern_in, splitting}
+use Rattle.segment_head.proofs.Headers.{header_depth, header_pattern}
 use Rattle.segment_table.proofs.frames.Regions.{top_below}
 use Rattle.image_layout.proofs.Areas.{power_le}
 use Rattle.way.proofs.Leading.{leading_is}
 use Rattle.trace.specs.Events.{Words}
-use Rattle.image_layout.specs.Places.{Shape, bucket_at, homes, buckets, block}
+use Rattle.image_layout.specs.Places.{Shape, bucket_at, homes, buckets, block, words_of_buckets}
 use Rattle.sound_image.specs.Segments.{frame_of, InOneSide}
 use Rattle.sound_image.specs.Records.{key_hash}
 use Rattle.sound_image.specs.Records as image
@@ -21,14 +22,15 @@ use Rattle.world.specs.declared.site.Site.{Site}
 use Rattle.world.specs.Ground.{Ground, IsGround}
 use Rattle.world.specs.areas.Areas.{header_word}
 use Rattle.enclose_op.specs.declared.enclosed.Enclosed.{Enclosed}
-use Rattle.enclose_op.specs.Whole.{words_of_buckets, kept_word, kept_words, kept_first, IsOf, IsWhole}
+use Rattle.enclose_op.specs.Whole.{kept_word, kept_words, kept_first, IsOf, IsWhole, kept_key}
 use Rattle.enclose_op.proofs.Places.{kept_there}
 use Rattle.split_op.specs.declared.copied.Copied.{Copied}
 use Rattle.split_op.specs.Copied.{split_head, copied_words, IsCopy}
-use Rattle.split_op.specs.Sides.{kept_key, side_word, IsSide}
+use Rattle.split_op.specs.Sides.{side_word, side_words}
 use Rattle.split_op.specs.Fits.{CopiesFrom}
 use Rattle.split_op.proofs.Finished.{own_header, own_bucket, side_bucket}
-use Rattle.split_op.proofs.Stashing.{stashed_same}
+use Rattle.split_op.proofs.sides.Siding.{IsSide, is_side, side_small, side_long}
+use Rattle.whole_segment.proofs.Stashing.{stashed_same}
 
 module _ (site : Ground) (here : Site) (call : Call) (e : Enclosed) (is : IsOf site here call e) (whole : IsWhole site e) (words : List ℕ) (side : IsSide e words)
     (n : ℕ) (slot : n < site.shape.segments) (apart : n ≢ e.segment) where
@@ -66,16 +68,14 @@ module _ (site : Ground) (here : Site) (call : Call) (e : Enclosed) (is : IsOf s
   head_is = own_header site c g apart
 
   depth_is : depth_in (word (header_word site.shape s)) + 1 ≡ suc (depth_in e.head)
-  depth_is = (let same : depth_in (split_head e) ≡ depth_in e.head = fields (version_in e.head) (depth_in e.head) (pattern_in e.head) (omega arith) (omega arith) in let head = ap depth_in head_is in omega (arith, same, head))
-    where
-      fields : (v d p : ℕ) → v < 2 ^ 8 → d < 2 ^ 8 → depth_in (v + 2 ^ 8 * splitting + 2 ^ 16 * d + 2 ^ 32 * p) ≡ d
-      fields v d p small low = omega (arith, small, low)
+  depth_is =
+      let same = header_depth (version_in e.head) splitting (depth_in e.head) (pattern_in e.head) (omega arith) (omega arith) (omega arith) in
+      let head = ap depth_in head_is in omega (arith, same, head)
 
   pattern_is : 2 * pattern_in (word (header_word site.shape s)) + 1 ≡ 2 * pattern_in e.head + 1
-  pattern_is = (let same : pattern_in (split_head e) ≡ pattern_in e.head = fields (version_in e.head) (depth_in e.head) (pattern_in e.head) (omega arith) (omega arith) in let head = ap pattern_in head_is in omega (arith, same, head))
-    where
-      fields : (v d p : ℕ) → v < 2 ^ 8 → d < 2 ^ 8 → pattern_in (v + 2 ^ 8 * splitting + 2 ^ 16 * d + 2 ^ 32 * p) ≡ p
-      fields v d p small low = omega (arith, small, low)
+  pattern_is =
+      let same = header_pattern (version_in e.head) splitting (depth_in e.head) (pattern_in e.head) (omega arith) (omega arith) (omega arith) in
+      let head = ap pattern_in head_is in omega (arith, same, head)
 
   -- the hashes that it covers
   inside_from : (h : ℕ) → Covers (suc (depth_in e.head)) (2 * pattern_in e.head + 1) h → InOneSide (frame_of site.shape word) s h
@@ -171,23 +171,18 @@ module _ (site : Ground) (here : Site) (call : Call) (e : Enclosed) (is : IsOf s
     once = λ b r d t k hit other. whole.once b r d t k (hit_kept b r k hit) (hit_kept d t k other);
   }
 
--- WHAT IS MADE is what a split copies
-pub copies_from : (site : Ground) (here : Site) (call : Call) (e : Enclosed) → IsOf site here call e → IsWhole site e → (words : List ℕ) → IsSide e words → length words ≡ words_of_buckets
-    → ((i : ℕ) → slice_index words i < 2 ^ 64) → CopiesFrom site e words
-copies_from site here call e is whole words side each small = record {
-  each_word = each;
-  small = small;
-  copy = λ n slot apart. is_copy site here call e is whole words side n slot apart each;
-}
-
--- depth and pattern of a segment that is to be split are small
-pub made_copies : (site : Ground) → IsGround site → (here : Site) (call : Call) (e : Enclosed) → IsOf site here call e → IsWhole site e → (words : List ℕ)
-    → (depth_in e.head < 64 → pattern_in e.head < 2 ^ 31 → IsSide e words) → length words ≡ words_of_buckets → ((i : ℕ) → slice_index words i < 2 ^ 64) → CopiesFrom site e words
-made_copies site ground here call e is whole words side each small =
+-- THE WORDS OF A SIDE are what a split copies: depth and pattern of a segment that is to be split are small
+pub copies_from : (site : Ground) → IsGround site → (here : Site) (call : Call) (e : Enclosed) → IsOf site here call e → IsWhole site e → CopiesFrom site e (side_words e)
+copies_from site ground here call e is whole =
     let lead = leading_is e.head e.hash whole.head.leads in
     let shallow = whole.shallow in
     let deepest = ground.shape.depth in
     let below : top (depth_in e.head) e.hash < 2 ^ depth_in e.head = top_below (depth_in e.head) e.hash lead.low is.fits in
     let most = power_le (depth_in e.head) 16 (omega (arith, shallow, deepest)) in
     let covers = lead.covers in
-    copies_from site here call e is whole words (side (omega (arith, shallow, deepest)) (omega (arith, below, most, covers))) each small
+    let side = is_side e whole.small (omega (arith, shallow, deepest)) (omega (arith, below, most, covers)) in
+    record {
+      each_word = side_long e;
+      small = side_small e whole.small;
+      copy = λ n slot apart. is_copy site here call e is whole (side_words e) side n slot apart (side_long e);
+    }

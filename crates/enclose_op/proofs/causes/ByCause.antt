@@ -1,5 +1,5 @@
 -- Each outcome of an enclosing has its cause, in the newest words and in what its attempt did.
-use Rattle.std.proofs.Common.{◌≡◌, ◌⊎◌, ℕ, ◌+◌, ◌-◌, ◌*◌, ◌%◌, ◌^◌, ◌<◌, Bool, true, false, None, Some, List, [], inl, inr, refl, sym, ap, ◌∙◌, subst, arith}
+use Rattle.std.proofs.Common.{◌≡◌, ◌⊎◌, ℕ, ◌+◌, ◌-◌, ◌%◌, ◌^◌, ◌<◌, Bool, true, false, None, Some, List, [], inl, inr, refl, sym, ap, ◌∙◌, subst, arith}
 use Rattle.std.specs.Prelude.{◌==◌, nat_lt, if◌then◌else◌}
 use Rattle.std.proofs.lemmas.Bool.{eqb-true, eqb-false}
 use Rattle.std.proofs.lemmas.Option.{none-some, same_Some}
@@ -12,8 +12,7 @@ use Rattle.op_core.specs.Answers.{Finds}
 use Rattle.hash_word.specs.Hash.{home_of}
 use Rattle.segment_head.specs.HeadWord.{depth_in}
 use Rattle.trace.specs.Events.{Words}
-use Rattle.image_layout.specs.Places.{bucket_at, buckets, first_segment}
-use Rattle.image_layout.specs.Volatile.{segment_guard}
+use Rattle.image_layout.specs.Places.{buckets}
 use Rattle.whole_segment.specs.Room.{has_no_room}
 use Rattle.map_model.specs.declared.call.Call.{Call}
 use Rattle.map_model.specs.declared.entry.Reply.TheVariants.{Deep, Spent}
@@ -32,7 +31,7 @@ use Rattle.phase.specs.Taking.{MayBeTaken}
 use Rattle.phase.specs.Giving.{IsLocated}
 use Rattle.phase.proofs.Wanting.{takes}
 use Rattle.enclose_op.specs.declared.enclosed.Enclosed.{Enclosed}
-use Rattle.enclose_op.specs.declared.op.Ending.TheVariants.{Room}
+use Rattle.enclose_op.specs.declared.op.NotEnclosed.TheVariants.{Room}
 use Rattle.enclose_op.specs.declared.op.EncloseStep.{EncloseStep}
 use Rattle.enclose_op.specs.declared.op.EncloseStep.TheVariants.{Guard, Lock, Head, Fill, CountSpent, CountDeep, Give, Ended, Whole}
 use Rattle.enclose_op.specs.Whole.{kept_first, IsOf}
@@ -41,17 +40,11 @@ use Rattle.enclose_op.specs.Steps.{giving as backing, next_lock, locked_to, is_f
 use Rattle.enclose_op.specs.Fits.{outcome_of, outcome_at, HoldsPart, SuitsStep}
 use Rattle.enclose_op.specs.Remembers.{RemembersLocks, RemembersAt}
 use Rattle.enclose_op.specs.EnclosePart.{enclose_part, segment_of}
-use Rattle.enclose_op.proofs.Places.{guard_is, lock_is, same_bucket}
-use Rattle.enclose_op.proofs.Recalling.{recalls_next}
-use Rattle.enclose_op.proofs.Found.{has_enclosed, has_depth, found_no_room}
-use Rattle.enclose_op.proofs.EncloseIsPart.{same_outcome, give_some}
-
--- a guard is no lock word
-guard_apart : (site : Ground) (e : Enclosed) → IsLocated site e.site e.segment → (b : ℕ) → b < buckets → bucket_at site.shape e.segment b ≡ segment_guard site.shape e.segment → ⊥
-guard_apart site e l b near same = by (first_segment site.shape) e.segment site.shape.segments b l.within near same
-  where
-    by : (f s n b : ℕ) → s < n → b < 66 → f + 2144 * s + 32 + 32 * b ≡ f + 2144 * n + 4 + s → ⊥
-    by f s n b within near same = omega (arith, within, near, same)
+use Rattle.enclose_op.proofs.Places.{guard_is, lock_is, same_bucket, guard_apart}
+use Rattle.enclose_op.proofs.causes.Recalling.{recalls_next}
+use Rattle.enclose_op.proofs.causes.Found.{has_enclosed, has_depth, found_no_room}
+use Rattle.enclose_op.proofs.Giving.{give_some}
+use Rattle.enclose_op.proofs.EncloseIsPart.{same_outcome}
 
 -- ---- what is decided where the header or a word was loaded: nothing, or that there may be room
 abbrev GoesOn : EncloseStep → Type 0
@@ -120,7 +113,7 @@ module _ (site : Ground) (here : Site) (call : Call) (words : Words) (e : Enclos
     -- the attempt has not changed it
     not_taken : Has lock did.changed → ⊥
     not_taken has = elim (r.only lock has) [
-      | inl guard ↦ guard_apart site e l b near (sym (lock_is site e l b near) ∙ guard)
+      | inl guard ↦ guard_apart site e.segment b l.within near (sym (lock_is site e l b near) ∙ guard)
       | inr other ↦ (let low = other.1 in let same = same_bucket site.shape e.segment b other.0 (sym (lock_is site e l b near) ∙ other.2) in omega (arith, low, same))
     ]
 
