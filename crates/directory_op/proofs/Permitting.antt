@@ -10,7 +10,7 @@ use Rattle.world.specs.declared.site.Site.{Site}
 use Rattle.world.specs.Ground.{Ground, IsGround, version_of}
 use Rattle.world.specs.Views.{View, Has, IsLoose}
 use Rattle.world.specs.Holders.{KnowsWord}
-use Rattle.world.specs.areas.Areas.{Area, Segment, Side, Whole, Directory, header_word}
+use Rattle.world.specs.areas.Areas.{Area, Side, Whole, Directory, header_word}
 use Rattle.world.specs.areas.Rows.{HasNoSides, goes_live}
 use Rattle.world.specs.areas.Kinds.{sets, moves, settles, settles_side}
 use Rattle.world.specs.areas.Asking.{KnowsDead, MayAt}
@@ -231,9 +231,7 @@ module _ (site : Ground) (here : Site) (call : Call) (op : DirectoryOp) (v : Vie
     last_fence_may =
         subst (λ h. MayAt site (settles (Deep (depth_in h) (suc (depth_in h)) (2 * pattern_in h + 1) ∷ Lacks s (suc (depth_in h)) (2 * pattern_in h + 1) ∷ [])) v) (kept_head ∙ sym t.storing.heads.head)
         ((may_direct site v ground).settled s n op.root word
-        (holder site here call op.copied (without_side site here call op.copied) v live_split (inr (inl refl)))
         (no_sides live_split.areas)
-        (has_area (without_side site here call op.copied) (Segment s) live_split.areas (inr (inr (inl refl))))
         (λ e. live_split.copy.apart (sym e))
         (knows_head site here call op.copied (without_side site here call op.copied) v live_split
         (λ i y is loose. entries_no_slot t.at.root.deep t.storing.loose s i y (kept_in_slot shape op.copied i is) loose))

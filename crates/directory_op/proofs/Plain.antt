@@ -4,7 +4,7 @@ use Rattle.std.proofs.lemmas.Bool.{cases_lt, lt-ltb, le-ltb}
 use Rattle.op_core.specs.declared.want.Want.{Want}
 use Rattle.op_core.specs.declared.want.Want.TheVariants as want
 use Rattle.segment_head.specs.HeadWord.{depth_in}
-use Rattle.image_layout.specs.Places.{Shape, root_word, first_segment, bucket_at, words_of}
+use Rattle.image_layout.specs.Places.{Shape, root_word, first_segment, bucket_at, words_of, segment_words}
 use Rattle.image_layout.specs.Volatile.{directory_guard}
 use Rattle.way.specs.Ways.{head_word}
 use Rattle.map_model.specs.declared.call.Call.{Call}
@@ -36,10 +36,10 @@ use Rattle.directory_op.specs.Fits.{SuitsStage, SuitsStore, SuitsStep, KeepsPubl
 use Rattle.directory_op.specs.DirectoryPart.{HandsOnSplit, goes_on, outcome_at, directory_part, BeginsAsPart, BeginsUndecided, HandsOnPublished, EndsOff}
 use Rattle.part.specs.Outcomes.{off}
 use Rattle.directory_op.proofs.Sides.{head_kept, split_header, bucket_kept}
-use Rattle.directory_op.proofs.Falling.{put_wants}
+use Rattle.directory_op.proofs.ends.Falling.{put_wants}
 use Rattle.directory_op.proofs.Words.{doubled, head_is}
 use Rattle.directory_op.proofs.Stepping.{by_event}
-use Rattle.directory_op.proofs.Rounding.{next_near, entry_near}
+use Rattle.directory_op.proofs.stages.Rounding.{next_near, entry_near}
 use Rattle.directory_op.proofs.Suiting.{never_cuts}
 
 some_same : {A : Type 0} {x y : A} → Some x ≡ Some y → x ≡ y
@@ -70,7 +70,7 @@ module _ (site : Ground) (ground : IsGround site) where
   some_words : 32 ≤ words_of shape
   some_words = by (first_segment shape) (front_far shape) shape.segments
     where
-      by : (f : ℕ) → 32 ≤ f → (s : ℕ) → 32 ≤ f + 2144 * s
+      by : (f : ℕ) → 32 ≤ f → (s : ℕ) → 32 ≤ f + segment_words * s
       by f far s = omega (arith, far)
 
   load_within : (i : ℕ) → i < words_of shape → IsWithin shape (want.Load i)

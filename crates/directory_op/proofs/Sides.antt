@@ -7,7 +7,8 @@ use Rattle.std.proofs.Math.Nat.{div-lt_iff_lt-mul, le-div_iff_mul-le, mul-le-mul
 use Rattle.std.proofs.Math.Pow.{pow_mono}
 use Rattle.hash_word.specs.Hash.{top}
 use Rattle.segment_head.specs.HeadWord.{version_in, state_in, depth_in, pattern_in, normal, splitting, fresh, HasLiveState}
-use Rattle.image_layout.specs.Places.{Shape, head_at, bucket_at, block, buckets}
+use Rattle.segment_head.proofs.Headers.{header_version, header_state, header_depth, header_pattern}
+use Rattle.image_layout.specs.Places.{Shape, head_at, bucket_at, block, buckets, most_depth}
 use Rattle.segment_table.proofs.frames.Regions.{top_below}
 use Rattle.way.specs.Ways.{is_covering}
 use Rattle.frame_facts.specs.DeadSlots.{IsInSlot}
@@ -26,7 +27,7 @@ use Rattle.split_op.specs.declared.copied.Copied.{Copied}
 use Rattle.split_op.specs.Copied.{split_head, side_head, side_words, split_words, copied_words, IsCopy}
 use Rattle.directory_op.specs.Places.{entries_of, run_of, side_first, side_last}
 use Rattle.directory_op.specs.Fits.{side_depth, side_pattern, IsOfSide}
-use Rattle.directory_op.proofs.Words.{all_entries, doubled, not_in_slot, in_slot, other_slot, header_version, header_state, header_depth, header_pattern}
+use Rattle.directory_op.proofs.Words.{all_entries, doubled, not_in_slot, in_slot, other_slot}
 
 -- ---- numbers
 module _ (site : Ground) (ground : IsGround site) (here : Site) (call : Call) (c : Copied) (is : IsOf site here call c.whole) (whole : IsWhole site c.whole) where
@@ -40,7 +41,7 @@ module _ (site : Ground) (ground : IsGround site) (here : Site) (call : Call) (c
   abbrev p : ℕ
   p = pattern_in e.head
 
-  pub low : d < 16
+  pub low : d < most_depth
   low = let most = ground.shape.depth in let less = whole.shallow in omega (arith, most, less)
 
   covers : top d e.hash ≡ p
@@ -50,8 +51,8 @@ module _ (site : Ground) (ground : IsGround site) (here : Site) (call : Call) (c
   pub fits : p < 2 ^ d
   fits = subst (λ q. q < 2 ^ d) covers (top_below d e.hash (let few = low in omega (arith, few)) is.fits)
 
-  pub few : p < 65536
-  few = let most = pow_mono {i = d} {j = 16} (let less = low in omega (arith, less)) in let less = fits in omega (arith, most, less)
+  pub few : p < 2 ^ most_depth
+  few = let most = pow_mono {i = d} {j = most_depth} (let less = low in omega (arith, less)) in let less = fits in omega (arith, most, less)
 
   version_small : e.site.version < 2 ^ 8
   version_small = let v = is.version in omega (arith, v)
@@ -159,7 +160,7 @@ module _ (site : Ground) (ground : IsGround site) (here : Site) (call : Call) (c
         ∙ ap (λ b. cond b (side_head e) (slice_index c.words (header_word shape c.side - bucket_at c.whole.site.geometry c.side 0))) (eq-eqb (header_word shape c.side) (header_word e.site.geometry c.side) (sym (header_here c.side)))
 
   -- ---- the entries of the 1-side
-  module _ (root : ℕ) (deeper : side_depth c ≤ root) (most : root ≤ 16) where
+  module _ (root : ℕ) (deeper : side_depth c ≤ root) (most : root ≤ most_depth) where
     -- how many there are
     abbrev run : ℕ
     run = 2 ^ (root - side_depth c)

@@ -44,12 +44,12 @@ use Rattle.directory_op.specs.Fits.{SuitsStore, SuitsStep, IsWaiting}
 use Rattle.directory_op.specs.DirectoryPart.{stage_kind, kind_in}
 use Rattle.directory_op.proofs.Words.{doubled, head_is, entry_from}
 use Rattle.directory_op.proofs.Sides.{head_kept, side_kept}
-use Rattle.directory_op.proofs.Waiting.{copied_stays, new_with_guard, settled_with_guard}
-use Rattle.directory_op.proofs.Passing.{at_rounds, behind_store, behind_flush, behind_fence, behind_last_fence}
-use Rattle.directory_op.proofs.Rounding.{settled_loose, stored_not_begun, flushed_not_begun, flush_stands, fence_stands}
-use Rattle.directory_op.proofs.Storing.{fill_stands, deepen_stands, live_stands, enter_stands}
-use Rattle.directory_op.proofs.Fencing.{filled_stands, deepened_stands, live_settled, entered_settled}
-use Rattle.directory_op.proofs.Guarding.{keeps_read, root_stands, old_is, entry_stands, published_left}
+use Rattle.directory_op.proofs.guard.Waiting.{copied_stays, new_with_guard, settled_with_guard}
+use Rattle.directory_op.proofs.stages.Passing.{at_rounds, behind_store, behind_flush, behind_fence, behind_last_fence}
+use Rattle.directory_op.proofs.stages.Rounding.{settled_loose, stored_not_begun, flushed_not_begun, flush_stands, fence_stands}
+use Rattle.directory_op.proofs.stages.Storing.{fill_stands, deepen_stands, live_stands, enter_stands}
+use Rattle.directory_op.proofs.stages.Fencing.{filled_stands, deepened_stands, live_settled, entered_settled}
+use Rattle.directory_op.proofs.guard.Guarding.{keeps_read, root_stands, old_is, entry_stands, published_left}
 use Rattle.directory_op.proofs.Permitting.{fill_may, root_may, live_may, live_fence_may, enter_may, last_fence_may, new_dead, no_sides, fence_may}
 
 some_same : {A : Type 0} {x y : A} → Some x ≡ Some y → x ≡ y

@@ -4,8 +4,9 @@ use Rattle.std.specs.Prelude.{◌&&◌, nat_le, nat_lt}
 use Rattle.std.proofs.lemmas.Bool.{cases_Bool, lt-ltb, le-leb, and_parts, leb-true, ltb-true}
 use Rattle.std.proofs.Math.Nat.{pow-suc}
 use Rattle.std.proofs.lemmas.Nat.{pow_pos}
-use Rattle.segment_head.specs.HeadWord.{version_in, state_in, depth_in, pattern_in}
-use Rattle.image_layout.specs.Places.{Shape, block, root_word, entry_at, first_segment, head_at}
+use Rattle.segment_head.specs.HeadWord.{version_in, depth_in, pattern_in, normal}
+use Rattle.segment_head.proofs.Headers.{header_version, header_state, header_depth, header_pattern}
+use Rattle.image_layout.specs.Places.{Shape, block, root_word, entry_at, first_segment, head_at, most_depth, segment_words}
 use Rattle.image_layout.proofs.Areas.{entry_before}
 use Rattle.way.specs.Ways.{head_word}
 use Rattle.frame_facts.specs.DeadSlots.{IsInSlot}
@@ -14,19 +15,18 @@ use Rattle.world.specs.areas.Kinds.{is_in_slot}
 use Rattle.world.specs.areas.Splitting.{IsHeader}
 use Rattle.world.proofs.holders.directing.Known.{front_far}
 use Rattle.world.proofs.fitting.OneHolder.{one_slot, head_in_slot}
-use Rattle.split_op.specs.Copied.{header_of}
-use Rattle.directory_op.specs.Places.{entries_of, entry_word}
+use Rattle.directory_op.specs.Places.{entries_of, entry_word, live_head}
 
 -- ---- numbers
 -- an area that an image may have has all its entries
-pub all_entries : (depth : ℕ) → depth ≤ 16 → entries_of depth ≡ 2 ^ depth
-all_entries depth low = ap (λ b. cond b (2 ^ depth) 0) (le-leb depth 16 low)
+pub all_entries : (depth : ℕ) → depth ≤ most_depth → entries_of depth ≡ 2 ^ depth
+all_entries depth low = ap (λ b. cond b (2 ^ depth) 0) (le-leb depth most_depth low)
 
 pub doubled : (depth : ℕ) → 2 ^ suc depth ≡ 2 * 2 ^ depth
 doubled depth = let e = pow-suc 2 depth in omega (arith, e)
 
 -- ---- the words that are meant
-pub entry_is : (here shape : Shape) (depth index : ℕ) → here ≡ shape → depth ≤ shape.depth → shape.depth ≤ 16 → index < 2 ^ depth → entry_word here depth index ≡ entry_at depth index
+pub entry_is : (here shape : Shape) (depth index : ℕ) → here ≡ shape → depth ≤ shape.depth → shape.depth ≤ most_depth → index < 2 ^ depth → entry_word here depth index ≡ entry_at depth index
 entry_is here shape depth index same low most near = subst (λ (s : Shape). entry_word s depth index ≡ entry_at depth index) (sym same)
     (ap (λ b. cond (b && nat_lt index (entries_of depth)) (entry_at depth index) root_word) (le-leb depth shape.depth low)
     ∙ ap (λ b. cond b (entry_at depth index) root_word) (lt-ltb index (entries_of depth) (subst (λ n. index < n) (sym (all_entries depth (omega (arith, low, most)))) near)))
@@ -53,7 +53,7 @@ entry_deeper depth i j low e = let some = pow_pos depth in let twice = doubled d
 pub slot_behind : (shape : Shape) (s i : ℕ) → IsInSlot shape s i → first_segment shape ≤ i
 slot_behind shape s i inside = by (first_segment shape) s i inside.from
   where
-    by : (f s i : ℕ) → f + 2144 * s ≤ i → f ≤ i
+    by : (f s i : ℕ) → f + segment_words * s ≤ i → f ≤ i
     by f s i from = omega (arith, from)
 
 pub entry_no_slot : (shape : Shape) (depth index i : ℕ) → depth ≤ shape.depth → index < 2 ^ depth → first_segment shape ≤ i → i ≡ entry_at depth index → ⊥
@@ -75,13 +75,13 @@ root_no_header shape s e = root_no_slot shape (header_word shape s) (slot_behind
 -- a word that does not lie in a slot passes no test of it
 pub not_in_slot : (shape : Shape) (s i : ℕ) → (IsInSlot shape s i → ⊥) → is_in_slot shape s i ≡ false
 not_in_slot shape s i out = elim (cases_Bool (is_in_slot shape s i)) [
-  | inl on ↦ (let parts = and_parts (nat_le (head_at shape s) i) (nat_lt i (head_at shape s + 2144)) on in
-      absurd (out (record { from = leb-true (head_at shape s) i parts.0; to = ltb-true i (head_at shape s + 2144) parts.1 })))
+  | inl on ↦ (let parts = and_parts (nat_le (head_at shape s) i) (nat_lt i (head_at shape s + segment_words)) on in
+      absurd (out (record { from = leb-true (head_at shape s) i parts.0; to = ltb-true i (head_at shape s + segment_words) parts.1 })))
   | inr off ↦ off
 ]
 
 pub in_slot : (shape : Shape) (s i : ℕ) → IsInSlot shape s i → is_in_slot shape s i ≡ true
-in_slot shape s i inside = ap (λ b. b && nat_lt i (head_at shape s + 2144)) (le-leb (head_at shape s) i inside.from) ∙ lt-ltb i (head_at shape s + 2144) inside.to
+in_slot shape s i inside = ap (λ b. b && nat_lt i (head_at shape s + segment_words)) (le-leb (head_at shape s) i inside.from) ∙ lt-ltb i (head_at shape s + segment_words) inside.to
 
 pub before_slot : (shape : Shape) (s i : ℕ) → i < first_segment shape → IsInSlot shape s i → ⊥
 before_slot shape s i low inside = by (first_segment shape) i low (slot_behind shape s i inside)
@@ -92,25 +92,8 @@ before_slot shape s i low inside = by (first_segment shape) i low (slot_behind s
 pub other_slot : (shape : Shape) (s n i : ℕ) → n ≢ s → IsInSlot shape s i → IsInSlot shape n i → ⊥
 other_slot shape s n i apart inside there = apart (sym (one_slot shape s n i inside there))
 
--- ---- the fields of a header that is put together
-module _ (version state depth pattern : ℕ) (small : version < 2 ^ 8) (low : state < 2 ^ 8) (few : depth < 2 ^ 8) where
-  abbrev head : ℕ
-  head = header_of version state depth pattern
-
-  pub header_version : version_in head ≡ version
-  header_version = omega (arith, small, low, few)
-
-  pub header_state : state_in head ≡ state
-  header_state = omega (arith, small, low, few)
-
-  pub header_depth : depth_in head ≡ depth
-  header_depth = omega (arith, small, low, few)
-
-  pub header_pattern : pattern_in head ≡ pattern
-  header_pattern = omega (arith, small, low, few)
-
--- a header that is live is else as it was
-pub live_header : (head : ℕ) → IsHeader (header_of (version_in head) 1 (depth_in head) (pattern_in head)) 1 (depth_in head) (pattern_in head) (version_in head)
+-- ---- a header that is live is else as it was
+pub live_header : (head : ℕ) → IsHeader (live_head head) normal (depth_in head) (pattern_in head) (version_in head)
 live_header head =
     let v = version_in head in
     let d = depth_in head in
@@ -118,8 +101,8 @@ live_header head =
     let small : v < 2 ^ 8 = omega arith in
     let few : d < 2 ^ 8 = omega arith in
     record {
-      state_is = header_state v 1 d p small (omega arith) few;
-      depth_is = header_depth v 1 d p small (omega arith) few;
-      pattern_is = header_pattern v 1 d p small (omega arith) few;
-      version_is = header_version v 1 d p small (omega arith) few;
+      state_is = header_state v normal d p small (omega arith) few;
+      depth_is = header_depth v normal d p small (omega arith) few;
+      pattern_is = header_pattern v normal d p small (omega arith) few;
+      version_is = header_version v normal d p small (omega arith) few;
     }

@@ -1,21 +1,25 @@
--- The machine as a part of a call: the kind of each event, how the view stands, and how it ends. What causes its ends is not said yet.
-use Rattle.std.specs.Prelude.{◌≡◌, suc, ◌+◌, ◌-◌, ◌*◌, ◌/◌, ⊤, Bool, true, false, Option, None, Some, List, [], ◌∷◌}
+-- The machine as a part of a call: the kind of each event, how the view stands, how it ends, and that it wins a guard that is free.
+use Rattle.std.specs.Prelude.{◌≡◌, ◌≢◌, ℕ, suc, ◌+◌, ◌-◌, ◌*◌, ◌/◌, ◌<◌, ◌≤◌, ⊤, Bool, true, false, Option, None, Some, List, [], ◌∷◌}
 use Rattle.op_core.specs.declared.want.Want.{Want}
 use Rattle.op_core.specs.declared.want.Want.TheVariants as want
+use Rattle.trace.specs.Events.{Words}
 use Rattle.segment_head.specs.HeadWord.{depth_in, pattern_in}
 use Rattle.image_layout.specs.Places.{root_word}
+use Rattle.image_layout.specs.Volatile.{directory_guard}
 use Rattle.way.specs.Ways.{head_word}
+use Rattle.whole_segment.specs.Rounds.{most_lines}
 use Rattle.frame_facts.specs.Facts.{Fact, Lacks, Deep}
 use Rattle.map_model.specs.declared.call.Call.{Call}
 use Rattle.world.specs.declared.site.Site.{Site}
 use Rattle.world.specs.Ground.{Ground, IsGround}
-use Rattle.world.specs.Views.{View}
+use Rattle.world.specs.Views.{View, Has}
 use Rattle.world.specs.Kinds.{peeks, asks_power}
+use Rattle.world.specs.areas.Areas.{Directory}
 use Rattle.world.specs.areas.Rows.{goes_live}
 use Rattle.world.specs.areas.Kinds.{of_directory, takes, gives, reads, moves, settles_side}
 use Rattle.world.specs.StepKinds.{StepKind, of_call, of_structure}
 use Rattle.part.specs.Outcomes.{Outcome, off}
-use Rattle.part.specs.Part.{Part}
+use Rattle.part.specs.Part.{Part, Suits, next}
 use Rattle.rounds.specs.Steps.{rounds_wanted}
 use Rattle.rounds.specs.Stands.{kind_of}
 use Rattle.rest_op.specs.RestPart.{KeepsSplit}
@@ -29,7 +33,7 @@ use Rattle.directory_op.specs.declared.op.DirectoryStep.TheVariants.{LoadHead, L
 use Rattle.directory_op.specs.declared.op.DirectoryOp.{DirectoryOp}
 use Rattle.directory_op.specs.Places.{entry_word}
 use Rattle.directory_op.specs.Steps.{directed, shape_of, next_store, wanted, taken}
-use Rattle.directory_op.specs.Left.{left_of, most_events, is_trying, waiting_of}
+use Rattle.directory_op.specs.Left.{left_of, events_in, most_events, is_trying, left_alone, waiting_of}
 use Rattle.directory_op.specs.Fits.{SuitsStep, KeepsPublished}
 
 -- ---- the kind of each event
@@ -81,9 +85,13 @@ directory_part = record {
   most_events = most_events;
   is_waiting = λ op. is_trying op.step;
   waiting = waiting_of;
-  most_waiting = 8;
+  most_waiting = most_lines;
   hands_on = λ op. goes_on op.step;
 }
+
+-- the segment that is split
+abbrev pub segment_of : DirectoryOp → ℕ
+segment_of op = op.copied.whole.segment
 
 -- ---- where it begins, and what it hands on
 -- with what a split has copied
@@ -93,6 +101,10 @@ BeginsAsPart = (site : Ground) (here : Site) (call : Call) (c : Copied) (v : Vie
 -- with nothing decided
 abbrev pub BeginsUndecided : Type 0
 BeginsUndecided = (c : Copied) → directory_part.outcome (directed c) ≡ None
+
+-- with as many events left as the shape of the image allows
+abbrev pub BeginsWithinImage : Type 0
+BeginsWithinImage = (c : Copied) → left_of (directed c) ≡ events_in c.whole.site.geometry
 
 -- it hands on what is published of that
 abbrev pub HandsOnPublished : Type 0
@@ -108,3 +120,12 @@ EndsOff = (site : Ground) (here : Site) (call : Call) (op : DirectoryOp) (v : Vi
 abbrev pub HandsOnSplit : Type 0
 HandsOnSplit = (site : Ground) (here : Site) (call : Call) (op : DirectoryOp) (v : View) → IsGround site → directory_part.Stands site here call op v → directory_part.hands_on op ≡ true
     → KeepsSplit site here call op.copied.whole v
+
+-- ---- how long it waits
+-- WHERE THE GUARD IS FREE IT IS WON: while its word is 0 whenever it is waited for, each event leaves fewer events, which are one more at the
+-- most than are left where others may have it; and who waits for it has it not
+pub record WinsWhereFree : Type 0 where
+  pub falls : (site : Ground) (here : Site) (call : Call) (words : Words) (op : DirectoryOp) (before v : View) → Suits directory_part site here call op before v → wanted op ≢ want.Done
+      → (directory_part.is_waiting op ≡ true → words (directory_guard site.shape) ≡ 0) → left_alone (next directory_part site words op) < left_alone op
+  pub most : (op : DirectoryOp) → left_alone op ≤ left_of op + 1
+  pub others : (site : Ground) (here : Site) (call : Call) (op : DirectoryOp) (v : View) → directory_part.Stands site here call op v → directory_part.is_waiting op ≡ true → Has Directory v.areas → ⊥

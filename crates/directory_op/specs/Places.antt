@@ -1,8 +1,7 @@
--- Which words are loaded and stored: entries of the directory, the guard, and the header of the side.
+-- Which words are loaded and stored: entries of the directory, and the header of the side.
 use Rattle.std.specs.Prelude.{ℕ, ◌+◌, ◌-◌, ◌*◌, ◌^◌, nat_le, nat_lt, min, ◌&&◌, if◌then◌else◌}
-use Rattle.segment_head.specs.HeadWord.{version_in, depth_in, pattern_in, normal}
+use Rattle.segment_head.specs.HeadWord.{version_in, depth_in, pattern_in, header_of, normal}
 use Rattle.image_layout.specs.Places.{Shape, most_depth, root_word, entry_at}
-use Rattle.split_op.specs.Copied.{header_of}
 
 -- how many entries the area of a depth has; no area is deeper than an image allows
 abbrev pub entries_of : ℕ → ℕ

@@ -1,6 +1,6 @@
 -- What the machine wants, and what an answer makes of it: the doubling of the directory, the store that makes the side live, and the entries
 -- that name it.
-use Rattle.std.specs.Prelude.{ℕ, ◌+◌, ◌-◌, ◌/◌, ◌%◌, ◌==◌, nat_lt, Bool, true, false, Option, None, Some, length, if◌then◌else◌}
+use Rattle.std.specs.Prelude.{ℕ, ◌+◌, ◌-◌, ◌/◌, ◌%◌, ◌==◌, nat_le, nat_lt, Bool, true, false, Option, None, Some, length, if◌then◌else◌}
 use Rattle.segment_head.specs.HeadWord.{depth_in}
 use Rattle.image_layout.specs.Places.{Shape, root_word}
 use Rattle.image_layout.specs.Volatile.{directory_guard}
@@ -13,6 +13,7 @@ use Rattle.whole_segment.specs.Rounds.{most_lines}
 use Rattle.rounds.specs.declared.rounds.Rounds.{Rounds}
 use Rattle.rounds.specs.Steps.{begun, rounds_stores, rounds_wanted, rounds_taken}
 use Rattle.split_op.specs.declared.copied.Copied.{Copied}
+use Rattle.directory_op.specs.declared.op.DirectoryEnd.{DirectoryEnd}
 use Rattle.directory_op.specs.declared.op.DirectoryEnd.TheVariants.{Published, Off}
 use Rattle.directory_op.specs.declared.op.Stage.{Stage}
 use Rattle.directory_op.specs.declared.op.Stage.TheVariants.{Fill, Filled, Deepen, Deepened, GoLive, Live, Enter, Entered}
@@ -96,8 +97,13 @@ abbrev pub rooted : Bool → DirectoryOp → ℕ → DirectoryOp
 rooted true op root = record op { root = root + 1; rounds = begun; step = LoadEntry 0 }
 rooted false op root = record op { root = root; rounds = begun; step = Store GoLive }
 
+-- the image has no area of that depth, or, where the directory is to be doubled, none that is one deeper
+abbrev pub is_over : Shape → Bool → ℕ → Bool
+is_over shape true root = nat_le shape.depth root
+is_over shape false root = nat_lt shape.depth root
+
 abbrev pub with_root : DirectoryOp → ℕ → DirectoryOp
-with_root op root = if nat_lt (shape_of op).depth root then record op { step = Ended Off } else rooted (root == depth_in op.head) op root
+with_root op root = if is_over (shape_of op) (root == depth_in op.head) root then record op { step = Ended Off } else rooted (root == depth_in op.head) op root
 
 -- an event of a stage was done: its store, or a flush or a fence, behind which it may be settled
 abbrev pub settled_by : DirectoryOp → Stage → Option Want → DirectoryStep
@@ -126,3 +132,11 @@ taken_in op same ans = op
 -- WHAT AN ANSWER makes of it; one of another kind than was asked for leaves it as it is
 abbrev pub taken : DirectoryOp → Ans → DirectoryOp
 taken op ans = taken_in op op.step ans
+
+-- HOW IT ENDS; one that is not at its end counts as one that found the power off
+abbrev pub end_at : DirectoryStep → DirectoryEnd
+end_at (Ended end) = end
+end_at more = Off
+
+abbrev pub end_of : DirectoryOp → DirectoryEnd
+end_of op = end_at op.step

@@ -10,10 +10,7 @@ mod laws;
 pub mod op;
 pub mod places;
 
-pub use laws::{
-    doubling_and_publishing_keep_the_view, publishing_asks_within, publishing_ends_in_time,
-    publishing_hands_on,
-};
+pub use laws::{free_guards_are_won, outcomes_have_causes, publishings_are_parts};
 pub use op::{DirectoryEnd, DirectoryOp, DirectoryStep, Stage};
 
 #[cfg(test)]

@@ -1,9 +1,11 @@
 //! The machine, its steps, and how it ends.
 
-ghost use Rattle.std.specs.Prelude.{◌≡◌};
-ghost use Rattle.directory_op.specs.Steps.{directed, next_store, stage_after, settled_to, wanted, taken, power_step, with_root, passed, put_wanted};
+ghost use Rattle.std.specs.Prelude.{◌≡◌, ◌↔◌, IsTrue};
+ghost use Rattle.op_core.specs.declared.want.Want.TheVariants as want;
+ghost use Rattle.directory_op.specs.Steps.{directed, next_store, stage_after, settled_to, wanted, taken, power_step, with_root, passed, put_wanted, end_of};
+ghost use Rattle.directory_op.specs.DirectoryPart.{goes_on};
 
-use crate::places::{directory_guard, entries, entry_word, live_head, side_first, side_last};
+use crate::places::{entries, entry_word, live_head, side_first, side_last};
 use image_layout::ROOT_WORD;
 use op_core::{Ans, Machine, Want};
 use rounds::Rounds;
@@ -169,21 +171,50 @@ impl DirectoryOp {
         };
     }
 
-    /// The root was loaded: the directory is doubled where the segment is as deep.
+    /// The root was loaded: the directory is doubled where the segment is as deep. Where the image has no area so deep, it ends.
     fn meet_root(&mut self, root: u64)
         ensures { self.new ≡ with_root self.old root }
     {
-        if root > self.copied.whole.site.geometry.depth() {
+        let depth = self.copied.whole.site.geometry.depth();
+        if root == u64::from(depth_of(self.head)) {
+            if root >= depth {
+                self.step = DirectoryStep::Ended(DirectoryEnd::Off);
+            } else {
+                self.rounds = Rounds::begun();
+                self.root = root + 1;
+                self.step = DirectoryStep::LoadEntry(0);
+            }
+        } else if root > depth {
             self.step = DirectoryStep::Ended(DirectoryEnd::Off);
-        } else if root == u64::from(depth_of(self.head)) {
-            self.rounds = Rounds::begun();
-            self.root = root + 1;
-            self.step = DirectoryStep::LoadEntry(0);
         } else {
             self.rounds = Rounds::begun();
             self.root = root;
             self.step = DirectoryStep::Store(Stage::GoLive);
         }
+    }
+
+    /// Whether it wants nothing more.
+    pub fn wants_nothing(&self) -> bool
+        ensures { IsTrue result ↔ (wanted self.now ≡ want.Done) }
+    {
+        self.want() == Want::Done
+    }
+
+    /// How it ended; one that is not at its end counts as one that found the power off.
+    pub fn end(&self) -> DirectoryEnd
+        ensures { result ≡ end_of self.now }
+    {
+        match self.step {
+            DirectoryStep::Ended(end) => end,
+            _ => DirectoryEnd::Off,
+        }
+    }
+
+    /// Whether the side is published: another machine does the rest of the split of what was [`copied`](DirectoryOp::copied).
+    pub fn hands_on(&self) -> bool
+        ensures { result ≡ goes_on self.now.step }
+    {
+        matches!(self.step, DirectoryStep::Ended(DirectoryEnd::Published))
     }
 }
 
@@ -223,7 +254,7 @@ impl Machine for DirectoryOp {
             DirectoryStep::LoadHead => Want::Load(head_word(geometry, self.copied.whole.segment)),
             DirectoryStep::LoadSideHead => Want::Load(head_word(geometry, self.copied.side)),
             DirectoryStep::TakeGuard => {
-                Want::Exchange(directory_guard(geometry), 0, u64::from(site.caller))
+                Want::Exchange(geometry.directory_guard(), 0, u64::from(site.caller))
             }
             DirectoryStep::AskPower => Want::Power,
             DirectoryStep::LoadRoot => Want::Load(ROOT_WORD),
@@ -231,7 +262,7 @@ impl Machine for DirectoryOp {
                 Want::Load(entry_word(geometry, self.root.saturating_sub(1), place / 2))
             }
             DirectoryStep::Store(stage) => put_want(&self.rounds, self.next_store(stage)),
-            DirectoryStep::GiveGuard => Want::Store(directory_guard(geometry), 0),
+            DirectoryStep::GiveGuard => Want::Store(geometry.directory_guard(), 0),
             DirectoryStep::Ended(_) => Want::Done,
         }
     }

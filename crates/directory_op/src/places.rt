@@ -1,18 +1,18 @@
 //! Which words are loaded and stored.
 
 ghost use Rattle.std.specs.Prelude.{◌≡◌, ◌<◌, ◌≤◌, ◌^◌};
-ghost use Rattle.image_layout.specs.Volatile.{directory_guard};
+ghost use Rattle.image_layout.specs.Places.{most_depth};
 ghost use Rattle.directory_op.specs.Places.{entries_of, entry_word, run_of, side_first, side_last, live_head};
 
-use image_layout::{Geometry, ROOT_WORD};
-use segment_head::word::{NORMAL, depth_of, pattern_of, version_of};
+use image_layout::{Geometry, MOST_DEPTH, ROOT_WORD};
+use segment_head::word::{NORMAL, depth_of, header_of, pattern_of, version_of};
 
-/// How many entries the area of a depth has; no area is deeper than 16.
+/// How many entries the area of a depth has; no area is deeper than an image allows.
 pub fn entries(depth: u64) -> u64
     ensures is { result ≡ entries_of depth }
-    ensures most { result ≤ 65536 }
+    ensures most { result ≤ 2 ^ most_depth }
 {
-    if depth <= 16 { 1 << depth } else { 0 }
+    if depth <= MOST_DEPTH { 1 << depth } else { 0 }
 }
 
 /// The word of an entry; an area or an entry that the image has not gives the root's word.
@@ -26,17 +26,10 @@ pub fn entry_word(geometry: &Geometry, depth: u64, index: u64) -> u64
     }
 }
 
-/// The word of the guard of the directory.
-pub fn directory_guard(geometry: &Geometry) -> u64
-    ensures { result ≡ directory_guard geometry.now }
-{
-    geometry.words() + 3
-}
-
 /// How many entries of a root's depth a segment with this header has.
 fn run(root: u64, head: u64) -> u64
     ensures is { result ≡ run_of root head }
-    ensures most { result ≤ 65536 }
+    ensures most { result ≤ 2 ^ most_depth }
 {
     entries(root.saturating_sub(u64::from(depth_of(head))))
 }
@@ -60,8 +53,5 @@ pub fn side_last(root: u64, head: u64) -> u64
 pub fn live_head(head: u64) -> u64
     ensures { result ≡ live_head head }
 {
-    u64::from(version_of(head))
-        + 0x100 * u64::from(NORMAL)
-        + 0x1_0000 * u64::from(depth_of(head))
-        + 0x1_0000_0000 * u64::from(pattern_of(head))
+    header_of(version_of(head), NORMAL, depth_of(head), pattern_of(head))
 }

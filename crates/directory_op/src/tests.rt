@@ -1,7 +1,7 @@
 // The events of a publishing where the directory is deep enough, and of one that waits and doubles it, in an image of two slots.
 use super::*;
 use enclose_op::Enclosed;
-use image_layout::Geometry;
+use image_layout::{BUCKETS, Geometry, WORDS_OF_BUCKETS};
 use map_model::{Change, Effect};
 use op_core::{Ans, Machine, Want};
 use split_op::Copied;
@@ -24,11 +24,11 @@ fn copied() -> Result<Copied, Fail> {
             hash: 5,
             segment: 0,
             head: 257,
-            locks: [0; 66],
-            buckets: [0; 2112],
+            locks: [0; BUCKETS as usize],
+            buckets: [0; WORDS_OF_BUCKETS as usize],
         },
         side: 1,
-        words: [0; 2112],
+        words: [0; WORDS_OF_BUCKETS as usize],
     })
 }
 

@@ -1,5 +1,5 @@
 -- Word 1 of a bucket without the records that went to the side: what its store frees.
-use Rattle.std.proofs.Common.{◌≡◌, ◌≢◌, ℕ, ◌+◌, ◌*◌, ◌/◌, ◌^◌, ◌<◌, ◌≤◌, ◌⊎◌, Bool, true, false, inl, inr, refl, sym, ap, ◌∙◌, subst, arith}
+use Rattle.std.proofs.Common.{◌≡◌, ◌≢◌, ℕ, ◌+◌, ◌*◌, ◌^◌, ◌<◌, ◌≤◌, ◌⊎◌, Bool, true, false, inl, inr, refl, sym, ap, ◌∙◌, subst, arith}
 use Rattle.std.specs.Prelude.{◌==◌, not, if◌then◌else◌, slice_index}
 use Rattle.std.proofs.lemmas.Bool.{cases_eq, cases_lt, eqb-true, eq-eqb, ne_eqb, lt-ltb, le-ltb}
 use Rattle.trace.specs.Events.{Words}
@@ -17,13 +17,13 @@ use Rattle.world.specs.Ground.{Ground}
 use Rattle.world.specs.areas.Splitting.{ClearsRegion}
 use Rattle.phase.specs.Giving.{IsLocated}
 use Rattle.enclose_op.specs.declared.enclosed.Enclosed.{Enclosed}
-use Rattle.enclose_op.specs.Whole.{kept_first}
+use Rattle.enclose_op.specs.Whole.{kept_first, kept_third, kept_key}
 use Rattle.rest_op.specs.declared.op.RestOp.{RestOp}
 use Rattle.rest_op.specs.Steps.{is_cleared, clear_from}
-use Rattle.rest_op.specs.Reckoned.{kept_third, kept_key, side_depth, side_pattern, cleared_of, IsReckoned}
+use Rattle.rest_op.specs.Reckoned.{side_depth, side_pattern, cleared_of, IsReckoned}
 use Rattle.rest_op.specs.Stands.{cleared_before}
 use Rattle.rest_op.proofs.Seeking.{seek_behind, seek_fails}
-use Rattle.rest_op.proofs.Words.{rest_words, other_value, bucket_here}
+use Rattle.rest_op.proofs.whole.Words.{rest_words, other_value, bucket_here}
 
 -- ---- the slots that it frees
 module _ (e : Enclosed) (small : (i : ℕ) → slice_index e.buckets i < 2 ^ 64) (b : ℕ) where
@@ -88,7 +88,6 @@ module _ (site : Ground) (op : RestOp) (l : IsLocated site op.whole.site op.whol
             (subst (λ (g : Shape). Covers (side_depth e) (side_pattern e) (key_hash g (kept_key e b r))) l.shape free.1),
       )
     ];
-    overflow = ap (λ w. w / 2 ^ 28) (reckoned.cleared b near) ∙ (halves e small b).upper ∙ sym (ap (λ w. w / 2 ^ 28) mark_here);
   }
 
 -- ---- word 1 of each bucket, while they are cleared

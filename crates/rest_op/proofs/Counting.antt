@@ -1,5 +1,5 @@
 -- How many events are left, and how many lines are flushed and not fenced.
-use Rattle.std.proofs.Common.{◌≡◌, ◌≢◌, ℕ, suc, ◌+◌, ◌-◌, ◌*◌, ◌<◌, ◌≤◌, ◌⊎◌, Bool, true, false, Option, None, Some, List, length, inl, inr, refl, sym, ap, ◌∙◌, subst, arith}
+use Rattle.std.proofs.Common.{◌≡◌, ◌≢◌, ℕ, suc, ◌+◌, ◌-◌, ◌*◌, ◌<◌, ◌≤◌, Bool, true, false, Option, None, Some, List, length, inl, inr, refl, sym, ap, ◌∙◌, subst, arith}
 use Rattle.std.specs.Prelude.{if◌then◌else◌, nat_lt, slice_index}
 use Rattle.std.proofs.lemmas.Bool.{cases_lt, ltb-true, ltb-false, lt-ltb, le-ltb}
 use Rattle.op_core.specs.declared.want.Want.{Want}
@@ -11,28 +11,29 @@ use Rattle.image_layout.specs.Places.{homes, buckets}
 use Rattle.rounds.specs.declared.rounds.RoundStep.{RoundStep}
 use Rattle.rounds.specs.declared.rounds.RoundStep.TheVariants.{Storing, Flushing, Fencing}
 use Rattle.rounds.specs.declared.rounds.Rounds.{Rounds}
-use Rattle.rounds.specs.Steps.{at_step, flushed_to, rounds_stores, rounds_wanted, rounds_taken}
+use Rattle.rounds.specs.Steps.{rounds_stores, rounds_wanted, rounds_taken}
 use Rattle.rounds.specs.Events.{IsStore, IsFlush, IsRoundEvent}
+use Rattle.rounds.specs.Waiting.{round_waiting, rounds_waiting}
 use Rattle.rounds.specs.Left.{left_at as round_left_at, rounds_left}
-use Rattle.rounds.proofs.Events.{no_some, event_cases, events_end}
+use Rattle.rounds.proofs.Events.{no_some, event_cases}
 use Rattle.rounds.proofs.Falling.{rounds_fall}
-use Rattle.enclose_op.specs.declared.enclosed.Enclosed.{Enclosed}
+use Rattle.rounds.proofs.Waiting.{most_wait, store_waits, flush_waits, none_waits}
 use Rattle.enclose_op.specs.declared.give.Give.{Give as Giving}
-use Rattle.enclose_op.specs.declared.give.Give.TheVariants as giving
-use Rattle.enclose_op.specs.Giving.{give_wanted, given}
+use Rattle.enclose_op.specs.Giving.{given}
 use Rattle.enclose_op.specs.GiveLaws.{left_of}
 use Rattle.enclose_op.specs.Fits.{give_left}
 use Rattle.enclose_op.proofs.Backing.{give_falls, give_most}
+use Rattle.enclose_op.proofs.Giving.{give_answered, give_flushes}
 use Rattle.rest_op.specs.declared.op.RestOp.{RestOp}
 use Rattle.rest_op.specs.declared.op.RestStep.{RestStep}
 use Rattle.rest_op.specs.declared.op.RestStep.TheVariants.{Clear, Head, HeadFlush, HeadFence, Note, Open, Give, Ended}
 use Rattle.rest_op.specs.Steps.{most_lines, due, is_cleared, clear_from, next_clear, clearing, clearing_by, cleared, is_noted, note_from, noting, given_by, round_wanted, want_by, wanted_in, next_in}
-use Rattle.rest_op.specs.RestPart.{clear_left, left_at, most_events, round_waiting, waiting_at}
+use Rattle.rest_op.specs.RestPart.{after_head, notes_left, clear_left, left_at, most_events, waiting_at}
 use Rattle.rest_op.proofs.Seeking.{seek_behind}
 use Rattle.rest_op.proofs.Rounding.{due_is, rounds_want}
 
 -- ---- answers
--- an event of the rounds, and one that gives back, is answered that it passed
+-- an event of the rounds is answered that it passed
 store_passed : (i x : ℕ) (a : Ans) → IsAnswer (wants.Store i x) a → a ≡ Passed
 store_passed i x Passed is = refl
 store_passed i x a is = absurd is
@@ -44,16 +45,6 @@ flush_passed line a is = absurd is
 fence_passed : (a : Ans) → IsAnswer wants.Fence a → a ≡ Passed
 fence_passed Passed is = refl
 fence_passed a is = absurd is
-
-give_passed : (e : Enclosed) (give : Giving) (a : Ans) → IsAnswer (give_wanted e give) a → a ≡ Passed
-give_passed e (giving.Lock b to) Passed is = refl
-give_passed e (giving.Lock b to) a is = absurd is
-give_passed e giving.Guard Passed is = refl
-give_passed e giving.Guard a is = absurd is
-
-give_no_flush : (e : Enclosed) (give : Giving) (line : ℕ) → give_wanted e give ≡ wants.Flush line → ⊥
-give_no_flush e (giving.Lock b to) line same = absurd (cc)
-give_no_flush e giving.Guard line same = absurd (cc)
 
 module _ (rounds : Rounds) (next : Option (ℕ × ℕ)) where
   event_passed : (want : Want) → IsRoundEvent rounds next want → (a : Ans) → IsAnswer want a → a ≡ Passed
@@ -88,17 +79,17 @@ module _ (rounds : Rounds) (next : Option (ℕ × ℕ)) where
 
 -- ---- EVENTS that are left
 -- while buckets are cleared
-few_left : (b : ℕ) (rounds : Rounds) → length rounds.round ≤ 8 → clear_left b rounds ≡ rounds_left rounds (buckets - b) + 3 + 195
-few_left b rounds few = ap (λ t. if t then 0 else rounds_left rounds (buckets - b) + 3 + 195) (le-ltb most_lines (length rounds.round) few)
+few_left : (b : ℕ) (rounds : Rounds) → length rounds.round ≤ 8 → clear_left b rounds ≡ rounds_left rounds (buckets - b) + 3 + after_head
+few_left b rounds few = ap (λ t. if t then 0 else rounds_left rounds (buckets - b) + 3 + after_head) (le-ltb most_lines (length rounds.round) few)
 
-left_by : (b : ℕ) (rounds : Rounds) (t : Bool) → (if t then 0 else rounds_left rounds (buckets - b) + 3 + 195) ≤ rounds_left rounds (buckets - b) + 3 + 195
+left_by : (b : ℕ) (rounds : Rounds) (t : Bool) → (if t then 0 else rounds_left rounds (buckets - b) + 3 + after_head) ≤ rounds_left rounds (buckets - b) + 3 + after_head
 left_by b rounds true = omega arith
 left_by b rounds false = omega arith
 
-no_more_left : (b : ℕ) (rounds : Rounds) → clear_left b rounds ≤ rounds_left rounds (buckets - b) + 3 + 195
+no_more_left : (b : ℕ) (rounds : Rounds) → clear_left b rounds ≤ rounds_left rounds (buckets - b) + 3 + after_head
 no_more_left b rounds = left_by b rounds (nat_lt most_lines (length rounds.round))
 
-clearing_left : (op : RestOp) (b : ℕ) (rounds : Rounds) (o : Option Want) → left_at (clearing_by op o b rounds) ≤ rounds_left rounds (buckets - b) + 3 + 195
+clearing_left : (op : RestOp) (b : ℕ) (rounds : Rounds) (o : Option Want) → left_at (clearing_by op o b rounds) ≤ rounds_left rounds (buckets - b) + 3 + after_head
 clearing_left op b rounds (Some want) = no_more_left b rounds
 clearing_left op b rounds None = omega arith
 
@@ -138,32 +129,32 @@ clear_falls op b rounds a answer =
     let left = clearing_left op later after (rounds_wanted after (due op later)) in
     let falls = fewer op b rounds q.few q.want q.is q.event in
     subst (λ n. left_at (next_in op (Clear b rounds) a) < n) (sym (few_left b rounds q.few))
-    (subst (λ (x : Ans). left_at (next_in op (Clear b rounds) x) < rounds_left rounds (buckets - b) + 3 + 195) (sym q.passed) (omega (arith, left, falls)))
+    (subst (λ (x : Ans). left_at (next_in op (Clear b rounds) x) < rounds_left rounds (buckets - b) + 3 + after_head) (sym q.passed) (omega (arith, left, falls)))
 
 -- while notes are stored
-note_left : (from n : ℕ) → from ≤ n → (t : Bool) → nat_lt n (2 * homes) ≡ t → left_at (if t then Note n else Open) ≤ 68 + (127 - from)
+note_left : (from n : ℕ) → from ≤ n → (t : Bool) → nat_lt n (2 * homes) ≡ t → left_at (if t then Note n else Open) ≤ notes_left from
 note_left from n behind true is = omega (arith, behind)
 note_left from n behind false is = omega arith
 
-noting_left : (op : RestOp) (from : ℕ) → left_at (noting (note_from op from)) ≤ 68 + (127 - from)
+noting_left : (op : RestOp) (from : ℕ) → left_at (noting (note_from op from)) ≤ notes_left from
 noting_left op from = note_left from (note_from op from) (seek_behind (is_noted op) (2 * homes) from) (nat_lt (note_from op from) (2 * homes)) refl
 
-note_on : (op : RestOp) (n : ℕ) (t : Bool) → nat_lt n (2 * homes) ≡ t → left_at (if t then noting (note_from op (n + 1)) else Open) < 68 + (127 - n)
+note_on : (op : RestOp) (n : ℕ) (t : Bool) → nat_lt n (2 * homes) ≡ t → left_at (if t then noting (note_from op (n + 1)) else Open) < notes_left n
 note_on op n true is =
-    let low : n < 128 = ltb-true n (2 * homes) is in
+    let low : n < 2 * homes = ltb-true n (2 * homes) is in
     note_by n low
   where
-    note_by : (n : ℕ) → n < 128 → left_at (noting (note_from op (n + 1))) < 68 + (127 - n)
-    note_by n low = elim (cases_lt n 127) [
+    note_by : (n : ℕ) → n < 2 * homes → left_at (noting (note_from op (n + 1))) < notes_left n
+    note_by n low = elim (cases_lt n (2 * homes - 1)) [
       | inl less ↦ (let most = noting_left op (n + 1) in omega (arith, most, less))
       | inr last ↦ (let most = end_left (n + 1) (omega (arith, last)) in omega (arith, most))
     ]
       where
-        end_by : (m : ℕ) → 128 ≤ m → (t : Bool) → nat_lt m (2 * homes) ≡ t → left_at (if t then Note m else Open) ≤ 67
+        end_by : (m : ℕ) → 2 * homes ≤ m → (t : Bool) → nat_lt m (2 * homes) ≡ t → left_at (if t then Note m else Open) ≤ buckets + 1
         end_by m high true is = (let low = ltb-true m (2 * homes) is in absurd (omega (arith, low, high)))
         end_by m high false is = omega arith
 
-        end_left : (from : ℕ) → 128 ≤ from → left_at (noting (note_from op from)) ≤ 67
+        end_left : (from : ℕ) → 2 * homes ≤ from → left_at (noting (note_from op from)) ≤ buckets + 1
         end_left from high = (let on = seek_behind (is_noted op) (2 * homes) from in end_by (note_from op from) (omega (arith, on, high)) (nat_lt (note_from op from) (2 * homes)) refl)
 note_on op n false is = omega arith
 
@@ -188,7 +179,7 @@ falls_at op Open a i = absurd i
 falls_at op (Give give) a i =
     let fewer = give_falls give in
     let same = given_left (given give) in
-    subst (λ (x : Ans). left_at (next_in op (Give give) x) < give_left give) (sym (give_passed op.whole give a i)) (omega (arith, fewer, same))
+    subst (λ (x : Ans). left_at (next_in op (Give give) x) < give_left give) (sym (give_answered op.whole give a i)) (omega (arith, fewer, same))
 falls_at op Ended a i = absurd i
 
 -- at most so many are left
@@ -201,7 +192,7 @@ step_few lines few Storing = by (nat_lt 0 (length lines))
 step_few lines few (Flushing i) = omega (arith, few)
 step_few lines few Fencing = omega arith
 
-clear_most : (b : ℕ) (rounds : Rounds) (t : Bool) → nat_lt most_lines (length rounds.round) ≡ t → (if t then 0 else rounds_left rounds (buckets - b) + 3 + 195) ≤ most_events
+clear_most : (b : ℕ) (rounds : Rounds) (t : Bool) → nat_lt most_lines (length rounds.round) ≡ t → (if t then 0 else rounds_left rounds (buckets - b) + 3 + after_head) ≤ most_events
 clear_most b rounds true is = omega arith
 clear_most b rounds false is = (let few = step_few rounds.round (ltb-false most_lines (length rounds.round) is) rounds.step in omega (arith, few))
 
@@ -216,54 +207,21 @@ most_at (Give give) = (let most = give_most give in omega (arith, most))
 most_at Ended = omega arith
 
 -- ---- LINES that are flushed and not fenced
-flushing_waits : (i : ℕ) (t : Bool) → nat_lt i 8 ≡ t → (if t then i else 8) ≤ 8
-flushing_waits i true is = (let low = ltb-true i 8 is in omega (arith, low))
-flushing_waits i false is = omega arith
-
-step_waits : (step : RoundStep) → round_waiting step ≤ 8
-step_waits Storing = omega arith
-step_waits (Flushing i) = flushing_waits i (nat_lt i 8) refl
-step_waits Fencing = omega arith
-
-waits_by : (step : RoundStep) (t : Bool) → (if t then 0 else round_waiting step) ≤ 8
-waits_by step true = omega arith
-waits_by step false = step_waits step
-
-pub waits_few : (s : RestStep) → waiting_at s ≤ 8
-waits_few (Clear b rounds) = waits_by rounds.step (nat_lt most_lines (length rounds.round))
+pub waits_few : (s : RestStep) → waiting_at s ≤ most_lines
+waits_few (Clear b rounds) = most_wait rounds
 waits_few HeadFence = omega arith
 waits_few s = omega arith
 
-few_waits : (b : ℕ) (rounds : Rounds) → length rounds.round ≤ 8 → waiting_at (Clear b rounds) ≡ round_waiting rounds.step
-few_waits b rounds few = ap (λ t. if t then 0 else round_waiting rounds.step) (le-ltb most_lines (length rounds.round) few)
+-- as many wait at the bucket that comes next as in its rounds
+clearing_waits : (op : RestOp) (b : ℕ) (rounds : Rounds) → waiting_at (clearing op b rounds) ≡ rounds_waiting rounds
+clearing_waits op b rounds = by (rounds_wanted rounds (due op b)) refl
+  where
+    by : (o : Option Want) → rounds_wanted rounds (due op b) ≡ o → waiting_at (clearing_by op o b rounds) ≡ rounds_waiting rounds
+    by (Some want) is = refl
+    by None is = sym (none_waits rounds (due op b) is)
 
--- behind the flush of a line of this number there is one more
-waits_on : (op : RestOp) (b number : ℕ) (lines : List ℕ) → length lines ≤ 8 → number < length lines → (t : Bool) → nat_lt (number + 1) (length lines) ≡ t
-    → number + 1 ≤ waiting_at (clearing op b (at_step lines (if t then Flushing (number + 1) else Fencing)))
-waits_on op b number lines few low true is =
-    let inside : number + 1 < length lines = ltb-true (number + 1) (length lines) is in
-    let small : number + 1 < 8 = omega (arith, inside, few) in
-    let waits : waiting_at (Clear b (at_step lines (Flushing (number + 1)))) ≡ number + 1 = few_waits b (at_step lines (Flushing (number + 1))) few ∙ ap (λ q. if q then number + 1 else 8) (lt-ltb (number + 1) 8 small) in
-    omega (arith, waits)
-waits_on op b number lines few low false is =
-    let waits : waiting_at (Clear b (at_step lines Fencing)) ≡ 8 = few_waits b (at_step lines Fencing) few in
-    omega (arith, waits, low, few)
-
--- which is as many as before, and one
-waits_before : (rounds : Rounds) (number : ℕ) → number < 8 → ((rounds.step ≡ Storing) × (number ≡ 0)) ⊎ (rounds.step ≡ Flushing number) → round_waiting rounds.step ≡ number
-waits_before rounds number low either = elim either [
-  | inl first ↦ ap round_waiting first.0 ∙ sym first.1
-  | inr more ↦ ap round_waiting more ∙ ap (λ q. if q then number else 8) (lt-ltb number 8 low)
-]
-
-flush_waits : (op : RestOp) (b : ℕ) (rounds : Rounds) (want : Want) → length rounds.round ≤ 8 → IsFlush rounds (due op b) want → waiting_at (Clear b rounds) + 1 ≤ waiting_at (cleared op b rounds)
-flush_waits op b rounds want few f =
-    let low = f.low in
-    let later : ℕ = next_clear op (rounds_stores rounds (due op b)) b in
-    let before = few_waits b rounds few ∙ waits_before rounds f.number (omega (arith, low, few)) f.step in
-    let on : f.number + 1 ≤ waiting_at (clearing op later (at_step rounds.round (flushed_to rounds.round f.number))) = waits_on op later f.number rounds.round few low (nat_lt (f.number + 1) (length rounds.round)) refl in
-    let after : f.number + 1 ≤ waiting_at (cleared op b rounds) = subst (λ (r : Rounds). f.number + 1 ≤ waiting_at (clearing op later r)) (sym f.leaves) on in
-    omega (arith, before, after)
+cleared_waits : (op : RestOp) (b : ℕ) (rounds : Rounds) → waiting_at (cleared op b rounds) ≡ rounds_waiting (rounds_taken rounds (due op b))
+cleared_waits op b rounds = clearing_waits op (next_clear op (rounds_stores rounds (due op b)) b) (rounds_taken rounds (due op b))
 
 -- ---- while buckets are cleared
 module _ (op : RestOp) (b : ℕ) (rounds : Rounds) (a : Ans) (answer : IsAnswer (round_wanted rounds (due op b)) a) where
@@ -277,7 +235,10 @@ module _ (op : RestOp) (b : ℕ) (rounds : Rounds) (a : Ans) (answer : IsAnswer 
   wanted_is = rounds_want rounds next q.want q.few q.is
 
   one_more : IsFlush rounds next q.want → waiting_at (Clear b rounds) + 1 ≤ waiting_at (next_in op (Clear b rounds) a)
-  one_more f = subst (λ (x : Ans). waiting_at (Clear b rounds) + 1 ≤ waiting_at (next_in op (Clear b rounds) x)) (sym q.passed) (flush_waits op b rounds q.want q.few f)
+  one_more f =
+      let on = flush_waits rounds next q.want q.few f in
+      let after = cleared_waits op b rounds in
+      subst (λ (x : Ans). waiting_at (Clear b rounds) + 1 ≤ waiting_at (next_in op (Clear b rounds) x)) (sym q.passed) (omega (arith, on, after))
 
   clear_flushes : (line : ℕ) → round_wanted rounds next ≡ wants.Flush line → waiting_at (Clear b rounds) + 1 ≤ waiting_at (next_in op (Clear b rounds) a)
   clear_flushes line flush = elim q.event [
@@ -287,7 +248,7 @@ module _ (op : RestOp) (b : ℕ) (rounds : Rounds) (a : Ans) (answer : IsAnswer 
 
   clear_keeps : round_wanted rounds next ≢ wants.Fence → waiting_at (Clear b rounds) ≤ waiting_at (next_in op (Clear b rounds) a)
   clear_keeps no_fence = elim q.event [
-    | inl s ↦ (let none = few_waits b rounds q.few ∙ ap round_waiting s.step in omega (arith, none))
+    | inl s ↦ (let none = (store_waits rounds next q.want s).0 in omega (arith, none))
     | inr f ↦ elim f [ inl f ↦ (let more = one_more f in omega (arith, more)) | inr f ↦ absurd (no_fence (wanted_is ∙ f.wants)) ]
   ]
 
@@ -299,7 +260,7 @@ flushes_at op HeadFlush a line i flush = absurd i
 flushes_at op HeadFence a line i flush = absurd (cc)
 flushes_at op (Note n) a line i flush = absurd (cc)
 flushes_at op Open a line i flush = absurd (cc)
-flushes_at op (Give give) a line i flush = absurd (give_no_flush op.whole give line flush)
+flushes_at op (Give give) a line i flush = absurd (give_flushes op.whole give line flush)
 flushes_at op Ended a line i flush = absurd (cc)
 
 pub keeps_at : (op : RestOp) (s : RestStep) (a : Ans) → IsAnswer (wanted_in op s) a → wanted_in op s ≢ wants.Fence → waiting_at s ≤ waiting_at (next_in op s a)
@@ -319,11 +280,14 @@ pub over_by : (rounds : Rounds) (next : Option (ℕ × ℕ)) (o : Option Want) �
 over_by rounds store (Some want) is done = absurd (event_some rounds store want (event_cases rounds store want is) done)
 over_by rounds store None is done = is
 
-clear_ends : (rounds : Rounds) (next : Option (ℕ × ℕ)) (t : Bool) → (if t then wants.Done else want_by (rounds_wanted rounds next)) ≡ wants.Done → (if t then 0 else round_waiting rounds.step) ≡ 0
-clear_ends rounds store true done = refl
-clear_ends rounds store false done = ap (λ (r : Rounds). round_waiting r.step) (events_end rounds store (over_by rounds store (rounds_wanted rounds store) refl done)).0
+clear_ends : (rounds : Rounds) (next : Option (ℕ × ℕ)) → round_wanted rounds next ≡ wants.Done → rounds_waiting rounds ≡ 0
+clear_ends rounds store done = elim (cases_lt most_lines (length rounds.round)) [
+  | inl many ↦ ap (λ t. if t then 0 else round_waiting rounds.round rounds.step) (lt-ltb most_lines (length rounds.round) many)
+  | inr few ↦ none_waits rounds store (over_by rounds store (rounds_wanted rounds store) refl
+      (sym (ap (λ t. if t then wants.Done else want_by (rounds_wanted rounds store)) (le-ltb most_lines (length rounds.round) few)) ∙ done))
+]
 
 pub ends_waiting : (op : RestOp) (s : RestStep) → wanted_in op s ≡ wants.Done → waiting_at s ≡ 0
-ends_waiting op (Clear b rounds) done = clear_ends rounds (due op b) (nat_lt most_lines (length rounds.round)) done
+ends_waiting op (Clear b rounds) done = clear_ends rounds (due op b) done
 ends_waiting op HeadFence done = absurd (cc)
 ends_waiting op s done = refl

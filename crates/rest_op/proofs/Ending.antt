@@ -22,15 +22,15 @@ use Rattle.rounds.specs.Stands.{IsSettled}
 use Rattle.rounds.proofs.Lines.{off_line_has}
 use Rattle.rounds.proofs.Keeping.{rounds_may}
 use Rattle.enclose_op.specs.declared.enclosed.Enclosed.{Enclosed}
-use Rattle.enclose_op.specs.Whole.{IsOf, IsWhole}
+use Rattle.enclose_op.specs.Whole.{IsOf, IsWhole, kept_third}
 use Rattle.rest_op.specs.declared.op.RestOp.{RestOp}
 use Rattle.rest_op.specs.Steps.{rest_head}
-use Rattle.rest_op.specs.Reckoned.{kept_third, side_depth}
+use Rattle.rest_op.specs.Reckoned.{side_depth}
 use Rattle.rest_op.specs.Stands.{HasAll, IsSplit, HasEnded, HasFlushed}
 use Rattle.enclose_op.proofs.Places.{head_is}
-use Rattle.rest_op.proofs.Words.{rest_words, header_here}
-use Rattle.rest_op.proofs.Known.{all_kept, head_stored, whole_held, guard_held, no_sides, settled_holder, knows_head}
-use Rattle.rest_op.proofs.Halving.{rest_is}
+use Rattle.rest_op.proofs.whole.Words.{rest_words, header_here}
+use Rattle.rest_op.proofs.whole.Known.{all_kept, head_stored, whole_held, guard_held, no_sides, settled_holder, knows_head}
+use Rattle.rest_op.proofs.whole.Halving.{rest_is}
 
 -- nothing is loose where all is settled
 pub settled_firm : (v : View) → IsSettled v → (p : ℕ × ℕ) → IsLoose v p → ⊥

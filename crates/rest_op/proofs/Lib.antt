@@ -1,11 +1,6 @@
-pub mod Places
-pub mod Words
+pub mod whole
 pub mod Seeking
-pub mod Stashing
-pub mod Reckoning
-pub mod Known
 pub mod Clearing
-pub mod Halving
 pub mod Opening
 pub mod Rounding
 pub mod Ending
@@ -13,3 +8,4 @@ pub mod Noting
 pub mod Opens
 pub mod Counting
 pub mod RestIsPart
+pub mod ByCause

@@ -14,17 +14,17 @@ use Rattle.world.proofs.holders.directing.Finishing.{may_finish}
 use Rattle.phase.specs.Giving.{IsLocated}
 use Rattle.rounds.specs.Stands.{IsSettled}
 use Rattle.enclose_op.specs.declared.enclosed.Enclosed.{Enclosed}
-use Rattle.enclose_op.specs.Whole.{kept_word}
+use Rattle.enclose_op.specs.Whole.{kept_word, kept_third}
 use Rattle.enclose_op.specs.Giving.{lock_of}
 use Rattle.rest_op.specs.declared.op.RestOp.{RestOp}
 use Rattle.rest_op.specs.declared.op.RestStep.TheVariants.{Note, Open}
 use Rattle.rest_op.specs.Steps.{rest_head, note_home, note_value, note_old, note_word, is_noted, note_from, noting}
-use Rattle.rest_op.specs.Reckoned.{kept_third, IsReckoned}
+use Rattle.rest_op.specs.Reckoned.{IsReckoned}
 use Rattle.rest_op.specs.Stands.{value_of, first_before, third_before, HasAll, IsNoting, SuitsStep}
 use Rattle.enclose_op.proofs.Places.{lock_is}
-use Rattle.rest_op.proofs.Words.{same_value}
+use Rattle.rest_op.proofs.whole.Words.{same_value}
 use Rattle.rest_op.proofs.Seeking.{seek_behind, seek_within, seek_fails}
-use Rattle.rest_op.proofs.Known.{all_same, all_stored, settled_holder, holds_bucket}
+use Rattle.rest_op.proofs.whole.Known.{all_same, all_stored, settled_holder, holds_bucket}
 use Rattle.rest_op.proofs.Ending.{settled_firm}
 
 -- ---- the words of the notes, by their homes

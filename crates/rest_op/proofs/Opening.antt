@@ -18,14 +18,14 @@ use Rattle.bucket_words.specs.Hits.{Hit}
 use Rattle.world.specs.Ground.{Ground}
 use Rattle.phase.specs.Giving.{IsLocated}
 use Rattle.enclose_op.specs.declared.enclosed.Enclosed.{Enclosed}
-use Rattle.enclose_op.specs.Whole.{kept_words, kept_first, IsWhole}
+use Rattle.enclose_op.specs.Whole.{kept_words, kept_first, IsWhole, kept_key}
 use Rattle.rest_op.specs.declared.op.RestOp.{RestOp}
-use Rattle.rest_op.specs.Reckoned.{kept_key, side_depth, side_pattern, cleared_of, IsReckoned}
+use Rattle.rest_op.specs.Reckoned.{side_depth, side_pattern, cleared_of, IsReckoned}
 use Rattle.enclose_op.proofs.Places.{kept_there}
-use Rattle.rest_op.proofs.Words.{rest_words, other_value, bucket_here}
+use Rattle.rest_op.proofs.whole.Words.{rest_words, other_value, bucket_here}
 use Rattle.rest_op.proofs.Clearing.{slot_says, side_freed}
-use Rattle.rest_op.proofs.Stashing.{stashed_same}
-use Rattle.rest_op.proofs.Halving.{zero_side}
+use Rattle.whole_segment.proofs.Stashing.{stashed_same}
+use Rattle.rest_op.proofs.whole.Halving.{zero_side}
 
 module _ (site : Ground) (op : RestOp) (l : IsLocated site op.whole.site op.whole.segment) (whole : IsWhole site op.whole) (reckoned : IsReckoned op)
     (first third : ℕ → ℕ) (head link : ℕ) (noted : (b : ℕ) → b < homes → first b ≡ slice_index op.notes.first b) (fingers : (b : ℕ) → b < homes → third b ≡ slice_index op.notes.third b)

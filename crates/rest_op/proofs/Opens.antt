@@ -28,9 +28,9 @@ use Rattle.rest_op.specs.declared.op.RestOp.{RestOp}
 use Rattle.rest_op.specs.Steps.{rest_head}
 use Rattle.rest_op.specs.Reckoned.{cleared_of, IsReckoned}
 use Rattle.rest_op.specs.Stands.{first_before, third_before, IsNoting}
-use Rattle.rest_op.proofs.Words.{rest_words, header_here}
-use Rattle.rest_op.proofs.Known.{whole_held, settled_holder, knows_word, knows_head}
-use Rattle.rest_op.proofs.Halving.{depth_low, rest_is}
+use Rattle.rest_op.proofs.whole.Words.{rest_words, header_here}
+use Rattle.rest_op.proofs.whole.Known.{whole_held, settled_holder, knows_word, knows_head}
+use Rattle.rest_op.proofs.whole.Halving.{depth_low, rest_is}
 use Rattle.rest_op.proofs.Opening.{own, once, exact}
 use Rattle.rest_op.proofs.Ending.{settled_firm}
 use Rattle.rest_op.proofs.Noting.{first_all, third_all, first_behind}
@@ -96,7 +96,7 @@ module _ (site : Ground) (ground : IsGround site) (here : Site) (call : Call) (o
       subst (λ i. MayAt site (opens k.segment i (free_value k 0 + 2)) v) (sym (lock_is site k is.located 0 zero_near))
       (subst (λ x. MayAt site (opens k.segment (bucket_at site.shape k.segment 0) x) v) next_lock may)
 
-  pub open_wants : give_wanted k (Lock 0 66) ≡ wanted_at site.shape (opens k.segment (lock_of k 0) (free_value k 0 + 2))
+  pub open_wants : give_wanted k (Lock 0 buckets) ≡ wanted_at site.shape (opens k.segment (lock_of k 0) (free_value k 0 + 2))
   open_wants =
       let free : slice_index k.locks 0 + 2 < 2 ^ 64 = (c.all.locks.free 0 (omega arith) zero_near).1 in
       let same : free_value k 0 ≡ slice_index k.locks 0 = free_is k 0 zero_near in

@@ -6,8 +6,9 @@ use Rattle.trace.specs.Events.{Words, line_of}
 use Rattle.op_core.specs.declared.want.Want.{Want}
 use Rattle.op_core.specs.declared.want.Want.TheVariants as wants
 use Rattle.op_core.specs.declared.want.Ans.{Ans}
-use Rattle.segment_head.specs.HeadWord.{depth_in, pattern_in, version_in}
-use Rattle.image_layout.specs.Places.{Shape, first_segment, head_at, bucket_at, words_of, homes, buckets, block}
+use Rattle.segment_head.specs.HeadWord.{depth_in, pattern_in, version_in, normal}
+use Rattle.segment_head.proofs.Headers.{header_below}
+use Rattle.image_layout.specs.Places.{Shape, first_segment, head_at, bucket_at, words_of, homes, buckets, block, segment_words}
 use Rattle.image_layout.specs.Volatile.{all_words_of, counter_word}
 use Rattle.map_model.specs.declared.call.Call.{Call}
 use Rattle.way.specs.Ways.{head_word}
@@ -35,23 +36,22 @@ use Rattle.rounds.proofs.Settling.{rounds_settle}
 use Rattle.enclose_op.specs.declared.enclosed.Enclosed.{Enclosed}
 use Rattle.enclose_op.specs.declared.give.Give.{Give as Giving}
 use Rattle.enclose_op.specs.declared.give.Give.TheVariants as giving
-use Rattle.enclose_op.specs.Whole.{IsOf, IsWhole, kept_word}
-use Rattle.enclose_op.specs.Giving.{lock_of, free_value, guard_of, give_wanted, given}
-use Rattle.enclose_op.specs.Fits.{give_kind, SuitsGive}
+use Rattle.enclose_op.specs.Whole.{IsOf, IsWhole, kept_word, kept_third}
+use Rattle.enclose_op.specs.Giving.{given}
 use Rattle.enclose_op.specs.GiveLaws.{SuitsNext}
-use Rattle.enclose_op.proofs.Places.{lock_is, head_is, guard_is, kept_there}
+use Rattle.enclose_op.proofs.Places.{lock_is, head_is, kept_there}
 use Rattle.enclose_op.proofs.Backing.{give_wants, give_may, give_next}
-use Rattle.enclose_op.proofs.Stepping.{give_answer}
+use Rattle.enclose_op.proofs.Giving.{give_some, give_answer, give_puts, give_makes, give_power, give_own, give_seen, give_plan, lock_low, give_in}
 use Rattle.rest_op.specs.declared.op.RestOp.{RestOp}
 use Rattle.rest_op.specs.declared.op.RestStep.{RestStep}
 use Rattle.rest_op.specs.declared.op.RestStep.TheVariants.{Clear, Head, HeadFlush, HeadFence, Note, Open, Give, Ended}
 use Rattle.rest_op.specs.Steps.{most_lines, rest_head, due, clear_from, is_cleared, clearing_by, noting, note_from, note_home, note_place, note_word, note_value, given_by, round_wanted, want_by, wanted_in, next_in, wanted, at_step, begun_in, end_at}
-use Rattle.rest_op.specs.Reckoned.{kept_third, IsReckoned}
+use Rattle.rest_op.specs.Reckoned.{IsReckoned}
 use Rattle.rest_op.specs.Stands.{value_of, cleared_before, kind_at, HasAll, IsClearedLine, IsClearing, SuitsStep}
 use Rattle.rest_op.specs.RestPart.{outcome_at, rest_part, KeepsSplit, BeginsAsPart, BeginsUndecided, EndsAsSplit}
-use Rattle.rest_op.proofs.Words.{other_value}
+use Rattle.rest_op.proofs.whole.Words.{other_value}
 use Rattle.rest_op.proofs.Seeking.{seek_within}
-use Rattle.rest_op.proofs.Known.{all_same}
+use Rattle.rest_op.proofs.whole.Known.{all_same}
 use Rattle.rest_op.proofs.Clearing.{passed_over}
 use Rattle.rest_op.proofs.Rounding.{due_is, rounds_want, clearing_suits, round_may, round_stands}
 use Rattle.rest_op.proofs.Ending.{head_may, head_stands, flush_stands, fence_may, fence_all, fence_settled}
@@ -162,14 +162,6 @@ rounds_seen shape (Some (wants.Flush line)) n v = refl
 rounds_seen shape (Some wants.Fence) n v = refl
 rounds_seen shape o n v = refl
 
-give_own : (shape : Shape) (e : Enclosed) (give : Giving) (n : ℕ) (v : View) → (view_by shape (give_kind e give) n v).own ≡ v.own
-give_own shape e (giving.Lock b to) n v = refl
-give_own shape e giving.Guard n v = refl
-
-give_seen : (shape : Shape) (e : Enclosed) (give : Giving) (n : ℕ) (v : View) → (view_by shape (give_kind e give) n v).seen ≡ v.seen
-give_seen shape e (giving.Lock b to) n v = refl
-give_seen shape e giving.Guard n v = refl
-
 same_own : (shape : Shape) (op : RestOp) (s : RestStep) (n : ℕ) (v : View) → (view_by shape (kind_at op s) n v).own ≡ v.own
 same_own shape op (Clear b rounds) n v = rounds_own shape (rounds_wanted rounds (due op b)) n v
 same_own shape op Head n v = refl
@@ -203,10 +195,6 @@ rounds_publish (Some (wants.Flush line)) p = p
 rounds_publish (Some wants.Fence) p = p
 rounds_publish o p = p
 
-give_publish : (e : Enclosed) (give : Giving) → IsPublishingStep (give_kind e give) → ⊥
-give_publish e (giving.Lock b to) p = p
-give_publish e giving.Guard p = p
-
 makes_none : (op : RestOp) (s : RestStep) → IsPublishingStep (kind_at op s) → ⊥
 makes_none op (Clear b rounds) p = rounds_publish (rounds_wanted rounds (due op b)) p
 makes_none op Head p = p
@@ -214,7 +202,7 @@ makes_none op HeadFlush p = p
 makes_none op HeadFence p = p
 makes_none op (Note n) p = p
 makes_none op Open p = p
-makes_none op (Give give) p = give_publish op.whole give p
+makes_none op (Give give) p = give_makes op.whole give p
 makes_none op Ended p = p
 
 rounds_power : (o : Option Want) → kind_of [] o ≢ of_call cuts_power
@@ -222,10 +210,6 @@ rounds_power (Some (wants.Store i x)) same = absurd (cc)
 rounds_power (Some (wants.Flush line)) same = absurd (cc)
 rounds_power (Some wants.Fence) same = absurd (cc)
 rounds_power o same = absurd (cc)
-
-give_power : (e : Enclosed) (give : Giving) → give_kind e give ≢ of_call cuts_power
-give_power e (giving.Lock b to) same = absurd (cc)
-give_power e giving.Guard same = absurd (cc)
 
 power_at : (op : RestOp) (s : RestStep) → kind_at op s ≢ of_call cuts_power
 power_at op (Clear b rounds) same = rounds_power (rounds_wanted rounds (due op b)) same
@@ -243,10 +227,10 @@ module _ (site : Ground) (good : IsGround site) (op : RestOp) (l : IsLocated sit
   at b = bucket_at site.shape op.whole.segment b
 
   -- the words of the slot are words of the image, and so are their lines
-  slot_low : (f s n w : ℕ) → s < n → w < 2144 → f + 2144 * s + w < f + 2144 * n
+  slot_low : (f s n w : ℕ) → s < n → w < segment_words → f + segment_words * s + w < f + segment_words * n
   slot_low f s n w inside low = omega (arith, inside, low)
 
-  word_low : (w : ℕ) → w < 2144 → head_at site.shape op.whole.segment + w < words_of site.shape
+  word_low : (w : ℕ) → w < segment_words → head_at site.shape op.whole.segment + w < words_of site.shape
   word_low w low = slot_low (first_segment site.shape) op.whole.segment site.shape.segments w l.within low
 
   in_image : (i : ℕ) → i < words_of site.shape → i < all_words_of site.shape
@@ -282,16 +266,6 @@ module _ (site : Ground) (good : IsGround site) (op : RestOp) (l : IsLocated sit
 
   none_in : (w : Want) → word_of site.shape w ≡ counter_word site.shape → ((n : ℕ) → w ≡ wants.Flush n → ⊥) → IsWithin site.shape w
   none_in w is no_flush = record { word = subst (λ i. i < all_words_of site.shape) (sym is) (omega arith); line = λ n same. absurd (no_flush n same) }
-
-  lock_low : (b : ℕ) → b < buckets → lock_of op.whole b < words_of site.shape
-  lock_low b near = subst (λ i. i < words_of site.shape) (sym (lock_is site op.whole l b near)) (let low = bucket_low b 0 near (omega arith) in omega (arith, low))
-
-  give_in : (give : Giving) → SuitsGive site op.whole give v → IsWithin site.shape (give_wanted op.whole give)
-  give_in (giving.Lock b to) s = store_in (lock_of op.whole b) _ (lock_low b (let low = s.0 in let most = s.1 in omega (arith, low, most)))
-  give_in giving.Guard s = record {
-    word = subst (λ i. i < all_words_of site.shape) (sym (guard_is site op.whole l)) (let low = l.within in omega (arith, low));
-    line = λ n same. absurd (cc);
-  }
 
   clear_in : (b : ℕ) (rounds : Rounds) → IsClearing site op b rounds v → (want : Want) → rounds_wanted rounds (due op b) ≡ Some want → IsRoundEvent rounds (due op b) want → IsWithin site.shape want
   clear_in b rounds c want wanted event = elim event [
@@ -329,8 +303,8 @@ module _ (site : Ground) (good : IsGround site) (op : RestOp) (l : IsLocated sit
   within_at HeadFlush s = flush_in _ (subst (λ i. 8 * line_of i + 8 ≤ words_of site.shape) (sym (head_is site op.whole l)) header_line)
   within_at HeadFence s = none_in wants.Fence refl (λ n same. absurd (cc))
   within_at (Note n) s = store_in (note_word op n) (note_value op n) (note_low n)
-  within_at Open s = store_in (lock_of op.whole 0) _ (lock_low 0 (omega arith))
-  within_at (Give give) s = give_in give s
+  within_at Open s = record { word = lock_low site op.whole l 0 (omega arith); line = λ n same. absurd (cc) }
+  within_at (Give give) s = give_in site op.whole l give v s
   within_at Ended s = none_in wants.Done refl (λ n same. absurd (cc))
 
 -- ---- what it puts into the memory
@@ -342,10 +316,7 @@ none_puts w no_store no_exchange = record { stores = λ i x same. absurd (no_sto
 
 module _ (op : RestOp) (reckoned : IsReckoned op) where
   rest_small : rest_head op.whole < 2 ^ 64
-  rest_small = by (version_in op.whole.head) (depth_in op.whole.head + 1) (2 * pattern_in op.whole.head) (omega arith)
-    where
-      by : (version depth pattern : ℕ) → version < 2 ^ 8 → version + 2 ^ 8 * 1 + 2 ^ 16 * (depth % 2 ^ 8) + 2 ^ 32 * (pattern % 2 ^ 32) < 2 ^ 64
-      by version depth pattern low = omega (arith, low)
+  rest_small = header_below (version_in op.whole.head) normal ((depth_in op.whole.head + 1) % 2 ^ 8) (2 * pattern_in op.whole.head % 2 ^ 32) (omega arith) (omega arith) (omega arith) (omega arith)
 
   note_small : (n : ℕ) (t : Bool) → (if t then slice_index op.notes.first (note_home n) else slice_index op.notes.third (note_home n)) < 2 ^ 64
   note_small n true = reckoned.first_small (note_home n)
@@ -372,25 +343,17 @@ module _ (op : RestOp) (reckoned : IsReckoned op) where
   clear_puts b rounds true = none_done
   clear_puts b rounds false = wanted_puts b rounds (rounds_wanted rounds (due op b)) refl
 
-  give_puts : (give : Giving) → PutsWord (give_wanted op.whole give)
-  give_puts (giving.Lock b to) = store_puts (lock_of op.whole b) ((free_value op.whole b + 2) % 2 ^ 64) (omega arith)
-  give_puts giving.Guard = store_puts (guard_of op.whole) 0 (omega arith)
-
   puts_at : (s : RestStep) → PutsWord (wanted_in op s)
   puts_at (Clear b rounds) = clear_puts b rounds (nat_lt most_lines (length rounds.round))
   puts_at Head = store_puts _ (rest_head op.whole) rest_small
   puts_at HeadFlush = none_puts _ (λ i x same. absurd (cc)) (λ i x y same. absurd (cc))
   puts_at HeadFence = none_puts wants.Fence (λ i x same. absurd (cc)) (λ i x y same. absurd (cc))
   puts_at (Note n) = store_puts (note_word op n) (note_value op n) (note_small n (n % 2 == 0))
-  puts_at Open = give_puts (giving.Lock 0 66)
-  puts_at (Give give) = give_puts give
+  puts_at Open = give_puts op.whole (giving.Lock 0 buckets)
+  puts_at (Give give) = give_puts op.whole give
   puts_at Ended = none_done
 
 -- ---- nothing is planned, and nothing held at the end
-give_plan : (site : Ground) (e : Enclosed) (give : Giving) (v : View) → SuitsGive site e give v → v.planned ≡ []
-give_plan site e (giving.Lock b to) v s = s.2.quiet.planned
-give_plan site e giving.Guard v s = s.quiet.planned
-
 no_plan : (site : Ground) (op : RestOp) (s : RestStep) (v : View) → SuitsStep site op s v → v.planned ≡ []
 no_plan site op (Clear b rounds) v s = s.0.split.all.idle.planned
 no_plan site op Head v s = s.0.all.idle.planned
@@ -400,10 +363,6 @@ no_plan site op (Note n) v s = s.1.all.idle.planned
 no_plan site op Open v s = s.all.idle.planned
 no_plan site op (Give give) v s = give_plan site op.whole give v s
 no_plan site op Ended v s = s.planned
-
-give_some : (e : Enclosed) (give : Giving) → give_wanted e give ≢ wants.Done
-give_some e (giving.Lock b to) same = absurd (cc)
-give_some e giving.Guard same = absurd (cc)
 
 -- while buckets are cleared something is wanted
 clear_some : (site : Ground) (op : RestOp) (b : ℕ) (rounds : Rounds) (v : View) → SuitsStep site op (Clear b rounds) v → round_wanted rounds (due op b) ≡ wants.Done → ⊥
@@ -417,7 +376,7 @@ ended_at site op Head v s done = absurd (let no : wants.Store (head_word op.whol
 ended_at site op HeadFlush v s done = absurd (let no : wants.Flush (line_of (head_word op.whole.site.geometry op.whole.segment)) ≡ wants.Done = done in cc)
 ended_at site op HeadFence v s done = absurd (let no : wants.Fence ≡ wants.Done = done in cc)
 ended_at site op (Note n) v s done = absurd (let no : wants.Store (note_word op n) (note_value op n) ≡ wants.Done = done in cc)
-ended_at site op Open v s done = absurd (give_some op.whole (giving.Lock 0 66) done)
+ended_at site op Open v s done = absurd (give_some op.whole (giving.Lock 0 buckets) done)
 ended_at site op (Give give) v s done = absurd (give_some op.whole give done)
 ended_at site op Ended v s done = refl
 
@@ -443,7 +402,7 @@ rest_is_part = record {
         enters = λ small. enters_at site.shape call op before v op.step (next_in op op.step (answer_to (wanted op) n)) n s.enters;
         makes = λ p. absurd (makes_none op op.step p);
       };
-  ends = λ site here call op v s done closed. bare_at site op op.step v s.view done;
+  ends = λ site here call op v s done closed on. bare_at site op op.step v s.view done;
   time = record { falls = λ op a i. inl (falls_at op op.step a i); most = λ op. most_at op.step };
   within = λ site here call op before v good s. within_at site good op s.stands.is.located v op.step s.stands.view;
   words = λ site here call op before v s. puts_at op s.stands.reckoned op.step;

@@ -29,18 +29,18 @@ use Rattle.rounds.proofs.Lines.{lines_are_stored}
 use Rattle.rounds.proofs.Settling.{rounds_settle}
 use Rattle.rounds.proofs.Keeping.{rounds_may}
 use Rattle.enclose_op.specs.declared.enclosed.Enclosed.{Enclosed}
-use Rattle.enclose_op.specs.Whole.{kept_word}
+use Rattle.enclose_op.specs.Whole.{kept_word, kept_third}
 use Rattle.enclose_op.specs.Giving.{lock_of}
 use Rattle.rest_op.specs.declared.op.RestOp.{RestOp}
 use Rattle.rest_op.specs.declared.op.RestStep.TheVariants.{Clear}
 use Rattle.rest_op.specs.Steps.{most_lines, due, clear_from, is_cleared, next_clear, clearing, clearing_by, round_wanted, want_by, wanted_in, next_in}
-use Rattle.rest_op.specs.Reckoned.{kept_third, side_depth, side_pattern, IsReckoned}
+use Rattle.rest_op.specs.Reckoned.{side_depth, side_pattern, IsReckoned}
 use Rattle.rest_op.specs.Stands.{value_of, cleared_before, IsSplit, IsLooseBefore, IsClearedLine, IsClearing, SuitsStep}
 use Rattle.enclose_op.proofs.Places.{lock_is}
-use Rattle.rest_op.proofs.Places.{same_bucket}
-use Rattle.rest_op.proofs.Words.{rest_words, same_value}
+use Rattle.rest_op.proofs.whole.Places.{same_bucket}
+use Rattle.rest_op.proofs.whole.Words.{rest_words, same_value}
 use Rattle.rest_op.proofs.Seeking.{seek_within, seek_behind}
-use Rattle.rest_op.proofs.Known.{all_same, all_kept, all_stored, no_sides, settled_holder, holds_bucket, knows_word}
+use Rattle.rest_op.proofs.whole.Known.{all_same, all_kept, all_stored, no_sides, settled_holder, holds_bucket, knows_word}
 use Rattle.rest_op.proofs.Clearing.{clears, before_here, passed_over, cleared_more, all_cleared}
 
 -- the store that is to come, where one is

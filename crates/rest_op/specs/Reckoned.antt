@@ -1,40 +1,21 @@
 -- What is reckoned at the beginning, by what is kept of the segment: word 1 of each bucket without the records that went to the side, and the
 -- notes of the records that are left.
-use Rattle.std.specs.Prelude.{◌≡◌, ℕ, suc, ◌+◌, ◌*◌, ◌^◌, ◌<◌, slice_index}
-use Rattle.bucket_meta.specs.Bucket.{record_slots}
-use Rattle.segment_head.specs.HeadWord.{depth_in, pattern_in}
+use Rattle.std.specs.Prelude.{◌≡◌, ℕ, ◌^◌, ◌<◌, slice_index}
 use Rattle.image_layout.specs.Places.{homes, buckets}
 use Rattle.sound_image.specs.Records.{key_hash}
 use Rattle.whole_segment.specs.Slots.{cleared_mark}
-use Rattle.whole_segment.specs.Records.{first_in, third_in, key_in, covered_set}
+use Rattle.whole_segment.specs.Words.{words_by}
+use Rattle.whole_segment.specs.Records.{covered_set}
 use Rattle.whole_segment.specs.Notes.{stashed_of, HasExactNotes, KeepsRecords}
-use Rattle.whole_segment.specs.declared.loaded.Loaded.{Loaded}
+use Rattle.whole_segment.specs.Rebuilding.{Overflow, first_with, third_with, rebuilt}
+use Rattle.whole_segment.specs.declared.notes.Notes.{Notes}
 use Rattle.enclose_op.specs.declared.enclosed.Enclosed.{Enclosed}
-use Rattle.enclose_op.specs.Whole.{kept_word, kept_first}
+use Rattle.enclose_op.specs.Whole.{kept_first, kept_third, kept_key, side_slots}
+pub use Rattle.enclose_op.specs.Whole.{side_depth, side_pattern}
 use Rattle.rest_op.specs.declared.op.RestOp.{RestOp}
+use Rattle.rest_op.specs.Steps.{begun}
 
--- ---- what is kept
--- word 3 of each bucket, and the key in each record slot
-abbrev pub kept_third : Enclosed → ℕ → ℕ
-kept_third e b = kept_word e b 3
-
-abbrev pub kept_key : Enclosed → ℕ → ℕ → ℕ
-kept_key e b r = kept_word e b (4 + 2 * r)
-
--- these words, as they are loaded
-pub record HasKept (e : Enclosed) (loaded : Loaded) : Type 0 where
-  pub first : (b : ℕ) → b < buckets → first_in loaded b ≡ kept_first e b
-  pub third : (b : ℕ) → b < buckets → third_in loaded b ≡ kept_third e b
-  pub keys : (b r : ℕ) → b < buckets → r < record_slots → key_in loaded b r ≡ kept_key e b r
-
--- ---- what is left
--- the depth and the pattern of the side
-abbrev pub side_depth : Enclosed → ℕ
-side_depth e = suc (depth_in e.head)
-
-abbrev pub side_pattern : Enclosed → ℕ
-side_pattern e = 2 * pattern_in e.head + 1
-
+-- ---- what is right
 -- word 1 of a bucket without the records that the side covers
 abbrev pub cleared_of : Enclosed → ℕ → ℕ
 cleared_of e b = cleared_mark (kept_first e b) (covered_set (kept_first e) (kept_key e) (key_hash e.site.geometry) (side_depth e) (side_pattern e) b)
@@ -48,3 +29,21 @@ pub record IsReckoned (op : RestOp) : Type 0 where
   pub cleared_small : (b : ℕ) → slice_index op.cleared b < 2 ^ 64
   pub first_small : (b : ℕ) → slice_index op.notes.first b < 2 ^ 64
   pub third_small : (b : ℕ) → slice_index op.notes.third b < 2 ^ 64
+
+-- ---- what is reckoned, whatever the header is
+module _ (e : Enclosed) where
+  -- word 1 of each bucket without the records that go to the side
+  abbrev pub left_first : ℕ → ℕ
+  left_first b = cleared_mark (kept_first e b) (side_slots e b)
+
+  -- the notes of each home, made anew of those records that are left in the stash
+  abbrev pub left_notes : ℕ → Overflow
+  left_notes = rebuilt left_first (kept_key e) (key_hash e.site.geometry)
+
+  -- words 1 and 3 of each home with these notes
+  abbrev pub notes_left : Notes
+  notes_left = record { first = words_by homes (λ b. first_with (left_first b) (left_notes b)); third = words_by homes (λ b. third_with (kept_third e b) (left_notes b)) }
+
+-- THE REST OF A SPLIT of an enclosed segment, with nothing stored yet
+abbrev pub rest_of : Enclosed → RestOp
+rest_of e = begun e (words_by buckets (left_first e)) (notes_left e)

@@ -1,12 +1,12 @@
 -- The rest of a split as a part of a call: with what it may begin, and how it ends.
-use Rattle.std.specs.Prelude.{◌≡◌, ℕ, ◌+◌, ◌-◌, nat_lt, ⊤, false, Option, None, Some, [], ◌∷◌, length, if◌then◌else◌}
+use Rattle.std.specs.Prelude.{◌≡◌, ℕ, suc, ◌+◌, ◌-◌, ◌*◌, nat_lt, ⊤, false, Option, None, Some, [], ◌∷◌, length, if◌then◌else◌}
 use Rattle.op_core.specs.declared.want.Want.TheVariants as want
 use Rattle.segment_head.specs.HeadWord.{version_in, depth_in, pattern_in, splitting}
-use Rattle.image_layout.specs.Places.{buckets}
+use Rattle.image_layout.specs.Places.{homes, buckets}
 use Rattle.frame_facts.specs.Facts.{Lacks, Deep}
 use Rattle.map_model.specs.declared.call.Call.{Call}
 use Rattle.world.specs.declared.site.Site.{Site}
-use Rattle.world.specs.Ground.{Ground}
+use Rattle.world.specs.Ground.{Ground, IsGround}
 use Rattle.world.specs.Views.{View, Has}
 use Rattle.world.specs.Holders.{KnowsWord}
 use Rattle.world.specs.areas.Areas.{Segment, Whole, header_word}
@@ -14,10 +14,9 @@ use Rattle.world.specs.areas.Splitting.{link_word, IsHeader, KnowsBuckets}
 use Rattle.part.specs.Outcomes.{Outcome, finished}
 use Rattle.part.specs.Part.{Part}
 use Rattle.phase.specs.Giving.{IsQuiet}
-use Rattle.rounds.specs.declared.rounds.RoundStep.{RoundStep}
-use Rattle.rounds.specs.declared.rounds.RoundStep.TheVariants.{Storing, Flushing, Fencing}
 use Rattle.rounds.specs.declared.rounds.Rounds.{Rounds}
 use Rattle.rounds.specs.Left.{rounds_left}
+use Rattle.rounds.specs.Waiting.{rounds_waiting}
 use Rattle.enclose_op.specs.declared.enclosed.Enclosed.{Enclosed}
 use Rattle.enclose_op.specs.Whole.{kept_words, IsOf, IsWhole, HoldsLocks, KnowsOnlyOf}
 use Rattle.enclose_op.specs.Fits.{give_left}
@@ -26,7 +25,7 @@ use Rattle.rest_op.specs.declared.op.RestStep.{RestStep}
 use Rattle.rest_op.specs.declared.op.RestStep.TheVariants.{Clear, Head, HeadFlush, HeadFence, Note, Open, Give, Ended}
 use Rattle.rest_op.specs.declared.op.RestOp.{RestOp}
 use Rattle.rest_op.specs.Steps.{most_lines, wanted, taken, begun_in, end_of}
-use Rattle.rest_op.specs.Reckoned.{side_depth, side_pattern, IsReckoned}
+use Rattle.rest_op.specs.Reckoned.{side_depth, side_pattern, IsReckoned, rest_of}
 use Rattle.rest_op.specs.Stands.{kind_at, SuitsStep}
 
 -- ---- what is decided
@@ -35,9 +34,13 @@ outcome_at Ended = Some finished
 outcome_at step = None
 
 -- ---- at most so many events are left
--- 128 notes, 66 locks and the guard
+-- the notes, the locks and the guard
 abbrev pub after_head : ℕ
-after_head = 195
+after_head = 2 * homes + (buckets + 1)
+
+-- a word of the notes and those behind it, the locks and the guard
+abbrev pub notes_left : ℕ → ℕ
+notes_left n = suc (2 * homes - 1 - n) + (buckets + 1)
 
 -- while buckets are cleared, no round has touched more lines than it may
 abbrev pub clear_left : ℕ → Rounds → ℕ
@@ -48,8 +51,8 @@ left_at (Clear b rounds) = clear_left b rounds
 left_at Head = 3 + after_head
 left_at HeadFlush = 2 + after_head
 left_at HeadFence = 1 + after_head
-left_at (Note n) = 68 + (127 - n)
-left_at Open = 67
+left_at (Note n) = notes_left n
+left_at Open = buckets + 1
 left_at (Give give) = give_left give
 left_at Ended = 0
 
@@ -57,13 +60,8 @@ abbrev pub most_events : ℕ
 most_events = 405
 
 -- ---- lines that are flushed and not fenced
-abbrev pub round_waiting : RoundStep → ℕ
-round_waiting Storing = 0
-round_waiting (Flushing i) = if nat_lt i 8 then i else 8
-round_waiting Fencing = 8
-
 abbrev pub waiting_at : RestStep → ℕ
-waiting_at (Clear b rounds) = if nat_lt most_lines (length rounds.round) then 0 else round_waiting rounds.step
+waiting_at (Clear b rounds) = rounds_waiting rounds
 waiting_at HeadFence = 1
 waiting_at step = 0
 
@@ -90,9 +88,13 @@ rest_part = record {
   most_events = most_events;
   is_waiting = λ op. false;
   waiting = λ op. waiting_at op.step;
-  most_waiting = 8;
+  most_waiting = most_lines;
   hands_on = λ op. false;
 }
+
+-- the segment that is split
+abbrev pub segment_of : RestOp → ℕ
+segment_of op = op.whole.segment
 
 -- ---- where it begins
 -- WHAT IT GOES ON FROM, once the side is published: the segment is splitting still, and whole; its header, its link and its words are known and
@@ -115,6 +117,10 @@ pub record KeepsSplit (site : Ground) (here : Site) (call : Call) (e : Enclosed)
 -- with such a view, where it was reckoned right
 abbrev pub BeginsAsPart : Type 0
 BeginsAsPart = (site : Ground) (here : Site) (call : Call) (op : RestOp) (v : View) → KeepsSplit site here call op.whole v → IsReckoned op → op.step ≡ begun_in op → RestStands site here call op v
+
+-- what is reckoned of a whole segment is right
+abbrev pub ReckonsRight : Type 0
+ReckonsRight = (site : Ground) (here : Site) (call : Call) (e : Enclosed) → IsGround site → IsOf site here call e → IsWhole site e → IsReckoned (rest_of e)
 
 -- and nothing is decided
 abbrev pub BeginsUndecided : Type 0

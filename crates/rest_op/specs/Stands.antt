@@ -18,14 +18,14 @@ use Rattle.rounds.specs.declared.rounds.Rounds.{Rounds}
 use Rattle.rounds.specs.Steps.{rounds_wanted}
 use Rattle.rounds.specs.Stands.{rounds_kind, RoundStands, IsSettled}
 use Rattle.enclose_op.specs.declared.enclosed.Enclosed.{Enclosed}
-use Rattle.enclose_op.specs.Whole.{kept_word, HoldsLocks, KnowsOnlyOf}
+use Rattle.enclose_op.specs.Whole.{kept_word, HoldsLocks, KnowsOnlyOf, kept_third}
 use Rattle.enclose_op.specs.Giving.{lock_of, free_value}
 use Rattle.enclose_op.specs.Fits.{give_kind, SuitsGive}
 use Rattle.rest_op.specs.declared.op.RestStep.{RestStep}
 use Rattle.rest_op.specs.declared.op.RestStep.TheVariants.{Clear, Head, HeadFlush, HeadFence, Note, Open, Give, Ended}
 use Rattle.rest_op.specs.declared.op.RestOp.{RestOp}
 use Rattle.rest_op.specs.Steps.{rest_head, due, note_word, note_value}
-use Rattle.rest_op.specs.Reckoned.{kept_third, side_depth, side_pattern}
+use Rattle.rest_op.specs.Reckoned.{side_depth, side_pattern}
 
 -- ---- the kind of each event
 abbrev pub kind_at : RestOp → RestStep → StepKind

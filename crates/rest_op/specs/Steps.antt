@@ -1,7 +1,7 @@
 -- What the rest of a split wants in each step, and what an answer makes of it; and how it ends.
 use Rattle.std.specs.Prelude.{ℕ, zero, suc, ◌+◌, ◌-◌, ◌*◌, ◌/◌, ◌%◌, ◌^◌, ◌==◌, not, nat_lt, Bool, true, false, Option, None, Some, List, length, slice_index, if◌then◌else◌}
 use Rattle.trace.specs.Events.{line_of}
-use Rattle.segment_head.specs.HeadWord.{version_in, depth_in, pattern_in, normal}
+use Rattle.segment_head.specs.HeadWord.{version_in, depth_in, pattern_in, header_of, normal}
 use Rattle.image_layout.specs.Places.{homes, buckets}
 use Rattle.way.specs.Ways.{head_word}
 use Rattle.op_core.specs.declared.want.Want.{Want}
@@ -31,7 +31,7 @@ seek test (suc n) from = if test from then from else seek test n (from + 1)
 
 -- the header of the segment when its split is made: normal, one deeper, with a 0 behind its pattern
 abbrev pub rest_head : Enclosed → ℕ
-rest_head e = version_in e.head + 2 ^ 8 * normal + 2 ^ 16 * ((depth_in e.head + 1) % 2 ^ 8) + 2 ^ 32 * (2 * pattern_in e.head % 2 ^ 32)
+rest_head e = header_of (version_in e.head) normal ((depth_in e.head + 1) % 2 ^ 8) (2 * pattern_in e.head % 2 ^ 32)
 
 -- the home of a word of the notes, and its number in the bucket
 abbrev pub note_home : ℕ → ℕ
@@ -92,6 +92,10 @@ abbrev pub noting : ℕ → RestStep
 noting n = if nat_lt n (2 * homes) then Note n else Open
 
 -- ---- what is held is given back
+-- from the lock of a bucket on
+abbrev pub locks_from : ℕ → Giving
+locks_from b = Lock b buckets
+
 abbrev pub given_by : Option Giving → RestStep
 given_by (Some more) = Give more
 given_by None = Ended
@@ -117,7 +121,7 @@ module _ (op : RestOp) where
   wanted_in HeadFlush = want.Flush (line_of (head_word op.whole.site.geometry op.whole.segment))
   wanted_in HeadFence = want.Fence
   wanted_in (Note n) = want.Store (note_word op n) (note_value op n)
-  wanted_in Open = give_wanted op.whole (Lock 0 66)
+  wanted_in Open = give_wanted op.whole (locks_from 0)
   wanted_in (Give give) = give_wanted op.whole give
   wanted_in Ended = want.Done
 
@@ -128,7 +132,7 @@ module _ (op : RestOp) where
   next_in HeadFlush Passed = HeadFence
   next_in HeadFence Passed = noting (note_from op 0)
   next_in (Note n) Passed = if nat_lt n (2 * homes) then noting (note_from op (n + 1)) else Open
-  next_in Open Passed = Give (Lock 1 66)
+  next_in Open Passed = Give (locks_from 1)
   next_in (Give give) Passed = given_to give
   next_in same ans = same
 

@@ -1,8 +1,9 @@
 //! The machine, its steps, and how it ends.
 
-ghost use Rattle.std.specs.Prelude.{◌≡◌, ◌<◌, ◌≤◌, ◌↔◌, IsTrue};
+ghost use Rattle.std.specs.Prelude.{◌≡◌, ◌*◌, ◌<◌, ◌≤◌, ◌↔◌, IsTrue};
+ghost use Rattle.image_layout.specs.Places.{homes, buckets};
 ghost use Rattle.op_core.specs.declared.want.Want.TheVariants as want;
-ghost use Rattle.rest_op.specs.Steps.{is_cleared, clear_from, note_old, note_value, is_noted, note_from, note_word, due, clearing, noting, given_to, round_wanted, cleared, begun, begun_in, wanted, taken, end_of};
+ghost use Rattle.rest_op.specs.Steps.{is_cleared, clear_from, note_old, note_value, is_noted, note_from, note_word, due, clearing, noting, locks_from, given_to, round_wanted, cleared, begun, begun_in, wanted, taken, end_of};
 
 use crate::heads::rest_head;
 use enclose_op::{Enclosed, Give, given};
@@ -52,7 +53,7 @@ pub struct RestOp {
     /// The segment as it was when it was enclosed.
     pub whole: Enclosed,
     /// Word 1 of each bucket without the records that went to the side.
-    pub cleared: [u64; 66],
+    pub cleared: [u64; BUCKETS as usize],
     /// Words 1 and 3 of each home with the notes of what is left.
     pub notes: Notes,
     /// Where it stands.
@@ -60,7 +61,7 @@ pub struct RestOp {
 }
 
 /// One that has stored nothing yet, with these words.
-pub(crate) fn begun(whole: Enclosed, cleared: [u64; 66], notes: Notes) -> RestOp
+pub(crate) fn begun(whole: Enclosed, cleared: [u64; BUCKETS as usize], notes: Notes) -> RestOp
     ensures { result ≡ begun whole cleared notes }
 {
     let op = RestOp {
@@ -80,7 +81,7 @@ impl RestOp {
 
     /// Whether a bucket has records that are to be cleared.
     fn is_cleared(&self, bucket: u8) -> bool
-        requires { bucket < 66 }
+        requires { bucket < buckets }
         ensures { result ≡ is_cleared self.now bucket }
     {
         self.cleared[usize::from(bucket)] != self.whole.buckets[32 * usize::from(bucket) + 1]
@@ -88,7 +89,7 @@ impl RestOp {
 
     /// The first such bucket from a number on; the number of all buckets where there is none.
     fn clear_from(&self, from: u8) -> u8
-        requires { from ≤ 66 }
+        requires { from ≤ buckets }
         ensures is { result ≡ clear_from self.now from }
     {
         for bucket in from..BUCKETS {
@@ -172,7 +173,7 @@ impl RestOp {
 
     /// The first such word from a number on; the number of all where there is none.
     fn note_from(&self, from: u8) -> u8
-        requires { from ≤ 128 }
+        requires { from ≤ 2 * homes }
         ensures is { result ≡ note_from self.now from }
     {
         for number in from..NOTES {
@@ -221,6 +222,16 @@ impl RestOp {
     }
 }
 
+/// What is to be given back from the lock of this bucket on.
+fn locks_from(bucket: u8) -> Give
+    ensures { result ≡ locks_from bucket }
+{
+    Give::Lock {
+        bucket,
+        to: BUCKETS,
+    }
+}
+
 /// After something was given back.
 fn given_to(give: Give) -> RestStep
     ensures { result ≡ given_to give }
@@ -257,7 +268,7 @@ fn want_of(op: &RestOp) -> Want
         RestStep::HeadFlush => Want::Flush(line_of(head)),
         RestStep::HeadFence => Want::Fence,
         RestStep::Note(number) => Want::Store(op.note_word(*number), op.note_value(*number)),
-        RestStep::Open => whole.give(Give::Lock { bucket: 0, to: 66 }),
+        RestStep::Open => whole.give(locks_from(0)),
         RestStep::Give(give) => whole.give(*give),
         RestStep::Ended => Want::Done,
     }
@@ -276,7 +287,7 @@ fn step_after(op: &RestOp, ans: Ans) -> RestStep
             op.noting(op.note_from(number + 1))
         }
         (RestStep::Note(_), Ans::Passed) => RestStep::Open,
-        (RestStep::Open, Ans::Passed) => RestStep::Give(Give::Lock { bucket: 1, to: 66 }),
+        (RestStep::Open, Ans::Passed) => RestStep::Give(locks_from(1)),
         (RestStep::Give(give), Ans::Passed) => given_to(give),
         (same, _) => same,
     }

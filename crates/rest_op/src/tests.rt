@@ -1,7 +1,7 @@
 //! The rest of a split of a segment with three records: one went to the side, and one stands in the stash.
 use super::*;
 use enclose_op::Enclosed;
-use image_layout::Geometry;
+use image_layout::{BUCKETS, Geometry, WORDS_OF_BUCKETS};
 use map_model::{Change, Effect};
 use op_core::{Ans, Machine, Want};
 use std::test::Fail;
@@ -9,13 +9,13 @@ use world::Site;
 
 /// Its words: two records of home 0, of which the first has a hash with top bit 1, and one of home 0 in the first stash bucket.
 fn whole() -> Result<Enclosed, Fail> {
-    let mut buckets = [0; 2112];
+    let mut buckets = [0; WORDS_OF_BUCKETS as usize];
     buckets[1] = 3;
     buckets[4] = 1 << 63;
     buckets[6] = 5;
     buckets[2049] = 1;
     buckets[2052] = 7;
-    let mut locks = [0; 66];
+    let mut locks = [0; BUCKETS as usize];
     locks[65] = 8;
     Ok(Enclosed {
         site: Site {

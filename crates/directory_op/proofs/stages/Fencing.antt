@@ -4,7 +4,7 @@ use Rattle.std.specs.Prelude.{⊤, not}
 use Rattle.std.proofs.lemmas.Bool.{eq-eqb}
 use Rattle.op_core.specs.declared.want.Want.TheVariants.{Fence}
 use Rattle.segment_head.specs.HeadWord.{depth_in, pattern_in}
-use Rattle.image_layout.specs.Places.{Shape, root_word, first_segment}
+use Rattle.image_layout.specs.Places.{Shape, root_word, first_segment, most_depth}
 use Rattle.frame_facts.specs.Facts.{Owns, Lacks, Deep}
 use Rattle.frame_facts.specs.DeadSlots.{IsInSlot}
 use Rattle.map_model.specs.declared.call.Call.{Call}
@@ -29,8 +29,8 @@ use Rattle.directory_op.specs.DirectoryPart.{facts_of}
 use Rattle.directory_op.proofs.Words.{not_in_slot, other_slot, before_slot}
 use Rattle.directory_op.proofs.Keeping.{Keeps, kept_in_slot, split_stays, live_stays, deep_stays}
 use Rattle.directory_op.proofs.Sides.{split_depth, split_pattern, side_deep, side_region, is_of_side, first_of, near_of, first_last}
-use Rattle.directory_op.proofs.Staying.{round_same, filling_stays, rooted_stays}
-use Rattle.directory_op.proofs.Rounding.{round_behind, begun_settled, settled_loose, storing_behind, keeps_fenced, round_fenced}
+use Rattle.directory_op.proofs.stages.Staying.{round_same, filling_stays, rooted_stays}
+use Rattle.directory_op.proofs.stages.Rounding.{round_behind, begun_settled, settled_loose, storing_behind, keeps_fenced, round_fenced}
 
 some_none : {A : Type 0} {x : A} → Some x ≡ None → ⊥
 some_none e = cc
@@ -105,7 +105,7 @@ module _ (site : Ground) (ground : IsGround site) (here : Site) (call : Call) (o
       round_live : RoundStands rounds live
       round_live = round_same (view_then shape (settles []) n v) live refl refl rounds (round_fenced site ground here call op v Live s n is)
 
-      not_deep : op.root ≤ 16
+      not_deep : op.root ≤ most_depth
       not_deep = let most = ground.shape.depth in let deep = s.at.root.deep in omega (arith, most, deep)
 
       abbrev first : ℕ

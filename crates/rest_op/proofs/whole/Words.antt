@@ -9,7 +9,7 @@ use Rattle.world.specs.areas.Splitting.{link_word}
 use Rattle.enclose_op.specs.declared.enclosed.Enclosed.{Enclosed}
 use Rattle.enclose_op.specs.Whole.{kept_word}
 use Rattle.rest_op.specs.Stands.{value_of}
-use Rattle.rest_op.proofs.Places.{no_header, no_link, link_no_header}
+use Rattle.rest_op.proofs.whole.Places.{no_header, no_link, link_no_header}
 
 -- the words that are neither word 1 nor word 3
 pub other_value : (e : Enclosed) (first third : ℕ → ℕ) (b n : ℕ) → n ≢ 1 → n ≢ 3 → value_of e first third b n ≡ kept_word e b n

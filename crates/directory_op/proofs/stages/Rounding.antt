@@ -4,7 +4,7 @@ use Rattle.std.specs.Prelude.{⊤, nat_lt}
 use Rattle.op_core.specs.declared.want.Want.{Want}
 use Rattle.op_core.specs.declared.want.Want.TheVariants.{Flush, Fence}
 use Rattle.trace.specs.Events.{line_of}
-use Rattle.image_layout.specs.Places.{Shape, root_word, entry_at, words_of, first_segment}
+use Rattle.image_layout.specs.Places.{Shape, root_word, entry_at, words_of, first_segment, segment_words}
 use Rattle.image_layout.proofs.Areas.{entry_before}
 use Rattle.frame_facts.specs.Facts.{Fact}
 use Rattle.map_model.specs.declared.call.Call.{Call}
@@ -39,20 +39,20 @@ use Rattle.directory_op.specs.Steps.{next_store}
 use Rattle.directory_op.specs.Fits.{IsStoredIn, IsStoring, SuitsStage, SuitsStore}
 use Rattle.directory_op.proofs.Words.{entry_is, head_is}
 use Rattle.directory_op.proofs.Keeping.{Keeps}
-use Rattle.directory_op.proofs.Staying.{stage_stays}
+use Rattle.directory_op.proofs.stages.Staying.{stage_stays}
 
 -- ---- lines of the image
 -- the line of a word of the image is one of the image
 pub line_within : (shape : Shape) (i : ℕ) → i < words_of shape → 8 * line_of i + 8 ≤ words_of shape
 line_within shape i low = by ((32 + 2 ^ (shape.depth + 1) - 1 + 31) / 32) shape.segments i low
   where
-    by : (q s i : ℕ) → i < q * 32 + 2144 * s → 8 * (i / 8) + 8 ≤ q * 32 + 2144 * s
+    by : (q s i : ℕ) → i < q * 32 + segment_words * s → 8 * (i / 8) + 8 ≤ q * 32 + segment_words * s
     by q s i low = omega (arith, low)
 
 front_within : (shape : Shape) (i : ℕ) → i < first_segment shape → i < words_of shape
 front_within shape i low = by (first_segment shape) shape.segments i low
   where
-    by : (f s i : ℕ) → i < f → i < f + 2144 * s
+    by : (f s i : ℕ) → i < f → i < f + segment_words * s
     by f s i low = omega (arith, low)
 
 some_same : {A : Type 0} {x y : A} → Some x ≡ Some y → x ≡ y
@@ -104,7 +104,7 @@ module _ (site : Ground) (ground : IsGround site) (here : Site) (call : Call) (o
     root_near : root_word < words_of site.shape
     root_near = by (first_segment site.shape) (front_far site.shape) site.shape.segments
       where
-        by : (f : ℕ) → 32 ≤ f → (s : ℕ) → 8 < f + 2144 * s
+        by : (f : ℕ) → 32 ≤ f → (s : ℕ) → 8 < f + segment_words * s
         by f far s = omega (arith, far)
 
   shape_here : (v : View) (stage : Stage) → SuitsStage site here op call stage v → op.copied.whole.site.geometry ≡ site.shape

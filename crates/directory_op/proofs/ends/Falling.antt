@@ -1,5 +1,5 @@
 -- Fewer events are left after each, but while the guard is waited for.
-use Rattle.std.proofs.Common.{◌≡◌, ◌≢◌, ℕ, suc, ◌+◌, ◌-◌, ◌*◌, ◌%◌, ◌^◌, ◌<◌, ◌≤◌, ◌⊎◌, inl, inr, true, false, cond, Option, None, Some, List, length, refl, sym, ap, subst, arith}
+use Rattle.std.proofs.Common.{◌≡◌, ◌≢◌, ℕ, suc, ◌+◌, ◌-◌, ◌*◌, ◌%◌, ◌^◌, ◌<◌, ◌≤◌, ◌⊎◌, inl, inr, Bool, true, false, cond, Option, None, Some, List, length, refl, sym, ap, subst, arith}
 use Rattle.std.specs.Prelude.{◌==◌, min, slice_index}
 use Rattle.std.proofs.Math.Pow.{pow_mono}
 use Rattle.std.proofs.lemmas.Bool.{cases_Bool, cases_lt, lt-ltb, le-ltb, le-leb, lt-leb}
@@ -9,6 +9,7 @@ use Rattle.op_core.specs.declared.want.Ans.{Ans}
 use Rattle.op_core.specs.declared.want.Ans.TheVariants.{Value, Won, Lost, Passed}
 use Rattle.op_core.specs.Answers.{IsAnswer}
 use Rattle.segment_head.specs.HeadWord.{depth_in, pattern_in}
+use Rattle.image_layout.specs.Places.{Shape, most_depth}
 use Rattle.part.specs.Part.{EndsInTime}
 use Rattle.rounds.specs.declared.rounds.RoundStep.{RoundStep}
 use Rattle.rounds.specs.declared.rounds.RoundStep.TheVariants.{Storing, Flushing, Fencing}
@@ -24,19 +25,35 @@ use Rattle.directory_op.specs.declared.op.DirectoryStep.{DirectoryStep}
 use Rattle.directory_op.specs.declared.op.DirectoryStep.TheVariants.{LoadHead, LoadSideHead, TakeGuard, AskPower, LoadRoot, LoadEntry, Store, GiveGuard, Ended}
 use Rattle.directory_op.specs.declared.op.DirectoryOp.{DirectoryOp}
 use Rattle.directory_op.specs.Places.{entries_of, run_of, side_first, side_last}
-use Rattle.directory_op.specs.Steps.{shape_of, next_store, fill_on, stage_after, settled_to, settled_by, passed_to, passed, want_or_none, put_wanted, wanted_in, power_step, rooted, with_root, taken_in}
-use Rattle.directory_op.specs.Left.{after_filled, fill_left, stage_left, few_left, step_left, left_of, guarded_left, is_trying}
+use Rattle.directory_op.specs.Steps.{shape_of, next_store, fill_on, stage_after, settled_to, settled_by, passed_to, passed, want_or_none, put_wanted, wanted_in, power_step, rooted, is_over, with_root, taken_in}
+use Rattle.directory_op.specs.Left.{most_entries, deepest_entries, after_filled, fill_left, stage_left, guarded_with, guarded_left, few_left, step_left, left_of, is_trying}
 use Rattle.directory_op.specs.DirectoryPart.{goes_on, directory_part}
 
 none_some : {A : Type 0} {x : A} → Some x ≡ None → ⊥
 none_some e = cc
 
 -- ---- numbers
-pub few_entries : (depth : ℕ) → entries_of depth ≤ 65536
-few_entries depth = elim (cases_lt 16 depth) [
-  | inl high ↦ (let e = ap (λ b. cond b (2 ^ depth) 0) (lt-leb depth 16 high) in omega (arith, e))
-  | inr low ↦ (let e = ap (λ b. cond b (2 ^ depth) 0) (le-leb depth 16 low) in let most = pow_mono {i = depth} {j = 16} low in omega (arith, e, most))
+pub few_entries : (depth : ℕ) → entries_of depth ≤ most_entries
+few_entries depth = elim (cases_lt most_depth depth) [
+  | inl high ↦ (let e = ap (λ b. cond b (2 ^ depth) 0) (lt-leb depth most_depth high) in omega (arith, e))
+  | inr low ↦ (let e = ap (λ b. cond b (2 ^ depth) 0) (le-leb depth most_depth low) in let most = pow_mono {i = depth} {j = most_depth} low in omega (arith, e, most))
 ]
+
+-- an area that the image has is no larger than its deepest one, and this than the deepest of all
+least_depth : (root depth : ℕ) → root ≤ depth → root ≤ most_depth → root ≤ min depth most_depth
+least_depth root depth low most = omega (arith, low, most)
+
+entries_within : (root : ℕ) (shape : Shape) → root ≤ shape.depth → entries_of root ≤ deepest_entries shape
+entries_within root shape within = elim (cases_lt most_depth root) [
+  | inl high ↦ (let e = ap (λ b. cond b (2 ^ root) 0) (lt-leb root most_depth high) in omega (arith, e))
+  | inr low ↦ (let e = ap (λ b. cond b (2 ^ root) 0) (le-leb root most_depth low) in let most = pow_mono {i = root} {j = min shape.depth most_depth} (least_depth root shape.depth within low) in omega (arith, e, most))
+]
+
+few_deepest : (shape : Shape) → deepest_entries shape ≤ most_entries
+few_deepest shape = pow_mono {i = min shape.depth most_depth} {j = most_depth} (by shape.depth)
+  where
+    by : (depth : ℕ) → min depth most_depth ≤ most_depth
+    by depth = omega arith
 
 -- behind one of several entries the next one is to be stored
 next_entry : (all place l m k : ℕ) → place < all → 3 * (all - place) + l < 3 * suc (all - place) + m
@@ -91,11 +108,11 @@ round_passes rounds next a i = elim (cases_wanted (rounds_wanted rounds next)) [
 
 -- ---- what is left whether or not a round has more lines than it may have
 abbrev raw_left : DirectoryOp → DirectoryStep → ℕ
-raw_left op LoadHead = 3 + guarded_left
-raw_left op LoadSideHead = 2 + guarded_left
-raw_left op TakeGuard = 1 + guarded_left
-raw_left op AskPower = 1 + guarded_left
-raw_left op LoadRoot = guarded_left
+raw_left op LoadHead = 3 + guarded_left op
+raw_left op LoadSideHead = 2 + guarded_left op
+raw_left op TakeGuard = 1 + guarded_left op
+raw_left op AskPower = 1 + guarded_left op
+raw_left op LoadRoot = guarded_left op
 raw_left op (LoadEntry place) = 1 + fill_left op place
 raw_left op (Store stage) = stage_left op stage
 raw_left op GiveGuard = 1
@@ -151,11 +168,11 @@ module _ (op : DirectoryOp) where
       elim (cases_lt place (all - 1)) [
         | inl low ↦ subst (λ b. raw_left (after stage) (cond b (fill_on (place % 2 == 0) place value) (Store Filled)) < stage_left op stage) (sym (lt-ltb place (all - 1) low))
             (elim (cases_Bool (place % 2 == 0)) [
-              | inl even ↦ subst (λ b. raw_left (after stage) (fill_on b place value) < stage_left op stage) (sym even) (next_entry all place l (lines_left op.rounds) after_filled (omega (arith, low)) law)
-              | inr odd ↦ subst (λ b. raw_left (after stage) (fill_on b place value) < stage_left op stage) (sym odd) (load_next all place l (lines_left op.rounds) after_filled (omega (arith, low)) law)
+              | inl even ↦ subst (λ b. raw_left (after stage) (fill_on b place value) < stage_left op stage) (sym even) (next_entry all place l (lines_left op.rounds) (after_filled op) (omega (arith, low)) law)
+              | inr odd ↦ subst (λ b. raw_left (after stage) (fill_on b place value) < stage_left op stage) (sym odd) (load_next all place l (lines_left op.rounds) (after_filled op) (omega (arith, low)) law)
             ])
         | inr last ↦ subst (λ b. raw_left (after stage) (cond b (fill_on (place % 2 == 0) place value) (Store Filled)) < stage_left op stage) (sym (le-ltb place (all - 1) last))
-            (none_next all place l (lines_left op.rounds) after_filled law)
+            (none_next all place l (lines_left op.rounds) (after_filled op) law)
       ]
   store_falls Filled is = absurd (none_stored op.rounds is)
   store_falls Deepen is = let law = rounds_fall.stores op.rounds (next_store op Deepen) 0 is in omega (arith, law)
@@ -200,8 +217,7 @@ module _ (op : DirectoryOp) where
   settled_falls GoLive none is some off = absurd (none_some none)
   settled_falls Live none is some off =
       let law = rounds_fall.others op.rounds None 0 some off in
-      let begins = ap (λ (r : Rounds). rounds_left r (suc (all - side_first op.root op.side_head))) is in
-      let few = few_entries op.root in omega (arith, law, begins, few)
+      let begins = ap (λ (r : Rounds). rounds_left r (suc (all - side_first op.root op.side_head))) is in omega (arith, law, begins)
   settled_falls (Enter index) none is some off = absurd (none_some none)
   settled_falls Entered none is some off = let law = rounds_fall.others op.rounds None 0 some off in omega (arith, law)
 
@@ -224,15 +240,21 @@ module _ (op : DirectoryOp) where
   ]
 
   -- ---- the root
-  root_falls : (root : ℕ) → left_of (with_root op root) < guarded_left
-  root_falls root = elim (cases_lt (shape_of op).depth root) [
-    | inl none ↦ subst (λ b. left_of (cond b (record op { step = Ended Off }) (rooted (root == depth_in op.head) op root)) < guarded_left) (sym (lt-ltb (shape_of op).depth root none)) (omega arith)
-    | inr some ↦ subst (λ b. left_of (cond b (record op { step = Ended Off }) (rooted (root == depth_in op.head) op root)) < guarded_left) (sym (le-ltb (shape_of op).depth root some))
-        (elim (cases_Bool (root == depth_in op.head)) [
-          | inl same ↦ subst (λ b. left_of (rooted b op root) < guarded_left) (sym same) (let few = few_entries (root + 1) in omega (arith, few))
-          | inr other ↦ subst (λ b. left_of (rooted b op root) < guarded_left) (sym other) (omega arith)
-        ])
-  ]
+  abbrev met_root : ℕ → Bool → Bool → DirectoryOp
+  met_root root same over = cond over (record op { step = Ended Off }) (rooted same op root)
+
+  root_falls : (root : ℕ) → left_of (with_root op root) < guarded_left op
+  root_falls root = by (root == depth_in op.head)
+    where
+      by : (same : Bool) → left_of (met_root root same (is_over (shape_of op) same root)) < guarded_left op
+      by true = elim (cases_lt root (shape_of op).depth) [
+        | inl low ↦ subst (λ b. left_of (met_root root true b) < guarded_left op) (sym (lt-leb (shape_of op).depth root low)) (let few = entries_within (root + 1) (shape_of op) (omega (arith, low)) in omega (arith, few))
+        | inr over ↦ subst (λ b. left_of (met_root root true b) < guarded_left op) (sym (le-leb (shape_of op).depth root over)) (omega arith)
+      ]
+      by false = elim (cases_lt (shape_of op).depth root) [
+        | inl over ↦ subst (λ b. left_of (met_root root false b) < guarded_left op) (sym (lt-ltb (shape_of op).depth root over)) (omega arith)
+        | inr low ↦ subst (λ b. left_of (met_root root false b) < guarded_left op) (sym (le-ltb (shape_of op).depth root low)) (let few = entries_within root (shape_of op) low in omega (arith, few))
+      ]
 
   -- ---- each event
   abbrev FallsOrWaits : DirectoryStep → DirectoryOp → Type 0
@@ -289,13 +311,13 @@ few_lines rounds few = few_at rounds.step
     few_at Fencing = omega arith
 
 module _ (op : DirectoryOp) (few : length op.rounds.round ≤ 8) where
-  stage_most : (stage : Stage) → stage_left op stage ≤ guarded_left + 8
+  stage_most : (stage : Stage) → stage_left op stage ≤ guarded_with most_entries + 8
   stage_most (Fill place value) = let lines = few_lines op.rounds few in let all = few_entries op.root in omega (arith, lines, all)
-  stage_most Filled = let lines = few_lines op.rounds few in omega (arith, lines)
-  stage_most Deepen = let lines = few_lines op.rounds few in omega (arith, lines)
-  stage_most Deepened = let lines = few_lines op.rounds few in omega (arith, lines)
-  stage_most GoLive = let lines = few_lines op.rounds few in omega (arith, lines)
-  stage_most Live = let lines = few_lines op.rounds few in omega (arith, lines)
+  stage_most Filled = let lines = few_lines op.rounds few in let all = few_entries op.root in omega (arith, lines, all)
+  stage_most Deepen = let lines = few_lines op.rounds few in let all = few_entries op.root in omega (arith, lines, all)
+  stage_most Deepened = let lines = few_lines op.rounds few in let all = few_entries op.root in omega (arith, lines, all)
+  stage_most GoLive = let lines = few_lines op.rounds few in let all = few_entries op.root in omega (arith, lines, all)
+  stage_most Live = let lines = few_lines op.rounds few in let all = few_entries op.root in omega (arith, lines, all)
   stage_most (Enter index) = let lines = few_lines op.rounds few in let all = few_entries op.root in omega (arith, lines, all)
   stage_most Entered = let lines = few_lines op.rounds few in omega (arith, lines)
 
@@ -307,14 +329,14 @@ few_most op left most low = elim (cases_lt 8 (length op.rounds.round)) [
 ]
 
 module _ (op : DirectoryOp) where
-  most_at : (step : DirectoryStep) → step_left op step ≤ 3 + guarded_left + 8
-  most_at LoadHead = omega arith
-  most_at LoadSideHead = omega arith
-  most_at TakeGuard = omega arith
-  most_at AskPower = omega arith
-  most_at LoadRoot = omega arith
-  most_at (LoadEntry place) = let most = few_most op (fill_left op place) (guarded_left + 8) (λ few. stage_most op few (Fill place 0)) in omega (arith, most)
-  most_at (Store stage) = let most = few_most op (stage_left op stage) (guarded_left + 8) (λ few. stage_most op few stage) in omega (arith, most)
+  most_at : (step : DirectoryStep) → step_left op step ≤ 3 + guarded_with most_entries + 8
+  most_at LoadHead = let few = few_deepest (shape_of op) in omega (arith, few)
+  most_at LoadSideHead = let few = few_deepest (shape_of op) in omega (arith, few)
+  most_at TakeGuard = let few = few_deepest (shape_of op) in omega (arith, few)
+  most_at AskPower = let few = few_deepest (shape_of op) in omega (arith, few)
+  most_at LoadRoot = let few = few_deepest (shape_of op) in omega (arith, few)
+  most_at (LoadEntry place) = let most = few_most op (fill_left op place) (guarded_with most_entries + 8) (λ few. stage_most op few (Fill place 0)) in omega (arith, most)
+  most_at (Store stage) = let most = few_most op (stage_left op stage) (guarded_with most_entries + 8) (λ few. stage_most op few stage) in omega (arith, most)
   most_at GiveGuard = omega arith
   most_at (Ended end) = omega arith
 

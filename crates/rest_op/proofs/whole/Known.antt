@@ -19,8 +19,8 @@ use Rattle.enclose_op.specs.Whole.{KnowsOnlyOf}
 use Rattle.rest_op.specs.Stands.{value_of, KnowsAll, HasAll}
 use Rattle.enclose_op.proofs.Places.{in_slot, head_in_slot}
 use Rattle.enclose_op.proofs.Held.{hold_same}
-use Rattle.rest_op.proofs.Places.{no_header, no_link, link_no_header, same_bucket}
-use Rattle.rest_op.proofs.Words.{rest_words, same_value, header_here, link_here, bucket_here}
+use Rattle.rest_op.proofs.whole.Places.{no_header, no_link, link_no_header, same_bucket}
+use Rattle.rest_op.proofs.whole.Words.{rest_words, same_value, header_here, link_here, bucket_here}
 
 pub pair_same : (a b x y : ℕ) → a ≡ b → x ≡ y → ◌≡◌ {A = ℕ × ℕ} (a, x) (b, y)
 pair_same a b x y e f = cc

@@ -1,7 +1,7 @@
 -- Under the guard of the directory: what loads of the root and of entries tell, and what is left when the guard is given back.
 use Rattle.std.proofs.Common.{◌≡◌, ◌≢◌, ℕ, suc, ◌+◌, ◌-◌, ◌*◌, ◌/◌, ◌^◌, ◌<◌, ◌≤◌, inl, inr, Bool, true, false, cond, None, Some, List, [], ◌∷◌, refl, sym, ap, ◌∙◌, subst, arith}
 use Rattle.std.specs.Prelude.{⊤, ◌==◌, ◌&&◌, ◌||◌, not, nat_le, nat_lt}
-use Rattle.std.proofs.lemmas.Bool.{cases_lt, le-ltb, eqb-true, eqb-false, ne_eqb}
+use Rattle.std.proofs.lemmas.Bool.{cases_lt, le-ltb, lt-leb, eqb-true, eqb-false, ne_eqb}
 use Rattle.std.proofs.lemmas.Nat.{pow_pos}
 use Rattle.trace.specs.Events.{Words}
 use Rattle.segment_head.specs.HeadWord.{state_in, depth_in, splitting}
@@ -31,13 +31,13 @@ use Rattle.directory_op.specs.declared.op.Stage.TheVariants.{Fill, GoLive}
 use Rattle.directory_op.specs.declared.op.DirectoryStep.TheVariants.{LoadEntry, Store, Ended}
 use Rattle.directory_op.specs.declared.op.DirectoryOp.{DirectoryOp}
 use Rattle.directory_op.specs.Places.{entry_word}
-use Rattle.directory_op.specs.Steps.{shape_of, rooted, with_root}
+use Rattle.directory_op.specs.Steps.{shape_of, rooted, is_over, with_root}
 use Rattle.directory_op.specs.Fits.{side_depth, side_pattern, IsGuarding, IsDirected, FillsFrom, KeepsPublished, SuitsStep, IsKeptWord}
 use Rattle.directory_op.proofs.Words.{doubled, entry_is, slot_behind}
 use Rattle.directory_op.proofs.Keeping.{Keeps, locks_stay, kept_in_slot, new_stays}
 use Rattle.directory_op.proofs.Sides.{split_state, split_depth, head_kept}
-use Rattle.directory_op.proofs.Staying.{round_same, filling_stays}
-use Rattle.directory_op.proofs.Rounding.{settled_loose}
+use Rattle.directory_op.proofs.stages.Staying.{round_same, filling_stays}
+use Rattle.directory_op.proofs.stages.Rounding.{settled_loose}
 
 some_none : {A : Type 0} {x : A} → Some x ≡ None → ⊥
 some_none e = cc
@@ -144,12 +144,22 @@ module _ (site : Ground) (here : Site) (call : Call) (words : Words) (views : Li
     here_low : (shape_of op).depth ≡ shape.depth
     here_low = ap (λ (g : Shape). g.depth) s.new.split.is.located.shape
 
+    within_by : (same : Bool) → (words root_word == depth_in op.head) ≡ same → is_over (shape_of op) same (words root_word) ≡ false
+    within_by true e =
+        let same : words root_word ≡ d = eqb-true (words root_word) (depth_in op.head) e ∙ head_depth in
+        let less = s.new.split.whole.shallow in
+        lt-leb (shape_of op).depth (words root_word) (subst (λ k. words root_word < k) (sym here_low) (omega (arith, same, less)))
+    within_by false e = le-ltb (shape_of op).depth (words root_word) (subst (λ k. words root_word ≤ k) (sym here_low) root_low)
+
+    -- so the image has the areas that are needed
+    pub root_within : is_over (shape_of op) (words root_word == depth_in op.head) (words root_word) ≡ false
+    root_within = within_by (words root_word == depth_in op.head) refl
+
     pub root_stands : SuitsStep site here (with_root op (words root_word)) call (with_root op (words root_word)).step rooted_view
     root_stands =
-        let all : words root_word ≤ (shape_of op).depth = subst (λ k. words root_word ≤ k) (sym here_low) root_low in
         subst (λ b. SuitsStep site here (cond b (record op { step = Ended Off }) (rooted (words root_word == depth_in op.head) op (words root_word))) call
         (cond b (record op { step = Ended Off }) (rooted (words root_word == depth_in op.head) op (words root_word))).step rooted_view)
-        (sym (le-ltb (shape_of op).depth (words root_word) all)) (by_root (words root_word == depth_in op.head) refl)
+        (sym root_within) (by_root (words root_word == depth_in op.head) refl)
 
   -- ---- an entry
   module _ (place n : ℕ) (small : n < 2 ^ 64) (s : FillsFrom site here op call place v) where

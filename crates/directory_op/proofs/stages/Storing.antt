@@ -5,9 +5,9 @@ use Rattle.std.specs.Prelude.{◌==◌, not}
 use Rattle.std.proofs.lemmas.Bool.{cases_lt, lt-ltb, le-ltb, eqb-true, eq-eqb}
 use Rattle.op_core.specs.declared.want.Want.TheVariants.{Store as StoreWord}
 use Rattle.segment_head.specs.HeadWord.{depth_in}
-use Rattle.image_layout.specs.Places.{Shape, root_word, entry_at, first_segment}
+use Rattle.image_layout.specs.Places.{Shape, root_word, entry_at, first_segment, most_depth}
 use Rattle.way.specs.Ways.{head_word}
-use Rattle.frame_facts.specs.Facts.{Fact, Lives, Current, Rooted, Owns, Lacks, Deep, Begins, Used}
+use Rattle.frame_facts.specs.Facts.{Fact, Lives, Current, Rooted, Owns, Lacks, Deep, Begins, Used, Taken}
 use Rattle.frame_facts.specs.DeadSlots.{IsInSlot}
 use Rattle.map_model.specs.declared.call.Call.{Call}
 use Rattle.world.specs.declared.site.Site.{Site}
@@ -35,8 +35,8 @@ use Rattle.directory_op.specs.Fits.{with_side, SuitsStore, SuitsStep, FilledBelo
 use Rattle.directory_op.proofs.Words.{all_entries, doubled, entry_is, head_is, entry_no_root, entry_same, entry_deeper, entry_no_slot, root_no_slot, root_no_header, other_slot}
 use Rattle.directory_op.proofs.Keeping.{Keeps, kept_in_slot, split_stays, new_stays, live_stays, doubles_stays, deep_stays, filled_stays, entered_stays}
 use Rattle.directory_op.proofs.Sides.{is_of_side, first_of, last_of, near_of}
-use Rattle.directory_op.proofs.Staying.{round_same}
-use Rattle.directory_op.proofs.Rounding.{round_behind, storing_behind}
+use Rattle.directory_op.proofs.stages.Staying.{round_same}
+use Rattle.directory_op.proofs.stages.Rounding.{round_behind, storing_behind}
 
 -- what is no claim is none of a segment
 no_claim_of : (s : ℕ) (fact : Fact) → is_claim fact ≡ false → not (is_claim_of s fact) ≡ true
@@ -48,6 +48,7 @@ no_claim_of s (Lacks t d p) e = refl
 no_claim_of s (Deep f d p) e = refl
 no_claim_of s (Begins t h) e = refl
 no_claim_of s (Used t) e = refl
+no_claim_of s (Taken t) e = refl
 
 some_none : {A : Type 0} {x : A} → Some x ≡ None → ⊥
 some_none e = cc
@@ -107,7 +108,7 @@ module _ (site : Ground) (ground : IsGround site) (here : Site) (call : Call) (o
     fill_is : w ≡ entry_at op.root place
     fill_is = entry_is op.copied.whole.site.geometry shape op.root place s.at.filling.new.split.is.located.shape s.at.filling.doubles.deep ground.shape.depth s.at.low
 
-    shallow : op.root ≤ 16
+    shallow : op.root ≤ most_depth
     shallow = let most = ground.shape.depth in let deep = s.at.filling.doubles.deep in omega (arith, most, deep)
 
     all : entries_of op.root ≡ 2 ^ op.root
@@ -289,7 +290,7 @@ module _ (site : Ground) (ground : IsGround site) (here : Site) (call : Call) (o
     entry_here : entry ≡ entry_at op.root index
     entry_here = entry_is op.copied.whole.site.geometry shape op.root index s.at.entering.live.split.is.located.shape s.at.entering.root.deep ground.shape.depth s.at.low
 
-    not_deep : op.root ≤ 16
+    not_deep : op.root ≤ most_depth
     not_deep = let most = ground.shape.depth in let deep = s.at.entering.root.deep in omega (arith, most, deep)
 
     entered_more : (step : DirectoryStep) → EnteredBelow site here (next step) (index + 1) entered

@@ -2,7 +2,9 @@
 use Rattle.std.proofs.Common.{◌≡◌, ℕ, suc, ◌+◌, ◌*◌, ◌/◌, ◌%◌, ◌^◌, ◌<◌, ap, ◌∙◌, subst, arith}
 use Rattle.std.proofs.lemmas.Nat.{pow_below}
 use Rattle.hash_word.specs.Hash.{Covers, top}
-use Rattle.segment_head.specs.HeadWord.{version_in, depth_in, pattern_in, normal}
+use Rattle.segment_head.specs.HeadWord.{version_in, depth_in, pattern_in, header_of, normal}
+use Rattle.segment_head.proofs.Headers.{header_version, header_state, header_depth, header_pattern}
+use Rattle.image_layout.specs.Places.{most_depth}
 use Rattle.segment_head.proofs.Tops.{top_halved}
 use Rattle.segment_table.proofs.frames.Regions.{top_below}
 use Rattle.way.proofs.Leading.{leading_is}
@@ -27,22 +29,25 @@ zero_side d p h low covers other =
 
 -- ---- fields of the header
 head_fields : (version depth pattern : ℕ) → version < 2 ^ 8 → depth + 1 < 2 ^ 8 → 2 * pattern < 2 ^ 32
-    → IsHeader (version + 2 ^ 8 * normal + 2 ^ 16 * ((depth + 1) % 2 ^ 8) + 2 ^ 32 * (2 * pattern % 2 ^ 32)) normal (suc depth) (2 * pattern) version
-head_fields version depth pattern small deep wide = record {
-  state_is = omega (arith, small, deep, wide);
-  depth_is = omega (arith, small, deep, wide);
-  pattern_is = omega (arith, small, deep, wide);
-  version_is = omega (arith, small, deep, wide);
-}
+    → IsHeader (header_of version normal ((depth + 1) % 2 ^ 8) (2 * pattern % 2 ^ 32)) normal (suc depth) (2 * pattern) version
+head_fields version depth pattern small deep wide =
+    let d : ℕ = (depth + 1) % 2 ^ 8 in
+    let p : ℕ = 2 * pattern % 2 ^ 32 in
+    record {
+      state_is = header_state version normal d p small (omega arith) (omega arith);
+      depth_is = header_depth version normal d p small (omega arith) (omega arith) ∙ omega (arith, deep);
+      pattern_is = header_pattern version normal d p small (omega arith) (omega arith) ∙ omega (arith, wide);
+      version_is = header_version version normal d p small (omega arith) (omega arith);
+    }
 
 module _ (site : Ground) (ground : IsGround site) (here : Site) (call : Call) (e : Enclosed) (is : IsOf site here call e) (whole : IsWhole site e) where
-  pub depth_low : depth_in e.head < 16
+  pub depth_low : depth_in e.head < most_depth
   depth_low = let shallow = whole.shallow in let most = ground.shape.depth in omega (arith, shallow, most)
 
-  few : (d p : ℕ) → d < 16 → p < 2 ^ d → p < 2 ^ 16
-  few d p low small = let most = pow_below d 16 low in omega (arith, small, most)
+  few : (d p : ℕ) → d < most_depth → p < 2 ^ d → p < 2 ^ most_depth
+  few d p low small = let most = pow_below d most_depth low in omega (arith, small, most)
 
-  pub pattern_low : pattern_in e.head < 2 ^ 16
+  pub pattern_low : pattern_in e.head < 2 ^ most_depth
   pattern_low =
       let below : top (depth_in e.head) e.hash < 2 ^ depth_in e.head = top_below (depth_in e.head) e.hash (omega (arith, depth_low)) is.fits in
       few (depth_in e.head) (pattern_in e.head) depth_low (subst (λ p. p < 2 ^ depth_in e.head) (leading_is e.head e.hash whole.head.leads).covers below)
