@@ -13,7 +13,7 @@ use Rattle.sound_image.specs.Records.{word_in, HasRecord, HasPair, HasExactNotes
 use Rattle.sound_image.specs.Rules.{FollowsRules}
 use Rattle.sound_image.specs.Image.{IsSoundImage}
 use Rattle.image_file.specs.Formatted.{IsFormatted}
-use Rattle.image_rules.specs.Stage.{IsUntouched, MayBePlayed}
+use Rattle.image_rules.specs.Stage.{IsUntouched}
 use Rattle.sound_image.proofs.Unnoted.{HasNote}
 use Rattle.sound_image.proofs.OneLive.{IsOneLive, has_owners, shares_well, entry_leads}
 use Rattle.sound_image.proofs.NoNotes.{unnoted-exact}
@@ -153,6 +153,3 @@ module _ (shape : Shape) (words : List ℕ) (i : IsFormatted shape words) where
         current = λ s h _ live. subst (λ s. version_in (frame.header s) ≡ image_version frame) (sym (first_is s live))
             (ap version_in i.header ∙ sym version_is);
       }
-
-  pub formatted-MayBePlayed : shape.segments ≡ 1 → MayBePlayed shape word
-  formatted-MayBePlayed one w = record { untouched = formatted-IsUntouched w; grown = λ s h _. inl one }

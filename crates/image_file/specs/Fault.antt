@@ -6,7 +6,7 @@ use Rattle.sound_image.specs.Segments.{ImageWords}
 use Rattle.sound_image.specs.Image.{image_bytes, magic, IsSoundImage}
 use Rattle.image_file.specs.declared.fault.ImageFault.{ImageFault}
 use Rattle.image_file.specs.declared.fault.ImageFault.TheVariants.{Length, Magic, Format, Geometry, Unsound, Unplayed, NoMemory}
-use Rattle.image_rules.specs.Stage.{MayBePlayedAt}
+use Rattle.image_rules.specs.Stage.{IsUntouchedAt}
 use Rattle.image_rules.specs.Breach.{IsLeast, IsFirstBreach}
 
 -- the words that bytes spell, eight bytes each, the lowest first
@@ -65,5 +65,5 @@ IsPlayFault shape word Magic = ⊥
 IsPlayFault shape word Format = ⊥
 IsPlayFault shape word Geometry = ⊥
 IsPlayFault shape word (Unsound broken w) = ⊥
-IsPlayFault shape word (Unplayed w) = IsLeast (MayBePlayedAt shape word) w
+IsPlayFault shape word (Unplayed w) = IsLeast (IsUntouchedAt shape word) w
 IsPlayFault shape word NoMemory = ⊥

@@ -197,7 +197,7 @@ fn a_new_image_is_read(rt: HostRuntime) -> Result<(), Fail> {
     let many = Geometry::new(3, 2, 1)?;
     let bytes = to_bytes(alloc, &format(alloc, many)?)?;
     assert_eq!(rt; said_of(alloc, &bytes)?.as_str(), "accepted");
-    assert_eq!(rt; said_before_play(alloc, &bytes)?.as_str(), "rule 8 word 65");
+    assert_eq!(rt; said_before_play(alloc, &bytes)?.as_str(), "playable");
     Ok(())
 }
 
@@ -311,12 +311,12 @@ fn images_that_may_be_played(rt: HostRuntime) -> Result<(), Fail> {
         let bytes = file_with(alloc, changes)?;
         assert_eq!(rt; said_before_play(alloc, &bytes)?.as_str(), *said);
     }
-    // Two segments, each as deep as may be, of the image's version and not; and one that is not as deep.
+    // Two segments, each as deep as may be, of the image's version and not; and where the image allows deeper ones.
     let normal: [(usize, u64); 4] = [(16, 257), (65, 65_793), (34, 1), (97, 1)];
     let cases: [(&[(usize, u64)], &str); 3] = [
         (&[], "playable"),
         (&[(2209, 4_295_033_088)], "rule 8 word 2209"),
-        (&[(3, 2)], "rule 8 word 65"),
+        (&[(3, 2)], "playable"),
     ];
     for (changes, said) in &cases {
         let mut both = normal.to_vec(alloc)?;

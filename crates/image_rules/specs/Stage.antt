@@ -1,10 +1,9 @@
--- Which sound images are played so far. Another sound image is read, checked and listed all the same, and refused by a play, which
--- tells it as a rule 8; that is no rule of a sound image.
+-- Which sound images are played so far: those that no power cut has left. Another sound image is read, checked and listed all the same, and
+-- refused by a play, which tells it as a rule 8; that is no rule of a sound image.
 use Rattle.std.specs.Prelude.{◌≡◌, ℕ, ◌+◌, ◌<◌}
 use Rattle.segment_head.specs.HeadWord.{version_in}
 use Rattle.image_layout.specs.Places.{Shape, state_word, head_at}
 use Rattle.sound_image.specs.Segments.{ImageWords, Frame, frame_of, image_version, IsClean, IsLive}
-use Rattle.sound_image.specs.Grown.{IsGrown}
 
 module _ (shape : Shape) (word : ImageWords) where
   abbrev frame : Frame
@@ -19,12 +18,3 @@ module _ (shape : Shape) (word : ImageWords) where
   -- it holds of each word
   abbrev pub IsUntouched : Type 0
   IsUntouched = (w : ℕ) → IsUntouchedAt w
-
-  -- what a play asks of each word: no power cut has left the image, and so far each slot is grown, so that no segment is to be split
-  pub record MayBePlayedAt (w : ℕ) : Type 0 where
-    pub untouched : IsUntouchedAt w
-    pub grown : (s : ℕ) → s < shape.segments → w ≡ head_at shape s + 1 → IsGrown shape word s
-
-  -- it holds of each word
-  abbrev pub MayBePlayed : Type 0
-  MayBePlayed = (w : ℕ) → MayBePlayedAt w

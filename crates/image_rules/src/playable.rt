@@ -4,24 +4,11 @@ ghost use Rattle.std.specs.Prelude.{◌≡◌, ◌<◌, ◌↔◌, IfSome, IfNon
 ghost use Rattle.segment_head.specs.HeadWord.{version_in};
 ghost use Rattle.image_layout.specs.Places.{words_of};
 ghost use Rattle.sound_image.specs.Segments.{frame_of, image_version, IsLive};
-ghost use Rattle.sound_image.specs.Grown.{IsGrown};
 ghost use Rattle.image_rules.specs.Breach.{IsLeast};
-ghost use Rattle.image_rules.specs.Stage.{MayBePlayedAt, MayBePlayed};
+ghost use Rattle.image_rules.specs.Stage.{IsUntouchedAt, IsUntouched};
 
 use crate::heads::{header_of, is_live, version_of};
 use image_layout::{Geometry, STATE_WORD, state};
-use segment_head::word::depth_of;
-
-/// Whether a slot is grown: there is no other, or a live segment in it is as deep as the image allows.
-fn is_grown(geometry: &Geometry, words: &[u64], s: u64) -> bool
-    requires whole { length words.now ≡ words_of geometry.now }
-    requires slot { s < geometry.now.segments }
-    ensures { IsTrue result ↔ IsGrown geometry.now (slice_index words.now) s }
-{
-    geometry.segments() == 1
-        || !is_live(geometry, words, s)
-        || u64::from(depth_of(header_of(geometry, words, s))) == geometry.depth()
-}
 
 /// Whether a segment has the image's version.
 fn has_its_version(geometry: &Geometry, words: &[u64], s: u64) -> bool
@@ -32,28 +19,27 @@ fn has_its_version(geometry: &Geometry, words: &[u64], s: u64) -> bool
     version_of(geometry, words, s) == state::version_of(words[STATE_WORD as usize])
 }
 
-/// Whether a play takes a slot: it is grown, and a live segment in it has the image's version.
-fn is_played(geometry: &Geometry, words: &[u64], s: u64) -> bool
+/// Whether a live segment in a slot has the image's version; of another slot nothing is asked.
+fn is_current(geometry: &Geometry, words: &[u64], s: u64) -> bool
     requires whole { length words.now ≡ words_of geometry.now }
     requires slot { s < geometry.now.segments }
-    ensures { IsTrue result ↔ (IsGrown geometry.now (slice_index words.now) s × (IsLive (frame_of geometry.now (slice_index words.now)) s → version_in ((frame_of geometry.now (slice_index words.now)).header s) ≡ image_version (frame_of geometry.now (slice_index words.now)))) }
+    ensures { IsTrue result ↔ (IsLive (frame_of geometry.now (slice_index words.now)) s → version_in ((frame_of geometry.now (slice_index words.now)).header s) ≡ image_version (frame_of geometry.now (slice_index words.now))) }
 {
-    is_grown(geometry, words, s)
-        && (!is_live(geometry, words, s) || has_its_version(geometry, words, s))
+    !is_live(geometry, words, s) || has_its_version(geometry, words, s)
 }
 
 /// The least word for which a play does not take the image so far: the marker is clear, or a live segment is of another version
-/// than the image, or a slot is not grown.
+/// than the image.
 pub fn unplayed_word(geometry: &Geometry, words: &[u64]) -> Option<u64>
     requires whole { length words.now ≡ words_of geometry.now }
-    ensures none { IfNone result (MayBePlayed geometry.now (slice_index words.now)) }
-    ensures some { IfSome result (λ w. IsLeast (MayBePlayedAt geometry.now (slice_index words.now)) w) }
+    ensures none { IfNone result (IsUntouched geometry.now (slice_index words.now)) }
+    ensures some { IfSome result (λ w. IsLeast (IsUntouchedAt geometry.now (slice_index words.now)) w) }
 {
     if !state::is_marked(words[STATE_WORD as usize]) {
         return Some(STATE_WORD);
     }
     for s in 0..geometry.segments() {
-        if !is_played(geometry, words, s) {
+        if !is_current(geometry, words, s) {
             return Some(geometry.head_at(s) + 1);
         }
     }

@@ -1,6 +1,5 @@
 pub mod Segments
 pub mod Directory
-pub mod Grown
 pub mod Records
 pub mod Rules
 pub mod Image

@@ -1,5 +1,5 @@
 -- Words of an empty table are a sound image without pairs.
-use Rattle.image_file.proofs.EmptySound.{formatted-IsSoundImage, formatted-no_pair, formatted-IsUntouched, formatted-MayBePlayed}
+use Rattle.image_file.proofs.EmptySound.{formatted-IsSoundImage, formatted-no_pair, formatted-IsUntouched}
 use Rattle.image_file.proofs.formatted.format.Goals as goal
 
 pub returns-clause-sound : goal.returns-clause-sound
@@ -12,6 +12,3 @@ returns-clause-empty c = formatted-no_pair c.args.geometry _ c.in_ok-words.ensur
 
 pub returns-clause-untouched : goal.returns-clause-untouched
 returns-clause-untouched c = formatted-IsUntouched c.args.geometry _ c.in_ok-words.ensures
-
-pub returns-clause-playable : goal.returns-clause-playable
-returns-clause-playable c = formatted-MayBePlayed c.args.geometry _ c.in_ok-words.ensures
