@@ -1,7 +1,7 @@
 mod machines
 mod holding
 pub mod Places
-pub mod Grown
 mod sessions
 mod attempts
 mod lonely
+mod splits

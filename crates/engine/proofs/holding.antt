@@ -2,9 +2,9 @@
 pub mod Planned
 pub mod Told
 pub mod Scripted
+pub mod Fulls
 pub mod Turning
 pub mod Served
 pub mod Beginnings
 pub mod Opening
 pub mod Quiet
-pub mod Powered

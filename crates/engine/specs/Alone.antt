@@ -1,15 +1,23 @@
--- One caller steps while all others stand between two attempts: nothing moves for it, and no attempt of it ends in Again.
-use Rattle.std.specs.Prelude.{◌≡◌, ◌≢◌, ℕ, suc, ⊤, Option, None, Some, List, ◌⊎◌, slice_get}
+-- One caller steps while all others stand between two attempts: nothing moves for it, no attempt of it ends in Again, and each of its calls
+-- ends: where an attempt ends without a reply, fewer may still do so.
+use Rattle.std.specs.Prelude.{◌≡◌, ◌≢◌, ℕ, suc, ◌<◌, ◌≤◌, ⊤, Option, None, Some, List, ◌⊎◌, slice_get}
 use Rattle.op_core.specs.declared.want.Want.TheVariants as want
 use Rattle.op_core.specs.declared.why.Why.{Why}
 use Rattle.op_core.specs.declared.why.Why.TheVariants.{Busy}
+use Rattle.trace.specs.Events.{Words}
 use Rattle.image_layout.specs.Places.{Shape}
+use Rattle.sound_image.specs.Records.{key_hash}
 use Rattle.map_model.specs.declared.call.Call.{Call}
+use Rattle.map_model.specs.Map.{key_of}
 use Rattle.map_model.specs.declared.entry.Reply.{Reply}
-use Rattle.engine.specs.declared.engine.Engine.{Engine}
 use Rattle.part.specs.Doings.{Doings, nothing_done, IsStill}
-use Rattle.part.specs.Outcomes.{Outcome, again, reply_of}
-use Rattle.engine.specs.Engine.{begun, wanted, end_of, outcome_of_end}
+use Rattle.part.specs.Outcomes.{Outcome, again, need_split, finished, reply_of}
+use Rattle.part.specs.Room.{HasNoRoom}
+use Rattle.engine.specs.declared.engine.Op.{Op}
+use Rattle.engine.specs.declared.engine.Op.TheVariants.{Release, Enclose}
+use Rattle.engine.specs.declared.engine.Engine.{Engine}
+use Rattle.engine.specs.Engine.{wanted, end_of, outcome_of_end, reply_of_end, IsFresh, anew}
+use Rattle.engine.specs.Left.{free_slots, events_left, events_of_call}
 use Rattle.engine.specs.OpPart.{op_part}
 use Rattle.engine.specs.Core.{Caller, Core, current}
 use Rattle.engine.specs.Laws.{IsServedImage, opened, AreScripts}
@@ -24,18 +32,21 @@ IsReply (Some r) = ⊤
 abbrev pub EndsCall : Option Outcome → Type 0
 EndsCall outcome = IsReply (reply_of outcome)
 
--- it is one, or it says to try again, and why
-abbrev pub IsTold : Option Outcome → Type 0
-IsTold outcome = EndsCall outcome ⊎ ((why : Why) × (outcome ≡ Some (again why)))
+-- it is one, or it says to try again, and why, or that a segment is to be split, or that this is done or need not be
+pub data IsTold (outcome : Option Outcome) : Type 0 where
+  told_reply : EndsCall outcome → IsTold outcome
+  told_again : (why : Why) → outcome ≡ Some (again why) → IsTold outcome
+  told_to_split : (segment : ℕ) → outcome ≡ Some (need_split segment) → IsTold outcome
+  told_finished : outcome ≡ Some finished → IsTold outcome
 
 -- ---- a caller between two attempts
 -- no engine of it runs, or one that has done nothing yet
 abbrev pub IsBetween : Caller → Type 0
-IsBetween c = (c.engine ≡ None) ⊎ ((call : Call) × (c.engine ≡ Some (begun c.site call)))
+IsBetween c = (c.engine ≡ None) ⊎ ((e : Engine) × (c.engine ≡ Some e) × IsFresh c.site e)
 
 -- and its attempt is accounted for as one that has done nothing
 abbrev pub IsRestingBy : Caller → Doings → Type 0
-IsRestingBy c did = (c.engine ≡ None) ⊎ ((call : Call) × (c.engine ≡ Some (begun c.site call)) × (did ≡ nothing_done))
+IsRestingBy c did = (c.engine ≡ None) ⊎ ((e : Engine) × (c.engine ≡ Some e) × IsFresh c.site e × (did ≡ nothing_done))
 
 abbrev pub IsResting : Watched → ℕ → Type 0
 IsResting w j = (c : Caller) → slice_get w.core.callers j ≡ Some c → IsRestingBy c (w.doings j)
@@ -47,6 +58,18 @@ pub record IsAlone (shape : Shape) (j : ℕ) (w : Watched) : Type 0 where
   pub others : (i : ℕ) (c : Caller) → i ≢ j → slice_get w.core.callers i ≡ Some c → IsBetween c
   pub still : IsStill shape w.core.words (w.doings j)
   pub calm : (c : Caller) (e : Engine) (why : Why) → slice_get w.core.callers j ≡ Some c → c.engine ≡ Some e → op_part.outcome e.op ≡ Some (again why) → ⊥
+
+-- A SEGMENT THAT IS BEING ENCLOSED for a call has no room for it, and the attempt is not decided as one that found room; nor has one that is to
+-- be split, while all is given back. Of another machine nothing is said
+abbrev pub IsCramped : Shape → Words → Call → Op → Type 0
+IsCramped shape words call (Enclose op) = HasNoRoom shape words op.enclosed.segment (key_hash shape (key_of call)) × (op_part.outcome (Enclose op) ≢ Some finished)
+IsCramped shape words call (Release op) = (segment : ℕ) → op_part.outcome (Release op) ≡ Some (need_split segment) → HasNoRoom shape words segment (key_hash shape (key_of call))
+IsCramped shape words call op = ⊤
+
+-- so it is with the machine of the caller at place j
+abbrev pub StandsCramped : Shape → ℕ → Watched → Type 0
+StandsCramped shape j w = (c : Caller) (call : Call) (e : Engine) → slice_get w.core.callers j ≡ Some c → current c ≡ Some call → c.engine ≡ Some e
+    → IsCramped shape w.core.words call e.op
 
 -- ---- the laws, along all turns from an image that is served
 module _ (shape : Shape) (words : List ℕ) (scripts : List (List Call)) where
@@ -60,7 +83,7 @@ module _ (shape : Shape) (words : List ℕ) (scripts : List (List Call)) where
 abbrev pub AlongTurns : (Shape → List ℕ → List (List Call) → List ℕ → Type 0) → Type 0
 AlongTurns P = (shape : Shape) (words : List ℕ) → IsServedImage shape words → (scripts : List (List Call)) → AreScripts scripts → (turns : List ℕ) → P shape words scripts turns
 
--- WHO FINDS A LOCK TAKEN is told so by another caller's, that is in the midst of an attempt
+-- WHO FINDS A LOCK OR A GUARD TAKEN is told so of another caller's, that is in the midst of an attempt
 pub record IsOthers (core : Core) (j : ℕ) : Type 0 where
   pub place : ℕ
   pub elsewhere : place ≢ j
@@ -103,7 +126,7 @@ abbrev pub AloneNeverAgain : Type 0
 AloneNeverAgain = AlongTurns (λ shape words scripts turns. (j : ℕ) (e : Engine) → IsAlone shape j (along shape words scripts turns) → IsNext (along shape words scripts turns) j e
     → (why : Why) → op_part.outcome (engine_next shape (along shape words scripts turns).core.words e).op ≡ Some (again why) → ⊥)
 
--- and whoever has its turn, its attempt ends with a reply or in Again
+-- and whoever has its turn, its attempt ends in one of these ways
 abbrev pub EndsAreTold : Type 0
 EndsAreTold = AlongTurns (λ shape words scripts turns. (j : ℕ) (e : Engine) → IsNext (along shape words scripts turns) j e
     → (outcome : Outcome) → op_part.outcome (engine_next shape (along shape words scripts turns).core.words e).op ≡ Some outcome → IsTold (Some outcome))
@@ -122,3 +145,35 @@ EndedRests = (shape : Shape) (w : Watched) (j : ℕ) (e : Engine) → IsNext w j
 
 abbrev pub OthersStayResting : Type 0
 OthersStayResting = (shape : Shape) (w : Watched) (i j : ℕ) → i ≢ j → IsResting w i → IsResting (watched_turn shape (suc j) w) i
+
+-- ---- a segment that is to be split, and is enclosed
+-- where no caller has begun, none is enclosed
+abbrev pub CrampedAtStart : Type 0
+CrampedAtStart = (shape : Shape) (words : List ℕ) (scripts : List (List Call)) (j : ℕ) → StandsCramped shape j (at_start shape words scripts)
+
+-- WHO IS ALONE splits and encloses no segment but one without room: its own turns leave it so
+abbrev pub OwnTurnsStayCramped : Type 0
+OwnTurnsStayCramped = AlongTurns (λ shape words scripts turns. (j : ℕ) → IsAlone shape j (along shape words scripts turns) → StandsCramped shape j (along shape words scripts turns)
+    → StandsCramped shape j (watched_turn shape (suc j) (along shape words scripts turns)))
+
+-- ---- a call of a caller alone ends
+-- a turn of whomever leaves no more free slots
+abbrev pub FreeSlotsFall : Type 0
+FreeSlotsFall = AlongTurns (λ shape words scripts turns. (c : ℕ)
+    → free_slots shape (watched_turn shape c (along shape words scripts turns)).core.words ≤ free_slots shape (along shape words scripts turns).core.words)
+
+-- no engine has more events left than a call has, or than an attempt has
+abbrev pub EventsAreFew : Type 0
+EventsAreFew = (shape : Shape) (words : Words) (e : Engine) → events_left shape words e < events_of_call shape
+
+-- ITS OWN TURN leaves fewer events: of the same attempt, or of the next one of the call where the attempt ends without a reply
+pub record LeavesFewer (shape : Shape) (w : Watched) (j : ℕ) (e : Engine) : Type 0 where
+  pub goes_on : wanted (engine_next shape w.core.words e) ≢ want.Done
+      → events_left shape (watched_turn shape (suc j) w).core.words (engine_next shape w.core.words e) < events_left shape w.core.words e
+  pub anew : (c : Caller) (call : Call) → slice_get w.core.callers j ≡ Some c → current c ≡ Some call → wanted (engine_next shape w.core.words e) ≡ want.Done
+      → reply_of_end (end_of (engine_next shape w.core.words e)) ≡ None
+      → events_left shape (watched_turn shape (suc j) w).core.words (anew c.site call (end_of (engine_next shape w.core.words e))) < events_left shape w.core.words e
+
+abbrev pub AloneLeavesFewer : Type 0
+AloneLeavesFewer = AlongTurns (λ shape words scripts turns. (j : ℕ) (e : Engine) → IsAlone shape j (along shape words scripts turns) → StandsCramped shape j (along shape words scripts turns)
+    → IsNext (along shape words scripts turns) j e → LeavesFewer shape (along shape words scripts turns) j e)

@@ -10,12 +10,14 @@ use Rattle.world.specs.declared.site.Site.{Site}
 use Rattle.world.specs.Ground.{Ground}
 use Rattle.world.specs.Views.{View}
 use Rattle.world.specs.Wants.{answer_to, word_of}
+use Rattle.world.specs.Attempts.{HoldsOnly}
 use Rattle.part.specs.Doings.{Doings, nothing_done, with_event_of}
-use Rattle.part.specs.Outcomes.{Outcome, replied, again}
-use Rattle.part.specs.Causes.{HasReplyCause, HasAgainCause}
+use Rattle.part.specs.Outcomes.{Outcome, replied, again, need_split, off}
+use Rattle.part.specs.Causes.{HasReplyCause, HasAgainCause, FindsNoRoom}
+use Rattle.part.specs.Splits.{HasSplitCause}
 use Rattle.engine.specs.declared.engine.Engine.{Engine}
-use Rattle.engine.specs.Engine.{begun, wanted, taken, end_of, outcome_of_end}
-use Rattle.engine.specs.OpPart.{op_part}
+use Rattle.engine.specs.Engine.{wanted, taken, end_of, outcome_of_end, IsFresh}
+use Rattle.engine.specs.OpPart.{split_segment, op_part}
 use Rattle.engine.specs.Core.{Caller, Core, current, turn, run}
 use Rattle.engine.specs.Laws.{IsServedImage, opened, AreScripts}
 
@@ -75,28 +77,42 @@ pub record Decides (shape : Shape) (words : Words) (e : Engine) (outcome : Outco
   pub undecided : op_part.outcome e.op ≡ None
   pub decides : op_part.outcome (engine_next shape words e).op ≡ Some outcome
 
--- an attempt begins with nothing held
+-- an attempt begins with nothing held, known or owed, that of a call and that by which a segment is split
 abbrev pub BeginsBare : Type 0
-BeginsBare = (site : Ground) (here : Site) (call other : Call) (v : View) → op_part.Stands site here call (begun here other).op v → v.held ≡ []
+BeginsBare = (site : Ground) (here : Site) (call : Call) (e : Engine) (v : View) → IsFresh here e → op_part.Stands site here call e.op v → HoldsOnly [] v
 
 -- EACH OUTCOME IS DECIDED by one event of its attempt: an attempt begins undecided; what is decided stays so; and where an engine
 -- wants nothing more, its end is what was decided
 abbrev pub BeginsUndecided : Type 0
-BeginsUndecided = (here : Site) (call : Call) → op_part.outcome (begun here call).op ≡ None
+BeginsUndecided = (here : Site) (e : Engine) → IsFresh here e → op_part.outcome e.op ≡ None
 
 abbrev pub DecidedStays : Type 0
 DecidedStays = (e : Engine) (a : Ans) (outcome : Outcome) → op_part.outcome e.op ≡ Some outcome → op_part.outcome (taken e a).op ≡ Some outcome
 
 abbrev pub EndsAreDecided : Type 0
-EndsAreDecided = (e : Engine) → wanted e ≡ want.Done → op_part.outcome e.op ≡ outcome_of_end (end_of e)
+EndsAreDecided = (site : Ground) (here : Site) (call : Call) (e : Engine) (v : View) → op_part.Stands site here call e.op v → wanted e ≡ want.Done
+    → op_part.outcome e.op ≡ outcome_of_end (end_of e)
 
 -- ---- causes
--- THE CAUSE of an outcome: no segment is ever stale, no attempt finds the power off, and none of a call ends without a reply but to be
--- made again
-abbrev pub HasCause : Shape → Words → Doings → Call → Want → Outcome → Type 0
-HasCause shape words did call event (replied reply place) = HasReplyCause shape words did call reply
-HasCause shape words did call event (again why) = HasAgainCause shape words did call event why
-HasCause shape words did call event outcome = ⊥
+-- THE CAUSE of an outcome of one of the call's own machines: no segment is ever stale, no attempt finds the power off, and none ends as
+-- one that has done its work
+abbrev pub HasCallCause : Shape → Words → Doings → Call → Want → Outcome → Type 0
+HasCallCause shape words did call event (replied reply place) = HasReplyCause shape words did call reply
+HasCallCause shape words did call event (again why) = HasAgainCause shape words did call event why
+HasCallCause shape words did call event (need_split segment) = FindsNoRoom shape words did call segment
+HasCallCause shape words did call event outcome = ⊥
+
+-- of one that splits this segment: it does not find the power off
+abbrev pub HasSplittingCause : Shape → Words → Doings → Call → ℕ → Want → Outcome → Type 0
+HasSplittingCause shape words did call segment event off = ⊥
+HasSplittingCause shape words did call segment event outcome = HasSplitCause shape words did call segment event outcome
+
+abbrev pub HasCauseBy : Option ℕ → Shape → Words → Doings → Call → Want → Outcome → Type 0
+HasCauseBy None shape words did call event outcome = HasCallCause shape words did call event outcome
+HasCauseBy (Some segment) shape words did call event outcome = HasSplittingCause shape words did call segment event outcome
+
+abbrev pub HasCause : Shape → Words → Doings → Call → Engine → Outcome → Type 0
+HasCause shape words did call e outcome = HasCauseBy (split_segment e.op) shape words did call (wanted e) outcome
 
 -- ---- the laws
 -- watching changes nothing
@@ -106,7 +122,7 @@ WatchingChangesNothing = (shape : Shape) (w : Watched) (turns : List ℕ) → (w
 -- whichever caller has its turn next, where its event decides the attempt the cause is there
 abbrev pub CausesAreThere : Shape → Watched → Type 0
 CausesAreThere shape w = (j : ℕ) (caller : Caller) (call : Call) (e : Engine) (outcome : Outcome) → slice_get w.core.callers j ≡ Some caller
-    → current caller ≡ Some call → caller.engine ≡ Some e → Decides shape w.core.words e outcome → HasCause shape w.core.words (w.doings j) call (wanted e) outcome
+    → current caller ≡ Some call → caller.engine ≡ Some e → Decides shape w.core.words e outcome → HasCause shape w.core.words (w.doings j) call e outcome
 
 -- EACH END HAS ITS CAUSE, over all turns: from every image that is served, whatever calls up to 64 callers have, and
 -- whatever turns they take

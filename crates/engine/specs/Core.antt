@@ -16,7 +16,8 @@ use Rattle.session.specs.Callers.{history_of}
 use Rattle.world.specs.declared.site.Site.{Site}
 use Rattle.world.specs.Wants.{answer_to, word_of, event_of, words_after}
 use Rattle.engine.specs.declared.engine.Engine.{Engine}
-use Rattle.engine.specs.Engine.{begun, wanted, taken, end_of, reply_of_end}
+use Rattle.engine.specs.declared.engine.End.{End}
+use Rattle.engine.specs.Engine.{begun, wanted, taken, end_of, reply_of_end, anew}
 
 -- a caller: where it runs, its calls, its entries so far, and of the call behind these the engine, whether an event of it
 -- was done, and its entry where it drew
@@ -65,14 +66,14 @@ with_entry c e = record c {
   drew = None;
 }
 
--- an attempt that ended: its reply is entered, or the call is begun anew
-abbrev pub ended : Caller → Call → Option (Reply × ℕ) → Caller
-ended c call (Some r) = with_entry c (entry_of c call r.0 r.1)
-ended c call None = record c { engine = Some (begun c.site call); begun = true; drew = None }
+-- an attempt that ended so: its reply is entered, or the next attempt of the call begins
+abbrev pub ended : Caller → Call → End → Option (Reply × ℕ) → Caller
+ended c call end (Some r) = with_entry c (entry_of c call r.0 r.1)
+ended c call end None = record c { engine = Some (anew c.site call end); begun = true; drew = None }
 
 -- the caller goes on, or its attempt has ended
 abbrev pub ended_or_on : Caller → Call → Engine → Want → Caller
-ended_or_on c call e want.Done = ended c call (reply_of_end (end_of e))
+ended_or_on c call e want.Done = ended c call (end_of e) (reply_of_end (end_of e))
 ended_or_on c call e want = record c { engine = Some e; begun = true }
 
 -- the caller after an event of its engine in this call was answered so

@@ -1,5 +1,5 @@
 -- The engine of one caller: the machine of its call, one event after another.
-use Rattle.std.specs.Prelude.{ℕ, Bool, true, false, Option, None, Some}
+use Rattle.std.specs.Prelude.{◌≡◌, ℕ, ◌⊎◌, Bool, true, false, Option, None, Some}
 use Rattle.op_core.specs.declared.want.Want.{Want}
 use Rattle.op_core.specs.declared.want.Ans.{Ans}
 use Rattle.map_model.specs.declared.call.Call.{Call}
@@ -9,7 +9,7 @@ use Rattle.map_model.specs.Changes.{change_of}
 use Rattle.map_model.specs.declared.entry.Reply.{Reply}
 use Rattle.world.specs.declared.site.Site.{Site}
 use Rattle.world.specs.StepKinds.{StepKind}
-use Rattle.part.specs.Outcomes.{Outcome, again, reply_of}
+use Rattle.part.specs.Outcomes.{Outcome, again, need_split, off, finished, reply_of}
 use Rattle.read_op.specs.declared.step.ReadEnd.{ReadEnd}
 use Rattle.read_op.specs.declared.step.ReadEnd.TheVariants as read_end
 use Rattle.read_op.specs.declared.step.ReadStep.{ReadStep}
@@ -22,10 +22,21 @@ use Rattle.move_op.specs.Steps.{end_at as move_end_at}
 use Rattle.move_op.specs.Fits.{outcome_of as move_outcome}
 use Rattle.stash_op.specs.Steps.{end_at as stash_end_at}
 use Rattle.stash_op.specs.Fits.{outcome_of as stash_outcome}
-use Rattle.refuse_op.specs.Steps.{end_of as refusal_end}
-use Rattle.refuse_op.specs.Ends.{outcome_of as refusal_outcome}
+use Rattle.release_op.specs.Steps.{end_of as release_end}
+use Rattle.release_op.specs.Ends.{outcome_of as release_outcome}
+use Rattle.enclose_op.specs.Steps.{begun as enclose_begun, end_at as enclose_end_at}
+use Rattle.enclose_op.specs.Ends.{outcome_told as enclose_outcome}
+use Rattle.split_op.specs.declared.step.SplitEnd.{SplitEnd}
+use Rattle.split_op.specs.Steps.{end_of as split_end}
+use Rattle.split_op.specs.Fits.{outcome_of as split_outcome}
+use Rattle.directory_op.specs.declared.op.DirectoryEnd.{DirectoryEnd}
+use Rattle.directory_op.specs.declared.op.DirectoryEnd.TheVariants as directory_ends
+use Rattle.directory_op.specs.Steps.{end_of as directory_end}
+use Rattle.rest_op.specs.declared.op.RestEnd.{RestEnd}
+use Rattle.rest_op.specs.declared.op.RestEnd.TheVariants as rest_ends
+use Rattle.rest_op.specs.Steps.{end_of as rest_end}
 use Rattle.engine.specs.declared.engine.Op.{Op}
-use Rattle.engine.specs.declared.engine.Op.TheVariants.{Read, Write, Move, Stash, Refuse}
+use Rattle.engine.specs.declared.engine.Op.TheVariants.{Read, Write, Move, Stash, Release, Enclose, Split, Publish, Rest}
 use Rattle.engine.specs.declared.engine.End.{End}
 use Rattle.engine.specs.declared.engine.End.TheVariants as ends
 use Rattle.engine.specs.declared.engine.Engine.{Engine}
@@ -52,7 +63,7 @@ abbrev pub wanted : Engine → Want
 wanted e = op_part.wanted e.op
 
 -- what an answer makes of it: an insert that found no slot goes on to the move of a record, one that found none to move to the stash,
--- and one that found that full too to its refusal
+-- and one that found that full too gives all back; and a split goes on from one of its machines to the next
 abbrev pub taken : Engine → Ans → Engine
 taken e ans = running (op_part.taken e.op ans)
 
@@ -66,10 +77,27 @@ end_of_op (Read op) = ends.Read (read_end_at op.step)
 end_of_op (Write op) = ends.Write (write_end_at op.stage.step)
 end_of_op (Move op) = ends.Move (move_end_at op.step)
 end_of_op (Stash op) = ends.Stash (stash_end_at op.stage.step)
-end_of_op (Refuse op) = ends.Refuse (refusal_end op)
+end_of_op (Release op) = ends.Release (release_end op)
+end_of_op (Enclose op) = ends.Enclose (enclose_end_at op.step)
+end_of_op (Split op) = ends.Split (split_end op)
+end_of_op (Publish op) = ends.Publish (directory_end op)
+end_of_op (Rest op) = ends.Rest (rest_end op)
 
 abbrev pub end_of : Engine → End
 end_of e = end_of_op e.op
+
+-- a side that is made or published hands on, and what is split has no reply
+abbrev pub made_outcome : Option SplitEnd → Option Outcome
+made_outcome (Some end) = split_outcome end
+made_outcome None = None
+
+abbrev pub publish_outcome : DirectoryEnd → Option Outcome
+publish_outcome directory_ends.Published = None
+publish_outcome directory_ends.Off = Some off
+
+abbrev pub rest_outcome : RestEnd → Option Outcome
+rest_outcome rest_ends.Split = Some finished
+rest_outcome rest_ends.Off = None
 
 -- the outcome of an attempt that ended so
 abbrev pub outcome_of_end : End → Option Outcome
@@ -77,7 +105,11 @@ outcome_of_end (ends.Read end) = Some (get_outcome end)
 outcome_of_end (ends.Write end) = change_outcome end
 outcome_of_end (ends.Move end) = move_outcome end
 outcome_of_end (ends.Stash end) = stash_outcome end
-outcome_of_end (ends.Refuse end) = refusal_outcome end
+outcome_of_end (ends.Release end) = release_outcome end
+outcome_of_end (ends.Enclose end) = enclose_outcome end
+outcome_of_end (ends.Split end) = made_outcome end
+outcome_of_end (ends.Publish end) = publish_outcome end
+outcome_of_end (ends.Rest end) = rest_outcome end
 
 -- its reply, with its place
 abbrev pub reply_of_end : End → Option (Reply × ℕ)
@@ -90,6 +122,23 @@ says_again outcome = false
 
 abbrev pub is_again : End → Bool
 is_again end = says_again (outcome_of_end end)
+
+-- ---- the next attempt of a call that has no reply
+-- the engine that splits a segment for a change
+abbrev pub splitting : Site → Change → ℕ → Engine
+splitting here change segment = running (Enclose (enclose_begun here change segment))
+
+-- an engine that has done nothing yet: of a call, or of the split of a segment
+abbrev pub IsFresh : Site → Engine → Type 0
+IsFresh here e = ((call : Call) × (e ≡ begun here call)) ⊎ ((change : Change) × (segment : ℕ) × (e ≡ splitting here change segment))
+
+-- where a segment is to be split, the next attempt splits it; else the call is begun anew
+abbrev pub anew_by : Site → Call → Option Change → Option Outcome → Engine
+anew_by here call (Some change) (Some (need_split segment)) = splitting here change segment
+anew_by here call change outcome = begun here call
+
+abbrev pub anew : Site → Call → End → Engine
+anew here call end = anew_by here call (change_of call) (outcome_of_end end)
 
 -- the kind of its next event in the world of many callers, by the value that the event finds
 abbrev pub kind_of : Engine → ℕ → StepKind

@@ -6,6 +6,7 @@ use Rattle.restart_op.specs.Closing.{SaysShapeInFront, HaveFit, AllAreQuiet}
 use Rattle.trace.specs.Progress.{pending}
 use Rattle.trace.specs.Events.{Words}
 use Rattle.image_layout.specs.Places.{Shape}
+use Rattle.image_layout.specs.Volatile.{power_word}
 use Rattle.map_model.specs.declared.call.Call.{Call}
 use Rattle.map_model.specs.declared.entry.Entry.{Entry}
 use Rattle.map_model.specs.Map.{Map}
@@ -16,12 +17,12 @@ use Rattle.session.specs.Session.{HadNoRoom}
 use Rattle.world.specs.Ground.{Ground, version_of, HasSpentLock}
 use Rattle.world.specs.Views.{View, At, Has}
 use Rattle.world.specs.World.{World, fresh_view}
+use Rattle.world.specs.Slots.{AllCurrent}
+use Rattle.world.specs.areas.Lasting.{IsTakenInMedia}
 use Rattle.world.specs.areas.Worlds.{IsWell}
-use Rattle.bucket_words.specs.Owners.{HasStructure}
 use Rattle.world.specs.Attempts.{HoldsOnly}
-use Rattle.refuse_op.specs.Grown.{AllGrown}
 use Rattle.engine.specs.declared.engine.Engine.{Engine}
-use Rattle.engine.specs.Fits.{Suits, IsWordCall, IsServedGround}
+use Rattle.engine.specs.Fits.{Suits, HasNumber, IsWordCall, IsServedGround}
 use Rattle.engine.specs.Core.{Caller, Core, call_at, current, turn, run, callers_from}
 use Rattle.engine.specs.Good.{IsGood}
 
@@ -65,6 +66,7 @@ DoesCall site c (Some e) v = IsCalling site c e v
 pub record CallerFits (site : Ground) (c : Caller) (v : View) : Type 0 where
   pub place : c.site.geometry ≡ site.shape
   pub version : c.site.version ≡ version_of site
+  pub number : HasNumber c.site
   pub words : (n : ℕ) (call : Call) → call_at c n ≡ Some call → IsWordCall call
   pub callers : 0 < v.callers
   -- its replies are to the first of its calls, in their order
@@ -86,9 +88,13 @@ abbrev pub FullHad : Ground → List View → Type 0
 FullHad site views = (opening : Map) → ((k : ℕ) → get opening k ≡ site.start k) → (j : ℕ) (v : View) (e : Entry) → At views j v → Has e v.own
     → HadNoRoom site.shape (map_at opening (all_own views) e.place) e
 
--- a reply that the table is full is told where there is one slot alone
-abbrev pub FullAlone : Shape → List View → Type 0
-FullAlone shape views = (j : ℕ) (v : View) (e : Entry) → At views j v → Has e v.own → e.reply ≡ Full → shape.segments ≡ 1
+-- each slot is taken in whatever a cut may leave
+abbrev pub NoneIsFree : Ground → Words → List View → Type 0
+NoneIsFree site words views = (n : ℕ) → n < site.shape.segments → IsTakenInMedia site words views n
+
+-- so it is where a reply is that the table is full
+abbrev pub FullIsTaken : Ground → Words → List View → Type 0
+FullIsTaken site words views = (j : ℕ) (v : View) (e : Entry) → At views j v → Has e v.own → e.reply ≡ Full → NoneIsFree site words views
 
 -- each reply that a number is spent has its cause: 2 ^ 63 changes are drawn, or some lock word of a live segment has the last version
 abbrev pub HadSpent : Shape → Words → List View → Type 0
@@ -98,13 +104,13 @@ HadSpent shape words views = (j : ℕ) (v : View) (e : Entry) → At views j v �
 pub record CoreHolds (site : Ground) (start : Words) (core : Core) : Type 0 where
   pub views : List View
   pub well : IsWell site start (world_of core views)
-  -- no caller has stored to the structure: calls do not
-  pub constant : HasStructure site.shape site.front core.words
+  -- each live segment has the image's version, and the power is on
+  pub current : AllCurrent site core.words
+  pub powered : core.words (power_word site.shape) ≡ 0
   pub fits : HaveFit start core.trace
   pub says : SaysShapeInFront site.shape site.front
   pub served : IsServedGround site
-  -- so far nobody is told FULL but where there is one slot
-  pub full : FullAlone site.shape views
+  pub full : FullIsTaken site core.words (fresh_view 0 ∷ views)
   -- caller 0 has nothing flushed that it has not fenced
   pub fenced : pending 0 core.trace ≡ []
   pub each : AllZip (CallerFits site) core.callers views
@@ -127,10 +133,10 @@ CallsStay = (shape : Shape) (core : Core) (turns : List ℕ) → map (λ c. c.ca
 abbrev pub RunKeeps : Type 0
 RunKeeps = (site : Ground) (start : Words) (core : Core) (turns : List ℕ) → CoreHolds site start core → CoreHolds site start (run site.shape turns core)
 
--- a quiet world of the site's words in which each caller of the scripts has a view of its own, which has done nothing yet: the core
--- with which they begin holds, where they have the version of the image
+-- a quiet world of the site's words, with the power on, in which each caller of the scripts, who are 64 at the most, has a view of its own
+-- that has done nothing yet: the core with which they begin holds, where they have the version of the image
 abbrev pub CoreBegins : Type 0
 CoreBegins = (site : Ground) (start : Words) (core : Core) (version : ℕ) (scripts : List (List Call))
-    → AllAreQuiet site start (world_of core (replicate (length scripts) (fresh_view 1))) → core.words ≡ site.front → AllGrown site.shape site.front → version ≡ version_of site
-    → AllByRecursion (AllByRecursion IsWordCall) scripts
+    → AllAreQuiet site start (world_of core (replicate (length scripts) (fresh_view 1))) → core.words ≡ site.front → core.words (power_word site.shape) ≡ 0 → version ≡ version_of site
+    → length scripts ≤ 64 → AllByRecursion (AllByRecursion IsWordCall) scripts
     → core.callers ≡ callers_from site.shape version 1 scripts → CoreHolds site start core

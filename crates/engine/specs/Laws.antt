@@ -16,7 +16,6 @@ use Rattle.bucket_words.specs.Hits.{find}
 use Rattle.frame_facts.specs.Facts.{IsLiveSlot}
 use Rattle.trace.specs.Events.{Words}
 use Rattle.world.specs.Ground.{Ground}
-use Rattle.refuse_op.specs.Grown.{AllGrown}
 use Rattle.restart_op.specs.Restarted.{IsPlayableImage, restarted, words_at_end, site_of}
 use Rattle.restart_op.specs.Closing.{AllAreQuiet}
 use Rattle.engine.specs.Fits.{IsWordCall}
@@ -32,10 +31,9 @@ opened shape words scripts = record {
   callers = callers_from shape (words_at_end shape words state_word) 1 scripts;
 }
 
--- so far an image is served that may be restarted, and that is grown out
-pub record IsServedImage (shape : Shape) (words : List ℕ) : Type 0 where
-  pub playable : IsPlayableImage shape words
-  pub grown : AllGrown shape (slice_index words)
+-- an image is served that may be restarted
+abbrev pub IsServedImage : Shape → List ℕ → Type 0
+IsServedImage = IsPlayableImage
 
 -- up to 64 callers, whose keys and values are words
 pub record AreScripts (scripts : List (List Call)) : Type 0 where

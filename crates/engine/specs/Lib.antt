@@ -11,3 +11,4 @@ pub mod Sessions
 pub mod Pairs
 pub mod Causes
 pub mod Alone
+pub mod Short

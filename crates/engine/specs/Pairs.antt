@@ -14,13 +14,13 @@ use Rattle.world.specs.Views.{View, At}
 use Rattle.world.specs.Wants.{words_after}
 use Rattle.world.specs.Invariant.{Holds}
 use Rattle.engine.specs.declared.engine.Engine.{Engine}
-use Rattle.engine.specs.Engine.{begun, wanted, taken, end_of, reply_of_end}
+use Rattle.engine.specs.Engine.{wanted, taken, end_of, reply_of_end, IsFresh}
 use Rattle.engine.specs.OpPart.{op_part}
 use Rattle.engine.specs.Fits.{Suits, next_engine}
 use Rattle.engine.specs.Core.{Caller, Core, turn}
 use Rattle.engine.specs.Holding.{CoreHolds}
 
--- the attempt has done the one store that makes its change; a get never does
+-- the attempt has done the one store that makes its change; a get never does, nor an attempt that splits a segment
 abbrev pub HasMade : Engine → Type 0
 HasMade e = op_part.HasMade e.op
 
@@ -34,7 +34,7 @@ LeavesOrMakes = (site : Ground) (here : Site) (call : Call) (e : Engine) (words 
 
 -- an attempt begins without
 abbrev pub BeginsUnmade : Type 0
-BeginsUnmade = (here : Site) (call : Call) → HasMade (begun here call) → ⊥
+BeginsUnmade = (here : Site) (e : Engine) → IsFresh here e → HasMade e → ⊥
 
 -- what is made stays so
 abbrev pub StaysMade : Type 0

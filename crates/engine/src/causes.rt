@@ -7,8 +7,9 @@ use crate::{laws, turns};
 
 /// Each end of an attempt is decided by one of its events. Whatever calls up to 64 callers have and whatever turns they take, where
 /// the next event of a caller decides how its attempt ends, the cause of that end is there: in what this attempt itself loaded and
-/// changed, in what that event found, and in the newest words; and a lock that is found taken is another caller's, that is in the midst
-/// of an attempt. To keep account of what each attempt did changes nothing of the core.
+/// changed, in what that event found, and in the newest words; and a lock or a guard that is found taken is another caller's, that is in the
+/// midst of an attempt. No attempt finds the power off, nor a segment of another version. To keep account of what each attempt did changes
+/// nothing of the core.
 pub fn ends_have_causes()
     ensures begins { BeginsUndecided }
     ensures stays { DecidedStays }

@@ -1,6 +1,6 @@
 //! The laws of an engine. The functions do nothing: each stands for the law that its contract says.
 
-ghost use Rattle.std.specs.Prelude.{◌≡◌, ◌≢◌, ℕ, ◌+◌, ◌<◌, ◌≤◌, Some};
+ghost use Rattle.std.specs.Prelude.{◌≡◌, ◌≢◌, ℕ, ◌+◌, ◌<◌, ◌≤◌, ◌⊎◌, false, None, Some};
 ghost use Rattle.op_core.specs.declared.want.Want.TheVariants.{Flush, Fence, Done};
 ghost use Rattle.op_core.specs.declared.want.Ans.{Ans};
 ghost use Rattle.map_model.specs.declared.call.Call.{Call};
@@ -8,28 +8,31 @@ ghost use Rattle.map_model.specs.declared.call.Call.TheVariants.{Get};
 ghost use Rattle.world.specs.declared.site.Site.{Site};
 ghost use Rattle.op_core.specs.Answers.{IsAnswer};
 ghost use Rattle.engine.specs.declared.engine.Engine.{Engine};
-ghost use Rattle.engine.specs.Engine.{begun, wanted, taken};
+ghost use Rattle.engine.specs.Engine.{begun, wanted, taken, IsFresh};
 ghost use Rattle.world.specs.Ground.{Ground as Image};
 ghost use Rattle.part.specs.Doings.{nothing_done};
 ghost use Rattle.part.specs.Outcomes.{finished};
-ghost use Rattle.part.specs.Part.{IsPart};
+ghost use Rattle.part.specs.Part.{IsPart, IsWait};
 ghost use Rattle.part.specs.Causes.{EndsByCause};
-ghost use Rattle.engine.specs.OpPart.{op_part};
+ghost use Rattle.part.specs.Splits.{EndsBySplitCause};
+ghost use Rattle.engine.specs.OpPart.{call_part, whole_split, split_segment_in, op_part, split_segment};
 ghost use Rattle.engine.specs.Causes.{BeginsBare, EndsAreDecided};
 ghost use Rattle.engine.specs.Fits.{BeginsSuited, KeepsSuits};
 ghost use Rattle.engine.specs.Left.{most_events, left, waiting};
 ghost use Rattle.engine.specs.Pairs.{LeavesOrMakes, BeginsUnmade, StaysMade, EndsAsDone, TurnLeavesOrMakes};
 ghost use Rattle.engine.specs.Asks.{AsksWithin, AsksWords, KeepsNotes};
 
-/// The machines of a call are one part, a get or a change that goes on to the move of a record, to the stash and to its refusal, and
-/// each of its outcomes has its cause, in what its attempt did. None is that it has finished. An attempt begins holding nothing; and
-/// where nothing more is wanted, the end is what was decided.
+/// The machines of a call are one part: a get or a change that goes on to the move of a record, to the stash and to giving all back; or a
+/// segment is enclosed, its new side made and published, and the rest done. Each of its outcomes has its cause, in what its attempt did. An
+/// attempt begins holding nothing, and remembers nothing; no machine of the call itself ends as one that has finished; and where nothing more is
+/// wanted, the end is what was decided.
 pub fn calls_are_parts()
     ensures part { IsPart op_part }
-    ensures causes { EndsByCause op_part }
-    ensures remembers { (site : Image) (here : Site) (call : Call) → op_part.Remembers site (begun here call).op nothing_done }
+    ensures causes { EndsByCause call_part }
+    ensures split_causes { EndsBySplitCause whole_split split_segment_in }
+    ensures remembers { (site : Image) (here : Site) (e : Engine) → IsFresh here e → op_part.Remembers site e.op nothing_done }
     ensures bare { BeginsBare }
-    ensures finished { (e : Engine) → op_part.outcome e.op ≡ Some finished → ⊥ }
+    ensures finished { (e : Engine) → split_segment e.op ≡ None → op_part.outcome e.op ≡ Some finished → ⊥ }
     ensures ends { EndsAreDecided }
 {
     read_op::gets_are_parts();
@@ -39,20 +42,35 @@ pub fn calls_are_parts()
     move_op::ends_tell();
     stash_op::stashes_are_parts();
     stash_op::ends_tell();
-    refuse_op::refusals_are_parts();
-    refuse_op::ends_tell();
+    release_op::releases_are_parts();
+    release_op::ends_tell();
+    enclose_op::enclosings_are_parts();
+    enclose_op::ends_have_causes();
+    enclose_op::ends_tell();
+    split_op::splits_are_parts();
+    split_op::ends_have_causes();
+    directory_op::publishings_are_parts();
+    directory_op::outcomes_have_causes();
+    rest_op::rests_are_parts();
 }
 
-/// An engine fits the world of many callers: at the beginning of a call, on a site that is served and has its shape and version, it
-/// suits the view of a caller that holds, knows and owes nothing; each event is one of a kind that the view may take, and leaves a view that suits the engine; or the attempt has
-/// ended, and the caller holds and owes nothing, and has its reply, if there is one, as its next entry.
+/// An engine fits the world of many callers: at the beginning of a call, on a site of this shape and version, it suits the view of a caller
+/// that holds, knows and owes nothing; while the power is on each event is one of a kind that the view may take, and leaves a view that suits
+/// the engine; or the attempt has ended, and the caller holds and owes nothing, and has its reply as its next entry, or its view suits the
+/// next attempt of the call, which splits a segment where that is needed.
 pub fn fits_the_world()
     ensures begins { BeginsSuited }
     ensures steps { KeepsSuits }
 {
     world::steps_add_one_reply();
+    world::structure_steps_change_no_pair();
     read_op::gets_are_parts();
     write_op::changes_are_parts();
+    move_op::moves_are_parts();
+    stash_op::stashes_are_parts();
+    release_op::releases_find_no_room();
+    enclose_op::enclosings_are_parts();
+    enclose_op::ends_have_causes();
     calls_are_parts();
 }
 
@@ -63,15 +81,18 @@ pub fn asks_within()
     calls_are_parts();
 }
 
-/// An attempt ends: each answer of the kind that was asked for leaves fewer events, of at most `most_events`. So one of a change asks
-/// for at most 700 events, and one of a get for at most 150.
+/// An attempt ends: each answer of the kind that was asked for leaves fewer events, of at most `most_events`, but while it waits for the guard
+/// of the directory, where as many are left. An attempt of a call itself never waits, and asks for at most 700 events, and one of a get for at
+/// most 150.
 pub fn attempts_end()
-    ensures falls { (e : Engine) (ans : Ans) → IsAnswer (wanted e) ans → left (taken e ans) < left e }
+    ensures falls { (e : Engine) (ans : Ans) → IsAnswer (wanted e) ans → (left (taken e ans) < left e) ⊎ IsWait op_part e.op ans }
     ensures most { (e : Engine) → left e ≤ most_events }
-    ensures few { most_events ≤ 700 }
+    ensures waits { (e : Engine) → split_segment e.op ≡ None → op_part.is_waiting e.op ≡ false }
+    ensures few { (site : Site) (call : Call) → left (begun site call) ≤ 700 }
     ensures few_of_get { (site : Site) (key : ℕ) → left (begun site (Get key)) ≤ 150 }
 {
     read_op::gets_are_parts();
+    write_op::changes_are_parts();
     calls_are_parts();
 }
 
@@ -82,7 +103,7 @@ pub fn stores_are_words()
     calls_are_parts();
 }
 
-/// Beside any other callers an event of an engine leaves what each home has noted of the stash, and its records there, but for a
+/// Beside any other callers an event of a call's own machines leaves what each home has noted of the stash, and its records there, but for a
 /// home to which its caller owes a note, before the event or after it.
 pub fn stores_keep_notes()
     ensures { KeepsNotes }
@@ -90,11 +111,11 @@ pub fn stores_keep_notes()
     calls_are_parts();
 }
 
-/// At most two lines are flushed and not fenced: the number that bounds them is 0 at both ends and never above 2, each flush
+/// At most eight lines are flushed and not fenced: the number that bounds them is 0 at both ends and never above 8, each flush
 /// raises it, and no event but a fence lowers it.
 pub fn flushes_are_few()
-    ensures begins { (site : Site) (call : Call) → waiting (begun site call) ≡ 0 }
-    ensures most { (e : Engine) → waiting e ≤ 2 }
+    ensures begins { (here : Site) (e : Engine) → IsFresh here e → waiting e ≡ 0 }
+    ensures most { (e : Engine) → waiting e ≤ 8 }
     ensures flushes { (e : Engine) (ans : Ans) (l : ℕ) → IsAnswer (wanted e) ans → wanted e ≡ Flush l → waiting e + 1 ≤ waiting (taken e ans) }
     ensures keeps { (e : Engine) (ans : Ans) → IsAnswer (wanted e) ans → wanted e ≢ Fence → waiting e ≤ waiting (taken e ans) }
     ensures ends { (e : Engine) → wanted e ≡ Done → waiting e ≡ 0 }
@@ -114,5 +135,8 @@ pub fn refusals_leave_pairs()
     ensures turns { TurnLeavesOrMakes }
 {
     world::steps_leave();
+    write_op::ends_tell();
+    move_op::ends_tell();
+    stash_op::ends_tell();
     calls_are_parts();
 }

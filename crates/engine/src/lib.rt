@@ -8,6 +8,8 @@
 mod causes;
 mod engine;
 mod laws;
+mod left;
+mod short;
 mod single;
 mod turns;
 
@@ -17,7 +19,9 @@ pub use laws::{
     asks_within, attempts_end, calls_are_parts, fits_the_world, flushes_are_few,
     refusals_leave_pairs, stores_are_words, stores_keep_notes,
 };
-pub use single::never_again_alone;
+pub use left::events_of_call;
+pub use short::splits_are_short;
+pub use single::{calls_end_alone, never_again_alone};
 pub use turns::{
     close_is_session, core_begins, cut_is_session, holding_is_good, opened_holds, through_is_quiet,
     turn_keeps, turns_alone, turns_keep,

@@ -1,13 +1,14 @@
-//! The laws of a caller that steps alone. The function does nothing: it stands for the laws that its contract says.
+//! The laws of a caller that steps alone. The functions do nothing: each stands for the laws that its contract says.
 
 ghost use Rattle.engine.specs.Alone.{AllRestAtStart, AloneAtStart, RestingIsAlone, OwnTurnsStayAlone, AloneNeverAgain, EndsAreTold, EndsTell, EndedRests, OthersStayResting};
+ghost use Rattle.engine.specs.Alone.{CrampedAtStart, OwnTurnsStayCramped, FreeSlotsFall, EventsAreFew, AloneLeavesFewer};
 
 use crate::{causes, laws, turns};
 
 /// While one caller steps and all others stand between two attempts, no attempt of it that begins then ends in Again: nothing that it
-/// loaded has moved but by itself, and a lock that is taken is another's, that is in the midst of an attempt. At the beginning all
+/// loaded has moved but by itself, and a lock or a guard that is taken is another's, that is in the midst of an attempt. At the beginning all
 /// callers rest; a caller whose attempt ended rests; where all rest each is alone, and its own turns leave it so. And whoever has its
-/// turn, its attempt ends with a reply or in Again, which is what its end tells.
+/// turn, its attempt ends with a reply, in Again, with a segment that is to be split, or with a split, which is what its end tells.
 pub fn never_again_alone()
     ensures start { AllRestAtStart }
     ensures start_alone { AloneAtStart }
@@ -23,4 +24,31 @@ pub fn never_again_alone()
     turns::opened_holds();
     turns::turn_keeps();
     causes::ends_have_causes();
+}
+
+/// A call of a caller that steps while all others stand between two attempts ends: it encloses no segment but one without room, so that each
+/// split takes a free slot, and no turn frees one; and each event of it leaves fewer events of the call, of which there are never more than
+/// `events_of_call`.
+pub fn calls_end_alone()
+    ensures start { CrampedAtStart }
+    ensures stays { OwnTurnsStayCramped }
+    ensures slots { FreeSlotsFall }
+    ensures few { EventsAreFew }
+    ensures fewer { AloneLeavesFewer }
+{
+    world::slots_stay();
+    read_op::gets_are_parts();
+    write_op::changes_are_parts();
+    move_op::moves_are_parts();
+    stash_op::stashes_are_parts();
+    release_op::releases_find_no_room();
+    enclose_op::enclosings_are_parts();
+    split_op::new_slots_were_free();
+    directory_op::free_guards_are_won();
+    rest_op::rests_are_parts();
+    laws::calls_are_parts();
+    turns::opened_holds();
+    turns::turn_keeps();
+    causes::ends_have_causes();
+    never_again_alone();
 }

@@ -1,10 +1,16 @@
-// Attempts on the words of a table of one segment in which `1 insert 5 7` was done.
+// Attempts on the words of a table of one segment in which `1 insert 5 7` was done, and calls that split a segment of an image of two slots.
 use super::*;
+use directory_op::DirectoryEnd;
+use enclose_op::{EncloseEnd, NotEnclosed};
 use image_layout::Geometry;
 use map_model::{Call, Reply};
 use op_core::{Ans, Want};
+use release_op::ReleaseEnd;
+use rest_op::RestEnd;
+use split_op::SplitEnd;
 use std::test::Fail;
 use world::Site;
+use write_op::WriteEnd;
 
 /// The metadata words where home and probing bucket have one record each, and where they have two.
 const ONE: [u64; 5] = [1, 1, 0, 0, 0];
@@ -44,29 +50,44 @@ fn answer(want: Want, taken: [u64; 5], power: u64) -> Ans {
     }
 }
 
-// An attempt of a call, by caller 1.
+// Where caller 1 runs.
+fn site(geometry: Geometry) -> Site {
+    Site {
+        geometry,
+        version: 1,
+        caller: 1,
+    }
+}
+
+// An attempt of a call.
 fn begin(geometry: Geometry, call: Call) -> Engine {
-    Engine::of(
-        call,
-        Site {
-            geometry,
-            version: 1,
-            caller: 1,
-        },
-    )
+    Engine::of(call, site(geometry))
+}
+
+// Runs an attempt to its end: which that is, and how many events it took.
+fn end_of(mut engine: Engine, taken: [u64; 5], power: u64) -> (Option<End>, u64) {
+    for events in 0..3000 {
+        let want = engine.next();
+        if want == Want::Done {
+            return (Some(engine.end()), events);
+        }
+        engine.take(answer(want, taken, power));
+    }
+    (None, 3000)
+}
+
+// The reply of an end with its place, and whether the attempt is to be made again.
+fn told(end: Option<End>) -> (Option<(Reply, u64)>, bool) {
+    match end {
+        Some(end) => (end.reply(), end.is_again()),
+        None => (None, false),
+    }
 }
 
 // Runs an attempt of a call to its end: its reply and its place, and how many events it took.
 fn run(geometry: Geometry, call: Call, taken: [u64; 5], power: u64) -> (Option<(Reply, u64)>, u64) {
-    let mut engine = begin(geometry, call);
-    for events in 0..700 {
-        let want = engine.next();
-        if want == Want::Done {
-            return (engine.end().reply(), events);
-        }
-        engine.take(answer(want, taken, power));
-    }
-    (None, 700)
+    let (end, events) = end_of(begin(geometry, call), taken, power);
+    (told(end).0, events)
 }
 
 #[test]
@@ -153,16 +174,25 @@ fn insert_into_the_stash(rt: HostRuntime) -> Result<(), Fail> {
     Ok(())
 }
 
-// Where both stash buckets are full too, the place is loaded, and 6 locks are given back. So it is where both were locked and loaded
-// before, since records of the home bucket are counted in the stash: nothing is loaded twice.
+// Where both stash buckets are full too, 6 locks are given back, and the segment is to be split. So it is where both were locked and
+// loaded before, since records of the home bucket are counted in the stash: nothing is loaded twice. The next attempt encloses the
+// segment: it takes the guard and 66 locks and loads the header and 66 times 31 words; then it loads the place, since the segment is as
+// deep as the image allows, and gives the locks and the guard back.
 #[test]
 fn insert_without_room(rt: HostRuntime) -> Result<(), Fail> {
     let g = Geometry::new(1, 0, 0)?;
+    let call = Call::Insert(6, 8);
     for home in [FULL, FULL | COUNTED] {
+        let taken = [home, FULL, FULL, FULL, FULL];
+        let split = End::Release(ReleaseEnd::NeedSplit(0));
+        assert_eq!(rt; end_of(begin(g, call), taken, 0), (Some(split), 212));
+        assert_eq!(rt; told(Some(split)), (None, false));
+        let deep = End::Enclose(EncloseEnd::Back(NotEnclosed::Replied(Reply::Deep, 1)));
         assert_eq!(rt;
-            run(g, Call::Insert(6, 8), [home, FULL, FULL, FULL, FULL], 0),
-            (Some((Reply::Deep, 1)), 213)
+            end_of(Engine::anew(call, site(g), split), taken, 0),
+            (Some(deep), 2248)
         );
+        assert_eq!(rt; deep.reply(), Some((Reply::Deep, 1)));
     }
     Ok(())
 }
@@ -218,5 +248,176 @@ fn insert_into_a_later_slot(rt: HostRuntime) -> Result<(), Fail> {
         assert_eq!(rt; engine.next(), want);
         engine.take(answer(want, TWO, 0));
     }
+    Ok(())
+}
+
+/// A key whose hash begins with the bit 1, with home bucket 0.
+const KEY: u64 = 0x8000_0000_0000_001C;
+
+/// In an image of two slots: the headers of these, the commit counter, the power word, and the guards of free slots and of the directory.
+const HEAD: u64 = 65;
+
+const SIDE_HEAD: u64 = 2209;
+
+const COUNTER: u64 = 4352;
+
+const POWER: u64 = 4353;
+
+const FREE_SLOTS: u64 = 4354;
+
+const DIRECTORY: u64 = 4355;
+
+/// A small memory: the words of that image and those behind it.
+#[derive(Drop)]
+struct Memory {
+    words: [u64; 4358],
+}
+
+/// The segment in slot 0, of depth 0, has no room for key 6: its first two buckets, the one behind them and both stash buckets are full. One
+/// of its records is that of `KEY`. Slot 1 is free, and 30 changes are made.
+fn crammed() -> Memory {
+    let mut memory = Memory { words: [0; 4358] };
+    for (at, value) in [
+        (HEAD, 257u64),
+        (97, FULL),
+        (98, 0x1C),
+        (100, KEY),
+        (101, 60),
+        (129, FULL),
+        (161, FULL),
+        (2145, FULL),
+        (2177, FULL),
+        (COUNTER, 30),
+    ] {
+        memory.set(at, value);
+    }
+    memory
+}
+
+impl Memory {
+    fn word(&self, at: u64) -> u64 {
+        if at < 4358 {
+            self.words[at as usize]
+        } else {
+            0
+        }
+    }
+
+    fn set(&mut self, at: u64, value: u64) {
+        if at < 4358 {
+            self.words[at as usize] = value;
+        }
+    }
+
+    fn answer(&mut self, want: Want) -> Ans {
+        match want {
+            Want::Load(at) => Ans::Value(self.word(at)),
+            Want::Power => Ans::Value(self.word(POWER)),
+            Want::Store(at, value) => {
+                self.set(at, value);
+                Ans::Passed
+            }
+            Want::Exchange(at, old, new) => {
+                let found = self.word(at);
+                if found == old {
+                    self.set(at, new);
+                    Ans::Won
+                } else {
+                    Ans::Lost(found)
+                }
+            }
+            Want::Draw => {
+                let place = self.word(COUNTER);
+                self.set(COUNTER, place.wrapping_add(1));
+                Ans::Drawn(place)
+            }
+            Want::Flush(_) | Want::Fence | Want::Done => Ans::Passed,
+        }
+    }
+
+    /// Runs an attempt to its end.
+    fn run(&mut self, mut engine: Engine) -> Option<End> {
+        for _ in 0..40_000u64 {
+            let want = engine.next();
+            if want == Want::Done {
+                return Some(engine.end());
+            }
+            engine.take(self.answer(want));
+        }
+        None
+    }
+}
+
+// The first attempt finds that the segment is to be split, the second splits it, and the third finds room.
+#[test]
+fn a_segment_is_split_for_an_insert(rt: HostRuntime) -> Result<(), Fail> {
+    let g = Geometry::new(2, 1, 0)?;
+    let call = Call::Insert(6, 8);
+    let mut memory = crammed();
+    let first = End::Release(ReleaseEnd::NeedSplit(0));
+    assert_eq!(rt; memory.run(begin(g, call)), Some(first));
+    let second = End::Rest(RestEnd::Split);
+    assert_eq!(rt;
+        memory.run(Engine::anew(call, site(g), first)),
+        Some(second)
+    );
+    assert_eq!(rt; told(Some(second)), (None, false));
+    assert_eq!(rt;
+        (memory.word(8), memory.word(33), memory.word(34)),
+        (1, 0, 1)
+    );
+    assert_eq!(rt;
+        (memory.word(HEAD), memory.word(SIDE_HEAD)),
+        (0x1_0101, 0x1_0001_0101)
+    );
+    for guard in [FREE_SLOTS, DIRECTORY, 4356, 4357] {
+        assert_eq!(rt; memory.word(guard), 0);
+    }
+    assert_eq!(rt;
+        memory.run(Engine::anew(call, site(g), second)),
+        Some(End::Write(WriteEnd::Replied(Reply::Done, 30)))
+    );
+    for (key, value) in [(6, 8), (KEY, 60)] {
+        assert_eq!(rt;
+            told(memory.run(begin(g, Call::Get(key)))),
+            (Some((Reply::Found(value), 31)), false)
+        );
+    }
+    Ok(())
+}
+
+// Where slot 1 is taken too, the table is full; where another caller has the guard of free slots, the attempt is to be made again.
+#[test]
+fn a_split_finds_no_slot(rt: HostRuntime) -> Result<(), Fail> {
+    let g = Geometry::new(2, 1, 0)?;
+    let call = Call::Insert(6, 8);
+    let split = End::Release(ReleaseEnd::NeedSplit(0));
+    let mut memory = crammed();
+    memory.set(SIDE_HEAD, 257);
+    let full = End::Split(Some(SplitEnd::Full(30)));
+    assert_eq!(rt; memory.run(Engine::anew(call, site(g), split)), Some(full));
+    assert_eq!(rt; told(Some(full)), (Some((Reply::Full, 30)), false));
+    memory.set(FREE_SLOTS, 2);
+    assert_eq!(rt;
+        told(memory.run(Engine::anew(call, site(g), split))),
+        (None, true)
+    );
+    Ok(())
+}
+
+// Who waits for the guard of the directory ends where the power is off.
+#[test]
+fn a_split_finds_the_power_off(rt: HostRuntime) -> Result<(), Fail> {
+    let g = Geometry::new(2, 1, 0)?;
+    let mut memory = crammed();
+    memory.set(DIRECTORY, 2);
+    memory.set(POWER, 1);
+    let split = End::Release(ReleaseEnd::NeedSplit(0));
+    let off = End::Publish(DirectoryEnd::Off);
+    assert_eq!(rt;
+        memory.run(Engine::anew(Call::Insert(6, 8), site(g), split)),
+        Some(off)
+    );
+    assert_eq!(rt; told(Some(off)), (None, false));
     Ok(())
 }

@@ -13,7 +13,8 @@ pub fn turn_keeps()
     ensures calls { CallsStay }
 {
     world::worlds_stay_well();
-    world::calls_spare_the_structure();
+    world::slots_stay();
+    world::steps_leave();
     world::steps_do_events();
     laws::calls_are_parts();
     laws::fits_the_world();
@@ -79,7 +80,6 @@ pub fn cut_is_session()
     ensures { CutIsSession }
 {
     turns_keep();
-    restart_op::one_segment_is_live();
 }
 
 /// A run that ends by a close is a session: each call has its reply, and the one image that is left has the map's pairs.
@@ -91,6 +91,5 @@ pub fn close_is_session()
     turn_keeps();
     through_is_quiet();
     restart_op::restart_begins();
-    restart_op::one_segment_is_live();
     restart_op::close_keeps();
 }

@@ -9,20 +9,24 @@ use Rattle.trace.specs.Events.{Words}
 use Rattle.trace.proofs.Moments.{value_at_now}
 use Rattle.image_layout.specs.Places.{Shape}
 use Rattle.map_model.specs.declared.call.Call.{Call}
+use Rattle.map_model.specs.declared.change.Change.{Change}
+use Rattle.map_model.specs.Changes.{change_of}
 use Rattle.map_model.specs.declared.entry.Reply.{Reply}
 use Rattle.world.specs.declared.site.Site.{Site}
 use Rattle.world.specs.Ground.{Ground}
 use Rattle.world.specs.World.{fresh_view}
 use Rattle.world.specs.Wants.{word_of}
 use Rattle.part.specs.Doings.{Doings, nothing_done, with_event_of}
-use Rattle.part.specs.Causes.{EndsByCause}
+use Rattle.part.specs.Outcomes.{Outcome, need_split}
 use Rattle.engine.specs.declared.engine.Engine.{Engine}
-use Rattle.engine.specs.Engine.{begun, wanted, end_of, reply_of_end}
+use Rattle.engine.specs.declared.engine.End.{End}
+use Rattle.engine.specs.Engine.{begun, wanted, end_of, outcome_of_end, reply_of_end, IsFresh, anew_by, anew}
 use Rattle.engine.specs.OpPart.{op_part}
 use Rattle.engine.specs.Core.{Caller, Core, call_at, current, engine_for, drawn_by, ended, ended_or_on, answered, callers_from, idle}
 use Rattle.engine.specs.Holding.{IsCalling, DoesCall, CallerFits, CoreHolds, TurnKeeps}
 use Rattle.engine.specs.Causes.{doings_by, Watched, with_doings, answer_now, engine_next, doings_of_call, doings_of_caller, watched_turn, watched_run, WatchingChangesNothing}
 use Rattle.engine.proofs.Places.{zip_at, set_cases}
+use Rattle.engine.proofs.attempts.Stepping.{OpCauses, op_remembers}
 
 pub watching : WatchingChangesNothing
 watching shape w [] = refl
@@ -35,9 +39,17 @@ set_there (y ∷ callers) (suc j) c d x there is = set_there callers j c d x the
 
 -- what an attempt that has done nothing remembers
 abbrev pub RemembersNothing : Type 0
-RemembersNothing = (site : Ground) (here : Site) (call : Call) → op_part.Remembers site (begun here call).op nothing_done
+RemembersNothing = (site : Ground) (here : Site) (e : Engine) → IsFresh here e → op_part.Remembers site e.op nothing_done
 
-module _ (causes : EndsByCause op_part) (begins : RemembersNothing) (keeps : TurnKeeps) (site : Ground) (start : Words) where
+-- the next attempt of a call has done nothing
+anew_by_fresh : (here : Site) (call : Call) (change : Option Change) (outcome : Option Outcome) → IsFresh here (anew_by here call change outcome)
+anew_by_fresh here call (Some change) (Some (need_split segment)) = inr (change, segment, refl)
+anew_by_fresh here call change outcome = inl (call, refl)
+
+pub anew_fresh : (here : Site) (call : Call) (end : End) → IsFresh here (anew here call end)
+anew_fresh here call end = anew_by_fresh here call (change_of call) (outcome_of_end end)
+
+module _ (causes : OpCauses) (begins : RemembersNothing) (keeps : TurnKeeps) (site : Ground) (start : Words) where
   -- ---- a caller
   -- its engine, if one runs, remembers what its attempt did
   abbrev pub IsDoing : Caller → Doings → Type 0
@@ -45,15 +57,15 @@ module _ (causes : EndsByCause op_part) (begins : RemembersNothing) (keeps : Tur
 
   engine_did : (here : Site) (o : Option Call) (e : Engine) → engine_for here o ≡ Some e → op_part.Remembers site e.op nothing_done
   engine_did here None e is = absurd (none-some e is)
-  engine_did here (Some call) e is = subst (λ (z : Engine). op_part.Remembers site z.op nothing_done) (same_Some (begun here call) e is) (begins site here call)
+  engine_did here (Some call) e is = begins site here e (inl (call, sym (same_Some (begun here call) e is)))
 
-  ended_doing : (c : Caller) (call : Call) (o : Option (Reply × ℕ)) → IsDoing (ended c call o) nothing_done
-  ended_doing c call None e is = engine_did c.site (Some call) e is
-  ended_doing c call (Some r) e is = engine_did c.site (call_at c (suc (length c.entries))) e is
+  ended_doing : (c : Caller) (call : Call) (end : End) (o : Option (Reply × ℕ)) → IsDoing (ended c call end o) nothing_done
+  ended_doing c call end None e is = begins site c.site e (subst (IsFresh c.site) (same_Some (anew c.site call end) e is) (anew_fresh c.site call end))
+  ended_doing c call end (Some r) e is = engine_did c.site (call_at c (suc (length c.entries))) e is
 
   gone_on_doing : (c : Caller) (call : Call) (e : Engine) (next w : Want) (a : Ans) (d : Doings) → op_part.Remembers site e.op (with_event_of w a d)
       → IsDoing (ended_or_on c call e next) (doings_by next w a d)
-  gone_on_doing c call e want.Done w a d did x is = ended_doing c call (reply_of_end (end_of e)) x is
+  gone_on_doing c call e want.Done w a d did x is = ended_doing c call (end_of e) (reply_of_end (end_of e)) x is
   gone_on_doing c call e next w a d did x is = subst (λ (z : Engine). op_part.Remembers site z.op (with_event_of w a d)) (same_Some e x is) did
 
   -- ---- the callers of a core
@@ -73,8 +85,8 @@ module _ (causes : EndsByCause op_part) (begins : RemembersNothing) (keeps : Tur
       remembers_next e runs =
           let z = zip_at (CallerFits site) w.core.callers h.views j c h.each there in
           let calling : IsCalling site c e z.0 = subst (λ o. DoesCall site c o z.0) runs z.2.does in
-          (causes.steps site c.site calling.call w.core.words (fresh_view 0 ∷ h.views) (suc j) e.op calling.before z.0 (w.doings j) h.well.holds z.1 calling.suits.suits calling.suits.asks
-          (now_fits (word_of site.shape (wanted e))) (each j c there e runs)).remembers
+          op_remembers causes site c.site calling.call w.core.words (fresh_view 0 ∷ h.views) (suc j) calling.before z.0 h.well.holds z.1 (w.doings j) e.op calling.suits.suits calling.suits.asks
+          (now_fits (word_of site.shape (wanted e))) (each j c there e runs)
 
       stepped : (call : Call) (e : Engine) → c.engine ≡ Some e
           → EachDoes (record { core = Rattle.engine.specs.Core.with_event site.shape j w.core c call e; doings = with_doings j (new_doings e) w.doings })

@@ -1,9 +1,10 @@
 -- The core with which callers begin holds.
-use Rattle.std.proofs.Common.{◌≡◌, ℕ, zero, suc, List, [], ◌∷◌, length, replicate, slice_get, Option, None, Some, inl, refl, sym, ap, subst, arith}
+use Rattle.std.proofs.Common.{◌≡◌, ℕ, zero, suc, ◌+◌, ◌%◌, ◌^◌, ◌<◌, ◌≤◌, List, [], ◌∷◌, length, replicate, slice_get, Option, None, Some, inl, refl, sym, ap, ◌∙◌, subst, arith}
 use Rattle.std.specs.List.{AllByRecursion, AllZip}
 use Rattle.std.proofs.lemmas.Option.{none-some, same_Some}
 use mathlib.Core.Option.{some-injective, some-ne-none}
 use Rattle.trace.specs.Events.{Words}
+use Rattle.image_layout.specs.Places.{state_word}
 use Rattle.map_model.specs.declared.call.Call.{Call}
 use Rattle.world.specs.declared.site.Site.{Site}
 use Rattle.world.specs.Ground.{Ground, IsGround, version_of}
@@ -12,7 +13,7 @@ use Rattle.world.specs.Views.{View, Has, At}
 use Rattle.world.specs.World.{fresh_view}
 use Rattle.world.specs.Attempts.{HoldsOnly}
 use Rattle.restart_op.specs.AtRest.{IsOpenStructure}
-use Rattle.engine.specs.Fits.{IsWordCall, IsServedGround, BeginsSuited}
+use Rattle.engine.specs.Fits.{HasNumber, IsWordCall, BeginsSuited}
 use Rattle.engine.specs.Core.{idle, engine_for, callers_from}
 use Rattle.engine.specs.Holding.{CallerFits, CoreBegins}
 
@@ -24,12 +25,14 @@ word_at (x ∷ calls) all (suc n) call is = word_at calls all.1 n call is
 holds_nothing : (n : ℕ) → HoldsOnly [] (fresh_view n)
 holds_nothing n = record { held = refl; known = refl; dirty = refl; flushed = refl; planned = refl; moving = refl; owed = refl; areas = refl }
 
-module _ (begins : BeginsSuited) (site : Ground) (is_site : IsGround site) (served : IsServedGround site) where
-  module _ (here : Site) (place : here.geometry ≡ site.shape) (version : here.version ≡ version_of site) (calls : List Call) (all : AllByRecursion IsWordCall calls) where
+module _ (begins : BeginsSuited) (site : Ground) (is_site : IsGround site) where
+  module _ (here : Site) (place : here.geometry ≡ site.shape) (version : here.version ≡ version_of site) (number : HasNumber here)
+      (calls : List Call) (all : AllByRecursion IsWordCall calls) where
     first : (o : Option Call) → slice_get calls 0 ≡ o → CallerFits site (record (idle here calls) { engine = engine_for here o }) (fresh_view 1)
     first None is = record {
       place = place;
       version = version;
+      number = number;
       words = word_at calls all;
       callers = omega arith;
       replied = refl;
@@ -39,6 +42,7 @@ module _ (begins : BeginsSuited) (site : Ground) (is_site : IsGround site) (serv
     first (Some call) is = record {
       place = place;
       version = version;
+      number = number;
       words = word_at calls all;
       callers = omega arith;
       replied = refl;
@@ -48,7 +52,7 @@ module _ (begins : BeginsSuited) (site : Ground) (is_site : IsGround site) (serv
         is_current = is;
         before = fresh_view 1;
         own_before = refl;
-        suits = begins site here call (fresh_view 1) is_site served place version (word_at calls all 0 call is) (holds_nothing 1) (omega arith);
+        suits = begins site here call (fresh_view 1) is_site place version (word_at calls all 0 call is) (holds_nothing 1) (omega arith);
         entries = inl refl;
         drew = λ _. refl;
         planned = λ _. refl;
@@ -59,30 +63,36 @@ module _ (begins : BeginsSuited) (site : Ground) (is_site : IsGround site) (serv
     idle_fits : CallerFits site (idle here calls) (fresh_view 1)
     idle_fits = first (slice_get calls 0) refl
 
-  all_fit : (version : ℕ) → version ≡ version_of site → (number : ℕ) (scripts : List (List Call)) → AllByRecursion (AllByRecursion IsWordCall) scripts
-      → AllZip (CallerFits site) (callers_from site.shape version number scripts) (replicate (length scripts) (fresh_view 1))
-  all_fit version current number [] all = tt
-  all_fit version current number (calls ∷ scripts) all =
-      (idle_fits (record { geometry = site.shape; version = version; caller = number }) refl current calls all.0, all_fit version current (suc number) scripts all.1)
+  all_fit : (version : ℕ) → version ≡ version_of site → (number : ℕ) (scripts : List (List Call)) → 0 < number → number + length scripts ≤ 2 ^ 64
+      → AllByRecursion (AllByRecursion IsWordCall) scripts → AllZip (CallerFits site) (callers_from site.shape version number scripts) (replicate (length scripts) (fresh_view 1))
+  all_fit version current number [] some few all = tt
+  all_fit version current number (calls ∷ scripts) some few all = (
+    idle_fits (record { geometry = site.shape; version = version; caller = number }) refl current (some, omega (arith, few)) calls all.0,
+    all_fit version current (suc number) scripts (omega arith) (omega (arith, few)) all.1,
+  )
 
 -- nobody has replied anything
-none_replied : (n j : ℕ) (v : View) → At (replicate n (fresh_view 1)) j v → v.own ≡ []
-none_replied zero j v at = absurd (some-ne-none v (sym at))
-none_replied (suc n) zero v at = ap (λ (z : View). z.own) (sym (some-injective (fresh_view 1) v at))
-none_replied (suc n) (suc j) v at = none_replied n j v at
+caller_unreplied : (n j : ℕ) (v : View) → At (replicate n (fresh_view 1)) j v → v.own ≡ []
+caller_unreplied zero j v at = absurd (some-ne-none v (sym at))
+caller_unreplied (suc n) zero v at = ap (λ (z : View). z.own) (sym (some-injective (fresh_view 1) v at))
+caller_unreplied (suc n) (suc j) v at = caller_unreplied n j v at
+
+none_replied : (n j : ℕ) (v : View) → At (fresh_view 0 ∷ replicate n (fresh_view 1)) j v → v.own ≡ []
+none_replied n zero v at = ap (λ (z : View). z.own) (sym (some-injective (fresh_view 0) v at))
+none_replied n (suc j) v at = caller_unreplied n j v at
 
 pub core_begins : BeginsSuited → CoreBegins
-core_begins begins site start core version scripts quiet front grown current words is =
-    let served : IsServedGround site = record { structure = subst (IsOpenStructure site.shape) front quiet.structure; grown = grown } in
+core_begins begins site start core version scripts quiet front powered current few words is =
     record {
       views = replicate (length scripts) (fresh_view 1);
       well = quiet.well;
-      constant = λ i part. ap (λ (ws : Words). ws i) front;
+      current = λ s live. (quiet.structure.takes_calls s live.slot live.live).same_version ∙ ap (λ (ws : Words). ws state_word % 2 ^ 8) front;
+      powered = powered;
       fits = quiet.fits;
       says = quiet.says;
-      served = served;
+      served = subst (IsOpenStructure site.shape) front quiet.structure;
       full = λ j v e at has _. absurd (subst (λ (es : List Entry). Has e es) (none_replied (length scripts) j v at) has);
       fenced = quiet.fenced;
       each = subst (λ callers. AllZip (CallerFits site) callers (replicate (length scripts) (fresh_view 1))) (sym is)
-          (all_fit begins site quiet.well.holds.site_is served version current 1 scripts words);
+          (all_fit begins site quiet.well.holds.site_is version current 1 scripts (omega arith) (omega (arith, few)) words);
     }

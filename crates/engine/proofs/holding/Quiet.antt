@@ -1,21 +1,25 @@
 -- Where no engine runs, nobody holds or owes anything, and the newest words have the map of the history.
-use Rattle.std.proofs.Common.{◌≡◌, ℕ, zero, suc, List, [], ◌∷◌, slice_get, None, Some, inl, inr, refl, sym, ◌∙◌, subst}
+use Rattle.std.proofs.Common.{◌≡◌, ℕ, zero, suc, ◌<◌, List, [], ◌∷◌, slice_get, None, Some, inl, inr, refl, sym, ap, ◌∙◌, subst, arith}
 use mathlib.Core.Option.{some-injective}
 use Rattle.std.specs.List.{AllByRecursion}
 use Rattle.std.proofs.lemmas.Option.{none-some, same_Some}
 use Rattle.trace.specs.Events.{Words}
-use Rattle.world.specs.Ground.{Ground}
+use Rattle.segment_head.specs.HeadWord.{normal}
+use Rattle.image_layout.specs.Places.{state_word}
+use Rattle.image_layout.specs.StateWord.{image_version_in, marker_in}
+use Rattle.sound_image.specs.Segments.{frame_of, state_at, IsLive}
+use Rattle.world.specs.Ground.{Ground, IsStructured}
 use Rattle.world.specs.Views.{View, At}
 use Rattle.world.specs.World.{fresh_view}
 use Rattle.world.specs.Laws.{EntriesAreLegal}
 use Rattle.world.specs.areas.Areas.{Whole}
 use Rattle.restart_op.specs.Closing.{OwesNothing}
-use Rattle.restart_op.proofs.Currents.{open_stays}
+use Rattle.restart_op.specs.AtRest.{IsOpenStructure}
 use Rattle.engine.specs.Core.{Caller, Core}
 use Rattle.engine.specs.Holding.{DoesCall, CallerFits, CoreHolds}
 use Rattle.engine.specs.Laws.{NoneRuns, ThroughIsQuiet, ThroughIsExact, ThroughHasMap}
 use Rattle.engine.proofs.holding.Planned.{none_has}
-use Rattle.engine.proofs.holding.Served.{live_current}
+use Rattle.engine.proofs.holding.Served.{sound_now, live_current, unsplit}
 use Rattle.engine.proofs.sessions.Cut.{told_legal}
 use Rattle.engine.proofs.sessions.Goodness.{caller_at}
 
@@ -34,20 +38,45 @@ module _ (site : Ground) (start : Words) (core : Core) (h : CoreHolds site start
   owes zero v at = subst OwesNothing (some-injective (fresh_view 0) v at) (record { held = refl; dirty = refl; flushed = refl; planned = refl; moving = refl; owed = refl; areas = refl })
   owes (suc j) v at = let c = caller_at site core.callers h.views j v h.each at in idle_owes c.0 v c.2 (none_at core.callers none j c.0 c.1)
 
+  abbrev now : IsStructured site core.words
+  now = sound_now site core.words (fresh_view 0 ∷ h.views) h.well.holds
+
+  -- the state word is that of the start
+  state_stays : core.words state_word ≡ site.front state_word
+  state_stays = now.fixed state_word (omega arith) (λ e. omega (arith, e))
+
+  -- nobody splits a segment, so that each live one is normal
+  live_normal : (s : ℕ) → s < site.shape.segments → IsLive (frame_of site.shape core.words) s → state_at (frame_of site.shape core.words) s ≡ normal
+  live_normal s slot live = elim live [
+    | inl is ↦ is
+    | inr splits ↦ absurd (unsplit site core.words (fresh_view 0 ∷ h.views) h.well.holds h.current 0 (fresh_view 0) refl (λ i u _ at. (owes i u at).areas) (λ t whole. whole) s slot splits)
+  ]
+
+  -- THE STRUCTURE is one on which callers run
+  open_now : IsOpenStructure site.shape core.words
+  open_now = record {
+    frame = now.sound;
+    not_clean = ap marker_in state_stays ∙ h.served.not_clean;
+    takes_calls = λ s slot live. record {
+      is_normal = live_normal s slot live;
+      same_version = h.current s (record { slot = slot; live = live }) ∙ sym (ap image_version_in state_stays);
+    };
+  }
+
 pub through_is_quiet : ThroughIsQuiet
 through_is_quiet site start core h none = record {
   well = h.well;
   nothing = owes site start core h none;
   fits = h.fits;
   says = h.says;
-  structure = open_stays site.shape site.front core.words h.well.holds.site_is.shape h.constant h.served.structure;
+  structure = open_now site start core h none;
   fenced = h.fenced;
 }
 
 pub through_is_exact : ThroughIsExact
 through_is_exact site start core h none s b live near =
     h.well.holds.notes_of_homes.exact s b
-    (live_current site core.words (fresh_view 0 ∷ h.views) h.well.holds h.constant h.served s live, λ j v at whole. none_has v.areas (Whole s) (owes site start core h none j v at).areas whole) near
+    (live_current site core.words (fresh_view 0 ∷ h.views) h.well.holds h.current s live, λ j v at whole. none_has v.areas (Whole s) (owes site start core h none j v at).areas whole) near
     (λ j v o at has segment home. none_has v.owed o (owes site start core h none j v at).owed has)
 
 pub through_has_map : EntriesAreLegal → ThroughHasMap

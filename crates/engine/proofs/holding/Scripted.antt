@@ -11,6 +11,7 @@ use Rattle.session.specs.Callers.{FollowsScript}
 use Rattle.world.specs.Ground.{Ground}
 use Rattle.world.specs.Views.{View}
 use Rattle.engine.specs.declared.engine.Engine.{Engine}
+use Rattle.engine.specs.declared.engine.End.{End}
 use Rattle.engine.specs.Engine.{end_of, reply_of_end}
 use Rattle.engine.specs.Core.{Caller, open_of, told_of, ended, ended_or_on}
 use Rattle.engine.specs.Holding.{DoesCall, CallerFits}
@@ -41,12 +42,12 @@ pub within_more : (es : List Entry) (calls : List Call) (e : Entry) (call : Call
 within_more es calls e call is = let a = one_more es e in let b = call_within calls (length es) call is in omega (arith, a, b)
 
 -- ---- the calls stay
-ended_calls : (c : Caller) (call : Call) (o : Option (Reply × ℕ)) → (ended c call o).calls ≡ c.calls
-ended_calls c call None = refl
-ended_calls c call (Some r) = refl
+ended_calls : (c : Caller) (call : Call) (end : End) (o : Option (Reply × ℕ)) → (ended c call end o).calls ≡ c.calls
+ended_calls c call end None = refl
+ended_calls c call end (Some r) = refl
 
 pub gone_on_calls : (c : Caller) (call : Call) (e : Engine) (w : Want) → (ended_or_on c call e w).calls ≡ c.calls
-gone_on_calls c call e want.Done = ended_calls c call (reply_of_end (end_of e))
+gone_on_calls c call e want.Done = ended_calls c call (end_of e) (reply_of_end (end_of e))
 gone_on_calls c call e w = refl
 
 pub calls_set : (callers : List Caller) (j : ℕ) (c after : Caller) → slice_get callers j ≡ Some c → after.calls ≡ c.calls

@@ -11,10 +11,12 @@ use Rattle.world.specs.Ground.{Ground}
 use Rattle.world.specs.Views.{View, Has}
 use Rattle.world.specs.Kinds.{Kind, finds_room, refuses, validates, draws_place, wanted as wanted_by, view_after}
 use Rattle.world.specs.Conditions.{May}
-use Rattle.world.specs.StepKinds.{StepKind, of_call, wanted_of, view_by, MayTake}
+use Rattle.world.specs.StepKinds.{StepKind, of_call, of_structure, wanted_of, view_by, MayTake}
 use Rattle.world.specs.Wants.{answer_to}
 use Rattle.world.specs.Entering.{IsMadeBy}
+use Rattle.world.specs.areas.Kinds.{StructureKind, takes, wanted_at, view_then}
 use Rattle.world.proofs.stepping.Steps.{steps_enter}
+use Rattle.world.proofs.mild.Kept.{steps_reply_nothing}
 use Rattle.engine.specs.Core.{Caller, drawn_by, entry_of}
 use Rattle.engine.specs.Holding.{HasUntold, HasEntries}
 
@@ -79,6 +81,10 @@ draws_or_not : (shape : Shape) (kind : Kind) → ((call : Call) × (kind ≡ dra
 draws_or_not shape (draws_place call) = inl (call, refl)
 draws_or_not shape kind = inr tt
 
+structure_draws_none : (shape : Shape) (kind : StructureKind) → DrawsNone (wanted_at shape kind)
+structure_draws_none shape (takes guard caller) = tt
+structure_draws_none shape kind = tt
+
 module _ (site : Ground) (c : Caller) (call : Call) (v : View) (n : ℕ) (has : HasEntries c.entries c.drew v.own)
     (only : (planned : Call) → Has planned v.planned → (planned ≡ call) × (v.own ≡ c.entries)) where
   drawing : (kind : Kind) (planned : Call) → kind ≡ draws_place planned → May site kind v
@@ -98,8 +104,12 @@ module _ (site : Ground) (c : Caller) (call : Call) (v : View) (n : ℕ) (has : 
         (grown c.entries v.own (view_after site.shape kind n v).own c.drew has (untold_after site.shape kind n v none) short)
   ]
 
-  -- and after one that is of such a kind
-  pub entries_by : (step : StepKind) (kind : Kind) → step ≡ of_call kind → MayTake site step v → length (view_by site.shape step n v).own ≤ suc (length c.entries)
+  -- after one at the structure they are as before
+  entries_stay : (kind : StructureKind) → HasEntries c.entries (drawn_by c call (answer_to (wanted_at site.shape kind) n)) (view_then site.shape kind n v).own
+  entries_stay kind = subst (λ d. HasEntries c.entries d (view_then site.shape kind n v).own) (sym (not_drawn c call (wanted_at site.shape kind) n (structure_draws_none site.shape kind)))
+      (subst (λ (es : List Entry). HasEntries c.entries c.drew es) (sym (steps_reply_nothing.own site kind (λ i. n) v)) has)
+
+  pub entries_by : (step : StepKind) → MayTake site step v → length (view_by site.shape step n v).own ≤ suc (length c.entries)
       → HasEntries c.entries (drawn_by c call (answer_to (wanted_of site.shape step) n)) (view_by site.shape step n v).own
-  entries_by step kind is = subst (λ (k : StepKind). MayTake site k v → length (view_by site.shape k n v).own ≤ suc (length c.entries)
-      → HasEntries c.entries (drawn_by c call (answer_to (wanted_of site.shape k) n)) (view_by site.shape k n v).own) (sym is) (λ may. entries_after kind may.0)
+  entries_by (of_call kind) may short = entries_after kind may.0 short
+  entries_by (of_structure kind) may short = entries_stay kind

@@ -13,16 +13,17 @@ use Rattle.op_core.specs.declared.want.Want.TheVariants as want
 use Rattle.trace.specs.Events.{Words, Event, Trace, value, value_at, with_word}
 use Rattle.trace.proofs.Moments.{value_at_more, value_at_now}
 use Rattle.image_layout.specs.Places.{Shape}
-use Rattle.bucket_words.specs.Owners.{HasStructure}
+use Rattle.image_layout.specs.Volatile.{power_word}
 use Rattle.map_model.specs.declared.call.Call.{Call}
 use Rattle.map_model.specs.declared.entry.Reply.{Reply}
 use Rattle.map_model.specs.declared.entry.Entry.{Entry}
 use Rattle.world.specs.Ground.{Ground, IsGround, version_of}
 use Rattle.map_model.specs.Map.{is_done}
 use Rattle.world.specs.Views.{View, Has, At}
-use Rattle.world.specs.StepKinds.{StepKind, of_call, wanted_of, view_by, MayTake}
+use Rattle.world.specs.StepKinds.{StepKind, view_by, MayTake}
 use Rattle.world.specs.areas.Worlds.{IsWell}
-use Rattle.world.specs.StepLaws.{KeepsWell, CallsSpareTheStructure}
+use Rattle.world.specs.StepLaws.{found_of, words_of_step, views_of_step, KeepsWell, PowerStays}
+use Rattle.world.specs.Slots.{AllCurrent, StaysCurrent, TakenStays, FullsAreTaken}
 use Rattle.world.specs.Wants.{answer_to, word_of, left_by, event_of, words_after}
 use Rattle.world.specs.World.{changed_at, fresh_view}
 use Rattle.world.specs.Laws.{ChangesOneWord}
@@ -31,16 +32,16 @@ use Rattle.world.proofs.device.Worlds.{changed_is}
 use Rattle.world.specs.Attempts.{HoldsOnly, EntersReply}
 use Rattle.part.specs.Part.{IsPart}
 use Rattle.engine.specs.declared.engine.Engine.{Engine}
+use Rattle.engine.specs.declared.engine.End.{End}
 use Rattle.engine.specs.OpPart.{op_part}
-use Rattle.engine.specs.Engine.{taken, wanted, end_of, reply_of_end, kind_of}
-use Rattle.engine.specs.Fits.{IsWordCall, IsServedGround, Suits, HasEnded, BeginsSuited, finds, next_engine, StepsWell, KeepsSuits}
+use Rattle.engine.specs.Engine.{taken, wanted, end_of, reply_of_end, anew, kind_of}
+use Rattle.engine.specs.Fits.{HasNumber, IsWordCall, Suits, HasEnded, BeginsSuited, finds, next_engine, StepsWell, KeepsSuits}
 use Rattle.engine.specs.Core.{Caller, Core, call_at, current, engine_for, entry_of, drawn_by, ended, ended_or_on, answered, with_event, turn_of_call, turn_of_caller, turn}
 use Rattle.engine.specs.Asks.{AsksWords}
-use Rattle.engine.specs.Holding.{HasEntries, IsCalling, DoesCall, CallerFits, world_of, FullAlone, CoreHolds, CallsStay, TurnKeeps, RunKeeps}
+use Rattle.engine.specs.Holding.{HasEntries, IsCalling, DoesCall, CallerFits, world_of, NoneIsFree, FullIsTaken, CoreHolds, CallsStay, TurnKeeps, RunKeeps}
 use Rattle.engine.proofs.holding.Planned.{planned_is, at_most_one}
 use Rattle.engine.proofs.holding.Told.{entries_by}
-use Rattle.engine.proofs.machines.Ops.{call_of, kind_is}
-use Rattle.engine.proofs.machines.Fulls.{entered_full, told_alone}
+use Rattle.engine.proofs.holding.Fulls.{entered_full}
 use Rattle.engine.proofs.Places.{zip_at, zip_set, one_more}
 
 -- ---- words
@@ -98,8 +99,8 @@ fenced_still shape want.Power n j es = refl
 fenced_still shape want.Done n j es = refl
 
 -- ---- a caller
-module _ (begins : BeginsSuited) (site : Ground) (is_site : IsGround site) (served : IsServedGround site) (c : Caller) (place : c.site.geometry ≡ site.shape) (version : c.site.version ≡ version_of site)
-    (words : (n : ℕ) (call : Call) → call_at c n ≡ Some call → IsWordCall call) (call : Call) (is_current : current c ≡ Some call)
+module _ (begins : BeginsSuited) (site : Ground) (is_site : IsGround site) (c : Caller) (place : c.site.geometry ≡ site.shape) (version : c.site.version ≡ version_of site)
+    (number : HasNumber c.site) (words : (n : ℕ) (call : Call) → call_at c n ≡ Some call → IsWordCall call) (call : Call) (is_current : current c ≡ Some call)
     (replied : map (λ (e : Entry). e.call) c.entries ≡ take (length c.entries) c.calls) (within : length c.entries ≤ length c.calls)
     (before w : View) (own_before : before.own ≡ c.entries) (drew : Option Entry) (drew_call : (e : Entry) → drew ≡ Some e → e.call ≡ call) where
   -- the caller after the event, but for its engine
@@ -110,6 +111,7 @@ module _ (begins : BeginsSuited) (site : Ground) (is_site : IsGround site) (serv
   goes_on e suits entries = record {
     place = place;
     version = version;
+    number = number;
     words = words;
     callers = suits.suits.callers;
     replied = replied;
@@ -134,6 +136,7 @@ module _ (begins : BeginsSuited) (site : Ground) (is_site : IsGround site) (serv
     next e its_call None is own = record {
       place = place;
       version = version;
+      number = number;
       words = words;
       callers = callers;
       replied = replied_more c.entries c.calls e call replied its_call is_current;
@@ -149,6 +152,7 @@ module _ (begins : BeginsSuited) (site : Ground) (is_site : IsGround site) (serv
     next e its_call (Some following) is own = record {
       place = place;
       version = version;
+      number = number;
       words = words;
       callers = callers;
       replied = replied_more c.entries c.calls e call replied its_call is_current;
@@ -158,7 +162,7 @@ module _ (begins : BeginsSuited) (site : Ground) (is_site : IsGround site) (serv
         is_current = ap (λ n. slice_get c.calls n) (one_more c.entries e) ∙ is;
         before = w;
         own_before = own;
-        suits = begins site c.site following w is_site served place version (words (suc (length c.entries)) following is) nothing callers;
+        suits = begins site c.site following w is_site place version (words (suc (length c.entries)) following is) nothing callers;
         entries = inl own;
         drew = λ _. refl;
         planned = λ _. nothing.planned;
@@ -166,10 +170,11 @@ module _ (begins : BeginsSuited) (site : Ground) (is_site : IsGround site) (serv
       };
     }
 
-    ended_fits : (o : Option (Reply × ℕ)) → EntersReply call o before w → CallerFits site (ended drawn call o) w
-    ended_fits None enters = record {
+    ended_fits : (end : End) (o : Option (Reply × ℕ)) → EntersReply call o before w → (o ≡ None → Suits site c.site call (anew c.site call end) w w) → CallerFits site (ended drawn call end o) w
+    ended_fits end None enters suits = record {
       place = place;
       version = version;
+      number = number;
       words = words;
       callers = callers;
       replied = replied;
@@ -179,19 +184,19 @@ module _ (begins : BeginsSuited) (site : Ground) (is_site : IsGround site) (serv
         is_current = is_current;
         before = w;
         own_before = enters.own ∙ own_before;
-        suits = begins site c.site call w is_site served place version (words (length c.entries) call is_current) nothing callers;
+        suits = suits refl;
         entries = inl (enters.own ∙ own_before);
         drew = λ _. refl;
         planned = λ _. nothing.planned;
         drew_call = λ d drawn_is. absurd (none-some d drawn_is);
       };
     }
-    ended_fits (Some r) enters = next (entry_of c call r.0 r.1) refl (call_at c (suc (length c.entries))) refl
+    ended_fits end (Some r) enters suits = next (entry_of c call r.0 r.1) refl (call_at c (suc (length c.entries))) refl
         (enters.own ∙ ap (λ (es : List Entry). es ++ record { serial = suc (length es); call = call; reply = r.0; place = r.1; drew = is_done r.0 } ∷ []) own_before)
 
-  gone_on_fits : (e : Engine) (asked : Want) → wanted e ≡ asked → (wanted e ≢ want.Done → Suits site c.site call e before w) → (wanted e ≡ want.Done → HasEnded call e before w)
+  gone_on_fits : (e : Engine) (asked : Want) → wanted e ≡ asked → (wanted e ≢ want.Done → Suits site c.site call e before w) → (wanted e ≡ want.Done → HasEnded site c.site call e before w)
       → (Suits site c.site call e before w → HasEntries c.entries drew w.own) → CallerFits site (ended_or_on drawn call e asked) w
-  gone_on_fits e want.Done is suits ends has = let end = ends is in ended_fits end.nothing end.callers (reply_of_end (end_of e)) end.enters
+  gone_on_fits e want.Done is suits ends has = let end = ends is in ended_fits end.nothing end.callers (end_of e) (reply_of_end (end_of e)) end.enters end.anew
   gone_on_fits e (want.Load i) is suits ends has = (let s = suits (λ q. let z : want.Load i ≡ want.Done = sym is ∙ q in cc) in goes_on e s (has s))
   gone_on_fits e (want.Store i x) is suits ends has = (let s = suits (λ q. let z : want.Store i x ≡ want.Done = sym is ∙ q in cc) in goes_on e s (has s))
   gone_on_fits e (want.Exchange i a b) is suits ends has = (let s = suits (λ q. let z : want.Exchange i a b ≡ want.Done = sym is ∙ q in cc) in goes_on e s (has s))
@@ -230,11 +235,26 @@ pub calls_stay : CallsStay
 calls_stay shape core [] = refl
 calls_stay shape core (c ∷ turns) = calls_stay shape (turn shape c core) turns ∙ turn_calls shape c core
 
+-- what is used of the world, and of an engine
+pub record TurnLaws : Type 0 where
+  pub part : IsPart op_part
+  pub begins : BeginsSuited
+  pub steps : KeepsSuits
+  pub words : AsksWords
+  pub well : KeepsWell
+  pub current : StaysCurrent
+  pub media : TakenStays
+  pub full : FullsAreTaken
+  pub power : PowerStays
+  pub one_word : ChangesOneWord
+
 -- ---- the core
-module _ (part : IsPart op_part) (begins : BeginsSuited) (keeps : KeepsSuits) (are_words : AsksWords) (steps : KeepsWell) (spares : CallsSpareTheStructure) (one_word : ChangesOneWord)
-    (site : Ground) (start : Words) (core : Core) (h : CoreHolds site start core) where
+module _ (laws : TurnLaws) (site : Ground) (start : Words) (core : Core) (h : CoreHolds site start core) where
   now_fits : (i : ℕ) → core.words i < 2 ^ 64
   now_fits i = subst (λ x. x < 2 ^ 64) (value_at_now start core.trace i ∙ sym (ap (λ (ws : Words). ws i) h.well.words_are)) (h.fits i (length core.trace))
+
+  abbrev seats : List View
+  seats = fresh_view 0 ∷ h.views
 
   module _ (j : ℕ) (c : Caller) (is : slice_get core.callers j ≡ Some c) (v : View) (at : At h.views j v) (fits : CallerFits site c v) where
     module _ (e : Engine) (is_engine : c.engine ≡ Some e) (calling : IsCalling site c e v) where
@@ -251,7 +271,8 @@ module _ (part : IsPart op_part) (begins : BeginsSuited) (keeps : KeepsSuits) (a
       core_after = with_event site.shape j core c calling.call e
 
       well_step : StepsWell site e core.words c.site calling.call calling.before v
-      well_step = keeps site c.site calling.call e core.words (fresh_view 0 ∷ h.views) (suc j) calling.before v h.well.holds at calling.suits (now_fits (word_of site.shape (wanted e)))
+      well_step = laws.steps site c.site calling.call e core.words seats (suc j) calling.before v fits.place fits.version fits.number (fits.words (length c.entries) calling.call calling.is_current)
+          h.powered h.well.holds at calling.suits (now_fits (word_of site.shape (wanted e)))
 
       -- the world after an event of this want
       abbrev IsWellBy : Want → Type 0
@@ -262,52 +283,63 @@ module _ (part : IsPart op_part) (begins : BeginsSuited) (keeps : KeepsSuits) (a
       })
 
       well_after : IsWell site start (world_of core_after after)
-      well_after = subst IsWellBy (sym well_step.wants) (steps site start kind (world_of core h.views) (suc j) v h.well at well_step.may)
+      well_after = subst IsWellBy (sym well_step.wants) (laws.well site start kind (world_of core h.views) (suc j) v h.well at well_step.may)
 
-      -- the event is one of a call, and stores to no word of the structure
-      may_call : MayTake site (of_call (call_of e.op n)) v
-      may_call = subst (λ (k : StepKind). MayTake site k v) (kind_is e.op n) well_step.may
+      -- the event is the step of its kind, so that what holds after that holds after it
+      by_step : (P : Words → List View → Type 0) → P (words_of_step site kind (suc j) core.words) (views_of_step site kind (suc j) v core.words seats) → P core_after.words (fresh_view 0 ∷ after)
+      by_step P holds =
+          subst (λ w. P (words_after site.shape w (suc j) core.words) (fresh_view 0 ∷ changed_at j (view_by site.shape kind (core.words (word_of site.shape w))) h.views)) (sym well_step.wants)
+          (subst (λ (vs : List View). P (words_of_step site kind (suc j) core.words) (fresh_view 0 ∷ vs)) (sym (changed_is j (view_by site.shape kind (found_of site kind core.words)) h.views v at)) holds)
 
-      constant_after : HasStructure site.shape site.front core_after.words
-      constant_after i part =
-          subst (λ w. words_after site.shape w (suc j) core.words i ≡ core.words i) (sym (well_step.wants ∙ ap (wanted_of site.shape) (kind_is e.op n)))
-          (spares site core.words (fresh_view 0 ∷ h.views) (suc j) v (call_of e.op n) (suc j) h.well.holds at may_call.0 i part)
-          ∙ h.constant i part
+      current_after : AllCurrent site core_after.words
+      current_after = by_step (λ ws vs. AllCurrent site ws) (laws.current site core.words seats (suc j) v kind (suc j) h.well.holds at well_step.may h.current)
 
-      -- whoever is told FULL is so where there is one slot
-      full_mine : (x : Entry) → Has x (view_by site.shape kind n v).own → x.reply ≡ reply.Full → site.shape.segments ≡ 1
-      full_mine x has full = elim (entered_full site.shape (call_of e.op n) n v x (subst (λ (k : StepKind). Has x (view_by site.shape k n v).own) (kind_is e.op n) has) full) [
-        | inl old ↦ h.full j v x at old full
-        | inr tells ↦ told_alone site h.served.grown core.words h.constant (fresh_view 0 ∷ h.views) (suc j) v h.well.holds at c.site calling.call e.op n calling.suits.suits.stands tells
+      powered_after : core_after.words (power_word site.shape) ≡ 0
+      powered_after = by_step (λ ws vs. ws (power_word site.shape) ≡ 0)
+          (laws.power site core.words seats (suc j) v kind (suc j) h.well.holds at (laws.part.power e.op n) well_step.may ∙ h.powered)
+
+      -- whoever is told FULL was so before, or has found each slot taken
+      told_full : (found : ℕ) (x : Entry) → Has x (view_by site.shape kind found v).own → x.reply ≡ reply.Full → NoneIsFree site core.words seats
+      told_full found x has full = elim (entered_full site kind found v x has full) [
+        | inl old ↦ h.full (suc j) v x at old full
+        | inr tells ↦ laws.full site core.words seats (suc j) v tells.0 h.well.holds at (subst (λ (k : StepKind). MayTake site k v) tells.1 well_step.may)
       ]
 
-      full_after : FullAlone site.shape after
-      full_after k u x a has full =
-          each_view h.views j v (view_by site.shape kind n v) at (λ _ u. Has x u.own → site.shape.segments ≡ 1) (λ mine. full_mine x mine full) (λ k u _ there old. h.full k u x there old full) k u
-          (subst (λ (vs : List View). At vs k u) (changed_is j (view_by site.shape kind n) h.views v at) a) has
+      full_after : FullIsTaken site core_after.words (fresh_view 0 ∷ after)
+      full_after = by_step (FullIsTaken site) (λ k u x a has full s slot.
+          laws.media site core.words seats (suc j) v kind (suc j) h.well.holds at well_step.may h.current s slot
+          (each_view seats (suc j) v (view_by site.shape kind (found_of site kind core.words) v) at (λ _ (u : View). Has x u.own → NoneIsFree site core.words seats)
+          (λ mine. told_full (found_of site kind core.words) x mine full) (λ i w _ there old. h.full i w x there old full) k u a has s slot))
 
       word_after : (i : ℕ) → core_after.words i < 2 ^ 64
       word_after i =
-          let a = are_words site c.site calling.call e calling.before v calling.suits in
-          subst (λ (ws : Words). ws i < 2 ^ 64) (sym (one_word site.shape (wanted e) (suc j) core.words))
+          let a = laws.words site c.site calling.call e calling.before v calling.suits in
+          subst (λ (ws : Words). ws i < 2 ^ 64) (sym (laws.one_word site.shape (wanted e) (suc j) core.words))
           (replaced_fits core.words (word_of site.shape (wanted e)) (left_by site.shape (wanted e) n) i
           (left_fits site.shape (wanted e) n a.stores a.exchanges (now_fits (word_of site.shape (wanted e)))) (now_fits i))
 
-      caller_after : CallerFits site (answered c calling.call e (answer_to (wanted e) n)) (view_by site.shape kind n v)
-      caller_after = gone_on_fits begins site h.well.holds.site_is h.served c fits.place fits.version fits.words calling.call calling.is_current fits.replied fits.within calling.before (view_by site.shape kind n v)
-          calling.own_before (drawn_by c calling.call (answer_to (wanted e) n)) (drawn_call c calling.call calling.drew_call (answer_to (wanted e) n)) (next_engine site e core.words) (wanted (next_engine site e core.words)) refl well_step.suits well_step.ends
-          (λ s. subst (λ w. HasEntries c.entries (drawn_by c calling.call (answer_to w n)) (view_by site.shape kind n v).own) (sym well_step.wants)
+      -- the entries after it, where the attempt goes on
+      entries_after : Suits site c.site calling.call (next_engine site e core.words) calling.before (view_by site.shape kind n v)
+          → HasEntries c.entries (drawn_by c calling.call (answer_to (wanted e) n)) (view_by site.shape kind n v).own
+      entries_after s =
+          subst (λ w. HasEntries c.entries (drawn_by c calling.call (answer_to w n)) (view_by site.shape kind n v).own) (sym well_step.wants)
           (entries_by site c calling.call v n calling.entries
-          (λ planned has. let p = planned_is site c.site calling.call calling.before v part e planned calling.suits has in (p.0, p.1 ∙ calling.own_before))
-          kind (call_of e.op n) (kind_is e.op n) well_step.may
+          (λ planned has. let p = planned_is site c.site calling.call calling.before v laws.part e planned calling.suits has in (p.0, p.1 ∙ calling.own_before))
+          kind well_step.may
           (let l = at_most_one site c.site calling.call calling.before (view_by site.shape kind n v) (next_engine site e core.words) s in
-          subst (λ (es : List Entry). length (view_by site.shape kind n v).own ≤ suc (length es)) calling.own_before l)))
+          subst (λ (es : List Entry). length (view_by site.shape kind n v).own ≤ suc (length es)) calling.own_before l))
+
+      caller_after : CallerFits site (answered c calling.call e (answer_to (wanted e) n)) (view_by site.shape kind n v)
+      caller_after = gone_on_fits laws.begins site h.well.holds.site_is c fits.place fits.version fits.number fits.words calling.call calling.is_current fits.replied fits.within calling.before
+          (view_by site.shape kind n v) calling.own_before (drawn_by c calling.call (answer_to (wanted e) n)) (drawn_call c calling.call calling.drew_call (answer_to (wanted e) n))
+          (next_engine site e core.words) (wanted (next_engine site e core.words)) refl well_step.suits well_step.ends entries_after
 
       stepped : CoreHolds site start core_after
       stepped = record {
         views = after;
         well = well_after;
-        constant = constant_after;
+        current = current_after;
+        powered = powered_after;
         fits = values_fit start _ core.trace h.fits (λ i. subst (λ (ws : Words). ws i < 2 ^ 64) well_after.words_are (word_after i));
         says = h.says;
         served = h.served;
@@ -328,5 +360,5 @@ module _ (part : IsPart op_part) (begins : BeginsSuited) (keeps : KeepsSuits) (a
   turned zero = h
   turned (suc j) = by_caller j (slice_get core.callers j) refl
 
-pub turn_keeps : IsPart op_part → BeginsSuited → KeepsSuits → AsksWords → KeepsWell → CallsSpareTheStructure → ChangesOneWord → TurnKeeps
-turn_keeps part begins keeps are_words steps spares one_word site start core c h = turned part begins keeps are_words steps spares one_word site start core h c
+pub turn_keeps : TurnLaws → TurnKeeps
+turn_keeps laws site start core c h = turned laws site start core h c

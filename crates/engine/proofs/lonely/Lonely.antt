@@ -1,5 +1,5 @@
 -- A caller that steps while all others stand between two attempts is told no Again, and its own turns leave it so.
-use Rattle.std.proofs.Common.{◌≡◌, ◌≢◌, ℕ, zero, suc, ◌^◌, ◌<◌, inl, inr, ◌⊎◌, cond, Option, None, Some, List, [], ◌∷◌, ◌++◌, length, slice_get, slice_index, refl, sym, ◌∙◌, ap, subst}
+use Rattle.std.proofs.Common.{◌≡◌, ◌≢◌, ℕ, zero, suc, inl, inr, ◌⊎◌, cond, Option, None, Some, List, [], ◌∷◌, ◌++◌, length, slice_get, slice_index, refl, sym, ◌∙◌, ap, subst}
 use Rattle.std.proofs.lemmas.Bool.{cases_eq, eq-eqb, ne_eqb}
 use Rattle.std.proofs.lemmas.Option.{none-some, same_Some}
 use Rattle.op_core.specs.declared.want.Want.{Want}
@@ -8,34 +8,39 @@ use Rattle.op_core.specs.declared.want.Ans.{Ans}
 use Rattle.op_core.specs.declared.why.Why.{Why}
 use Rattle.op_core.specs.declared.why.Why.TheVariants.{Busy, Moved}
 use Rattle.trace.specs.Events.{Words}
-use Rattle.trace.proofs.Moments.{value_at_now}
 use Rattle.image_layout.specs.Places.{Shape, state_word}
 use Rattle.map_model.specs.declared.call.Call.{Call}
 use Rattle.map_model.specs.declared.entry.Reply.{Reply}
-use Rattle.map_model.specs.Map.{key_of}
 use Rattle.world.specs.declared.site.Site.{Site}
-use Rattle.world.specs.Wants.{word_of, words_after}
+use Rattle.world.specs.Ground.{Ground}
+use Rattle.world.specs.Views.{Has}
+use Rattle.world.specs.Wants.{words_after}
 use Rattle.world.specs.World.{fresh_view}
+use Rattle.world.specs.areas.Areas.{Area, Whole}
 use Rattle.part.specs.Doings.{Doings, nothing_done, with_event_of, IsStill}
-use Rattle.part.specs.Outcomes.{Outcome, replied, again}
-use Rattle.part.specs.Part.{IsPart}
-use Rattle.part.specs.Causes.{EndsByCause}
+use Rattle.part.specs.Outcomes.{Outcome, replied, again, need_split, finished}
+use Rattle.part.specs.Causes.{IsUnsplit}
+use Rattle.part.specs.Splits.{HasMovedLock}
 use Rattle.part.proofs.Still.{nothing_still, own_events_keep_still, alone_nothing_moves}
 use Rattle.part.proofs.Leading.{alone_nothing_leads_away}
-use Rattle.restart_op.specs.Restarted.{words_at_end, site_of}
+use Rattle.restart_op.specs.Restarted.{words_at_end}
 use Rattle.engine.specs.declared.engine.Engine.{Engine}
-use Rattle.engine.specs.Engine.{begun, wanted, end_of, reply_of_end}
-use Rattle.engine.specs.OpPart.{op_part}
+use Rattle.engine.specs.declared.engine.End.{End}
+use Rattle.engine.specs.Engine.{begun, wanted, end_of, reply_of_end, IsFresh, anew}
+use Rattle.engine.specs.OpPart.{op_part, split_segment}
 use Rattle.engine.specs.Core.{Caller, call_at, current, engine_for, idle, callers_from, drawn_by, ended, ended_or_on, answered, with_event, turn_of_call, turn_of_caller}
-use Rattle.engine.specs.Holding.{IsCalling, DoesCall, CallerFits, TurnKeeps}
+use Rattle.engine.specs.Holding.{CoreHolds, TurnKeeps}
 use Rattle.engine.specs.Laws.{IsServedImage, OpenedHolds, AreScripts}
-use Rattle.engine.specs.Causes.{doings_by, with_doings, Watched, answer_now, engine_next, doings_of_call, doings_of_caller, watched_turn, Decides, BeginsUndecided, DecidedStays, EndsAreDecided, HasCause, EndsHaveCauses, watched_run}
-use Rattle.engine.specs.Alone.{IsTold, IsBetween, IsRestingBy, IsResting, IsAlone, IsNext, at_start, along, BusyIsOthers, AllRestAtStart, AloneAtStart, RestingIsAlone, OwnTurnsStayAlone, AloneNeverAgain, EndsAreTold, EndsTell, EndedRests, OthersStayResting}
-use Rattle.engine.proofs.Places.{zip_at, set_cases}
+use Rattle.engine.specs.Causes.{doings_by, with_doings, Watched, answer_now, engine_next, doings_of_call, doings_of_caller, watched_turn, Decides, BeginsBare, BeginsUndecided, DecidedStays, EndsAreDecided, HasCauseBy, EndsHaveCauses, watched_run}
+use Rattle.engine.specs.Alone.{IsTold, told_reply, told_again, told_to_split, told_finished, IsBetween, IsRestingBy, IsResting, IsAlone, IsNext, at_start, along, BusyIsOthers, AllRestAtStart, AloneAtStart, RestingIsAlone, OwnTurnsStayAlone, AloneNeverAgain, EndsAreTold, EndsTell, EndedRests, OthersStayResting}
+use Rattle.engine.proofs.Places.{set_cases}
 use Rattle.engine.proofs.machines.Ops.{never_hands_on}
 use Rattle.engine.proofs.holding.Served.{sound_now, unsplit}
-use Rattle.engine.proofs.attempts.Deciding.{holds_there}
-use Rattle.engine.proofs.attempts.Doing.{set_there}
+use Rattle.engine.proofs.attempts.Stepping.{op_decided}
+use Rattle.engine.proofs.attempts.Doing.{set_there, anew_fresh}
+use Rattle.engine.proofs.attempts.Seats.{IsSeated, seat_stands, CallCauses, site_there, holds_there, seat_there}
+use Rattle.engine.proofs.lonely.Looking.{counter_apart, own_no_areas}
+use Rattle.engine.proofs.lonely.Others.{others_bare}
 
 -- ---- an outcome is decided or is not
 decided_or_not : (o : Option Outcome) → ((outcome : Outcome) × (o ≡ Some outcome)) ⊎ (o ≡ None)
@@ -75,21 +80,23 @@ module _ (shape : Shape) (j : ℕ) (w : Watched) (still : IsStill shape w.core.w
 
 -- ---- what holds of each decided outcome of the caller at a place holds after its turn
 module _ (P : Outcome → Type 0) where
-  abbrev Holds : Caller → Type 0
-  Holds c = (e : Engine) (outcome : Outcome) → c.engine ≡ Some e → op_part.outcome e.op ≡ Some outcome → P outcome
+  abbrev EachHolds : Caller → Type 0
+  EachHolds c = (e : Engine) (outcome : Outcome) → c.engine ≡ Some e → op_part.outcome e.op ≡ Some outcome → P outcome
 
   module _ (first : BeginsUndecided) where
+    fresh_holds : (here : Site) (e : Engine) (outcome : Outcome) → IsFresh here e → op_part.outcome e.op ≡ Some outcome → P outcome
+    fresh_holds here e outcome fresh decided = absurd (none-some outcome (sym (first here e fresh) ∙ decided))
+
     begun_holds : (here : Site) (o : Option Call) (e : Engine) (outcome : Outcome) → engine_for here o ≡ Some e → op_part.outcome e.op ≡ Some outcome → P outcome
     begun_holds here None e outcome is decided = absurd (none-some e is)
-    begun_holds here (Some call) e outcome is decided =
-        absurd (none-some outcome (sym (first here call) ∙ subst (λ (x : Engine). op_part.outcome x.op ≡ Some outcome) (sym (same_Some (begun here call) e is)) decided))
+    begun_holds here (Some call) e outcome is decided = fresh_holds here e outcome (inl (call, sym (same_Some (begun here call) e is))) decided
 
-    ended_holds : (c : Caller) (call : Call) (o : Option (Reply × ℕ)) → Holds (ended c call o)
-    ended_holds c call None e outcome is decided = begun_holds c.site (Some call) e outcome is decided
-    ended_holds c call (Some r) e outcome is decided = begun_holds c.site (call_at c (suc (length c.entries))) e outcome is decided
+    ended_holds : (c : Caller) (call : Call) (end : End) (o : Option (Reply × ℕ)) → EachHolds (ended c call end o)
+    ended_holds c call end None e outcome is decided = fresh_holds c.site e outcome (subst (IsFresh c.site) (same_Some (anew c.site call end) e is) (anew_fresh c.site call end)) decided
+    ended_holds c call end (Some r) e outcome is decided = begun_holds c.site (call_at c (suc (length c.entries))) e outcome is decided
 
-    gone_on_holds : (c : Caller) (call : Call) (next : Engine) (asked : Want) → ((outcome : Outcome) → op_part.outcome next.op ≡ Some outcome → P outcome) → Holds (ended_or_on c call next asked)
-    gone_on_holds c call next want.Done good e outcome is decided = ended_holds c call (reply_of_end (end_of next)) e outcome is decided
+    gone_on_holds : (c : Caller) (call : Call) (next : Engine) (asked : Want) → ((outcome : Outcome) → op_part.outcome next.op ≡ Some outcome → P outcome) → EachHolds (ended_or_on c call next asked)
+    gone_on_holds c call next want.Done good e outcome is decided = ended_holds c call (end_of next) (reply_of_end (end_of next)) e outcome is decided
     gone_on_holds c call next asked good e outcome is decided = good outcome (subst (λ (x : Engine). op_part.outcome x.op ≡ Some outcome) (sym (same_Some next e is)) decided)
 
 -- who stands at another place stands there as before
@@ -125,11 +132,11 @@ others_doings shape w i j other = by_caller (slice_get w.core.callers j)
 -- ---- rest
 engine_rests : (c : Caller) (o : Option Call) → c.engine ≡ engine_for c.site o → IsRestingBy c nothing_done
 engine_rests c None is = inl is
-engine_rests c (Some call) is = inr (call, is, refl)
+engine_rests c (Some call) is = inr (begun c.site call, is, inl (call, refl), refl)
 
-ended_rested : (c : Caller) (call : Call) (o : Option (Reply × ℕ)) → IsRestingBy (ended c call o) nothing_done
-ended_rested c call None = inr (call, refl, refl)
-ended_rested c call (Some r) = engine_rests (ended c call (Some r)) (call_at c (suc (length c.entries))) refl
+ended_rested : (c : Caller) (call : Call) (end : End) (o : Option (Reply × ℕ)) → IsRestingBy (ended c call end o) nothing_done
+ended_rested c call end None = inr (anew c.site call end, refl, anew_fresh c.site call end, refl)
+ended_rested c call end (Some r) = engine_rests (ended c call end (Some r)) (call_at c (suc (length c.entries))) refl
 
 fresh_rests : (shape : Shape) (version number : ℕ) (scripts : List (List Call)) (j : ℕ) (c : Caller) → slice_get (callers_from shape version number scripts) j ≡ Some c → IsRestingBy c nothing_done
 fresh_rests shape version number [] j c at = absurd (none-some c at)
@@ -142,23 +149,23 @@ pub others_stay_resting : OthersStayResting
 others_stay_resting shape w i j other rest c at = subst (λ did. IsRestingBy c did) (sym (others_doings shape w i j other)) (rest c (others_there shape w i j c other at))
 
 -- what holds of each decided outcome there holds after its turn
-module _ (P : Outcome → Type 0) (first : BeginsUndecided) (shape : Shape) (w : Watched) (j : ℕ) (before : (c : Caller) → slice_get w.core.callers j ≡ Some c → Holds P c)
+module _ (P : Outcome → Type 0) (first : BeginsUndecided) (shape : Shape) (w : Watched) (j : ℕ) (before : (c : Caller) → slice_get w.core.callers j ≡ Some c → EachHolds P c)
     (next : (e : Engine) → IsNext w j e → (outcome : Outcome) → op_part.outcome (engine_next shape w.core.words e).op ≡ Some outcome → P outcome) where
   by_call : (d c : Caller) → slice_get w.core.callers j ≡ Some c → (call : Option Call) (engine : Option Engine) → current c ≡ call → c.engine ≡ engine
-      → slice_get (turn_of_call shape j w.core c call engine).callers j ≡ Some d → Holds P d
+      → slice_get (turn_of_call shape j w.core c call engine).callers j ≡ Some d → EachHolds P d
   by_call d c there None engine calls runs is = before d is
   by_call d c there (Some call) None calls runs is = before d is
   by_call d c there (Some call) (Some e) calls runs is =
       let a : Ans = answer_now shape w.core.words e in
       let after : Engine = engine_next shape w.core.words e in
-      subst (Holds P) (set_there w.core.callers j (answered c call e a) d c there is)
+      subst (EachHolds P) (set_there w.core.callers j (answered c call e a) d c there is)
       (gone_on_holds P first (record c { drew = drawn_by c call a }) call after (wanted after) (next e (record { caller = c; there = there; call = call; calls = calls; runs = runs })))
 
-  by_caller : (d : Caller) (o : Option Caller) → slice_get w.core.callers j ≡ o → slice_get (turn_of_caller shape j w.core o).callers j ≡ Some d → Holds P d
+  by_caller : (d : Caller) (o : Option Caller) → slice_get w.core.callers j ≡ o → slice_get (turn_of_caller shape j w.core o).callers j ≡ Some d → EachHolds P d
   by_caller d None there is = before d is
   by_caller d (Some c) there is = by_call d c there (current c) c.engine refl refl is
 
-  holds_after : (d : Caller) → slice_get (watched_turn shape (suc j) w).core.callers j ≡ Some d → Holds P d
+  holds_after : (d : Caller) → slice_get (watched_turn shape (suc j) w).core.callers j ≡ Some d → EachHolds P d
   holds_after d is = by_caller d (slice_get w.core.callers j) refl is
 
 -- ---- an attempt ends with a reply or in Again, whoever has its turn
@@ -166,16 +173,19 @@ abbrev IsToldOne : Outcome → Type 0
 IsToldOne outcome = IsTold (Some outcome)
 
 abbrev AllTold : Watched → Type 0
-AllTold w = (j : ℕ) (c : Caller) → slice_get w.core.callers j ≡ Some c → Holds IsToldOne c
+AllTold w = (j : ℕ) (c : Caller) → slice_get w.core.callers j ≡ Some c → EachHolds IsToldOne c
 
 one_more_turn : (shape : Shape) (turns : List ℕ) (c : ℕ) (w : Watched) → watched_run shape (turns ++ c ∷ []) w ≡ watched_turn shape c (watched_run shape turns w)
 one_more_turn shape [] c w = refl
 one_more_turn shape (d ∷ turns) c w = one_more_turn shape turns c (watched_turn shape d w)
 
-told_by : (shape : Shape) (words : Words) (did : Doings) (call : Call) (event : Want) (outcome : Outcome) → HasCause shape words did call event outcome → IsToldOne outcome
-told_by shape words did call event (replied reply place) has = inl tt
-told_by shape words did call event (again why) has = inr (why, refl)
-told_by shape words did call event outcome has = absurd has
+told_by : (segment : Option ℕ) (shape : Shape) (words : Words) (did : Doings) (call : Call) (event : Want) (outcome : Outcome) → HasCauseBy segment shape words did call event outcome → IsToldOne outcome
+told_by segment shape words did call event (replied reply place) has = told_reply tt
+told_by segment shape words did call event (again why) has = told_again why refl
+told_by None shape words did call event (need_split slot) has = told_to_split slot refl
+told_by (Some segment) shape words did call event finished has = told_finished refl
+told_by None shape words did call event outcome has = absurd has
+told_by (Some segment) shape words did call event outcome has = absurd has
 
 module _ (causes : EndsHaveCauses) (first : BeginsUndecided) (stays : DecidedStays)
     (shape : Shape) (words : List ℕ) (image : IsServedImage shape words) (scripts : List (List Call)) (are : AreScripts scripts) where
@@ -186,7 +196,7 @@ module _ (causes : EndsHaveCauses) (first : BeginsUndecided) (stays : DecidedSta
       → IsToldOne outcome
   next_told turns all j e n = next_ends stays IsToldOne shape (at turns).core.words e
       (λ outcome is. all j n.caller n.there e outcome n.runs is)
-      (λ outcome decides. told_by shape (at turns).core.words ((at turns).doings j) n.call (wanted e) outcome
+      (λ outcome decides. told_by (split_segment e.op) shape (at turns).core.words ((at turns).doings j) n.call (wanted e) outcome
       (causes shape words image scripts are turns j n.caller n.call e outcome n.there n.calls n.runs decides))
 
   turn_told : (turns : List ℕ) → AllTold (at turns) → (c : ℕ) → AllTold (watched_turn shape c (at turns))
@@ -205,7 +215,7 @@ module _ (causes : EndsHaveCauses) (first : BeginsUndecided) (stays : DecidedSta
   start_told : AllTold (at [])
   start_told j c is e outcome runs decided = elim (fresh_rests shape (words_at_end shape words state_word) 1 scripts j c is) [
     | inl none ↦ absurd (none-some e (sym none ∙ runs))
-    | inr p ↦ begun_holds IsToldOne first c.site (Some p.0) e outcome (sym p.1 ∙ runs) decided
+    | inr p ↦ fresh_holds IsToldOne first c.site e outcome (subst (IsFresh c.site) (same_Some p.0 e (sym p.1 ∙ runs)) p.2) decided
   ]
 
   all_told : (turns : List ℕ) → AllTold (at turns)
@@ -215,7 +225,7 @@ module _ (causes : EndsHaveCauses) (first : BeginsUndecided) (stays : DecidedSta
   ends_told turns = next_told turns (all_told turns)
 
   -- ---- after any turns, alone
-  module _ (opens : OpenedHolds) (keeps : TurnKeeps) (busy : BusyIsOthers) (turns : List ℕ) (j : ℕ) (alone : IsAlone shape j (at turns)) where
+  module _ (laws : CallCauses) (bare : BeginsBare) (opens : OpenedHolds) (keeps : TurnKeeps) (busy : BusyIsOthers) (turns : List ℕ) (j : ℕ) (alone : IsAlone shape j (at turns)) where
     abbrev w : Watched
     w = at turns
 
@@ -223,25 +233,43 @@ module _ (causes : EndsHaveCauses) (first : BeginsUndecided) (stays : DecidedSta
     IsCalm outcome = (why : Why) → outcome ≡ again why → ⊥
 
     module _ (e : Engine) (n : IsNext w j e) where
-      -- the keys of calls are words
-      key_fits : key_of n.call < 2 ^ 64
-      key_fits =
-          let h = holds_there opens keeps shape words image scripts are turns in
-          let z = zip_at (CallerFits (site_of shape words (length scripts))) w.core.callers h.views j n.caller h.each n.there in
-          (z.2.words (length n.caller.entries) n.call n.calls).0
+      abbrev site : Ground
+      site = site_there opens keeps shape words image scripts are turns
+
+      abbrev h : CoreHolds site (slice_index words) w.core
+      h = holds_there opens keeps shape words image scripts are turns
+
+      abbrev seated : IsSeated site w.core.words (fresh_view 0 ∷ h.views) (suc j) n.caller.site n.call e (w.doings j)
+      seated = seat_there opens keeps shape words image scripts are turns laws j n.caller n.call e n.there n.calls n.runs
+
+      -- while the caller goes on in its call, no segment is split by anyone
+      nothing_splits : split_segment e.op ≡ None → IsUnsplit shape w.core.words
+      nothing_splits own =
+          unsplit site w.core.words (fresh_view 0 ∷ h.views) h.well.holds h.current (suc j) seated.view seated.at
+          (λ i u apart seat. (others_bare bare site (slice_index words) w.core h j alone.others i u apart seat).areas)
+          (λ s has. subst (λ (areas : List Area). Has (Whole s) areas) (own_no_areas site n.caller.site n.call e.op seated.view own seated.suits.stands) has)
+
+      lock_stays : (segment word before after : ℕ) → HasMovedLock shape w.core.words (w.doings j) n.call segment word before after → ⊥
+      lock_stays segment word before after m =
+          elim (alone.still word before m.loaded (λ counter. counter_apart shape segment m.needed.1.0 m.needed.1.1 (sym counter ∙ m.needed.1.2))) [
+            | inl same ↦ m.differ (sym same ∙ m.newest)
+            | inr own ↦ m.by_others own
+          ]
+
+      nothing_moves : (o : Option ℕ) → split_segment e.op ≡ o → (word before after : ℕ) → HasCauseBy o shape w.core.words (w.doings j) n.call (wanted e) (again (Moved word before after)) → ⊥
+      nothing_moves (Some segment) is word before after c = lock_stays segment word before after c.1
+      nothing_moves None is word before after c = elim c.1 [
+        | inl moved ↦ alone_nothing_moves shape w.core.words (w.doings j) n.call word before after h.well.holds.site_is.shape seated.key alone.still moved
+        | inr away ↦ alone_nothing_leads_away site w.core.words (w.doings j) n.call word before after h.well.holds.site_is
+            (sound_now site w.core.words (fresh_view 0 ∷ h.views) h.well.holds) (nothing_splits is) seated.key alone.still away
+      ]
 
       never_by : (why : Why) → Decides shape w.core.words e (again why) → ⊥
       never_by (Busy word value) decides =
           let o = busy shape words image scripts are turns j n.caller n.call e word value n.there n.calls n.runs decides in
           o.midst (alone.others o.place o.caller o.elsewhere o.there)
       never_by (Moved word before after) decides =
-          let h = holds_there opens keeps shape words image scripts are turns in
-          let site = site_of shape words (length scripts) in
-          elim (causes shape words image scripts are turns j n.caller n.call e (again (Moved word before after)) n.there n.calls n.runs decides).1 [
-            | inl moved ↦ alone_nothing_moves shape w.core.words (w.doings j) n.call word before after h.well.holds.site_is.shape key_fits alone.still moved
-            | inr away ↦ alone_nothing_leads_away site w.core.words (w.doings j) n.call word before after h.well.holds.site_is
-                (sound_now site w.core.words (fresh_view 0 ∷ h.views) h.well.holds h.constant h.served) (unsplit site w.core.words (fresh_view 0 ∷ h.views) h.well.holds h.constant h.served) key_fits alone.still away
-          ]
+          nothing_moves (split_segment e.op) refl word before after (causes shape words image scripts are turns j n.caller n.call e (again (Moved word before after)) n.there n.calls n.runs decides)
 
       next_calm : (outcome : Outcome) → op_part.outcome (engine_next shape w.core.words e).op ≡ Some outcome → IsCalm outcome
       next_calm = next_ends stays IsCalm shape w.core.words e
@@ -256,40 +284,39 @@ module _ (causes : EndsHaveCauses) (first : BeginsUndecided) (stays : DecidedSta
           holds_after IsCalm first shape w j (λ d there x outcome run sure. λ y says. alone.calm d x y there run (sure ∙ ap Some says)) next_calm c is e (again why) runs decided why refl;
     }
 
-pub own_turns_stay_alone : OpenedHolds → TurnKeeps → BusyIsOthers → EndsHaveCauses → BeginsUndecided → DecidedStays → OwnTurnsStayAlone
-own_turns_stay_alone opens keeps busy causes first stays shape words image scripts are turns j alone =
-    stays_alone causes first stays shape words image scripts are opens keeps busy turns j alone
+pub own_turns_stay_alone : CallCauses → BeginsBare → OpenedHolds → TurnKeeps → BusyIsOthers → EndsHaveCauses → BeginsUndecided → DecidedStays → OwnTurnsStayAlone
+own_turns_stay_alone laws bare opens keeps busy causes first stays shape words image scripts are turns j alone =
+    stays_alone causes first stays shape words image scripts are laws bare opens keeps busy turns j alone
 
-pub alone_never_again : OpenedHolds → TurnKeeps → BusyIsOthers → EndsHaveCauses → BeginsUndecided → DecidedStays → AloneNeverAgain
-alone_never_again opens keeps busy causes first stays shape words image scripts are turns j e alone n why decided =
-    next_calm causes first stays shape words image scripts are opens keeps busy turns j alone e n (again why) decided why refl
+pub alone_never_again : CallCauses → BeginsBare → OpenedHolds → TurnKeeps → BusyIsOthers → EndsHaveCauses → BeginsUndecided → DecidedStays → AloneNeverAgain
+alone_never_again laws bare opens keeps busy causes first stays shape words image scripts are turns j e alone n why decided =
+    next_calm causes first stays shape words image scripts are laws bare opens keeps busy turns j alone e n (again why) decided why refl
 
 pub ends_are_told : EndsHaveCauses → BeginsUndecided → DecidedStays → EndsAreTold
 ends_are_told causes first stays shape words image scripts are turns j e n outcome decided = ends_told causes first stays shape words image scripts are turns j e n outcome decided
 
 -- where nothing more is wanted an outcome is decided, and is that of the end
-pub ends_tell : IsPart op_part → EndsByCause op_part → OpenedHolds → TurnKeeps → EndsAreDecided → EndsTell
-ends_tell part causes opens keeps says shape words image scripts are turns j e n done =
+pub ends_tell : CallCauses → OpenedHolds → TurnKeeps → EndsAreDecided → EndsTell
+ends_tell laws opens keeps says shape words image scripts are turns j e n done =
     let w = along shape words scripts turns in
-    let site = site_of shape words (length scripts) in
+    let site = site_there opens keeps shape words image scripts are turns in
     let h = holds_there opens keeps shape words image scripts are turns in
-    let z = zip_at (CallerFits site) w.core.callers h.views j n.caller h.each n.there in
-    let calling : IsCalling site n.caller e z.0 = subst (λ o. DoesCall site n.caller o z.0) n.runs z.2.does in
-    let step = part.steps site n.caller.site calling.call w.core.words (fresh_view 0 ∷ h.views) (suc j) e.op calling.before z.0 h.well.holds z.1 calling.suits.suits calling.suits.asks in
-    let small = subst (λ x. x < 2 ^ 64) (value_at_now (slice_index words) w.core.trace (word_of shape (wanted e)) ∙ sym (ap (λ (ws : Words). ws (word_of shape (wanted e))) h.well.words_are)) (h.fits (word_of shape (wanted e)) (length w.core.trace)) in
-    let d = causes.decided site n.caller.site calling.call (engine_next shape w.core.words e).op _ (step.stands small) done (never_hands_on (engine_next shape w.core.words e).op) in
-    (d.0, d.1, sym (says (engine_next shape w.core.words e) done) ∙ d.1)
+    let seated = seat_there opens keeps shape words image scripts are turns laws j n.caller n.call e n.there n.calls n.runs in
+    let next : Engine = engine_next shape w.core.words e in
+    let stands = seat_stands laws.part site w.core.words (fresh_view 0 ∷ h.views) h.well.holds (suc j) n.caller.site n.call e (w.doings j) seated in
+    let d = op_decided laws.causes site n.caller.site n.call next.op _ stands done (never_hands_on next.op) in
+    (d.0, d.1, sym (says site n.caller.site n.call next _ stands done) ∙ d.1)
 
 pub all_rest_at_start : AllRestAtStart
 all_rest_at_start shape words scripts j c is = fresh_rests shape (words_at_end shape words state_word) 1 scripts j c is
 
 rests_between : (c : Caller) (did : Doings) → IsRestingBy c did → IsBetween c
 rests_between c did (inl none) = inl none
-rests_between c did (inr p) = inr (p.0, p.1)
+rests_between c did (inr p) = inr (p.0, p.1, p.2)
 
 rests_calm : BeginsUndecided → (c : Caller) (did : Doings) → IsRestingBy c did → (e : Engine) (outcome : Outcome) → c.engine ≡ Some e → op_part.outcome e.op ≡ Some outcome → ⊥
 rests_calm first c did (inl none) e outcome runs decided = none-some e (sym none ∙ runs)
-rests_calm first c did (inr p) e outcome runs decided = begun_holds (λ outcome. ⊥) first c.site (Some p.0) e outcome (sym p.1 ∙ runs) decided
+rests_calm first c did (inr p) e outcome runs decided = fresh_holds (λ outcome. ⊥) first c.site e outcome (subst (IsFresh c.site) (same_Some p.0 e (sym p.1 ∙ runs)) p.2) decided
 
 pub alone_at_start : BeginsUndecided → AloneAtStart
 alone_at_start first shape words scripts j = record {
@@ -300,7 +327,7 @@ alone_at_start first shape words scripts j = record {
 
 resting_still : (shape : Shape) (words : Words) (c : Caller) (e : Engine) (did : Doings) → c.engine ≡ Some e → IsRestingBy c did → IsStill shape words did
 resting_still shape words c e did runs (inl none) = absurd (none-some e (sym none ∙ runs))
-resting_still shape words c e did runs (inr p) = subst (λ d. IsStill shape words d) (sym p.2) (nothing_still shape words)
+resting_still shape words c e did runs (inr p) = subst (λ d. IsStill shape words d) (sym p.3) (nothing_still shape words)
 
 pub resting_is_alone : BeginsUndecided → RestingIsAlone
 resting_is_alone first shape w j c e rest there runs = record {
@@ -323,7 +350,7 @@ module _ (shape : Shape) (w : Watched) (j : ℕ) (e : Engine) (n : IsNext w j e)
   by_event = record { core = with_event shape j w.core n.caller n.call e; doings = with_doings j new w.doings }
 
   -- its turn is this event
-  turn_is : watched_turn shape (suc j) w ≡ by_event
+  pub turn_is : watched_turn shape (suc j) w ≡ by_event
   turn_is =
       ap (λ o. record { core = turn_of_caller shape j w.core o; doings = doings_of_caller shape j w o }) n.there
       ∙ ap (λ o. record { core = turn_of_call shape j w.core n.caller o n.caller.engine; doings = doings_of_call shape j w o n.caller.engine }) n.calls
@@ -334,8 +361,8 @@ module _ (shape : Shape) (w : Watched) (j : ℕ) (e : Engine) (n : IsNext w j e)
       let drawn : Caller = record n.caller { drew = drawn_by n.caller n.call a } in
       subst (λ x. IsRestingBy x (by_event.doings j)) (set_there w.core.callers j (answered n.caller n.call e a) d n.caller n.there is)
       (subst (λ asked. IsRestingBy (ended_or_on drawn n.call next asked) (by_event.doings j)) (sym done)
-      (subst (λ did. IsRestingBy (ended drawn n.call (reply_of_end (end_of next))) did) (sym (ap (λ b. cond b new (w.doings j)) (eq-eqb j j refl) ∙ ap (λ asked. doings_by asked (wanted e) a (w.doings j)) done))
-      (ended_rested drawn n.call (reply_of_end (end_of next)))))
+      (subst (λ did. IsRestingBy (ended drawn n.call (end_of next) (reply_of_end (end_of next))) did) (sym (ap (λ b. cond b new (w.doings j)) (eq-eqb j j refl) ∙ ap (λ asked. doings_by asked (wanted e) a (w.doings j)) done))
+      (ended_rested drawn n.call (end_of next) (reply_of_end (end_of next)))))
 
 pub ended_rests : EndedRests
 ended_rests shape w j e n done = subst (λ (x : Watched). IsResting x j) (sym (turn_is shape w j e n)) (rests_by shape w j e n done)

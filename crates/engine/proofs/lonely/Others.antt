@@ -1,100 +1,218 @@
--- Who finds a lock taken is told so by another caller's, that is in the midst of an attempt.
-use Rattle.std.proofs.Common.{◌≡◌, ◌≢◌, ℕ, zero, suc, ◌%◌, inl, inr, Some, List, [], ◌∷◌, length, slice_get, slice_index, sym, ◌∙◌, ap, subst}
-use Rattle.std.proofs.lemmas.Bool.{cases_eq}
+-- Who finds a lock or a guard taken is told so of another caller's, that is in the midst of an attempt.
+use Rattle.std.proofs.Common.{◌≡◌, ◌≢◌, ℕ, zero, suc, ◌%◌, inl, inr, Bool, true, false, Option, None, Some, List, [], ◌∷◌, slice_get, slice_index, refl, sym, ◌∙◌, ap, subst}
+use Rattle.std.proofs.lemmas.Option.{none-some, same_Some}
 use mathlib.Core.Option.{some-injective}
+use Rattle.op_core.specs.declared.want.Want.{Want}
+use Rattle.op_core.specs.declared.why.Why.{Why}
 use Rattle.op_core.specs.declared.why.Why.TheVariants.{Busy}
+use Rattle.op_core.specs.Answers.{Finds}
 use Rattle.trace.specs.Events.{Words}
 use Rattle.image_layout.specs.Places.{Shape}
-use Rattle.sound_image.specs.Records.{key_hash}
-use Rattle.sound_image.proofs.Hashes.{key_hash-fits}
 use Rattle.map_model.specs.declared.call.Call.{Call}
-use Rattle.world.specs.Ground.{Ground, IsCurrentIn, IsCurrentLock}
-use Rattle.world.specs.Views.{View, At, HasLock}
+use Rattle.world.specs.declared.site.Site.{Site}
+use Rattle.world.specs.Ground.{Ground, IsLockWord}
+use Rattle.world.specs.Views.{View, Has, At, HasLock}
+use Rattle.world.specs.Wants.{answer_to, word_of}
 use Rattle.world.specs.World.{fresh_view}
-use Rattle.world.proofs.basics.Structures.{lives_there}
-use Rattle.restart_op.specs.Restarted.{site_of}
-use Rattle.map_model.specs.Map.{key_of}
-use Rattle.engine.specs.declared.engine.Engine.{Engine}
+use Rattle.world.specs.Kinds.{wanted as kind_wanted}
+use Rattle.world.specs.StepKinds.{of_call, wanted_of, MayTake}
+use Rattle.world.specs.Attempts.{HoldsOnly}
+use Rattle.world.specs.Invariant.{Holds}
+use Rattle.world.specs.areas.Areas.{Area}
+use Rattle.world.specs.areas.Kinds.{area_of}
+use Rattle.world.proofs.stepping.Answers.{finds_newest}
 use Rattle.part.specs.Doings.{Doings}
-use Rattle.part.specs.Outcomes.{again}
-use Rattle.part.specs.Causes.{IsNamed, IsOwnLock, IsTaken}
+use Rattle.part.specs.Outcomes.{again, off, finished}
+use Rattle.part.specs.Part.{next, finds}
+use Rattle.part.specs.Causes.{hash_for, IsTaken, HasAgainCause}
+use Rattle.part.specs.Splits.{HasSplitCause}
+use Rattle.part.specs.Either.{one, other}
+use Rattle.part.specs.Then.{Then, first, second, passed}
 use Rattle.part.proofs.Still.{bucket_near}
-use Rattle.engine.specs.Engine.{begun}
-use Rattle.engine.specs.Core.{Caller, current}
+use Rattle.split_op.specs.declared.op.SplitOp.{SplitOp}
+use Rattle.split_op.specs.declared.step.SplitStep.{SplitStep}
+use Rattle.split_op.specs.SplitPart.{split_part}
+use Rattle.split_op.specs.Steps.{wanted_in as split_wanted_in}
+use Rattle.split_op.specs.Fits.{SuitsStep as SplitSuits, outcome_at as split_outcome_at}
+use Rattle.directory_op.specs.declared.op.DirectoryEnd.TheVariants.{Off}
+use Rattle.directory_op.specs.declared.op.DirectoryOp.{DirectoryOp}
+use Rattle.directory_op.specs.declared.op.DirectoryStep.{DirectoryStep}
+use Rattle.directory_op.specs.declared.op.DirectoryStep.TheVariants as publish
+use Rattle.directory_op.specs.DirectoryPart.{outcome_at as publish_outcome_at}
+use Rattle.rest_op.specs.declared.op.RestOp.{RestOp}
+use Rattle.rest_op.specs.declared.op.RestStep.{RestStep}
+use Rattle.rest_op.specs.declared.op.RestStep.TheVariants as rest
+use Rattle.rest_op.specs.RestPart.{outcome_at as rest_outcome_at}
+use Rattle.engine.specs.declared.engine.Engine.{Engine}
+use Rattle.engine.specs.Engine.{wanted}
+use Rattle.engine.specs.OpPart.{CallState, SplitState, OpState, state_of, whole_split, split_and_more, publish_and_rest, publish_of, op_part, split_segment, split_segment_in}
+use Rattle.engine.specs.Core.{Caller, Core, current}
 use Rattle.engine.specs.Holding.{IsCalling, DoesCall, CallerFits, CoreHolds, TurnKeeps}
-use Rattle.engine.specs.Laws.{IsServedImage, opened, OpenedHolds, AreScripts}
-use Rattle.engine.specs.Causes.{Watched, watched, BeginsBare, Decides, EndsHaveCauses}
-use Rattle.engine.specs.Alone.{IsBetween, along, IsOthers, BusyIsOthers}
-use Rattle.engine.proofs.Places.{zip_at}
-use Rattle.engine.proofs.holding.Served.{live_current}
+use Rattle.engine.specs.Laws.{IsServedImage, OpenedHolds, AreScripts}
+use Rattle.engine.specs.Causes.{Watched, BeginsBare, Decides, HasCauseBy, HasCause, EndsHaveCauses}
+use Rattle.engine.specs.Alone.{IsBetween, IsOthers, BusyIsOthers}
+use Rattle.engine.proofs.machines.Ops.{either_ops, each_named}
 use Rattle.engine.proofs.sessions.Goodness.{caller_at}
-use Rattle.engine.proofs.attempts.Deciding.{CallCauses, holds_there, not_own_there}
-use Rattle.engine.proofs.lonely.Named.{LoadedFront, run_loaded, named_live}
+use Rattle.engine.proofs.attempts.Stepping.{segment_in, segment_is, op_not_own}
+use Rattle.engine.proofs.attempts.Seats.{IsSeated, seat_steps, CallCauses, site_there, there, holds_there, seat_there}
+use Rattle.engine.proofs.lonely.Looking.{IsAbout, finds_about, by_kind, call_looks}
+use Rattle.engine.proofs.lonely.Guarding.{IsFoundTaken, a_lock, a_guard, enclose_found, split_told, split_found}
 
 -- ---- a caller between two attempts holds nothing
-between_holds : BeginsBare → (site : Ground) (c : Caller) (v : View) → CallerFits site c v → IsBetween c → v.held ≡ []
-between_holds bare site c v fits (inl none) = (subst (λ o. DoesCall site c o v) none fits.does).nothing.held
-between_holds bare site c v fits (inr p) =
-    let calling : IsCalling site c (begun c.site p.0) v = subst (λ o. DoesCall site c o v) p.1 fits.does in
-    bare site c.site calling.call p.0 v calling.suits.suits.stands
+pub between_bare : BeginsBare → (site : Ground) (c : Caller) (v : View) → CallerFits site c v → IsBetween c → HoldsOnly [] v
+between_bare bare site c v fits (inl none) = (subst (λ o. DoesCall site c o v) none fits.does).nothing
+between_bare bare site c v fits (inr p) =
+    let calling : IsCalling site c p.0 v = subst (λ o. DoesCall site c o v) p.1 fits.does in
+    bare site c.site calling.call p.0 v p.2 calling.suits.suits.stands
 
--- ---- the locks of a call, in an image of which each segment that was named is current
-own_is_lock : (site : Ground) (words : Words) (did : Doings) (call : Call) (word : ℕ)
-    → ((s : ℕ) → IsNamed site.shape (key_hash site.shape (key_of call)) did.loads s → IsCurrentIn site words s)
-    → IsOwnLock site.shape words did call word → IsCurrentLock site words word
-own_is_lock site words did call word all (segment, named, within, b, is, at) =
-    (segment, b, within, bucket_near site.shape (key_hash site.shape (key_of call)) did.loads segment call b is, at, all segment named)
+fresh_bare : HoldsOnly [] (fresh_view 0)
+fresh_bare = record { held = refl; known = refl; dirty = refl; flushed = refl; planned = refl; moving = refl; owed = refl; areas = refl }
+
+-- where all others stand there, no view but that of one seat holds anything
+pub others_bare : BeginsBare → (site : Ground) (start : Words) (core : Core) (h : CoreHolds site start core) (j : ℕ) → ((i : ℕ) (c : Caller) → i ≢ j → slice_get core.callers i ≡ Some c → IsBetween c)
+    → (i : ℕ) (u : View) → i ≢ suc j → At (fresh_view 0 ∷ h.views) i u → HoldsOnly [] u
+others_bare bare site start core h j others zero u apart seat = subst (HoldsOnly []) (some-injective (fresh_view 0) u seat) fresh_bare
+others_bare bare site start core h j others (suc i) u apart seat =
+    let z = caller_at site core.callers h.views i u h.each seat in between_bare bare site z.0 u z.2 (others i z.0 (λ same. apart (ap suc same)) z.1)
+
+-- ---- neither the publishing nor the rest is to be made again
+publish_calm : (s : DirectoryStep) (why : Why) → publish_outcome_at s ≡ Some (again why) → ⊥
+publish_calm (publish.Ended Off) why some = absurd (let same = same_Some off (again why) some in cc)
+publish_calm s why some = none-some (again why) some
+
+rest_calm : (s : RestStep) (why : Why) → rest_outcome_at s ≡ Some (again why) → ⊥
+rest_calm rest.Ended why some = absurd (let same = same_Some finished (again why) some in cc)
+rest_calm s why some = none-some (again why) some
+
+later_calm : (m : Then DirectoryOp RestOp) (why : Why) → publish_and_rest.outcome m ≡ Some (again why) → ⊥
+later_calm (first op) why some = publish_calm op.step why some
+later_calm (second op) why some = rest_calm op.step why some
+
+-- nor a side that is handed on
+made_again : (op : SplitOp) (why : Why) (t : Bool) → split_and_more.outcome (passed split_part publish_and_rest (λ x. first (publish_of x)) t op) ≡ Some (again why) → split_outcome_at op.step ≡ Some (again why)
+made_again op why true some = absurd (none-some (again why) some)
+made_again op why false some = some
+
+-- ---- in the world, for who sits there
+module _ (laws : CallCauses) (site : Ground) (words : Words) (views : List View) (h : Holds site words views) (j : ℕ) (here : Site) (call : Call) (e : Engine) (did : Doings)
+    (seat : IsSeated site words views j here call e did) (word value : ℕ) (decides : Decides site.shape words e (again (Busy word value))) where
+  abbrev Found : Type 0
+  Found = IsFoundTaken site words seat.view word value
+
+  -- the event is about the word
+  about_of : (event : Want) → Finds event (answer_to event (words (word_of site.shape event))) word value → IsAbout event word
+  about_of event f = finds_about event (answer_to event (words (word_of site.shape event))) word value f
+
+  -- ---- a machine of the call itself
+  lock_taken : IsTaken site.shape words did call word value → IsLockWord site.shape word
+  lock_taken t = (t.own.0, t.own.3, t.own.2, bucket_near site.shape (hash_for site.shape words did call) did.loads t.own.0 call t.own.3 t.own.4, t.own.5)
+
+  call_found : (m : CallState) → state_of e.op ≡ one m → HasAgainCause site.shape words did call (wanted e) (Busy word value) → Found
+  call_found m is (looked, t) =
+      let step = seat_steps laws.part site words views h j here call e did seat in
+      let n : ℕ = finds op_part site words e.op in
+      let k = call_looks site words views h j seat.view seat.at here call m n (subst (λ (x : OpState). either_ops.Stands site here call x seat.view) is seat.suits.stands) in
+      let kind_is : op_part.kind e.op n ≡ of_call k.0 = ap (λ (x : OpState). either_ops.kind x n) is ∙ k.1 in
+      let may : MayTake site (of_call k.0) seat.view = subst (λ kind. MayTake site kind seat.view) kind_is step.may in
+      let about : IsAbout (kind_wanted site.shape k.0) word =
+      subst (λ event. IsAbout event word) (step.wants ∙ ap (wanted_of site.shape) kind_is) (about_of (wanted e) looked) in
+      a_lock (by_kind site words views h j seat.view seat.at k.0 may.0 k.2 word (lock_taken t) about) t.odd
+
+  -- ---- one of a split
+  split_busy : (m : SplitState) → whole_split.Stands site here call m seat.view → whole_split.outcome m ≡ None → whole_split.outcome (next whole_split site words m) ≡ Some (again (Busy word value))
+      → HasSplitCause site.shape words did call (split_segment_in m) (whole_split.wanted m) (again (Busy word value)) → Found
+  split_busy (first op) s none some (looked, t) =
+      enclose_found site words views h j seat.view seat.at here call did op.enclosed s.stands.is word value t op.step s.stands.view none (about_of (whole_split.wanted (first op)) looked)
+  split_busy (second (first op)) s none some (looked, t) =
+      let y : SplitOp = next split_part site words op in
+      let take = split_told op (Busy word value) op.step (finds split_part site words op) none (made_again y (Busy word value) (split_part.hands_on y) some) in
+      split_found site words views h j seat.view seat.at here call did op s.stands.is word value t
+      (subst (λ (x : SplitStep). SplitSuits site here call op.copied op.locks x seat.view) take s.stands.view)
+      (subst (λ (x : SplitStep). IsAbout (split_wanted_in op x) word) take (about_of (whole_split.wanted (second (first op))) looked))
+  split_busy (second (second (first op))) s none some c =
+      absurd (later_calm (next publish_and_rest site words (first op)) (Busy word value) some)
+  split_busy (second (second (second op))) s none some c = absurd (later_calm (next publish_and_rest site words (second op)) (Busy word value) some)
+
+  -- ---- whichever
+  by_state : (m : OpState) → state_of e.op ≡ m → HasCauseBy (segment_in m) site.shape words did call (wanted e) (again (Busy word value)) → Found
+  by_state (one m) is c = call_found m is c
+  by_state (other m) is c =
+      split_busy m (subst (λ (x : OpState). either_ops.Stands site here call x seat.view) is seat.suits.stands)
+      (sym (ap either_ops.outcome is) ∙ decides.undecided)
+      (ap (λ (x : OpState). either_ops.outcome (next either_ops site words x)) (sym is) ∙ (ap either_ops.outcome (sym (each_named (next either_ops site words (state_of e.op)))) ∙ decides.decides))
+      (subst (λ event. HasSplitCause site.shape words did call (split_segment_in m) event (again (Busy word value))) (ap either_ops.wanted is) c)
+
+  found_taken : HasCause site.shape words did call e (again (Busy word value)) → Found
+  found_taken c = by_state (state_of e.op) refl (subst (λ s. HasCauseBy s site.shape words did call (wanted e) (again (Busy word value))) (segment_is e.op) c)
+
+  -- A VIEW OF ANOTHER SEAT holds something
+  pub record IsHeldElsewhere : Type 0 where
+    pub place : ℕ
+    pub view : View
+    pub at : At views place view
+    pub elsewhere : place ≢ j
+    pub holds : HoldsOnly [] view → ⊥
+
+  same_view : (i : ℕ) (u : View) → At views i u → i ≡ j → u ≡ seat.view
+  same_view i u at same = some-injective u seat.view (sym (subst (λ k. At views k u) same at) ∙ seat.at)
+
+  held_by : words word ≡ value → Found → IsHeldElsewhere
+  held_by newest (a_lock lock odd) =
+      let holder = h.locks.odd word lock (ap (λ x. x % 2) newest ∙ odd) in
+      record {
+        place = holder.0;
+        view = holder.1;
+        at = holder.2;
+        elsewhere = λ same. op_not_own laws.causes site here call words views j seat.before seat.view h seat.at did e.op seat.suits seat.asks seat.small seat.remembers word value
+            decides.undecided decides.decides (subst (λ (u : View). HasLock u.held word) (same_view holder.0 holder.1 holder.2 same) holder.3);
+        holds = λ bare. (let none : HasLock [] word = subst (λ locks. HasLock locks word) bare.held holder.3 in none.1);
+      }
+  held_by newest (a_guard guard has is some own) =
+      let holder = h.structure.held_guards guard has (λ zero_there. some (sym newest ∙ (ap words is ∙ zero_there))) in
+      record {
+        place = holder.0;
+        view = holder.1;
+        at = holder.2;
+        elsewhere = λ same. own (subst (λ (u : View). Has (area_of guard) u.areas) (same_view holder.0 holder.1 holder.2 same) holder.3);
+        holds = λ bare. subst (λ (areas : List Area). Has (area_of guard) areas) bare.areas holder.3;
+      }
+
+  -- whichever machine it is, the event found the value there
+  looked_at : (o : Option ℕ) → HasCauseBy o site.shape words did call (wanted e) (again (Busy word value))
+      → Finds (wanted e) (answer_to (wanted e) (words (word_of site.shape (wanted e)))) word value
+  looked_at None c = c.0
+  looked_at (Some segment) c = c.0
+
+  pub held_elsewhere : HasCause site.shape words did call e (again (Busy word value)) → IsHeldElsewhere
+  held_elsewhere c = held_by (finds_newest site.shape words (wanted e) word value (looked_at (split_segment e.op) c)).1 (found_taken c)
 
 -- ---- after any turns
 module _ (laws : CallCauses) (bare : BeginsBare) (opens : OpenedHolds) (keeps : TurnKeeps) (causes : EndsHaveCauses)
-    (shape : Shape) (words : List ℕ) (image : IsServedImage shape words) (scripts : List (List Call)) (are : AreScripts scripts) (turns : List ℕ) where
-  abbrev w : Watched
-  w = along shape words scripts turns
+    (shape : Shape) (words : List ℕ) (image : IsServedImage shape words) (scripts : List (List Call)) (are : AreScripts scripts) (turns : List ℕ)
+    (j : ℕ) (c : Caller) (call : Call) (e : Engine) (word value : ℕ) where
+  abbrev site : Ground
+  site = site_there opens keeps shape words image scripts are turns
 
-  abbrev h : CoreHolds (site_of shape words (length scripts)) (slice_index words) w.core
+  abbrev w : Watched
+  w = there opens keeps shape words image scripts are turns
+
+  abbrev h : CoreHolds site (slice_index words) w.core
   h = holds_there opens keeps shape words image scripts are turns
 
-  loaded : (j : ℕ) → LoadedFront (site_of shape words (length scripts)) (w.doings j)
-  loaded = run_loaded keeps (site_of shape words (length scripts)) (slice_index words) (watched (opened shape words scripts)) turns (opens shape words scripts image are) (λ j i x none part. absurd none)
+  by_seat : (k : ℕ) (v : View) → At (fresh_view 0 ∷ h.views) k v → k ≢ suc j → (HoldsOnly [] v → ⊥) → IsOthers w.core j
+  by_seat zero v seat apart holds = absurd (holds (subst (HoldsOnly []) (some-injective (fresh_view 0) v seat) fresh_bare))
+  by_seat (suc k) v seat apart holds =
+      let z = caller_at site w.core.callers h.views k v h.each seat in
+      record { place = k; elsewhere = λ same. apart (ap suc same); caller = z.0; there = z.1; midst = λ between. holds (between_bare bare site z.0 v z.2 between) }
 
-  module _ (j : ℕ) (c : Caller) (call : Call) (e : Engine) (there : slice_get w.core.callers j ≡ Some c) (calls : current c ≡ Some call) (runs : c.engine ≡ Some e) where
-    -- a segment that the attempt found named is current
-    current_now : (s : ℕ) → IsNamed shape (key_hash shape (key_of call)) (w.doings j).loads s → IsCurrentIn (site_of shape words (length scripts)) w.core.words s
-    current_now s named =
-        let site = site_of shape words (length scripts) in
-        let fits = (zip_at (CallerFits site) w.core.callers h.views j c h.each there).2 in
-        let small = key_hash-fits shape (key_of call) (fits.words (length c.entries) call calls).0 in
-        live_current site w.core.words (fresh_view 0 ∷ h.views) h.well.holds h.constant h.served s
-        (lives_there shape site.front w.core.words h.constant s (named_live site h.well.holds.site_is h.served.structure (w.doings j) (loaded j) (key_hash shape (key_of call)) small s named))
-
-    taken_by : (word value : ℕ) → Decides shape w.core.words e (again (Busy word value)) → IsTaken shape w.core.words (w.doings j) call word value
-    taken_by word value decides = (causes shape words image scripts are turns j c call e (again (Busy word value)) there calls runs decides).1
-
-    busy_is_others : (word value : ℕ) → Decides shape w.core.words e (again (Busy word value)) → IsOthers w.core j
-    busy_is_others word value decides =
-        let t = taken_by word value decides in
-        let holder = h.well.holds.locks.odd word (own_is_lock (site_of shape words (length scripts)) w.core.words (w.doings j) call word current_now t.own) (ap (λ x. x % 2) t.newest ∙ t.odd) in
-        by_seat holder.0 holder.1 holder.2 holder.3
-      where
-        other_seat : (k : ℕ) (v : View) → At h.views k v → HasLock v.held word → k ≢ j → IsOthers w.core j
-        other_seat k v at has other =
-            let z = caller_at (site_of shape words (length scripts)) w.core.callers h.views k v h.each at in
-            record {
-              place = k;
-              elsewhere = other;
-              caller = z.0;
-              there = z.1;
-              midst = λ between. (let none : HasLock [] word = subst (λ locks. HasLock locks word) (between_holds bare (site_of shape words (length scripts)) z.0 v z.2 between) has in none.1);
-            }
-
-        by_seat : (k : ℕ) (v : View) → At (fresh_view 0 ∷ h.views) k v → HasLock v.held word → IsOthers w.core j
-        by_seat zero v at has = let none : HasLock [] word = subst (λ (u : View). HasLock u.held word) (sym (some-injective (fresh_view 0) v at)) has in absurd (none.1)
-        by_seat (suc k) v at has = elim (cases_eq k j) [
-          | inl same ↦ absurd (not_own_there opens keeps shape words image scripts are turns laws j c call e there calls runs word value decides v
-              (subst (λ i. At h.views i v) same at) has)
-          | inr other ↦ other_seat k v at has other
-        ]
+  others_hold : slice_get w.core.callers j ≡ Some c → current c ≡ Some call → c.engine ≡ Some e → Decides shape w.core.words e (again (Busy word value)) → IsOthers w.core j
+  others_hold at calls runs decides =
+      let views : List View = fresh_view 0 ∷ h.views in
+      let seated : IsSeated site w.core.words views (suc j) c.site call e (w.doings j) = seat_there opens keeps shape words image scripts are turns laws j c call e at calls runs in
+      let held = held_elsewhere laws site w.core.words views h.well.holds (suc j) c.site call e (w.doings j) seated word value decides
+      (causes shape words image scripts are turns j c call e (again (Busy word value)) at calls runs decides) in
+      by_seat held.place held.view held.at held.elsewhere held.holds
 
 pub busy_others : CallCauses → BeginsBare → OpenedHolds → TurnKeeps → EndsHaveCauses → BusyIsOthers
-busy_others laws bare opens keeps causes shape words image scripts are turns j c call e word value there calls runs decides =
-    busy_is_others laws bare opens keeps causes shape words image scripts are turns j c call e there calls runs word value decides
+busy_others laws bare opens keeps causes shape words image scripts are turns j c call e word value at calls runs decides =
+    others_hold laws bare opens keeps causes shape words image scripts are turns j c call e word value at calls runs decides

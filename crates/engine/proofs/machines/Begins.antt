@@ -1,104 +1,135 @@
--- Where an engine begins, a line for each call; and what it tells at its end, a line for each machine.
-use Rattle.std.proofs.Common.{◌≡◌, ◌^◌, ◌<◌, Some, [], refl, sym, subst}
+-- Where an attempt begins, of a call and of the split of a segment.
+use Rattle.std.proofs.Common.{◌≡◌, ◌^◌, ◌<◌, ◌≤◌, ℕ, None, [], inl, inr, refl, sym, subst, arith}
 use Rattle.map_model.specs.declared.call.Call.{Call}
 use Rattle.map_model.specs.declared.call.Call.TheVariants.{Get, Insert, Update, Remove}
 use Rattle.map_model.specs.declared.change.Effect.TheVariants as effect
 use Rattle.map_model.specs.declared.change.Change.{Change}
 use Rattle.map_model.specs.Changes.{call_of}
-use Rattle.op_core.specs.declared.want.Want.TheVariants as want
+use Rattle.map_model.specs.Legal.{IsInsert}
 use Rattle.world.specs.declared.site.Site.{Site}
 use Rattle.world.specs.Ground.{Ground, IsGround, version_of}
 use Rattle.world.specs.Views.{View}
 use Rattle.world.specs.Attempts.{HoldsOnly}
 use Rattle.part.specs.Doings.{nothing_done}
-use Rattle.part.specs.Outcomes.{finished}
+use Rattle.part.specs.Part.{IsPart}
 use Rattle.phase.specs.Makes.{brought}
-use Rattle.read_op.specs.GetPart.{outcome_in as get_outcome_in, BeginsAsPart as GetBegins, BeginsRemembering as GetRemembers, EndsAsSaid as GetSays, NeverFinished as GetFinished}
+use Rattle.phase.specs.Stands.{IsThere}
+use Rattle.read_op.specs.Steps.{begun as read_begun}
+use Rattle.read_op.specs.GetPart.{get_part, BeginsAsPart as GetBegins, BeginsRemembering as GetRemembers}
 use Rattle.write_op.specs.Steps.{begun as write_begun}
-use Rattle.write_op.specs.ChangePart.{BeginsAsPart as ChangeBegins, BeginsRemembering as ChangeRemembers, BeginsBare as ChangeBare, NeverFinished as ChangeFinished}
-use Rattle.write_op.specs.Ends.{EndsAsSaid as ChangeSays}
-use Rattle.move_op.specs.MovePart.{MoveNeverFinished as MoveFinished, MoveEndsAsSaid as MoveSays}
-use Rattle.stash_op.specs.StashPart.{NeverFinished as StashFinished}
-use Rattle.stash_op.specs.Ends.{EndsAsSaid as StashSays}
-use Rattle.refuse_op.specs.RefusePart.{NeverFinished as RefusalFinished}
-use Rattle.refuse_op.specs.Ends.{EndsAsSaid as RefusalSays}
-use Rattle.engine.specs.declared.engine.Op.{Op}
-use Rattle.engine.specs.declared.engine.Op.TheVariants.{Read, Write, Move, Stash, Refuse}
-use Rattle.engine.specs.Engine.{running, begun, read_end_at, end_of_op, outcome_of_end}
+use Rattle.write_op.specs.ChangePart.{change_part, BeginsAsPart as ChangeBegins, BeginsRemembering as ChangeRemembers}
+use Rattle.enclose_op.specs.EnclosePart.{BeginsAsPart as EncloseBegins, BeginsRemembering as EncloseRemembers}
+use Rattle.engine.specs.declared.engine.Engine.{Engine}
+use Rattle.engine.specs.declared.engine.Op.TheVariants.{Write}
+use Rattle.engine.specs.Engine.{running, begun, splitting, IsFresh}
 use Rattle.engine.specs.OpPart.{op_part}
-use Rattle.engine.specs.Left.{waiting}
-use Rattle.engine.specs.Pairs.{BeginsUnmade}
-use Rattle.engine.specs.Causes.{BeginsBare, BeginsUndecided, EndsAreDecided}
-use Rattle.engine.specs.Fits.{IsServedGround, Suits, BeginsSuited}
+use Rattle.engine.specs.Left.{left, waiting}
+use Rattle.engine.specs.Pairs.{HasMade, BeginsUnmade}
+use Rattle.engine.specs.Causes.{BeginsBare, BeginsUndecided}
+use Rattle.engine.specs.Fits.{HasNumber, Suits, BeginsSuited}
 
+-- what is so of the engine of each call, and of each that splits a segment, is so of each that has done nothing yet
+of_fresh : (P : Engine → Type 0) (here : Site) → ((call : Call) → P (begun here call)) → ((change : Change) (segment : ℕ) → P (splitting here change segment)) → (e : Engine) → IsFresh here e → P e
+of_fresh P here calls splits e (inl is) = subst P (sym is.1) (calls is.0)
+of_fresh P here calls splits e (inr is) = subst P (sym is.2) (splits is.0 is.1)
+
+-- ---- a view that holds nothing suits it
 -- a change is no get
-change_suits : ChangeBegins → (site : Ground) (here : Site) (change : Change) (v : View) → IsGround site → IsServedGround site → here.geometry ≡ site.shape → here.version ≡ version_of site → change.key < 2 ^ 64 → brought change.effect < 2 ^ 64
-    → HoldsOnly [] v → 0 < v.callers → Suits site here (call_of change) (running (Write (write_begun change here))) v v
-change_suits begins site here change v good served same version key value holds some = record {
+change_suits : ChangeBegins → ChangeRemembers → (site : Ground) (here : Site) (change : Change) (v : View) → IsGround site → here.geometry ≡ site.shape → here.version ≡ version_of site → change.key < 2 ^ 64
+    → brought change.effect < 2 ^ 64 → HoldsOnly [] v → 0 < v.callers → Suits site here (call_of change) (running (Write (write_begun change here))) v v
+change_suits begins remembers site here change v good same version key value holds some = record {
   asks = λ e. absurd (cc);
+  on = λ e. absurd (cc);
   suits = record {
-    stands = record { stands = record { stands = begins site here change v good same version key value holds; passes = served.grown }; closed = refl };
+    stands = record { stands = begins site here change v good same version key value holds; closed = refl };
     enters = record { own = refl; seen = refl };
     callers = some;
   };
+  remembers = (nothing_done, remembers site here change);
 }
 
-pub begins_suited : GetBegins → ChangeBegins → BeginsSuited
-begins_suited get change site here (Get key) v good served same version small holds some =
-    record { asks = λ e. absurd (cc); suits = record { stands = get site here key v same version small.0 holds; enters = record { own = refl; seen = refl }; callers = some } }
-begins_suited get change site here (Insert key value) v good served same version small holds some =
-    change_suits change site here (record { key = key; effect = effect.Insert value }) v good served same version small.0 small.1 holds some
-begins_suited get change site here (Update key value) v good served same version small holds some =
-    change_suits change site here (record { key = key; effect = effect.Update value }) v good served same version small.0 small.1 holds some
-begins_suited get change site here (Remove key) v good served same version small holds some =
-    change_suits change site here (record { key = key; effect = effect.Remove }) v good served same version small.0 small.1 holds some
+pub begins_suited : GetBegins → GetRemembers → ChangeBegins → ChangeRemembers → BeginsSuited
+begins_suited get memory change memories site here (Get key) v good same version small holds some = record {
+  asks = λ e. absurd (cc);
+  on = λ e. absurd (cc);
+  suits = record { stands = get site here key v same version small.0 holds; enters = record { own = refl; seen = refl }; callers = some };
+  remembers = (nothing_done, memory site here key);
+}
+begins_suited get memory change memories site here (Insert key value) v good same version small holds some =
+    change_suits change memories site here (record { key = key; effect = effect.Insert value }) v good same version small.0 small.1 holds some
+begins_suited get memory change memories site here (Update key value) v good same version small holds some =
+    change_suits change memories site here (record { key = key; effect = effect.Update value }) v good same version small.0 small.1 holds some
+begins_suited get memory change memories site here (Remove key) v good same version small holds some =
+    change_suits change memories site here (record { key = key; effect = effect.Remove }) v good same version small.0 small.1 holds some
+
+-- and the split of a segment that the view knows to be live and current, for an insert of a key that is a word
+pub split_suits : EncloseBegins → EncloseRemembers → (site : Ground) (here : Site) (change : Change) (segment : ℕ) (v : View) → here.geometry ≡ site.shape → here.version ≡ version_of site → HasNumber here
+    → IsInsert (call_of change) → change.key < 2 ^ 64 → HoldsOnly [] v → IsThere site segment v.facts → 0 < v.callers → Suits site here (call_of change) (splitting here change segment) v v
+split_suits begins remembers site here change segment v same version number insert key holds there some = record {
+  asks = λ e. absurd (cc);
+  on = λ e. absurd (cc);
+  suits = record {
+    stands = record { stands = begins site here change segment v same version number.0 number.1 insert key holds there; closed = refl };
+    enters = record { own = refl; seen = refl };
+    callers = some;
+  };
+  remembers = (nothing_done, remembers site here change segment nothing_done refl);
+}
+
+-- ---- what it has not done
+begun_undecided : (here : Site) (call : Call) → op_part.outcome (begun here call).op ≡ None
+begun_undecided here (Get key) = refl
+begun_undecided here (Insert key value) = refl
+begun_undecided here (Update key value) = refl
+begun_undecided here (Remove key) = refl
 
 pub begins_undecided : BeginsUndecided
-begins_undecided here (Get key) = refl
-begins_undecided here (Insert key value) = refl
-begins_undecided here (Update key value) = refl
-begins_undecided here (Remove key) = refl
+begins_undecided here = of_fresh (λ e. op_part.outcome e.op ≡ None) here (begun_undecided here) (λ change segment. refl)
+
+begun_unmade : (here : Site) (call : Call) → HasMade (begun here call) → ⊥
+begun_unmade here (Get key) made = made
+begun_unmade here (Insert key value) made = made
+begun_unmade here (Update key value) made = made
+begun_unmade here (Remove key) made = made
 
 pub begins_unmade : BeginsUnmade
-begins_unmade here (Get key) made = made
-begins_unmade here (Insert key value) made = made
-begins_unmade here (Update key value) made = made
-begins_unmade here (Remove key) made = made
+begins_unmade here = of_fresh (λ e. HasMade e → ⊥) here (begun_unmade here) (λ change segment made. made)
 
-pub begins_waiting : (here : Site) (call : Call) → waiting (begun here call) ≡ 0
-begins_waiting here (Get key) = refl
-begins_waiting here (Insert key value) = refl
-begins_waiting here (Update key value) = refl
-begins_waiting here (Remove key) = refl
+begun_waiting : (here : Site) (call : Call) → waiting (begun here call) ≡ 0
+begun_waiting here (Get key) = refl
+begun_waiting here (Insert key value) = refl
+begun_waiting here (Update key value) = refl
+begun_waiting here (Remove key) = refl
 
-pub begins_remembering : GetRemembers → ChangeRemembers → (site : Ground) (here : Site) (call : Call) → op_part.Remembers site (begun here call).op nothing_done
-begins_remembering get change site here (Get key) = get site here key
-begins_remembering get change site here (Insert key value) = change site here (record { key = key; effect = effect.Insert value })
-begins_remembering get change site here (Update key value) = change site here (record { key = key; effect = effect.Update value })
-begins_remembering get change site here (Remove key) = change site here (record { key = key; effect = effect.Remove })
+pub begins_waiting : (here : Site) (e : Engine) → IsFresh here e → waiting e ≡ 0
+begins_waiting here = of_fresh (λ e. waiting e ≡ 0) here (begun_waiting here) (λ change segment. refl)
 
--- who is at the beginning of an attempt holds nothing
-pub begins_bare : ChangeBare → BeginsBare
-begins_bare change site here call (Get key) v s = s.nothing.held
-begins_bare change site here call (Insert key value) v s = change site here call (record { key = key; effect = effect.Insert value }) v s.stands.stands
-begins_bare change site here call (Update key value) v s = change site here call (record { key = key; effect = effect.Update value }) v s.stands.stands
-begins_bare change site here call (Remove key) v s = change site here call (record { key = key; effect = effect.Remove }) v s.stands.stands
+begun_remembering : GetRemembers → ChangeRemembers → (site : Ground) (here : Site) (call : Call) → op_part.Remembers site (begun here call).op nothing_done
+begun_remembering get change site here (Get key) = get site here key
+begun_remembering get change site here (Insert key value) = change site here (record { key = key; effect = effect.Insert value })
+begun_remembering get change site here (Update key value) = change site here (record { key = key; effect = effect.Update value })
+begun_remembering get change site here (Remove key) = change site here (record { key = key; effect = effect.Remove })
 
--- no machine of a call ends but with a reply, or to be made again, stale or off
-pub never_finished : GetFinished → ChangeFinished → MoveFinished → StashFinished → RefusalFinished → (op : Op) → op_part.outcome op ≡ Some finished → ⊥
-never_finished get change move stash refusal (Read op) some = get op some
-never_finished get change move stash refusal (Write op) some = change op some
-never_finished get change move stash refusal (Move op) some = move op some
-never_finished get change move stash refusal (Stash op) some = stash op some
-never_finished get change move stash refusal (Refuse op) some = refusal op some
+pub begins_remembering : GetRemembers → ChangeRemembers → EncloseRemembers → (site : Ground) (here : Site) (e : Engine) → IsFresh here e → op_part.Remembers site e.op nothing_done
+begins_remembering get change enclose site here = of_fresh (λ e. op_part.Remembers site e.op nothing_done) here (begun_remembering get change site here)
+    (λ made segment. enclose site here made segment nothing_done refl)
 
--- at its end a machine tells its outcome
-op_says : GetSays → ChangeSays → MoveSays → StashSays → RefusalSays → (op : Op) → op_part.wanted op ≡ want.Done → op_part.outcome op ≡ outcome_of_end (end_of_op op)
-op_says get change move stash refusal (Read op) done = subst (λ s. get_outcome_in s ≡ Some (Rattle.read_op.specs.GetPart.outcome_of (read_end_at s))) (sym (get op done).1) refl
-op_says get change move stash refusal (Write op) done = change op done
-op_says get change move stash refusal (Move op) done = move op done
-op_says get change move stash refusal (Stash op) done = stash op done
-op_says get change move stash refusal (Refuse op) done = refusal op done
+-- who is at the beginning of an attempt holds, knows and owes nothing
+begun_bare : (site : Ground) (here : Site) (call first : Call) (v : View) → op_part.Stands site here call (begun here first).op v → HoldsOnly [] v
+begun_bare site here call (Get key) v s = s.nothing
+begun_bare site here call (Insert key value) v s = s.stands.view.0
+begun_bare site here call (Update key value) v s = s.stands.view.0
+begun_bare site here call (Remove key) v s = s.stands.view.0
 
-pub ends_are_decided : GetSays → ChangeSays → MoveSays → StashSays → RefusalSays → EndsAreDecided
-ends_are_decided get change move stash refusal e done = op_says get change move stash refusal e.op done
+pub begins_bare : BeginsBare
+begins_bare site here call e v fresh = of_fresh (λ x. op_part.Stands site here call x.op v → HoldsOnly [] v) here (λ first. begun_bare site here call first v) (λ made segment s. s.stands.view.0) e fresh
+
+-- ---- how many events it asks for
+change_few : IsPart change_part → (here : Site) (change : Change) → left (running (Write (write_begun change here))) ≤ 700
+change_few change here made = let low = change.time.most (write_begun made here) in omega (arith, low)
+
+pub begins_few : IsPart get_part → IsPart change_part → (here : Site) (call : Call) → left (begun here call) ≤ 700
+begins_few get change here (Get key) = let low = get.time.most (read_begun key here) in omega (arith, low)
+begins_few get change here (Insert key value) = change_few change here (record { key = key; effect = effect.Insert value })
+begins_few get change here (Update key value) = change_few change here (record { key = key; effect = effect.Update value })
+begins_few get change here (Remove key) = change_few change here (record { key = key; effect = effect.Remove })

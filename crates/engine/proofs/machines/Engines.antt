@@ -1,42 +1,85 @@
 -- The laws of an engine, by those of the one part that its machines are.
-use Rattle.std.proofs.Common.{◌≡◌, ◌<◌, sym, ap, subst, ◌∙◌}
+use Rattle.std.proofs.Common.{◌≡◌, ◌≢◌, ◌<◌, ℕ, Some, refl, sym, subst}
+use Rattle.op_core.specs.declared.want.Want.{Want}
+use Rattle.trace.specs.Events.{Words}
+use Rattle.map_model.specs.Changes.{change_of}
+use Rattle.world.specs.Ground.{Ground}
 use Rattle.world.specs.Views.{View}
-use Rattle.world.specs.StepKinds.{StepKind, view_by}
+use Rattle.world.specs.Wants.{answer_to, word_of}
+use Rattle.world.specs.StepKinds.{StepKind, of_call, of_structure, wanted_of, view_by}
 use Rattle.world.specs.Laws.{CallersStay}
+use Rattle.world.specs.areas.Keeping.{StructureStepsReplyNothing}
 use Rattle.world.specs.Attempts.{EntersReply}
-use Rattle.part.specs.Outcomes.{reply_of}
+use Rattle.part.specs.Doings.{Doings}
+use Rattle.part.specs.Outcomes.{reply_of, off}
 use Rattle.part.specs.Part.{IsPart}
+use Rattle.part.specs.Causes.{EndsByCause}
+use Rattle.part.specs.Splits.{EndsBySplitCause}
 use Rattle.engine.specs.declared.engine.Engine.{Engine}
-use Rattle.engine.specs.Engine.{kind_of}
-use Rattle.engine.specs.OpPart.{op_part}
-use Rattle.engine.specs.Fits.{finds, next_engine, KeepsSuits}
+use Rattle.engine.specs.Engine.{kind_of, anew_by}
+use Rattle.engine.specs.OpPart.{OpState, call_part, whole_split, split_segment_in, op_part, state_of}
+use Rattle.engine.specs.Fits.{Suits, finds, next_engine, KeepsSuits}
 use Rattle.engine.specs.Asks.{AsksWithin, AsksWords}
-use Rattle.engine.specs.Pairs.{EndsAsDone}
 use Rattle.engine.specs.Causes.{EndsAreDecided}
-use Rattle.engine.proofs.machines.Ops.{never_hands_on, call_of, kind_is}
+use Rattle.engine.proofs.machines.Ops.{either_ops, renamed_at, never_hands_on}
+use Rattle.engine.proofs.machines.Deciding.{IsAsking, doings_after, remembers_on, stays_on}
+use Rattle.engine.proofs.machines.Anew.{AnewLaws, anew_suits}
 
-module _ (part : IsPart op_part) (says : EndsAreDecided) where
-  pub keeps_suits : CallersStay → KeepsSuits
-  keeps_suits callers site here call e words views j before v h at s small =
-      let w = part.steps site here call words views j e.op before v h at s.suits s.asks in
-      let after : Engine = next_engine site e words in
-      let now : View = view_by site.shape (kind_of e (finds site e words)) (finds site e words) v in
-      let same : now.callers ≡ v.callers = subst (λ (k : StepKind). (view_by site.shape k (finds site e words) v).callers ≡ v.callers) (sym (kind_is e.op (finds site e words)))
-      (callers site.shape (call_of e.op (finds site e words)) (finds site e words) v) in
-      let some : 0 < now.callers = subst (λ n. 0 < n) (sym same) s.suits.callers in
-      record {
-        wants = w.wants;
-        may = w.may;
-        suits = λ asks. record { asks = asks; suits = record { stands = w.stands small; enters = w.enters small; callers = some } };
-        ends = λ done. record {
-          nothing = part.ends site here call after.op now (w.stands small) done (never_hands_on after.op);
-          callers = some;
-          enters = subst (λ o. EntersReply call (reply_of o) before now) (says after done) (w.enters small);
-        };
-      }
+-- a step of whatever kind leaves a view for as many callers
+callers_stay : CallersStay → StructureStepsReplyNothing → (site : Ground) (words : Words) (kind : StepKind) (v : View)
+    → (view_by site.shape kind (words (word_of site.shape (wanted_of site.shape kind))) v).callers ≡ v.callers
+callers_stay calls structure site words (of_call kind) v = calls site.shape kind (words (word_of site.shape (wanted_of site.shape (of_call kind)))) v
+callers_stay calls structure site words (of_structure kind) v = structure.callers site kind words v
 
-  pub ends_as_done : EndsAsDone
-  ends_as_done e made done = let d = part.made.done e.op made done in (d.0, ap reply_of (sym (says e done)) ∙ ap reply_of d.1)
+-- what is used of the machines, and of the world
+pub record EngineLaws : Type 0 where
+  pub part : IsPart op_part
+  pub says : EndsAreDecided
+  pub call_causes : EndsByCause call_part
+  pub split_causes : EndsBySplitCause whole_split split_segment_in
+  pub anew : AnewLaws
+  pub callers : CallersStay
+  pub structure : StructureStepsReplyNothing
+
+pub keeps_suits : EngineLaws → KeepsSuits
+keeps_suits laws site here call e words views j before v shape version number small power h at s fits =
+    let w = laws.part.steps site here call words views j e.op before v h at s.suits s.asks in
+    let n : ℕ = finds site e words in
+    let kind : StepKind = kind_of e n in
+    let after : Engine = next_engine site e words in
+    let now : View = view_by site.shape kind n v in
+    let same : now.callers ≡ v.callers = subst (λ (x : Want). (view_by site.shape kind (words (word_of site.shape x)) v).callers ≡ v.callers) (sym w.wants)
+    (callers_stay laws.callers laws.structure site words kind v) in
+    let some : 0 < now.callers = subst (λ c. 0 < c) (sym same) s.suits.callers in
+    let m : OpState = state_of e.op in
+    let did : Doings = s.remembers.0 in
+    let asking : IsAsking laws.call_causes laws.split_causes site here call words views j before v h at did m
+    = record { suits = record { stands = s.suits.stands; enters = s.suits.enters; callers = s.suits.callers }; asks = s.asks; small = fits; remembers = s.remembers.1 } in
+    let on : op_part.outcome after.op ≢ Some off = renamed_at (λ x. either_ops.outcome x ≢ Some off) (either_ops.taken m (answer_to (either_ops.wanted m) n))
+    (stays_on laws.call_causes laws.split_causes site here call words views j before v h at did power m asking s.on) in
+    let memory = renamed_at (λ x. either_ops.Remembers site x (doings_after laws.call_causes laws.split_causes site here call words views j before v h at did m))
+    (either_ops.taken m (answer_to (either_ops.wanted m) n)) (remembers_on laws.call_causes laws.split_causes site here call words views j before v h at did m asking) in
+    record {
+      wants = w.wants;
+      may = w.may;
+      suits = λ asks. record {
+        asks = asks;
+        on = on;
+        suits = record { stands = w.stands fits; enters = w.enters fits; callers = some };
+        remembers = (doings_after laws.call_causes laws.split_causes site here call words views j before v h at did m, memory);
+      };
+      ends = λ done.
+          let stands = w.stands fits in
+          let bare = laws.part.ends site here call after.op now stands done (never_hands_on after.op) on in
+          let told = laws.says site here call after now stands done in
+          record {
+            nothing = bare;
+            callers = some;
+            enters = subst (λ o. EntersReply call (reply_of o) before now) told (w.enters fits);
+            anew = λ none. subst (λ o. Suits site here call (anew_by here call (change_of call) o) now now) told
+                (anew_suits laws.anew site here call now h.site_is shape version number small bare some after.op stands (op_part.outcome after.op) refl);
+          };
+    }
 
 module _ (part : IsPart op_part) where
   pub asks_within : AsksWithin

@@ -1,4 +1,5 @@
--- An event of an engine leaves the notes and the stash records of each home, but that of a home to which its caller owes a note.
+-- While no segment is split an event of an engine leaves the notes and the stash records of each home, but that of a home to which its caller owes
+-- a note.
 use Rattle.std.proofs.Common.{◌≡◌, ◌≢◌, ◌⊎◌, ℕ, ◌+◌, ◌*◌, ◌<◌, ◌≤◌, List, cond, eqb, Bool, true, false, inl, inr, refl, sym, ◌∙◌, subst, arith}
 use Rattle.op_core.specs.declared.want.Want.{Want}
 use Rattle.trace.specs.Events.{Words, with_word, after}
@@ -24,7 +25,7 @@ use Rattle.engine.specs.Engine.{kind_of}
 use Rattle.engine.specs.OpPart.{op_part}
 use Rattle.engine.specs.Fits.{finds}
 use Rattle.engine.specs.Asks.{KeepsNotes}
-use Rattle.engine.proofs.machines.Ops.{call_of, kind_is}
+use Rattle.engine.proofs.machines.Ops.{call_kind}
 
 not_lock : (f s c n q b lock : ℕ) → c < 66 → 1 ≤ n → n < 32 → b < 66 → lock ≡ f + 2144 * q + 32 + 32 * b → f + 2144 * s + 32 + 32 * c + n ≡ lock → ⊥
 not_lock f s c n q b lock near above below nb e g = omega arith
@@ -91,15 +92,16 @@ module _ (site : Ground) (words : Words) (views : List View) (j : ℕ) (v : View
   by_kind cuts_power on may asks = absurd (on refl)
 
 pub keeps_notes : IsPart op_part → KeepsNotes
-keeps_notes part site here call e words views j before v number h at s slot home within near =
+keeps_notes part site here call e words views j before v number h at s own slot home within near =
     let w = part.steps site here call words views j e.op before v h at s.suits s.asks in
     let n : ℕ = finds site e words in
     let kind : StepKind = kind_of e n in
-    let is : kind ≡ of_call (call_of e.op n) = kind_is e.op n in
-    let may : MayTake site (of_call (call_of e.op n)) v = subst (λ (k : StepKind). MayTake site k v) is w.may in
-    let on : of_call (call_of e.op n) ≢ of_call cuts_power = λ q. part.power e.op n (is ∙ q) in
+    let of = call_kind e.op n own in
+    let is : kind ≡ of_call of.0 = of.1 in
+    let may : MayTake site (of_call of.0) v = subst (λ (k : StepKind). MayTake site k v) is w.may in
+    let on : of_call of.0 ≢ of_call cuts_power = λ q. part.power e.op n (is ∙ q) in
     let Keeps : Want → StepKind → Type 0 = λ x k. KeepsHome site words views j v h at number slot home within near (words_after site.shape x number words)
     (view_by site.shape k (words (word_of site.shape x)) v) in
     let kept : Keeps (wanted_of site.shape kind) kind = subst (λ (k : StepKind). Keeps (wanted_of site.shape k) k) (sym is)
-    (by_kind site words views j v h at number slot home within near (call_of e.op n) on may.0 may.1) in
+    (by_kind site words views j v h at number slot home within near of.0 on may.0 may.1) in
     subst (λ x. Keeps x kind) (sym w.wants) kept

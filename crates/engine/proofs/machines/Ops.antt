@@ -1,32 +1,43 @@
--- The machines of a call are one part: by what each owes the next, the laws of either of two parts, and of a part under other names.
-use Rattle.std.proofs.Common.{◌≡◌, ℕ, ◌<◌, inl, inr, true, false, refl, sym, ◌∙◌}
-use Rattle.op_core.specs.declared.want.Ans.{Ans}
-use Rattle.op_core.specs.Answers.{IsAnswer}
+-- The machines are one part: by what each owes the next, the laws of either of two parts, and of a part under other names.
+use Rattle.std.proofs.Common.{◌≡◌, ℕ, None, false, refl, sym, subst}
+use Rattle.std.proofs.lemmas.Option.{none-some}
 use Rattle.world.specs.Kinds.{Kind}
 use Rattle.world.specs.StepKinds.{of_call}
-use Rattle.part.specs.Part.{IsPart}
+use Rattle.part.specs.Part.{Part, IsPart}
 use Rattle.part.specs.Causes.{EndsByCause}
 use Rattle.part.specs.Then.{first, second}
 use Rattle.part.specs.Either.{one, other, either_part}
 use Rattle.part.specs.Renamed.{IsNamed}
 use Rattle.part.proofs.Eithers.{either_is_part, either_ends_by_cause}
-use Rattle.part.proofs.Renaming.{renamed_is_part, renamed_ends_by_cause}
+use Rattle.part.proofs.Renaming.{renamed_is_part}
 use Rattle.read_op.specs.Fits.{kind_of as get_kind}
 use Rattle.read_op.specs.GetPart.{get_part}
 use Rattle.write_op.specs.Fits.{kind_of as change_kind}
 use Rattle.move_op.specs.Fits.{kind_at as move_kind}
 use Rattle.stash_op.specs.Fits.{kind_at as stash_kind}
-use Rattle.refuse_op.specs.RefusePart.{kind_at as refusal_kind}
+use Rattle.release_op.specs.ReleasePart.{kind_at as release_kind}
 use Rattle.engine.specs.declared.engine.Op.{Op}
-use Rattle.engine.specs.declared.engine.Op.TheVariants.{Read, Write, Move, Stash, Refuse}
-use Rattle.engine.specs.OpPart.{whole_change, state_of, named, op_part}
+use Rattle.engine.specs.declared.engine.Op.TheVariants.{Read, Write, Move, Stash, Release, Enclose, Split, Publish, Rest}
+use Rattle.engine.specs.OpPart.{OpState, whole_change, call_part, whole_split, state_of, named, op_part, split_segment}
 
-each_named : IsNamed (either_part get_part whole_change) state_of named
-each_named (one op) = refl
+-- the machines of the call itself, or those of a split
+abbrev pub either_ops : Part OpState
+either_ops = either_part call_part whole_split
+
+pub each_named : IsNamed either_ops state_of named
+each_named (one (one op)) = refl
+each_named (one (other (first op))) = refl
+each_named (one (other (second (first op)))) = refl
+each_named (one (other (second (second (first op))))) = refl
+each_named (one (other (second (second (second op))))) = refl
 each_named (other (first op)) = refl
 each_named (other (second (first op))) = refl
 each_named (other (second (second (first op)))) = refl
 each_named (other (second (second (second op)))) = refl
+
+-- what is so of a state is so of the machine that has its name
+pub renamed_at : (P : OpState → Type 0) (m : OpState) → P m → P (state_of (named m))
+renamed_at P m holds = subst P (sym (each_named m)) holds
 
 -- an engine goes on by itself: it hands on nowhere
 pub never_hands_on : (op : Op) → op_part.hands_on op ≡ false
@@ -34,40 +45,41 @@ never_hands_on (Read op) = refl
 never_hands_on (Write op) = refl
 never_hands_on (Move op) = refl
 never_hands_on (Stash op) = refl
-never_hands_on (Refuse op) = refl
+never_hands_on (Release op) = refl
+never_hands_on (Enclose op) = refl
+never_hands_on (Split op) = refl
+never_hands_on (Publish op) = refl
+never_hands_on (Rest op) = refl
 
--- nor does it wait for what another has: no machine of a call does
-pub never_waits : (op : Op) → op_part.is_waiting op ≡ false
-never_waits (Read op) = refl
-never_waits (Write op) = refl
-never_waits (Move op) = refl
-never_waits (Stash op) = refl
-never_waits (Refuse op) = refl
+-- while no segment is split it does not wait for what another has
+pub never_waits : (op : Op) → split_segment op ≡ None → op_part.is_waiting op ≡ false
+never_waits (Read op) own = refl
+never_waits (Write op) own = refl
+never_waits (Move op) own = refl
+never_waits (Stash op) own = refl
+never_waits (Release op) own = refl
+never_waits (Enclose op) own = refl
+never_waits (Split op) own = refl
+never_waits (Publish op) own = absurd (none-some op.copied.whole.segment (sym own))
+never_waits (Rest op) own = refl
 
--- so each answer of the kind that was asked for leaves fewer events
-pub always_falls : IsPart op_part → (op : Op) (ans : Ans) → IsAnswer (op_part.wanted op) ans → op_part.left (op_part.taken op ans) < op_part.left op
-always_falls part op ans i = elim (part.time.falls op ans i) [
-  | inl low ↦ low
-  | inr wait ↦ absurd (let z : false ≡ true = sym (never_waits op) ∙ wait.0 in cc)
-]
+-- and the kind of each event is one of a caller's: no machine of the call itself does anything at the structure
+pub call_kind : (op : Op) (n : ℕ) → split_segment op ≡ None → (kind : Kind) × (op_part.kind op n ≡ of_call kind)
+call_kind (Read op) n own = (get_kind op, refl)
+call_kind (Write op) n own = (change_kind op n, refl)
+call_kind (Move op) n own = (move_kind op.kept op.step, refl)
+call_kind (Stash op) n own = (stash_kind op.kept op.stage.seen op.stage.step, refl)
+call_kind (Release op) n own = (release_kind op.kept op.step, refl)
+call_kind (Enclose op) n own = absurd (none-some op.enclosed.segment (sym own))
+call_kind (Split op) n own = absurd (none-some op.copied.whole.segment (sym own))
+call_kind (Publish op) n own = absurd (none-some op.copied.whole.segment (sym own))
+call_kind (Rest op) n own = absurd (none-some op.whole.segment (sym own))
 
--- the kind of each event is one of a caller's: no machine of a call does anything at the structure
-abbrev pub call_of : Op → ℕ → Kind
-call_of (Read op) n = get_kind op
-call_of (Write op) n = change_kind op n
-call_of (Move op) n = move_kind op.kept op.step
-call_of (Stash op) n = stash_kind op.kept op.stage.seen op.stage.step
-call_of (Refuse op) n = refusal_kind op.kept op.step
+pub call_is_part : IsPart get_part → IsPart whole_change → IsPart call_part
+call_is_part get change = either_is_part get_part whole_change get change
 
-pub kind_is : (op : Op) (n : ℕ) → op_part.kind op n ≡ of_call (call_of op n)
-kind_is (Read op) n = refl
-kind_is (Write op) n = refl
-kind_is (Move op) n = refl
-kind_is (Stash op) n = refl
-kind_is (Refuse op) n = refl
+pub call_ends_by_cause : EndsByCause get_part → EndsByCause whole_change → EndsByCause call_part
+call_ends_by_cause get change = either_ends_by_cause get_part whole_change get change
 
-pub op_is_part : IsPart get_part → IsPart whole_change → IsPart op_part
-op_is_part get change = renamed_is_part (either_part get_part whole_change) state_of named each_named (either_is_part get_part whole_change get change)
-
-pub op_ends_by_cause : EndsByCause get_part → EndsByCause whole_change → EndsByCause op_part
-op_ends_by_cause get change = renamed_ends_by_cause (either_part get_part whole_change) state_of named each_named (either_ends_by_cause get_part whole_change get change)
+pub op_is_part : IsPart call_part → IsPart whole_split → IsPart op_part
+op_is_part call split = renamed_is_part either_ops state_of named each_named (either_is_part call_part whole_split call split)

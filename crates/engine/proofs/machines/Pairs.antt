@@ -1,7 +1,9 @@
 -- Which events of an engine, and which turns of the core, leave the pairs.
-use Rattle.std.proofs.Common.{◌≡◌, ◌⊎◌, ℕ, zero, suc, inl, inr, ◌∷◌, slice_get, Option, None, Some, refl, sym, subst}
+use Rattle.std.proofs.Common.{◌≡◌, ◌⊎◌, ℕ, zero, suc, inl, inr, ◌∷◌, slice_get, Option, None, Some, refl, sym, ap, ◌∙◌, subst}
+use Rattle.op_core.specs.declared.want.Want.TheVariants.{Done}
 use Rattle.op_core.specs.declared.want.Want.{Want}
 use Rattle.trace.specs.Events.{Words}
+use Rattle.map_model.specs.declared.entry.Reply.TheVariants as reply
 use Rattle.bucket_words.specs.Hits.{find}
 use Rattle.world.specs.Ground.{Ground}
 use Rattle.world.specs.Views.{View, At}
@@ -9,15 +11,21 @@ use Rattle.world.specs.Wants.{words_after}
 use Rattle.world.specs.StepKinds.{StepKind}
 use Rattle.world.specs.StepLaws.{OtherStepsKeepPairs}
 use Rattle.world.specs.World.{fresh_view}
+use Rattle.part.specs.Outcomes.{reply_of}
 use Rattle.part.specs.Part.{IsPart}
 use Rattle.part.proofs.Turning.{publishing_or_not}
+use Rattle.write_op.specs.Ends.{EndsAsSaid as ChangeSays}
+use Rattle.move_op.specs.MovePart.{MoveEndsAsSaid as MoveSays}
+use Rattle.stash_op.specs.Ends.{EndsAsSaid as StashSays}
 use Rattle.engine.specs.declared.engine.Engine.{Engine}
-use Rattle.engine.specs.Engine.{kind_of}
+use Rattle.engine.specs.declared.engine.Op.{Op}
+use Rattle.engine.specs.declared.engine.Op.TheVariants.{Read, Write, Move, Stash, Release, Enclose, Split, Publish, Rest}
+use Rattle.engine.specs.Engine.{kind_of, end_of_op, reply_of_end}
 use Rattle.engine.specs.OpPart.{op_part}
 use Rattle.engine.specs.Fits.{finds}
 use Rattle.engine.specs.Core.{Caller, Core, current, turn_of_call, turn_of_caller, turn}
 use Rattle.engine.specs.Holding.{IsCalling, DoesCall, CallerFits, CoreHolds}
-use Rattle.engine.specs.Pairs.{LeavesOrMakes, MakesAt, TurnLeavesOrMakes}
+use Rattle.engine.specs.Pairs.{LeavesOrMakes, EndsAsDone, MakesAt, TurnLeavesOrMakes}
 use Rattle.engine.proofs.Places.{zip_at}
 
 pub leaves_or_makes : IsPart op_part → OtherStepsKeepPairs → LeavesOrMakes
@@ -29,6 +37,21 @@ leaves_or_makes part others site here call e words views j before v number h at 
       | inl change ↦ inr (w.makes change)
       | inr other ↦ inl (subst Same (sym w.wants) (others site words views j v k number h at w.may other))
     ]
+
+-- a change, a move and a stash alone make a change, and where they made it they tell so
+pub ends_as_done : IsPart op_part → ChangeSays → MoveSays → StashSays → EndsAsDone
+ends_as_done part change move stash e made done = by e.op made done
+  where
+    by : (op : Op) → op_part.HasMade op → op_part.wanted op ≡ Done → (place : ℕ) × (reply_of_end (end_of_op op) ≡ Some (reply.Done, place))
+    by (Read op) made done = absurd made
+    by (Write op) made done = let d = part.made.done (Write op) made done in (d.0, ap reply_of (sym (change op done)) ∙ ap reply_of d.1)
+    by (Move op) made done = let d = part.made.done (Move op) made done in (d.0, ap reply_of (sym (move op done)) ∙ ap reply_of d.1)
+    by (Stash op) made done = let d = part.made.done (Stash op) made done in (d.0, ap reply_of (sym (stash op done)) ∙ ap reply_of d.1)
+    by (Release op) made done = absurd made
+    by (Enclose op) made done = absurd made
+    by (Split op) made done = absurd made
+    by (Publish op) made done = absurd made
+    by (Rest op) made done = absurd made
 
 -- ---- the turns
 module _ (leaves : LeavesOrMakes) (site : Ground) (start : Words) (core : Core) (h : CoreHolds site start core) where

@@ -1,16 +1,17 @@
--- What the machines of a change owe each other where one goes on from another, so that they are one part, whose outcomes have their causes.
+-- What the machines of a call owe each other where one goes on from another, so that those of a change are one part, and those of a split
+-- another, whose outcomes have their causes.
 use Rattle.std.proofs.Common.{◌≡◌, Bool, true, false, None, refl}
 use Rattle.map_model.specs.declared.call.Call.{Call}
 use Rattle.world.specs.declared.site.Site.{Site}
-use Rattle.world.specs.Ground.{Ground}
+use Rattle.world.specs.Ground.{Ground, IsGround}
 use Rattle.world.specs.Views.{View}
 use Rattle.part.specs.Doings.{Doings}
 use Rattle.part.specs.Part.{IsPart}
 use Rattle.part.specs.Causes.{EndsByCause}
+use Rattle.part.specs.Splits.{EndsBySplitCause, segment_of_then}
 use Rattle.part.specs.Then.{first, Passes}
-use Rattle.part.specs.Limited.{limited_part}
 use Rattle.part.proofs.Thens.{then_is_part, then_ends_by_cause}
-use Rattle.part.proofs.Limiting.{limited_is_part, limited_ends_by_cause}
+use Rattle.part.proofs.Splitting.{then_ends_by_split_cause}
 use Rattle.write_op.specs.Steps.{kept_of}
 use Rattle.write_op.specs.ChangePart.{change_part, HandsOnAll as ChangeHands, HandsOnRemembering as ChangeTells}
 use Rattle.move_op.specs.MovePart.{move_part, MoveBeginsAsPart as MoveBegins, MoveBeginsRemembering as MoveRemembers, MoveBeginsUndecided as MoveUndecided, MoveHandsOnAll as MoveHands}
@@ -18,10 +19,17 @@ use Rattle.stash_op.specs.declared.op.StashOp.{StashOp}
 use Rattle.stash_op.specs.Steps.{kept_of as stash_kept}
 use Rattle.stash_op.specs.Fits.{StashStands}
 use Rattle.stash_op.specs.StashPart.{stash_part, BeginsAsPart as StashBegins, BeginsRemembering as StashRemembers, BeginsUndecided as StashUndecided, HandsOnAll as StashHands, HandsOnRemembering as StashTells}
-use Rattle.refuse_op.specs.RefusePart.{refuse_part, BeginsAsPart as RefusalBegins, BeginsRemembering as RefusalRemembers, BeginsUndecided as RefusalUndecided}
-use Rattle.engine.specs.OpPart.{IsGrownOut, move_of, stash_of, refusal_of, stash_or_refusal, entered, after_move, move_or_more, whole_change}
+use Rattle.release_op.specs.ReleasePart.{release_part, BeginsAsPart as ReleaseBegins, BeginsRemembering as ReleaseRemembers, BeginsUndecided as ReleaseUndecided}
+use Rattle.enclose_op.specs.EnclosePart.{enclose_part, segment_of as enclosed_segment, HandsOnWhole, HandsOnRemembered}
+use Rattle.split_op.specs.Sides.{side_words}
+use Rattle.split_op.specs.Steps.{split_of}
+use Rattle.split_op.specs.SplitPart.{split_part, segment_of as made_segment, BeginsAsPart as SplitBegins, CopiesSide, BeginsUndecided as SplitUndecided, BeginsRemembering as SplitRemembers, HandsOnCopied}
+use Rattle.directory_op.specs.DirectoryPart.{directory_part, segment_of as published_segment, BeginsAsPart as PublishBegins, BeginsUndecided as PublishUndecided, HandsOnSplit}
+use Rattle.rest_op.specs.RestPart.{rest_part, segment_of as rest_segment, BeginsAsPart as RestBegins, ReckonsRight, BeginsUndecided as RestUndecided}
+use Rattle.engine.specs.OpPart.{move_of, stash_of, release_of, stash_or_release, entered, after_move, move_or_more, whole_change, publish_of, rest_after, publish_and_rest, split_and_more, whole_split, split_segment_in}
 
--- what is used of the machines
+-- ---- a change
+-- what is used of its machines
 pub record ChangeLaws : Type 0 where
   pub change : IsPart change_part
   pub change_causes : EndsByCause change_part
@@ -40,54 +48,51 @@ pub record ChangeLaws : Type 0 where
   pub stash_undecided : StashUndecided
   pub stash_hands : StashHands
   pub stash_tells : StashTells
-  pub refusal : IsPart refuse_part
-  pub refusal_causes : EndsByCause refuse_part
-  pub refusal_begins : RefusalBegins
-  pub refusal_remembers : RefusalRemembers
-  pub refusal_undecided : RefusalUndecided
+  pub release : IsPart release_part
+  pub release_causes : EndsByCause release_part
+  pub release_begins : ReleaseBegins
+  pub release_remembers : ReleaseRemembers
+  pub release_undecided : ReleaseUndecided
 
 module _ (laws : ChangeLaws) where
-  stash_passes : Passes (limited_part stash_part IsGrownOut) refuse_part refusal_of
+  stash_passes : Passes stash_part release_part release_of
   stash_passes = record {
-    stands = λ site here call op v s h.
-        let k = laws.stash_hands site here call op v s.stands h in
-        laws.refusal_begins site here call (stash_kept op) v
-        (record { same = k.may.same; at = k.may.at; grown = s.passes }) k.full;
-    undecided = λ op h. laws.refusal_undecided (stash_kept op);
-    remembers = λ site op did h r. let k = laws.stash_tells site op did h r in laws.refusal_remembers site (stash_kept op) did k.room k.nothing;
+    stands = λ site here call op v ground s h.
+        let k = laws.stash_hands site here call op v s h in
+        laws.release_begins site here call (stash_kept op) v (record { same = k.may.same; at = k.may.at; key = k.may.key }) k.full;
+    undecided = λ op h. laws.release_undecided (stash_kept op);
+    remembers = λ site op did h r. let k = laws.stash_tells site op did h r in laws.release_remembers site (stash_kept op) did k.room k.nothing;
   }
 
-  stash_is_part : IsPart stash_or_refusal
-  stash_is_part = then_is_part (limited_part stash_part IsGrownOut) refuse_part refusal_of (limited_is_part stash_part IsGrownOut laws.stash)
-      (limited_ends_by_cause stash_part IsGrownOut laws.stash_causes) laws.refusal stash_passes
+  stash_is_part : IsPart stash_or_release
+  stash_is_part = then_is_part stash_part release_part release_of laws.stash laws.stash_causes.undecided laws.release stash_passes
 
-  stash_ends_by_cause : EndsByCause stash_or_refusal
-  stash_ends_by_cause = then_ends_by_cause (limited_part stash_part IsGrownOut) refuse_part refusal_of stash_passes
-      (limited_ends_by_cause stash_part IsGrownOut laws.stash_causes) laws.refusal_causes
+  stash_ends_by_cause : EndsByCause stash_or_release
+  stash_ends_by_cause = then_ends_by_cause stash_part release_part release_of stash_passes laws.stash_causes laws.release_causes
 
   -- where a move hands on, either of the two may be the one that goes on
-  entered_stands : (site : Ground) (here : Site) (call : Call) (op : StashOp) (v : View) → StashStands site here call op v → IsGrownOut site → (t : Bool) → stash_part.hands_on op ≡ t
-      → stash_or_refusal.Stands site here call (entered t op) v
-  entered_stands site here call op v s grown true h = stash_passes.stands site here call op v (record { stands = s; passes = grown }) h
-  entered_stands site here call op v s grown false h = record { stands = record { stands = s; passes = grown }; closed = h }
+  entered_stands : (site : Ground) (here : Site) (call : Call) (op : StashOp) (v : View) → IsGround site → StashStands site here call op v → (t : Bool) → stash_part.hands_on op ≡ t
+      → stash_or_release.Stands site here call (entered t op) v
+  entered_stands site here call op v ground s true h = stash_passes.stands site here call op v ground s h
+  entered_stands site here call op v ground s false h = record { stands = s; closed = h }
 
-  entered_undecided : (op : StashOp) → stash_part.outcome op ≡ None → (t : Bool) → stash_or_refusal.outcome (entered t op) ≡ None
-  entered_undecided op none true = laws.refusal_undecided (stash_kept op)
+  entered_undecided : (op : StashOp) → stash_part.outcome op ≡ None → (t : Bool) → stash_or_release.outcome (entered t op) ≡ None
+  entered_undecided op none true = laws.release_undecided (stash_kept op)
   entered_undecided op none false = none
 
   entered_remembers : (site : Ground) (op : StashOp) (did : Doings) → stash_part.Remembers site op did → (t : Bool) → stash_part.hands_on op ≡ t
-      → stash_or_refusal.Remembers site (entered t op) did
+      → stash_or_release.Remembers site (entered t op) did
   entered_remembers site op did r true h = stash_passes.remembers site op did h r
   entered_remembers site op did r false h = r
 
-  move_passes : Passes (limited_part move_part IsGrownOut) stash_or_refusal after_move
+  move_passes : Passes move_part stash_or_release after_move
   move_passes = record {
-    stands = λ site here call op v s h.
-        let k = laws.move_hands.keeps site here call op v s.stands h in
+    stands = λ site here call op v ground s h.
+        let k = laws.move_hands.keeps site here call op v s h in
         let may = k.0 in
-        entered_stands site here call (stash_of op) v
+        entered_stands site here call (stash_of op) v ground
         (laws.stash_begins site here call op.kept v
-        (record { same = may.same; at = may.at; key = may.key; value = may.value; buckets = may.buckets; thirds = k.2 }) k.1) s.passes (stash_part.hands_on (stash_of op)) refl;
+        (record { same = may.same; at = may.at; key = may.key; value = may.value; buckets = may.buckets; thirds = k.2 }) k.1) (stash_part.hands_on (stash_of op)) refl;
     undecided = λ op h. entered_undecided (stash_of op) (laws.stash_undecided op.kept) (stash_part.hands_on (stash_of op));
     remembers = λ site op did h r.
         let k = laws.move_hands.remembers site op did r h in
@@ -95,22 +100,17 @@ module _ (laws : ChangeLaws) where
   }
 
   move_is_part : IsPart move_or_more
-  move_is_part = then_is_part (limited_part move_part IsGrownOut) stash_or_refusal after_move (limited_is_part move_part IsGrownOut laws.move)
-      (limited_ends_by_cause move_part IsGrownOut laws.move_causes) stash_is_part move_passes
+  move_is_part = then_is_part move_part stash_or_release after_move laws.move laws.move_causes.undecided stash_is_part move_passes
 
   move_ends_by_cause : EndsByCause move_or_more
-  move_ends_by_cause = then_ends_by_cause (limited_part move_part IsGrownOut) stash_or_refusal after_move move_passes
-      (limited_ends_by_cause move_part IsGrownOut laws.move_causes) stash_ends_by_cause
+  move_ends_by_cause = then_ends_by_cause move_part stash_or_release after_move move_passes laws.move_causes stash_ends_by_cause
 
-  change_passes : Passes (limited_part change_part IsGrownOut) move_or_more (λ op. first (move_of op))
+  change_passes : Passes change_part move_or_more (λ op. first (move_of op))
   change_passes = record {
-    stands = λ site here call op v s h.
-        let k = laws.change_hands site here call op v s.stands h in
+    stands = λ site here call op v ground s h.
+        let k = laws.change_hands site here call op v s h in
         record {
-          stands = record {
-            stands = laws.move_begins site here call (kept_of op) v (record { same = k.same; at = k.at; key = k.key; value = k.value; buckets = k.buckets }) k.keeps k.thirds;
-            passes = s.passes;
-          };
+          stands = laws.move_begins site here call (kept_of op) v (record { same = k.same; at = k.at; key = k.key; value = k.value; buckets = k.buckets }) k.keeps k.thirds;
           closed = refl;
         };
     undecided = λ op h. laws.move_undecided (kept_of op);
@@ -118,9 +118,78 @@ module _ (laws : ChangeLaws) where
   }
 
   pub whole_is_part : IsPart whole_change
-  whole_is_part = then_is_part (limited_part change_part IsGrownOut) move_or_more (λ op. first (move_of op)) (limited_is_part change_part IsGrownOut laws.change)
-      (limited_ends_by_cause change_part IsGrownOut laws.change_causes) move_is_part change_passes
+  whole_is_part = then_is_part change_part move_or_more (λ op. first (move_of op)) laws.change laws.change_causes.undecided move_is_part change_passes
 
   pub whole_ends_by_cause : EndsByCause whole_change
-  whole_ends_by_cause = then_ends_by_cause (limited_part change_part IsGrownOut) move_or_more (λ op. first (move_of op)) change_passes
-      (limited_ends_by_cause change_part IsGrownOut laws.change_causes) move_ends_by_cause
+  whole_ends_by_cause = then_ends_by_cause change_part move_or_more (λ op. first (move_of op)) change_passes laws.change_causes move_ends_by_cause
+
+-- ---- a split
+-- what is used of its machines
+pub record SplitLaws : Type 0 where
+  pub enclose : IsPart enclose_part
+  pub enclose_causes : EndsBySplitCause enclose_part enclosed_segment
+  pub enclose_hands : HandsOnWhole
+  pub enclose_tells : HandsOnRemembered
+  pub split : IsPart split_part
+  pub split_causes : EndsBySplitCause split_part made_segment
+  pub split_begins : SplitBegins
+  pub split_copies : CopiesSide
+  pub split_undecided : SplitUndecided
+  pub split_remembers : SplitRemembers
+  pub split_hands : HandsOnCopied
+  pub publish : IsPart directory_part
+  pub publish_causes : EndsBySplitCause directory_part published_segment
+  pub publish_begins : PublishBegins
+  pub publish_undecided : PublishUndecided
+  pub publish_hands : HandsOnSplit
+  pub rest : IsPart rest_part
+  pub rest_causes : EndsBySplitCause rest_part rest_segment
+  pub rest_begins : RestBegins
+  pub rest_reckons : ReckonsRight
+  pub rest_undecided : RestUndecided
+
+module _ (laws : SplitLaws) where
+  publish_passes : Passes directory_part rest_part rest_after
+  publish_passes = record {
+    stands = λ site here call op v ground s h.
+        let k = laws.publish_hands site here call op v ground s h in
+        laws.rest_begins site here call (rest_after op) v k (laws.rest_reckons site here call op.copied.whole ground k.is k.whole) refl;
+    undecided = λ op h. laws.rest_undecided (rest_after op);
+    remembers = λ site op did h r. tt;
+  }
+
+  publish_is_part : IsPart publish_and_rest
+  publish_is_part = then_is_part directory_part rest_part rest_after laws.publish laws.publish_causes.undecided laws.rest publish_passes
+
+  publish_ends : EndsBySplitCause publish_and_rest (λ o. segment_of_then published_segment rest_segment o)
+  publish_ends = then_ends_by_split_cause directory_part rest_part rest_after published_segment rest_segment publish_passes (λ op h. refl) laws.publish_causes laws.rest_causes
+
+  split_passes : Passes split_part publish_and_rest (λ op. first (publish_of op))
+  split_passes = record {
+    stands = λ site here call op v ground s h. record { stands = laws.publish_begins site here call op.copied v (laws.split_hands site here call op v s h); closed = refl };
+    undecided = λ op h. laws.publish_undecided op.copied;
+    remembers = λ site op did h r. tt;
+  }
+
+  split_is_part : IsPart split_and_more
+  split_is_part = then_is_part split_part publish_and_rest (λ op. first (publish_of op)) laws.split laws.split_causes.undecided publish_is_part split_passes
+
+  enclose_passes : Passes enclose_part split_and_more (λ op. first (split_of op.enclosed))
+  enclose_passes = record {
+    stands = λ site here call op v ground s h.
+        let k = laws.enclose_hands site here call op v s h in
+        record { stands = laws.split_begins site here call op.enclosed (side_words op.enclosed) v k (laws.split_copies site here call op.enclosed ground k.is k.whole); closed = refl };
+    undecided = λ op h. laws.split_undecided op.enclosed (side_words op.enclosed);
+    remembers = λ site op did h r. laws.split_remembers site op.enclosed (side_words op.enclosed) did (laws.enclose_tells site op did h r);
+  }
+
+  pub split_whole_is_part : IsPart whole_split
+  split_whole_is_part = then_is_part enclose_part split_and_more (λ op. first (split_of op.enclosed)) laws.enclose laws.enclose_causes.undecided split_is_part enclose_passes
+
+  split_ends : EndsBySplitCause split_and_more (λ n. segment_of_then made_segment (λ o. segment_of_then published_segment rest_segment o) n)
+  split_ends = then_ends_by_split_cause split_part publish_and_rest (λ op. first (publish_of op)) made_segment (λ o. segment_of_then published_segment rest_segment o) split_passes (λ op h. refl)
+      laws.split_causes publish_ends
+
+  pub split_whole_ends : EndsBySplitCause whole_split split_segment_in
+  split_whole_ends = then_ends_by_split_cause enclose_part split_and_more (λ op. first (split_of op.enclosed)) enclosed_segment
+      (λ n. segment_of_then made_segment (λ o. segment_of_then published_segment rest_segment o) n) enclose_passes (λ op h. refl) laws.enclose_causes split_ends

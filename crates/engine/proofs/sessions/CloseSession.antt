@@ -2,25 +2,27 @@
 use Rattle.std.proofs.Common.{◌≡◌, ℕ, zero, suc, ◌+◌, ◌-◌, ◌^◌, ◌<◌, ◌≤◌, List, [], ◌∷◌, length, map, slice_get, slice_index, None, inl, inr, refl, sym, ap, ◌∙◌, subst, arith}
 use Rattle.std.specs.List.{AllByRecursion, AllZip}
 use Rattle.std.proofs.lemmas.Option.{none-some}
-use Rattle.trace.specs.Events.{Words, with_word}
+use Rattle.trace.specs.Events.{Words, value, with_word}
+use Rattle.trace.specs.Media.{IsPossible}
+use Rattle.trace.proofs.Media.{may_of_had, newest_may}
 use Rattle.trace.proofs.Replaced.{replaced_other}
+use Rattle.segment_head.specs.HeadWord.{state_in}
 use Rattle.bucket_meta.specs.Bucket.{version_of}
 use Rattle.map_model.specs.declared.call.Call.{Call}
 use Rattle.map_model.specs.Weave.{all_of}
-use Rattle.image_layout.specs.Places.{Shape, head_at, bucket_at, state_word}
+use Rattle.image_layout.specs.Places.{Shape, head_at, bucket_at, state_word, words_of}
 use Rattle.sound_image.specs.Segments.{frame_of}
 use Rattle.segment_table.proofs.stores.Moved.{live_same}
 use Rattle.session.specs.Callers.{FollowsScript, IsAnswered}
 use Rattle.session.specs.Session.{HasSpentBucket}
 use Rattle.world.specs.Ground.{Ground, HasSpentLock}
 use Rattle.world.specs.Views.{View}
-use Rattle.restart_op.specs.Restarted.{site_of, KeepsPairs, OneSegmentIsLive}
+use Rattle.restart_op.specs.Restarted.{site_of, KeepsPairs}
 use Rattle.restart_op.specs.Closing.{IsClosed, CloseKeeps, CloseSettles, CloseMarks}
-use Rattle.engine.specs.Core.{Caller, run, told_of, tolds_of, histories, open_of}
+use Rattle.engine.specs.Core.{Caller, Core, run, told_of, tolds_of, histories, open_of}
 use Rattle.engine.specs.Holding.{DoesCall, CallerFits, world_of, RunKeeps}
 use Rattle.engine.specs.Laws.{opened, OpenedHolds, TurnsKeep, CallsAreScripts, ThroughIsQuiet, ThroughHasMap}
 use Rattle.engine.specs.Sessions.{CloseIsSession}
-use Rattle.engine.proofs.Grown.{none_free}
 use Rattle.engine.proofs.sessions.CutSession.{same_shape, holds_at}
 
 -- ---- all calls are answered
@@ -69,8 +71,12 @@ module _ (shape : Shape) (words after : Words) (medium : List ℕ) (x : ℕ) (sh
         spent = ap version_of there;
       }
 
-pub close_is_session : TurnsKeep → CallsAreScripts → OpenedHolds → RunKeeps → ThroughIsQuiet → ThroughHasMap → KeepsPairs → OneSegmentIsLive → CloseKeeps → CloseSettles → CloseMarks → CloseIsSession
-close_is_session keep are opens keeps is_quiet has_map pairs is_live close_keeps settles marks shape words image opening has scripts fit turns none n ended medium whole possible scheduled =
+-- the newest words may be left
+newest_possible : (start : Words) (core : Core) → core.words ≡ value start core.trace → (width : ℕ) → IsPossible width start core.trace core.words
+newest_possible start core are width = subst (λ (ws : Words). IsPossible width start core.trace ws) (sym are) (λ i within. may_of_had start core.trace i (value start core.trace i) (newest_may start core.trace i))
+
+pub close_is_session : TurnsKeep → CallsAreScripts → OpenedHolds → RunKeeps → ThroughIsQuiet → ThroughHasMap → KeepsPairs → CloseKeeps → CloseSettles → CloseMarks → CloseIsSession
+close_is_session keep are opens keeps is_quiet has_map pairs close_keeps settles marks shape words image opening has scripts fit turns none n ended medium whole possible scheduled =
     let core = run shape turns (opened shape words scripts) in
     let site = site_of shape words (length scripts) in
     let good = keep shape words image opening has scripts fit turns in
@@ -88,15 +94,17 @@ close_is_session keep are opens keeps is_quiet has_map pairs is_live close_keeps
       opening_pairs = has;
       legal = good.legal;
       sound = kept.sound;
-      same_shape = same_shape shape words medium image.playable.sound.says_shape kept.sound.says_shape;
+      same_shape = same_shape shape words medium image.sound.says_shape kept.sound.says_shape;
       after_close = λ is. record {
         answered = subst (λ css. AllZip IsAnswered css (tolds_of core)) calls (all_answered site core.callers h.views h.each none);
         clean = shut.clean;
-        pairs = kept.pairs _ (has_map site (slice_index words) core opening h ((pairs shape words opening image.playable).0 has) none);
+        pairs = kept.pairs _ (has_map site (slice_index words) core opening h ((pairs shape words opening image).0 has) none);
       };
       after_cut = λ cut. absurd (let z = cut in cc);
       had_no_room = good.had_no_room;
-      none_free = λ e there full s low is_free. absurd (none_free is_live shape words image (holds_at _ (all_of (histories core)) e good.full there.0 there.1 there.2 full) s low is_free);
+      none_free = λ e there full s low was_free is_free.
+          holds_at _ (all_of (histories core)) e good.full there.0 there.1 there.2 full core.words (newest_possible (slice_index words) core h.well.words_are (words_of shape)) s low
+          (sym (ap state_in (header shape core.words _ medium _ shut marked s low)) ∙ is_free);
       spent = λ e there is few may. elim (holds_at _ (all_of (histories core)) e good.spent there.0 there.1 there.2 is) [
         | inl many ↦ absurd (omega (arith, many, few))
         | inr lock ↦ spent_bucket shape core.words _ medium _ shut marked lock

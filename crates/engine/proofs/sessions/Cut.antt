@@ -21,10 +21,12 @@ use Rattle.world.specs.History.{Log, map_now}
 use Rattle.world.specs.Parts.{total, History}
 use Rattle.world.specs.World.{fresh_view}
 use Rattle.world.specs.Laws.{EntriesAreLegal}
+use Rattle.world.specs.areas.Worlds.{IsWell, DeviceLeaves}
 use Rattle.world.proofs.basics.Entries.{count_more, seen_of_more}
 use Rattle.world.proofs.Legality.{turned}
 use Rattle.engine.specs.Core.{Caller, Core, open_of, told_of, histories}
-use Rattle.engine.specs.Holding.{FullAlone, HadSpent, all_own, FullHad, HasUntold, HasEntries, DoesCall, CallerFits}
+use Rattle.engine.specs.Good.{HasNoFreeSlot}
+use Rattle.engine.specs.Holding.{NoneIsFree, FullIsTaken, HadSpent, all_own, FullHad, HasUntold, HasEntries, DoesCall, CallerFits, world_of}
 
 one_fails : (p : Entry → Bool) (es : List Entry) (x : Entry) → p x ≡ false → filter p (es ++ x ∷ []) ≡ filter p es
 one_fails p es x fails = filter-append p es (x ∷ []) ∙ (ap (λ b. filter p es ++ cond b (x ∷ []) []) fails ∙ append-nil (filter p es))
@@ -192,18 +194,24 @@ told_spent site core views each had =
     (ap length (all_filter (λ (x : Entry). x.drew) (λ x q. q) views others fits))
     (had (suc w.0) c.0 e c.1 (cut_has c.0 w.1 c.2 e w.3) spent)))
 
-abbrev pub FullAll : Shape → List (List Entry) → Type 0
-FullAll shape lists = AllByRecursion (λ e. e.reply ≡ Full → shape.segments ≡ 1) (all_of lists)
+abbrev pub FullAll : Shape → Words → Core → List (List Entry) → Type 0
+FullAll shape start core lists = AllByRecursion (λ e. e.reply ≡ Full → HasNoFreeSlot shape start core) (all_of lists)
 
-pub told_full : (site : Ground) (core : Core) (views : List View) → AllZip (CallerFits site) core.callers views → FullAlone site.shape views → FullAll site.shape (histories core)
-told_full site core views each had =
+-- whatever the device may leave is what the views say
+none_free : DeviceLeaves → (site : Ground) (start : Words) (core : Core) (views : List View) → IsWell site start (world_of core views) → NoneIsFree site core.words (fresh_view 0 ∷ views)
+    → HasNoFreeSlot site.shape start core
+none_free leaves site start core views well none medium possible s slot = none s slot medium (leaves site start (world_of core views) medium well possible)
+
+pub told_full : DeviceLeaves → (site : Ground) (start : Words) (core : Core) (views : List View) → IsWell site start (world_of core views) → AllZip (CallerFits site) core.callers views
+    → FullIsTaken site core.words (fresh_view 0 ∷ views) → FullAll site.shape start core (histories core)
+told_full leaves site start core views well each taken =
     let others = all_cut core.callers views in
     let fits = cuts site core.callers views each in
-    subst (λ lists. FullAll site.shape lists) (own_of_cut site core.callers views each)
-    (All-from_each (λ e. e.reply ≡ Full → site.shape.segments ≡ 1) (all_own others) (λ e is_in full.
+    subst (FullAll site.shape start core) (own_of_cut site core.callers views each)
+    (All-from_each (λ e. e.reply ≡ Full → HasNoFreeSlot site.shape start core) (all_own others) (λ e is_in full.
     let w = whose others e is_in in
     let c = cut_at views others w.0 w.1 fits w.2 in
-    had w.0 c.0 e c.1 (cut_has c.0 w.1 c.2 e w.3) full))
+    none_free leaves site start core views well (taken (suc w.0) c.0 e c.1 (cut_has c.0 w.1 c.2 e w.3) full)))
 
 -- an empty list in front says nothing
 abbrev pub IsLegalWith : Map → Log → (ℕ → Option ℕ) → List (List Entry) → Type 0

@@ -8,11 +8,9 @@ use Rattle.image_layout.specs.Places.{Shape}
 use Rattle.sound_image.specs.Image.{SaysShape}
 use Rattle.sound_image.specs.Left.{IsLeft}
 use Rattle.session.specs.Callers.{FollowsScript, undrawn}
-use Rattle.restart_op.specs.Restarted.{OneSegmentIsLive}
 use Rattle.engine.specs.Core.{run, tolds_of, histories}
 use Rattle.engine.specs.Laws.{opened, TurnsKeep, CallsAreScripts}
 use Rattle.engine.specs.Sessions.{CutIsSession}
-use Rattle.engine.proofs.Grown.{none_free}
 
 -- two images that say the same shape begin alike
 pub same_shape : (shape : Shape) (old new : List ℕ) → SaysShape shape old → SaysShape shape new → (i : ℕ) → i < 4 → slice_index new i ≡ slice_index old i
@@ -28,8 +26,8 @@ holds_at P [] e all k low is = absurd (omega (arith, low))
 holds_at P (x ∷ es) e all zero low is = subst P is all.0
 holds_at P (x ∷ es) e all (suc k) low is = holds_at P es e all.1 k (omega (arith, low)) is
 
-pub cut_is_session : TurnsKeep → CallsAreScripts → OneSegmentIsLive → CutIsSession
-cut_is_session keep are live shape words image opening has scripts fit turns medium whole possible =
+pub cut_is_session : TurnsKeep → CallsAreScripts → CutIsSession
+cut_is_session keep are shape words image opening has scripts fit turns medium whole possible =
     let core = run shape turns (opened shape words scripts) in
     let good = keep shape words image opening has scripts fit turns in
     let calls = are shape words scripts turns in
@@ -42,11 +40,11 @@ cut_is_session keep are live shape words image opening has scripts fit turns med
       opening_pairs = has;
       legal = good.legal;
       sound = sound;
-      same_shape = same_shape shape words medium image.playable.sound.says_shape sound.says_shape;
+      same_shape = same_shape shape words medium image.sound.says_shape sound.says_shape;
       after_close = λ closed. absurd (let z = closed in cc);
       after_cut = λ _. subst (λ css. IsLeft shape (slice_index medium) (replay opening (weave (histories core))) (undrawn css (tolds_of core))) calls
           (good.media.left medium whole possible);
       had_no_room = good.had_no_room;
-      none_free = λ e there full s low is_free. absurd (none_free live shape words image (holds_at _ (all_of (histories core)) e good.full there.0 there.1 there.2 full) s low is_free);
+      none_free = λ e there full s low was_free. holds_at _ (all_of (histories core)) e good.full there.0 there.1 there.2 full (slice_index medium) possible s low;
       spent = λ e there is few cut. absurd (let z = cut refl in cc);
     }

@@ -154,7 +154,7 @@ module _ (part : IsPart op_part) (legal : EntriesAreLegal) (leaves : DeviceLeave
         segments = front_is 2 (omega arith) ∙ h.says.segments;
         depth = front_is 3 (omega arith) ∙ h.says.depth;
       };
-      follows = unmarked_rules site.shape word h.well.holds.site_is.shape frame table each_fits (ap marker_in (structure.fixed state_word (omega arith) (λ e. omega (arith, e))) ∙ h.served.structure.not_clean);
+      follows = unmarked_rules site.shape word h.well.holds.site_is.shape frame table each_fits (ap marker_in (structure.fixed state_word (omega arith) (λ e. omega (arith, e))) ∙ h.served.not_clean);
     }
 
     has_at : (k : ℕ) (a : Option ℕ) → find site.shape word k ≡ a → HasAt site.shape word k a
@@ -194,7 +194,7 @@ module _ (part : IsPart op_part) (legal : EntriesAreLegal) (leaves : DeviceLeave
     legal = told.0;
     media = record { sound = is_sound; left = left_at };
     had_no_room = told_had site core h.views h.each (full_had site core.words (fresh_view 0 ∷ h.views) h.well.holds) opening same;
-    full = told_full site core h.views h.each h.full;
+    full = told_full leaves site start core h.views h.well h.each h.full;
     spent = told_spent site core h.views h.each (spent_had site core.words (fresh_view 0 ∷ h.views) h.well.holds);
   }
 

@@ -1,7 +1,6 @@
 -- By the laws of a part.
 use Rattle.engine.proofs.machines.Begins.{begins_unmade}
-use Rattle.engine.proofs.machines.Engines.{ends_as_done}
-use Rattle.engine.proofs.machines.Pairs.{leaves_or_makes, turn_leaves_or_makes}
+use Rattle.engine.proofs.machines.Pairs.{leaves_or_makes, ends_as_done, turn_leaves_or_makes}
 use Rattle.engine.proofs.laws.refusals_leave_pairs.Goals as goal
 
 pub returns-clause-leaves : goal.returns-clause-leaves
@@ -14,7 +13,7 @@ pub returns-clause-stays : goal.returns-clause-stays
 returns-clause-stays c = λ e ans i made. c.calls_are_parts.ensures.part.made.stays e.op ans i made
 
 pub returns-clause-done : goal.returns-clause-done
-returns-clause-done c = ends_as_done c.calls_are_parts.ensures.part c.calls_are_parts.ensures.ends
+returns-clause-done c = ends_as_done c.calls_are_parts.ensures.part c.ends_tell.ensures c.ends_tell-2.ensures c.ends_tell-3.ensures
 
 pub returns-clause-turns : goal.returns-clause-turns
 returns-clause-turns c = turn_leaves_or_makes (leaves_or_makes c.calls_are_parts.ensures.part c.steps_leave.ensures.pairs)

@@ -1,14 +1,26 @@
 -- By the laws of an engine and of the world.
-use Rattle.engine.proofs.holding.Turning.{turn_keeps, run_keeps, calls_stay}
+use Rattle.engine.proofs.holding.Turning.{TurnLaws, turn_keeps, run_keeps, calls_stay}
 use Rattle.engine.proofs.turns.turn_keeps.Goals as goal
 
+laws : goal.After-stores_are_words → TurnLaws
+laws c = record {
+  part = c.calls_are_parts.ensures.part;
+  begins = c.fits_the_world.ensures.begins;
+  steps = c.fits_the_world.ensures.steps;
+  words = c.stores_are_words.ensures;
+  well = c.worlds_stay_well.ensures;
+  current = c.slots_stay.ensures.current;
+  media = c.slots_stay.ensures.media;
+  full = c.slots_stay.ensures.full;
+  power = c.steps_leave.ensures.power;
+  one_word = c.steps_do_events.ensures.one;
+}
+
 pub returns-clause-one : goal.returns-clause-one
-returns-clause-one c = turn_keeps c.calls_are_parts.ensures.part c.fits_the_world.ensures.begins c.fits_the_world.ensures.steps c.stores_are_words.ensures
-    c.worlds_stay_well.ensures c.calls_spare_the_structure.ensures c.steps_do_events.ensures.one
+returns-clause-one c = turn_keeps (laws c)
 
 pub returns-clause-all : goal.returns-clause-all
-returns-clause-all c = run_keeps (turn_keeps c.calls_are_parts.ensures.part c.fits_the_world.ensures.begins c.fits_the_world.ensures.steps c.stores_are_words.ensures
-    c.worlds_stay_well.ensures c.calls_spare_the_structure.ensures c.steps_do_events.ensures.one)
+returns-clause-all c = run_keeps (turn_keeps (laws c))
 
 pub returns-clause-calls : goal.returns-clause-calls
 returns-clause-calls c = calls_stay

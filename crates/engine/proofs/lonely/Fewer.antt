@@ -1,0 +1,218 @@
+-- EACH OWN TURN of a caller alone leaves fewer events of its call: of the same attempt, or of the next one of the call where the attempt ends without a
+-- reply.
+use Rattle.std.proofs.Common.{◌≡◌, ℕ, zero, suc, ◌+◌, ◌*◌, ◌<◌, ◌≤◌, Bool, true, false, Option, None, Some, List, ◌∷◌, slice_index, refl, sym, ◌∙◌, ap, subst, arith}
+use Rattle.std.specs.Prelude.{◌==◌, if◌then◌else◌}
+use Rattle.std.proofs.Math.Nat.{mul-le-mul_right, add-mul}
+use Rattle.std.proofs.lemmas.Option.{none-some, same_Some}
+use Rattle.op_core.specs.declared.want.Want.TheVariants as want
+use Rattle.trace.specs.Events.{Words}
+use Rattle.segment_head.specs.HeadWord.{state_in, free}
+use Rattle.image_layout.specs.Places.{Shape}
+use Rattle.map_model.specs.declared.call.Call.{Call}
+use Rattle.map_model.specs.declared.change.Change.{Change}
+use Rattle.map_model.specs.Map.{key_of}
+use Rattle.map_model.specs.Changes.{change_of}
+use Rattle.world.specs.declared.site.Site.{Site}
+use Rattle.world.specs.Ground.{Ground}
+use Rattle.world.specs.Wants.{words_after}
+use Rattle.world.specs.World.{fresh_view}
+use Rattle.world.specs.areas.Areas.{header_word}
+use Rattle.world.specs.Slots.{SlotsStayTaken, NewSlotsWereFree, OthersHaveNoAreas}
+use Rattle.part.specs.Outcomes.{Outcome, need_split, finished, reply_of}
+use Rattle.part.specs.Part.{next_view}
+use Rattle.release_op.specs.Split.{LeavesThere}
+use Rattle.engine.specs.declared.engine.Op.{Op}
+use Rattle.engine.specs.declared.engine.Op.TheVariants.{Enclose, Split, Publish, Rest}
+use Rattle.engine.specs.declared.engine.Engine.{Engine}
+use Rattle.engine.specs.Engine.{op_by, wanted, end_of, outcome_of_end, reply_of_end, anew_by, anew}
+use Rattle.engine.specs.OpPart.{op_part}
+use Rattle.engine.specs.Core.{Caller, current}
+use Rattle.engine.specs.Holding.{CoreHolds, TurnKeeps}
+use Rattle.engine.specs.Laws.{IsServedImage, OpenedHolds, AreScripts}
+use Rattle.engine.specs.Causes.{Watched, engine_next, watched_turn, BeginsBare}
+use Rattle.engine.specs.Left.{left_alone, most_alone, free_below, free_slots, stage, attempts_left, events_left}
+use Rattle.engine.specs.Alone.{IsTold, told_reply, told_again, told_to_split, told_finished, IsReply, IsAlone, StandsCramped, IsNext, LeavesFewer, EventsAreFew, AloneLeavesFewer, AloneNeverAgain, EndsAreTold, EndsTell}
+use Rattle.engine.proofs.attempts.Seats.{IsSeated, seat_stands, site_there, there, holds_there, seat_there}
+use Rattle.engine.proofs.lonely.Others.{others_bare}
+use Rattle.engine.proofs.lonely.Lonely.{turn_is}
+use Rattle.engine.proofs.lonely.Slots.{seat_falls, seat_takes}
+use Rattle.engine.proofs.lonely.Staying.{CrampLaws, next_cramped}
+use Rattle.engine.proofs.lonely.Stages.{StageLaws, few_left, no_further, by_a_slot, comes, falls, works}
+
+-- ---- numbers
+less_by_left : (a b m x y : ℕ) → a ≤ b → x < y → a * m + x < b * m + y
+less_by_left a b m x y low less = let more = mul-le-mul_right m low in omega (arith, more, less)
+
+less_by_attempts : (a b m x y : ℕ) → a + 1 ≤ b → x < m → a * m + x < b * m + y
+less_by_attempts a b m x y low less =
+    let more = mul-le-mul_right m low in
+    let whole : (a + 1) * m ≡ a * m + 1 * m = add-mul a 1 m in
+    omega (arith, more, whole, less)
+
+few_below : (shape : Shape) (words : Words) (n : ℕ) → free_below shape words n ≤ n
+few_below shape words zero = omega arith
+few_below shape words (suc n) =
+    let rest = few_below shape words n in
+    let one = at_most (state_in (words (header_word shape n)) == free) in
+    omega (arith, rest, one)
+  where
+    at_most : (t : Bool) → (if t then 1 else 0) ≤ 1
+    at_most true = omega arith
+    at_most false = omega arith
+
+side_most : (t : Bool) → (if t then 2 else 0) ≤ 2
+side_most true = omega arith
+side_most false = omega arith
+
+stage_most : (op : Op) → stage op ≤ 2
+stage_most (Split op) = side_most _
+stage_most (Enclose op) = omega arith
+stage_most (Publish op) = omega arith
+stage_most (Rest op) = omega arith
+stage_most op = omega arith
+
+-- NO ENGINE has more events left than a call has
+pub events_are_few : StageLaws → EventsAreFew
+events_are_few laws shape words e =
+    let slots = few_below shape words shape.segments in
+    let stages = stage_most e.op in
+    let low = few_left laws e.op in
+    let less = less_by_attempts (attempts_left shape words e) (2 * shape.segments + 3) (most_alone + 1) (left_alone e) 0 (omega (arith, slots, stages)) (omega (arith, low)) in
+    omega (arith, less)
+
+-- ---- the next attempt of a call
+begun_stage : (here : Site) (key : ℕ) (change : Option Change) → stage (op_by here key change) ≡ 1
+begun_stage here key (Some change) = refl
+begun_stage here key None = refl
+
+-- that which splits a segment, for a change
+split_anew : (here : Site) (call : Call) (change : Change) (o : Option Change) (segment : ℕ) → o ≡ Some change → stage (anew_by here call o (Some (need_split segment))).op ≡ 0
+split_anew here call change None segment is = absurd (none-some change is)
+split_anew here call change (Some given) segment is = refl
+
+-- that of the call, begun anew
+call_anew : (here : Site) (call : Call) (o : Option Change) → stage (anew_by here call o (Some finished)).op ≡ 1
+call_anew here call None = begun_stage here (key_of call) (change_of call)
+call_anew here call (Some change) = begun_stage here (key_of call) (change_of call)
+
+-- what is used beside
+pub record FewerLaws : Type 0 where
+  pub cramp : CrampLaws
+  pub stages : StageLaws
+  pub leaves : LeavesThere
+  pub slots : SlotsStayTaken
+  pub new : NewSlotsWereFree
+  pub bare : BeginsBare
+  pub never : AloneNeverAgain
+  pub told : EndsAreTold
+  pub tell : EndsTell
+
+-- ---- after any turns, an own turn
+module _ (laws : FewerLaws) (opens : OpenedHolds) (keeps : TurnKeeps) (shape : Shape) (words : List ℕ) (image : IsServedImage shape words)
+    (scripts : List (List Call)) (are : AreScripts scripts) (turns : List ℕ) (j : ℕ) (e : Engine) (alone : IsAlone shape j (there opens keeps shape words image scripts are turns))
+    (stands : StandsCramped shape j (there opens keeps shape words image scripts are turns)) (n : IsNext (there opens keeps shape words image scripts are turns) j e) where
+  abbrev site : Ground
+  site = site_there opens keeps shape words image scripts are turns
+
+  abbrev w : Watched
+  w = there opens keeps shape words image scripts are turns
+
+  abbrev h : CoreHolds site (slice_index words) w.core
+  h = holds_there opens keeps shape words image scripts are turns
+
+  abbrev here : Site
+  here = n.caller.site
+
+  abbrev seated : IsSeated site w.core.words (fresh_view 0 ∷ h.views) (suc j) here n.call e (w.doings j)
+  seated = seat_there opens keeps shape words image scripts are turns laws.cramp.causes j n.caller n.call e n.there n.calls n.runs
+
+  abbrev later : Words
+  later = words_after shape (wanted e) (suc j) w.core.words
+
+  abbrev next : Engine
+  next = engine_next shape w.core.words e
+
+  -- its turn leaves these words
+  later_is : (watched_turn shape (suc j) w).core.words ≡ later
+  later_is = ap (λ (x : Watched). x.core.words) (turn_is shape w j e n)
+
+  none_else : OthersHaveNoAreas (suc j) (fresh_view 0 ∷ h.views)
+  none_else i u apart seat = (others_bare laws.bare site (slice_index words) w.core h j alone.others i u apart seat).areas
+
+  slots_fall : free_slots shape later ≤ free_slots shape w.core.words
+  slots_fall = seat_falls laws.cramp.causes laws.slots site w.core.words (fresh_view 0 ∷ h.views) h.well.holds h.current (suc j) here n.call e (w.doings j) seated
+
+  attempts_fall : attempts_left shape later next ≤ attempts_left shape w.core.words e
+  attempts_fall =
+      elim (comes laws.stages site here n.call w.core.words (fresh_view 0 ∷ h.views) (suc j) seated.before seated.view h.well.holds seated.at none_else e.op seated.suits seated.asks) [
+        | no_further low ↦ (let slots = slots_fall in omega (arith, low, slots))
+        | by_a_slot slot low ↦
+            let slots = seat_takes laws.cramp.causes laws.slots site w.core.words (fresh_view 0 ∷ h.views) h.well.holds h.current (suc j) here n.call e (w.doings j) seated laws.new
+            slot.0 slot.1 slot.2 slot.3 in
+            omega (arith, low, slots)
+      ]
+
+  left_falls : left_alone next < left_alone e
+  left_falls = falls laws.stages site here n.call w.core.words (fresh_view 0 ∷ h.views) (suc j) seated.before seated.view h.well.holds seated.at none_else e.op seated.suits seated.asks
+
+  goes_on : events_left shape later next < events_left shape w.core.words e
+  goes_on = less_by_left (attempts_left shape later next) (attempts_left shape w.core.words e) (most_alone + 1) (left_alone next) (left_alone e) attempts_fall left_falls
+
+  -- ---- the next attempt
+  abbrev fresh : Engine
+  fresh = anew here n.call (end_of next)
+
+  fewer_attempts : attempts_left shape later fresh + 1 ≤ attempts_left shape w.core.words e → events_left shape later fresh < events_left shape w.core.words e
+  fewer_attempts low =
+      less_by_attempts (attempts_left shape later fresh) (attempts_left shape w.core.words e) (most_alone + 1) (left_alone fresh) (left_alone e) low
+      (let few = few_left laws.stages fresh.op in omega (arith, few))
+
+  stage_of : (outcome : Outcome) → outcome_of_end (end_of next) ≡ Some outcome → stage fresh.op ≡ stage (anew_by here n.call (change_of n.call) (Some outcome)).op
+  stage_of outcome is = ap (λ (o : Option Outcome). stage (anew_by here n.call (change_of n.call) o).op) is
+
+  splits_anew : (segment : ℕ) → op_part.outcome next.op ≡ Some (need_split segment) → outcome_of_end (end_of next) ≡ Some (need_split segment)
+      → attempts_left shape later fresh + 1 ≤ attempts_left shape w.core.words e
+  splits_anew segment told is =
+      let release = laws.cramp.alone segment next.op told in
+      let view = next_view op_part site w.core.words e.op seated.view in
+      let stood = seat_stands laws.cramp.causes.part site w.core.words (fresh_view 0 ∷ h.views) h.well.holds (suc j) here n.call e (w.doings j) seated in
+      let left = laws.leaves site here n.call release.0 view (subst (λ op. op_part.Stands site here n.call op view) release.1 stood) segment
+      (subst (λ op. op_part.outcome op ≡ Some (need_split segment)) release.1 told) in
+      let after = stage_of (need_split segment) is ∙ split_anew here n.call release.0.kept.change (change_of n.call) segment left.change in
+      let now = ap stage release.1 in
+      let fall = attempts_fall in
+      omega (arith, after, now, fall)
+
+  works_anew : op_part.outcome next.op ≡ Some finished → outcome_of_end (end_of next) ≡ Some finished → attempts_left shape later fresh + 1 ≤ attempts_left shape w.core.words e
+  works_anew told is =
+      let cramped = next_cramped laws.cramp opens keeps shape words image scripts are turns j stands n.caller n.there n.call e n.calls n.runs in
+      let now = works laws.stages site here n.call w.core.words (fresh_view 0 ∷ h.views) (suc j) seated.before seated.view h.well.holds seated.at none_else later e.op cramped told in
+      let after = stage_of finished is ∙ call_anew here n.call (change_of n.call) in
+      let slots = slots_fall in
+      omega (arith, now, after, slots)
+
+  by_outcome : (outcome : Outcome) → op_part.outcome next.op ≡ Some outcome → outcome_of_end (end_of next) ≡ Some outcome → reply_of_end (end_of next) ≡ None → IsTold (Some outcome)
+      → attempts_left shape later fresh + 1 ≤ attempts_left shape w.core.words e
+  by_outcome outcome told is none (told_reply reply) = absurd (subst IsReply (sym (ap reply_of is) ∙ none) reply)
+  by_outcome outcome told is none (told_again why same) = absurd (laws.never shape words image scripts are turns j e alone n why (told ∙ same))
+  by_outcome outcome told is none (told_to_split segment same) = splits_anew segment (told ∙ same) (is ∙ same)
+  by_outcome outcome told is none (told_finished same) = works_anew (told ∙ same) (is ∙ same)
+
+  begins_anew : wanted next ≡ want.Done → reply_of_end (end_of next) ≡ None → events_left shape later fresh < events_left shape w.core.words e
+  begins_anew done none =
+      let end = laws.tell shape words image scripts are turns j e n done in
+      fewer_attempts (by_outcome end.0 end.1 end.2 none (laws.told shape words image scripts are turns j e n end.0 end.1))
+
+  fewer : LeavesFewer shape w j e
+  fewer = record {
+    goes_on = λ more. subst (λ (ws : Words). events_left shape ws next < events_left shape w.core.words e) (sym later_is) goes_on;
+    anew = λ c call at calls done none.
+        let caller : n.caller ≡ c = same_Some n.caller c (sym n.there ∙ at) in
+        let same : n.call ≡ call = same_Some n.call call (sym n.calls ∙ (ap current caller ∙ calls)) in
+        subst (λ x. events_left shape (watched_turn shape (suc j) w).core.words (anew c.site x (end_of next)) < events_left shape w.core.words e) same
+        (subst (λ (d : Caller). events_left shape (watched_turn shape (suc j) w).core.words (anew d.site n.call (end_of next)) < events_left shape w.core.words e) caller
+        (subst (λ (ws : Words). events_left shape ws fresh < events_left shape w.core.words e) (sym later_is) (begins_anew done none)));
+  }
+
+pub alone_leaves_fewer : FewerLaws → OpenedHolds → TurnKeeps → AloneLeavesFewer
+alone_leaves_fewer laws opens keeps shape words image scripts are turns j e alone stands n = fewer laws opens keeps shape words image scripts are turns j e alone stands n

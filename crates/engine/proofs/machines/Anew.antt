@@ -1,0 +1,45 @@
+-- AT AN END the view suits the next attempt of the call: that which splits the segment that is to be split, or the call begun anew.
+use Rattle.std.proofs.Common.{◌≡◌, ◌≢◌, ◌<◌, ℕ, Option, None, Some, [], refl, sym, subst}
+use Rattle.map_model.specs.declared.call.Call.{Call}
+use Rattle.map_model.specs.declared.change.Change.{Change}
+use Rattle.map_model.specs.Changes.{change_of}
+use Rattle.map_model.specs.Legal.{IsInsert}
+use Rattle.world.specs.declared.site.Site.{Site}
+use Rattle.world.specs.Ground.{Ground, IsGround, version_of}
+use Rattle.world.specs.Views.{View}
+use Rattle.world.specs.Attempts.{HoldsOnly}
+use Rattle.part.specs.Outcomes.{Outcome, need_split}
+use Rattle.release_op.specs.Split.{LeavesThere}
+use Rattle.enclose_op.specs.EnclosePart.{BeginsAsPart as EncloseBegins, BeginsRemembering as EncloseRemembers}
+use Rattle.engine.specs.declared.engine.Op.{Op}
+use Rattle.engine.specs.Engine.{begun, splitting, anew_by}
+use Rattle.engine.specs.OpPart.{op_part}
+use Rattle.engine.specs.Fits.{HasNumber, IsWordCall, Suits, BeginsSuited}
+use Rattle.engine.proofs.machines.Begins.{split_suits}
+use Rattle.engine.proofs.machines.Ends.{ReleasesTellAlone}
+
+-- where no segment is to be split, the call begins anew
+anew_begins : (here : Site) (call : Call) (change : Option Change) (outcome : Option Outcome) → ((segment : ℕ) → outcome ≢ Some (need_split segment)) → anew_by here call change outcome ≡ begun here call
+anew_begins here call None outcome other = refl
+anew_begins here call (Some change) (Some (need_split segment)) other = absurd (other segment refl)
+anew_begins here call (Some change) outcome other = refl
+
+-- what is used of the machines
+pub record AnewLaws : Type 0 where
+  pub begins : BeginsSuited
+  pub alone : ReleasesTellAlone
+  pub leaves : LeavesThere
+  pub enclose_begins : EncloseBegins
+  pub enclose_remembers : EncloseRemembers
+
+pub anew_suits : AnewLaws → (site : Ground) (here : Site) (call : Call) (v : View) → IsGround site → here.geometry ≡ site.shape → here.version ≡ version_of site → HasNumber here → IsWordCall call
+    → HoldsOnly [] v → 0 < v.callers → (op : Op) → op_part.Stands site here call op v → (outcome : Option Outcome) → op_part.outcome op ≡ outcome
+    → Suits site here call (anew_by here call (change_of call) outcome) v v
+anew_suits laws site here call v good shape version number small bare callers op s (Some (need_split segment)) is =
+    let told = laws.alone segment op is in
+    let left = laws.leaves site here call told.0 v (subst (λ x. op_part.Stands site here call x v) told.1 s) segment (subst (λ x. op_part.outcome x ≡ Some (need_split segment)) told.1 is) in
+    let change : Change = told.0.kept.change in
+    let split = split_suits laws.enclose_begins laws.enclose_remembers site here change segment v shape version number (subst IsInsert (sym left.same) left.insert) left.key bare left.there callers in
+    subst (λ c. Suits site here call (anew_by here call c (Some (need_split segment))) v v) (sym left.change) (subst (λ c. Suits site here c (splitting here change segment) v v) left.same split)
+anew_suits laws site here call v good shape version number small bare callers op s outcome is =
+    subst (λ e. Suits site here call e v v) (sym (anew_begins here call (change_of call) outcome (λ segment told. cc))) (laws.begins site here call v good shape version small bare callers)

@@ -1,0 +1,3 @@
+-- How short a split is.
+pub mod Images
+pub mod Falling
