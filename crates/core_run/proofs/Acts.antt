@@ -1,11 +1,11 @@
 -- A run is one act after another, and each act keeps a state of the run.
 use Rattle.std.proofs.Common.{inl, inr, slice_get, ◌≡◌, ℕ, zero, suc, ◌+◌, Bool, true, false, Option, Some, None, List, [], ◌∷◌, ◌++◌, length, take, drop, refl, sym, ◌∙◌, ap, subst, arith}
-use Rattle.std.specs.Prelude.{if◌then◌else◌}
+use Rattle.std.specs.Prelude.{nat_lt, if◌then◌else◌}
 use Rattle.std.specs.List.{AllByRecursion, AllZip}
 use Rattle.std.proofs.lemmas.List.{append_assoc, take-append-drop}
 use Rattle.std.proofs.Math.Seq.{take-append_seam, take-append-add}
 use Rattle.std.proofs.lemmas.Option.{none-some}
-use Rattle.image_layout.specs.Places.{Shape}
+use Rattle.image_layout.specs.Places.{Shape, words_of}
 use Rattle.map_model.specs.declared.call.Call.{Call}
 use Rattle.script_text.specs.declared.line.Counted.TheVariants as counted
 use Rattle.script_text.specs.declared.line.Line.{Line}
@@ -248,7 +248,10 @@ module _ (restarted_stays : RestartedStays) (line_stays : LineStays) (rounds_end
   line_comes (line.Fuse c n) s run = comes_at_once t.shape s
   line_comes (line.Step c n) s run = driven_comes t.shape (most_of t) c AnyEvent n s
   line_comes (line.Until c e n) s run = driven_comes t.shape (most_of t) c (Kind e) n s
-  line_comes (line.At c word) s run = driven_comes t.shape (most_of t) c (StoreTo word) 1 s
+  line_comes (line.At c word) s run =
+      let ready : State = ready_for t.shape (most_of t) c s in
+      either (ComesBy t.shape s) (nat_lt word (words_of t.shape)) (drive t.shape (most_of t) c (StoreTo word) 1 ready) (drive t.shape (most_of t) c AnyEvent (most_of t) ready)
+      (driven_comes t.shape (most_of t) c (StoreTo word) 1 s) (driven_comes t.shape (most_of t) c AnyEvent (most_of t) s)
   line_comes line.Close s run = run_out_comes s run
   line_comes (line.Cut choice) s run = comes_at_once t.shape s
 

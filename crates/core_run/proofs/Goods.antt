@@ -4,6 +4,7 @@ use Rattle.std.specs.List.{AllByRecursion}
 use Rattle.trace.specs.Media.{IsPossible}
 use Rattle.map_model.specs.declared.call.Call.{Call}
 use Rattle.map_model.specs.declared.entry.Entry.{Entry}
+use Rattle.map_model.specs.declared.entry.Reply.TheVariants.{Full}
 use Rattle.map_model.specs.Map.{Map}
 use Rattle.map_model.specs.Weave.{all_of, draws, weave_below, weave}
 use Rattle.map_model.specs.Legal.{InOrder, IsPlace, AreReplies, IsLegal, replay}
@@ -16,17 +17,17 @@ use Rattle.restart_op.specs.declared.close.CloseOp.{CloseOp}
 use Rattle.restart_op.specs.Restarted.{restarted, RestartKeeps, KeepsPairs}
 use Rattle.restart_op.specs.Closing.{close_after, AllAreQuiet, IsKept, CloseKeeps, ChangesStateAlone}
 use Rattle.engine.specs.Core.{Core, told_of, tolds_of, histories}
-use Rattle.engine.specs.Good.{IsGood}
+use Rattle.engine.specs.Good.{HasNoFreeSlot, IsGood}
 use Rattle.engine.specs.Holding.{world_of, HoldingIsGood}
 use Rattle.engine.specs.Laws.{NoneRuns, ThroughIsQuiet, ThroughHasMap}
 use Rattle.core_run.specs.declared.keeper.Keeper.{Keeper}
 use Rattle.core_run.specs.declared.keeper.Keeper.TheVariants.{Restarting, Open, Closing, Closed}
 use Rattle.core_run.specs.State.{State, waiting_from}
 use Rattle.core_run.specs.Running.{Setup, IsSetup, site_in, start_of, IsOpen, IsRestarting, IsClosing, IsRunningBy}
-use Rattle.core_run.specs.States.{entries_of, HadNoRooms, WereAlone, WereSpent, IsGoodMoment, MomentsAreGood}
+use Rattle.core_run.specs.States.{entries_of, HadNoRooms, WereSpent, IsGoodMoment, MomentsAreGood}
 use Rattle.core_run.proofs.events.Opened.{same_core as same_restart}
 use Rattle.core_run.proofs.events.Closes.{same_core as same_close}
-use Rattle.core_run.proofs.events.Locks.{were_spent}
+use Rattle.core_run.proofs.events.Locks.{were_spent, were_taken}
 
 -- ---- nothing is told
 abbrev waiting_histories : Shape → ℕ → List (List Call) → List (List Entry)
@@ -73,7 +74,7 @@ module _ (quiet : ThroughIsQuiet) (maps : ThroughHasMap) (pairs : KeepsPairs) (c
   pub pairs_at : (medium : List ℕ) → IsKept (site_in t) before.words medium → HasPairsOf t.shape (slice_index medium) (replay opening (weave (histories before)))
   pairs_at medium kept =
       kept.pairs (replay opening (weave (histories before)))
-      (maps (site_in t) (start_of t) before opening o.holds ((pairs t.shape t.first opening is.served.playable).0 has) none)
+      (maps (site_in t) (start_of t) before opening o.holds ((pairs t.shape t.first opening is.served).0 has) none)
 
 -- ---- at any time
 module _ (good : HoldingIsGood) (quiet : ThroughIsQuiet) (maps : ThroughHasMap) (restarts : RestartKeeps) (pairs : KeepsPairs) (cuts : CloseKeeps)
@@ -86,22 +87,24 @@ module _ (good : HoldingIsGood) (quiet : ThroughIsQuiet) (maps : ThroughHasMap) 
   restarting_good op core r =
       let none = none_in_all t.shape 1 t.scripts in
       let lists = waiting_histories t.shape 1 t.scripts in
+      let so_far = restarted t.shape t.first r.events in
+      let now : Core = record { words = so_far.words; trace = so_far.trace; callers = waiting_from t.shape 1 t.scripts } in
       subst IsGoodCore (sym (same_restart t op core r)) (record {
         legal = none_legal lists none opening (none_in_order t.shape 1 t.scripts);
         media = λ medium whole possible.
-            let same = restarts t.shape t.first medium r.events is.served.playable whole possible in
+            let same = restarts t.shape t.first medium r.events is.served whole possible in
             record {
               sound = same.sound;
               same_shape = same.front;
               left = λ k. inl (subst (λ (es : List Entry). HasPairsOf t.shape (slice_index medium) (replay opening es)) (sym (none_woven lists none)) (same.pairs opening has) k);
             };
         had_no_room = subst (λ (es : List Entry). HadNoRooms t.shape opening es) (sym none) tt;
-        full = subst (λ (es : List Entry). WereAlone t.shape es) (sym none) tt;
-        spent = subst (λ (es : List Entry). WereSpent t.shape (restarted t.shape t.first r.events).words es) (sym none) tt;
+        full = subst (λ (es : List Entry). AllByRecursion (λ (e : Entry). e.reply ≡ Full → HasNoFreeSlot t.shape (start_of t) now) es) (sym none) tt;
+        spent = subst (λ (es : List Entry). WereSpent t.shape so_far.words es) (sym none) tt;
       })
 
   open_is_good : (core : Core) → IsOpen t core → IsGood t.shape (start_of t) opening core
-  open_is_good core o = good (site_in t) (start_of t) core opening o.holds ((pairs t.shape t.first opening is.served.playable).0 has)
+  open_is_good core o = good (site_in t) (start_of t) core opening o.holds ((pairs t.shape t.first opening is.served).0 has)
 
   open_good : (core : Core) → IsOpen t core → IsGoodCore core
   open_good core o =
@@ -112,7 +115,7 @@ module _ (good : HoldingIsGood) (quiet : ThroughIsQuiet) (maps : ThroughHasMap) 
             let sound = g.media.sound medium whole possible in
             record {
               sound = sound;
-              same_shape = same_shape t.shape medium t.first sound is.served.playable.sound;
+              same_shape = same_shape t.shape medium t.first sound is.served.sound;
               left = subst (λ (scripts : List (List Call)). IsLeft t.shape (slice_index medium) (replay opening (weave (histories core))) (undrawn scripts (tolds_of core))) o.scripts
                   (g.media.left medium whole possible);
             };
@@ -122,19 +125,22 @@ module _ (good : HoldingIsGood) (quiet : ThroughIsQuiet) (maps : ThroughHasMap) 
       }
 
   closing_good : (op : CloseOp) (core : Core) → IsClosing t op core → IsGoodCore core
-  closing_good op core r = subst IsGoodCore (sym (same_close t op core r)) (record {
-    legal = (open_is_good r.before r.was_open).legal;
-    had_no_room = (open_is_good r.before r.was_open).had_no_room;
-    full = (open_is_good r.before r.was_open).full;
-    spent = were_spent others t.shape r.before.words r.before.trace r.events (entries_of r.before) (open_is_good r.before r.was_open).spent;
-    media = λ medium whole possible.
-        let kept = kept_at quiet maps pairs cuts t is opening has r.before r.was_open r.run_out r.events medium whole possible in
-        record {
-          sound = kept.sound;
-          same_shape = same_shape t.shape medium t.first kept.sound is.served.playable.sound;
-          left = λ k. inl (pairs_at quiet maps pairs cuts t is opening has r.before r.was_open r.run_out medium kept k);
-        };
-  })
+  closing_good op core r =
+      let so_far = close_after t.shape r.before.words r.before.trace r.events in
+      let now : Core = record { words = so_far.words; trace = so_far.trace; callers = r.before.callers } in
+      subst IsGoodCore (sym (same_close t op core r)) (record {
+        legal = (open_is_good r.before r.was_open).legal;
+        had_no_room = (open_is_good r.before r.was_open).had_no_room;
+        full = were_taken t.shape (start_of t) r.before r.events now refl (entries_of r.before) (open_is_good r.before r.was_open).full;
+        spent = were_spent others t.shape r.before.words r.before.trace r.events (entries_of r.before) (open_is_good r.before r.was_open).spent;
+        media = λ medium whole possible.
+            let kept = kept_at quiet maps pairs cuts t is opening has r.before r.was_open r.run_out r.events medium whole possible in
+            record {
+              sound = kept.sound;
+              same_shape = same_shape t.shape medium t.first kept.sound is.served.sound;
+              left = λ k. inl (pairs_at quiet maps pairs cuts t is opening has r.before r.was_open r.run_out medium kept k);
+            };
+      })
 
   good_core : (keeper : Keeper) (core : Core) → IsRunningBy t keeper core → IsGoodCore core
   good_core (Restarting op) core r = restarting_good op core r

@@ -1,8 +1,9 @@
 -- A run of one caller's script is a session.
-use Rattle.std.proofs.Common.{◌≡◌, ℕ, zero, suc, ◌+◌, ◌*◌, ◌^◌, ◌<◌, ◌≤◌, ◌⊎◌, true, List, [], ◌∷◌, Option, None, Some, refl, sym, ap, ◌∙◌, subst, inl, inr, arith}
+use Rattle.std.proofs.Common.{◌≡◌, ℕ, zero, suc, ◌+◌, ◌*◌, ◌^◌, ◌<◌, ◌≤◌, ◌⊎◌, true, List, [], ◌∷◌, length, Option, None, Some, refl, sym, ap, ◌∙◌, subst, inl, inr, arith}
 use Rattle.std.specs.Prelude.{Contains, not, is_some, slice_index}
 use Rattle.std.specs.List.{AllByRecursion}
-use Rattle.image_layout.specs.Places.{head_at, bucket_at, buckets}
+use Rattle.trace.specs.Media.{IsPossible}
+use Rattle.image_layout.specs.Places.{head_at, bucket_at, buckets, words_of}
 use Rattle.bucket_meta.specs.Bucket.{version_of}
 use Rattle.map_model.specs.declared.entry.Entry.{Entry}
 use Rattle.map_model.specs.declared.entry.Reply.TheVariants.{Full, Spent}
@@ -16,11 +17,12 @@ use Rattle.session.specs.Transcript.{transcript_of}
 use Rattle.session.specs.Session.{IsSession, IsClosed, HasSpentBucket}
 use Rattle.world.specs.Ground.{HasSpentLock}
 use Rattle.engine.specs.Core.{tolds_of, histories}
+use Rattle.engine.specs.Good.{HasNoFreeSlot}
 use Rattle.core_run.specs.declared.keeper.Keeper.TheVariants.{Closed}
 use Rattle.core_run.specs.State.{State}
 use Rattle.core_run.specs.Run.{cut_of, medium_words}
 use Rattle.core_run.specs.Running.{Setup, IsSetup, start_of, IsRunning}
-use Rattle.core_run.specs.States.{entries_of, IsGoodMoment, IsGoodMedium, MomentsAreGood, IsClosedWell, ClosedIsClosed, ToldsFollow, NoSlotIsFree}
+use Rattle.core_run.specs.States.{entries_of, IsGoodMoment, IsGoodMedium, MomentsAreGood, IsClosedWell, ClosedIsClosed, ToldsFollow}
 use Rattle.core_run.specs.Ends.{RunsAreWell}
 use Rattle.core_run.specs.Opening.{opening_of}
 use Rattle.core_run.specs.Sessions.{end_state, RunsAreSessions}
@@ -35,7 +37,7 @@ holds_of P [] x all (k, lt, is) = absurd (omega arith)
 holds_of P (y ∷ ys) x all (zero, lt, is) = subst P is all.0
 holds_of P (y ∷ ys) x all (suc k, lt, is) = holds_of P ys x all.1 (k, omega arith, is)
 
-module _ (moments : MomentsAreGood) (closed : ClosedIsClosed) (follow : ToldsFollow) (no_free : NoSlotIsFree) (t : Setup) (is : IsSetup t) (opening : Map)
+module _ (moments : MomentsAreGood) (closed : ClosedIsClosed) (follow : ToldsFollow) (t : Setup) (is : IsSetup t) (opening : Map)
     (has : HasPairsOf t.shape (start_of t) opening) (s : State) (p : IsRunning t s) where
   -- the words that are left
   abbrev left_by : Option ℕ → List ℕ
@@ -50,10 +52,16 @@ module _ (moments : MomentsAreGood) (closed : ClosedIsClosed) (follow : ToldsFol
   is_closed : s.keeper ≡ Closed → IsClosedWell t opening s.core
   is_closed q = closed t s opening is p q has
 
+  left_length : (cut : Option ℕ) → length (left_by cut) ≡ words_of t.shape
+  left_length None = newest_length t.shape s.core.words
+  left_length (Some choice) = cut_length t.shape (start_of t) s.core newest choice
+
+  left_possible : (cut : Option ℕ) → (cut ≡ None → s.keeper ≡ Closed) → IsPossible (words_of t.shape) (start_of t) s.core.trace (slice_index (left_by cut))
+  left_possible None at_none = (is_closed (at_none refl)).possible
+  left_possible (Some choice) at_none = cut_is_possible t.shape (start_of t) s.core newest choice
+
   good_medium : (cut : Option ℕ) → (cut ≡ None → s.keeper ≡ Closed) → IsGoodMedium t opening s.core (left_by cut)
-  good_medium None at_none = good.media (left_by None) (newest_length t.shape s.core.words) (is_closed (at_none refl)).possible
-  good_medium (Some choice) at_none =
-      good.media (left_by (Some choice)) (cut_length t.shape (start_of t) s.core newest choice) (cut_is_possible t.shape (start_of t) s.core newest choice)
+  good_medium cut at_none = good.media (left_by cut) (left_length cut) (left_possible cut at_none)
 
   after_close : (cut : Option ℕ) → (cut ≡ None → s.keeper ≡ Closed) → not (is_some cut) ≡ true
       → IsClosed t.shape (left_by cut) t.scripts (tolds_of s.core) (replay opening (weave (histories s.core)))
@@ -102,13 +110,14 @@ module _ (moments : MomentsAreGood) (closed : ClosedIsClosed) (follow : ToldsFol
         after_cut = λ _. medium.left;
         had_no_room = good.had_no_room;
         none_free = λ e among full slot within is_free.
-            absurd (no_free t slot is (holds_of (λ (x : Entry). x.reply ≡ Full → t.shape.segments ≡ 1) (entries_of s.core) e good.full among full) within is_free);
+            holds_of (λ (x : Entry). x.reply ≡ Full → HasNoFreeSlot t.shape (start_of t) s.core) (entries_of s.core) e good.full among full
+            (slice_index (left_by cut)) (left_possible cut at_none) slot within;
         spent = spent cut at_none;
       }
 
 -- A RUN IS A SESSION
-pub runs_are_sessions : RunsAreWell → MomentsAreGood → ClosedIsClosed → ToldsFollow → NoSlotIsFree → RunsAreSessions
-runs_are_sessions ends moments closed follow no_free t lines is single =
+pub runs_are_sessions : RunsAreWell → MomentsAreGood → ClosedIsClosed → ToldsFollow → RunsAreSessions
+runs_are_sessions ends moments closed follow t lines is single =
     let run = ends t lines (record { setup = is; one = single }) in
-    is_session moments closed follow no_free t is (opening_of t.shape (start_of t)) (opening-HasPairsOf t.shape t.first is.served.playable) (end_state t lines)
+    is_session moments closed follow t is (opening_of t.shape (start_of t)) (opening-HasPairsOf t.shape t.first is.served) (end_state t lines)
     run.is_run.running (cut_of lines) run.is_closed

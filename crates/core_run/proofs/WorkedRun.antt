@@ -1,12 +1,17 @@
 -- Each row of the worked run, by computing the definitions on it.
-use Rattle.std.proofs.Common.{◌≡◌, refl}
-use Rattle.std.specs.Prelude.{[], ◌∷◌}
+use Rattle.std.proofs.Common.{◌≡◌, ℕ, zero, suc, ◌≤◌, true, false, [], ◌∷◌, refl, ◌∙◌, ap, arith}
+use Rattle.std.specs.Prelude.{if◌then◌else◌}
+use Rattle.image_layout.specs.Places.{Shape}
 use Rattle.script_text.specs.declared.line.Counted.TheVariants.{Store, Exchange, Flush, Fence, Draw, End}
 use Rattle.script_text.specs.declared.line.Line.TheVariants.{Step, Until, At, Close, Cut}
 use Rattle.phase.specs.declared.role.Role.TheVariants.{Home, Probing}
 use Rattle.write_op.specs.declared.step.WriteStep.TheVariants.{Count}
 use Rattle.bucket_meta.specs.Search.{slot_with, slot_free}
-use Rattle.core_run.specs.WorkedRun.{StopsInRestart, StopsOnTheWay, StopsInChange, ClosesAfter, at_first, at_end, after_line, standing, loading, before_change}
+use Rattle.engine.specs.Core.{Core}
+use Rattle.core_run.specs.declared.keeper.Keeper.TheVariants.{Open}
+use Rattle.core_run.specs.State.{State}
+use Rattle.core_run.specs.Run.{most_events, has_calls, round, rounds, line_done}
+use Rattle.core_run.specs.WorkedRun.{small, one_insert, StopsInRestart, StopsOnTheWay, StopsInChange, ClosesAfter, at_first, at_end, after_line, standing, loading, before_change}
 
 pub step_0_1 : StopsInRestart (Step 0 1, 1)
 step_0_1 = refl
@@ -99,8 +104,26 @@ pub counted : after_line (Step 1 1) (standing 73 Count) ≡ before_change
 unfolding slot_with slot_free lib.Count.ones
 counted = refl
 
+-- the end rule is not computed to so many rounds: the second of them leaves no call
+module _ (shape : Shape) (most : ℕ) where
+  second_rests : (n : ℕ) (s u : State) → 2 ≤ n → has_calls shape most s.core.callers ≡ true → round shape most 1 s.core.callers s ≡ u → has_calls shape most u.core.callers ≡ false
+      → rounds shape most n s ≡ u
+  second_rests zero s u few some is none = absurd (omega (arith, few))
+  second_rests (suc zero) s u few some is none = absurd (omega (arith, few))
+  second_rests (suc (suc n)) s u few some is none =
+      ap (λ b. if b then rounds shape most (suc n) (round shape most 1 s.core.callers s) else s) some
+      ∙ ap (λ (x : State). rounds shape most (suc n) x) is
+      ∙ ap (λ b. if b then rounds shape most n (round shape most 1 u.core.callers u) else u) none
+
+  closed_by_one : (core : Core) (u : State) → 2 ≤ most → has_calls shape most core.callers ≡ true → round shape most 1 core.callers (record { keeper = Open; core = core }) ≡ u
+      → has_calls shape most u.core.callers ≡ false → (line_done shape most Close (record { keeper = Open; core = core })).core.trace ≡ u.core.trace
+  closed_by_one core u few some is none = ap (λ (x : State). x.core.trace) (second_rests most (record { keeper = Open; core = core }) u few some is none)
+
 pub closing : ClosesAfter 85 (after_line Close before_change)
-closing = record { begun = refl; run_out = refl }
+closing = record {
+  begun = refl;
+  run_out = closed_by_one small (most_events small one_insert) before_change.core (after_line (Until 1 End 1) before_change) (omega arith) refl refl refl ∙ then_until_1_end_1;
+}
 
 pub at_cut : after_line (Cut 2) before_change ≡ before_change
 at_cut = refl

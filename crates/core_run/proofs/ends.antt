@@ -4,6 +4,4 @@ pub mod Staying
 pub mod Working
 pub mod Measures
 pub mod Driving
-pub mod Rounds
-pub mod Measure
 pub mod Lines

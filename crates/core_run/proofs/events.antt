@@ -7,4 +7,3 @@ pub mod Closes
 pub mod Deeds
 pub mod Newest
 pub mod Locks
-pub mod FirstSlot

@@ -1,10 +1,8 @@
--- One caller alone: nobody else steps, so what its attempt saw of the memory is still so, and each of its calls ends.
+-- One caller alone: nobody else steps, so what its attempt saw of the memory is still so, and it splits no segment but one without room.
 use Rattle.std.specs.Prelude.{◌≡◌, ℕ, ◌+◌, ◌-◌, ◌≤◌, ⊤, false, Some, List, [], ◌∷◌, length}
 use Rattle.restart_op.specs.Closing.{left as close_left, events_of}
-use Rattle.engine.specs.declared.engine.End.{End}
-use Rattle.engine.specs.Engine.{outcome_of_end}
 use Rattle.engine.specs.Core.{Caller, Core}
-use Rattle.engine.specs.Alone.{EndsCall, along, IsAlone as IsAloneIn}
+use Rattle.engine.specs.Alone.{along, IsAlone as IsAloneIn, StandsCramped}
 use Rattle.core_run.specs.declared.keeper.Keeper.{Keeper}
 use Rattle.core_run.specs.declared.keeper.Keeper.TheVariants.{Restarting, Open, Closing, Closed}
 use Rattle.core_run.specs.State.{State, Deed, deed, beginning}
@@ -13,11 +11,12 @@ use Rattle.core_run.specs.Running.{Setup, IsSetup, start_of, IsRunning}
 
 -- ---- the state
 -- these turns led to the core from the image's opening on, and the caller at place j is alone after them: all others stand between
--- two attempts, and what its attempt loaded is still so, or it changed that itself
+-- two attempts, what its attempt loaded is still so, or it changed that itself, and a segment that it is to split or encloses has no room
 pub record StandsAlone (t : Setup) (core : Core) (j : ℕ) : Type 0 where
   pub turns : List ℕ
   pub core_is : core ≡ (along t.shape t.first t.scripts turns).core
   pub alone : IsAloneIn t.shape j (along t.shape t.first t.scripts turns)
+  pub cramped : StandsCramped t.shape j (along t.shape t.first t.scripts turns)
 
 abbrev pub IsAloneBy : Setup → Keeper → Core → Type 0
 IsAloneBy t (Restarting op) core = ⊤
@@ -51,11 +50,6 @@ BeginsAlone = (t : Setup) → IsForOne t → IsAlone t (beginning t.shape (start
 abbrev pub AloneStays : Type 0
 AloneStays = (t : Setup) (c : ℕ) (s : State) (d : Deed) → IsForOne t → IsRunning t s → IsAlone t s → deed t.shape c s ≡ Some d → IsAlone t d.state
 
--- and an attempt that ends has its reply
-abbrev pub AloneReplies : Type 0
-AloneReplies = (t : Setup) (c : ℕ) (s : State) (d : Deed) (end : End) → IsForOne t → IsRunning t s → IsAlone t s → deed t.shape c s ≡ Some d → d.end ≡ Some end
-    → EndsCall (outcome_of_end end)
-
--- so none is to be made again
+-- and none of its attempts ends in Again
 abbrev pub NeverAgain : Type 0
 NeverAgain = (t : Setup) (c : ℕ) (s : State) (d : Deed) → IsForOne t → IsRunning t s → IsAlone t s → deed t.shape c s ≡ Some d → ends_in_again d.end ≡ false

@@ -2,8 +2,6 @@ pub mod State
 pub mod Run
 pub mod Running
 pub mod Alone
-pub mod Rounds
-pub mod Measure
 pub mod States
 pub mod Ends
 pub mod Opening

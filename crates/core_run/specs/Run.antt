@@ -1,5 +1,5 @@
 -- A run of a script: its schedule line by line, the end rule, and what is left.
-use Rattle.std.specs.Prelude.{ℕ, zero, suc, ◌+◌, ◌*◌, ◌==◌, Bool, true, false, Option, None, Some, List, [], ◌∷◌, length, map, if◌then◌else◌}
+use Rattle.std.specs.Prelude.{ℕ, zero, suc, ◌+◌, ◌*◌, ◌==◌, nat_lt, Bool, true, false, Option, None, Some, List, [], ◌∷◌, length, map, if◌then◌else◌}
 use Rattle.std.specs.List.{range_with_len}
 use Rattle.op_core.specs.declared.want.Want.{Want}
 use Rattle.op_core.specs.declared.want.Want.TheVariants as want
@@ -17,7 +17,7 @@ use Rattle.restart_op.specs.Close.{begun as close_begun}
 use Rattle.engine.specs.declared.engine.End.{End}
 use Rattle.engine.specs.Engine.{reply_of_end, is_again}
 use Rattle.engine.specs.Core.{Caller, current, Core}
-use Rattle.engine.specs.Left.{most_events as most_of_attempt}
+use Rattle.engine.specs.Left.{events_of_call}
 use Rattle.pm_trace.specs.Choice.{chosen}
 use Rattle.core_run.specs.declared.keeper.Keeper.{Keeper}
 use Rattle.core_run.specs.declared.keeper.Keeper.TheVariants.{Restarting, Open, Closing}
@@ -130,13 +130,17 @@ module _ (shape : Shape) where
     ready_for zero s = s
     ready_for (suc j) s = restarted s
 
+    -- a caller goes on to its next store to this word of the image; behind the image there is no such word, and it goes on till it stops
+    abbrev pub stored_at : ℕ → ℕ → State → State
+    stored_at c word s = if nat_lt word (words_of shape) then drive most c (StoreTo word) 1 s else drive most c AnyEvent most s
+
     -- ONE LINE
     abbrev pub line_done : Line → State → State
     line_done (line.Call c call) s = s
     line_done (line.Fuse c n) s = s
     line_done (line.Step c n) s = drive most c AnyEvent n (ready_for c s)
     line_done (line.Until c e n) s = drive most c (Kind e) n (ready_for c s)
-    line_done (line.At c word) s = drive most c (StoreTo word) 1 (ready_for c s)
+    line_done (line.At c word) s = stored_at c word (ready_for c s)
     line_done line.Close s = run_out s
     line_done (line.Cut choice) s = s
 
@@ -159,12 +163,9 @@ abbrev pub all_calls : List (List Call) → ℕ
 all_calls [] = 0
 all_calls (calls ∷ scripts) = length calls + all_calls scripts
 
--- for each call the events of an attempt, and one; for the close as many, and two for each word
-abbrev pub events_of_call : ℕ
-events_of_call = most_of_attempt + 1
-
+-- for each call as many as its caller may make alone, whatever is split for it; and for the close as many, and two for each word
 abbrev pub most_with : Shape → ℕ → ℕ
-most_with shape calls = 2 * words_of shape + events_of_call * (calls + 1)
+most_with shape calls = 2 * words_of shape + events_of_call shape * (calls + 1)
 
 abbrev pub most_events : Shape → List (List Call) → ℕ
 most_events shape scripts = most_with shape (all_calls scripts)

@@ -1,9 +1,8 @@
 -- The laws of the states of a run: it begins, each event keeps it, and at any moment it is good.
-use Rattle.std.specs.Prelude.{◌≡◌, ◌≢◌, ℕ, ◌^◌, ◌<◌, ◌≤◌, ◌⊎◌, List, length, map, slice_index}
+use Rattle.std.specs.Prelude.{◌≡◌, ℕ, ◌^◌, ◌<◌, ◌≤◌, ◌⊎◌, List, length, map, slice_index}
 use Rattle.std.specs.List.{range_with_len, AllByRecursion, AllZip}
 use Rattle.trace.specs.Events.{Words}
 use Rattle.trace.specs.Media.{IsPossible}
-use Rattle.segment_head.specs.HeadWord.{free}
 use Rattle.map_model.specs.declared.entry.Reply.TheVariants.{Full, Spent}
 use Rattle.map_model.specs.declared.entry.Entry.{Entry}
 use Rattle.map_model.specs.Map.{Map}
@@ -12,13 +11,14 @@ use Rattle.map_model.specs.ByPlaces.{map_at}
 use Rattle.map_model.specs.Legal.{IsLegal, replay}
 use Rattle.image_layout.specs.Places.{Shape, words_of}
 use Rattle.sound_image.specs.Image.{IsSoundImage}
-use Rattle.sound_image.specs.Segments.{frame_of, state_at, IsClean}
+use Rattle.sound_image.specs.Segments.{frame_of, IsClean}
 use Rattle.sound_image.specs.Left.{HasPairsOf, IsLeft}
 use Rattle.session.specs.Callers.{FollowsScript, IsAnswered, undrawn}
 use Rattle.session.specs.Session.{HadNoRoom}
 use Rattle.restart_op.specs.Close.{begun as close_begun}
 use Rattle.world.specs.Ground.{HasSpentLock}
 use Rattle.engine.specs.Core.{Core, tolds_of, histories}
+use Rattle.engine.specs.Good.{HasNoFreeSlot}
 use Rattle.engine.specs.Laws.{NoneRuns}
 use Rattle.core_run.specs.declared.keeper.Keeper.TheVariants.{Closing, Closed}
 use Rattle.core_run.specs.State.{State, beginning}
@@ -48,9 +48,9 @@ entries_of core = all_of (histories core)
 abbrev pub HadNoRooms : Shape → Map → List Entry → Type 0
 HadNoRooms shape opening entries = AllByRecursion (λ e. HadNoRoom shape (map_at opening entries e.place) e) entries
 
--- where a call was told that the table is full, there is one slot alone
-abbrev pub WereAlone : Shape → List Entry → Type 0
-WereAlone shape entries = AllByRecursion (λ e. e.reply ≡ Full → shape.segments ≡ 1) entries
+-- where a call was told that the table is full, no slot is free in whatever a power cut may leave
+abbrev pub WereTaken : Setup → Core → Type 0
+WereTaken t core = AllByRecursion (λ e. e.reply ≡ Full → HasNoFreeSlot t.shape (start_of t) core) (entries_of core)
 
 -- where a call was refused for want of a number, 2 ^ 63 changes are drawn, or some lock word of a live segment has the last version
 abbrev pub WereSpent : Shape → Words → List Entry → Type 0
@@ -63,7 +63,7 @@ pub record IsGoodMoment (t : Setup) (opening : Map) (s : State) : Type 0 where
   pub media : (medium : List ℕ) → length medium ≡ words_of t.shape → IsPossible (words_of t.shape) (start_of t) s.core.trace (slice_index medium)
       → IsGoodMedium t opening s.core medium
   pub had_no_room : HadNoRooms t.shape opening (entries_of s.core)
-  pub full : WereAlone t.shape (entries_of s.core)
+  pub full : WereTaken t s.core
   pub spent : WereSpent t.shape s.core.words (entries_of s.core)
 
 abbrev pub MomentsAreGood : Type 0
@@ -89,7 +89,3 @@ ClosedIsClosed = (t : Setup) (s : State) (opening : Map) → IsSetup t → IsRun
 -- what callers were told follows their scripts
 abbrev pub ToldsFollow : Type 0
 ToldsFollow = (t : Setup) (s : State) → IsSetup t → IsRunning t s → AllZip FollowsScript t.scripts (tolds_of s.core)
-
--- no slot of an image that is run is free, where it has one slot alone
-abbrev pub NoSlotIsFree : Type 0
-NoSlotIsFree = (t : Setup) (s : ℕ) → IsSetup t → t.shape.segments ≡ 1 → s < t.shape.segments → state_at (frame_of t.shape (start_of t)) s ≢ free

@@ -1,21 +1,21 @@
 //! The laws of one caller alone. The functions do nothing: each stands for the law that its contract says.
 
-ghost use Rattle.core_run.specs.Alone.{BeginsAlone, AloneStays, AloneReplies, NeverAgain};
+ghost use Rattle.core_run.specs.Alone.{BeginsAlone, AloneStays, NeverAgain};
 ghost use Rattle.core_run.specs.Ends.{DriveStays, RestartedStays, RoundStays, RoundsStay, ReadyStays, RunOutStays, LineStays, LinesStay, ClosedStays};
 ghost use Rattle.core_run.specs.Ends.{RestartEnds, RestartOpens, CallEnds, RoundsEnd, RoundsAreEnough, RunOutEnds, ClosedEnds, DrivesAreEnough, RunsAreWell};
 ghost use Rattle.core_run.specs.Wells.{LinesAreWell};
 
 use crate::states;
 
-/// One caller alone: what it saw of the memory stays so, from the beginning on, and each of its attempts ends with a reply.
+/// One caller alone: what it saw of the memory stays so, from the beginning on, it splits no segment but one without room, and none of
+/// its attempts ends in Again.
 pub fn alone_stays()
     ensures begins { BeginsAlone }
     ensures stays { AloneStays }
-    ensures replies { AloneReplies }
     ensures never_again { NeverAgain }
 {
     engine::never_again_alone();
-    engine::attempts_end();
+    engine::calls_end_alone();
     restart_op::close_ends();
 }
 
@@ -32,7 +32,7 @@ pub fn runs_stay_well()
     ensures closed { ClosedStays }
 {
     engine::never_again_alone();
-    engine::attempts_end();
+    engine::calls_end_alone();
     restart_op::restart_ends();
     restart_op::close_ends();
     states::deeds_are_well();
@@ -40,8 +40,8 @@ pub fn runs_stay_well()
     alone_stays();
 }
 
-/// In a run of one script the restart ends, each call ends in its turn, all calls run out in no more turns than there are
-/// events at most, the close begins, and it ends.
+/// In a run of one script the restart ends, each call ends in its turn, however many attempts it takes, all calls run out in no more
+/// turns than there are events at most, the close begins, and it ends.
 pub fn calls_run_out()
     ensures restart { RestartEnds }
     ensures opens { RestartOpens }
@@ -52,7 +52,7 @@ pub fn calls_run_out()
     ensures closed { ClosedEnds }
 {
     engine::never_again_alone();
-    engine::attempts_end();
+    engine::calls_end_alone();
     restart_op::restart_ends();
     restart_op::close_ends();
     states::deeds_are_well();
@@ -65,7 +65,7 @@ pub fn drives_are_enough()
     ensures { DrivesAreEnough }
 {
     engine::never_again_alone();
-    engine::attempts_end();
+    engine::calls_end_alone();
     restart_op::restart_ends();
     restart_op::close_ends();
     states::deeds_are_well();
@@ -78,7 +78,7 @@ pub fn runs_are_well()
     ensures { RunsAreWell }
 {
     engine::never_again_alone();
-    engine::attempts_end();
+    engine::calls_end_alone();
     restart_op::restart_ends();
     restart_op::close_ends();
     states::run_begins();

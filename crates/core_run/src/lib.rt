@@ -8,7 +8,6 @@
 
 mod alone;
 pub mod deed;
-pub mod ending;
 pub mod goal;
 pub mod keeper;
 pub mod moments;
@@ -20,13 +19,11 @@ pub use alone::{
     alone_stays, calls_run_out, drives_are_enough, lines_are_well, runs_are_well, runs_stay_well,
 };
 pub use deed::Deed;
-pub use ending::rounds_run_out;
 pub use goal::Goal;
 pub use keeper::Keeper;
 pub use moments::every_moment_is_good;
 pub use sessions::runs_are_sessions;
 pub use states::{
-    close_may_begin, closed_is_closed, deeds_are_well, moments_are_good, no_slot_is_free,
-    run_begins, tolds_follow,
+    close_may_begin, closed_is_closed, deeds_are_well, moments_are_good, run_begins, tolds_follow,
 };
 pub use worked_run::lines_stop;

@@ -13,6 +13,5 @@ pub fn runs_are_sessions()
     states::moments_are_good();
     states::closed_is_closed();
     states::tolds_follow();
-    states::no_slot_is_free();
     alone::runs_are_well();
 }

@@ -1,7 +1,7 @@
 //! The laws of the states of a run. The functions do nothing: each stands for the law that its contract says.
 
 ghost use Rattle.core_run.specs.Running.{DeedsAreWell};
-ghost use Rattle.core_run.specs.States.{RunBegins, CloseMayBegin, MomentsAreGood, ClosedIsClosed, ToldsFollow, NoSlotIsFree};
+ghost use Rattle.core_run.specs.States.{RunBegins, CloseMayBegin, MomentsAreGood, ClosedIsClosed, ToldsFollow};
 
 /// Each event of a state of a run is one that a memory may be asked for, and leaves a state of the run.
 pub fn deeds_are_well()
@@ -25,8 +25,8 @@ pub fn close_may_begin()
 {}
 
 /// At any moment the replies so far are one legal history, and whatever a power cut may leave is a sound image of the same shape
-/// with that history's map, each open call whole or absent; and each refusal had its cause, full buckets or a number that
-/// is spent.
+/// with that history's map, each open call whole or absent; and each refusal had its cause: full buckets, no free
+/// slot, or a number that is spent.
 pub fn moments_are_good()
     ensures { MomentsAreGood }
 {
@@ -51,10 +51,3 @@ pub fn closed_is_closed()
 pub fn tolds_follow()
     ensures { ToldsFollow }
 {}
-
-/// Where an image that is run has one slot, it is not free.
-pub fn no_slot_is_free()
-    ensures { NoSlotIsFree }
-{
-    restart_op::one_segment_is_live();
-}

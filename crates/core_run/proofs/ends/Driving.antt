@@ -1,23 +1,18 @@
 -- What is done in a run of one script keeps a state of it, and ends.
-use Rattle.std.proofs.Common.{◌≡◌, ℕ, zero, suc, ◌+◌, ◌<◌, ◌≤◌, inl, inr, true, false, Option, Some, None, List, [], ◌∷◌, length, refl, sym, ◌∙◌, ap, subst, arith}
-use Rattle.std.specs.Prelude.{if◌then◌else◌}
+use Rattle.std.proofs.Common.{◌≡◌, ℕ, zero, suc, ◌+◌, ◌<◌, ◌≤◌, inl, inr, Bool, true, false, Option, Some, None, List, [], ◌∷◌, length, refl, sym, ◌∙◌, ap, subst, arith}
+use Rattle.std.specs.Prelude.{nat_lt, if◌then◌else◌}
 use Rattle.std.specs.List.{AllByRecursion}
 use Rattle.std.proofs.lemmas.Bool.{cases_lt}
 use Rattle.std.proofs.lemmas.Option.{none-some, slice_get_within, slice_get_cases}
 use Rattle.map_model.specs.declared.call.Call.{Call}
-use Rattle.map_model.specs.declared.entry.Reply.{Reply}
-use Rattle.image_layout.specs.Places.{Shape, IsShape}
+use Rattle.image_layout.specs.Places.{Shape, IsShape, words_of}
 use Rattle.script_text.specs.declared.line.Counted.TheVariants as counted
 use Rattle.script_text.specs.declared.line.Line.{Line}
 use Rattle.script_text.specs.declared.line.Line.TheVariants as line
-use Rattle.part.specs.Outcomes.{Outcome, replied}
 use Rattle.restart_op.specs.declared.restart.RestartOp.{RestartOp}
 use Rattle.restart_op.specs.Close.{begun as close_begun}
 use Rattle.restart_op.specs.Closing.{left as close_left, events_of}
 use Rattle.engine.specs.declared.engine.Engine.{Engine}
-use Rattle.engine.specs.declared.engine.End.{End}
-use Rattle.engine.specs.Engine.{outcome_of_end, reply_of_end, says_again}
-use Rattle.engine.specs.Alone.{IsReply, EndsCall}
 use Rattle.engine.specs.Core.{Caller, Core, current}
 use Rattle.engine.specs.Holding.{DoesCall}
 use Rattle.engine.specs.Laws.{NoneRuns}
@@ -26,31 +21,18 @@ use Rattle.core_run.specs.declared.keeper.Keeper.TheVariants.{Restarting, Open, 
 use Rattle.core_run.specs.declared.goal.Goal.{Goal}
 use Rattle.core_run.specs.declared.goal.Goal.TheVariants.{AnyEvent, Kind, StoreTo}
 use Rattle.core_run.specs.State.{State, beginning, Deed, restart_deed, close_deed, keeper_deed, engine_deed, call_deed, open_deed, deed}
-use Rattle.core_run.specs.Run.{is_some_reply, ends_call, counts, ends_in_again, by_deed, drive, restarted_by, restarted, round, has_call, has_calls, rounds, close_begins, run_out, ready_for, line_done, lines_done, closed, cut_of, state_at_end}
+use Rattle.core_run.specs.Run.{ends_call, counts, ends_in_again, by_deed, drive, restarted_by, restarted, round, has_call, has_calls, rounds, close_begins, run_out, ready_for, line_done, lines_done, closed, cut_of, state_at_end}
 use Rattle.core_run.specs.Running.{Setup, site_in, start_of, IsOpen, IsRunningBy, DeedsAreWell}
 use Rattle.core_run.specs.States.{RunBegins, CloseMayBegin}
-use Rattle.core_run.specs.Alone.{IsAloneBy, IsForOne, behind, all_behind, BeginsAlone, AloneStays, AloneReplies}
+use Rattle.core_run.specs.Alone.{IsAloneBy, IsForOne, behind, all_behind, BeginsAlone, AloneStays, NeverAgain}
 use Rattle.core_run.specs.Ends.{IsRun, most_of, HasAnswered, HasRunOut, IsShut, IsWellRun}
 use Rattle.core_run.proofs.ends.Choices.{either, so, not_so}
 use Rattle.core_run.proofs.ends.Working.{EngineLaws}
 use Rattle.core_run.proofs.ends.Staying.{IsOfOne, of_one, one_left}
 use Rattle.core_run.proofs.ends.Measures.{KeeperLaws, left_for, deed_less, left_low, behind_low, stays_shut, IsEarly, stays_early}
 
--- ---- ends with a reply
-again_no : (o : Option Outcome) → EndsCall o → says_again o ≡ false
-again_no (Some (replied reply place)) told = refl
-again_no o told = absurd told
-
-pub never_again : (o : Option End) → ((end : End) → o ≡ Some end → EndsCall (outcome_of_end end)) → ends_in_again o ≡ false
-never_again None told = refl
-never_again (Some end) told = again_no (outcome_of_end end) (told end refl)
-
-pub has_reply : (o : Option (Reply × ℕ)) → IsReply o → is_some_reply o ≡ true
-has_reply None told = absurd told
-has_reply (Some r) told = refl
-
 -- ---- calls that are left
-pub past_calls : (c : Caller) → current c ≡ None → behind c ≡ 0
+past_calls : (c : Caller) → current c ≡ None → behind c ≡ 0
 past_calls c none = elim (slice_get_cases c.calls (length c.entries)).1 [
   | inl some ↦ absurd (none-some some.0 (sym none ∙ some.2))
   | inr past ↦ (let p = past.0 in omega (arith, p))
@@ -79,23 +61,23 @@ module _ (shape : Shape) (most : ℕ) where
       by rest (Some call) is = (let w = slice_get_within c.calls (length c.entries) call is in absurd (omega (arith, w, none)))
       by rest None is = rest (omega (arith, none))
 
-pub drive_none : (shape : Shape) (m c : ℕ) (goal : Goal) (s : State) → drive shape m c goal 0 s ≡ s
+drive_none : (shape : Shape) (m c : ℕ) (goal : Goal) (s : State) → drive shape m c goal 0 s ≡ s
 drive_none shape zero c goal s = refl
 drive_none shape (suc m) c goal s = refl
 
-module _ (wells : DeedsAreWell) (stays : AloneStays) (replies : AloneReplies) (laws : EngineLaws) (keepers : KeeperLaws)
+module _ (wells : DeedsAreWell) (stays : AloneStays) (never : NeverAgain) (laws : EngineLaws) (keepers : KeeperLaws)
     (close_may : CloseMayBegin) (close_low : (shape : Shape) → IsShape shape → close_left (close_begun shape) ≡ events_of shape) (t : Setup) (is : IsForOne t) where
   -- ---- one event
   after : (c : ℕ) (s : State) (d : Deed) → IsRun t s → deed t.shape c s ≡ Some d → IsRun t d.state
   after c s d r e = record { running = (wells t c s d is.setup r.running e).after; alone = stays t c s d is r.running r.alone e }
 
-  told : (c : ℕ) (s : State) (d : Deed) → IsRun t s → deed t.shape c s ≡ Some d → (end : End) → d.end ≡ Some end → EndsCall (outcome_of_end end)
-  told c s d r e end ends = replies t c s d end is r.running r.alone e ends
+  calm : (c : ℕ) (s : State) (d : Deed) → IsRun t s → deed t.shape c s ≡ Some d → ends_in_again d.end ≡ false
+  calm c s d r e = never t c s d is r.running r.alone e
 
-  fewer : (c : ℕ) (s : State) (d : Deed) → IsRun t s → deed t.shape c s ≡ Some d → left_for c d.state < left_for c s
+  fewer : (c : ℕ) (s : State) (d : Deed) → IsRun t s → deed t.shape c s ≡ Some d → left_for t.shape c d.state < left_for t.shape c s
   fewer c s d r e = deed_less laws keepers t is c s d r e
 
-  low : (c : ℕ) (s : State) → IsRun t s → left_for c s ≤ most_of t
+  low : (c : ℕ) (s : State) → IsRun t s → left_for t.shape c s ≤ most_of t
   low c s r = left_low laws keepers t is c s r
 
   -- ---- a drive
@@ -110,7 +92,7 @@ module _ (wells : DeedsAreWell) (stays : AloneStays) (replies : AloneReplies) (l
           (rest (if counts goal d then n else suc n) d.state (after c s d r e))
 
   -- with no event left there is none
-  no_deed : (c : ℕ) (s : State) → IsRun t s → left_for c s ≤ 0 → deed t.shape c s ≡ None
+  no_deed : (c : ℕ) (s : State) → IsRun t s → left_for t.shape c s ≤ 0 → deed t.shape c s ≡ None
   no_deed c s r none = by (deed t.shape c s) refl
     where
       by : (o : Option Deed) → deed t.shape c s ≡ o → o ≡ None
@@ -122,13 +104,13 @@ module _ (wells : DeedsAreWell) (stays : AloneStays) (replies : AloneReplies) (l
   stops (suc m) c goal zero s none = refl
   stops (suc m) c goal (suc n) s none = ap (λ o. by_deed o s (λ d. drive t.shape m c goal (if counts goal d then n else suc n) d.state)) none
 
-  pub same_drive : (m k c : ℕ) (goal : Goal) (n : ℕ) (s : State) → IsRun t s → left_for c s ≤ m → left_for c s ≤ k → drive t.shape m c goal n s ≡ drive t.shape k c goal n s
+  same_drive : (m k c : ℕ) (goal : Goal) (n : ℕ) (s : State) → IsRun t s → left_for t.shape c s ≤ m → left_for t.shape c s ≤ k → drive t.shape m c goal n s ≡ drive t.shape k c goal n s
   same_drive zero k c goal n s r a b = sym (stops k c goal n s (no_deed c s r a))
   same_drive (suc m) zero c goal n s r a b = stops (suc m) c goal n s (no_deed c s r b)
   same_drive (suc m) (suc k) c goal zero s r a b = refl
   same_drive (suc m) (suc k) c goal (suc n) s r a b = by (λ n' u ru p q. same_drive m k c goal n' u ru p q) (deed t.shape c s) refl
     where
-      by : ((n' : ℕ) (u : State) → IsRun t u → left_for c u ≤ m → left_for c u ≤ k → drive t.shape m c goal n' u ≡ drive t.shape k c goal n' u) → (o : Option Deed) → deed t.shape c s ≡ o → by_deed o s (λ d. drive t.shape m c goal (if counts goal d then n else suc n) d.state)
+      by : ((n' : ℕ) (u : State) → IsRun t u → left_for t.shape c u ≤ m → left_for t.shape c u ≤ k → drive t.shape m c goal n' u ≡ drive t.shape k c goal n' u) → (o : Option Deed) → deed t.shape c s ≡ o → by_deed o s (λ d. drive t.shape m c goal (if counts goal d then n else suc n) d.state)
           ≡ by_deed o s (λ d. drive t.shape k c goal (if counts goal d then n else suc n) d.state)
       by rest None e = refl
       by rest (Some d) e =
@@ -137,16 +119,16 @@ module _ (wells : DeedsAreWell) (stays : AloneStays) (replies : AloneReplies) (l
           (rest (if counts goal d then n else suc n) d.state (after c s d r e) (omega (arith, a, f)) (omega (arith, b, f)))
 
   -- a caller who counts each event goes on to its last
-  drive_through : (m c n : ℕ) (s : State) → IsRun t s → left_for c s ≤ m → m ≤ n → deed t.shape c (drive t.shape m c AnyEvent n s) ≡ None
+  drive_through : (m c n : ℕ) (s : State) → IsRun t s → left_for t.shape c s ≤ m → m ≤ n → deed t.shape c (drive t.shape m c AnyEvent n s) ≡ None
   drive_through zero c n s r a b = no_deed c s r a
   drive_through (suc m) c zero s r a b = absurd (omega (arith, b))
   drive_through (suc m) c (suc n) s r a b = by (λ u ru p q. drive_through m c n u ru p q) (deed t.shape c s) refl
     where
-      by : ((u : State) → IsRun t u → left_for c u ≤ m → m ≤ n → deed t.shape c (drive t.shape m c AnyEvent n u) ≡ None) → (o : Option Deed) → deed t.shape c s ≡ o → deed t.shape c (by_deed o s (λ d. drive t.shape m c AnyEvent (if counts AnyEvent d then n else suc n) d.state)) ≡ None
+      by : ((u : State) → IsRun t u → left_for t.shape c u ≤ m → m ≤ n → deed t.shape c (drive t.shape m c AnyEvent n u) ≡ None) → (o : Option Deed) → deed t.shape c s ≡ o → deed t.shape c (by_deed o s (λ d. drive t.shape m c AnyEvent (if counts AnyEvent d then n else suc n) d.state)) ≡ None
       by rest None e = e
       by rest (Some d) e =
           let f = fewer c s d r e in
-          not_so (λ x. deed t.shape c x ≡ None) (ends_in_again d.end) d.state (drive t.shape m c AnyEvent n d.state) (never_again d.end (told c s d r e))
+          not_so (λ x. deed t.shape c x ≡ None) (ends_in_again d.end) d.state (drive t.shape m c AnyEvent n d.state) (calm c s d r e)
           (rest d.state (after c s d r e) (omega (arith, a, f)) (omega (arith, b)))
 
   -- what caller 0 keeps to in each of its events it keeps to in all
@@ -242,19 +224,18 @@ module _ (wells : DeedsAreWell) (stays : AloneStays) (replies : AloneReplies) (l
         let b = behind_is in
         subst (λ cs. AllByRecursion (λ (c : Caller). c.engine ≡ None) cs) (sym one.callers_are) (engine_none (omega (arith, none, b)) one.caller.engine refl one.fits.does, tt)
 
-  -- what is left of a call after an event of it
-  call_on : (m : ℕ) (s : State) → IsRun t s → s.keeper ≡ Open → 0 < all_behind s.core.callers → left_for 1 s ≤ suc m
-      → ((u : State) → IsRun t u → u.keeper ≡ Open → 0 < all_behind u.core.callers → left_for 1 u ≤ m → HasAnswered u (drive t.shape m 1 (Kind counted.End) 1 u))
-      → (d : Deed) → deed t.shape 1 s ≡ Some d → open_deed t.shape 0 Open s.core ≡ Some d → (x : Option End) → d.end ≡ x
-      → HasAnswered s (drive t.shape m 1 (Kind counted.End) (if ends_call x then 0 else 1) d.state)
-  call_on m s r here more few rest d e o (Some end) is_end =
+  -- what is left of a call after an event of it, by which the call ends or not
+  call_on : (m : ℕ) (s : State) → IsRun t s → s.keeper ≡ Open → 0 < all_behind s.core.callers → left_for t.shape 1 s ≤ suc m
+      → ((u : State) → IsRun t u → u.keeper ≡ Open → 0 < all_behind u.core.callers → left_for t.shape 1 u ≤ m → HasAnswered u (drive t.shape m 1 (Kind counted.End) 1 u))
+      → (d : Deed) → deed t.shape 1 s ≡ Some d → open_deed t.shape 0 Open s.core ≡ Some d → (b : Bool) → ends_call d.end ≡ b
+      → HasAnswered s (drive t.shape m 1 (Kind counted.End) (if b then 0 else 1) d.state)
+  call_on m s r here more few rest d e o true ends =
       let l = one_left laws t is s.core (is_open s here r) (is_alone s here r) 0 d o in
-      subst (λ b. HasAnswered s (drive t.shape m 1 (Kind counted.End) (if b then 0 else 1) d.state)) (sym (has_reply (reply_of_end end) (told 1 s d r e end is_end)))
-      (subst (HasAnswered s) (sym (drive_none t.shape m 1 (Kind counted.End) d.state)) (record { still_open = l.still_open; fewer = l.answers end is_end }))
-  call_on m s r here more few rest d e o None none =
+      subst (HasAnswered s) (sym (drive_none t.shape m 1 (Kind counted.End) d.state)) (record { still_open = l.still_open; fewer = l.answers ends })
+  call_on m s r here more few rest d e o false goes_on =
       let l = one_left laws t is s.core (is_open s here r) (is_alone s here r) 0 d o in
       let f = fewer 1 s d r e in
-      let same = l.goes_on none in
+      let same = l.goes_on goes_on in
       let end = rest d.state (after 1 s d r e) l.still_open (omega (arith, more, same)) (omega (arith, f, few)) in
       record { still_open = end.still_open; fewer = end.fewer ∙ same }
 
@@ -264,7 +245,7 @@ module _ (wells : DeedsAreWell) (stays : AloneStays) (replies : AloneReplies) (l
       let got = has_deed s.core (is_open s here r) more in
       (got.0, subst (λ k. open_deed t.shape 0 k s.core ≡ Some got.0) (sym here) got.1, got.1)
 
-  answered_by : (m : ℕ) (s : State) → IsRun t s → s.keeper ≡ Open → 0 < all_behind s.core.callers → left_for 1 s ≤ m → HasAnswered s (drive t.shape m 1 (Kind counted.End) 1 s)
+  answered_by : (m : ℕ) (s : State) → IsRun t s → s.keeper ≡ Open → 0 < all_behind s.core.callers → left_for t.shape 1 s ≤ m → HasAnswered s (drive t.shape m 1 (Kind counted.End) 1 s)
   answered_by zero s r here more few =
       let got = event_of s r here more in let f = fewer 1 s got.0 r got.1 in absurd (omega (arith, f, few))
   answered_by (suc m) s r here more few =
@@ -272,8 +253,8 @@ module _ (wells : DeedsAreWell) (stays : AloneStays) (replies : AloneReplies) (l
       let d : Deed = got.0 in
       let e : deed t.shape 1 s ≡ Some d = got.1 in
       subst (λ x. HasAnswered s (by_deed x s (λ d. drive t.shape m 1 (Kind counted.End) (if counts (Kind counted.End) d then 0 else 1) d.state))) (sym e)
-      (not_so (HasAnswered s) (ends_in_again d.end) d.state (drive t.shape m 1 (Kind counted.End) (if ends_call d.end then 0 else 1) d.state) (never_again d.end (told 1 s d r e))
-      (call_on m s r here more few (answered_by m) d e got.2 d.end refl))
+      (not_so (HasAnswered s) (ends_in_again d.end) d.state (drive t.shape m 1 (Kind counted.End) (if ends_call d.end then 0 else 1) d.state) (calm 1 s d r e)
+      (call_on m s r here more few (answered_by m) d e got.2 (ends_call d.end) refl))
 
   pub call_ends : (most : ℕ) (s : State) → most_of t ≤ most → IsRun t s → s.keeper ≡ Open → 0 < all_behind s.core.callers → HasAnswered s (drive t.shape most 1 (Kind counted.End) 1 s)
   call_ends most s enough r here more = let l = low 1 s r in answered_by most s r here more (omega (arith, l, enough))
@@ -316,7 +297,7 @@ module _ (wells : DeedsAreWell) (stays : AloneStays) (replies : AloneReplies) (l
         let few = behind_low laws keepers t is s.core (is_open s here r) in
         let end = rounds_end most s r here (omega (arith, few, enough)) in
         let at_end : State = rounds t.shape most most s in
-        let good = close_low t.shape is.setup.served.playable.sound.in_range in
+        let good = close_low t.shape is.setup.served.sound.in_range in
         record {
           running = close_may t at_end.core is.setup (is_open at_end end.still_open (rounds_stay most most s r)) end.none_runs;
           alone = omega (arith, good);
@@ -360,7 +341,10 @@ module _ (wells : DeedsAreWell) (stays : AloneStays) (replies : AloneReplies) (l
     line_stays (line.Fuse c n) s r = r
     line_stays (line.Step c n) s r = drive_stays most c AnyEvent n (ready_for t.shape most c s) (ready_stays most c s r)
     line_stays (line.Until c e n) s r = drive_stays most c (Kind e) n (ready_for t.shape most c s) (ready_stays most c s r)
-    line_stays (line.At c word) s r = drive_stays most c (StoreTo word) 1 (ready_for t.shape most c s) (ready_stays most c s r)
+    line_stays (line.At c word) s r =
+        let ready : State = ready_for t.shape most c s in
+        either (IsRun t) (nat_lt word (words_of t.shape)) (drive t.shape most c (StoreTo word) 1 ready) (drive t.shape most c AnyEvent most ready)
+        (drive_stays most c (StoreTo word) 1 ready (ready_stays most c s r)) (drive_stays most c AnyEvent most ready (ready_stays most c s r))
     line_stays line.Close s r = run_out_stays s r
     line_stays (line.Cut choice) s r = r
 

@@ -1,10 +1,11 @@
 -- How many events a caller has left at most: each event leaves fewer, and at first there are no more than the run counts.
-use Rattle.std.proofs.Common.{◌≡◌, ◌≢◌, ℕ, zero, suc, ◌+◌, ◌<◌, ◌≤◌, Some, List, length, map, sym, ◌∙◌, ap, subst, arith}
+use Rattle.std.proofs.Common.{◌≡◌, ◌≢◌, ℕ, zero, suc, ◌+◌, ◌*◌, ◌<◌, ◌≤◌, Some, List, length, map, slice_get, sym, ◌∙◌, ap, subst, arith}
 use Rattle.std.specs.Prelude.{⊤}
 use Rattle.std.proofs.lemmas.Option.{none-some, same_Some}
+use Rattle.std.proofs.Math.Nat.{mul-le-mul_left, le-mul_of_pos_right}
 use Rattle.op_core.specs.declared.want.Want.{Want}
 use Rattle.op_core.specs.declared.want.Want.TheVariants as want
-use Rattle.image_layout.specs.Places.{Shape}
+use Rattle.image_layout.specs.Places.{Shape, words_of}
 use Rattle.world.specs.Wants.{answer_to, word_of}
 use Rattle.world.proofs.stepping.Answers.{is_answer}
 use Rattle.restart_op.specs.declared.restart.RestartOp.{RestartOp}
@@ -15,6 +16,7 @@ use Rattle.restart_op.specs.declared.close.CloseOp.{CloseOp}
 use Rattle.restart_op.specs.Close.{wanted as close_wanted, taken as close_taken}
 use Rattle.restart_op.specs.Closing.{left as close_left, Falls as CloseFalls}
 use Rattle.engine.specs.Core.{Caller, Core}
+use Rattle.engine.specs.Left.{events_of_call}
 use Rattle.core_run.specs.declared.keeper.Keeper.{Keeper}
 use Rattle.core_run.specs.declared.keeper.Keeper.TheVariants.{Restarting, Open, Closing, Closed}
 use Rattle.core_run.specs.State.{State, Deed, by_keeper, restarting, closing, restart_deed, close_deed, keeper_deed, open_deed, deed}
@@ -22,7 +24,7 @@ use Rattle.core_run.specs.Run.{all_calls}
 use Rattle.core_run.specs.Running.{Setup, IsOpen, IsRestarting, IsRunningBy}
 use Rattle.core_run.specs.Alone.{IsAloneBy, IsForOne, behind, all_behind}
 use Rattle.core_run.specs.Ends.{IsRun, most_of, IsShut}
-use Rattle.core_run.proofs.ends.Working.{EngineLaws, work_low, work, all_work}
+use Rattle.core_run.proofs.ends.Working.{EngineLaws, call_some, work_low, work_at, work_of}
 use Rattle.core_run.proofs.ends.Staying.{of_one, one_left}
 
 abbrev pub keeper_left : Keeper → ℕ
@@ -31,15 +33,16 @@ keeper_left Open = 0
 keeper_left (Closing op) = close_left op
 keeper_left Closed = 0
 
-abbrev pub callers_left : Keeper → Core → ℕ
-callers_left (Restarting op) core = 0
-callers_left Open core = all_work core.callers
-callers_left (Closing op) core = 0
-callers_left Closed core = 0
+-- all calls are those of the first caller
+abbrev pub callers_left : Shape → Keeper → Core → ℕ
+callers_left shape (Restarting op) core = 0
+callers_left shape Open core = work_at shape core.words (slice_get core.callers 0)
+callers_left shape (Closing op) core = 0
+callers_left shape Closed core = 0
 
-abbrev pub left_for : ℕ → State → ℕ
-left_for zero s = keeper_left s.keeper
-left_for (suc j) s = callers_left s.keeper s.core
+abbrev pub left_for : Shape → ℕ → State → ℕ
+left_for shape zero s = keeper_left s.keeper
+left_for shape (suc j) s = callers_left shape s.keeper s.core
 
 -- ---- the restart and the close
 -- what is used of them
@@ -103,6 +106,15 @@ stays_early shape Open core d early e = absurd (none-some d e)
 stays_early shape (Closing op) core d early e = absurd early
 stays_early shape Closed core d early e = absurd early
 
+-- ---- numbers
+-- the events of a call that runs, and of so many behind it, are within those of all calls and one more
+within_all : (of_call behind calls m more : ℕ) → m < of_call → behind ≤ calls → m + of_call * behind ≤ more + of_call * (calls + 1)
+within_all of_call behind calls m more less few = let all = mul-le-mul_left of_call few in omega (arith, all, less)
+
+-- and there are no more calls than that
+within_most : (of_call behind calls more : ℕ) → 0 < of_call → behind ≤ calls → behind ≤ more + of_call * (calls + 1)
+within_most of_call behind calls more some few = let each = le-mul_of_pos_right calls some in omega (arith, each, few)
+
 -- ---- each event leaves fewer
 module _ (laws : EngineLaws) (keepers : KeeperLaws) (t : Setup) (is : IsForOne t) where
   left_now : (op : RestartOp) (core : Core) (r : IsRestarting t op core) → restart_left op.step + r.events ≡ 4
@@ -129,15 +141,15 @@ module _ (laws : EngineLaws) (keepers : KeeperLaws) (t : Setup) (is : IsForOne t
   keeper_less Closed core r d e = absurd (none-some d e)
 
   callers_less : (j : ℕ) (k : Keeper) (core : Core) → IsRunningBy t k core → IsAloneBy t k core → (d : Deed) → open_deed t.shape j k core ≡ Some d
-      → callers_left d.state.keeper d.state.core < callers_left k core
+      → callers_left t.shape d.state.keeper d.state.core < callers_left t.shape k core
   callers_less j Open core r a d e =
       let l = one_left laws t is core r a j d e in
-      subst (λ k. callers_left k d.state.core < all_work core.callers) (sym l.still_open) l.less_work
+      subst (λ k. callers_left t.shape k d.state.core < callers_left t.shape Open core) (sym l.still_open) l.less_work
   callers_less j (Restarting op) core r a d e = absurd (none-some d e)
   callers_less j (Closing op) core r a d e = absurd (none-some d e)
   callers_less j Closed core r a d e = absurd (none-some d e)
 
-  pub deed_less : (c : ℕ) (s : State) (d : Deed) → IsRun t s → deed t.shape c s ≡ Some d → left_for c d.state < left_for c s
+  pub deed_less : (c : ℕ) (s : State) (d : Deed) → IsRun t s → deed t.shape c s ≡ Some d → left_for t.shape c d.state < left_for t.shape c s
   deed_less zero s d r e = keeper_less s.keeper s.core r.running d e
   deed_less (suc j) s d r e = callers_less j s.keeper s.core r.running r.alone d e
 
@@ -146,24 +158,26 @@ module _ (laws : EngineLaws) (keepers : KeeperLaws) (t : Setup) (is : IsForOne t
   one_script core o = let one = of_one t core is.one o in
       ap all_calls (sym o.scripts) ∙ ap (λ (cs : List Caller). all_calls (map (λ c. c.calls) cs)) one.callers_are
 
+  behind_few : (core : Core) (o : IsOpen t core) → behind (of_one t core is.one o).caller ≤ all_calls t.scripts
+  behind_few core o = let scripts = one_script core o in omega (arith, scripts)
+
   keeper_low : (k : Keeper) (core : Core) → IsRunningBy t k core → IsAloneBy t k core → keeper_left k ≤ most_of t
   keeper_low (Restarting op) core r a = let l = left_now op core r in omega (arith, l)
   keeper_low Open core r a = omega arith
   keeper_low (Closing op) core r a = let l = a in omega (arith, l)
   keeper_low Closed core r a = omega arith
 
-  callers_low : (k : Keeper) (core : Core) → IsRunningBy t k core → callers_left k core ≤ most_of t
+  callers_low : (k : Keeper) (core : Core) → IsRunningBy t k core → callers_left t.shape k core ≤ most_of t
   callers_low Open core o =
       let one = of_one t core is.one o in
-      let works : all_work core.callers ≡ work one.caller + 0 = ap all_work one.callers_are in
-      let scripts = one_script core o in
-      let low = work_low laws.low one.caller.engine in
-      omega (arith, works, scripts, low)
+      subst (λ m. m ≤ most_of t) (sym (ap (λ (cs : List Caller). work_at t.shape core.words (slice_get cs 0)) one.callers_are))
+      (within_all (events_of_call t.shape) (behind one.caller) (all_calls t.scripts) (work_of t.shape core.words one.caller.engine) (2 * words_of t.shape)
+      (work_low t.shape laws.few core.words one.caller.engine) (behind_few core o))
   callers_low (Restarting op) core o = omega arith
   callers_low (Closing op) core o = omega arith
   callers_low Closed core o = omega arith
 
-  pub left_low : (c : ℕ) (s : State) → IsRun t s → left_for c s ≤ most_of t
+  pub left_low : (c : ℕ) (s : State) → IsRun t s → left_for t.shape c s ≤ most_of t
   left_low zero s r = keeper_low s.keeper s.core r.running r.alone
   left_low (suc j) s r = callers_low s.keeper s.core r.running
 
@@ -171,5 +185,5 @@ module _ (laws : EngineLaws) (keepers : KeeperLaws) (t : Setup) (is : IsForOne t
   behind_low core o =
       let one = of_one t core is.one o in
       let behinds : all_behind core.callers ≡ behind one.caller + 0 = ap all_behind one.callers_are in
-      let scripts = one_script core o in
-      omega (arith, behinds, scripts)
+      let few = behind_few core o in
+      within_most (events_of_call t.shape) (all_behind core.callers) (all_calls t.scripts) (2 * words_of t.shape) (call_some t.shape) (omega (arith, behinds, few))

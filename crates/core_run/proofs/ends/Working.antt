@@ -1,95 +1,111 @@
--- The work that a caller has left: each event leaves less, and an attempt that ends with its reply leaves one call fewer.
-use Rattle.std.proofs.Common.{◌≡◌, ℕ, suc, ◌+◌, ◌*◌, ◌<◌, ◌≤◌, true, Option, Some, None, List, [], ◌∷◌, length, refl, sym, arith, length-append}
-use Rattle.std.proofs.lemmas.Option.{none-some}
+-- The work that a caller has left: each event leaves less; an attempt that ends without a reply goes on with the call, and one that ends with
+-- its reply leaves one call fewer.
+use Rattle.std.proofs.Common.{◌≡◌, ◌≢◌, ℕ, suc, ◌+◌, ◌*◌, ◌<◌, true, false, Option, Some, None, ◌∷◌, [], length, refl, sym, ◌∙◌, ap, subst, arith, length-append}
+use Rattle.trace.specs.Events.{Words}
 use Rattle.image_layout.specs.Places.{Shape}
 use Rattle.op_core.specs.declared.want.Want.{Want}
 use Rattle.op_core.specs.declared.want.Want.TheVariants as want
-use Rattle.op_core.specs.declared.want.Ans.{Ans}
 use Rattle.map_model.specs.declared.call.Call.{Call}
 use Rattle.map_model.specs.declared.entry.Reply.{Reply}
 use Rattle.map_model.specs.declared.entry.Entry.{Entry}
-use Rattle.op_core.specs.Answers.{IsAnswer}
 use Rattle.engine.specs.declared.engine.Engine.{Engine}
 use Rattle.engine.specs.declared.engine.End.{End}
-use Rattle.engine.specs.Engine.{begun, wanted, taken, end_of, outcome_of_end, reply_of_end}
-use Rattle.engine.specs.Left.{most_events, left}
-use Rattle.engine.specs.Core.{Caller, call_at, engine_for, ended, ended_or_on}
+use Rattle.engine.specs.Engine.{begun, wanted, end_of, reply_of_end, anew}
+use Rattle.engine.specs.Left.{most_alone, events_left, events_of_call}
+use Rattle.engine.specs.Core.{Caller, call_at, engine_for, entry_of, with_entry, ended, ended_or_on}
+use Rattle.engine.specs.Alone.{AloneAtStart, OwnTurnsStayAlone, AloneNeverAgain, EndsTell, CrampedAtStart, OwnTurnsStayCramped, EventsAreFew, AloneLeavesFewer}
 use Rattle.core_run.specs.State.{end_by}
-use Rattle.engine.specs.Alone.{IsReply, EndsCall, AllRestAtStart, AloneAtStart, RestingIsAlone, OwnTurnsStayAlone, AloneNeverAgain, EndsAreTold, EndsTell, EndedRests, OthersStayResting}
+use Rattle.core_run.specs.Run.{is_some_reply, ends_call}
 use Rattle.core_run.specs.Alone.{behind}
-use Rattle.core_run.specs.Run.{events_of_call}
-
--- the laws of an engine
-abbrev pub Falls : Type 0
-Falls = (e : Engine) (ans : Ans) → IsAnswer (wanted e) ans → left (taken e ans) < left e
-
-abbrev pub IsLow : Type 0
-IsLow = (e : Engine) → left e ≤ most_events
 
 -- the laws of engines and of turns that are used
 pub record EngineLaws : Type 0 where
   pub never : AloneNeverAgain
-  pub told : EndsAreTold
   pub own : OwnTurnsStayAlone
   pub tell : EndsTell
-  pub start : AllRestAtStart
   pub start_alone : AloneAtStart
-  pub rests : RestingIsAlone
-  pub ended : EndedRests
-  pub others : OthersStayResting
-  pub less : Falls
-  pub low : IsLow
+  pub start_cramped : CrampedAtStart
+  pub cramped : OwnTurnsStayCramped
+  pub few : EventsAreFew
+  pub fewer : AloneLeavesFewer
 
--- at most so many events
-abbrev pub work_of : Option Engine → ℕ
-work_of None = 0
-work_of (Some e) = left e
+-- ---- numbers
+product_some : (a b : ℕ) → 0 < (a + 3) * (b + 1)
+product_some a b = omega arith
 
-pub work_low : IsLow → (o : Option Engine) → work_of o ≤ most_events
-work_low low None = omega arith
-work_low low (Some e) = low e
+-- a call has some events
+pub call_some : (shape : Shape) → 0 < events_of_call shape
+call_some shape = product_some (2 * shape.segments) most_alone
 
-abbrev pub work : Caller → ℕ
-work c = work_of c.engine + events_of_call * behind c
+-- less is left of the same call, or a call fewer and less than a call
+less_of_call : (of_call calls m n : ℕ) → m < n → m + of_call * calls < n + of_call * calls
+less_of_call of_call calls m n less = omega (arith, less)
 
-abbrev pub all_work : List Caller → ℕ
-all_work [] = 0
-all_work (c ∷ callers) = work c + all_work callers
+call_fewer : (of_call calls fewer m n : ℕ) → m < of_call → fewer + 1 ≡ calls → m + of_call * fewer < n + of_call * calls
+call_fewer of_call calls fewer m n less is = subst (λ (k : ℕ). m + of_call * fewer < n + of_call * k) is (omega (arith, less))
 
--- what an event leaves of the work of a caller who had b calls without a reply, and n events of the engine
-pub record IsWorked (b n : ℕ) (o : Option End) (after : Caller) : Type 0 where
-  pub falls : work after < n + events_of_call * b
-  pub answers : (end : End) → o ≡ Some end → behind after + 1 ≡ b
-  pub goes_on : o ≡ None → behind after ≡ b
+module _ (shape : Shape) where
+  -- at most so many events are left of the call that runs, and of all calls of a caller
+  abbrev pub work_of : Words → Option Engine → ℕ
+  work_of words None = 0
+  work_of words (Some e) = events_left shape words e
 
-module _ (shape : Shape) (low : IsLow) (c : Caller) (call : Call) (e : Engine) (n : ℕ) where
-  begins_low : (o : Option Call) → work_of (engine_for c.site o) ≤ most_events
-  begins_low None = omega arith
-  begins_low (Some next) = low (begun c.site next)
+  abbrev pub work : Words → Caller → ℕ
+  work words c = work_of words c.engine + events_of_call shape * behind c
 
-  ended_works : 0 < n → length c.entries < length c.calls → (o : Option (Reply × ℕ)) → IsReply o → IsWorked (behind c) n (Some (end_of e)) (ended c call o)
-  ended_works some within None told = absurd told
-  ended_works some within (Some r) told =
-      let begins = begins_low (call_at c (suc (length c.entries))) in
-      let entry : Entry = _ in
-      let more : length (ended c call (Some r)).entries ≡ length c.entries + 1 = length-append c.entries (entry ∷ []) in
-      let fewer : behind (ended c call (Some r)) + 1 ≡ behind c = omega (arith, more, within) in
-      record {
-        falls = omega (arith, begins, fewer, some);
-        answers = λ end is. fewer;
-        goes_on = λ none. absurd (none-some (end_of e) (sym none));
+  abbrev pub work_at : Words → Option Caller → ℕ
+  work_at words None = 0
+  work_at words (Some c) = work words c
+
+  -- what an event that leaves these words leaves of the work of a caller who had b calls without a reply, and n events of the call that runs
+  pub record IsWorked (words : Words) (b n : ℕ) (o : Option End) (after : Caller) : Type 0 where
+    pub falls : work words after < n + events_of_call shape * b
+    pub answers : ends_call o ≡ true → behind after + 1 ≡ b
+    pub goes_on : ends_call o ≡ false → behind after ≡ b
+
+  module _ (few : EventsAreFew) (words : Words) where
+    pub work_low : (o : Option Engine) → work_of words o < events_of_call shape
+    work_low None = call_some shape
+    work_low (Some e) = few shape words e
+
+    module _ (c : Caller) (call : Call) (e : Engine) (n : ℕ) where
+      begins_low : (o : Option Call) → work_of words (engine_for c.site o) < events_of_call shape
+      begins_low None = call_some shape
+      begins_low (Some next) = few shape words (begun c.site next)
+
+      ended_works : (end : End) (o : Option (Reply × ℕ)) → reply_of_end end ≡ o → length c.entries < length c.calls → (o ≡ None → events_left shape words (anew c.site call end) < n)
+          → IsWorked words (behind c) n (Some end) (ended c call end o)
+      ended_works end None is within less = record {
+        falls = less_of_call (events_of_call shape) (behind c) (events_left shape words (anew c.site call end)) n (less refl);
+        answers = λ told. absurd (let no : false ≡ true = ap is_some_reply (sym is) ∙ told in cc);
+        goes_on = λ untold. refl;
+      }
+      ended_works end (Some r) is within less =
+          let entry : Entry = entry_of c call r.0 r.1 in
+          let more : length (with_entry c entry).entries ≡ length c.entries + 1 = length-append c.entries (entry ∷ []) in
+          let fewer : behind (with_entry c entry) + 1 ≡ behind c = omega (arith, more, within) in
+          let next : Option Call = call_at c (suc (length c.entries)) in
+          record {
+            falls = call_fewer (events_of_call shape) (behind c) (behind (with_entry c entry)) (work_of words (engine_for c.site next)) n (begins_low next) fewer;
+            answers = λ told. fewer;
+            goes_on = λ untold. absurd (let no : true ≡ false = ap is_some_reply (sym is) ∙ untold in cc);
+          }
+
+      runs_works : events_left shape words e < n → IsWorked words (behind c) n None (record c { engine = Some e; begun = true })
+      runs_works less = record {
+        falls = less_of_call (events_of_call shape) (behind c) (events_left shape words e) n less;
+        answers = λ told. absurd (let no : false ≡ true = told in cc);
+        goes_on = λ untold. refl;
       }
 
-  runs_works : left e < n → IsWorked (behind c) n None (record c { engine = Some e; begun = true })
-  runs_works less = record { falls = omega (arith, less); answers = λ end is. absurd (none-some end is); goes_on = λ none. refl }
-
-  pub gone_on_works : (w : Want) → left e < n → length c.entries < length c.calls → (wanted e ≡ want.Done → EndsCall (outcome_of_end (end_of e))) → wanted e ≡ w
-      → IsWorked (behind c) n (end_by shape e w) (ended_or_on c call e w)
-  gone_on_works want.Done less within told is = ended_works (omega (arith, less)) within (reply_of_end (end_of e)) (told is)
-  gone_on_works (want.Load i) less within told is = runs_works less
-  gone_on_works (want.Store i x) less within told is = runs_works less
-  gone_on_works (want.Exchange i a b) less within told is = runs_works less
-  gone_on_works (want.Flush l) less within told is = runs_works less
-  gone_on_works want.Fence less within told is = runs_works less
-  gone_on_works want.Draw less within told is = runs_works less
-  gone_on_works want.Power less within told is = runs_works less
+      pub gone_on_works : (w : Want) → wanted e ≡ w → length c.entries < length c.calls → (wanted e ≢ want.Done → events_left shape words e < n)
+          → (wanted e ≡ want.Done → reply_of_end (end_of e) ≡ None → events_left shape words (anew c.site call (end_of e)) < n)
+          → IsWorked words (behind c) n (end_by shape e w) (ended_or_on c call e w)
+      gone_on_works want.Done is within on again = ended_works (end_of e) (reply_of_end (end_of e)) refl within (again is)
+      gone_on_works (want.Load i) is within on again = runs_works (on (λ q. let z : want.Load i ≡ want.Done = sym is ∙ q in cc))
+      gone_on_works (want.Store i x) is within on again = runs_works (on (λ q. let z : want.Store i x ≡ want.Done = sym is ∙ q in cc))
+      gone_on_works (want.Exchange i a b) is within on again = runs_works (on (λ q. let z : want.Exchange i a b ≡ want.Done = sym is ∙ q in cc))
+      gone_on_works (want.Flush l) is within on again = runs_works (on (λ q. let z : want.Flush l ≡ want.Done = sym is ∙ q in cc))
+      gone_on_works want.Fence is within on again = runs_works (on (λ q. let z : want.Fence ≡ want.Done = sym is ∙ q in cc))
+      gone_on_works want.Draw is within on again = runs_works (on (λ q. let z : want.Draw ≡ want.Done = sym is ∙ q in cc))
+      gone_on_works want.Power is within on again = runs_works (on (λ q. let z : want.Power ≡ want.Done = sym is ∙ q in cc))

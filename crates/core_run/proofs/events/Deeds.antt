@@ -1,10 +1,9 @@
 -- Each event of a state of a run, by who does it.
-use Rattle.std.proofs.Common.{◌≡◌, ℕ, zero, suc, ◌≤◌, slice_get, Option, None, Some, refl, subst}
+use Rattle.std.proofs.Common.{◌≡◌, ℕ, zero, suc, slice_get, Option, None, Some, refl, subst}
 use Rattle.std.proofs.lemmas.Option.{none-some, same_Some}
 use Rattle.map_model.specs.declared.call.Call.{Call}
 use Rattle.restart_op.specs.Closing.{FewWait}
 use Rattle.engine.specs.declared.engine.Engine.{Engine}
-use Rattle.engine.specs.Left.{waiting}
 use Rattle.engine.specs.Asks.{AsksWithin}
 use Rattle.engine.specs.Core.{Caller, Core, current}
 use Rattle.engine.specs.Holding.{TurnKeeps}
@@ -18,7 +17,7 @@ use Rattle.core_run.proofs.events.Turned.{engine_well}
 use Rattle.core_run.proofs.events.Opened.{restart_well}
 use Rattle.core_run.proofs.events.Closes.{close_well}
 
-module _ (opens : OpenedHolds) (closes : FewWait) (keeps : TurnKeeps) (asks : AsksWithin) (waits : EnginesWait) (most : (e : Engine) → waiting e ≤ 2)
+module _ (opens : OpenedHolds) (closes : FewWait) (keeps : TurnKeeps) (asks : AsksWithin) (waits : EnginesWait)
     (t : Setup) (is : IsSetup t) (core : Core) (d : Deed) where
   abbrev IsWell : ℕ → Keeper → Type 0
   IsWell c keeper = DeedIsWell t c (record { keeper = keeper; core = core }) d
@@ -30,7 +29,7 @@ module _ (opens : OpenedHolds) (closes : FewWait) (keeps : TurnKeeps) (asks : As
     by_call c at (Some call) now None runs q = absurd (none-some d q)
     by_call c at (Some call) now (Some e) runs q =
         subst (λ (x : Deed). DeedIsWell t (suc j) (record { keeper = Open; core = core }) x) (same_Some (engine_deed t.shape j core c call e) d q)
-        (engine_well keeps asks waits most t core o j c at call now e runs)
+        (engine_well keeps asks waits t core o j c at call now e runs)
 
     by_caller : (c : Option Caller) → slice_get core.callers j ≡ c → caller_deed t.shape j core c ≡ Some d → IsWell (suc j) Open
     by_caller None at q = absurd (none-some d q)
@@ -50,5 +49,5 @@ module _ (opens : OpenedHolds) (closes : FewWait) (keeps : TurnKeeps) (asks : As
   well (suc j) (Closing op) r q = absurd (none-some d q)
   well (suc j) Closed r q = absurd (none-some d q)
 
-pub deeds_are_well : OpenedHolds → FewWait → TurnKeeps → AsksWithin → EnginesWait → ((e : Engine) → waiting e ≤ 2) → DeedsAreWell
-deeds_are_well opens closes keeps asks waits most t c s d is run q = well opens closes keeps asks waits most t is s.core d c s.keeper run q
+pub deeds_are_well : OpenedHolds → FewWait → TurnKeeps → AsksWithin → EnginesWait → DeedsAreWell
+deeds_are_well opens closes keeps asks waits t c s d is run q = well opens closes keeps asks waits t is s.core d c s.keeper run q

@@ -9,13 +9,14 @@ use Rattle.op_core.specs.declared.want.Ans.TheVariants.{Value, Won, Lost, Drawn,
 use Rattle.map_model.specs.declared.call.Call.{Call}
 use Rattle.map_model.specs.declared.entry.Entry.{Entry}
 use Rattle.map_model.specs.declared.entry.Reply.{Reply}
+use Rattle.engine.specs.declared.engine.End.{End}
 use Rattle.engine.specs.declared.engine.Engine.{Engine}
 use Rattle.engine.specs.Engine.{wanted, taken, end_of, reply_of_end}
 use Rattle.engine.specs.Core.{Caller, current, entry_of, drawn_by, ended, ended_or_on, answered}
 use Rattle.engine.proofs.Places.{one_more}
 use Rattle.core_run.specs.Running.{Setup, HasToldInOrder, AllTold}
 
-pub take_more : {A : Type 0} (xs : List A) (n : ℕ) (x : A) → slice_get xs n ≡ Some x → take (suc n) xs ≡ take n xs ++ x ∷ []
+take_more : {A : Type 0} (xs : List A) (n : ℕ) (x : A) → slice_get xs n ≡ Some x → take (suc n) xs ≡ take n xs ++ x ∷ []
 take_more [] n x is = absurd (none-some x is)
 take_more (y ∷ xs) zero x is = ap (λ z. z ∷ []) (same_Some y x is)
 take_more (y ∷ xs) (suc n) x is = ap (λ zs. y ∷ zs) (take_more xs n x is)
@@ -36,14 +37,14 @@ module _ (t : Setup) (version number : ℕ) (c : Caller) (h : HasToldInOrder t v
   drawn_in (Lost v) e q = h.drawn e q
   drawn_in Passed e q = h.drawn e q
 
-  ended_told : (drew : Option Entry) (o : Option (Reply × ℕ)) → HasToldInOrder t version number (ended (record c { drew = drew }) call o)
-  ended_told drew None = record {
+  ended_told : (drew : Option Entry) (end : End) (o : Option (Reply × ℕ)) → HasToldInOrder t version number (ended (record c { drew = drew }) call end o)
+  ended_told drew end None = record {
     its_calls = h.its_calls;
     within = h.within;
     drawn = λ e q. absurd (none-some e q);
     here = h.here;
   }
-  ended_told drew (Some r) = record {
+  ended_told drew end (Some r) = record {
     its_calls = entries_more c.entries c.calls (entry_of c call r.0 r.1) h.its_calls is;
     within = let l = slice_get_within c.calls (length c.entries) call is in let m = one_more c.entries (entry_of c call r.0 r.1) in omega (arith, l, m);
     drawn = λ e q. absurd (none-some e q);
@@ -55,7 +56,7 @@ module _ (t : Setup) (version number : ℕ) (c : Caller) (h : HasToldInOrder t v
     going_told = record { its_calls = h.its_calls; within = h.within; drawn = draws; here = h.here }
 
     gone_on_told : (w : Want) → HasToldInOrder t version number (ended_or_on (record c { drew = drew }) call next w)
-    gone_on_told want.Done = ended_told drew (reply_of_end (end_of next))
+    gone_on_told want.Done = ended_told drew (end_of next) (reply_of_end (end_of next))
     gone_on_told (want.Load i) = going_told
     gone_on_told (want.Store i x) = going_told
     gone_on_told (want.Exchange i a b) = going_told
@@ -69,12 +70,12 @@ module _ (t : Setup) (version number : ℕ) (c : Caller) (h : HasToldInOrder t v
 
 -- the calls of a caller stay
 module _ (c : Caller) (call : Call) where
-  ended_calls : (o : Option (Reply × ℕ)) → (ended c call o).calls ≡ c.calls
-  ended_calls None = refl
-  ended_calls (Some r) = refl
+  ended_calls : (end : End) (o : Option (Reply × ℕ)) → (ended c call end o).calls ≡ c.calls
+  ended_calls end None = refl
+  ended_calls end (Some r) = refl
 
   pub gone_on_calls : (e : Engine) (w : Want) → (ended_or_on c call e w).calls ≡ c.calls
-  gone_on_calls e want.Done = ended_calls (reply_of_end (end_of e))
+  gone_on_calls e want.Done = ended_calls (end_of e) (reply_of_end (end_of e))
   gone_on_calls e (want.Load i) = refl
   gone_on_calls e (want.Store i x) = refl
   gone_on_calls e (want.Exchange i a b) = refl

@@ -19,11 +19,11 @@ use Rattle.engine.specs.Holding.{IsCalling, DoesCall, CallerFits, CoreHolds, Tur
 use Rattle.core_run.specs.declared.keeper.Keeper.TheVariants.{Open}
 use Rattle.core_run.specs.State.{engine_deed}
 use Rattle.core_run.specs.Running.{Setup, site_in, start_of, WaitsFor, AllTold, IsOpen, MayBeDone, DeedIsWell}
-use Rattle.core_run.proofs.events.Waits.{EnginesWait, own_by, gone_on_waits, set_waits, waits_at}
+use Rattle.core_run.proofs.events.Waits.{EnginesWait, own_by, few_flushed, gone_on_waits, set_waits, waits_at}
 use Rattle.core_run.proofs.events.Told.{answered_told, gone_on_calls, set_told, set_calls}
 
 -- the view of a caller
-pub view_at : {A B : Type 0} (R : A → B → Type 0) (xs : List A) (ys : List B) (j : ℕ) (x : A) → AllZip R xs ys → slice_get xs j ≡ Some x → (y : B) × R x y
+view_at : {A B : Type 0} (R : A → B → Type 0) (xs : List A) (ys : List B) (j : ℕ) (x : A) → AllZip R xs ys → slice_get xs j ≡ Some x → (y : B) × R x y
 view_at R [] ys j x all is = absurd (none-some x is)
 view_at R (z ∷ xs) [] j x all is = absurd all
 view_at R (z ∷ xs) (y ∷ ys) zero x all is = (y, subst (λ w. R w y) (same_Some z x is) all.0)
@@ -33,7 +33,7 @@ view_at R (z ∷ xs) (y ∷ ys) (suc j) x all is = view_at R xs ys j x all.1 is
 pub state_stays : (site : Ground) (start : Words) (core : Core) → CoreHolds site start core → core.words state_word ≡ site.front state_word
 state_stays site start core h = (h.well.holds.structure.sound core.words (λ i within. inl refl)).fixed state_word (omega arith) (λ e. omega (arith, e))
 
-module _ (keeps : TurnKeeps) (asks : AsksWithin) (waits : EnginesWait) (most : (e : Engine) → waiting e ≤ 2)
+module _ (keeps : TurnKeeps) (asks : AsksWithin) (waits : EnginesWait)
     (t : Setup) (core : Core) (o : IsOpen t core) (j : ℕ) (c : Caller) (at : slice_get core.callers j ≡ Some c)
     (call : Call) (now : current c ≡ Some call) (e : Engine) (runs : c.engine ≡ Some e) where
   abbrev n : ℕ
@@ -63,7 +63,7 @@ module _ (keeps : TurnKeeps) (asks : AsksWithin) (waits : EnginesWait) (most : (
   may = record {
     word = within.word;
     line = within.line;
-    few = λ l q. let m = most e in let f = few in omega (arith, m, f);
+    few = few_flushed waits t.shape e n (suc j) core.trace few;
     some = calling.suits.asks;
   }
 

@@ -17,14 +17,15 @@ use Rattle.map_model.specs.declared.entry.Reply.{Reply}
 use Rattle.world.specs.declared.site.Site.{Site}
 use Rattle.world.specs.Wants.{answer_to, event_of}
 use Rattle.world.proofs.stepping.Answers.{is_answer}
+use Rattle.engine.specs.declared.engine.End.{End}
 use Rattle.engine.specs.declared.engine.Engine.{Engine}
-use Rattle.engine.specs.Engine.{begun, wanted, taken, end_of, reply_of_end}
+use Rattle.engine.specs.Engine.{wanted, taken, end_of, reply_of_end}
 use Rattle.engine.specs.Left.{waiting}
 use Rattle.engine.specs.Core.{Caller, call_at, engine_for, ended, ended_or_on}
 use Rattle.core_run.specs.Running.{WaitsFor, FewWait}
 
 -- an event of another caller
-pub pending_other : (shape : Shape) (w : Want) (n c d : ℕ) (es : Trace) → c ≢ d → pending d (event_of shape w n c ∷ es) ≡ pending d es
+pending_other : (shape : Shape) (w : Want) (n c d : ℕ) (es : Trace) → c ≢ d → pending d (event_of shape w n c ∷ es) ≡ pending d es
 pending_other shape (want.Load i) n c d es other = refl
 pending_other shape (want.Store i x) n c d es other = refl
 pending_other shape (want.Exchange i a b) n c d es other = by (eqb n a)
@@ -38,13 +39,13 @@ pending_other shape want.Draw n c d es other = refl
 pending_other shape want.Power n c d es other = refl
 pending_other shape want.Done n c d es other = refl
 
-pub other_waits : (shape : Shape) (w : Want) (n c d : ℕ) (es : Trace) (o : Option Engine) → c ≢ d → WaitsFor es d o → WaitsFor (event_of shape w n c ∷ es) d o
+other_waits : (shape : Shape) (w : Want) (n c d : ℕ) (es : Trace) (o : Option Engine) → c ≢ d → WaitsFor es d o → WaitsFor (event_of shape w n c ∷ es) d o
 other_waits shape w n c d es None other h = pending_other shape w n c d es other ∙ h
 other_waits shape w n c d es (Some e) other h = subst (λ (ps : List (ℕ × ℕ)). length ps ≤ waiting e) (sym (pending_other shape w n c d es other)) h
 
 -- what is known of the lines that an engine waits for
 pub record EnginesWait : Type 0 where
-  pub begins : (site : Site) (call : Call) → waiting (begun site call) ≡ 0
+  pub most : (e : Engine) → waiting e ≤ 8
   pub flushes : (e : Engine) (ans : Ans) (l : ℕ) → IsAnswer (wanted e) ans → wanted e ≡ want.Flush l → waiting e + 1 ≤ waiting (taken e ans)
   pub keeps : (e : Engine) (ans : Ans) → IsAnswer (wanted e) ans → wanted e ≢ want.Fence → waiting e ≤ waiting (taken e ans)
   pub ends : (e : Engine) → wanted e ≡ want.Done → waiting e ≡ 0
@@ -76,18 +77,26 @@ module _ (laws : EnginesWait) where
     own_by want.Power is some = no_less want.Power is some (λ q. cc)
     own_by want.Done is some = absurd (some refl)
 
+    -- before a flush there are fewer than eight
+    pub few_flushed : (l : ℕ) → wanted e ≡ want.Flush l → length (pending c es) < 8
+    few_flushed l is =
+        let more = laws.flushes e (answer_to (want.Flush l) n) l (subst (λ v. IsAnswer v (answer_to (want.Flush l) n)) (sym is) (is_answer (want.Flush l) n (λ q. cc))) is in
+        let most = laws.most (taken e (answer_to (want.Flush l) n)) in
+        omega (arith, few, more, most)
+
   -- where nothing waits, a caller may begin a call, or be through
   pub none_waits : (es : Trace) (c : ℕ) (site : Site) (o : Option Call) → length (pending c es) ≡ 0 → WaitsFor es c (engine_for site o)
   none_waits es c site None none = nil_from_length (pending c es) none
   none_waits es c site (Some call) none = omega (arith, none)
 
-  ended_waits : (es : Trace) (c : ℕ) (caller : Caller) (call : Call) (o : Option (Reply × ℕ)) → length (pending c es) ≡ 0 → WaitsFor es c (ended caller call o).engine
-  ended_waits es c caller call None none = omega (arith, none)
-  ended_waits es c caller call (Some r) none = none_waits es c caller.site (call_at caller (suc (length caller.entries))) none
+  ended_waits : (es : Trace) (c : ℕ) (caller : Caller) (call : Call) (end : End) (o : Option (Reply × ℕ)) → length (pending c es) ≡ 0
+      → WaitsFor es c (ended caller call end o).engine
+  ended_waits es c caller call end None none = omega (arith, none)
+  ended_waits es c caller call end (Some r) none = none_waits es c caller.site (call_at caller (suc (length caller.entries))) none
 
   pub gone_on_waits : (es : Trace) (c : ℕ) (caller : Caller) (call : Call) (e : Engine) (w : Want) → wanted e ≡ w → length (pending c es) ≤ waiting e
       → WaitsFor es c (ended_or_on caller call e w).engine
-  gone_on_waits es c caller call e want.Done is few = ended_waits es c caller call (reply_of_end (end_of e)) (let l = laws.ends e is in omega (arith, l, few))
+  gone_on_waits es c caller call e want.Done is few = ended_waits es c caller call (end_of e) (reply_of_end (end_of e)) (let l = laws.ends e is in omega (arith, l, few))
   gone_on_waits es c caller call e (want.Load i) is few = few
   gone_on_waits es c caller call e (want.Store i x) is few = few
   gone_on_waits es c caller call e (want.Exchange i a b) is few = few

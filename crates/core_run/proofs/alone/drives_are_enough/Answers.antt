@@ -1,6 +1,28 @@
 -- Each event leaves fewer, and there are no more at first.
+use Rattle.core_run.proofs.ends.Working.{EngineLaws}
+use Rattle.core_run.proofs.ends.Measures.{KeeperLaws}
 use Rattle.core_run.proofs.ends.Driving.{drives_are_enough}
 use Rattle.core_run.proofs.alone.drives_are_enough.Goals as goal
 
+engine_laws : goal.After-alone_stays → EngineLaws
+engine_laws c = record {
+  never = c.never_again_alone.ensures.never;
+  own = c.never_again_alone.ensures.stays;
+  tell = c.never_again_alone.ensures.tell;
+  start_alone = c.never_again_alone.ensures.start_alone;
+  start_cramped = c.calls_end_alone.ensures.start;
+  cramped = c.calls_end_alone.ensures.stays;
+  few = c.calls_end_alone.ensures.few;
+  fewer = c.calls_end_alone.ensures.fewer;
+}
+
+keeper_laws : goal.After-alone_stays → KeeperLaws
+keeper_laws c = record {
+  four = c.restart_ends.ensures.four;
+  restart = c.restart_ends.ensures.falls;
+  none = c.restart_ends.ensures.none;
+  close = c.close_ends.ensures.falls;
+}
+
 pub returns : goal.returns
-returns c t most k aim n s is enough r = drives_are_enough c.deeds_are_well.ensures c.alone_stays.ensures.stays c.alone_stays.ensures.replies (record { never = c.never_again_alone.ensures.never; told = c.never_again_alone.ensures.told; own = c.never_again_alone.ensures.stays; tell = c.never_again_alone.ensures.tell; start = c.never_again_alone.ensures.start; start_alone = c.never_again_alone.ensures.start_alone; rests = c.never_again_alone.ensures.rests; ended = c.never_again_alone.ensures.ended; others = c.never_again_alone.ensures.others; less = c.attempts_end.ensures.falls; low = c.attempts_end.ensures.most }) (record { four = c.restart_ends.ensures.four; restart = c.restart_ends.ensures.falls; none = c.restart_ends.ensures.none; close = c.close_ends.ensures.falls }) c.close_may_begin.ensures c.close_ends.ensures.most t is most k aim n s enough r
+returns c t most k aim n s is enough r = drives_are_enough c.deeds_are_well.ensures c.alone_stays.ensures.stays c.alone_stays.ensures.never_again (engine_laws c) (keeper_laws c) c.close_may_begin.ensures c.close_ends.ensures.most t is most k aim n s enough r

@@ -5,9 +5,8 @@ use Rattle.core_run.proofs.states.deeds_are_well.Goals as goal
 pub returns : goal.returns
 returns c = deeds_are_well c.opened_holds.ensures c.close_ends.ensures.few_wait c.turn_keeps.ensures.one c.asks_within.ensures
     (record {
-      begins = c.flushes_are_few.ensures.begins;
+      most = c.flushes_are_few.ensures.most;
       flushes = c.flushes_are_few.ensures.flushes;
       keeps = c.flushes_are_few.ensures.keeps;
       ends = c.flushes_are_few.ensures.ends;
     })
-    c.flushes_are_few.ensures.most
