@@ -51,7 +51,7 @@ fn limit_words(word: &[u8]) -> &'static str {
             "it was left by a power cut, which check and list take, but this version cannot play yet, and a later one will: until then insert the pairs that list prints into a new image"
         }
         _ => {
-            "a segment of it could be split or is still to be repaired, or a slot is free beside others, which check and list take, but this version cannot play yet, and a later one will: until then insert the pairs that list prints into an image made by `format 1 DEPTH KIND`"
+            "a segment of it is still to be repaired after a power cut, which check and list take, but this version cannot play yet, and a later one will: until then insert the pairs that list prints into a new image"
         }
     }
 }

@@ -11,7 +11,7 @@ use Rattle.image_file.specs.declared.fault.ImageFault.TheVariants.{Length, Magic
 use Rattle.image_layout.specs.Places.{Shape}
 use Rattle.sound_image.specs.Segments.{ImageWords}
 use Rattle.sound_image.specs.Image.{image_bytes}
-use Rattle.image_rules.specs.Stage.{MayBePlayed}
+use Rattle.image_rules.specs.Stage.{IsUntouched}
 use Rattle.image_file.specs.Fault.{HasFault, IsPlayFault}
 use Rattle.image_file.proofs.RoundTrip.{same_words, same_shape}
 use Rattle.script_text.specs.declared.line.Mode.TheVariants.{Play}
@@ -60,7 +60,7 @@ good_image_is_taken t fault refused good =
     refused.not_memory (no_fault good.start good.good fault (subst (λ (x : List ℕ). HasFault x fault) whole refused.has_fault))
 
 -- an image that may be played has no fault before a play
-pub playable-no_fault : (shape : Shape) (word : ImageWords) (fault : ImageFault) → IsPlayFault shape word fault → MayBePlayed shape word → ⊥
+pub playable-no_fault : (shape : Shape) (word : ImageWords) (fault : ImageFault) → IsPlayFault shape word fault → IsUntouched shape word → ⊥
 playable-no_fault shape word Length h may = h
 playable-no_fault shape word Magic h may = h
 playable-no_fault shape word Format h may = h
@@ -79,8 +79,8 @@ good_image_is_played t fault refused playable =
     let words : refused.words ≡ good.words = same_words refused.words good.words refused.reads.sound.each_fits good.sound.each_fits (whole ∙ good.file) in
     let shape : refused.shape ≡ good.shape = same_shape refused.shape good.shape refused.words good.words words refused.reads.sound good.sound in
     playable-no_fault refused.shape (slice_index refused.words) fault refused.has_fault
-    (subst (λ (s : Shape). MayBePlayed s (slice_index refused.words)) (sym shape)
-    (subst (λ (ws : List ℕ). MayBePlayed good.shape (slice_index ws)) (sym words) playable.playable))
+    (subst (λ (s : Shape). IsUntouched s (slice_index refused.words)) (sym shape)
+    (subst (λ (ws : List ℕ). IsUntouched good.shape (slice_index ws)) (sym words) playable.playable))
 
 -- THE WORDS: of two forms only one can be said
 check_is_no_list : (words : List (List ℕ)) → words ≡ check_words → words ≡ list_words → ⊥

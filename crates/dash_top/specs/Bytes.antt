@@ -5,7 +5,7 @@ use Rattle.outside.specs.Causes.{Rose}
 use Rattle.outside.specs.Storing.{IsFront}
 use Rattle.image_layout.specs.Places.{Shape}
 use Rattle.sound_image.specs.Image.{image_bytes, IsSoundImage}
-use Rattle.image_rules.specs.Stage.{MayBePlayed}
+use Rattle.image_rules.specs.Stage.{IsUntouched}
 use Rattle.image_file.specs.Fault.{HasFault, IsPlayFault}
 use Rattle.image_file.specs.declared.fault.ImageFault.{ImageFault}
 use Rattle.image_file.specs.declared.fault.ImageFault.TheVariants.{NoMemory as NoMemoryForImage}
@@ -91,7 +91,7 @@ pub record ReadsPlayable (store : Option (List ℕ)) : Type 0 where
   pub shape : Shape
   pub words : List ℕ
   pub reads : ReadsSound store shape words
-  pub playable : MayBePlayed shape (slice_index words)
+  pub playable : IsUntouched shape (slice_index words)
 
 -- what was read, all of the store or a byte more than an image can have, has this fault, which is not want of memory
 pub record RefusesImage (store : Option (List ℕ)) (fault : ImageFault) : Type 0 where

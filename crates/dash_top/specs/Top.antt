@@ -6,7 +6,7 @@ use Rattle.script_text.specs.declared.line.Mode.TheVariants.{Play}
 use Rattle.script_text.specs.declared.fault.ScriptFault.{ScriptFault}
 use Rattle.script_text.specs.Script.{IsScript}
 use Rattle.image_file.specs.declared.fault.ImageFault.{ImageFault}
-use Rattle.image_rules.specs.Stage.{MayBePlayed}
+use Rattle.image_rules.specs.Stage.{IsUntouched}
 use Rattle.image_file.specs.Fault.{IsSoundFile}
 use Rattle.dash_top.specs.Commands.{check_words, list_words, play_words, SaysFormat, IsNoCommand}
 use Rattle.dash_top.specs.Texts.{usage_text, script_fault_text, image_fault_text}
@@ -39,7 +39,7 @@ pub record HasGoodImage (t : Bytes) : Type 0 where
 -- and it may be played
 pub record HasPlayableImage (t : Bytes) : Type 0 where
   pub image : HasGoodImage t
-  pub playable : MayBePlayed image.good.shape (slice_index image.good.words)
+  pub playable : IsUntouched image.good.shape (slice_index image.good.words)
 
 -- the source tells a script of the grammar
 pub record HasGoodScript (t : Bytes) : Type 0 where

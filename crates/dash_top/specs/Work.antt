@@ -6,7 +6,7 @@ use Rattle.outside.specs.Storing.{Holds}
 use Rattle.image_layout.specs.Places.{Shape}
 use Rattle.sound_image.specs.Segments.{frame_of, image_version, IsClean}
 use Rattle.sound_image.specs.Image.{image_bytes}
-use Rattle.image_rules.specs.Stage.{MayBePlayed}
+use Rattle.image_rules.specs.Stage.{IsUntouched}
 use Rattle.image_file.specs.Formatted.{IsFormatted}
 use Rattle.image_file.specs.Pairs.{live_slots, keys_of, ArePairs}
 use Rattle.image_file.specs.declared.fault.ImageFault.{ImageFault}
@@ -62,7 +62,7 @@ pub record Plays (t : Bytes) (transcript : List ℕ) : Type 0 where
   pub shape : Shape
   pub words : List ℕ
   pub reads : ReadsSound t.store_old shape words
-  pub playable : MayBePlayed shape (slice_index words)
+  pub playable : IsUntouched shape (slice_index words)
   pub ending : List ℕ
   pub stores : Holds t.store_old t.store_new ending
   pub played : IsPlayed (image_bytes words) script transcript ending

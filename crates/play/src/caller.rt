@@ -83,13 +83,18 @@ impl Caller {
         }
     }
 
-    /// The engine of that call, before it has done anything.
-    fn next_engine(&self) -> Option<Engine>
-        ensures { result ≡ engine_for self.now.site (slice_get self.now.calls.items self.now.ended) }
+    /// That call begins, where there is one; else no engine runs any more.
+    fn begin_call(&mut self)
+        ensures engine { self.new.engine ≡ engine_for self.old.site (slice_get self.old.calls.items self.old.ended) }
+        ensures others { self.new ≡ record self.old { engine = self.new.engine } }
     {
+        let site = self.site;
         match self.current() {
-            Some(call) => Some(Engine::of(call, self.site)),
-            None => None,
+            Some(call) => match &mut self.engine {
+                Some(engine) => engine.restart(call, site),
+                None => self.engine = Some(Engine::of(call, site)),
+            },
+            None => self.engine = None,
         }
     }
 
@@ -99,7 +104,7 @@ impl Caller {
     {
         self.site.version = version;
         self.ended = 0;
-        self.engine = self.next_engine();
+        self.begin_call();
         self.begun = false;
         self.drew = None;
     }
@@ -122,7 +127,7 @@ impl Caller {
     fn end_attempt(&mut self, call: Call, end: End) -> Option<Entry>
         requires { slice_get self.old.calls.items self.old.ended ≡ Some call }
         ensures caller { (told : List MadeEntry) → length told ≡ self.old.ended
-            → caller_of self.new (told_with result told) ≡ ended (caller_of self.old told) call (reply_of_end end) }
+            → caller_of self.new (told_with result told) ≡ ended (caller_of self.old told) call end (reply_of_end end) }
         ensures count { self.new.ended ≡ counted_with result self.old.ended }
         ensures calls { self.new.calls ≡ self.old.calls }
     {
@@ -131,12 +136,12 @@ impl Caller {
             Some((reply, place)) => {
                 let entry = self.entry(call, reply, place);
                 self.ended += 1;
-                self.engine = self.next_engine();
+                self.begin_call();
                 self.begun = false;
                 Some(entry)
             }
             None => {
-                self.engine = Some(Engine::of(call, self.site));
+                self.engine = Some(Engine::anew(call, self.site, end));
                 self.begun = true;
                 None
             }

@@ -3,7 +3,7 @@
 ghost use Rattle.std.specs.Prelude.{◌≡◌, ℕ, None, Some, List};
 ghost use Rattle.core_run.specs.Running.{Setup, IsRunning};
 ghost use Rattle.core_run.specs.State.{State};
-ghost use Rattle.core_run.specs.Run.{drive, restarted, round, rounds, run_out, ready_for, line_done, lines_done, closed};
+ghost use Rattle.core_run.specs.Run.{drive, restarted, round, rounds, run_out, ready_for, stored_at, line_done, lines_done, closed};
 ghost use Rattle.core_run.specs.Wells.{RunsThrough, RunsOut};
 ghost use Rattle.play.specs.Callers.{calls_left};
 ghost use Rattle.play.specs.RunStates.{Stands, StandsSomewhere, HasTurned, end_state};
@@ -123,6 +123,20 @@ impl RunState {
         self.drive(most, caller, goal, n);
     }
 
+    /// A caller that a line names goes on to its next store to a word of the image. Behind the image there is no such word, and it
+    /// goes on till it stops.
+    fn go_to_store(&mut self, most: u64, caller: u8, word: u64)
+        requires { StandsSomewhere self.old }
+        ensures { (t : Setup) (s : State) → Stands t s self.old
+            → Stands t (stored_at t.shape most caller word (ready_for t.shape most caller s)) self.new }
+    {
+        if word < self.device.geometry().words() {
+            self.go_on(most, caller, Goal::StoreTo(word), 1);
+        } else {
+            self.go_on(most, caller, Goal::AnyEvent, most);
+        }
+    }
+
     /// Does one line.
     fn do_line(&mut self, most: u64, line: Line)
         requires { StandsSomewhere self.old }
@@ -132,7 +146,7 @@ impl RunState {
         match line {
             Line::Step(caller, n) => self.go_on(most, caller, Goal::AnyEvent, n),
             Line::Until(caller, kind, n) => self.go_on(most, caller, Goal::Kind(kind), n),
-            Line::At(caller, word) => self.go_on(most, caller, Goal::StoreTo(word), 1),
+            Line::At(caller, word) => self.go_to_store(most, caller, word),
             Line::Close => self.run_out(most),
             Line::Call(..) | Line::Fuse(..) | Line::Cut(_) => {}
         }

@@ -3,7 +3,7 @@
 ghost use Rattle.std.specs.Prelude.{◌≡◌, ℕ, ◌≤◌, ◌+◌, ◌*◌, ◌<◌, ◌^◌, All, [], ◌∷◌, length, slice_index, IfOk};
 ghost use Rattle.script_text.specs.Calls.{IsLineSoFar};
 ghost use Rattle.sound_image.specs.Image.{IsSoundImage};
-ghost use Rattle.image_rules.specs.Stage.{MayBePlayed};
+ghost use Rattle.image_rules.specs.Stage.{IsUntouched};
 ghost use Rattle.image_layout.specs.Places.{words_of};
 ghost use Rattle.core_run.specs.Run.{cut_of, most_with, most_events};
 ghost use Rattle.core_run.specs.State.{waiting};
@@ -16,6 +16,7 @@ use crate::caller::Caller;
 use crate::calls::calls_of_caller;
 use crate::run_state::RunState;
 use core_run::Keeper;
+use engine::events_of_call;
 use image_file::Medium;
 use image_layout::Geometry;
 use map_model::{Call, Lists, NoMemory};
@@ -28,9 +29,6 @@ use world::Site;
 
 /// The greatest number of a caller.
 const CALLERS: u8 = 64;
-
-/// For each call the events that an attempt makes at most, and one.
-const EVENTS_OF_CALL: u64 = 344;
 
 /// The choice of the power cut with which a script ends, if it does.
 fn cut_of(lines: &[Line]) -> Option<u64>
@@ -49,7 +47,7 @@ fn most_events(geometry: &Geometry, calls: usize) -> u64
     requires { calls ≤ 1000000 }
     ensures { result ≡ most_with geometry.now calls }
 {
-    2 * geometry.words() + EVENTS_OF_CALL * (calls as u64 + 1)
+    2 * geometry.words() + events_of_call(geometry) * (calls as u64 + 1)
 }
 
 /// Caller 1, before the restart has ended.
@@ -98,7 +96,7 @@ fn begin(alloc: Global, medium: Medium, calls: Vec<Call>) -> Result<RunState, No
 /// `NoMemory` if memory runs out.
 pub fn play(alloc: Global, medium: Medium, script: &Script) -> Result<Session, NoMemory>
     requires sound { IsSoundImage medium.geometry medium.words }
-    requires playable { MayBePlayed medium.geometry (slice_index medium.words) }
+    requires playable { IsUntouched medium.geometry (slice_index medium.words) }
     requires few { length script.now ≤ 1000000 }
     requires so_far { All IsLineSoFar script.now }
     ensures played { IfOk result (IsPlay medium.geometry medium.words script.now) }

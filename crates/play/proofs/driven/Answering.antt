@@ -23,14 +23,14 @@ current_stays r drawn next call others calls count is =
     ∙ ap (λ v. slice_get v.items r.ended) (calls ∙ ap (λ (q : PlayCaller). q.calls) others) ∙ is
 
 -- what an attempt leaves at its end has nothing of its engine, and nothing that the call drew
-ended_same : (r : PlayCaller) (drew other : Option Entry) (call : Call) (e : Engine) (told : List Entry) (reply : Option (Reply × ℕ))
-    → ended (caller_of (taken_to e (record r { drew = drew })) told) call reply ≡ ended (record (caller_of r told) { drew = other }) call reply
-ended_same r drew other call e told None = refl
-ended_same r drew other call e told (Some reply) = refl
+ended_same : (r : PlayCaller) (drew other : Option Entry) (call : Call) (e : Engine) (told : List Entry) (end : End) (reply : Option (Reply × ℕ))
+    → ended (caller_of (taken_to e (record r { drew = drew })) told) call end reply ≡ ended (record (caller_of r told) { drew = other }) call end reply
+ended_same r drew other call e told end None = refl
+ended_same r drew other call e told end (Some reply) = refl
 
 pub ended_goes_on : (shape : Shape) (r : PlayCaller) (drew other : Option Entry) (call : Call) (e : Engine) (told : List Entry) (w : Want) (end : End)
     → Some end ≡ end_by shape e w
-    → ended (caller_of (taken_to e (record r { drew = drew })) told) call (reply_of_end end) ≡ ended_or_on (record (caller_of r told) { drew = other }) call e w
+    → ended (caller_of (taken_to e (record r { drew = drew })) told) call end (reply_of_end end) ≡ ended_or_on (record (caller_of r told) { drew = other }) call e w
 ended_goes_on shape r drew other call e told (want.Load i) end is = absurd (cc)
 ended_goes_on shape r drew other call e told (want.Store i x) end is = absurd (cc)
 ended_goes_on shape r drew other call e told (want.Exchange i x y) end is = absurd (cc)
@@ -40,5 +40,16 @@ ended_goes_on shape r drew other call e told want.Draw end is = absurd (cc)
 ended_goes_on shape r drew other call e told want.Power end is = absurd (cc)
 ended_goes_on shape r drew other call e told want.Done end is =
     let same : end ≡ end_of e = cc in
-    ended_same r drew other call e told (reply_of_end end)
-    ∙ ap (λ (x : End). ended (record (caller_of r told) { drew = other }) call (reply_of_end x)) same
+    ended_same r drew other call e told end (reply_of_end end)
+    ∙ ap (λ (x : End). ended (record (caller_of r told) { drew = other }) call x (reply_of_end x)) same
+
+-- an engine that wants something has not ended its attempt
+pub goes_on : (shape : Shape) (e : Engine) (w : Want) → (w ≡ want.Done → ⊥) → None ≡ end_by shape e w
+goes_on shape e (want.Load i) on = refl
+goes_on shape e (want.Store i x) on = refl
+goes_on shape e (want.Exchange i x y) on = refl
+goes_on shape e (want.Flush l) on = refl
+goes_on shape e want.Fence on = refl
+goes_on shape e want.Draw on = refl
+goes_on shape e want.Power on = refl
+goes_on shape e want.Done on = absurd (on refl)

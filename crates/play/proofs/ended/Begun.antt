@@ -1,20 +1,21 @@
 -- In every run a caller whose calls are all answered has begun no other.
 use Rattle.std.proofs.Common.{◌≡◌, ℕ, zero, suc, refl, Bool, true, false, Option, None, Some, List, [], ◌∷◌, map}
-use Rattle.std.specs.Prelude.{⊤, slice_get, slice_set, if◌then◌else◌}
+use Rattle.std.specs.Prelude.{⊤, nat_lt, slice_get, slice_set, if◌then◌else◌}
 use Rattle.std.specs.List.{AllByRecursion}
 use Rattle.op_core.specs.declared.want.Want.{Want}
 use Rattle.op_core.specs.declared.want.Want.TheVariants as want
 use Rattle.op_core.specs.declared.want.Ans.{Ans}
 use Rattle.trace.specs.Events.{Words}
-use Rattle.image_layout.specs.Places.{Shape}
+use Rattle.image_layout.specs.Places.{Shape, words_of}
 use Rattle.map_model.specs.declared.call.Call.{Call}
 use Rattle.map_model.specs.declared.entry.Reply.{Reply}
 use Rattle.restart_op.specs.declared.restart.RestartOp.{RestartOp}
 use Rattle.script_text.specs.declared.line.Counted.TheVariants as counted
 use Rattle.script_text.specs.declared.line.Line.{Line}
 use Rattle.script_text.specs.declared.line.Line.TheVariants as line
+use Rattle.engine.specs.declared.engine.End.{End}
 use Rattle.engine.specs.declared.engine.Engine.{Engine}
-use Rattle.engine.specs.Engine.{wanted, taken}
+use Rattle.engine.specs.Engine.{wanted, taken, end_of, reply_of_end}
 use Rattle.engine.specs.Core.{Caller, current, Core, drawn_by, ended, ended_or_on, answered}
 use Rattle.core_run.specs.declared.keeper.Keeper.{Keeper}
 use Rattle.core_run.specs.declared.keeper.Keeper.TheVariants.{Restarting, Open, Closing, Closed}
@@ -38,12 +39,12 @@ NoneBegunIn s = HaveNoneBegun s.core.callers
 no_call : (o : Option Call) (call : Call) (b : Bool) → o ≡ Some call → o ≡ None → b ≡ false
 no_call o call b is none = cc
 
-begun_ended : (c : Caller) (call : Call) (r : Option (Reply × ℕ)) → current c ≡ Some call → HasNoneBegun (ended c call r)
-begun_ended c call (Some r) is = λ none. refl
-begun_ended c call None is = λ none. no_call (current c) call true is none
+begun_ended : (c : Caller) (call : Call) (end : End) (r : Option (Reply × ℕ)) → current c ≡ Some call → HasNoneBegun (ended c call end r)
+begun_ended c call end (Some r) is = λ none. refl
+begun_ended c call end None is = λ none. no_call (current c) call true is none
 
 begun_gone_on : (c : Caller) (call : Call) (e : Engine) (w : Want) → current c ≡ Some call → HasNoneBegun (ended_or_on c call e w)
-begun_gone_on c call e want.Done is = begun_ended c call _ is
+begun_gone_on c call e want.Done is = begun_ended c call (end_of e) (reply_of_end (end_of e)) is
 begun_gone_on c call e (want.Load w) is = λ none. no_call (current c) call true is none
 begun_gone_on c call e (want.Store w x) is = λ none. no_call (current c) call true is none
 begun_gone_on c call e (want.Exchange w a b) is = λ none. no_call (current c) call true is none
@@ -164,7 +165,8 @@ module _ (shape : Shape) where
     begun_line (line.Fuse c n) s all = all
     begun_line (line.Step c n) s all = begun_drive most c AnyEvent n _ (begun_ready c s all)
     begun_line (line.Until c e n) s all = begun_drive most c (Kind e) n _ (begun_ready c s all)
-    begun_line (line.At c word) s all = begun_drive most c (StoreTo word) 1 _ (begun_ready c s all)
+    begun_line (line.At c word) s all =
+        begun_if (nat_lt word (words_of shape)) _ _ (begun_drive most c (StoreTo word) 1 _ (begun_ready c s all)) (begun_drive most c AnyEvent most _ (begun_ready c s all))
     begun_line line.Close s all = begun_run_out s all
     begun_line (line.Cut choice) s all = all
 

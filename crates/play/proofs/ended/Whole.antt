@@ -3,11 +3,11 @@ use Rattle.std.proofs.Common.{◌≡◌, ℕ, ◌+◌, ◌≤◌, Option, None, 
 use Rattle.std.specs.Prelude.{All, slice_index, ◌==◌, if◌then◌else◌}
 use Rattle.std.specs.List.{AllByRecursion}
 use Rattle.std.proofs.lemmas.Bool.{cases_Bool}
-use Rattle.image_layout.specs.Places.{Shape, head_at}
+use Rattle.image_layout.specs.Places.{Shape}
 use Rattle.map_model.specs.declared.call.Call.{Call}
 use Rattle.map_model.specs.declared.call.Call.TheVariants.{Get, Insert, Update, Remove}
 use Rattle.sound_image.specs.Image.{IsSoundImage}
-use Rattle.image_rules.specs.Stage.{MayBePlayed}
+use Rattle.image_rules.specs.Stage.{IsUntouched}
 use Rattle.engine.specs.Laws.{IsServedImage}
 use Rattle.engine.specs.Fits.{IsWordCall}
 use Rattle.reply_text.specs.declared.left.Session.{Session}
@@ -104,13 +104,10 @@ by_recursion : {A : Type 0} (P : A → Type 0) (xs : List A) → All P xs → Al
 by_recursion P [] all = tt
 by_recursion P (x ∷ xs) all = (all 0 x (omega arith), by_recursion P xs (λ i d h. all (suc i) d (omega arith)))
 
--- a sound image that may be played is served: it is grown out, and no power cut has left it
-pub is_served : (shape : Shape) (first : List ℕ) → IsSoundImage shape first → MayBePlayed shape (slice_index first)
+-- a sound image that no power cut has left is served
+pub is_served : (shape : Shape) (first : List ℕ) → IsSoundImage shape first → IsUntouched shape (slice_index first)
     → IsServedImage shape first
-is_served shape first sound may = record {
-  playable = record { sound = sound; untouched = λ w. (may w).untouched };
-  grown = λ s slot. (may (head_at shape s + 1)).grown s slot refl;
-}
+is_served shape first sound may = record { sound = sound; untouched = may }
 
 -- the setup of a play is one
 pub is_task : (shape : Shape) (first : List ℕ) (lines : List Line) (calls : List Call) → IsServedImage shape first

@@ -21,6 +21,6 @@ returns-in-Some-clause-caller c e its told many =
     c.answer_engine-end.ensures.taken e its_drawn ∙ ap (λ (q : PlayCaller). taken_to (taken e c.args.ans) q) others in
     let counted : length told ≡ next.ended = many ∙ sym (c.answer_engine-end.ensures.count ∙ ap (λ (q : PlayCaller). q.ended) others) in
     c.end_attempt-entry.ensures.caller told counted
-    ∙ ap (λ (q : PlayCaller). ended (caller_of q told) c.args.call (reply_of_end c.in-Some.end)) next_is
+    ∙ ap (λ (q : PlayCaller). ended (caller_of q told) c.args.call c.in-Some.end (reply_of_end c.in-Some.end)) next_is
     ∙ ended_goes_on drawn.site.geometry r drawn.drew (drawn_by (caller_of r told) c.args.call c.args.ans) c.args.call (taken e c.args.ans) told
     (wanted (taken e c.args.ans)) c.in-Some.end (sym c.in-Some.is ∙ c.answer_engine-end.ensures.end e its_drawn)
