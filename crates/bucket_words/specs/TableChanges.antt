@@ -57,3 +57,17 @@ abbrev pub KeepsOrLeaves : Shape → Words → ℕ → ℕ → ℕ → ℕ → T
 KeepsOrLeaves shape word s b x r =
     ((allocated r x ≡ allocated r (word (bucket_at shape s b + 1))) × (member r x ≡ member r (word (bucket_at shape s b + 1))))
     ⊎ ((allocated r x ≡ 0) × (IsTaken word (bucket_at shape s b) r → owner_of shape word (key_hash shape (key_in word (bucket_at shape s b) r)) ≡ Some s → ⊥))
+
+-- A SLOT IS VACATED: it is free after, and where its segment owned the record that took it before, the key of that has another there after
+pub record IsVacated (shape : Shape) (word other : Words) (s b r : ℕ) : Type 0 where
+  pub free : IsTaken other (bucket_at shape s b) r → ⊥
+  pub stays : IsTaken word (bucket_at shape s b) r → owner_of shape word (key_hash shape (key_in word (bucket_at shape s b) r)) ≡ Some s
+      → (c : ℕ) × (t : ℕ) × Hit shape other s c t (key_in word (bucket_at shape s b) r)
+
+-- metadata word x of bucket b of segment s says of slot r what the word there says, or frees it, where the key of its record stands in another slot
+-- too, which x leaves, or its segment does not own that
+abbrev pub KeepsOrVacates : Shape → Words → ℕ → ℕ → ℕ → ℕ → Type 0
+KeepsOrVacates shape word s b x r =
+    ((allocated r x ≡ allocated r (word (bucket_at shape s b + 1))) × (member r x ≡ member r (word (bucket_at shape s b + 1))))
+    ⊎ ((allocated r x ≡ 0) × (IsTaken word (bucket_at shape s b) r → owner_of shape word (key_hash shape (key_in word (bucket_at shape s b) r)) ≡ Some s
+    → (c : ℕ) × (t : ℕ) × Hit shape word s c t (key_in word (bucket_at shape s b) r) × (c ≡ b → allocated t x ≡ 1)))

@@ -13,5 +13,5 @@ pub use notes::{exact_notes_tell_of_the_stash, notes_stay, stash_records_are_not
 pub use records::{
     changes_of_a_record, cores_of_the_image_decide, foreign_records_leave, keys_are_found,
     no_slot_changes, one_slot_changes, owners_follow_the_structure, places_of_a_key_decide,
-    stores_beside_records, tables_follow_the_rules,
+    spoiled_records_leave, stores_beside_records, tables_follow_the_rules,
 };

@@ -16,7 +16,7 @@ ghost use Rattle.bucket_words.specs.Core.{core_of, core, SameCoresIn};
 ghost use Rattle.bucket_words.specs.Owners.{HasStructure, owner_of, home_at, SameOwners};
 ghost use Rattle.bucket_words.specs.Hits.{Hit, HasNone, HasNoneIn, HasOnly, find};
 ghost use Rattle.bucket_words.specs.Standing.{StandsAt, IsTable};
-ghost use Rattle.bucket_words.specs.TableChanges.{KeepsTable, ChangesKey, OnlyNewHit, IsReadyAt, ChangesSlot, IsLeft, KeepsOrLeaves};
+ghost use Rattle.bucket_words.specs.TableChanges.{KeepsTable, ChangesKey, OnlyNewHit, IsReadyAt, ChangesSlot, IsLeft, KeepsOrLeaves, IsVacated, KeepsOrVacates};
 
 /// Which segment owns a hash depends on the structure alone, which no store to a bucket changes; and the owner is one of the
 /// segments. A key's home bucket begins in the owner, and stays where owners stay.
@@ -81,6 +81,15 @@ pub fn foreign_records_leave()
         → KeepsTable shape word other }
     ensures metadata { (shape : Shape) (word : Words) (s b x : ℕ) → IsTable shape word → s < shape.segments → b < buckets
         → ((r : ℕ) → r < record_slots → KeepsOrLeaves shape word s b x r) → KeepsTable shape word (with_word word (bucket_at shape s b + 1) x) }
+{}
+
+/// So it is where slots are freed whose keys stand in another slot too, before and after, or whose records their segment does not own.
+pub fn spoiled_records_leave()
+    ensures slots { (shape : Shape) (word other : Words) → IsTable shape word → SameOwners shape word other
+        → ((s b r : ℕ) → s < shape.segments → b < buckets → r < record_slots → SameSlot word other (bucket_at shape s b) r ⊎ IsVacated shape word other s b r)
+        → KeepsTable shape word other }
+    ensures metadata { (shape : Shape) (word : Words) (s b x : ℕ) → IsTable shape word → s < shape.segments → b < buckets
+        → ((r : ℕ) → r < record_slots → KeepsOrVacates shape word s b x r) → KeepsTable shape word (with_word word (bucket_at shape s b + 1) x) }
 {}
 
 /// What the store of one word does to a record, in any slot of any bucket of any segment. A metadata word that takes the slot

@@ -2,5 +2,6 @@
 pub mod OneSlot
 pub mod NoSlot
 pub mod OneRecord
+pub mod Vacated
 pub mod Foreign
 pub mod Prepared

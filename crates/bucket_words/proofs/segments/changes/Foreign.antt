@@ -1,114 +1,28 @@
 -- Records leave that their segment does not own: no key has what it has by them, so a table stays one, and each key has what it had.
-use Rattle.std.proofs.Common.{◌≡◌, ◌⊎◌, ℕ, ◌+◌, ◌*◌, ◌<◌, Some, inl, inr, refl, sym, ap, subst, ◌∙◌, arith}
-use Rattle.std.proofs.lemmas.Bool.{cases_eq}
-use Rattle.bucket_meta.specs.Bucket.{allocated, member, record_slots}
+use Rattle.std.proofs.Common.{◌⊎◌, ℕ, ◌+◌, ◌<◌, inl, inr}
+use Rattle.bucket_meta.specs.Bucket.{record_slots}
 use Rattle.trace.specs.Events.{Words, with_word}
-use Rattle.image_layout.specs.Places.{Shape, bucket_at, block, buckets}
-use Rattle.sound_image.specs.Records.{key_hash}
-use Rattle.bucket_words.specs.Buckets.{value_in}
+use Rattle.image_layout.specs.Places.{Shape, bucket_at, buckets}
 use Rattle.bucket_words.specs.Slots.{SameSlot}
-use Rattle.bucket_words.specs.Owners.{SameOwners, owner_of}
-use Rattle.bucket_words.specs.Hits.{Hit}
-use Rattle.bucket_words.specs.Standing.{IsTable, StandsAt}
+use Rattle.bucket_words.specs.Owners.{SameOwners}
+use Rattle.bucket_words.specs.Standing.{IsTable}
 use Rattle.bucket_words.specs.TableChanges.{KeepsTable, IsLeft, KeepsOrLeaves}
-use Rattle.bucket_words.proofs.segments.Places.{other_word, this_word, owners_kept}
-use Rattle.bucket_words.proofs.segments.Finding.{find_alike_any}
-use Rattle.bucket_words.proofs.segments.changes.OneRecord.{not_both, finger_of_words}
+use Rattle.bucket_words.proofs.segments.changes.Vacated.{vacated_keeps}
+use Rattle.bucket_words.proofs.segments.changes.Vacated as vacated
 
-module _ (shape : Shape) (word other : Words) (table : IsTable shape word) (owners : SameOwners shape word other)
-    (each : (q c t : ℕ) → q < shape.segments → c < buckets → t < record_slots → SameSlot word other (bucket_at shape q c) t ⊎ IsLeft shape word other q c t) where
-  -- the slot of a record that stands there after is the same
-  same_after : (q c t l : ℕ) → Hit shape other q c t l → SameSlot word other (bucket_at shape q c) t
-  same_after q c t l h = elim (each q c t h.segment h.bucket h.slot) [ inl o ↦ o | inr f ↦ absurd (f.free h.taken) ]
-
-  -- and so is that of a record that its segment owns
-  same_owned : (q c t l : ℕ) → owner_of shape word (key_hash shape l) ≡ Some q → Hit shape word q c t l → SameSlot word other (bucket_at shape q c) t
-  same_owned q c t l own h = elim (each q c t h.segment h.bucket h.slot) [
-    | inl o ↦ o
-    | inr f ↦ absurd (f.foreign h.taken (subst (λ (z : ℕ). owner_of shape word (key_hash shape z) ≡ Some q) (sym h.key) own))
-  ]
-
-  stays : (q c t l : ℕ) → owner_of shape word (key_hash shape l) ≡ Some q → Hit shape word q c t l → Hit shape other q c t l
-  stays q c t l own h = let o = same_owned q c t l own h in
-      record { segment = h.segment; bucket = h.bucket; slot = h.slot; taken = o.taken ∙ h.taken; key = o.key h.taken ∙ h.key }
-
-  stood : (q c t l : ℕ) → Hit shape other q c t l → Hit shape word q c t l
-  stood q c t l h = let o = same_after q c t l h in let taken = sym o.taken ∙ h.taken in
-      record { segment = h.segment; bucket = h.bucket; slot = h.slot; taken = taken; key = sym (o.key taken) ∙ h.key }
-
-  same_value : (q c t l : ℕ) → Hit shape other q c t l → value_in other (bucket_at shape q c) t ≡ value_in word (bucket_at shape q c) t
-  same_value q c t l h = (same_after q c t l h).value (stood q c t l h).taken
-
-  left_table : IsTable shape other
-  left_table = record {
-    stands = λ q c t l h own.
-        let w = stood q c t l h in
-        let o = same_after q c t l h in
-        let p = table.stands q c t l w (sym (owners (key_hash shape l)) ∙ own) in
-        record {
-          bucket = subst (λ (z : ℕ). StandsAt shape c l z) (sym (o.membership w.taken)) p.bucket;
-          fingerprint = o.fingerprint w.taken ∙ p.fingerprint;
-        };
-    one_value = λ q c t d u l h g own.
-        same_value q c t l h ∙ table.one_value q c t d u l (stood q c t l h) (stood q d u l g) (sym (owners (key_hash shape l)) ∙ own) ∙ sym (same_value q d u l g);
-  }
-
-  pub left_keeps : KeepsTable shape word other
-  left_keeps = record {
-    table = left_table;
-    pairs = λ l. find_alike_any shape word other table left_table l (owners (key_hash shape l))
-        (λ q c t own h. (c, t, stays q c t l own h, same_value q c t l (stays q c t l own h))) (λ q c t own h. (c, t, stood q c t l h));
-  }
+-- such a slot is vacated
+pub left_keeps : (shape : Shape) (word other : Words) → IsTable shape word → SameOwners shape word other
+    → ((q c t : ℕ) → q < shape.segments → c < buckets → t < record_slots → SameSlot word other (bucket_at shape q c) t ⊎ IsLeft shape word other q c t)
+    → KeepsTable shape word other
+left_keeps shape word other table owners each = vacated_keeps shape word other table owners (λ q c t seg near low. elim (each q c t seg near low) [
+  | inl o ↦ inl o
+  | inr f ↦ inr (record { free = f.free; stays = λ taken own. absurd (f.foreign taken own) })
+])
 
 -- A METADATA WORD IS STORED that frees such slots alone
-module _ (shape : Shape) (word : Words) (table : IsTable shape word) (s b x : ℕ) (segment : s < shape.segments) (bucket : b < buckets)
-    (each : (r : ℕ) → r < record_slots → KeepsOrLeaves shape word s b x r) where
-  abbrev at : ℕ
-  at = bucket_at shape s b
-
-  abbrev told : Words
-  told = with_word word (at + 1) x
-
-  kept : (q c n j : ℕ) → c < buckets → n < block → j ≡ bucket_at shape q c + n → (q ≡ s → c ≡ b → n ≡ 1 → ⊥) → told j ≡ word j
-  kept = other_word shape word s b 1 x (at + 1) bucket (omega arith) refl
-
-  meta : told (at + 1) ≡ x
-  meta = this_word shape word s b 1 x (at + 1) bucket (omega arith) refl (at + 1) refl
-
-  -- a slot of another bucket
-  there : (q c t : ℕ) → c < buckets → t < record_slots → (q ≡ s → c ≡ b → ⊥) → SameSlot word told (bucket_at shape q c) t
-  there q c t near l apart =
-      let same = kept q c 1 (bucket_at shape q c + 1) near (omega arith) refl (λ e f _. apart e f) in
-      record {
-        taken = ap (allocated t) same;
-        membership = λ _. ap (member t) same;
-        key = λ _. kept q c (4 + 2 * t) (bucket_at shape q c + 4 + 2 * t) near (omega (arith, l)) (omega arith) (λ e f _. apart e f);
-        value = λ _. kept q c (5 + 2 * t) (bucket_at shape q c + 5 + 2 * t) near (omega (arith, l)) (omega arith) (λ e f _. apart e f);
-        fingerprint = λ _. finger_of_words t _ _ _ _ (kept q c 2 (bucket_at shape q c + 2) near (omega arith) refl (λ e f _. apart e f)) (kept q c 3 (bucket_at shape q c + 3) near (omega arith) refl (λ e f _. apart e f));
-      }
-
-  -- and one of this bucket, by its bits
-  here : (t : ℕ) → t < record_slots → SameSlot word told at t ⊎ IsLeft shape word told s b t
-  here t l = elim (each t l) [
-    | inl same ↦ inl (record {
-      taken = ap (allocated t) meta ∙ same.0;
-      membership = λ _. ap (member t) meta ∙ same.1;
-      key = λ _. kept s b (4 + 2 * t) (at + 4 + 2 * t) bucket (omega (arith, l)) (omega arith) (λ _ _ e. omega (arith, e));
-      value = λ _. kept s b (5 + 2 * t) (at + 5 + 2 * t) bucket (omega (arith, l)) (omega arith) (λ _ _ e. omega (arith, e));
-      fingerprint = λ _. finger_of_words t _ _ _ _ (kept s b 2 (at + 2) bucket (omega arith) refl (λ _ _ e. omega (arith, e))) (kept s b 3 (at + 3) bucket (omega arith) refl (λ _ _ e. omega (arith, e)));
-    })
-    | inr left ↦ inr (record { free = λ taken. not_both _ taken (ap (allocated t) meta ∙ left.0); foreign = left.1 })
-  ]
-
-  all_slots : (q c t : ℕ) → q < shape.segments → c < buckets → t < record_slots → SameSlot word told (bucket_at shape q c) t ⊎ IsLeft shape word told q c t
-  all_slots q c t seg near l = elim (cases_eq q s) [
-    | inr n ↦ inl (there q c t near l (λ e _. n e))
-    | inl e ↦ elim (cases_eq c b) [
-      | inr n ↦ inl (there q c t near l (λ _ f. n f))
-      | inl f ↦ subst (λ (z : ℕ). SameSlot word told (bucket_at shape z c) t ⊎ IsLeft shape word told z c t) (sym e)
-          (subst (λ (z : ℕ). SameSlot word told (bucket_at shape s z) t ⊎ IsLeft shape word told s z t) (sym f) (here t l))
-    ]
-  ]
-
-  pub cleared_keeps : KeepsTable shape word told
-  cleared_keeps = left_keeps shape word told table (owners_kept shape word s b 1 x (at + 1) bucket (omega arith) refl) all_slots
+pub cleared_keeps : (shape : Shape) (word : Words) → IsTable shape word → (s b x : ℕ) → s < shape.segments → b < buckets
+    → ((r : ℕ) → r < record_slots → KeepsOrLeaves shape word s b x r) → KeepsTable shape word (with_word word (bucket_at shape s b + 1) x)
+cleared_keeps shape word table s b x segment bucket each = vacated.cleared_keeps shape word table s b x segment bucket (λ r low. elim (each r low) [
+  | inl o ↦ inl o
+  | inr f ↦ inr (f.0, λ taken own. absurd (f.1 taken own))
+])
