@@ -3,3 +3,4 @@ pub mod Head
 pub mod Sides
 pub mod Prefixes
 pub mod Written
+pub mod Versions

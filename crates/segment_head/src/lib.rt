@@ -12,6 +12,7 @@ ghost use Rattle.segment_head.specs.Written.{spare_in};
 
 mod laws;
 pub mod prefix;
+pub mod version;
 pub mod word;
 
 use crate::word::{

@@ -21,6 +21,7 @@ fn words_from_outside(rt: HostRuntime) {
         assert_eq!(rt; head.write(), word);
         assert_eq!(rt; read_of_written(&head), Some(head));
     }
+    assert_eq!(rt; version::unversioned(511), 256);
     assert_eq!(rt; Head::read(0x0401), None);
     assert_eq!(rt; written_of_read(257), Some(257));
 }

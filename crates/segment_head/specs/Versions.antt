@@ -1,0 +1,6 @@
+-- The version byte of a header word, taken out.
+use Rattle.std.specs.Prelude.{ℕ, ◌*◌, ◌/◌, ◌^◌}
+
+-- the header word with 0 as its version byte, and all its other bits
+abbrev pub unversioned : ℕ → ℕ
+unversioned h1 = h1 / 2 ^ 8 * 2 ^ 8
