@@ -2,3 +2,5 @@
 pub mod filling
 pub mod publishing
 pub mod directing
+pub mod mending
+pub mod repairing

@@ -6,6 +6,8 @@ pub mod Fitting
 pub mod Keepers
 pub mod HeldGuards
 pub mod Stepping
+pub mod Leaving
+pub mod Used
 pub mod media
 pub mod beginning
 pub mod Callers

@@ -2,13 +2,13 @@
 -- what is said of records, notes of homes and the stash is said of segments that are watched.
 use Rattle.std.specs.Prelude.{◌≡◌, ◌≢◌, ◌==◌, ℕ, ◌+◌, ◌*◌, ◌<◌, ◌≤◌, Some, List, ◌⊎◌, if◌then◌else◌}
 use Rattle.trace.specs.Events.{Words}
-use Rattle.segment_head.specs.HeadWord.{version_in, state_in, depth_in, normal}
+use Rattle.segment_head.specs.HeadWord.{version_in, state_in, depth_in, free, normal}
 use Rattle.image_layout.specs.Places.{bucket_at, homes, stash_buckets}
 use Rattle.sound_image.specs.Records.{key_hash, HasExactNotes}
 use Rattle.bucket_words.specs.Standing.{IsTable}
 use Rattle.bucket_words.specs.Hits.{Hit, find}
 use Rattle.bucket_words.specs.Owners.{owner_of}
-use Rattle.frame_facts.specs.Facts.{Fact, IsLiveSlot, HoldsFact}
+use Rattle.frame_facts.specs.Facts.{Fact, IsLiveSlot, IsUsedSlot, HoldsFact}
 use Rattle.sound_image.specs.Segments.{frame_of}
 use Rattle.world.specs.Ground.{Ground, IsGround, version_of, IsStructured, IsUnder, IsCurrentIn}
 use Rattle.world.specs.Conditions.{IsOwed, HoldsMove}
@@ -21,6 +21,12 @@ use Rattle.world.specs.areas.Fitting.{HoldsWord, Fits}
 use Rattle.world.specs.areas.Lasting.{Owners, Lasting, SettledSlots}
 use Rattle.world.specs.areas.Kinds.{Guard, guard_word, HasGuard, area_of}
 use Rattle.world.specs.areas.Asking.{MaySay}
+
+-- USED SLOTS: one that was free at the start and is not free now is used: its segment is live, or is the new side of a splitting segment of the
+-- image's version
+abbrev pub UsedSlots : Ground → Words → Type 0
+UsedSlots site words = (s : ℕ) → s < site.shape.segments → state_in (site.front (header_word site.shape s)) ≡ free → state_in (words (header_word site.shape s)) ≢ free
+    → IsUsedSlot (frame_of site.shape words) (version_of site) s
 
 module _ (site : Ground) (words : Words) (views : List View) where
   -- a segment is watched: it is current, and no view has it whole
@@ -42,6 +48,8 @@ module _ (site : Ground) (words : Words) (views : List View) where
     pub owners : Owners site words views
     pub lasting : Lasting site words views
     pub settled_slots : SettledSlots site words views
+    -- and slots that were free at the start
+    pub used_slots : UsedSlots site words
 
   -- WORDS: a known word is the newest, and known words and loose ones are held by their view
   pub record KnownWords : Type 0 where

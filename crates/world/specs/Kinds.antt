@@ -212,9 +212,13 @@ with_draw call n v = record v {
   answer = None;
 }
 
+-- the first hash of a region of this depth and pattern
+abbrev pub first_of_region : ℕ → ℕ → ℕ
+first_of_region depth pattern = pattern * 2 ^ (64 - depth)
+
 -- what a header tells who looks for a version: where it is live and has that version, it is current, and where its region begins
 abbrev pub says_current : Bool → ℕ → ℕ → List Fact
-says_current true s head = Current s ∷ Begins s (pattern_in head * 2 ^ (64 - depth_in head)) ∷ []
+says_current true s head = Current s ∷ Begins s (first_of_region (depth_in head) (pattern_in head)) ∷ []
 says_current false s head = []
 
 -- a view that met a header

@@ -1,18 +1,19 @@
--- Where each live segment has the image's version: which slots stay taken at a step, and what is at rest where nobody has areas.
-use Rattle.std.specs.Prelude.{◌≡◌, ◌≢◌, ℕ, ◌<◌, List, []}
+-- Which segments stay current at a step, and which slots stay taken; and what is at rest where nobody has areas: where each live segment has the
+-- image's version, and where segments may be stale.
+use Rattle.std.specs.Prelude.{◌≡◌, ◌≢◌, ℕ, ◌<◌, ◌⊎◌, List, []}
 use Rattle.trace.specs.Events.{Words}
 use Rattle.map_model.specs.declared.call.Call.{Call}
 use Rattle.map_model.specs.declared.entry.Reply.TheVariants.{Full}
 use Rattle.segment_head.specs.HeadWord.{version_in, state_in, free, splitting}
 use Rattle.sound_image.specs.Segments.{frame_of}
-use Rattle.frame_facts.specs.Facts.{IsLiveSlot}
-use Rattle.world.specs.Ground.{Ground, version_of}
+use Rattle.frame_facts.specs.Facts.{IsLiveSlot, IsUsedSlot}
+use Rattle.world.specs.Ground.{Ground, version_of, IsCurrentIn}
 use Rattle.world.specs.Views.{View, Has, At}
 use Rattle.world.specs.Kinds.{refuses}
 use Rattle.world.specs.Invariant.{Holds}
 use Rattle.world.specs.areas.Areas.{Segment, Whole, header_word}
 use Rattle.world.specs.areas.Lasting.{IsTakenInMedia}
-use Rattle.world.specs.areas.Rows.{news}
+use Rattle.world.specs.areas.Rows.{news, frees, renews}
 use Rattle.world.specs.areas.Kinds.{Guard, guard_word, HasGuard, area_of, moves}
 use Rattle.world.specs.StepKinds.{StepKind, of_call, of_structure, MayTake}
 use Rattle.world.specs.StepLaws.{words_of_step, views_of_step}
@@ -66,3 +67,63 @@ pub record OthersAreQuiet : Type 0 where
       → (guard : Guard) → HasGuard site.shape guard → words (guard_word site.shape guard) ≢ 0 → Has (area_of guard) v.areas
   pub splits : (site : Ground) (words : Words) (views : List View) (j : ℕ) (v : View) → Holds site words views → At views j v → OthersHaveNoAreas j views → AllCurrent site words
       → (s : ℕ) → s < site.shape.segments → state_in (words (header_word site.shape s)) ≡ splitting → Has (Segment s) v.areas × Has (Whole s) v.areas
+
+-- ---- WHERE SEGMENTS MAY BE STALE
+-- a segment is stale: it lives, and has not the image's version
+pub record IsStaleSlot (site : Ground) (words : Words) (s : ℕ) : Type 0 where
+  pub live : IsLiveSlot (frame_of site.shape words) s
+  pub old : version_in (words (header_word site.shape s)) ≢ version_of site
+
+-- at each step that a caller may take, whatever number it has: of the words before, and of those after
+abbrev pub AtEachStep : (Ground → StepKind → Words → Words → Type 0) → Type 0
+AtEachStep Is = (site : Ground) (words : Words) (views : List View) (j : ℕ) (v : View) (kind : StepKind) (number : ℕ) → Holds site words views → At views j v → MayTake site kind v
+    → Is site kind words (words_of_step site kind number words)
+
+-- WHAT IS CURRENT STAYS CURRENT
+abbrev pub CurrentStays : Type 0
+CurrentStays = AtEachStep (λ site kind words later. (s : ℕ) → IsCurrentIn site words s → IsCurrentIn site later s)
+
+-- NOTHING GROWS STALE: a segment that is stale after a step was so before
+abbrev pub NothingGrowsStale : Type 0
+NothingGrowsStale = AtEachStep (λ site kind words later. (s : ℕ) → IsStaleSlot site later s → IsStaleSlot site words s)
+
+-- A STALE SEGMENT stays stale until it is renewed
+abbrev pub StaleStays : Type 0
+StaleStays = AtEachStep (λ site kind words later. (s : ℕ) → IsStaleSlot site words s → IsStaleSlot site later s ⊎ ((x : ℕ) × (kind ≡ of_structure (moves renews s x))))
+
+-- and one that is renewed was stale, and is current
+abbrev pub RenewedAreCurrent : Type 0
+RenewedAreCurrent = (site : Ground) (words : Words) (views : List View) (j : ℕ) (v : View) (s x number : ℕ) → Holds site words views → At views j v
+    → MayTake site (of_structure (moves renews s x)) v
+    → IsStaleSlot site words s × IsCurrentIn site (words_of_step site (of_structure (moves renews s x)) number words) s
+
+-- a slot is used: its segment is live, or is the new side of a splitting segment of the image's version
+abbrev pub IsUsedIn : Ground → Words → ℕ → Type 0
+IsUsedIn site words s = IsUsedSlot (frame_of site.shape words) (version_of site) s
+
+-- WHAT IS USED STAYS USED
+abbrev pub UsedStays : Type 0
+UsedStays = AtEachStep (λ site kind words later. (s : ℕ) → IsUsedIn site words s → IsUsedIn site later s)
+
+-- SLOTS ARE FREED BY REPAIRS ALONE: a slot that is free after a step and was not so before is the side of a stale segment, freed by this step
+abbrev pub FreedByRepairs : Type 0
+FreedByRepairs = AtEachStep (λ site kind words later. (s : ℕ) → s < site.shape.segments → state_in (words (header_word site.shape s)) ≢ free → state_in (later (header_word site.shape s)) ≡ free
+    → (p : ℕ) × (x : ℕ) × (kind ≡ of_structure (moves (frees p) s x)) × IsStaleSlot site words p)
+
+-- A SLOT THAT WAS FREE AT THE START and is taken is used, so it stays taken
+abbrev pub FreeSlotsStayTaken : Type 0
+FreeSlotsStayTaken = AtEachStep (λ site kind words later. (s : ℕ) → s < site.shape.segments → state_in (site.front (header_word site.shape s)) ≡ free → state_in (words (header_word site.shape s)) ≢ free
+    → state_in (later (header_word site.shape s)) ≢ free)
+
+-- and so it does in whatever a cut may leave
+abbrev pub FreeSlotsStayTakenInMedia : Type 0
+FreeSlotsStayTakenInMedia = (site : Ground) (words : Words) (views : List View) (j : ℕ) (v : View) (kind : StepKind) (number : ℕ) → Holds site words views → At views j v → MayTake site kind v
+    → (s : ℕ) → s < site.shape.segments → state_in (site.front (header_word site.shape s)) ≡ free → IsTakenInMedia site words views s
+    → IsTakenInMedia site (words_of_step site kind number words) (views_of_step site kind j v words views) s
+
+-- WHERE NO VIEW HAS AREAS no current segment is split; and where no other view has areas, one that is is whole in this view
+pub record CurrentSegmentsRest : Type 0 where
+  pub nobody : (site : Ground) (words : Words) (views : List View) → Holds site words views → ((i : ℕ) (u : View) → At views i u → u.areas ≡ [])
+      → (s : ℕ) → IsCurrentIn site words s → state_in (words (header_word site.shape s)) ≢ splitting
+  pub others : (site : Ground) (words : Words) (views : List View) (j : ℕ) (v : View) → Holds site words views → At views j v → OthersHaveNoAreas j views
+      → (s : ℕ) → IsCurrentIn site words s → state_in (words (header_word site.shape s)) ≡ splitting → Has (Segment s) v.areas × Has (Whole s) v.areas

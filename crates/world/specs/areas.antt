@@ -18,3 +18,4 @@ pub mod Restarting
 pub mod Bridging
 pub mod SpentNumbers
 pub mod Splitting
+pub mod Repairing

@@ -8,6 +8,8 @@
 
 mod areas;
 mod laws;
+mod mending;
+mod repairing;
 pub mod site;
 mod splitting;
 mod steps;
@@ -20,14 +22,17 @@ pub use areas::{
     words_have_one_holder,
 };
 pub use laws::{entries_are_legal, holders_may, readers_may, steps_add_one_reply};
+pub use mending::repairers_may_mend;
+pub use repairing::{repairers_may_redirect, repairers_may_take_back};
 pub use site::Site;
 pub use splitting::{
     holders_may_begin_a_split, holders_may_direct, holders_may_fill, holders_may_finish,
     holders_may_publish, locks_tell_of_records,
 };
 pub use steps::{
-    calls_need_no_areas, calls_spare_the_structure, each_step_keeps, media_stand, mild_kinds_keep,
-    rests_are_quiet, seats_keep, slots_stay, steps_do_events, steps_leave, worlds_stay_well,
+    calls_need_no_areas, calls_spare_the_structure, current_segments_rest, each_step_keeps,
+    media_stand, mild_kinds_keep, rests_are_quiet, seats_keep, slots_stay, stale_segments_only_go,
+    steps_do_events, steps_leave, used_slots_stay, worlds_stay_well,
 };
 pub use structure::{
     callers_keep_locks_and_words, callers_keep_media, callers_keep_other_parts,

@@ -4,6 +4,7 @@ ghost use Rattle.world.specs.Ground.{Ground};
 ghost use Rattle.world.specs.Laws.{ChangesOneWord};
 ghost use Rattle.world.specs.StepKinds.{StepKind};
 ghost use Rattle.world.specs.Slots.{SlotsStayTaken, TakenStays, FullsAreTaken, StaysCurrent, NewSlotsWereFree, RestsAreQuiet, OthersAreQuiet};
+ghost use Rattle.world.specs.Slots.{CurrentStays, NothingGrowsStale, StaleStays, RenewedAreCurrent, UsedStays, FreedByRepairs, FreeSlotsStayTaken, FreeSlotsStayTakenInMedia, CurrentSegmentsRest};
 ghost use Rattle.world.specs.StepLaws.{Keeps, MildKindsKeep, MediaStand, PowerStays, StepsDoEvents, KeepsWell, OtherStepsKeepPairs, SpentLocksStay, RepliesComeLater, CutsKeep, JoinsKeep, CallsLeaveAreas, CallsWithoutAreas, KnowWithoutAreas, CallsSpareTheStructure};
 
 /// A peek, a look at the power, a flush and the cut of the power keep the invariant, whatever areas their view has.
@@ -77,4 +78,28 @@ pub fn slots_stay()
 pub fn rests_are_quiet()
     ensures nobody { RestsAreQuiet }
     ensures others { OthersAreQuiet }
+{}
+
+/// A step leaves each current segment current, and makes none stale. A stale one stays stale until it is renewed; one that is renewed was stale
+/// and is current.
+pub fn stale_segments_only_go()
+    ensures current { CurrentStays }
+    ensures stale { NothingGrowsStale }
+    ensures stays { StaleStays }
+    ensures renewed { RenewedAreCurrent }
+{}
+
+/// A slot is used where its segment is live, or is the new side of a splitting segment of the image's version: it stays so, and no other slot is
+/// freed but the side of a stale segment. So a slot that was free at the start and is taken stays taken, in the newest words and in whatever
+/// a cut may leave.
+pub fn used_slots_stay()
+    ensures used { UsedStays }
+    ensures freed { FreedByRepairs }
+    ensures taken { FreeSlotsStayTaken }
+    ensures media { FreeSlotsStayTakenInMedia }
+{}
+
+/// Where no view has areas no current segment is split. Where no view but one has areas, one that is split is whole in that view.
+pub fn current_segments_rest()
+    ensures { CurrentSegmentsRest }
 {}

@@ -2,7 +2,7 @@
 //! do nothing: each stands for the law that its contract says.
 
 ghost use Rattle.world.specs.areas.Calling.{CallersKeepLocks, CallersKeepHeldWords};
-ghost use Rattle.world.specs.areas.Keeping.{KnownIsSo, KeepsHeldWords, KeepsLocks, KeepsRecords, KeepsNotesOfHomes, KeepsOthers, KeepsAreas, KeepsSettledSlots, KeepsGuards, KeepsHeldGuards, KeepsSayers, KeepsPins, KeepsSound, KeepsFacts, KeepsStructure, KeepsMedia, KeepsHolding, StructureStepsSpare, StructureStepsReplyNothing};
+ghost use Rattle.world.specs.areas.Keeping.{KnownIsSo, KeepsHeldWords, KeepsLocks, KeepsRecords, KeepsNotesOfHomes, KeepsOthers, KeepsAreas, KeepsSettledSlots, KeepsUsedSlots, KeepsGuards, KeepsHeldGuards, KeepsSayers, KeepsPins, KeepsSound, KeepsFacts, KeepsStructure, KeepsMedia, KeepsHolding, StructureStepsSpare, StructureStepsReplyNothing};
 ghost use Rattle.world.specs.areas.Bridging.{CallersKnowAsBefore, CallersKeepOthers, CallersKeepRecords, CallersKeepNotesOfHomes, CallersKeepStructure, CallersKeepMedia, CallersKeepReadersNotes};
 ghost use Rattle.world.specs.areas.Beginning.{RestartsBegin, RaisedVersionsLeaveNoneCurrent, RaisedVersionsBegin};
 ghost use Rattle.world.specs.areas.Restarting.{SoundImagesBegin};
@@ -44,10 +44,11 @@ pub fn other_parts_stay()
 
 /// The words are such after a step that all views may have their locks and areas; and in whatever a cut may leave a hash has the owner that it
 /// has now, and the same segments live, but for sides that are not settled. And a slot that is taken is so there, or who took it has the guard
-/// of free slots still.
+/// of free slots still; one that was free at the start is live then, or the new side of a splitting segment of the image's version.
 pub fn steps_keep_areas()
     ensures areas { KeepsAreas }
     ensures slots { KeepsSettledSlots }
+    ensures used { KeepsUsedSlots }
 {}
 
 /// Who has a guard, its word is not 0; a guard whose word is not 0 is had by some view; who says that a segment claims hashes has its guard or

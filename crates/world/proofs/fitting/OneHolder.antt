@@ -12,7 +12,7 @@ use Rattle.frame_facts.specs.DeadSlots.{IsInSlot}
 use Rattle.world.specs.Ground.{Ground, IsUnder, version_of, IsCurrentIn}
 use Rattle.world.specs.Views.{View, Has, At, HasLock}
 use Rattle.world.specs.Media.{MayLeave, IsPossible}
-use Rattle.world.specs.areas.Areas.{Area, Segment, Stale, Side, Free, Whole, Allocation, Directory, header_word, IsDirectoryWord, InArea}
+use Rattle.world.specs.areas.Areas.{Area, Segment, Stale, Side, Free, Whole, Allocation, Directory, header_word, link_word, IsDirectoryWord, InArea}
 use Rattle.world.specs.areas.Fitting.{HoldsWord, IsGuardedSide, LivesOn, MayStayDead, Fits, HasGrounds, HeldWordsAreNear}
 use Rattle.world.proofs.holding.Beside.{newest}
 
@@ -24,6 +24,9 @@ one_slot shape s t i a b = by (first_segment shape) s t i a.from a.to b.from b.t
 
 pub head_in_slot : (shape : Shape) (s : ℕ) → IsInSlot shape s (header_word shape s)
 head_in_slot shape s = record { from = omega arith; to = omega arith }
+
+pub link_in_slot : (shape : Shape) (s : ℕ) → IsInSlot shape s (link_word shape s)
+link_in_slot shape s = record { from = omega arith; to = omega arith }
 
 -- a slot whose dead header may be left does not live on
 pub side_dies : (site : Ground) (words : Words) (views : List View) (n : ℕ) → MayStayDead site words views n → LivesOn site words views n → ⊥

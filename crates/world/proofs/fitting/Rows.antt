@@ -293,7 +293,7 @@ module _ (site : Ground) (words : Words) (views : List View) (j : ℕ) (v w : Vi
   my_sides (news p) q have n h = elim h [
     | inl z ↦
         let same = of_side n s z in let a = q.1 in (
-          made n p (subst (λ k. k < site.shape.segments) (sym same) slot) a.slot (apart p a.splits (λ e. omega (arith, q.0.was, e))) have.1 a.splits
+          made n p (subst (λ k. k < site.shape.segments) (sym same) slot) a.slot (apart p a.splits (λ e. omega (arith, q.0.was, e))) (f.whole j v p at have.1).0 a.splits
               (at_head (λ k. state_in k ≢ free) n same (λ e. omega (arith, q.0.becomes, e)))
               (at_head (λ k. depth_in k ≡ depth_at old p + 1) n same a.depth) (at_head (λ k. pattern_in k ≡ 2 * pattern_at old p + 1) n same a.pattern),
           subst (λ k. MayStayDead site us (set views j w) k) (sym same) (record {

@@ -1,6 +1,6 @@
 -- Stores to words that are no headers, fences, and steps that leave all cores and what is loose keep locks and areas fitting.
 use Rattle.std.proofs.Common.{◌≡◌, ◌≢◌, ◌⊎◌, ℕ, ◌<◌, Bool, true, false, List, ◌∷◌, set, inl, inr, refl, sym, ap, ◌∙◌, subst}
-use Rattle.std.proofs.lemmas.Bool.{cases_Bool, eqb-true}
+use Rattle.std.proofs.lemmas.Bool.{cases_Bool, cases_eq, ne_eqb, eqb-true}
 use Rattle.trace.specs.Events.{Words, with_word}
 use Rattle.trace.proofs.Replaced.{replaced_other}
 use Rattle.segment_head.specs.HeadWord.{version_in, state_in, free, HasLiveState}
@@ -13,7 +13,7 @@ use Rattle.world.specs.Ground.{Ground, version_of}
 use Rattle.world.specs.Views.{View, Has, At, HasLock, IsLoose}
 use Rattle.world.specs.areas.Areas.{Area, Segment, Stale, Side, Free, Whole, Allocation, Directory, header_word, is_side_at, is_whole_at, is_of_segment, is_of_allocation, is_of_directory, all_but}
 use Rattle.world.specs.areas.Fitting.{IsGuardedSide, LivesOn, MayStayDead, IsLivingLock, HoldsAll, Fits, HasGrounds}
-use Rattle.world.specs.areas.Spared.{OtherStoresKeepFits, HasFenced, LooseIsHeld, FencesKeepFits, ForeignWordsAreSpared, AreaChange, stays, adds, leaves, gives_segment, gives_allocation, gives_directory, areas_after, MayAdd, IsNotSplit, AreasMayChange, SparingStepsKeepFits}
+use Rattle.world.specs.areas.Spared.{OtherStoresKeepFits, HasFenced, LooseIsHeld, FencesKeepFits, ForeignWordsAreSpared, AreaChange, stays, adds, leaves, gives_side, gives_segment, gives_allocation, gives_directory, areas_after, MayAdd, IsNotSplit, AreasMayChange, SparingStepsKeepFits}
 use Rattle.world.proofs.basics.Lists.{set_there}
 use Rattle.world.proofs.basics.Seats.{carry}
 use Rattle.world.proofs.basics.Structures.{header_is}
@@ -242,6 +242,7 @@ module _ (site : Ground) (words later : Words) (views : List View) (j : ℕ) (v 
       (λ n h q. dead_goes n (f.side j v n at (subst (Has (Side n)) e h)).0.slot q)
   changed (adds a) e may = add_fits a e may
   changed (leaves s) e may = drop_fits (is_whole_at s) e (λ t k. no_clash _ k) (λ n k. no_clash _ k) (λ t k. subst (IsNotSplit site words views) (sym (eqb-true t s k)) may)
+  changed (gives_side n) e may = drop_fits (is_side_at n) e (λ t k. no_clash _ k) (λ m k. no_clash _ k) (λ t k. no_clash _ k)
   changed (gives_segment s) e may = drop_fits (is_of_segment s) e (λ t k. (k, k, may.1)) (λ n k. no_clash _ k)
       (λ t k. subst (IsNotSplit site words views) (sym (eqb-true t s k)) may.0)
   changed gives_allocation e may = drop_fits is_of_allocation e (λ t k. no_clash _ k) (λ n k. refl) (λ t k. no_clash _ k)
@@ -250,12 +251,16 @@ module _ (site : Ground) (words later : Words) (views : List View) (j : ℕ) (v 
 pub sparing_steps : SparingStepsKeepFits
 sparing_steps site words later views j v w change f at st = changed site words later views j v w f at st.cores st.no_more st.no_less st.locks st.wholes change st.areas_are st.may
 
--- ---- and no side is dropped
+-- ---- and no side is dropped in which a segment lives
 pub sides_stay : (site : Ground) (words : Words) (views : List View) (change : AreaChange) (v w : View) → w.areas ≡ areas_after change v.areas → AreasMayChange site words views change v
-    → (n : ℕ) → Has (Side n) v.areas → Has (Side n) w.areas
-sides_stay site words views stays v w e may n h = subst (Has (Side n)) (sym e) h
-sides_stay site words views (adds a) v w e may n h = subst (Has (Side n)) (sym e) (inr h)
-sides_stay site words views (leaves s) v w e may n h = subst (Has (Side n)) (sym e) (but_after (is_whole_at s) v.areas (Side n) h refl)
-sides_stay site words views (gives_segment s) v w e may n h = subst (Has (Side n)) (sym e) (but_after (is_of_segment s) v.areas (Side n) h refl)
-sides_stay site words views gives_allocation v w e may n h = subst (Has (Side n)) (sym e) (but_after is_of_allocation v.areas (Side n) h refl)
-sides_stay site words views gives_directory v w e may n h = subst (Has (Side n)) (sym e) (but_after is_of_directory v.areas (Side n) h refl)
+    → (n : ℕ) → HasLiveState (words (header_word site.shape n)) → Has (Side n) v.areas → Has (Side n) w.areas
+sides_stay site words views stays v w e may n live h = subst (Has (Side n)) (sym e) h
+sides_stay site words views (adds a) v w e may n live h = subst (Has (Side n)) (sym e) (inr h)
+sides_stay site words views (leaves s) v w e may n live h = subst (Has (Side n)) (sym e) (but_after (is_whole_at s) v.areas (Side n) h refl)
+sides_stay site words views (gives_side m) v w e may n live h = elim (cases_eq n m) [
+  | inl is ↦ absurd (may (subst (λ (z : ℕ). HasLiveState (words (header_word site.shape z))) is live))
+  | inr ne ↦ subst (Has (Side n)) (sym e) (but_after (is_side_at m) v.areas (Side n) h (ne_eqb n m ne))
+]
+sides_stay site words views (gives_segment s) v w e may n live h = subst (Has (Side n)) (sym e) (but_after (is_of_segment s) v.areas (Side n) h refl)
+sides_stay site words views gives_allocation v w e may n live h = subst (Has (Side n)) (sym e) (but_after is_of_allocation v.areas (Side n) h refl)
+sides_stay site words views gives_directory v w e may n live h = subst (Has (Side n)) (sym e) (but_after is_of_directory v.areas (Side n) h refl)

@@ -16,7 +16,7 @@ use Rattle.world.specs.Parts.{IsPastLock, IsUnmoved, IsAnswer}
 use Rattle.world.specs.Invariant.{rank, IsPastHeader, Notes, Holds}
 use Rattle.world.specs.areas.Areas.{header_word}
 use Rattle.world.specs.areas.Rows.{Row, marks, news, goes_live, finishes, unmarks, frees, renews, IsRow, HasForRow}
-use Rattle.world.specs.areas.Kinds.{Guard, guard_word, StructureKind, takes, gives, finds_stale, closes, finds_free, finds_side, reads, sets, moves, settles, settles_side, opens}
+use Rattle.world.specs.areas.Kinds.{Guard, of_free_slots, guard_word, StructureKind, takes, takes_for_side, gives, finds_stale, closes, finds_free, finds_link, finds_side, finds_entry, finds_begin, reads, sets, moves, settles, settles_side, opens}
 use Rattle.world.specs.areas.Asking.{MayBeNewest, MayStandBeside, MaySet, MayAt}
 use Rattle.world.specs.areas.Keeping.{words_then}
 use Rattle.world.proofs.basics.Grounds.{one_lock, lock_apart, lock_within, under_lock}
@@ -295,11 +295,15 @@ module _ (site : Ground) (words : Words) (views : List View) (j : ℕ) (v : View
     -- EACH KIND
     pub spares_notes : (kind : StructureKind) → MayAt site kind v → SparesNotes site words (words_then site kind j words)
     spares_notes (takes guard caller) may = taken guard caller (eqb (words (guard_word site.shape guard)) 0)
+    spares_notes (takes_for_side n caller) may = taken of_free_slots caller (eqb (words (guard_word site.shape of_free_slots)) 0)
     spares_notes (gives guard) may = guarded guard 0
     spares_notes (finds_stale s version) may = beyond words (λ i _. refl)
     spares_notes (closes s i) may = beyond words (λ n _. refl)
     spares_notes (finds_free n) may = beyond words (λ i _. refl)
+    spares_notes (finds_link p depth pattern) may = beyond words (λ i _. refl)
     spares_notes (finds_side p n depth pattern) may = beyond words (λ i _. refl)
+    spares_notes (finds_entry e i) may = beyond words (λ n _. refl)
+    spares_notes (finds_begin s) may = beyond words (λ i _. refl)
     spares_notes (reads i) may = beyond words (λ n _. refl)
     spares_notes (sets i x) may = set_spares i x may
     spares_notes (moves row s x) may = let r = may.0 words now in row_spares row s x r.0 r.1

@@ -6,17 +6,17 @@ use Rattle.trace.specs.Events.{Words, with_word, after}
 use Rattle.trace.specs.Events.Event.{loaded, exchanged}
 use Rattle.trace.proofs.Replaced.{replaced_same, replaced_other}
 use Rattle.segment_head.specs.HeadWord.{version_in, state_in, free}
-use Rattle.image_layout.specs.Places.{words_of}
+use Rattle.image_layout.specs.Places.{Shape, words_of}
 use Rattle.image_layout.specs.Volatile.{counter_word, power_word}
 use Rattle.map_model.specs.declared.entry.Entry.{Entry}
 use Rattle.sound_image.specs.Segments.{frame_of}
-use Rattle.frame_facts.specs.Facts.{IsLiveSlot}
+use Rattle.frame_facts.specs.Facts.{IsLiveSlot, Fact}
 use Rattle.world.specs.Ground.{Ground, IsLockWord, IsSpentLock, HasSpentLock}
 use Rattle.world.specs.Views.{View, Has, At}
 use Rattle.world.specs.Parts.{History, Room, Spending, Powered}
 use Rattle.world.specs.Invariant.{Holds}
 use Rattle.world.specs.areas.Areas.{Area, Side, Stale, Free, Whole, header_word}
-use Rattle.world.specs.areas.Kinds.{Guard, guard_word, StructureKind, takes, gives, finds_stale, closes, finds_free, finds_side, reads, sets, moves, settles, settles_side, opens, with_guard, with_area, with_slot, is_new_side, view_then}
+use Rattle.world.specs.areas.Kinds.{Guard, of_free_slots, guard_word, StructureKind, takes, takes_for_side, gives, finds_stale, closes, finds_free, finds_link, finds_side, finds_entry, finds_begin, reads, sets, moves, settles, settles_side, opens, with_guard, with_area, with_slot, is_new_side, is_ready_side, told_by_side, with_facts, view_then, with_guard_for}
 use Rattle.world.specs.areas.Asking.{MayBeNewest, MayAt}
 use Rattle.world.specs.areas.Keeping.{found_at, words_then}
 use Rattle.world.proofs.basics.Grounds.{lock_within}
@@ -59,9 +59,17 @@ guard_same : (t : Bool) (guard : Guard) (v : View) → HasSame v (with_guard t g
 guard_same true guard v = plain v (with_guard true guard v) refl refl refl refl refl refl refl refl
 guard_same false guard v = plain v v refl refl refl refl refl refl refl refl
 
+guard_for_same : (shape : Shape) (t : Bool) (n : ℕ) (v : View) → HasSame v (with_guard_for shape t n v)
+guard_for_same shape true n v = guard_same true of_free_slots v
+guard_for_same shape false n v = plain v (with_guard_for shape false n v) refl refl refl refl refl refl refl refl
+
 area_same : (t : Bool) (area : Area) (i x : ℕ) (v : View) → HasSame v (with_area t area i x v)
 area_same true area i x v = plain v (with_area true area i x v) refl refl refl refl refl refl refl refl
 area_same false area i x v = plain v v refl refl refl refl refl refl refl refl
+
+told_same : (facts : List Fact) (t : Bool) (area : Area) (i x : ℕ) (v : View) → HasSame v (with_facts facts (with_area t area i x v))
+told_same facts true area i x v = plain v (with_facts facts (with_area true area i x v)) refl refl refl refl refl refl refl refl
+told_same facts false area i x v = plain v (with_facts facts v) refl refl refl refl refl refl refl refl
 
 slot_same : (t : Bool) (n i x : ℕ) (v : View) → HasSame v (with_slot t n i x v)
 slot_same true n i x v = area_same true (Free n) i x v
@@ -70,11 +78,16 @@ slot_same false n i x v = plain v (with_slot false n i x v) refl refl refl refl 
 module _ (site : Ground) (words : Words) (v : View) where
   pub same_view : (kind : StructureKind) → HasSame v (view_then site.shape kind (found_at site kind words) v)
   same_view (takes guard caller) = guard_same (eqb (words (guard_word site.shape guard)) 0) guard v
+  same_view (takes_for_side n caller) = guard_for_same site.shape (eqb (words (guard_word site.shape of_free_slots)) 0) n v
   same_view (gives guard) = plain v _ refl refl refl refl refl refl refl refl
   same_view (finds_stale s version) = area_same (not (eqb (version_in (words (header_word site.shape s))) version)) (Stale s) (header_word site.shape s) (words (header_word site.shape s)) v
   same_view (closes s i) = area_same true (Whole s) i (words i) v
   same_view (finds_free n) = slot_same (eqb (state_in (words (header_word site.shape n))) free) n (header_word site.shape n) (words (header_word site.shape n)) v
-  same_view (finds_side p n depth pattern) = area_same (is_new_side depth pattern (words (header_word site.shape n))) (Side n) (header_word site.shape n) (words (header_word site.shape n)) v
+  same_view (finds_link p depth pattern) = plain v _ refl refl refl refl refl refl refl refl
+  same_view (finds_side p n depth pattern) = let x = words (header_word site.shape n) in
+      told_same (told_by_side (is_ready_side depth pattern x) p n depth pattern) (is_new_side depth pattern x) (Side n) (header_word site.shape n) x v
+  same_view (finds_entry e i) = plain v _ refl refl refl refl refl refl refl refl
+  same_view (finds_begin s) = plain v _ refl refl refl refl refl refl refl refl
   same_view (reads i) = plain v _ refl refl refl refl refl refl refl refl
   same_view (sets i x) = plain v _ refl refl refl refl refl refl refl refl
   same_view (moves row s x) = plain v _ refl refl refl refl refl refl refl refl
@@ -131,11 +144,15 @@ module _ (site : Ground) (words : Words) (views : List View) (j : ℕ) (v : View
   module _ (now : MayBeNewest site v words) where
     pub keeps_far : (kind : StructureKind) → MayAt site kind v → LiveOn (words_then site kind j words) → KeepsFar site words (words_then site kind j words)
     keeps_far (takes guard caller) may lives = taken guard caller (eqb (words (guard_word site.shape guard)) 0) lives
+    keeps_far (takes_for_side n caller) may lives = taken of_free_slots caller (eqb (words (guard_word site.shape of_free_slots)) 0) lives
     keeps_far (gives guard) may lives = guarded guard 0 lives
     keeps_far (finds_stale s version) may lives = nothing
     keeps_far (closes s i) may lives = nothing
     keeps_far (finds_free n) may lives = nothing
+    keeps_far (finds_link p depth pattern) may lives = nothing
     keeps_far (finds_side p n depth pattern) may lives = nothing
+    keeps_far (finds_entry e i) may lives = nothing
+    keeps_far (finds_begin s) may lives = nothing
     keeps_far (reads i) may lives = nothing
     keeps_far (sets i x) may lives = near i x (held_near site words views h.structure.fits j v i at may.holds).0 lives
         (λ lock s e. may.spent words now (subst (λ (z : ℕ). IsSpentLock site.shape words z) e s))

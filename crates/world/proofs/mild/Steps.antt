@@ -18,12 +18,13 @@ use Rattle.bucket_words.proofs.segments.Cores.{within_image}
 use Rattle.bucket_words.proofs.segments.Places.{not_structure}
 use Rattle.frame_facts.specs.DeadSlots.{IsInSlot}
 use Rattle.frame_facts.proofs.Owners.{owner_moves}
+use Rattle.frame_facts.specs.Facts.{Fact}
 use Rattle.world.specs.Ground.{Ground, IsUnder, IsLockWord, version_of, IsCurrentIn}
 use Rattle.world.specs.Views.{View, Has, At}
 use Rattle.world.specs.areas.Areas.{Area, Segment, Stale, Side, Free, Whole, Allocation, Directory, header_word, InArea, is_side_at, is_whole_at}
 use Rattle.world.specs.areas.Fitting.{HasGrounds}
 use Rattle.world.specs.areas.Rows.{Row, marks, news, goes_live, finishes, unmarks, frees, renews, IsRow, HasForRow}
-use Rattle.world.specs.areas.Kinds.{Guard, of_segment, of_free_slots, of_directory, guard_word, goes_with, StructureKind, takes, gives, finds_stale, closes, finds_free, finds_side, reads, sets, moves, settles, settles_side, opens, with_guard, with_area, with_slot, is_new_side, view_then}
+use Rattle.world.specs.areas.Kinds.{Guard, of_segment, of_free_slots, of_directory, guard_word, goes_with, StructureKind, takes, takes_for_side, gives, finds_stale, closes, finds_free, finds_link, finds_side, finds_entry, finds_begin, reads, sets, moves, settles, settles_side, opens, with_guard, with_area, with_slot, is_new_side, is_ready_side, told_by_side, with_facts, view_then, with_guard_for}
 use Rattle.world.specs.areas.Asking.{MayBeNewest, MayStandBeside, IsInOrder, AsksForRow, MaySet, HasOpened, MayAt}
 use Rattle.world.specs.Invariant.{Holds}
 use Rattle.world.specs.areas.Keeping.{found_at, words_then}
@@ -115,9 +116,18 @@ module _ (site : Ground) (words : Words) (views : List View) (j : ℕ) (v : View
   taken guard caller true = behind _ (with_guard true guard v) (guarded guard caller) (refl, refl, refl, refl) (λ t whole. inr whole)
   taken guard caller false = behind words v (λ i _. refl) (refl, refl, refl, refl) (λ t whole. whole)
 
+  taken_for : (n caller : ℕ) (t : Bool)
+      → IsMild site words (after (cond t (exchanged j (guard_word site.shape of_free_slots) caller) (loaded j (guard_word site.shape of_free_slots))) words) v (with_guard_for site.shape t n v)
+  taken_for n caller true = taken of_free_slots caller true
+  taken_for n caller false = behind words (with_guard_for site.shape false n v) (λ i _. refl) (refl, refl, refl, refl) (λ t whole. but_after (is_side_at n) v.areas (Whole t) whole refl)
+
   found : (area : Area) (i x : ℕ) (t : Bool) → IsMild site words words v (with_area t area i x v)
   found area i x true = behind words (with_area true area i x v) (λ n _. refl) (refl, refl, refl, refl) (λ t whole. inr whole)
   found area i x false = behind words v (λ n _. refl) (refl, refl, refl, refl) (λ t whole. whole)
+
+  told : (facts : List Fact) (area : Area) (i x : ℕ) (t : Bool) → IsMild site words words v (with_facts facts (with_area t area i x v))
+  told facts area i x true = behind words (with_facts facts (with_area true area i x v)) (λ n _. refl) (refl, refl, refl, refl) (λ t whole. inr whole)
+  told facts area i x false = behind words (with_facts facts v) (λ n _. refl) (refl, refl, refl, refl) (λ t whole. whole)
 
   found_slot : (n i x : ℕ) (t : Bool) → IsMild site words words v (with_slot t n i x v)
   found_slot n i x true = found (Free n) i x true
@@ -303,11 +313,16 @@ module _ (site : Ground) (words : Words) (views : List View) (j : ℕ) (v : View
     -- EACH KIND
     pub mild_step : (kind : StructureKind) → MayAt site kind v → IsMild site words (words_then site kind j words) v (view_then site.shape kind (found_at site kind words) v)
     mild_step (takes guard caller) may = taken guard caller (eqb (words (guard_word site.shape guard)) 0)
+    mild_step (takes_for_side n caller) may = taken_for n caller (eqb (words (guard_word site.shape of_free_slots)) 0)
     mild_step (gives guard) may = given guard may.2
     mild_step (finds_stale s version) may = found (Stale s) (header_word site.shape s) (words (header_word site.shape s)) (not (eqb (version_in (words (header_word site.shape s))) version))
     mild_step (closes s i) may = found (Whole s) i (words i) true
     mild_step (finds_free n) may = found_slot n (header_word site.shape n) (words (header_word site.shape n)) (eqb (state_in (words (header_word site.shape n))) free)
-    mild_step (finds_side p n depth pattern) may = found (Side n) (header_word site.shape n) (words (header_word site.shape n)) (is_new_side depth pattern (words (header_word site.shape n)))
+    mild_step (finds_link p depth pattern) may = behind words _ (λ n _. refl) (refl, refl, refl, refl) (λ t whole. whole)
+    mild_step (finds_side p n depth pattern) may = let x = words (header_word site.shape n) in
+        told (told_by_side (is_ready_side depth pattern x) p n depth pattern) (Side n) (header_word site.shape n) x (is_new_side depth pattern x)
+    mild_step (finds_entry e i) may = behind words _ (λ n _. refl) (refl, refl, refl, refl) (λ t whole. whole)
+    mild_step (finds_begin s) may = behind words _ (λ n _. refl) (refl, refl, refl, refl) (λ t whole. whole)
     mild_step (reads i) may = behind words _ (λ n _. refl) (refl, refl, refl, refl) (λ t whole. whole)
     mild_step (sets i x) may = set i x may
     mild_step (moves row s x) may = moved row s x may

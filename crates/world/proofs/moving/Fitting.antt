@@ -9,7 +9,7 @@ use Rattle.segment_head.specs.HeadWord.{version_in, state_in, depth_in, pattern_
 use Rattle.image_layout.specs.Places.{Shape, words_of, bucket_at}
 use Rattle.sound_image.specs.Segments.{frame_of, state_at}
 use Rattle.bucket_words.specs.Core.{core_of}
-use Rattle.frame_facts.specs.Facts.{Lives}
+use Rattle.frame_facts.specs.Facts.{Lives, Fact}
 use Rattle.world.specs.Ground.{Ground, IsLockWord}
 use Rattle.world.specs.Views.{View, Has, At, HasLock}
 use Rattle.world.specs.Kinds.{without}
@@ -17,9 +17,9 @@ use Rattle.world.specs.Media.{IsPossible}
 use Rattle.world.specs.areas.Areas.{Area, Segment, Stale, Side, Free, Whole, header_word, is_side_at, is_whole_at, all_but}
 use Rattle.world.specs.areas.Fitting.{Fits, HasGrounds}
 use Rattle.world.specs.areas.Rows.{Row, IsRowIn, areas_by, HasStored}
-use Rattle.world.specs.areas.Spared.{HasFenced, LooseIsHeld, AreaChange, stays, adds, leaves, gives_segment, gives_allocation, gives_directory, areas_after, MayAdd, IsNotSplit, AreasMayChange, SparesAreas}
+use Rattle.world.specs.areas.Spared.{HasFenced, LooseIsHeld, AreaChange, stays, adds, leaves, gives_side, gives_segment, gives_allocation, gives_directory, areas_after, MayAdd, IsNotSplit, AreasMayChange, SparesAreas}
 use Rattle.world.specs.areas.Lasting.{Owners, Lasting, AreSoundMedia, GivesUp}
-use Rattle.world.specs.areas.Kinds.{Guard, of_segment, of_free_slots, of_directory, guard_word, area_of, goes_with, takes, gives, finds_stale, closes, finds_free, finds_side, reads, sets, moves, settles, settles_side, opens, with_guard, with_area, with_slot, is_new_side}
+use Rattle.world.specs.areas.Kinds.{Guard, of_segment, of_free_slots, of_directory, guard_word, area_of, goes_with, takes, takes_for_side, gives, finds_stale, closes, finds_free, finds_link, finds_side, finds_entry, finds_begin, reads, sets, moves, settles, settles_side, opens, with_guard, with_area, with_slot, is_new_side, is_ready_side, told_by_side, with_facts, with_guard_for}
 use Rattle.world.specs.areas.Asking.{KnowsDead, MayAt}
 use Rattle.world.specs.Invariant.{Holds}
 use Rattle.world.specs.areas.Keeping.{whole_beside, KeepsAreas}
@@ -129,6 +129,11 @@ module _ (site : Ground) (words : Words) (views : List View) (j : ℕ) (v : View
   found true area i x may = loaded_fit (with_area true area i x v) (adds area) refl refl refl refl (may refl)
   found false area i x may = idle
 
+  -- with which facts are told
+  told : (facts : List Fact) (t : Bool) (area : Area) (i x : ℕ) → (t ≡ true → MayAdd site words views area v) → AllFit words (with_facts facts (with_area t area i x v))
+  told facts true area i x may = loaded_fit (with_facts facts (with_area true area i x v)) (adds area) refl refl refl refl (may refl)
+  told facts false area i x may = loaded_fit (with_facts facts v) stays refl refl refl refl tt
+
   found_slot : (t : Bool) (n i x : ℕ) → (t ≡ true → MayAdd site words views (Free n) v) → AllFit words (with_slot t n i x v)
   found_slot true n i x may = found true (Free n) i x may
   found_slot false n i x may = loaded_fit (with_slot false n i x v) stays refl refl refl refl tt
@@ -139,18 +144,18 @@ module _ (site : Ground) (words : Words) (views : List View) (j : ℕ) (v : View
       let a = and_parts (eqb (state_in head) fresh) (eqb (depth_in head) (suc depth) && eqb (pattern_in head) (2 * pattern + 1)) is in
       let b = and_parts (eqb (depth_in head) (suc depth)) (eqb (pattern_in head) (2 * pattern + 1)) a.1 in
       let state : state_in head ≡ fresh = eqb-true (state_in head) fresh a.0 in
-      let guard = (h.structure.fits.stale j v p at may.0).0 in
-      let k = may.3 in
-      let same : words (header_word site.shape p) ≡ k.0 = known (header_word site.shape p) k.0 k.1.known in (
+      let k = may.0 in
+      let guard = (h.structure.fits.stale j v p at k.stale).0 in
+      let same : words (header_word site.shape p) ≡ k.head = known (header_word site.shape p) k.head k.knows.known in (
         record {
-          slot = may.1;
+          slot = may.2;
           taken = λ e. omega (arith, state, e);
           parent = p;
           parent_slot = (h.structure.fits.segment j v p at guard words (λ i within. inl refl)).slot;
           guarded = guard;
-          splits = ap state_in same ∙ k.2;
-          depth = eqb-true (depth_in head) (suc depth) b.0 ∙ one_more depth ∙ ap (λ d. d + 1) (sym k.3) ∙ ap (λ z. depth_in z + 1) (sym same);
-          pattern = eqb-true (pattern_in head) (2 * pattern + 1) b.1 ∙ ap (λ q. 2 * q + 1) (sym k.4) ∙ ap (λ z. 2 * pattern_in z + 1) (sym same);
+          splits = ap state_in same ∙ k.splits;
+          depth = eqb-true (depth_in head) (suc depth) b.0 ∙ one_more depth ∙ ap (λ d. d + 1) (sym k.depth_is) ∙ ap (λ z. depth_in z + 1) (sym same);
+          pattern = eqb-true (pattern_in head) (2 * pattern + 1) b.1 ∙ ap (λ q. 2 * q + 1) (sym k.pattern_is) ∙ ap (λ z. 2 * pattern_in z + 1) (sym same);
         },
         λ l. elim l [ inl e ↦ omega (arith, e, state) | inr e ↦ omega (arith, e, state) ],
       )
@@ -190,6 +195,12 @@ module _ (site : Ground) (words : Words) (views : List View) (j : ℕ) (v : View
 
   dead_now : (n : ℕ) → KnowsDead site v n → HasLiveState (words (header_word site.shape n)) → ⊥
   dead_now n k l = k.2 (subst HasLiveState (known (header_word site.shape n) k.0 k.1) l)
+
+  -- with the guard of free slots lost, a side is given up in which no segment lives
+  taken_for : (n caller : ℕ) → MayAt site (takes_for_side n caller) v → (t : Bool) → eqb (words (guard_word site.shape of_free_slots)) 0 ≡ t
+      → AllFit (after (cond t (exchanged j (guard_word site.shape of_free_slots) caller) (loaded j (guard_word site.shape of_free_slots))) words) (with_guard_for site.shape t n v)
+  taken_for n caller may true e = taken of_free_slots caller may.0 true e
+  taken_for n caller may false e = loaded_fit (with_guard_for site.shape false n v) (gives_side n) refl refl refl refl (dead_now n may.2)
 
   settled : (w : View) → ((n : ℕ) → Has (Side n) v.areas → KnowsDead site v n) → HasFenced v.areas v w → AllFit words w
   settled w dead st = fenced_fit w v.areas (inl refl) (inl refl) st (λ n has. dead_now n (dead n (subst (Has (Side n)) st.areas_are has)))
@@ -235,6 +246,7 @@ module _ (site : Ground) (words : Words) (views : List View) (j : ℕ) (v : View
 -- EACH KIND
 pub keep_areas : KeepsAreas
 keep_areas site (takes guard caller) words views j v h at may = taken site words views j v h at guard caller may (eqb (words (guard_word site.shape guard)) 0) refl
+keep_areas site (takes_for_side n caller) words views j v h at may = taken_for site words views j v h at n caller may (eqb (words (guard_word site.shape of_free_slots)) 0) refl
 keep_areas site (gives guard) words views j v h at may = given site words views j v h at guard _ may refl refl refl refl
 keep_areas site (finds_stale s version) words views j v h at may =
     found site words views j v h at (not (eqb (version_in (words (header_word site.shape s))) version)) (Stale s) (header_word site.shape s) (words (header_word site.shape s))
@@ -243,9 +255,13 @@ keep_areas site (closes s i) words views j v h at may = found site words views j
 keep_areas site (finds_free n) words views j v h at may =
     found_slot site words views j v h at (eqb (state_in (words (header_word site.shape n))) free) n (header_word site.shape n) (words (header_word site.shape n))
     (λ e. (may.0, may.1, eqb-true (state_in (words (header_word site.shape n))) free e))
+keep_areas site (finds_link p depth pattern) words views j v h at may = loaded_fit site words views j v h at _ stays refl refl refl refl tt
 keep_areas site (finds_side p n depth pattern) words views j v h at may =
-    found site words views j v h at (is_new_side depth pattern (words (header_word site.shape n))) (Side n) (header_word site.shape n) (words (header_word site.shape n))
+    let x = words (header_word site.shape n) in
+    told site words views j v h at (told_by_side (is_ready_side depth pattern x) p n depth pattern) (is_new_side depth pattern x) (Side n) (header_word site.shape n) x
     (new_side site words views j v h at p n depth pattern may)
+keep_areas site (finds_entry e i) words views j v h at may = loaded_fit site words views j v h at _ stays refl refl refl refl tt
+keep_areas site (finds_begin s) words views j v h at may = loaded_fit site words views j v h at _ stays refl refl refl refl tt
 keep_areas site (reads i) words views j v h at may = loaded_fit site words views j v h at _ stays refl refl refl refl tt
 keep_areas site (sets i x) words views j v h at may = set_fits site words views j v h at i x _ may (record { held = refl; dirty = refl; flushed = refl; areas_are = refl })
 keep_areas site (moves row s x) words views j v h at may = row_fits site words views j v h at row s x _ may (record { held = refl; dirty = refl; flushed = refl; areas_are = refl })

@@ -11,7 +11,7 @@ use Rattle.image_layout.specs.Volatile.{all_words_of}
 use Rattle.world.specs.Ground.{Ground}
 use Rattle.world.specs.Views.{View, Has, At}
 use Rattle.world.specs.areas.Areas.{Area, Stale, Side, Whole, header_word, is_side_at, is_stale_at, is_whole_at}
-use Rattle.world.specs.areas.Kinds.{Guard, of_segment, of_free_slots, of_directory, guard_word, HasGuard, area_of, goes_with, StructureKind, takes, gives, finds_stale, closes, finds_free, finds_side, reads, sets, moves, settles, settles_side, opens, with_guard, with_area, with_slot, is_new_side}
+use Rattle.world.specs.areas.Kinds.{Guard, of_segment, of_free_slots, of_directory, guard_word, HasGuard, area_of, goes_with, StructureKind, takes, takes_for_side, gives, finds_stale, closes, finds_free, finds_link, finds_side, finds_entry, finds_begin, reads, sets, moves, settles, settles_side, opens, with_guard, with_area, with_slot, is_new_side, with_guard_for}
 use Rattle.world.specs.areas.Asking.{MayAt}
 use Rattle.world.specs.areas.Keeping.{words_then, views_then, KeepsHeldGuards}
 use Rattle.world.proofs.basics.Lists.{set_here}
@@ -149,6 +149,12 @@ module _ (site : Ground) (words : Words) (views : List View) (j : ℕ) (v : View
   held_taken guard caller true = held_stored guard caller (with_guard true guard v) (λ _. inl refl) (λ other apart has. inr has)
   held_taken guard caller false = held_same words v (λ guard. refl) (λ guard has. has)
 
+  -- one for a side, which is none of a guard
+  held_for : (n caller : ℕ) (t : Bool)
+      → AreHeld site (after (cond t (exchanged j (guard_word site.shape of_free_slots) caller) (loaded j (guard_word site.shape of_free_slots))) words) (set views j (with_guard_for site.shape t n v))
+  held_for n caller true = held_taken of_free_slots caller true
+  held_for n caller false = held_same words (with_guard_for site.shape false n v) (λ guard. refl) (λ guard has. but_after (is_side_at n) v.areas (area_of guard) has (no_side n guard))
+
 -- EACH KIND
 pub keep_held_guards : KeepsHeldGuards
 keep_held_guards site kind words views j v h at may = by kind may
@@ -158,14 +164,18 @@ keep_held_guards site kind words views j v h at may = by kind may
 
     by : (kind : StructureKind) → MayAt site kind v → AreHeld site (words_then site kind j words) (views_then site kind j v words views)
     by (takes guard caller) may = held_taken site words views j v at held guard caller (eqb (words (guard_word site.shape guard)) 0)
+    by (takes_for_side m caller) may = held_for site words views j v at held m caller (eqb (words (guard_word site.shape of_free_slots)) 0)
     by (gives guard) may = held_stored site words views j v at held guard 0 _ (λ some. absurd (some refl)) (λ other apart has. but_after (goes_with guard) v.areas (area_of other) has (goes_apart site.shape guard other apart))
     by (finds_stale s version) may = held_same site words views j v at held words _ (λ guard. refl)
         (found_more v (not (eqb (version_in (words (header_word site.shape s))) version)) (Stale s) (header_word site.shape s) (words (header_word site.shape s)))
     by (closes s i) may = held_same site words views j v at held words _ (λ guard. refl) (found_more v true (Whole s) i (words i))
     by (finds_free m) may = held_same site words views j v at held words _ (λ guard. refl)
         (slot_more v (eqb (state_in (words (header_word site.shape m))) free) m (header_word site.shape m) (words (header_word site.shape m)))
+    by (finds_link p depth pattern) may = held_same site words views j v at held words _ (λ guard. refl) (λ guard has. has)
     by (finds_side p m depth pattern) may = held_same site words views j v at held words _ (λ guard. refl)
         (found_more v (is_new_side depth pattern (words (header_word site.shape m))) (Side m) (header_word site.shape m) (words (header_word site.shape m)))
+    by (finds_entry e i) may = held_same site words views j v at held words _ (λ guard. refl) (λ guard has. has)
+    by (finds_begin s) may = held_same site words views j v at held words _ (λ guard. refl) (λ guard has. has)
     by (reads i) may = held_same site words views j v at held words _ (λ guard. refl) (λ guard has. has)
     by (sets i x) may = held_near site words views j v at held i x _ (held_within site words views h j v i at may.holds) (λ guard has. has)
     by (moves row s x) may = held_near site words views j v at held (header_word site.shape s) x _ (row_near site words views j v h at row s x may)

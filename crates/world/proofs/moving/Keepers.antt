@@ -5,19 +5,19 @@ use Rattle.std.proofs.lemmas.Bool.{eq-eqb}
 use Rattle.trace.specs.Events.{Words, with_word, after}
 use Rattle.trace.specs.Events.Event.{loaded, exchanged}
 use Rattle.trace.proofs.Replaced.{replaced_other}
-use Rattle.segment_head.specs.HeadWord.{version_in, state_in, free}
-use Rattle.image_layout.specs.Places.{Shape, words_of, bucket_at, buckets}
+use Rattle.segment_head.specs.HeadWord.{version_in, state_in, free, depth_in, pattern_in}
+use Rattle.image_layout.specs.Places.{Shape, words_of, bucket_at, buckets, entry_at}
 use Rattle.frame_facts.specs.Facts.{Fact, Lives, Current, Rooted, Owns, Lacks, Deep, Begins, Used, Taken}
 use Rattle.world.specs.Ground.{Ground, IsCurrentIn}
 use Rattle.world.specs.Views.{View, Has, At, HasLock}
-use Rattle.world.specs.Kinds.{without}
+use Rattle.world.specs.Kinds.{without, first_of_region}
 use Rattle.world.specs.Parts.{IsPinned}
 use Rattle.world.specs.Invariant.{Holds}
-use Rattle.world.specs.areas.Areas.{Area, Segment, Stale, Side, Free, Whole, Allocation, Directory, header_word, is_side_at, is_whole_at, all_but}
+use Rattle.world.specs.areas.Areas.{Area, Segment, Stale, Side, Free, Whole, Allocation, Directory, header_word, is_side_at, is_whole_at, all_but, link_word}
 use Rattle.world.specs.areas.Rows.{Row, marks, news, goes_live, finishes, unmarks, frees, renews, IsRow, HasForRow, areas_by}
 use Rattle.world.specs.areas.Guarding.{IsGuardOf, Guards}
 use Rattle.world.specs.areas.Saying.{MaySay}
-use Rattle.world.specs.areas.Kinds.{Guard, of_segment, of_free_slots, of_directory, guard_word, area_of, goes_with, StructureKind, takes, gives, finds_stale, closes, finds_free, finds_side, reads, sets, moves, settles, settles_side, opens, with_guard, with_area, with_slot, is_new_side, is_claim, is_taken, is_taken_at, facts_without, facts_by, is_claim_of, view_then}
+use Rattle.world.specs.areas.Kinds.{Guard, of_segment, of_free_slots, of_directory, guard_word, area_of, goes_with, StructureKind, takes, takes_for_side, gives, finds_stale, closes, finds_free, finds_link, finds_side, finds_entry, finds_begin, reads, sets, moves, settles, settles_side, opens, with_guard, with_area, with_slot, is_new_side, is_ready_side, told_by_side, told_by_link, with_facts, is_claim, is_taken, is_taken_at, facts_without, facts_by, is_claim_of, view_then, with_guard_for}
 use Rattle.world.specs.areas.Asking.{MayAt}
 use Rattle.world.specs.areas.Keeping.{words_then, views_then, KeepsGuards, KeepsSayers, KeepsPins}
 use Rattle.world.proofs.basics.Lists.{has_joined}
@@ -123,6 +123,12 @@ module _ (site : Ground) (words : Words) (views : List View) (j : ℕ) (v : View
   dropped_less : (test : Area → Bool) (w : View) → w.areas ≡ all_but test v.areas → NoMore w
   dropped_less test w e a n has is = (but_before test v.areas a (subst (Has a) e has)).0
 
+  -- a guard that is taken for a side, or the side is given up, which is no guard
+  taken_for : (n caller : ℕ) → caller ≢ 0 → (t : Bool)
+      → Guards site (after (cond t (exchanged j (guard_word site.shape of_free_slots) caller) (loaded j (guard_word site.shape of_free_slots))) words) (set views j (with_guard_for site.shape t n v))
+  taken_for n caller some true = taken of_free_slots caller some true
+  taken_for n caller some false = same_guards (with_guard_for site.shape false n v) (dropped_less (is_side_at n) (with_guard_for site.shape false n v) refl)
+
   pub row_near : (row : Row) (s x : ℕ) → MayAt site (moves row s x) v → header_word site.shape s < words_of site.shape
   row_near row s x may = head_near site s (row_slot site words s x row (may.0 words (newest_is site words views h j v at)).0)
 
@@ -168,6 +174,11 @@ module _ (site : Ground) (words : Words) (views : List View) (j : ℕ) (v : View
   taken_says : (t : Bool) (guard : Guard) → AllMaySay (with_guard t guard v)
   taken_says true guard = same_says (with_guard true guard v) (λ fact has. has) (λ s a. inr a) (λ a. inr a) (λ a. inr a)
   taken_says false guard = same_says v (λ fact has. has) (λ s a. a) (λ a. a) (λ a. a)
+
+  taken_for_says : (t : Bool) (n : ℕ) → AllMaySay (with_guard_for site.shape t n v)
+  taken_for_says true n = taken_says true of_free_slots
+  taken_for_says false n = same_says (with_guard_for site.shape false n v) (λ fact has. has) (λ s a. but_after (is_side_at n) v.areas (Segment s) a refl)
+      (λ a. but_after (is_side_at n) v.areas Directory a refl) (λ a. but_after (is_side_at n) v.areas Allocation a refl)
 
   -- without claims, where the guard of free slots is kept
   no_claims : (areas : List Area) → Keeps areas Allocation → (fact : Fact) → Has fact (facts_without (of_segment 0) v.facts) → MaySay areas fact
@@ -224,6 +235,31 @@ module _ (site : Ground) (words : Words) (views : List View) (j : ℕ) (v : View
     | inr old ↦ h.structure.may_say j v fact at old
   ]))
 
+  -- facts that are told, each of which the view may say
+  told_says : (facts : List Fact) (t : Bool) (area : Area) (i x : ℕ) → ((fact : Fact) → Has fact facts → MaySay v.areas fact) → AllMaySay (with_facts facts (with_area t area i x v))
+  told_says facts true area i x may = says_all (with_facts facts (with_area true area i x v)) (λ fact has. may_after (area ∷ v.areas) (λ s a. inr a) (λ a. inr a) (λ a. inr a) fact
+      (elim (has_joined facts v.facts fact has) [ inl new ↦ may fact new | inr old ↦ h.structure.may_say j v fact at old ]))
+  told_says facts false area i x may = settled_says facts (with_facts facts v) may refl refl
+
+  owned : (p : ℕ) → Has (Stale p) v.areas → Has (Segment p) v.areas
+  owned p has = (h.structure.fits.stale j v p at has).0
+
+  -- who has the segment of a linked slot may say what that tells
+  side_may : (t : Bool) (p n depth pattern : ℕ) → Has (Stale p) v.areas → (fact : Fact) → Has fact (told_by_side t p n depth pattern) → MaySay v.areas fact
+  side_may true p n depth pattern stale fact has = elim has [
+    | inl is ↦ subst (MaySay v.areas) (sym is) tt
+    | inr rest ↦ elim rest [ inl is ↦ subst (MaySay v.areas) (sym is) tt | inr more ↦ absurd more ]
+  ]
+  side_may false p n depth pattern stale fact has = elim has [ inl is ↦ subst (MaySay v.areas) (sym is) (inl (owned p stale)) | inr more ↦ absurd more ]
+
+  link_may : (t : Bool) (p depth pattern : ℕ) → Has (Stale p) v.areas → (fact : Fact) → Has fact (told_by_link t p depth pattern) → MaySay v.areas fact
+  link_may true p depth pattern stale fact has = elim has [ inl is ↦ subst (MaySay v.areas) (sym is) (inl (owned p stale)) | inr more ↦ absurd more ]
+  link_may false p depth pattern stale fact has = absurd has
+
+  -- of a fact that anybody may say
+  plain_may : (f : Fact) → MaySay v.areas f → (fact : Fact) → Has fact (f ∷ []) → MaySay v.areas fact
+  plain_may f may fact has = elim has [ inl is ↦ subst (MaySay v.areas) (sym is) may | inr more ↦ absurd more ]
+
   side_says : (n depth pattern : ℕ) (w : View) → Has Directory v.areas → w.facts ≡ Owns n depth pattern ∷ v.facts → w.areas ≡ all_but (is_side_at n) v.areas → AllMaySay w
   side_says n depth pattern w guard e a = says_all w (λ fact has. elim (subst (Has fact) e has) [
     | inl new ↦ subst (MaySay w.areas) (sym new) (inr (subst (Has Directory) (sym a) (but_after (is_side_at n) v.areas Directory guard refl)))
@@ -262,6 +298,10 @@ module _ (site : Ground) (words : Words) (views : List View) (j : ℕ) (v : View
   found_pins true area i x = loaded_pins (with_area true area i x v) refl refl
   found_pins false area i x = loaded_pins v refl refl
 
+  told_pins : (facts : List Fact) (t : Bool) (area : Area) (i x : ℕ) → AllPinned words (with_facts facts (with_area t area i x v))
+  told_pins facts true area i x = loaded_pins (with_facts facts (with_area true area i x v)) refl refl
+  told_pins facts false area i x = loaded_pins (with_facts facts v) refl refl
+
   slot_pins : (t : Bool) (m i x : ℕ) → AllPinned words (with_slot t m i x v)
   slot_pins true m i x = found_pins true (Free m) i x
   slot_pins false m i x = loaded_pins (with_slot false m i x v) refl refl
@@ -273,6 +313,11 @@ module _ (site : Ground) (words : Words) (views : List View) (j : ℕ) (v : View
       → AllPinned (after (cond t (exchanged j (guard_word site.shape guard) caller) (loaded j (guard_word site.shape guard))) words) (with_guard t guard v)
   taken_pins guard caller true = stored_pins (guard_word site.shape guard) caller (with_guard true guard v) (no_guard_head guard) refl refl
   taken_pins guard caller false = loaded_pins v refl refl
+
+  taken_for_pins : (n caller : ℕ) (t : Bool)
+      → AllPinned (after (cond t (exchanged j (guard_word site.shape of_free_slots) caller) (loaded j (guard_word site.shape of_free_slots))) words) (with_guard_for site.shape t n v)
+  taken_for_pins n caller true = taken_pins of_free_slots caller true
+  taken_for_pins n caller false = loaded_pins (with_guard_for site.shape false n v) refl refl
 
   opened_pins : (s lock next : ℕ) (w : View) → MayAt site (opens s lock next) v → w.pinned ≡ [] → AllPinned (with_word words lock next) w
   opened_pins s lock next w may e =
@@ -329,6 +374,7 @@ keep_guards site kind words views j v h at may = by_guards site (words_then site
   where
     by : (kind : StructureKind) → MayAt site kind v → Guards site (words_then site kind j words) (views_then site kind j v words views)
     by (takes guard caller) may = taken site words views j v h at guard caller (some_caller site words views j v h at guard caller may) (eqb (words (guard_word site.shape guard)) 0)
+    by (takes_for_side n caller) may = taken_for site words views j v h at n caller (some_caller site words views j v h at of_free_slots caller may.0) (eqb (words (guard_word site.shape of_free_slots)) 0)
     by (gives guard) may = given_guards site words views j v (view_then site.shape (gives guard) (words (guard_word site.shape guard)) v) (area_of guard) (guard_word site.shape guard) at h.structure.fits
         (was site words views j v h at) (is_guard site.shape guard) may.0 (λ b has. (but_before (goes_with guard) v.areas b has).0)
         (λ has. goes_itself guard (but_before (goes_with guard) v.areas (area_of guard) has).1)
@@ -337,8 +383,11 @@ keep_guards site kind words views j v h at may = by_guards site (words_then site
     by (closes s i) may = same_guards site words views j v h at _ (found_less site words views j v h at true (Whole s) i (words i) (λ n k. k))
     by (finds_free m) may = same_guards site words views j v h at _
         (slot_less site words views j v h at (eqb (state_in (words (header_word site.shape m))) free) m (header_word site.shape m) (words (header_word site.shape m)))
+    by (finds_link p depth pattern) may = same_guards site words views j v h at _ (λ a n has is. has)
     by (finds_side p m depth pattern) may = same_guards site words views j v h at _
         (found_less site words views j v h at (is_new_side depth pattern (words (header_word site.shape m))) (Side m) (header_word site.shape m) (words (header_word site.shape m)) (λ n k. k))
+    by (finds_entry e i) may = same_guards site words views j v h at _ (λ a n has is. has)
+    by (finds_begin s) may = same_guards site words views j v h at _ (λ a n has is. has)
     by (reads i) may = same_guards site words views j v h at _ (λ a n has is. has)
     by (sets i x) may = near_guards site words views j v h at i x _ (held_within site words views h j v i at may.holds) (λ a n has is. has)
     by (moves row s x) may = near_guards site words views j v h at (header_word site.shape s) x _ (row_near site words views j v h at row s x may)
@@ -351,14 +400,26 @@ keep_guards site kind words views j v h at may = by_guards site (words_then site
 
 pub keep_sayers : KeepsSayers
 keep_sayers site (takes guard caller) words views j v h at may = taken_says site words views j v h at (eqb (words (guard_word site.shape guard)) 0) guard
+keep_sayers site (takes_for_side n caller) words views j v h at may = taken_for_says site words views j v h at (eqb (words (guard_word site.shape of_free_slots)) 0) n
 keep_sayers site (gives guard) words views j v h at may = given_says site words views j v h at guard _ refl refl
 keep_sayers site (finds_stale s version) words views j v h at may =
     found_says site words views j v h at (not (eqb (version_in (words (header_word site.shape s))) version)) (Stale s) (header_word site.shape s) (words (header_word site.shape s))
 keep_sayers site (closes s i) words views j v h at may = found_says site words views j v h at true (Whole s) i (words i)
 keep_sayers site (finds_free m) words views j v h at may =
     slot_says site words views j v h at (eqb (state_in (words (header_word site.shape m))) free) m (header_word site.shape m) (words (header_word site.shape m)) may.0
+keep_sayers site (finds_link p depth pattern) words views j v h at may =
+    let facts = told_by_link (eqb (words (link_word site.shape p)) 0) p depth pattern in
+    settled_says site words views j v h at facts _ (link_may site words views j v h at (eqb (words (link_word site.shape p)) 0) p depth pattern may.0.stale) refl refl
 keep_sayers site (finds_side p m depth pattern) words views j v h at may =
-    found_says site words views j v h at (is_new_side depth pattern (words (header_word site.shape m))) (Side m) (header_word site.shape m) (words (header_word site.shape m))
+    let n = words (header_word site.shape m) in
+    told_says site words views j v h at (told_by_side (is_ready_side depth pattern n) p m depth pattern) (is_new_side depth pattern n) (Side m) (header_word site.shape m) n
+    (side_may site words views j v h at (is_ready_side depth pattern n) p m depth pattern may.0.stale)
+keep_sayers site (finds_entry e i) words views j v h at may =
+    settled_says site words views j v h at (Lives (words (entry_at e i)) ∷ []) _ (plain_may site words views j v h at (Lives (words (entry_at e i))) tt) refl refl
+keep_sayers site (finds_begin s) words views j v h at may =
+    let n = words (header_word site.shape s) in
+    settled_says site words views j v h at (Begins s (first_of_region (depth_in n) (pattern_in n)) ∷ []) _
+    (plain_may site words views j v h at (Begins s (first_of_region (depth_in n) (pattern_in n))) tt) refl refl
 keep_sayers site (reads i) words views j v h at may = same_says site words views j v h at _ (λ fact has. has) (λ s a. a) (λ a. a) (λ a. a)
 keep_sayers site (sets i x) words views j v h at may = same_says site words views j v h at _ (λ fact has. has) (λ s a. a) (λ a. a) (λ a. a)
 keep_sayers site (moves row s x) words views j v h at may = row_says site words views j v h at row s _ refl refl
@@ -368,14 +429,19 @@ keep_sayers site (opens s lock next) words views j v h at may = opened_says site
 
 pub keep_pins : KeepsPins
 keep_pins site (takes guard caller) words views j v h at may = taken_pins site words views j v h at guard caller (eqb (words (guard_word site.shape guard)) 0)
+keep_pins site (takes_for_side n caller) words views j v h at may = taken_for_pins site words views j v h at n caller (eqb (words (guard_word site.shape of_free_slots)) 0)
 keep_pins site (gives guard) words views j v h at may = stored_pins site words views j v h at (guard_word site.shape guard) 0 _ (no_guard_head site words views j v h at guard) refl refl
 keep_pins site (finds_stale s version) words views j v h at may =
     found_pins site words views j v h at (not (eqb (version_in (words (header_word site.shape s))) version)) (Stale s) (header_word site.shape s) (words (header_word site.shape s))
 keep_pins site (closes s i) words views j v h at may = found_pins site words views j v h at true (Whole s) i (words i)
 keep_pins site (finds_free m) words views j v h at may =
     slot_pins site words views j v h at (eqb (state_in (words (header_word site.shape m))) free) m (header_word site.shape m) (words (header_word site.shape m))
+keep_pins site (finds_link p depth pattern) words views j v h at may = loaded_pins site words views j v h at _ refl refl
 keep_pins site (finds_side p m depth pattern) words views j v h at may =
-    found_pins site words views j v h at (is_new_side depth pattern (words (header_word site.shape m))) (Side m) (header_word site.shape m) (words (header_word site.shape m))
+    let n = words (header_word site.shape m) in
+    told_pins site words views j v h at (told_by_side (is_ready_side depth pattern n) p m depth pattern) (is_new_side depth pattern n) (Side m) (header_word site.shape m) n
+keep_pins site (finds_entry e i) words views j v h at may = loaded_pins site words views j v h at _ refl refl
+keep_pins site (finds_begin s) words views j v h at may = loaded_pins site words views j v h at _ refl refl
 keep_pins site (reads i) words views j v h at may = loaded_pins site words views j v h at _ refl refl
 keep_pins site (sets i x) words views j v h at may = stored_pins site words views j v h at i x _ may.no_header refl refl
 keep_pins site (moves row s x) words views j v h at may = row_pins site words views j v h at row s x _ may refl refl

@@ -1,5 +1,5 @@
 -- What a view with areas knows of the newest words, and of a medium that may be left beside them.
-use Rattle.std.proofs.Common.{◌≡◌, ℕ, ◌+◌, ◌*◌, ◌<◌, cond, eqb, Some, List, inl, inr, refl, sym, ap, ◌∙◌, subst, arith}
+use Rattle.std.proofs.Common.{◌≡◌, ◌⊎◌, ℕ, ◌+◌, ◌*◌, ◌<◌, cond, eqb, Some, List, inl, inr, refl, sym, ap, ◌∙◌, subst, arith}
 use Rattle.std.proofs.lemmas.Bool.{cases_Bool, eq-eqb, eqb-true}
 use Rattle.trace.specs.Events.{Words}
 use Rattle.hash_word.specs.Hash.{home_of}
@@ -125,13 +125,18 @@ module _ (site : Ground) (words : Words) (views : List View) (h : Holds site wor
     }
 
     -- ---- media
-    -- a possible medium has the cores of the words that the view knows and has not loose
-    core_agrees : (m : Words) → IsPossible site words views m → (i x : ℕ) → Has (i, x) v.known → ((y : ℕ) → IsLoose v (i, y) → ⊥) → core site.shape m i ≡ core site.shape words i
-    core_agrees m p i x known firm = let r = h.known.knows j v i x at known in elim (p i (held_within j v i at r.1)) [
-      | inl e ↦ e
-      | inr e ↦ absurd (let q = one_holder site words views grounds h.structure.fits e.0 j i e.1 v e.3 at (h.known.loose e.0 e.1 i e.2 e.3 e.4) r.1 in
-          firm e.2 (subst (λ (u : View). IsLoose u (i, e.2)) (is_v views j v v at e.0 e.1 e.3 q) e.4))
+    -- at a held word a possible medium has the newest core, or that of a value that the view has loose there
+    pub own_leaves : (m : Words) → IsPossible site words views m → (i : ℕ) → HoldsWord site.shape v i
+        → (core site.shape m i ≡ core site.shape words i) ⊎ ((x : ℕ) × IsLoose v (i, x) × (core site.shape m i ≡ core_of site.shape i x))
+    own_leaves m p i holds = elim (p i (held_within j v i at holds)) [
+      | inl e ↦ inl e
+      | inr e ↦ (let q = one_holder site words views grounds h.structure.fits e.0 j i e.1 v e.3 at (h.known.loose e.0 e.1 i e.2 e.3 e.4) holds in
+          inr (e.2, subst (λ (u : View). IsLoose u (i, e.2)) (is_v views j v v at e.0 e.1 e.3 q) e.4, e.5))
     ]
+
+    -- so it has the cores of the words that the view knows and has not loose
+    core_agrees : (m : Words) → IsPossible site words views m → (i x : ℕ) → Has (i, x) v.known → ((y : ℕ) → IsLoose v (i, y) → ⊥) → core site.shape m i ≡ core site.shape words i
+    core_agrees m p i x known firm = elim (own_leaves m p i (h.known.knows j v i x at known).1) [ inl e ↦ e | inr e ↦ absurd (firm e.0 e.1) ]
 
     -- so it has them whole, once it has the newest words wherever it has their cores
     whole_agrees : (m : Words) → IsPossible site words views m → Agrees site v (whole_beside site words m)
@@ -157,6 +162,7 @@ module _ (site : Ground) (words : Words) (views : List View) (h : Holds site wor
       says = λ fact has. h.structure.says j v fact m at has p;
       table = h.media.table m p;
       agrees = agree;
+      leaves = own_leaves m p;
       owner = λ s b k near lock own. medium_owner m p s b k near lock own;
     }
 

@@ -18,7 +18,7 @@ use Rattle.world.specs.Invariant.{Holds}
 use Rattle.world.specs.areas.Areas.{Area, Stale, Side, header_word}
 use Rattle.world.specs.areas.Fitting.{HoldsWord, IsLivingLock}
 use Rattle.world.specs.areas.Rows.{Row, marks, news, goes_live, finishes, unmarks, frees, renews, IsRow}
-use Rattle.world.specs.areas.Kinds.{Guard, guard_word, StructureKind, takes, gives, finds_stale, closes, finds_free, finds_side, reads, sets, moves, settles, settles_side, opens, with_guard, with_area, with_slot, is_new_side}
+use Rattle.world.specs.areas.Kinds.{Guard, of_free_slots, guard_word, StructureKind, takes, takes_for_side, gives, finds_stale, closes, finds_free, finds_link, finds_side, finds_entry, finds_begin, reads, sets, moves, settles, settles_side, opens, with_guard, with_area, with_slot, is_new_side, with_guard_for}
 use Rattle.world.specs.areas.Asking.{KnowsFree, MaySet, AsksForRow, MayAt}
 use Rattle.world.specs.areas.Keeping.{words_then, views_then, KeepsLocks}
 use Rattle.world.proofs.basics.Grounds.{lock_within}
@@ -89,6 +89,11 @@ module _ (site : Ground) (words : Words) (views : List View) (j : ℕ) (v : View
       → Locks site (after (cond t (exchanged j (guard_word shape guard) c) (loaded j (guard_word shape guard))) words) (set views j (with_guard t guard v))
   taken guard c true = guarded guard c (with_guard true guard v) (guard_held true guard v)
   taken guard c false = calm v refl
+
+  taken_for : (n c : ℕ) → (t : Bool)
+      → Locks site (after (cond t (exchanged j (guard_word shape of_free_slots) c) (loaded j (guard_word shape of_free_slots))) words) (set views j (with_guard_for shape t n v))
+  taken_for n c true = taken of_free_slots c true
+  taken_for n c false = calm (with_guard_for shape false n v) refl
 
   -- ---- a held word that is no header is stored: it is no lock word of a current segment that lives on
   module _ (i x : ℕ) (may : MaySet site v i x) where
@@ -192,11 +197,15 @@ module _ (site : Ground) (words : Words) (views : List View) (j : ℕ) (v : View
 
   keep : (kind : StructureKind) → MayAt site kind v → Locks site (words_then site kind j words) (views_then site kind j v words views)
   keep (takes guard c) may = taken guard c (eqb (words (guard_word shape guard)) 0)
+  keep (takes_for_side n c) may = taken_for n c (eqb (words (guard_word shape of_free_slots)) 0)
   keep (gives guard) may = guarded guard 0 _ refl
   keep (finds_stale s version) may = calm _ (area_held (not (version_in (words (header_word shape s)) == version)) (Stale s) (header_word shape s) (words (header_word shape s)) v)
   keep (closes s i) may = calm _ refl
   keep (finds_free n) may = calm _ (slot_held (state_in (words (header_word shape n)) == 0) n (header_word shape n) (words (header_word shape n)) v)
+  keep (finds_link p depth pattern) may = calm _ refl
   keep (finds_side p n depth pattern) may = calm _ (area_held (is_new_side depth pattern (words (header_word shape n))) (Side n) (header_word shape n) (words (header_word shape n)) v)
+  keep (finds_entry e i) may = calm _ refl
+  keep (finds_begin s) may = calm _ refl
   keep (reads i) may = calm _ refl
   keep (sets i x) may = set_locks i x may _ refl
   keep (moves row s x) may = moved_locks row s x (may.0 words (newest_is site words views h j v at)).0 may.3 _ refl

@@ -7,13 +7,14 @@ use Rattle.sound_image.specs.Segments.{frame_of}
 use Rattle.segment_table.proofs.stores.Roots.{untouched_keeps}
 use Rattle.bucket_words.specs.Core.{core_of, core}
 use Rattle.bucket_words.specs.Owners.{HasStructure}
+use Rattle.frame_facts.specs.Facts.{Fact}
 use Rattle.frame_facts.proofs.Structure.{beside as same_frame}
 use Rattle.world.specs.Ground.{Ground, IsGround, IsStructured}
 use Rattle.world.specs.Views.{View, Has, At, IsLoose}
 use Rattle.world.specs.Media.{IsPossible}
 use Rattle.world.specs.areas.Areas.{Area}
 use Rattle.world.specs.areas.Rows.{HasStored}
-use Rattle.world.specs.areas.Kinds.{Guard, of_segment, of_free_slots, of_directory, guard_word, with_area, with_slot}
+use Rattle.world.specs.areas.Kinds.{Guard, of_segment, of_free_slots, of_directory, guard_word, with_area, with_slot, with_facts}
 use Rattle.world.specs.areas.Keeping.{whole_beside}
 use Rattle.world.proofs.basics.Structures.{front_is}
 use Rattle.world.proofs.basics.Tables.{core_structure_same, cores_with}
@@ -62,6 +63,10 @@ guard_still site words v w guard x less = record { cores = λ n near. guard_core
 pub found_less : (t : Bool) (area : Area) (i x : ℕ) (v : View) (p : ℕ × ℕ) → IsLoose (with_area t area i x v) p → IsLoose v p
 found_less true area i x v p l = l
 found_less false area i x v p l = l
+
+pub told_less : (facts : List Fact) (t : Bool) (area : Area) (i x : ℕ) (v : View) (p : ℕ × ℕ) → IsLoose (with_facts facts (with_area t area i x v)) p → IsLoose v p
+told_less facts true area i x v p l = l
+told_less facts false area i x v p l = l
 
 pub slot_less : (t : Bool) (n i x : ℕ) (v : View) (p : ℕ × ℕ) → IsLoose (with_slot t n i x v) p → IsLoose v p
 slot_less true n i x v p l = l

@@ -1,27 +1,29 @@
 -- Known words are the newest, and known and loose words are held by their view, at each kind of step at the structure.
 use Rattle.std.proofs.Common.{◌≡◌, ◌≢◌, ◌⊎◌, ℕ, ◌+◌, ◌<◌, ◌≤◌, List, ◌∷◌, set, cond, eqb, Bool, true, false, inl, inr, refl, sym, ap, ◌∙◌, subst, arith}
 use Rattle.std.specs.Prelude.{not, ◌==◌}
+use Rattle.std.proofs.lemmas.Nat.{pow_pos}
 use Rattle.trace.specs.Events.{Words, with_word, after}
 use Rattle.trace.specs.Events.Event.{loaded, exchanged}
 use Rattle.trace.proofs.Replaced.{replaced_same, replaced_other}
 use Rattle.segment_head.specs.HeadWord.{version_in, state_in}
-use Rattle.image_layout.specs.Places.{Shape, words_of, bucket_at, buckets}
+use Rattle.image_layout.specs.Places.{Shape, root_word, entry_at, words_of, bucket_at, buckets}
+use Rattle.image_layout.proofs.Areas.{entry_before}
 use Rattle.sound_image.specs.Segments.{frame_of}
 use Rattle.frame_facts.specs.Facts.{IsLiveSlot}
 use Rattle.frame_facts.specs.DeadSlots.{IsInSlot}
 use Rattle.world.specs.Ground.{Ground, IsUnder}
 use Rattle.world.specs.Views.{View, Has, At, IsGuarded, IsLoose}
 use Rattle.world.specs.Kinds.{without, loosened}
-use Rattle.world.specs.areas.Areas.{Area, Segment, Stale, Side, Free, Whole, header_word, InArea, is_side_at, is_stale_at, is_whole_at, all_but}
+use Rattle.world.specs.areas.Areas.{Area, Segment, Stale, Side, Free, Whole, Directory, header_word, link_word, InArea, is_side_at, is_stale_at, is_whole_at, all_but}
 use Rattle.world.specs.areas.Fitting.{HoldsWord, LivesOn}
 use Rattle.world.specs.areas.Rows.{Row, marks, news, goes_live, finishes, unmarks, frees, renews, HasForRow, areas_by}
-use Rattle.world.specs.areas.Kinds.{Guard, of_segment, of_free_slots, of_directory, guard_word, area_of, goes_with, StructureKind, takes, gives, finds_stale, closes, finds_free, finds_side, reads, sets, moves, settles, settles_side, opens, with_guard, with_area, with_slot, is_new_side, known_without, out_of_slot, view_then}
+use Rattle.world.specs.areas.Kinds.{Guard, of_segment, of_free_slots, of_directory, guard_word, area_of, goes_with, StructureKind, takes, takes_for_side, gives, finds_stale, closes, finds_free, finds_link, finds_side, finds_entry, finds_begin, reads, sets, moves, settles, settles_side, opens, with_guard, with_area, with_slot, is_new_side, known_without, out_of_slot, view_then, with_guard_for}
 use Rattle.world.specs.areas.Asking.{IsOf, MayAt, AsksForRow}
 use Rattle.world.specs.Invariant.{KnownWords, Holds}
 use Rattle.world.specs.areas.Keeping.{words_then, views_then, KeepsHeldWords}
 use Rattle.world.proofs.basics.Seats.{each, has_first, without_has, without_stays, loosened_has, lock_of}
 use Rattle.world.proofs.holding.Beside.{newest}
-use Rattle.world.proofs.fitting.OneHolder.{one_holder, side_dies, head_in_slot}
+use Rattle.world.proofs.fitting.OneHolder.{one_holder, side_dies, head_in_slot, link_in_slot}
 use Rattle.world.proofs.fitting.Rows.{but_after}
 use Rattle.world.proofs.moving.Known.{grounds, held_within, newest_is}
 use Rattle.world.proofs.moving.Holding.{stale, side, free, IsHeldBy, holds_more, holds_without, holds_instead, side_word, stale_word, whole_word, segment_word, free_word, front_word, out_of_slot_has, out_of_directory_has, out_of_free_has, bucket_in_slot, under_in_slot, HasSlot, holder_has}
@@ -126,6 +128,23 @@ module _ (site : Ground) (words : Words) (views : List View) (j : ℕ) (v : View
   found_slot true m = found true (Free m) (header_word shape m) (inr (Free m, inl refl, head_in_slot shape m))
   found_slot false m = mine
 
+  -- ---- a held word is loaded
+  read : (i : ℕ) → HoldsWord shape v i → HasWords shape words (record v { known = (i, words i) ∷ v.known })
+  read i holds = (
+    (λ n y q. elim (has_first i (words i) n y v.known q) [
+      | inl e ↦ (ap words e.0 ∙ sym e.1, subst (λ (m : ℕ). HoldsWord shape v m) (sym e.0) holds)
+      | inr r ↦ mine.0 n y r
+    ]),
+    mine.1,
+  )
+
+  -- an entry of the root's area is a word of the directory
+  entry_held : (e i : ℕ) → MayAt site (finds_entry e i) v → HoldsWord shape v (entry_at e i)
+  entry_held e i may =
+      let root : words root_word ≡ e = (h.known.knows j v root_word e at may.1).0 in
+      let low : words root_word ≤ shape.depth = (grounds site words views h).sound.root in
+      inr (Directory, may.0, inr (omega (arith, pow_pos e), entry_before shape e i (omega (arith, root, low)) may.2))
+
   -- ---- a held word is stored
   stored_by : (i x : ℕ) (w : View) → HoldsWord shape v i → HoldsWord shape w i
       → ((n y : ℕ) → Has (n, y) w.known → ((n ≡ i) × (y ≡ x)) ⊎ ((n ≢ i) × (words n ≡ y) × HoldsWord shape w n))
@@ -202,14 +221,23 @@ module _ (site : Ground) (words : Words) (views : List View) (j : ℕ) (v : View
   moved renews s x q ask = renewed s x q ask.0
 
   -- ---- a side is given up
+  side_less : (m n : ℕ) → (IsInSlot shape m n → ⊥) → HoldsWord shape v n → IsHeldBy shape v.held (all_but (is_side_at m) v.areas) n
+  side_less m n none = holds_without shape n (is_side_at m) v.held v.areas (λ a t w. none (side_word shape n m a t w))
+
+  taken_for : (m c : ℕ) → ((p : ℕ × ℕ) → IsLoose v p → IsInSlot shape m p.0 → ⊥) → (t : Bool)
+      → KnownWords site (after (cond t (exchanged j (guard_word shape of_free_slots) c) (loaded j (guard_word shape of_free_slots))) words) (set views j (with_guard_for shape t m v))
+  taken_for m c firm true = taken of_free_slots c true
+  taken_for m c firm false = calm (with_guard_for shape false m v) (
+    (λ n y q. (let o = out_of_slot_has shape n m y v.known q in let r = mine.0 n y o.1 in (r.0, side_less m n o.0 r.1))),
+    (λ n y q. side_less m n (firm (n, y) q) (mine.1 n y q)),
+  )
+
   settled : (m depth pattern : ℕ) → ((p : ℕ × ℕ) → Has p v.dirty → IsInSlot shape m p.0 → ⊥)
       → HasWords shape words (view_then shape (settles_side m depth pattern) (words 0) v)
-  settled m depth pattern firm =
-      let still : (n : ℕ) → (IsInSlot shape m n → ⊥) → HoldsWord shape v n → IsHeldBy shape v.held (all_but (is_side_at m) v.areas) n =
-      λ n none. holds_without shape n (is_side_at m) v.held v.areas (λ a t w. none (side_word shape n m a t w)) in (
-        (λ n y q. (let o = out_of_slot_has shape n m y v.known q in let r = mine.0 n y o.1 in (r.0, still n o.0 r.1))),
-        (λ n y q. elim q [ inl d ↦ still n (firm (n, y) d) (mine.1 n y (inl d)) | inr f ↦ absurd f ]),
-      )
+  settled m depth pattern firm = (
+    (λ n y q. (let o = out_of_slot_has shape n m y v.known q in let r = mine.0 n y o.1 in (r.0, side_less m n o.0 r.1))),
+    (λ n y q. elim q [ inl d ↦ side_less m n (firm (n, y) d) (mine.1 n y (inl d)) | inr f ↦ absurd f ]),
+  )
 
   -- ---- a whole segment is opened
   module _ (s lock next b : ℕ) (has : Has (Whole s) v.areas) (near : b < buckets) (is : lock ≡ bucket_at shape s b) where
@@ -256,18 +284,16 @@ module _ (site : Ground) (words : Words) (views : List View) (j : ℕ) (v : View
 
   keep : (kind : StructureKind) → MayAt site kind v → KnownWords site (words_then site kind j words) (views_then site kind j v words views)
   keep (takes guard c) may = taken guard c (eqb (words (guard_word shape guard)) 0)
+  keep (takes_for_side m c) may = taken_for m c may.1 (eqb (words (guard_word shape of_free_slots)) 0)
   keep (gives guard) may = given guard may.1
   keep (finds_stale s version) may = calm _ (found (not (version_in (words (header_word shape s)) == version)) (Stale s) (header_word shape s) (inr (Stale s, inl refl, head_in_slot shape s)))
   keep (closes s i) may = calm _ (found true (Whole s) i (holds_more shape i v.held v.areas (Whole s ∷ v.areas) (λ b z. inr z) may.2))
   keep (finds_free n) may = calm _ (found_slot (state_in (words (header_word shape n)) == 0) n)
+  keep (finds_link p depth pattern) may = calm _ (read (link_word shape p) (inr (Stale p, may.0.stale, link_in_slot shape p)))
   keep (finds_side p n depth pattern) may = calm _ (found (is_new_side depth pattern (words (header_word shape n))) (Side n) (header_word shape n) (inr (Side n, inl refl, head_in_slot shape n)))
-  keep (reads i) may = calm _ (
-    (λ n y q. elim (has_first i (words i) n y v.known q) [
-      | inl e ↦ (ap words e.0 ∙ sym e.1, subst (λ (m : ℕ). HoldsWord shape v m) (sym e.0) may)
-      | inr r ↦ mine.0 n y r
-    ]),
-    mine.1,
-  )
+  keep (finds_entry e i) may = calm _ (read (entry_at e i) (entry_held e i may))
+  keep (finds_begin s) may = calm _ mine
+  keep (reads i) may = calm _ (read i may)
   keep (sets i x) may = stored i x v.areas _ refl refl refl refl refl may.holds (λ n k. k)
   keep (moves row s x) may = moved row s x (may.0 words (newest_is site words views h j v at)).1 may.3
   keep (settles facts) may = calm _ (mine.0, (λ n y q. elim q [ inl d ↦ mine.1 n y (inl d) | inr f ↦ absurd f ]))

@@ -1,4 +1,5 @@
 -- Whatever a cut may leave, and the events of the device.
+pub mod Linked
 pub mod MediaKept
 pub mod Said
 pub mod Settled

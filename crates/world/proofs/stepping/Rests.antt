@@ -7,7 +7,7 @@ use Rattle.world.specs.Ground.{Ground, IsCurrentIn}
 use Rattle.world.specs.Views.{View, Has, At}
 use Rattle.world.specs.areas.Areas.{Area, Whole, header_word}
 use Rattle.world.specs.areas.Kinds.{guard_word, area_of}
-use Rattle.world.specs.Slots.{AllCurrent, OthersHaveNoAreas, RestsAreQuiet, OthersAreQuiet}
+use Rattle.world.specs.Slots.{AllCurrent, OthersHaveNoAreas, RestsAreQuiet, OthersAreQuiet, CurrentSegmentsRest}
 use Rattle.world.proofs.basics.Seats.{is_v}
 use Rattle.world.proofs.calls.deeds.Calls.{has_none}
 
@@ -40,6 +40,15 @@ others_are_quiet = record {
   guards = λ site words views j v h at none guard is some. let o = h.structure.held_guards guard is some in only_here views j v at none o.0 o.1 (area_of guard) o.2 o.3;
   splits = λ site words views j v h at none all s slot split.
       let o = h.structure.fits.splits s (splits_current site words all s slot split) split in
+      let whole = only_here views j v at none o.0 o.1 (Whole s) o.2 o.3 in
+      ((h.structure.fits.whole j v s at whole).0, whole);
+}
+
+pub current_segments_rest : CurrentSegmentsRest
+current_segments_rest = record {
+  nobody = λ site words views h none s is split. let o = h.structure.fits.splits s is split in has_none o.1 (none o.0 o.1 o.2) (Whole s) o.3;
+  others = λ site words views j v h at none s is split.
+      let o = h.structure.fits.splits s is split in
       let whole = only_here views j v at none o.0 o.1 (Whole s) o.2 o.3 in
       ((h.structure.fits.whole j v s at whole).0, whole);
 }

@@ -3,9 +3,10 @@ use Rattle.std.specs.Prelude.{◌≡◌, ◌≢◌, ℕ, suc, ◌-◌, ◌%◌, 
 use Rattle.trace.specs.Events.{Words, with_word}
 use Rattle.hash_word.specs.Hash.{home_of}
 use Rattle.segment_head.specs.HeadWord.{state_in, depth_in, pattern_in, normal, splitting, HasLiveState}
-use Rattle.image_layout.specs.Places.{Shape, state_word, bucket_at, homes, buckets}
+use Rattle.image_layout.specs.Places.{Shape, root_word, state_word, bucket_at, homes, buckets}
 use Rattle.sound_image.specs.Segments.{frame_of}
 use Rattle.sound_image.specs.Records.{key_hash, HasExactNotes}
+use Rattle.bucket_words.specs.Core.{core_of, core}
 use Rattle.bucket_words.specs.Standing.{IsTable}
 use Rattle.bucket_words.specs.Hits.{Hit}
 use Rattle.bucket_words.specs.Owners.{owner_of}
@@ -21,7 +22,7 @@ use Rattle.world.specs.areas.Areas.{Segment, Stale, Side, Free, Whole, Allocatio
 use Rattle.world.specs.areas.Fitting.{HoldsWord, HoldsAll}
 pub use Rattle.world.specs.areas.Saying.{MaySay}
 use Rattle.world.specs.areas.Rows.{Row, goes_live, frees, renews, HasNoSides, IsRow, HasForRow}
-use Rattle.world.specs.areas.Kinds.{Guard, of_segment, of_free_slots, of_directory, area_of, StructureKind, takes, gives, finds_stale, closes, finds_free, finds_side, reads, sets, moves, settles, settles_side, opens}
+use Rattle.world.specs.areas.Kinds.{Guard, of_segment, of_free_slots, of_directory, area_of, StructureKind, takes, takes_for_side, gives, finds_stale, closes, finds_free, finds_link, finds_side, finds_entry, finds_begin, reads, sets, moves, settles, settles_side, opens}
 
 -- a view has not the segment whole
 abbrev pub IsNotWhole : View → ℕ → Type 0
@@ -67,6 +68,9 @@ module _ (site : Ground) where
     pub says : (fact : Fact) → Has fact v.facts → HoldsFact site.shape (version_of site) words fact medium
     pub table : IsTable site.shape medium
     pub agrees : Agrees site v medium
+    -- at a held word it has the core of the newest one, or of a value that the view has loose there
+    pub leaves : (i : ℕ) → HoldsWord site.shape v i → (core site.shape medium i ≡ core site.shape words i)
+        ⊎ ((x : ℕ) × IsLoose v (i, x) × (core site.shape medium i ≡ core_of site.shape i x))
     pub owner : (s b h : ℕ) → b < buckets → HasLock v.held (bucket_at site.shape s b) → owner_of site.shape words h ≡ Some s → owner_of site.shape medium h ≡ Some s
 
   -- A STORE IS HARMLESS, beside a medium: it leaves a sound structure and a table with the same pairs, and each fact but those that it ends
@@ -137,16 +141,28 @@ module _ (site : Ground) where
   AsksForRow renews s x v = IsFirmIn v (IsInSlot site.shape s) × KnowsFree v s × BringsInOrder v s (header_word site.shape s) x
   AsksForRow row s x v = ⊤
 
+  -- a segment is stale and, by its known header, splitting, with this depth and pattern
+  pub record IsStaleSplit (v : View) (p depth pattern : ℕ) : Type 0 where
+    pub stale : Has (Stale p) v.areas
+    pub head : ℕ
+    pub knows : KnowsWord v (header_word site.shape p) head
+    pub splits : state_in head ≡ splitting
+    pub depth_is : depth_in head ≡ depth
+    pub pattern_is : pattern_in head ≡ pattern
+
   -- WHAT A KIND ASKS of the stepping view
   abbrev pub MayAt : StructureKind → View → Type 0
   MayAt (takes (of_segment s) caller) v = (0 < caller) × Has (Lives s) v.facts
   MayAt (takes guard caller) v = 0 < caller
+  MayAt (takes_for_side n caller) v = (0 < caller) × IsFirmIn v (IsInSlot site.shape n) × KnowsDead v n
   MayAt (gives guard) v = Has (area_of guard) v.areas × IsFirmIn v (IsOf site.shape v guard) × HasOpened site.shape v guard
   MayAt (finds_stale s version) v = Has (Segment s) v.areas × (version ≡ version_of site)
   MayAt (closes s i) v = Has (Segment s) v.areas × HoldsAll site.shape v s × HoldsWord site.shape v i
   MayAt (finds_free n) v = Has Allocation v.areas × (n < site.shape.segments) × IsFirmIn v (IsInSlot site.shape n)
-  MayAt (finds_side p n depth pattern) v = Has (Stale p) v.areas × (n < site.shape.segments) × KnowsWord v (link_word site.shape p) (suc n)
-      × ((head : ℕ) × KnowsWord v (header_word site.shape p) head × (state_in head ≡ splitting) × (depth_in head ≡ depth) × (pattern_in head ≡ pattern))
+  MayAt (finds_link p depth pattern) v = IsStaleSplit v p depth pattern × ((y : ℕ) → IsLoose v (link_word site.shape p, y) → ⊥)
+  MayAt (finds_side p n depth pattern) v = IsStaleSplit v p depth pattern × KnowsWord v (link_word site.shape p) (suc n) × (n < site.shape.segments) × HasNoSides v.areas
+  MayAt (finds_entry e i) v = Has Directory v.areas × Has (root_word, e) v.known × (i < 2 ^ e)
+  MayAt (finds_begin s) v = Has (Lives s) v.facts
   MayAt (reads i) v = HoldsWord site.shape v i
   MayAt (sets i x) v = MaySet v i x
   MayAt (moves row s x) v = ((words : Words) → MayBeNewest v words → IsRow site words row s x × HasForRow site words row s v.areas)

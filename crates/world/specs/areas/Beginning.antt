@@ -51,6 +51,8 @@ pub record IsRestarted (site : Ground) (start : Words) (world : World) : Type 0 
   pub words_are : world.words ≡ value start world.trace
   pub settled : (i y : ℕ) → i < words_of site.shape → HadSinceSettled start world.trace i y → y ≡ world.words i
   pub structured : IsStructured site world.words
+  -- the headers are those of the start
+  pub heads : (s : ℕ) → s < site.shape.segments → world.words (header_word site.shape s) ≡ site.front (header_word site.shape s)
   pub table : IsTable site.shape world.words
   pub pairs : (k : ℕ) → find site.shape world.words k ≡ site.start k
   pub behind : (i : ℕ) → words_of site.shape ≤ i → i < all_words_of site.shape → world.words i ≡ 0

@@ -11,7 +11,7 @@ use Rattle.world.specs.Wants.{word_of, words_after}
 use Rattle.world.specs.History.{Log}
 use Rattle.world.specs.Media.{IsPossible}
 use Rattle.world.specs.Parts.{Locks, Plans, History, Room, Spending, Powered, IsPinned}
-use Rattle.world.specs.Invariant.{Structure, KnownWords, Records, Overflow, Media, Notes, Holds}
+use Rattle.world.specs.Invariant.{UsedSlots, Structure, KnownWords, Records, Overflow, Media, Notes, Holds}
 use Rattle.world.specs.areas.Fitting.{Fits}
 use Rattle.world.specs.areas.Lasting.{Owners, Lasting, SettledSlots}
 use Rattle.world.specs.areas.Saying.{MaySay}
@@ -66,6 +66,10 @@ KeepsAreas = KeepsPart (λ site words views log. Fits site words views × Owners
 -- that a taken slot is so in whatever a cut may leave, or is being taken
 abbrev pub KeepsSettledSlots : Type 0
 KeepsSettledSlots = KeepsPart (λ site words views log. SettledSlots site words views)
+
+-- that one which was free at the start is used where it is taken
+abbrev pub KeepsUsedSlots : Type 0
+KeepsUsedSlots = KeepsPart (λ site words views log. UsedSlots site words)
 
 -- that the word of a guard is not 0 which a view has
 abbrev pub KeepsGuards : Type 0

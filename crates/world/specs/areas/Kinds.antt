@@ -1,15 +1,15 @@
 -- The kinds of step at the structure: guards, headers, links, the root, entries, and the words of slots that nobody else touches. For
 -- each: which event it is, and what the stepping view becomes. No kind of calls is among them.
-use Rattle.std.specs.Prelude.{◌==◌, ◌&&◌, ◌||◌, not, ℕ, suc, ◌+◌, ◌*◌, ◌<◌, nat_lt, nat_le, Bool, true, false, List, [], ◌∷◌, ◌++◌, filter, ⊤}
+use Rattle.std.specs.Prelude.{◌==◌, ◌&&◌, ◌||◌, not, ℕ, suc, ◌+◌, ◌-◌, ◌*◌, ◌^◌, ◌<◌, nat_lt, nat_le, Bool, true, false, List, [], ◌∷◌, ◌++◌, filter, ⊤}
 use Rattle.op_core.specs.declared.want.Want.{Want}
 use Rattle.op_core.specs.declared.want.Want.TheVariants.{Load, Store, Exchange, Fence}
-use Rattle.segment_head.specs.HeadWord.{version_in, state_in, depth_in, pattern_in, free, fresh}
-use Rattle.image_layout.specs.Places.{Shape, block, root_word, first_segment, head_at, segment_words}
+use Rattle.segment_head.specs.HeadWord.{version_in, state_in, depth_in, pattern_in, free, fresh, is_live}
+use Rattle.image_layout.specs.Places.{Shape, block, root_word, first_segment, entry_at, head_at, segment_words}
 use Rattle.image_layout.specs.Volatile.{allocation_guard, directory_guard, segment_guard}
 use Rattle.frame_facts.specs.Facts.{Fact, Lives, Current, Rooted, Owns, Lacks, Deep, Begins, Used, Taken}
 use Rattle.world.specs.Views.{View}
-use Rattle.world.specs.Kinds.{with_store, without}
-use Rattle.world.specs.areas.Areas.{Area, Segment, Stale, Side, Free, Whole, Allocation, Directory, header_word, all_but, is_side_at, is_of_segment, is_of_allocation, is_of_directory}
+use Rattle.world.specs.Kinds.{with_store, without, first_of_region}
+use Rattle.world.specs.areas.Areas.{Area, Segment, Stale, Side, Free, Whole, Allocation, Directory, header_word, link_word, all_but, is_side_at, is_of_segment, is_of_allocation, is_of_directory}
 pub use Rattle.world.specs.areas.Areas.{is_whole_at}
 use Rattle.world.specs.areas.Rows.{Row, goes_live, frees, renews, areas_by}
 
@@ -48,6 +48,9 @@ goes_with of_directory = is_of_directory
 pub data StructureKind : Type 0 where
   -- an exchange of a guard's word from 0, by the caller of this number
   takes : (guard : Guard) (caller : ℕ) → StructureKind
+  -- an exchange of the word of the guard of free slots from 0, by a caller that found this slot to be a new side: with the guard lost, the
+  -- side is given up
+  takes_for_side : (slot caller : ℕ) → StructureKind
   -- the store that gives a guard back
   gives : (guard : Guard) → StructureKind
   -- a load of the header of a segment whose guard is held: it has not this version, the image's, or it has
@@ -56,8 +59,14 @@ pub data StructureKind : Type 0 where
   closes : (slot word : ℕ) → StructureKind
   -- a load of the header of a slot under the guard of free slots: it is free, or it is known to be taken
   finds_free : (slot : ℕ) → StructureKind
-  -- a load of the header of the slot that a stale segment of this depth and pattern has linked: it is the new side, or not
+  -- a load of the link of a stale segment of this depth and pattern, which is splitting: where it names no slot, the segment has its 1-side
+  finds_link : (parent depth pattern : ℕ) → StructureKind
+  -- a load of the header of the slot that such a segment has linked: it is the new side, or a ready one, or neither
   finds_side : (parent slot depth pattern : ℕ) → StructureKind
+  -- a load of an entry of the root's area under the guard of the directory: the segment that it names lives
+  finds_entry : (depth index : ℕ) → StructureKind
+  -- a load of the header of a live segment that others may store to: where the segment begins
+  finds_begin : (slot : ℕ) → StructureKind
   -- a load of a word that is held by a lock or an area
   reads : (word : ℕ) → StructureKind
   -- a store to a held word that is no header: a link, the root, an entry, a word of a slot that nobody else touches
@@ -74,11 +83,15 @@ pub data StructureKind : Type 0 where
 -- what is wanted of the memory
 abbrev pub wanted_at : Shape → StructureKind → Want
 wanted_at shape (takes guard caller) = Exchange (guard_word shape guard) 0 caller
+wanted_at shape (takes_for_side n caller) = Exchange (allocation_guard shape) 0 caller
 wanted_at shape (gives guard) = Store (guard_word shape guard) 0
 wanted_at shape (finds_stale s version) = Load (header_word shape s)
 wanted_at shape (closes s i) = Load i
 wanted_at shape (finds_free n) = Load (header_word shape n)
+wanted_at shape (finds_link p depth pattern) = Load (link_word shape p)
 wanted_at shape (finds_side p n depth pattern) = Load (header_word shape n)
+wanted_at shape (finds_entry e i) = Load (entry_at e i)
+wanted_at shape (finds_begin s) = Load (header_word shape s)
 wanted_at shape (reads i) = Load i
 wanted_at shape (sets i x) = Store i x
 wanted_at shape (moves row s x) = Store (header_word shape s) x
@@ -124,6 +137,11 @@ abbrev pub with_guard : Bool → Guard → View → View
 with_guard true guard v = record v { areas = area_of guard ∷ v.areas }
 with_guard false guard v = v
 
+-- a view that won the guard of free slots for a side, or not: then it has the side no more, and knows no word of it
+abbrev pub with_guard_for : Shape → Bool → ℕ → View → View
+with_guard_for shape true n v = with_guard true of_free_slots v
+with_guard_for shape false n v = record v { areas = all_but (is_side_at n) v.areas; known = out_of_slot shape n v.known }
+
 -- a view that found an area, and knows the word by which it did, or not
 abbrev pub with_area : Bool → Area → ℕ → ℕ → View → View
 with_area true area i x v = record v { areas = area ∷ v.areas; known = (i, x) ∷ v.known }
@@ -137,6 +155,26 @@ with_slot false n i x v = record v { facts = Taken n ∷ v.facts }
 -- a header is that of the new side of a segment of this depth and pattern
 abbrev pub is_new_side : ℕ → ℕ → ℕ → Bool
 is_new_side depth pattern head = (state_in head == fresh) && ((depth_in head == suc depth) && (pattern_in head == 2 * pattern + 1))
+
+-- a header is that of a ready side of a segment of this depth and pattern: it is live and deeper, and its pattern is that of the 1-side, followed by zeros alone
+abbrev pub is_ready_side : ℕ → ℕ → ℕ → Bool
+is_ready_side depth pattern head =
+    is_live head && (nat_lt depth (depth_in head) && (pattern_in head == (2 * pattern + 1) * 2 ^ (depth_in head - depth - 1)))
+
+-- what the linked slot tells of a segment of this depth and pattern: with a ready side there, which begins where the 1-side does, the segment has
+-- none of its 1-side; else it has all of it
+abbrev pub told_by_side : Bool → ℕ → ℕ → ℕ → ℕ → List Fact
+told_by_side true p n depth pattern = Begins n (first_of_region (suc depth) (2 * pattern + 1)) ∷ Lacks p (suc depth) (2 * pattern + 1) ∷ []
+told_by_side false p n depth pattern = Owns p (suc depth) (2 * pattern + 1) ∷ []
+
+-- and what a link tells of it: that it has all of its 1-side, where no slot is linked
+abbrev pub told_by_link : Bool → ℕ → ℕ → ℕ → List Fact
+told_by_link true p depth pattern = Owns p (suc depth) (2 * pattern + 1) ∷ []
+told_by_link false p depth pattern = []
+
+-- a view that relies on these facts too
+abbrev pub with_facts : List Fact → View → View
+with_facts facts v = record v { facts = facts ++ v.facts }
 
 -- a header of the image's version was stored: others may lock the buckets of the segment, so nothing is known of the slot but the header
 abbrev pub known_by : Shape → Row → ℕ → ℕ → List (ℕ × ℕ) → List (ℕ × ℕ)
@@ -168,12 +206,17 @@ facts_by row s facts = facts
 -- THE VIEW AFTER, by the word that was found
 abbrev pub view_then : Shape → StructureKind → ℕ → View → View
 view_then shape (takes guard caller) n v = with_guard (n == 0) guard v
+view_then shape (takes_for_side m caller) n v = with_guard_for shape (n == 0) m v
 view_then shape (gives guard) n v =
     record v { areas = all_but (goes_with guard) v.areas; facts = facts_without guard v.facts; known = known_without shape guard v.areas v.known }
 view_then shape (finds_stale s version) n v = with_area (not (version_in n == version)) (Stale s) (header_word shape s) n v
 view_then shape (closes s i) n v = with_area true (Whole s) i n v
 view_then shape (finds_free m) n v = with_slot (state_in n == free) m (header_word shape m) n v
-view_then shape (finds_side p m depth pattern) n v = with_area (is_new_side depth pattern n) (Side m) (header_word shape m) n v
+view_then shape (finds_link p depth pattern) n v = with_facts (told_by_link (n == 0) p depth pattern) (record v { known = (link_word shape p, n) ∷ v.known })
+view_then shape (finds_side p m depth pattern) n v =
+    with_facts (told_by_side (is_ready_side depth pattern n) p m depth pattern) (with_area (is_new_side depth pattern n) (Side m) (header_word shape m) n v)
+view_then shape (finds_entry e i) n v = with_facts (Lives n ∷ []) (record v { known = (entry_at e i, n) ∷ v.known })
+view_then shape (finds_begin s) n v = with_facts (Begins s (first_of_region (depth_in n) (pattern_in n)) ∷ []) v
 view_then shape (reads i) n v = record v { known = (i, n) ∷ v.known }
 view_then shape (sets i x) n v = with_store shape i n x v.planned v.moving v.owed v
 view_then shape (moves row s x) n v =

@@ -47,6 +47,7 @@ pub record IsRestartOf (site : Ground) (image : List ℕ) (world : World) : Type
   pub settled : (i y : ℕ) → i < words_of site.shape → HadSinceSettled (slice_index image) world.trace i y → y ≡ world.words i
   pub left : IsLeftOf site.shape (slice_index image) world.words
   pub front : (i : ℕ) → i < 32 → i ≢ root_word → world.words i ≡ site.front i
+  pub heads : (s : ℕ) → s < site.shape.segments → world.words (header_word site.shape s) ≡ site.front (header_word site.shape s)
   pub pairs : (k : ℕ) → find site.shape (slice_index image) k ≡ site.start k
   pub fresh : (j : ℕ) (v : View) → At world.views j v → v ≡ fresh_view v.callers
   pub callers : total (λ v. v.callers) world.views ≡ site.callers

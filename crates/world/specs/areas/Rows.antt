@@ -62,7 +62,7 @@ module _ (site : Ground) (words : Words) where
   -- WHAT ITS HOLDER HAS
   abbrev pub HasForRow : Row → ℕ → List Area → Type 0
   HasForRow (marks n) s areas = Has (Whole s) areas × Has (Free n) areas
-  HasForRow (news p) s areas = Has (Free s) areas × Has (Segment p) areas
+  HasForRow (news p) s areas = Has (Free s) areas × Has (Whole p) areas
   HasForRow (goes_live p) s areas = Has (Side s) areas × Has (Whole p) areas × Has Directory areas
   HasForRow finishes s areas = Has (Segment s) areas × (IsCurrentIn site words s → Has (Whole s) areas) × HasNoSides areas
   HasForRow unmarks s areas = Has (Stale s) areas × HasNoSides areas

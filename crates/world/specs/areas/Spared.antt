@@ -49,6 +49,8 @@ pub data AreaChange : Type 0 where
   adds : (area : Area) → AreaChange
   -- a segment is not whole any more
   leaves : (slot : ℕ) → AreaChange
+  -- a slot in which no segment lives is a side no more
+  gives_side : (slot : ℕ) → AreaChange
   -- a guard is given back, with what hangs on it
   gives_segment : (slot : ℕ) → AreaChange
   gives_allocation : AreaChange
@@ -58,6 +60,7 @@ abbrev pub areas_after : AreaChange → List Area → List Area
 areas_after stays areas = areas
 areas_after (adds a) areas = a ∷ areas
 areas_after (leaves s) areas = all_but (is_whole_at s) areas
+areas_after (gives_side n) areas = all_but (is_side_at n) areas
 areas_after (gives_segment s) areas = all_but (is_of_segment s) areas
 areas_after gives_allocation areas = all_but is_of_allocation areas
 areas_after gives_directory areas = all_but is_of_directory areas
@@ -77,7 +80,8 @@ module _ (site : Ground) (words : Words) (views : List View) where
   MayAdd Allocation v = NobodyHas Allocation
   MayAdd Directory v = NobodyHas Directory
 
-  -- a segment that is split is not left, if it is current; and no guard of a segment goes back before each side was given up
+  -- a segment that is split is not left, if it is current; a side is given up in which no segment lives; and no guard of a segment goes back before
+  -- each side was given up
   abbrev pub IsNotSplit : ℕ → Type 0
   IsNotSplit s = IsCurrentIn site words s → state_at (frame_of site.shape words) s ≡ splitting → ⊥
 
@@ -85,6 +89,7 @@ module _ (site : Ground) (words : Words) (views : List View) where
   AreasMayChange stays v = ⊤
   AreasMayChange (adds a) v = MayAdd a v
   AreasMayChange (leaves s) v = IsNotSplit s
+  AreasMayChange (gives_side n) v = HasLiveState (words (header_word site.shape n)) → ⊥
   AreasMayChange (gives_segment s) v = IsNotSplit s × HasNoSides v.areas
   AreasMayChange gives_allocation v = ⊤
   AreasMayChange gives_directory v = ⊤

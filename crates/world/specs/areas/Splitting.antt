@@ -77,7 +77,7 @@ pub record MayBegin (site : Ground) (v : View) : Type 0 where
       → state_in (word (header_word site.shape s)) ≡ normal → word (link_word site.shape s) ≡ suc n
       → IsHeader x splitting (depth_in (word (header_word site.shape s))) (pattern_in (word (header_word site.shape s))) (version_in (word (header_word site.shape s)))
       → MayAt site (moves (marks n) s x) v
-  pub news : (s n x : ℕ) (word : Words) → IsSettledHolder site.shape v → Has (Segment s) v.areas → Has (Free n) v.areas → KnowsHead site.shape v s word → KnowsHead site.shape v n word
+  pub news : (s n x : ℕ) (word : Words) → IsSettledHolder site.shape v → Has (Whole s) v.areas → Has (Free n) v.areas → KnowsHead site.shape v s word → KnowsHead site.shape v n word
       → state_in (word (header_word site.shape s)) ≡ splitting → word (link_word site.shape s) ≡ suc n
       → state_in (word (header_word site.shape n)) ≡ free → word (link_word site.shape n) ≡ 0 → depth_in (word (header_word site.shape s)) < site.shape.depth
       → IsHeader x fresh (suc (depth_in (word (header_word site.shape s)))) (2 * pattern_in (word (header_word site.shape s)) + 1) (version_of site)

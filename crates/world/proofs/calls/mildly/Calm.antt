@@ -27,6 +27,9 @@ use Rattle.world.proofs.moving.media.Said.{sound_still, said_still}
 use Rattle.world.proofs.moving.media.Settled.{still_settled}
 use Rattle.world.proofs.moving.Keepers.{pins_by}
 use Rattle.world.proofs.moving.HeldGuards.{held_same}
+use Rattle.world.proofs.moving.Known.{grounds}
+use Rattle.world.proofs.moving.Used.{slots_same}
+use Rattle.world.proofs.basics.Tables.{core_structure_same}
 use Rattle.world.proofs.moving.media.MediaKept.{media_still}
 use Rattle.world.proofs.mild.Mild.{IsMild}
 use Rattle.world.proofs.mild.Steps.{behind}
@@ -104,6 +107,7 @@ module _ (site : Ground) (words us : Words) (views : List View) (j : ℕ) (v w :
         lasting = last.1 h.structure.lasting;
         settled_slots = still_settled site words views j v h at us w still
             (λ n guard side. inl (subst (λ (areas : List Area). Has Allocation areas) (sym same.areas) guard, subst (λ (areas : List Area). Has (Side n) areas) (sym same.areas) side));
+        used_slots = slots_same site words h.site_is (grounds site words views h).sound us (core_structure_same site words us still.cores) h.structure.used_slots;
       }
 
   -- ---- buckets, media, the history and the room

@@ -46,6 +46,7 @@ module _ (site : Ground) (words : Words) (views views' : List View) (r : Reseats
           inl (g.goes o.0, a.0, a.1, a.2, subst (λ (z : View). Has (Side n) z.areas) same b.2)
       | inr taken ↦ inr (λ m p. taken m (fewer site words views views' r m p))
     ];
+    used_slots = q.used_slots;
   }
 
   words_go : KnownWords site words views → KnownWords site words views'

@@ -42,6 +42,7 @@ use Rattle.world.proofs.moving.Known.{grounds, held_living}
 use Rattle.world.proofs.moving.Stepping.{structured_by, still_back, fenced_less}
 use Rattle.world.proofs.moving.Keepers.{guards_of}
 use Rattle.world.proofs.moving.HeldGuards.{held_same}
+use Rattle.world.proofs.moving.Used.{slots_same}
 use Rattle.world.proofs.moving.media.Settled.{stays_settled}
 use Rattle.world.proofs.mild.Steps.{guard_behind}
 
@@ -139,6 +140,7 @@ module _ (site : Ground) (words : Words) (views : List View) (j : ℕ) (v : View
           (λ is. some (ap state_in (leaves.now (header_word site.shape n) (header_is site.shape n slot)) ∙ is))
           (λ guard side. inl (subst (Has Allocation) (sym areas) guard, subst (Has (Side n)) (sym areas) side))
           (λ m p is. let q = leaves.media m p in (q.0, q.1, sym (ap state_in (q.2 (header_word site.shape n) (header_is site.shape n slot))) ∙ is));
+      used_slots = slots_same site words h.site_is (grounds site words views h).sound us leaves.now h.structure.used_slots;
     }
 
   -- ---- which words a step leaves

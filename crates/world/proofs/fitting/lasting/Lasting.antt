@@ -144,7 +144,7 @@ sparing_lasts site words later views j v w change at st = (
         steady = λ m p. steady_on (frame_of site.shape m) (frame_of site.shape words) (frame_of site.shape later) (o.steady m (back m p)) (same_steady site.shape words later heads);
         living = λ s l. elim (o.living s (live_back site.shape words later heads s l)) [
           | inl a ↦ inl (λ m p. a m (back m p))
-          | inr t ↦ inr (let k = carry views j v w at (λ _ u. Has (Side s) u.areas) (sides_stay site words views change v w st.areas_are st.may s) t.0 t.1 t.2 t.3 in (t.0, k.0, k.1, k.2))
+          | inr t ↦ inr (let k = carry views j v w at (λ _ u. Has (Side s) u.areas) (sides_stay site words views change v w st.areas_are st.may s (live_back site.shape words later heads s l).live) t.0 t.1 t.2 t.3 in (t.0, k.0, k.1, k.2))
         ];
       },
 )

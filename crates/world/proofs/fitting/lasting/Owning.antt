@@ -242,7 +242,7 @@ sparing_owners site words later views j v w change at st o =
     record {
       same = λ m p h. elim (o.same m (possible_fewer site words later views j v w at st.cores st.no_more m p) h) [
         | inl e ↦ inl (e ∙ sym (now h))
-        | inr t ↦ inr (let k = carry views j v w at (λ _ u. Has (Side t.0) u.areas) (sides_stay site words views change v w st.areas_are st.may t.0) t.2.0 t.2.1 t.2.2 t.2.3 in
+        | inr t ↦ inr (let k = carry views j v w at (λ _ u. Has (Side t.0) u.areas) (sides_stay site words views change v w st.areas_are st.may t.0 (found_owns (frame_of site.shape words) h t.0 t.1).own.live) t.2.0 t.2.1 t.2.2 t.2.3 in
             (t.0, now h ∙ t.1, (t.2.0, k.0, k.1, k.2)))
       ];
     }

@@ -31,14 +31,14 @@ directory_low : (shape : Shape) (i : ℕ) → IsDirectoryWord shape i → i < fi
 directory_low shape i (inl e) = omega (arith, e, front_far shape)
 directory_low shape i (inr k) = k.1
 
-entry_word : (shape : Shape) (e i : ℕ) → e ≤ shape.depth → i < 2 ^ e → IsDirectoryWord shape (entry_at e i)
+pub entry_word : (shape : Shape) (e i : ℕ) → e ≤ shape.depth → i < 2 ^ e → IsDirectoryWord shape (entry_at e i)
 entry_word shape e i within below = inr (omega (arith, pow_pos e), entry_before shape e i within below)
 
 no_state : (shape : Shape) (i : ℕ) → IsDirectoryWord shape i → i ≡ 16 → ⊥
 no_state shape i (inl e) is = omega (arith, e, is)
 no_state shape i (inr k) is = omega (arith, k.0, is)
 
-first_is_root : (shape : Shape) (i : ℕ) → IsDirectoryWord shape i → i < 32 → i ≡ root_word
+pub first_is_root : (shape : Shape) (i : ℕ) → IsDirectoryWord shape i → i < 32 → i ≡ root_word
 first_is_root shape i (inl e) low = e
 first_is_root shape i (inr k) low = absurd (omega (arith, k.0, low))
 
@@ -47,7 +47,7 @@ module _ (site : Ground) (ground : IsGround site) (v : View) (holder : IsSettled
   shape = site.shape
 
   -- A STORE TO A WORD OF THE DIRECTORY, that is harmless
-  set_front : (i x : ℕ) → IsDirectoryWord shape i → IsHarmlessStore site v (EndsNothing site) i x → MayAt site (sets i x) v
+  pub set_front : (i x : ℕ) → IsDirectoryWord shape i → IsHarmlessStore site v (EndsNothing site) i x → MayAt site (sets i x) v
   set_front i x word harmless = record {
     holds = inr (Directory, guard, word);
     no_header = λ s slot e. before (first_segment shape) s i low e;

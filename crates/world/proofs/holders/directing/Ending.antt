@@ -10,23 +10,25 @@ use Rattle.segment_table.proofs.StoreLaws.{ends_split}
 use Rattle.frame_facts.specs.Facts.{Lacks, Deep, ClaimsNone, NamesDeeper}
 use Rattle.frame_facts.proofs.Records.{structure_apart}
 use Rattle.frame_facts.proofs.Stores.{ends}
-use Rattle.world.specs.Ground.{Ground, IsGround, IsStructured, version_of}
+use Rattle.world.specs.Ground.{Ground, IsGround, IsStructured, IsCurrentIn, version_of}
 use Rattle.world.specs.Views.{View, Has}
+use Rattle.world.specs.Holders.{KnowsWord}
 use Rattle.world.specs.areas.Areas.{Segment, Whole, header_word}
 use Rattle.world.specs.areas.Rows.{finishes, HasNoSides, IsRow}
 use Rattle.world.specs.areas.Kinds.{moves}
 use Rattle.world.specs.areas.Asking.{MayBeNewest, MayStandBeside, IsHarmlessStore, ends_by, MayAt}
-use Rattle.world.specs.areas.Splitting.{IsSettledHolder, KnowsHead, IsHeader}
+use Rattle.world.specs.areas.Splitting.{IsSettledHolder, IsHeader}
 use Rattle.world.proofs.basics.Structures.{header_is}
 use Rattle.world.proofs.holders.filling.Known.{slot_far, both_sound, known_there}
 use Rattle.world.proofs.holders.directing.Known.{kept_all}
 
 -- the header of a slot is none of the first words
-head_far : (shape : Shape) (s : ℕ) → header_word shape s < 32 → header_word shape s ≡ root_word
+pub head_far : (shape : Shape) (s : ℕ) → header_word shape s < 32 → header_word shape s ≡ root_word
 head_far shape s low = absurd (omega (arith, low, slot_far shape s 1))
 
-module _ (site : Ground) (ground : IsGround site) (v : View) (s x : ℕ) (word : Words) (holder : IsSettledHolder site.shape v) (whole : Has (Whole s) v.areas) (guard : Has (Segment s) v.areas)
-    (sides : HasNoSides v.areas) (head : KnowsHead site.shape v s word) (splits : state_in (word (header_word site.shape s)) ≡ splitting)
+module _ (site : Ground) (ground : IsGround site) (v : View) (s x : ℕ) (word : Words) (holder : IsSettledHolder site.shape v)
+    (whole : (words : Words) → MayBeNewest site v words → IsCurrentIn site words s → Has (Whole s) v.areas) (guard : Has (Segment s) v.areas)
+    (sides : HasNoSides v.areas) (slot : s < site.shape.segments) (known : KnowsWord v (header_word site.shape s) (word (header_word site.shape s))) (splits : state_in (word (header_word site.shape s)) ≡ splitting)
     (lacks : Has (Lacks s (suc (depth_in (word (header_word site.shape s)))) (2 * pattern_in (word (header_word site.shape s)) + 1)) v.facts)
     (deep : Has (Deep (depth_in (word (header_word site.shape s))) (suc (depth_in (word (header_word site.shape s)))) (2 * pattern_in (word (header_word site.shape s)) + 1)) v.facts)
     (becomes : IsHeader x normal (suc (depth_in (word (header_word site.shape s)))) (2 * pattern_in (word (header_word site.shape s))) (version_in (word (header_word site.shape s)))) where
@@ -52,14 +54,14 @@ module _ (site : Ground) (ground : IsGround site) (v : View) (s x : ℕ) (word :
 
     ends_there : EndsSplit (frame_of shape us) s x
     ends_there = record {
-      slot = head.slot;
+      slot = slot;
       was = ap state_in header ∙ splits;
-      ready = (ready_claims_none shape.depth ground.shape.depth (frame_of shape us) structure.sound s head.slot (inr (ap state_in header ∙ splits))).1 none_there;
+      ready = (ready_claims_none shape.depth ground.shape.depth (frame_of shape us) structure.sound s slot (inr (ap state_in header ∙ splits))).1 none_there;
       deep = deep_there;
       becomes = becomes.state_is;
       depth = becomes.depth_is ∙ ap (λ (z : ℕ). suc (depth_in z)) (sym header) ∙ sym (add-one (depth_in (us i)));
       pattern = becomes.pattern_is ∙ ap (λ (z : ℕ). 2 * pattern_in z) (sym header);
-      past = subst (λ (z : ℕ). z ≤ image_version (frame_of shape us)) (sym same_version) (structure.sound.past s head.slot);
+      past = subst (λ (z : ℕ). z ≤ image_version (frame_of shape us)) (sym same_version) (structure.sound.past s slot);
     }
 
     row : IsRow site us finishes s x
@@ -67,18 +69,18 @@ module _ (site : Ground) (ground : IsGround site) (v : View) (s x : ℕ) (word :
 
   -- ---- in the newest words, and in a medium beside them
   row_now : (words : Words) → MayBeNewest site v words → IsRow site words finishes s x
-  row_now words new = row words new.structure (new.knows i (word i) head.header.known) (new.says _ lacks).1 (new.says _ deep)
+  row_now words new = row words new.structure (new.knows i (word i) known.known) (new.says _ lacks).1 (new.says _ deep)
 
   row_there : (words medium : Words) → MayBeNewest site v words → MayStandBeside site v words medium → IsRow site medium finishes s x
-  row_there words medium new side = row medium side.structure (known_there site ground v words medium new side i (word i) head.header) (side.says _ lacks).1 (side.says _ deep)
+  row_there words medium new side = row medium side.structure (known_there site ground v words medium new side i (word i) known) (side.says _ lacks).1 (side.says _ deep)
 
   harmless : IsHarmlessStore site v (ends_by site finishes s) i x
   harmless words medium new side =
       let here = row_now words new in
       let other = row_there words medium new side in
-      kept_all site ground words medium (ends_by site finishes s medium) i x side.structure side.table (head_far shape s) (structure_apart shape i (header_is shape s head.slot))
+      kept_all site ground words medium (ends_by site finishes s medium) i x side.structure side.table (head_far shape s) (structure_apart shape i (header_is shape s slot))
       (ends_split shape medium ground.shape side.structure.sound s x other.0)
       (ends shape (version_of site) words medium (both_sound site ground v words medium new side) s x (here.0, other.0) (λ was. here.1 ∙ was))
 
   pub finish : MayAt site (moves finishes s x) v
-  finish = ((λ words new. (row_now words new, (guard, (λ _. whole), sides))), holder.planned, harmless, tt, row_there)
+  finish = ((λ words new. (row_now words new, (guard, whole words new, sides))), holder.planned, harmless, tt, row_there)

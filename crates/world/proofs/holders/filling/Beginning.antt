@@ -10,7 +10,7 @@ use Rattle.segment_table.proofs.frames.Regions.{doubled_fits}
 use Rattle.frame_facts.proofs.Stores.{takes, begins}
 use Rattle.world.specs.Ground.{Ground, IsGround, version_of, IsStructured}
 use Rattle.world.specs.Views.{View, Has}
-use Rattle.world.specs.areas.Areas.{Segment, Free, Whole, header_word}
+use Rattle.world.specs.areas.Areas.{Free, Whole, header_word}
 use Rattle.world.specs.areas.Kinds.{moves}
 use Rattle.world.specs.areas.Rows.{marks, news, IsSideOf, IsRow}
 use Rattle.world.specs.areas.Asking.{ends_by, IsHarmlessStore, MayBeNewest, MayStandBeside, MayAt}
@@ -148,9 +148,9 @@ module _ (site : Ground) (ground : IsGround site) (v : View) (s n x : ℕ) (word
         facts = λ fact _. takes site.shape (version_of site) words medium (both_sound site ground v words medium new side) n x ((news_now words new).0, there) fact;
       }
 
-  pub may_take : IsSettledHolder site.shape v → Has (Segment s) v.areas → Has (Free n) v.areas → MayAt site (moves (news s) n x) v
-  may_take holder guard has = (
-    (λ words new. (news_now words new, (has, guard))),
+  pub may_take : IsSettledHolder site.shape v → Has (Whole s) v.areas → Has (Free n) v.areas → MayAt site (moves (news s) n x) v
+  may_take holder whole has = (
+    (λ words new. (news_now words new, (has, whole))),
     holder.planned,
     news_harmless,
     tt,
@@ -160,5 +160,5 @@ module _ (site : Ground) (ground : IsGround site) (v : View) (s n x : ℕ) (word
 pub may_begin : (site : Ground) (v : View) → IsGround site → MayBegin site v
 may_begin site v ground = record {
   marks = λ s n x word holder whole has knows was named is. may_mark site ground v s n x word knows was named is holder whole has;
-  news = λ s n x word holder guard has knows finds splits named was unlinked room is. may_take site ground v s n x word knows finds splits named was unlinked room is holder guard has;
+  news = λ s n x word holder whole has knows finds splits named was unlinked room is. may_take site ground v s n x word knows finds splits named was unlinked room is holder whole has;
 }

@@ -6,7 +6,7 @@ use Rattle.segment_head.specs.HeadWord.{state_in, depth_in, pattern_in, normal, 
 use Rattle.image_layout.specs.Places.{bucket_at, homes, buckets}
 use Rattle.sound_image.specs.Segments.{Frame, frame_of, state_at, depth_at, pattern_at, IsLive, CoversHash}
 use Rattle.sound_image.specs.Records.{key_hash, HasExactNotes}
-use Rattle.segment_table.specs.Claims.{IsSoundFrame}
+use Rattle.segment_table.specs.Claims.{IsSoundFrame, HasSoundFrame}
 use Rattle.segment_table.specs.Owner.{owner}
 use Rattle.segment_table.proofs.frames.SoundFrames.{live_low, live_pattern}
 use Rattle.segment_table.proofs.frames.Owner.{claimer_found}
@@ -38,6 +38,20 @@ normal_owns greatest most frame sound s h slot is covers = claimer_found greates
     fits : h < 2 ^ 64
     fits = region_fits (depth_at frame s) (pattern_at frame s) h low (live_pattern greatest most frame sound s slot live) covers
 
+-- A NORMAL SEGMENT IS IN ORDER in words that have its buckets, where its records are its own, each key stands once, and notes are exact
+module _ (site : Ground) (ground : IsGround site) (w : Words) (sound : HasSoundFrame site.shape w) (s head : ℕ) (word : Words) (slot : s < site.shape.segments)
+    (header : w (header_word site.shape s) ≡ head) (is : state_in head ≡ normal) (same : HasBuckets site.shape word w s)
+    (own : (c r k : ℕ) → Hit site.shape word s c r k → Covers (depth_in head) (pattern_in head) (key_hash site.shape k))
+    (once : (c r e t k : ℕ) → Hit site.shape word s c r k → Hit site.shape word s e t k → (c ≡ e) × (r ≡ t))
+    (exact : (c : ℕ) → c < homes → HasExactNotes site.shape word s c) where
+  pub in_order_by : IsInOrder site w s
+  in_order_by = record {
+    own = λ c r k hit. normal_owns site.shape.depth ground.shape.depth (frame_of site.shape w) sound s (key_hash site.shape k) slot (ap state_in header ∙ is)
+        (subst (λ z. Covers (depth_in z) (pattern_in z) (key_hash site.shape k)) (sym header) (own c r k (hit_before site.shape word w s same c r k hit)));
+    once = λ c r e t k hit other. once c r e t k (hit_before site.shape word w s same c r k hit) (hit_before site.shape word w s same e t k other);
+    exact = λ c home. exact_there site.shape word w s same c slot home (exact c home);
+  }
+
 normal_or_splitting : (a : ℕ) → a ≡ normal → a ≡ splitting → ⊥
 normal_or_splitting a e f = omega (arith, e, f)
 
@@ -58,12 +72,7 @@ module _ (site : Ground) (ground : IsGround site) (v : View) (s b x : ℕ) (word
     same = shown_buckets site.shape v word words s (shown_now site v words now) known
 
     in_order : IsInOrder site words s
-    in_order = record {
-      own = λ c r k hit. normal_owns site.shape.depth ground.shape.depth (frame_of site.shape words) now.structure.sound s (key_hash site.shape k) head.slot is_normal
-          (subst (λ z. Covers (depth_in z) (pattern_in z) (key_hash site.shape k)) (sym same_head) (own c r k (hit_before site.shape word words s same c r k hit)));
-      once = λ c r e t k hit other. once c r e t k (hit_before site.shape word words s same c r k hit) (hit_before site.shape word words s same e t k other);
-      exact = λ c home. exact_there site.shape word words s same c head.slot home (exact c home);
-    }
+    in_order = in_order_by site ground words now.structure.sound s (word (header_word site.shape s)) word head.slot same_head is same own once exact
 
   pub may_open : MayAt site (opens s (bucket_at site.shape s b) (suc x)) v
   may_open = (

@@ -69,6 +69,7 @@ module _ (site : Ground) (start : Words) (world : World) (b : Begins site start 
       lasting = stand.lasting;
       settled_slots = λ n slot some. inr (λ m p is. some
           (sym (ap state_in (core_structure_same site world.words m (cores m p) (header_word site.shape n) (header_is site.shape n slot))) ∙ is));
+      used_slots = λ n slot was some. absurd (some (ap state_in (r.heads n slot) ∙ was));
       guards = λ j v guard at h. absurd (none (λ v. v.areas) (λ _. refl) j v _ at h);
       held_guards = λ guard is some. absurd (some (r.behind (guard_word site.shape guard) (guard_behind site.shape guard) (guard_within site.shape guard is)));
       says = λ j v fact m at h p. absurd (none (λ v. v.facts) (λ _. refl) j v fact at h);

@@ -278,6 +278,7 @@ module _ (site : Ground) (image : List ℕ) (world : World) (of : IsRestartOf si
       words_are = of.words_are;
       settled = of.settled;
       structured = record { fixed = of.front; sound = sound_after site.shape word world.words is of.left framed };
+      heads = of.heads;
       table = table.table;
       pairs = λ k. table.pairs k ∙ of.pairs k;
       behind = λ i high _. behind i high;

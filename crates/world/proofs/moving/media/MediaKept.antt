@@ -28,7 +28,7 @@ use Rattle.world.specs.Invariant.{IsWatched, Media, Holds}
 use Rattle.world.specs.areas.Areas.{Area, Segment, Stale, Side, Free, Whole, Allocation, Directory, header_word, InArea, is_side_at, is_whole_at, all_but}
 use Rattle.world.specs.areas.Fitting.{HoldsWord}
 use Rattle.world.specs.areas.Rows.{Row, marks, news, goes_live, finishes, unmarks, frees, renews, IsRow, HasForRow, HasStored}
-use Rattle.world.specs.areas.Kinds.{Guard, of_segment, of_free_slots, of_directory, guard_word, goes_with, view_then, StructureKind, takes, gives, finds_stale, closes, finds_free, finds_side, reads, sets, moves, settles, settles_side, opens, with_guard, with_area, with_slot}
+use Rattle.world.specs.areas.Kinds.{Guard, of_segment, of_free_slots, of_directory, guard_word, goes_with, view_then, StructureKind, takes, takes_for_side, gives, finds_stale, closes, finds_free, finds_link, finds_side, finds_entry, finds_begin, reads, sets, moves, settles, settles_side, opens, with_guard, with_area, with_slot, with_facts, with_guard_for}
 use Rattle.world.specs.areas.Asking.{IsFirmIn, HasOpened, IsUnderWhole, IsUnderDead, KeepsAll, EndsNothing, ends_by, MaySet, AsksForRow, MayAt}
 use Rattle.world.specs.areas.Keeping.{whole_beside, found_at, words_then, KeepsMedia}
 use Rattle.world.proofs.basics.Lists.{set_here}
@@ -40,7 +40,7 @@ use Rattle.world.proofs.fitting.OneHolder.{one_holder, one_slot, head_in_slot}
 use Rattle.world.proofs.fitting.Rows.{but_after, row_after, row_slot, head_near}
 use Rattle.world.proofs.moving.Known.{grounds, whole_possible, held_within, newest_is}
 use Rattle.world.proofs.moving.Stepping.{IsStill, still_back, calm_still, grown_whole}
-use Rattle.world.proofs.moving.media.Said.{by_known, taken_still, found_still, slot_still, fence_still, opened_still, row_stored}
+use Rattle.world.proofs.moving.media.Said.{by_known, taken_still, taken_for_still, found_still, told_still, slot_still, fence_still, opened_still, row_stored}
 use Rattle.world.proofs.moving.Stepping.{guard_still}
 
 -- ---- which words are none of a segment's buckets
@@ -394,6 +394,15 @@ module _ (site : Ground) (words : Words) (views : List View) (j : ℕ) (v : View
   taken_whole guard true s has = inr has
   taken_whole guard false s has = has
 
+  taken_for_keeps : (n : ℕ) (t : Bool) (call : Call) → Has call v.planned
+      → Has call (with_guard_for site.shape t n v).planned × ((lock : ℕ) → HasLock v.held lock → HasLock (with_guard_for site.shape t n v).held lock)
+  taken_for_keeps n true call has = (has, (λ lock l. l))
+  taken_for_keeps n false call has = (has, (λ lock l. l))
+
+  taken_for_whole : (n : ℕ) (t : Bool) (s : ℕ) → Has (Whole s) v.areas → Has (Whole s) (with_guard_for site.shape t n v).areas
+  taken_for_whole n true s has = inr has
+  taken_for_whole n false s has = but_after (is_side_at n) v.areas (Whole s) has refl
+
   found_keeps : (t : Bool) (area : Area) (i x : ℕ) (call : Call) → Has call v.planned
       → Has call (with_area t area i x v).planned × ((lock : ℕ) → HasLock v.held lock → HasLock (with_area t area i x v).held lock)
   found_keeps true area i x call has = (has, (λ lock l. l))
@@ -418,6 +427,10 @@ module _ (site : Ground) (words : Words) (views : List View) (j : ℕ) (v : View
   found_media : (t : Bool) (area : Area) (i x : ℕ) → Media site words (set views j (with_area t area i x v)) h.log
   found_media t area i x = media_still words (with_area t area i x v) (found_still site words views j v h at t area i x) (found_keeps t area i x) (λ s watched. inl (found_whole t area i x s))
 
+  told_media : (facts : List Fact) (t : Bool) (area : Area) (i x : ℕ) → Media site words (set views j (with_facts facts (with_area t area i x v))) h.log
+  told_media facts t area i x = media_still words (with_facts facts (with_area t area i x v)) (told_still site words views j v h at facts t area i x) (found_keeps t area i x)
+      (λ s watched. inl (found_whole t area i x s))
+
   given_whole : (guard : Guard) → HasOpened site.shape v guard → (s : ℕ) → Has (Whole s) v.areas → Has (Whole s) (all_but (goes_with guard) v.areas)
   given_whole (of_segment t) opened s has = elim (cases_eq s t) [
     | inl e ↦ absurd (opened.1 (subst (λ (z : ℕ). Has (Whole z) v.areas) e has))
@@ -429,11 +442,16 @@ module _ (site : Ground) (words : Words) (views : List View) (j : ℕ) (v : View
   pub keeps_media : (kind : StructureKind) → MayAt site kind v → Media site (words_then site kind j words) (set views j (view_then site.shape kind (found_at site kind words) v)) h.log
   keeps_media (takes guard caller) may = let t = eqb (words (guard_word site.shape guard)) 0 in
       media_still _ _ (taken_still site words views j v h at guard caller t) (taken_keeps guard t) (λ s watched. inl (taken_whole guard t s))
+  keeps_media (takes_for_side n caller) may = let t = eqb (words (guard_word site.shape of_free_slots)) 0 in
+      media_still _ _ (taken_for_still site words views j v h at n caller t) (taken_for_keeps n t) (λ s watched. inl (taken_for_whole n t s))
   keeps_media (gives guard) may = media_still _ _ (guard_still site words v _ guard 0 (λ p l. l)) (λ call has. (has, (λ lock l. l))) (λ s watched. inl (given_whole guard may.2 s))
   keeps_media (finds_stale s version) may = found_media _ _ _ _
   keeps_media (closes s i) may = found_media true (Whole s) i (words i)
   keeps_media (finds_free n) may = slot_media _ _ _ _
-  keeps_media (finds_side p n depth pattern) may = found_media _ _ _ _
+  keeps_media (finds_link p depth pattern) may = media_still _ _ (calm_still site words v _ (λ p l. l)) (λ call has. (has, (λ lock l. l))) (λ s watched. inl (λ has. has))
+  keeps_media (finds_side p n depth pattern) may = told_media _ _ _ _ _
+  keeps_media (finds_entry e i) may = media_still _ _ (calm_still site words v _ (λ p l. l)) (λ call has. (has, (λ lock l. l))) (λ s watched. inl (λ has. has))
+  keeps_media (finds_begin s) may = media_still _ _ (calm_still site words v _ (λ p l. l)) (λ call has. (has, (λ lock l. l))) (λ s watched. inl (λ has. has))
   keeps_media (reads i) may = media_still _ _ (calm_still site words v _ (λ p l. l)) (λ call has. (has, (λ lock l. l))) (λ s watched. inl (λ has. has))
   keeps_media (sets i x) may = set_media i x may
   keeps_media (moves row s x) may = row_media row s x may

@@ -1,14 +1,15 @@
 -- The structure is sound in whatever a cut may leave, and the facts of all views hold beside it, at each kind of step at the structure.
-use Rattle.std.proofs.Common.{◌≡◌, ◌≢◌, ◌⊎◌, ℕ, ◌<◌, Bool, true, false, cond, eqb, List, [], set, inl, inr, refl, sym, ap, ◌∙◌, subst, arith}
+use Rattle.std.proofs.Common.{◌≡◌, ◌≢◌, ◌⊎◌, ℕ, ◌<◌, Bool, true, false, cond, eqb, List, [], ◌∷◌, ◌++◌, set, inl, inr, refl, sym, ap, ◌∙◌, subst, arith}
 use Rattle.std.specs.Prelude.{not, ⊤}
 use Rattle.std.proofs.lemmas.Bool.{eq-eqb, eqb-false}
 use Rattle.trace.specs.Events.{Words, with_word, after}
 use Rattle.trace.specs.Events.Event.{loaded, exchanged}
 use Rattle.hash_word.specs.Hash.{Covers}
 use Rattle.segment_head.specs.HeadWord.{state_in, depth_in, pattern_in, free, normal, splitting}
-use Rattle.image_layout.specs.Places.{Shape, words_of}
+use Rattle.image_layout.specs.Places.{Shape, root_word, entry_at, words_of}
 use Rattle.sound_image.specs.Segments.{Frame, frame_of}
-use Rattle.bucket_words.specs.Core.{core}
+use Rattle.segment_table.specs.Media.{first_hash}
+use Rattle.bucket_words.specs.Core.{core_of, core}
 use Rattle.bucket_words.specs.Owners.{HasStructure}
 use Rattle.bucket_words.proofs.segments.Cores.{core_structure}
 use Rattle.frame_facts.specs.Facts.{Fact, Lives, Current, Rooted, Owns, Lacks, Deep, Begins, Used, Taken, HoldsFact}
@@ -20,11 +21,11 @@ use Rattle.world.specs.Views.{View, Has, At, IsLoose}
 use Rattle.world.specs.Media.{IsPossible}
 use Rattle.world.specs.Kinds.{loosened}
 use Rattle.world.specs.Conditions.{Agrees}
-use Rattle.world.specs.areas.Areas.{Area, Segment, Side, header_word}
+use Rattle.world.specs.areas.Areas.{Area, Segment, Side, header_word, link_word}
 use Rattle.world.specs.areas.Fitting.{HoldsWord}
 use Rattle.world.specs.areas.Rows.{Row, marks, news, goes_live, finishes, unmarks, frees, renews, IsRow, HasForRow, HasStored}
 use Rattle.world.specs.areas.Saying.{MaySay}
-use Rattle.world.specs.areas.Kinds.{Guard, of_segment, of_free_slots, of_directory, guard_word, view_then, StructureKind, takes, gives, finds_stale, closes, finds_free, finds_side, reads, sets, moves, settles, settles_side, opens, with_guard, with_area, with_slot, facts_without, is_claim_of, is_taken_at, facts_by}
+use Rattle.world.specs.areas.Kinds.{Guard, of_segment, of_free_slots, of_directory, guard_word, view_then, StructureKind, takes, takes_for_side, gives, finds_stale, closes, finds_free, finds_link, finds_side, finds_entry, finds_begin, reads, sets, moves, settles, settles_side, opens, with_guard, with_area, with_slot, is_new_side, is_ready_side, told_by_side, told_by_link, with_facts, facts_without, is_claim_of, is_taken_at, facts_by, with_guard_for}
 use Rattle.world.specs.areas.Asking.{MayBeNewest, MayStandBeside, KeepsAll, EndsNothing, ends_by, once_fenced, MayAt}
 use Rattle.world.specs.Invariant.{Holds}
 use Rattle.world.specs.areas.Keeping.{whole_beside, found_at, words_then, KeepsSound, KeepsFacts}
@@ -34,10 +35,12 @@ use Rattle.world.proofs.basics.Structures.{header_is}
 use Rattle.world.proofs.basics.Tables.{core_structure_same, lock_cores}
 use Rattle.world.proofs.holding.Beside.{newest}
 use Rattle.world.proofs.fitting.Filtered.{filtered_has, not_false}
-use Rattle.world.proofs.fitting.OneHolder.{head_in_slot}
+use Rattle.world.proofs.fitting.Learning.{roots_tell, entries_tell, headers_tell}
+use Rattle.world.proofs.fitting.OneHolder.{one_holder, head_in_slot}
 use Rattle.world.proofs.fitting.Rows.{head_near, row_slot}
 use Rattle.world.proofs.moving.Known.{grounds, whole_cores, whole_possible, held_within, newest_is, beside}
-use Rattle.world.proofs.moving.Stepping.{IsStill, structured_by, structure_of, still_back, calm_still, guard_still, found_less, slot_less, fenced_less, grown_whole}
+use Rattle.world.proofs.moving.Stepping.{IsStill, structured_by, structure_of, still_back, calm_still, guard_still, found_less, told_less, slot_less, fenced_less, grown_whole}
+use Rattle.world.proofs.moving.media.Linked.{side_said, link_said}
 use Rattle.world.proofs.moving.media.Settled.{held_settled, head_settled}
 
 same_words : (shape : Shape) (word : Words) → HasStructure shape word word
@@ -202,6 +205,20 @@ module _ (site : Ground) (words : Words) (views : List View) (j : ℕ) (v : View
     fenced_agrees m p i x known firm = let k = h.known.knows j v i x at known in
         ap (λ b. cond b (words i) (m i)) (eq-eqb (core site.shape m i) (core site.shape words i) (settled m p i k.1 (λ y d. firm y (inl d)))) ∙ k.0
 
+    fenced_leaves : (m : Words) → IsPossible site words (set views j w) m → (i : ℕ) → HoldsWord site.shape v i
+        → (core site.shape (whole_beside site words m) i ≡ core site.shape words i)
+        ⊎ ((x : ℕ) × IsLoose (once_fenced v) (i, x) × (core site.shape (whole_beside site words m) i ≡ core_of site.shape i x))
+    fenced_leaves m p i holds = elim (p i (held_within site words views h j v i at holds)) [
+      | inl e ↦ inl (whole_cores site words m i ∙ e)
+      | inr e ↦ inr (
+        e.2,
+        each views j v w at (λ c u. IsLoose u (i, e.2) → IsLoose (once_fenced v) (i, e.2))
+            (λ l. elim l [ inl d ↦ inl (subst (Has (i, e.2)) dirty d) | inr f ↦ absurd (subst (Has (i, e.2)) flushed f) ])
+            (λ c u ne a l. absurd (ne (one_holder site words views (grounds site words views h) h.structure.fits c j i u v a at (h.known.loose c u i e.2 a l) holds))) e.0 e.1 e.3 e.4,
+        whole_cores site words m i ∙ e.5,
+      )
+    ]
+
     pub fenced_newest : MayBeNewest site (once_fenced v) words
     fenced_newest = let n = newest_is site words views h j v at in record {
       structure = n.structure;
@@ -221,6 +238,7 @@ module _ (site : Ground) (words : Words) (views : List View) (j : ℕ) (v : View
       says = b.says;
       table = b.table;
       agrees = fenced_agrees m p;
+      leaves = fenced_leaves m p;
       owner = b.owner;
     }
       where
@@ -269,8 +287,40 @@ module _ (site : Ground) (words : Words) (views : List View) (j : ℕ) (v : View
   taken_facts guard true fact has = has
   taken_facts guard false fact has = has
 
+  -- one for a side
+  pub taken_for_still : (n caller : ℕ) (t : Bool)
+      → IsStill site words (after (cond t (exchanged j (guard_word site.shape of_free_slots) caller) (loaded j (guard_word site.shape of_free_slots))) words) v (with_guard_for site.shape t n v)
+  taken_for_still n caller true = taken_still of_free_slots caller true
+  taken_for_still n caller false = calm_still site words v (with_guard_for site.shape false n v) (λ p l. l)
+
+  taken_for_facts : (n : ℕ) (t : Bool) (fact : Fact) → Has fact (with_guard_for site.shape t n v).facts → Has fact v.facts
+  taken_for_facts n true fact has = has
+  taken_for_facts n false fact has = has
+
   pub found_still : (t : Bool) (area : Area) (i x : ℕ) → IsStill site words words v (with_area t area i x v)
   found_still t area i x = calm_still site words v (with_area t area i x v) (found_less t area i x v)
+
+  pub told_still : (facts : List Fact) (t : Bool) (area : Area) (i x : ℕ) → IsStill site words words v (with_facts facts (with_area t area i x v))
+  told_still facts t area i x = calm_still site words v (with_facts facts (with_area t area i x v)) (told_less facts t area i x v)
+
+  -- a view that is told facts which are said of whatever a cut may leave
+  told_facts : (facts : List Fact) (u w : View) → IsStill site words words v w → ((fact : Fact) → Has fact u.facts → Has fact v.facts) → w.facts ≡ facts ++ u.facts
+      → ((fact : Fact) → Has fact facts → IsSaidNow fact) → AllSaid words w
+  told_facts facts u w still old is said = said_still words w still (λ fact has. elim (has_joined facts u.facts fact (subst (Has fact) is has)) [
+    | inl new ↦ inr (goes_on words w still fact (said fact new))
+    | inr more ↦ inl (old fact more)
+  ])
+
+  one_said : (f : Fact) → IsSaidNow f → (fact : Fact) → Has fact (f ∷ []) → IsSaidNow fact
+  one_said f said fact has = elim has [ inl is ↦ subst IsSaidNow (sym is) said | inr more ↦ absurd more ]
+
+  -- the entry that the newest root tells names a segment that lives there
+  entry_said : (e i : ℕ) → MayAt site (finds_entry e i) v → IsSaidNow (Lives (words (entry_at e i)))
+  entry_said e i may = entries_tell site words views e i may.2
+      (subst (λ (z : ℕ). IsSaidNow (Rooted z)) (h.known.knows j v root_word e at may.1).0 (roots_tell site words views (grounds site words views h) (λ m p. (h.structure.sound m p).sound)))
+
+  begin_said : (s : ℕ) → Has (Lives s) v.facts → IsSaidNow (Begins s (first_hash (frame_of site.shape words) s))
+  begin_said s lives = (headers_tell site words views s h.structure.lasting (now j v at (Lives s) lives)).1
 
   pub slot_still : (t : Bool) (n i x : ℕ) → IsStill site words words v (with_slot t n i x v)
   slot_still t n i x = calm_still site words v (with_slot t n i x v) (slot_less t n i x v)
@@ -312,11 +362,15 @@ module _ (site : Ground) (words : Words) (views : List View) (j : ℕ) (v : View
 
   pub keeps_sound : (kind : StructureKind) → MayAt site kind v → AllSound (words_then site kind j words) (view_then site.shape kind (found_at site kind words) v)
   keeps_sound (takes guard caller) may = sound_still _ _ (taken_still guard caller (eqb (words (guard_word site.shape guard)) 0))
+  keeps_sound (takes_for_side n caller) may = sound_still _ _ (taken_for_still n caller (eqb (words (guard_word site.shape of_free_slots)) 0))
   keeps_sound (gives guard) may = sound_still _ _ (guard_still site words v _ guard 0 (λ p l. l))
   keeps_sound (finds_stale s version) may = sound_still _ _ (found_still _ _ _ _)
   keeps_sound (closes s i) may = sound_still _ _ (calm_still site words v _ (λ p l. l))
   keeps_sound (finds_free n) may = sound_still _ _ (slot_still _ _ _ _)
-  keeps_sound (finds_side p n depth pattern) may = sound_still _ _ (found_still _ _ _ _)
+  keeps_sound (finds_link p depth pattern) may = sound_still _ _ (calm_still site words v _ (λ p l. l))
+  keeps_sound (finds_side p n depth pattern) may = sound_still _ _ (told_still _ _ _ _ _)
+  keeps_sound (finds_entry e i) may = sound_still _ _ (calm_still site words v _ (λ p l. l))
+  keeps_sound (finds_begin s) may = sound_still _ _ (calm_still site words v _ (λ p l. l))
   keeps_sound (reads i) may = sound_still _ _ (calm_still site words v _ (λ p l. l))
   keeps_sound (sets i x) may = sound_stored i x _ (record { held = refl; dirty = refl; flushed = refl; areas_are = refl }) (held_within site words views h j v i at may.holds)
       (EndsNothing site) (by_known i x (EndsNothing site) may.harmless)
@@ -327,11 +381,21 @@ module _ (site : Ground) (words : Words) (views : List View) (j : ℕ) (v : View
 
   pub keeps_facts : (kind : StructureKind) → MayAt site kind v → AllSaid (words_then site kind j words) (view_then site.shape kind (found_at site kind words) v)
   keeps_facts (takes guard caller) may = said_still _ _ (taken_still guard caller (eqb (words (guard_word site.shape guard)) 0)) (λ fact has. inl (taken_facts guard (eqb (words (guard_word site.shape guard)) 0) fact has))
+  keeps_facts (takes_for_side n caller) may = let t = eqb (words (guard_word site.shape of_free_slots)) 0 in
+      said_still _ _ (taken_for_still n caller t) (λ fact has. inl (taken_for_facts n t fact has))
   keeps_facts (gives guard) may = said_still _ _ (guard_still site words v _ guard 0 (λ p l. l)) (λ fact has. inl (some_facts guard v.facts fact has))
   keeps_facts (finds_stale s version) may = said_still _ _ (found_still _ _ _ _) (λ fact has. inl (found_facts _ _ _ _ v fact has))
   keeps_facts (closes s i) may = said_still _ _ (calm_still site words v _ (λ p l. l)) (λ fact has. inl has)
   keeps_facts (finds_free n) may = said_still _ _ (slot_still _ _ _ _) (slot_facts n (eqb (state_in (words (header_word site.shape n))) free) refl may)
-  keeps_facts (finds_side p n depth pattern) may = said_still _ _ (found_still _ _ _ _) (λ fact has. inl (found_facts _ _ _ _ v fact has))
+  keeps_facts (finds_link p depth pattern) may =
+      told_facts (told_by_link (eqb (words (link_word site.shape p)) 0) p depth pattern) v _ (calm_still site words v _ (λ p l. l)) (λ fact has. has) refl (link_said site words views j v h at p depth pattern may)
+  keeps_facts (finds_side p n depth pattern) may = let x = words (header_word site.shape n) in let t = is_new_side depth pattern x in
+      told_facts (told_by_side (is_ready_side depth pattern x) p n depth pattern) (with_area t (Side n) (header_word site.shape n) x v) _ (told_still _ t (Side n) (header_word site.shape n) x)
+      (found_facts t (Side n) (header_word site.shape n) x v) refl (side_said site words views j v h at p n depth pattern may)
+  keeps_facts (finds_entry e i) may =
+      told_facts (Lives (words (entry_at e i)) ∷ []) v _ (calm_still site words v _ (λ p l. l)) (λ fact has. has) refl (one_said (Lives (words (entry_at e i))) (entry_said e i may))
+  keeps_facts (finds_begin s) may = let b = first_hash (frame_of site.shape words) s in
+      told_facts (Begins s b ∷ []) v _ (calm_still site words v _ (λ p l. l)) (λ fact has. has) refl (one_said (Begins s b) (begin_said s may))
   keeps_facts (reads i) may = said_still _ _ (calm_still site words v _ (λ p l. l)) (λ fact has. inl has)
   keeps_facts (sets i x) may = said_stored i x _ (record { held = refl; dirty = refl; flushed = refl; areas_are = refl }) (held_within site words views h j v i at may.holds)
       (EndsNothing site) (by_known i x (EndsNothing site) may.harmless) (λ fact has. (has, (λ m none. none))) (λ c u ne a fact has m none. none)

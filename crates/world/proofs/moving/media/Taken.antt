@@ -1,8 +1,9 @@
 -- Each kind of step at the structure keeps that a slot that is taken is so in whatever a cut may leave, or is being taken.
-use Rattle.std.proofs.Common.{◌≡◌, ◌≢◌, ◌⊎◌, ℕ, ◌<◌, Bool, true, false, eqb, List, [], set, inl, inr, refl, sym, ap, ◌∙◌, subst, arith}
+use Rattle.std.proofs.Common.{◌≡◌, ◌≢◌, ◌⊎◌, ℕ, ◌<◌, Bool, true, false, cond, eqb, List, set, inl, inr, refl, sym, ap, ◌∙◌, subst, arith}
 use Rattle.std.specs.Prelude.{not}
 use Rattle.std.proofs.lemmas.Bool.{cases_eq, ne_eqb}
-use Rattle.trace.specs.Events.{Words, with_word}
+use Rattle.trace.specs.Events.{Words, with_word, after}
+use Rattle.trace.specs.Events.Event.{loaded, exchanged}
 use Rattle.trace.proofs.Replaced.{replaced_same, replaced_other}
 use Rattle.segment_head.specs.HeadWord.{version_in, state_in, free}
 use Rattle.image_layout.specs.Places.{words_of}
@@ -13,8 +14,8 @@ use Rattle.world.specs.Invariant.{Holds}
 use Rattle.world.specs.areas.Areas.{Area, Stale, Side, Whole, Allocation, header_word, is_side_at, is_stale_at, is_whole_at, is_of_segment, is_of_directory, all_but}
 use Rattle.world.specs.areas.Rows.{Row, marks, news, goes_live, finishes, unmarks, frees, renews, IsRow, HasForRow, areas_by, HasStored}
 use Rattle.world.specs.areas.Lasting.{IsTakenInMedia, SettledSlots}
-use Rattle.world.specs.areas.Kinds.{Guard, of_segment, of_free_slots, of_directory, guard_word, goes_with, StructureKind, takes, gives, finds_stale, closes, finds_free, finds_side, reads, sets, moves, settles, settles_side, opens, with_guard, with_area, with_slot, is_new_side, view_then}
-use Rattle.world.specs.areas.Asking.{HasOpened, MayAt}
+use Rattle.world.specs.areas.Kinds.{Guard, of_segment, of_free_slots, of_directory, guard_word, goes_with, StructureKind, takes, takes_for_side, gives, finds_stale, closes, finds_free, finds_link, finds_side, finds_entry, finds_begin, reads, sets, moves, settles, settles_side, opens, with_guard, with_area, with_slot, is_new_side, is_ready_side, told_by_side, view_then, with_guard_for}
+use Rattle.world.specs.areas.Asking.{IsFirmIn, HasOpened, MayAt}
 use Rattle.world.specs.areas.Keeping.{words_then, views_then, KeepsSettledSlots}
 use Rattle.world.proofs.basics.Lists.{set_here}
 use Rattle.world.proofs.basics.Structures.{header_is}
@@ -25,7 +26,7 @@ use Rattle.world.proofs.moving.Known.{held_within, newest_is}
 use Rattle.world.proofs.moving.Fitting.{guard_behind}
 use Rattle.world.proofs.moving.Stepping.{calm_still, guard_still}
 use Rattle.world.proofs.moving.media.Settled.{side_settled, IsSettled, stays_settled, still_settled}
-use Rattle.world.proofs.moving.media.Said.{taken_still, found_still, slot_still, fence_still, opened_still, row_stored}
+use Rattle.world.proofs.moving.media.Said.{taken_still, taken_for_still, found_still, told_still, slot_still, fence_still, opened_still, row_stored}
 
 -- the areas of a view in which it has the guard of free slots, and a side
 abbrev HasBoth : View → ℕ → Type 0
@@ -71,16 +72,18 @@ module _ (site : Ground) (words : Words) (views : List View) (j : ℕ) (v : View
       (λ y l. firm n side (header_word site.shape n, y)
       (elim l [ inl d ↦ inl (subst (Has (header_word site.shape n, y)) dirty d) | inr f ↦ inr (subst (Has (header_word site.shape n, y)) flushed f) ]) refl))
 
-  -- ---- a side is given up that is settled with this fence
-  side_given : (m : ℕ) (w : View) → w.areas ≡ all_but (is_side_at m) v.areas → w.dirty ≡ v.dirty → w.flushed ≡ [] → ((p : ℕ × ℕ) → Has p v.dirty → IsInSlot site.shape m p.0 → ⊥)
-      → KeepsTaking words w
-  side_given m w areas dirty flushed firm n guard side = elim (cases_eq n m) [
-    | inl e ↦ inr (side_settled site words views j v h at words w n side refl (λ y l. elim l [
-      | inl d ↦ firm (header_word site.shape n, y) (subst (Has (header_word site.shape n, y)) dirty d) (subst (λ (z : ℕ). IsInSlot site.shape z (header_word site.shape n)) e (head_in_slot site.shape n))
-      | inr f ↦ subst (Has (header_word site.shape n, y)) flushed f
-    ]))
+  -- ---- a side is given up of which nothing is loose after that
+  side_given : (m : ℕ) (w : View) → w.areas ≡ all_but (is_side_at m) v.areas → IsFirmIn w (IsInSlot site.shape m) → KeepsTaking words w
+  side_given m w areas firm n guard side = elim (cases_eq n m) [
+    | inl e ↦ inr (side_settled site words views j v h at words w n side refl
+        (λ y l. firm (header_word site.shape n, y) l (subst (λ (z : ℕ). IsInSlot site.shape z (header_word site.shape n)) e (head_in_slot site.shape n))))
     | inr ne ↦ inl (without (is_side_at m) w areas refl n (ne_eqb n m ne) (guard, side))
   ]
+
+  taken_for : (m caller : ℕ) → MayAt site (takes_for_side m caller) v → (t : Bool)
+      → KeepsTaking (after (cond t (exchanged j (guard_word site.shape of_free_slots) caller) (loaded j (guard_word site.shape of_free_slots))) words) (with_guard_for site.shape t m v)
+  taken_for m caller may true = keeping _ (with_guard_for site.shape true m v) (taken_more true of_free_slots v)
+  taken_for m caller may false = side_given m (with_guard_for site.shape false m v) refl may.1
 
   -- ---- a store
   module _ (i x : ℕ) (w : View) (st : HasStored site.shape i (words i) x w.areas v w) (near : i < words_of site.shape) where
@@ -154,6 +157,8 @@ slots_settled site kind words views j v h at may = by kind may
     by : (kind : StructureKind) → MayAt site kind v → SettledSlots site (words_then site kind j words) (views_then site kind j v words views)
     by (takes guard caller) may = let t = eqb (words (guard_word site.shape guard)) 0 in
         still_settled site words views j v h at _ _ (taken_still site words views j v h at guard caller t) (keeping site words views j v h at _ _ (taken_more t guard v))
+    by (takes_for_side m caller) may = let t = eqb (words (guard_word site.shape of_free_slots)) 0 in
+        still_settled site words views j v h at _ _ (taken_for_still site words views j v h at m caller t) (taken_for site words views j v h at m caller may t)
     by (gives guard) may = still_settled site words views j v h at _ _ (guard_still site words v _ guard 0 (λ p l. l)) (given site words views j v h at guard _ refl refl refl may.2)
     by (finds_stale s version) may = let x = words (header_word site.shape s) in let t = not (eqb (version_in x) version) in
         still_settled site words views j v h at _ _ (found_still site words views j v h at t (Stale s) (header_word site.shape s) x)
@@ -163,15 +168,18 @@ slots_settled site kind words views j v h at may = by kind may
     by (finds_free n) may = let x = words (header_word site.shape n) in let t = eqb (state_in x) free in
         still_settled site words views j v h at _ _ (slot_still site words views j v h at t n (header_word site.shape n) x)
         (keeping site words views j v h at _ _ (slot_more t n (header_word site.shape n) x v))
+    by (finds_link p depth pattern) may = still_settled site words views j v h at _ _ (calm_still site words v _ (λ p l. l)) (keeping site words views j v h at _ _ (λ n has. has))
     by (finds_side p n depth pattern) may = let x = words (header_word site.shape n) in let t = is_new_side depth pattern x in
-        still_settled site words views j v h at _ _ (found_still site words views j v h at t (Side n) (header_word site.shape n) x)
+        still_settled site words views j v h at _ _ (told_still site words views j v h at (told_by_side (is_ready_side depth pattern x) p n depth pattern) t (Side n) (header_word site.shape n) x)
         (keeping site words views j v h at _ _ (found_more t (Side n) (header_word site.shape n) x v))
+    by (finds_entry e i) may = still_settled site words views j v h at _ _ (calm_still site words v _ (λ p l. l)) (keeping site words views j v h at _ _ (λ n has. has))
+    by (finds_begin s) may = still_settled site words views j v h at _ _ (calm_still site words v _ (λ p l. l)) (keeping site words views j v h at _ _ (λ n has. has))
     by (reads i) may = still_settled site words views j v h at _ _ (calm_still site words v _ (λ p l. l)) (keeping site words views j v h at _ _ (λ n has. has))
     by (sets i x) may = λ n slot some. other_slot site words views j v h at i x _ (record { held = refl; dirty = refl; flushed = refl; areas_are = refl })
         (held_within site words views h j v i at may.holds) n slot (λ e. may.no_header n slot (sym e)) (λ has. has) some
     by (moves row s x) may = row_settled site words views j v h at row s x _ may (row_stored site words views j v h at row s x _ refl refl refl) refl
     by (settles facts) may = still_settled site words views j v h at _ _ (fence_still site words views j v h at _ refl refl) (keeping site words views j v h at _ _ (λ n has. has))
     by (settles_side m depth pattern) may = still_settled site words views j v h at _ _ (fence_still site words views j v h at _ refl refl)
-        (side_given site words views j v h at m _ refl refl refl may.2)
+        (side_given site words views j v h at m (view_then site.shape (settles_side m depth pattern) (words 0) v) refl (λ p l. elim l [ inl d ↦ may.2 p d | inr f ↦ absurd f ]))
     by (opens s lock next) may = still_settled site words views j v h at _ _ (opened_still site words views j v h at s lock next _ may refl refl)
         (keeping site words views j v h at _ _ (λ n has. without site words views j v h at (is_whole_at s) (view_then site.shape (opens s lock next) (words lock) v) refl refl n refl has))

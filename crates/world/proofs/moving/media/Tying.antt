@@ -5,7 +5,7 @@ use Rattle.trace.specs.Events.Event.{loaded, stored, exchanged, fenced}
 use Rattle.trace.specs.Steps.{Writes}
 use Rattle.trace.proofs.Media.{had_of_may}
 use Rattle.segment_head.specs.HeadWord.{version_in, state_in, free}
-use Rattle.image_layout.specs.Places.{Shape, first_segment, words_of, bucket_at, buckets}
+use Rattle.image_layout.specs.Places.{Shape, first_segment, words_of, bucket_at, buckets, entry_at}
 use Rattle.bucket_words.specs.Core.{core_of}
 use Rattle.sound_image.specs.Segments.{frame_of, state_at}
 use Rattle.frame_facts.specs.Facts.{Lives, Current, IsLiveSlot}
@@ -16,10 +16,10 @@ use Rattle.world.specs.Media.{MayLeave}
 use Rattle.world.specs.Wants.{word_of, event_of}
 use Rattle.world.specs.Kinds.{loosened}
 use Rattle.world.specs.Tied.{Tied}
-use Rattle.world.specs.areas.Areas.{Area, Segment, Stale, Side, Free, Whole, Allocation, Directory, header_word, InArea}
+use Rattle.world.specs.areas.Areas.{Area, Segment, Stale, Side, Free, Whole, Allocation, Directory, header_word, InArea, link_word}
 use Rattle.world.specs.areas.Fitting.{HoldsWord, LivesOn, IsLivingLock}
 use Rattle.world.specs.areas.Rows.{Row, marks, news, goes_live, finishes, unmarks, frees, renews, HasForRow}
-use Rattle.world.specs.areas.Kinds.{Guard, of_segment, of_free_slots, of_directory, guard_word, StructureKind, takes, gives, finds_stale, closes, finds_free, finds_side, reads, sets, moves, settles, settles_side, opens, wanted_at, with_guard, with_area, with_slot, is_new_side, view_then}
+use Rattle.world.specs.areas.Kinds.{Guard, of_segment, of_free_slots, of_directory, guard_word, StructureKind, takes, takes_for_side, gives, finds_stale, closes, finds_free, finds_link, finds_side, finds_entry, finds_begin, reads, sets, moves, settles, settles_side, opens, wanted_at, with_guard, with_area, with_slot, is_new_side, view_then, with_guard_for}
 use Rattle.world.specs.areas.Asking.{MayAt}
 use Rattle.world.specs.Invariant.{Holds}
 use Rattle.world.specs.areas.Keeping.{found_at, words_then, views_then}
@@ -119,6 +119,11 @@ module _ (site : Ground) (start : Words) (es : Trace) (views : List View) (j : �
   tied_take guard caller true = tied_guard (exchanged j (guard_word site.shape guard) caller) guard caller (with_guard true guard v) (λ n y q. q) refl (λ c e. absurd (cc)) (refl, refl)
   tied_take guard caller false = tied_calm (guard_word site.shape guard) v (refl, refl)
 
+  tied_take_for : (n caller : ℕ) (t : Bool)
+      → Tied site start (cond t (exchanged j (guard_word site.shape of_free_slots) caller) (loaded j (guard_word site.shape of_free_slots)) ∷ es) (set views j (with_guard_for site.shape t n v))
+  tied_take_for n caller true = tied_take of_free_slots caller true
+  tied_take_for n caller false = tied_calm (guard_word site.shape of_free_slots) (with_guard_for site.shape false n v) (refl, refl)
+
   -- to a lock of a segment that the view has whole: who has that lock word by an area has the header of its slot too
   with_header : (s b : ℕ) → b < buckets → IsLockWord site.shape (bucket_at site.shape s b) → (c : ℕ) (u : View) → At views c u → HoldsWord site.shape u (bucket_at site.shape s b)
       → HoldsWord site.shape u (header_word site.shape s)
@@ -144,13 +149,17 @@ module _ (site : Ground) (start : Words) (es : Trace) (views : List View) (j : �
   -- ---- by kinds
   by_kind : (kind : StructureKind) → MayAt site kind v → Tied site start (event_of site.shape (wanted_at site.shape kind) (found_at site kind words) j ∷ es) (views_then site kind j v words views)
   by_kind (takes guard caller) may = tied_take guard caller (eqb (words (guard_word site.shape guard)) 0)
+  by_kind (takes_for_side n caller) may = tied_take_for n caller (eqb (words (guard_word site.shape of_free_slots)) 0)
   by_kind (gives guard) may = tied_guard (stored j (guard_word site.shape guard) 0) guard 0 _ (λ n y q. q) refl (λ c e. absurd (cc)) (refl, refl)
   by_kind (finds_stale s version) may = let n = words (header_word site.shape s) in
       tied_calm (header_word site.shape s) _ (area_loose (not (eqb (version_in n) version)) (Stale s) (header_word site.shape s) n v)
   by_kind (closes s i) may = tied_calm i _ (refl, refl)
   by_kind (finds_free n) may = let x = words (header_word site.shape n) in tied_calm (header_word site.shape n) _ (slot_loose (eqb (state_in x) free) n (header_word site.shape n) x v)
+  by_kind (finds_link p depth pattern) may = tied_calm (link_word site.shape p) _ (refl, refl)
   by_kind (finds_side p n depth pattern) may = let x = words (header_word site.shape n) in
       tied_calm (header_word site.shape n) _ (area_loose (is_new_side depth pattern x) (Side n) (header_word site.shape n) x v)
+  by_kind (finds_entry e i) may = tied_calm (entry_at e i) _ (refl, refl)
+  by_kind (finds_begin s) may = tied_calm (header_word site.shape s) _ (refl, refl)
   by_kind (reads i) may = tied_calm i _ (refl, refl)
   by_kind (sets i x) may = tied_held i x _ refl refl may.holds
   by_kind (moves row s x) may = tied_held (header_word site.shape s) x _ refl refl (row_held row s (may.0 words (newest_is site words views h j v at)).1)

@@ -4,6 +4,7 @@ use Rattle.world.proofs.moving.Fitting.{keep_areas}
 use Rattle.world.proofs.moving.Keepers.{keep_guards, keep_sayers, keep_pins}
 use Rattle.world.proofs.moving.HeldGuards.{keep_held_guards}
 use Rattle.world.proofs.moving.media.Said.{sound_kept, facts_kept}
+use Rattle.world.proofs.moving.Used.{used_kept}
 use Rattle.world.proofs.moving.media.Taken.{slots_settled}
 
 pub structure_kept : KeepsStructure
@@ -20,4 +21,5 @@ structure_kept site kind words views j v h at may =
       owners = all.1;
       lasting = all.2;
       settled_slots = slots_settled site kind words views j v h at may;
+      used_slots = used_kept site kind words views j v h at may;
     }
