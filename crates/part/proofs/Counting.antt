@@ -1,5 +1,5 @@
--- Two counts, one after another, are a part, and end by cause.
-use Rattle.std.proofs.Common.{◌≡◌, ◌≢◌, ◌==◌, ℕ, Bool, true, false, inl, Some, [], refl, sym, ◌∙◌, subst}
+-- Two counts, one after another, are a part, and end by cause; and three end as the parts of a repair do.
+use Rattle.std.proofs.Common.{◌≡◌, ◌≢◌, ◌==◌, ℕ, Bool, true, false, inl, inr, ◌⊎◌, Some, [], refl, sym, ◌∙◌, subst}
 use Rattle.std.specs.Prelude.{if◌then◌else◌}
 use Rattle.std.proofs.lemmas.Bool.{eq-eqb}
 use Rattle.std.proofs.lemmas.Option.{none-some, same_Some}
@@ -15,20 +15,23 @@ use Rattle.world.specs.declared.site.Site.{Site}
 use Rattle.world.specs.Ground.{Ground}
 use Rattle.world.specs.Views.{HasLock}
 use Rattle.world.specs.Wants.{answer_to, word_of}
-use Rattle.part.specs.declared.count.CountEnd.TheVariants.{Off}
+use Rattle.part.specs.declared.count.CountEnd.TheVariants.{Counted, Off}
 use Rattle.part.specs.declared.count.CountStep.{CountStep}
 use Rattle.part.specs.declared.count.CountStep.TheVariants.{AskPower, LoadCounter, Ended}
 use Rattle.part.specs.declared.count.CountOp.{CountOp}
 use Rattle.part.specs.Doings.{Doings, with_event_of}
 use Rattle.part.specs.Outcomes.{Outcome, off, finished}
-use Rattle.part.specs.Part.{IsPart}
+use Rattle.part.specs.Part.{Part, IsPart, next}
 use Rattle.part.specs.Causes.{HasCause, EndsByCause}
-use Rattle.part.specs.Then.{Passes}
-use Rattle.part.specs.Count.{wanted_in, taken, outcome_of, outcome_in, HasCounted, BeginsAsPart, BeginsRemembering, BeginsUndecided, count_part, first_count, begun_again, two_counts, one_or_two, two_or_one, two_or_one_counts}
+use Rattle.part.specs.Splits.{segment_of_then}
+use Rattle.part.specs.Repairs.{HasRepairCause, EndsByRepairCause}
+use Rattle.part.specs.Then.{Then, first, Passes}
+use Rattle.part.specs.Count.{wanted_in, taken, outcome_of, outcome_in, first_outcome, EndsAsRepair, ThreeEndAsRepair, HasCounted, BeginsAsPart, BeginsRemembering, BeginsUndecided, count_part, first_count, begun_again, two_counts, one_or_two, two_or_one, two_or_one_counts}
 use Rattle.part.specs.Either.{one, other, either_part}
 use Rattle.part.specs.Renamed.{IsNamed}
 use Rattle.part.proofs.Eithers.{either_is_part, either_ends_by_cause}
 use Rattle.part.proofs.Renaming.{renamed_is_part, renamed_ends_by_cause}
+use Rattle.part.proofs.Repairing.{then_ends_by_repair_cause}
 use Rattle.part.proofs.Thens.{then_is_part, then_ends_by_cause}
 
 -- ---- one count
@@ -127,3 +130,59 @@ two_or_one_are_a_part count counts = renamed_is_part (either_part count_part two
 
 pub two_or_one_end_by_cause : EndsByCause count_part → EndsByCause two_counts → EndsByCause two_or_one_counts
 two_or_one_end_by_cause count counts = renamed_ends_by_cause (either_part count_part two_counts) one_or_two two_or_one each_named (either_ends_by_cause count_part two_counts count counts)
+
+-- ---- three counts, as the parts of a repair
+-- a part that finds the power off, or finishes, and ends otherwise never
+module _ (p : Part CountOp) (causes : EndsByCause p) (few : (op : CountOp) (end : Outcome) → p.outcome op ≡ Some end → (end ≡ off) ⊎ (end ≡ finished)) (segment : ℕ) where
+  by_few : (shape : Shape) (words : Words) (did : Doings) (call : Call) (event : Want) (here : Site) (end : Outcome) → (end ≡ off) ⊎ (end ≡ finished) → HasCause shape words did call event here end
+      → HasRepairCause shape words did call segment event end
+  by_few shape words did call event here end (inl is) c = subst (λ e. HasRepairCause shape words did call segment event e) (sym is) (subst (λ e. HasCause shape words did call event here e) is c)
+  by_few shape words did call event here end (inr is) c = subst (λ e. HasRepairCause shape words did call segment event e) (sym is) tt
+
+  ends_as_repair : EndsByRepairCause p (λ op. segment)
+  ends_as_repair = record {
+    steps = λ site here call words views j op before v did h at s asks small r.
+        let w = causes.steps site here call words views j op before v did h at s asks small r in
+        record {
+          remembers = w.remembers;
+          caused = λ end none some. by_few site.shape words did call (p.wanted op) here end (few (next p site words op) end some) (w.caused end none some);
+          worked = w.worked;
+          not_own = w.not_own;
+        };
+    stays = causes.stays;
+    decided = causes.decided;
+    undecided = causes.undecided;
+    same_segment = λ op a. refl;
+  }
+
+count_few : (op : CountOp) (s : CountStep) (end : Outcome) → outcome_in s ≡ Some end → (end ≡ off) ⊎ (end ≡ finished)
+count_few op AskPower end some = absurd (none-some end some)
+count_few op LoadCounter end some = absurd (none-some end some)
+count_few op (Ended (Counted n)) end some = inr (sym (same_Some finished end some))
+count_few op (Ended Off) end some = inl (sym (same_Some off end some))
+
+first_few : (op : CountOp) (s : CountStep) (end : Outcome) → first_outcome s ≡ Some end → (end ≡ off) ⊎ (end ≡ finished)
+first_few op AskPower end some = absurd (none-some end some)
+first_few op LoadCounter end some = absurd (none-some end some)
+first_few op (Ended (Counted n)) end some = absurd (none-some end some)
+first_few op (Ended Off) end some = inl (sym (same_Some off end some))
+
+pub count_ends_as_repair : EndsByCause count_part → EndsAsRepair count_part
+count_ends_as_repair causes segment = ends_as_repair count_part causes (λ op end some. count_few op op.step end some) segment
+
+pub first_ends_as_repair : EndsByCause first_count → EndsAsRepair first_count
+first_ends_as_repair causes segment = ends_as_repair first_count causes (λ op end some. first_few op op.step end some) segment
+
+three_pass : Passes first_count two_counts (λ op. first (begun_again op))
+three_pass = record {
+  stands = λ site here call op v good s h. record { stands = record { at = s.at; shape = s.shape; nothing = s.nothing }; closed = refl };
+  undecided = λ op h. refl;
+  remembers = λ site op did h r. r;
+}
+
+pub three_end_as_repair : EndsAsRepair first_count → EndsAsRepair count_part → ThreeEndAsRepair
+three_end_as_repair before after segment =
+    let of_count : CountOp → ℕ = λ op. segment in
+    let of_two : Then CountOp CountOp → ℕ = λ m. segment_of_then of_count of_count m in
+    let two : EndsByRepairCause two_counts of_two = then_ends_by_repair_cause first_count count_part begun_again of_count of_count passes (λ op h. refl) (before segment) (after segment) in
+    then_ends_by_repair_cause first_count two_counts (λ op. first (begun_again op)) of_count of_two three_pass (λ op h. refl) (before segment) two

@@ -14,7 +14,7 @@ use Rattle.world.specs.Wants.{word_of}
 use Rattle.world.specs.Invariant.{Holds}
 use Rattle.part.specs.Doings.{Doings}
 use Rattle.part.specs.Outcomes.{Outcome, replied}
-use Rattle.part.specs.Part.{Part, Suits, KeepsSuits, EndsBare, AsksWithin, PutsWords, IsWait, PlansItsCall, HandsOnAtEnd, KeepsPower, IsPart}
+use Rattle.part.specs.Part.{Part, Suits, KeepsSuits, EndsBare, AsksWithin, PutsWords, IsWait, PlansItsCall, KnowsStale, HandsOnAtEnd, KeepsPower, IsPart}
 use Rattle.part.specs.Causes.{StepsByCause, EndsByCause}
 use Rattle.part.specs.Either.{Either, one, other, wanted, taken, Stands, outcome, Remembers, HasMade, left, waiting, hands_on, either_part}
 
@@ -82,6 +82,10 @@ module _ {A B : Type 0} (a : Part A) (b : Part B) (is_a : IsPart a) (is_b : IsPa
   plans site here call (one x) before v planned s has = is_a.plans site here call x before v planned (suits_one a b site here call before v x s) has
   plans site here call (other y) before v planned s has = is_b.plans site here call y before v planned (suits_other a b site here call before v y s) has
 
+  relies : KnowsStale (either_part a b)
+  relies site here call (one x) v s = is_a.relies site here call x v s
+  relies site here call (other y) v s = is_b.relies site here call y v s
+
   hands : HandsOnAtEnd (either_part a b)
   hands (one x) h = is_a.hands x h
   hands (other y) h = is_b.hands y h
@@ -100,6 +104,7 @@ module _ {A B : Type 0} (a : Part A) (b : Part B) (is_a : IsPart a) (is_b : IsPa
     flushes = record { most = most_waiting; flushes = flushes; keeps = keeps; ends = none_waits };
     made = record { stays = stays; done = done };
     plans = plans;
+    relies = relies;
     hands = hands;
     power = power;
   }

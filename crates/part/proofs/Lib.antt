@@ -1,5 +1,6 @@
 pub mod Thens
 pub mod Splitting
+pub mod Repairing
 pub mod Eithers
 pub mod Limiting
 pub mod Renaming

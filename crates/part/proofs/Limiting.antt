@@ -29,6 +29,7 @@ module _ {M : Type 0} (p : Part M) (Passes : Ground → Type 0) where
     flushes = record { most = is.flushes.most; flushes = is.flushes.flushes; keeps = is.flushes.keeps; ends = is.flushes.ends };
     made = record { stays = is.made.stays; done = is.made.done };
     plans = λ site here call op before v planned s. is.plans site here call op before v planned (suits site here call op before v s);
+    relies = λ site here call op v s. is.relies site here call op v s.stands;
     hands = is.hands;
     power = is.power;
   }

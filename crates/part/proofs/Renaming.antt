@@ -65,6 +65,7 @@ module _ {A B : Type 0} (p : Part A) (to : B → A) (from : A → B) (named : Is
         done = λ m made done. is.made.done (to m) made done;
       };
       plans = λ site here call m before v planned s. is.plans site here call (to m) before v planned (suits site here call m before v s);
+      relies = λ site here call m v s. is.relies site here call (to m) v s;
       hands = λ m h. is.hands (to m) h;
       power = λ m n. is.power (to m) n;
     }

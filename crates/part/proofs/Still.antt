@@ -116,5 +116,5 @@ never_moved p causes site here call words views j op before v did h at s asks sm
     let cause = (causes.steps site here call words views j op before v did h at s asks small r).caused (again (Moved word was is)) none some in
     elim cause.1 [
       | inl moved ↦ alone_nothing_moves site.shape words did call word was is h.site_is.shape key still moved
-      | inr away ↦ alone_nothing_leads_away site words did call word was is h.site_is (h.structure.sound words (possible_now site words views h)) unsplit key still away
+      | inr away ↦ alone_nothing_leads_away site here.version words did call word was is h.site_is (h.structure.sound words (possible_now site words views h)) unsplit key still away
     ]

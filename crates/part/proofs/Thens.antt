@@ -17,7 +17,7 @@ use Rattle.world.specs.Attempts.{EntersReply}
 use Rattle.world.specs.StepKinds.{view_by}
 use Rattle.part.specs.Doings.{Doings, with_event_of}
 use Rattle.part.specs.Outcomes.{Outcome, replied, finished, reply_of}
-use Rattle.part.specs.Part.{Part, Suits, KeepsSuits, EndsBare, AsksWithin, PutsWords, IsWait, PlansItsCall, HandsOnAtEnd, KeepsPower, IsPart}
+use Rattle.part.specs.Part.{Part, Suits, KeepsSuits, EndsBare, AsksWithin, PutsWords, IsWait, PlansItsCall, KnowsStale, HandsOnAtEnd, KeepsPower, IsPart}
 use Rattle.part.specs.Causes.{StepsByCause, EndsByCause}
 use Rattle.part.specs.Then.{Then, first, second, passed, wanted, taken, Stands, outcome, Remembers, HasWorked, HasMade, left, is_waiting, waiting, hands_on, then_part, Passes}
 
@@ -131,6 +131,10 @@ module _ {A B : Type 0} (a : Part A) (b : Part B) (next : A → B) (is_a : IsPar
   plans site here call (first x) before v planned s = is_a.plans site here call x before v planned (suits_first a b next site here call x before v s)
   plans site here call (second y) before v planned s = is_b.plans site here call y before v planned (suits_second a b next site here call y before v s)
 
+  relies : KnowsStale (then_part a b next)
+  relies site here call (first x) v s = is_a.relies site here call x v s.stands
+  relies site here call (second y) v s = is_b.relies site here call y v s
+
   hands : HandsOnAtEnd (then_part a b next)
   hands (first x) h = absurd (let z : false ≡ true = h in cc)
   hands (second y) h = is_b.hands y h
@@ -149,11 +153,12 @@ module _ {A B : Type 0} (a : Part A) (b : Part B) (next : A → B) (is_a : IsPar
     flushes = record { most = most_waiting; flushes = flush_adds; keeps = waits; ends = none_waits };
     made = record { stays = stays; done = done };
     plans = plans;
+    relies = relies;
     hands = hands;
     power = power;
   }
 
--- what the first remembers and how it ends is so of the whole, where it hands on, undecided, or not
+-- what the first remembers, how it ends and that it has done its work is so of the whole, where it hands on, undecided, or not
 module _ {A B : Type 0} (a : Part A) (b : Part B) (next : A → B) (passes : Passes a b next) (undecided : (x : A) → a.hands_on x ≡ true → a.outcome x ≡ None) where
   pub remembers_on : (site : Ground) (x : A) (did : Doings) → a.Remembers site x did → (t : Bool) → a.hands_on x ≡ t → Remembers a b next site (passed a b next t x) did
   remembers_on site x did r true h = passes.remembers site x did h r
@@ -163,12 +168,12 @@ module _ {A B : Type 0} (a : Part A) (b : Part B) (next : A → B) (passes : Pas
   outcome_on x true h = undecided x h ∙ sym (passes.undecided x h)
   outcome_on x false h = refl
 
--- and the second's outcomes are the whole's, with the causes of both
-module _ {A B : Type 0} (a : Part A) (b : Part B) (next : A → B) (passes : Passes a b next) (by_a : EndsByCause a) (by_b : EndsByCause b) where
-  worked_on : (site : Ground) (x : A) (did : Doings) → a.outcome x ≡ Some finished → a.HasWorked site x did → (t : Bool) → a.hands_on x ≡ t → HasWorked a b next site (passed a b next t x) did
-  worked_on site x did some worked true h = absurd (none-some finished (sym (by_a.undecided x h) ∙ some))
+  pub worked_on : (site : Ground) (x : A) (did : Doings) → a.outcome x ≡ Some finished → a.HasWorked site x did → (t : Bool) → a.hands_on x ≡ t → HasWorked a b next site (passed a b next t x) did
+  worked_on site x did some worked true h = absurd (none-some finished (sym (undecided x h) ∙ some))
   worked_on site x did some worked false h = worked
 
+-- and the second's outcomes are the whole's, with the causes of both
+module _ {A B : Type 0} (a : Part A) (b : Part B) (next : A → B) (passes : Passes a b next) (by_a : EndsByCause a) (by_b : EndsByCause b) where
   caused_steps : (site : Ground) (here : Site) (call : Call) (words : Words) (views : List View) (j : ℕ) (m : Then A B) (before v : View) (did : Doings) → Holds site words views → At views j v
       → Suits (then_part a b next) site here call m before v → wanted a b next m ≢ Done → words (word_of site.shape (wanted a b next m)) < 2 ^ 64
       → Remembers a b next site m did → StepsByCause (then_part a b next) site here call words m v did
@@ -179,7 +184,7 @@ module _ {A B : Type 0} (a : Part A) (b : Part B) (next : A → B) (passes : Pas
       record {
         remembers = remembers_on a b next passes by_a.undecided site y (with_event_of (a.wanted x) (answer_to (a.wanted x) (words (word_of site.shape (a.wanted x)))) did) w.remembers (a.hands_on y) refl;
         caused = λ end none some. w.caused end none (same ∙ some);
-        worked = λ none some. worked_on site y (with_event_of (a.wanted x) (answer_to (a.wanted x) (words (word_of site.shape (a.wanted x)))) did) (same ∙ some) (w.worked none (same ∙ some)) (a.hands_on y) refl;
+        worked = λ none some. worked_on a b next passes by_a.undecided site y (with_event_of (a.wanted x) (answer_to (a.wanted x) (words (word_of site.shape (a.wanted x)))) did) (same ∙ some) (w.worked none (same ∙ some)) (a.hands_on y) refl;
         not_own = λ word value none some. w.not_own word value none (same ∙ some);
       }
   caused_steps site here call words views j (second y) before v did h at s asks small r =

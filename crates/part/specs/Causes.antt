@@ -159,9 +159,9 @@ module _ (shape : Shape) (words : Words) (did : Doings) (call : Call) where
   abbrev pub IsOthersWay : ℕ → ℕ → Type 0
   IsOthersWay root segment = (word : ℕ) → (word ≡ root_word) ⊎ ((word ≡ entry_word shape hash_for root) ⊎ (word ≡ head_word shape segment)) → Has word did.changed → ⊥
 
-  -- such a word is the header's of the segment that an entry named, it is as the attempt loaded it, and it does not lead to the key's
-  -- hash: it is none of a normal segment that covers it
-  pub record LeadsAway (word before after : ℕ) : Type 0 where
+  -- such a word is the header's of the segment that an entry named, it is as the attempt loaded it, of this version, and it does not lead
+  -- to the key's hash: it is none of a normal segment that covers it
+  pub record LeadsAway (version word before after : ℕ) : Type 0 where
     pub root : ℕ
     pub segment : ℕ
     pub depth : IsDepth shape hash_for did.loads root
@@ -170,6 +170,7 @@ module _ (shape : Shape) (words : Words) (did : Doings) (call : Call) where
     pub loaded : Has (word, before) did.loads
     pub newest : words word ≡ after
     pub same : before ≡ after
+    pub current : version_in before ≡ version
     pub away : is_leading before hash_for ≡ false
     pub by_others : IsOthersWay root segment
 
@@ -230,10 +231,10 @@ module _ (shape : Shape) (words : Words) (did : Doings) (call : Call) where
     abbrev pub Looked : ℕ → ℕ → Type 0
     Looked word seen = Finds event (answer_to event (words (word_of shape event))) word seen
 
-    -- THE CAUSE of being told to try again
-    abbrev pub HasAgainCause : Why → Type 0
-    HasAgainCause (Busy word value) = Looked word value × IsTaken word value
-    HasAgainCause (Moved word before after) = Looked word after × (HasMoved word before after ⊎ LeadsAway word before after)
+    -- THE CAUSE of being told to try again, where the image has this version: no header of another is said to lead away
+    abbrev pub HasAgainCause : ℕ → Why → Type 0
+    HasAgainCause version (Busy word value) = Looked word value × IsTaken word value
+    HasAgainCause version (Moved word before after) = Looked word after × (HasMoved word before after ⊎ LeadsAway version word before after)
 
     -- of being told that a segment is stale, where the image has this version: the event loaded the header of a segment that was
     -- named, which is live by it, and found this other version there
@@ -252,7 +253,7 @@ module _ (shape : Shape) (words : Words) (did : Doings) (call : Call) where
     -- THE CAUSE of each outcome; that a machine has done its own work is its part's to say, below
     abbrev pub HasCause : Site → Outcome → Type 0
     HasCause here (replied reply place) = HasReplyCause reply
-    HasCause here (again why) = HasAgainCause why
+    HasCause here (again why) = HasAgainCause here.version why
     HasCause here (stale segment byte) = IsStale here.version segment byte
     HasCause here (need_split segment) = FindsNoRoom segment
     HasCause here off = IsOff
@@ -286,19 +287,19 @@ abbrev pub AloneNothingMoves : Type 0
 AloneNothingMoves = (shape : Shape) (words : Words) (did : Doings) (call : Call) (word before after : ℕ) → IsShape shape → key_of call < 2 ^ 64
     → IsStill shape words did → HasMoved shape words did call word before after → ⊥
 
--- no segment is being split
-abbrev pub IsUnsplit : Shape → Words → Type 0
-IsUnsplit shape words = (s : ℕ) → s < shape.segments → state_in (words (head_at shape s + 1)) ≢ splitting
+-- no segment is being split whose header has this version; of the headers of other versions nothing is said
+abbrev pub IsUnsplit : Shape → ℕ → Words → Type 0
+IsUnsplit shape version words = (s : ℕ) → s < shape.segments → version_in (words (head_at shape s + 1)) ≡ version → state_in (words (head_at shape s + 1)) ≢ splitting
 
--- NOTHING LEADS AWAY from its key for such a caller, where the structure is sound and no segment is being split
+-- NOTHING LEADS AWAY from its key for such a caller, where the structure is sound and no segment of the version is being split
 abbrev pub AloneNothingLeadsAway : Type 0
-AloneNothingLeadsAway = (site : Ground) (words : Words) (did : Doings) (call : Call) (word before after : ℕ) → IsGround site → IsStructured site words → IsUnsplit site.shape words
-    → key_of call < 2 ^ 64 → IsStill site.shape words did → LeadsAway site.shape words did call word before after → ⊥
+AloneNothingLeadsAway = (site : Ground) (version : ℕ) (words : Words) (did : Doings) (call : Call) (word before after : ℕ) → IsGround site → IsStructured site words
+    → IsUnsplit site.shape version words → key_of call < 2 ^ 64 → IsStill site.shape words did → LeadsAway site.shape words did call version word before after → ⊥
 
 -- so no event of such a caller decides that its attempt is to be made again since a word moved
 module _ {M : Type 0} (p : Part M) where
   abbrev pub AloneNeverMoved : Type 0
   AloneNeverMoved = (site : Ground) (here : Site) (call : Call) (words : Words) (views : List View) (j : ℕ) (op : M) (before v : View) (did : Doings)
       → Holds site words views → At views j v → Suits p site here call op before v → p.wanted op ≢ Done → finds p site words op < 2 ^ 64 → p.Remembers site op did
-      → IsUnsplit site.shape words → key_of call < 2 ^ 64 → IsStill site.shape words did → p.outcome op ≡ None
+      → IsUnsplit site.shape here.version words → key_of call < 2 ^ 64 → IsStill site.shape words did → p.outcome op ≡ None
       → (word was is : ℕ) → p.outcome (next p site words op) ≡ Some (again (Moved word was is)) → ⊥

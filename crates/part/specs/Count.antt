@@ -21,9 +21,11 @@ use Rattle.part.specs.declared.count.CountOp.{CountOp}
 use Rattle.part.specs.Doings.{Doings, nothing_done}
 use Rattle.part.specs.Outcomes.{Outcome, off, finished}
 use Rattle.part.specs.Part.{Part}
-use Rattle.part.specs.Then.{Then, then_part}
+use Rattle.part.specs.Then.{Then, first, then_part}
 use Rattle.part.specs.Either.{Either, one, other, either_part}
 use Rattle.part.specs.Renamed.{renamed_part}
+use Rattle.part.specs.Splits.{segment_of_then}
+use Rattle.part.specs.Repairs.{EndsByRepairCause}
 
 -- ---- the machine
 -- a count that has done nothing yet
@@ -143,3 +145,17 @@ two_or_one (other counts) = one counts
 
 abbrev pub two_or_one_counts : Part TwoOrOne
 two_or_one_counts = renamed_part (either_part count_part two_counts) one_or_two two_or_one
+
+-- ---- three of them, as the parts of a repair
+abbrev pub three_counts : Part (Then CountOp (Then CountOp CountOp))
+three_counts = then_part first_count two_counts (λ op. first (begun_again op))
+
+-- a count repairs nothing: whatever segment it is taken to repair, its outcomes have the causes of a repair
+abbrev pub EndsAsRepair : Part CountOp → Type 0
+EndsAsRepair count = (segment : ℕ) → EndsByRepairCause count (λ op. segment)
+
+abbrev pub segment_of_three : ℕ → Then CountOp (Then CountOp CountOp) → ℕ
+segment_of_three segment m = segment_of_then (λ op. segment) (λ n. segment_of_then (λ op. segment) (λ op. segment) n) m
+
+abbrev pub ThreeEndAsRepair : Type 0
+ThreeEndAsRepair = (segment : ℕ) → EndsByRepairCause three_counts (segment_of_three segment)

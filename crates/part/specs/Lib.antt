@@ -9,5 +9,6 @@ pub mod Limited
 pub mod Renamed
 pub mod Turns
 pub mod Causes
-pub mod Count
 pub mod Splits
+pub mod Repairs
+pub mod Count

@@ -1,11 +1,12 @@
 -- WHAT AN ENGINE HAS TO KNOW OF A MACHINE, and nothing else: what it wants and makes of an answer, and why; how its caller's view
 -- stands; how it ends; and how long it goes on. A machine of which the laws below hold is a part of a call.
-use Rattle.std.specs.Prelude.{◌≡◌, ◌≢◌, ℕ, ◌+◌, ◌^◌, ◌<◌, ◌≤◌, ◌⊎◌, Bool, true, false, Option, Some, List, []}
+use Rattle.std.specs.Prelude.{◌≡◌, ◌≢◌, ℕ, ◌+◌, ◌^◌, ◌<◌, ◌≤◌, ⊤, ◌⊎◌, Bool, true, false, Option, Some, List, []}
 use Rattle.op_core.specs.declared.want.Want.{Want}
 use Rattle.op_core.specs.declared.want.Want.TheVariants.{Flush, Fence, Done}
 use Rattle.op_core.specs.declared.want.Ans.{Ans}
 use Rattle.op_core.specs.Answers.{IsAnswer}
 use Rattle.trace.specs.Events.{Words}
+use Rattle.frame_facts.specs.Facts.{Fact, Lives}
 use Rattle.map_model.specs.declared.call.Call.{Call}
 use Rattle.map_model.specs.declared.entry.Reply.TheVariants as reply
 use Rattle.world.specs.declared.site.Site.{Site}
@@ -18,7 +19,7 @@ use Rattle.world.specs.Invariant.{Holds}
 use Rattle.world.specs.StepKinds.{StepKind, of_call, wanted_of, view_by, MayTake}
 use Rattle.world.specs.StepLaws.{IsPublishingStep}
 use Rattle.part.specs.Doings.{Doings}
-use Rattle.part.specs.Outcomes.{Outcome, replied, off, reply_of}
+use Rattle.part.specs.Outcomes.{Outcome, replied, stale, off, reply_of}
 use Rattle.part.specs.Asks.{IsWithin, PutsWord}
 
 pub record Part (M : Type 0) : Type 1 where
@@ -47,6 +48,16 @@ pub record Part (M : Type 0) : Type 1 where
   pub most_waiting : ℕ
   -- it wants nothing more and keeps what it holds, and another part goes on
   pub hands_on : M → Bool
+
+-- A SEGMENT OF THE IMAGE of which a view relies on that it is live
+pub record IsKnownLive (site : Ground) (segment : ℕ) (facts : List Fact) : Type 0 where
+  pub within : segment < site.shape.segments
+  pub lives : Has (Lives segment) facts
+
+-- WHAT AN END LEAVES KNOWN: a segment that is stale, which is to be repaired before any bucket of it is touched
+abbrev pub LeavesKnown : Ground → Option Outcome → List Fact → Type 0
+LeavesKnown site (Some (stale segment version)) facts = IsKnownLive site segment facts
+LeavesKnown site outcome facts = ⊤
 
 module _ {M : Type 0} (p : Part M) where
   -- THE VIEW SUITS the machine, in a call whose attempt began with the view `before`
@@ -120,6 +131,10 @@ module _ {M : Type 0} (p : Part M) where
   PlansItsCall = (site : Ground) (here : Site) (call : Call) (op : M) (before v : View) (planned : Call) → Suits site here call op before v → Has planned v.planned
       → (planned ≡ call) × (v.own ≡ before.own)
 
+  -- where it ends since a segment is stale, its caller's view relies on that segment as a live one
+  abbrev pub KnowsStale : Type 0
+  KnowsStale = (site : Ground) (here : Site) (call : Call) (op : M) (v : View) → p.Stands site here call op v → LeavesKnown site (p.outcome op) v.facts
+
   -- a machine that hands on wants nothing more
   abbrev pub HandsOnAtEnd : Type 0
   HandsOnAtEnd = (op : M) → p.hands_on op ≡ true → p.wanted op ≡ Done
@@ -138,5 +153,6 @@ module _ {M : Type 0} (p : Part M) where
     pub flushes : FlushesFew
     pub made : EndsAsDone
     pub plans : PlansItsCall
+    pub relies : KnowsStale
     pub hands : HandsOnAtEnd
     pub power : KeepsPower

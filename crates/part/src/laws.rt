@@ -5,10 +5,11 @@ ghost use Rattle.part.specs.Turns.{TurnKeeps};
 ghost use Rattle.part.specs.Doings.{NothingIsStill, OwnEventsKeepStill};
 ghost use Rattle.part.specs.Causes.{EndsByCause, AloneNothingMoves, AloneNothingLeadsAway, AloneNeverMoved};
 ghost use Rattle.part.specs.Count.{count_part, BeginsAsPart, BeginsRemembering, BeginsUndecided, first_count, two_counts, two_or_one_counts};
+ghost use Rattle.part.specs.Count.{EndsAsRepair, ThreeEndAsRepair};
 
 /// What an attempt loaded is still so, or it changed that itself: so it is at the beginning, and after each event of its own,
-/// whichever it is. So nothing moves for a caller while nobody else steps; and where the structure is sound and no segment is being
-/// split, each header that it found leads to its key.
+/// whichever it is. So nothing moves for a caller while nobody else steps; and where the structure is sound and no segment of the
+/// image's version is being split, each header of this version that it found leads to its key.
 pub fn own_events_move_nothing()
     ensures begins { NothingIsStill }
     ensures own { OwnEventsKeepStill }
@@ -51,9 +52,20 @@ pub fn two_counts_or_one_are_a_part()
     two_counts_are_a_part();
 }
 
+/// Three counts, one after another, end by the causes of a repair, each of them whatever segment it is taken to repair: they find the
+/// power off, or have done their work. By the law of one part after another, used twice.
+pub fn counts_end_as_repairs()
+    ensures count { EndsAsRepair count_part }
+    ensures first { EndsAsRepair first_count }
+    ensures three { ThreeEndAsRepair }
+{
+    counts_are_parts();
+    first_counts_are_parts();
+}
+
 /// A turn of a caller that counts twice keeps the invariant, the pairs and the power word, and leaves a view that suits the counts, or
-/// the attempt has ended; and to a caller alone it never says that a word moved, where no segment is splitting: by the laws of a turn
-/// of any part.
+/// the attempt has ended; and to a caller alone it never says that a word moved, where no segment of the image's version is splitting:
+/// by the laws of a turn of any part.
 pub fn turns_of_counts_keep()
     ensures keeps { TurnKeeps two_counts }
     ensures alone { AloneNeverMoved two_counts }

@@ -1,5 +1,5 @@
 -- What machines cite that go on from one another with their locks: which replies are entered, what locks that are given back leave of
--- them, that nothing is loose where nothing is unsettled, and that a change speaks of its key.
+-- them, that nothing is loose where nothing is unsettled, that no segment is told stale then, and that a change speaks of its key.
 use Rattle.std.proofs.Common.{◌≡◌, ℕ, suc, ◌≤◌, cond, false, Option, None, Some, List, [], ◌∷◌, ◌++◌, length, inl, inr, refl, sym, ap, ◌∙◌, subst, arith}
 use Rattle.std.specs.Prelude.{◌==◌, ◌&&◌, if◌then◌else◌}
 use Rattle.std.proofs.lemmas.Bool.{eq-eqb}
@@ -13,12 +13,15 @@ use Rattle.map_model.specs.declared.entry.Reply.{Reply}
 use Rattle.map_model.specs.declared.entry.Reply.TheVariants as reply
 use Rattle.map_model.specs.Map.{key_of, is_done}
 use Rattle.map_model.specs.Changes.{doing, call_of}
+use Rattle.frame_facts.specs.Facts.{Fact}
 use Rattle.world.specs.declared.site.Site.{Site}
+use Rattle.world.specs.Ground.{Ground}
 use Rattle.world.specs.Views.{Owed, View, Has}
 use Rattle.world.specs.Wants.{answer_to}
 use Rattle.world.specs.Kinds.{next_entry, with_reply, of_other_keys, of_other_homes, view_after}
 use Rattle.world.specs.Attempts.{HasNoMore, HasOneMore, EntersReply}
 use Rattle.part.specs.Outcomes.{replied, need_split, finished, IsDone}
+use Rattle.part.specs.Part.{LeavesKnown}
 use Rattle.phase.specs.declared.role.Role.{Role}
 use Rattle.phase.specs.declared.held.Held.{Held}
 use Rattle.phase.specs.declared.ending.Ending.{Ending}
@@ -27,6 +30,11 @@ use Rattle.phase.specs.Endings.{outcome_then, HasMadeThen}
 use Rattle.phase.specs.Helds.{give_wanted_of}
 use Rattle.phase.specs.Giving.{IsQuiet, give_kind_of, lock_left, give_left}
 use Rattle.phase.specs.Knows.{HasNoneLoose}
+
+-- ---- who gives back does not end since a segment is stale
+pub ending_known : (site : Ground) (end : Ending) (facts : List Fact) → LeavesKnown site (Some (outcome_then end)) facts
+ending_known site (ending.Replied answer place) facts = tt
+ending_known site (ending.Again why) facts = tt
 
 -- ---- a change speaks of its key
 pub key_done : (key : ℕ) (d : Effect) → key_of (doing key d) ≡ key

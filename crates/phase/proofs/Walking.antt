@@ -195,7 +195,7 @@ module _ (site : Ground) (here : Site) (hash : ℕ) (same : here.geometry ≡ si
           lives = said (is_live n && (version_in n == here.version)) segment n (Lives segment) v.facts known.0;
           current = says segment n v.facts alive current;
         })
-        (λ alive old. tt)
+        (λ alive old. record { within = known.1; lives = said (is_live n && (version_in n == here.version)) segment n (Lives segment) v.facts known.0 })
         (λ dead. true_false (is_live n) (live_test n (subst HasLiveState (sym header) live)) dead))
 
   -- WHAT IS NOTED: nothing, and at the end the header

@@ -1,9 +1,9 @@
 -- What a machine remembers of its way, by what its attempt loaded; and by what each end of a phase comes.
-use Rattle.std.specs.Prelude.{ℕ, ◌<◌, ⊤, List}
+use Rattle.std.specs.Prelude.{◌≡◌, ℕ, ◌<◌, ⊤, List}
 use Rattle.op_core.specs.declared.want.Want.TheVariants.{Load}
 use Rattle.op_core.specs.declared.why.Why.TheVariants as why
+use Rattle.segment_head.specs.HeadWord.{version_in}
 use Rattle.trace.specs.Events.{Words}
-use Rattle.image_layout.specs.Places.{Shape}
 use Rattle.way.specs.Ways.{entry_word, head_word}
 use Rattle.map_model.specs.declared.call.Call.{Call}
 use Rattle.world.specs.declared.site.Site.{Site}
@@ -22,19 +22,19 @@ use Rattle.phase.specs.Walks.{walk_wanted}
 use Rattle.phase.specs.Backs.{back_word}
 
 -- ---- what is kept was loaded
-module _ (shape : Shape) (hash : ℕ) (loads : List (ℕ × ℕ)) where
+module _ (here : Site) (hash : ℕ) (loads : List (ℕ × ℕ)) where
   -- the root depth, and the entry at it, which named the segment, one of the image
   abbrev pub WasNamed : ℕ → ℕ → Type 0
-  WasNamed root segment = IsDepth shape hash loads root × Has (entry_word shape hash root, segment) loads × (segment < shape.segments)
+  WasNamed root segment = IsDepth here.geometry hash loads root × Has (entry_word here.geometry hash root, segment) loads × (segment < here.geometry.segments)
 
-  -- and the header of that segment
+  -- and the header of that segment, of the image's version
   abbrev pub WasFound : Path → Type 0
-  WasFound path = WasNamed path.root path.segment × Has (head_word shape path.segment, path.head) loads
+  WasFound path = WasNamed path.root path.segment × Has (head_word here.geometry path.segment, path.head) loads × (version_in path.head ≡ here.version)
 
   abbrev pub RemembersWalk : Walk → Type 0
   RemembersWalk Power = ⊤
   RemembersWalk Root = ⊤
-  RemembersWalk (Entry root) = IsDepth shape hash loads root
+  RemembersWalk (Entry root) = IsDepth here.geometry hash loads root
   RemembersWalk (Head root segment) = WasNamed root segment
 
   abbrev pub RemembersWalked : Walked → Type 0
@@ -52,5 +52,5 @@ module _ (here : Site) (hash : ℕ) (words : Words) (did : Doings) (call : Call)
 
   -- and of the way again
   abbrev pub HasBackCause : Path → Back → Backed → Type 0
-  HasBackCause path at (backed.Moved word before after) = HasAgainCause here.geometry words did call (Load (back_word here hash path at)) (why.Moved word before after)
+  HasBackCause path at (backed.Moved word before after) = HasAgainCause here.geometry words did call (Load (back_word here hash path at)) here.version (why.Moved word before after)
   HasBackCause path at more = ⊤

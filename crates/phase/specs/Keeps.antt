@@ -76,7 +76,7 @@ module _ (kept : Kept) where
 pub record RemembersRoom (site : Ground) (kept : Kept) (loads : List (ℕ × ℕ)) : Type 0 where
   pub path : Path
   pub there : path.segment ≡ kept.segment
-  pub found : WasFound kept.site.geometry kept.hash loads path
+  pub found : WasFound kept.site kept.hash loads path
   pub head : path.head ≡ kept.head
   pub buckets : (place : Role) → IsHeld kept.held place → is_third place ≡ false → WasLoaded kept loads place
   pub home : LoadedFull kept loads Home

@@ -118,16 +118,16 @@ LoadFalls = (load : Load) (n : ℕ) → loaded_left (load_taken load n) < load_l
 -- ---- causes
 -- WHAT IS KEPT on the way was loaded
 abbrev pub WalkRemembers : Type 0
-WalkRemembers = (here : Site) (hash : ℕ) (loads : List (ℕ × ℕ)) (w : Walk) (n : ℕ) → RemembersWalk here.geometry hash loads w
-    → RemembersWalked here.geometry hash (load_of (walk_wanted here hash w) (Value n) ++ loads) (walk_taken here hash w n)
+WalkRemembers = (here : Site) (hash : ℕ) (loads : List (ℕ × ℕ)) (w : Walk) (n : ℕ) → RemembersWalk here hash loads w
+    → RemembersWalked here hash (load_of (walk_wanted here hash w) (Value n) ++ loads) (walk_taken here hash w n)
 
 -- EACH END of a way HAS ITS CAUSE
 abbrev pub WalkHasCauses : Type 0
-WalkHasCauses = (here : Site) (hash : ℕ) (words : Words) (did : Doings) (call : Call) → hash ≡ key_hash here.geometry (key_of call) → (w : Walk) → RemembersWalk here.geometry hash did.loads w
+WalkHasCauses = (here : Site) (hash : ℕ) (words : Words) (did : Doings) (call : Call) → hash ≡ key_hash here.geometry (key_of call) → (w : Walk) → RemembersWalk here hash did.loads w
     → (n : ℕ) → n ≡ words (word_of here.geometry (walk_wanted here hash w)) → HasWalkCause here hash words did call w (walk_taken here hash w n)
 
 -- and of a way again, where the attempt did not change its words itself
 abbrev pub BackHasCauses : Type 0
-BackHasCauses = (here : Site) (hash : ℕ) (words : Words) (did : Doings) (call : Call) → hash ≡ key_hash here.geometry (key_of call) → (path : Path) → WasFound here.geometry hash did.loads path
+BackHasCauses = (here : Site) (hash : ℕ) (words : Words) (did : Doings) (call : Call) → hash ≡ key_hash here.geometry (key_of call) → (path : Path) → WasFound here hash did.loads path
     → ((at : Back) → Has (back_word here hash path at) did.changed → ⊥)
     → (at : Back) (n : ℕ) → n ≡ words (back_word here hash path at) → HasBackCause here hash words did call path at (back_taken here hash path at n)

@@ -10,6 +10,7 @@ use Rattle.world.specs.declared.site.Site.{Site}
 use Rattle.world.specs.Ground.{Ground}
 use Rattle.world.specs.Views.{Glance, View, Has}
 use Rattle.world.specs.Kinds.{Kind, peeks, asks_power, meets_root, meets_entry, meets_head}
+use Rattle.part.specs.Part.{IsKnownLive}
 use Rattle.phase.specs.declared.walk.Path.{Path}
 use Rattle.phase.specs.declared.walk.Walk.{Walk}
 use Rattle.phase.specs.declared.walk.Walk.TheVariants.{Power, Root, Entry, Head}
@@ -58,10 +59,11 @@ module _ (site : Ground) where
   IsWalking (Entry root) facts = Has (Rooted root) facts × (root ≤ site.shape.depth)
   IsWalking (Head root segment) facts = Has (Lives segment) facts × (segment < site.shape.segments)
 
-  -- and on what a word makes of it; nothing is found amiss
+  -- and on what a word makes of it: a segment that is stale is known to be live, and nothing is found amiss
   abbrev pub HasWalked : Walked → List Fact → Type 0
   HasWalked (walked.On walk) facts = IsWalking walk facts
   HasWalked (walked.There path) facts = IsThere site path.segment facts
+  HasWalked (walked.Stale segment version) facts = IsKnownLive site segment facts
   HasWalked (walked.Amiss word seen) facts = ⊥
   HasWalked end facts = ⊤
 

@@ -1,7 +1,6 @@
 -- How the taking of a lock fits the world: the kind of each event, what the view is after it, and by what each end comes.
 use Rattle.std.specs.Prelude.{◌≡◌, ◌-◌, ℕ, ◌+◌, ◌%◌, ◌^◌, ◌<◌, ⊤, List, ◌∷◌, ◌++◌}
 use Rattle.op_core.specs.declared.want.Ans.{Ans}
-use Rattle.op_core.specs.declared.why.Why.TheVariants as why
 use Rattle.op_core.specs.Answers.{IsAnswer, load_of}
 use Rattle.trace.specs.Events.{Words}
 use Rattle.image_layout.specs.Places.{Shape}
@@ -12,7 +11,7 @@ use Rattle.world.specs.Wants.{answer_to}
 use Rattle.world.specs.Kinds.{Kind, meets_lock, tries, wanted, view_after}
 use Rattle.world.specs.Conditions.{May, IsKnownLock}
 use Rattle.part.specs.Doings.{Doings}
-use Rattle.part.specs.Causes.{IsOwnLock, HasAgainCause}
+use Rattle.part.specs.Causes.{IsOwnLock, IsTaken, HasMoved, Looked}
 use Rattle.phase.specs.declared.take.Take.{Take}
 use Rattle.phase.specs.declared.take.Take.TheVariants.{Look, Try}
 use Rattle.phase.specs.declared.take.Taken.{Taken}
@@ -68,8 +67,8 @@ module _ (lock : ℕ) (loads : List (ℕ × ℕ)) where
 
 -- THE CAUSE of each end, for an attempt of this call that did this
 abbrev pub HasTakeCause : Shape → Words → Doings → Call → ℕ → Take → Taken → Type 0
-HasTakeCause shape words did call lock take (taken.Busy seen) = HasAgainCause shape words did call (take_wanted lock take) (why.Busy lock seen)
-HasTakeCause shape words did call lock take (taken.Moved before after) = HasAgainCause shape words did call (take_wanted lock take) (why.Moved lock before after)
+HasTakeCause shape words did call lock take (taken.Busy seen) = Looked shape words did call (take_wanted lock take) lock seen × IsTaken shape words did call lock seen
+HasTakeCause shape words did call lock take (taken.Moved before after) = Looked shape words did call (take_wanted lock take) lock after × HasMoved shape words did call lock before after
 HasTakeCause shape words did call lock take more = ⊤
 
 -- ---- the laws

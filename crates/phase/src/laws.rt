@@ -20,8 +20,8 @@ pub fn headers_lead()
 
 /// A way goes by what it loaded: behind the root it relies on the entries of that depth, behind an entry on the segment that it
 /// names, and at its end on that segment as a live and current one, whose header is noted; nothing is found amiss. Each event is of
-/// a kind that who relies on that may take, and leaves all else of the view as it was. No segment is stale where all have the
-/// image's version; and fewer events are left after each.
+/// a kind that who relies on that may take, and leaves all else of the view as it was. Where it ends since the segment is stale, that is
+/// relied on as a live one. No segment is stale where all have the image's version; and fewer events are left after each.
 pub fn ways_go()
     ensures fits { WalkFits }
     ensures stands { WalkStands }

@@ -4,7 +4,7 @@ use Rattle.std.specs.Prelude.{◌==◌, ◌&&◌, nat_lt, nat_le}
 use Rattle.std.proofs.lemmas.Bool.{eqb-true, eqb-false, leb-true, ltb-true}
 use Rattle.segment_head.specs.HeadWord.{version_in}
 use Rattle.trace.specs.Events.{Words}
-use Rattle.image_layout.specs.Places.{Shape, root_word}
+use Rattle.image_layout.specs.Places.{root_word}
 use Rattle.way.specs.Ways.{entry_word, head_word, is_leading}
 use Rattle.sound_image.specs.Records.{key_hash}
 use Rattle.map_model.specs.declared.call.Call.{Call}
@@ -30,29 +30,29 @@ pub has_more : (more loads : List (ℕ × ℕ)) (p : ℕ × ℕ) → Has p loads
 has_more [] loads p has = has
 has_more (x ∷ more) loads p has = inr (has_more more loads p has)
 
-module _ (shape : Shape) (hash : ℕ) (more loads : List (ℕ × ℕ)) where
-  pub named_more : (root segment : ℕ) → WasNamed shape hash loads root segment → WasNamed shape hash (more ++ loads) root segment
-  named_more root segment r = ((has_more more loads (root_word, root) r.0.0, r.0.1), has_more more loads (entry_word shape hash root, segment) r.1, r.2)
+module _ (here : Site) (hash : ℕ) (more loads : List (ℕ × ℕ)) where
+  pub named_more : (root segment : ℕ) → WasNamed here hash loads root segment → WasNamed here hash (more ++ loads) root segment
+  named_more root segment r = ((has_more more loads (root_word, root) r.0.0, r.0.1), has_more more loads (entry_word here.geometry hash root, segment) r.1, r.2)
 
-  pub found_more : (path : Path) → WasFound shape hash loads path → WasFound shape hash (more ++ loads) path
-  found_more path r = (named_more path.root path.segment r.0, has_more more loads (head_word shape path.segment, path.head) r.1)
+  pub found_more : (path : Path) → WasFound here hash loads path → WasFound here hash (more ++ loads) path
+  found_more path r = (named_more path.root path.segment r.0, has_more more loads (head_word here.geometry path.segment, path.head) r.1, r.2)
 
 -- the segment of a path was named
-pub found_named : (shape : Shape) (hash : ℕ) (loads : List (ℕ × ℕ)) (path : Path) → WasFound shape hash loads path → IsNamed shape hash loads path.segment
-found_named shape hash loads path r = (path.root, r.0.0, r.0.1)
+pub found_named : (here : Site) (hash : ℕ) (loads : List (ℕ × ℕ)) (path : Path) → WasFound here hash loads path → IsNamed here.geometry hash loads path.segment
+found_named here hash loads path r = (path.root, r.0.0, r.0.1)
 
 -- ---- the way
 pub walk_remembers : WalkRemembers
-walk_remembers here hash loads Power n r = by_both (RemembersWalked here.geometry hash loads) (n == 0) (On Root) Off tt tt
+walk_remembers here hash loads Power n r = by_both (RemembersWalked here hash loads) (n == 0) (On Root) Off tt tt
 walk_remembers here hash loads Root n r =
-    by_test (RemembersWalked here.geometry hash ((root_word, n) ∷ loads)) (nat_le n here.geometry.depth) (On (Entry n)) (Amiss root_word n)
+    by_test (RemembersWalked here hash ((root_word, n) ∷ loads)) (nat_le n here.geometry.depth) (On (Entry n)) (Amiss root_word n)
     (λ t. (inl refl, leb-true n here.geometry.depth t)) (λ f. tt)
 walk_remembers here hash loads (Entry root) n r =
-    by_test (RemembersWalked here.geometry hash ((entry_word here.geometry hash root, n) ∷ loads)) (nat_lt n here.geometry.segments) (On (Head root n)) (Amiss (entry_word here.geometry hash root) n)
+    by_test (RemembersWalked here hash ((entry_word here.geometry hash root, n) ∷ loads)) (nat_lt n here.geometry.segments) (On (Head root n)) (Amiss (entry_word here.geometry hash root) n)
     (λ t. ((inr r.0, r.1), inl refl, ltb-true n here.geometry.segments t)) (λ f. tt)
 walk_remembers here hash loads (Head root segment) n r =
-    by_head (RemembersWalked here.geometry hash ((head_word here.geometry segment, n) ∷ loads)) here hash root segment n
-    (λ live is. (((inr r.0.0, r.0.1), inr r.1, r.2), inl refl)) (λ live is. tt) (λ dead. tt)
+    by_head (RemembersWalked here hash ((head_word here.geometry segment, n) ∷ loads)) here hash root segment n
+    (λ live is. (((inr r.0.0, r.0.1), inr r.1, r.2), inl refl, eqb-true (version_in n) here.version is)) (λ live is. tt) (λ dead. tt)
 
 pub walk_caused : WalkHasCauses
 walk_caused here hash words did call same Power r n is =
@@ -75,7 +75,7 @@ walk_caused here hash words did call same (Head root segment) r n is =
     (λ dead. tt)
 
 -- ---- the way again
-module _ (here : Site) (hash : ℕ) (loads : List (ℕ × ℕ)) (path : Path) (r : WasFound here.geometry hash loads path) where
+module _ (here : Site) (hash : ℕ) (loads : List (ℕ × ℕ)) (path : Path) (r : WasFound here hash loads path) where
   back_kept : (at : Back) → Has (back_word here hash path at, back_before path at) loads
   back_kept back.Root = r.0.0.0
   back_kept back.Entry = r.0.1
@@ -84,7 +84,7 @@ module _ (here : Site) (hash : ℕ) (loads : List (ℕ × ℕ)) (path : Path) (r
   back_on_way : (at : Back) → IsOnWay here.geometry hash loads (back_word here hash path at)
   back_on_way back.Root = inl refl
   back_on_way back.Entry = inr (inl (path.root, r.0.0, refl))
-  back_on_way back.Head = inr (inr (path.segment, found_named here.geometry hash loads path r, refl))
+  back_on_way back.Head = inr (inr (path.segment, found_named here hash loads path r, refl))
 
 on_caused : (here : Site) (hash : ℕ) (words : Words) (did : Doings) (call : Call) (path : Path) (at : Back) → HasBackCause here hash words did call path at (back_on at)
 on_caused here hash words did call path back.Root = tt
@@ -92,7 +92,7 @@ on_caused here hash words did call path back.Entry = tt
 on_caused here hash words did call path back.Head = tt
 
 module _ (here : Site) (hash : ℕ) (words : Words) (did : Doings) (call : Call) (same : hash ≡ key_hash here.geometry (key_of call)) (path : Path)
-    (r : WasFound here.geometry hash did.loads path) (not_own : (at : Back) → Has (back_word here hash path at) did.changed → ⊥) where
+    (r : WasFound here hash did.loads path) (not_own : (at : Back) → Has (back_word here hash path at) did.changed → ⊥) where
   -- a word has another value than it had
   has_moved : (at : Back) (n : ℕ) → n ≡ words (back_word here hash path at) → (n == back_before path at) ≡ false
       → HasMoved here.geometry words did call (back_word here hash path at) (back_before path at) n
@@ -115,7 +115,7 @@ module _ (here : Site) (hash : ℕ) (words : Words) (did : Doings) (call : Call)
 
   -- the header is as it was, and leads away
   leads_away : (n : ℕ) → n ≡ words (head_word here.geometry path.segment) → n ≡ path.head → is_leading path.head hash ≡ false
-      → LeadsAway here.geometry words did call (head_word here.geometry path.segment) path.head n
+      → LeadsAway here.geometry words did call here.version (head_word here.geometry path.segment) path.head n
   leads_away n is equal away = record {
     root = path.root;
     segment = path.segment;
@@ -125,19 +125,20 @@ module _ (here : Site) (hash : ℕ) (words : Words) (did : Doings) (call : Call)
     loaded = r.1;
     newest = sym is;
     same = sym equal;
+    current = r.2;
     away = subst (λ m. is_leading path.head m ≡ false) same away;
     by_others = subst (λ m. (word : ℕ) → (word ≡ root_word) ⊎ ((word ≡ entry_word here.geometry m path.root) ⊎ (word ≡ head_word here.geometry path.segment)) → Has word did.changed → ⊥) same way_not_own;
   }
 
   -- where a word is as it was, the test fails at a header alone
   same_caused : (at : Back) (n : ℕ) → n ≡ words (back_word here hash path at) → n ≡ back_before path at → back_leads here hash path at ≡ false
-      → HasMoved here.geometry words did call (back_word here hash path at) (back_before path at) n ⊎ LeadsAway here.geometry words did call (back_word here hash path at) (back_before path at) n
+      → HasMoved here.geometry words did call (back_word here hash path at) (back_before path at) n ⊎ LeadsAway here.geometry words did call here.version (back_word here hash path at) (back_before path at) n
   same_caused back.Root n is equal away = absurd (let z = away in cc)
   same_caused back.Entry n is equal away = absurd (let z = away in cc)
   same_caused back.Head n is equal away = inr (leads_away n is equal away)
 
   moved_caused : (at : Back) (n : ℕ) → n ≡ words (back_word here hash path at) → (b : Bool) → (n == back_before path at) ≡ b → (b && back_leads here hash path at) ≡ false
-      → HasMoved here.geometry words did call (back_word here hash path at) (back_before path at) n ⊎ LeadsAway here.geometry words did call (back_word here hash path at) (back_before path at) n
+      → HasMoved here.geometry words did call (back_word here hash path at) (back_before path at) n ⊎ LeadsAway here.geometry words did call here.version (back_word here hash path at) (back_before path at) n
   moved_caused at n is true e away = same_caused at n is (eqb-true n (back_before path at) e) away
   moved_caused at n is false e away = inl (has_moved at n is e)
 

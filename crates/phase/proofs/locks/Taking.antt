@@ -115,13 +115,13 @@ module _ (shape : Shape) (words : Words) (did : Doings) (call : Call) (lock : �
       lost_caused true o = (looked, record { own = own; newest = refl; odd = eqb-true (words lock % 2) 1 o; by_others = not_own })
       lost_caused false o = (
         looked,
-        inl (record {
+        record {
           watched = inr (there, is.0, (let even = eqb-false (words lock % 2) 1 o in omega (arith, even)));
           loaded = r;
           newest = refl;
           differ = λ same. eqb-false (words lock) free other (sym same);
           by_others = not_own;
-        }),
+        },
       )
 
     try_caused : (won : Bool) → (words lock == free) ≡ won → HasTakeCause shape words did call lock (Try free) (take_taken (Try free) (if won then Won else Lost (words lock)))
