@@ -57,7 +57,7 @@ module _ (op : ReadOp) (did : Doings) (words : Words) where
 
   -- THE CAUSE of each outcome: that of any part's, or that a word moved which no table has so
   abbrev pub HasCauseThere : Outcome → Type 0
-  HasCauseThere (again (Moved word before after)) = HasAgainCause op.task.site.geometry words did (Get op.task.key) (wanted op) (Moved word before after) ⊎ FindsAmiss word before after
+  HasCauseThere (again (Moved word before after)) = HasAgainCause op.task.site.geometry words did (Get op.task.key) (wanted op) op.task.site.version (Moved word before after) ⊎ FindsAmiss word before after
   HasCauseThere outcome = HasCause op.task.site.geometry words did (Get op.task.key) (wanted op) op.task.site outcome
 
   abbrev pub EndsByCauseThere : Type 0

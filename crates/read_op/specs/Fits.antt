@@ -21,6 +21,7 @@ use Rattle.world.specs.Conditions.{IsNow, May}
 use Rattle.world.specs.Invariant.{Holds}
 use Rattle.world.specs.Laws.{found_by}
 use Rattle.world.specs.Attempts.{HasNoMore, HasOneMore}
+use Rattle.part.specs.Part.{IsKnownLive}
 use Rattle.phase.specs.declared.load.Load.{Load}
 use Rattle.phase.specs.Stands.{walk_kind, back_kind, IsThere, IsWalking, HasBegun, IsLoading}
 use Rattle.phase.specs.declared.role.Role.{Role}
@@ -187,6 +188,7 @@ suits_in site task (Fill s p load) v = IsReading site task s (looked_by p) (inde
 suits_in site task (Count s) v = IsReading site task s 4 4 v × Skips site v.notes task s
 suits_in site task (Check s placed back) v = IsAnswering site task s placed 0 v ⊎ IsAstray task s v
 suits_in site task (Relook s placed p) v = IsAnswering site task s placed (suc (index p)) v × (is_asked s p ≡ true)
+suits_in site task (Ended (ends.Stale segment version)) v = IsKnownLive site segment v.facts
 suits_in site task (Ended end) v = ⊤
 
 -- the view suits the get

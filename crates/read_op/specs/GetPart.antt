@@ -60,7 +60,7 @@ module _ (task : Task) (loads : List (ℕ × ℕ)) where
   -- the way to the segment was loaded, and the lock words of the buckets before the k-th, which had free values; and the stash buckets
   -- that are visited have to be
   pub record RemembersSeen (s : Seen) (k : ℕ) : Type 0 where
-    pub path : WasFound task.site.geometry task.hash loads s.path
+    pub path : WasFound task.site task.hash loads s.path
     pub free : (q : Role) → Upto s k q → Has (lock_of task s q, free_at s.free q) loads × (free_at s.free q % 2 ≡ 0)
     pub first : HasReason s s.first 0
     pub second : HasReason s s.second 1
@@ -84,7 +84,7 @@ module _ (task : Task) (loads : List (ℕ × ℕ)) where
 
   -- it looks at no bucket but those that are asked for
   abbrev pub RemembersIn : ReadStep → Type 0
-  RemembersIn (Way walk) = RemembersWalk task.site.geometry task.hash loads walk
+  RemembersIn (Way walk) = RemembersWalk task.site task.hash loads walk
   RemembersIn (Look s p) = RemembersSeen s (index p) × (is_asked s p ≡ true)
   RemembersIn (Fill s p load) = RemembersFill s p load
   RemembersIn (Count s) = RemembersSeen s 4

@@ -69,7 +69,7 @@ module _ (site : Ground) (words : Words) (call : Call) (kept : Kept) (same : cal
   named =
       subst (λ h. IsNamed site.shape h did.loads segment) hash_is
       (subst (λ g. IsNamed g kept.hash did.loads segment) keeps.holds.located.shape
-      (subst (λ s. IsNamed kept.site.geometry kept.hash did.loads s) r.there (found_named kept.site.geometry kept.hash did.loads r.path r.found)))
+      (subst (λ s. IsNamed kept.site.geometry kept.hash did.loads s) r.there (found_named kept.site kept.hash did.loads r.path r.found)))
 
   -- ---- its buckets
   -- what was loaded of a bucket

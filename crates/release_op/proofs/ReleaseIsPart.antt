@@ -19,7 +19,7 @@ use Rattle.world.specs.Attempts.{HoldsOnly, HasNoMore, EntersReply}
 use Rattle.world.proofs.basics.Grounds.{lock_within}
 use Rattle.world.proofs.calls.deeds.Calls.{calls_may}
 use Rattle.part.specs.Outcomes.{reply_of}
-use Rattle.part.specs.Part.{IsPart}
+use Rattle.part.specs.Part.{LeavesKnown, IsPart}
 use Rattle.part.specs.Asks.{IsWithin, PutsWord}
 use Rattle.phase.specs.declared.role.Role.{Role}
 use Rattle.phase.specs.declared.held.Held.{Held}
@@ -154,6 +154,12 @@ puts_at w small = record {
 }
 
 -- A RELEASE IS A PART of a call
+-- it never ends since a segment is stale
+known_at : (site : Ground) (kept : Kept) (s : ReleaseStep) (facts : List Fact) → LeavesKnown site (outcome_at kept s) facts
+known_at site kept Begin facts = tt
+known_at site kept (Give held) facts = tt
+known_at site kept Ended facts = tt
+
 pub release_is_part : IsPart release_part
 release_is_part = record {
   steps = λ site here call words views j op before v h at s asks.
@@ -178,6 +184,7 @@ release_is_part = record {
   };
   made = record { stays = λ op a i made. absurd made; done = λ op made done. absurd made };
   plans = λ site here call op before v planned s has. absurd (subst (λ (l : List Call). Has planned l) (no_plan site here call op.kept op.step v s.stands) has);
+  relies = λ site here call op v s. known_at site op.kept op.step v.facts;
   hands = λ op hands. absurd (let f : false ≡ true = hands in cc);
   power = λ op n e. give_on op.kept.site op.kept.hash op.kept.segment (give_next (held_in op.kept op.step)) (cuts_call (kind_at op.kept op.step) e);
 }

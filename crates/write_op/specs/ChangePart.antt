@@ -53,7 +53,7 @@ module _ (task : Task) (seen : Seen) where
 module _ (task : Task) (seen : Seen) (did : Doings) where
   -- the way to the segment was loaded, with its header
   abbrev pub WasThere : Type 0
-  WasThere = WasFound task.site.geometry task.hash did.loads seen.path
+  WasThere = WasFound task.site task.hash did.loads seen.path
 
   -- it changed no words but those of locks that it holds
   abbrev pub ChangedOwn : Type 0
@@ -77,7 +77,7 @@ module _ (task : Task) (seen : Seen) (did : Doings) where
   LoadedSpent = (place : Role) × AsksFor place × Has (lock_of task seen place, 2 ^ 64 - 2) did.loads
 
   abbrev pub RemembersIn : WriteStep → Type 0
-  RemembersIn (Way walk) = RemembersWalk task.site.geometry task.hash did.loads walk × (did.changed ≡ [])
+  RemembersIn (Way walk) = RemembersWalk task.site task.hash did.loads walk × (did.changed ≡ [])
   RemembersIn (Lock place take) = WasThere × ChangedOwn × RemembersTake (lock_of task seen place) did.loads take × AsksFor place
   RemembersIn (Check back) = WasThere × ChangedOwn
   RemembersIn (Fill place load) = WasThere × ChangedOwn × LoadedUpto (index place) × IsLoading (lock_of task seen place) did.loads load × HasReason task seen place

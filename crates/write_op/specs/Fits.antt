@@ -48,6 +48,7 @@ use Rattle.write_op.specs.declared.step.WriteStep.TheVariants as step
 use Rattle.write_op.specs.declared.step.Stage.{Stage}
 use Rattle.write_op.specs.declared.op.WriteOp.{WriteOp}
 use Rattle.part.specs.Outcomes.{Outcome, replied, again, stale, off}
+use Rattle.part.specs.Part.{IsKnownLive}
 use Rattle.write_op.specs.Search.{found, room_in, visits, record_at, stash_index, leaves_note, unnoted, has_finger}
 use Rattle.write_op.specs.Steps.{lock_of, kept_in}
 
@@ -267,9 +268,10 @@ module _ (site : Ground) (task : Task) (seen : Seen) where
   abbrev pub FoundSpent : View → Type 0
   FoundSpent v = (lock : ℕ) × Has lock v.spent_locks
 
-  -- at the ends: all locks are kept where no slot is free, and else all is as at the beginning
+  -- at the ends: all locks are kept where no slot is free, and else all is as at the beginning; a segment that is stale is relied on as live
   abbrev pub SuitsEnd : WriteEnd → View → Type 0
   SuitsEnd ends.NoSlot v = KeepsAll site (kept_in task seen) v × HasNoThird seen.held
+  SuitsEnd (ends.Stale segment version) v = HoldsOnly [] v × IsKnownLive site segment v.facts
   SuitsEnd end v = HoldsOnly [] v
 
   -- THE VIEW in each step

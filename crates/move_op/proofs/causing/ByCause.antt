@@ -1,5 +1,5 @@
 -- A displacement ends by its causes, beside any other callers.
-use Rattle.std.proofs.Common.{◌≡◌, ◌≢◌, ℕ, ◌<◌, true, false, Option, None, Some, IsTrue, inr, refl, sym, ap, ◌∙◌, subst}
+use Rattle.std.proofs.Common.{◌≡◌, ◌≢◌, ℕ, ◌<◌, true, false, Option, None, Some, IsTrue, inl, inr, refl, sym, ap, ◌∙◌, subst}
 use Rattle.std.specs.Prelude.{⊤}
 use Rattle.std.proofs.lemmas.Option.{none-some, same_Some}
 use Rattle.op_core.specs.declared.want.Want.{Want}
@@ -105,7 +105,7 @@ module _ (site : Ground) (here : Site) (call : Call) (kept : Kept) (may : MayMak
     named =
         subst (λ h. IsNamed site.shape h did.loads kept.segment) hash_is
         (subst (λ g. IsNamed g kept.hash did.loads kept.segment) k.holds.located.shape
-        (subst (λ s. IsNamed kept.site.geometry kept.hash did.loads s) r.there (found_named kept.site.geometry kept.hash did.loads r.path r.found)))
+        (subst (λ s. IsNamed kept.site.geometry kept.hash did.loads s) r.there (found_named kept.site kept.hash did.loads r.path r.found)))
 
     -- a third bucket is needed where its lock is taken
     within : kept.segment < kept.site.geometry.segments
@@ -132,7 +132,7 @@ module _ (site : Ground) (here : Site) (call : Call) (kept : Kept) (may : MayMak
     locked_caused d take (taking.On next) free cause = λ outcome some. absurd (none-some outcome some)
     locked_caused d take (taking.Held value) free cause = λ outcome some. absurd (none-some outcome some)
     locked_caused d take (taking.Busy value) free cause = gives_again (take_wanted (lock_of kept (target_of d)) take) kept.held (Busy (lock_of kept (target_of d)) value) (cause, free)
-    locked_caused d take (taking.Moved before after) free cause = gives_again (take_wanted (lock_of kept (target_of d)) take) kept.held (Moved (lock_of kept (target_of d)) before after) (cause, tt)
+    locked_caused d take (taking.Moved before after) free cause = gives_again (take_wanted (lock_of kept (target_of d)) take) kept.held (Moved (lock_of kept (target_of d)) before after) ((cause.0, inl cause.1), tt)
     locked_caused d take taking.Spent free cause = λ outcome some. absurd (none-some outcome some)
 
     lock_caused : (d : Direction) (take : Take) → SuitsStep site kept (Lock d take) v → RemembersAt site kept did (Lock d take)

@@ -70,7 +70,7 @@ module _ (site : Ground) where
     room_more r = record {
       path = r.path;
       there = r.there;
-      found = subst (λ l. WasFound kept.site.geometry kept.hash l r.path) (sym is) (found_more kept.site.geometry kept.hash more d.loads r.path r.found);
+      found = subst (λ l. WasFound kept.site kept.hash l r.path) (sym is) (found_more kept.site kept.hash more d.loads r.path r.found);
       head = r.head;
       buckets = λ place held own. loaded_more place (r.buckets place held own);
       home = (loaded_more Home r.home.0, r.home.1);

@@ -1,5 +1,5 @@
 -- A DISPLACEMENT IS A PART of a call.
-use Rattle.std.proofs.Common.{◌≡◌, ◌≢◌, ℕ, ◌^◌, ◌<◌, arith, inl, true, false, Some, refl, sym, ap, ◌∙◌, subst}
+use Rattle.std.proofs.Common.{◌≡◌, ◌≢◌, ℕ, ◌^◌, ◌<◌, arith, inl, true, false, Some, List, refl, sym, ap, ◌∙◌, subst}
 use Rattle.std.proofs.lemmas.Option.{none-some}
 use Rattle.op_core.specs.declared.want.Want.{Want}
 use Rattle.op_core.specs.declared.want.Want.TheVariants as want
@@ -9,6 +9,7 @@ use Rattle.map_model.specs.declared.call.Call.{Call}
 use Rattle.map_model.specs.declared.change.Change.{Change}
 use Rattle.map_model.specs.Changes.{call_of}
 use Rattle.world.specs.declared.site.Site.{Site}
+use Rattle.frame_facts.specs.Facts.{Fact}
 use Rattle.world.specs.Ground.{Ground, IsGround}
 use Rattle.world.specs.Views.{View}
 use Rattle.world.specs.Wants.{answer_to, word_of}
@@ -19,7 +20,7 @@ use Rattle.world.proofs.calls.deeds.Calls.{calls_may}
 use Rattle.image_layout.specs.Volatile.{counter_word}
 use Rattle.part.specs.Asks.{IsWithin}
 use Rattle.part.specs.Outcomes.{need_split, finished, reply_of}
-use Rattle.part.specs.Part.{KeepsSuits, PlansItsCall, IsPart}
+use Rattle.part.specs.Part.{KeepsSuits, PlansItsCall, LeavesKnown, IsPart}
 use Rattle.phase.specs.declared.role.Role.{Role}
 use Rattle.phase.specs.declared.kept.Kept.{Kept}
 use Rattle.phase.specs.AreWords.{AreWords}
@@ -32,7 +33,7 @@ use Rattle.phase.proofs.locks.Making.{make_fits}
 use Rattle.move_op.specs.declared.step.MoveEnd.{MoveEnd}
 use Rattle.move_op.specs.declared.step.MoveEnd.TheVariants as ends
 use Rattle.phase.specs.Makes.{brought}
-use Rattle.phase.proofs.Handing.{not_finished, not_split}
+use Rattle.phase.proofs.Handing.{ending_known, not_finished, not_split}
 use Rattle.move_op.specs.declared.step.MoveStep.{MoveStep}
 use Rattle.move_op.specs.declared.step.MoveStep.TheVariants.{Lock, Fill, CountSpent, Draw, Give, Ended}
 use Rattle.move_op.specs.declared.step.MoveStep.TheVariants as step
@@ -128,6 +129,18 @@ hands_at : (kept : Kept) (s : MoveStep) → is_without_move s ≡ true → wante
 hands_at kept (Ended end) is = refl
 hands_at kept s is = absurd (let f : false ≡ true = is in cc)
 
+-- it never ends since a segment is stale
+known_end : (site : Ground) (end : MoveEnd) (facts : List Fact) → LeavesKnown site (outcome_of end) facts
+known_end site (ends.Replied answer place) facts = tt
+known_end site ends.NoMove facts = tt
+known_end site (ends.Again why) facts = tt
+known_end site ends.Off facts = tt
+
+known_at : (site : Ground) (s : MoveStep) (facts : List Fact) → LeavesKnown site (outcome_at s) facts
+known_at site (Give held end) facts = ending_known site end facts
+known_at site (Ended end) facts = known_end site end facts
+known_at site s facts = tt
+
 pub move_is_part : IsPart move_part
 move_is_part = record {
   steps = steps;
@@ -146,6 +159,7 @@ move_is_part = record {
     done = λ op made over. done_in op.kept op.step made over;
   };
   plans = plans;
+  relies = λ site here call op v s. known_at site op.step v.facts;
   hands = λ op h. hands_at op.kept op.step h;
   power = λ op n e. on_in op.kept op.step (cuts_call (kind_at op.kept op.step) e);
 }

@@ -99,16 +99,16 @@ module _ (task : Task) (words : Words) (did : Doings) (call : Call) (hash_is : t
   needed s k r p asked = absurd (false≢true asked)
 
   module _ (s : Seen) (p : Role) (n : ℕ) (found : n ≡ words (lock_of task s p)) (k : ℕ) (seen : RemembersSeen task did.loads s k) (asked : is_asked s p ≡ true) where
-    path : WasFound g task.hash did.loads s.path
+    path : WasFound task.site task.hash did.loads s.path
     path = seen.path
 
     named : IsNamed g (key_hash g (key_of call)) did.loads s.path.segment
-    named = subst (λ m. IsNamed g m did.loads s.path.segment) hash_is (found_named g task.hash did.loads s.path path)
+    named = subst (λ m. IsNamed g m did.loads s.path.segment) hash_is (found_named task.site task.hash did.loads s.path path)
 
     of_key : NeedsBucket g (key_hash g (key_of call)) did.loads s.path.segment call (bucket_of task.hash p)
     of_key = subst (λ m. NeedsBucket g m did.loads s.path.segment call (bucket_of task.hash p)) hash_is (needed s k seen p asked)
 
-    busy_cause : n % 2 ≡ 1 → HasAgainCause g words did call (want.Load (lock_of task s p)) (Busy (lock_of task s p) n)
+    busy_cause : n % 2 ≡ 1 → HasAgainCause g words did call (want.Load (lock_of task s p)) task.site.version (Busy (lock_of task s p) n)
     busy_cause odd = (
       (refl, sym found),
       record {
@@ -120,7 +120,7 @@ module _ (task : Task) (words : Words) (did : Doings) (call : Call) (hash_is : t
     )
 
     moved_cause : n % 2 ≢ 1 → n ≢ free_at s.free p → Has (lock_of task s p, free_at s.free p) did.loads × (free_at s.free p % 2 ≡ 0)
-        → HasAgainCause g words did call (want.Load (lock_of task s p)) (Moved (lock_of task s p) (free_at s.free p) n)
+        → HasAgainCause g words did call (want.Load (lock_of task s p)) task.site.version (Moved (lock_of task s p) (free_at s.free p) n)
     moved_cause even other was = (
       (refl, sym found),
       inl (record {

@@ -27,7 +27,7 @@ use Rattle.world.specs.StepKinds.{of_call}
 use Rattle.world.proofs.stepping.Answers.{load_asked, load_value, load_answer}
 use Rattle.world.proofs.calls.deeds.Calls.{calls_leave, calls_may}
 use Rattle.part.specs.Outcomes.{reply_of}
-use Rattle.part.specs.Part.{Suits, StepsWell, IsPart}
+use Rattle.part.specs.Part.{Suits, StepsWell, LeavesKnown, IsPart}
 use Rattle.phase.specs.declared.walk.Walk.TheVariants as walk
 use Rattle.phase.specs.declared.back.Back.TheVariants as back
 use Rattle.read_op.specs.declared.step.ReadEnd.TheVariants as ends
@@ -37,7 +37,7 @@ use Rattle.read_op.specs.declared.step.Task.{Task}
 use Rattle.read_op.specs.declared.op.ReadOp.{ReadOp}
 use Rattle.read_op.specs.Steps.{wanted, wanted_in, taken, lock_of}
 use Rattle.read_op.specs.Budget.{most_events, left, Falls, AsksWithin}
-use Rattle.read_op.specs.Fits.{leads, kind_in, kind_of, EntersAnswer, OwesTheSame, WantsByKind, MayStep, KeepsSuits}
+use Rattle.read_op.specs.Fits.{leads, kind_in, kind_of, suits_in, EntersAnswer, OwesTheSame, WantsByKind, MayStep, KeepsSuits}
 use Rattle.read_op.specs.Causes.{ReadsAlone}
 use Rattle.read_op.specs.GetPart.{outcome_in, Stands, get_part}
 
@@ -45,6 +45,12 @@ use Rattle.read_op.specs.GetPart.{outcome_in, Stands, get_part}
 open_still : (task : Task) (s : ReadStep) → wanted_in task s ≢ want.Done → outcome_in s ≡ None
 open_still task (Ended end) asks = absurd (asks refl)
 open_still task s asks = refl
+
+-- ---- a segment that it found stale is known to be live
+known_live : (site : Ground) (task : Task) (s : ReadStep) (v : View) → suits_in site task s v → LeavesKnown site (outcome_in s) v.facts
+known_live site task (Ended (ends.Stale segment version)) v suits = suits
+known_live site task (Ended end) v suits = tt
+known_live site task s v suits = tt
 
 -- ---- what it enters
 module _ (key : ℕ) (call : Call) (same : call ≡ Get key) (before v w : View) (more : HasNoMore before v) where
@@ -152,6 +158,7 @@ module _ (reads : ReadsAlone) (wants : (site : Ground) (op : ReadOp) → WantsBy
     flushes = record { most = λ op. omega arith; flushes = λ op a l i e. absurd (no_flush op l e); keeps = λ op a i e. omega arith; ends = λ op e. refl };
     made = record { stays = λ op a i made. made; done = λ op made e. absurd made };
     plans = λ site here call op before v planned s has. absurd (subst (λ calls. Has planned calls) s.stands.nothing.planned has);
+    relies = λ site here call op v s. known_live site op.task op.step v s.suits;
     hands = λ op h. absurd (let f : false ≡ true = h in cc);
     power = λ op n. cuts_in op.task op.step;
   }

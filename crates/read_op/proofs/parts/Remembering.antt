@@ -66,7 +66,7 @@ module _ (task : Task) where
 
   seen_more : (x : ℕ × ℕ) (loads : List (ℕ × ℕ)) (s : Seen) (k : ℕ) → RemembersSeen task loads s k → RemembersSeen task (x ∷ loads) s k
   seen_more x loads s k r = record {
-    path = found_more task.site.geometry task.hash (x ∷ []) loads s.path r.path;
+    path = found_more task.site task.hash (x ∷ []) loads s.path r.path;
     free = λ q u. let f = r.free q u in (inr f.0, f.1);
     first = λ e. visit_more x loads s.path.segment 0 (r.first e);
     second = λ e. visit_more x loads s.path.segment 1 (r.second e);
@@ -85,7 +85,7 @@ module _ (task : Task) where
     either_in false s t p q = q refl
 
     -- ---- the way
-    walked_in : (x : Walked) → RemembersWalked task.site.geometry task.hash loads x → RemembersIn task loads (walked_to x)
+    walked_in : (x : Walked) → RemembersWalked task.site task.hash loads x → RemembersIn task loads (walked_to x)
     walked_in (walked.On w) r = r
     walked_in (walked.There path) r = (record { path = r; free = λ q u. absurd (none_before false false q u); first = λ e. absurd (false≢true e); second = λ e. absurd (false≢true e) }, refl)
     walked_in walked.Off r = tt
@@ -96,7 +96,7 @@ module _ (task : Task) where
     seen_same : (s s' : Seen) (k : ℕ) → s'.path ≡ s.path → s'.free ≡ s.free → ((q : Role) → index q < k → is_asked s' q ≡ is_asked s q) → HasReason task loads s' s'.first 0 → HasReason task loads s' s'.second 1
         → RemembersSeen task loads s k → RemembersSeen task loads s' k
     seen_same s s' k path free asks first second r = record {
-      path = subst (λ p. WasFound task.site.geometry task.hash loads p) (sym path) r.path;
+      path = subst (λ p. WasFound task.site task.hash loads p) (sym path) r.path;
       free = λ q u.
           let f = r.free q (record { low = u.low; asked = sym (asks q u.low) ∙ u.asked }) in
           subst (λ p. Has (lock_word task.site task.hash p.segment q, free_at s'.free q) loads × (free_at s'.free q % 2 ≡ 0)) (sym path)
@@ -169,7 +169,7 @@ module _ (task : Task) where
           let asks : (q : Role) → is_asked s' q ≡ is_asked s q = λ q. ap (λ b. asked_by b s'.second q) first ∙ ap (λ b. asked_by s.first b q) second in
           let locks : (q : Role) → lock_of task s' q ≡ lock_of task s q = λ q. ap (λ (z : Path). lock_word task.site task.hash z.segment q) path in
           record {
-            path = subst (λ z. WasFound task.site.geometry task.hash more z) (sym path) (found_more task.site.geometry task.hash ((lock_of task s p, n) ∷ []) loads s.path r.path);
+            path = subst (λ z. WasFound task.site task.hash more z) (sym path) (found_more task.site task.hash ((lock_of task s p, n) ∷ []) loads s.path r.path);
             free = λ q u. elim (upto_more s.first s.second p q (record { low = u.low; asked = sym (asks q) ∙ u.asked })) [
               | inl e ↦
                   subst (λ (z : Role). Has (lock_of task s' z, free_at s'.free z) more × (free_at s'.free z % 2 ≡ 0)) (sym e)

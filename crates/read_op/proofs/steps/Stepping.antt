@@ -94,7 +94,7 @@ module _ (site : Ground) (task : Task) (is : IsIn site task) where
   )
   walked_suits u walked.Off has noted = tt
   walked_suits u (walked.Amiss word seen) has noted = absurd has
-  walked_suits u (walked.Stale segment version) has noted = tt
+  walked_suits u (walked.Stale segment version) has noted = has
 
   -- ---- a look at a lock word
   module _ (v : View) (s s' : Seen) (p : Role) (n k : ℕ) where

@@ -1,5 +1,5 @@
 -- Each outcome has its cause, beside any other callers; and who is told that a lock is taken does not hold it.
-use Rattle.std.proofs.Common.{◌≡◌, ◌≢◌, ℕ, ◌+◌, ◌<◌, Bool, true, false, None, Some, IsTrue, inr, refl, sym, ap, ◌∙◌, subst, arith, slice_index}
+use Rattle.std.proofs.Common.{◌≡◌, ◌≢◌, ℕ, ◌+◌, ◌<◌, Bool, true, false, None, Some, IsTrue, inl, inr, refl, sym, ap, ◌∙◌, subst, arith, slice_index}
 use Rattle.std.specs.Prelude.{⊤, if◌then◌else◌}
 use Rattle.std.proofs.lemmas.Bool.{lt-ltb}
 use Rattle.std.proofs.lemmas.Option.{none-some, same_Some}
@@ -128,7 +128,7 @@ module _ (site : Ground) (kept : Kept) (is : IsIn site kept) (words : Words) (se
     own_lock : (b : StashBucket) → HasPassed site kept seen did b → IsOwnLock g words did call (lock_of kept (place_of b))
     own_lock b passed = (
       kept.segment,
-      subst (λ m. IsNamed g m did.loads kept.segment) hash_is (subst (λ s. IsNamed g kept.hash did.loads s) r.room.there (found_named g kept.hash did.loads r.room.path r.room.found)),
+      subst (λ m. IsNamed g m did.loads kept.segment) hash_is (subst (λ s. IsNamed g kept.hash did.loads s) r.room.there (found_named kept.site kept.hash did.loads r.room.path r.room.found)),
       within,
       homes + index_of b,
       subst (λ m. NeedsBucket g m did.loads kept.segment call (homes + index_of b)) hash_is (needed b passed),
@@ -141,7 +141,7 @@ module _ (site : Ground) (kept : Kept) (is : IsIn site kept) (words : Words) (se
   locked_caused b take (taking.On next) free cause = opens (take_wanted (lock_of kept (place_of b)) take) (Lock b next) refl
   locked_caused b take (taking.Held value) free cause = λ outcome some. absurd (none-some outcome some)
   locked_caused b take (taking.Busy value) free cause = gives_again (take_wanted (lock_of kept (place_of b)) take) seen.held (Busy (lock_of kept (place_of b)) value) (cause, free)
-  locked_caused b take (taking.Moved before after) free cause = gives_again (take_wanted (lock_of kept (place_of b)) take) seen.held (Moved (lock_of kept (place_of b)) before after) (cause, tt)
+  locked_caused b take (taking.Moved before after) free cause = gives_again (take_wanted (lock_of kept (place_of b)) take) seen.held (Moved (lock_of kept (place_of b)) before after) ((cause.0, inl cause.1), tt)
   locked_caused b take taking.Spent free cause = opens (take_wanted (lock_of kept (place_of b)) take) CountSpent refl
 
   lock_caused : (b : StashBucket) (take : Take) → SuitsStep site kept seen (Lock b take) v → RemembersIn site kept seen did (Lock b take)

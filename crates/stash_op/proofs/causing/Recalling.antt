@@ -65,7 +65,7 @@ module _ (kept : Kept) (loads more all : List (ℕ × ℕ)) (is : all ≡ more +
   room_more site r = record {
     path = r.path;
     there = r.there;
-    found = subst (λ (l : List (ℕ × ℕ)). WasFound kept.site.geometry kept.hash l r.path) (sym is) (found_more kept.site.geometry kept.hash more loads r.path r.found);
+    found = subst (λ (l : List (ℕ × ℕ)). WasFound kept.site kept.hash l r.path) (sym is) (found_more kept.site kept.hash more loads r.path r.found);
     head = r.head;
     buckets = λ p held own. loaded_more p (r.buckets p held own);
     home = (loaded_more place.Home r.home.0, r.home.1);

@@ -1,5 +1,5 @@
 -- A RECORD THAT COMES TO THE STASH IS A PART of a call: its laws one by one.
-use Rattle.std.proofs.Common.{◌≡◌, ◌≢◌, ℕ, ◌+◌, ◌^◌, ◌<◌, inl, Bool, true, false, Some, refl, sym, ap, ◌∙◌, subst}
+use Rattle.std.proofs.Common.{◌≡◌, ◌≢◌, ℕ, ◌+◌, ◌^◌, ◌<◌, inl, Bool, true, false, Some, List, refl, sym, ap, ◌∙◌, subst}
 use Rattle.std.proofs.lemmas.Option.{none-some}
 use Rattle.op_core.specs.declared.want.Want.{Want}
 use Rattle.op_core.specs.declared.want.Want.TheVariants as want
@@ -9,6 +9,7 @@ use Rattle.image_layout.specs.Volatile.{counter_word}
 use Rattle.map_model.specs.declared.call.Call.{Call}
 use Rattle.map_model.specs.Changes.{call_of}
 use Rattle.world.specs.declared.site.Site.{Site}
+use Rattle.frame_facts.specs.Facts.{Fact}
 use Rattle.world.specs.Ground.{Ground, IsGround}
 use Rattle.world.specs.Views.{View, Has}
 use Rattle.world.specs.Wants.{answer_to, word_of}
@@ -18,7 +19,7 @@ use Rattle.world.proofs.stepping.Answers.{is_word}
 use Rattle.world.proofs.calls.deeds.Calls.{calls_may}
 use Rattle.part.specs.Asks.{IsWithin}
 use Rattle.part.specs.Outcomes.{need_split, finished, reply_of}
-use Rattle.part.specs.Part.{KeepsSuits, PlansItsCall, IsPart}
+use Rattle.part.specs.Part.{KeepsSuits, PlansItsCall, LeavesKnown, IsPart}
 use Rattle.phase.specs.declared.make.Make.{Make}
 use Rattle.phase.specs.declared.make.Make.TheVariants as make
 use Rattle.phase.specs.declared.kept.Kept.{Kept}
@@ -26,7 +27,7 @@ use Rattle.phase.specs.Helds.{give_next}
 use Rattle.phase.proofs.locks.Taking.{take_fits}
 use Rattle.phase.proofs.locks.Giving.{give_stands}
 use Rattle.phase.proofs.locks.Making.{make_fits}
-use Rattle.phase.proofs.Handing.{none_has, one_has, not_finished, not_split}
+use Rattle.phase.proofs.Handing.{ending_known, none_has, one_has, not_finished, not_split}
 use Rattle.phase.proofs.Wanting.{HasFlush, is_fence, Cuts, cuts_call, take_on, give_on}
 use Rattle.stash_op.specs.declared.step.NoteWords.{NoteWords}
 use Rattle.stash_op.specs.declared.step.Seen.{Seen}
@@ -167,6 +168,18 @@ within : (site : Ground) (here : Site) (call : Call) (op : StashOp) (v : View) �
 within site here call op v good st =
     subst (λ (g : Shape). IsWithin g (wanted op)) st.is_in.shape (asks_within site op.kept st.is_in op.stage.seen (subst (λ (g : Shape). IsShape g) (sym st.is_in.shape) good.shape) v op.stage.step st.view)
 
+-- it never ends since a segment is stale
+known_end : (site : Ground) (end : StashEnd) (facts : List Fact) → LeavesKnown site (outcome_of end) facts
+known_end site (ends.Replied answer place) facts = tt
+known_end site (ends.NeedSplit segment) facts = tt
+known_end site (ends.Again why) facts = tt
+known_end site ends.Off facts = tt
+
+known_at : (site : Ground) (s : StashStep) (facts : List Fact) → LeavesKnown site (outcome_at s) facts
+known_at site (Give held end) facts = ending_known site end facts
+known_at site (Ended end) facts = known_end site end facts
+known_at site s facts = tt
+
 pub stash_is_part : IsPart stash_part
 stash_is_part = record {
   steps = steps;
@@ -186,6 +199,7 @@ stash_is_part = record {
     done = λ op made over. done_in op.kept op.stage.seen op.stage.step made over;
   };
   plans = plans;
+  relies = λ site here call op v s. known_at site op.stage.step v.facts;
   hands = λ op is. let e = full op.stage.step is in ap (wanted_in op.kept op.stage.seen) e.1;
   power = λ op n e. on_in op.kept op.stage.seen op.stage.step (cuts_call (kind_at op.kept op.stage.seen op.stage.step) e);
 }

@@ -85,7 +85,7 @@ module _ (task : Task) (words : Words) (did : Doings) (call : Call) (hash_is : t
         let lock : ℕ = lock_of task seen place in
         locked_told (Caused (take_wanted lock take)) task seen place lock x
         (λ value is. (subst (HasTakeCause g words did call lock take) is cause, free))
-        (λ first after is. (subst (HasTakeCause g words did call lock take) is cause, tt))
+        (λ first after is. let found = subst (HasTakeCause g words did call lock take) is cause in ((found.0, inl found.1), tt))
 
     -- ---- the way again
     pub backed_caused : (at : Back) (x : Backed) → HasBackCause task.site task.hash words did call seen.path at x → CausedIf (want.Load (back_word task.site task.hash seen.path at)) (backed_to seen x).step
@@ -110,7 +110,7 @@ module _ (task : Task) (words : Words) (did : Doings) (call : Call) (hash_is : t
     drawn_caused n = drawn_told (Caused event) task seen n (tt, tt)
 
   -- ---- the locks are those of the call's key
-  module _ (seen : Seen) (path : WasFound g task.hash did.loads seen.path) (within : seen.path.segment < g.segments) where
+  module _ (seen : Seen) (path : WasFound task.site task.hash did.loads seen.path) (within : seen.path.segment < g.segments) where
     lock_is : (place : Role) → lock_of task seen place ≡ bucket_at g seen.path.segment (bucket_of task.hash place)
     lock_is place = ap (λ b. if b then bucket_at g seen.path.segment (bucket_of task.hash place) else root_word) (lt-ltb seen.path.segment g.segments within)
 
@@ -137,7 +137,7 @@ module _ (task : Task) (words : Words) (did : Doings) (call : Call) (hash_is : t
     pub own_lock : (place : Role) → AsksFor task seen did place → IsOwnLock g words did call (lock_of task seen place)
     own_lock place asks = (
       seen.path.segment,
-      subst (λ m. IsNamed g m did.loads seen.path.segment) hash_is (found_named g task.hash did.loads seen.path path),
+      subst (λ m. IsNamed g m did.loads seen.path.segment) hash_is (found_named task.site task.hash did.loads seen.path path),
       within,
       bucket_of task.hash place,
       subst (λ m. NeedsBucket g m did.loads seen.path.segment call (bucket_of task.hash place)) hash_is (needed place asks),

@@ -95,7 +95,7 @@ module _ (task : Task) where
   -- ---- with more that was loaded
   module _ (seen : Seen) (d e : Doings) (more : List (ℕ × ℕ)) (is : e.loads ≡ more ++ d.loads) where
     there_more : WasThere task seen d → WasThere task seen e
-    there_more r = subst (λ l. WasFound task.site.geometry task.hash l seen.path) (sym is) (found_more task.site.geometry task.hash more d.loads seen.path r)
+    there_more r = subst (λ l. WasFound task.site task.hash l seen.path) (sym is) (found_more task.site task.hash more d.loads seen.path r)
 
     loaded_more : (n : ℕ) → LoadedUpto task seen d n → LoadedUpto task seen e n
     loaded_more n r place u j from low =
@@ -116,7 +116,7 @@ module _ (task : Task) where
 
   -- ---- the way
   module _ (seen : Seen) (d : Doings) (none : d.changed ≡ []) where
-    walked_recalls : (x : Walked) → RemembersWalked task.site.geometry task.hash d.loads x → Recalls (walked_to seen x) d
+    walked_recalls : (x : Walked) → RemembersWalked task.site task.hash d.loads x → Recalls (walked_to seen x) d
     walked_recalls (walked.On w) r = (r, none)
     walked_recalls (walked.There path) r = (
       r,

@@ -32,7 +32,7 @@ module _ (shape : Shape) (few : shape.depth ≤ 16) (hash : ℕ) (fits : hash < 
   head_structure segment true low = inr (segment, 1, ltb-true segment shape.segments low, omega arith, refl)
   head_structure segment false low = inl (omega arith)
 
-module _ (task : Task) (seen : Seen) (loads : List (ℕ × ℕ)) (path : WasFound task.site.geometry task.hash loads seen.path) (changed : List ℕ) where
+module _ (task : Task) (seen : Seen) (loads : List (ℕ × ℕ)) (path : WasFound task.site task.hash loads seen.path) (changed : List ℕ) where
   abbrev g : Shape
   g = task.site.geometry
 

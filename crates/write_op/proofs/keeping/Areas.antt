@@ -16,7 +16,7 @@ module _ (site : Ground) (task : Task) (seen : Seen) (v : View) where
   none_at_end ends.NoSlot suits = suits.0.holds.locks.areas
   none_at_end (ends.Replied answer place) suits = suits.areas
   none_at_end (ends.Again why) suits = suits.areas
-  none_at_end (ends.Stale segment version) suits = suits.areas
+  none_at_end (ends.Stale segment version) suits = suits.0.areas
   none_at_end ends.Off suits = suits.areas
 
   pub no_areas : (s : WriteStep) → SuitsStep site task seen s v → v.areas ≡ []

@@ -90,7 +90,7 @@ module _ (site : Ground) (task : Task) (is : IsIn site task) where
     walked_suits (walked.There path) has = (begun_loaded path has, quiet_only u o, tt, tt, tt)
     walked_suits walked.Off has = o
     walked_suits (walked.Amiss word value) has = absurd has
-    walked_suits (walked.Stale segment version) has = o
+    walked_suits (walked.Stale segment version) has = (o, has)
 
   -- ---- a lock
   module _ (seen : Seen) (n m : ℕ) (v u : View) (h : HasLoaded site task seen n m v) (q : IsQuiet v) where

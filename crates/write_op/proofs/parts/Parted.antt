@@ -22,7 +22,7 @@ use Rattle.world.proofs.stepping.Answers.{is_word}
 use Rattle.world.proofs.calls.deeds.Calls.{calls_may}
 use Rattle.part.specs.Asks.{IsWithin}
 use Rattle.part.specs.Outcomes.{need_split, finished, reply_of}
-use Rattle.part.specs.Part.{KeepsSuits, PlansItsCall, IsPart}
+use Rattle.part.specs.Part.{KeepsSuits, PlansItsCall, LeavesKnown, IsPart}
 use Rattle.phase.specs.declared.role.Role.{Role}
 use Rattle.phase.specs.declared.role.Role.TheVariants as place
 use Rattle.phase.specs.declared.walk.Walk.{Walk}
@@ -50,11 +50,11 @@ use Rattle.write_op.specs.declared.step.WriteStep.TheVariants as step
 use Rattle.write_op.specs.declared.op.WriteOp.{WriteOp}
 use Rattle.write_op.specs.Search.{found, leaves_note, unnoted, has_finger}
 use Rattle.write_op.specs.Steps.{lock_of, wanted, wanted_in, next_in, kept_of}
-use Rattle.write_op.specs.Fits.{publish_by, inserting_kind, changing_kind, deciding_kind, mark_kind, note_kind, kind_at, kind_of, planned_at, SuitsStep, ChangeStands, outcome_of, outcome_at}
+use Rattle.write_op.specs.Fits.{publish_by, inserting_kind, changing_kind, deciding_kind, mark_kind, note_kind, kind_at, kind_of, planned_at, SuitsEnd, SuitsStep, ChangeStands, outcome_of, outcome_at}
 use Rattle.write_op.specs.ChangePart.{RemembersIn, change_part, BeginsAsPart, BeginsBare, BeginsUndecided, BeginsRemembering, HandsOnAll, HandsOnRemembering, NeverFinished, NeverSplits}
 use Rattle.phase.proofs.Wanting.{HasFlush, is_fence, Cuts, cuts_call, take_on, give_on}
 use Rattle.phase.proofs.Wording.{none_words}
-use Rattle.phase.proofs.Handing.{none_has, one_has, not_finished, not_split}
+use Rattle.phase.proofs.Handing.{ending_known, none_has, one_has, not_finished, not_split}
 use Rattle.write_op.proofs.Over.{without}
 use Rattle.write_op.proofs.Falling.{change_falls, most_at}
 use Rattle.write_op.proofs.parts.Fitting.{wants_in}
@@ -104,7 +104,7 @@ module _ (site : Ground) (task : Task) (seen : Seen) (before v : View) (x : Call
   end_planned ends.NoSlot suits h = none_has v.planned x suits.0.quiet.planned h
   end_planned (ends.Replied answer place) suits h = none_has v.planned x suits.planned h
   end_planned (ends.Again why) suits h = none_has v.planned x suits.planned h
-  end_planned (ends.Stale segment version) suits h = none_has v.planned x suits.planned h
+  end_planned (ends.Stale segment version) suits h = none_has v.planned x suits.0.planned h
   end_planned ends.Off suits h = none_has v.planned x suits.planned h
 
   planned_in : (s : WriteStep) → SuitsStep site task seen s v → EntersReply (call_of task.change) (reply_of (outcome_at s)) before v → Has x v.planned → Plans
@@ -202,6 +202,19 @@ within : (site : Ground) (here : Site) (call : Call) (op : WriteOp) (v : View) �
 within site here call op v good st =
     subst (λ (g : Shape). IsWithin g (wanted op)) st.is_in.shape (asks_within site op.task st.is_in op.stage.seen (subst (λ (g : Shape). IsShape g) (sym st.is_in.shape) good.shape) v op.stage.step st.view)
 
+-- a segment that it found stale is known to be live
+known_end : (site : Ground) (task : Task) (seen : Seen) (v : View) (end : WriteEnd) → SuitsEnd site task seen end v → LeavesKnown site (outcome_of end) v.facts
+known_end site task seen v (ends.Replied answer place) suits = tt
+known_end site task seen v ends.NoSlot suits = tt
+known_end site task seen v (ends.Again why) suits = tt
+known_end site task seen v (ends.Stale segment version) suits = suits.1
+known_end site task seen v ends.Off suits = tt
+
+known_at : (site : Ground) (task : Task) (seen : Seen) (v : View) (s : WriteStep) → SuitsStep site task seen s v → LeavesKnown site (outcome_at s) v.facts
+known_at site task seen v (Give held end) suits = ending_known site end v.facts
+known_at site task seen v (Ended end) suits = known_end site task seen v end suits
+known_at site task seen v s suits = tt
+
 pub change_is_part : IsPart change_part
 change_is_part = record {
   steps = steps;
@@ -221,6 +234,7 @@ change_is_part = record {
     done = λ op made over. done_in op.task op.stage.seen op.stage.step made over;
   };
   plans = plans;
+  relies = λ site here call op v s. known_at site op.task op.stage.seen v op.stage.step s.view;
   hands = λ op is. ap (wanted_in op.task op.stage.seen) (without op.stage.step is);
   power = λ op n e. on_in op.task op.stage.seen op.stage.step n (cuts_call (kind_of op n) e);
 }

@@ -185,7 +185,7 @@ end_bare : (site : Ground) (task : Task) (seen : Seen) (v : View) (end : WriteEn
 end_bare site task seen v ends.NoSlot suits closed = absurd (let f : true ≡ false = closed in cc)
 end_bare site task seen v (ends.Replied answer place) suits closed = suits
 end_bare site task seen v (ends.Again why) suits closed = suits
-end_bare site task seen v (ends.Stale segment version) suits closed = suits
+end_bare site task seen v (ends.Stale segment version) suits closed = suits.0
 end_bare site task seen v ends.Off suits closed = suits
 
 pub bare_in : (site : Ground) (task : Task) (seen : Seen) (v : View) (s : WriteStep) → SuitsStep site task seen s v → wanted_in task seen s ≡ want.Done → is_without_slot s ≡ false → HoldsOnly [] v
