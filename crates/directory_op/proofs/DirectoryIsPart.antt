@@ -5,7 +5,7 @@ use Rattle.world.specs.areas.Splitting.{MayPublish}
 use Rattle.part.specs.Part.{IsPart}
 use Rattle.directory_op.specs.DirectoryPart.{directory_part}
 use Rattle.directory_op.proofs.Suiting.{steps_keep}
-use Rattle.directory_op.proofs.Plain.{asks_within, puts_words, ends_as_done, plans_its_call, hands_on_at_end, keeps_power, ends_off}
+use Rattle.directory_op.proofs.Plain.{asks_within, puts_words, ends_as_done, plans_its_call, knows_stale, hands_on_at_end, keeps_power, ends_off}
 use Rattle.directory_op.proofs.stages.Flushing.{flushes_few}
 use Rattle.directory_op.proofs.ends.Falling.{ends_in_time}
 
@@ -19,6 +19,7 @@ directory_is_part publish = record {
   flushes = flushes_few;
   made = ends_as_done;
   plans = plans_its_call;
+  relies = knows_stale;
   hands = hands_on_at_end;
   power = keeps_power;
 }

@@ -9,6 +9,7 @@ use Rattle.image_layout.specs.Volatile.{directory_guard}
 use Rattle.way.specs.Ways.{head_word}
 use Rattle.map_model.specs.declared.call.Call.{Call}
 use Rattle.world.specs.declared.site.Site.{Site}
+use Rattle.frame_facts.specs.Facts.{Fact}
 use Rattle.world.specs.Ground.{Ground, IsGround}
 use Rattle.world.specs.Views.{View, Has}
 use Rattle.world.specs.Holders.{KnowsWord}
@@ -18,7 +19,7 @@ use Rattle.world.proofs.holders.directing.Known.{front_far}
 use Rattle.world.proofs.moving.Known.{slot_within}
 use Rattle.world.proofs.fitting.OneHolder.{head_in_slot}
 use Rattle.part.specs.Asks.{IsWithin, PutsWord}
-use Rattle.part.specs.Part.{AsksWithin, PutsWords, EndsAsDone, PlansItsCall, HandsOnAtEnd, KeepsPower}
+use Rattle.part.specs.Part.{AsksWithin, PutsWords, EndsAsDone, PlansItsCall, LeavesKnown, KnowsStale, HandsOnAtEnd, KeepsPower}
 use Rattle.rounds.specs.Steps.{rounds_wanted}
 use Rattle.rounds.proofs.Events.{events_end, cases_wanted}
 use Rattle.rest_op.specs.RestPart.{KeepsSplit}
@@ -214,6 +215,14 @@ hands_in op GiveGuard e = absurd (cc)
 
 pub hands_on_at_end : HandsOnAtEnd directory_part
 hands_on_at_end op e = hands_in op op.step e
+
+-- it never ends since a segment is stale
+known_in : (site : Ground) (step : DirectoryStep) (facts : List Fact) → LeavesKnown site (outcome_at step) facts
+known_in site (Ended Off) facts = tt
+known_in site step facts = tt
+
+pub knows_stale : KnowsStale directory_part
+knows_stale site here call op v s = known_in site op.step v.facts
 
 pub keeps_power : KeepsPower directory_part
 keeps_power op n = never_cuts op n

@@ -21,6 +21,7 @@ use Rattle.map_model.specs.declared.entry.Reply.TheVariants.{Deep, Spent}
 use Rattle.map_model.specs.Map.{is_done}
 use Rattle.map_model.specs.Changes.{call_of}
 use Rattle.world.specs.declared.site.Site.{Site}
+use Rattle.frame_facts.specs.Facts.{Fact}
 use Rattle.world.specs.Ground.{Ground, IsGround}
 use Rattle.world.specs.Views.{View, Has}
 use Rattle.world.specs.Wants.{answer_to, word_of}
@@ -33,7 +34,7 @@ use Rattle.world.specs.StepLaws.{IsPublishingStep}
 use Rattle.world.proofs.calls.deeds.Calls.{has_no_whole}
 use Rattle.world.proofs.mild.Bridging.{callers_know}
 use Rattle.part.specs.Outcomes.{Outcome, reply_of}
-use Rattle.part.specs.Part.{IsPart}
+use Rattle.part.specs.Part.{LeavesKnown, IsPart}
 use Rattle.part.specs.Asks.{IsWithin, PutsWord}
 use Rattle.phase.specs.declared.take.Take.{Take}
 use Rattle.phase.specs.declared.take.Take.TheVariants.{Look, Try}
@@ -48,7 +49,7 @@ use Rattle.phase.proofs.Wanting.{takes, plain_take, take_own, take_seen}
 use Rattle.enclose_op.specs.declared.enclosed.Enclosed.{Enclosed}
 use Rattle.enclose_op.specs.declared.give.Give.{Give as Giving}
 use Rattle.enclose_op.specs.declared.op.NotEnclosed.{NotEnclosed}
-use Rattle.enclose_op.specs.declared.op.NotEnclosed.TheVariants.{Room}
+use Rattle.enclose_op.specs.declared.op.NotEnclosed.TheVariants.{Replied, Again, Room}
 use Rattle.enclose_op.specs.declared.op.EncloseStep.{EncloseStep}
 use Rattle.enclose_op.specs.declared.op.EncloseStep.TheVariants.{Guard, Lock, Head, Fill, CountSpent, CountDeep, Give, Ended, Whole}
 use Rattle.enclose_op.specs.Whole.{kept_first, IsOf, KeepsWhole}
@@ -344,6 +345,17 @@ whole_at site here call e Whole v s hands = s
 whole_at site here call e s v suits hands = absurd (cc)
 
 -- AN ENCLOSING IS A PART of a call
+-- it never ends since a segment is stale
+known_end : (site : Ground) (end : NotEnclosed) (facts : List Fact) → LeavesKnown site (Some (outcome_of end)) facts
+known_end site (Replied reply place) facts = tt
+known_end site (Again why) facts = tt
+known_end site Room facts = tt
+
+known_at : (site : Ground) (s : EncloseStep) (facts : List Fact) → LeavesKnown site (outcome_at s) facts
+known_at site (Give give end) facts = known_end site end facts
+known_at site (Ended end) facts = known_end site end facts
+known_at site s facts = tt
+
 pub enclose_is_part : IsPart enclose_part
 enclose_is_part = record {
   steps = λ site here call words views j op before v h at s asks.
@@ -369,6 +381,7 @@ enclose_is_part = record {
   };
   made = record { stays = λ op a i made. absurd made; done = λ op made done. absurd made };
   plans = λ site here call op before v planned s has. absurd (subst (λ (l : List Call). Has planned l) (no_plan site here call op.enclosed op.step v s.stands.view) has);
+  relies = λ site here call op v s. known_at site op.step v.facts;
   hands = λ op hands. hands_at op.enclosed op.step hands;
   power = λ op n. power_at op.enclosed op.step;
 }

@@ -13,6 +13,7 @@ use Rattle.image_layout.specs.Volatile.{all_words_of, counter_word}
 use Rattle.map_model.specs.declared.call.Call.{Call}
 use Rattle.way.specs.Ways.{head_word}
 use Rattle.world.specs.declared.site.Site.{Site}
+use Rattle.frame_facts.specs.Facts.{Fact}
 use Rattle.world.specs.Ground.{Ground, IsGround}
 use Rattle.world.specs.Views.{View, Has}
 use Rattle.world.specs.Wants.{answer_to, word_of}
@@ -22,7 +23,7 @@ use Rattle.world.specs.areas.Areas.{header_word}
 use Rattle.world.specs.StepKinds.{of_call, wanted_of, view_by, MayTake}
 use Rattle.world.specs.StepLaws.{IsPublishingStep}
 use Rattle.part.specs.Outcomes.{reply_of}
-use Rattle.part.specs.Part.{IsPart}
+use Rattle.part.specs.Part.{LeavesKnown, IsPart}
 use Rattle.part.specs.Asks.{IsWithin, PutsWord}
 use Rattle.phase.specs.Giving.{IsLocated}
 use Rattle.phase.proofs.Handing.{same_more}
@@ -384,6 +385,11 @@ bare_at : (site : Ground) (op : RestOp) (s : RestStep) (v : View) → SuitsStep 
 bare_at site op s v suits done = subst (λ (t : RestStep). SuitsStep site op t v) (ended_at site op s v suits done) suits
 
 -- THE REST OF A SPLIT IS A PART of a call
+-- it never ends since a segment is stale
+known_at : (site : Ground) (s : RestStep) (facts : List Fact) → LeavesKnown site (outcome_at s) facts
+known_at site Ended facts = tt
+known_at site s facts = tt
+
 pub rest_is_part : IsPart rest_part
 rest_is_part = record {
   steps = λ site here call words views j op before v h at s asks.
@@ -414,6 +420,7 @@ rest_is_part = record {
   };
   made = record { stays = λ op a i made. absurd made; done = λ op made done. absurd made };
   plans = λ site here call op before v planned s has. absurd (subst (λ (l : List Call). Has planned l) (no_plan site op op.step v s.stands.view) has);
+  relies = λ site here call op v s. known_at site op.step v.facts;
   hands = λ op hands. absurd (let no : false ≡ true = hands in cc);
   power = λ op n. power_at op op.step;
 }

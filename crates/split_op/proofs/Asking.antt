@@ -247,7 +247,6 @@ module _ (site : Ground) (ground : IsGround site) (here : Site) (call : Call) (c
     may_new is =
         let whole : Has (Whole s) v.areas = subst (λ (l : List Area). Has (Whole s) l) (sym is.areas) (inl refl) in
         let has : Has (Free n) v.areas = subst (λ (l : List Area). Has (Free n) l) (sym is.areas) (inr (inl refl)) in
-        let own : Has (Segment s) v.areas = subst (λ (l : List Area). Has (Segment s) l) (sym is.areas) (inr (inr (inr (inl refl)))) in
         let apart = is.slot.apart in
         let h : ℕ = is.side_header.0 in
         let word : Words = heads (split_head e) (suc n) h 0 in
@@ -255,7 +254,7 @@ module _ (site : Ground) (ground : IsGround site) (here : Site) (call : Call) (c
         let w : IsEmptying site here call c locks segment_words v = is.side_words in
         let si = split_is is.keeps in
         let link : Has (link_word site.shape n, 0) v.known = subst (λ (x : ℕ). Has (link_word site.shape n, x) v.known) (other_value locks 2 (inl (omega arith))) (w.below 2 (inl refl) (omega arith)) in
-        (may_begin site v ground).news s n (side_head e) word (holder is.keeps whole) own has
+        (may_begin site v ground).news s n (side_head e) word (holder is.keeps whole) whole has
         (knows_own apart (split_head e) (suc n) h 0 is.keeps.is.located.within (firm_all is.loose (header_word site.shape s) (split_head e) is.header) (firm_all is.loose (link_word site.shape s) (suc n) is.link))
         (knows_side apart (split_head e) (suc n) h 0 is.slot.slot (firm_all is.loose (header_word site.shape n) h is.side_header.1) (firm_all is.loose (link_word site.shape n) 0 link))
         (ap state_in header ∙ si.state_is) (own_link apart (split_head e) (suc n) h 0)

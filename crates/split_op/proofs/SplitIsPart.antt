@@ -17,6 +17,7 @@ use Rattle.map_model.specs.declared.call.Call.{Call}
 use Rattle.map_model.specs.declared.entry.Reply.TheVariants.{Full}
 use Rattle.segment_head.specs.HeadWord.{version_in, state_in, depth_in, pattern_in, free, splitting, fresh}
 use Rattle.world.specs.declared.site.Site.{Site}
+use Rattle.frame_facts.specs.Facts.{Fact}
 use Rattle.world.specs.Ground.{Ground, IsGround}
 use Rattle.world.specs.Views.{View, Has, At}
 use Rattle.world.specs.Wants.{answer_to, word_of}
@@ -29,7 +30,7 @@ use Rattle.world.specs.areas.Rows.{Row, marks, news}
 use Rattle.world.specs.StepKinds.{StepKind, of_call, wanted_of, view_by, MayTake}
 use Rattle.world.specs.StepLaws.{IsPublishingStep}
 use Rattle.part.specs.Outcomes.{Outcome, reply_of}
-use Rattle.part.specs.Part.{IsPart}
+use Rattle.part.specs.Part.{LeavesKnown, IsPart}
 use Rattle.part.specs.Asks.{IsWithin, PutsWord}
 use Rattle.phase.proofs.Handing.{one_more, none_more, same_more}
 use Rattle.rounds.specs.declared.rounds.Rounds.{Rounds}
@@ -535,6 +536,17 @@ own_head site here call words views j op v h at is step s slot same own = by (su
         ∙ (h.known.knows j v (header_word site.shape op.copied.whole.segment) op.copied.whole.head at st.0.header).0
 
 -- A SPLIT IS A PART of a call
+-- it never ends since a segment is stale
+known_end : (site : Ground) (end : SplitEnd) (facts : List Fact) → LeavesKnown site (outcome_of end) facts
+known_end site ends.Copied facts = tt
+known_end site (ends.Again why) facts = tt
+known_end site (ends.Full count) facts = tt
+
+known_at : (site : Ground) (s : SplitStep) (facts : List Fact) → LeavesKnown site (outcome_at s) facts
+known_at site (Back give end) facts = known_end site end facts
+known_at site (Ended end) facts = known_end site end facts
+known_at site s facts = tt
+
 pub split_is_part : IsPart split_part
 split_is_part = record {
   steps = λ site here call words views j op before v h at s asks.
@@ -560,6 +572,7 @@ split_is_part = record {
   };
   made = record { stays = λ op a i made. absurd made; done = λ op made done. absurd made };
   plans = λ site here call op before v planned s has. absurd (subst (λ (l : List Call). Has planned l) (no_plan site here call op s.stands.is v op.step s.stands.view) has);
+  relies = λ site here call op v s. known_at site op.step v.facts;
   hands = λ op hands. hands_at op op.step hands;
   power = λ op n. power_at op op.step;
 }
