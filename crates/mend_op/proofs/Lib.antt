@@ -1,0 +1,10 @@
+pub mod stages
+pub mod whole
+pub mod rounds
+pub mod steps
+pub mod part
+pub mod Seeking
+pub mod Making
+pub mod Dues
+pub mod Counting
+pub mod Waiting

@@ -1,0 +1,4 @@
+pub mod Within
+pub mod MendIsPart
+pub mod Going
+pub mod ByCause

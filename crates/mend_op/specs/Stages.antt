@@ -1,0 +1,34 @@
+-- The three stages in which words are stored: which words each may change, one after another, and what they are to be.
+use Rattle.std.specs.Prelude.{ℕ, zero, suc, ◌+◌, ◌*◌, ◌/◌, ◌%◌, Bool, List, if◌then◌else◌}
+use Rattle.image_layout.specs.Places.{Shape, homes, buckets, block, words_of_buckets}
+use Rattle.whole_segment.specs.Words.{words_by}
+use Rattle.mend_op.specs.declared.stage.Stage.{Stage}
+use Rattle.mend_op.specs.declared.stage.Stage.TheVariants.{Clear, Mend, Note}
+use Rattle.mend_op.specs.Words.{halved, mended, noted}
+
+-- how many words it may change: word 1 of each bucket, the lock word and word 1 of each, words 1 and 3 of each home
+abbrev pub most : Stage → ℕ
+most Clear = buckets
+most Mend = 2 * buckets
+most Note = 2 * homes
+
+-- which word of the buckets is the one of this number among them
+abbrev pub place : Stage → ℕ → ℕ
+place Clear n = block * n + 1
+place Mend n = block * (n / 2) + n % 2
+place Note n = block * (n / 2) + 1 + 2 * (n % 2)
+
+-- the word that it makes, by all words before it and the header
+abbrev pub made_word : Stage → Shape → ℕ → List ℕ → ℕ → ℕ
+made_word Clear shape head words = halved words shape head
+made_word Mend shape head words = mended words shape head
+made_word Note shape head words = noted words shape head
+
+-- ALL WORDS THAT IT MAKES
+abbrev pub made : Stage → Shape → ℕ → List ℕ → List ℕ
+made stage shape head words = words_by words_of_buckets (made_word stage shape head words)
+
+-- the first number from one on that passes a test, of so many; behind them where none does
+unfoldable pub seek : (ℕ → Bool) → ℕ → ℕ → ℕ
+seek test zero from = from
+seek test (suc n) from = if test from then from else seek test n (from + 1)

@@ -1,0 +1,82 @@
+-- The words of the buckets of a segment, by their numbers: word n of bucket b is number 32 * b + n. And what a mending makes of them, in its
+-- three stages: of a split that ends the records of the 1-side leave, then locks are free and spoiled records leave, and then notes are exact.
+use Rattle.std.specs.Prelude.{◌≡◌, ℕ, min, suc, ◌+◌, ◌-◌, ◌*◌, ◌/◌, ◌%◌, ◌^◌, ◌<◌, ◌==◌, ◌&&◌, nat_lt, List, slice_index, if◌then◌else◌}
+use Rattle.bucket_meta.specs.Bucket.{record_slots}
+use Rattle.segment_head.specs.HeadWord.{version_in, depth_in, pattern_in, header_of, normal}
+use Rattle.image_layout.specs.Places.{Shape, homes, buckets, block}
+use Rattle.sound_image.specs.Records.{key_hash}
+use Rattle.whole_segment.specs.declared.loaded.Loaded.{Loaded}
+use Rattle.whole_segment.specs.Slots.{cleared_mark}
+use Rattle.whole_segment.specs.Records.{first_in, third_in, key_in, covered_set}
+use Rattle.whole_segment.specs.Mending.{spoiled_set}
+use Rattle.whole_segment.specs.Rebuilding.{Overflow, first_with, third_with, rebuilt}
+
+-- ---- headers
+-- the depth and the pattern of the 1-side of a segment with this header; whatever the header is, the depth is at most 64, and the pattern
+-- has 32 bits
+abbrev pub side_depth : ℕ → ℕ
+side_depth head = min (suc (depth_in head)) 64
+
+abbrev pub side_pattern : ℕ → ℕ
+side_pattern head = (2 * pattern_in head + 1) % 2 ^ 32
+
+-- the depth of the segment itself, at most 64
+abbrev pub own_depth : ℕ → ℕ
+own_depth head = min (depth_in head) 64
+
+-- the header when its split ends: normal, one deeper, with a 0 behind its pattern
+abbrev pub finished_head : ℕ → ℕ
+finished_head head = header_of (version_in head) normal ((depth_in head + 1) % 2 ^ 8) (2 * pattern_in head % 2 ^ 32)
+
+-- the header when it is mended: normal, with this version
+abbrev pub renewed_head : ℕ → ℕ → ℕ
+renewed_head version head = header_of version normal (depth_in head) (pattern_in head)
+
+-- a lock word that is free, with its version
+abbrev pub freed : ℕ → ℕ
+freed w = w - w % 2
+
+-- ---- words
+module _ (words : List ℕ) where
+  -- words 1 and 3 of each bucket, and the key in each record slot
+  abbrev pub first_of : ℕ → ℕ
+  first_of b = slice_index words (block * b + 1)
+
+  abbrev pub third_of : ℕ → ℕ
+  third_of b = slice_index words (block * b + 3)
+
+  abbrev pub key_of : ℕ → ℕ → ℕ
+  key_of b r = slice_index words (block * b + 4 + 2 * r)
+
+  -- these, as what is loaded of a segment
+  pub record HasWords (loaded : Loaded) : Type 0 where
+    pub first : (b : ℕ) → b < buckets → first_in loaded b ≡ first_of b
+    pub third : (b : ℕ) → b < buckets → third_in loaded b ≡ third_of b
+    pub keys : (b r : ℕ) → b < buckets → r < record_slots → key_in loaded b r ≡ key_of b r
+
+  -- ---- what is made of them, by the header as it stands
+  module _ (shape : Shape) (head : ℕ) where
+    -- word 1 of a bucket without the records of the 1-side
+    abbrev pub halved_first : ℕ → ℕ
+    halved_first b = cleared_mark (first_of b) (covered_set first_of key_of (key_hash shape) (side_depth head) (side_pattern head) b)
+
+    -- without those that are spoiled
+    abbrev pub mended_first : ℕ → ℕ
+    mended_first b = cleared_mark (first_of b) (spoiled_set first_of key_of (key_hash shape) (own_depth head) (pattern_in head) b)
+
+    -- the notes of each home, made anew of the records in the stash
+    abbrev pub notes_of : ℕ → Overflow
+    notes_of = rebuilt first_of key_of (key_hash shape)
+
+    -- the words of this number that these make
+    abbrev pub halved : ℕ → ℕ
+    halved i = if i % block == 1 then halved_first (i / block) else slice_index words i
+
+    abbrev pub mended : ℕ → ℕ
+    mended i = if i % block == 0 then freed (slice_index words i) else if i % block == 1 then mended_first (i / block) else slice_index words i
+
+    abbrev pub noted : ℕ → ℕ
+    noted i =
+        if nat_lt (i / block) homes && (i % block == 1) then first_with (first_of (i / block)) (notes_of (i / block))
+        else if nat_lt (i / block) homes && (i % block == 3) then third_with (third_of (i / block)) (notes_of (i / block))
+        else slice_index words i

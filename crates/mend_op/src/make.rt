@@ -1,0 +1,78 @@
+//! What each stage makes of the words of the buckets.
+
+ghost use Rattle.std.specs.Prelude.{◌≡◌, ◌≢◌, ◌≤◌, ◌<◌, ◌+◌, ◌*◌, ℕ, length, slice_index};
+ghost use Rattle.image_layout.specs.Places.{buckets, block};
+ghost use Rattle.mend_op.specs.Words.{freed};
+ghost use Rattle.mend_op.specs.Stages.{made};
+
+use crate::heads::{own_depth, side_depth, side_pattern};
+use crate::load::{Words, loaded_of};
+use crate::stage::Stage;
+use image_layout::{BUCKETS, Geometry};
+use segment_head::word::pattern_of;
+use whole_segment::rebuilt_notes;
+
+/// Puts the words of this number of the first buckets.
+fn put(words: &mut Words, number: usize, values: &[u64])
+    requires number { number < block }
+    requires few { length values.now ≤ buckets }
+    ensures here { (b : ℕ) → b < length values.now → slice_index words.new (block * b + number) ≡ slice_index values.now b }
+    ensures others { (i : ℕ) → ((b : ℕ) → b < length values.now → i ≢ block * b + number) → slice_index words.new i ≡ slice_index words.old i }
+{
+    for (bucket, value) in values.iter().enumerate() {
+        words[32 * bucket + number] = *value;
+    }
+}
+
+/// Frees the lock words.
+fn free_locks(words: &mut Words)
+    ensures here { (b : ℕ) → b < buckets → slice_index words.new (block * b) ≡ freed (slice_index words.old (block * b)) }
+    ensures others { (i : ℕ) → ((b : ℕ) → b < buckets → i ≢ block * b) → slice_index words.new i ≡ slice_index words.old i }
+{
+    for bucket in 0..usize::from(BUCKETS) {
+        words[32 * bucket] -= words[32 * bucket] % 2;
+    }
+}
+
+/// The words without the records of the 1-side.
+fn halved(words: &Words, geometry: &Geometry, head: u64) -> Words
+    ensures { result ≡ made Stage.Clear geometry.now head words.now }
+{
+    let rest = loaded_of(words).without_half(geometry, side_depth(head), side_pattern(head));
+    let mut next = *words;
+    put(&mut next, 1, &rest.first);
+    next
+}
+
+/// The words with free locks, and without spoiled records.
+fn mended(words: &Words, geometry: &Geometry, head: u64) -> Words
+    ensures { result ≡ made Stage.Mend geometry.now head words.now }
+{
+    let mended = loaded_of(words).mended(geometry, own_depth(head), pattern_of(head));
+    let mut next = *words;
+    free_locks(&mut next);
+    put(&mut next, 1, &mended.first);
+    next
+}
+
+/// The words with exact notes of their records.
+fn noted(words: &Words, geometry: &Geometry) -> Words
+    ensures { (head : ℕ) → result ≡ made Stage.Note geometry.now head words.now }
+{
+    let notes = rebuilt_notes(&loaded_of(words), geometry);
+    let mut next = *words;
+    put(&mut next, 1, &notes.first);
+    put(&mut next, 3, &notes.third);
+    next
+}
+
+/// What a stage makes of the words of a segment with this header.
+pub(crate) fn made(stage: Stage, words: &Words, geometry: &Geometry, head: u64) -> Words
+    ensures { result ≡ made stage geometry.now head words.now }
+{
+    match stage {
+        Stage::Clear => halved(words, geometry, head),
+        Stage::Mend => mended(words, geometry, head),
+        Stage::Note => noted(words, geometry),
+    }
+}

@@ -1,0 +1,44 @@
+//! The three stages in which words are stored.
+
+ghost use Rattle.std.specs.Prelude.{◌≡◌, ◌<◌};
+ghost use Rattle.image_layout.specs.Places.{words_of_buckets};
+ghost use Rattle.mend_op.specs.Stages.{most, place};
+
+use image_layout::{BUCKETS, HOMES};
+
+/// What is stored, and in which words.
+#[derive(Clone, Copy, Debug, PartialEq, Eq)]
+pub enum Stage {
+    /// Word 1 of each bucket, without the records of the 1-side.
+    Clear,
+    /// The lock word of each bucket, free, and word 1 without its spoiled records.
+    Mend,
+    /// Words 1 and 3 of each home, with notes of what is left.
+    Note,
+}
+
+impl Stage {
+    /// How many words it may change.
+    pub(crate) fn most(self) -> u8
+        ensures { result ≡ most self }
+    {
+        match self {
+            Stage::Clear => BUCKETS,
+            Stage::Mend => 2 * BUCKETS,
+            Stage::Note => 2 * HOMES,
+        }
+    }
+
+    /// Which word of the buckets is the one of this number among them: word `n` of bucket `b` is number `32 * b + n`.
+    pub(crate) fn place(self, number: u8) -> u16
+        ensures is { result ≡ place self number }
+        ensures within { number < most self → result < words_of_buckets }
+    {
+        let number = u16::from(number);
+        match self {
+            Stage::Clear => 32 * number + 1,
+            Stage::Mend => 32 * (number / 2) + number % 2,
+            Stage::Note => 32 * (number / 2) + 1 + 2 * (number % 2),
+        }
+    }
+}

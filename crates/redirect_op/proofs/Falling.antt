@@ -1,0 +1,277 @@
+-- Fewer events are left after each, and at most so many from any state on.
+use Rattle.std.proofs.Common.{◌≡◌, ◌≢◌, ℕ, suc, ◌+◌, ◌-◌, ◌*◌, ◌^◌, ◌<◌, ◌≤◌, inl, inr, cond, Option, None, Some, List, length, refl, sym, ap, ◌∙◌, subst, arith}
+use Rattle.std.specs.Prelude.{min, slice_index, nat_le}
+use Rattle.std.proofs.Math.Pow.{pow_mono}
+use Rattle.std.proofs.lemmas.Nat.{pow_pos}
+use Rattle.std.proofs.lemmas.Bool.{cases_Bool, cases_lt, lt-ltb, le-ltb, le-leb, lt-leb}
+use Rattle.op_core.specs.declared.want.Want.{Want}
+use Rattle.op_core.specs.declared.want.Want.TheVariants as want
+use Rattle.op_core.specs.declared.want.Ans.{Ans}
+use Rattle.op_core.specs.declared.want.Ans.TheVariants.{Value, Won, Lost, Passed}
+use Rattle.op_core.specs.Answers.{IsAnswer}
+use Rattle.segment_head.specs.HeadWord.{depth_in, pattern_in}
+use Rattle.image_layout.specs.Places.{Shape, most_depth}
+use Rattle.rounds.specs.declared.rounds.RoundStep.{RoundStep}
+use Rattle.rounds.specs.declared.rounds.RoundStep.TheVariants.{Storing, Flushing, Fencing}
+use Rattle.rounds.specs.declared.rounds.Rounds.{Rounds}
+use Rattle.rounds.specs.Steps.{rounds_stores, rounds_wanted}
+use Rattle.rounds.specs.Left.{round_left, left_at as lines_left_at, rounds_left}
+use Rattle.rounds.proofs.Events.{event_cases, cases_wanted, none_stored}
+use Rattle.rounds.proofs.Falling.{rounds_fall}
+use Rattle.directory_op.specs.Places.{entries_of, run_of, side_first}
+use Rattle.directory_op.specs.Left.{most_entries, deepest_entries}
+use Rattle.directory_op.proofs.ends.Falling.{few_entries}
+use Rattle.redirect_op.specs.declared.step.RedirectStep.{RedirectStep}
+use Rattle.redirect_op.specs.declared.step.RedirectStep.TheVariants.{Guard, Root, Entry, Head, Store, Settle, Fence, GiveDirectory, Give, Ended}
+use Rattle.redirect_op.specs.declared.op.RedirectOp.{RedirectOp}
+use Rattle.redirect_op.specs.Steps.{shape_of, side_head, last_entry, store_to, go, settle_by, behind, rooted_at, rooted, met_head, stored_by, with_rounds, stored, settled_to, settled, want_or_none, put_wanted, wanted_in, next_in}
+use Rattle.redirect_op.specs.Left.{rooted_with, entries_behind, stores_left, left_at, left_of, most_events}
+
+-- ---- numbers
+-- an area that the image has is no larger than its deepest one, and this than the deepest of all
+least_depth : (root depth : ℕ) → root ≤ depth → root ≤ most_depth → root ≤ min depth most_depth
+least_depth root depth low most = omega (arith, low, most)
+
+some_deepest : (shape : Shape) → 1 ≤ deepest_entries shape
+some_deepest shape = pow_pos (min shape.depth most_depth)
+
+entries_within : (root : ℕ) (shape : Shape) → root ≤ shape.depth → entries_of root ≤ deepest_entries shape
+entries_within root shape within = elim (cases_lt most_depth root) [
+  | inl high ↦ (let e = ap (λ b. cond b (2 ^ root) 0) (lt-leb root most_depth high) in omega (arith, e))
+  | inr low ↦ (let e = ap (λ b. cond b (2 ^ root) 0) (le-leb root most_depth low) in let most = pow_mono {i = root} {j = min shape.depth most_depth} (least_depth root shape.depth within low) in omega (arith, e, most))
+]
+
+few_deepest : (shape : Shape) → deepest_entries shape ≤ most_entries
+few_deepest shape = pow_mono {i = min shape.depth most_depth} {j = most_depth} (by shape.depth)
+  where
+    by : (depth : ℕ) → min depth most_depth ≤ most_depth
+    by depth = omega arith
+
+-- no more entries come behind one than an area has beside it
+behind_few : (a b i : ℕ) → min a b - 1 - i ≤ b - 1
+behind_few a b i = omega arith
+
+-- ---- what is answered to an event of the rounds
+store_passes : (i x : ℕ) (a : Ans) → IsAnswer (want.Store i x) a → a ≡ Passed
+store_passes i x Passed e = refl
+store_passes i x a e = absurd e
+
+flush_passes : (l : ℕ) (a : Ans) → IsAnswer (want.Flush l) a → a ≡ Passed
+flush_passes l Passed e = refl
+flush_passes l a e = absurd e
+
+fence_passes : (a : Ans) → IsAnswer want.Fence a → a ≡ Passed
+fence_passes Passed e = refl
+fence_passes a e = absurd e
+
+none_passes : (a : Ans) → IsAnswer want.Done a → ⊥
+none_passes a e = e
+
+round_passes : (rounds : Rounds) (next : Option (ℕ × ℕ)) (a : Ans) → IsAnswer (want_or_none (rounds_wanted rounds next)) a → (a ≡ Passed) × (rounds_wanted rounds next ≢ None)
+round_passes rounds next a i = elim (cases_wanted (rounds_wanted rounds next)) [
+  | inl none ↦ absurd (none_passes a (subst (λ (o : Option Want). IsAnswer (want_or_none o) a) none i))
+  | inr some ↦
+      let i : IsAnswer some.0 a = subst (λ (o : Option Want). IsAnswer (want_or_none o) a) some.1 i in (
+        elim (event_cases rounds next some.0 some.1) [
+          | inl s ↦ store_passes s.word s.value a (subst (λ (w : Want). IsAnswer w a) s.wants i)
+          | inr f ↦ elim f [
+            | inl f ↦ flush_passes (slice_index rounds.round f.number) a (subst (λ (w : Want). IsAnswer w a) f.wants i)
+            | inr f ↦ fence_passes a (subst (λ (w : Want). IsAnswer w a) f.wants i)
+          ]
+        ],
+        λ none. some_none (sym some.1 ∙ none),
+      )
+]
+  where
+    some_none : {x : Want} → Some x ≡ None → ⊥
+    some_none e = cc
+
+-- an event is wanted of a round that has no more lines than it may
+pub put_passes : (rounds : Rounds) (next : Option (ℕ × ℕ)) (a : Ans) → IsAnswer (put_wanted rounds next) a → (length rounds.round ≤ 8) × (a ≡ Passed) × (rounds_wanted rounds next ≢ None)
+put_passes rounds next a i = elim (cases_lt 8 (length rounds.round)) [
+  | inl many ↦ absurd (none_passes a (subst (λ b. IsAnswer (cond b want.Done (want_or_none (rounds_wanted rounds next))) a) (lt-ltb 8 (length rounds.round) many) i))
+  | inr few ↦
+      let passes = round_passes rounds next a (subst (λ b. IsAnswer (cond b want.Done (want_or_none (rounds_wanted rounds next))) a) (le-ltb 8 (length rounds.round) few) i) in
+      (few, passes.0, passes.1)
+]
+
+-- ---- what is left
+stores_below : (op : RedirectOp) (stores : ℕ) → stores_left op stores ≤ rounds_left op.rounds stores
+stores_below op stores = elim (cases_lt 8 (length op.rounds.round)) [
+  | inl many ↦ subst (λ b. cond b 0 (rounds_left op.rounds stores) ≤ rounds_left op.rounds stores) (sym (lt-ltb 8 (length op.rounds.round) many)) (omega arith)
+  | inr few ↦ subst (λ b. cond b 0 (rounds_left op.rounds stores) ≤ rounds_left op.rounds stores) (sym (le-ltb 8 (length op.rounds.round) few)) (omega arith)
+]
+
+stores_is : (op : RedirectOp) (stores : ℕ) → length op.rounds.round ≤ 8 → stores_left op stores ≡ rounds_left op.rounds stores
+stores_is op stores few = ap (λ b. cond b 0 (rounds_left op.rounds stores)) (le-ltb 8 (length op.rounds.round) few)
+
+-- one store less is no more
+stores_less : (op : RedirectOp) (fewer more : ℕ) → fewer ≤ more → stores_left op fewer ≤ stores_left op more
+stores_less op fewer more less = elim (cases_lt 8 (length op.rounds.round)) [
+  | inl many ↦ subst (λ b. cond b 0 (rounds_left op.rounds fewer) ≤ cond b 0 (rounds_left op.rounds more)) (sym (lt-ltb 8 (length op.rounds.round) many)) (omega arith)
+  | inr few ↦ subst (λ b. cond b 0 (rounds_left op.rounds fewer) ≤ cond b 0 (rounds_left op.rounds more)) (sym (le-ltb 8 (length op.rounds.round) few)) (omega (arith, less))
+]
+
+-- behind an entry with which so many stores are to come, no more than one less
+settle_falls : (op : RedirectOp) (most : ℕ) → stores_left op 0 + 1 < most → 2 < most → left_at op (settle_by (rounds_wanted op.rounds None)) < most
+settle_falls op most settles fences = elim (cases_wanted (rounds_wanted op.rounds None)) [
+  | inl none ↦ subst (λ (o : Option Want). left_at op (settle_by o) < most) (sym none) fences
+  | inr some ↦ subst (λ (o : Option Want). left_at op (settle_by o) < most) (sym some.1) settles
+]
+
+behind_falls : (op : RedirectOp) (index most : ℕ) → 2 * entries_behind op index + stores_left op (entries_behind op index) + 2 < most → left_of (behind op index) < most
+behind_falls op index most less = elim (cases_lt index (last_entry op)) [
+  | inl low ↦ subst (λ b. left_at op (cond b (Entry (index + 1)) (settle_by (rounds_wanted op.rounds None))) < most) (sym (lt-ltb index (last_entry op) low)) (next_falls low)
+  | inr over ↦ subst (λ b. left_at op (cond b (Entry (index + 1)) (settle_by (rounds_wanted op.rounds None))) < most) (sym (le-ltb index (last_entry op) over)) (last_falls over)
+]
+  where
+    one : (last i : ℕ) → i < last → suc (last - (i + 1)) ≡ last - i
+    one last i low = omega (arith, low)
+
+    next_falls : index < last_entry op → left_at op (Entry (index + 1)) < most
+    next_falls low =
+        let same = one (last_entry op) index low in
+        let stores : stores_left op (suc (entries_behind op (index + 1))) ≡ stores_left op (entries_behind op index) = ap (stores_left op) same in
+        by (entries_behind op (index + 1)) (entries_behind op index) (stores_left op (suc (entries_behind op (index + 1)))) (stores_left op (entries_behind op index)) most same stores less
+      where
+        by : (a b x y m : ℕ) → suc a ≡ b → x ≡ y → 2 * b + y + 2 < m → 2 * a + 2 + x + 2 < m
+        by a b x y m same stores less = omega (arith, same, stores, less)
+
+    last_falls : last_entry op ≤ index → left_at op (settle_by (rounds_wanted op.rounds None)) < most
+    last_falls over =
+        let stores = stores_less op 0 (entries_behind op index) (omega arith) in
+        settle_falls op most (omega (arith, less, stores)) (omega (arith, less))
+
+-- ---- an entry is stored
+module _ (op : RedirectOp) (index : ℕ) where
+  abbrev next : Option (ℕ × ℕ)
+  next = Some (store_to op index)
+
+  abbrev later : RedirectOp
+  later = with_rounds op next
+
+  abbrev m : ℕ
+  m = entries_behind op index
+
+  store_falls : op.step ≡ Store index → length op.rounds.round ≤ 8 → rounds_wanted op.rounds next ≢ None → left_of (stored op index) < left_at op (Store index)
+  store_falls at few some =
+      let now = stores_is op (suc m) few in
+      elim (cases_Bool (rounds_stores op.rounds next)) [
+        | inl on ↦
+            let law = rounds_fall.stores op.rounds next m on in
+            let low = stores_below later m in
+            subst (λ b. left_of (stored_by b later index) < left_at op (Store index)) (sym on) (behind_falls later index (left_at op (Store index)) (omega (arith, law, low, now)))
+        | inr off ↦
+            let law = rounds_fall.others op.rounds next (suc m) some off in
+            let low = stores_below later (suc m) in
+            subst (λ b. left_of (stored_by b later index) < left_at op (Store index)) (sym off) (subst (λ t. left_at later t < left_at op (Store index)) (sym at) (omega (arith, law, low, now)))
+      ]
+
+-- all is settled
+settling_falls : (op : RedirectOp) → length op.rounds.round ≤ 8 → rounds_wanted op.rounds None ≢ None → left_of (settled op) < left_at op Settle
+settling_falls op few some =
+    let now = stores_is op 0 few in
+    elim (cases_Bool (rounds_stores op.rounds None)) [
+      | inl on ↦ absurd (none_stored op.rounds on)
+      | inr off ↦
+          let later : RedirectOp = with_rounds op None in
+          let law = rounds_fall.others op.rounds None 0 some off in
+          let low = stores_below later 0 in
+          elim (cases_wanted (rounds_wanted later.rounds None)) [
+            | inl none ↦ subst (λ (o : Option Want). left_at later (settled_to o) < left_at op Settle) (sym none) (omega (arith, law, now))
+            | inr more ↦ subst (λ (o : Option Want). left_at later (settled_to o) < left_at op Settle) (sym more.1) (omega (arith, law, low, now))
+          ]
+    ]
+
+-- ---- the root
+root_falls : (op : RedirectOp) (n : ℕ) → left_of (rooted op n) < rooted_with (deepest_entries (shape_of op))
+root_falls op n =
+    let root = min n (shape_of op).depth in
+    let few = entries_within root (shape_of op) (least n (shape_of op).depth) in
+    let some = some_deepest (shape_of op) in
+    let head = side_head op.guarded.head in
+    let most = behind_few ((pattern_in head + 1) * run_of root head) (entries_of root) (side_first root head) in
+    by (entries_behind (rooted_at op root) (side_first root head)) (entries_of root) (deepest_entries (shape_of op)) most few some
+  where
+    least : (a b : ℕ) → min a b ≤ b
+    least a b = omega arith
+
+    by : (m e deepest : ℕ) → m ≤ e - 1 → e ≤ deepest → 1 ≤ deepest → 2 * m + 2 + (3 * suc m + 0) + 2 < 5 * deepest + 3
+    by m e deepest most few some = omega (arith, most, few, some)
+
+-- ---- each event
+head_falls : (op : RedirectOp) (index slot n : ℕ) → left_of (met_head op index n) < left_at op (Head index slot)
+head_falls op index slot n = elim (cases_Bool (nat_le (depth_in n) (depth_in op.guarded.head))) [
+  | inl up ↦ subst (λ b. left_of (cond b (go op (Store index)) (behind op index)) < left_at op (Head index slot)) (sym up) (omega arith)
+  | inr deeper ↦
+      let stores = stores_less op (entries_behind op index) (suc (entries_behind op index)) (omega arith) in
+      subst (λ b. left_of (cond b (go op (Store index)) (behind op index)) < left_at op (Head index slot)) (sym deeper) (behind_falls op index (left_at op (Head index slot)) (omega (arith, stores)))
+]
+
+pub falls_at : (op : RedirectOp) (s : RedirectStep) (a : Ans) → op.step ≡ s → IsAnswer (wanted_in op s) a → left_of (next_in op s a) < left_at op s
+falls_at op Guard Won at i = omega arith
+falls_at op Guard (Lost n) at i = omega arith
+falls_at op Guard a at i = absurd i
+falls_at op Root (Value n) at i = root_falls op n
+falls_at op Root a at i = absurd i
+falls_at op (Entry index) (Value n) at i = omega arith
+falls_at op (Entry index) a at i = absurd i
+falls_at op (Head index slot) (Value n) at i = head_falls op index slot n
+falls_at op (Head index slot) a at i = absurd i
+falls_at op (Store index) a at i =
+    let put = put_passes op.rounds (Some (store_to op index)) a i in
+    subst (λ (x : Ans). left_of (next_in op (Store index) x) < left_at op (Store index)) (sym put.1) (store_falls op index at put.0 put.2)
+falls_at op Settle a at i =
+    let put = put_passes op.rounds None a i in
+    subst (λ (x : Ans). left_of (next_in op Settle x) < left_at op Settle) (sym put.1) (settling_falls op put.0 put.2)
+falls_at op Fence Passed at i = omega arith
+falls_at op Fence a at i = absurd i
+falls_at op GiveDirectory Passed at i = omega arith
+falls_at op GiveDirectory a at i = absurd i
+falls_at op (Give end) Passed at i = omega arith
+falls_at op (Give end) a at i = absurd i
+falls_at op (Ended end) a at i = absurd i
+
+-- ---- at most so many
+left_most : (lines : List ℕ) → round_left lines ≤ length lines + 1
+left_most lines = elim (cases_lt 0 (length lines)) [
+  | inl some ↦ (let e = ap (λ b. cond b (length lines + 1) 0) (lt-ltb 0 (length lines) some) in omega (arith, e))
+  | inr none ↦ (let e = ap (λ b. cond b (length lines + 1) 0) (le-ltb 0 (length lines) none) in omega (arith, e))
+]
+
+few_lines : (rounds : Rounds) → length rounds.round ≤ 8 → lines_left_at rounds.round rounds.step ≤ 9
+few_lines rounds few = few_at rounds.step
+  where
+    few_at : (step : RoundStep) → lines_left_at rounds.round step ≤ 9
+    few_at Storing = let most = left_most rounds.round in omega (arith, most, few)
+    few_at (Flushing i) = omega (arith, few)
+    few_at Fencing = omega arith
+
+stores_most : (op : RedirectOp) (stores : ℕ) → stores_left op stores ≤ 3 * stores + 9
+stores_most op stores = elim (cases_lt 8 (length op.rounds.round)) [
+  | inl many ↦ subst (λ b. cond b 0 (rounds_left op.rounds stores) ≤ 3 * stores + 9) (sym (lt-ltb 8 (length op.rounds.round) many)) (omega arith)
+  | inr few ↦ subst (λ b. cond b 0 (rounds_left op.rounds stores) ≤ 3 * stores + 9) (sym (le-ltb 8 (length op.rounds.round) few)) (let lines = few_lines op.rounds few in omega (arith, lines))
+]
+
+-- behind an entry come fewer than an area has
+behind_most : (op : RedirectOp) (index : ℕ) → suc (entries_behind op index) ≤ most_entries
+behind_most op index =
+    let head = side_head op.guarded.head in
+    let most = behind_few ((pattern_in head + 1) * run_of op.root head) (entries_of op.root) index in
+    let all = few_entries op.root in
+    by (entries_behind op index) (entries_of op.root) most_entries most all (omega arith)
+  where
+    by : (m e most : ℕ) → m ≤ e - 1 → e ≤ most → 1 ≤ most → suc m ≤ most
+    by m e most low all some = omega (arith, low, all, some)
+
+pub most_at : (op : RedirectOp) (s : RedirectStep) → left_at op s ≤ most_events
+most_at op Guard = let few = few_deepest (shape_of op) in omega (arith, few)
+most_at op Root = let few = few_deepest (shape_of op) in omega (arith, few)
+most_at op (Entry index) = let few = behind_most op index in let stores = stores_most op (suc (entries_behind op index)) in omega (arith, few, stores)
+most_at op (Head index slot) = let few = behind_most op index in let stores = stores_most op (suc (entries_behind op index)) in omega (arith, few, stores)
+most_at op (Store index) = let few = behind_most op index in let stores = stores_most op (suc (entries_behind op index)) in omega (arith, few, stores)
+most_at op Settle = let stores = stores_most op 0 in omega (arith, stores)
+most_at op Fence = omega arith
+most_at op GiveDirectory = omega arith
+most_at op (Give end) = omega arith
+most_at op (Ended end) = omega arith

@@ -1,0 +1,11 @@
+mod Regions
+mod Holding
+mod Onward
+mod Rounding
+mod Guarding
+mod Stepping
+mod Falling
+mod Flushing
+mod Plain
+mod RedirectIsPart
+mod ByCause

@@ -1,0 +1,11 @@
+pub mod Words
+pub mod Holding
+pub mod Finding
+pub mod Storing
+pub mod Freeing
+pub mod Unmarking
+pub mod Giving
+pub mod RepairIsPart
+pub mod Recalling
+pub mod ByCause
+pub mod Current

@@ -1,0 +1,55 @@
+//! Headers of a split that was cut off: of its side, and as they are when it is taken back.
+
+ghost use Rattle.std.specs.Prelude.{◌≡◌, ◌==◌, ◌≤◌, ◌<◌, ◌*◌, ◌+◌, ◌^◌};
+ghost use Rattle.segment_head.specs.HeadWord.{version_in, depth_in, pattern_in};
+ghost use Rattle.world.specs.areas.Kinds.{is_new_side, is_ready_side};
+ghost use Rattle.repair_op.specs.Steps.{with_state};
+
+use segment_head::word::{FRESH, depth_of, header_of, is_live, pattern_of, state_of, version_of};
+
+/// A header with another state, and else as it was.
+pub(crate) fn with_state(head: u64, state: u8) -> u64
+    ensures { result ≡ with_state head state }
+{
+    header_of(version_of(head), state, depth_of(head), pattern_of(head))
+}
+
+/// The pattern of the 1-side of a segment with this header: its own with a 1 behind it.
+fn side_pattern(head: u64) -> u64
+    ensures is { result ≡ 2 * pattern_in head + 1 }
+    ensures most { result < 2 ^ 33 }
+    ensures some { 1 ≤ result }
+{
+    2 * u64::from(pattern_of(head)) + 1
+}
+
+/// Whether a pattern is another one, followed by so many zeros.
+fn has_zeros(pattern: u32, before: u64, zeros: u8) -> bool
+    requires most { before < 2 ^ 33 }
+    requires some { 1 ≤ before }
+    ensures { result ≡ (pattern == before * 2 ^ zeros) }
+{
+    zeros < 32 && u64::from(pattern) == before << zeros
+}
+
+/// Whether this is the header of the new side of a segment with that header.
+pub(crate) fn is_new_side(head: u64, side: u64) -> bool
+    ensures { result ≡ is_new_side (depth_in head) (pattern_in head) side }
+{
+    state_of(side) == FRESH
+        && u16::from(depth_of(side)) == u16::from(depth_of(head)) + 1
+        && u64::from(pattern_of(side)) == side_pattern(head)
+}
+
+/// Whether it is that of a ready side.
+pub(crate) fn is_ready_side(head: u64, side: u64) -> bool
+    ensures { result ≡ is_ready_side (depth_in head) (pattern_in head) side }
+{
+    is_live(side)
+        && depth_of(head) < depth_of(side)
+        && has_zeros(
+            pattern_of(side),
+            side_pattern(head),
+            depth_of(side) - depth_of(head) - 1,
+        )
+}
