@@ -8,7 +8,7 @@ use Rattle.image_layout.specs.declared.shape.GeoFault.TheVariants.{Segments, Dep
 use Rattle.sound_image.specs.Segments.{ImageWords}
 use Rattle.sound_image.specs.Image.{image_bytes, SaysShape, IsSoundImage}
 use Rattle.image_file.specs.declared.fault.ImageFault.{ImageFault}
-use Rattle.image_file.specs.declared.fault.ImageFault.TheVariants.{Length, Magic, Format, Geometry, Unsound, Unplayed, NoMemory}
+use Rattle.image_file.specs.declared.fault.ImageFault.TheVariants.{Length, Magic, Format, Geometry, Unsound, NoMemory}
 use Rattle.image_rules.specs.declared.breach.Rule.{Rule}
 use Rattle.image_rules.specs.Breach.{HoldsAt, IsFirstBreach}
 use Rattle.image_file.specs.Fault.{word_in_file, shape_in, HasMagic, HasFormat, IsFramed, HasFault, IsSoundFile}
@@ -122,5 +122,4 @@ module _ (bytes : List ℕ) (f : IsSoundFile bytes) where
   no_fault Format h = absurd (h.2 sound_format)
   no_fault Geometry front = absurd (front.says sound_in_range)
   no_fault (Unsound r word) h = absurd (h.1.least.broken (sound_holds r word))
-  no_fault (Unplayed word) h = absurd h
   no_fault NoMemory h = refl

@@ -1,4 +1,4 @@
--- The image of an empty table is a sound image, holds no pair, and may be played where it has one slot for a segment.
+-- The image of an empty table is a sound image, and holds no pair.
 use Rattle.std.proofs.Common.{◌≡◌, ℕ, ◌+◌, ◌/◌, ◌%◌, ◌^◌, ◌<◌, ◌≤◌, sym, ap, subst, ◌∙◌, arith, inl, inr, ⊎_elim, List}
 use Rattle.std.specs.Prelude.{slice_index}
 use Rattle.std.proofs.lemmas.Bool.{cases_lt}
@@ -13,7 +13,6 @@ use Rattle.sound_image.specs.Records.{word_in, HasRecord, HasPair, HasExactNotes
 use Rattle.sound_image.specs.Rules.{FollowsRules}
 use Rattle.sound_image.specs.Image.{IsSoundImage}
 use Rattle.image_file.specs.Formatted.{IsFormatted}
-use Rattle.image_rules.specs.Stage.{IsUntouched}
 use Rattle.sound_image.proofs.Unnoted.{HasNote}
 use Rattle.sound_image.proofs.OneLive.{IsOneLive, has_owners, shares_well, entry_leads}
 use Rattle.sound_image.proofs.NoNotes.{unnoted-exact}
@@ -145,11 +144,3 @@ module _ (shape : Shape) (words : List ℕ) (i : IsFormatted shape words) where
 
   pub formatted-no_pair : (k v : ℕ) → HasPair shape word k v → ⊥
   formatted-no_pair k v pair = formatted-no_record pair.s pair.b pair.r pair.own.record_there
-
-  pub formatted-IsUntouched : IsUntouched shape word
-  formatted-IsUntouched w =
-      record {
-        clean = λ _. is_clean;
-        current = λ s h _ live. subst (λ s. version_in (frame.header s) ≡ image_version frame) (sym (first_is s live))
-            (ap version_in i.header ∙ sym version_is);
-      }

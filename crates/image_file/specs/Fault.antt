@@ -5,9 +5,8 @@ use Rattle.image_layout.specs.Places.{Shape, IsShape, words_of}
 use Rattle.sound_image.specs.Segments.{ImageWords}
 use Rattle.sound_image.specs.Image.{image_bytes, magic, IsSoundImage}
 use Rattle.image_file.specs.declared.fault.ImageFault.{ImageFault}
-use Rattle.image_file.specs.declared.fault.ImageFault.TheVariants.{Length, Magic, Format, Geometry, Unsound, Unplayed, NoMemory}
-use Rattle.image_rules.specs.Stage.{IsUntouchedAt}
-use Rattle.image_rules.specs.Breach.{IsLeast, IsFirstBreach}
+use Rattle.image_file.specs.declared.fault.ImageFault.TheVariants.{Length, Magic, Format, Geometry, Unsound, NoMemory}
+use Rattle.image_rules.specs.Breach.{IsFirstBreach}
 
 -- the words that bytes spell, eight bytes each, the lowest first
 abbrev pub word_in_file : List ℕ → ImageWords
@@ -41,14 +40,13 @@ pub record HasFront (bytes : List ℕ) (Says : Shape → Type 0) : Type 0 where
   pub format_there : HasFormat (word_in_file bytes)
   pub says : Says (shape_in (word_in_file bytes))
 
--- the bytes have this fault, and none that is looked at before it; what a play asks of an image is not looked at
+-- the bytes have this fault, and none that is looked at before it
 abbrev pub HasFault : List ℕ → ImageFault → Type 0
 HasFault bytes Length = (length bytes < 256) ⊎ HasFront bytes (λ shape. IsShape shape × (length bytes ≢ 8 * words_of shape))
 HasFault bytes Magic = (256 ≤ length bytes) × (HasMagic (word_in_file bytes) → ⊥)
 HasFault bytes Format = (256 ≤ length bytes) × HasMagic (word_in_file bytes) × (HasFormat (word_in_file bytes) → ⊥)
 HasFault bytes Geometry = HasFront bytes (λ shape. IsShape shape → ⊥)
 HasFault bytes (Unsound broken word) = IsFramed bytes × IsFirstBreach (shape_in (word_in_file bytes)) (word_in_file bytes) broken word
-HasFault bytes (Unplayed word) = ⊥
 HasFault bytes NoMemory = ⊤
 
 -- the bytes are the file of a sound image
@@ -57,13 +55,3 @@ pub record IsSoundFile (bytes : List ℕ) : Type 0 where
   pub words : List ℕ
   pub sound : IsSoundImage shape words
   pub file : bytes ≡ image_bytes words
-
--- the fault of an image that is not played: the least word of which what a play asks does not hold
-abbrev pub IsPlayFault : Shape → ImageWords → ImageFault → Type 0
-IsPlayFault shape word Length = ⊥
-IsPlayFault shape word Magic = ⊥
-IsPlayFault shape word Format = ⊥
-IsPlayFault shape word Geometry = ⊥
-IsPlayFault shape word (Unsound broken w) = ⊥
-IsPlayFault shape word (Unplayed w) = IsLeast (IsUntouchedAt shape word) w
-IsPlayFault shape word NoMemory = ⊥

@@ -1,11 +1,11 @@
-//! Why bytes are no image, or an image is not played.
+//! Why bytes are no image.
 
 use image_rules::Rule;
 use std::error::Error;
 use std::fmt;
 
-/// Why bytes are no image, or an image is not played so far. Each says also that none that is looked at before it is there: first a
-/// length below 256 bytes, then magic, format and geometry, then the length, then the rules, and before a play what it asks.
+/// Why bytes are no image. Each says also that none that is looked at before it is there: first a length below 256 bytes, then magic,
+/// format and geometry, then the length, then the rules.
 #[derive(Clone, Copy, Debug, PartialEq, Eq)]
 pub enum ImageFault {
     /// There are fewer than 256 bytes, or not 8 for each word of the geometry.
@@ -23,12 +23,6 @@ pub enum ImageFault {
         /// The number of the word.
         word: u64,
     },
-    /// The image is sound, and no play takes it so far: the least word of which what a play asks does not hold. It is told as a
-    /// rule 8.
-    Unplayed {
-        /// The number of the word.
-        word: u64,
-    },
     /// Memory ran out.
     NoMemory,
 }
@@ -41,7 +35,6 @@ impl fmt::Display for ImageFault {
             ImageFault::Format => write!(f, "format"),
             ImageFault::Geometry => write!(f, "geometry"),
             ImageFault::Unsound { rule, word } => write!(f, "rule {rule} word {word}"),
-            ImageFault::Unplayed { word } => write!(f, "rule 8 word {word}"),
             ImageFault::NoMemory => write!(f, "out of memory"),
         }
     }

@@ -4,7 +4,6 @@ ghost use Rattle.std.specs.Prelude.{◌≡◌, ℕ, IfOk, slice_index};
 ghost use Rattle.sound_image.specs.Records.{HasPair};
 ghost use Rattle.sound_image.specs.Image.{IsSoundImage};
 ghost use Rattle.image_file.specs.Formatted.{IsFormatted};
-ghost use Rattle.image_rules.specs.Stage.{IsUntouched};
 
 use crate::medium::Medium;
 use crate::words::Words;
@@ -66,7 +65,6 @@ pub fn format(alloc: Global, geometry: Geometry) -> Result<Medium, NoMemory>
     ensures words { IfOk result (λ medium. IsFormatted geometry medium.words) }
     ensures sound { IfOk result (λ medium. IsSoundImage geometry medium.words) }
     ensures empty { IfOk result (λ medium. (k v : ℕ) → HasPair geometry (slice_index medium.words) k v → ⊥) }
-    ensures untouched { IfOk result (λ medium. IsUntouched geometry (slice_index medium.words)) }
 {
     shape_in_range(&geometry);
     let words = empty_words(alloc, &geometry)?;

@@ -1,10 +1,9 @@
 //! Bytes to a sound image and back.
 //! An image's file is its words, eight bytes each; [`from_bytes`] reads one and says what is wrong with bytes that are
 //! none, [`to_bytes`] writes one. [`format`] makes the image of an empty table, [`check`] and [`list`] say what an image
-//! holds, and [`playable`] whether a play takes it so far.
+//! holds.
 #![tactic(auto)]
 
-mod before_play;
 mod fault;
 mod formatted;
 mod laws;
@@ -13,7 +12,6 @@ mod read;
 mod summary;
 mod words;
 
-pub use before_play::playable;
 pub use fault::ImageFault;
 pub use formatted::format;
 pub use laws::read_of_written;

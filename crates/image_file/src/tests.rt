@@ -1,6 +1,6 @@
 // Files word by word, and what is said of them, literally.
 use crate::{
-    ImageFault, Summary, Words, check, format, from_bytes, from_words, list, playable,
+    ImageFault, Summary, Words, check, format, from_bytes, from_words, list,
     read_of_written, to_bytes,
 };
 use image_layout::Geometry;
@@ -111,14 +111,6 @@ fn file_with(alloc: Global, changes: &[(usize, u64)]) -> Result<Vec<u8>, Fail> {
     file_of(alloc, 2208, &ROW, changes)
 }
 
-// Why the image of a file may not be played.
-fn said_before_play(alloc: Global, bytes: &[u8]) -> Result<String, Fail> {
-    match playable(&from_bytes(alloc, bytes)?) {
-        Ok(()) => Ok(format!(in alloc; "playable")?),
-        Err(fault) => Ok(format!(in alloc; "{fault}")?),
-    }
-}
-
 // What is wrong with a file.
 fn said_of(alloc: Global, bytes: &[u8]) -> Result<String, Fail> {
     match from_bytes(alloc, bytes) {
@@ -153,7 +145,6 @@ fn a_member_is_read(rt: HostRuntime) -> Result<(), Fail> {
     let medium = from_bytes(alloc, &file_with(alloc, &PROBING)?)?;
     assert_eq!(rt; check(&medium).pairs, 1);
     assert_eq!(rt; list(alloc, &medium)?.as_slice(), [(5, 7)].as_slice());
-    assert!(rt; playable(&medium).is_ok());
     Ok(())
 }
 
@@ -164,7 +155,6 @@ fn a_noted_record_is_read(rt: HostRuntime) -> Result<(), Fail> {
     let medium = from_bytes(alloc, &file_with(alloc, &IN_STASH)?)?;
     assert_eq!(rt; check(&medium).pairs, 1);
     assert_eq!(rt; list(alloc, &medium)?.as_slice(), [(5, 7)].as_slice());
-    assert!(rt; playable(&medium).is_ok());
     Ok(())
 }
 
@@ -197,7 +187,6 @@ fn a_new_image_is_read(rt: HostRuntime) -> Result<(), Fail> {
     let many = Geometry::new(3, 2, 1)?;
     let bytes = to_bytes(alloc, &format(alloc, many)?)?;
     assert_eq!(rt; said_of(alloc, &bytes)?.as_str(), "accepted");
-    assert_eq!(rt; said_before_play(alloc, &bytes)?.as_str(), "playable");
     Ok(())
 }
 
@@ -291,44 +280,6 @@ fn faults(rt: HostRuntime) -> Result<(), Fail> {
         format!(in alloc; "{}", ImageFault::NoMemory)?.as_str(),
         "out of memory"
     );
-    Ok(())
-}
-
-#[test]
-fn images_that_may_be_played(rt: HostRuntime) -> Result<(), Fail> {
-    let alloc = rt.alloc();
-    let cases: [(&[(usize, u64)], &str); 8] = [
-        (&[], "playable"),
-        (&[(3, 1)], "playable"),
-        (&[(3, 1), (8, 1)], "playable"),
-        (&[(3, 1), (8, 1), (16, 1)], "rule 8 word 16"),
-        (&[(16, 1)], "rule 8 word 16"),
-        (&[(16, 1), (65, 513)], "rule 8 word 16"),
-        (&[(65, 256)], "rule 8 word 65"),
-        (&[(16, 1), (65, 256)], "rule 8 word 16"),
-    ];
-    for (changes, said) in &cases {
-        let bytes = file_with(alloc, changes)?;
-        assert_eq!(rt; said_before_play(alloc, &bytes)?.as_str(), *said);
-    }
-    // Two segments, each as deep as may be, of the image's version and not; and where the image allows deeper ones.
-    let normal: [(usize, u64); 4] = [(16, 257), (65, 65_793), (34, 1), (97, 1)];
-    let cases: [(&[(usize, u64)], &str); 3] = [
-        (&[], "playable"),
-        (&[(2209, 4_295_033_088)], "rule 8 word 2209"),
-        (&[(3, 2)], "playable"),
-    ];
-    for (changes, said) in &cases {
-        let mut both = normal.to_vec(alloc)?;
-        both.extend_from_slice(changes)?;
-        let bytes = file_of(alloc, 4352, &SPLIT, &both)?;
-        assert_eq!(rt; said_before_play(alloc, &bytes)?.as_str(), *said);
-    }
-    // Beside them a slot in which no segment is live, with any words.
-    let mut beside = normal.to_vec(alloc)?;
-    beside.extend_from_slice(&[(2, 3), (4353, 0x4d_00ff_0001), (4354, 99), (4384, 3)])?;
-    let bytes = file_of(alloc, 6496, &SPLIT, &beside)?;
-    assert_eq!(rt; said_before_play(alloc, &bytes)?.as_str(), "playable");
     Ok(())
 }
 
@@ -427,7 +378,6 @@ fn a_split_half_done(rt: HostRuntime) -> Result<(), Fail> {
     let pairs = [(5, 7), ((1 << 63) + 5, 9)];
     assert_eq!(rt; list(alloc, &medium)?.as_slice(), pairs.as_slice());
     assert!(rt; read_of_written(alloc, &medium).is_ok());
-    assert!(rt; matches!(playable(&medium), Err(ImageFault::Unplayed { word: 16 })));
     Ok(())
 }
 

@@ -1,4 +1,3 @@
-pub mod Stage
 pub mod Divided
 pub mod Leaves
 pub mod Steps

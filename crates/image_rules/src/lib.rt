@@ -1,6 +1,6 @@
 //! What a sound image is, decided: which rule its words break first, and at which word.
 //! [`first_breach`] looks at the rules in their order; [`is_first_at`] and [`pair_in`] tell the pairs of an image whose
-//! records stand where they are looked for, slot by slot; [`unplayed_word`] tells whether it may be played.
+//! records stand where they are looked for, slot by slot.
 #![tactic(auto)]
 
 mod breach;
@@ -9,7 +9,6 @@ mod heads;
 mod leaves;
 mod notes;
 mod own;
-mod playable;
 mod record_slot;
 mod records;
 mod repaired;
@@ -18,5 +17,4 @@ mod sound_segments;
 
 pub use breach::{Breach, Rule, first_breach};
 pub use own::{RECORD_SLOTS, is_first_at, pair_in};
-pub use playable::unplayed_word;
 pub use record_slot::RecordSlot;

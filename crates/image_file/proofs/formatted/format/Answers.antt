@@ -1,5 +1,5 @@
 -- Words of an empty table are a sound image without pairs.
-use Rattle.image_file.proofs.EmptySound.{formatted-IsSoundImage, formatted-no_pair, formatted-IsUntouched}
+use Rattle.image_file.proofs.EmptySound.{formatted-IsSoundImage, formatted-no_pair}
 use Rattle.image_file.proofs.formatted.format.Goals as goal
 
 pub returns-clause-sound : goal.returns-clause-sound
@@ -9,6 +9,3 @@ returns-clause-sound c =
 
 pub returns-clause-empty : goal.returns-clause-empty
 returns-clause-empty c = formatted-no_pair c.args.geometry _ c.in_ok-words.ensures
-
-pub returns-clause-untouched : goal.returns-clause-untouched
-returns-clause-untouched c = formatted-IsUntouched c.args.geometry _ c.in_ok-words.ensures
