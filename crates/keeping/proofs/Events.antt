@@ -5,7 +5,8 @@ use Rattle.trace.specs.Events.{Event}
 use Rattle.trace.specs.Events.Event.{loaded, exchanged}
 use Rattle.op_core.specs.declared.want.Want.{Want}
 use Rattle.op_core.specs.declared.want.Want.TheVariants.{Exchange}
-use Rattle.world.specs.Wants.{event_of}
+use Rattle.op_core.specs.declared.want.Ans.{Ans}
+use Rattle.world.specs.Wants.{answer_to, event_of}
 use Rattle.pm_trace.specs.Memory.{Memory}
 use Rattle.pm_trace.specs.TraceOf.{Follows}
 use Rattle.keeping.specs.Asked.{found_by}
@@ -36,3 +37,10 @@ pub follows_lost : (old new : Memory) (caller i a b : ℕ) → (slice_index old.
 follows_lost old new caller i a b differ f =
     let other : (slice_index old.newest i == a) ≡ false = grind arith in
     subst (λ (e : Event). Follows old e new) (chosen_false (slice_index old.newest i == a) (exchanged caller i b) (loaded caller i) other) f
+
+-- an event was done on the memory, and answered
+pub record HasPassed (now : Memory) (w : Want) (ans : Ans) (new : Memory) : Type 0 where
+  pub answer : ans ≡ answer_to w (found_by w now)
+  pub follows : Follows now (event_of now.shape w (found_by w now) 0) new
+  pub shape : new.shape ≡ now.shape
+  pub callers : new.callers ≡ now.callers

@@ -27,7 +27,7 @@ use Rattle.pm_trace.specs.TraceOf.{IsTraceOf}
 use Rattle.keeping.specs.Asked.{MayBeAsked, found_by}
 use Rattle.keeping.specs.Kept.{IsTraced, image_of, marked_image, IsSettled, IsClosedFrom}
 use Rattle.keeping.proofs.Pictures.{image_word, image_whole, none_pending, settled_had}
-use Rattle.keeping.proofs.Reopened.{HasPassed}
+use Rattle.keeping.proofs.Events.{HasPassed}
 
 -- ---- where it stands
 -- after so many events of a close of the old memory the machine is this one, and the memory came from them

@@ -1,271 +1,377 @@
 -- A restart, event by event, and what it leaves.
-use Rattle.std.proofs.Common.{◌≡◌, ◌≢◌, ℕ, ◌+◌, ◌*◌, ◌%◌, ◌^◌, ◌<◌, ◌≤◌, inl, inr, max, cond, List, [], ◌∷◌, ◌++◌, length, refl, sym, ap, subst, ◌∙◌, arith}
-use Rattle.std.specs.Prelude.{slice_index, ⊤}
-use Rattle.std.proofs.lemmas.Bool.{cases_eq}
+use Rattle.std.proofs.Common.{◌≡◌, ◌≢◌, ℕ, suc, ◌+◌, ◌-◌, ◌*◌, ◌<◌, ◌≤◌, ◌⊎◌, inl, inr, Bool, true, false, ◌∷◌, length, refl, sym, ap, subst, ◌∙◌, arith}
+use Rattle.std.specs.Prelude.{slice_index, nat_lt, if◌then◌else◌}
+use Rattle.std.proofs.lemmas.Bool.{cases_lt, ltb-false}
 use Rattle.op_core.specs.declared.want.Want.{Want}
 use Rattle.op_core.specs.declared.want.Want.TheVariants as want
 use Rattle.op_core.specs.declared.want.Ans.{Ans}
-use Rattle.trace.specs.Events.{Words, line_of, Event, Trace, value}
-use Rattle.trace.specs.Events.Event.{loaded, stored, flushed, fenced}
-use Rattle.trace.specs.Progress.{pending, latest_of}
-use Rattle.trace.specs.Steps.{HadSinceSettled, settled_value}
-use Rattle.trace.proofs.Replaced.{cases_at, replaced_same, replaced_other}
-use Rattle.trace.proofs.Media.{fence_since, flush_since, between_is_possible}
-use Rattle.trace.proofs.SettledValues.{is_settled, settled_value_more, settled_value_earlier}
+use mathlib.Core.Path.{fun_ext}
+use Rattle.segment_head.specs.Versions.{unversioned}
+use Rattle.trace.specs.Events.{Words, line_of, Event, Trace, value, value_at, after}
+use Rattle.trace.specs.Events.Event.{fenced}
+use Rattle.trace.specs.Progress.{pending, latest_of, settled_moment, HadSince}
+use Rattle.trace.specs.Listed.{Has}
+use Rattle.trace.specs.Steps.{settled_value}
+use Rattle.trace.proofs.Moments.{had_at}
+use Rattle.trace.proofs.Flushes.{latest_is, latest_before}
+use Rattle.trace.proofs.Media.{fence_since, settled_may}
+use Rattle.trace.proofs.SettledValues.{is_settled, settled_value_more, settled_value_earlier, settled_value_later}
 use Rattle.image_layout.specs.Places.{Shape, state_word, words_of}
 use Rattle.image_layout.specs.Volatile.{all_words_of}
+use Rattle.map_model.specs.Map.{Map}
 use Rattle.sound_image.specs.Image.{IsSoundImage}
+use Rattle.sound_image.specs.Left.{HasPairsOf}
 use Rattle.world.specs.Wants.{answer_to, word_of, event_of}
+use Rattle.world.specs.areas.Areas.{header_word}
+use Rattle.world.proofs.stepping.Answers.{is_answer}
 use Rattle.restart_op.specs.declared.restart.Started.{Started}
 use Rattle.restart_op.specs.declared.restart.RestartStep.{RestartStep}
-use Rattle.restart_op.specs.declared.restart.RestartStep.TheVariants.{Load, Store, Flush, Fence, Ended}
+use Rattle.restart_op.specs.declared.restart.RestartStep.TheVariants.{Load, LoadHead, StoreHead, FlushHead, FenceHeads, Store, Flush, Fence, Ended}
 use Rattle.restart_op.specs.declared.restart.RestartOp.{RestartOp}
-use Rattle.restart_op.specs.Restart.{wanted_in, wanted, next_in, taken, started_with}
-use Rattle.restart_op.specs.Restarted.{IsPlayableImage, restarted}
-use Rattle.restart_op.proofs.Cuts.{restart_keeps}
+use Rattle.restart_op.specs.Restart.{started_for, swept_through, wanted_in, wanted, next_in, taken, begun}
+use Rattle.restart_op.specs.Budget.{left, IsOnStateOrHead}
+use Rattle.restart_op.specs.Restarted.{restart_after, HasStarted, HasTheSame}
+use Rattle.restart_op.proofs.restarts.Along.{same_geometry}
+use Rattle.restart_op.proofs.restarts.Counting.{falls, on_words}
+use Rattle.restart_op.proofs.restarts.Phases.{Leaving, AllSettled, IsStored, Phase, has_started, phase_at}
+use Rattle.restart_op.proofs.restarts.Asking.{word_in, line_in, few_in}
+use Rattle.restart_op.proofs.restarts.Cuts.{stored}
+use Rattle.restart_op.proofs.restarts.Versions.{some_and_fits}
 use Rattle.pm_trace.specs.Memory.{Memory, unfenced}
-use Rattle.pm_trace.specs.TraceOf.{IsTraceOf, Follows}
+use Rattle.pm_trace.specs.TraceOf.{IsTraceOf}
 use Rattle.keeping.specs.Asked.{MayBeAsked, found_by}
-use Rattle.keeping.specs.Kept.{IsTraced, image_of, IsSettled, FollowsAll, restart_events, steps_for}
-use Rattle.keeping.proofs.Pictures.{image_word, image_whole, none_pending, settled_had}
+use Rattle.keeping.specs.Kept.{IsTraced, image_of, IsSettled, steps_for, swept_slots, IsRestartedFrom}
+use Rattle.keeping.proofs.Events.{HasPassed}
+use Rattle.keeping.proofs.Pictures.{image_word, image_whole, image_past, none_pending}
 
--- the version that an image has
-abbrev pub version_of : Memory → ℕ
-version_of old = slice_index old.newest state_word % 2 ^ 8
+-- ---- what is settled
+-- the settled value of a word is what a restart may leave it as
+leaving_settled : (base : Words) → Leaving base (λ es i x. x ≡ settled_value base es i)
+leaving_settled base = record {
+  more = λ e es i x other is. inr (is ∙ settled_value_more base e es i other);
+  fence = λ es i x is. elim (cases_lt (settled_moment (line_of i) es) (latest_of (line_of i) (pending 0 es))) [
+    | inl later ↦ inr (flushed es i x later (is ∙ settled_value_later base es 0 i (omega (arith, later))) (latest_is (line_of i) (pending 0 es)))
+    | inr none ↦ inl (is ∙ settled_value_earlier base es 0 i none)
+  ];
+  since = λ es i m x has is. subst (λ y. HadSince base es m i y) (sym is) (fence_since base es 0 i m _ has (settled_may base (fenced 0 ∷ es) i));
+}
+  where
+    flushed : (es : Trace) (i x : ℕ) → settled_moment (line_of i) es < latest_of (line_of i) (pending 0 es) → x ≡ value_at base es (latest_of (line_of i) (pending 0 es)) i
+        → (latest_of (line_of i) (pending 0 es) ≡ 0) ⊎ Has (line_of i, latest_of (line_of i) (pending 0 es)) (pending 0 es)
+        → (m : ℕ) × Has (line_of i, m) (pending 0 es) × HadSince base es m i x
+    flushed es i x later is (inl none) = absurd (omega (arith, later, none))
+    flushed es i x later is (inr has) =
+        let m = latest_of (line_of i) (pending 0 es) in
+        (m, has, subst (λ y. HadSince base es m i y) (sym is) (had_at base es m m i (omega arith) (latest_before 0 es (line_of i))))
 
--- the events before a step
-abbrev pub events_in : ℕ → RestartStep → Trace
-events_in v Load = []
-events_in v (Store w) = loaded 0 state_word ∷ []
-events_in v (Flush w) = stored 0 state_word v ∷ loaded 0 state_word ∷ []
-events_in v (Fence w) = flushed 0 2 ∷ stored 0 state_word v ∷ loaded 0 state_word ∷ []
-events_in v (Ended s) = restart_events v
-
--- what it knows by then
-abbrev pub Knows : ℕ → RestartStep → Type 0
-Knows v Load = ⊤
-Knows v (Store w) = w ≡ v
-Knows v (Flush w) = w ≡ v
-Knows v (Fence w) = w ≡ v
-Knows v (Ended s) = s ≡ started_with v
+-- ---- where it stands
+-- after so many events of a restart of the old memory the machine is this one, and the memory came from them
+pub record IsAt (start : Words) (es : Trace) (old now : Memory) (op : RestartOp) : Type 0 where
+  pub events : ℕ
+  pub op_is : op ≡ (restart_after old.shape (value start es) es events).op
+  pub words_are : (restart_after old.shape (value start es) es events).words ≡ value start (restart_after old.shape (value start es) es events).trace
+  pub traced : IsTraceOf start (restart_after old.shape (value start es) es events).trace now
 
 -- how many steps it has taken
-abbrev pub steps_in : RestartStep → ℕ
-steps_in Load = 0
-steps_in (Store w) = 1
-steps_in (Flush w) = 1
-steps_in (Fence w) = 1
-steps_in (Ended s) = 1
+abbrev pub steps_in : Shape → RestartStep → ℕ
+steps_in shape Load = 0
+steps_in shape (LoadHead first slot) = 1 + slot
+steps_in shape (StoreHead first slot head) = 2 + slot
+steps_in shape (FlushHead slot end) = 1 + end
+steps_in shape (FenceHeads end) = 1 + end
+steps_in shape (Store started) = 1 + swept_slots shape started
+steps_in shape (Flush started) = 1 + swept_slots shape started
+steps_in shape (Fence started) = 1 + swept_slots shape started
+steps_in shape (Ended started) = 1 + swept_slots shape started
 
--- a restart of the old memory has come to this one, and counted its steps
-pub record GoesOn (old now : Memory) (before counted : ℕ) (op : RestartOp) : Type 0 where
+-- whatever led to the old memory; and so many steps were counted
+pub record RestartsOn (old now : Memory) (before counted : ℕ) (op : RestartOp) : Type 0 where
   pub shape : now.shape ≡ old.shape
   pub callers : now.callers ≡ old.callers
-  pub knows : Knows (version_of old) op.step
-  pub follows : FollowsAll old (events_in (version_of old) op.step) now
-  pub count : counted ≡ before + steps_in op.step
+  pub at : (start : Words) (es : Trace) → IsTraceOf start es old → IsAt start es old now op
+  pub count : counted ≡ before + steps_in old.shape op.step
 
--- an event was done on the memory, and answered
-pub record HasPassed (now : Memory) (w : Want) (ans : Ans) (new : Memory) : Type 0 where
-  pub answer : ans ≡ answer_to w (found_by w now)
-  pub follows : Follows now (event_of now.shape w (found_by w now) 0) new
-  pub shape : new.shape ≡ now.shape
-  pub callers : new.callers ≡ now.callers
+pub restarts_first : (old : Memory) (before : ℕ) (op : RestartOp) → op ≡ begun old.shape → RestartsOn old old before before op
+restarts_first old before op is = record {
+  shape = refl;
+  callers = refl;
+  at = λ start es t. record { events = 0; op_is = is; words_are = refl; traced = t };
+  count = subst (λ (o : RestartOp). before ≡ before + steps_in old.shape o.step) (sym is) (omega arith);
+}
 
-module _ (old : Memory) (traced : IsTraced old) where
-  abbrev version : ℕ
-  version = version_of old
+-- ---- one event
+module _ (old now new : Memory) (op : RestartOp) (w : Want) (ans : Ans) (shape : now.shape ≡ old.shape) (w_is : w ≡ wanted op) (p : HasPassed now w ans new)
+    (start : Words) (es : Trace) (a : IsAt start es old now op) where
+  abbrev was_words : Words
+  was_words = (restart_after old.shape (value start es) es a.events).words
 
-  -- ---- one event
-  -- the state word is as it was before the store
-  seen : (now : Memory) → FollowsAll old [] now → slice_index now.newest state_word ≡ slice_index old.newest state_word
-  seen now follows = (follows traced.0 traced.1 traced.2).newest state_word ∙ sym (traced.2.newest state_word)
+  abbrev was_trace : Trace
+  was_trace = (restart_after old.shape (value start es) es a.events).trace
 
-  more : (now new : Memory) (es : Trace) (d e : Event) → d ≡ e → Follows now d new → FollowsAll old es now → FollowsAll old (e ∷ es) new
-  more now new es d e is follows all start rest t =
-      subst (λ (f : Event). IsTraceOf start (f ∷ es ++ rest) new) is (follows start (es ++ rest) (all start rest t))
+  abbrev was_op : RestartOp
+  was_op = (restart_after old.shape (value start es) es a.events).op
 
-  knows_on : (now : Memory) (s : RestartStep) → Knows version s → FollowsAll old (events_in version s) now → wanted_in s ≢ want.Done
-      → Knows version (next_in s (answer_to (wanted_in s) (found_by (wanted_in s) now)))
-  knows_on now Load k f some = ap (λ (n : ℕ). n % 2 ^ 8) (seen now f)
-  knows_on now (Store w) k f some = k
-  knows_on now (Flush w) k f some = k
-  knows_on now (Fence w) k f some = ap started_with k
-  knows_on now (Ended s) k f some = absurd (some refl)
+  abbrev found : ℕ
+  found = was_words (word_of old.shape (wanted was_op))
 
-  follows_on : (now new : Memory) (s : RestartStep) → Knows version s → FollowsAll old (events_in version s) now → wanted_in s ≢ want.Done
-      → Follows now (event_of now.shape (wanted_in s) (found_by (wanted_in s) now) 0) new
-      → FollowsAll old (events_in version (next_in s (answer_to (wanted_in s) (found_by (wanted_in s) now)))) new
-  follows_on now new Load k f some h = more now new [] (loaded 0 state_word) (loaded 0 state_word) refl h f
-  follows_on now new (Store w) k f some h =
-      more now new (events_in version (Store w)) (stored 0 state_word w) (stored 0 state_word version) (ap (stored 0 state_word) k) h f
-  follows_on now new (Flush w) k f some h = more now new (events_in version (Flush w)) (flushed 0 2) (flushed 0 2) refl h f
-  follows_on now new (Fence w) k f some h = more now new (events_in version (Fence w)) (fenced 0) (fenced 0) refl h f
-  follows_on now new (Ended s) k f some h = absurd (some refl)
+  want_is : w ≡ wanted was_op
+  want_is = w_is ∙ ap wanted a.op_is
 
-  count_on : (s : RestartStep) (n before counted : ℕ) → counted ≡ before + steps_in s → wanted_in s ≢ want.Done
-      → counted + steps_for (wanted_in s) ≡ before + steps_in (next_in s (answer_to (wanted_in s) n))
-  count_on Load n before counted is some = omega (arith, is)
-  count_on (Store w) n before counted is some = omega (arith, is)
-  count_on (Flush w) n before counted is some = omega (arith, is)
-  count_on (Fence w) n before counted is some = omega (arith, is)
-  count_on (Ended s) n before counted is some = absurd (some refl)
+  found_is : found_by w now ≡ found
+  found_is =
+      a.traced.newest (word_of now.shape w)
+      ∙ ap (λ (f : Words). f (word_of now.shape w)) (sym a.words_are)
+      ∙ ap (λ (s : Shape). was_words (word_of s w)) shape
+      ∙ ap (λ (v : Want). was_words (word_of old.shape v)) want_is
 
-  goes_on : (now new : Memory) (before counted : ℕ) (op : RestartOp) (ans : Ans) → GoesOn old now before counted op → wanted op ≢ want.Done
-      → HasPassed now (wanted op) ans new → GoesOn old new before (counted + steps_for (wanted op)) (taken op ans)
-  goes_on now new before counted op ans g some p =
-      subst (λ (a : Ans). GoesOn old new before (counted + steps_for (wanted op)) (taken op a)) (sym p.answer)
-      (record {
-        shape = p.shape ∙ g.shape;
-        callers = p.callers ∙ g.callers;
-        knows = knows_on now op.step g.knows g.follows some;
-        follows = follows_on now new op.step g.knows g.follows some p.follows;
-        count = count_on op.step (found_by (wanted op) now) before counted g.count some;
-      })
+  answer_is : ans ≡ answer_to (wanted was_op) found
+  answer_is = p.answer ∙ ap (λ (n : ℕ). answer_to w n) found_is ∙ ap (λ (v : Want). answer_to v found) want_is
 
-  -- the same in the words of the code
-  pub step_taken : (now new : Memory) (before counted counts : ℕ) (op next : RestartOp) (w : Want) (ans : Ans) → GoesOn old now before counted op
-      → (w ≡ want.Done → ⊥) → w ≡ wanted op → HasPassed now w ans new → counts ≡ counted + steps_for w → next ≡ taken op ans → GoesOn old new before counts next
-  step_taken now new before counted counts op next w ans g some is p count took =
-      subst (λ (o : RestartOp). GoesOn old new before counts o) (sym took)
-      (subst (λ (n : ℕ). GoesOn old new before n (taken op ans)) (sym (count ∙ ap (λ (v : Want). counted + steps_for v) is))
-      (goes_on now new before counted op ans g (λ done. some (is ∙ done)) (subst (λ (v : Want). HasPassed now v ans new) is p)))
+  event_is : event_of now.shape w (found_by w now) 0 ≡ event_of old.shape (wanted was_op) found 0
+  event_is =
+      ap (λ (s : Shape). event_of s w (found_by w now) 0) shape
+      ∙ ap (λ (n : ℕ). event_of old.shape w n 0) found_is
+      ∙ ap (λ (v : Want). event_of old.shape v found 0) want_is
 
-  -- ---- it may be asked for
-  word_in : (shape : Shape) (s : RestartStep) → word_of shape (wanted_in s) < all_words_of shape
-  word_in shape Load = omega arith
-  word_in shape (Store w) = omega arith
-  word_in shape (Flush w) = omega arith
-  word_in shape (Fence w) = omega arith
-  word_in shape (Ended s) = omega arith
+  at_next : IsAt start es old new (taken op ans)
+  at_next = record {
+    events = suc a.events;
+    op_is = ap (λ (o : RestartOp). taken o ans) a.op_is ∙ ap (λ (b : Ans). taken was_op b) answer_is;
+    words_are = ap (λ (f : Words). after (event_of old.shape (wanted was_op) found 0) f) a.words_are;
+    traced = subst (λ (e : Event). IsTraceOf start (e ∷ was_trace) new) event_is (p.follows start was_trace a.traced);
+  }
 
-  line_in : (shape : Shape) (s : RestartStep) (l : ℕ) → wanted_in s ≡ want.Flush l → 8 * l + 8 ≤ words_of shape
-  line_in shape Load l is = cc
-  line_in shape (Store w) l is = cc
-  line_in shape (Flush w) l is = let at : 2 ≡ l = cc in subst (λ (k : ℕ). 8 * k + 8 ≤ words_of shape) at (omega arith)
-  line_in shape (Fence w) l is = cc
-  line_in shape (Ended s) l is = cc
+-- ---- what holds by then
+module _ (old : Memory) (image : IsSoundImage old.shape (image_of old)) (traced : IsTraced old) (settled : IsSettled old) (none : unfenced 0 old ≡ 0) where
+  abbrev base : Words
+  base = traced.0
 
-  module _ (none : unfenced 0 old ≡ 0) where
-    waits : pending 0 traced.1 ≡ []
-    waits = none_pending old traced.0 traced.1 traced.2 none
+  abbrev was : Words
+  was = value traced.0 traced.1
 
-    few_in : (now : Memory) (s : RestartStep) → FollowsAll old (events_in version s) now → (l : ℕ) → wanted_in s ≡ want.Flush l → unfenced 0 now < 8
-    few_in now Load f l is = cc
-    few_in now (Store w) f l is = cc
-    few_in now (Flush w) f l is =
-        let once = (f traced.0 traced.1 traced.2).once 0 in let no_more = ap length waits in omega (arith, once, no_more)
-    few_in now (Fence w) f l is = cc
-    few_in now (Ended s) f l is = cc
+  abbrev may : Trace → ℕ → ℕ → Type 0
+  may es i x = x ≡ settled_value base es i
 
-    pub restart_may : (now : Memory) (before counted : ℕ) (op : RestartOp) → GoesOn old now before counted op → wanted op ≢ want.Done
-        → MayBeAsked 0 (wanted op) now
-    restart_may now before counted op g some = record {
+  abbrev some : 1 ≤ old.shape.segments
+  some = image.in_range.some
+
+  abbrev PhaseOf : RestartStep → Words → Trace → Type 0
+  PhaseOf = Phase old.shape some base was may (leaving_settled base)
+
+  settled_first : AllSettled old.shape some base was may (leaving_settled base) was traced.1
+  settled_first i x within is =
+      is ∙ sym (is_settled base traced.1 i (slice_index old.settled i) (traced.2.settled i)) ∙ settled i within ∙ traced.2.newest i
+
+  phase_after : (n : ℕ) → PhaseOf (restart_after old.shape was traced.1 n).op.step (restart_after old.shape was traced.1 n).words (restart_after old.shape was traced.1 n).trace
+  phase_after n = phase_at old.shape some base was may (leaving_settled base) traced.1 refl settled_first (none_pending old base traced.1 traced.2 none) n
+
+  -- ---- the steps that are counted
+  seen_count : (ws : Words) (b : Bool) (before counted : ℕ) → (started_for (ws state_word)).swept ≡ b → counted ≡ before
+      → counted + 1 ≡ before + steps_in old.shape (if b then LoadHead 0 0 else Store (started_for (ws state_word)))
+  seen_count ws true before counted p is = omega (arith, is)
+  seen_count ws false before counted p is =
+      let zero_more : swept_slots old.shape (started_for (ws state_word)) ≡ 0 = ap (λ (c : Bool). if c then old.shape.segments else 0) p in omega (arith, is, zero_more)
+
+  stored_count : (first slot before counted : ℕ) (a b : Bool) → nat_lt slot (old.shape.segments - 1) ≡ a → slot < old.shape.segments → counted ≡ before + (2 + slot)
+      → counted + 0 ≡ before + steps_in old.shape (if a then (if b then LoadHead first (slot + 1) else FlushHead first (slot + 1)) else FlushHead first old.shape.segments)
+  stored_count first slot before counted true true p within is = omega (arith, is)
+  stored_count first slot before counted true false p within is = omega (arith, is)
+  stored_count first slot before counted false b p within is = let last = ltb-false slot (old.shape.segments - 1) p in omega (arith, is, last, within)
+
+  flushed_count : (slot end before counted : ℕ) (a : Bool) → counted ≡ before + (1 + end)
+      → counted + 0 ≡ before + steps_in old.shape (if a then FlushHead (slot + 1) end else FenceHeads end)
+  flushed_count slot end before counted true is = omega (arith, is)
+  flushed_count slot end before counted false is = omega (arith, is)
+
+  fenced_count : (end before counted : ℕ) (a : Bool) → nat_lt end old.shape.segments ≡ a → end ≤ old.shape.segments → counted ≡ before + (1 + end)
+      → counted + 0 ≡ before + steps_in old.shape (if a then LoadHead end end else Store swept_through)
+  fenced_count end before counted true p most is = omega (arith, is)
+  fenced_count end before counted false p most is = let last = ltb-false end old.shape.segments p in omega (arith, is, last, most)
+
+  count_on : (s : RestartStep) (ws : Words) (es : Trace) (n before counted : ℕ) → PhaseOf s ws es → n ≡ ws (word_of old.shape (wanted_in old.shape s))
+      → wanted_in old.shape s ≢ want.Done → counted ≡ before + steps_in old.shape s
+      → counted + steps_for (wanted_in old.shape s) ≡ before + steps_in old.shape (next_in old.shape s (answer_to (wanted_in old.shape s) n))
+  count_on Load ws es n before counted h is asks count =
+      subst (λ (m : ℕ). counted + 1 ≡ before + steps_in old.shape (next_in old.shape Load (answer_to (want.Load state_word) m))) (sym is)
+      (seen_count ws _ before counted refl (omega (arith, count)))
+  count_on (LoadHead first slot) ws es n before counted h is asks count = omega (arith, count)
+  count_on (StoreHead first slot head) ws es n before counted h is asks count = stored_count first slot before counted _ _ refl h.0.1 count
+  count_on (FlushHead slot end) ws es n before counted h is asks count = flushed_count slot end before counted _ count
+  count_on (FenceHeads end) ws es n before counted h is asks count = fenced_count end before counted _ refl h.1.most count
+  count_on (Store started) ws es n before counted h is asks count = omega (arith, count)
+  count_on (Flush started) ws es n before counted h is asks count = omega (arith, count)
+  count_on (Fence started) ws es n before counted h is asks count = omega (arith, count)
+  count_on (Ended started) ws es n before counted h is asks count = absurd (asks refl)
+
+  -- ---- where it stands by then
+  module _ (now : Memory) (before counted : ℕ) (op : RestartOp) (c : RestartsOn old now before counted op) where
+    abbrev here : IsAt base traced.1 old now op
+    here = c.at base traced.1 traced.2
+
+    abbrev words_here : Words
+    words_here = (restart_after old.shape was traced.1 here.events).words
+
+    abbrev trace_here : Trace
+    trace_here = (restart_after old.shape was traced.1 here.events).trace
+
+    abbrev op_here : RestartOp
+    op_here = (restart_after old.shape was traced.1 here.events).op
+
+    geometry_is : op_here.geometry ≡ old.shape
+    geometry_is = same_geometry old.shape was traced.1 here.events
+
+    want_here : wanted op_here ≡ wanted_in old.shape op_here.step
+    want_here = ap (λ (s : Shape). wanted_in s op_here.step) geometry_is
+
+    phase_here : PhaseOf op_here.step words_here trace_here
+    phase_here = phase_after here.events
+
+    -- ---- it may be asked for
+    in_here : IsOnStateOrHead old.shape (wanted op_here)
+    in_here = subst (λ (s : Shape). IsOnStateOrHead s (wanted op_here)) geometry_is (on_words op_here)
+
+    few : (l : ℕ) → wanted op_here ≡ want.Flush l → unfenced 0 now < 8
+    few l is = let fewer = few_in old.shape some base was may (leaving_settled base) op_here.step words_here trace_here phase_here l (sym want_here ∙ is) in let once = here.traced.once 0 in omega (arith, fewer, once)
+
+    may_here : wanted op_here ≢ want.Done → MayBeAsked 0 (wanted op_here) now
+    may_here asks = record {
       caller_is = omega arith;
-      word = word_in now.shape op.step;
-      line = line_in now.shape op.step;
-      few = few_in now op.step g.follows;
-      some = some;
+      word = subst (λ (s : Shape). word_of s (wanted op_here) < all_words_of s) (sym c.shape) (word_in old.shape some (wanted op_here) in_here);
+      line = λ l is. subst (λ (s : Shape). 8 * l + 8 ≤ words_of s) (sym c.shape) (line_in old.shape some (wanted op_here) in_here l is);
+      few = few;
+      some = asks;
     }
 
+    pub restart_may : (w : Want) → w ≡ wanted op → (w ≡ want.Done → ⊥) → MayBeAsked 0 w now
+    restart_may w is asks =
+        let at : w ≡ wanted op_here = is ∙ ap wanted here.op_is in
+        subst (λ (v : Want). MayBeAsked 0 v now) (sym at) (may_here (λ done. asks (at ∙ done)))
+
+    -- ---- and it was
+    module _ (new : Memory) (w : Want) (ans : Ans) (w_is : w ≡ wanted op) (asks : w ≡ want.Done → ⊥) (p : HasPassed now w ans new) where
+      abbrev seen : ℕ
+      seen = words_here (word_of old.shape (wanted_in old.shape op_here.step))
+
+      wants : w ≡ wanted_in old.shape op_here.step
+      wants = want_is old now new op w ans c.shape w_is p base traced.1 here ∙ want_here
+
+      step_is : (taken op ans).step ≡ next_in old.shape op_here.step (answer_to (wanted_in old.shape op_here.step) seen)
+      step_is =
+          ap (λ (o : RestartOp). (taken o ans).step) here.op_is
+          ∙ ap (λ (s : Shape). next_in s op_here.step ans) geometry_is
+          ∙ ap (λ (b : Ans). next_in old.shape op_here.step b) (answer_is old now new op w ans c.shape w_is p base traced.1 here)
+          ∙ ap (λ (v : Want). next_in old.shape op_here.step (answer_to v (words_here (word_of old.shape v)))) want_here
+
+      count_next : counted + steps_for w ≡ before + steps_in old.shape (taken op ans).step
+      count_next =
+          ap (λ (v : Want). counted + steps_for v) wants
+          ∙ count_on op_here.step words_here trace_here seen before counted phase_here refl (λ done. asks (wants ∙ done))
+          (c.count ∙ ap (λ (o : RestartOp). before + steps_in old.shape o.step) here.op_is)
+          ∙ ap (λ (s : RestartStep). before + steps_in old.shape s) (sym step_is)
+
+      pub restarts_on : (next : RestartOp) (counts : ℕ) → counts ≡ counted + steps_for w → next ≡ taken op ans → RestartsOn old new before counts next
+      restarts_on next counts count took =
+          subst (λ (o : RestartOp). RestartsOn old new before counts o) (sym took)
+          (record {
+            shape = p.shape ∙ c.shape;
+            callers = p.callers ∙ c.callers;
+            at = λ start es t. at_next old now new op w ans c.shape w_is p start es (c.at start es t);
+            count = count ∙ count_next;
+          })
+
+    -- ---- its end
+    module _ (leaves : Started) (ended : op.step ≡ Ended leaves) where
+      ended_here : op_here.step ≡ Ended leaves
+      ended_here = ap (λ (o : RestartOp). o.step) (sym here.op_is) ∙ ended
+
+      phase_end : PhaseOf (Ended leaves) words_here trace_here
+      phase_end = subst (λ (s : RestartStep). PhaseOf s words_here trace_here) ended_here phase_here
+
+      stored_end : IsStored old.shape some base was may (leaving_settled base) leaves words_here trace_here
+      stored_end = phase_end.0
+
+      words_before : was ≡ slice_index old.newest
+      words_before = fun_ext (λ i. sym (traced.2.newest i))
+
+      words_after : words_here ≡ slice_index now.newest
+      words_after = fun_ext (λ i. ap (λ (ws : Words). ws i) here.words_are ∙ sym (here.traced.newest i))
+
+      pub leaves_is : leaves ≡ started_for (slice_index old.newest state_word)
+      leaves_is = stored_end.started_is ∙ ap (λ (ws : Words). started_for (ws state_word)) words_before
+
+      pub has_left : HasStarted old.shape leaves (slice_index old.newest) (slice_index now.newest)
+      has_left =
+          subst (λ (ws : Words). HasStarted old.shape leaves (slice_index old.newest) ws) words_after
+          (subst (λ (ws : Words). HasStarted old.shape leaves ws words_here) words_before
+          (subst (λ (s : Started). HasStarted old.shape s was words_here) (sym stored_end.started_is)
+          (has_started old.shape some base was may (leaving_settled base) leaves words_here trace_here stored_end)))
+
+      pub steps_taken : counted ≡ before + (1 + swept_slots old.shape leaves)
+      steps_taken = c.count ∙ ap (λ (s : RestartStep). before + steps_in old.shape s) ended
+
+      pub settled_again : IsSettled now
+      settled_again w within =
+          let inside : w < words_of old.shape = subst (λ (s : Shape). w < words_of s) c.shape within in
+          phase_end.1 w (slice_index now.settled w) inside (is_settled base trace_here w (slice_index now.settled w) (here.traced.settled w))
+          ∙ ap (λ (ws : Words). ws w) words_after
+
+      pub none_waits : unfenced 0 now ≡ 0
+      none_waits = let once = here.traced.once 0 in let none_left = ap length phase_end.2 in omega (arith, once, none_left)
+
+      pub restarted_from : (start : Words) (es : Trace) → IsTraceOf start es old → IsRestartedFrom start es old now
+      restarted_from start es t =
+          let a = c.at start es t in
+          record {
+            events = a.events;
+            ended = ap wanted (sym a.op_is) ∙ ap (wanted_in op.geometry) ended;
+            traced = a.traced;
+          }
+
+      -- ---- the image
+      abbrev picture : Words
+      picture = slice_index (image_of old)
+
+      width : words_of now.shape ≡ words_of old.shape
+      width = ap (λ (s : Shape). words_of s) c.shape
+
+      state_is : picture state_word ≡ slice_index old.newest state_word
+      state_is = image_word old state_word (omega arith)
+
+      left_is : leaves ≡ started_for (picture state_word)
+      left_is = leaves_is ∙ ap started_for (sym state_is)
+
+      new_word : (i : ℕ) → i < words_of old.shape → slice_index (image_of now) i ≡ slice_index now.newest i
+      new_word i within = image_word now i (subst (λ (n : ℕ). i < n) (sym width) within)
+
+      image_left : HasStarted old.shape (started_for (picture state_word)) picture (slice_index (image_of now))
+      image_left = subst (λ (s : Started). HasStarted old.shape s picture (slice_index (image_of now))) left_is (record {
+        state = new_word state_word (omega arith) ∙ has_left.state;
+        heads = λ sweeps s slot.
+            let inside : header_word old.shape s < words_of old.shape = omega (arith, slot) in
+            new_word (header_word old.shape s) inside ∙ has_left.heads sweeps s slot ∙ ap unversioned (sym (image_word old (header_word old.shape s) inside));
+        others = λ i away none_of. elim (cases_lt i (words_of old.shape)) [
+          | inl within ↦ new_word i within ∙ has_left.others i away none_of ∙ sym (image_word old i within)
+          | inr past ↦ image_past now i (subst (λ (n : ℕ). n ≤ i) (sym width) past) ∙ sym (image_past old i past)
+        ];
+      })
+
+      same_image : HasTheSame old.shape (image_of old) (image_of now)
+      same_image = stored old.shape (image_of old) (image_of now) image (image_whole now ∙ width) image_left
+
+      pub some_version : 1 ≤ leaves.version
+      some_version = subst (λ (s : Started). 1 ≤ s.version) (sym left_is) (some_and_fits old.shape (image_of old) image (slice_index (image_of now)) image_left).0
+
+      pub sound_again : IsSoundImage now.shape (image_of now)
+      sound_again = subst (λ (s : Shape). IsSoundImage s (image_of now)) (sym c.shape) same_image.sound
+
+      pub pairs_again : (m : Map) → HasPairsOf old.shape picture m → HasPairsOf now.shape (slice_index (image_of now)) m
+      pairs_again m has = subst (λ (s : Shape). HasPairsOf s (slice_index (image_of now)) m) (sym c.shape) (same_image.pairs m has)
+
 -- ---- each event leaves fewer
-abbrev pub left_in : RestartStep → ℕ
-left_in Load = 4
-left_in (Store w) = 3
-left_in (Flush w) = 2
-left_in (Fence w) = 1
-left_in (Ended s) = 0
-
--- ---- its end
-module _ (old new : Memory) (traced : IsTraced old) (follows : FollowsAll old (restart_events (version_of old)) new) (shape : new.shape ≡ old.shape) where
-  abbrev start : Words
-  start = traced.0
-
-  abbrev before : Trace
-  before = traced.1
-
-  abbrev after_store : Trace
-  after_store = stored 0 state_word (version_of old) ∷ loaded 0 state_word ∷ before
-
-  at_end : IsTraceOf start (restart_events (version_of old) ++ before) new
-  at_end = follows start before traced.2
-
-  pub marker_cleared : slice_index new.newest state_word ≡ version_of old
-  marker_cleared = at_end.newest state_word ∙ replaced_same (value start before) state_word (version_of old)
-
-  pub others_kept : (w : ℕ) → (w ≡ state_word → ⊥) → slice_index new.newest w ≡ slice_index old.newest w
-  others_kept w other = at_end.newest w ∙ replaced_other (value start before) state_word (version_of old) w other ∙ sym (traced.2.newest w)
-
-  pub none_waits : unfenced 0 new ≡ 0
-  none_waits = let once = at_end.once 0 in omega (arith, once)
-
-  -- the state word's line was flushed and fenced, and all others are as they were
-  module _ (settled : IsSettled old) (none : unfenced 0 old ≡ 0) where
-    here : (w x : ℕ) → line_of w ≡ 2 → HadSinceSettled start (restart_events (version_of old) ++ before) w x → x ≡ value start after_store w
-    here w x line had =
-        flush_since start after_store 0 2 w x
-        (fence_since start (flushed 0 2 ∷ after_store) 0 w (length after_store) x (inl (ap (λ (l : ℕ). (l, length after_store)) line)) had)
-
-    no_later : (w : ℕ) → (line_of w ≡ 2 → ⊥) → latest_of (line_of w) ((2, length after_store) ∷ pending 0 before) ≡ 0
-    no_later w other =
-        let waits = none_pending old start before traced.2 none in
-        subst (λ (ps : List (ℕ × ℕ)). latest_of (line_of w) ((2, length after_store) ∷ ps) ≡ 0) (sym waits)
-        (cases_at (λ b. cond b (max (length after_store) 0) 0 ≡ 0) 2 (line_of w) (λ e. absurd (other (sym e))) (λ n. refl))
-
-    elsewhere : (w : ℕ) → (line_of w ≡ 2 → ⊥) → settled_value start (restart_events (version_of old) ++ before) w ≡ settled_value start before w
-    elsewhere w other =
-        let none_later = no_later w other in
-        settled_value_earlier start (flushed 0 2 ∷ after_store) 0 w (omega (arith, none_later))
-        ∙ settled_value_more start (flushed 0 2) after_store w (λ p. cc)
-        ∙ settled_value_more start (stored 0 state_word (version_of old)) (loaded 0 state_word ∷ before) w (λ p. cc)
-        ∙ settled_value_more start (loaded 0 state_word) before w (λ p. cc)
-
-    pub settled_again : IsSettled new
-    settled_again w within = elim (cases_eq (line_of w) 2) [
-      | inl line ↦ here w (slice_index new.settled w) line (settled_had new start (restart_events (version_of old) ++ before) w at_end) ∙ sym (at_end.newest w)
-      | inr other ↦
-          is_settled start (restart_events (version_of old) ++ before) w (slice_index new.settled w) (at_end.settled w)
-          ∙ elsewhere w other
-          ∙ sym (is_settled start before w (slice_index old.settled w) (traced.2.settled w))
-          ∙ settled w (subst (λ (s : Shape). w < words_of s) shape within)
-          ∙ sym (others_kept w (λ at. other (ap line_of at)))
-    ]
-
-  -- ---- the image is sound
-  module _ (served : IsPlayableImage old.shape (image_of old)) where
-    abbrev words : List ℕ
-    words = image_of old
-
-    state_is : slice_index words state_word ≡ slice_index old.newest state_word
-    state_is = image_word old state_word (omega arith)
-
-    newest_of : (i : ℕ) → i < words_of old.shape → slice_index (image_of new) i ≡ value (slice_index words) (restarted old.shape words 4).trace i
-    newest_of i within =
-        let width : i < words_of new.shape = subst (λ (s : Shape). i < words_of s) (sym shape) within in
-        elim (cases_eq i state_word) [
-          | inl at ↦ subst (λ (j : ℕ). slice_index (image_of new) j ≡ value (slice_index words) (restarted old.shape words 4).trace j) (sym at)
-              (image_word new state_word (subst (λ (j : ℕ). j < words_of new.shape) at width) ∙ marker_cleared ∙ ap (λ (n : ℕ). n % 2 ^ 8) (sym state_is)
-              ∙ sym (replaced_same (slice_index words) state_word (slice_index words state_word % 2 ^ 8)))
-          | inr other ↦ image_word new i width ∙ others_kept i other ∙ sym (image_word old i within)
-              ∙ sym (replaced_other (slice_index words) state_word (slice_index words state_word % 2 ^ 8) i other)
-        ]
-
-    pub sound_again : IsSoundImage new.shape (image_of new)
-    sound_again = subst (λ (s : Shape). IsSoundImage s (image_of new)) (sym shape)
-        (restart_keeps old.shape words (image_of new) 4 served (image_whole new ∙ ap (λ (s : Shape). words_of s) shape)
-        (between_is_possible (words_of old.shape) (slice_index words) (restarted old.shape words 4).trace (slice_index (image_of new))
-        (λ i within. inr (newest_of i within)))).sound
-
--- the restart has ended, and answers this
-pub record HasEnded (old new : Memory) (before counted : ℕ) (left : Started) : Type 0 where
-  pub started : left ≡ started_with (version_of old)
-  pub follows : FollowsAll old (restart_events (version_of old)) new
-  pub count : counted ≡ before + 1
-
-pub has_ended : (old new : Memory) (before counted : ℕ) (op : RestartOp) (left : Started) → op.step ≡ Ended left → GoesOn old new before counted op
-    → HasEnded old new before counted left
-has_ended old new before counted op left is g = record {
-  started = subst (λ (s : RestartStep). Knows (version_of old) s) is g.knows;
-  follows = subst (λ (s : RestartStep). FollowsAll old (events_in (version_of old) s) new) is g.follows;
-  count = subst (λ (s : RestartStep). counted ≡ before + steps_in s) is g.count;
-}
+pub restart_falls : (now : Memory) (op next : RestartOp) (w : Want) (ans : Ans) → (w ≡ want.Done → ⊥) → w ≡ wanted op → ans ≡ answer_to w (found_by w now)
+    → next ≡ taken op ans → left next < left op
+restart_falls now op next w ans asks is answer took =
+    let all : next ≡ taken op (answer_to (wanted op) (found_by w now)) =
+    took ∙ ap (λ (b : Ans). taken op b) (answer ∙ ap (λ (v : Want). answer_to v (found_by w now)) is) in
+    subst (λ (o : RestartOp). left o < left op) (sym all)
+    (falls op (answer_to (wanted op) (found_by w now)) (is_answer (wanted op) (found_by w now) (λ done. asks (is ∙ done))))

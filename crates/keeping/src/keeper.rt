@@ -1,17 +1,18 @@
 //! The restart and the close of the image of a memory.
 
-ghost use Rattle.std.specs.Prelude.{◌≡◌, ◌≢◌, ℕ, ◌+◌, ◌≤◌, ◌%◌, ◌^◌, slice_index, false};
+ghost use Rattle.std.specs.Prelude.{◌≡◌, ◌≢◌, ℕ, ◌+◌, ◌≤◌, slice_index};
 ghost use Rattle.trace.specs.Events.{Words, Trace};
 ghost use Rattle.image_layout.specs.Places.{state_word};
 ghost use Rattle.map_model.specs.Map.{Map};
 ghost use Rattle.sound_image.specs.Image.{IsSoundImage};
 ghost use Rattle.sound_image.specs.Segments.{frame_of, IsClean};
 ghost use Rattle.sound_image.specs.Left.{HasPairsOf};
-ghost use Rattle.restart_op.specs.Restarted.{IsPlayableImage};
+ghost use Rattle.restart_op.specs.Restart.{started_for};
+ghost use Rattle.restart_op.specs.Restarted.{HasStarted};
 ghost use Rattle.image_layout.specs.StateWord.{with_marker};
 ghost use Rattle.pm_trace.specs.Memory.{unfenced};
 ghost use Rattle.pm_trace.specs.TraceOf.{IsTraceOf};
-ghost use Rattle.keeping.specs.Kept.{IsTraced, image_of, marked_image, IsSettled, FollowsAll, restart_events, steps_for, IsClosedFrom};
+ghost use Rattle.keeping.specs.Kept.{IsTraced, image_of, marked_image, IsSettled, steps_for, swept_slots, IsRestartedFrom, IsClosedFrom};
 
 use crate::doing::do_event;
 use crate::tally::Steps;
@@ -30,25 +31,25 @@ fn count<L: Ledger>(want: Want, steps: &mut Steps<L>)
     }
 }
 
-/// Restarts the image of a memory: clears its clean marker, and waits until that has settled. One step is taken: the state
-/// word is the one word of the image that it turns to.
+/// Restarts the image of a memory: clears its clean marker, and waits until that is settled; an image that was not closed gets the next version, and
+/// where there is none above its own, 255, the headers of all slots lose theirs before. A step is taken for the state word, and in such a
+/// sweep one more for each slot: these are the words of the image that it turns to.
 pub fn restart<L: Ledger>(device: &mut Device, steps: &mut Steps<L>) -> Started
     requires traced { IsTraced device.old }
-    requires served { IsPlayableImage device.old.shape (image_of device.old) }
+    requires sound { IsSoundImage device.old.shape (image_of device.old) }
     requires settled { IsSettled device.old }
     requires fenced { unfenced 0 device.old ≡ 0 }
-    ensures version { result.version ≡ slice_index device.old.newest state_word % 2 ^ 8 }
-    ensures swept { result.swept ≡ false }
-    ensures few { steps.new ≤ steps.old + 8 }
-    ensures one { steps.new ≡ steps.old + 1 }
-    ensures marker { slice_index device.new.newest state_word ≡ slice_index device.old.newest state_word % 2 ^ 8 }
-    ensures others { (w : ℕ) → w ≢ state_word → slice_index device.new.newest w ≡ slice_index device.old.newest w }
+    ensures started { result ≡ started_for (slice_index device.old.newest state_word) }
+    ensures version { 1 ≤ result.version }
+    ensures few { steps.new ≤ steps.old + 8 + swept_slots device.old.shape result }
+    ensures steps { steps.new ≡ steps.old + 1 + swept_slots device.old.shape result }
+    ensures words { HasStarted device.old.shape result (slice_index device.old.newest) (slice_index device.new.newest) }
     ensures pairs { (m : Map) → HasPairsOf device.old.shape (slice_index (image_of device.old)) m
         → HasPairsOf device.new.shape (slice_index (image_of device.new)) m }
     ensures sound { IsSoundImage device.new.shape (image_of device.new) }
     ensures settled { IsSettled device.new }
     ensures fenced { unfenced 0 device.new ≡ 0 }
-    ensures follows { FollowsAll device.old (restart_events (slice_index device.old.newest state_word % 2 ^ 8)) device.new }
+    ensures follows { (start : Words) (es : Trace) → IsTraceOf start es device.old → IsRestartedFrom start es device.old device.new }
     ensures shape { device.new.shape ≡ device.old.shape }
     ensures callers { device.new.callers ≡ device.old.callers }
 {

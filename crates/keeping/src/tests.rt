@@ -1,11 +1,12 @@
-// A restart and a close of a new image, with what the state word then holds, literally.
+// Restarts of images of one slot, and a close, with what the state word and the header then hold, literally.
 ghost use Rattle.std.specs.Prelude.{◌≡◌, ◌<◌};
 
 use crate::tally::Steps;
 use crate::{close, restart};
-use image_file::format;
+use image_file::{Words, format, from_words};
 use image_layout::Geometry;
 use pm_trace::Device;
+use restart_op::Started;
 use std::alloc::Global;
 use std::marker::Brand;
 use std::sync::ledger::{Blank, Ledger};
@@ -29,5 +30,51 @@ fn kept<L: Ledger>(alloc: Global, blank: Blank) -> Result<(u8, u64, u64), Fail>
 #[test]
 fn a_restart_and_a_close_of_a_new_image(rt: HostRuntime) -> Result<(), Fail> {
     assert_eq!(rt; kept::<Brand>(rt.alloc(), Blank::new(1))?, (1, 1, 257));
+    Ok(())
+}
+
+// What a restart of an image answers whose state word and header are these, and both words when it has ended.
+fn restarted<L: Ledger>(
+    alloc: Global,
+    blank: Blank,
+    state: u64,
+    head: u64,
+) -> Result<(Started, u64, u64), Fail>
+    requires name { blank.name ≡ L.name }
+    requires parts { blank.parts ≡ L.parts }
+    requires some { 0 < blank.parts }
+{
+    let formatted = format(alloc, Geometry::new(1, 0, 0)?)?;
+    let mut words = Vec::new(alloc);
+    for (i, word) in formatted.words.as_slice().iter().enumerate() {
+        words.push(match i {
+            16 => state,
+            65 => head,
+            _ => *word,
+        })?;
+    }
+    let medium = from_words(alloc, Words::new(words))?;
+    let mut device = Device::new(alloc, medium, 1)?;
+    let mut steps = Steps::<L>::new(blank);
+    let started = restart(&mut device, &mut steps);
+    Ok((started, device.settled(16), device.settled(65)))
+}
+
+#[test]
+fn restarts_by_the_state_word(rt: HostRuntime) -> Result<(), Fail> {
+    let table = [
+        // clean; not clean; of the last version, clean and not
+        (257, 257, 1, false, 257),
+        (1, 257, 2, false, 257),
+        (511, 511, 255, false, 511),
+        (255, 511, 1, true, 256),
+    ];
+    for (state, head, version, swept, left) in table {
+        let started = Started { version, swept };
+        assert_eq!(rt;
+            restarted::<Brand>(rt.alloc(), Blank::new(1), state, head)?,
+            (started, u64::from(version), left)
+        );
+    }
     Ok(())
 }

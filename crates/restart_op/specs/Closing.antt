@@ -24,7 +24,7 @@ use Rattle.restart_op.specs.declared.close.CloseOp.{CloseOp}
 use Rattle.restart_op.specs.Course.{Course, after_events}
 use Rattle.restart_op.specs.Close.{lines_of, begun, wanted, taken}
 use Rattle.restart_op.specs.AtRest.{IsOpenStructure}
-use Rattle.restart_op.specs.Restarted.{IsPlayableImage, site_of, world_of}
+use Rattle.restart_op.specs.Restarted.{site_of, world_of}
 
 -- ---- a close and its events
 -- so many events of a close, over these words and after this trace
@@ -98,9 +98,9 @@ abbrev pub FitsByEvents : Type 0
 FitsByEvents = (start : Words) (e : Event) (es : Trace) → ((i x : ℕ) → Writes (value start es) e i x → x < 2 ^ 64) → HaveFit start es
     → HaveFit start (e ∷ es)
 
--- a restart leaves the world quiet, as long as no caller begins
+-- a restart of a sound image leaves the world quiet, as long as no caller begins
 abbrev pub QuietAfterRestart : Type 0
-QuietAfterRestart = (shape : Shape) (words : List ℕ) (callers : ℕ) → IsPlayableImage shape words → callers < 2 ^ 32
+QuietAfterRestart = (shape : Shape) (words : List ℕ) (callers : ℕ) → IsSoundImage shape words → callers < 2 ^ 32
     → AllAreQuiet (site_of shape words callers) (slice_index words) (world_of shape words callers)
 
 -- ---- what it keeps
@@ -118,11 +118,11 @@ CloseKeeps = (site : Ground) (start : Words) (world : World) → AllAreQuiet sit
     → IsPossible (words_of site.shape) start (close_after site.shape world.words world.trace n).trace (slice_index medium)
     → IsKept site world.words medium
 
--- what a close leaves: one medium, which has these words and the marker, and may be restarted
+-- what a close leaves: one medium, which has these words, and is a sound image with the marker set. Segments that were stale are so still
 pub record IsClosed (shape : Shape) (words : Words) (medium : List ℕ) : Type 0 where
   pub settled : (i : ℕ) → i < words_of shape → slice_index medium i ≡ words i
   pub clean : IsClean (frame_of shape (slice_index medium))
-  pub served : IsPlayableImage shape medium
+  pub sound : IsSoundImage shape medium
 
 -- THE END OF A CLOSE: one medium alone may be left, the newest words, which are those of before with the marker set
 abbrev pub CloseSettles : Type 0

@@ -1,40 +1,71 @@
 -- What a restart does to the image that it is run on: after any number of its events, and at its end.
-use Rattle.std.specs.Prelude.{◌≡◌, ℕ, ◌+◌, ◌^◌, ◌<◌, ◌≤◌, ◌↔◌, List, [], ◌∷◌, length, replicate, slice_index}
+use Rattle.std.specs.Prelude.{◌≡◌, ◌≢◌, ℕ, ◌+◌, ◌*◌, ◌^◌, ◌<◌, ◌≤◌, ◌↔◌, true, List, [], ◌∷◌, length, replicate, slice_index}
 use Rattle.std.specs.FinMap.{get}
-use Rattle.segment_head.specs.HeadWord.{version_in}
-use Rattle.trace.specs.Events.{Words}
+use Rattle.segment_head.specs.Versions.{unversioned}
+use Rattle.trace.specs.Events.{Words, Trace}
+use Rattle.trace.specs.Progress.{pending}
 use Rattle.trace.specs.Media.{IsPossible}
-use Rattle.image_layout.specs.Places.{Shape, IsShape, state_word, head_at, words_of}
+use Rattle.image_layout.specs.Places.{Shape, IsShape, state_word, words_of}
+use Rattle.image_layout.specs.Volatile.{all_words_of}
 use Rattle.map_model.specs.Map.{Map}
 use Rattle.sound_image.specs.Segments.{frame_of, IsLive}
 use Rattle.sound_image.specs.Image.{IsSoundImage}
 use Rattle.sound_image.specs.Left.{HasPairsOf}
 use Rattle.segment_table.specs.Claims.{HasSoundFrame}
-use Rattle.image_rules.specs.Stage.{IsUntouched}
 use Rattle.bucket_words.specs.Hits.{find}
+use Rattle.op_core.specs.declared.want.Want.TheVariants as want
 use Rattle.op_core.specs.declared.want.Want.TheVariants.{Done}
 use Rattle.world.specs.Ground.{Ground}
 use Rattle.world.specs.Views.{View, At}
+use Rattle.world.specs.Wants.{word_of}
 use Rattle.world.specs.World.{World, fresh_view}
+use Rattle.world.specs.areas.Areas.{header_word}
 use Rattle.world.specs.areas.Beginning.{Begins}
-use Rattle.restart_op.specs.declared.restart.RestartStep.TheVariants.{Ended}
-use Rattle.restart_op.specs.Restart.{begun, wanted, taken, started_with}
+use Rattle.world.specs.areas.Restarting.{IsRestartOf}
+use Rattle.restart_op.specs.declared.restart.Started.{Started}
+use Rattle.restart_op.specs.declared.restart.RestartStep.{RestartStep}
+use Rattle.restart_op.specs.declared.restart.RestartStep.TheVariants.{Load, Ended}
+use Rattle.restart_op.specs.Restart.{started_for, begun, wanted, taken}
+use Rattle.restart_op.specs.Budget.{events_of_restart, left_in}
 use Rattle.restart_op.specs.Course.{Course, after_events}
-use Rattle.restart_op.specs.AtRest.{IsAtRest, IsOpenStructure, HasOwnRecords}
+use Rattle.restart_op.specs.AtRest.{IsCurrent, IsAtRest, IsOpenStructure, HasOwnRecords}
 
--- an image that is restarted: a sound one that no power cut has left, that is, it is clean, and each live segment has its version.
--- Of a slot without a live segment nothing is asked
-pub record IsPlayableImage (shape : Shape) (words : List ℕ) : Type 0 where
-  pub sound : IsSoundImage shape words
-  pub untouched : IsUntouched shape (slice_index words)
+-- a restart over these words and after this trace, after so many of its events
+abbrev pub restart_after : (shape : Shape) → Words → Trace → ℕ → Course wanted taken shape
+restart_after shape words trace n = after_events wanted taken shape n (record { words = words; trace = trace; op = begun shape })
 
--- a restart of these words after so many of its events
+-- a restart of an image with these words
 abbrev pub restarted : (shape : Shape) → List ℕ → ℕ → Course wanted taken shape
-restarted shape words n = after_events wanted taken shape n (record { words = slice_index words; trace = []; op = begun shape })
+restarted shape words n = restart_after shape (slice_index words) [] n
 
--- the words at its end, after four events
+-- it at its end
+abbrev pub restarted_wholly : (shape : Shape) → List ℕ → Course wanted taken shape
+restarted_wholly shape words = restarted shape words (events_of_restart shape (slice_index words))
+
 abbrev pub words_at_end : Shape → List ℕ → Words
-words_at_end shape words = (restarted shape words 4).words
+words_at_end shape words = (restarted_wholly shape words).words
+
+-- ---- how many events
+-- so many are left at a step
+abbrev pub left_at : Shape → Words → RestartStep → ℕ
+left_at shape words Load = events_of_restart shape words
+left_at shape words step = left_in shape step
+
+-- EACH EVENT LEAVES ONE FEWER, to the end
+abbrev pub RestartCounts : Type 0
+RestartCounts = (shape : Shape) (words : List ℕ) (n : ℕ) → IsShape shape → n ≤ events_of_restart shape (slice_index words)
+    → left_at shape (slice_index words) (restarted shape words n).op.step + n ≡ events_of_restart shape (slice_index words)
+
+-- before its end it asks for an event that a memory of the image has: its word is one of the memory, its line one of the image, and before a flush
+-- fewer than eight lines of caller 0 wait for a fence
+pub record IsAsked (shape : Shape) (c : Course wanted taken shape) : Type 0 where
+  pub asks : wanted c.op ≢ Done
+  pub word : word_of shape (wanted c.op) < all_words_of shape
+  pub line : (l : ℕ) → wanted c.op ≡ want.Flush l → 8 * l + 8 ≤ words_of shape
+  pub few : (l : ℕ) → wanted c.op ≡ want.Flush l → length (pending 0 c.trace) < 8
+
+abbrev pub RestartAsks : Type 0
+RestartAsks = (shape : Shape) (words : List ℕ) (n : ℕ) → IsShape shape → n < events_of_restart shape (slice_index words) → IsAsked shape (restarted shape words n)
 
 -- ---- a cut in the restart
 -- the medium is a sound image with the pairs and the first four words of these words
@@ -43,12 +74,29 @@ pub record HasTheSame (shape : Shape) (words medium : List ℕ) : Type 0 where
   pub pairs : (m : Map) → HasPairsOf shape (slice_index words) m → HasPairsOf shape (slice_index medium) m
   pub front : (i : ℕ) → i < 4 → slice_index medium i ≡ slice_index words i
 
--- A CUT after any number of events leaves what was there
+-- A CUT after any number of events, also in a sweep, leaves what was there
 abbrev pub RestartKeeps : Type 0
-RestartKeeps = (shape : Shape) (words medium : List ℕ) (n : ℕ) → IsPlayableImage shape words → length medium ≡ words_of shape
+RestartKeeps = (shape : Shape) (words medium : List ℕ) (n : ℕ) → IsSoundImage shape words → length medium ≡ words_of shape
     → IsPossible (words_of shape) (slice_index words) (restarted shape words n).trace (slice_index medium) → HasTheSame shape words medium
 
 -- ---- the end of the restart
+-- WHICH WORDS a restart that left this has changed: the state word, which is the version alone; and in a sweep the version byte of each header
+pub record HasStarted (shape : Shape) (started : Started) (before after : Words) : Type 0 where
+  pub state : after state_word ≡ started.version
+  pub heads : started.swept ≡ true → (s : ℕ) → s < shape.segments → after (header_word shape s) ≡ unversioned (before (header_word shape s))
+  pub others : (i : ℕ) → i ≢ state_word → (started.swept ≡ true → (s : ℕ) → s < shape.segments → i ≢ header_word shape s) → after i ≡ before i
+
+-- a restart has ended, by the state word that it found; its version is one of an image
+pub record IsStarted (shape : Shape) (words : List ℕ) : Type 0 where
+  pub ended : (restarted_wholly shape words).op.step ≡ Ended (started_for (slice_index words state_word))
+  pub wants_no_more : wanted (restarted_wholly shape words).op ≡ Done
+  pub left : HasStarted shape (started_for (slice_index words state_word)) (slice_index words) (words_at_end shape words)
+  pub some : 1 ≤ (started_for (slice_index words state_word)).version
+  pub fits : (started_for (slice_index words state_word)).version < 2 ^ 8
+
+abbrev pub EndsStarted : Type 0
+EndsStarted = (shape : Shape) (words : List ℕ) → IsSoundImage shape words → IsStarted shape words
+
 -- where the callers run: on the words at the end, with the pairs that these have
 abbrev pub site_of : Shape → List ℕ → ℕ → Ground
 site_of shape words callers =
@@ -60,11 +108,16 @@ abbrev pub views_of : ℕ → List View
 views_of callers = fresh_view 0 ∷ replicate callers (fresh_view 1)
 
 abbrev pub world_of : Shape → List ℕ → ℕ → World
-world_of shape words callers = record { words = words_at_end shape words; trace = (restarted shape words 4).trace; views = views_of callers }
+world_of shape words callers = record { words = words_at_end shape words; trace = (restarted_wholly shape words).trace; views = views_of callers }
 
--- THE WORLD BEGINS for any callers
+-- THE WORLD IS THAT OF A RESTART of the image, for any callers
+abbrev pub IsRestart : Type 0
+IsRestart = (shape : Shape) (words : List ℕ) (callers : ℕ) → IsSoundImage shape words → callers < 2 ^ 32
+    → IsRestartOf (site_of shape words callers) words (world_of shape words callers)
+
+-- SO IT BEGINS
 abbrev pub RestartBegins : Type 0
-RestartBegins = (shape : Shape) (words : List ℕ) (callers : ℕ) → IsPlayableImage shape words → callers < 2 ^ 32
+RestartBegins = (shape : Shape) (words : List ℕ) (callers : ℕ) → IsSoundImage shape words → callers < 2 ^ 32
     → Begins (site_of shape words callers) (slice_index words) (world_of shape words callers)
 
 -- each caller has its seat
@@ -73,33 +126,20 @@ HasSeats = (callers j : ℕ) → 1 ≤ j → j ≤ callers → At (views_of call
 
 -- what the image had is what the words at the end have
 abbrev pub KeepsPairs : Type 0
-KeepsPairs = (shape : Shape) (words : List ℕ) (m : Map) → IsPlayableImage shape words
+KeepsPairs = (shape : Shape) (words : List ℕ) (m : Map) → IsSoundImage shape words
     → HasPairsOf shape (slice_index words) m ↔ ((k : ℕ) → get m k ≡ find shape (words_at_end shape words) k)
 
--- a restart that has ended answers the version that the state word has, and the header of each live segment
-pub record IsStarted (shape : Shape) (words : List ℕ) : Type 0 where
-  pub version : ℕ
-  pub ended : (restarted shape words 4).op.step ≡ Ended (started_with version)
-  pub wants_no_more : wanted (restarted shape words 4).op ≡ Done
-  pub state : words_at_end shape words state_word ≡ version
-  pub current : (s : ℕ) → s < shape.segments → IsLive (frame_of shape (words_at_end shape words)) s → version_in (words_at_end shape words (head_at shape s + 1)) ≡ version
-  pub some : 1 ≤ version
-  pub fits : version < 2 ^ 8
-
-abbrev pub EndsStarted : Type 0
-EndsStarted = (shape : Shape) (words : List ℕ) → IsPlayableImage shape words → IsStarted shape words
-
--- each live segment is at rest at the end: no lock of it is taken, a key stands once, and notes are exact
+-- each current segment is at rest at the end: no lock of it is taken, a key stands once, and notes are exact
 abbrev pub EndsAtRest : Type 0
-EndsAtRest = (shape : Shape) (words : List ℕ) → IsPlayableImage shape words → (s : ℕ) → s < shape.segments → IsLive (frame_of shape (words_at_end shape words)) s → IsAtRest shape (words_at_end shape words) s
+EndsAtRest = (shape : Shape) (words : List ℕ) → IsSoundImage shape words → (s : ℕ) → IsCurrent shape (words_at_end shape words) s → IsAtRest shape (words_at_end shape words) s
 
 -- and owns each record that stands in it
 abbrev pub EndsOwned : Type 0
-EndsOwned = (shape : Shape) (words : List ℕ) → IsPlayableImage shape words → HasOwnRecords shape (words_at_end shape words)
+EndsOwned = (shape : Shape) (words : List ℕ) → IsSoundImage shape words → HasOwnRecords shape (words_at_end shape words)
 
 -- and the structure is one on which callers run
 abbrev pub EndsOpen : Type 0
-EndsOpen = (shape : Shape) (words : List ℕ) → IsPlayableImage shape words → IsOpenStructure shape (words_at_end shape words)
+EndsOpen = (shape : Shape) (words : List ℕ) → IsSoundImage shape words → IsOpenStructure shape (words_at_end shape words)
 
 -- ---- where there is one slot
 -- its segment is live

@@ -1,38 +1,40 @@
 //! Laws of the restart. The functions do nothing: each stands for the law that its contract says.
 
-ghost use Rattle.std.specs.Prelude.{◌≡◌};
-ghost use Rattle.image_layout.specs.Places.{Shape};
 ghost use Rattle.restart_op.specs.declared.restart.RestartOp.{RestartOp};
-ghost use Rattle.restart_op.specs.Restart.{begun, wanted};
-ghost use Rattle.restart_op.specs.Budget.{left, Falls, EndsAtNone, IsOnStateWord};
-ghost use Rattle.restart_op.specs.Restarted.{RestartKeeps, RestartBegins, HasSeats, KeepsPairs, EndsStarted, EndsAtRest, EndsOwned, EndsOpen, OneSegmentIsLive};
+ghost use Rattle.restart_op.specs.Restart.{wanted};
+ghost use Rattle.restart_op.specs.Budget.{BeginsWithASweep, Falls, EndsAtNone, IsOnStateOrHead};
+ghost use Rattle.restart_op.specs.Restarted.{RestartCounts, RestartAsks, RestartKeeps, EndsStarted, IsRestart, RestartBegins, HasSeats, KeepsPairs, EndsAtRest, EndsOwned, EndsOpen, OneSegmentIsLive};
 
-/// A restart takes four events, all of them on the state word: each answer of the kind that was asked for leaves one fewer.
+/// A restart ends: each answer of the kind that was asked for leaves fewer events, whatever it is, and on an image one fewer. All
+/// of them are on the state word and on headers, and a memory of the image has them.
 pub fn restart_ends()
-    ensures four { (shape : Shape) → left (begun shape).step ≡ 4 }
+    ensures most { BeginsWithASweep }
     ensures falls { Falls }
     ensures none { EndsAtNone }
-    ensures one_word { (op : RestartOp) → IsOnStateWord (wanted op) }
+    ensures words { (op : RestartOp) → IsOnStateOrHead op.geometry (wanted op) }
+    ensures counts { RestartCounts }
+    ensures asks { RestartAsks }
 {}
 
-/// A power cut after any number of events of a restart leaves a sound image with the same pairs.
+/// A power cut after any number of events of a restart, also in a sweep, leaves a sound image with the same pairs.
 pub fn restart_keeps()
     ensures { RestartKeeps }
 {}
 
-/// A restart leaves a world that begins, with the image's pairs, for any callers; the image's version; live segments at rest, which
-/// own their records; and a structure on which callers run.
+/// A restart of a sound image leaves a world that begins, with the image's pairs, for any callers; the version by the state word that it
+/// found; current segments at rest, which own their records; and a structure on which callers run.
 pub fn restart_begins()
+    ensures started { EndsStarted }
+    ensures restart { IsRestart }
     ensures begins { RestartBegins }
     ensures seats { HasSeats }
     ensures pairs { KeepsPairs }
-    ensures started { EndsStarted }
     ensures rest { EndsAtRest }
     ensures own { EndsOwned }
     ensures structure { EndsOpen }
 {}
 
-/// The segment in the one slot of an image is live.
+/// Where there is one slot, its segment is live, over any words with a sound structure.
 pub fn one_segment_is_live()
     ensures { OneSegmentIsLive }
 {}

@@ -6,15 +6,16 @@ use Rattle.std.specs.FinMap.{get}
 use Rattle.std.proofs.lemmas.Bool.{cases_eq, cases_lt}
 use Rattle.std.proofs.lemmas.List.{get_or_past}
 use Rattle.bucket_meta.specs.Bucket.{lock_of}
+use Rattle.segment_head.specs.HeadWord.{normal}
 use Rattle.trace.specs.Events.{Words, Trace, with_word, value_at}
 use Rattle.trace.specs.Media.{IsPossible}
 use Rattle.trace.specs.Steps.{HadSinceSettled}
 use Rattle.trace.proofs.Replaced.{cases_at, replaced_same}
 use Rattle.trace.proofs.Moments.{value_at_now}
 use Rattle.trace.proofs.Media.{had_of_may, may_of_had, newest_may}
-use Rattle.image_layout.specs.Places.{Shape, state_word, bucket_at, words_of, buckets}
+use Rattle.image_layout.specs.Places.{Shape, IsShape, state_word, bucket_at, words_of, buckets}
 use Rattle.image_layout.specs.StateWord.{with_marker, marker_in}
-use Rattle.sound_image.specs.Segments.{frame_of, IsLive}
+use Rattle.sound_image.specs.Segments.{frame_of, state_at}
 use Rattle.sound_image.specs.Image.{SaysShape, IsSoundImage}
 use Rattle.segment_table.specs.Claims.{HasSoundFrame}
 use Rattle.bucket_words.specs.Core.{core}
@@ -28,14 +29,13 @@ use Rattle.world.specs.areas.Areas.{Area, Whole}
 use Rattle.world.specs.Invariant.{IsWatched}
 use Rattle.world.proofs.basics.Tables.{same_find}
 use Rattle.world.proofs.moving.media.Tying.{device_leaves_moving}
-use Rattle.restart_op.specs.AtRest.{IsAtRest, TakesCalls, HasOwnRecords}
-use Rattle.restart_op.specs.Restarted.{IsPlayableImage}
+use Rattle.restart_op.specs.AtRest.{IsCurrent, IsAtRest, HasOwnRecords}
 use Rattle.restart_op.specs.Closing.{close_after, AllAreQuiet, IsKept, IsClosed, CloseKeeps, CloseSettles, CloseMarks, CloseKeepsStructure}
-use Rattle.restart_op.proofs.images.Frames.{SameStructure, live_back, takes_calls, sound_frame}
-use Rattle.restart_op.proofs.Currents.{live_is_current}
+use Rattle.restart_op.proofs.images.Frames.{IsReversioned, sound_frame, current_back, AgreeButForState, same_headers, reversioned}
+use Rattle.restart_op.proofs.Currents.{current_in}
 use Rattle.restart_op.proofs.images.Rules.{unmarked_rules, marked_rules}
 use Rattle.restart_op.proofs.images.Pairs.{has_of_found}
-use Rattle.restart_op.proofs.images.Same.{AgreeButForState, same_structure, kept, same_rest, same_own}
+use Rattle.restart_op.proofs.images.Same.{kept, same_rest, same_own}
 use Rattle.restart_op.proofs.closes.CloseAlong.{changes_state_alone}
 use Rattle.restart_op.proofs.closes.ClosePhases.{marked, Before, After, IsSettledNow, elsewhere, phase_at, at_end, either}
 
@@ -96,26 +96,23 @@ module _ (site : Ground) (start : Words) (world : World) (quiet : AllAreQuiet si
       unlocked : (x : ℕ) → (x % 2 ≡ 1 → ⊥) → lock_of x ≡ 0
       unlocked x even = omega (arith, even)
 
-  -- each live segment has the version of the image, and is watched
-  current_now : (s : ℕ) → s < shape.segments → IsLive (frame_of shape was) s → IsCurrentIn site was s
-  current_now = live_is_current site was structured_now quiet.structure
-
-  watched_now : (s : ℕ) → s < shape.segments → IsLive (frame_of shape was) s → IsWatched site was world.views s
-  watched_now s slot live = (current_now s slot live, not_whole s)
+  -- a current segment is watched
+  watched_now : (s : ℕ) → IsCurrent shape was s → IsWatched site was world.views s
+  watched_now s current = (current_in site was structured_now s current, not_whole s)
 
   -- so it is at rest, and owns its records
-  rest_now : (s : ℕ) → s < shape.segments → IsLive (frame_of shape was) s → IsAtRest shape was s
-  rest_now s slot live = record {
-    free = λ b near. free_now s b (current_now s slot live) near;
-    once = λ b r c t k h g. elim (quiet.well.holds.records.once s b r c t k (watched_now s slot live) h g) [
+  rest_now : (s : ℕ) → IsCurrent shape was s → IsAtRest shape was s
+  rest_now s current = record {
+    free = λ b near. free_now s b (current_in site was structured_now s current) near;
+    once = λ b r c t k h g. elim (quiet.well.holds.records.once s b r c t k (watched_now s current) h g) [
       | inl same ↦ same
       | inr m ↦ absurd (not_moving m.0 m.1 m.2 m.3 m.4)
     ];
-    exact = λ b near. quiet.well.holds.notes_of_homes.exact s b (watched_now s slot live) near (λ j v o at h _ _. not_owed j v o at h);
+    exact = λ b near. quiet.well.holds.notes_of_homes.exact s b (watched_now s current) near (λ j v o at h _ _. not_owed j v o at h);
   }
 
   own_now : HasOwnRecords shape was
-  own_now s b r k live h = quiet.well.holds.records.own s b r k (watched_now s h.segment live) h
+  own_now s b r k current h = quiet.well.holds.records.own s b r k (watched_now s current) h
 
   fits_now : (i : ℕ) → was i < 2 ^ 64
   fits_now i =
@@ -199,15 +196,20 @@ module _ (site : Ground) (start : Words) (world : World) (quiet : AllAreQuiet si
       version_left : word state_word % 2 ^ 8 ≡ was state_word % 2 ^ 8
       version_left = ap (λ n. n % 2 ^ 8) state_sum ∙ omega arith
 
-      structure_marked : SameStructure shape was word
-      structure_marked = same_structure shape was word same_word
+      alike : IsReversioned shape was word
+      alike = reversioned shape was word quiet.structure.frame same_word version_left
+
+      is : IsShape shape
+      is = quiet.well.holds.site_is.shape
 
       frame_marked : HasSoundFrame shape word
-      frame_marked = sound_frame shape was word structure_marked version_left quiet.well.holds.site_is.shape quiet.structure.frame
+      frame_marked = sound_frame shape was word is quiet.structure.frame alike
 
-      takes_calls_marked : (s : ℕ) → s < shape.segments → IsLive (frame_of shape word) s → TakesCalls shape word s
-      takes_calls_marked s slot live =
-          takes_calls shape was word structure_marked version_left s slot (quiet.structure.takes_calls s slot (live_back shape was word structure_marked s slot live))
+      current_before : (s : ℕ) → IsCurrent shape word s → IsCurrent shape was s
+      current_before = current_back shape was word is quiet.structure.frame alike version_left (same_headers shape was word quiet.structure.frame same_word version_left)
+
+      takes_calls_marked : (s : ℕ) → IsCurrent shape word s → state_at (frame_of shape word) s ≡ normal
+      takes_calls_marked s current = (alike.heads s current.live.slot).state ∙ quiet.structure.takes_calls s (current_before s current)
 
       fits_marked : (i : ℕ) → word i < 2 ^ 64
       fits_marked i = elim (cases_lt i (words_of shape)) [
@@ -222,14 +224,14 @@ module _ (site : Ground) (start : Words) (world : World) (quiet : AllAreQuiet si
           bounded : (y x : ℕ) → y ≡ x + 2 ^ 8 → x < 2 ^ 64 → x / 2 ^ 8 % 2 ≡ 0 → y < 2 ^ 64
           bounded y x is low clear = omega arith
 
-      rest_marked : (s : ℕ) → s < shape.segments → IsLive (frame_of shape word) s → IsAtRest shape word s
-      rest_marked s slot live = same_rest shape was word same_word s slot (rest_now s slot (live_back shape was word structure_marked s slot live))
+      rest_marked : (s : ℕ) → IsCurrent shape word s → IsAtRest shape word s
+      rest_marked s current = same_rest shape was word is quiet.structure.frame alike s current.live.slot (rest_now s (current_before s current))
 
       table_marked : IsTable shape word
-      table_marked = (kept shape was word same_word table_now).table
+      table_marked = (kept shape was word is quiet.structure.frame alike table_now).table
 
       same_marked : (k : ℕ) → find shape word k ≡ find shape was k
-      same_marked k = (kept shape was word same_word table_now).pairs k
+      same_marked k = (kept shape was word is quiet.structure.frame alike table_now).pairs k
 
       front_marked : (i : ℕ) → i < 4 → word i ≡ site.front i
       front_marked i few = same_word i (omega (arith, few)) (λ e. omega (arith, few, e)) ∙ early i was few structured_now
@@ -241,7 +243,7 @@ module _ (site : Ground) (start : Words) (world : World) (quiet : AllAreQuiet si
         each_fits = fits_marked;
         says_shape = says_by medium front_marked;
         follows = marked_rules shape word quiet.well.holds.site_is.shape frame_marked table_marked fits_marked takes_calls_marked rest_marked
-            (same_own shape was word same_word own_now);
+            (same_own shape was word is quiet.structure.frame alike current_before own_now);
       }
 
       kept_marked : IsKept site was medium
@@ -250,15 +252,6 @@ module _ (site : Ground) (start : Words) (world : World) (quiet : AllAreQuiet si
         same = same_marked;
         pairs = λ m agree k. has_of_found shape quiet.well.holds.site_is.shape word frame_marked fits_marked table_marked k (get m k) (same_marked k ∙ sym (agree k));
         front = front_marked;
-      }
-
-      playable_marked : IsPlayableImage shape medium
-      playable_marked = record {
-        sound = sound_marked;
-        untouched = λ w. record {
-          clean = λ _. clean_left;
-          current = λ s slot _ live. (takes_calls_marked s slot live).same_version;
-        };
       }
 
     -- ---- at any time
@@ -295,7 +288,7 @@ module _ (site : Ground) (start : Words) (world : World) (quiet : AllAreQuiet si
       closed_at a now = record {
         settled = λ i within. now i (word i) within (had i within) ∙ ap (λ (ws : Words). ws i) (sym a.words_are);
         clean = clean_left (λ i within. now i (word i) within (had i within));
-        served = playable_marked (λ i within. now i (word i) within (had i within));
+        sound = sound_marked (λ i within. now i (word i) within (had i within));
       }
 
 pub close_keeps : CloseKeeps
@@ -320,4 +313,4 @@ close_marks site start world quiet n done =
     end.0.words_are ∙ ap (λ x. with_word world.words state_word x) (with_marker_is (world.words state_word) (clear_now site start world quiet))
 
 pub close_keeps_structure : CloseKeepsStructure
-close_keeps_structure site start world quiet n done i is other = changes_state_alone site.shape world.words world.trace n i other
+close_keeps_structure site start world quiet n done i _ other = changes_state_alone site.shape world.words world.trace n i other

@@ -1,19 +1,20 @@
 -- The seven rules of an image whose structure is sound: they say a table; and where the marker is set, one at rest.
 use Rattle.std.proofs.Common.{◌≡◌, ℕ, ◌^◌, ◌<◌, refl, ap, ◌∙◌, arith}
 use Rattle.bucket_meta.specs.Bucket.{lock_of}
+use Rattle.segment_head.specs.HeadWord.{normal}
 use Rattle.trace.specs.Events.{Words}
 use Rattle.image_layout.specs.Places.{Shape, IsShape, state_word}
 use Rattle.image_layout.specs.StateWord.{marker_in}
-use Rattle.sound_image.specs.Segments.{frame_of, IsClean, IsLive, Owns}
+use Rattle.sound_image.specs.Segments.{frame_of, IsClean, state_at, Owns}
 use Rattle.sound_image.specs.Records.{slot_key, slot_hash, HasRecord}
-use Rattle.sound_image.specs.Rules.{CleanMeansRepaired, NotBefore, FollowsRules}
+use Rattle.sound_image.specs.Rules.{IsCleanAndCurrent, CleanMeansRepaired, NotBefore, FollowsRules}
 use Rattle.segment_table.specs.Claims.{HasSoundFrame}
 use Rattle.segment_table.proofs.frames.Rules as frame_rules
 use Rattle.segment_table.proofs.frames.Owner.{found_owns}
 use Rattle.bucket_words.specs.Standing.{IsTable}
 use Rattle.bucket_words.proofs.segments.Rules.{hit_of}
 use Rattle.bucket_words.proofs.segments.Rules as table_rules
-use Rattle.restart_op.specs.AtRest.{IsAtRest, TakesCalls, HasOwnRecords}
+use Rattle.restart_op.specs.AtRest.{IsCurrent, IsAtRest, HasOwnRecords}
 
 module _ (shape : Shape) (word : Words) where
   -- FROM THE RULES
@@ -57,27 +58,30 @@ module _ (shape : Shape) (word : Words) where
         never : (n : ℕ) → n ≡ 1 → n ≡ 0 → ⊥
         never n e f = omega (arith, e, f)
 
-    -- and of one that is marked, that its live segments are at rest
-    module _ (takes_calls : (s : ℕ) → s < shape.segments → IsLive (frame_of shape word) s → TakesCalls shape word s)
-        (rest : (s : ℕ) → s < shape.segments → IsLive (frame_of shape word) s → IsAtRest shape word s) (own : HasOwnRecords shape word) where
-      owns_record : (s b r : ℕ) → IsLive (frame_of shape word) s → HasRecord shape word s b r → Owns (frame_of shape word) s (slot_hash shape word s b r)
-      owns_record s b r live there =
-          found_owns (frame_of shape word) (slot_hash shape word s b r) s (own s b r (slot_key shape word s b r) live (hit_of shape word s b r there))
+    -- and of one that is marked, that its current segments are normal and at rest
+    module _ (takes_calls : (s : ℕ) → IsCurrent shape word s → state_at (frame_of shape word) s ≡ normal)
+        (rest : (s : ℕ) → IsCurrent shape word s → IsAtRest shape word s) (own : HasOwnRecords shape word) where
+      current_of : (s : ℕ) → IsCleanAndCurrent shape word s → IsCurrent shape word s
+      current_of s c = record { live = record { slot = c.slot; live = c.live }; current = c.same_version }
 
-      not_before : (s b r : ℕ) → IsLive (frame_of shape word) s → HasRecord shape word s b r → NotBefore shape word s b r
-      not_before s b r live there c t other before same =
+      owns_record : (s b r : ℕ) → IsCurrent shape word s → HasRecord shape word s b r → Owns (frame_of shape word) s (slot_hash shape word s b r)
+      owns_record s b r current there =
+          found_owns (frame_of shape word) (slot_hash shape word s b r) s (own s b r (slot_key shape word s b r) current (hit_of shape word s b r there))
+
+      not_before : (s b r : ℕ) → IsCurrent shape word s → HasRecord shape word s b r → NotBefore shape word s b r
+      not_before s b r current there c t other before same =
           let h = hit_of shape word s c t other in
-          let one = (rest s there.segment live).once c t b r (slot_key shape word s b r)
+          let one = (rest s current).once c t b r (slot_key shape word s b r)
           (record { segment = h.segment; bucket = h.bucket; slot = h.slot; taken = h.taken; key = same }) (hit_of shape word s b r there) in
           absurd (omega (arith, before, one.0, one.1))
 
       repaired : (w : ℕ) → CleanMeansRepaired shape word w
       repaired w = record {
-        head = λ s current _. (takes_calls s current.slot current.live).is_normal;
-        lock = λ s b current near at. ap (λ i. lock_of (word i)) at ∙ (rest s current.slot current.live).free b near;
-        own = λ s b r current there _. owns_record s b r current.live there;
-        once = λ s b r current there _. not_before s b r current.live there;
-        notes = λ s b current near _. (rest s current.slot current.live).exact b near;
+        head = λ s c _. takes_calls s (current_of s c);
+        lock = λ s b c near at. ap (λ i. lock_of (word i)) at ∙ (rest s (current_of s c)).free b near;
+        own = λ s b r c there _. owns_record s b r (current_of s c) there;
+        once = λ s b r c there _. not_before s b r (current_of s c) there;
+        notes = λ s b c near _. (rest s (current_of s c)).exact b near;
       }
 
       pub marked_rules : FollowsRules shape word

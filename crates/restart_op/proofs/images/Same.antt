@@ -1,39 +1,37 @@
--- Words of an image that differ in the state word alone have the same structure, records, notes and pairs.
-use Rattle.std.proofs.Common.{◌≡◌, ◌≢◌, ℕ, ◌+◌, ◌<◌, sym, ap, ◌∙◌, arith}
+-- Words of an image that differ in versions alone have the same records, notes and pairs.
+use Rattle.std.proofs.Common.{◌≡◌, ℕ, ◌+◌, ◌*◌, ◌<◌, sym, ap, ◌∙◌, arith}
 use Rattle.bucket_meta.specs.Bucket.{lock_of, overflow_count, record_slots}
 use Rattle.hash_word.specs.Hash.{probing_of}
 use Rattle.trace.specs.Events.{Words}
-use Rattle.image_layout.specs.Places.{Shape, state_word, words_of, bucket_at, block, homes, buckets}
+use Rattle.image_layout.specs.Places.{Shape, IsShape, first_segment, bucket_at, block, homes, buckets}
 use Rattle.sound_image.specs.Records.{key_hash}
+use Rattle.segment_table.specs.Claims.{HasSoundFrame}
 use Rattle.bucket_words.specs.Slots.{SameSlot}
 use Rattle.bucket_words.specs.Hits.{Hit}
 use Rattle.bucket_words.specs.HomeNotes.{SameHomeNotes}
 use Rattle.bucket_words.specs.Standing.{IsTable}
 use Rattle.bucket_words.specs.TableChanges.{KeepsTable}
 use Rattle.bucket_words.proofs.Slots.{same_words}
-use Rattle.bucket_words.proofs.segments.Cores.{structure_within, within_image}
+use Rattle.bucket_words.proofs.segments.Cores.{within_image}
 use Rattle.bucket_words.proofs.segments.Noted.{notes_same, exact_same}
 use Rattle.bucket_words.proofs.segments.Stashed.{stashed_same}
 use Rattle.bucket_words.proofs.segments.changes.NoSlot.{keeps}
-use Rattle.restart_op.specs.AtRest.{IsAtRest, HasOwnRecords}
-use Rattle.restart_op.proofs.images.Frames.{SameStructure, live_back, owners}
+use Rattle.restart_op.specs.AtRest.{IsCurrent, IsAtRest, HasOwnRecords}
+use Rattle.restart_op.proofs.images.Frames.{IsReversioned, owners}
 
--- every word of the image but the state word is the same
-abbrev pub AgreeButForState : Shape → Words → Words → Type 0
-AgreeButForState shape word other = (i : ℕ) → i < words_of shape → i ≢ state_word → other i ≡ word i
+no_head : (f s b n t : ℕ) → b < 66 → n < 32 → f + 2144 * s + 32 + 32 * b + n ≡ f + 2144 * t + 1 → ⊥
+no_head f s b n t near inside e = omega (arith, near, inside, e)
 
-module _ (shape : Shape) (word other : Words) (agree : AgreeButForState shape word other) where
-  pub same_structure : SameStructure shape word other
-  same_structure i is elsewhere = agree i (structure_within shape i is) elsewhere
-
+module _ (shape : Shape) (word other : Words) (is : IsShape shape) (sound : HasSoundFrame shape word) (of : IsReversioned shape word other) where
   in_bucket : (s b n : ℕ) → s < shape.segments → b < buckets → n < block → other (bucket_at shape s b + n) ≡ word (bucket_at shape s b + n)
-  in_bucket s b n slot near inside = agree (bucket_at shape s b + n) (within_image shape s b n slot near inside) (λ e. omega (arith, e))
+  in_bucket s b n slot near inside =
+      of.same (bucket_at shape s b + n) (within_image shape s b n slot near inside) (λ e. omega (arith, e)) (λ t _ e. no_head (first_segment shape) s b n t near inside e)
 
   slots : (s b t : ℕ) → s < shape.segments → b < buckets → t < record_slots → SameSlot word other (bucket_at shape s b) t
   slots s b t slot near below = same_words word other (bucket_at shape s b) (λ n inside. in_bucket s b n slot near inside) t below
 
   pub kept : IsTable shape word → KeepsTable shape word other
-  kept table = keeps shape word other table (owners shape word other same_structure) slots
+  kept table = keeps shape word other table (owners shape word other is sound of) slots
 
   hit_back : (s b r k : ℕ) → Hit shape other s b r k → Hit shape word s b r k
   hit_back s b r k h =
@@ -57,9 +55,8 @@ module _ (shape : Shape) (word other : Words) (agree : AgreeButForState shape wo
   }
     where
       first : (b : ℕ) → b < buckets → other (bucket_at shape s b) ≡ word (bucket_at shape s b)
-      first b near = agree (bucket_at shape s b) (omega (arith, slot, near)) (λ e. omega (arith, e))
+      first b near = of.same (bucket_at shape s b) (omega (arith, slot, near)) (λ e. omega (arith, e)) (λ t _ e. no_head (first_segment shape) s b 0 t near (omega arith) (omega (arith, e)))
 
-  pub same_own : HasOwnRecords shape word → HasOwnRecords shape other
-  same_own own s b r k live h =
-      owners shape word other same_structure (key_hash shape k)
-      ∙ own s b r k (live_back shape word other same_structure s h.segment live) (hit_back s b r k h)
+  -- where each current segment was so before
+  pub same_own : ((s : ℕ) → IsCurrent shape other s → IsCurrent shape word s) → HasOwnRecords shape word → HasOwnRecords shape other
+  same_own back own s b r k current h = owners shape word other is sound of (key_hash shape k) ∙ own s b r k (back s current) (hit_back s b r k h)

@@ -1,6 +1,12 @@
 -- The laws are lemmas.
-use Rattle.restart_op.proofs.Beginning.{restart_begins, has_seats, keeps_pairs, ends_started, ends_at_rest, ends_owned, ends_open}
+use Rattle.restart_op.proofs.restarts.Beginning.{ends_started, is_restart, restart_begins, has_seats, keeps_pairs, ends_at_rest, ends_owned, ends_open}
 use Rattle.restart_op.proofs.laws.restart_begins.Goals as goal
+
+pub returns-clause-started : goal.returns-clause-started
+returns-clause-started c = ends_started
+
+pub returns-clause-restart : goal.returns-clause-restart
+returns-clause-restart c = is_restart
 
 pub returns-clause-begins : goal.returns-clause-begins
 returns-clause-begins c = restart_begins
@@ -10,9 +16,6 @@ returns-clause-seats c = has_seats
 
 pub returns-clause-pairs : goal.returns-clause-pairs
 returns-clause-pairs c = keeps_pairs
-
-pub returns-clause-started : goal.returns-clause-started
-returns-clause-started c = ends_started
 
 pub returns-clause-rest : goal.returns-clause-rest
 returns-clause-rest c = ends_at_rest
