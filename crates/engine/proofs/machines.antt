@@ -1,5 +1,6 @@
 -- The machines of a call as one part, and what follows for an engine.
 pub mod Passing
+pub mod Finishing
 pub mod Ops
 pub mod Deciding
 pub mod Begins

@@ -1,23 +1,23 @@
 -- One caller steps while all others stand between two attempts: nothing moves for it, no attempt of it ends in Again, and each of its calls
 -- ends: where an attempt ends without a reply, fewer may still do so.
-use Rattle.std.specs.Prelude.{◌≡◌, ◌≢◌, ℕ, suc, ◌<◌, ◌≤◌, ⊤, Option, None, Some, List, ◌⊎◌, slice_get}
+use Rattle.std.specs.Prelude.{◌≡◌, ◌≢◌, ℕ, suc, ◌+◌, ◌<◌, ⊤, true, false, Option, None, Some, List, ◌⊎◌, slice_get}
 use Rattle.op_core.specs.declared.want.Want.TheVariants as want
 use Rattle.op_core.specs.declared.why.Why.{Why}
 use Rattle.op_core.specs.declared.why.Why.TheVariants.{Busy}
 use Rattle.trace.specs.Events.{Words}
-use Rattle.image_layout.specs.Places.{Shape}
+use Rattle.image_layout.specs.Places.{Shape, head_at}
 use Rattle.sound_image.specs.Records.{key_hash}
 use Rattle.map_model.specs.declared.call.Call.{Call}
 use Rattle.map_model.specs.Map.{key_of}
 use Rattle.map_model.specs.declared.entry.Reply.{Reply}
 use Rattle.part.specs.Doings.{Doings, nothing_done, IsStill}
-use Rattle.part.specs.Outcomes.{Outcome, again, need_split, finished, reply_of}
+use Rattle.part.specs.Outcomes.{Outcome, again, stale, need_split, finished, reply_of}
 use Rattle.part.specs.Room.{HasNoRoom}
 use Rattle.engine.specs.declared.engine.Op.{Op}
-use Rattle.engine.specs.declared.engine.Op.TheVariants.{Release, Enclose}
+use Rattle.engine.specs.declared.engine.Op.TheVariants.{Release, Enclose, Split, Publish, Rest, Repair, Redirect, Mend}
 use Rattle.engine.specs.declared.engine.Engine.{Engine}
 use Rattle.engine.specs.Engine.{wanted, end_of, outcome_of_end, reply_of_end, IsFresh, anew}
-use Rattle.engine.specs.Left.{free_slots, events_left, events_of_call}
+use Rattle.engine.specs.Left.{is_stale, is_renewed, events_left, events_of_call}
 use Rattle.engine.specs.OpPart.{op_part}
 use Rattle.engine.specs.Core.{Caller, Core, current}
 use Rattle.engine.specs.Laws.{IsServedImage, opened, AreScripts}
@@ -32,11 +32,12 @@ IsReply (Some r) = ⊤
 abbrev pub EndsCall : Option Outcome → Type 0
 EndsCall outcome = IsReply (reply_of outcome)
 
--- it is one, or it says to try again, and why, or that a segment is to be split, or that this is done or need not be
+-- it is one, or it says to try again, and why, or that a segment is to be split or repaired, or that this is done or need not be
 pub data IsTold (outcome : Option Outcome) : Type 0 where
   told_reply : EndsCall outcome → IsTold outcome
   told_again : (why : Why) → outcome ≡ Some (again why) → IsTold outcome
   told_to_split : (segment : ℕ) → outcome ≡ Some (need_split segment) → IsTold outcome
+  told_stale : (segment version : ℕ) → outcome ≡ Some (stale segment version) → IsTold outcome
   told_finished : outcome ≡ Some finished → IsTold outcome
 
 -- ---- a caller between two attempts
@@ -59,17 +60,35 @@ pub record IsAlone (shape : Shape) (j : ℕ) (w : Watched) : Type 0 where
   pub still : IsStill shape w.core.words (w.doings j)
   pub calm : (c : Caller) (e : Engine) (why : Why) → slice_get w.core.callers j ≡ Some c → c.engine ≡ Some e → op_part.outcome e.op ≡ Some (again why) → ⊥
 
--- A SEGMENT THAT IS BEING ENCLOSED for a call has no room for it, and the attempt is not decided as one that found room; nor has one that is to
--- be split, while all is given back. Of another machine nothing is said
-abbrev pub IsCramped : Shape → Words → Call → Op → Type 0
-IsCramped shape words call (Enclose op) = HasNoRoom shape words op.enclosed.segment (key_hash shape (key_of call)) × (op_part.outcome (Enclose op) ≢ Some finished)
-IsCramped shape words call (Release op) = (segment : ℕ) → op_part.outcome (Release op) ≡ Some (need_split segment) → HasNoRoom shape words segment (key_hash shape (key_of call))
-IsCramped shape words call op = ⊤
+-- a segment of the image is stale, and an attempt of a call is not decided by one that is not
+abbrev pub IsStaleIn : Shape → Words → ℕ → Type 0
+IsStaleIn shape words segment = (segment < shape.segments) × (is_stale words (words (head_at shape segment + 1)) ≡ true)
+
+abbrev pub TellsStale : Shape → Words → Op → Type 0
+TellsStale shape words op = (segment version : ℕ) → op_part.outcome op ≡ Some (stale segment version) → IsStaleIn shape words segment
+
+-- and an attempt of a call is not decided by a segment that is to be split and has room
+abbrev pub TellsFull : Shape → Words → Call → Op → Type 0
+TellsFull shape words call op = (segment : ℕ) → op_part.outcome op ≡ Some (need_split segment) → HasNoRoom shape words segment (key_hash shape (key_of call))
+
+-- WHAT AN ATTEMPT DOES BESIDE ITS CALL IS DUE. A segment that is being enclosed has no room for the call, and the attempt is not decided as one
+-- that found room; nor has one that is to be split, while all is given back. A segment that is being repaired is stale until it has the image's
+-- version, and the attempt is not decided before that; and so is one of which an attempt tells that it is
+abbrev pub IsDue : Shape → Words → Call → Op → Type 0
+IsDue shape words call (Enclose op) = HasNoRoom shape words op.enclosed.segment (key_hash shape (key_of call)) × (op_part.outcome (Enclose op) ≢ Some finished)
+IsDue shape words call (Release op) = TellsStale shape words (Release op) × TellsFull shape words call (Release op)
+IsDue shape words call (Repair op) = IsStaleIn shape words op.guarded.segment × (op_part.outcome (Repair op) ≢ Some finished)
+IsDue shape words call (Redirect op) = IsStaleIn shape words op.guarded.segment
+IsDue shape words call (Mend op) = is_renewed op.step ≡ false → IsStaleIn shape words op.guarded.segment
+IsDue shape words call (Split op) = ⊤
+IsDue shape words call (Publish op) = ⊤
+IsDue shape words call (Rest op) = ⊤
+IsDue shape words call op = TellsStale shape words op
 
 -- so it is with the machine of the caller at place j
-abbrev pub StandsCramped : Shape → ℕ → Watched → Type 0
-StandsCramped shape j w = (c : Caller) (call : Call) (e : Engine) → slice_get w.core.callers j ≡ Some c → current c ≡ Some call → c.engine ≡ Some e
-    → IsCramped shape w.core.words call e.op
+abbrev pub StandsDue : Shape → ℕ → Watched → Type 0
+StandsDue shape j w = (c : Caller) (call : Call) (e : Engine) → slice_get w.core.callers j ≡ Some c → current c ≡ Some call → c.engine ≡ Some e
+    → IsDue shape w.core.words call e.op
 
 -- ---- the laws, along all turns from an image that is served
 module _ (shape : Shape) (words : List ℕ) (scripts : List (List Call)) where
@@ -146,22 +165,17 @@ EndedRests = (shape : Shape) (w : Watched) (j : ℕ) (e : Engine) → IsNext w j
 abbrev pub OthersStayResting : Type 0
 OthersStayResting = (shape : Shape) (w : Watched) (i j : ℕ) → i ≢ j → IsResting w i → IsResting (watched_turn shape (suc j) w) i
 
--- ---- a segment that is to be split, and is enclosed
--- where no caller has begun, none is enclosed
-abbrev pub CrampedAtStart : Type 0
-CrampedAtStart = (shape : Shape) (words : List ℕ) (scripts : List (List Call)) (j : ℕ) → StandsCramped shape j (at_start shape words scripts)
+-- ---- what is to be split or repaired
+-- where no caller has begun, none is
+abbrev pub DueAtStart : Type 0
+DueAtStart = (shape : Shape) (words : List ℕ) (scripts : List (List Call)) (j : ℕ) → StandsDue shape j (at_start shape words scripts)
 
--- WHO IS ALONE splits and encloses no segment but one without room: its own turns leave it so
-abbrev pub OwnTurnsStayCramped : Type 0
-OwnTurnsStayCramped = AlongTurns (λ shape words scripts turns. (j : ℕ) → IsAlone shape j (along shape words scripts turns) → StandsCramped shape j (along shape words scripts turns)
-    → StandsCramped shape j (watched_turn shape (suc j) (along shape words scripts turns)))
+-- WHO IS ALONE splits no segment but one without room, and repairs none but one that is stale: its own turns leave it so
+abbrev pub OwnTurnsStayDue : Type 0
+OwnTurnsStayDue = AlongTurns (λ shape words scripts turns. (j : ℕ) → IsAlone shape j (along shape words scripts turns) → StandsDue shape j (along shape words scripts turns)
+    → StandsDue shape j (watched_turn shape (suc j) (along shape words scripts turns)))
 
 -- ---- a call of a caller alone ends
--- a turn of whomever leaves no more free slots
-abbrev pub FreeSlotsFall : Type 0
-FreeSlotsFall = AlongTurns (λ shape words scripts turns. (c : ℕ)
-    → free_slots shape (watched_turn shape c (along shape words scripts turns)).core.words ≤ free_slots shape (along shape words scripts turns).core.words)
-
 -- no engine has more events left than a call has, or than an attempt has
 abbrev pub EventsAreFew : Type 0
 EventsAreFew = (shape : Shape) (words : Words) (e : Engine) → events_left shape words e < events_of_call shape
@@ -175,5 +189,5 @@ pub record LeavesFewer (shape : Shape) (w : Watched) (j : ℕ) (e : Engine) : Ty
       → events_left shape (watched_turn shape (suc j) w).core.words (anew c.site call (end_of (engine_next shape w.core.words e))) < events_left shape w.core.words e
 
 abbrev pub AloneLeavesFewer : Type 0
-AloneLeavesFewer = AlongTurns (λ shape words scripts turns. (j : ℕ) (e : Engine) → IsAlone shape j (along shape words scripts turns) → StandsCramped shape j (along shape words scripts turns)
+AloneLeavesFewer = AlongTurns (λ shape words scripts turns. (j : ℕ) (e : Engine) → IsAlone shape j (along shape words scripts turns) → StandsDue shape j (along shape words scripts turns)
     → IsNext (along shape words scripts turns) j e → LeavesFewer shape (along shape words scripts turns) j e)

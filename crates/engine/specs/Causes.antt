@@ -4,6 +4,7 @@ use Rattle.op_core.specs.declared.want.Want.{Want}
 use Rattle.op_core.specs.declared.want.Want.TheVariants as want
 use Rattle.op_core.specs.declared.want.Ans.{Ans}
 use Rattle.trace.specs.Events.{Words}
+use Rattle.segment_head.specs.HeadWord.{version_in}
 use Rattle.image_layout.specs.Places.{Shape}
 use Rattle.map_model.specs.declared.call.Call.{Call}
 use Rattle.world.specs.declared.site.Site.{Site}
@@ -11,13 +12,15 @@ use Rattle.world.specs.Ground.{Ground}
 use Rattle.world.specs.Views.{View}
 use Rattle.world.specs.Wants.{answer_to, word_of}
 use Rattle.world.specs.Attempts.{HoldsOnly}
+use Rattle.world.specs.areas.Areas.{header_word}
 use Rattle.part.specs.Doings.{Doings, nothing_done, with_event_of}
-use Rattle.part.specs.Outcomes.{Outcome, replied, again, need_split, off}
-use Rattle.part.specs.Causes.{HasReplyCause, HasAgainCause, FindsNoRoom}
+use Rattle.part.specs.Outcomes.{Outcome, replied, again, stale, need_split, off, finished}
+use Rattle.part.specs.Causes.{HasReplyCause, HasAgainCause, FindsNoRoom, IsStale}
 use Rattle.part.specs.Splits.{HasSplitCause}
+use Rattle.part.specs.Repairs.{HasRepairCause}
 use Rattle.engine.specs.declared.engine.Engine.{Engine}
 use Rattle.engine.specs.Engine.{wanted, taken, end_of, outcome_of_end, IsFresh}
-use Rattle.engine.specs.OpPart.{split_segment, op_part}
+use Rattle.engine.specs.OpPart.{Work, calls, splits, repairs, work_of, op_part}
 use Rattle.engine.specs.Core.{Caller, Core, current, turn, run}
 use Rattle.engine.specs.Laws.{IsServedImage, opened, AreScripts}
 
@@ -77,7 +80,7 @@ pub record Decides (shape : Shape) (words : Words) (e : Engine) (outcome : Outco
   pub undecided : op_part.outcome e.op ≡ None
   pub decides : op_part.outcome (engine_next shape words e).op ≡ Some outcome
 
--- an attempt begins with nothing held, known or owed, that of a call and that by which a segment is split
+-- an attempt begins with nothing held, known or owed, that of a call and those by which a segment is split or repaired
 abbrev pub BeginsBare : Type 0
 BeginsBare = (site : Ground) (here : Site) (call : Call) (e : Engine) (v : View) → IsFresh here e → op_part.Stands site here call e.op v → HoldsOnly [] v
 
@@ -94,25 +97,34 @@ EndsAreDecided = (site : Ground) (here : Site) (call : Call) (e : Engine) (v : V
     → op_part.outcome e.op ≡ outcome_of_end (end_of e)
 
 -- ---- causes
--- THE CAUSE of an outcome of one of the call's own machines: no segment is ever stale, no attempt finds the power off, and none ends as
+-- THE CAUSE of an outcome of one of the call's own machines, in an image of this version: no attempt finds the power off, and none ends as
 -- one that has done its work
-abbrev pub HasCallCause : Shape → Words → Doings → Call → Want → Outcome → Type 0
-HasCallCause shape words did call event (replied reply place) = HasReplyCause shape words did call reply
-HasCallCause shape words did call event (again why) = HasAgainCause shape words did call event why
-HasCallCause shape words did call event (need_split segment) = FindsNoRoom shape words did call segment
-HasCallCause shape words did call event outcome = ⊥
+abbrev pub HasCallCause : Shape → ℕ → Words → Doings → Call → Want → Outcome → Type 0
+HasCallCause shape version words did call event (replied reply place) = HasReplyCause shape words did call reply
+HasCallCause shape version words did call event (again why) = HasAgainCause shape words did call event version why
+HasCallCause shape version words did call event (need_split segment) = FindsNoRoom shape words did call segment
+HasCallCause shape version words did call event (stale segment byte) = IsStale shape words did call event version segment byte
+HasCallCause shape version words did call event outcome = ⊥
 
--- of one that splits this segment: it does not find the power off
+-- of one that splits this segment, and of one that repairs it: they do not find the power off; and who has finished a repair leaves the header
+-- of the segment with the image's version
 abbrev pub HasSplittingCause : Shape → Words → Doings → Call → ℕ → Want → Outcome → Type 0
 HasSplittingCause shape words did call segment event off = ⊥
 HasSplittingCause shape words did call segment event outcome = HasSplitCause shape words did call segment event outcome
 
-abbrev pub HasCauseBy : Option ℕ → Shape → Words → Doings → Call → Want → Outcome → Type 0
-HasCauseBy None shape words did call event outcome = HasCallCause shape words did call event outcome
-HasCauseBy (Some segment) shape words did call event outcome = HasSplittingCause shape words did call segment event outcome
+abbrev pub HasRepairingCause : Shape → ℕ → Words → Doings → Call → ℕ → Want → Outcome → Type 0
+HasRepairingCause shape version words did call segment event off = ⊥
+HasRepairingCause shape version words did call segment event finished = version_in (words (header_word shape segment)) ≡ version
+HasRepairingCause shape version words did call segment event outcome = HasRepairCause shape words did call segment event outcome
 
-abbrev pub HasCause : Shape → Words → Doings → Call → Engine → Outcome → Type 0
-HasCause shape words did call e outcome = HasCauseBy (split_segment e.op) shape words did call (wanted e) outcome
+abbrev pub HasCauseBy : Work → Shape → ℕ → Words → Doings → Call → Want → Outcome → Type 0
+HasCauseBy calls shape version words did call event outcome = HasCallCause shape version words did call event outcome
+HasCauseBy (splits segment) shape version words did call event outcome = HasSplittingCause shape words did call segment event outcome
+HasCauseBy (repairs segment) shape version words did call event outcome = HasRepairingCause shape version words did call segment event outcome
+
+-- by what the attempt works on
+abbrev pub HasCause : Shape → ℕ → Words → Doings → Call → Engine → Outcome → Type 0
+HasCause shape version words did call e outcome = HasCauseBy (work_of e.op) shape version words did call (wanted e) outcome
 
 -- ---- the laws
 -- watching changes nothing
@@ -122,7 +134,7 @@ WatchingChangesNothing = (shape : Shape) (w : Watched) (turns : List ℕ) → (w
 -- whichever caller has its turn next, where its event decides the attempt the cause is there
 abbrev pub CausesAreThere : Shape → Watched → Type 0
 CausesAreThere shape w = (j : ℕ) (caller : Caller) (call : Call) (e : Engine) (outcome : Outcome) → slice_get w.core.callers j ≡ Some caller
-    → current caller ≡ Some call → caller.engine ≡ Some e → Decides shape w.core.words e outcome → HasCause shape w.core.words (w.doings j) call e outcome
+    → current caller ≡ Some call → caller.engine ≡ Some e → Decides shape w.core.words e outcome → HasCause shape caller.site.version w.core.words (w.doings j) call e outcome
 
 -- EACH END HAS ITS CAUSE, over all turns: from every image that is served, whatever calls up to 64 callers have, and
 -- whatever turns they take

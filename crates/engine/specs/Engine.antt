@@ -9,7 +9,7 @@ use Rattle.map_model.specs.Changes.{change_of}
 use Rattle.map_model.specs.declared.entry.Reply.{Reply}
 use Rattle.world.specs.declared.site.Site.{Site}
 use Rattle.world.specs.StepKinds.{StepKind}
-use Rattle.part.specs.Outcomes.{Outcome, again, need_split, off, finished, reply_of}
+use Rattle.part.specs.Outcomes.{Outcome, again, stale, need_split, off, finished, reply_of}
 use Rattle.read_op.specs.declared.step.ReadEnd.{ReadEnd}
 use Rattle.read_op.specs.declared.step.ReadEnd.TheVariants as read_end
 use Rattle.read_op.specs.declared.step.ReadStep.{ReadStep}
@@ -35,8 +35,16 @@ use Rattle.directory_op.specs.Steps.{end_of as directory_end}
 use Rattle.rest_op.specs.declared.op.RestEnd.{RestEnd}
 use Rattle.rest_op.specs.declared.op.RestEnd.TheVariants as rest_ends
 use Rattle.rest_op.specs.Steps.{end_of as rest_end}
+use Rattle.repair_op.specs.Steps.{begun as repair_begun, end_of as repair_end}
+use Rattle.repair_op.specs.declared.step.RepairEnd.{RepairEnd}
+use Rattle.repair_op.specs.RepairPart.{outcome_of as repair_outcome}
+use Rattle.redirect_op.specs.Steps.{end_of as redirect_end}
+use Rattle.redirect_op.specs.declared.step.RedirectEnd.{RedirectEnd}
+use Rattle.redirect_op.specs.Ends.{outcome_of as redirect_outcome}
+use Rattle.mend_op.specs.declared.op.MendEnd.{MendEnd}
+use Rattle.mend_op.specs.Steps.{end_of as mend_end}
 use Rattle.engine.specs.declared.engine.Op.{Op}
-use Rattle.engine.specs.declared.engine.Op.TheVariants.{Read, Write, Move, Stash, Release, Enclose, Split, Publish, Rest}
+use Rattle.engine.specs.declared.engine.Op.TheVariants.{Read, Write, Move, Stash, Release, Enclose, Split, Publish, Rest, Repair, Redirect, Mend}
 use Rattle.engine.specs.declared.engine.End.{End}
 use Rattle.engine.specs.declared.engine.End.TheVariants as ends
 use Rattle.engine.specs.declared.engine.Engine.{Engine}
@@ -63,7 +71,7 @@ abbrev pub wanted : Engine → Want
 wanted e = op_part.wanted e.op
 
 -- what an answer makes of it: an insert that found no slot goes on to the move of a record, one that found none to move to the stash,
--- and one that found that full too gives all back; and a split goes on from one of its machines to the next
+-- and one that found that full too gives all back; and a split or a repair goes on from one of its machines to the next
 abbrev pub taken : Engine → Ans → Engine
 taken e ans = running (op_part.taken e.op ans)
 
@@ -82,6 +90,9 @@ end_of_op (Enclose op) = ends.Enclose (enclose_end_at op.step)
 end_of_op (Split op) = ends.Split (split_end op)
 end_of_op (Publish op) = ends.Publish (directory_end op)
 end_of_op (Rest op) = ends.Rest (rest_end op)
+end_of_op (Repair op) = ends.Repair (repair_end op)
+end_of_op (Redirect op) = ends.Redirect (redirect_end op)
+end_of_op (Mend op) = ends.Mend (mend_end op)
 
 abbrev pub end_of : Engine → End
 end_of e = end_of_op e.op
@@ -99,6 +110,19 @@ abbrev pub rest_outcome : RestEnd → Option Outcome
 rest_outcome rest_ends.Split = Some finished
 rest_outcome rest_ends.Off = None
 
+-- a segment that is guarded hands on, and so does one whose entries are redirected; what is mended has no reply
+abbrev pub repaired_outcome : Option RepairEnd → Option Outcome
+repaired_outcome (Some end) = repair_outcome end
+repaired_outcome None = None
+
+abbrev pub redirected_outcome : Option RedirectEnd → Option Outcome
+redirected_outcome (Some end) = redirect_outcome end
+redirected_outcome None = None
+
+abbrev pub mended_outcome : Option MendEnd → Option Outcome
+mended_outcome (Some end) = Some finished
+mended_outcome None = None
+
 -- the outcome of an attempt that ended so
 abbrev pub outcome_of_end : End → Option Outcome
 outcome_of_end (ends.Read end) = Some (get_outcome end)
@@ -110,6 +134,9 @@ outcome_of_end (ends.Enclose end) = enclose_outcome end
 outcome_of_end (ends.Split end) = made_outcome end
 outcome_of_end (ends.Publish end) = publish_outcome end
 outcome_of_end (ends.Rest end) = rest_outcome end
+outcome_of_end (ends.Repair end) = repaired_outcome end
+outcome_of_end (ends.Redirect end) = redirected_outcome end
+outcome_of_end (ends.Mend end) = mended_outcome end
 
 -- its reply, with its place
 abbrev pub reply_of_end : End → Option (Reply × ℕ)
@@ -128,13 +155,18 @@ is_again end = says_again (outcome_of_end end)
 abbrev pub splitting : Site → Change → ℕ → Engine
 splitting here change segment = running (Enclose (enclose_begun here change segment))
 
--- an engine that has done nothing yet: of a call, or of the split of a segment
-abbrev pub IsFresh : Site → Engine → Type 0
-IsFresh here e = ((call : Call) × (e ≡ begun here call)) ⊎ ((change : Change) × (segment : ℕ) × (e ≡ splitting here change segment))
+-- the engine that repairs a stale segment
+abbrev pub repairing : Site → ℕ → Engine
+repairing here segment = running (Repair (repair_begun here segment))
 
--- where a segment is to be split, the next attempt splits it; else the call is begun anew
+-- an engine that has done nothing yet: of a call, of the split of a segment, or of the repair of one
+abbrev pub IsFresh : Site → Engine → Type 0
+IsFresh here e = ((call : Call) × (e ≡ begun here call)) ⊎ ((change : Change) × (segment : ℕ) × (e ≡ splitting here change segment)) ⊎ ((segment : ℕ) × (e ≡ repairing here segment))
+
+-- where a segment is to be split, the next attempt splits it, and where one is stale, the next attempt repairs it; else the call is begun anew
 abbrev pub anew_by : Site → Call → Option Change → Option Outcome → Engine
 anew_by here call (Some change) (Some (need_split segment)) = splitting here change segment
+anew_by here call change (Some (stale segment version)) = repairing here segment
 anew_by here call change outcome = begun here call
 
 abbrev pub anew : Site → Call → End → Engine

@@ -26,9 +26,9 @@ pub record MediaAreGood (shape : Shape) (start : Words) (opening : Map) (core : 
   pub left : (medium : List ℕ) → length medium ≡ words_of shape → IsPossible (words_of shape) start core.trace (slice_index medium)
       → IsLeft shape (slice_index medium) (replay opening (weave (histories core))) (undrawn (map (λ c. c.calls) core.callers) (tolds_of core))
 
--- whatever words a power cut may leave now have no free slot
+-- in whatever words a power cut may leave now each slot is taken that was free in the image
 abbrev pub HasNoFreeSlot : Shape → Words → Core → Type 0
-HasNoFreeSlot shape start core = (medium : Words) → IsPossible (words_of shape) start core.trace medium → (s : ℕ) → s < shape.segments → state_at (frame_of shape medium) s ≢ free
+HasNoFreeSlot shape start core = (medium : Words) → IsPossible (words_of shape) start core.trace medium → (s : ℕ) → s < shape.segments → state_at (frame_of shape start) s ≡ free → state_at (frame_of shape medium) s ≢ free
 
 -- THE CORE IS GOOD: so it is between any two events
 pub record IsGood (shape : Shape) (start : Words) (opening : Map) (core : Core) : Type 0 where
@@ -39,7 +39,7 @@ pub record IsGood (shape : Shape) (start : Words) (opening : Map) (core : Core) 
   pub media : MediaAreGood shape start opening core
   -- each insert that was refused for want of room had 56 keys in the map at its place
   pub had_no_room : AllByRecursion (λ e. HadNoRoom shape (map_at opening (all_of (histories core)) e.place) e) (all_of (histories core))
-  -- where a reply is that the table is full, no slot is free
+  -- where a reply is that the table is full, no slot is free that was free in the image
   pub full : AllByRecursion (λ e. e.reply ≡ Full → HasNoFreeSlot shape start core) (all_of (histories core))
   -- where a reply is that a number is spent, 2 ^ 63 changes are drawn, or some lock word of a live segment has the last version
   pub spent : AllByRecursion (λ e. e.reply ≡ Spent → (2 ^ 63 ≤ draws (all_of (histories core))) ⊎ HasSpentLock shape core.words) (all_of (histories core))

@@ -17,7 +17,8 @@ use Rattle.session.specs.Session.{HadNoRoom}
 use Rattle.world.specs.Ground.{Ground, version_of, HasSpentLock}
 use Rattle.world.specs.Views.{View, At, Has}
 use Rattle.world.specs.World.{World, fresh_view}
-use Rattle.world.specs.Slots.{AllCurrent}
+use Rattle.segment_head.specs.HeadWord.{state_in, free}
+use Rattle.world.specs.areas.Areas.{header_word}
 use Rattle.world.specs.areas.Lasting.{IsTakenInMedia}
 use Rattle.world.specs.areas.Worlds.{IsWell}
 use Rattle.world.specs.Attempts.{HoldsOnly}
@@ -88,9 +89,9 @@ abbrev pub FullHad : Ground → List View → Type 0
 FullHad site views = (opening : Map) → ((k : ℕ) → get opening k ≡ site.start k) → (j : ℕ) (v : View) (e : Entry) → At views j v → Has e v.own
     → HadNoRoom site.shape (map_at opening (all_own views) e.place) e
 
--- each slot is taken in whatever a cut may leave
+-- each slot that was free at the start is taken in whatever a cut may leave
 abbrev pub NoneIsFree : Ground → Words → List View → Type 0
-NoneIsFree site words views = (n : ℕ) → n < site.shape.segments → IsTakenInMedia site words views n
+NoneIsFree site words views = (n : ℕ) → n < site.shape.segments → state_in (site.front (header_word site.shape n)) ≡ free → IsTakenInMedia site words views n
 
 -- so it is where a reply is that the table is full
 abbrev pub FullIsTaken : Ground → Words → List View → Type 0
@@ -100,16 +101,21 @@ FullIsTaken site words views = (j : ℕ) (v : View) (e : Entry) → At views j v
 abbrev pub HadSpent : Shape → Words → List View → Type 0
 HadSpent shape words views = (j : ℕ) (v : View) (e : Entry) → At views j v → Has e v.own → e.reply ≡ Spent → (2 ^ 63 ≤ draws (all_own views)) ⊎ HasSpentLock shape words
 
+-- a slot that is free in an image is so in the words of the site
+abbrev pub KeepsFree : Ground → Words → Type 0
+KeepsFree site start = (n : ℕ) → n < site.shape.segments → state_in (start (header_word site.shape n)) ≡ free → state_in (site.front (header_word site.shape n)) ≡ free
+
 -- THE CORE HOLDS: so it is from the end of a restart on, between any two turns
 pub record CoreHolds (site : Ground) (start : Words) (core : Core) : Type 0 where
   pub views : List View
   pub well : IsWell site start (world_of core views)
-  -- each live segment has the image's version, and the power is on
-  pub current : AllCurrent site core.words
+  -- the power is on
   pub powered : core.words (power_word site.shape) ≡ 0
   pub fits : HaveFit start core.trace
   pub says : SaysShapeInFront site.shape site.front
   pub served : IsServedGround site
+  -- a slot that is free in the image is free at the start
+  pub freed : KeepsFree site start
   pub full : FullIsTaken site core.words (fresh_view 0 ∷ views)
   -- caller 0 has nothing flushed that it has not fenced
   pub fenced : pending 0 core.trace ≡ []
@@ -134,9 +140,9 @@ abbrev pub RunKeeps : Type 0
 RunKeeps = (site : Ground) (start : Words) (core : Core) (turns : List ℕ) → CoreHolds site start core → CoreHolds site start (run site.shape turns core)
 
 -- a quiet world of the site's words, with the power on, in which each caller of the scripts, who are 64 at the most, has a view of its own
--- that has done nothing yet: the core with which they begin holds, where they have the version of the image
+-- that has done nothing yet: the core with which they begin holds, where they have the version of the image, and each slot that the image had free is free
 abbrev pub CoreBegins : Type 0
 CoreBegins = (site : Ground) (start : Words) (core : Core) (version : ℕ) (scripts : List (List Call))
     → AllAreQuiet site start (world_of core (replicate (length scripts) (fresh_view 1))) → core.words ≡ site.front → core.words (power_word site.shape) ≡ 0 → version ≡ version_of site
-    → length scripts ≤ 64 → AllByRecursion (AllByRecursion IsWordCall) scripts
+    → KeepsFree site start → length scripts ≤ 64 → AllByRecursion (AllByRecursion IsWordCall) scripts
     → core.callers ≡ callers_from site.shape version 1 scripts → CoreHolds site start core

@@ -1,6 +1,6 @@
 -- The law of all turns: whatever turns the callers take, their replies are one legal history, and whatever a power cut may
 -- leave is sound and holds that history's map, open calls whole or absent.
-use Rattle.std.specs.Prelude.{◌≡◌, ℕ, ◌<◌, ◌≤◌, None, List, [], ◌∷◌, map, length, slice_index}
+use Rattle.std.specs.Prelude.{◌≡◌, ℕ, ◌<◌, ◌≤◌, None, Some, List, [], ◌∷◌, map, length, slice_index}
 use Rattle.std.specs.List.{AllByRecursion}
 use Rattle.std.specs.FinMap.{get}
 use Rattle.map_model.specs.declared.call.Call.{Call}
@@ -9,14 +9,14 @@ use Rattle.map_model.specs.Map.{Map}
 use Rattle.map_model.specs.Weave.{weave}
 use Rattle.map_model.specs.Legal.{AreReplies, replay}
 use Rattle.image_layout.specs.Places.{Shape, state_word, homes}
-use Rattle.sound_image.specs.Segments.{frame_of}
-use Rattle.sound_image.specs.Records.{HasExactNotes}
+use Rattle.sound_image.specs.Records.{key_hash, HasExactNotes}
 use Rattle.sound_image.specs.Left.{HasPairsOf}
-use Rattle.bucket_words.specs.Hits.{find}
-use Rattle.frame_facts.specs.Facts.{IsLiveSlot}
+use Rattle.bucket_words.specs.Owners.{owner_of}
+use Rattle.bucket_words.specs.Hits.{Hit, find}
 use Rattle.trace.specs.Events.{Words}
-use Rattle.world.specs.Ground.{Ground}
-use Rattle.restart_op.specs.Restarted.{IsPlayableImage, restarted, words_at_end, site_of}
+use Rattle.world.specs.Ground.{Ground, IsCurrentIn}
+use Rattle.sound_image.specs.Image.{IsSoundImage}
+use Rattle.restart_op.specs.Restarted.{restarted_wholly, words_at_end, site_of}
 use Rattle.restart_op.specs.Closing.{AllAreQuiet}
 use Rattle.engine.specs.Fits.{IsWordCall}
 use Rattle.engine.specs.Core.{Core, callers_from, run, histories}
@@ -27,13 +27,13 @@ use Rattle.engine.specs.Holding.{world_of, CoreHolds}
 abbrev pub opened : Shape → List ℕ → List (List Call) → Core
 opened shape words scripts = record {
   words = words_at_end shape words;
-  trace = (restarted shape words 4).trace;
+  trace = (restarted_wholly shape words).trace;
   callers = callers_from shape (words_at_end shape words state_word) 1 scripts;
 }
 
--- an image is served that may be restarted
+-- every sound image is served
 abbrev pub IsServedImage : Shape → List ℕ → Type 0
-IsServedImage = IsPlayableImage
+IsServedImage = IsSoundImage
 
 -- up to 64 callers, whose keys and values are words
 pub record AreScripts (scripts : List (List Call)) : Type 0 where
@@ -79,10 +79,20 @@ NoneRuns core = AllByRecursion (λ c. c.engine ≡ None) core.callers
 abbrev pub ThroughIsQuiet : Type 0
 ThroughIsQuiet = (site : Ground) (start : Words) (core : Core) (h : CoreHolds site start core) → NoneRuns core → AllAreQuiet site start (world_of core h.views)
 
--- the notes of each home of a live segment are exact for its records in the stash
+-- the notes of each home of a segment with the image's version are exact for its records in the stash
 abbrev pub ThroughIsExact : Type 0
 ThroughIsExact = (site : Ground) (start : Words) (core : Core) → CoreHolds site start core → NoneRuns core
-    → (s b : ℕ) → IsLiveSlot (frame_of site.shape core.words) s → b < homes → HasExactNotes site.shape core.words s b
+    → (s b : ℕ) → IsCurrentIn site core.words s → b < homes → HasExactNotes site.shape core.words s b
+
+-- no key stands twice in a segment with the image's version
+abbrev pub ThroughIsOnce : Type 0
+ThroughIsOnce = (site : Ground) (start : Words) (core : Core) → CoreHolds site start core → NoneRuns core
+    → (s b r c t k : ℕ) → IsCurrentIn site core.words s → Hit site.shape core.words s b r k → Hit site.shape core.words s c t k → (b ≡ c) × (r ≡ t)
+
+-- and each key that stands in it is its own
+abbrev pub ThroughIsOwn : Type 0
+ThroughIsOwn = (site : Ground) (start : Words) (core : Core) → CoreHolds site start core → NoneRuns core
+    → (s b r k : ℕ) → IsCurrentIn site core.words s → Hit site.shape core.words s b r k → owner_of site.shape core.words (key_hash site.shape k) ≡ Some s
 
 -- and the newest words have the map of the history
 abbrev pub ThroughHasMap : Type 0

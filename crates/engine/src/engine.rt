@@ -1,19 +1,21 @@
 //! The engine.
 
-ghost use Rattle.std.specs.Prelude.{◌≡◌, ◌↔◌, IsTrue};
+ghost use Rattle.std.specs.Prelude.{◌≡◌, ◌≢◌, ◌↔◌, IsTrue};
 ghost use Rattle.op_core.specs.declared.want.Want.TheVariants as want;
-ghost use Rattle.engine.specs.declared.engine.Op.TheVariants.{Move, Release, Split, Publish, Rest};
-ghost use Rattle.split_op.specs.Steps.{split_of};
-ghost use Rattle.engine.specs.OpPart.{move_of, release_of, op_after_move, publish_of, rest_after, answered, hands_on, handed_on};
-ghost use Rattle.engine.specs.Engine.{running, begun, splitting, anew, wanted, taken, end_of, reply_of_end, is_again};
+ghost use Rattle.engine.specs.declared.engine.Op.TheVariants.{Move, Release};
+ghost use Rattle.engine.specs.OpPart.{move_of, release_of, op_after_move, op_after_guard, answered, hands_on, handed_on, calls, work_of};
+ghost use Rattle.engine.specs.Engine.{running, begun, splitting, repairing, anew, wanted, taken, end_of, reply_of_end, is_again};
 
 use directory_op::{DirectoryEnd, DirectoryOp};
 use enclose_op::{EncloseEnd, EncloseOp, NotEnclosed};
 use map_model::{Call, Change, Reply};
+use mend_op::{MendEnd, MendOp};
 use move_op::{MoveEnd, MoveOp};
 use op_core::{Ans, Machine, Want};
 use read_op::{ReadEnd, ReadOp};
+use redirect_op::{RedirectEnd, RedirectOp};
 use release_op::{ReleaseEnd, ReleaseOp};
+use repair_op::{RepairEnd, RepairOp};
 use rest_op::{RestEnd, RestOp};
 use split_op::{SplitEnd, SplitOp};
 use stash_op::{StashEnd, StashOp};
@@ -41,6 +43,12 @@ pub enum Op {
     Publish(DirectoryOp),
     /// The rest is done.
     Rest(RestOp),
+    /// A stale segment is guarded, and a split that has no ready side taken back.
+    Repair(RepairOp),
+    /// Entries are redirected to its ready side.
+    Redirect(RedirectOp),
+    /// The rest is mended.
+    Mend(MendOp),
 }
 
 /// How an attempt ended: the end of its last machine.
@@ -64,10 +72,17 @@ pub enum End {
     Publish(DirectoryEnd),
     /// Of the rest.
     Rest(RestEnd),
+    /// Of the beginning of a repair, where that has ended.
+    Repair(Option<RepairEnd>),
+    /// Of the redirecting of entries, where that has ended.
+    Redirect(Option<RedirectEnd>),
+    /// Of the mending, where that has ended.
+    Mend(Option<MendEnd>),
 }
 
 impl End {
-    /// The reply, with its place: the number of changes before it. An attempt that is to be made again has none, nor one that split a segment.
+    /// The reply, with its place: the number of changes before it. An attempt that is to be made again has none, nor one that
+    /// split or repaired a segment, or is to be followed by one that does.
     pub fn reply(self) -> Option<(Reply, u64)>
         ensures { result ≡ reply_of_end self }
     {
@@ -83,6 +98,7 @@ impl End {
             End::Split(Some(SplitEnd::Full(place))) => Some((Reply::Full, place)),
             End::Read(_) | End::Write(_) | End::Move(_) | End::Stash(_) | End::Release(_) => None,
             End::Enclose(_) | End::Split(_) | End::Publish(_) | End::Rest(_) => None,
+            End::Repair(_) | End::Redirect(_) | End::Mend(_) => None,
         }
     }
 
@@ -97,64 +113,30 @@ impl End {
             End::Stash(end) => matches!(end, StashEnd::Again(_)),
             End::Enclose(end) => matches!(end, EncloseEnd::Back(NotEnclosed::Again(_))),
             End::Split(end) => matches!(end, Some(SplitEnd::Again(_))),
-            End::Release(_) | End::Publish(_) | End::Rest(_) => false,
+            End::Repair(end) => matches!(end, Some(RepairEnd::Again(_))),
+            End::Redirect(end) => matches!(end, Some(RedirectEnd::Again(_))),
+            End::Release(_) | End::Publish(_) | End::Rest(_) | End::Mend(_) => false,
         }
     }
 }
 
-// The next six are calls of their own, since the room for another machine would else be got ready at each event.
+// The machines of a split and of a repair are run by calls of their own, since the room that they need for a step would else be got ready at
+// each event of each call.
 
-/// The move of a record, where an insert found no slot.
+/// The event that a machine of a split or of a repair wants next.
 #[inline(never)]
-fn moving(op: &WriteOp) -> Op
-    ensures { result ≡ Move (move_of op.now) }
+fn outer_want<M: Machine>(op: &M) -> Want
+    ensures { result ≡ M.wanted op.now }
 {
-    Op::Move(MoveOp::new(op.kept()))
+    op.want()
 }
 
-/// The stash, where no record can move; and all is given back at once, where both stash buckets are held already, and full.
+/// A machine of a split or of a repair takes the answer to that event.
 #[inline(never)]
-fn stashing(op: &MoveOp) -> Op
-    ensures { result ≡ op_after_move op.now }
+fn outer_take<M: Machine>(op: &mut M, ans: Ans)
+    ensures { op.new ≡ M.taken op.old ans }
 {
-    let stash = StashOp::new(op.kept());
-    if stash.hands_on() {
-        releasing(&stash)
-    } else {
-        Op::Stash(stash)
-    }
-}
-
-/// All is given back, where the stash is full too.
-#[inline(never)]
-fn releasing(op: &StashOp) -> Op
-    ensures { result ≡ Release (release_of op.now) }
-{
-    Op::Release(ReleaseOp::new(op.kept()))
-}
-
-/// The new side of a segment that is enclosed.
-#[inline(never)]
-fn making_side(op: &EncloseOp) -> Op
-    ensures { result ≡ Split (split_of op.now.enclosed) }
-{
-    Op::Split(SplitOp::new(op.enclosed))
-}
-
-/// The publishing of the side, once it is made.
-#[inline(never)]
-fn publishing(op: &SplitOp) -> Op
-    ensures { result ≡ Publish (publish_of op.now) }
-{
-    Op::Publish(DirectoryOp::new(op.copied))
-}
-
-/// The rest of the split, once the side is published.
-#[inline(never)]
-fn resting(op: &DirectoryOp) -> Op
-    ensures { result ≡ Rest (rest_after op.now) }
-{
-    Op::Rest(RestOp::new(op.copied.whole))
+    op.take(ans);
 }
 
 /// An attempt of a call: it asks for one event of the memory at a time, and puts the parts of the call one after another.
@@ -198,23 +180,34 @@ impl Engine {
         }
     }
 
-    /// The engine that splits a segment for a change, and has done nothing yet.
-    pub fn splitting(site: Site, change: Change, segment: u64) -> Engine
-        ensures { result ≡ splitting site change segment }
+    /// Becomes the engine that splits a segment for a change, and has done nothing yet.
+    #[inline(never)]
+    fn split(&mut self, site: Site, change: Change, segment: u64)
+        ensures { self.new ≡ splitting site change segment }
     {
-        Engine::new(Op::Enclose(EncloseOp::new(site, change, segment)))
+        self.op = Op::Enclose(EncloseOp::new(site, change, segment));
     }
 
-    /// The engine of the next attempt of a call whose attempt ended so, without a reply: where a segment is to be split, it splits that, and
-    /// else the call is begun anew.
-    pub fn anew(call: Call, site: Site, end: End) -> Engine
-        ensures { result ≡ anew site call end }
+    /// Becomes the engine that repairs a stale segment, and has done nothing yet.
+    #[inline(never)]
+    fn repair(&mut self, site: Site, segment: u64)
+        ensures { self.new ≡ repairing site segment }
+    {
+        self.op = Op::Repair(RepairOp::new(site, segment));
+    }
+
+    /// Becomes the engine of the next attempt of a call whose attempt ended so, without a reply: where a segment is to be split, it splits
+    /// that, where one is stale, it repairs that, and else the call is begun anew.
+    pub fn renew(&mut self, call: Call, site: Site, end: End)
+        ensures { self.new ≡ anew site call end }
     {
         match (call.change(), end) {
             (Some(change), End::Release(ReleaseEnd::NeedSplit(segment))) => {
-                Engine::splitting(site, change, segment)
+                self.split(site, change, segment);
             }
-            _ => Engine::of(call, site),
+            (_, End::Read(ReadEnd::Stale(segment, _))) => self.repair(site, segment),
+            (_, End::Write(WriteEnd::Stale(segment, _))) => self.repair(site, segment),
+            _ => self.restart(call, site),
         }
     }
 
@@ -228,28 +221,96 @@ impl Engine {
             Op::Move(op) => op.want(),
             Op::Stash(op) => op.want(),
             Op::Release(op) => op.want(),
-            Op::Enclose(op) => op.want(),
-            Op::Split(op) => op.want(),
-            Op::Publish(op) => op.want(),
-            Op::Rest(op) => op.want(),
+            Op::Enclose(op) => outer_want(op),
+            Op::Split(op) => outer_want(op),
+            Op::Publish(op) => outer_want(op),
+            Op::Rest(op) => outer_want(op),
+            Op::Repair(op) => outer_want(op),
+            Op::Redirect(op) => outer_want(op),
+            Op::Mend(op) => outer_want(op),
         }
     }
 
-    // This too, since it makes room for a whole machine.
+    // The next are calls of their own too. Each puts a machine in the place of the one before, and does not return it: what is returned is
+    // copied once more, with all the room that the largest machine takes.
+
+    /// The move of a record goes on, where an insert found no slot.
+    #[inline(never)]
+    fn go_to_move(&mut self, op: WriteOp)
+        ensures { self.new ≡ running (Move (move_of op)) }
+    {
+        self.op = Op::Move(MoveOp::new(op.kept()));
+    }
+
+    /// All is given back, where the stash is full too.
+    #[inline(never)]
+    fn go_to_release(&mut self, op: StashOp)
+        ensures { self.new ≡ running (Release (release_of op)) }
+    {
+        self.op = Op::Release(ReleaseOp::new(op.kept()));
+    }
+
+    /// The stash goes on, where no record can move; and all is given back at once, where both stash buckets are held already, and full.
+    #[inline(never)]
+    fn go_to_stash(&mut self, op: MoveOp)
+        ensures { self.new ≡ running (op_after_move op) }
+    {
+        let stash = StashOp::new(op.kept());
+        if stash.hands_on() {
+            self.go_to_release(stash);
+        } else {
+            self.op = Op::Stash(stash);
+        }
+    }
+
+    /// A segment is guarded that is to be repaired: entries are redirected to its ready side, and where it has none the rest is mended at once.
+    #[inline(never)]
+    fn go_to_redirect(&mut self, op: RepairOp)
+        ensures { self.new ≡ running (op_after_guard op) }
+    {
+        let redirect = RedirectOp::new(op.guarded);
+        self.op = if redirect.hands_on() {
+            Op::Mend(MendOp::new(redirect.guarded))
+        } else {
+            Op::Redirect(redirect)
+        };
+    }
+
+    /// The next machine of a split or of a repair goes on: the side is made of a segment that is enclosed, that is published, and the rest is
+    /// done; or entries are redirected, and the rest is mended.
+    #[inline(never)]
+    fn hand_on_outer(&mut self)
+        requires { work_of self.old.op ≢ calls }
+        ensures { self.new ≡ running (handed_on self.old.op) }
+    {
+        match &self.op {
+            Op::Enclose(op) => self.op = Op::Split(SplitOp::new(op.enclosed)),
+            Op::Split(op) => self.op = Op::Publish(DirectoryOp::new(op.copied)),
+            Op::Publish(op) => self.op = Op::Rest(RestOp::new(op.copied.whole)),
+            Op::Repair(op) => {
+                let repair = *op;
+                self.go_to_redirect(repair);
+            }
+            Op::Redirect(op) => self.op = Op::Mend(MendOp::new(op.guarded)),
+            Op::Rest(_) | Op::Mend(_) => {}
+            Op::Read(_) | Op::Write(_) | Op::Move(_) | Op::Stash(_) | Op::Release(_) => {
+                unreachable!()
+            }
+        }
+    }
 
     /// The machine that goes on from what this one kept takes its place.
     #[inline(never)]
     fn hand_on(&mut self)
         ensures { self.new ≡ running (handed_on self.old.op) }
     {
-        match &self.op {
-            Op::Write(op) => self.op = moving(op),
-            Op::Move(op) => self.op = stashing(op),
-            Op::Stash(op) => self.op = releasing(op),
-            Op::Enclose(op) => self.op = making_side(op),
-            Op::Split(op) => self.op = publishing(op),
-            Op::Publish(op) => self.op = resting(op),
-            Op::Read(_) | Op::Release(_) | Op::Rest(_) => {}
+        match self.op {
+            Op::Write(op) => self.go_to_move(op),
+            Op::Move(op) => self.go_to_stash(op),
+            Op::Stash(op) => self.go_to_release(op),
+            Op::Enclose(_) | Op::Split(_) | Op::Publish(_) => self.hand_on_outer(),
+            Op::Repair(_) | Op::Redirect(_) => self.hand_on_outer(),
+            Op::Read(_) | Op::Release(_) | Op::Rest(_) | Op::Mend(_) => {}
         }
     }
 
@@ -280,19 +341,31 @@ impl Engine {
                 false
             }
             Op::Enclose(op) => {
-                op.take(ans);
+                outer_take(op, ans);
                 op.hands_on()
             }
             Op::Split(op) => {
-                op.take(ans);
+                outer_take(op, ans);
                 op.hands_on()
             }
             Op::Publish(op) => {
-                op.take(ans);
+                outer_take(op, ans);
                 op.hands_on()
             }
             Op::Rest(op) => {
-                op.take(ans);
+                outer_take(op, ans);
+                false
+            }
+            Op::Repair(op) => {
+                outer_take(op, ans);
+                op.hands_on()
+            }
+            Op::Redirect(op) => {
+                outer_take(op, ans);
+                op.hands_on()
+            }
+            Op::Mend(op) => {
+                outer_take(op, ans);
                 false
             }
         }
@@ -317,10 +390,13 @@ impl Engine {
             Op::Move(op) => op.wants_nothing(),
             Op::Stash(op) => op.wants_nothing(),
             Op::Release(op) => op.wants_nothing(),
-            Op::Enclose(op) => op.wants_nothing(),
-            Op::Split(op) => op.wants_nothing(),
-            Op::Publish(op) => op.wants_nothing(),
-            Op::Rest(op) => op.wants_nothing(),
+            Op::Enclose(op) => outer_want(op) == Want::Done,
+            Op::Split(op) => outer_want(op) == Want::Done,
+            Op::Publish(op) => outer_want(op) == Want::Done,
+            Op::Rest(op) => outer_want(op) == Want::Done,
+            Op::Repair(op) => outer_want(op) == Want::Done,
+            Op::Redirect(op) => outer_want(op) == Want::Done,
+            Op::Mend(op) => outer_want(op) == Want::Done,
         }
     }
 
@@ -339,6 +415,9 @@ impl Engine {
             Op::Split(op) => End::Split(op.end()),
             Op::Publish(op) => End::Publish(op.end()),
             Op::Rest(op) => End::Rest(op.end()),
+            Op::Repair(op) => End::Repair(op.end()),
+            Op::Redirect(op) => End::Redirect(op.end()),
+            Op::Mend(op) => End::Mend(op.end()),
         }
     }
 }

@@ -1,6 +1,6 @@
 //! The laws of an engine. The functions do nothing: each stands for the law that its contract says.
 
-ghost use Rattle.std.specs.Prelude.{◌≡◌, ◌≢◌, ℕ, ◌+◌, ◌<◌, ◌≤◌, ◌⊎◌, false, None, Some};
+ghost use Rattle.std.specs.Prelude.{◌≡◌, ◌≢◌, ℕ, ◌+◌, ◌<◌, ◌≤◌, ◌⊎◌, false, Some};
 ghost use Rattle.op_core.specs.declared.want.Want.TheVariants.{Flush, Fence, Done};
 ghost use Rattle.op_core.specs.declared.want.Ans.{Ans};
 ghost use Rattle.map_model.specs.declared.call.Call.{Call};
@@ -15,7 +15,9 @@ ghost use Rattle.part.specs.Outcomes.{finished};
 ghost use Rattle.part.specs.Part.{IsPart, IsWait};
 ghost use Rattle.part.specs.Causes.{EndsByCause};
 ghost use Rattle.part.specs.Splits.{EndsBySplitCause};
-ghost use Rattle.engine.specs.OpPart.{call_part, whole_split, split_segment_in, op_part, split_segment};
+ghost use Rattle.part.specs.Repairs.{EndsByRepairCause};
+ghost use Rattle.repair_op.specs.Finishing.{FinishesCurrent};
+ghost use Rattle.engine.specs.OpPart.{call_part, whole_split, split_segment_in, whole_repair, repaired_segment_in, op_part, calls, work_of};
 ghost use Rattle.engine.specs.Causes.{BeginsBare, EndsAreDecided};
 ghost use Rattle.engine.specs.Fits.{BeginsSuited, KeepsSuits};
 ghost use Rattle.engine.specs.Left.{most_events, left, waiting};
@@ -23,16 +25,19 @@ ghost use Rattle.engine.specs.Pairs.{LeavesOrMakes, BeginsUnmade, StaysMade, End
 ghost use Rattle.engine.specs.Asks.{AsksWithin, AsksWords, KeepsNotes};
 
 /// The machines of a call are one part: a get or a change that goes on to the move of a record, to the stash and to giving all back; or a
-/// segment is enclosed, its new side made and published, and the rest done. Each of its outcomes has its cause, in what its attempt did. An
-/// attempt begins holding nothing, and remembers nothing; no machine of the call itself ends as one that has finished; and where nothing more is
-/// wanted, the end is what was decided.
+/// segment is enclosed, its new side made and published, and the rest done; or a stale segment is guarded, entries are redirected to its ready
+/// side, and the rest is mended. Each of its outcomes has its cause, in what its attempt did, and a segment that is told repaired has the image's
+/// version. An attempt begins holding nothing, and remembers nothing; no machine of the call itself ends as one that has finished; and where
+/// nothing more is wanted, the end is what was decided.
 pub fn calls_are_parts()
     ensures part { IsPart op_part }
     ensures causes { EndsByCause call_part }
     ensures split_causes { EndsBySplitCause whole_split split_segment_in }
+    ensures repair_causes { EndsByRepairCause whole_repair repaired_segment_in }
+    ensures repair_current { FinishesCurrent whole_repair repaired_segment_in }
     ensures remembers { (site : Image) (here : Site) (e : Engine) → IsFresh here e → op_part.Remembers site e.op nothing_done }
     ensures bare { BeginsBare }
-    ensures finished { (e : Engine) → split_segment e.op ≡ None → op_part.outcome e.op ≡ Some finished → ⊥ }
+    ensures finished { (e : Engine) → work_of e.op ≡ calls → op_part.outcome e.op ≡ Some finished → ⊥ }
     ensures ends { EndsAreDecided }
 {
     read_op::gets_are_parts();
@@ -52,12 +57,18 @@ pub fn calls_are_parts()
     directory_op::publishings_are_parts();
     directory_op::outcomes_have_causes();
     rest_op::rests_are_parts();
+    repair_op::repairs_are_parts();
+    repair_op::ends_have_causes();
+    redirect_op::redirects_are_parts();
+    redirect_op::ends_have_causes();
+    mend_op::mends_are_parts();
+    mend_op::mends_end_repaired();
 }
 
 /// An engine fits the world of many callers: at the beginning of a call, on a site of this shape and version, it suits the view of a caller
 /// that holds, knows and owes nothing; while the power is on each event is one of a kind that the view may take, and leaves a view that suits
 /// the engine; or the attempt has ended, and the caller holds and owes nothing, and has its reply as its next entry, or its view suits the
-/// next attempt of the call, which splits a segment where that is needed.
+/// next attempt of the call, which splits a segment where that is needed, and repairs one that is stale.
 pub fn fits_the_world()
     ensures begins { BeginsSuited }
     ensures steps { KeepsSuits }
@@ -71,6 +82,8 @@ pub fn fits_the_world()
     release_op::releases_find_no_room();
     enclose_op::enclosings_are_parts();
     enclose_op::ends_have_causes();
+    repair_op::repairs_are_parts();
+    repair_op::ends_have_causes();
     calls_are_parts();
 }
 
@@ -87,7 +100,7 @@ pub fn asks_within()
 pub fn attempts_end()
     ensures falls { (e : Engine) (ans : Ans) → IsAnswer (wanted e) ans → (left (taken e ans) < left e) ⊎ IsWait op_part e.op ans }
     ensures most { (e : Engine) → left e ≤ most_events }
-    ensures waits { (e : Engine) → split_segment e.op ≡ None → op_part.is_waiting e.op ≡ false }
+    ensures waits { (e : Engine) → work_of e.op ≡ calls → op_part.is_waiting e.op ≡ false }
     ensures few { (site : Site) (call : Call) → left (begun site call) ≤ 700 }
     ensures few_of_get { (site : Site) (key : ℕ) → left (begun site (Get key)) ≤ 150 }
 {

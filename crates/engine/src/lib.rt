@@ -20,7 +20,7 @@ pub use laws::{
     refusals_leave_pairs, stores_are_words, stores_keep_notes,
 };
 pub use left::events_of_call;
-pub use short::splits_are_short;
+pub use short::{repairs_are_short, splits_are_short};
 pub use single::{calls_end_alone, never_again_alone};
 pub use turns::{
     close_is_session, core_begins, cut_is_session, holding_is_good, opened_holds, through_is_quiet,

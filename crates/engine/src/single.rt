@@ -1,14 +1,15 @@
 //! The laws of a caller that steps alone. The functions do nothing: each stands for the laws that its contract says.
 
 ghost use Rattle.engine.specs.Alone.{AllRestAtStart, AloneAtStart, RestingIsAlone, OwnTurnsStayAlone, AloneNeverAgain, EndsAreTold, EndsTell, EndedRests, OthersStayResting};
-ghost use Rattle.engine.specs.Alone.{CrampedAtStart, OwnTurnsStayCramped, FreeSlotsFall, EventsAreFew, AloneLeavesFewer};
+ghost use Rattle.engine.specs.Alone.{DueAtStart, OwnTurnsStayDue, EventsAreFew, AloneLeavesFewer};
 
 use crate::{causes, laws, turns};
 
 /// While one caller steps and all others stand between two attempts, no attempt of it that begins then ends in Again: nothing that it
 /// loaded has moved but by itself, and a lock or a guard that is taken is another's, that is in the midst of an attempt. At the beginning all
 /// callers rest; a caller whose attempt ended rests; where all rest each is alone, and its own turns leave it so. And whoever has its
-/// turn, its attempt ends with a reply, in Again, with a segment that is to be split, or with a split, which is what its end tells.
+/// turn, its attempt ends with a reply, in Again, with a segment that is to be split or to be repaired, or with a split or a repair, which is
+/// what its end tells.
 pub fn never_again_alone()
     ensures start { AllRestAtStart }
     ensures start_alone { AloneAtStart }
@@ -27,16 +28,18 @@ pub fn never_again_alone()
 }
 
 /// A call of a caller that steps while all others stand between two attempts ends: it encloses no segment but one without room, so that each
-/// split takes a free slot, and no turn frees one; and each event of it leaves fewer events of the call, of which there are never more than
+/// split takes a free slot; it repairs none but a stale one, which then has the image's version, and frees one slot at the most for it; no other
+/// event frees a slot, and none makes a segment stale. Each event of it leaves fewer events of the call, of which there are never more than
 /// `events_of_call`.
 pub fn calls_end_alone()
-    ensures start { CrampedAtStart }
-    ensures stays { OwnTurnsStayCramped }
-    ensures slots { FreeSlotsFall }
+    ensures start { DueAtStart }
+    ensures stays { OwnTurnsStayDue }
     ensures few { EventsAreFew }
     ensures fewer { AloneLeavesFewer }
 {
     world::slots_stay();
+    world::used_slots_stay();
+    world::stale_segments_only_go();
     read_op::gets_are_parts();
     write_op::changes_are_parts();
     move_op::moves_are_parts();

@@ -1,11 +1,15 @@
-// Attempts on the words of a table of one segment in which `1 insert 5 7` was done, and calls that split a segment of an image of two slots.
+// Attempts on the words of a table of one segment in which `1 insert 5 7` was done, and calls that split or repair a segment of an image of two
+// slots.
 use super::*;
 use directory_op::DirectoryEnd;
 use enclose_op::{EncloseEnd, NotEnclosed};
 use image_layout::Geometry;
 use map_model::{Call, Reply};
-use op_core::{Ans, Want};
+use mend_op::MendEnd;
+use op_core::{Ans, Want, Why};
+use read_op::ReadEnd;
 use release_op::ReleaseEnd;
+use repair_op::RepairEnd;
 use rest_op::RestEnd;
 use split_op::SplitEnd;
 use std::test::Fail;
@@ -62,6 +66,13 @@ fn site(geometry: Geometry) -> Site {
 // An attempt of a call.
 fn begin(geometry: Geometry, call: Call) -> Engine {
     Engine::of(call, site(geometry))
+}
+
+// The next attempt of a call whose attempt ended so.
+fn again(geometry: Geometry, call: Call, end: End) -> Engine {
+    let mut engine = begin(geometry, call);
+    engine.renew(call, site(geometry), end);
+    engine
 }
 
 // Runs an attempt to its end: which that is, and how many events it took.
@@ -188,10 +199,7 @@ fn insert_without_room(rt: HostRuntime) -> Result<(), Fail> {
         assert_eq!(rt; end_of(begin(g, call), taken, 0), (Some(split), 212));
         assert_eq!(rt; told(Some(split)), (None, false));
         let deep = End::Enclose(EncloseEnd::Back(NotEnclosed::Replied(Reply::Deep, 1)));
-        assert_eq!(rt;
-            end_of(Engine::anew(call, site(g), split), taken, 0),
-            (Some(deep), 2248)
-        );
+        assert_eq!(rt; end_of(again(g, call, split), taken, 0), (Some(deep), 2248));
         assert_eq!(rt; deep.reply(), Some((Reply::Deep, 1)));
     }
     Ok(())
@@ -357,10 +365,7 @@ fn a_segment_is_split_for_an_insert(rt: HostRuntime) -> Result<(), Fail> {
     let first = End::Release(ReleaseEnd::NeedSplit(0));
     assert_eq!(rt; memory.run(begin(g, call)), Some(first));
     let second = End::Rest(RestEnd::Split);
-    assert_eq!(rt;
-        memory.run(Engine::anew(call, site(g), first)),
-        Some(second)
-    );
+    assert_eq!(rt; memory.run(again(g, call, first)), Some(second));
     assert_eq!(rt; told(Some(second)), (None, false));
     assert_eq!(rt;
         (memory.word(8), memory.word(33), memory.word(34)),
@@ -374,7 +379,7 @@ fn a_segment_is_split_for_an_insert(rt: HostRuntime) -> Result<(), Fail> {
         assert_eq!(rt; memory.word(guard), 0);
     }
     assert_eq!(rt;
-        memory.run(Engine::anew(call, site(g), second)),
+        memory.run(again(g, call, second)),
         Some(End::Write(WriteEnd::Replied(Reply::Done, 30)))
     );
     for (key, value) in [(6, 8), (KEY, 60)] {
@@ -395,13 +400,10 @@ fn a_split_finds_no_slot(rt: HostRuntime) -> Result<(), Fail> {
     let mut memory = crammed();
     memory.set(SIDE_HEAD, 257);
     let full = End::Split(Some(SplitEnd::Full(30)));
-    assert_eq!(rt; memory.run(Engine::anew(call, site(g), split)), Some(full));
+    assert_eq!(rt; memory.run(again(g, call, split)), Some(full));
     assert_eq!(rt; told(Some(full)), (Some((Reply::Full, 30)), false));
     memory.set(FREE_SLOTS, 2);
-    assert_eq!(rt;
-        told(memory.run(Engine::anew(call, site(g), split))),
-        (None, true)
-    );
+    assert_eq!(rt; told(memory.run(again(g, call, split))), (None, true));
     Ok(())
 }
 
@@ -414,10 +416,81 @@ fn a_split_finds_the_power_off(rt: HostRuntime) -> Result<(), Fail> {
     memory.set(POWER, 1);
     let split = End::Release(ReleaseEnd::NeedSplit(0));
     let off = End::Publish(DirectoryEnd::Off);
-    assert_eq!(rt;
-        memory.run(Engine::anew(Call::Insert(6, 8), site(g), split)),
-        Some(off)
-    );
+    assert_eq!(rt; memory.run(again(g, Call::Insert(6, 8), split)), Some(off));
     assert_eq!(rt; told(Some(off)), (None, false));
+    Ok(())
+}
+
+/// The segment in slot 0 is stale: its header has version 2, and the image version 1. It has key 5 with the value 7 in its first bucket, whose
+/// lock is taken by who runs no more. Slot 1 is free, and 30 changes are made.
+fn stale() -> Memory {
+    let mut memory = Memory { words: [0; 4358] };
+    for (at, value) in [
+        (HEAD, 258u64),
+        (96, 3),
+        (97, 1),
+        (98, 5),
+        (100, 5),
+        (101, 7),
+        (COUNTER, 30),
+    ] {
+        memory.set(at, value);
+    }
+    memory
+}
+
+// The first attempt of a get finds that the segment is stale, the second repairs it, event by event: its guard is taken, its header loaded, and
+// all words of its buckets, the lock is freed, the header gets the image's version, and the guard is given back. The third finds the key.
+#[test]
+fn a_stale_segment_is_repaired_for_a_get(rt: HostRuntime) -> Result<(), Fail> {
+    let g = Geometry::new(2, 1, 0)?;
+    let call = Call::Get(5);
+    let mut memory = stale();
+    let first = End::Read(ReadEnd::Stale(0, 2));
+    assert_eq!(rt; memory.run(begin(g, call)), Some(first));
+    assert_eq!(rt; told(Some(first)), (None, false));
+    let mut engine = again(g, call, first);
+    let words = (96..2208u64).map(|i| Want::Load(i));
+    let mending = [
+        Want::Store(96, 2),
+        Want::Flush(12),
+        Want::Fence,
+        Want::Store(HEAD, 257),
+        Want::Flush(8),
+        Want::Fence,
+        Want::Store(4356, 0),
+        Want::Done,
+    ];
+    let guarding = [Want::Exchange(4356, 0, 1), Want::Load(HEAD)];
+    for want in guarding.into_iter().chain(words).chain(mending) {
+        assert_eq!(rt; engine.next(), want);
+        engine.take(memory.answer(want));
+    }
+    let second = End::Mend(Some(MendEnd::Repaired));
+    assert_eq!(rt; memory.run(engine), Some(second));
+    assert_eq!(rt; told(Some(second)), (None, false));
+    assert_eq!(rt;
+        told(memory.run(again(g, call, second))),
+        (Some((Reply::Found(7), 30)), false)
+    );
+    Ok(())
+}
+
+// Where another caller has the guard of the segment, the attempt is to be made again: the call begins anew, and meets the segment again.
+#[test]
+fn a_stale_segment_is_guarded_by_another(rt: HostRuntime) -> Result<(), Fail> {
+    let g = Geometry::new(2, 1, 0)?;
+    let call = Call::Update(5, 8);
+    let mut memory = stale();
+    memory.set(4356, 2);
+    let first = End::Write(WriteEnd::Stale(0, 2));
+    assert_eq!(rt; memory.run(begin(g, call)), Some(first));
+    let busy = End::Repair(Some(RepairEnd::Again(Why::Busy {
+        word: 4356,
+        seen: 2,
+    })));
+    assert_eq!(rt; memory.run(again(g, call, first)), Some(busy));
+    assert_eq!(rt; told(Some(busy)), (None, true));
+    assert_eq!(rt; memory.run(again(g, call, busy)), Some(first));
     Ok(())
 }

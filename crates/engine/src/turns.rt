@@ -1,7 +1,7 @@
 //! The laws of the callers' turns. The functions do nothing: each stands for the law that its contract says.
 
 ghost use Rattle.engine.specs.Holding.{CallsStay, TurnKeeps, RunKeeps, HoldingIsGood, CoreBegins};
-ghost use Rattle.engine.specs.Laws.{OpenedHolds, TurnsKeep, CallsAreScripts, TurnsAlone, ThroughIsQuiet, ThroughIsExact, ThroughHasMap};
+ghost use Rattle.engine.specs.Laws.{OpenedHolds, TurnsKeep, CallsAreScripts, TurnsAlone, ThroughIsQuiet, ThroughIsExact, ThroughIsOnce, ThroughIsOwn, ThroughHasMap};
 ghost use Rattle.engine.specs.Sessions.{CutIsSession, CloseIsSession};
 
 use crate::laws;
@@ -14,6 +14,7 @@ pub fn turn_keeps()
 {
     world::worlds_stay_well();
     world::slots_stay();
+    world::used_slots_stay();
     world::steps_leave();
     world::steps_do_events();
     laws::calls_are_parts();
@@ -58,14 +59,17 @@ pub fn turns_keep()
     holding_is_good();
 }
 
-/// Where no engine runs the world may be closed, the notes of each home of a live segment are exact, and the newest words have the map of
-/// the history.
+/// Where no engine runs the world may be closed; in a segment that is not stale the notes of each home are exact, no key stands twice, and each
+/// is the segment's own; and the newest words have the map of the history.
 pub fn through_is_quiet()
     ensures quiet { ThroughIsQuiet }
     ensures exact { ThroughIsExact }
+    ensures once { ThroughIsOnce }
+    ensures own { ThroughIsOwn }
     ensures map { ThroughHasMap }
 {
     world::entries_are_legal();
+    world::current_segments_rest();
 }
 
 /// The replies to a caller that runs alone are, one after another, those of a plain map.

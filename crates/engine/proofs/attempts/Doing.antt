@@ -17,7 +17,7 @@ use Rattle.world.specs.Ground.{Ground}
 use Rattle.world.specs.World.{fresh_view}
 use Rattle.world.specs.Wants.{word_of}
 use Rattle.part.specs.Doings.{Doings, nothing_done, with_event_of}
-use Rattle.part.specs.Outcomes.{Outcome, need_split}
+use Rattle.part.specs.Outcomes.{Outcome, stale, need_split}
 use Rattle.engine.specs.declared.engine.Engine.{Engine}
 use Rattle.engine.specs.declared.engine.End.{End}
 use Rattle.engine.specs.Engine.{begun, wanted, end_of, outcome_of_end, reply_of_end, IsFresh, anew_by, anew}
@@ -43,7 +43,8 @@ RemembersNothing = (site : Ground) (here : Site) (e : Engine) → IsFresh here e
 
 -- the next attempt of a call has done nothing
 anew_by_fresh : (here : Site) (call : Call) (change : Option Change) (outcome : Option Outcome) → IsFresh here (anew_by here call change outcome)
-anew_by_fresh here call (Some change) (Some (need_split segment)) = inr (change, segment, refl)
+anew_by_fresh here call (Some change) (Some (need_split segment)) = inr (inl (change, segment, refl))
+anew_by_fresh here call change (Some (stale segment version)) = inr (inr (segment, refl))
 anew_by_fresh here call change outcome = inl (call, refl)
 
 pub anew_fresh : (here : Site) (call : Call) (end : End) → IsFresh here (anew here call end)

@@ -1,5 +1,5 @@
 -- The caller that has its turn next, after any turns: where it sits in the world, and what its view suits.
-use Rattle.std.proofs.Common.{◌≡◌, ◌≢◌, ℕ, suc, ◌^◌, ◌<◌, None, Some, List, ◌∷◌, length, slice_get, slice_index, sym, ◌∙◌, ap, subst}
+use Rattle.std.proofs.Common.{◌≡◌, ◌≢◌, ℕ, suc, ◌^◌, ◌<◌, Some, List, ◌∷◌, length, slice_get, slice_index, sym, ◌∙◌, ap, subst}
 use Rattle.std.proofs.lemmas.Option.{same_Some}
 use Rattle.op_core.specs.declared.want.Want.TheVariants.{Done}
 use Rattle.trace.specs.Events.{Words}
@@ -19,7 +19,7 @@ use Rattle.part.specs.Part.{IsPart, Suits, finds, next, next_view, StepsWell}
 use Rattle.restart_op.specs.Restarted.{words_at_end, site_of}
 use Rattle.engine.specs.declared.engine.Engine.{Engine}
 use Rattle.engine.specs.Engine.{wanted}
-use Rattle.engine.specs.OpPart.{op_part, split_segment}
+use Rattle.engine.specs.OpPart.{op_part, calls, work_of}
 use Rattle.engine.specs.Core.{Caller, Core, current, run}
 use Rattle.engine.specs.Holding.{IsCalling, DoesCall, CallerFits, CoreHolds, TurnKeeps}
 use Rattle.engine.specs.Laws.{IsServedImage, opened, OpenedHolds, AreScripts}
@@ -57,7 +57,7 @@ pub record CallCauses : Type 0 where
   pub part : IsPart op_part
   pub causes : OpCauses
   pub begins : RemembersNothing
-  pub never : (e : Engine) → split_segment e.op ≡ None → op_part.outcome e.op ≡ Some finished → ⊥
+  pub never : (e : Engine) → work_of e.op ≡ calls → op_part.outcome e.op ≡ Some finished → ⊥
 
 -- ---- in a core that holds
 module _ (laws : CallCauses) (keeps : TurnKeeps) (site : Ground) (start : Words) (core : Core) (h : CoreHolds site start core)

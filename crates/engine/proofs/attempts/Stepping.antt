@@ -1,6 +1,7 @@
--- By what the next event of a machine decides the outcome, and what is remembered behind it: of the machines of the call itself, and of those of a
--- split.
-use Rattle.std.proofs.Common.{◌≡◌, ◌≢◌, ℕ, ◌^◌, ◌<◌, false, Option, None, Some, List, refl, sym, ap, ◌∙◌}
+-- By what the next event of a machine decides the outcome, and what is remembered behind it: of the machines of the call itself, of those of a
+-- split, and of those of a repair.
+use Rattle.std.proofs.Common.{◌≡◌, ◌≢◌, ℕ, ◌^◌, ◌<◌, false, None, Some, List, refl, sym, ap, ◌∙◌}
+use Rattle.std.specs.Prelude.{⊤}
 use Rattle.op_core.specs.declared.want.Want.TheVariants.{Done}
 use Rattle.op_core.specs.declared.want.Ans.{Ans}
 use Rattle.op_core.specs.declared.why.Why.TheVariants.{Busy}
@@ -12,54 +13,63 @@ use Rattle.world.specs.Views.{View, At, HasLock}
 use Rattle.world.specs.Wants.{answer_to}
 use Rattle.world.specs.Invariant.{Holds}
 use Rattle.part.specs.Doings.{Doings, with_event_of}
-use Rattle.part.specs.Outcomes.{Outcome, again}
+use Rattle.part.specs.Outcomes.{Outcome, again, finished}
 use Rattle.part.specs.Part.{Suits, finds, next}
 use Rattle.part.specs.Causes.{HasCause as HasCallCause, EndsByCause}
 use Rattle.part.specs.Splits.{HasSplitCause, EndsBySplitCause}
+use Rattle.part.specs.Repairs.{HasRepairCause, EndsByRepairCause}
 use Rattle.part.specs.Either.{one, other}
+use Rattle.repair_op.specs.Finishing.{HasImageVersion, FinishesCurrent}
 use Rattle.engine.specs.declared.engine.Op.{Op}
-use Rattle.engine.specs.declared.engine.Op.TheVariants.{Read, Write, Move, Stash, Release, Enclose, Split, Publish, Rest}
-use Rattle.engine.specs.OpPart.{OpState, state_of, named, call_part, whole_split, op_part, split_segment_in, split_segment}
+use Rattle.engine.specs.declared.engine.Op.TheVariants.{Read, Write, Move, Stash, Release, Enclose, Split, Publish, Rest, Repair, Redirect, Mend}
+use Rattle.engine.specs.OpPart.{OpState, state_of, named, call_part, whole_split, whole_repair, op_part, split_segment_in, repaired_segment_in, Work, calls, splits, repairs, work_of}
 use Rattle.engine.proofs.machines.Ops.{either_ops, each_named, renamed_at}
-use Rattle.engine.proofs.machines.Deciding.{IsAsking, call_steps, split_steps, remembers_on}
+use Rattle.engine.proofs.machines.Deciding.{IsAsking, call_steps, split_steps, repair_steps, remembers_on}
 
 -- what is used of the machines
 pub record OpCauses : Type 0 where
   pub call : EndsByCause call_part
   pub split : EndsBySplitCause whole_split split_segment_in
+  pub repair : EndsByRepairCause whole_repair repaired_segment_in
+  pub current : FinishesCurrent whole_repair repaired_segment_in
 
--- ---- the segment that a state splits, if it does
-abbrev pub segment_in : OpState → Option ℕ
-segment_in (one m) = None
-segment_in (other m) = Some (split_segment_in m)
+-- ---- what a state works on
+abbrev pub work_in : OpState → Work
+work_in (one m) = calls
+work_in (other (one m)) = splits (split_segment_in m)
+work_in (other (other m)) = repairs (repaired_segment_in m)
 
-pub segment_is : (op : Op) → split_segment op ≡ segment_in (state_of op)
-segment_is (Read op) = refl
-segment_is (Write op) = refl
-segment_is (Move op) = refl
-segment_is (Stash op) = refl
-segment_is (Release op) = refl
-segment_is (Enclose op) = refl
-segment_is (Split op) = refl
-segment_is (Publish op) = refl
-segment_is (Rest op) = refl
+pub work_is : (op : Op) → work_of op ≡ work_in (state_of op)
+work_is (Read op) = refl
+work_is (Write op) = refl
+work_is (Move op) = refl
+work_is (Stash op) = refl
+work_is (Release op) = refl
+work_is (Enclose op) = refl
+work_is (Split op) = refl
+work_is (Publish op) = refl
+work_is (Rest op) = refl
+work_is (Repair op) = refl
+work_is (Redirect op) = refl
+work_is (Mend op) = refl
 
-pub segment_named : (m : OpState) → split_segment (named m) ≡ segment_in m
-segment_named m = segment_is (named m) ∙ ap segment_in (each_named m)
+pub work_named : (m : OpState) → work_of (named m) ≡ work_in m
+work_named m = work_is (named m) ∙ ap work_in (each_named m)
 
 -- a machine of the call itself goes on to one of the call
-pub next_segment : (site : Ground) (words : Words) (op : Op) → split_segment op ≡ None → split_segment (next op_part site words op) ≡ None
-next_segment site words (Read op) own = segment_named (next either_ops site words (state_of (Read op)))
-next_segment site words (Write op) own = segment_named (next either_ops site words (state_of (Write op)))
-next_segment site words (Move op) own = segment_named (next either_ops site words (state_of (Move op)))
-next_segment site words (Stash op) own = segment_named (next either_ops site words (state_of (Stash op)))
-next_segment site words (Release op) own = segment_named (next either_ops site words (state_of (Release op)))
-next_segment site words op own = absurd (cc)
+pub next_work : (site : Ground) (words : Words) (op : Op) → work_of op ≡ calls → work_of (next op_part site words op) ≡ calls
+next_work site words (Read op) own = work_named (next either_ops site words (state_of (Read op)))
+next_work site words (Write op) own = work_named (next either_ops site words (state_of (Write op)))
+next_work site words (Move op) own = work_named (next either_ops site words (state_of (Move op)))
+next_work site words (Stash op) own = work_named (next either_ops site words (state_of (Stash op)))
+next_work site words (Release op) own = work_named (next either_ops site words (state_of (Release op)))
+next_work site words op own = absurd (cc)
 
 -- ---- what is decided stays so
 stays_in : OpCauses → (m : OpState) (a : Ans) (outcome : Outcome) → either_ops.outcome m ≡ Some outcome → either_ops.outcome (either_ops.taken m a) ≡ Some outcome
 stays_in causes (one m) a outcome some = causes.call.stays m a outcome some
-stays_in causes (other m) a outcome some = causes.split.stays m a outcome some
+stays_in causes (other (one m)) a outcome some = causes.split.stays m a outcome some
+stays_in causes (other (other m)) a outcome some = causes.repair.stays m a outcome some
 
 pub op_stays : OpCauses → (op : Op) (a : Ans) (outcome : Outcome) → op_part.outcome op ≡ Some outcome → op_part.outcome (op_part.taken op a) ≡ Some outcome
 op_stays causes op a outcome some = renamed_at (λ m. either_ops.outcome m ≡ Some outcome) (either_ops.taken (state_of op) a) (stays_in causes (state_of op) a outcome some)
@@ -68,7 +78,8 @@ op_stays causes op a outcome some = renamed_at (λ m. either_ops.outcome m ≡ S
 decided_in : OpCauses → (site : Ground) (here : Site) (call : Call) (m : OpState) (v : View) → either_ops.Stands site here call m v → either_ops.wanted m ≡ Done → either_ops.hands_on m ≡ false
     → (outcome : Outcome) × (either_ops.outcome m ≡ Some outcome)
 decided_in causes site here call (one m) v s done closed = causes.call.decided site here call m v s done closed
-decided_in causes site here call (other m) v s done closed = causes.split.decided site here call m v s done closed
+decided_in causes site here call (other (one m)) v s done closed = causes.split.decided site here call m v s done closed
+decided_in causes site here call (other (other m)) v s done closed = causes.repair.decided site here call m v s done closed
 
 pub op_decided : OpCauses → (site : Ground) (here : Site) (call : Call) (op : Op) (v : View) → op_part.Stands site here call op v → op_part.wanted op ≡ Done
     → op_part.hands_on op ≡ false → (outcome : Outcome) × (op_part.outcome op ≡ Some outcome)
@@ -77,20 +88,35 @@ op_decided causes site here call op v s done closed = decided_in causes site her
 -- ---- the next event of a machine, in the world, for the caller with this view
 module _ (causes : OpCauses) (site : Ground) (here : Site) (call : Call) (words : Words) (views : List View) (j : ℕ) (before v : View) (h : Holds site words views) (at : At views j v) (did : Doings) where
   abbrev Asks : OpState → Type 0
-  Asks m = IsAsking causes.call causes.split site here call words views j before v h at did m
+  Asks m = IsAsking causes.call causes.split causes.repair site here call words views j before v h at did m
 
   -- THE CAUSE of an outcome, by the machines
   abbrev pub CausedIn : OpState → Outcome → Type 0
   CausedIn (one m) outcome = HasCallCause site.shape words did call (call_part.wanted m) here outcome
-  CausedIn (other m) outcome = HasSplitCause site.shape words did call (split_segment_in m) (whole_split.wanted m) outcome
+  CausedIn (other (one m)) outcome = HasSplitCause site.shape words did call (split_segment_in m) (whole_split.wanted m) outcome
+  CausedIn (other (other m)) outcome = HasRepairCause site.shape words did call (repaired_segment_in m) (whole_repair.wanted m) outcome
 
   caused_in : (m : OpState) → Asks m → (outcome : Outcome) → either_ops.outcome m ≡ None → either_ops.outcome (next either_ops site words m) ≡ Some outcome → CausedIn m outcome
-  caused_in (one m) a outcome none some = (call_steps causes.call causes.split site here call words views j before v h at did m a).caused outcome none some
-  caused_in (other m) a outcome none some = (split_steps causes.call causes.split site here call words views j before v h at did m a).caused outcome none some
+  caused_in (one m) a outcome none some = (call_steps causes.call causes.split causes.repair site here call words views j before v h at did m a).caused outcome none some
+  caused_in (other (one m)) a outcome none some = (split_steps causes.call causes.split causes.repair site here call words views j before v h at did m a).caused outcome none some
+  caused_in (other (other m)) a outcome none some = (repair_steps causes.call causes.split causes.repair site here call words views j before v h at did m a).caused outcome none some
+
+  -- where a repair tells that it has finished, the segment has the image's version
+  abbrev pub CurrentIn : OpState → Outcome → Type 0
+  CurrentIn (one m) outcome = ⊤
+  CurrentIn (other (one m)) outcome = ⊤
+  CurrentIn (other (other m)) outcome = outcome ≡ finished → HasImageVersion site words (repaired_segment_in m)
+
+  current_in : (m : OpState) → Asks m → (outcome : Outcome) → either_ops.outcome m ≡ None → either_ops.outcome (next either_ops site words m) ≡ Some outcome → CurrentIn m outcome
+  current_in (one m) a outcome none some = tt
+  current_in (other (one m)) a outcome none some = tt
+  current_in (other (other m)) a outcome none some = λ is.
+      causes.current site here call words views j m before v h at (record { stands = a.suits.stands; enters = a.suits.enters; callers = a.suits.callers }) none (some ∙ ap Some is)
 
   not_own_in : (m : OpState) → Asks m → (word value : ℕ) → either_ops.outcome m ≡ None → either_ops.outcome (next either_ops site words m) ≡ Some (again (Busy word value)) → HasLock v.held word → ⊥
-  not_own_in (one m) a word value none some = (call_steps causes.call causes.split site here call words views j before v h at did m a).not_own word value none some
-  not_own_in (other m) a word value none some = (split_steps causes.call causes.split site here call words views j before v h at did m a).not_own word value none some
+  not_own_in (one m) a word value none some = (call_steps causes.call causes.split causes.repair site here call words views j before v h at did m a).not_own word value none some
+  not_own_in (other (one m)) a word value none some = (split_steps causes.call causes.split causes.repair site here call words views j before v h at did m a).not_own word value none some
+  not_own_in (other (other m)) a word value none some = (repair_steps causes.call causes.split causes.repair site here call words views j before v h at did m a).not_own word value none some
 
   module _ (op : Op) (s : Suits op_part site here call op before v) (asks : op_part.wanted op ≢ Done) (small : finds op_part site words op < 2 ^ 64) (r : op_part.Remembers site op did) where
     asking : Asks (state_of op)
@@ -106,10 +132,13 @@ module _ (causes : OpCauses) (site : Ground) (here : Site) (call : Call) (words 
     pub op_remembers : op_part.Remembers site (next op_part site words op) (with_event_of (op_part.wanted op) (answer_to (op_part.wanted op) (finds op_part site words op)) did)
     op_remembers =
         renamed_at (λ m. either_ops.Remembers site m (with_event_of (op_part.wanted op) (answer_to (op_part.wanted op) (finds op_part site words op)) did)) after
-        (remembers_on causes.call causes.split site here call words views j before v h at did (state_of op) asking)
+        (remembers_on causes.call causes.split causes.repair site here call words views j before v h at did (state_of op) asking)
 
     pub op_caused : (outcome : Outcome) → op_part.outcome op ≡ None → op_part.outcome (next op_part site words op) ≡ Some outcome → CausedIn (state_of op) outcome
     op_caused outcome none some = caused_in (state_of op) asking outcome none (told outcome some)
 
     pub op_not_own : (word value : ℕ) → op_part.outcome op ≡ None → op_part.outcome (next op_part site words op) ≡ Some (again (Busy word value)) → HasLock v.held word → ⊥
     op_not_own word value none some = not_own_in (state_of op) asking word value none (told (again (Busy word value)) some)
+
+    pub op_current : (outcome : Outcome) → op_part.outcome op ≡ None → op_part.outcome (next op_part site words op) ≡ Some outcome → CurrentIn (state_of op) outcome
+    op_current outcome none some = current_in (state_of op) asking outcome none (told outcome some)

@@ -1,10 +1,8 @@
 -- The core with which callers begin holds.
-use Rattle.std.proofs.Common.{◌≡◌, ℕ, zero, suc, ◌+◌, ◌%◌, ◌^◌, ◌<◌, ◌≤◌, List, [], ◌∷◌, length, replicate, slice_get, Option, None, Some, inl, refl, sym, ap, ◌∙◌, subst, arith}
+use Rattle.std.proofs.Common.{◌≡◌, ℕ, zero, suc, ◌+◌, ◌^◌, ◌<◌, ◌≤◌, List, [], ◌∷◌, length, replicate, slice_get, Option, None, Some, inl, refl, sym, ap, subst, arith}
 use Rattle.std.specs.List.{AllByRecursion, AllZip}
 use Rattle.std.proofs.lemmas.Option.{none-some, same_Some}
 use mathlib.Core.Option.{some-injective, some-ne-none}
-use Rattle.trace.specs.Events.{Words}
-use Rattle.image_layout.specs.Places.{state_word}
 use Rattle.map_model.specs.declared.call.Call.{Call}
 use Rattle.world.specs.declared.site.Site.{Site}
 use Rattle.world.specs.Ground.{Ground, IsGround, version_of}
@@ -82,15 +80,15 @@ none_replied n zero v at = ap (λ (z : View). z.own) (sym (some-injective (fresh
 none_replied n (suc j) v at = caller_unreplied n j v at
 
 pub core_begins : BeginsSuited → CoreBegins
-core_begins begins site start core version scripts quiet front powered current few words is =
+core_begins begins site start core version scripts quiet front powered current freed few words is =
     record {
       views = replicate (length scripts) (fresh_view 1);
       well = quiet.well;
-      current = λ s live. (quiet.structure.takes_calls s live.slot live.live).same_version ∙ ap (λ (ws : Words). ws state_word % 2 ^ 8) front;
       powered = powered;
       fits = quiet.fits;
       says = quiet.says;
       served = subst (IsOpenStructure site.shape) front quiet.structure;
+      freed = freed;
       full = λ j v e at has _. absurd (subst (λ (es : List Entry). Has e es) (none_replied (length scripts) j v at) has);
       fenced = quiet.fenced;
       each = subst (λ callers. AllZip (CallerFits site) callers (replicate (length scripts) (fresh_view 1))) (sym is)

@@ -7,19 +7,21 @@ use Rattle.trace.specs.Events.{Words}
 use Rattle.segment_head.specs.HeadWord.{normal}
 use Rattle.image_layout.specs.Places.{state_word}
 use Rattle.image_layout.specs.StateWord.{image_version_in, marker_in}
-use Rattle.sound_image.specs.Segments.{frame_of, state_at, IsLive}
-use Rattle.world.specs.Ground.{Ground, IsStructured}
+use Rattle.sound_image.specs.Segments.{frame_of, state_at}
+use Rattle.world.specs.Ground.{Ground, IsStructured, IsCurrentIn}
 use Rattle.world.specs.Views.{View, At}
 use Rattle.world.specs.World.{fresh_view}
 use Rattle.world.specs.Laws.{EntriesAreLegal}
+use Rattle.world.specs.Slots.{CurrentSegmentsRest}
 use Rattle.world.specs.areas.Areas.{Whole}
+use Rattle.world.specs.Invariant.{IsWatched}
 use Rattle.restart_op.specs.Closing.{OwesNothing}
-use Rattle.restart_op.specs.AtRest.{IsOpenStructure}
+use Rattle.restart_op.specs.AtRest.{IsCurrent, IsOpenStructure}
 use Rattle.engine.specs.Core.{Caller, Core}
 use Rattle.engine.specs.Holding.{DoesCall, CallerFits, CoreHolds}
-use Rattle.engine.specs.Laws.{NoneRuns, ThroughIsQuiet, ThroughIsExact, ThroughHasMap}
+use Rattle.engine.specs.Laws.{NoneRuns, ThroughIsQuiet, ThroughIsExact, ThroughIsOnce, ThroughIsOwn, ThroughHasMap}
 use Rattle.engine.proofs.holding.Planned.{none_has}
-use Rattle.engine.proofs.holding.Served.{sound_now, live_current, unsplit}
+use Rattle.engine.proofs.holding.Served.{sound_now}
 use Rattle.engine.proofs.sessions.Cut.{told_legal}
 use Rattle.engine.proofs.sessions.Goodness.{caller_at}
 
@@ -45,39 +47,52 @@ module _ (site : Ground) (start : Words) (core : Core) (h : CoreHolds site start
   state_stays : core.words state_word ≡ site.front state_word
   state_stays = now.fixed state_word (omega arith) (λ e. omega (arith, e))
 
-  -- nobody splits a segment, so that each live one is normal
-  live_normal : (s : ℕ) → s < site.shape.segments → IsLive (frame_of site.shape core.words) s → state_at (frame_of site.shape core.words) s ≡ normal
-  live_normal s slot live = elim live [
-    | inl is ↦ is
-    | inr splits ↦ absurd (unsplit site core.words (fresh_view 0 ∷ h.views) h.well.holds h.current 0 (fresh_view 0) refl (λ i u _ at. (owes i u at).areas) (λ t whole. whole) s slot splits)
-  ]
+  -- a segment that is current in the structure has the version of the site
+  current_here : (s : ℕ) → IsCurrent site.shape core.words s → IsCurrentIn site core.words s
+  current_here s current = record { live = current.live; current = current.current ∙ ap image_version_in state_stays }
 
-  -- THE STRUCTURE is one on which callers run
-  open_now : IsOpenStructure site.shape core.words
-  open_now = record {
-    frame = now.sound;
-    not_clean = ap marker_in state_stays ∙ h.served.not_clean;
-    takes_calls = λ s slot live. record {
-      is_normal = live_normal s slot live;
-      same_version = h.current s (record { slot = slot; live = live }) ∙ sym (ap image_version_in state_stays);
-    };
-  }
+  -- nobody splits a segment, so that each current one is normal
+  module _ (rest : CurrentSegmentsRest) where
+    current_normal : (s : ℕ) → IsCurrent site.shape core.words s → state_at (frame_of site.shape core.words) s ≡ normal
+    current_normal s current = elim current.live.live [
+      | inl is ↦ is
+      | inr splits ↦ absurd (rest.nobody site core.words (fresh_view 0 ∷ h.views) h.well.holds (λ i u at. (owes i u at).areas) s (current_here s current) splits)
+    ]
 
-pub through_is_quiet : ThroughIsQuiet
-through_is_quiet site start core h none = record {
+    -- THE STRUCTURE is one on which callers run
+    open_now : IsOpenStructure site.shape core.words
+    open_now = record { frame = now.sound; not_clean = ap marker_in state_stays ∙ h.served.not_clean; takes_calls = current_normal }
+
+pub through_is_quiet : CurrentSegmentsRest → ThroughIsQuiet
+through_is_quiet rest site start core h none = record {
   well = h.well;
   nothing = owes site start core h none;
   fits = h.fits;
   says = h.says;
-  structure = open_now site start core h none;
+  structure = open_now site start core h none rest;
   fenced = h.fenced;
 }
 
+-- nobody has a segment whole, so that each current one is watched
+watched : (site : Ground) (start : Words) (core : Core) (h : CoreHolds site start core) → NoneRuns core
+    → (s : ℕ) → IsCurrentIn site core.words s → IsWatched site core.words (fresh_view 0 ∷ h.views) s
+watched site start core h none s current = (current, λ j v at whole. none_has v.areas (Whole s) (owes site start core h none j v at).areas whole)
+
 pub through_is_exact : ThroughIsExact
-through_is_exact site start core h none s b live near =
-    h.well.holds.notes_of_homes.exact s b
-    (live_current site core.words (fresh_view 0 ∷ h.views) h.well.holds h.current s live, λ j v at whole. none_has v.areas (Whole s) (owes site start core h none j v at).areas whole) near
+through_is_exact site start core h none s b current near =
+    h.well.holds.notes_of_homes.exact s b (watched site start core h none s current) near
     (λ j v o at has segment home. none_has v.owed o (owes site start core h none j v at).owed has)
+
+-- and nobody has a record under way from one place to another
+pub through_is_once : ThroughIsOnce
+through_is_once site start core h none s b r c t k current one other =
+    elim (h.well.holds.records.once s b r c t k (watched site start core h none s current) one other) [
+      | inl same ↦ same
+      | inr p ↦ absurd (none_has p.1.moving p.2 (owes site start core h none p.0 p.1 p.3).moving p.4)
+    ]
+
+pub through_is_own : ThroughIsOwn
+through_is_own site start core h none s b r k current hit = h.well.holds.records.own s b r k (watched site start core h none s current) hit
 
 pub through_has_map : EntriesAreLegal → ThroughHasMap
 through_has_map legal site start core opening h same none k =

@@ -23,7 +23,7 @@ use Rattle.world.specs.Views.{View, Has, At}
 use Rattle.world.specs.StepKinds.{StepKind, view_by, MayTake}
 use Rattle.world.specs.areas.Worlds.{IsWell}
 use Rattle.world.specs.StepLaws.{found_of, words_of_step, views_of_step, KeepsWell, PowerStays}
-use Rattle.world.specs.Slots.{AllCurrent, StaysCurrent, TakenStays, FullsAreTaken}
+use Rattle.world.specs.Slots.{FreeSlotsStayTakenInMedia, FullsAreTaken}
 use Rattle.world.specs.Wants.{answer_to, word_of, left_by, event_of, words_after}
 use Rattle.world.specs.World.{changed_at, fresh_view}
 use Rattle.world.specs.Laws.{ChangesOneWord}
@@ -242,8 +242,7 @@ pub record TurnLaws : Type 0 where
   pub steps : KeepsSuits
   pub words : AsksWords
   pub well : KeepsWell
-  pub current : StaysCurrent
-  pub media : TakenStays
+  pub media : FreeSlotsStayTakenInMedia
   pub full : FullsAreTaken
   pub power : PowerStays
   pub one_word : ChangesOneWord
@@ -291,9 +290,6 @@ module _ (laws : TurnLaws) (site : Ground) (start : Words) (core : Core) (h : Co
           subst (λ w. P (words_after site.shape w (suc j) core.words) (fresh_view 0 ∷ changed_at j (view_by site.shape kind (core.words (word_of site.shape w))) h.views)) (sym well_step.wants)
           (subst (λ (vs : List View). P (words_of_step site kind (suc j) core.words) (fresh_view 0 ∷ vs)) (sym (changed_is j (view_by site.shape kind (found_of site kind core.words)) h.views v at)) holds)
 
-      current_after : AllCurrent site core_after.words
-      current_after = by_step (λ ws vs. AllCurrent site ws) (laws.current site core.words seats (suc j) v kind (suc j) h.well.holds at well_step.may h.current)
-
       powered_after : core_after.words (power_word site.shape) ≡ 0
       powered_after = by_step (λ ws vs. ws (power_word site.shape) ≡ 0)
           (laws.power site core.words seats (suc j) v kind (suc j) h.well.holds at (laws.part.power e.op n) well_step.may ∙ h.powered)
@@ -302,14 +298,14 @@ module _ (laws : TurnLaws) (site : Ground) (start : Words) (core : Core) (h : Co
       told_full : (found : ℕ) (x : Entry) → Has x (view_by site.shape kind found v).own → x.reply ≡ reply.Full → NoneIsFree site core.words seats
       told_full found x has full = elim (entered_full site kind found v x has full) [
         | inl old ↦ h.full (suc j) v x at old full
-        | inr tells ↦ laws.full site core.words seats (suc j) v tells.0 h.well.holds at (subst (λ (k : StepKind). MayTake site k v) tells.1 well_step.may)
+        | inr tells ↦ λ s slot was. laws.full site core.words seats (suc j) v tells.0 h.well.holds at (subst (λ (k : StepKind). MayTake site k v) tells.1 well_step.may) s slot
       ]
 
       full_after : FullIsTaken site core_after.words (fresh_view 0 ∷ after)
-      full_after = by_step (FullIsTaken site) (λ k u x a has full s slot.
-          laws.media site core.words seats (suc j) v kind (suc j) h.well.holds at well_step.may h.current s slot
+      full_after = by_step (FullIsTaken site) (λ k u x a has full s slot was.
+          laws.media site core.words seats (suc j) v kind (suc j) h.well.holds at well_step.may s slot was
           (each_view seats (suc j) v (view_by site.shape kind (found_of site kind core.words) v) at (λ _ (u : View). Has x u.own → NoneIsFree site core.words seats)
-          (λ mine. told_full (found_of site kind core.words) x mine full) (λ i w _ there old. h.full i w x there old full) k u a has s slot))
+          (λ mine. told_full (found_of site kind core.words) x mine full) (λ i w _ there old. h.full i w x there old full) k u a has s slot was))
 
       word_after : (i : ℕ) → core_after.words i < 2 ^ 64
       word_after i =
@@ -338,11 +334,11 @@ module _ (laws : TurnLaws) (site : Ground) (start : Words) (core : Core) (h : Co
       stepped = record {
         views = after;
         well = well_after;
-        current = current_after;
         powered = powered_after;
         fits = values_fit start _ core.trace h.fits (λ i. subst (λ (ws : Words). ws i < 2 ^ 64) well_after.words_are (word_after i));
         says = h.says;
         served = h.served;
+        freed = h.freed;
         full = full_after;
         fenced = fenced_still site.shape (wanted e) n j core.trace ∙ h.fenced;
         each = zip_set (CallerFits site) core.callers h.views j (answered c calling.call e (answer_to (wanted e) n)) v (view_by site.shape kind n) h.each at caller_after;

@@ -17,8 +17,9 @@ use Rattle.world.specs.Views.{Has}
 use Rattle.world.specs.Wants.{words_after}
 use Rattle.world.specs.World.{fresh_view}
 use Rattle.world.specs.areas.Areas.{Area, Whole}
+use Rattle.world.proofs.stepping.Rests.{current_segments_rest}
 use Rattle.part.specs.Doings.{Doings, nothing_done, with_event_of, IsStill}
-use Rattle.part.specs.Outcomes.{Outcome, replied, again, need_split, finished}
+use Rattle.part.specs.Outcomes.{Outcome, replied, again, stale, need_split, finished}
 use Rattle.part.specs.Causes.{IsUnsplit}
 use Rattle.part.specs.Splits.{HasMovedLock}
 use Rattle.part.proofs.Still.{nothing_still, own_events_keep_still, alone_nothing_moves}
@@ -27,15 +28,15 @@ use Rattle.restart_op.specs.Restarted.{words_at_end}
 use Rattle.engine.specs.declared.engine.Engine.{Engine}
 use Rattle.engine.specs.declared.engine.End.{End}
 use Rattle.engine.specs.Engine.{begun, wanted, end_of, reply_of_end, IsFresh, anew}
-use Rattle.engine.specs.OpPart.{op_part, split_segment}
+use Rattle.engine.specs.OpPart.{op_part, Work, calls as of_calls, splits, repairs, work_of}
 use Rattle.engine.specs.Core.{Caller, call_at, current, engine_for, idle, callers_from, drawn_by, ended, ended_or_on, answered, with_event, turn_of_call, turn_of_caller}
 use Rattle.engine.specs.Holding.{CoreHolds, TurnKeeps}
 use Rattle.engine.specs.Laws.{IsServedImage, OpenedHolds, AreScripts}
 use Rattle.engine.specs.Causes.{doings_by, with_doings, Watched, answer_now, engine_next, doings_of_call, doings_of_caller, watched_turn, Decides, BeginsBare, BeginsUndecided, DecidedStays, EndsAreDecided, HasCauseBy, EndsHaveCauses, watched_run}
-use Rattle.engine.specs.Alone.{IsTold, told_reply, told_again, told_to_split, told_finished, IsBetween, IsRestingBy, IsResting, IsAlone, IsNext, at_start, along, BusyIsOthers, AllRestAtStart, AloneAtStart, RestingIsAlone, OwnTurnsStayAlone, AloneNeverAgain, EndsAreTold, EndsTell, EndedRests, OthersStayResting}
+use Rattle.engine.specs.Alone.{IsTold, told_reply, told_again, told_to_split, told_stale, told_finished, IsBetween, IsRestingBy, IsResting, IsAlone, IsNext, at_start, along, BusyIsOthers, AllRestAtStart, AloneAtStart, RestingIsAlone, OwnTurnsStayAlone, AloneNeverAgain, EndsAreTold, EndsTell, EndedRests, OthersStayResting}
 use Rattle.engine.proofs.Places.{set_cases}
 use Rattle.engine.proofs.machines.Ops.{never_hands_on}
-use Rattle.engine.proofs.holding.Served.{sound_now, unsplit}
+use Rattle.engine.proofs.holding.Served.{sound_now}
 use Rattle.engine.proofs.attempts.Stepping.{op_decided}
 use Rattle.engine.proofs.attempts.Doing.{set_there, anew_fresh}
 use Rattle.engine.proofs.attempts.Seats.{IsSeated, seat_stands, CallCauses, site_there, holds_there, seat_there}
@@ -179,13 +180,17 @@ one_more_turn : (shape : Shape) (turns : List ℕ) (c : ℕ) (w : Watched) → w
 one_more_turn shape [] c w = refl
 one_more_turn shape (d ∷ turns) c w = one_more_turn shape turns c (watched_turn shape d w)
 
-told_by : (segment : Option ℕ) (shape : Shape) (words : Words) (did : Doings) (call : Call) (event : Want) (outcome : Outcome) → HasCauseBy segment shape words did call event outcome → IsToldOne outcome
-told_by segment shape words did call event (replied reply place) has = told_reply tt
-told_by segment shape words did call event (again why) has = told_again why refl
-told_by None shape words did call event (need_split slot) has = told_to_split slot refl
-told_by (Some segment) shape words did call event finished has = told_finished refl
-told_by None shape words did call event outcome has = absurd has
-told_by (Some segment) shape words did call event outcome has = absurd has
+told_by : (work : Work) (shape : Shape) (version : ℕ) (words : Words) (did : Doings) (call : Call) (event : Want) (outcome : Outcome) → HasCauseBy work shape version words did call event outcome
+    → IsToldOne outcome
+told_by work shape version words did call event (replied reply place) has = told_reply tt
+told_by work shape version words did call event (again why) has = told_again why refl
+told_by of_calls shape version words did call event (need_split slot) has = told_to_split slot refl
+told_by of_calls shape version words did call event (stale slot byte) has = told_stale slot byte refl
+told_by (splits segment) shape version words did call event finished has = told_finished refl
+told_by (repairs segment) shape version words did call event finished has = told_finished refl
+told_by of_calls shape version words did call event outcome has = absurd has
+told_by (splits segment) shape version words did call event outcome has = absurd has
+told_by (repairs segment) shape version words did call event outcome has = absurd has
 
 module _ (causes : EndsHaveCauses) (first : BeginsUndecided) (stays : DecidedStays)
     (shape : Shape) (words : List ℕ) (image : IsServedImage shape words) (scripts : List (List Call)) (are : AreScripts scripts) where
@@ -196,7 +201,7 @@ module _ (causes : EndsHaveCauses) (first : BeginsUndecided) (stays : DecidedSta
       → IsToldOne outcome
   next_told turns all j e n = next_ends stays IsToldOne shape (at turns).core.words e
       (λ outcome is. all j n.caller n.there e outcome n.runs is)
-      (λ outcome decides. told_by (split_segment e.op) shape (at turns).core.words ((at turns).doings j) n.call (wanted e) outcome
+      (λ outcome decides. told_by (work_of e.op) shape n.caller.site.version (at turns).core.words ((at turns).doings j) n.call (wanted e) outcome
       (causes shape words image scripts are turns j n.caller n.call e outcome n.there n.calls n.runs decides))
 
   turn_told : (turns : List ℕ) → AllTold (at turns) → (c : ℕ) → AllTold (watched_turn shape c (at turns))
@@ -242,12 +247,13 @@ module _ (causes : EndsHaveCauses) (first : BeginsUndecided) (stays : DecidedSta
       abbrev seated : IsSeated site w.core.words (fresh_view 0 ∷ h.views) (suc j) n.caller.site n.call e (w.doings j)
       seated = seat_there opens keeps shape words image scripts are turns laws j n.caller n.call e n.there n.calls n.runs
 
-      -- while the caller goes on in its call, no segment is split by anyone
-      nothing_splits : split_segment e.op ≡ None → IsUnsplit shape w.core.words
-      nothing_splits own =
-          unsplit site w.core.words (fresh_view 0 ∷ h.views) h.well.holds h.current (suc j) seated.view seated.at
-          (λ i u apart seat. (others_bare bare site (slice_index words) w.core h j alone.others i u apart seat).areas)
-          (λ s has. subst (λ (areas : List Area). Has (Whole s) areas) (own_no_areas site n.caller.site n.call e.op seated.view own seated.suits.stands) has)
+      -- while the caller goes on in its call, no current segment is split by anyone
+      nothing_splits : work_of e.op ≡ of_calls → IsUnsplit shape n.caller.site.version w.core.words
+      nothing_splits own s slot version splitting =
+          let whole = current_segments_rest.others site w.core.words (fresh_view 0 ∷ h.views) (suc j) seated.view h.well.holds seated.at
+          (λ i u apart seat. (others_bare bare site (slice_index words) w.core h j alone.others i u apart seat).areas) s
+          (record { live = record { slot = slot; live = inr splitting }; current = version ∙ seated.version }) splitting in
+          subst (λ (areas : List Area). Has (Whole s) areas) (own_no_areas site n.caller.site n.call e.op seated.view own seated.suits.stands) whole.1
 
       lock_stays : (segment word before after : ℕ) → HasMovedLock shape w.core.words (w.doings j) n.call segment word before after → ⊥
       lock_stays segment word before after m =
@@ -256,11 +262,12 @@ module _ (causes : EndsHaveCauses) (first : BeginsUndecided) (stays : DecidedSta
             | inr own ↦ m.by_others own
           ]
 
-      nothing_moves : (o : Option ℕ) → split_segment e.op ≡ o → (word before after : ℕ) → HasCauseBy o shape w.core.words (w.doings j) n.call (wanted e) (again (Moved word before after)) → ⊥
-      nothing_moves (Some segment) is word before after c = lock_stays segment word before after c.1
-      nothing_moves None is word before after c = elim c.1 [
+      nothing_moves : (work : Work) → work_of e.op ≡ work → (word before after : ℕ) → HasCauseBy work shape n.caller.site.version w.core.words (w.doings j) n.call (wanted e) (again (Moved word before after)) → ⊥
+      nothing_moves (splits segment) is word before after c = lock_stays segment word before after c.1
+      nothing_moves (repairs segment) is word before after c = c
+      nothing_moves of_calls is word before after c = elim c.1 [
         | inl moved ↦ alone_nothing_moves shape w.core.words (w.doings j) n.call word before after h.well.holds.site_is.shape seated.key alone.still moved
-        | inr away ↦ alone_nothing_leads_away site w.core.words (w.doings j) n.call word before after h.well.holds.site_is
+        | inr away ↦ alone_nothing_leads_away site n.caller.site.version w.core.words (w.doings j) n.call word before after h.well.holds.site_is
             (sound_now site w.core.words (fresh_view 0 ∷ h.views) h.well.holds) (nothing_splits is) seated.key alone.still away
       ]
 
@@ -269,7 +276,7 @@ module _ (causes : EndsHaveCauses) (first : BeginsUndecided) (stays : DecidedSta
           let o = busy shape words image scripts are turns j n.caller n.call e word value n.there n.calls n.runs decides in
           o.midst (alone.others o.place o.caller o.elsewhere o.there)
       never_by (Moved word before after) decides =
-          nothing_moves (split_segment e.op) refl word before after (causes shape words image scripts are turns j n.caller n.call e (again (Moved word before after)) n.there n.calls n.runs decides)
+          nothing_moves (work_of e.op) refl word before after (causes shape words image scripts are turns j n.caller n.call e (again (Moved word before after)) n.there n.calls n.runs decides)
 
       next_calm : (outcome : Outcome) → op_part.outcome (engine_next shape w.core.words e).op ≡ Some outcome → IsCalm outcome
       next_calm = next_ends stays IsCalm shape w.core.words e

@@ -79,7 +79,7 @@ use Rattle.release_op.specs.Steps.{held_in}
 use Rattle.release_op.specs.ReleasePart.{kind_at as release_kind, SuitsStep as ReleaseSuits}
 use Rattle.engine.specs.declared.engine.Op.{Op}
 use Rattle.engine.specs.declared.engine.Op.TheVariants.{Read, Write, Move, Stash, Release}
-use Rattle.engine.specs.OpPart.{CallState, call_part, op_part, split_segment}
+use Rattle.engine.specs.OpPart.{CallState, call_part, op_part, calls, work_of}
 
 -- ---- the word that an event is about, if it finds its value
 abbrev pub IsAbout : Want → ℕ → Type 0
@@ -333,7 +333,7 @@ call_no_areas site here call (other (second (first op))) v s = move_no_areas sit
 call_no_areas site here call (other (second (second (first op)))) v s = stash_no_areas site op.kept op.stage.seen v op.stage.step s.stands.view
 call_no_areas site here call (other (second (second (second op)))) v s = release_no_areas site op.kept v op.step s.view
 
-pub own_no_areas : (site : Ground) (here : Site) (call : Call) (op : Op) (v : View) → split_segment op ≡ None → op_part.Stands site here call op v → v.areas ≡ []
+pub own_no_areas : (site : Ground) (here : Site) (call : Call) (op : Op) (v : View) → work_of op ≡ calls → op_part.Stands site here call op v → v.areas ≡ []
 own_no_areas site here call (Read op) v own s = call_no_areas site here call (one op) v s
 own_no_areas site here call (Write op) v own s = call_no_areas site here call (other (first op)) v s
 own_no_areas site here call (Move op) v own s = call_no_areas site here call (other (second (first op))) v s

@@ -26,6 +26,7 @@ use Rattle.part.specs.Outcomes.{again, off, finished}
 use Rattle.part.specs.Part.{next, finds}
 use Rattle.part.specs.Causes.{hash_for, IsTaken, HasAgainCause}
 use Rattle.part.specs.Splits.{HasSplitCause}
+use Rattle.part.specs.Repairs.{HasRepairCause}
 use Rattle.part.specs.Either.{one, other}
 use Rattle.part.specs.Then.{Then, first, second, passed}
 use Rattle.part.proofs.Still.{bucket_near}
@@ -43,9 +44,20 @@ use Rattle.rest_op.specs.declared.op.RestOp.{RestOp}
 use Rattle.rest_op.specs.declared.op.RestStep.{RestStep}
 use Rattle.rest_op.specs.declared.op.RestStep.TheVariants as rest
 use Rattle.rest_op.specs.RestPart.{outcome_at as rest_outcome_at}
+use Rattle.repair_op.specs.declared.op.RepairOp.{RepairOp}
+use Rattle.repair_op.specs.RepairPart.{repair_part, outcome_at as repair_outcome_at}
+use Rattle.redirect_op.specs.declared.op.RedirectOp.{RedirectOp}
+use Rattle.redirect_op.specs.declared.step.RedirectStep.{RedirectStep}
+use Rattle.redirect_op.specs.Steps.{begun_at, wanted_in as redirect_wanted_in}
+use Rattle.redirect_op.specs.Stands.{SuitsStep as RedirectSuits}
+use Rattle.redirect_op.specs.Ends.{outcome_at as redirect_outcome_at}
+use Rattle.redirect_op.specs.RedirectPart.{redirect_part}
+use Rattle.mend_op.specs.declared.op.MendStep.{MendStep}
+use Rattle.mend_op.specs.declared.op.MendStep.TheVariants as mend
+use Rattle.mend_op.specs.MendPart.{mend_part, outcome_at as mend_outcome_at}
 use Rattle.engine.specs.declared.engine.Engine.{Engine}
 use Rattle.engine.specs.Engine.{wanted}
-use Rattle.engine.specs.OpPart.{CallState, SplitState, OpState, state_of, whole_split, split_and_more, publish_and_rest, publish_of, op_part, split_segment, split_segment_in}
+use Rattle.engine.specs.OpPart.{CallState, SplitState, RepairState, OpState, state_of, whole_split, split_and_more, publish_and_rest, publish_of, whole_repair, redirect_and_mend, after_guard, redirect_of, mend_of, op_part, Work, calls as of_calls, splits, repairs, work_of, split_segment_in, repaired_segment_in}
 use Rattle.engine.specs.Core.{Caller, Core, current}
 use Rattle.engine.specs.Holding.{IsCalling, DoesCall, CallerFits, CoreHolds, TurnKeeps}
 use Rattle.engine.specs.Laws.{IsServedImage, OpenedHolds, AreScripts}
@@ -53,10 +65,10 @@ use Rattle.engine.specs.Causes.{Watched, BeginsBare, Decides, HasCauseBy, HasCau
 use Rattle.engine.specs.Alone.{IsBetween, IsOthers, BusyIsOthers}
 use Rattle.engine.proofs.machines.Ops.{either_ops, each_named}
 use Rattle.engine.proofs.sessions.Goodness.{caller_at}
-use Rattle.engine.proofs.attempts.Stepping.{segment_in, segment_is, op_not_own}
+use Rattle.engine.proofs.attempts.Stepping.{work_in, work_is, op_not_own}
 use Rattle.engine.proofs.attempts.Seats.{IsSeated, seat_steps, CallCauses, site_there, there, holds_there, seat_there}
 use Rattle.engine.proofs.lonely.Looking.{IsAbout, finds_about, by_kind, call_looks}
-use Rattle.engine.proofs.lonely.Guarding.{IsFoundTaken, a_lock, a_guard, enclose_found, split_told, split_found}
+use Rattle.engine.proofs.lonely.Guarding.{IsFoundTaken, a_lock, a_guard, enclose_found, split_told, split_found, IsTrying, repair_told, repair_found, redirect_told, redirect_found}
 
 -- ---- a caller between two attempts holds nothing
 pub between_bare : BeginsBare → (site : Ground) (c : Caller) (v : View) → CallerFits site c v → IsBetween c → HoldsOnly [] v
@@ -93,6 +105,23 @@ made_again : (op : SplitOp) (why : Why) (t : Bool) → split_and_more.outcome (p
 made_again op why true some = absurd (none-some (again why) some)
 made_again op why false some = some
 
+-- nor a mending, nor what goes on from the beginning of a repair
+mend_calm : (s : MendStep) (why : Why) → mend_outcome_at s ≡ Some (again why) → ⊥
+mend_calm mend.Ended why some = absurd (let same = same_Some finished (again why) some in cc)
+mend_calm s why some = none-some (again why) some
+
+begun_calm : (side : Option ℕ) (why : Why) → redirect_outcome_at (begun_at side) ≡ Some (again why) → ⊥
+begun_calm (Some side) why some = none-some (again why) some
+begun_calm None why some = none-some (again why) some
+
+directed_again : (op : RedirectOp) (why : Why) (t : Bool) → redirect_and_mend.outcome (passed redirect_part mend_part mend_of t op) ≡ Some (again why) → redirect_outcome_at op.step ≡ Some (again why)
+directed_again op why true some = absurd (none-some (again why) some)
+directed_again op why false some = some
+
+guarded_again : (op : RepairOp) (why : Why) (t : Bool) → whole_repair.outcome (passed repair_part redirect_and_mend after_guard t op) ≡ Some (again why) → repair_outcome_at op.step ≡ Some (again why)
+guarded_again op why true some = absurd (begun_calm op.guarded.side why (directed_again (redirect_of op) why (redirect_part.hands_on (redirect_of op)) some))
+guarded_again op why false some = some
+
 -- ---- in the world, for who sits there
 module _ (laws : CallCauses) (site : Ground) (words : Words) (views : List View) (h : Holds site words views) (j : ℕ) (here : Site) (call : Call) (e : Engine) (did : Doings)
     (seat : IsSeated site words views j here call e did) (word value : ℕ) (decides : Decides site.shape words e (again (Busy word value))) where
@@ -107,7 +136,7 @@ module _ (laws : CallCauses) (site : Ground) (words : Words) (views : List View)
   lock_taken : IsTaken site.shape words did call word value → IsLockWord site.shape word
   lock_taken t = (t.own.0, t.own.3, t.own.2, bucket_near site.shape (hash_for site.shape words did call) did.loads t.own.0 call t.own.3 t.own.4, t.own.5)
 
-  call_found : (m : CallState) → state_of e.op ≡ one m → HasAgainCause site.shape words did call (wanted e) (Busy word value) → Found
+  call_found : (m : CallState) → state_of e.op ≡ one m → HasAgainCause site.shape words did call (wanted e) here.version (Busy word value) → Found
   call_found m is (looked, t) =
       let step = seat_steps laws.part site words views h j here call e did seat in
       let n : ℕ = finds op_part site words e.op in
@@ -133,17 +162,38 @@ module _ (laws : CallCauses) (site : Ground) (words : Words) (views : List View)
       absurd (later_calm (next publish_and_rest site words (first op)) (Busy word value) some)
   split_busy (second (second (second op))) s none some c = absurd (later_calm (next publish_and_rest site words (second op)) (Busy word value) some)
 
-  -- ---- whichever
-  by_state : (m : OpState) → state_of e.op ≡ m → HasCauseBy (segment_in m) site.shape words did call (wanted e) (again (Busy word value)) → Found
-  by_state (one m) is c = call_found m is c
-  by_state (other m) is c =
-      split_busy m (subst (λ (x : OpState). either_ops.Stands site here call x seat.view) is seat.suits.stands)
-      (sym (ap either_ops.outcome is) ∙ decides.undecided)
-      (ap (λ (x : OpState). either_ops.outcome (next either_ops site words x)) (sym is) ∙ (ap either_ops.outcome (sym (each_named (next either_ops site words (state_of e.op)))) ∙ decides.decides))
-      (subst (λ event. HasSplitCause site.shape words did call (split_segment_in m) event (again (Busy word value))) (ap either_ops.wanted is) c)
+  -- ---- one of a repair
+  repair_busy : (m : RepairState) → whole_repair.Stands site here call m seat.view → whole_repair.outcome m ≡ None → whole_repair.outcome (next whole_repair site words m) ≡ Some (again (Busy word value))
+      → HasRepairCause site.shape words did call (repaired_segment_in m) (whole_repair.wanted m) (again (Busy word value)) → Found
+  repair_busy (first op) s none some (looked, t) =
+      let y : RepairOp = next repair_part site words op in
+      let tries : IsTrying op word value op.step = repair_told op word value op.step (finds repair_part site words op) none (guarded_again y (Busy word value) (repair_part.hands_on y) some) in
+      repair_found site words views h j seat.view seat.at here call did word value op s.stands.here_is t op.step tries s.stands.view (about_of (whole_repair.wanted (first op)) looked)
+  repair_busy (second (first op)) s none some (looked, t) =
+      let y : RedirectOp = next redirect_part site words op in
+      let takes = redirect_told op (Busy word value) op.step (finds redirect_part site words op) refl none (directed_again y (Busy word value) (redirect_part.hands_on y) some) in
+      redirect_found site words views h j seat.view seat.at here call did word value op t
+      (subst (λ (x : RedirectStep). RedirectSuits site here call op x seat.view) takes s.stands)
+      (subst (λ (x : RedirectStep). IsAbout (redirect_wanted_in op x) word) takes (about_of (whole_repair.wanted (second (first op))) looked))
+  repair_busy (second (second op)) s none some c = absurd (mend_calm (next mend_part site words op).step (Busy word value) some)
 
-  found_taken : HasCause site.shape words did call e (again (Busy word value)) → Found
-  found_taken c = by_state (state_of e.op) refl (subst (λ s. HasCauseBy s site.shape words did call (wanted e) (again (Busy word value))) (segment_is e.op) c)
+  -- ---- whichever
+  -- its outcome behind the event is that of its state
+  decided_in : (m : OpState) → state_of e.op ≡ m → either_ops.outcome (next either_ops site words m) ≡ Some (again (Busy word value))
+  decided_in m is =
+      ap (λ (x : OpState). either_ops.outcome (next either_ops site words x)) (sym is) ∙ (ap either_ops.outcome (sym (each_named (next either_ops site words (state_of e.op)))) ∙ decides.decides)
+
+  by_state : (m : OpState) → state_of e.op ≡ m → HasCauseBy (work_in m) site.shape here.version words did call (wanted e) (again (Busy word value)) → Found
+  by_state (one m) is c = call_found m is c
+  by_state (other (one m)) is c =
+      split_busy m (subst (λ (x : OpState). either_ops.Stands site here call x seat.view) is seat.suits.stands) (sym (ap either_ops.outcome is) ∙ decides.undecided) (decided_in (other (one m)) is)
+      (subst (λ event. HasSplitCause site.shape words did call (split_segment_in m) event (again (Busy word value))) (ap either_ops.wanted is) c)
+  by_state (other (other m)) is c =
+      repair_busy m (subst (λ (x : OpState). either_ops.Stands site here call x seat.view) is seat.suits.stands) (sym (ap either_ops.outcome is) ∙ decides.undecided) (decided_in (other (other m)) is)
+      (subst (λ event. HasRepairCause site.shape words did call (repaired_segment_in m) event (again (Busy word value))) (ap either_ops.wanted is) c)
+
+  found_taken : HasCause site.shape here.version words did call e (again (Busy word value)) → Found
+  found_taken c = by_state (state_of e.op) refl (subst (λ s. HasCauseBy s site.shape here.version words did call (wanted e) (again (Busy word value))) (work_is e.op) c)
 
   -- A VIEW OF ANOTHER SEAT holds something
   pub record IsHeldElsewhere : Type 0 where
@@ -178,13 +228,14 @@ module _ (laws : CallCauses) (site : Ground) (words : Words) (views : List View)
       }
 
   -- whichever machine it is, the event found the value there
-  looked_at : (o : Option ℕ) → HasCauseBy o site.shape words did call (wanted e) (again (Busy word value))
+  looked_at : (work : Work) → HasCauseBy work site.shape here.version words did call (wanted e) (again (Busy word value))
       → Finds (wanted e) (answer_to (wanted e) (words (word_of site.shape (wanted e)))) word value
-  looked_at None c = c.0
-  looked_at (Some segment) c = c.0
+  looked_at of_calls c = c.0
+  looked_at (splits segment) c = c.0
+  looked_at (repairs segment) c = c.0
 
-  pub held_elsewhere : HasCause site.shape words did call e (again (Busy word value)) → IsHeldElsewhere
-  held_elsewhere c = held_by (finds_newest site.shape words (wanted e) word value (looked_at (split_segment e.op) c)).1 (found_taken c)
+  pub held_elsewhere : HasCause site.shape here.version words did call e (again (Busy word value)) → IsHeldElsewhere
+  held_elsewhere c = held_by (finds_newest site.shape words (wanted e) word value (looked_at (work_of e.op) c)).1 (found_taken c)
 
 -- ---- after any turns
 module _ (laws : CallCauses) (bare : BeginsBare) (opens : OpenedHolds) (keeps : TurnKeeps) (causes : EndsHaveCauses)

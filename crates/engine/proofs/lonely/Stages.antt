@@ -1,21 +1,23 @@
--- THE NEXT EVENT of a machine of a caller alone leaves it as far in its call, or takes a slot; and leaves fewer events of its attempt.
-use Rattle.std.proofs.Common.{◌≡◌, ◌≢◌, ℕ, ◌+◌, ◌<◌, ◌≤◌, inl, inr, Bool, true, false, None, Some, List, refl, sym, ◌∙◌, ap, arith}
+-- THE NEXT EVENT of a machine of a caller alone leaves it as far in its call, takes or frees a slot, or renews a segment; and leaves fewer events of its
+-- attempt.
+use Rattle.std.proofs.Common.{◌≡◌, ◌≢◌, ℕ, ◌+◌, ◌<◌, ◌≤◌, inl, inr, Bool, true, false, Some, List, refl, sym, ◌∙◌, ap, arith}
 use Rattle.std.specs.Prelude.{if◌then◌else◌}
 use Rattle.std.proofs.lemmas.Bool.{cases_eq}
 use Rattle.std.proofs.lemmas.Option.{none-some, same_Some}
 use Rattle.op_core.specs.declared.want.Want.TheVariants.{Done}
 use Rattle.trace.specs.Events.{Words}
+use Rattle.segment_head.specs.HeadWord.{free}
 use Rattle.image_layout.specs.Volatile.{directory_guard}
 use Rattle.map_model.specs.declared.call.Call.{Call}
 use Rattle.map_model.specs.declared.entry.Reply.TheVariants.{Full}
 use Rattle.world.specs.declared.site.Site.{Site}
 use Rattle.world.specs.Ground.{Ground}
 use Rattle.world.specs.Views.{View, At}
-use Rattle.world.specs.Wants.{answer_to}
-use Rattle.world.specs.StepKinds.{of_structure}
+use Rattle.world.specs.Wants.{answer_to, word_of}
+use Rattle.world.specs.StepKinds.{StepKind, of_structure}
 use Rattle.world.specs.Slots.{OthersHaveNoAreas}
 use Rattle.world.specs.Invariant.{Holds}
-use Rattle.world.specs.areas.Rows.{news}
+use Rattle.world.specs.areas.Rows.{news, frees, renews}
 use Rattle.world.specs.areas.Kinds.{of_directory, moves}
 use Rattle.world.proofs.stepping.Answers.{is_answer}
 use Rattle.world.proofs.stepping.Rests.{others_are_quiet}
@@ -37,12 +39,31 @@ use Rattle.directory_op.specs.declared.op.DirectoryOp.{DirectoryOp}
 use Rattle.directory_op.specs.DirectoryPart.{directory_part, WinsWhereFree}
 use Rattle.directory_op.specs.Left.{left_alone as publish_alone}
 use Rattle.rest_op.specs.RestPart.{rest_part}
+use Rattle.repair_op.specs.declared.op.RepairOp.{RepairOp}
+use Rattle.repair_op.specs.declared.step.Settling.TheVariants as settling
+use Rattle.repair_op.specs.declared.step.RepairStep.{RepairStep}
+use Rattle.repair_op.specs.declared.step.RepairStep.TheVariants as repair
+use Rattle.repair_op.specs.Steps.{with_state, wanted_in as repair_wanted_in, next_in as repair_next_in}
+use Rattle.repair_op.specs.Stands.{kind_at as repair_kind}
+use Rattle.repair_op.specs.RepairPart.{repair_part}
+use Rattle.redirect_op.specs.declared.op.RedirectOp.{RedirectOp}
+use Rattle.redirect_op.specs.RedirectPart.{redirect_part}
+use Rattle.mend_op.specs.declared.op.MendOp.{MendOp}
+use Rattle.mend_op.specs.declared.op.MendStep.{MendStep}
+use Rattle.mend_op.specs.declared.op.MendStep.TheVariants as mend
+use Rattle.mend_op.specs.Words.{renewed_head}
+use Rattle.mend_op.specs.Steps.{wanted_in as mend_wanted_in, next_in as mend_next_in}
+use Rattle.mend_op.specs.Stands.{kind_at as mend_kind}
+use Rattle.mend_op.specs.MendPart.{mend_part, outcome_at as mend_outcome_at}
 use Rattle.engine.specs.declared.engine.Op.{Op}
-use Rattle.engine.specs.declared.engine.Op.TheVariants.{Read, Write, Move, Stash, Release, Enclose, Split, Publish, Rest}
-use Rattle.engine.specs.OpPart.{CallState, publish_of, rest_after, publish_and_rest, split_and_more, call_part, named, op_part, split_segment}
-use Rattle.engine.specs.Left.{most_events, op_left_alone, stage}
-use Rattle.engine.specs.Alone.{IsCramped}
-use Rattle.engine.proofs.attempts.Stepping.{next_segment}
+use Rattle.engine.specs.declared.engine.Op.TheVariants.{Read, Write, Move, Stash, Release, Enclose, Split, Publish, Rest, Repair, Redirect, Mend}
+use Rattle.engine.specs.OpPart.{CallState, publish_of, rest_after, publish_and_rest, split_and_more, redirect_of, mend_of, redirect_and_mend, after_guard, call_part, named, op_part, calls, work_of}
+use Rattle.engine.specs.Left.{most_events, op_left_alone, has_freed, is_renewed, stage}
+use Rattle.engine.specs.Alone.{IsDue}
+use Rattle.engine.proofs.machines.Ops.{call_kind}
+use Rattle.engine.proofs.attempts.Stepping.{next_work}
+use Rattle.engine.proofs.lonely.Storing.{Spares, no_frees, enclose_spares, split_spares, publish_spares, rest_spares, repair_spares, repair_frees, repairs_at, redirect_spares, mend_spares, mend_renews, mends_at}
+use Rattle.engine.proofs.lonely.Repairing.{freed_stays, redirect_never, renewed_same, ended_renewed}
 
 -- what is used of the machines
 pub record StageLaws : Type 0 where
@@ -51,13 +72,19 @@ pub record StageLaws : Type 0 where
   pub takes : TakesFreeSlot
   pub stays : NewSlotStays
   pub wins : WinsWhereFree
-  pub never : (op : Op) → split_segment op ≡ None → op_part.outcome op ≡ Some finished → ⊥
+  pub never : (op : Op) → work_of op ≡ calls → op_part.outcome op ≡ Some finished → ⊥
 
 -- ---- stages
 abbrev side_stage : Bool → ℕ
-side_stage new = if new then 2 else 0
+side_stage new = if new then 4 else 2
 
-call_stage : (m : CallState) → stage (named (one m)) ≡ 1
+abbrev guard_stage : Bool → ℕ
+guard_stage freed = if freed then 0 else 2
+
+abbrev mend_stage : Bool → ℕ
+mend_stage renewed = if renewed then 4 else 0
+
+call_stage : (m : CallState) → stage (named (one m)) ≡ 3
 call_stage (one op) = refl
 call_stage (other (first op)) = refl
 call_stage (other (second (first op))) = refl
@@ -72,17 +99,31 @@ call_left (other (second (second (first op)))) = refl
 call_left (other (second (second (second op)))) = refl
 
 module _ (laws : StageLaws) where
-  enclose_stage : (t : Bool) (op : EncloseOp) → stage (named (other (passed enclose_part split_and_more (λ x. first (split_of x.enclosed)) t op))) ≡ 0
+  enclose_stage : (t : Bool) (op : EncloseOp) → stage (named (other (one (passed enclose_part split_and_more (λ x. first (split_of x.enclosed)) t op)))) ≡ 2
   enclose_stage true op = refl
   enclose_stage false op = refl
 
-  split_stage : (t : Bool) (op : SplitOp) → split_part.hands_on op ≡ t → stage (named (other (second (passed split_part publish_and_rest (λ x. first (publish_of x)) t op)))) ≡ side_stage (is_new_slot op)
+  split_stage : (t : Bool) (op : SplitOp) → split_part.hands_on op ≡ t → stage (named (other (one (second (passed split_part publish_and_rest (λ x. first (publish_of x)) t op))))) ≡ side_stage (is_new_slot op)
   split_stage true op hands = ap side_stage (sym (laws.stays.hands op hands))
   split_stage false op hands = refl
 
-  publish_stage : (t : Bool) (op : DirectoryOp) → stage (named (other (second (second (passed directory_part rest_part rest_after t op))))) ≡ 2
+  publish_stage : (t : Bool) (op : DirectoryOp) → stage (named (other (one (second (second (passed directory_part rest_part rest_after t op)))))) ≡ 4
   publish_stage true op = refl
   publish_stage false op = refl
+
+  -- a repair goes on to the redirecting or to the mending
+  redirect_stage : (t : Bool) (op : RedirectOp) → stage (named (other (other (second (passed redirect_part mend_part mend_of t op))))) ≡ 0
+  redirect_stage true op = refl
+  redirect_stage false op = refl
+
+  repair_stage : (t : Bool) (op : RepairOp) → stage (named (other (other (passed repair_part redirect_and_mend after_guard t op)))) ≤ guard_stage (has_freed op.step)
+  repair_stage true op = let none = redirect_stage (redirect_part.hands_on (redirect_of op)) (redirect_of op) in omega (arith, none)
+  repair_stage false op = omega arith
+
+  -- where it goes on it is at the beginning of these
+  passed_stage : (t : Bool) (op : RepairOp) → t ≡ true → stage (named (other (other (passed repair_part redirect_and_mend after_guard t op)))) ≡ 0
+  passed_stage true op hands = redirect_stage (redirect_part.hands_on (redirect_of op)) (redirect_of op)
+  passed_stage false op hands = absurd (cc)
 
   one_above : (op : Op) → op_part.left op ≤ most_events → op_part.left op ≤ most_events + 1
   one_above op few = by (op_part.left op) most_events few
@@ -104,6 +145,9 @@ module _ (laws : StageLaws) where
   few_left (Enclose op) = one_above (Enclose op) (laws.part.time.most (Enclose op))
   few_left (Split op) = one_above (Split op) (laws.part.time.most (Split op))
   few_left (Rest op) = one_above (Rest op) (laws.part.time.most (Rest op))
+  few_left (Repair op) = one_above (Repair op) (laws.part.time.most (Repair op))
+  few_left (Redirect op) = one_above (Redirect op) (laws.part.time.most (Redirect op))
+  few_left (Mend op) = one_above (Mend op) (laws.part.time.most (Mend op))
 
 -- ---- the making of a side never ends as one that has done its work
 never_ends : (end : SplitEnd) → split_outcome_of end ≡ Some finished → ⊥
@@ -120,21 +164,45 @@ never_works s some = none-some finished some
 -- ---- in the world, for the caller with this view, while no other view has areas
 module _ (laws : StageLaws) (site : Ground) (here : Site) (call : Call) (words : Words) (views : List View) (j : ℕ) (before v : View) (h : Holds site words views) (at : At views j v)
     (others : OthersHaveNoAreas j views) where
+  abbrev kind : Op → StepKind
+  kind op = op_part.kind op (finds op_part site words op)
+
   -- a slot was free that is made new
   abbrev TakesSlot : Op → Type 0
-  TakesSlot op = (parent : ℕ) × (slot : ℕ) × (head : ℕ) × (op_part.kind op (finds op_part site words op) ≡ of_structure (moves (news parent) slot head))
+  TakesSlot op = (parent : ℕ) × (slot : ℕ) × (head : ℕ) × (kind op ≡ of_structure (moves (news parent) slot head))
 
-  -- ---- how far the call has come: no further, or two further where it takes a slot
+  -- one is freed; or none is
+  abbrev FreesSlot : Op → Type 0
+  FreesSlot op = (parent : ℕ) × (slot : ℕ) × (head : ℕ) × (kind op ≡ of_structure (moves (frees parent) slot head))
+
+  abbrev FreesNone : Op → Type 0
+  FreesNone op = (parent slot head : ℕ) → kind op ≡ of_structure (moves (frees parent) slot head) → ⊥
+
+  -- a segment gets the image's version
+  abbrev RenewsOne : Op → Type 0
+  RenewsOne op = (segment : ℕ) × (head : ℕ) × (kind op ≡ of_structure (moves renews segment head))
+
+  -- ---- how far the call has come: no further; two further where it takes a slot; two less far where it frees one; and four further where it renews a segment
   pub data Comes (op : Op) : Type 0 where
-    no_further : stage (next op_part site words op) ≤ stage op → Comes op
+    no_further : FreesNone op → stage (next op_part site words op) ≤ stage op → Comes op
     by_a_slot : TakesSlot op → stage (next op_part site words op) ≤ stage op + 2 → Comes op
+    by_freeing : FreesSlot op → stage (next op_part site words op) ≡ 0 → stage op ≡ 2 → Comes op
+    by_renewing : RenewsOne op → stage (next op_part site words op) ≤ 4 → stage op ≡ 0 → Comes op
 
-  call_comes : (op : Op) → (m : CallState) → next op_part site words op ≡ named (one m) → stage op ≡ 1 → Comes op
-  call_comes op m is now = no_further (let later = ap stage is ∙ call_stage m in omega (arith, later, now))
+  spared : (op : Op) → Spares (kind op) → stage (next op_part site words op) ≤ stage op → Comes op
+  spared op spares low = no_further (no_frees (kind op) spares) low
+
+  call_comes : (op : Op) → work_of op ≡ calls → (m : CallState) → next op_part site words op ≡ named (one m) → stage op ≡ 3 → Comes op
+  call_comes op own m is now =
+      no_further (λ parent slot head same. (let k = call_kind op (finds op_part site words op) own in let both = sym k.1 ∙ same in cc))
+      (let later = ap stage is ∙ call_stage m in omega (arith, later, now))
 
   module _ (op : SplitOp) (s : Suits op_part site here call (Split op) before v) (asks : op_part.wanted (Split op) ≢ Done) where
     abbrev behind : SplitOp
     behind = next split_part site words op
+
+    none_freed : Spares (kind (Split op))
+    none_freed = split_spares op op.step
 
     side_is : stage (next op_part site words (Split op)) ≡ side_stage (is_new_slot behind)
     side_is = split_stage laws (split_part.hands_on behind) behind refl
@@ -144,7 +212,7 @@ module _ (laws : StageLaws) (site : Ground) (here : Site) (call : Call) (words :
         let stays = laws.stays.stays op (answer_to (split_part.wanted op) (finds split_part site words op)) old in
         let later = side_is ∙ ap side_stage stays in
         let now = ap side_stage old in
-        no_further (omega (arith, later, now))
+        spared (Split op) none_freed (omega (arith, later, now))
     split_comes false true old new =
         let slot = laws.takes site here call words views j op before v h at (record { stands = s.stands.stands; enters = s.enters; callers = s.callers }) asks old new in
         let later = side_is ∙ ap side_stage new in
@@ -153,22 +221,95 @@ module _ (laws : StageLaws) (site : Ground) (here : Site) (call : Call) (words :
     split_comes false false old new =
         let later = side_is ∙ ap side_stage new in
         let now = ap side_stage old in
-        no_further (omega (arith, later, now))
+        spared (Split op) none_freed (omega (arith, later, now))
+
+  -- ---- a repair
+  module _ (op : RepairOp) where
+    abbrev guarding : RepairOp
+    guarding = next repair_part site words op
+
+    abbrev hands : Bool
+    hands = repair_part.hands_on guarding
+
+    low : stage (next op_part site words (Repair op)) ≤ guard_stage (has_freed guarding.step)
+    low = repair_stage laws hands guarding
+
+    guard_most : (t : Bool) → guard_stage t ≤ 2
+    guard_most true = omega arith
+    guard_most false = omega arith
+
+    no_less : (t : Bool) → has_freed op.step ≡ t → stage (next op_part site words (Repair op)) ≤ guard_stage t
+    no_less false old = let most = guard_most (has_freed guarding.step) in let under = low in omega (arith, most, under)
+    no_less true old = elim (freed_stays op op.step (finds repair_part site words op) old) [
+      | inl handed ↦ (let none = passed_stage laws hands guarding handed in omega (arith, none))
+      | inr freed ↦ (let none = ap guard_stage freed in let under = low in omega (arith, none, under))
+    ]
+
+    -- the store that frees a slot
+    frees_side : (s : RepairStep) (slot side : ℕ) → s ≡ repair.Free slot side settling.Store
+        → (has_freed s ≡ false) × (has_freed (repair_next_in op s (answer_to (repair_wanted_in op s) (words (word_of site.shape (repair_wanted_in op s))))).step ≡ true)
+        × (repair_kind op.guarded s ≡ of_structure (moves (frees op.guarded.segment) slot (with_state side free)))
+    frees_side s slot side is = (
+      ap has_freed is,
+      ap (λ (z : RepairStep). has_freed (repair_next_in op z (answer_to (repair_wanted_in op z) (words (word_of site.shape (repair_wanted_in op z))))).step) is,
+      ap (λ (z : RepairStep). repair_kind op.guarded z) is,
+    )
+
+    repair_comes : Comes (Repair op)
+    repair_comes = elim (repairs_at op.guarded op.step) [
+      | repair_spares spares ↦ spared (Repair op) spares (no_less (has_freed op.step) refl)
+      | repair_frees slot side step ↦
+          let store = frees_side op.step slot side step in
+          let now = ap guard_stage store.0 in
+          let none = ap guard_stage store.1 in
+          let under = low in
+          by_freeing (op.guarded.segment, slot, with_state side free, store.2) (omega (arith, none, under)) now
+    ]
+
+  redirect_comes : (op : RedirectOp) → Comes (Redirect op)
+  redirect_comes op =
+      let directing : RedirectOp = next redirect_part site words op in
+      let none = redirect_stage laws (redirect_part.hands_on directing) directing in
+      spared (Redirect op) (redirect_spares op op.step) (omega (arith, none))
+
+  module _ (op : MendOp) where
+    abbrev mending : MendOp
+    mending = next mend_part site words op
+
+    renews_kind : (s : MendStep) → s ≡ mend.Renew → mend_kind op s ≡ of_structure (moves renews op.guarded.segment (renewed_head op.guarded.site.version op.guarded.head))
+    renews_kind mend.Renew is = refl
+    renews_kind s is = absurd (cc)
+
+    mend_most : (t : Bool) → mend_stage t ≤ 4
+    mend_most true = omega arith
+    mend_most false = omega arith
+
+    mend_comes : Comes (Mend op)
+    mend_comes = elim (mends_at op op.step) [
+      | mend_spares spares apart ↦
+          (let same = ap mend_stage (renewed_same op op.step (answer_to (mend_part.wanted op) (finds mend_part site words op)) apart) in
+          spared (Mend op) spares (omega (arith, same)))
+      | mend_renews step ↦
+          by_renewing (op.guarded.segment, renewed_head op.guarded.site.version op.guarded.head, renews_kind op.step step) (mend_most (is_renewed mending.step)) (ap (λ (z : MendStep). mend_stage (is_renewed z)) step)
+    ]
 
   pub comes : (op : Op) → Suits op_part site here call op before v → op_part.wanted op ≢ Done → Comes op
-  comes (Read op) s asks = call_comes (Read op) (next call_part site words (one op)) refl refl
-  comes (Write op) s asks = call_comes (Write op) (next call_part site words (other (first op))) refl refl
-  comes (Move op) s asks = call_comes (Move op) (next call_part site words (other (second (first op)))) refl refl
-  comes (Stash op) s asks = call_comes (Stash op) (next call_part site words (other (second (second (first op))))) refl refl
-  comes (Release op) s asks = call_comes (Release op) (next call_part site words (other (second (second (second op))))) refl refl
+  comes (Read op) s asks = call_comes (Read op) refl (next call_part site words (one op)) refl refl
+  comes (Write op) s asks = call_comes (Write op) refl (next call_part site words (other (first op))) refl refl
+  comes (Move op) s asks = call_comes (Move op) refl (next call_part site words (other (second (first op)))) refl refl
+  comes (Stash op) s asks = call_comes (Stash op) refl (next call_part site words (other (second (second (first op))))) refl refl
+  comes (Release op) s asks = call_comes (Release op) refl (next call_part site words (other (second (second (second op))))) refl refl
   comes (Enclose op) s asks =
       let behind : EncloseOp = next enclose_part site words op in
-      no_further (let later = enclose_stage laws (enclose_part.hands_on behind) behind in omega (arith, later))
+      spared (Enclose op) (enclose_spares op.enclosed op.step) (let later = enclose_stage laws (enclose_part.hands_on behind) behind in omega (arith, later))
   comes (Split op) s asks = split_comes op s asks (is_new_slot op) (is_new_slot (next split_part site words op)) refl refl
   comes (Publish op) s asks =
       let behind : DirectoryOp = next directory_part site words op in
-      no_further (let later = publish_stage laws (directory_part.hands_on behind) behind in omega (arith, later))
-  comes (Rest op) s asks = no_further (omega arith)
+      spared (Publish op) (publish_spares op op.step) (let later = publish_stage laws (directory_part.hands_on behind) behind in omega (arith, later))
+  comes (Rest op) s asks = spared (Rest op) (rest_spares op op.step) (omega arith)
+  comes (Repair op) s asks = repair_comes op
+  comes (Redirect op) s asks = redirect_comes op
+  comes (Mend op) s asks = mend_comes op
 
   -- ---- and fewer events are left of its attempt
   abbrev Falls : Op → Type 0
@@ -182,15 +323,25 @@ module _ (laws : StageLaws) (site : Ground) (here : Site) (call : Call) (words :
     | inr wait ↦ absurd (let z : false ≡ true = sym steady ∙ wait.0 in cc)
   ]
 
-  enclose_left : (t : Bool) (op : EncloseOp) → op_left_alone (named (other (passed enclose_part split_and_more (λ x. first (split_of x.enclosed)) t op)))
-      ≡ op_part.left (named (other (passed enclose_part split_and_more (λ x. first (split_of x.enclosed)) t op)))
+  enclose_left : (t : Bool) (op : EncloseOp) → op_left_alone (named (other (one (passed enclose_part split_and_more (λ x. first (split_of x.enclosed)) t op))))
+      ≡ op_part.left (named (other (one (passed enclose_part split_and_more (λ x. first (split_of x.enclosed)) t op))))
   enclose_left true op = refl
   enclose_left false op = refl
 
-  split_left : (t : Bool) (op : SplitOp) → op_left_alone (named (other (second (passed split_part publish_and_rest (λ x. first (publish_of x)) t op))))
-      ≡ op_part.left (named (other (second (passed split_part publish_and_rest (λ x. first (publish_of x)) t op))))
+  split_left : (t : Bool) (op : SplitOp) → op_left_alone (named (other (one (second (passed split_part publish_and_rest (λ x. first (publish_of x)) t op)))))
+      ≡ op_part.left (named (other (one (second (passed split_part publish_and_rest (λ x. first (publish_of x)) t op)))))
   split_left true op = refl
   split_left false op = refl
+
+  redirect_left : (t : Bool) (op : RedirectOp) → op_left_alone (named (other (other (second (passed redirect_part mend_part mend_of t op)))))
+      ≡ op_part.left (named (other (other (second (passed redirect_part mend_part mend_of t op)))))
+  redirect_left true op = refl
+  redirect_left false op = refl
+
+  repair_left : (t : Bool) (op : RepairOp) → op_left_alone (named (other (other (passed repair_part redirect_and_mend after_guard t op))))
+      ≡ op_part.left (named (other (other (passed repair_part redirect_and_mend after_guard t op))))
+  repair_left true op = redirect_left (redirect_part.hands_on (redirect_of op)) (redirect_of op)
+  repair_left false op = refl
 
   -- who waits for the guard of the directory finds it free
   guard_free : (op : DirectoryOp) → directory_part.Stands site here call op v → directory_part.is_waiting op ≡ true → words (directory_guard site.shape) ≡ 0
@@ -200,7 +351,7 @@ module _ (laws : StageLaws) (site : Ground) (here : Site) (call : Call) (words :
   ]
 
   publish_falls : (t : Bool) (op behind : DirectoryOp) → publish_alone behind < publish_alone op
-      → op_left_alone (named (other (second (second (passed directory_part rest_part rest_after t behind))))) < op_left_alone (Publish op)
+      → op_left_alone (named (other (one (second (second (passed directory_part rest_part rest_after t behind)))))) < op_left_alone (Publish op)
   publish_falls true op behind low = let most = laws.rest.time.most (rest_after behind) in omega (arith, low, most)
   publish_falls false op behind low = omega (arith, low)
 
@@ -218,28 +369,57 @@ module _ (laws : StageLaws) (site : Ground) (here : Site) (call : Call) (words :
       publish_falls (directory_part.hands_on behind) op behind
       (laws.wins.falls site here call words op before v (record { stands = s.stands.stands; enters = s.enters; callers = s.callers }) asks (guard_free op s.stands.stands))
   falls (Rest op) s asks = steady_falls (Rest op) asks refl refl refl
+  falls (Repair op) s asks = let guarding : RepairOp = next repair_part site words op in steady_falls (Repair op) asks refl (repair_left (repair_part.hands_on guarding) guarding) refl
+  falls (Redirect op) s asks = let directing : RedirectOp = next redirect_part site words op in steady_falls (Redirect op) asks refl (redirect_left (redirect_part.hands_on directing) directing) refl
+  falls (Mend op) s asks = steady_falls (Mend op) asks refl refl refl
 
-  -- ---- which machine has done its work: the rest, behind the publishing
-  call_works : (op : Op) → split_segment op ≡ None → op_part.outcome (next op_part site words op) ≡ Some finished → stage op ≡ 2
-  call_works op own some = absurd (laws.never (next op_part site words op) (next_segment site words op own) some)
+  -- ---- which machine has done its work: the rest, behind the publishing; and a mending, behind the store of the image's version
+  call_works : (op : Op) → work_of op ≡ calls → op_part.outcome (next op_part site words op) ≡ Some finished → stage op ≡ 4
+  call_works op own some = absurd (laws.never (next op_part site words op) (next_work site words op own) some)
 
-  enclose_works : (ws : Words) (t : Bool) (op : EncloseOp) → IsCramped site.shape ws call (named (other (passed enclose_part split_and_more (λ x. first (split_of x.enclosed)) t op)))
-      → op_part.outcome (named (other (passed enclose_part split_and_more (λ x. first (split_of x.enclosed)) t op))) ≡ Some finished → ⊥
-  enclose_works ws true op cramped some = none-some finished some
-  enclose_works ws false op cramped some = cramped.1 some
+  enclose_works : (ws : Words) (t : Bool) (op : EncloseOp) → IsDue site.shape ws call (named (other (one (passed enclose_part split_and_more (λ x. first (split_of x.enclosed)) t op))))
+      → op_part.outcome (named (other (one (passed enclose_part split_and_more (λ x. first (split_of x.enclosed)) t op)))) ≡ Some finished → ⊥
+  enclose_works ws true op due some = none-some finished some
+  enclose_works ws false op due some = due.1 some
 
-  split_works : (t : Bool) (op : SplitOp) → op_part.outcome (named (other (second (passed split_part publish_and_rest (λ x. first (publish_of x)) t op)))) ≡ Some finished → ⊥
+  split_works : (t : Bool) (op : SplitOp) → op_part.outcome (named (other (one (second (passed split_part publish_and_rest (λ x. first (publish_of x)) t op))))) ≡ Some finished → ⊥
   split_works true op some = none-some finished some
   split_works false op some = never_works op.step some
 
-  pub works : (ws : Words) (op : Op) → IsCramped site.shape ws call (next op_part site words op) → op_part.outcome (next op_part site words op) ≡ Some finished → stage op ≡ 2
-  works ws (Enclose op) cramped some =
-      let behind : EncloseOp = next enclose_part site words op in absurd (enclose_works ws (enclose_part.hands_on behind) behind cramped some)
-  works ws (Split op) cramped some = let behind : SplitOp = next split_part site words op in absurd (split_works (split_part.hands_on behind) behind some)
-  works ws (Publish op) cramped some = refl
-  works ws (Rest op) cramped some = refl
-  works ws (Read op) cramped some = call_works (Read op) refl some
-  works ws (Write op) cramped some = call_works (Write op) refl some
-  works ws (Move op) cramped some = call_works (Move op) refl some
-  works ws (Stash op) cramped some = call_works (Stash op) refl some
-  works ws (Release op) cramped some = call_works (Release op) refl some
+  -- what goes on from the beginning of a repair has decided nothing
+  redirect_works : (t : Bool) (op : RedirectOp) → op_part.outcome (named (other (other (second (passed redirect_part mend_part mend_of t op))))) ≡ Some finished → ⊥
+  redirect_works true op some = none-some finished some
+  redirect_works false op some = redirect_never op.step some
+
+  repair_works : (ws : Words) (t : Bool) (op : RepairOp) → IsDue site.shape ws call (named (other (other (passed repair_part redirect_and_mend after_guard t op))))
+      → op_part.outcome (named (other (other (passed repair_part redirect_and_mend after_guard t op)))) ≡ Some finished → ⊥
+  repair_works ws true op due some = redirect_works (redirect_part.hands_on (redirect_of op)) (redirect_of op) some
+  repair_works ws false op due some = due.1 some
+
+  mend_works : (op : MendOp) → op_part.outcome (next op_part site words (Mend op)) ≡ Some finished → stage (Mend op) ≡ 4
+  mend_works op some = elim (mends_at op op.step) [
+    | mend_spares spares apart ↦
+        ap mend_stage (sym (renewed_same op op.step (answer_to (mend_part.wanted op) (finds mend_part site words op)) apart) ∙ ended_renewed (next mend_part site words op).step some)
+    | mend_renews step ↦ absurd (never_stored op.step step some)
+  ]
+    where
+      never_stored : (s : MendStep) → s ≡ mend.Renew → mend_outcome_at (mend_next_in op s (answer_to (mend_wanted_in op s) (words (word_of site.shape (mend_wanted_in op s))))).step ≡ Some finished → ⊥
+      never_stored mend.Renew is some = none-some finished some
+      never_stored s is some = absurd (cc)
+
+  pub works : (ws : Words) (op : Op) → IsDue site.shape ws call (next op_part site words op) → op_part.outcome (next op_part site words op) ≡ Some finished → stage op ≡ 4
+  works ws (Repair op) due some =
+      let guarding : RepairOp = next repair_part site words op in absurd (repair_works ws (repair_part.hands_on guarding) guarding due some)
+  works ws (Redirect op) due some =
+      let directing : RedirectOp = next redirect_part site words op in absurd (redirect_works (redirect_part.hands_on directing) directing some)
+  works ws (Mend op) due some = mend_works op some
+  works ws (Enclose op) due some =
+      let behind : EncloseOp = next enclose_part site words op in absurd (enclose_works ws (enclose_part.hands_on behind) behind due some)
+  works ws (Split op) due some = let behind : SplitOp = next split_part site words op in absurd (split_works (split_part.hands_on behind) behind some)
+  works ws (Publish op) due some = refl
+  works ws (Rest op) due some = refl
+  works ws (Read op) due some = call_works (Read op) refl some
+  works ws (Write op) due some = call_works (Write op) refl some
+  works ws (Move op) due some = call_works (Move op) refl some
+  works ws (Stash op) due some = call_works (Stash op) refl some
+  works ws (Release op) due some = call_works (Release op) refl some

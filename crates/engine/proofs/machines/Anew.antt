@@ -1,4 +1,5 @@
--- AT AN END the view suits the next attempt of the call: that which splits the segment that is to be split, or the call begun anew.
+-- AT AN END the view suits the next attempt of the call: that which splits the segment that is to be split, that which repairs the one that is
+-- stale, or the call begun anew.
 use Rattle.std.proofs.Common.{◌≡◌, ◌≢◌, ◌<◌, ℕ, Option, None, Some, [], refl, sym, subst}
 use Rattle.map_model.specs.declared.call.Call.{Call}
 use Rattle.map_model.specs.declared.change.Change.{Change}
@@ -8,21 +9,30 @@ use Rattle.world.specs.declared.site.Site.{Site}
 use Rattle.world.specs.Ground.{Ground, IsGround, version_of}
 use Rattle.world.specs.Views.{View}
 use Rattle.world.specs.Attempts.{HoldsOnly}
-use Rattle.part.specs.Outcomes.{Outcome, need_split}
+use Rattle.part.specs.Outcomes.{Outcome, stale, need_split}
+use Rattle.part.specs.Part.{KnowsStale, LeavesKnown}
 use Rattle.release_op.specs.Split.{LeavesThere}
 use Rattle.enclose_op.specs.EnclosePart.{BeginsAsPart as EncloseBegins, BeginsRemembering as EncloseRemembers}
 use Rattle.engine.specs.declared.engine.Op.{Op}
-use Rattle.engine.specs.Engine.{begun, splitting, anew_by}
+use Rattle.repair_op.specs.RepairPart.{BeginsAsRepair as RepairBegins, BeginsRemembering as RepairRemembers}
+use Rattle.engine.specs.Engine.{begun, splitting, repairing, anew_by}
 use Rattle.engine.specs.OpPart.{op_part}
 use Rattle.engine.specs.Fits.{HasNumber, IsWordCall, Suits, BeginsSuited}
-use Rattle.engine.proofs.machines.Begins.{split_suits}
+use Rattle.engine.proofs.machines.Begins.{split_suits, repair_suits}
 use Rattle.engine.proofs.machines.Ends.{ReleasesTellAlone}
 
--- where no segment is to be split, the call begins anew
-anew_begins : (here : Site) (call : Call) (change : Option Change) (outcome : Option Outcome) → ((segment : ℕ) → outcome ≢ Some (need_split segment)) → anew_by here call change outcome ≡ begun here call
-anew_begins here call None outcome other = refl
-anew_begins here call (Some change) (Some (need_split segment)) other = absurd (other segment refl)
-anew_begins here call (Some change) outcome other = refl
+-- where no segment is to be split, and none is stale, the call begins anew
+anew_begins : (here : Site) (call : Call) (change : Option Change) (outcome : Option Outcome) → ((segment : ℕ) → outcome ≢ Some (need_split segment))
+    → ((segment version : ℕ) → outcome ≢ Some (stale segment version)) → anew_by here call change outcome ≡ begun here call
+anew_begins here call (Some change) (Some (need_split segment)) other fresh = absurd (other segment refl)
+anew_begins here call change (Some (stale segment version)) other fresh = absurd (fresh segment version refl)
+anew_begins here call (Some change) outcome other fresh = refl
+anew_begins here call None outcome other fresh = refl
+
+-- where one is stale it is repaired
+anew_repairs : (here : Site) (call : Call) (change : Option Change) (segment version : ℕ) → anew_by here call change (Some (stale segment version)) ≡ repairing here segment
+anew_repairs here call None segment version = refl
+anew_repairs here call (Some change) segment version = refl
 
 -- what is used of the machines
 pub record AnewLaws : Type 0 where
@@ -31,6 +41,9 @@ pub record AnewLaws : Type 0 where
   pub leaves : LeavesThere
   pub enclose_begins : EncloseBegins
   pub enclose_remembers : EncloseRemembers
+  pub relies : KnowsStale op_part
+  pub repair_begins : RepairBegins
+  pub repair_remembers : RepairRemembers
 
 pub anew_suits : AnewLaws → (site : Ground) (here : Site) (call : Call) (v : View) → IsGround site → here.geometry ≡ site.shape → here.version ≡ version_of site → HasNumber here → IsWordCall call
     → HoldsOnly [] v → 0 < v.callers → (op : Op) → op_part.Stands site here call op v → (outcome : Option Outcome) → op_part.outcome op ≡ outcome
@@ -41,5 +54,9 @@ anew_suits laws site here call v good shape version number small bare callers op
     let change : Change = told.0.kept.change in
     let split = split_suits laws.enclose_begins laws.enclose_remembers site here change segment v shape version number (subst IsInsert (sym left.same) left.insert) left.key bare left.there callers in
     subst (λ c. Suits site here call (anew_by here call c (Some (need_split segment))) v v) (sym left.change) (subst (λ c. Suits site here c (splitting here change segment) v v) left.same split)
+anew_suits laws site here call v good shape version number small bare callers op s (Some (stale segment byte)) is =
+    let known = subst (λ o. LeavesKnown site o v.facts) is (laws.relies site here call op v s) in
+    subst (λ e. Suits site here call e v v) (sym (anew_repairs here call (change_of call) segment byte))
+    (repair_suits laws.repair_begins laws.repair_remembers site here call segment v shape version number bare known.lives callers)
 anew_suits laws site here call v good shape version number small bare callers op s outcome is =
-    subst (λ e. Suits site here call e v v) (sym (anew_begins here call (change_of call) outcome (λ segment told. cc))) (laws.begins site here call v good shape version small bare callers)
+    subst (λ e. Suits site here call e v v) (sym (anew_begins here call (change_of call) outcome (λ segment told. cc) (λ segment byte told. cc))) (laws.begins site here call v good shape version small bare callers)

@@ -1,5 +1,5 @@
 -- What an attempt tells at its end: the outcome that was decided; and which machine tells which.
-use Rattle.std.proofs.Common.{◌≡◌, ◌≢◌, ℕ, None, Some, refl, sym, ap, ◌∙◌, subst}
+use Rattle.std.proofs.Common.{◌≡◌, ◌≢◌, ℕ, Some, refl, sym, ap, ◌∙◌, subst}
 use Rattle.std.proofs.lemmas.Option.{none-some}
 use Rattle.map_model.specs.declared.call.Call.{Call}
 use Rattle.op_core.specs.declared.want.Want.TheVariants as want
@@ -37,10 +37,24 @@ use Rattle.directory_op.specs.DirectoryPart.{outcome_at as directory_outcome_at,
 use Rattle.rest_op.specs.declared.op.RestStep.{RestStep}
 use Rattle.rest_op.specs.declared.op.RestStep.TheVariants as rest
 use Rattle.rest_op.specs.RestPart.{outcome_at as rest_outcome_at, EndsAsSplit}
+use Rattle.repair_op.specs.declared.step.RepairEnd.{RepairEnd}
+use Rattle.repair_op.specs.declared.step.RepairEnd.TheVariants as repair_ends
+use Rattle.repair_op.specs.declared.step.RepairStep.{RepairStep}
+use Rattle.repair_op.specs.declared.step.RepairStep.TheVariants as repair
+use Rattle.repair_op.specs.RepairPart.{outcome_of as repair_outcome, outcome_at as repair_outcome_at, EndsAsSaid as RepairSays}
+use Rattle.redirect_op.specs.declared.step.RedirectEnd.{RedirectEnd}
+use Rattle.redirect_op.specs.declared.step.RedirectEnd.TheVariants as redirect_ends
+use Rattle.redirect_op.specs.declared.step.RedirectStep.{RedirectStep}
+use Rattle.redirect_op.specs.declared.step.RedirectStep.TheVariants as redirect
+use Rattle.redirect_op.specs.Ends.{outcome_of as redirect_outcome, outcome_at as redirect_outcome_at}
+use Rattle.redirect_op.specs.RedirectPart.{EndsAsSaid as RedirectSays}
+use Rattle.mend_op.specs.declared.op.MendStep.{MendStep}
+use Rattle.mend_op.specs.declared.op.MendStep.TheVariants as mend
+use Rattle.mend_op.specs.MendPart.{outcome_at as mend_outcome_at, EndsRepaired as MendSays}
 use Rattle.engine.specs.declared.engine.Op.{Op}
-use Rattle.engine.specs.declared.engine.Op.TheVariants.{Read, Write, Move, Stash, Release, Enclose, Split, Publish, Rest}
-use Rattle.engine.specs.Engine.{read_end_at, end_of_op, outcome_of_end, made_outcome, publish_outcome, rest_outcome}
-use Rattle.engine.specs.OpPart.{op_part, split_segment}
+use Rattle.engine.specs.declared.engine.Op.TheVariants.{Read, Write, Move, Stash, Release, Enclose, Split, Publish, Rest, Repair, Redirect, Mend}
+use Rattle.engine.specs.Engine.{read_end_at, end_of_op, outcome_of_end, made_outcome, publish_outcome, rest_outcome, repaired_outcome, redirected_outcome, mended_outcome}
+use Rattle.engine.specs.OpPart.{op_part, calls, work_of}
 use Rattle.engine.specs.Causes.{EndsAreDecided}
 
 -- what is used of the machines
@@ -53,6 +67,9 @@ pub record EndLaws : Type 0 where
   pub enclose : EncloseSays
   pub publish : EndsOff
   pub rest : EndsAsSplit
+  pub repair : RepairSays
+  pub redirect : RedirectSays
+  pub mend : MendSays
 
 -- ---- an end is what was decided
 -- while a split gives back it wants something
@@ -82,22 +99,28 @@ op_says laws site here call (Enclose op) v s done = laws.enclose op done
 op_says laws site here call (Split op) v s done = split_says op op.step done
 op_says laws site here call (Publish op) v s done = let told = laws.publish site here call op v s.stands done s.closed in told ∙ sym (publish_says op.step told)
 op_says laws site here call (Rest op) v s done = let k = laws.rest site here call op v s done in k.0 ∙ sym (ap rest_outcome k.1)
+op_says laws site here call (Repair op) v s done = let k = laws.repair op done in k.2 ∙ sym (ap repaired_outcome k.1)
+op_says laws site here call (Redirect op) v s done = let k = laws.redirect site here call op v s.stands done in k.2 ∙ sym (ap redirected_outcome k.1)
+op_says laws site here call (Mend op) v s done = let k = laws.mend site here call op v s done in k.0 ∙ sym (ap mended_outcome k.1)
 
 pub ends_are_decided : EndLaws → EndsAreDecided
 ends_are_decided laws site here call e v s done = op_says laws site here call e.op v s done
 
 -- ---- which machine tells which
 -- no machine of the call itself ends as one that has done its work
-pub never_finished : GetFinished → ChangeFinished → MoveFinished → StashFinished → ReleaseFinished → (op : Op) → split_segment op ≡ None → op_part.outcome op ≡ Some finished → ⊥
+pub never_finished : GetFinished → ChangeFinished → MoveFinished → StashFinished → ReleaseFinished → (op : Op) → work_of op ≡ calls → op_part.outcome op ≡ Some finished → ⊥
 never_finished get change move stash release (Read op) own some = get op some
 never_finished get change move stash release (Write op) own some = change op some
 never_finished get change move stash release (Move op) own some = move op some
 never_finished get change move stash release (Stash op) own some = stash op some
 never_finished get change move stash release (Release op) own some = release op some
-never_finished get change move stash release (Enclose op) own some = none-some op.enclosed.segment (sym own)
-never_finished get change move stash release (Split op) own some = none-some op.copied.whole.segment (sym own)
-never_finished get change move stash release (Publish op) own some = none-some op.copied.whole.segment (sym own)
-never_finished get change move stash release (Rest op) own some = none-some op.whole.segment (sym own)
+never_finished get change move stash release (Enclose op) own some = cc
+never_finished get change move stash release (Split op) own some = cc
+never_finished get change move stash release (Publish op) own some = cc
+never_finished get change move stash release (Rest op) own some = cc
+never_finished get change move stash release (Repair op) own some = cc
+never_finished get change move stash release (Redirect op) own some = cc
+never_finished get change move stash release (Mend op) own some = cc
 
 -- A RELEASE alone tells that a segment is to be split
 abbrev pub ReleasesTellAlone : Type 0
@@ -133,6 +156,29 @@ module _ (segment : ℕ) where
   rest_splits rest.Ended some = cc
   rest_splits s some = none-some (need_split segment) some
 
+  repair_tells : (end : RepairEnd) → repair_outcome end ≢ Some (need_split segment)
+  repair_tells repair_ends.Current some = cc
+  repair_tells (repair_ends.Again why) some = cc
+  repair_tells repair_ends.Guarded some = none-some (need_split segment) some
+
+  repair_splits : (s : RepairStep) → repair_outcome_at s ≢ Some (need_split segment)
+  repair_splits (repair.Give end) some = repair_tells end some
+  repair_splits (repair.Ended end) some = repair_tells end some
+  repair_splits s some = none-some (need_split segment) some
+
+  redirect_tells : (end : RedirectEnd) → redirect_outcome end ≢ Some (need_split segment)
+  redirect_tells (redirect_ends.Again why) some = cc
+  redirect_tells redirect_ends.Guarded some = none-some (need_split segment) some
+
+  redirect_splits : (s : RedirectStep) → redirect_outcome_at s ≢ Some (need_split segment)
+  redirect_splits (redirect.Give end) some = redirect_tells end some
+  redirect_splits (redirect.Ended end) some = redirect_tells end some
+  redirect_splits s some = none-some (need_split segment) some
+
+  mend_splits : (s : MendStep) → mend_outcome_at s ≢ Some (need_split segment)
+  mend_splits mend.Ended some = cc
+  mend_splits s some = none-some (need_split segment) some
+
 pub releases_tell_alone : GetSplits → ChangeSplits → MoveSplits → StashSplits → ReleasesTellAlone
 releases_tell_alone get change move stash segment (Read op) some = absurd (get op segment some)
 releases_tell_alone get change move stash segment (Write op) some = absurd (change op segment some)
@@ -143,3 +189,6 @@ releases_tell_alone get change move stash segment (Enclose op) some = absurd (en
 releases_tell_alone get change move stash segment (Split op) some = absurd (split_splits segment op.step some)
 releases_tell_alone get change move stash segment (Publish op) some = absurd (publish_splits segment op.step some)
 releases_tell_alone get change move stash segment (Rest op) some = absurd (rest_splits segment op.step some)
+releases_tell_alone get change move stash segment (Repair op) some = absurd (repair_splits segment op.step some)
+releases_tell_alone get change move stash segment (Redirect op) some = absurd (redirect_splits segment op.step some)
+releases_tell_alone get change move stash segment (Mend op) some = absurd (mend_splits segment op.step some)

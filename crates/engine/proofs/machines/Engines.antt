@@ -15,9 +15,10 @@ use Rattle.part.specs.Outcomes.{reply_of, off}
 use Rattle.part.specs.Part.{IsPart}
 use Rattle.part.specs.Causes.{EndsByCause}
 use Rattle.part.specs.Splits.{EndsBySplitCause}
+use Rattle.part.specs.Repairs.{EndsByRepairCause}
 use Rattle.engine.specs.declared.engine.Engine.{Engine}
 use Rattle.engine.specs.Engine.{kind_of, anew_by}
-use Rattle.engine.specs.OpPart.{OpState, call_part, whole_split, split_segment_in, op_part, state_of}
+use Rattle.engine.specs.OpPart.{OpState, call_part, whole_split, split_segment_in, whole_repair, repaired_segment_in, op_part, state_of}
 use Rattle.engine.specs.Fits.{Suits, finds, next_engine, KeepsSuits}
 use Rattle.engine.specs.Asks.{AsksWithin, AsksWords}
 use Rattle.engine.specs.Causes.{EndsAreDecided}
@@ -37,6 +38,7 @@ pub record EngineLaws : Type 0 where
   pub says : EndsAreDecided
   pub call_causes : EndsByCause call_part
   pub split_causes : EndsBySplitCause whole_split split_segment_in
+  pub repair_causes : EndsByRepairCause whole_repair repaired_segment_in
   pub anew : AnewLaws
   pub callers : CallersStay
   pub structure : StructureStepsReplyNothing
@@ -53,12 +55,12 @@ keeps_suits laws site here call e words views j before v shape version number sm
     let some : 0 < now.callers = subst (λ c. 0 < c) (sym same) s.suits.callers in
     let m : OpState = state_of e.op in
     let did : Doings = s.remembers.0 in
-    let asking : IsAsking laws.call_causes laws.split_causes site here call words views j before v h at did m
+    let asking : IsAsking laws.call_causes laws.split_causes laws.repair_causes site here call words views j before v h at did m
     = record { suits = record { stands = s.suits.stands; enters = s.suits.enters; callers = s.suits.callers }; asks = s.asks; small = fits; remembers = s.remembers.1 } in
     let on : op_part.outcome after.op ≢ Some off = renamed_at (λ x. either_ops.outcome x ≢ Some off) (either_ops.taken m (answer_to (either_ops.wanted m) n))
-    (stays_on laws.call_causes laws.split_causes site here call words views j before v h at did power m asking s.on) in
-    let memory = renamed_at (λ x. either_ops.Remembers site x (doings_after laws.call_causes laws.split_causes site here call words views j before v h at did m))
-    (either_ops.taken m (answer_to (either_ops.wanted m) n)) (remembers_on laws.call_causes laws.split_causes site here call words views j before v h at did m asking) in
+    (stays_on laws.call_causes laws.split_causes laws.repair_causes site here call words views j before v h at did power m asking s.on) in
+    let memory = renamed_at (λ x. either_ops.Remembers site x (doings_after laws.call_causes laws.split_causes laws.repair_causes site here call words views j before v h at did m))
+    (either_ops.taken m (answer_to (either_ops.wanted m) n)) (remembers_on laws.call_causes laws.split_causes laws.repair_causes site here call words views j before v h at did m asking) in
     record {
       wants = w.wants;
       may = w.may;
@@ -66,7 +68,7 @@ keeps_suits laws site here call e words views j before v shape version number sm
         asks = asks;
         on = on;
         suits = record { stands = w.stands fits; enters = w.enters fits; callers = some };
-        remembers = (doings_after laws.call_causes laws.split_causes site here call words views j before v h at did m, memory);
+        remembers = (doings_after laws.call_causes laws.split_causes laws.repair_causes site here call words views j before v h at did m, memory);
       };
       ends = λ done.
           let stands = w.stands fits in

@@ -1,4 +1,4 @@
--- While no segment is split an event of an engine leaves the notes and the stash records of each home, but that of a home to which its caller owes
+-- While it works on its call an event of an engine leaves the notes and the stash records of each home, but that of a home to which its caller owes
 -- a note.
 use Rattle.std.proofs.Common.{◌≡◌, ◌≢◌, ◌⊎◌, ℕ, ◌+◌, ◌*◌, ◌<◌, ◌≤◌, List, cond, eqb, Bool, true, false, inl, inr, refl, sym, ◌∙◌, subst, arith}
 use Rattle.op_core.specs.declared.want.Want.{Want}

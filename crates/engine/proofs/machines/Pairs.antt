@@ -19,7 +19,7 @@ use Rattle.move_op.specs.MovePart.{MoveEndsAsSaid as MoveSays}
 use Rattle.stash_op.specs.Ends.{EndsAsSaid as StashSays}
 use Rattle.engine.specs.declared.engine.Engine.{Engine}
 use Rattle.engine.specs.declared.engine.Op.{Op}
-use Rattle.engine.specs.declared.engine.Op.TheVariants.{Read, Write, Move, Stash, Release, Enclose, Split, Publish, Rest}
+use Rattle.engine.specs.declared.engine.Op.TheVariants.{Read, Write, Move, Stash, Release, Enclose, Split, Publish, Rest, Repair, Redirect, Mend}
 use Rattle.engine.specs.Engine.{kind_of, end_of_op, reply_of_end}
 use Rattle.engine.specs.OpPart.{op_part}
 use Rattle.engine.specs.Fits.{finds}
@@ -52,6 +52,9 @@ ends_as_done part change move stash e made done = by e.op made done
     by (Split op) made done = absurd made
     by (Publish op) made done = absurd made
     by (Rest op) made done = absurd made
+    by (Repair op) made done = absurd made
+    by (Redirect op) made done = absurd made
+    by (Mend op) made done = absurd made
 
 -- ---- the turns
 module _ (leaves : LeavesOrMakes) (site : Ground) (start : Words) (core : Core) (h : CoreHolds site start core) where

@@ -1,5 +1,5 @@
--- What the machines of a call owe each other where one goes on from another, so that those of a change are one part, and those of a split
--- another, whose outcomes have their causes.
+-- What the machines of a call owe each other where one goes on from another, so that those of a change are one part, those of a split
+-- another, and those of a repair a third, whose outcomes have their causes.
 use Rattle.std.proofs.Common.{◌≡◌, Bool, true, false, None, refl}
 use Rattle.map_model.specs.declared.call.Call.{Call}
 use Rattle.world.specs.declared.site.Site.{Site}
@@ -9,9 +9,11 @@ use Rattle.part.specs.Doings.{Doings}
 use Rattle.part.specs.Part.{IsPart}
 use Rattle.part.specs.Causes.{EndsByCause}
 use Rattle.part.specs.Splits.{EndsBySplitCause, segment_of_then}
-use Rattle.part.specs.Then.{first, Passes}
+use Rattle.part.specs.Repairs.{EndsByRepairCause}
+use Rattle.part.specs.Then.{Then, first, passed, Passes}
 use Rattle.part.proofs.Thens.{then_is_part, then_ends_by_cause}
 use Rattle.part.proofs.Splitting.{then_ends_by_split_cause}
+use Rattle.part.proofs.Repairing.{then_ends_by_repair_cause}
 use Rattle.write_op.specs.Steps.{kept_of}
 use Rattle.write_op.specs.ChangePart.{change_part, HandsOnAll as ChangeHands, HandsOnRemembering as ChangeTells}
 use Rattle.move_op.specs.MovePart.{move_part, MoveBeginsAsPart as MoveBegins, MoveBeginsRemembering as MoveRemembers, MoveBeginsUndecided as MoveUndecided, MoveHandsOnAll as MoveHands}
@@ -26,7 +28,13 @@ use Rattle.split_op.specs.Steps.{split_of}
 use Rattle.split_op.specs.SplitPart.{split_part, segment_of as made_segment, BeginsAsPart as SplitBegins, CopiesSide, BeginsUndecided as SplitUndecided, BeginsRemembering as SplitRemembers, HandsOnCopied}
 use Rattle.directory_op.specs.DirectoryPart.{directory_part, segment_of as published_segment, BeginsAsPart as PublishBegins, BeginsUndecided as PublishUndecided, HandsOnSplit}
 use Rattle.rest_op.specs.RestPart.{rest_part, segment_of as rest_segment, BeginsAsPart as RestBegins, ReckonsRight, BeginsUndecided as RestUndecided}
-use Rattle.engine.specs.OpPart.{move_of, stash_of, release_of, stash_or_release, entered, after_move, move_or_more, whole_change, publish_of, rest_after, publish_and_rest, split_and_more, whole_split, split_segment_in}
+use Rattle.repair_op.specs.Finishing.{FinishesCurrent}
+use Rattle.repair_op.specs.RepairPart.{repair_part, segment_of as repaired_segment, HandsOnGuarded, HandsOnRemembered as RepairTells}
+use Rattle.redirect_op.specs.declared.op.RedirectOp.{RedirectOp}
+use Rattle.redirect_op.specs.RedirectPart.{redirect_part, segment_of as redirected_segment, BeginsAsPart as RedirectBegins, BeginsUndecided as RedirectUndecided, BeginsRemembering as RedirectRemembers, HandsOnRedirected}
+use Rattle.mend_op.specs.declared.op.MendOp.{MendOp}
+use Rattle.mend_op.specs.MendPart.{mend_part, segment_of as mended_segment, BeginsAsPart as MendBegins, BeginsUndecided as MendUndecided}
+use Rattle.engine.specs.OpPart.{move_of, stash_of, release_of, stash_or_release, entered, after_move, move_or_more, whole_change, publish_of, rest_after, publish_and_rest, split_and_more, whole_split, split_segment_in, redirect_of, mend_of, redirect_and_mend, after_guard, whole_repair, repaired_segment_in}
 
 -- ---- a change
 -- what is used of its machines
@@ -193,3 +201,75 @@ module _ (laws : SplitLaws) where
   pub split_whole_ends : EndsBySplitCause whole_split split_segment_in
   split_whole_ends = then_ends_by_split_cause enclose_part split_and_more (λ op. first (split_of op.enclosed)) enclosed_segment
       (λ n. segment_of_then made_segment (λ o. segment_of_then published_segment rest_segment o) n) enclose_passes (λ op h. refl) laws.enclose_causes split_ends
+
+-- ---- a repair
+-- what is used of its machines
+pub record RepairLaws : Type 0 where
+  pub repair : IsPart repair_part
+  pub repair_causes : EndsByRepairCause repair_part repaired_segment
+  pub repair_current : FinishesCurrent repair_part repaired_segment
+  pub repair_hands : HandsOnGuarded
+  pub repair_tells : RepairTells
+  pub redirect : IsPart redirect_part
+  pub redirect_causes : EndsByRepairCause redirect_part redirected_segment
+  pub redirect_begins : RedirectBegins
+  pub redirect_undecided : RedirectUndecided
+  pub redirect_remembers : RedirectRemembers
+  pub redirect_hands : HandsOnRedirected
+  pub mend : IsPart mend_part
+  pub mend_causes : EndsByRepairCause mend_part mended_segment
+  pub mend_current : FinishesCurrent mend_part mended_segment
+  pub mend_begins : MendBegins
+  pub mend_undecided : MendUndecided
+
+module _ (laws : RepairLaws) where
+  pub redirect_passes : Passes redirect_part mend_part mend_of
+  redirect_passes = record {
+    stands = λ site here call op v ground s h. laws.mend_begins site here call op.guarded v (laws.redirect_hands site here call op v s h);
+    undecided = λ op h. laws.mend_undecided op.guarded;
+    remembers = λ site op did h r. tt;
+  }
+
+  redirect_is_part : IsPart redirect_and_mend
+  redirect_is_part = then_is_part redirect_part mend_part mend_of laws.redirect laws.redirect_causes.undecided laws.mend redirect_passes
+
+  redirect_ends : EndsByRepairCause redirect_and_mend (λ n. segment_of_then redirected_segment mended_segment n)
+  redirect_ends = then_ends_by_repair_cause redirect_part mend_part mend_of redirected_segment mended_segment redirect_passes (λ op h. refl) laws.redirect_causes laws.mend_causes
+
+  -- where a segment is guarded, either of the two may be the one that goes on
+  abbrev met : Bool → RedirectOp → Then RedirectOp MendOp
+  met t op = passed redirect_part mend_part mend_of t op
+
+  met_stands : (site : Ground) (here : Site) (call : Call) (op : RedirectOp) (v : View) → IsGround site → redirect_part.Stands site here call op v → (t : Bool) → redirect_part.hands_on op ≡ t
+      → redirect_and_mend.Stands site here call (met t op) v
+  met_stands site here call op v ground s true h = redirect_passes.stands site here call op v ground s h
+  met_stands site here call op v ground s false h = record { stands = s; closed = h }
+
+  met_undecided : (op : RedirectOp) → redirect_part.outcome op ≡ None → (t : Bool) → redirect_and_mend.outcome (met t op) ≡ None
+  met_undecided op none true = laws.mend_undecided op.guarded
+  met_undecided op none false = none
+
+  met_remembers : (site : Ground) (op : RedirectOp) (did : Doings) → redirect_part.Remembers site op did → (t : Bool) → redirect_part.hands_on op ≡ t
+      → redirect_and_mend.Remembers site (met t op) did
+  met_remembers site op did r true h = redirect_passes.remembers site op did h r
+  met_remembers site op did r false h = r
+
+  met_segment : (op : RedirectOp) (t : Bool) → segment_of_then redirected_segment mended_segment (met t op) ≡ op.guarded.segment
+  met_segment op true = refl
+  met_segment op false = refl
+
+  pub repair_passes : Passes repair_part redirect_and_mend after_guard
+  repair_passes = record {
+    stands = λ site here call op v ground s h.
+        met_stands site here call (redirect_of op) v ground (laws.redirect_begins site here call op.guarded v (laws.repair_hands site here call op v s h)) (redirect_part.hands_on (redirect_of op)) refl;
+    undecided = λ op h. met_undecided (redirect_of op) (laws.redirect_undecided op.guarded) (redirect_part.hands_on (redirect_of op));
+    remembers = λ site op did h r.
+        met_remembers site (redirect_of op) did (laws.redirect_remembers site op.guarded did (laws.repair_tells site op did h r)) (redirect_part.hands_on (redirect_of op)) refl;
+  }
+
+  pub repair_whole_is_part : IsPart whole_repair
+  repair_whole_is_part = then_is_part repair_part redirect_and_mend after_guard laws.repair laws.repair_causes.undecided redirect_is_part repair_passes
+
+  pub repair_whole_ends : EndsByRepairCause whole_repair repaired_segment_in
+  repair_whole_ends = then_ends_by_repair_cause repair_part redirect_and_mend after_guard repaired_segment (λ n. segment_of_then redirected_segment mended_segment n) repair_passes
+      (λ op h. met_segment (redirect_of op) (redirect_part.hands_on (redirect_of op))) laws.repair_causes redirect_ends

@@ -94,7 +94,7 @@ close_is_session keep are opens keeps is_quiet has_map pairs close_keeps settles
       opening_pairs = has;
       legal = good.legal;
       sound = kept.sound;
-      same_shape = same_shape shape words medium image.sound.says_shape kept.sound.says_shape;
+      same_shape = same_shape shape words medium image.says_shape kept.sound.says_shape;
       after_close = λ is. record {
         answered = subst (λ css. AllZip IsAnswered css (tolds_of core)) calls (all_answered site core.callers h.views h.each none);
         clean = shut.clean;
@@ -103,7 +103,7 @@ close_is_session keep are opens keeps is_quiet has_map pairs close_keeps settles
       after_cut = λ cut. absurd (let z = cut in cc);
       had_no_room = good.had_no_room;
       none_free = λ e there full s low was_free is_free.
-          holds_at _ (all_of (histories core)) e good.full there.0 there.1 there.2 full core.words (newest_possible (slice_index words) core h.well.words_are (words_of shape)) s low
+          holds_at _ (all_of (histories core)) e good.full there.0 there.1 there.2 full core.words (newest_possible (slice_index words) core h.well.words_are (words_of shape)) s low was_free
           (sym (ap state_in (header shape core.words _ medium _ shut marked s low)) ∙ is_free);
       spent = λ e there is few may. elim (holds_at _ (all_of (histories core)) e good.spent there.0 there.1 there.2 is) [
         | inl many ↦ absurd (omega (arith, many, few))

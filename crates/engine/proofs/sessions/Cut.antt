@@ -26,7 +26,7 @@ use Rattle.world.proofs.basics.Entries.{count_more, seen_of_more}
 use Rattle.world.proofs.Legality.{turned}
 use Rattle.engine.specs.Core.{Caller, Core, open_of, told_of, histories}
 use Rattle.engine.specs.Good.{HasNoFreeSlot}
-use Rattle.engine.specs.Holding.{NoneIsFree, FullIsTaken, HadSpent, all_own, FullHad, HasUntold, HasEntries, DoesCall, CallerFits, world_of}
+use Rattle.engine.specs.Holding.{NoneIsFree, KeepsFree, FullIsTaken, HadSpent, all_own, FullHad, HasUntold, HasEntries, DoesCall, CallerFits, world_of}
 
 one_fails : (p : Entry → Bool) (es : List Entry) (x : Entry) → p x ≡ false → filter p (es ++ x ∷ []) ≡ filter p es
 one_fails p es x fails = filter-append p es (x ∷ []) ∙ (ap (λ b. filter p es ++ cond b (x ∷ []) []) fails ∙ append-nil (filter p es))
@@ -198,20 +198,20 @@ abbrev pub FullAll : Shape → Words → Core → List (List Entry) → Type 0
 FullAll shape start core lists = AllByRecursion (λ e. e.reply ≡ Full → HasNoFreeSlot shape start core) (all_of lists)
 
 -- whatever the device may leave is what the views say
-none_free : DeviceLeaves → (site : Ground) (start : Words) (core : Core) (views : List View) → IsWell site start (world_of core views) → NoneIsFree site core.words (fresh_view 0 ∷ views)
-    → HasNoFreeSlot site.shape start core
-none_free leaves site start core views well none medium possible s slot = none s slot medium (leaves site start (world_of core views) medium well possible)
+none_free : DeviceLeaves → (site : Ground) (start : Words) (core : Core) (views : List View) → IsWell site start (world_of core views) → KeepsFree site start
+    → NoneIsFree site core.words (fresh_view 0 ∷ views) → HasNoFreeSlot site.shape start core
+none_free leaves site start core views well freed none medium possible s slot was = none s slot (freed s slot was) medium (leaves site start (world_of core views) medium well possible)
 
 pub told_full : DeviceLeaves → (site : Ground) (start : Words) (core : Core) (views : List View) → IsWell site start (world_of core views) → AllZip (CallerFits site) core.callers views
-    → FullIsTaken site core.words (fresh_view 0 ∷ views) → FullAll site.shape start core (histories core)
-told_full leaves site start core views well each taken =
+    → KeepsFree site start → FullIsTaken site core.words (fresh_view 0 ∷ views) → FullAll site.shape start core (histories core)
+told_full leaves site start core views well each freed taken =
     let others = all_cut core.callers views in
     let fits = cuts site core.callers views each in
     subst (FullAll site.shape start core) (own_of_cut site core.callers views each)
     (All-from_each (λ e. e.reply ≡ Full → HasNoFreeSlot site.shape start core) (all_own others) (λ e is_in full.
     let w = whose others e is_in in
     let c = cut_at views others w.0 w.1 fits w.2 in
-    none_free leaves site start core views well (taken (suc w.0) c.0 e c.1 (cut_has c.0 w.1 c.2 e w.3) full)))
+    none_free leaves site start core views well freed (taken (suc w.0) c.0 e c.1 (cut_has c.0 w.1 c.2 e w.3) full)))
 
 -- an empty list in front says nothing
 abbrev pub IsLegalWith : Map → Log → (ℕ → Option ℕ) → List (List Entry) → Type 0

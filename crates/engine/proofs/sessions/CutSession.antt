@@ -40,11 +40,11 @@ cut_is_session keep are shape words image opening has scripts fit turns medium w
       opening_pairs = has;
       legal = good.legal;
       sound = sound;
-      same_shape = same_shape shape words medium image.sound.says_shape sound.says_shape;
+      same_shape = same_shape shape words medium image.says_shape sound.says_shape;
       after_close = λ closed. absurd (let z = closed in cc);
       after_cut = λ _. subst (λ css. IsLeft shape (slice_index medium) (replay opening (weave (histories core))) (undrawn css (tolds_of core))) calls
           (good.media.left medium whole possible);
       had_no_room = good.had_no_room;
-      none_free = λ e there full s low was_free. holds_at _ (all_of (histories core)) e good.full there.0 there.1 there.2 full (slice_index medium) possible s low;
+      none_free = λ e there full s low was_free. holds_at _ (all_of (histories core)) e good.full there.0 there.1 there.2 full (slice_index medium) possible s low was_free;
       spent = λ e there is few cut. absurd (let z = cut refl in cc);
     }

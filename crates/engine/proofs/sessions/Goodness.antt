@@ -194,7 +194,7 @@ module _ (part : IsPart op_part) (legal : EntriesAreLegal) (leaves : DeviceLeave
     legal = told.0;
     media = record { sound = is_sound; left = left_at };
     had_no_room = told_had site core h.views h.each (full_had site core.words (fresh_view 0 ∷ h.views) h.well.holds) opening same;
-    full = told_full leaves site start core h.views h.well h.each h.full;
+    full = told_full leaves site start core h.views h.well h.each h.freed h.full;
     spent = told_spent site core h.views h.each (spent_had site core.words (fresh_view 0 ∷ h.views) h.well.holds);
   }
 

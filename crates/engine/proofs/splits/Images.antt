@@ -1,7 +1,7 @@
--- The machines of a split stay in their image: what an answer makes of one is of the same site.
+-- The machines of a split, and the beginning of a repair, stay in their image: what an answer makes of one is of the same site.
 use Rattle.std.proofs.Common.{◌≡◌, ℕ, Bool, true, false, refl}
 use Rattle.std.specs.Prelude.{◌==◌, nat_lt, if◌then◌else◌}
-use Rattle.segment_head.specs.HeadWord.{state_in, free}
+use Rattle.segment_head.specs.HeadWord.{state_in, depth_in, pattern_in, free}
 use Rattle.op_core.specs.declared.want.Ans.{Ans}
 use Rattle.op_core.specs.declared.want.Ans.TheVariants.{Value, Won, Lost, Passed}
 use Rattle.phase.specs.declared.take.Taken.{Taken}
@@ -17,6 +17,12 @@ use Rattle.split_op.specs.declared.step.SplitStep.{SplitStep}
 use Rattle.split_op.specs.declared.step.SplitStep.TheVariants as split
 use Rattle.split_op.specs.Steps.{last_slot, searched}
 use Rattle.split_op.specs.Steps.{next_in as split_next}
+use Rattle.world.specs.areas.Kinds.{is_new_side, is_ready_side}
+use Rattle.repair_op.specs.declared.step.Settling.TheVariants as settling
+use Rattle.repair_op.specs.declared.step.RepairStep.{RepairStep}
+use Rattle.repair_op.specs.declared.step.RepairStep.TheVariants as repair
+use Rattle.repair_op.specs.declared.op.RepairOp.{RepairOp}
+use Rattle.repair_op.specs.Steps.{met_side, next_in as repair_next}
 
 -- ---- while a segment is enclosed
 locked_site : (e : Enclosed) (b : ℕ) (taken : Taken) → (locked_to e b taken).enclosed.site ≡ e.site
@@ -75,3 +81,40 @@ module _ (op : SplitOp) where
   made_whole (split.Back give end) Passed = refl
   made_whole (split.Back give end) a = refl
   made_whole (split.Ended end) a = refl
+
+-- ---- while a stale segment is guarded
+module _ (op : RepairOp) where
+  -- whichever it is
+  by_side : (ready new : Bool) (x y z : RepairOp) → x.guarded.site ≡ op.guarded.site → y.guarded.site ≡ op.guarded.site → z.guarded.site ≡ op.guarded.site
+      → (if ready then x else if new then y else z).guarded.site ≡ op.guarded.site
+  by_side true new x y z first second third = first
+  by_side false true x y z first second third = second
+  by_side false false x y z first second third = third
+
+  met_site : (slot side : ℕ) → (met_side op slot side).guarded.site ≡ op.guarded.site
+  met_site slot side = by_side (is_ready_side (depth_in op.guarded.head) (pattern_in op.guarded.head) side) (is_new_side (depth_in op.guarded.head) (pattern_in op.guarded.head) side) _ _ _ refl refl refl
+
+  pub guarded_site : (step : RepairStep) (a : Ans) → (repair_next op step a).guarded.site ≡ op.guarded.site
+  guarded_site repair.Guard Won = refl
+  guarded_site repair.Guard (Lost seen) = refl
+  guarded_site repair.Guard a = refl
+  guarded_site repair.Head (Value head) = refl
+  guarded_site repair.Head a = refl
+  guarded_site repair.Link (Value link) = refl
+  guarded_site repair.Link a = refl
+  guarded_site (repair.Side slot) (Value side) = met_site slot side
+  guarded_site (repair.Side slot) a = refl
+  guarded_site (repair.Slots slot side) Won = refl
+  guarded_site (repair.Slots slot side) (Lost seen) = refl
+  guarded_site (repair.Slots slot side) a = refl
+  guarded_site (repair.Free slot side settling) Passed = refl
+  guarded_site (repair.Free slot side settling) a = refl
+  guarded_site repair.GiveSlots Passed = refl
+  guarded_site repair.GiveSlots a = refl
+  guarded_site (repair.Unmark settling.Store) Passed = refl
+  guarded_site (repair.Unmark settling.Flush) Passed = refl
+  guarded_site (repair.Unmark settling.Fence) Passed = refl
+  guarded_site (repair.Unmark settling) a = refl
+  guarded_site (repair.Give end) Passed = refl
+  guarded_site (repair.Give end) a = refl
+  guarded_site (repair.Ended end) a = refl

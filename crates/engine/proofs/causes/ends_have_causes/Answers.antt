@@ -10,7 +10,7 @@ use Rattle.engine.proofs.causes.ends_have_causes.Goals as goal
 call_causes : goal.After-turn_keeps → CallCauses
 call_causes c = record {
   part = c.calls_are_parts.ensures.part;
-  causes = record { call = c.calls_are_parts.ensures.causes; split = c.calls_are_parts.ensures.split_causes };
+  causes = record { call = c.calls_are_parts.ensures.causes; split = c.calls_are_parts.ensures.split_causes; repair = c.calls_are_parts.ensures.repair_causes; current = c.calls_are_parts.ensures.repair_current };
   begins = c.calls_are_parts.ensures.remembers;
   never = c.calls_are_parts.ensures.finished;
 }
@@ -19,7 +19,7 @@ pub returns-clause-begins : goal.returns-clause-begins
 returns-clause-begins c = begins_undecided
 
 pub returns-clause-stays : goal.returns-clause-stays
-returns-clause-stays c = λ e a outcome some. op_stays (record { call = c.calls_are_parts.ensures.causes; split = c.calls_are_parts.ensures.split_causes }) e.op a outcome some
+returns-clause-stays c = λ e a outcome some. op_stays (record { call = c.calls_are_parts.ensures.causes; split = c.calls_are_parts.ensures.split_causes; repair = c.calls_are_parts.ensures.repair_causes; current = c.calls_are_parts.ensures.repair_current }) e.op a outcome some
 
 pub returns-clause-ends : goal.returns-clause-ends
 returns-clause-ends c = c.calls_are_parts.ensures.ends

@@ -1,11 +1,12 @@
 -- A line for each machine.
-use Rattle.engine.proofs.machines.Passing.{ChangeLaws, whole_is_part, whole_ends_by_cause, SplitLaws, split_whole_is_part, split_whole_ends}
+use Rattle.engine.proofs.machines.Passing.{ChangeLaws, whole_is_part, whole_ends_by_cause, SplitLaws, split_whole_is_part, split_whole_ends, RepairLaws, repair_whole_is_part, repair_whole_ends}
+use Rattle.engine.proofs.machines.Finishing.{repair_finishes_current}
 use Rattle.engine.proofs.machines.Ops.{call_is_part, call_ends_by_cause, op_is_part}
 use Rattle.engine.proofs.machines.Begins.{begins_remembering, begins_bare}
 use Rattle.engine.proofs.machines.Ends.{EndLaws, ends_are_decided, never_finished}
 use Rattle.engine.proofs.laws.calls_are_parts.Goals as goal
 
-change_laws : goal.After-rests_are_parts → ChangeLaws
+change_laws : goal.After-mends_end_repaired → ChangeLaws
 change_laws c = record {
   change = c.changes_are_parts.ensures.part;
   change_causes = c.changes_are_parts.ensures.causes;
@@ -31,7 +32,7 @@ change_laws c = record {
   release_undecided = c.releases_are_parts.ensures.undecided;
 }
 
-split_laws : goal.After-rests_are_parts → SplitLaws
+split_laws : goal.After-mends_end_repaired → SplitLaws
 split_laws c = record {
   enclose = c.enclosings_are_parts.ensures.part;
   enclose_causes = c.ends_have_causes.ensures.causes;
@@ -56,7 +57,27 @@ split_laws c = record {
   rest_undecided = c.rests_are_parts.ensures.undecided;
 }
 
-end_laws : goal.After-rests_are_parts → EndLaws
+repair_laws : goal.After-mends_end_repaired → RepairLaws
+repair_laws c = record {
+  repair = c.repairs_are_parts.ensures.part;
+  repair_causes = c.ends_have_causes-3.ensures.causes;
+  repair_current = c.ends_have_causes-3.ensures.current;
+  repair_hands = c.repairs_are_parts.ensures.guarded;
+  repair_tells = c.ends_have_causes-3.ensures.remembered;
+  redirect = c.redirects_are_parts.ensures.part;
+  redirect_causes = c.ends_have_causes-4.ensures.causes;
+  redirect_begins = c.redirects_are_parts.ensures.begins;
+  redirect_undecided = c.redirects_are_parts.ensures.undecided;
+  redirect_remembers = c.ends_have_causes-4.ensures.remembers;
+  redirect_hands = c.redirects_are_parts.ensures.redirected;
+  mend = c.mends_are_parts.ensures.part;
+  mend_causes = c.mends_end_repaired.ensures.causes;
+  mend_current = c.mends_end_repaired.ensures.current;
+  mend_begins = c.mends_are_parts.ensures.begins;
+  mend_undecided = c.mends_are_parts.ensures.undecided;
+}
+
+end_laws : goal.After-mends_end_repaired → EndLaws
 end_laws c = record {
   get = c.gets_are_parts.ensures.ends;
   change = c.ends_tell.ensures;
@@ -66,10 +87,13 @@ end_laws c = record {
   enclose = c.ends_tell-5.ensures;
   publish = c.publishings_are_parts.ensures.off;
   rest = c.rests_are_parts.ensures.finished;
+  repair = c.repairs_are_parts.ensures.ends;
+  redirect = c.redirects_are_parts.ensures.ends;
+  mend = c.mends_end_repaired.ensures.finished;
 }
 
 pub returns-clause-part : goal.returns-clause-part
-returns-clause-part c = op_is_part (call_is_part c.gets_are_parts.ensures.part (whole_is_part (change_laws c))) (split_whole_is_part (split_laws c))
+returns-clause-part c = op_is_part (call_is_part c.gets_are_parts.ensures.part (whole_is_part (change_laws c))) (split_whole_is_part (split_laws c)) (repair_whole_is_part (repair_laws c))
 
 pub returns-clause-causes : goal.returns-clause-causes
 returns-clause-causes c = call_ends_by_cause c.gets_are_parts.ensures.causes (whole_ends_by_cause (change_laws c))
@@ -77,8 +101,14 @@ returns-clause-causes c = call_ends_by_cause c.gets_are_parts.ensures.causes (wh
 pub returns-clause-split_causes : goal.returns-clause-split_causes
 returns-clause-split_causes c = split_whole_ends (split_laws c)
 
+pub returns-clause-repair_causes : goal.returns-clause-repair_causes
+returns-clause-repair_causes c = repair_whole_ends (repair_laws c)
+
+pub returns-clause-repair_current : goal.returns-clause-repair_current
+returns-clause-repair_current c = repair_finishes_current (repair_laws c)
+
 pub returns-clause-remembers : goal.returns-clause-remembers
-returns-clause-remembers c = begins_remembering c.gets_are_parts.ensures.remembers c.changes_are_parts.ensures.remembers c.ends_have_causes.ensures.remembers
+returns-clause-remembers c = begins_remembering c.gets_are_parts.ensures.remembers c.changes_are_parts.ensures.remembers c.ends_have_causes.ensures.remembers c.ends_have_causes-3.ensures.remembers
 
 pub returns-clause-bare : goal.returns-clause-bare
 returns-clause-bare c = begins_bare

@@ -15,6 +15,9 @@ anew_laws c = record {
   leaves = c.releases_find_no_room.ensures.there;
   enclose_begins = c.enclosings_are_parts.ensures.begins;
   enclose_remembers = c.ends_have_causes.ensures.remembers;
+  relies = c.calls_are_parts.ensures.part.relies;
+  repair_begins = c.repairs_are_parts.ensures.begins;
+  repair_remembers = c.ends_have_causes-2.ensures.remembers;
 }
 
 pub returns-clause-steps : goal.returns-clause-steps
@@ -23,6 +26,7 @@ returns-clause-steps c = keeps_suits (record {
   says = c.calls_are_parts.ensures.ends;
   call_causes = c.calls_are_parts.ensures.causes;
   split_causes = c.calls_are_parts.ensures.split_causes;
+  repair_causes = c.calls_are_parts.ensures.repair_causes;
   anew = anew_laws c;
   callers = c.steps_add_one_reply.ensures.callers;
   structure = c.structure_steps_change_no_pair.ensures.reply;

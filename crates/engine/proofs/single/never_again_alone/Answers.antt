@@ -6,7 +6,7 @@ use Rattle.engine.proofs.single.never_again_alone.Goals as goal
 call_causes : goal.After-ends_have_causes → CallCauses
 call_causes c = record {
   part = c.calls_are_parts.ensures.part;
-  causes = record { call = c.calls_are_parts.ensures.causes; split = c.calls_are_parts.ensures.split_causes };
+  causes = record { call = c.calls_are_parts.ensures.causes; split = c.calls_are_parts.ensures.split_causes; repair = c.calls_are_parts.ensures.repair_causes; current = c.calls_are_parts.ensures.repair_current };
   begins = c.calls_are_parts.ensures.remembers;
   never = c.calls_are_parts.ensures.finished;
 }
