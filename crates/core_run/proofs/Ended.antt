@@ -79,7 +79,7 @@ module _ (quiet : ThroughIsQuiet) (maps : ThroughHasMap) (pairs : KeepsPairs) (c
       (ap wanted (sym r.op_is) ∙ done) last whole possible in
       subst (λ (k : Core). IsClosedWell t opening k) (sym (same_core t op core r)) (record {
         possible = possible;
-        sound = end.served.sound;
+        sound = end.sound;
         clean = end.clean;
         pairs = pairs_at quiet maps pairs cuts t is opening has r.before o r.run_out last (kept_at quiet maps pairs cuts t is opening has r.before o r.run_out r.events last whole possible);
         answered = subst (λ (scripts : List (List Call)). AllZip IsAnswered scripts (tolds_of r.before)) o.scripts

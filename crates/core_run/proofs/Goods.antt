@@ -115,7 +115,7 @@ module _ (good : HoldingIsGood) (quiet : ThroughIsQuiet) (maps : ThroughHasMap) 
             let sound = g.media.sound medium whole possible in
             record {
               sound = sound;
-              same_shape = same_shape t.shape medium t.first sound is.served.sound;
+              same_shape = same_shape t.shape medium t.first sound is.served;
               left = subst (λ (scripts : List (List Call)). IsLeft t.shape (slice_index medium) (replay opening (weave (histories core))) (undrawn scripts (tolds_of core))) o.scripts
                   (g.media.left medium whole possible);
             };
@@ -137,7 +137,7 @@ module _ (good : HoldingIsGood) (quiet : ThroughIsQuiet) (maps : ThroughHasMap) 
             let kept = kept_at quiet maps pairs cuts t is opening has r.before r.was_open r.run_out r.events medium whole possible in
             record {
               sound = kept.sound;
-              same_shape = same_shape t.shape medium t.first kept.sound is.served.sound;
+              same_shape = same_shape t.shape medium t.first kept.sound is.served;
               left = λ k. inl (pairs_at quiet maps pairs cuts t is opening has r.before r.was_open r.run_out medium kept k);
             };
       })

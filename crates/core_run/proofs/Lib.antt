@@ -3,6 +3,7 @@ mod events
 mod Opening
 mod Leaving
 mod OneSession
+mod Chain
 mod Goods
 mod Ended
 mod Follows

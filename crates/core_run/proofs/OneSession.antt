@@ -111,7 +111,7 @@ module _ (moments : MomentsAreGood) (closed : ClosedIsClosed) (follow : ToldsFol
         had_no_room = good.had_no_room;
         none_free = λ e among full slot within is_free.
             holds_of (λ (x : Entry). x.reply ≡ Full → HasNoFreeSlot t.shape (start_of t) s.core) (entries_of s.core) e good.full among full
-            (slice_index (left_by cut)) (left_possible cut at_none) slot within;
+            (slice_index (left_by cut)) (left_possible cut at_none) slot within is_free;
         spent = spent cut at_none;
       }
 

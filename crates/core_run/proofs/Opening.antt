@@ -1,6 +1,6 @@
--- The pairs of an image that no power cut has left are the map that the records of its live segments make, slot by slot.
-use Rattle.std.proofs.Common.{◌≡◌, ◌≢◌, ℕ, zero, suc, ◌+◌, ◌*◌, ◌/◌, ◌%◌, ◌<◌, ◌≤◌, ◌⊎◌, refl, sym, ap, subst, ◌∙◌, arith, inl, inr, ⊎_elim, List, cond, eq-eqb, Bool, true, false, Option, None, Some}
-use Rattle.std.specs.Prelude.{◌==◌, ◌||◌, if◌then◌else◌, slice_index}
+-- The pairs of an image are the map that the records of owners make, slot by slot.
+use Rattle.std.proofs.Common.{◌≡◌, ◌≢◌, ℕ, zero, suc, ◌+◌, ◌*◌, ◌/◌, ◌%◌, ◌^◌, ◌<◌, ◌≤◌, ◌⊎◌, refl, sym, ap, subst, ◌∙◌, arith, inl, inr, ⊎_elim, List, cond, eq-eqb, Bool, true, false, Option, None, Some}
+use Rattle.std.specs.Prelude.{◌==◌, if◌then◌else◌, slice_index}
 use Rattle.std.specs.FinMap.{get, insert, get-empty, get-insert}
 use Rattle.std.specs.Cmp.{unsigned_tied}
 use Rattle.std.proofs.lemmas.Cmp.{nat_cmp_total}
@@ -8,17 +8,18 @@ use Rattle.std.specs.Ordering.{nat_cmp}
 use Rattle.std.proofs.lemmas.Bool.{cases_eq, cases_lt, ne_eqb, eqb-true, and_parts}
 use Rattle.std.specs.Cmp.Derive.{both_true}
 use Rattle.bucket_meta.specs.Bucket.{allocated}
-use Rattle.segment_head.specs.HeadWord.{state_in, normal, splitting, is_live, HasLiveState}
-use Rattle.image_layout.specs.Places.{Shape, head_at}
+use Rattle.image_layout.specs.Places.{Shape, key_at}
 use Rattle.map_model.specs.Map.{Map}
-use Rattle.sound_image.specs.Segments.{ImageWords, Frame, frame_of, IsLive, Owns}
-use Rattle.sound_image.specs.Records.{word_in, slot_key, slot_hash, HasRecord, HasPair, HasAt}
+use Rattle.sound_image.specs.Segments.{ImageWords, Frame, frame_of, Owns}
+use Rattle.sound_image.specs.Records.{key_hash, word_in, slot_key, slot_hash, HasRecord, HasOwnRecord, HasPair, HasAt}
 use Rattle.sound_image.specs.Left.{HasPairsOf}
-use Rattle.segment_table.proofs.frames.Owner.{found_owns}
-use Rattle.bucket_words.proofs.segments.Rules.{hit_of}
-use Rattle.restart_op.specs.Restarted.{IsPlayableImage}
-use Rattle.restart_op.proofs.images.Facts.{own_records}
-use Rattle.core_run.specs.Opening.{has_record, key_of_slot, value_of_slot, map_below, opening_of}
+use Rattle.sound_image.specs.Image.{IsSoundImage}
+use Rattle.sound_image.proofs.Hashes.{key_hash-fits}
+use Rattle.segment_table.specs.Owner.{owner}
+use Rattle.segment_table.proofs.frames.SoundFrames.{owner_claims}
+use Rattle.segment_table.proofs.frames.Owner.{found_owns, claimer_found}
+use Rattle.restart_op.proofs.images.Facts.{frame_is}
+use Rattle.core_run.specs.Opening.{is_owner, has_record, key_of_slot, value_of_slot, map_below, opening_of}
 
 -- what a map has at a key after an insert
 get-insert_same : (m : Map) (k v : ℕ) → get (insert m k v) k ≡ Some v
@@ -26,18 +27,6 @@ get-insert_same m k v = get-insert nat_cmp_total m k v k ∙ ap (λ b. cond b (S
 
 get-insert_other : (m : Map) (k v q : ℕ) → q ≢ k → get (insert m k v) q ≡ get m q
 get-insert_other m k v q other = get-insert nat_cmp_total m k v q ∙ ap (λ b. cond b (Some v) (get m q)) (unsigned_tied q k ∙ ne_eqb q k other)
-
-or_parts : (a b : Bool) → (a || b) ≡ true → (a ≡ true) ⊎ (b ≡ true)
-or_parts true b e = inl refl
-or_parts false b e = inr e
-
-or_left : (a b : Bool) → a ≡ true → (a || b) ≡ true
-or_left true b p = refl
-or_left false b p = absurd (let z = p in cc)
-
-or_right : (a b : Bool) → b ≡ true → (a || b) ≡ true
-or_right true b p = refl
-or_right false b p = p
 
 bool_cases : (b : Bool) → (b ≡ true) ⊎ (b ≡ false)
 bool_cases true = inl refl
@@ -127,40 +116,46 @@ module _ (shape : Shape) (word : ImageWords) where
       differ : (b : Bool) → b ≡ true → b ≡ false → ⊥
       differ b h f = cc
 
-live_test : (h1 : ℕ) → is_live h1 ≡ true → HasLiveState h1
-live_test h1 e = elim (or_parts (state_in h1 == normal) (state_in h1 == splitting) e) [
-  | inl one ↦ inl (eqb-true (state_in h1) normal one)
-  | inr two ↦ inr (eqb-true (state_in h1) splitting two)
-]
+-- the test whether the owner that was found is a segment
+of_test : (o : Option ℕ) (s : ℕ) → is_owner o s ≡ true → o ≡ Some s
+of_test None s e = absurd (let z = e in cc)
+of_test (Some o) s e = ap Some (eqb-true o s e)
 
-test_live : (h1 : ℕ) → HasLiveState h1 → is_live h1 ≡ true
-test_live h1 (inl one) = or_left (state_in h1 == normal) (state_in h1 == splitting) (eq-eqb (state_in h1) normal one)
-test_live h1 (inr two) = or_right (state_in h1 == normal) (state_in h1 == splitting) (eq-eqb (state_in h1) splitting two)
+to_test : (o : Option ℕ) (s : ℕ) → o ≡ Some s → is_owner o s ≡ true
+to_test o s e = subst (λ (x : Option ℕ). is_owner x s ≡ true) (sym e) (eq-eqb s s refl)
 
-module _ (shape : Shape) (words : List ℕ) (image : IsPlayableImage shape words) where
+module _ (shape : Shape) (words : List ℕ) (image : IsSoundImage shape words) where
   abbrev image_word : ImageWords
   image_word = slice_index words
 
   abbrev frame : Frame
   frame = frame_of shape image_word
 
-  -- a record of a live segment is its own, since no power cut has left the image
-  owned : (s b r : ℕ) → IsLive frame s → HasRecord shape image_word s b r → Owns frame s (slot_hash shape image_word s b r)
-  owned s b r live there = found_owns frame (slot_hash shape image_word s b r) s (own_records shape words image s b r (slot_key shape image_word s b r) live (hit_of shape image_word s b r there))
+  -- in a sound image the owner of a hash is found
+  owner_is : (s h : ℕ) → h < 2 ^ 64 → Owns frame s h → owner frame h ≡ Some s
+  owner_is s h fits owns =
+      let most : shape.depth ≤ 16 = image.in_range.depth in
+      claimer_found shape.depth frame most (frame_is shape words image) s h fits (owner_claims shape.depth most frame (frame_is shape words image) s h fits owns)
 
   pair_from_slot : (k v : ℕ) → IsAmong shape image_word (924 * shape.segments) k v → HasPair shape image_word k v
   pair_from_slot k v a =
-      let both = and_parts (is_live (image_word (head_at shape (a.slot / 924) + 1))) (allocated (a.slot % 14) (word_in shape image_word (a.slot / 924) (a.slot / 14 % 66) 1) == 1) a.there in
+      let h = key_hash shape (key_of_slot shape image_word a.slot) in
+      let both = and_parts (allocated (a.slot % 14) (word_in shape image_word (a.slot / 924) (a.slot / 14 % 66) 1) == 1) (is_owner (owner frame h) (a.slot / 924)) a.there in
       let there : HasRecord shape image_word (a.slot / 924) (a.slot / 14 % 66) (a.slot % 14) =
-      record { segment = in_segments a.slot shape.segments a.below; bucket = omega arith; slot = omega arith; is_allocated = eqb-true _ 1 both.1 } in
+      record { segment = in_segments a.slot shape.segments a.below; bucket = omega arith; slot = omega arith; is_allocated = eqb-true _ 1 both.0 } in
       record {
         s = a.slot / 924;
         b = a.slot / 14 % 66;
         r = a.slot % 14;
-        own = record { record_there = there; owned = owned (a.slot / 924) (a.slot / 14 % 66) (a.slot % 14) (live_test _ both.0) there };
+        own = record { record_there = there; owned = found_owns frame h (a.slot / 924) (of_test (owner frame h) (a.slot / 924) both.1) };
         key_is = a.key;
         value_is = a.value;
       }
+
+  is_found : (s b r : ℕ) → HasOwnRecord shape image_word s b r → is_owner (owner frame (slot_hash shape image_word s b r)) s ≡ true
+  is_found s b r own =
+      to_test (owner frame (slot_hash shape image_word s b r)) s
+      (owner_is s (slot_hash shape image_word s b r) (key_hash-fits shape (slot_key shape image_word s b r) (image.each_fits (key_at shape s b r))) own.owned)
 
   slot_from_pair : (k v : ℕ) → HasPair shape image_word k v → IsAmong shape image_word (924 * shape.segments) k v
   slot_from_pair k v p =
@@ -171,7 +166,7 @@ module _ (shape : Shape) (words : List ℕ) (image : IsPlayableImage shape words
       record {
         slot = number p.s p.b p.r;
         below = number_below p.s p.b p.r shape.segments there.segment there.bucket there.slot;
-        there = rw (segment, bucket, slot) (both_true (test_live _ p.own.owned.own.live) (eq-eqb _ 1 there.is_allocated));
+        there = rw (segment, bucket, slot) (both_true (eq-eqb _ 1 there.is_allocated) (is_found p.s p.b p.r p.own));
         key = rw (segment, bucket, slot) p.key_is;
         value = rw (segment, bucket, slot) p.value_is;
       }

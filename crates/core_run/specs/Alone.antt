@@ -1,8 +1,9 @@
--- One caller alone: nobody else steps, so what its attempt saw of the memory is still so, and it splits no segment but one without room.
+-- One caller alone: nobody else steps, so what its attempt saw of the memory is still so, it splits no segment but one without room, and it repairs
+-- none but one that is stale.
 use Rattle.std.specs.Prelude.{◌≡◌, ℕ, ◌+◌, ◌-◌, ◌≤◌, ⊤, false, Some, List, [], ◌∷◌, length}
 use Rattle.restart_op.specs.Closing.{left as close_left, events_of}
 use Rattle.engine.specs.Core.{Caller, Core}
-use Rattle.engine.specs.Alone.{along, IsAlone as IsAloneIn, StandsCramped}
+use Rattle.engine.specs.Alone.{along, IsAlone as IsAloneIn, StandsDue}
 use Rattle.core_run.specs.declared.keeper.Keeper.{Keeper}
 use Rattle.core_run.specs.declared.keeper.Keeper.TheVariants.{Restarting, Open, Closing, Closed}
 use Rattle.core_run.specs.State.{State, Deed, deed, beginning}
@@ -11,12 +12,13 @@ use Rattle.core_run.specs.Running.{Setup, IsSetup, start_of, IsRunning}
 
 -- ---- the state
 -- these turns led to the core from the image's opening on, and the caller at place j is alone after them: all others stand between
--- two attempts, what its attempt loaded is still so, or it changed that itself, and a segment that it is to split or encloses has no room
+-- two attempts, what its attempt loaded is still so, or it changed that itself, and what it does beside its call is due: a segment that it is to split
+-- has no room, and one that it is to repair is stale
 pub record StandsAlone (t : Setup) (core : Core) (j : ℕ) : Type 0 where
   pub turns : List ℕ
   pub core_is : core ≡ (along t.shape t.first t.scripts turns).core
   pub alone : IsAloneIn t.shape j (along t.shape t.first t.scripts turns)
-  pub cramped : StandsCramped t.shape j (along t.shape t.first t.scripts turns)
+  pub due : StandsDue t.shape j (along t.shape t.first t.scripts turns)
 
 abbrev pub IsAloneBy : Setup → Keeper → Core → Type 0
 IsAloneBy t (Restarting op) core = ⊤

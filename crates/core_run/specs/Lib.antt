@@ -6,6 +6,7 @@ pub mod States
 pub mod Ends
 pub mod Opening
 pub mod Sessions
+pub mod Chains
 pub mod Wells
 pub mod Moments
 pub mod WorkedRun

@@ -1,23 +1,30 @@
 -- The map that the records of an image make, from which a run starts.
-use Rattle.std.specs.Prelude.{ℕ, zero, suc, ◌+◌, ◌*◌, ◌/◌, ◌%◌, Bool, ◌==◌, ◌&&◌, if◌then◌else◌}
+use Rattle.std.specs.Prelude.{ℕ, zero, suc, ◌*◌, ◌/◌, ◌%◌, Bool, false, ◌==◌, ◌&&◌, Option, None, Some, if◌then◌else◌}
 use Rattle.std.specs.FinMap.{empty, insert}
 use Rattle.map_model.specs.Map.{Map}
 use Rattle.bucket_meta.specs.Bucket.{allocated}
-use Rattle.segment_head.specs.HeadWord.{is_live}
-use Rattle.image_layout.specs.Places.{Shape, head_at}
-use Rattle.sound_image.specs.Segments.{ImageWords}
-use Rattle.sound_image.specs.Records.{word_in, slot_key, slot_value}
+use Rattle.image_layout.specs.Places.{Shape}
+use Rattle.sound_image.specs.Segments.{ImageWords, frame_of}
+use Rattle.sound_image.specs.Records.{key_hash, word_in, slot_key, slot_value}
+use Rattle.segment_table.specs.Owner.{owner}
+
+-- the owner that was found is this segment
+abbrev pub is_owner : Option ℕ → ℕ → Bool
+is_owner None s = false
+is_owner (Some o) s = o == s
 
 module _ (shape : Shape) (word : ImageWords) where
-  -- slot t, of 924 of each segment, is slot t % 14 of bucket t / 14 % 66 of segment t / 924; it has a record of a live segment
-  abbrev pub has_record : ℕ → Bool
-  has_record t = is_live (word (head_at shape (t / 924) + 1)) && (allocated (t % 14) (word_in shape word (t / 924) (t / 14 % 66) 1) == 1)
-
+  -- slot t, of 924 of each segment, is slot t % 14 of bucket t / 14 % 66 of segment t / 924
   abbrev pub key_of_slot : ℕ → ℕ
   key_of_slot t = slot_key shape word (t / 924) (t / 14 % 66) (t % 14)
 
   abbrev pub value_of_slot : ℕ → ℕ
   value_of_slot t = slot_value shape word (t / 924) (t / 14 % 66) (t % 14)
+
+  -- it has a record, and its segment owns the hash of the record's key: after a power cut records may stand in other segments too
+  abbrev pub has_record : ℕ → Bool
+  has_record t =
+      (allocated (t % 14) (word_in shape word (t / 924) (t / 14 % 66) 1) == 1) && is_owner (owner (frame_of shape word) (key_hash shape (key_of_slot t))) (t / 924)
 
   -- the map of the records in the slots below a limit
   unfoldable pub map_below : ℕ → Map

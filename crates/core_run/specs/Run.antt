@@ -163,7 +163,8 @@ abbrev pub all_calls : List (List Call) → ℕ
 all_calls [] = 0
 all_calls (calls ∷ scripts) = length calls + all_calls scripts
 
--- for each call as many as its caller may make alone, whatever is split for it; and for the close as many, and two for each word
+-- for each call as many as its caller may make alone, whatever is split or repaired for it; and for the restart and the close as many, and two for
+-- each word
 abbrev pub most_with : Shape → ℕ → ℕ
 most_with shape calls = 2 * words_of shape + events_of_call shape * (calls + 1)
 

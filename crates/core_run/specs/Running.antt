@@ -14,6 +14,7 @@ use Rattle.world.specs.Wants.{word_of}
 use Rattle.restart_op.specs.declared.restart.RestartOp.{RestartOp}
 use Rattle.restart_op.specs.declared.close.CloseOp.{CloseOp}
 use Rattle.restart_op.specs.Close.{wanted as close_wanted}
+use Rattle.restart_op.specs.Budget.{events_of_restart}
 use Rattle.restart_op.specs.Restarted.{restarted, site_of}
 use Rattle.restart_op.specs.Closing.{close_after}
 use Rattle.engine.specs.declared.engine.Engine.{Engine}
@@ -76,7 +77,7 @@ pub record IsOpen (t : Setup) (core : Core) : Type 0 where
 -- the restart has done some of its events
 pub record IsRestarting (t : Setup) (op : RestartOp) (core : Core) : Type 0 where
   pub events : ℕ
-  pub few : events < 4
+  pub few : events < events_of_restart t.shape (slice_index t.first)
   pub op_is : op ≡ (restarted t.shape t.first events).op
   pub words_are : core.words ≡ (restarted t.shape t.first events).words
   pub trace_is : core.trace ≡ (restarted t.shape t.first events).trace

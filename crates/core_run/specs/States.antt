@@ -48,7 +48,7 @@ entries_of core = all_of (histories core)
 abbrev pub HadNoRooms : Shape → Map → List Entry → Type 0
 HadNoRooms shape opening entries = AllByRecursion (λ e. HadNoRoom shape (map_at opening entries e.place) e) entries
 
--- where a call was told that the table is full, no slot is free in whatever a power cut may leave
+-- where a call was told that the table is full, each slot that was free in the image is taken in whatever a power cut may leave
 abbrev pub WereTaken : Setup → Core → Type 0
 WereTaken t core = AllByRecursion (λ e. e.reply ≡ Full → HasNoFreeSlot t.shape (start_of t) core) (entries_of core)
 

@@ -7,8 +7,8 @@ ghost use Rattle.core_run.specs.Wells.{LinesAreWell};
 
 use crate::states;
 
-/// One caller alone: what it saw of the memory stays so, from the beginning on, it splits no segment but one without room, and none of
-/// its attempts ends in Again.
+/// One caller alone: what it saw of the memory stays so, from the beginning on, it splits no segment but one without room and repairs none
+/// but one that is stale, and none of its attempts ends in Again.
 pub fn alone_stays()
     ensures begins { BeginsAlone }
     ensures stays { AloneStays }

@@ -3,7 +3,7 @@
 //! Definitions and laws. `specs/State.antt` has the state of a run and one event of it, `specs/Run.antt` the lines. A driver
 //! that runs on a memory answers to these definitions. `specs/Running.antt` says what holds of a state between any two events,
 //! and `specs/States.antt` what follows of it, at every moment of a run by `specs/Moments.antt`; `specs/Ends.antt` that a run of
-//! one caller ends, and `specs/Sessions.antt` that it is a session.
+//! one caller ends, `specs/Sessions.antt` that it is a session, and `specs/Chains.antt` that runs one after another are.
 #![tactic(auto)]
 
 mod alone;
@@ -22,7 +22,7 @@ pub use deed::Deed;
 pub use goal::Goal;
 pub use keeper::Keeper;
 pub use moments::every_moment_is_good;
-pub use sessions::runs_are_sessions;
+pub use sessions::{runs_are_sessions, sessions_compose};
 pub use states::{
     close_may_begin, closed_is_closed, deeds_are_well, moments_are_good, run_begins, tolds_follow,
 };

@@ -297,7 +297,7 @@ module _ (wells : DeedsAreWell) (stays : AloneStays) (never : NeverAgain) (laws 
         let few = behind_low laws keepers t is s.core (is_open s here r) in
         let end = rounds_end most s r here (omega (arith, few, enough)) in
         let at_end : State = rounds t.shape most most s in
-        let good = close_low t.shape is.setup.served.sound.in_range in
+        let good = close_low t.shape is.setup.served.in_range in
         record {
           running = close_may t at_end.core is.setup (is_open at_end end.still_open (rounds_stay most most s r)) end.none_runs;
           alone = omega (arith, good);

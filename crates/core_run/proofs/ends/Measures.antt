@@ -1,17 +1,17 @@
 -- How many events a caller has left at most: each event leaves fewer, and at first there are no more than the run counts.
 use Rattle.std.proofs.Common.{◌≡◌, ◌≢◌, ℕ, zero, suc, ◌+◌, ◌*◌, ◌<◌, ◌≤◌, Some, List, length, map, slice_get, sym, ◌∙◌, ap, subst, arith}
-use Rattle.std.specs.Prelude.{⊤}
+use Rattle.std.specs.Prelude.{⊤, slice_index}
 use Rattle.std.proofs.lemmas.Option.{none-some, same_Some}
 use Rattle.std.proofs.Math.Nat.{mul-le-mul_left, le-mul_of_pos_right}
 use Rattle.op_core.specs.declared.want.Want.{Want}
 use Rattle.op_core.specs.declared.want.Want.TheVariants as want
-use Rattle.image_layout.specs.Places.{Shape, words_of}
+use Rattle.image_layout.specs.Places.{Shape, IsShape, words_of}
 use Rattle.world.specs.Wants.{answer_to, word_of}
 use Rattle.world.proofs.stepping.Answers.{is_answer}
 use Rattle.restart_op.specs.declared.restart.RestartOp.{RestartOp}
-use Rattle.restart_op.specs.Restart.{begun as restart_begun, wanted as restart_wanted, taken as restart_taken}
-use Rattle.restart_op.specs.Budget.{left as restart_left, Falls as RestartFalls, EndsAtNone}
-use Rattle.restart_op.specs.Restarted.{restarted}
+use Rattle.restart_op.specs.Restart.{wanted as restart_wanted, taken as restart_taken}
+use Rattle.restart_op.specs.Budget.{events_of_sweep, events_of_restart, left as restart_left, BeginsWithASweep, Falls as RestartFalls}
+use Rattle.restart_op.specs.Restarted.{restarted, RestartAsks}
 use Rattle.restart_op.specs.declared.close.CloseOp.{CloseOp}
 use Rattle.restart_op.specs.Close.{wanted as close_wanted, taken as close_taken}
 use Rattle.restart_op.specs.Closing.{left as close_left, Falls as CloseFalls}
@@ -28,7 +28,7 @@ use Rattle.core_run.proofs.ends.Working.{EngineLaws, call_some, work_low, work_a
 use Rattle.core_run.proofs.ends.Staying.{of_one, one_left}
 
 abbrev pub keeper_left : Keeper → ℕ
-keeper_left (Restarting op) = restart_left op.step
+keeper_left (Restarting op) = restart_left op
 keeper_left Open = 0
 keeper_left (Closing op) = close_left op
 keeper_left Closed = 0
@@ -47,25 +47,26 @@ left_for shape (suc j) s = callers_left shape s.keeper s.core
 -- ---- the restart and the close
 -- what is used of them
 pub record KeeperLaws : Type 0 where
-  pub four : (shape : Shape) → restart_left (restart_begun shape).step ≡ 4
+  pub most : BeginsWithASweep
   pub restart : RestartFalls
-  pub none : EndsAtNone
+  pub asks : RestartAsks
   pub close : CloseFalls
 
 module _ (keepers : KeeperLaws) where
-  restart_less : (op : RestartOp) (n : ℕ) → restart_left op.step ≢ 0 → restart_left op.step ≡ restart_left (restart_taken op (answer_to (restart_wanted op) n)).step + 1
-  restart_less op n some = keepers.restart op (answer_to (restart_wanted op) n) (is_answer (restart_wanted op) n ((keepers.none op).1 some))
+  restart_less : (op : RestartOp) (n : ℕ) → restart_wanted op ≢ want.Done → restart_left (restart_taken op (answer_to (restart_wanted op) n)) < restart_left op
+  restart_less op n some = keepers.restart op (answer_to (restart_wanted op) n) (is_answer (restart_wanted op) n some)
 
-  -- one less after each event
-  restarted_left : (shape : Shape) (words : List ℕ) (n : ℕ) → n ≤ 4 → restart_left (restarted shape words n).op.step + n ≡ 4
-  restarted_left shape words zero low = let four = keepers.four shape in omega (arith, four)
-  restarted_left shape words (suc n) low =
+  -- less after each event, and no more than with a sweep
+  restarted_left : (shape : Shape) (words : List ℕ) (n : ℕ) → IsShape shape → n ≤ events_of_restart shape (slice_index words)
+      → restart_left (restarted shape words n).op ≤ events_of_sweep shape
+  restarted_left shape words zero is low = let most = keepers.most shape is in omega (arith, most)
+  restarted_left shape words (suc n) is low =
       let c = restarted shape words n in
-      let before = restarted_left shape words n (omega (arith, low)) in
-      let fewer = restart_less c.op (c.words (word_of shape (restart_wanted c.op))) (λ none. omega (arith, none, before, low)) in
+      let before = restarted_left shape words n is (omega (arith, low)) in
+      let fewer = restart_less c.op (c.words (word_of shape (restart_wanted c.op))) (keepers.asks shape words n is (omega (arith, low))).asks in
       omega (arith, before, fewer)
 
-restarting_left : (shape : Shape) (op : RestartOp) (w : Want) (core : Core) → keeper_left (restarting shape op w core).keeper ≤ restart_left op.step
+restarting_left : (shape : Shape) (op : RestartOp) (w : Want) (core : Core) → keeper_left (restarting shape op w core).keeper ≤ restart_left op
 restarting_left shape op want.Done core = omega arith
 restarting_left shape op w core = omega arith
 
@@ -117,20 +118,22 @@ within_most of_call behind calls more some few = let each = le-mul_of_pos_right 
 
 -- ---- each event leaves fewer
 module _ (laws : EngineLaws) (keepers : KeeperLaws) (t : Setup) (is : IsForOne t) where
-  left_now : (op : RestartOp) (core : Core) (r : IsRestarting t op core) → restart_left op.step + r.events ≡ 4
+  left_now : (op : RestartOp) (core : Core) (r : IsRestarting t op core) → restart_left op ≤ events_of_sweep t.shape
   left_now op core r = let few = r.few in
-      subst (λ (o : RestartOp). restart_left o.step + r.events ≡ 4) (sym r.op_is) (restarted_left keepers t.shape t.first r.events (omega (arith, few)))
+      subst (λ (o : RestartOp). restart_left o ≤ events_of_sweep t.shape) (sym r.op_is)
+      (restarted_left keepers t.shape t.first r.events is.setup.served.in_range (omega (arith, few)))
+
+  asks_now : (op : RestartOp) (core : Core) (r : IsRestarting t op core) → restart_wanted op ≢ want.Done
+  asks_now op core r = subst (λ (o : RestartOp). restart_wanted o ≢ want.Done) (sym r.op_is) (keepers.asks t.shape t.first r.events is.setup.served.in_range r.few).asks
 
   keeper_less : (k : Keeper) (core : Core) → IsRunningBy t k core → (d : Deed) → keeper_deed t.shape k core ≡ Some d → keeper_left d.state.keeper < keeper_left k
   keeper_less (Restarting op) core r d e =
       let w : Want = restart_wanted op in
       let n : ℕ = core.words (word_of t.shape w) in
       let next : RestartOp = restart_taken op (answer_to w n) in
-      let now = left_now op core r in
-      let few = r.few in
-      let fewer = restart_less keepers op n (λ none. omega (arith, none, now, few)) in
+      let fewer = restart_less keepers op n (asks_now op core r) in
       let after = restarting_left t.shape next (restart_wanted next) (by_keeper t.shape w core) in
-      subst (λ (x : Deed). keeper_left x.state.keeper < restart_left op.step) (same_Some (restart_deed t.shape op core) d e) (omega (arith, fewer, after))
+      subst (λ (x : Deed). keeper_left x.state.keeper < restart_left op) (same_Some (restart_deed t.shape op core) d e) (omega (arith, fewer, after))
   keeper_less Open core r d e = absurd (none-some d e)
   keeper_less (Closing op) core r d e =
       let n : ℕ = core.words (word_of t.shape (close_wanted op)) in

@@ -23,7 +23,7 @@ use Rattle.engine.specs.Holding.{CallerFits}
 use Rattle.engine.specs.Laws.{AreScripts}
 use Rattle.engine.specs.Left.{events_left, events_of_call}
 use Rattle.engine.specs.Causes.{Watched, answer_now, engine_next, watched_turn, watched_run}
-use Rattle.engine.specs.Alone.{IsNext, LeavesFewer, at_start, along, IsAlone as IsAloneIn, StandsCramped}
+use Rattle.engine.specs.Alone.{IsNext, LeavesFewer, at_start, along, IsAlone as IsAloneIn, StandsDue}
 use Rattle.core_run.specs.declared.keeper.Keeper.{Keeper}
 use Rattle.core_run.specs.declared.keeper.Keeper.TheVariants.{Restarting, Open, Closing, Closed}
 use Rattle.core_run.specs.State.{State, Deed, by_keeper, restarting, closing, end_by, restart_deed, close_deed, keeper_deed, engine_deed, call_deed, caller_deed, open_deed, deed}
@@ -130,12 +130,12 @@ module _ (laws : EngineLaws) (t : Setup) (is : IsSetup t) where
           turns = a.turns ++ suc j ∷ [];
           core_is = sym turn_is ∙ ap (turn t.shape (suc j)) a.core_is ∙ ap (λ (w : Watched). w.core) (sym more);
           alone = subst (λ w. IsAloneIn t.shape j w) (sym more) (laws.own t.shape t.first is.served t.scripts scripts_are a.turns j a.alone);
-          cramped = subst (λ w. StandsCramped t.shape j w) (sym more) (laws.cramped t.shape t.first is.served t.scripts scripts_are a.turns j a.alone a.cramped);
+          due = subst (λ w. StandsDue t.shape j w) (sym more) (laws.due t.shape t.first is.served t.scripts scripts_are a.turns j a.alone a.due);
         }
 
     -- ---- the events that are left
     fewer : LeavesFewer t.shape (along t.shape t.first t.scripts a.turns) j e
-    fewer = laws.fewer t.shape t.first is.served t.scripts scripts_are a.turns j e a.alone a.cramped is_next
+    fewer = laws.fewer t.shape t.first is.served t.scripts scripts_are a.turns j e a.alone a.due is_next
 
     -- from the words of one core to those of another there are fewer, of the same attempt or of the next
     abbrev GoesOn : Core → Core → Type 0
@@ -226,7 +226,7 @@ module _ (laws : EngineLaws) (t : Setup) (is : IsForOne t) where
     turns = [];
     core_is = same;
     alone = laws.start_alone t.shape t.first t.scripts 0;
-    cramped = laws.start_cramped t.shape t.first t.scripts 0;
+    due = laws.start_due t.shape t.first t.scripts 0;
   }
 
   restarts : (op : RestartOp) (w : Want) (core : Core)
@@ -249,7 +249,7 @@ module _ (laws : EngineLaws) (t : Setup) (is : IsForOne t) where
       let w : Want = restart_wanted op in
       let next : RestartOp = restart_taken op (answer_to w (core.words (word_of t.shape w))) in
       subst IsGood (same_Some (restart_deed t.shape op core) d e) (record {
-        alone = restarts next (restart_wanted next) (by_keeper t.shape w core) (opened_at t op core r);
+        alone = restarts next (restart_wanted next) (by_keeper t.shape w core) (opened_at t is.setup op core r);
         calm = refl;
       })
   keeper_good falls Open core r a d e = absurd (none-some d e)

@@ -13,7 +13,7 @@ use Rattle.engine.specs.declared.engine.End.{End}
 use Rattle.engine.specs.Engine.{begun, wanted, end_of, reply_of_end, anew}
 use Rattle.engine.specs.Left.{most_alone, events_left, events_of_call}
 use Rattle.engine.specs.Core.{Caller, call_at, engine_for, entry_of, with_entry, ended, ended_or_on}
-use Rattle.engine.specs.Alone.{AloneAtStart, OwnTurnsStayAlone, AloneNeverAgain, EndsTell, CrampedAtStart, OwnTurnsStayCramped, EventsAreFew, AloneLeavesFewer}
+use Rattle.engine.specs.Alone.{AloneAtStart, OwnTurnsStayAlone, AloneNeverAgain, EndsTell, DueAtStart, OwnTurnsStayDue, EventsAreFew, AloneLeavesFewer}
 use Rattle.core_run.specs.State.{end_by}
 use Rattle.core_run.specs.Run.{is_some_reply, ends_call}
 use Rattle.core_run.specs.Alone.{behind}
@@ -24,18 +24,18 @@ pub record EngineLaws : Type 0 where
   pub own : OwnTurnsStayAlone
   pub tell : EndsTell
   pub start_alone : AloneAtStart
-  pub start_cramped : CrampedAtStart
-  pub cramped : OwnTurnsStayCramped
+  pub start_due : DueAtStart
+  pub due : OwnTurnsStayDue
   pub few : EventsAreFew
   pub fewer : AloneLeavesFewer
 
 -- ---- numbers
-product_some : (a b : ℕ) → 0 < (a + 3) * (b + 1)
+product_some : (a b : ℕ) → 0 < (a + 5) * (b + 1)
 product_some a b = omega arith
 
 -- a call has some events
 pub call_some : (shape : Shape) → 0 < events_of_call shape
-call_some shape = product_some (2 * shape.segments) most_alone
+call_some shape = product_some (6 * shape.segments) most_alone
 
 -- less is left of the same call, or a call fewer and less than a call
 less_of_call : (of_call calls m n : ℕ) → m < n → m + of_call * calls < n + of_call * calls

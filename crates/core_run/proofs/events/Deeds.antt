@@ -38,7 +38,7 @@ module _ (opens : OpenedHolds) (closes : FewWait) (keeps : TurnKeeps) (asks : As
   well : (c : ℕ) (keeper : Keeper) → IsRunningBy t keeper core → deed t.shape c (record { keeper = keeper; core = core }) ≡ Some d → IsWell c keeper
   well zero (Restarting op) r q =
       subst (λ (x : Deed). DeedIsWell t 0 (record { keeper = Restarting op; core = core }) x) (same_Some (restart_deed t.shape op core) d q)
-      (restart_well waits t is opens op core r)
+      (restart_well t is waits opens op core r)
   well zero Open r q = absurd (none-some d q)
   well zero (Closing op) r q =
       subst (λ (x : Deed). DeedIsWell t 0 (record { keeper = Closing op; core = core }) x) (same_Some (close_deed t.shape op core) d q)

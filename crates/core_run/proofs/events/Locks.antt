@@ -84,10 +84,10 @@ module _ (shape : Shape) (start : Words) (before : Core) (n : ℕ) where
       (λ other. may_of_had start before.trace i (medium i)
       (had_before shape start i other before.words before.trace n (medium i) (had_of_may start closed_trace i (medium i) (possible i within))))
 
-  -- so no slot is free in the one, where none is in the other
+  -- so no slot is free in the one that was free in the image, where none is in the other
   stay_taken : (core : Core) → core.trace ≡ closed_trace → HasNoFreeSlot shape start before → HasNoFreeSlot shape start core
-  stay_taken core is taken medium possible s slot is_free =
-      taken (with_state medium) (was_possible medium (subst (λ es. IsPossible (words_of shape) start es medium) is possible)) s slot
+  stay_taken core is taken medium possible s slot was_free is_free =
+      taken (with_state medium) (was_possible medium (subst (λ es. IsPossible (words_of shape) start es medium) is possible)) s slot was_free
       (ap state_in (replaced_other medium state_word (value start before.trace state_word) (head_at shape s + 1) (λ q. omega (arith, q))) ∙ is_free)
 
   pub were_taken : (core : Core) → core.trace ≡ closed_trace → (entries : List Entry) → AllByRecursion (λ (e : Entry). e.reply ≡ Full → HasNoFreeSlot shape start before) entries

@@ -25,7 +25,7 @@ use Rattle.engine.specs.Core.{Caller, call_at, engine_for, ended, ended_or_on}
 use Rattle.core_run.specs.Running.{WaitsFor, FewWait}
 
 -- an event of another caller
-pending_other : (shape : Shape) (w : Want) (n c d : ℕ) (es : Trace) → c ≢ d → pending d (event_of shape w n c ∷ es) ≡ pending d es
+pub pending_other : (shape : Shape) (w : Want) (n c d : ℕ) (es : Trace) → c ≢ d → pending d (event_of shape w n c ∷ es) ≡ pending d es
 pending_other shape (want.Load i) n c d es other = refl
 pending_other shape (want.Store i x) n c d es other = refl
 pending_other shape (want.Exchange i a b) n c d es other = by (eqb n a)

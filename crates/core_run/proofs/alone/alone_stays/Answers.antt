@@ -9,8 +9,8 @@ engine_laws c = record {
   own = c.never_again_alone.ensures.stays;
   tell = c.never_again_alone.ensures.tell;
   start_alone = c.never_again_alone.ensures.start_alone;
-  start_cramped = c.calls_end_alone.ensures.start;
-  cramped = c.calls_end_alone.ensures.stays;
+  start_due = c.calls_end_alone.ensures.start;
+  due = c.calls_end_alone.ensures.stays;
   few = c.calls_end_alone.ensures.few;
   fewer = c.calls_end_alone.ensures.fewer;
 }

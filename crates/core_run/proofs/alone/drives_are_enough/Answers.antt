@@ -10,17 +10,17 @@ engine_laws c = record {
   own = c.never_again_alone.ensures.stays;
   tell = c.never_again_alone.ensures.tell;
   start_alone = c.never_again_alone.ensures.start_alone;
-  start_cramped = c.calls_end_alone.ensures.start;
-  cramped = c.calls_end_alone.ensures.stays;
+  start_due = c.calls_end_alone.ensures.start;
+  due = c.calls_end_alone.ensures.stays;
   few = c.calls_end_alone.ensures.few;
   fewer = c.calls_end_alone.ensures.fewer;
 }
 
 keeper_laws : goal.After-alone_stays → KeeperLaws
 keeper_laws c = record {
-  four = c.restart_ends.ensures.four;
+  most = c.restart_ends.ensures.most;
   restart = c.restart_ends.ensures.falls;
-  none = c.restart_ends.ensures.none;
+  asks = c.restart_ends.ensures.asks;
   close = c.close_ends.ensures.falls;
 }
 
