@@ -20,39 +20,8 @@ pub fn image_words(fault: &str) -> &'static str {
 // The same of the text `rule R word W`.
 fn rule_words(fault: &str) -> &'static str {
     match fault.as_bytes() {
-        [
-            b'r',
-            b'u',
-            b'l',
-            b'e',
-            b' ',
-            rule,
-            b' ',
-            b'w',
-            b'o',
-            b'r',
-            b'd',
-            b' ',
-            word @ ..,
-        ] => {
-            match *rule {
-                b'8' => limit_words(word),
-                digit => broken_words(digit),
-            }
-        }
+        [b'r', b'u', b'l', b'e', b' ', rule, ..] => broken_words(*rule),
         _ => "it is refused: docs/FORMAT.md says what an image is",
-    }
-}
-
-// A sound image that this version does not play yet.
-fn limit_words(word: &[u8]) -> &'static str {
-    match word {
-        b"16" => {
-            "it was left by a power cut, which check and list take, but this version cannot play yet, and a later one will: until then insert the pairs that list prints into a new image"
-        }
-        _ => {
-            "a segment of it is still to be repaired after a power cut, which check and list take, but this version cannot play yet, and a later one will: until then insert the pairs that list prints into a new image"
-        }
     }
 }
 

@@ -15,7 +15,7 @@ module _ (t : Bytes) (words : List (List ℕ)) (source_old source_new store_old 
       → HasCause t words source_old source_new store_old store_new refused
   cause_of_reading Words reads good keeps h = absurd h
   cause_of_reading (Script fault) reads good keeps h = absurd h
-  cause_of_reading (Image fault) reads good keeps h = (IsRefused.in_reading reads good h, keeps)
+  cause_of_reading (Image fault) reads good keeps h = (record { reads = reads; script = good; refused = h }, keeps)
   cause_of_reading Source reads good keeps h = absurd h
   cause_of_reading Store reads good keeps h = (h, StoreFailed.in_reading reads good keeps)
   cause_of_reading NoMemory reads good keeps h = keeps

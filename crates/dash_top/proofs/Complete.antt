@@ -7,12 +7,11 @@ use Rattle.std.proofs.lemmas.Slice.Eq.{bytes_eq-Decides}
 use Rattle.std.specs.Io.KnownBytes.{Consumes}
 use Rattle.outside.specs.Storing.{IsFront}
 use Rattle.image_file.specs.declared.fault.ImageFault.{ImageFault}
-use Rattle.image_file.specs.declared.fault.ImageFault.TheVariants.{Length, Magic, Format, Geometry, Unsound, Unplayed, NoMemory}
+use Rattle.image_file.specs.declared.fault.ImageFault.TheVariants.{Length, Magic, Format, Geometry, Unsound, NoMemory}
 use Rattle.image_layout.specs.Places.{Shape}
 use Rattle.sound_image.specs.Segments.{ImageWords}
 use Rattle.sound_image.specs.Image.{image_bytes}
-use Rattle.image_rules.specs.Stage.{IsUntouched}
-use Rattle.image_file.specs.Fault.{HasFault, IsPlayFault}
+use Rattle.image_file.specs.Fault.{HasFault}
 use Rattle.image_file.proofs.RoundTrip.{same_words, same_shape}
 use Rattle.script_text.specs.declared.line.Mode.TheVariants.{Play}
 use Rattle.script_text.specs.declared.fault.ScriptFault.{ScriptFault}
@@ -21,11 +20,10 @@ use Rattle.script_text.proofs.Complete.{no_fault as no_script_fault}
 use Rattle.image_file.proofs.Accepted.{no_fault}
 use Rattle.dash_top.specs.Commands.{check_words, list_words, play_words, IsNoCommand, ReadsImage}
 use Rattle.dash_top.specs.Commands.ReadsImage.{for_check, for_list, for_play}
-use Rattle.dash_top.specs.Bytes.{Bytes, RefusesImage, RefusesPlay, RefusesScript}
-use Rattle.dash_top.specs.Top.{HasGoodImage, HasPlayableImage, HasGoodScript, IsGoodCommand}
+use Rattle.dash_top.specs.Bytes.{Bytes, RefusesImage, RefusesScript}
+use Rattle.dash_top.specs.Top.{HasGoodImage, HasGoodScript, IsGoodCommand}
 use Rattle.dash_top.specs.Top.IsGoodCommand.{good_format, good_check, good_list, good_play}
 use Rattle.dash_top.specs.Work.{Plays, IsDone, IsRefused}
-use Rattle.dash_top.specs.Work.IsRefused.{in_reading, in_playing}
 use Rattle.dash_top.specs.Work.IsDone.{by_format, by_check, by_list, by_play}
 use Rattle.dash_top.proofs.Sizes.{file-le}
 use Rattle.dash_top.proofs.Headlines.{consumed_all}
@@ -59,29 +57,6 @@ good_image_is_taken t fault refused good =
     let whole : refused.start ≡ good.start = whole_front t.store_old 282067200 refused.start good.start good.store_tells refused.reads short in
     refused.not_memory (no_fault good.start good.good fault (subst (λ (x : List ℕ). HasFault x fault) whole refused.has_fault))
 
--- an image that may be played has no fault before a play
-pub playable-no_fault : (shape : Shape) (word : ImageWords) (fault : ImageFault) → IsPlayFault shape word fault → IsUntouched shape word → ⊥
-playable-no_fault shape word Length h may = h
-playable-no_fault shape word Magic h may = h
-playable-no_fault shape word Format h may = h
-playable-no_fault shape word Geometry h may = h
-playable-no_fault shape word (Unsound rule w) h may = h
-playable-no_fault shape word (Unplayed w) h may = h.broken (may w)
-playable-no_fault shape word NoMemory h may = h
-
-pub good_image_is_played : (t : Bytes) (fault : ImageFault) → RefusesPlay t.store_old fault → HasPlayableImage t → ⊥
-good_image_is_played t fault refused playable =
-    let good = playable.image.good in
-    let start = playable.image.start in
-    let short : length start ≤ 282067200 = subst (λ (x : List ℕ). length x ≤ 282067200) (sym good.file) (file-le good.shape good.words good.sound) in
-    let whole : image_bytes refused.words ≡ start =
-    whole_front t.store_old 282067200 (image_bytes refused.words) start playable.image.store_tells refused.reads.front short in
-    let words : refused.words ≡ good.words = same_words refused.words good.words refused.reads.sound.each_fits good.sound.each_fits (whole ∙ good.file) in
-    let shape : refused.shape ≡ good.shape = same_shape refused.shape good.shape refused.words good.words words refused.reads.sound good.sound in
-    playable-no_fault refused.shape (slice_index refused.words) fault refused.has_fault
-    (subst (λ (s : Shape). IsUntouched s (slice_index refused.words)) (sym shape)
-    (subst (λ (ws : List ℕ). IsUntouched good.shape (slice_index ws)) (sym words) playable.playable))
-
 -- THE WORDS: of two forms only one can be said
 check_is_no_list : (words : List (List ℕ)) → words ≡ check_words → words ≡ list_words → ⊥
 check_is_no_list words h k = cc
@@ -108,13 +83,7 @@ image_of_good t words (for_list h) (good_format f) = absurd (one_is_not_four wor
 image_of_good t words (for_play h) (good_format f) = absurd (one_is_not_four words _ _ f.segments f.depth f.kind h f.says)
 image_of_good t words reads (good_check k image) = image
 image_of_good t words reads (good_list k image) = image
-image_of_good t words reads (good_play k playable script) = playable.image
-
-pub playable_of_good : (t : Bytes) (words : List (List ℕ)) → words ≡ play_words → IsGoodCommand t words → HasPlayableImage t
-playable_of_good t words h (good_format f) = absurd (one_is_not_four words _ _ f.segments f.depth f.kind h f.says)
-playable_of_good t words h (good_check k image) = absurd (check_is_no_play words k h)
-playable_of_good t words h (good_list k image) = absurd (list_is_no_play words k h)
-playable_of_good t words h (good_play k playable script) = playable
+image_of_good t words reads (good_play k image script) = image
 
 pub script_of_good : (t : Bytes) (words : List (List ℕ)) → words ≡ play_words → IsGoodCommand t words → HasGoodScript t
 script_of_good t words h (good_format f) = absurd (one_is_not_four words _ _ f.segments f.depth f.kind h f.says)
@@ -130,8 +99,7 @@ good_words t words none (good_play k image script) = none.no_play k
 
 -- SO a good command meets no refusal
 pub good_image : (t : Bytes) (words : List (List ℕ)) (fault : ImageFault) → IsRefused t words fault → IsGoodCommand t words → ⊥
-good_image t words fault (in_reading reads script refused) good = good_image_is_taken t fault refused (image_of_good t words reads good)
-good_image t words fault (in_playing form script refused) good = good_image_is_played t fault refused (playable_of_good t words form good)
+good_image t words fault refused good = good_image_is_taken t fault refused.refused (image_of_good t words refused.reads good)
 
 pub good_script : (t : Bytes) (words : List (List ℕ)) (fault : ScriptFault) → words ≡ play_words → RefusesScript t.source_old t.source_new fault → IsGoodCommand t words → ⊥
 good_script t words fault reads refused good = good_script_is_taken t fault refused (script_of_good t words reads good)

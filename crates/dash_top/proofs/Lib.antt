@@ -6,3 +6,4 @@ pub mod Counting
 pub mod Headlines
 pub mod Complete
 pub mod Causes
+pub mod Chain

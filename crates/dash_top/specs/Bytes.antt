@@ -5,8 +5,7 @@ use Rattle.outside.specs.Causes.{Rose}
 use Rattle.outside.specs.Storing.{IsFront}
 use Rattle.image_layout.specs.Places.{Shape}
 use Rattle.sound_image.specs.Image.{image_bytes, IsSoundImage}
-use Rattle.image_rules.specs.Stage.{IsUntouched}
-use Rattle.image_file.specs.Fault.{HasFault, IsPlayFault}
+use Rattle.image_file.specs.Fault.{HasFault}
 use Rattle.image_file.specs.declared.fault.ImageFault.{ImageFault}
 use Rattle.image_file.specs.declared.fault.ImageFault.TheVariants.{NoMemory as NoMemoryForImage}
 use Rattle.script_text.specs.declared.line.Mode.TheVariants.{Play}
@@ -86,12 +85,11 @@ pub record ReadsSound (store : Option (List ℕ)) (shape : Shape) (words : List 
   pub all : length (image_bytes words) ≤ image_limit
   pub sound : IsSoundImage shape words
 
--- and it is one that may be played
-pub record ReadsPlayable (store : Option (List ℕ)) : Type 0 where
+-- some such file was
+pub record ReadsSomeSound (store : Option (List ℕ)) : Type 0 where
   pub shape : Shape
   pub words : List ℕ
   pub reads : ReadsSound store shape words
-  pub playable : IsUntouched shape (slice_index words)
 
 -- what was read, all of the store or a byte more than an image can have, has this fault, which is not want of memory
 pub record RefusesImage (store : Option (List ℕ)) (fault : ImageFault) : Type 0 where
@@ -99,13 +97,6 @@ pub record RefusesImage (store : Option (List ℕ)) (fault : ImageFault) : Type 
   pub reads : IsFront store image_limit start
   pub has_fault : HasFault start fault
   pub not_memory : fault ≢ NoMemoryForImage
-
--- a sound image was read that may not be played, by this fault
-pub record RefusesPlay (store : Option (List ℕ)) (fault : ImageFault) : Type 0 where
-  pub shape : Shape
-  pub words : List ℕ
-  pub reads : ReadsSound store shape words
-  pub has_fault : IsPlayFault shape (slice_index words) fault
 
 -- THE COUNTS of faults of the source, the sink and the store, before the call and after it
 pub record Counts : Type 0 where

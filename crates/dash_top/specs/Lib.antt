@@ -5,3 +5,4 @@ pub mod Bytes
 pub mod Reading
 pub mod Work
 pub mod Top
+pub mod Chains

@@ -6,7 +6,7 @@ use Rattle.script_text.specs.declared.fault.ScriptFault.{ScriptFault}
 use Rattle.script_text.specs.declared.fault.ScriptFault.TheVariants.{Word, Number, Caller, Order, TooLong, NoMemory as NoMemoryForScript}
 use Rattle.image_rules.specs.Breach.{number_of}
 use Rattle.image_file.specs.declared.fault.ImageFault.{ImageFault}
-use Rattle.image_file.specs.declared.fault.ImageFault.TheVariants.{Length, Magic, Format, Geometry, Unsound, Unplayed, NoMemory as NoMemoryForImage}
+use Rattle.image_file.specs.declared.fault.ImageFault.TheVariants.{Length, Magic, Format, Geometry, Unsound, NoMemory as NoMemoryForImage}
 use Rattle.image_file.specs.declared.summary.Summary.{Summary}
 
 -- `sound V g LIVE PAIRS clean`, or `unclean` in place of `clean`
@@ -35,15 +35,13 @@ script_fault_text (Order n) = codes "fault script order line " ++ (decimal n ++ 
 script_fault_text (TooLong n) = codes "fault script toolong line " ++ (decimal n ++ 10 ∷ [])
 script_fault_text NoMemoryForScript = []
 
--- `fault image KIND`, or `fault image rule R word W`, also of an image that is not played, as a rule 8; want of memory is no fault of
--- the image
+-- `fault image KIND`, or `fault image rule R word W`; want of memory is no fault of the image
 abbrev pub image_fault_text : ImageFault → List ℕ
 image_fault_text Length = codes "fault image length" ++ 10 ∷ []
 image_fault_text Magic = codes "fault image magic" ++ 10 ∷ []
 image_fault_text Format = codes "fault image format" ++ 10 ∷ []
 image_fault_text Geometry = codes "fault image geometry" ++ 10 ∷ []
 image_fault_text (Unsound rule word) = codes "fault image rule " ++ (decimal (number_of rule) ++ (codes " word " ++ (decimal word ++ 10 ∷ [])))
-image_fault_text (Unplayed word) = codes "fault image rule 8 word " ++ (decimal word ++ 10 ∷ [])
 image_fault_text NoMemoryForImage = []
 
 abbrev pub usage_text : List ℕ

@@ -1,12 +1,11 @@
 -- What the top call promises of a whole run.
-use Rattle.std.specs.Prelude.{◌≡◌, ℕ, List, ◌++◌, Option, Some, slice_index}
+use Rattle.std.specs.Prelude.{◌≡◌, ℕ, List, ◌++◌, Option, Some}
 use Rattle.image_layout.specs.Places.{Shape}
 use Rattle.script_text.specs.declared.line.Line.{Line}
 use Rattle.script_text.specs.declared.line.Mode.TheVariants.{Play}
 use Rattle.script_text.specs.declared.fault.ScriptFault.{ScriptFault}
 use Rattle.script_text.specs.Script.{IsScript}
 use Rattle.image_file.specs.declared.fault.ImageFault.{ImageFault}
-use Rattle.image_rules.specs.Stage.{IsUntouched}
 use Rattle.image_file.specs.Fault.{IsSoundFile}
 use Rattle.dash_top.specs.Commands.{check_words, list_words, play_words, SaysFormat, IsNoCommand}
 use Rattle.dash_top.specs.Texts.{usage_text, script_fault_text, image_fault_text}
@@ -36,11 +35,6 @@ pub record HasGoodImage (t : Bytes) : Type 0 where
   pub store_tells : t.store_old ≡ Some start
   pub good : IsSoundFile start
 
--- and it may be played
-pub record HasPlayableImage (t : Bytes) : Type 0 where
-  pub image : HasGoodImage t
-  pub playable : IsUntouched image.good.shape (slice_index image.good.words)
-
 -- the source tells a script of the grammar
 pub record HasGoodScript (t : Bytes) : Type 0 where
   pub script : List ℕ
@@ -52,4 +46,4 @@ pub data IsGoodCommand (t : Bytes) (words : List (List ℕ)) : Type 0 where
   good_format : {shape : Shape} → SaysFormat words shape → IsGoodCommand t words
   good_check : words ≡ check_words → HasGoodImage t → IsGoodCommand t words
   good_list : words ≡ list_words → HasGoodImage t → IsGoodCommand t words
-  good_play : words ≡ play_words → HasPlayableImage t → HasGoodScript t → IsGoodCommand t words
+  good_play : words ≡ play_words → HasGoodImage t → HasGoodScript t → IsGoodCommand t words

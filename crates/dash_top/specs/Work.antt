@@ -6,7 +6,6 @@ use Rattle.outside.specs.Storing.{Holds}
 use Rattle.image_layout.specs.Places.{Shape}
 use Rattle.sound_image.specs.Segments.{frame_of, image_version, IsClean}
 use Rattle.sound_image.specs.Image.{image_bytes}
-use Rattle.image_rules.specs.Stage.{IsUntouched}
 use Rattle.image_file.specs.Formatted.{IsFormatted}
 use Rattle.image_file.specs.Pairs.{live_slots, keys_of, ArePairs}
 use Rattle.image_file.specs.declared.fault.ImageFault.{ImageFault}
@@ -18,7 +17,7 @@ use Rattle.dash_top.specs.declared.work.Refused.TheVariants.{Words, Script, Imag
 use Rattle.dash_top.specs.Commands.{check_words, list_words, play_words, SaysFormat, IsNoCommand, ReadsImage}
 use Rattle.dash_top.specs.Texts.{check_text, list_text}
 use Rattle.dash_top.specs.Played.{IsPlayed}
-use Rattle.dash_top.specs.Bytes.{Bytes, KeepsStore, WritesOnce, LosesWrite, ReadsScript, ReadsGoodScript, RefusesScript, ReadsSound, ReadsPlayable, RefusesImage, RefusesPlay}
+use Rattle.dash_top.specs.Bytes.{Bytes, KeepsStore, WritesOnce, LosesWrite, ReadsScript, ReadsGoodScript, RefusesScript, ReadsSound, ReadsSomeSound, RefusesImage}
 
 -- WHAT IS DONE
 -- the file of the image of an empty table of this shape stands in the store
@@ -54,15 +53,13 @@ pub record ListsPairs (store : Option (List ℕ)) (text : List ℕ) : Type 0 whe
   pub rising : IsStrictlyIncreasing (keys_of pairs)
   pub text_is : text ≡ list_text pairs
 
--- the script and the image that were read, which may be played, the text and what stands in the store now are those of its
--- run, a session
+-- the script and the image that were read, the text and what stands in the store now are those of its run, a session
 pub record Plays (t : Bytes) (transcript : List ℕ) : Type 0 where
   pub script : List ℕ
   pub reads_script : ReadsScript t.source_old t.source_new script
   pub shape : Shape
   pub words : List ℕ
   pub reads : ReadsSound t.store_old shape words
-  pub playable : IsUntouched shape (slice_index words)
   pub ending : List ℕ
   pub stores : Holds t.store_old t.store_new ending
   pub played : IsPlayed (image_bytes words) script transcript ending
@@ -78,17 +75,18 @@ pub data IsDone (t : Bytes) (words : List (List ℕ)) : List ℕ → Type 0 wher
 abbrev pub FindsScriptGood : Bytes → List (List ℕ) → Type 0
 FindsScriptGood t words = words ≡ play_words → ReadsGoodScript t.source_old t.source_new
 
--- WHY AN IMAGE IS REFUSED: by each command that reads it, or by a play alone, where the others take it
-pub data IsRefused (t : Bytes) (words : List (List ℕ)) (fault : ImageFault) : Type 0 where
-  in_reading : ReadsImage words → FindsScriptGood t words → RefusesImage t.store_old fault → IsRefused t words fault
-  in_playing : words ≡ play_words → FindsScriptGood t words → RefusesPlay t.store_old fault → IsRefused t words fault
+-- WHY AN IMAGE IS REFUSED, by each command that reads it
+pub record IsRefused (t : Bytes) (words : List (List ℕ)) (fault : ImageFault) : Type 0 where
+  pub reads : ReadsImage words
+  pub script : FindsScriptGood t words
+  pub refused : RefusesImage t.store_old fault
 
 -- WHERE THE STORE FAILED: in a read, and it is as it was; or in its one write, of a new image, or of the image that a
 -- play left which had read script and image and found both good
 pub data StoreFailed (t : Bytes) (words : List (List ℕ)) : Type 0 where
   in_reading : ReadsImage words → FindsScriptGood t words → KeepsStore t → StoreFailed t words
   in_formatting : {shape : Shape} → SaysFormat words shape → LosesWrite t → StoreFailed t words
-  in_playing : words ≡ play_words → FindsScriptGood t words → ReadsPlayable t.store_old → LosesWrite t → StoreFailed t words
+  in_playing : words ≡ play_words → FindsScriptGood t words → ReadsSomeSound t.store_old → LosesWrite t → StoreFailed t words
 
 -- WHY A COMMAND STOPS, by the counts of faults of the source and of the store
 abbrev pub HasCause : Bytes → List (List ℕ) → ℕ → ℕ → ℕ → ℕ → Refused → Type 0

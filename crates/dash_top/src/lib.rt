@@ -6,6 +6,7 @@
 #![tactic(auto)]
 
 mod command;
+mod laws;
 mod reading;
 mod status;
 #[cfg(test)]
@@ -14,6 +15,7 @@ mod text;
 mod top;
 mod work;
 
+pub use laws::plays_compose;
 pub use status::{
     BAD_IMAGE, BAD_SCRIPT, BAD_WORDS, DONE, NO_MEMORY, SINK_FAILED, SOURCE_FAILED, STORE_FAILED,
     statuses_have_numbers,

@@ -74,7 +74,6 @@ pub fn image_fault(alloc: Global, fault: ImageFault) -> Result<String, AllocErro
             let number = rule.number();
             format!(in alloc; "fault image rule {number} word {word}\n")
         }
-        ImageFault::Unplayed { word } => format!(in alloc; "fault image rule 8 word {word}\n"),
         ImageFault::NoMemory => Ok(String::new(alloc)),
     }
 }

@@ -9,7 +9,7 @@ ghost use Rattle.dash_top.specs.Work.{StoresNew, Checks, ListsPairs, Plays, IsDo
 use crate::command::{Command, command_of};
 use crate::reading::{read_image, read_script};
 use crate::text::{check_line, list_lines};
-use image_file::{ImageFault, check, format, list, playable, to_bytes};
+use image_file::{ImageFault, check, format, list, to_bytes};
 use image_layout::Geometry;
 use map_model::NoMemory;
 use outside::{Failed, Source, Store};
@@ -123,7 +123,7 @@ fn list_image<I: Store>(alloc: Global, image: &mut I) -> Result<String, Refused>
     Ok(text)
 }
 
-// Reads the script and the image, looks whether it may be played, runs the one on the other, writes the image, and answers the transcript.
+// Reads the script and the image, runs the one on the other, writes the image, and answers the transcript.
 fn play_script<I: Store, S: Source>(
     alloc: Global,
     image: &mut I,
@@ -138,9 +138,6 @@ fn play_script<I: Store, S: Source>(
 {
     let script = read_script(alloc, input)?;
     let medium = read_image(alloc, image)?;
-    if let Err(fault) = playable(&medium) {
-        return Err(Refused::Image(fault));
-    }
     let session = play(alloc, medium, &script)?;
     let lines = transcript(alloc, &session)?;
     let ending = to_bytes(alloc, &session.medium)?;

@@ -1,12 +1,12 @@
 //! A caller that runs its calls.
 
-ghost use Rattle.std.specs.Prelude.{◌≡◌, List, length, slice_get, Some, None};
+ghost use Rattle.std.specs.Prelude.{◌≡◌, List, length, slice_get, Some, None, true};
 ghost use Rattle.op_core.specs.declared.want.Want.TheVariants as want;
 ghost use Rattle.map_model.specs.declared.entry.Entry.{Entry as MadeEntry};
 ghost use Rattle.image_layout.specs.Places.{Shape};
 ghost use Rattle.engine.specs.Core.{entry_of, engine_for, drawn_by, ended, answered};
 ghost use Rattle.engine.specs.declared.engine.Engine.{Engine as SaidEngine};
-ghost use Rattle.engine.specs.Engine.{wanted, taken, end_of, reply_of_end};
+ghost use Rattle.engine.specs.Engine.{wanted, taken, end_of, reply_of_end, begun, anew};
 ghost use Rattle.core_run.specs.State.{end_by};
 ghost use Rattle.core_run.specs.Run.{stop_of};
 ghost use Rattle.play.specs.Callers.{caller_of, running_by, taken_to, awoken, told_with, counted_with};
@@ -83,7 +83,18 @@ impl Caller {
         }
     }
 
+    // The next three are calls of their own, since they are made once in a call or less, and what they need would else be got ready at each event.
+
+    /// Its first engine is made, for a call.
+    #[inline(never)]
+    fn make_engine(&mut self, call: Call)
+        ensures { self.new ≡ record self.old { engine = Some (begun self.old.site call) } }
+    {
+        self.engine = Some(Engine::of(call, self.site));
+    }
+
     /// That call begins, where there is one; else no engine runs any more.
+    #[inline(never)]
     fn begin_call(&mut self)
         ensures engine { self.new.engine ≡ engine_for self.old.site (slice_get self.old.calls.items self.old.ended) }
         ensures others { self.new ≡ record self.old { engine = self.new.engine } }
@@ -92,7 +103,7 @@ impl Caller {
         match self.current() {
             Some(call) => match &mut self.engine {
                 Some(engine) => engine.restart(call, site),
-                None => self.engine = Some(Engine::of(call, site)),
+                None => self.make_engine(call),
             },
             None => self.engine = None,
         }
@@ -123,9 +134,24 @@ impl Caller {
         }
     }
 
+    /// The next attempt of its call begins, after one that ended so.
+    fn begin_again(&mut self, call: Call, end: End)
+        requires { (e : SaidEngine) × self.old.engine ≡ Some e }
+        ensures { self.new ≡ record self.old { engine = Some (anew self.old.site call end); begun = true } }
+    {
+        let site = self.site;
+        match &mut self.engine {
+            Some(engine) => engine.renew(call, site, end),
+            None => unreachable!(),
+        }
+        self.begun = true;
+    }
+
     /// An attempt of its call has ended. The entry of the call, if that has ended too.
+    #[inline(never)]
     fn end_attempt(&mut self, call: Call, end: End) -> Option<Entry>
-        requires { slice_get self.old.calls.items self.old.ended ≡ Some call }
+        requires current { slice_get self.old.calls.items self.old.ended ≡ Some call }
+        requires ran { (e : SaidEngine) × self.old.engine ≡ Some e }
         ensures caller { (told : List MadeEntry) → length told ≡ self.old.ended
             → caller_of self.new (told_with result told) ≡ ended (caller_of self.old told) call end (reply_of_end end) }
         ensures count { self.new.ended ≡ counted_with result self.old.ended }
@@ -141,8 +167,7 @@ impl Caller {
                 Some(entry)
             }
             None => {
-                self.engine = Some(Engine::anew(call, self.site, end));
-                self.begun = true;
+                self.begin_again(call, end);
                 None
             }
         }

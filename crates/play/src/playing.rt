@@ -3,7 +3,6 @@
 ghost use Rattle.std.specs.Prelude.{◌≡◌, ℕ, ◌≤◌, ◌+◌, ◌*◌, ◌<◌, ◌^◌, All, [], ◌∷◌, length, slice_index, IfOk};
 ghost use Rattle.script_text.specs.Calls.{IsLineSoFar};
 ghost use Rattle.sound_image.specs.Image.{IsSoundImage};
-ghost use Rattle.image_rules.specs.Stage.{IsUntouched};
 ghost use Rattle.image_layout.specs.Places.{words_of};
 ghost use Rattle.core_run.specs.Run.{cut_of, most_with, most_events};
 ghost use Rattle.core_run.specs.State.{waiting};
@@ -88,7 +87,7 @@ fn begin(alloc: Global, medium: Medium, calls: Vec<Call>) -> Result<RunState, No
     })
 }
 
-/// Runs a script on a sound image that may be played: its restart, its calls by the lines of the schedule, and a close where no
+/// Runs a script on a sound image: its restart, its calls by the lines of the schedule, and a close where no
 /// cut ends it. All memory is taken before the first event.
 ///
 /// # Errors
@@ -96,7 +95,6 @@ fn begin(alloc: Global, medium: Medium, calls: Vec<Call>) -> Result<RunState, No
 /// `NoMemory` if memory runs out.
 pub fn play(alloc: Global, medium: Medium, script: &Script) -> Result<Session, NoMemory>
     requires sound { IsSoundImage medium.geometry medium.words }
-    requires playable { IsUntouched medium.geometry (slice_index medium.words) }
     requires few { length script.now ≤ 1000000 }
     requires so_far { All IsLineSoFar script.now }
     ensures played { IfOk result (IsPlay medium.geometry medium.words script.now) }

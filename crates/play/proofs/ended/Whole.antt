@@ -7,7 +7,6 @@ use Rattle.image_layout.specs.Places.{Shape}
 use Rattle.map_model.specs.declared.call.Call.{Call}
 use Rattle.map_model.specs.declared.call.Call.TheVariants.{Get, Insert, Update, Remove}
 use Rattle.sound_image.specs.Image.{IsSoundImage}
-use Rattle.image_rules.specs.Stage.{IsUntouched}
 use Rattle.engine.specs.Laws.{IsServedImage}
 use Rattle.engine.specs.Fits.{IsWordCall}
 use Rattle.reply_text.specs.declared.left.Session.{Session}
@@ -103,11 +102,6 @@ word_calls c (Cut n ∷ lines) so_far = word_calls c lines so_far.1
 by_recursion : {A : Type 0} (P : A → Type 0) (xs : List A) → All P xs → AllByRecursion P xs
 by_recursion P [] all = tt
 by_recursion P (x ∷ xs) all = (all 0 x (omega arith), by_recursion P xs (λ i d h. all (suc i) d (omega arith)))
-
--- a sound image that no power cut has left is served
-pub is_served : (shape : Shape) (first : List ℕ) → IsSoundImage shape first → IsUntouched shape (slice_index first)
-    → IsServedImage shape first
-is_served shape first sound may = record { sound = sound; untouched = may }
 
 -- the setup of a play is one
 pub is_task : (shape : Shape) (first : List ℕ) (lines : List Line) (calls : List Call) → IsServedImage shape first

@@ -30,7 +30,6 @@ returns-in-Ok-clause-ok g c =
       shape = c.in_ok-medium.medium.geometry;
       words = c.in_ok-medium.medium.words;
       reads = image;
-      playable = c.in_default.ensures.ok;
       ending = c.in_ok-ending.ending.items;
       stores = subst (λ o. Holds o (g.I.Store.contents c.write_all.new.self) c.in_ok-ending.ending.items) c.in_ok-medium.ensures.keeps
           (subst (λ (x : List ℕ). Holds (g.I.Store.contents c.read_image.new.image) (g.I.Store.contents c.write_all.new.self) x) c.deref.ensures.value c.in-Ok.ensures.written);
@@ -58,32 +57,18 @@ returns-in_err-medium-clause-err g c =
     (cause_of_reading _ _ _ _ _ _ _ (for_play refl) (λ form. good_script c.in_ok-script.script c.in_ok-script.ensures.ok)
     (record { same = c.in_err-medium.ensures.keeps; unwritten = c.in_err-medium.ensures.unwritten }) c.in_err-medium.ensures.err)
 
--- the image may not be played
-pub returns-in-Err-clause-err : goal.returns-in-Err-clause-err
-returns-in-Err-clause-err g c = (
-  IsRefused.in_playing refl (λ form. good_script c.in_ok-script.script c.in_ok-script.ensures.ok)
-      (record {
-        shape = c.in_ok-medium.medium.geometry;
-        words = c.in_ok-medium.medium.words;
-        reads = c.in_ok-medium.ensures.ok;
-        has_fault = c.in-Err.ensures.err;
-      }),
-  record { same = c.in_ok-medium.ensures.keeps; unwritten = c.in_ok-medium.ensures.unwritten },
-)
-
 -- the write failed
 pub returns-clause-err : goal.returns-clause-err
 returns-clause-err g c = (
-  rose_before _ _ _ c.in_ok-medium.ensures.later c.in-Err-write_all.ensures.cause.failed,
+  rose_before _ _ _ c.in_ok-medium.ensures.later c.in-Err.ensures.cause.failed,
   StoreFailed.in_playing refl (λ form. good_script c.in_ok-script.script c.in_ok-script.ensures.ok)
       (record {
         shape = c.in_ok-medium.medium.geometry;
         words = c.in_ok-medium.medium.words;
         reads = c.in_ok-medium.ensures.ok;
-        playable = c.in_default.ensures.ok;
       })
       (record {
-        once = c.in-Err-write_all.ensures.once ∙ ap (λ (n : ℕ). n + 1) c.in_ok-medium.ensures.unwritten;
-        failed = c.in-Err-write_all.ensures.failed;
+        once = c.in-Err.ensures.once ∙ ap (λ (n : ℕ). n + 1) c.in_ok-medium.ensures.unwritten;
+        failed = c.in-Err.ensures.failed;
       }),
 )

@@ -10,7 +10,7 @@ use Rattle.play.specs.RunStates.{Stands, end_state}
 use Rattle.play.specs.Played.{setup_of, IsOfRun, IsPlay}
 use Rattle.play.proofs.driven.Doing.{callers_as_scripts}
 use Rattle.play.proofs.driven.Listed.{lists_many}
-use Rattle.play.proofs.ended.Whole.{play_is, play_stands, most_is, few_calls, is_served, is_task, is_play}
+use Rattle.play.proofs.ended.Whole.{play_is, play_stands, most_is, few_calls, is_task, is_play}
 use Rattle.play.proofs.playing.play.Goals as goal
 
 pub most_events-most-requires : goal.most_events-most-requires
@@ -29,7 +29,7 @@ do_lines-requires c =
     let shape = c.args.medium.geometry in let first = c.args.medium.words in let calls = c.in_ok-calls.calls.items in
     let t : Setup = setup_of shape first calls in
     let is : IsSetup t = is_task shape first lines calls
-    (is_served shape first c.requires.sound c.requires.playable)
+    c.requires.sound
     (subst (λ ls. All IsLineSoFar ls) (sym c.as_slice-lines.ensures) c.requires.so_far) c.in_ok-calls.ensures in
     let is_len = c.in_ok-calls.calls.ok.0 in
     let many : c.most_events-most.result ≡ most_of t = most_is shape first calls c.len.result c.most_events-most.result
@@ -46,7 +46,7 @@ end_run-requires c =
     let shape = c.args.medium.geometry in let first = c.args.medium.words in let calls = c.in_ok-calls.calls.items in
     let t : Setup = setup_of shape first calls in
     let is : IsSetup t = is_task shape first lines calls
-    (is_served shape first c.requires.sound c.requires.playable)
+    c.requires.sound
     (subst (λ ls. All IsLineSoFar ls) (sym c.as_slice-lines.ensures) c.requires.so_far) c.in_ok-calls.ensures in
     let is_len = c.in_ok-calls.calls.ok.0 in
     let most : ℕ = c.most_events-most.result in
@@ -70,7 +70,7 @@ into_session-requires c =
     let shape = c.args.medium.geometry in let first = c.args.medium.words in let calls = c.in_ok-calls.calls.items in
     let t : Setup = setup_of shape first calls in
     let is : IsSetup t = is_task shape first lines calls
-    (is_served shape first c.requires.sound c.requires.playable)
+    c.requires.sound
     (subst (λ ls. All IsLineSoFar ls) (sym c.as_slice-lines.ensures) c.requires.so_far) c.in_ok-calls.ensures in
     let is_len = c.in_ok-calls.calls.ok.0 in
     let most : ℕ = c.most_events-most.result in
@@ -90,7 +90,7 @@ returns-clause-played c =
     let shape = c.args.medium.geometry in let first = c.args.medium.words in let calls = c.in_ok-calls.calls.items in
     let t : Setup = setup_of shape first calls in
     let is : IsSetup t = is_task shape first lines calls
-    (is_served shape first c.requires.sound c.requires.playable)
+    c.requires.sound
     (subst (λ ls. All IsLineSoFar ls) (sym c.as_slice-lines.ensures) c.requires.so_far) c.in_ok-calls.ensures in
     let is_len = c.in_ok-calls.calls.ok.0 in
     let most : ℕ = c.most_events-most.result in
@@ -108,7 +108,7 @@ returns-clause-played c =
     let so_far = subst (λ ls. All IsLineSoFar ls) (sym c.as_slice-lines.ensures) c.requires.so_far in
     subst (λ ls. IsPlay shape first ls c.into_session.result) c.as_slice-lines.ensures
     (is_play c.runs_are_sessions.ensures shape first lines c.into_session.result
-    (is_served shape first c.requires.sound c.requires.playable) so_far run)
+    c.requires.sound so_far run)
 
 pub returns-clause-one_list : goal.returns-clause-one_list
 returns-clause-one_list c =
@@ -116,7 +116,7 @@ returns-clause-one_list c =
     let shape = c.args.medium.geometry in let first = c.args.medium.words in let calls = c.in_ok-calls.calls.items in
     let t : Setup = setup_of shape first calls in
     let is : IsSetup t = is_task shape first lines calls
-    (is_served shape first c.requires.sound c.requires.playable)
+    c.requires.sound
     (subst (λ ls. All IsLineSoFar ls) (sym c.as_slice-lines.ensures) c.requires.so_far) c.in_ok-calls.ensures in
     let is_len = c.in_ok-calls.calls.ok.0 in
     let most : ℕ = c.most_events-most.result in

@@ -7,10 +7,15 @@ use Rattle.play.specs.Callers.{caller_of, taken_to}
 use Rattle.play.proofs.driven.Answering.{current_stays, ended_goes_on}
 use Rattle.play.proofs.caller.Caller.take_answer.Goals as goal
 
-pub end_attempt-entry-requires : goal.end_attempt-entry-requires
-end_attempt-entry-requires c =
+pub end_attempt-entry-requires-clause-current : goal.end_attempt-entry-requires-clause-current
+end_attempt-entry-requires-clause-current c =
     current_stays c.args.self.now c.keep_drawn.new.self c.answer_engine-end.new.self c.args.call c.keep_drawn.ensures.others c.answer_engine-end.ensures.calls c.answer_engine-end.ensures.count
     c.requires.current
+
+pub end_attempt-entry-requires-clause-ran : goal.end_attempt-entry-requires-clause-ran
+end_attempt-entry-requires-clause-ran c =
+    let its_drawn = ap (λ (q : PlayCaller). q.engine) c.keep_drawn.ensures.others ∙ c.requires.runs.1 in
+    (taken c.requires.runs.0 c.args.ans, ap (λ (q : PlayCaller). q.engine) (c.answer_engine-end.ensures.taken c.requires.runs.0 its_drawn))
 
 pub returns-in-Some-clause-caller : goal.returns-in-Some-clause-caller
 returns-in-Some-clause-caller c e its told many =
