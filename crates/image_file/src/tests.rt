@@ -1,7 +1,7 @@
 // Files word by word, and what is said of them, literally.
 use crate::{
-    ImageFault, Summary, Words, check, format, from_bytes, from_words, list,
-    read_of_written, to_bytes,
+    ImageFault, Summary, Words, check, format, from_bytes, from_words, list, read_of_written,
+    to_bytes,
 };
 use image_layout::Geometry;
 use std::alloc::Global;
