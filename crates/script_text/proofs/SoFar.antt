@@ -1,8 +1,10 @@
 -- The lines of an accepted script are few, they are of the forms that there are so far, and each may stand where it does.
-use Rattle.std.proofs.Common.{◌≡◌, ℕ, ◌+◌, ◌-◌, ◌*◌, ◌^◌, ◌<◌, ◌≤◌, List, [], ◌∷◌, length, Bool, true, false, cond, Option, None, Some, refl, sym, ap, subst, arith}
-use Rattle.std.specs.Prelude.{map, codes, nat_lt, nat_le, ◌&&◌, ⊤, IfSome, All}
+use Rattle.std.proofs.Common.{◌≡◌, ℕ, ◌+◌, ◌-◌, ◌*◌, ◌^◌, ◌<◌, ◌≤◌, List, [], ◌∷◌, length, Bool, true, false, cond, Option, None, Some, inl, inr, refl, sym, ap, subst, arith}
+use Rattle.std.specs.Prelude.{map, codes, nat_lt, nat_le, ◌==◌, ◌&&◌, ⊤, if◌then◌else◌, IfSome, All}
 use Rattle.std.specs.Str.{bytes_eq}
 use Rattle.std.specs.List.{AllByRecursion}
+use Rattle.std.proofs.Math.Nat.{max-le}
+use Rattle.std.proofs.lemmas.Bool.{cases_Bool}
 use Rattle.std.proofs.lemmas.Bool.Decides.{nat_tests}
 use Rattle.std.proofs.lemmas.List.Elements.{All-from_recursion}
 use Rattle.map_model.specs.declared.call.Call.{Call}
@@ -20,7 +22,7 @@ use Rattle.script_text.specs.Splits.{begins_with, lines, words}
 use Rattle.script_text.specs.Readings.{is_digit, number_behind, number, is_caller, may_have_runs, get_call, remove_call, insert_call, update_call, says_call, aim_named, run_line, says_run, says_until, says_cut, says_one, says_two, says_three, says_four, says_words, says, line_says}
 use Rattle.script_text.specs.Order.{phase_after, phase_behind, may_follow, in_place, in_order, IsOrdered}
 use Rattle.script_text.specs.Script.{readings, said, IsScript}
-use Rattle.script_text.specs.Calls.{calls_of, IsCallSoFar, IsLineSoFar}
+use Rattle.script_text.specs.Calls.{calls_of, last_caller, IsCallSoFar, IsLineSoFar}
 use Rattle.script_text.proofs.Progress.{length-readings}
 
 -- NUMBERS
@@ -58,11 +60,14 @@ either true reading other h k = h
 either false reading other h k = k
 
 -- CALLS
-only_one : (c : ℕ) → is_caller c ≡ true → c ≡ 1
-only_one c e = grind (arith, nat_tests, e)
+from_one : (c : ℕ) → is_caller c ≡ true → 1 ≤ c
+from_one c e = grind (arith, nat_tests, e)
+
+to_last : (c : ℕ) → is_caller c ≡ true → c ≤ 64
+to_last c e = grind (arith, nat_tests, e)
 
 in_range : (t : Bool) (c : ℕ) (call : Call) → is_caller c ≡ t → IsCallSoFar call → SaysSoFar (cond t (Says (CallLine c call)) BadCaller)
-in_range true c call e h = (only_one c e, h)
+in_range true c call e h = (from_one c e, to_last c e, h)
 in_range false c call e h = tt
 
 call_so_far : (c : Option ℕ) (call : Option Call) → IfSome call IsCallSoFar → SaysSoFar (says_call c call)
@@ -89,13 +94,13 @@ update_so_far (Some k) None h i = tt
 update_so_far (Some k) (Some v) h i = (h, i)
 
 -- SCHEDULES
-at_most_one : (c : ℕ) → may_have_runs c ≡ true → c ≤ 1
-at_most_one c e = grind (arith, nat_tests, e)
+runs_to_last : (c : ℕ) → may_have_runs c ≡ true → c ≤ 64
+runs_to_last c e = grind (arith, nat_tests, e)
 
 run_in_range : (t : Bool) (aim : Aim) (c n : ℕ) → may_have_runs c ≡ t → n < 2 ^ 64 → SaysSoFar (cond t (Says (run_line aim c n)) BadCaller)
-run_in_range true Steps c n e h = (at_most_one c e, h)
-run_in_range true (Events event) c n e h = (at_most_one c e, h)
-run_in_range true StoreTo c n e h = (at_most_one c e, h)
+run_in_range true Steps c n e h = (runs_to_last c e, h)
+run_in_range true (Events event) c n e h = (runs_to_last c e, h)
+run_in_range true StoreTo c n e h = (runs_to_last c e, h)
 run_in_range false aim c n e h = tt
 
 run_so_far : (aim : Aim) (c n : Option ℕ) → IsSmall n → SaysSoFar (says_run aim c n)
@@ -179,18 +184,32 @@ pub all_so_far : (mode : Mode) (bytes : List ℕ) (script : List Line) → IsScr
 all_so_far mode bytes script good = All-from_recursion IsLineSoFar script (script_so_far mode bytes script good)
 
 -- THE CALLS
-own_call : (c : ℕ) (call : Call) (rest : List Line) → c ≡ 1 → calls_of 1 (CallLine c call ∷ rest) ≡ call ∷ calls_of 1 rest
-own_call c call rest e = ap (λ (n : ℕ). calls_of 1 (CallLine n call ∷ rest)) e
+pub calls_so_far : (caller : ℕ) (script : List Line) → AllByRecursion IsLineSoFar script → AllByRecursion IsCallSoFar (calls_of caller script)
+calls_so_far caller [] h = tt
+calls_so_far caller (CallLine c call ∷ rest) h =
+    let others = calls_so_far caller rest h.1 in
+    let P : Bool → Type 0 = λ b. AllByRecursion IsCallSoFar (if b then call ∷ calls_of caller rest else calls_of caller rest) in
+    elim (cases_Bool (c == caller)) [
+      | inl t ↦ subst P (sym t) (h.0.2, others)
+      | inr t ↦ subst P (sym t) others
+    ]
+calls_so_far caller (Fuse c n ∷ rest) h = absurd h.0
+calls_so_far caller (Step c n ∷ rest) h = calls_so_far caller rest h.1
+calls_so_far caller (Until c event n ∷ rest) h = calls_so_far caller rest h.1
+calls_so_far caller (At c n ∷ rest) h = calls_so_far caller rest h.1
+calls_so_far caller (Close ∷ rest) h = calls_so_far caller rest h.1
+calls_so_far caller (Cut n ∷ rest) h = calls_so_far caller rest h.1
 
-pub calls_so_far : (script : List Line) → AllByRecursion IsLineSoFar script → AllByRecursion IsCallSoFar (calls_of 1 script)
-calls_so_far [] h = tt
-calls_so_far (CallLine c call ∷ rest) h = subst (AllByRecursion IsCallSoFar) (sym (own_call c call rest h.0.0)) (h.0.1, calls_so_far rest h.1)
-calls_so_far (Fuse c n ∷ rest) h = absurd h.0
-calls_so_far (Step c n ∷ rest) h = calls_so_far rest h.1
-calls_so_far (Until c event n ∷ rest) h = calls_so_far rest h.1
-calls_so_far (At c n ∷ rest) h = calls_so_far rest h.1
-calls_so_far (Close ∷ rest) h = calls_so_far rest h.1
-calls_so_far (Cut n ∷ rest) h = calls_so_far rest h.1
+-- no call is of a caller behind the last
+pub last_so_far : (script : List Line) → AllByRecursion IsLineSoFar script → last_caller script ≤ 64
+last_so_far [] h = omega arith
+last_so_far (CallLine c call ∷ rest) h = max-le h.0.1 (last_so_far rest h.1)
+last_so_far (Fuse c n ∷ rest) h = absurd h.0
+last_so_far (Step c n ∷ rest) h = last_so_far rest h.1
+last_so_far (Until c event n ∷ rest) h = last_so_far rest h.1
+last_so_far (At c n ∷ rest) h = last_so_far rest h.1
+last_so_far (Close ∷ rest) h = last_so_far rest h.1
+last_so_far (Cut n ∷ rest) h = last_so_far rest h.1
 
 -- THE ORDER
 ordered_by_test : (t : Bool) (mode : Mode) (phase : Phase) (line : Line) (rest : List Reading) → may_follow mode phase line ≡ t

@@ -28,13 +28,13 @@ abbrev pub number : List ℕ → Option ℕ
 number word = if nat_le 1 (length word) && nat_le (length word) 20 then number_behind 0 word else None
 
 -- CALLERS
--- the range of those who call: 1 alone
+-- the range of those who call: 1 to 64
 abbrev pub is_caller : ℕ → Bool
-is_caller c = nat_le 1 c && nat_le c 1
+is_caller c = nat_le 1 c && nat_le c 64
 
--- the range of those whom a schedule names: 0, who starts and closes the image, and 1
+-- the range of those whom a schedule names: 0, who starts and closes the image, and those who call
 abbrev pub may_have_runs : ℕ → Bool
-may_have_runs c = nat_le c 1
+may_have_runs c = nat_le c 64
 
 -- CALLS
 abbrev pub get_call : Option ℕ → Option Call

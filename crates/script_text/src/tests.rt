@@ -48,6 +48,22 @@ fn keeps_the_lines_in_their_order(rt: HostRuntime) -> Result<(), Fail> {
 }
 
 #[test]
+fn reads_lines_of_each_caller(rt: HostRuntime) -> Result<(), Fail> {
+    let text = b"64 get 5\n2 remove 5\n64 insert 5 6\nstep 64 3\nuntil 2 end 1\nstep 63 0\n";
+    let script = parse(rt.alloc(), Mode::Play, text)?;
+    let want = [
+        Line::Call(64, Call::Get(5)),
+        Line::Call(2, Call::Remove(5)),
+        Line::Call(64, Call::Insert(5, 6)),
+        Line::Step(64, 3),
+        Line::Until(2, Counted::End, 1),
+        Line::Step(63, 0),
+    ];
+    assert_eq!(rt; script.as_slice(), want.as_slice());
+    Ok(())
+}
+
+#[test]
 fn reads_every_form(rt: HostRuntime) -> Result<(), Fail> {
     let text = b"1 get 5\n1 insert 6 7\n# calls\n1 update 6 8\n1 remove 5\nstep 1 3\nuntil 0 store 1
 until 1 exchange 2\nuntil 1 flush 18446744073709551615\nuntil 1 fence 4\nuntil 1 draw 0\nuntil 1 end 6
@@ -145,7 +161,7 @@ fn refuses_what_is_no_number(rt: HostRuntime) {
     let numbers = [
         b"1 get x".as_slice(),
         b"x get 5",
-        b"2 get x",
+        b"65 get x",
         b"0 insert 5 x",
         b"1 insert x 5",
         b"\t1 get 5",
@@ -159,11 +175,11 @@ fn refuses_what_is_no_number(rt: HostRuntime) {
         b"1 update 5 x",
         b"1 remove x",
         b"step x 5",
-        b"step 7 x",
+        b"step 77 x",
         b"step get 5",
         b"until x end 5",
-        b"until 7 end x",
-        b"until 7 at x",
+        b"until 77 end x",
+        b"until 77 at x",
         b"until insert at 5",
         b"cut insert 5 6",
         b"cut x",
@@ -179,15 +195,15 @@ fn refuses_what_is_no_number(rt: HostRuntime) {
 fn refuses_callers_out_of_range(rt: HostRuntime) {
     let callers = [
         b"0 get 5".as_slice(),
-        b"2 get 5",
-        b"64 get 5",
+        b"65 get 5",
+        b"257 get 5",
         b"65 insert 5 6",
         b"18446744073709551615 get 5",
         b"0 update 5 6",
-        b"2 remove 5",
-        b"step 2 5",
+        b"65 remove 5",
+        b"step 65 5",
         b"step 256 5",
-        b"until 2 flush 5",
+        b"until 65 flush 5",
         b"until 18446744073709551615 at 5",
     ];
     for text in callers {
@@ -209,7 +225,8 @@ fn refuses_what_is_out_of_order(rt: HostRuntime) {
         (b"close\nclose", 2),
         (b"close\nstep 0 1\nclose", 3),
         (b"close\nstep 1 1", 2),
-        (b"close\nuntil 0 end 1\nuntil 1 end 1", 3),
+        (b"close\nuntil 0 end 1\nuntil 2 end 1", 3),
+        (b"2 get 5\nstep 1 1\n64 get 5", 3),
         (b"close\nuntil 1 at 1", 2),
     ];
     for (text, line) in plays {
@@ -231,16 +248,16 @@ fn refuses_what_is_out_of_order(rt: HostRuntime) {
 
 #[test]
 fn answers_the_first_fault(rt: HostRuntime) {
-    let text = b"1 get 5\n\n# note\r\n2 get 5\n1 get\n";
+    let text = b"1 get 5\n\n# note\r\n65 get 5\n1 get\n";
     let want = Some(ScriptFault::Caller { line: 4 });
     assert_eq!(rt; refusal(rt.alloc(), Mode::Play, text), want);
-    let text = b"1 get 5\n1 get\n2 get 5";
+    let text = b"1 get 5\n1 get\n65 get 5";
     let want = Some(ScriptFault::Word { line: 2 });
     assert_eq!(rt; refusal(rt.alloc(), Mode::Serve, text), want);
     let text = b"close\nstep 1 1\n1 get";
     let want = Some(ScriptFault::Order { line: 2 });
     assert_eq!(rt; refusal(rt.alloc(), Mode::Play, text), want);
-    let text = b"close\n2 get 5\nclose";
+    let text = b"close\n0 get 5\nclose";
     let want = Some(ScriptFault::Caller { line: 2 });
     assert_eq!(rt; refusal(rt.alloc(), Mode::Play, text), want);
 }
