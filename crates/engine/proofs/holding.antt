@@ -8,3 +8,4 @@ pub mod Served
 pub mod Beginnings
 pub mod Opening
 pub mod Quiet
+pub mod Leaving

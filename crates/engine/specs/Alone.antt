@@ -170,11 +170,6 @@ OthersStayResting = (shape : Shape) (w : Watched) (i j : ℕ) → i ≢ j → Is
 abbrev pub DueAtStart : Type 0
 DueAtStart = (shape : Shape) (words : List ℕ) (scripts : List (List Call)) (j : ℕ) → StandsDue shape j (at_start shape words scripts)
 
--- WHO IS ALONE splits no segment but one without room, and repairs none but one that is stale: its own turns leave it so
-abbrev pub OwnTurnsStayDue : Type 0
-OwnTurnsStayDue = AlongTurns (λ shape words scripts turns. (j : ℕ) → IsAlone shape j (along shape words scripts turns) → StandsDue shape j (along shape words scripts turns)
-    → StandsDue shape j (watched_turn shape (suc j) (along shape words scripts turns)))
-
 -- ---- a call of a caller alone ends
 -- no engine has more events left than a call has, or than an attempt has
 abbrev pub EventsAreFew : Type 0

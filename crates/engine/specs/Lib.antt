@@ -12,3 +12,4 @@ pub mod Pairs
 pub mod Causes
 pub mod Alone
 pub mod Short
+pub mod Driven

@@ -3,10 +3,10 @@
 ghost use Rattle.std.specs.Prelude.{◌≡◌, ◌≢◌, ◌↔◌, IsTrue};
 ghost use Rattle.op_core.specs.declared.want.Want.TheVariants as want;
 ghost use Rattle.engine.specs.declared.engine.Op.TheVariants.{Move, Release};
-ghost use Rattle.engine.specs.OpPart.{move_of, release_of, op_after_move, op_after_guard, answered, hands_on, handed_on, calls, work_of};
+ghost use Rattle.engine.specs.OpPart.{move_of, release_of, op_after_move, op_after_guard, answered, hands_on, handed_on, calls, work_of, op_part};
 ghost use Rattle.engine.specs.Engine.{running, begun, splitting, repairing, anew, wanted, taken, end_of, reply_of_end, is_again};
 
-use directory_op::{DirectoryEnd, DirectoryOp};
+use directory_op::{DirectoryEnd, DirectoryOp, DirectoryStep};
 use enclose_op::{EncloseEnd, EncloseOp, NotEnclosed};
 use map_model::{Call, Change, Reply};
 use mend_op::{MendEnd, MendOp};
@@ -397,6 +397,21 @@ impl Engine {
             Op::Repair(op) => outer_want(op) == Want::Done,
             Op::Redirect(op) => outer_want(op) == Want::Done,
             Op::Mend(op) => outer_want(op) == Want::Done,
+        }
+    }
+
+    /// Whether it waits for the guard of the directory.
+    #[inline(never)]
+    pub fn waits(&self) -> bool
+        ensures { result ≡ op_part.is_waiting self.now.op }
+    {
+        match &self.op {
+            Op::Publish(op) => {
+                matches!(op.step, DirectoryStep::TakeGuard | DirectoryStep::AskPower)
+            }
+            Op::Read(_) | Op::Write(_) | Op::Move(_) | Op::Stash(_) | Op::Release(_) => false,
+            Op::Enclose(_) | Op::Split(_) | Op::Rest(_) => false,
+            Op::Repair(_) | Op::Redirect(_) | Op::Mend(_) => false,
         }
     }
 

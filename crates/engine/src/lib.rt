@@ -6,6 +6,7 @@
 #![tactic(auto)]
 
 mod causes;
+mod driven;
 mod engine;
 mod laws;
 mod left;
@@ -14,6 +15,7 @@ mod single;
 mod turns;
 
 pub use causes::ends_have_causes;
+pub use driven::{driven_calls_end, ends_leave_nothing, turns_go_on};
 pub use engine::{End, Engine, Op};
 pub use laws::{
     asks_within, attempts_end, calls_are_parts, fits_the_world, flushes_are_few,

@@ -1,9 +1,9 @@
 //! The laws of a caller that steps alone. The functions do nothing: each stands for the laws that its contract says.
 
 ghost use Rattle.engine.specs.Alone.{AllRestAtStart, AloneAtStart, RestingIsAlone, OwnTurnsStayAlone, AloneNeverAgain, EndsAreTold, EndsTell, EndedRests, OthersStayResting};
-ghost use Rattle.engine.specs.Alone.{DueAtStart, OwnTurnsStayDue, EventsAreFew, AloneLeavesFewer};
+ghost use Rattle.engine.specs.Alone.{DueAtStart, EventsAreFew, AloneLeavesFewer};
 
-use crate::{causes, laws, turns};
+use crate::{causes, driven, laws, turns};
 
 /// While one caller steps and all others stand between two attempts, no attempt of it that begins then ends in Again: nothing that it
 /// loaded has moved but by itself, and a lock or a guard that is taken is another's, that is in the midst of an attempt. At the beginning all
@@ -33,25 +33,14 @@ pub fn never_again_alone()
 /// `events_of_call`.
 pub fn calls_end_alone()
     ensures start { DueAtStart }
-    ensures stays { OwnTurnsStayDue }
     ensures few { EventsAreFew }
     ensures fewer { AloneLeavesFewer }
 {
-    world::slots_stay();
-    world::used_slots_stay();
-    world::stale_segments_only_go();
-    read_op::gets_are_parts();
-    write_op::changes_are_parts();
-    move_op::moves_are_parts();
-    stash_op::stashes_are_parts();
-    release_op::releases_find_no_room();
-    enclose_op::enclosings_are_parts();
     split_op::new_slots_were_free();
     directory_op::free_guards_are_won();
     rest_op::rests_are_parts();
     laws::calls_are_parts();
-    turns::opened_holds();
-    turns::turn_keeps();
-    causes::ends_have_causes();
     never_again_alone();
+    driven::turns_go_on();
+    driven::driven_calls_end();
 }

@@ -68,7 +68,7 @@ replaced_fits words i x k new old = by (eqb k i)
     by false = old
 
 -- the values of a trace with one event more are words
-values_fit : (start : Words) (e : Event) (es : Trace) → ((i t : ℕ) → value_at start es t i < 2 ^ 64) → ((i : ℕ) → value start (e ∷ es) i < 2 ^ 64) → (i t : ℕ)
+pub values_fit : (start : Words) (e : Event) (es : Trace) → ((i t : ℕ) → value_at start es t i < 2 ^ 64) → ((i : ℕ) → value start (e ∷ es) i < 2 ^ 64) → (i t : ℕ)
     → value_at start (e ∷ es) t i < 2 ^ 64
 values_fit start e es old new i t = elim (cases_lt t (suc (length es))) [
   | inl within ↦ subst (λ x. x < 2 ^ 64) (sym (value_at_more start e es t i (omega (arith, within)))) (old i t)
@@ -84,7 +84,7 @@ drawn_call c call old (Lost v) d is = old d is
 drawn_call c call old Passed d is = old d is
 
 -- a caller's event flushes and fences nothing of caller 0
-fenced_still : (shape : Shape) (w : Want) (n j : ℕ) (es : Trace) → pending 0 (event_of shape w n (suc j) ∷ es) ≡ pending 0 es
+pub fenced_still : (shape : Shape) (w : Want) (n j : ℕ) (es : Trace) → pending 0 (event_of shape w n (suc j) ∷ es) ≡ pending 0 es
 fenced_still shape (want.Load i) n j es = refl
 fenced_still shape (want.Store i x) n j es = refl
 fenced_still shape (want.Exchange i a b) n j es = by (eqb n a)
@@ -257,19 +257,19 @@ module _ (laws : TurnLaws) (site : Ground) (start : Words) (core : Core) (h : Co
 
   module _ (j : ℕ) (c : Caller) (is : slice_get core.callers j ≡ Some c) (v : View) (at : At h.views j v) (fits : CallerFits site c v) where
     module _ (e : Engine) (is_engine : c.engine ≡ Some e) (calling : IsCalling site c e v) where
-      abbrev n : ℕ
+      abbrev pub n : ℕ
       n = finds site e core.words
 
-      abbrev kind : StepKind
+      abbrev pub kind : StepKind
       kind = kind_of e n
 
-      abbrev after : List View
+      abbrev pub after : List View
       after = changed_at j (view_by site.shape kind n) h.views
 
-      abbrev core_after : Core
+      abbrev pub core_after : Core
       core_after = with_event site.shape j core c calling.call e
 
-      well_step : StepsWell site e core.words c.site calling.call calling.before v
+      pub well_step : StepsWell site e core.words c.site calling.call calling.before v
       well_step = laws.steps site c.site calling.call e core.words seats (suc j) calling.before v fits.place fits.version fits.number (fits.words (length c.entries) calling.call calling.is_current)
           h.powered h.well.holds at calling.suits (now_fits (word_of site.shape (wanted e)))
 
@@ -281,7 +281,7 @@ module _ (laws : TurnLaws) (site : Ground) (start : Words) (core : Core) (h : Co
         views = fresh_view 0 ∷ changed_at j (view_by site.shape kind (core.words (word_of site.shape w))) h.views;
       })
 
-      well_after : IsWell site start (world_of core_after after)
+      pub well_after : IsWell site start (world_of core_after after)
       well_after = subst IsWellBy (sym well_step.wants) (laws.well site start kind (world_of core h.views) (suc j) v h.well at well_step.may)
 
       -- the event is the step of its kind, so that what holds after that holds after it
@@ -290,7 +290,7 @@ module _ (laws : TurnLaws) (site : Ground) (start : Words) (core : Core) (h : Co
           subst (λ w. P (words_after site.shape w (suc j) core.words) (fresh_view 0 ∷ changed_at j (view_by site.shape kind (core.words (word_of site.shape w))) h.views)) (sym well_step.wants)
           (subst (λ (vs : List View). P (words_of_step site kind (suc j) core.words) (fresh_view 0 ∷ vs)) (sym (changed_is j (view_by site.shape kind (found_of site kind core.words)) h.views v at)) holds)
 
-      powered_after : core_after.words (power_word site.shape) ≡ 0
+      pub powered_after : core_after.words (power_word site.shape) ≡ 0
       powered_after = by_step (λ ws vs. ws (power_word site.shape) ≡ 0)
           (laws.power site core.words seats (suc j) v kind (suc j) h.well.holds at (laws.part.power e.op n) well_step.may ∙ h.powered)
 
@@ -301,13 +301,13 @@ module _ (laws : TurnLaws) (site : Ground) (start : Words) (core : Core) (h : Co
         | inr tells ↦ λ s slot was. laws.full site core.words seats (suc j) v tells.0 h.well.holds at (subst (λ (k : StepKind). MayTake site k v) tells.1 well_step.may) s slot
       ]
 
-      full_after : FullIsTaken site core_after.words (fresh_view 0 ∷ after)
+      pub full_after : FullIsTaken site core_after.words (fresh_view 0 ∷ after)
       full_after = by_step (FullIsTaken site) (λ k u x a has full s slot was.
           laws.media site core.words seats (suc j) v kind (suc j) h.well.holds at well_step.may s slot was
           (each_view seats (suc j) v (view_by site.shape kind (found_of site kind core.words) v) at (λ _ (u : View). Has x u.own → NoneIsFree site core.words seats)
           (λ mine. told_full (found_of site kind core.words) x mine full) (λ i w _ there old. h.full i w x there old full) k u a has s slot was))
 
-      word_after : (i : ℕ) → core_after.words i < 2 ^ 64
+      pub word_after : (i : ℕ) → core_after.words i < 2 ^ 64
       word_after i =
           let a = laws.words site c.site calling.call e calling.before v calling.suits in
           subst (λ (ws : Words). ws i < 2 ^ 64) (sym (laws.one_word site.shape (wanted e) (suc j) core.words))
@@ -325,12 +325,12 @@ module _ (laws : TurnLaws) (site : Ground) (start : Words) (core : Core) (h : Co
           (let l = at_most_one site c.site calling.call calling.before (view_by site.shape kind n v) (next_engine site e core.words) s in
           subst (λ (es : List Entry). length (view_by site.shape kind n v).own ≤ suc (length es)) calling.own_before l))
 
-      caller_after : CallerFits site (answered c calling.call e (answer_to (wanted e) n)) (view_by site.shape kind n v)
+      pub caller_after : CallerFits site (answered c calling.call e (answer_to (wanted e) n)) (view_by site.shape kind n v)
       caller_after = gone_on_fits laws.begins site h.well.holds.site_is c fits.place fits.version fits.number fits.words calling.call calling.is_current fits.replied fits.within calling.before
           (view_by site.shape kind n v) calling.own_before (drawn_by c calling.call (answer_to (wanted e) n)) (drawn_call c calling.call calling.drew_call (answer_to (wanted e) n))
           (next_engine site e core.words) (wanted (next_engine site e core.words)) refl well_step.suits well_step.ends entries_after
 
-      stepped : CoreHolds site start core_after
+      abbrev pub stepped : CoreHolds site start core_after
       stepped = record {
         views = after;
         well = well_after;

@@ -1,10 +1,12 @@
--- EACH OWN TURN of a caller alone leaves fewer events of its call: of the same attempt, or of the next one of the call where the attempt ends without a
--- reply.
-use Rattle.std.proofs.Common.{◌≡◌, ℕ, zero, suc, ◌+◌, ◌*◌, ◌%◌, ◌^◌, ◌<◌, ◌≤◌, Bool, true, false, Option, None, Some, List, ◌∷◌, slice_index, refl, sym, ◌∙◌, ap, subst, arith}
-use Rattle.std.specs.Prelude.{◌==◌, if◌then◌else◌}
+-- EACH OWN TURN of a caller that does not wait leaves fewer events of its call: of the same attempt, or of the next one of the call where the attempt ends
+-- without a reply, and not in Again.
+use Rattle.std.proofs.Common.{◌≡◌, ℕ, zero, suc, ◌+◌, ◌*◌, ◌%◌, ◌^◌, ◌<◌, ◌≤◌, inl, inr, Bool, true, false, Option, None, Some, List, ◌∷◌, slice_index, refl, sym, ◌∙◌, ap, subst, arith}
+use Rattle.std.specs.Prelude.{◌==◌, ◌&&◌, if◌then◌else◌}
 use Rattle.std.proofs.Math.Nat.{mul-le-mul_right, add-mul}
+use Rattle.std.proofs.lemmas.Bool.{cases_Bool, false≢true}
 use Rattle.std.proofs.lemmas.Option.{none-some, same_Some}
 use Rattle.op_core.specs.declared.want.Want.TheVariants as want
+use Rattle.op_core.specs.declared.why.Why.{Why}
 use Rattle.trace.specs.Events.{Words}
 use Rattle.segment_head.specs.HeadWord.{state_in, free}
 use Rattle.image_layout.specs.Places.{Shape, state_word}
@@ -20,24 +22,24 @@ use Rattle.world.specs.StepKinds.{of_structure}
 use Rattle.world.specs.areas.Areas.{header_word}
 use Rattle.world.specs.areas.Rows.{news, frees, renews}
 use Rattle.world.specs.areas.Kinds.{moves}
-use Rattle.world.specs.Slots.{NewSlotsWereFree, FreedByRepairs, OthersHaveNoAreas}
-use Rattle.part.specs.Outcomes.{Outcome, stale, need_split, finished, reply_of}
+use Rattle.world.specs.Slots.{NewSlotsWereFree, FreedByRepairs}
+use Rattle.part.specs.Outcomes.{Outcome, again, stale, need_split, finished, reply_of}
 use Rattle.part.specs.Part.{finds, next_view}
 use Rattle.release_op.specs.Split.{LeavesThere}
 use Rattle.engine.specs.declared.engine.Op.{Op}
 use Rattle.split_op.specs.SplitPart.{is_new_slot}
 use Rattle.engine.specs.declared.engine.Op.TheVariants.{Read, Write, Move, Stash, Release, Enclose, Split, Publish, Rest, Repair, Redirect, Mend}
 use Rattle.engine.specs.declared.engine.Engine.{Engine}
-use Rattle.engine.specs.Engine.{op_by, wanted, end_of, outcome_of_end, reply_of_end, anew_by, anew}
+use Rattle.engine.specs.Engine.{op_by, wanted, end_of, outcome_of_end, reply_of_end, says_again, is_again, IsFresh, anew_by, anew}
 use Rattle.engine.specs.OpPart.{op_part, calls as of_calls, work_of}
 use Rattle.engine.specs.Core.{Caller, current}
 use Rattle.engine.specs.Holding.{CoreHolds, TurnKeeps}
 use Rattle.engine.specs.Laws.{IsServedImage, OpenedHolds, AreScripts}
-use Rattle.engine.specs.Causes.{Watched, engine_next, watched_turn, BeginsBare}
+use Rattle.engine.specs.Causes.{Watched, engine_next, watched_turn}
 use Rattle.engine.specs.Left.{left_alone, most_alone, free_below, free_slots, is_stale, stale_below, stale_segments, has_freed, is_renewed, stage, attempts_left, events_left}
-use Rattle.engine.specs.Alone.{IsTold, told_reply, told_again, told_to_split, told_stale, told_finished, IsReply, IsAlone, StandsDue, IsNext, LeavesFewer, EventsAreFew, AloneLeavesFewer, AloneNeverAgain, EndsAreTold, EndsTell}
+use Rattle.engine.specs.Alone.{IsTold, told_reply, told_again, told_to_split, told_stale, told_finished, IsReply, IsBetween, IsAlone, along, StandsDue, IsNext, LeavesFewer, EventsAreFew, AloneLeavesFewer, AloneNeverAgain, EndsAreTold, EndsTell}
+use Rattle.engine.specs.Driven.{tries_now, waits_now, IsHeldByOther, TriesAreOthers, OwnTurnsLeaveFewer}
 use Rattle.engine.proofs.attempts.Seats.{IsSeated, seat_stands, site_there, there, holds_there, seat_there}
-use Rattle.engine.proofs.lonely.Others.{others_bare}
 use Rattle.engine.proofs.lonely.Lonely.{turn_is}
 use Rattle.engine.proofs.lonely.Slots.{seat_falls, seat_frees, seat_takes}
 use Rattle.engine.proofs.lonely.Stale.{seat_stale, seat_renews}
@@ -151,14 +153,12 @@ pub record FewerLaws : Type 0 where
   pub leaves : LeavesThere
   pub freed : FreedByRepairs
   pub new : NewSlotsWereFree
-  pub bare : BeginsBare
-  pub never : AloneNeverAgain
   pub told : EndsAreTold
   pub tell : EndsTell
 
 -- ---- after any turns, an own turn
 module _ (laws : FewerLaws) (opens : OpenedHolds) (keeps : TurnKeeps) (shape : Shape) (words : List ℕ) (image : IsServedImage shape words)
-    (scripts : List (List Call)) (are : AreScripts scripts) (turns : List ℕ) (j : ℕ) (e : Engine) (alone : IsAlone shape j (there opens keeps shape words image scripts are turns))
+    (scripts : List (List Call)) (are : AreScripts scripts) (turns : List ℕ) (j : ℕ) (e : Engine)
     (stands : StandsDue shape j (there opens keeps shape words image scripts are turns)) (n : IsNext (there opens keeps shape words image scripts are turns) j e) where
   abbrev site : Ground
   site = site_there opens keeps shape words image scripts are turns
@@ -185,9 +185,6 @@ module _ (laws : FewerLaws) (opens : OpenedHolds) (keeps : TurnKeeps) (shape : S
   later_is : (watched_turn shape (suc j) w).core.words ≡ later
   later_is = ap (λ (x : Watched). x.core.words) (turn_is shape w j e n)
 
-  none_else : OthersHaveNoAreas (suc j) (fresh_view 0 ∷ h.views)
-  none_else i u apart seat = (others_bare laws.bare site (slice_index words) w.core h j alone.others i u apart seat).areas
-
   same_version : later state_word % 2 ^ 8 ≡ version_of site
   same_version = staying.same_version laws.due opens keeps shape words image scripts are turns j stands n.caller n.there n.call e n.calls n.runs
 
@@ -195,8 +192,8 @@ module _ (laws : FewerLaws) (opens : OpenedHolds) (keeps : TurnKeeps) (shape : S
   stale_falls = seat_stale laws.due.causes laws.due.stale site w.core.words (fresh_view 0 ∷ h.views) h.well.holds (suc j) here n.call e (w.doings j) seated same_version
 
   -- what its event does
-  came : Comes laws.stages site here n.call w.core.words (fresh_view 0 ∷ h.views) (suc j) seated.before seated.view h.well.holds seated.at none_else e.op
-  came = comes laws.stages site here n.call w.core.words (fresh_view 0 ∷ h.views) (suc j) seated.before seated.view h.well.holds seated.at none_else e.op seated.suits seated.asks
+  came : Comes laws.stages site here n.call w.core.words (fresh_view 0 ∷ h.views) (suc j) seated.before seated.view h.well.holds seated.at e.op
+  came = comes laws.stages site here n.call w.core.words (fresh_view 0 ∷ h.views) (suc j) seated.before seated.view h.well.holds seated.at e.op seated.suits seated.asks
 
   slots_fall : ((parent s x : ℕ) → op_part.kind e.op (finds op_part site w.core.words e.op) ≡ of_structure (moves (frees parent) s x) → ⊥) → free_slots shape later ≤ free_slots shape w.core.words
   slots_fall none = seat_falls laws.due.causes laws.freed site w.core.words (fresh_view 0 ∷ h.views) h.well.holds (suc j) here n.call e (w.doings j) seated none
@@ -228,11 +225,11 @@ module _ (laws : FewerLaws) (opens : OpenedHolds) (keeps : TurnKeeps) (shape : S
         omega (arith, most, none, slots, old)
   ]
 
-  left_falls : left_alone next < left_alone e
-  left_falls = falls laws.stages site here n.call w.core.words (fresh_view 0 ∷ h.views) (suc j) seated.before seated.view h.well.holds seated.at none_else e.op seated.suits seated.asks
+  left_falls : waits_now shape w.core.words e ≡ false → left_alone next < left_alone e
+  left_falls on = falls laws.stages site here n.call w.core.words (fresh_view 0 ∷ h.views) (suc j) seated.before seated.view h.well.holds seated.at e.op seated.suits seated.asks on
 
-  goes_on : events_left shape later next < events_left shape w.core.words e
-  goes_on = less_by_left (attempts_left shape later next) (attempts_left shape w.core.words e) (most_alone + 1) (left_alone next) (left_alone e) attempts_fall left_falls
+  goes_on : waits_now shape w.core.words e ≡ false → events_left shape later next < events_left shape w.core.words e
+  goes_on on = less_by_left (attempts_left shape later next) (attempts_left shape w.core.words e) (most_alone + 1) (left_alone next) (left_alone e) attempts_fall (left_falls on)
 
   -- ---- the next attempt
   abbrev fresh : Engine
@@ -262,7 +259,7 @@ module _ (laws : FewerLaws) (opens : OpenedHolds) (keeps : TurnKeeps) (shape : S
   works_anew : op_part.outcome next.op ≡ Some finished → outcome_of_end (end_of next) ≡ Some finished → attempts_left shape later fresh + 1 ≤ attempts_left shape w.core.words e
   works_anew told is =
       let due = next_due laws.due opens keeps shape words image scripts are turns j stands n.caller n.there n.call e n.calls n.runs in
-      let now = works laws.stages site here n.call w.core.words (fresh_view 0 ∷ h.views) (suc j) seated.before seated.view h.well.holds seated.at none_else later e.op due told in
+      let now = works laws.stages site here n.call w.core.words (fresh_view 0 ∷ h.views) (suc j) seated.before seated.view h.well.holds seated.at later e.op due told in
       let after = stage_of finished is ∙ call_anew here n.call (change_of n.call) in
       let old = stale_falls in
       elim came [
@@ -280,29 +277,66 @@ module _ (laws : FewerLaws) (opens : OpenedHolds) (keeps : TurnKeeps) (shape : S
       let fall = attempts_fall in
       omega (arith, now, after, fall)
 
-  by_outcome : (outcome : Outcome) → op_part.outcome next.op ≡ Some outcome → outcome_of_end (end_of next) ≡ Some outcome → reply_of_end (end_of next) ≡ None → IsTold (Some outcome)
-      → attempts_left shape later fresh + 1 ≤ attempts_left shape w.core.words e
-  by_outcome outcome told is none (told_reply reply) = absurd (subst IsReply (sym (ap reply_of is) ∙ none) reply)
-  by_outcome outcome told is none (told_again why same) = absurd (laws.never shape words image scripts are turns j e alone n why (told ∙ same))
-  by_outcome outcome told is none (told_to_split segment same) = splits_anew segment (told ∙ same) (is ∙ same)
-  by_outcome outcome told is none (told_stale segment byte same) = stale_anew segment byte (told ∙ same) (is ∙ same)
-  by_outcome outcome told is none (told_finished same) = works_anew (told ∙ same) (is ∙ same)
+  by_outcome : (outcome : Outcome) → op_part.outcome next.op ≡ Some outcome → outcome_of_end (end_of next) ≡ Some outcome → reply_of_end (end_of next) ≡ None → is_again (end_of next) ≡ false
+      → IsTold (Some outcome) → attempts_left shape later fresh + 1 ≤ attempts_left shape w.core.words e
+  by_outcome outcome told is none calm (told_reply reply) = absurd (subst IsReply (sym (ap reply_of is) ∙ none) reply)
+  by_outcome outcome told is none calm (told_again why same) = absurd (false≢true (sym calm ∙ ap says_again (is ∙ same)))
+  by_outcome outcome told is none calm (told_to_split segment same) = splits_anew segment (told ∙ same) (is ∙ same)
+  by_outcome outcome told is none calm (told_stale segment byte same) = stale_anew segment byte (told ∙ same) (is ∙ same)
+  by_outcome outcome told is none calm (told_finished same) = works_anew (told ∙ same) (is ∙ same)
 
-  begins_anew : wanted next ≡ want.Done → reply_of_end (end_of next) ≡ None → events_left shape later fresh < events_left shape w.core.words e
-  begins_anew done none =
+  begins_anew : wanted next ≡ want.Done → reply_of_end (end_of next) ≡ None → is_again (end_of next) ≡ false → events_left shape later fresh < events_left shape w.core.words e
+  begins_anew done none calm =
       let end = laws.tell shape words image scripts are turns j e n done in
-      fewer_attempts (by_outcome end.0 end.1 end.2 none (laws.told shape words image scripts are turns j e n end.0 end.1))
+      fewer_attempts (by_outcome end.0 end.1 end.2 none calm (laws.told shape words image scripts are turns j e n end.0 end.1))
 
-  fewer : LeavesFewer shape w j e
-  fewer = record {
-    goes_on = λ more. subst (λ (ws : Words). events_left shape ws next < events_left shape w.core.words e) (sym later_is) goes_on;
+  fewer : waits_now shape w.core.words e ≡ false → (wanted next ≡ want.Done → is_again (end_of next) ≡ false) → LeavesFewer shape w j e
+  fewer on calm = record {
+    goes_on = λ more. subst (λ (ws : Words). events_left shape ws next < events_left shape w.core.words e) (sym later_is) (goes_on on);
     anew = λ c call at calls done none.
         let caller : n.caller ≡ c = same_Some n.caller c (sym n.there ∙ at) in
         let same : n.call ≡ call = same_Some n.call call (sym n.calls ∙ (ap current caller ∙ calls)) in
         subst (λ x. events_left shape (watched_turn shape (suc j) w).core.words (anew c.site x (end_of next)) < events_left shape w.core.words e) same
         (subst (λ (d : Caller). events_left shape (watched_turn shape (suc j) w).core.words (anew d.site n.call (end_of next)) < events_left shape w.core.words e) caller
-        (subst (λ (ws : Words). events_left shape ws fresh < events_left shape w.core.words e) (sym later_is) (begins_anew done none)));
+        (subst (λ (ws : Words). events_left shape ws fresh < events_left shape w.core.words e) (sym later_is) (begins_anew done none (calm done))));
   }
 
-pub alone_leaves_fewer : FewerLaws → OpenedHolds → TurnKeeps → AloneLeavesFewer
-alone_leaves_fewer laws opens keeps shape words image scripts are turns j e alone stands n = fewer laws opens keeps shape words image scripts are turns j e alone stands n
+pub own_turns_leave_fewer : FewerLaws → OpenedHolds → TurnKeeps → OwnTurnsLeaveFewer
+own_turns_leave_fewer laws opens keeps shape words image scripts are turns j e stands n on calm = fewer laws opens keeps shape words image scripts are turns j e stands n on calm
+
+-- ---- who is alone waits for nobody, and ends no attempt in Again
+again_is : (o : Option Outcome) → says_again o ≡ true → (why : Why) × (o ≡ Some (again why))
+again_is (Some (again why)) says = (why, refl)
+again_is o says = absurd (false≢true says)
+
+module _ (tries : TriesAreOthers) (never : AloneNeverAgain) (tell : EndsTell) (shape : Shape) (words : List ℕ) (image : IsServedImage shape words) (scripts : List (List Call))
+    (are : AreScripts scripts) (turns : List ℕ) (j : ℕ) (e : Engine) (alone : IsAlone shape j (along shape words scripts turns)) (n : IsNext (along shape words scripts turns) j e) where
+  abbrev now : Words
+  now = (along shape words scripts turns).core.words
+
+  abbrev behind : Engine
+  behind = engine_next shape now e
+
+  rests_not : (o : IsHeldByOther (along shape words scripts turns).core j) → IsBetween o.caller → ⊥
+  rests_not o (inl none) = none-some o.engine (sym none ∙ o.runs)
+  rests_not o (inr p) = o.midst (subst (IsFresh o.caller.site) (same_Some p.0 o.engine (sym p.1 ∙ o.runs)) p.2)
+
+  waits_not : waits_now shape now e ≡ false
+  waits_not = elim (cases_Bool (tries_now shape now e)) [
+    | inl vain ↦ (let o = tries shape words image scripts are turns j e n vain in absurd (rests_not o (alone.others o.place o.caller o.elsewhere o.there)))
+    | inr none ↦ ap (λ b. b && op_part.is_waiting behind.op) none
+  ]
+
+  ends_calm : wanted behind ≡ want.Done → is_again (end_of behind) ≡ false
+  ends_calm done = elim (cases_Bool (is_again (end_of behind))) [
+    | inl says ↦
+        let end = tell shape words image scripts are turns j e n done in
+        let again = again_is (outcome_of_end (end_of behind)) says in
+        absurd (never shape words image scripts are turns j e alone n again.0 (end.1 ∙ (sym end.2 ∙ again.1)))
+    | inr calm ↦ calm
+  ]
+
+pub alone_leaves_fewer : OwnTurnsLeaveFewer → TriesAreOthers → AloneNeverAgain → EndsTell → AloneLeavesFewer
+alone_leaves_fewer fewer tries never tell shape words image scripts are turns j e alone stands n =
+    fewer shape words image scripts are turns j e stands n (waits_not tries never tell shape words image scripts are turns j e alone n)
+    (ends_calm tries never tell shape words image scripts are turns j e alone n)

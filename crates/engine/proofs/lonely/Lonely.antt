@@ -34,6 +34,7 @@ use Rattle.engine.specs.Holding.{CoreHolds, TurnKeeps}
 use Rattle.engine.specs.Laws.{IsServedImage, OpenedHolds, AreScripts}
 use Rattle.engine.specs.Causes.{doings_by, with_doings, Watched, answer_now, engine_next, doings_of_call, doings_of_caller, watched_turn, Decides, BeginsBare, BeginsUndecided, DecidedStays, EndsAreDecided, HasCauseBy, EndsHaveCauses, watched_run}
 use Rattle.engine.specs.Alone.{IsTold, told_reply, told_again, told_to_split, told_stale, told_finished, IsBetween, IsRestingBy, IsResting, IsAlone, IsNext, at_start, along, BusyIsOthers, AllRestAtStart, AloneAtStart, RestingIsAlone, OwnTurnsStayAlone, AloneNeverAgain, EndsAreTold, EndsTell, EndedRests, OthersStayResting}
+use Rattle.engine.specs.Driven.{OwnTurnsStayStill}
 use Rattle.engine.proofs.Places.{set_cases}
 use Rattle.engine.proofs.machines.Ops.{never_hands_on}
 use Rattle.engine.proofs.holding.Served.{sound_now}
@@ -78,6 +79,9 @@ module _ (shape : Shape) (j : ℕ) (w : Watched) (still : IsStill shape w.core.w
 
   turn_still : IsStill shape (watched_turn shape (suc j) w).core.words ((watched_turn shape (suc j) w).doings j)
   turn_still = still_by_caller (slice_get w.core.callers j)
+
+pub own_turns_stay_still : OwnTurnsStayStill
+own_turns_stay_still shape w j still = turn_still shape j w still
 
 -- ---- what holds of each decided outcome of the caller at a place holds after its turn
 module _ (P : Outcome → Type 0) where

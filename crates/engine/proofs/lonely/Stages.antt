@@ -1,13 +1,16 @@
--- THE NEXT EVENT of a machine of a caller alone leaves it as far in its call, takes or frees a slot, or renews a segment; and leaves fewer events of its
--- attempt.
-use Rattle.std.proofs.Common.{◌≡◌, ◌≢◌, ℕ, ◌+◌, ◌<◌, ◌≤◌, inl, inr, Bool, true, false, Some, List, refl, sym, ◌∙◌, ap, arith}
-use Rattle.std.specs.Prelude.{if◌then◌else◌}
-use Rattle.std.proofs.lemmas.Bool.{cases_eq}
+-- THE NEXT EVENT of a machine leaves it as far in its call, takes or frees a slot, or renews a segment; and leaves fewer events of its attempt, but where
+-- it waits for the guard of the directory.
+use Rattle.std.proofs.Common.{◌≡◌, ◌≢◌, ℕ, ◌+◌, ◌<◌, ◌≤◌, inl, inr, Bool, true, false, Some, List, refl, sym, ◌∙◌, ap, subst, arith}
+use Rattle.std.specs.Prelude.{◌==◌, ◌&&◌, if◌then◌else◌}
+use Rattle.std.proofs.lemmas.Bool.{cases_Bool, cases_eq, eq-eqb, ne_eqb, false≢true}
 use Rattle.std.proofs.lemmas.Option.{none-some, same_Some}
 use Rattle.op_core.specs.declared.want.Want.TheVariants.{Done}
+use Rattle.op_core.specs.declared.want.Ans.{Ans}
+use Rattle.op_core.specs.declared.want.Ans.TheVariants.{Won, Lost}
 use Rattle.trace.specs.Events.{Words}
 use Rattle.segment_head.specs.HeadWord.{free}
-use Rattle.image_layout.specs.Volatile.{directory_guard}
+use Rattle.image_layout.specs.Places.{Shape}
+use Rattle.image_layout.specs.Volatile.{directory_guard, power_word}
 use Rattle.map_model.specs.declared.call.Call.{Call}
 use Rattle.map_model.specs.declared.entry.Reply.TheVariants.{Full}
 use Rattle.world.specs.declared.site.Site.{Site}
@@ -15,12 +18,10 @@ use Rattle.world.specs.Ground.{Ground}
 use Rattle.world.specs.Views.{View, At}
 use Rattle.world.specs.Wants.{answer_to, word_of}
 use Rattle.world.specs.StepKinds.{StepKind, of_structure}
-use Rattle.world.specs.Slots.{OthersHaveNoAreas}
 use Rattle.world.specs.Invariant.{Holds}
 use Rattle.world.specs.areas.Rows.{news, frees, renews}
-use Rattle.world.specs.areas.Kinds.{of_directory, moves}
+use Rattle.world.specs.areas.Kinds.{moves}
 use Rattle.world.proofs.stepping.Answers.{is_answer}
-use Rattle.world.proofs.stepping.Rests.{others_are_quiet}
 use Rattle.part.specs.Outcomes.{replied, again, finished}
 use Rattle.part.specs.Part.{IsPart, Suits, finds, next}
 use Rattle.part.specs.Then.{first, second, passed}
@@ -36,8 +37,13 @@ use Rattle.split_op.specs.Fits.{outcome_of as split_outcome_of, outcome_at as sp
 use Rattle.split_op.specs.Steps.{split_of}
 use Rattle.split_op.specs.SplitPart.{split_part, segment_of, is_new_slot, TakesFreeSlot, NewSlotStays}
 use Rattle.directory_op.specs.declared.op.DirectoryOp.{DirectoryOp}
+use Rattle.directory_op.specs.declared.op.DirectoryEnd.TheVariants.{Off}
+use Rattle.directory_op.specs.declared.op.DirectoryStep.{DirectoryStep}
+use Rattle.directory_op.specs.declared.op.DirectoryStep.TheVariants as publish
+use Rattle.directory_op.specs.Steps.{shape_of, wanted_in as publish_wanted, taken_in as publish_taken}
+use Rattle.directory_op.specs.Fits.{SuitsStep as PublishSuits}
 use Rattle.directory_op.specs.DirectoryPart.{directory_part, WinsWhereFree}
-use Rattle.directory_op.specs.Left.{left_alone as publish_alone}
+use Rattle.directory_op.specs.Left.{guarded_left, alone_in, is_trying, left_alone as publish_alone}
 use Rattle.rest_op.specs.RestPart.{rest_part}
 use Rattle.repair_op.specs.declared.op.RepairOp.{RepairOp}
 use Rattle.repair_op.specs.declared.step.Settling.TheVariants as settling
@@ -57,9 +63,11 @@ use Rattle.mend_op.specs.Stands.{kind_at as mend_kind}
 use Rattle.mend_op.specs.MendPart.{mend_part, outcome_at as mend_outcome_at}
 use Rattle.engine.specs.declared.engine.Op.{Op}
 use Rattle.engine.specs.declared.engine.Op.TheVariants.{Read, Write, Move, Stash, Release, Enclose, Split, Publish, Rest, Repair, Redirect, Mend}
+use Rattle.engine.specs.Engine.{running}
 use Rattle.engine.specs.OpPart.{CallState, publish_of, rest_after, publish_and_rest, split_and_more, redirect_of, mend_of, redirect_and_mend, after_guard, call_part, named, op_part, calls, work_of}
 use Rattle.engine.specs.Left.{most_events, op_left_alone, has_freed, is_renewed, stage}
 use Rattle.engine.specs.Alone.{IsDue}
+use Rattle.engine.specs.Driven.{waits_after, waits_now}
 use Rattle.engine.proofs.machines.Ops.{call_kind}
 use Rattle.engine.proofs.attempts.Stepping.{next_work}
 use Rattle.engine.proofs.lonely.Storing.{Spares, no_frees, enclose_spares, split_spares, publish_spares, rest_spares, repair_spares, repair_frees, repairs_at, redirect_spares, mend_spares, mend_renews, mends_at}
@@ -161,9 +169,27 @@ never_works (split.Back give end) some = never_ends end some
 never_works (split.Ended end) some = never_ends end some
 never_works s some = none-some finished some
 
--- ---- in the world, for the caller with this view, while no other view has areas
-module _ (laws : StageLaws) (site : Ground) (here : Site) (call : Call) (words : Words) (views : List View) (j : ℕ) (before v : View) (h : Holds site words views) (at : At views j v)
-    (others : OthersHaveNoAreas j views) where
+-- ---- the publishing, while it waits for the guard of the directory
+module _ (shape : Shape) (op : DirectoryOp) where
+  -- it waits behind an event with this answer
+  abbrev waits_behind : DirectoryStep → Ans → Bool
+  waits_behind step a =
+      let behind : DirectoryOp = publish_taken op step a in
+      waits_after shape (publish_wanted op step) a (running (named (other (one (second (second (passed directory_part rest_part rest_after (directory_part.hands_on behind) behind)))))))
+
+  -- as it does where the guard is another's
+  taken_waits : (n : ℕ) → shape_of op ≡ shape → n ≢ 0 → waits_behind publish.TakeGuard (if n == 0 then Won else Lost n) ≡ true
+  taken_waits n same taken =
+      subst (λ t. waits_behind publish.TakeGuard (if t then Won else Lost n) ≡ true) (sym (ne_eqb n 0 taken))
+      (ap (λ b. b && true) (eq-eqb (directory_guard (shape_of op)) (directory_guard shape) (ap directory_guard same)))
+
+  -- a load of the power word is one event fewer, whoever has the guard
+  power_low : (on : Bool) → publish_alone (record op { step = if on then publish.TakeGuard else publish.Ended Off }) < 2 + guarded_left op
+  power_low true = omega arith
+  power_low false = omega arith
+
+-- ---- in the world, for the caller with this view
+module _ (laws : StageLaws) (site : Ground) (here : Site) (call : Call) (words : Words) (views : List View) (j : ℕ) (before v : View) (h : Holds site words views) (at : At views j v) where
   abbrev kind : Op → StepKind
   kind op = op_part.kind op (finds op_part site words op)
 
@@ -311,7 +337,7 @@ module _ (laws : StageLaws) (site : Ground) (here : Site) (call : Call) (words :
   comes (Redirect op) s asks = redirect_comes op
   comes (Mend op) s asks = mend_comes op
 
-  -- ---- and fewer events are left of its attempt
+  -- ---- and fewer events are left of its attempt, where it does not wait for the guard of the directory
   abbrev Falls : Op → Type 0
   Falls op = op_left_alone (next op_part site words op) < op_left_alone op
 
@@ -343,35 +369,54 @@ module _ (laws : StageLaws) (site : Ground) (here : Site) (call : Call) (words :
   repair_left true op = redirect_left (redirect_part.hands_on (redirect_of op)) (redirect_of op)
   repair_left false op = refl
 
-  -- who waits for the guard of the directory finds it free
-  guard_free : (op : DirectoryOp) → directory_part.Stands site here call op v → directory_part.is_waiting op ≡ true → words (directory_guard site.shape) ≡ 0
-  guard_free op s waits = elim (cases_eq (words (directory_guard site.shape)) 0) [
-    | inl none ↦ none
-    | inr taken ↦ absurd (laws.wins.others site here call op v s waits (others_are_quiet.guards site words views j v h at others of_directory tt taken))
-  ]
+  -- the publishing has fewer, where it does not wait for the guard of the directory
+  module _ (op : DirectoryOp) (s : Suits directory_part site here call op before v) (asks : directory_part.wanted op ≢ Done) (on : waits_now site.shape words (running (Publish op)) ≡ false) where
+    abbrev Low : Type 0
+    Low = publish_alone (next directory_part site words op) < publish_alone op
+
+    -- of a step, as if it were there
+    abbrev answer_at : DirectoryStep → Ans
+    answer_at step = answer_to (publish_wanted op step) (words (word_of site.shape (publish_wanted op step)))
+
+    trying_low : (step : DirectoryStep) → op.step ≡ step → is_trying step ≡ true → Low
+    trying_low publish.TakeGuard is trying =
+        let same : shape_of op ≡ site.shape = (subst (λ (x : DirectoryStep). PublishSuits site here op call x v) is s.stands).keeps.is.located.shape in
+        elim (cases_eq (words (directory_guard site.shape)) 0) [
+          | inl none ↦ laws.wins.falls site here call words op before v s asks (λ waits. none)
+          | inr taken ↦ absurd (false≢true (sym on ∙ subst (λ (x : DirectoryStep). waits_behind site.shape op x (answer_at x) ≡ true) (sym is)
+              (taken_waits site.shape op (words (directory_guard (shape_of op))) same (subst (λ (g : Shape). words (directory_guard g) ≢ 0) (sym same) taken))))
+        ]
+    trying_low publish.AskPower is trying =
+        subst (λ (x : DirectoryStep). publish_alone (publish_taken op x (answer_at x)) < alone_in op x) (sym is) (power_low site.shape op (words (power_word site.shape) == 0))
+    trying_low step is trying = absurd (false≢true trying)
+
+    publish_low : Low
+    publish_low = elim (cases_Bool (directory_part.is_waiting op)) [
+      | inl waits ↦ trying_low op.step refl waits
+      | inr none ↦ laws.wins.falls site here call words op before v s asks (λ waits. absurd (false≢true (sym none ∙ waits)))
+    ]
 
   publish_falls : (t : Bool) (op behind : DirectoryOp) → publish_alone behind < publish_alone op
       → op_left_alone (named (other (one (second (second (passed directory_part rest_part rest_after t behind)))))) < op_left_alone (Publish op)
   publish_falls true op behind low = let most = laws.rest.time.most (rest_after behind) in omega (arith, low, most)
   publish_falls false op behind low = omega (arith, low)
 
-  pub falls : (op : Op) → Suits op_part site here call op before v → op_part.wanted op ≢ Done → Falls op
-  falls (Read op) s asks = steady_falls (Read op) asks refl (call_left (next call_part site words (one op))) refl
-  falls (Write op) s asks = steady_falls (Write op) asks refl (call_left (next call_part site words (other (first op)))) refl
-  falls (Move op) s asks = steady_falls (Move op) asks refl (call_left (next call_part site words (other (second (first op))))) refl
-  falls (Stash op) s asks = steady_falls (Stash op) asks refl (call_left (next call_part site words (other (second (second (first op)))))) refl
-  falls (Release op) s asks = steady_falls (Release op) asks refl (call_left (next call_part site words (other (second (second (second op)))))) refl
-  falls (Enclose op) s asks =
+  pub falls : (op : Op) → Suits op_part site here call op before v → op_part.wanted op ≢ Done → waits_now site.shape words (running op) ≡ false → Falls op
+  falls (Read op) s asks on = steady_falls (Read op) asks refl (call_left (next call_part site words (one op))) refl
+  falls (Write op) s asks on = steady_falls (Write op) asks refl (call_left (next call_part site words (other (first op)))) refl
+  falls (Move op) s asks on = steady_falls (Move op) asks refl (call_left (next call_part site words (other (second (first op))))) refl
+  falls (Stash op) s asks on = steady_falls (Stash op) asks refl (call_left (next call_part site words (other (second (second (first op)))))) refl
+  falls (Release op) s asks on = steady_falls (Release op) asks refl (call_left (next call_part site words (other (second (second (second op)))))) refl
+  falls (Enclose op) s asks on =
       let behind : EncloseOp = next enclose_part site words op in steady_falls (Enclose op) asks refl (enclose_left (enclose_part.hands_on behind) behind) refl
-  falls (Split op) s asks = let behind : SplitOp = next split_part site words op in steady_falls (Split op) asks refl (split_left (split_part.hands_on behind) behind) refl
-  falls (Publish op) s asks =
+  falls (Split op) s asks on = let behind : SplitOp = next split_part site words op in steady_falls (Split op) asks refl (split_left (split_part.hands_on behind) behind) refl
+  falls (Publish op) s asks on =
       let behind : DirectoryOp = next directory_part site words op in
-      publish_falls (directory_part.hands_on behind) op behind
-      (laws.wins.falls site here call words op before v (record { stands = s.stands.stands; enters = s.enters; callers = s.callers }) asks (guard_free op s.stands.stands))
-  falls (Rest op) s asks = steady_falls (Rest op) asks refl refl refl
-  falls (Repair op) s asks = let guarding : RepairOp = next repair_part site words op in steady_falls (Repair op) asks refl (repair_left (repair_part.hands_on guarding) guarding) refl
-  falls (Redirect op) s asks = let directing : RedirectOp = next redirect_part site words op in steady_falls (Redirect op) asks refl (redirect_left (redirect_part.hands_on directing) directing) refl
-  falls (Mend op) s asks = steady_falls (Mend op) asks refl refl refl
+      publish_falls (directory_part.hands_on behind) op behind (publish_low op (record { stands = s.stands.stands; enters = s.enters; callers = s.callers }) asks on)
+  falls (Rest op) s asks on = steady_falls (Rest op) asks refl refl refl
+  falls (Repair op) s asks on = let guarding : RepairOp = next repair_part site words op in steady_falls (Repair op) asks refl (repair_left (repair_part.hands_on guarding) guarding) refl
+  falls (Redirect op) s asks on = let directing : RedirectOp = next redirect_part site words op in steady_falls (Redirect op) asks refl (redirect_left (redirect_part.hands_on directing) directing) refl
+  falls (Mend op) s asks on = steady_falls (Mend op) asks refl refl refl
 
   -- ---- which machine has done its work: the rest, behind the publishing; and a mending, behind the store of the image's version
   call_works : (op : Op) → work_of op ≡ calls → op_part.outcome (next op_part site words op) ≡ Some finished → stage op ≡ 4

@@ -57,7 +57,8 @@ use Rattle.engine.specs.Core.{Caller, call_at, current, engine_for, idle, caller
 use Rattle.engine.specs.Holding.{CoreHolds, TurnKeeps}
 use Rattle.engine.specs.Laws.{IsServedImage, OpenedHolds, AreScripts}
 use Rattle.engine.specs.Causes.{Watched, answer_now, engine_next, EndsAreDecided}
-use Rattle.engine.specs.Alone.{IsStaleIn, TellsStale, IsDue, StandsDue, DueAtStart, OwnTurnsStayDue}
+use Rattle.engine.specs.Alone.{IsStaleIn, TellsStale, IsDue, StandsDue, DueAtStart}
+use Rattle.engine.specs.Driven.{OwnTurnsStayDue, BegunIsDue}
 use Rattle.engine.proofs.machines.Ends.{ReleasesTellAlone}
 use Rattle.engine.proofs.attempts.Doing.{set_there}
 use Rattle.engine.proofs.attempts.Seats.{IsSeated, seat_stands, CallCauses, site_there, there, holds_there, seat_there}
@@ -289,6 +290,9 @@ module _ (laws : DueLaws) (opens : OpenedHolds) (keeps : TurnKeeps) (shape : Sha
   turn_due None at d other x seat now run = stands d other x seat now run
   turn_due (Some c) at d other x seat now run = by_call c at (current c) c.engine refl refl d other x seat now run
 
+pub begun_is_due : BegunIsDue
+begun_is_due shape words here call = begun_due shape words call here call
+
 pub own_turns_stay_due : DueLaws → OpenedHolds → TurnKeeps → OwnTurnsStayDue
-own_turns_stay_due laws opens keeps shape words image scripts are turns j alone stands d other x seat now run =
+own_turns_stay_due laws opens keeps shape words image scripts are turns j stands d other x seat now run =
     turn_due laws opens keeps shape words image scripts are turns j stands (slice_get (there opens keeps shape words image scripts are turns).core.callers j) refl d other x seat now run

@@ -1,0 +1,20 @@
+-- By the step of its kind, and the pairs that it leaves.
+use Rattle.engine.proofs.holding.Turning.{TurnLaws}
+use Rattle.engine.proofs.holding.Leaving.{ends_leave_nothing}
+use Rattle.engine.proofs.driven.ends_leave_nothing.Goals as goal
+
+laws : goal.After-refusals_leave_pairs → TurnLaws
+laws c = record {
+  part = c.calls_are_parts.ensures.part;
+  begins = c.fits_the_world.ensures.begins;
+  steps = c.fits_the_world.ensures.steps;
+  words = c.stores_are_words.ensures;
+  well = c.worlds_stay_well.ensures;
+  media = c.used_slots_stay.ensures.media;
+  full = c.slots_stay.ensures.full;
+  power = c.steps_leave.ensures.power;
+  one_word = c.steps_do_events.ensures.one;
+}
+
+pub returns : goal.returns
+returns c = ends_leave_nothing (laws c) c.refusals_leave_pairs.ensures.turns c.refusals_leave_pairs.ensures.done
