@@ -7,7 +7,6 @@ use Rattle.std.proofs.Math.Seq.{take-append_seam, take-append-add}
 use Rattle.std.proofs.lemmas.Option.{none-some}
 use Rattle.image_layout.specs.Places.{Shape, words_of}
 use Rattle.map_model.specs.declared.call.Call.{Call}
-use Rattle.script_text.specs.declared.line.Counted.TheVariants as counted
 use Rattle.script_text.specs.declared.line.Line.{Line}
 use Rattle.script_text.specs.declared.line.Line.TheVariants as line
 use Rattle.restart_op.specs.Close.{begun as close_begun}
@@ -24,18 +23,19 @@ use Rattle.engine.specs.Holding.{CallerFits, DoesCall}
 use Rattle.core_run.specs.declared.keeper.Keeper.{Keeper}
 use Rattle.core_run.specs.declared.keeper.Keeper.TheVariants.{Restarting, Open, Closing, Closed}
 use Rattle.core_run.specs.declared.goal.Goal.{Goal}
-use Rattle.core_run.specs.declared.goal.Goal.TheVariants.{AnyEvent, Kind, StoreTo}
+use Rattle.core_run.specs.declared.goal.Goal.TheVariants.{AnyEvent, Kind, StoreTo, Turn}
 use Rattle.core_run.specs.State.{State, Deed, by_keeper, restarting, keeper_deed, call_deed, caller_deed, open_deed, deed}
-use Rattle.core_run.specs.Run.{counts, ends_in_again, by_deed, drive, restarted_by, restarted, round, has_call, has_calls, rounds, close_begins, run_out, ready_for, line_done, lines_done, closed, cut_of, state_at_end}
+use Rattle.core_run.specs.Run.{counts, stops, by_deed, drive, restarted_by, restarted, round, has_call, has_calls, rounds, close_begins, run_out, ready_for, line_done, lines_done, closed, cut_of, state_at_end}
 use Rattle.core_run.specs.Running.{Setup, IsSetup, site_in, IsRunning, IsRunningBy, DeedsAreWell}
 use Rattle.core_run.specs.States.{RunBegins, CloseMayBegin, MomentsAreGood}
-use Rattle.core_run.specs.Alone.{IsForOne, BeginsAlone}
-use Rattle.core_run.specs.Ends.{most_of, IsRun, RestartedStays, LineStays, LinesStay, RoundsEnd, RoundsAreEnough}
+use Rattle.core_run.specs.Along.{BeginsAlong}
+use Rattle.core_run.specs.Ends.{most_of, IsRun, RestartedStays, LineStays, LinesStay}
+use Rattle.core_run.specs.Rounds.{RoundsEnd, RoundsAreEnough}
 use Rattle.core_run.specs.Sessions.{end_state}
 use Rattle.core_run.specs.Wells.{start_state}
 use Rattle.core_run.specs.Moments.{ActsAreSingle, IsOneMore, Act, event_by, begins_close, after_event, after_beginning, after_act, after_acts, MomentsOfRuns, IsRunOf, EveryMomentIsGood}
 use Rattle.core_run.proofs.ends.Choices.{either}
-use Rattle.core_run.proofs.ends.Driving.{has_none}
+use Rattle.core_run.proofs.ends.Calls.{has_none}
 
 -- ---- an act does one event at the most
 restarting_trace : (shape : Shape) (op : RestartOp) (w : Want) (core : Core) → (restarting shape op w core).core.trace ≡ core.trace
@@ -172,12 +172,12 @@ module _ (shape : Shape) where
   drive_comes (suc m) c goal (suc n) s = by (λ n' u. drive_comes m c goal n' u) (deed shape c s) refl
     where
       by : ((n' : ℕ) (u : State) → ComesBy u (drive shape m c goal n' u)) → (o : Option Deed) → deed shape c s ≡ o
-          → ComesBy s (by_deed o s (λ d. drive shape m c goal (if counts goal d then n else suc n) d.state))
+          → ComesBy s (by_deed goal o s (λ d. drive shape m c goal (if counts goal d then n else suc n) d.state))
       by rest None e = comes_at_once s
       by rest (Some d) e =
           let one = comes_by_event c s d e in
           let more : State = drive shape m c goal (if counts goal d then n else suc n) d.state in
-          either (ComesBy s) (ends_in_again d.end) d.state more one (comes_on s d.state more one (rest (if counts goal d then n else suc n) d.state))
+          either (ComesBy s) (stops goal d) d.state more one (comes_on s d.state more one (rest (if counts goal d then n else suc n) d.state))
 
   module _ (most : ℕ) where
     restarted_by_comes : (k : Keeper) (s : State) → ComesBy s (restarted_by shape most k s)
@@ -196,8 +196,8 @@ module _ (shape : Shape) where
     round_comes : (c : ℕ) (callers : List Caller) (s : State) → ComesBy s (round shape most c callers s)
     round_comes c [] s = comes_at_once s
     round_comes c (caller ∷ callers) s =
-        let one : State = drive shape most c (Kind counted.End) 1 s in
-        comes_on s one (round shape most (suc c) callers one) (drive_comes most c (Kind counted.End) 1 s) (round_comes (suc c) callers one)
+        let one : State = drive shape most c Turn 1 s in
+        comes_on s one (round shape most (suc c) callers one) (drive_comes most c Turn 1 s) (round_comes (suc c) callers one)
 
     rounds_comes : (n : ℕ) (s : State) → ComesBy s (rounds shape most n s)
     rounds_comes zero s = comes_at_once s
@@ -219,8 +219,8 @@ module _ (shape : Shape) where
     ends = sym (ap (λ k. after_beginning shape k s) here ∙ ap (λ (b : Bool). if b then s else record s { keeper = Closing (close_begun shape) }) none);
   }
 
--- ---- a run of one caller's script
-module _ (restarted_stays : RestartedStays) (line_stays : LineStays) (rounds_end : RoundsEnd) (few : RoundsAreEnough) (t : Setup) (is : IsForOne t) where
+-- ---- a run of a script
+module _ (restarted_stays : RestartedStays) (line_stays : LineStays) (rounds_end : RoundsEnd) (few : RoundsAreEnough) (t : Setup) (is : IsSetup t) where
   begins_comes : (k : Keeper) (s : State) → s.keeper ≡ k → IsRun t s → ComesBy t.shape s (close_begins t.shape (most_of t) k s)
   begins_comes Open s here run =
       let low = few t s is run here in
@@ -304,14 +304,14 @@ module _ (restarted_stays : RestartedStays) (line_stays : LineStays) (rounds_end
         (length (take so_far.0 acts), so_far.1 ∙ ap (λ (some : List Act). after_acts t.shape some (start_state t)) (sym (still_first so_far.0 acts last.acts)));
   }
 
-  run_comes : RunBegins → BeginsAlone → LinesStay → (lines : List Line) → (acts : List Act) × IsRunOf t lines acts
-  run_comes begins alone lines_stay lines = by (cut_of lines) refl
+  run_comes : RunBegins → BeginsAlong → LinesStay → (lines : List Line) → (acts : List Act) × IsRunOf t lines acts
+  run_comes begins along lines_stay lines = by (cut_of lines) refl
     where
       at_lines : State
       at_lines = lines_done t.shape (most_of t) lines (start_state t)
 
       begun : IsRun t (start_state t)
-      begun = record { running = begins t is.setup; alone = alone t is }
+      begun = record { running = begins t is; along = along t is }
 
       come : (acts : List Act) × AreLines lines (start_state t) acts
       come = lines_come lines (start_state t) begun
@@ -324,8 +324,8 @@ module _ (restarted_stays : RestartedStays) (line_stays : LineStays) (rounds_end
           let last = comes_at_once t.shape at_lines in
           (come.0 ++ last.acts, and_on lines come.0 at_lines come.1 last (ap (λ o. state_at_end t.shape (most_of t) lines o (start_state t)) cut))
 
-pub every_moment_is_good : RunBegins → DeedsAreWell → CloseMayBegin → MomentsAreGood → BeginsAlone → RestartedStays → LineStays → LinesStay → RoundsEnd → RoundsAreEnough
+pub every_moment_is_good : RunBegins → DeedsAreWell → CloseMayBegin → MomentsAreGood → BeginsAlong → RestartedStays → LineStays → LinesStay → RoundsEnd → RoundsAreEnough
     → EveryMomentIsGood
-every_moment_is_good begins wells may good alone restarted_stays line_stays lines_stay rounds_end few t lines opening is one has =
-    let comes = run_comes restarted_stays line_stays rounds_end few t (record { setup = is; one = one }) begins alone lines_stay lines in
+every_moment_is_good begins wells may good along restarted_stays line_stays lines_stay rounds_end few t lines opening is has =
+    let comes = run_comes restarted_stays line_stays rounds_end few t is begins along lines_stay lines in
     (comes.0, comes.1, λ n. moments_of_runs begins wells may good t opening (take n comes.0) is has)

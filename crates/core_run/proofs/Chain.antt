@@ -1,5 +1,5 @@
 -- Runs one after another are sessions, since each leaves a sound image, of which one map alone has the pairs.
-use Rattle.std.proofs.Common.{◌≡◌, ℕ, ◌^◌, ◌<◌, Bool, true, false, Option, None, Some, List, [], ◌∷◌, inl, inr, refl, sym, subst, ◌∙◌, arith}
+use Rattle.std.proofs.Common.{◌≡◌, ℕ, ◌^◌, ◌<◌, Bool, true, false, Option, None, Some, List, [], ◌∷◌, inl, inr, refl, sym, subst, ◌∙◌}
 use Rattle.std.specs.Prelude.{slice_index, map, if◌then◌else◌}
 use Rattle.std.specs.List.{AllByRecursion}
 use Rattle.image_layout.specs.Places.{Shape, key_at}
@@ -15,18 +15,18 @@ use Rattle.bucket_words.proofs.segments.Rules.{find_of_at}
 use Rattle.session.specs.Callers.{history_of, undrawn}
 use Rattle.session.specs.Session.{SessionEnd, IsSession}
 use Rattle.restart_op.proofs.images.Facts.{frame_is, table_is}
-use Rattle.engine.specs.Fits.{IsWordCall}
+use Rattle.engine.specs.Laws.{AreScripts}
 use Rattle.core_run.specs.Sessions.{RunsAreSessions}
 use Rattle.core_run.specs.Chains.{Script, setup_of, left_by, RunsAsSession, AreSessions, SessionsCompose, CarriesOn, MapsCarryOn}
 
 module _ (runs : RunsAreSessions) (shape : Shape) where
-  one_run : (first : List ℕ) (script : Script) → IsSoundImage shape first → AllByRecursion IsWordCall script.calls → RunsAsSession shape first script
+  one_run : (first : List ℕ) (script : Script) → IsSoundImage shape first → AreScripts script.calls → RunsAsSession shape first script
   one_run first script sound words = record {
     sound = sound;
-    session = runs (setup_of shape first script) script.lines (record { served = sound; few = omega arith; words = (words, tt) }) refl;
+    session = runs (setup_of shape first script) script.lines (record { served = sound; few = words.few; words = words.words });
   }
 
-  all_runs : (first : List ℕ) (scripts : List Script) → IsSoundImage shape first → AllByRecursion (λ (script : Script). AllByRecursion IsWordCall script.calls) scripts
+  all_runs : (first : List ℕ) (scripts : List Script) → IsSoundImage shape first → AllByRecursion (λ (script : Script). AreScripts script.calls) scripts
       → AreSessions shape first scripts
   all_runs first [] sound words = sound
   all_runs first (script ∷ scripts) sound words =

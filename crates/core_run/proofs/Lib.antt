@@ -1,4 +1,5 @@
 mod ends
+mod turns
 mod events
 mod Opening
 mod Leaving

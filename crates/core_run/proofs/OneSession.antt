@@ -1,4 +1,4 @@
--- A run of one caller's script is a session.
+-- A run is a session.
 use Rattle.std.proofs.Common.{◌≡◌, ℕ, zero, suc, ◌+◌, ◌*◌, ◌^◌, ◌<◌, ◌≤◌, ◌⊎◌, true, List, [], ◌∷◌, length, Option, None, Some, refl, sym, ap, ◌∙◌, subst, inl, inr, arith}
 use Rattle.std.specs.Prelude.{Contains, not, is_some, slice_index}
 use Rattle.std.specs.List.{AllByRecursion}
@@ -117,7 +117,7 @@ module _ (moments : MomentsAreGood) (closed : ClosedIsClosed) (follow : ToldsFol
 
 -- A RUN IS A SESSION
 pub runs_are_sessions : RunsAreWell → MomentsAreGood → ClosedIsClosed → ToldsFollow → RunsAreSessions
-runs_are_sessions ends moments closed follow t lines is single =
-    let run = ends t lines (record { setup = is; one = single }) in
+runs_are_sessions ends moments closed follow t lines is =
+    let run = ends t lines is in
     is_session moments closed follow t is (opening_of t.shape (start_of t)) (opening-HasPairsOf t.shape t.first is.served) (end_state t lines)
     run.is_run.running (cut_of lines) run.is_closed

@@ -12,20 +12,20 @@ use Rattle.session.specs.Transcript.{transcript_of}
 use Rattle.session.specs.Callers.{history_of, undrawn}
 use Rattle.session.specs.Session.{SessionEnd, IsSession}
 use Rattle.script_text.specs.declared.line.Line.{Line}
-use Rattle.engine.specs.Fits.{IsWordCall}
 use Rattle.engine.specs.Core.{tolds_of}
+use Rattle.engine.specs.Laws.{AreScripts}
 use Rattle.core_run.specs.Running.{Setup}
 use Rattle.core_run.specs.Sessions.{end_state, left_words, ending_of}
 
--- a script of one caller: its calls, and its lines, which may end with a power cut
+-- a script: the calls of callers 1, 2 and so on, and its lines, which may end with a power cut
 pub record Script : Type 0 where
-  pub calls : List Call
+  pub calls : List (List Call)
   pub lines : List Line
 
 module _ (shape : Shape) where
   -- what its run on an image with these words is set up with
   abbrev pub setup_of : List ℕ → Script → Setup
-  setup_of first script = record { shape = shape; first = first; scripts = script.calls ∷ [] }
+  setup_of first script = record { shape = shape; first = first; scripts = script.calls }
 
   -- the words that the run leaves, and what is printed
   abbrev pub left_by : List ℕ → Script → List ℕ
@@ -37,7 +37,7 @@ module _ (shape : Shape) where
   -- THE RUN IS A SESSION, from a sound image with these words to the one that it leaves
   pub record RunsAsSession (first : List ℕ) (script : Script) : Type 0 where
     pub sound : IsSoundImage shape first
-    pub session : IsSession shape first (left_by first script) (script.calls ∷ []) (ending_of script.lines) (printed_by first script)
+    pub session : IsSession shape first (left_by first script) script.calls (ending_of script.lines) (printed_by first script)
 
   -- EACH RUN IS A SESSION, the first on an image with these words, and each other one on that which the one before has left; and the last leaves a
   -- sound image, if there is none the first is one
@@ -45,10 +45,10 @@ module _ (shape : Shape) where
   AreSessions first [] = IsSoundImage shape first
   AreSessions first (script ∷ scripts) = RunsAsSession first script × AreSessions (left_by first script) scripts
 
--- so it is from any sound image on, with any scripts of calls whose keys and values are words
+-- so it is from any sound image on, with any scripts of up to 64 callers, of calls whose keys and values are words
 abbrev pub SessionsCompose : Type 0
 SessionsCompose = (shape : Shape) (first : List ℕ) (scripts : List Script) → IsSoundImage shape first
-    → AllByRecursion (λ script. AllByRecursion IsWordCall script.calls) scripts → AreSessions shape first scripts
+    → AllByRecursion (λ script. AreScripts script.calls) scripts → AreSessions shape first scripts
 
 -- ---- from one session to the next
 -- a map has at each key what another one has, or what that has there after one of these calls, which is on this key

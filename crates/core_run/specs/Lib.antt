@@ -1,9 +1,10 @@
 pub mod State
 pub mod Run
 pub mod Running
-pub mod Alone
+pub mod Along
 pub mod States
 pub mod Ends
+pub mod Rounds
 pub mod Opening
 pub mod Sessions
 pub mod Chains

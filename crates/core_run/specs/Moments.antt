@@ -1,7 +1,7 @@
 -- The moments of a run. A run is one act after another: each is an event of a caller, of which caller 0 restarts the image and
 -- closes it, or the beginning of the close. A moment is the time before its first act, between two of them, or after its last.
 -- At each of them whatever a power cut may leave is sound, and holds the map of the history so far, open calls whole or absent.
-use Rattle.std.specs.Prelude.{◌≡◌, ℕ, ◌⊎◌, Option, None, Some, List, [], ◌∷◌, length, take, if◌then◌else◌}
+use Rattle.std.specs.Prelude.{◌≡◌, ℕ, ◌⊎◌, Option, None, Some, List, [], ◌∷◌, take, if◌then◌else◌}
 use Rattle.trace.specs.Events.{Event, Trace}
 use Rattle.image_layout.specs.Places.{Shape}
 use Rattle.script_text.specs.declared.line.Line.{Line}
@@ -65,7 +65,7 @@ pub record IsRunOf (t : Setup) (lines : List Line) (acts : List Act) : Type 0 wh
   pub ends : end_state t lines ≡ after_acts t.shape acts (start_state t)
   pub between : (k : ℕ) → (n : ℕ) × (lines_done t.shape (most_of t) (take k lines) (start_state t) ≡ moment t acts n)
 
--- EVERY MOMENT OF A RUN of one caller's script IS GOOD, whatever its lines are
+-- EVERY MOMENT OF A RUN IS GOOD, whatever its lines are
 abbrev pub EveryMomentIsGood : Type 0
-EveryMomentIsGood = (t : Setup) (lines : List Line) (opening : Map) → IsSetup t → length t.scripts ≡ 1 → HasPairsOf t.shape (start_of t) opening
+EveryMomentIsGood = (t : Setup) (lines : List Line) (opening : Map) → IsSetup t → HasPairsOf t.shape (start_of t) opening
     → (acts : List Act) × IsRunOf t lines acts × ((n : ℕ) → IsGoodMoment t opening (moment t acts n))

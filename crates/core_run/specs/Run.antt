@@ -1,5 +1,5 @@
 -- A run of a script: its schedule line by line, the end rule, and what is left.
-use Rattle.std.specs.Prelude.{ℕ, zero, suc, ◌+◌, ◌*◌, ◌==◌, nat_lt, Bool, true, false, Option, None, Some, List, [], ◌∷◌, length, map, if◌then◌else◌}
+use Rattle.std.specs.Prelude.{ℕ, zero, suc, ◌+◌, ◌*◌, ◌==◌, ◌||◌, nat_lt, Bool, true, false, Option, None, Some, List, [], ◌∷◌, length, map, if◌then◌else◌}
 use Rattle.std.specs.List.{range_with_len}
 use Rattle.op_core.specs.declared.want.Want.{Want}
 use Rattle.op_core.specs.declared.want.Want.TheVariants as want
@@ -22,7 +22,7 @@ use Rattle.pm_trace.specs.Choice.{chosen}
 use Rattle.core_run.specs.declared.keeper.Keeper.{Keeper}
 use Rattle.core_run.specs.declared.keeper.Keeper.TheVariants.{Restarting, Open, Closing}
 use Rattle.core_run.specs.declared.goal.Goal.{Goal}
-use Rattle.core_run.specs.declared.goal.Goal.TheVariants.{AnyEvent, Kind, StoreTo}
+use Rattle.core_run.specs.declared.goal.Goal.TheVariants.{AnyEvent, Kind, StoreTo, Turn}
 use Rattle.core_run.specs.State.{State, Deed, deed, beginning}
 
 -- ---- what a schedule counts
@@ -71,16 +71,27 @@ abbrev pub counts : Goal → Deed → Bool
 counts AnyEvent d = true
 counts (Kind e) d = is_of_kind e d
 counts (StoreTo word) d = is_store_to word d.want
+counts Turn d = ends_call d.end
 
 -- an attempt ended in Again
 abbrev pub ends_in_again : Option End → Bool
 ends_in_again None = false
 ends_in_again (Some end) = is_again end
 
--- a caller stops where it has no event left, and where its attempt ends in Again; else the rest of its line comes
-abbrev pub by_deed : Option Deed → State → (Deed → State) → State
-by_deed None s rest = s
-by_deed (Some d) s rest = if ends_in_again d.end then d.state else rest d
+-- a line pauses after a failed try for the guard of the directory, and a turn of the end rule only where the caller waits for it: who repairs a
+-- segment gives all back then, and the turn goes on to the end of the attempt
+abbrev pub pauses : Goal → Deed → Bool
+pauses Turn d = d.waits
+pauses goal d = d.tried
+
+-- a caller stops where its attempt ends in Again, and where its line or its turn pauses
+abbrev pub stops : Goal → Deed → Bool
+stops goal d = ends_in_again d.end || pauses goal d
+
+-- and where it has no event left; else the rest comes
+abbrev pub by_deed : Goal → Option Deed → State → (Deed → State) → State
+by_deed goal None s rest = s
+by_deed goal (Some d) s rest = if stops goal d then d.state else rest d
 
 module _ (shape : Shape) where
   -- CALLER c GOES ON until n more events are counted, or it stops. The first number is how many events there may be at
@@ -88,7 +99,7 @@ module _ (shape : Shape) where
   abbrev pub drive : ℕ → ℕ → Goal → ℕ → State → State
   drive zero c goal n s = s
   drive (suc most) c goal zero s = s
-  drive (suc most) c goal (suc n) s = by_deed (deed shape c s) s (λ d. drive most c goal (if counts goal d then n else suc n) d.state)
+  drive (suc most) c goal (suc n) s = by_deed goal (deed shape c s) s (λ d. drive most c goal (if counts goal d then n else suc n) d.state)
 
   module _ (most : ℕ) where
     -- the restart is brought to its end, where one has begun
@@ -99,10 +110,10 @@ module _ (shape : Shape) where
     abbrev pub restarted : State → State
     restarted s = restarted_by s.keeper s
 
-    -- one turn of each caller from c on, each till its call ends
+    -- one turn of each caller from c on, each till its call ends, or till it stops
     abbrev pub round : ℕ → List Caller → State → State
     round c [] s = s
-    round c (caller ∷ callers) s = round (suc c) callers (drive most c (Kind counted.End) 1 s)
+    round c (caller ∷ callers) s = round (suc c) callers (drive most c Turn 1 s)
 
     abbrev pub has_call : Option Call → Bool
     has_call None = false
@@ -163,8 +174,8 @@ abbrev pub all_calls : List (List Call) → ℕ
 all_calls [] = 0
 all_calls (calls ∷ scripts) = length calls + all_calls scripts
 
--- for each call as many as its caller may make alone, whatever is split or repaired for it; and for the restart and the close as many, and two for
--- each word
+-- for each call as many as its caller may make while it alone steps, whatever is split or repaired for it; and as many for an attempt that others have
+-- interrupted; and for the restart and the close two for each word
 abbrev pub most_with : Shape → ℕ → ℕ
 most_with shape calls = 2 * words_of shape + events_of_call shape * (calls + 1)
 

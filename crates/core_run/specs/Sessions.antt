@@ -1,5 +1,5 @@
--- A run of one caller's script is a session: from the image's words to those that it leaves, with what its caller was told.
-use Rattle.std.specs.Prelude.{◌≡◌, ℕ, not, is_some, true, List, length}
+-- A run is a session: from the image's words to those that it leaves, with what its callers were told.
+use Rattle.std.specs.Prelude.{ℕ, not, is_some, true, List}
 use Rattle.script_text.specs.declared.line.Line.{Line}
 use Rattle.session.specs.Transcript.{transcript_of}
 use Rattle.session.specs.Session.{SessionEnd, IsSession}
@@ -20,7 +20,7 @@ left_words t lines = medium_words t.shape (start_of t) (end_state t lines).core 
 abbrev pub ending_of : List Line → SessionEnd
 ending_of lines = record { closed = not (is_some (cut_of lines)); scheduled = true }
 
--- A RUN OF ONE CALLER'S SCRIPT IS A SESSION
+-- A RUN IS A SESSION, whatever its lines are
 abbrev pub RunsAreSessions : Type 0
-RunsAreSessions = (t : Setup) (lines : List Line) → IsSetup t → length t.scripts ≡ 1
+RunsAreSessions = (t : Setup) (lines : List Line) → IsSetup t
     → IsSession t.shape t.first (left_words t lines) t.scripts (ending_of lines) (transcript_of (tolds_of (end_state t lines).core))

@@ -1,7 +1,8 @@
 -- The state of a run: a memory, the callers on it, and caller 0, who starts the image and closes it.
-use Rattle.std.specs.Prelude.{ℕ, zero, suc, Option, None, Some, List, [], ◌∷◌, map, slice_get, false}
+use Rattle.std.specs.Prelude.{ℕ, zero, suc, Option, None, Some, List, [], ◌∷◌, map, slice_get, Bool, false}
 use Rattle.op_core.specs.declared.want.Want.{Want}
 use Rattle.op_core.specs.declared.want.Want.TheVariants as want
+use Rattle.op_core.specs.declared.want.Ans.{Ans}
 use Rattle.trace.specs.Events.{Words}
 use Rattle.image_layout.specs.Places.{Shape}
 use Rattle.map_model.specs.declared.call.Call.{Call}
@@ -17,6 +18,7 @@ use Rattle.engine.specs.declared.engine.End.{End}
 use Rattle.engine.specs.declared.engine.Engine.{Engine}
 use Rattle.engine.specs.Engine.{wanted, taken, end_of}
 use Rattle.engine.specs.Core.{Caller, idle, current, Core, with_event}
+use Rattle.engine.specs.Driven.{tries_in_vain, waits_after}
 use Rattle.core_run.specs.declared.keeper.Keeper.{Keeper}
 use Rattle.core_run.specs.declared.keeper.Keeper.TheVariants.{Restarting, Open, Closing, Closed}
 
@@ -57,10 +59,13 @@ started_at step = started_with 0
 abbrev pub started_by : RestartOp → Started
 started_by op = started_at op.step
 
--- an event that was done: what was wanted, how its attempt ended if it did, and the state after it
+-- an event that was done: what was wanted, how its attempt ended if it did, whether it tried in vain for the guard of the directory and whether the
+-- caller waits for that now, and the state after it
 pub record Deed : Type 0 where
   pub want : Want
   pub end : Option End
+  pub tried : Bool
+  pub waits : Bool
   pub state : State
 
 module _ (shape : Shape) where
@@ -85,13 +90,13 @@ module _ (shape : Shape) where
   restart_deed op core =
       let w : Want = restart_wanted op in
       let next : RestartOp = restart_taken op (answer_to w (core.words (word_of shape w))) in
-      record { want = w; end = None; state = restarting next (restart_wanted next) (by_keeper w core) }
+      record { want = w; end = None; tried = false; waits = false; state = restarting next (restart_wanted next) (by_keeper w core) }
 
   abbrev pub close_deed : CloseOp → Core → Deed
   close_deed op core =
       let w : Want = close_wanted op in
       let next : CloseOp = close_taken op (answer_to w (core.words (word_of shape w))) in
-      record { want = w; end = None; state = record { keeper = closing next (close_wanted next); core = by_keeper w core } }
+      record { want = w; end = None; tried = false; waits = false; state = record { keeper = closing next (close_wanted next); core = by_keeper w core } }
 
   abbrev pub keeper_deed : Keeper → Core → Option Deed
   keeper_deed (Restarting op) core = Some (restart_deed op core)
@@ -106,8 +111,15 @@ module _ (shape : Shape) where
 
   abbrev pub engine_deed : ℕ → Core → Caller → Call → Engine → Deed
   engine_deed j core caller call e =
-      let next : Engine = taken e (answer_to (wanted e) (core.words (word_of shape (wanted e)))) in
-      record { want = wanted e; end = end_by next (wanted next); state = record { keeper = Open; core = with_event shape j core caller call e } }
+      let ans : Ans = answer_to (wanted e) (core.words (word_of shape (wanted e))) in
+      let next : Engine = taken e ans in
+      record {
+        want = wanted e;
+        end = end_by next (wanted next);
+        tried = tries_in_vain shape (wanted e) ans;
+        waits = waits_after shape (wanted e) ans next;
+        state = record { keeper = Open; core = with_event shape j core caller call e };
+      }
 
   abbrev pub call_deed : ℕ → Core → Caller → Option Call → Option Engine → Option Deed
   call_deed j core caller None engine = None

@@ -3,8 +3,7 @@ use Rattle.std.specs.Prelude.{ℕ, ⊤, Option, None, Some, List, [], ◌∷◌}
 use Rattle.script_text.specs.declared.line.Line.{Line}
 use Rattle.core_run.specs.State.{State, beginning}
 use Rattle.core_run.specs.Run.{line_done, lines_done, run_out, cut_of}
-use Rattle.core_run.specs.Running.{Setup, IsRunning, start_of}
-use Rattle.core_run.specs.Alone.{IsForOne}
+use Rattle.core_run.specs.Running.{Setup, IsSetup, IsRunning, start_of}
 use Rattle.core_run.specs.Ends.{most_of}
 
 module _ (t : Setup) (most : ℕ) where
@@ -28,4 +27,4 @@ pub record RunsWell (t : Setup) (lines : List Line) : Type 0 where
   pub out : RunsOut t (most_of t) (cut_of lines) (lines_done t.shape (most_of t) lines (start_state t))
 
 abbrev pub LinesAreWell : Type 0
-LinesAreWell = (t : Setup) (lines : List Line) → IsForOne t → RunsWell t lines
+LinesAreWell = (t : Setup) (lines : List Line) → IsSetup t → RunsWell t lines

@@ -11,4 +11,6 @@ pub enum Goal {
     Kind(Counted),
     /// Stores to this word.
     StoreTo(u64),
+    /// The end of the call: a turn of the end rule.
+    Turn,
 }

@@ -1,11 +1,11 @@
--- How many events a caller has left at most: each event leaves fewer, and at first there are no more than the run counts.
-use Rattle.std.proofs.Common.{◌≡◌, ◌≢◌, ℕ, zero, suc, ◌+◌, ◌*◌, ◌<◌, ◌≤◌, Some, List, length, map, slice_get, sym, ◌∙◌, ap, subst, arith}
+-- How many events are left: of the restart and of the close, each of whose events leaves fewer, and of a caller; and no more than the run counts.
+use Rattle.std.proofs.Common.{◌≡◌, ◌≢◌, ℕ, zero, suc, ◌+◌, ◌*◌, ◌<◌, ◌≤◌, Option, Some, None, List, [], ◌∷◌, length, map, slice_get, refl, sym, ap, ◌∙◌, subst, arith}
 use Rattle.std.specs.Prelude.{⊤, slice_index}
-use Rattle.std.proofs.lemmas.Option.{none-some, same_Some}
-use Rattle.std.proofs.Math.Nat.{mul-le-mul_left, le-mul_of_pos_right}
+use Rattle.std.proofs.lemmas.Option.{none-some, same_Some, slice_get_within}
 use Rattle.op_core.specs.declared.want.Want.{Want}
 use Rattle.op_core.specs.declared.want.Want.TheVariants as want
 use Rattle.image_layout.specs.Places.{Shape, IsShape, words_of}
+use Rattle.map_model.specs.declared.call.Call.{Call}
 use Rattle.world.specs.Wants.{answer_to, word_of}
 use Rattle.world.proofs.stepping.Answers.{is_answer}
 use Rattle.restart_op.specs.declared.restart.RestartOp.{RestartOp}
@@ -15,17 +15,22 @@ use Rattle.restart_op.specs.Restarted.{restarted, RestartAsks}
 use Rattle.restart_op.specs.declared.close.CloseOp.{CloseOp}
 use Rattle.restart_op.specs.Close.{wanted as close_wanted, taken as close_taken}
 use Rattle.restart_op.specs.Closing.{left as close_left, Falls as CloseFalls}
-use Rattle.engine.specs.Core.{Caller, Core}
-use Rattle.engine.specs.Left.{events_of_call}
+use Rattle.engine.specs.declared.engine.Engine.{Engine}
+use Rattle.engine.specs.Core.{Caller, Core, current}
+use Rattle.engine.specs.Left.{left_alone, most_alone, events_of_call}
+use Rattle.engine.specs.Alone.{along, IsNext}
 use Rattle.core_run.specs.declared.keeper.Keeper.{Keeper}
 use Rattle.core_run.specs.declared.keeper.Keeper.TheVariants.{Restarting, Open, Closing, Closed}
-use Rattle.core_run.specs.State.{State, Deed, by_keeper, restarting, closing, restart_deed, close_deed, keeper_deed, open_deed, deed}
-use Rattle.core_run.specs.Run.{all_calls}
-use Rattle.core_run.specs.Running.{Setup, IsOpen, IsRestarting, IsRunningBy}
-use Rattle.core_run.specs.Alone.{IsAloneBy, IsForOne, behind, all_behind}
+use Rattle.core_run.specs.declared.goal.Goal.{Goal}
+use Rattle.core_run.specs.State.{State, Deed, by_keeper, restarting, closing, restart_deed, close_deed, keeper_deed, call_deed, caller_deed}
+use Rattle.core_run.specs.Run.{all_calls, drive}
+use Rattle.core_run.specs.Running.{Setup, IsSetup, IsOpen, IsRestarting, IsRunningBy, DeedsAreWell}
+use Rattle.core_run.specs.Along.{HasTurns, IsAlongBy, ComesAlong}
 use Rattle.core_run.specs.Ends.{IsRun, most_of, IsShut}
-use Rattle.core_run.proofs.ends.Working.{EngineLaws, call_some, work_low, work_at, work_of}
-use Rattle.core_run.proofs.ends.Staying.{of_one, one_left}
+use Rattle.core_run.proofs.ends.Working.{EngineLaws, call_two, within_all, same_within}
+use Rattle.core_run.proofs.ends.Stopping.{StopsIn, stops_sooner, none_stops, same_drive}
+use Rattle.core_run.proofs.ends.Phases.{GoesOn, later, before, caller_stops}
+use Rattle.core_run.proofs.ends.Driving.{after}
 
 abbrev pub keeper_left : Keeper → ℕ
 keeper_left (Restarting op) = restart_left op
@@ -33,20 +38,11 @@ keeper_left Open = 0
 keeper_left (Closing op) = close_left op
 keeper_left Closed = 0
 
--- all calls are those of the first caller
-abbrev pub callers_left : Shape → Keeper → Core → ℕ
-callers_left shape (Restarting op) core = 0
-callers_left shape Open core = work_at shape core.words (slice_get core.callers 0)
-callers_left shape (Closing op) core = 0
-callers_left shape Closed core = 0
-
-abbrev pub left_for : Shape → ℕ → State → ℕ
-left_for shape zero s = keeper_left s.keeper
-left_for shape (suc j) s = callers_left shape s.keeper s.core
-
 -- ---- the restart and the close
--- what is used of them
+-- what is used of them, and of the events of a run
 pub record KeeperLaws : Type 0 where
+  pub wells : DeedsAreWell
+  pub comes : ComesAlong
   pub most : BeginsWithASweep
   pub restart : RestartFalls
   pub asks : RestartAsks
@@ -62,9 +58,9 @@ module _ (keepers : KeeperLaws) where
   restarted_left shape words zero is low = let most = keepers.most shape is in omega (arith, most)
   restarted_left shape words (suc n) is low =
       let c = restarted shape words n in
-      let before = restarted_left shape words n is (omega (arith, low)) in
+      let earlier = restarted_left shape words n is (omega (arith, low)) in
       let fewer = restart_less c.op (c.words (word_of shape (restart_wanted c.op))) (keepers.asks shape words n is (omega (arith, low))).asks in
-      omega (arith, before, fewer)
+      omega (arith, earlier, fewer)
 
 restarting_left : (shape : Shape) (op : RestartOp) (w : Want) (core : Core) → keeper_left (restarting shape op w core).keeper ≤ restart_left op
 restarting_left shape op want.Done core = omega arith
@@ -107,26 +103,17 @@ stays_early shape Open core d early e = absurd (none-some d e)
 stays_early shape (Closing op) core d early e = absurd early
 stays_early shape Closed core d early e = absurd early
 
--- ---- numbers
--- the events of a call that runs, and of so many behind it, are within those of all calls and one more
-within_all : (of_call behind calls m more : ℕ) → m < of_call → behind ≤ calls → m + of_call * behind ≤ more + of_call * (calls + 1)
-within_all of_call behind calls m more less few = let all = mul-le-mul_left of_call few in omega (arith, all, less)
-
--- and there are no more calls than that
-within_most : (of_call behind calls more : ℕ) → 0 < of_call → behind ≤ calls → behind ≤ more + of_call * (calls + 1)
-within_most of_call behind calls more some few = let each = le-mul_of_pos_right calls some in omega (arith, each, few)
-
--- ---- each event leaves fewer
-module _ (laws : EngineLaws) (keepers : KeeperLaws) (t : Setup) (is : IsForOne t) where
+-- ---- each event of the restart and of the close leaves fewer
+module _ (keepers : KeeperLaws) (t : Setup) (is : IsSetup t) where
   left_now : (op : RestartOp) (core : Core) (r : IsRestarting t op core) → restart_left op ≤ events_of_sweep t.shape
   left_now op core r = let few = r.few in
       subst (λ (o : RestartOp). restart_left o ≤ events_of_sweep t.shape) (sym r.op_is)
-      (restarted_left keepers t.shape t.first r.events is.setup.served.in_range (omega (arith, few)))
+      (restarted_left keepers t.shape t.first r.events is.served.in_range (omega (arith, few)))
 
   asks_now : (op : RestartOp) (core : Core) (r : IsRestarting t op core) → restart_wanted op ≢ want.Done
-  asks_now op core r = subst (λ (o : RestartOp). restart_wanted o ≢ want.Done) (sym r.op_is) (keepers.asks t.shape t.first r.events is.setup.served.in_range r.few).asks
+  asks_now op core r = subst (λ (o : RestartOp). restart_wanted o ≢ want.Done) (sym r.op_is) (keepers.asks t.shape t.first r.events is.served.in_range r.few).asks
 
-  keeper_less : (k : Keeper) (core : Core) → IsRunningBy t k core → (d : Deed) → keeper_deed t.shape k core ≡ Some d → keeper_left d.state.keeper < keeper_left k
+  pub keeper_less : (k : Keeper) (core : Core) → IsRunningBy t k core → (d : Deed) → keeper_deed t.shape k core ≡ Some d → keeper_left d.state.keeper < keeper_left k
   keeper_less (Restarting op) core r d e =
       let w : Want = restart_wanted op in
       let n : ℕ = core.words (word_of t.shape w) in
@@ -143,50 +130,66 @@ module _ (laws : EngineLaws) (keepers : KeeperLaws) (t : Setup) (is : IsForOne t
       subst (λ (x : Deed). keeper_left x.state.keeper < close_left op) (same_Some (close_deed t.shape op core) d e) (omega (arith, fewer, after))
   keeper_less Closed core r d e = absurd (none-some d e)
 
-  callers_less : (j : ℕ) (k : Keeper) (core : Core) → IsRunningBy t k core → IsAloneBy t k core → (d : Deed) → open_deed t.shape j k core ≡ Some d
-      → callers_left t.shape d.state.keeper d.state.core < callers_left t.shape k core
-  callers_less j Open core r a d e =
-      let l = one_left laws t is core r a j d e in
-      subst (λ k. callers_left t.shape k d.state.core < callers_left t.shape Open core) (sym l.still_open) l.less_work
-  callers_less j (Restarting op) core r a d e = absurd (none-some d e)
-  callers_less j (Closing op) core r a d e = absurd (none-some d e)
-  callers_less j Closed core r a d e = absurd (none-some d e)
-
-  pub deed_less : (c : ℕ) (s : State) (d : Deed) → IsRun t s → deed t.shape c s ≡ Some d → left_for t.shape c d.state < left_for t.shape c s
-  deed_less zero s d r e = keeper_less s.keeper s.core r.running d e
-  deed_less (suc j) s d r e = callers_less j s.keeper s.core r.running r.alone d e
-
-  -- ---- and there are not too many
-  one_script : (core : Core) (o : IsOpen t core) → all_calls t.scripts ≡ length (of_one t core is.one o).caller.calls + 0
-  one_script core o = let one = of_one t core is.one o in
-      ap all_calls (sym o.scripts) ∙ ap (λ (cs : List Caller). all_calls (map (λ c. c.calls) cs)) one.callers_are
-
-  behind_few : (core : Core) (o : IsOpen t core) → behind (of_one t core is.one o).caller ≤ all_calls t.scripts
-  behind_few core o = let scripts = one_script core o in omega (arith, scripts)
-
-  keeper_low : (k : Keeper) (core : Core) → IsRunningBy t k core → IsAloneBy t k core → keeper_left k ≤ most_of t
+  pub keeper_low : (k : Keeper) (core : Core) → IsRunningBy t k core → IsAlongBy t k core → keeper_left k ≤ most_of t
   keeper_low (Restarting op) core r a = let l = left_now op core r in omega (arith, l)
   keeper_low Open core r a = omega arith
   keeper_low (Closing op) core r a = let l = a in omega (arith, l)
   keeper_low Closed core r a = omega arith
 
-  callers_low : (k : Keeper) (core : Core) → IsRunningBy t k core → callers_left t.shape k core ≤ most_of t
-  callers_low Open core o =
-      let one = of_one t core is.one o in
-      subst (λ m. m ≤ most_of t) (sym (ap (λ (cs : List Caller). work_at t.shape core.words (slice_get cs 0)) one.callers_are))
-      (within_all (events_of_call t.shape) (behind one.caller) (all_calls t.scripts) (work_of t.shape core.words one.caller.engine) (2 * words_of t.shape)
-      (work_low t.shape laws.few core.words one.caller.engine) (behind_few core o))
-  callers_low (Restarting op) core o = omega arith
-  callers_low (Closing op) core o = omega arith
-  callers_low Closed core o = omega arith
+  pub keeper_stops : (goal : Goal) (n : ℕ) (s : State) → IsRun t s → keeper_left s.keeper ≤ n → StopsIn t.shape goal 0 n s
+  keeper_stops goal zero s r few = λ d e. (let f = keeper_less s.keeper s.core r.running d e in omega (arith, f, few))
+  keeper_stops goal (suc n) s r few = λ d e on.
+      (let f = keeper_less s.keeper s.core r.running d e in keeper_stops goal n d.state (after keepers.wells keepers.comes t is 0 s d r e) (omega (arith, f, few)))
 
-  pub left_low : (c : ℕ) (s : State) → IsRun t s → left_for t.shape c s ≤ most_of t
-  left_low zero s r = keeper_low s.keeper s.core r.running r.alone
-  left_low (suc j) s r = callers_low s.keeper s.core r.running
+  -- ---- and so does each of a caller, wherever all others stand
+  calls_low : (cs : List Caller) (j : ℕ) (c : Caller) → slice_get cs j ≡ Some c → length c.calls ≤ all_calls (map (λ c. c.calls) cs)
+  calls_low [] j c at = absurd (none-some c at)
+  calls_low (y ∷ cs) zero c at = let same = ap (λ (x : Caller). length x.calls) (same_Some y c at) in omega (arith, same)
+  calls_low (y ∷ cs) (suc j) c at = let rest = calls_low cs j c at in omega (arith, rest)
 
-  pub behind_low : (core : Core) → IsOpen t core → all_behind core.callers ≤ most_of t
-  behind_low core o =
-      let one = of_one t core is.one o in
-      let behinds : all_behind core.callers ≡ behind one.caller + 0 = ap all_behind one.callers_are in
-      let few = behind_few core o in
-      within_most (events_of_call t.shape) (all_behind core.callers) (all_calls t.scripts) (2 * words_of t.shape) (call_some t.shape) (omega (arith, behinds, few))
+  module _ (laws : EngineLaws) (goal : Goal) (j : ℕ) where
+    -- the state with this core, whose image is open
+    abbrev opened : Core → State
+    opened core = record { keeper = Open; core = core }
+
+    module _ (core : Core) (o : IsOpen t core) (come : HasTurns t core) (c : Caller) (at : slice_get core.callers j ≡ Some c) where
+      runs_low : (call : Call) → current c ≡ Some call → (e : Engine) → c.engine ≡ Some e → StopsIn t.shape goal (suc j) (most_of t) (opened core)
+      runs_low call now e runs =
+          let next : IsNext (along t.shape t.first t.scripts come.turns) j e =
+          record { caller = c; there = subst (λ (k : Core). slice_get k.callers j ≡ Some c) come.core_is at; call = call; calls = now; runs = runs } in
+          let n : ℕ = left_alone e + (most_alone + 1) + events_of_call t.shape * (later c + 1) in
+          let stands : GoesOn t.shape (along t.shape t.first t.scripts come.turns) j n = record { engine = e; next = next; phase = before (same_within n) } in
+          let all = subst (λ css. length c.calls ≤ all_calls css) o.scripts (calls_low core.callers j c at) in
+          let within = slice_get_within c.calls (length c.entries) call now in
+          let few = within_all (events_of_call t.shape) most_alone (left_alone e) (later c) (all_calls t.scripts) (2 * words_of t.shape)
+          (laws.short e) (call_two t.shape) (omega (arith, all, within)) in
+          subst (λ (k : Core). StopsIn t.shape goal (suc j) (most_of t) (opened k)) (sym come.core_is)
+          (stops_sooner t.shape goal (suc j) (suc n) (most_of t) (opened (along t.shape t.first t.scripts come.turns).core) few (caller_stops laws t is goal j n come.turns stands))
+
+      by_call : (call : Option Call) → current c ≡ call → (e : Option Engine) → c.engine ≡ e → StopsIn t.shape goal (suc j) (most_of t) (opened core)
+      by_call None now e runs = none_stops t.shape goal (suc j) (most_of t) (opened core)
+          (ap (λ x. caller_deed t.shape j core x) at ∙ ap (λ x. call_deed t.shape j core c x c.engine) now)
+      by_call (Some call) now None runs = none_stops t.shape goal (suc j) (most_of t) (opened core)
+          (ap (λ x. caller_deed t.shape j core x) at ∙ ap (λ x. call_deed t.shape j core c x c.engine) now ∙ ap (λ x. call_deed t.shape j core c (Some call) x) runs)
+      by_call (Some call) now (Some e) runs = runs_low call now e runs
+
+    caller_low : (k : Keeper) (core : Core) → IsRunningBy t k core → IsAlongBy t k core → StopsIn t.shape goal (suc j) (most_of t) (record { keeper = k; core = core })
+    caller_low (Restarting op) core r come = none_stops t.shape goal (suc j) (most_of t) (record { keeper = Restarting op; core = core }) refl
+    caller_low (Closing op) core r come = none_stops t.shape goal (suc j) (most_of t) (record { keeper = Closing op; core = core }) refl
+    caller_low Closed core r come = none_stops t.shape goal (suc j) (most_of t) (record { keeper = Closed; core = core }) refl
+    caller_low Open core o come = by (slice_get core.callers j) refl
+      where
+        by : (c : Option Caller) → slice_get core.callers j ≡ c → StopsIn t.shape goal (suc j) (most_of t) (opened core)
+        by None at = none_stops t.shape goal (suc j) (most_of t) (opened core) (ap (λ x. caller_deed t.shape j core x) at)
+        by (Some c) at = by_call core o come c at (current c) refl c.engine refl
+
+  -- ---- so that the number of events is enough
+  pub stops_low : EngineLaws → (goal : Goal) (c : ℕ) (s : State) → IsRun t s → StopsIn t.shape goal c (most_of t) s
+  stops_low laws goal zero s r = keeper_stops goal (most_of t) s r (keeper_low s.keeper s.core r.running r.along)
+  stops_low laws goal (suc j) s r = caller_low laws goal j s.keeper s.core r.running r.along
+
+  pub drives_are_enough : EngineLaws → (most c : ℕ) (goal : Goal) (n : ℕ) (s : State) → most_of t ≤ most → IsRun t s
+      → drive t.shape most c goal n s ≡ drive t.shape (most_of t) c goal n s
+  drives_are_enough laws most c goal n s enough r =
+      let low = stops_low laws goal c s r in
+      same_drive t.shape goal c most (most_of t) n s (stops_sooner t.shape goal c (most_of t) most s enough low) low

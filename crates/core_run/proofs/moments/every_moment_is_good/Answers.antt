@@ -10,5 +10,5 @@ returns-clause-acts c = moments_of_runs c.run_begins.ensures c.deeds_are_well.en
 
 pub returns-clause-runs : goal.returns-clause-runs
 returns-clause-runs c = every_moment_is_good c.run_begins.ensures c.deeds_are_well.ensures c.close_may_begin.ensures c.moments_are_good.ensures
-    c.alone_stays.ensures.begins c.runs_stay_well.ensures.restarted c.runs_stay_well.ensures.line c.runs_stay_well.ensures.lines
+    c.turns_lead_here.ensures.begins c.drives_stay.ensures.restarted c.runs_stay_well.ensures.line c.runs_stay_well.ensures.lines
     c.calls_run_out.ensures.rounds c.calls_run_out.ensures.few
