@@ -10,7 +10,7 @@ pub fn script_words(kind: &str) -> &'static str {
             "in this line something else stands where a number must: a number is 0 to 18446744073709551615, in 1 to 20 decimal digits and nothing else"
         }
         "caller" => {
-            "this line names a caller that there is not: a call is of caller 1, as in `1 get 5`, and a step or an until of 0 or 1"
+            "this line names a caller that there is not: a call is of one of callers 1 to 64, as in `2 get 5`, and a step or an until of one of 0 to 64"
         }
         "order" => {
             "this line may not stand behind the lines before it: first all calls, then step and until, then close and lines of caller 0, and cut last"

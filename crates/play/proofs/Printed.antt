@@ -1,5 +1,5 @@
 -- What is printed of a session that a run left is what the run's core says.
-use Rattle.std.proofs.Common.{◌≡◌, ℕ, ap, ◌∙◌, List, None, map}
+use Rattle.std.proofs.Common.{◌≡◌, ℕ, ◌-◌, ap, ◌∙◌, List, None, length, map}
 use Rattle.std.specs.Prelude.{replicate, slice_index}
 use Rattle.map_model.specs.Roomed.{lists_of}
 use Rattle.image_layout.specs.Places.{Shape}
@@ -19,4 +19,4 @@ printed_by_run shape first lines left run =
     ap transcript_of
     (ap (λ lists. tolds_of lists left.stops) run.lists
     ∙ ap (λ stops. tolds_of (map (λ c. c.entries) callers) stops) run.stops
-    ∙ same_tolds callers (replicate 63 None) (begun_in_run shape (slice_index first) (scripts_of lines) lines))
+    ∙ same_tolds callers (replicate (64 - length callers) None) (begun_in_run shape (slice_index first) (scripts_of lines) lines))

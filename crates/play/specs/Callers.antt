@@ -1,11 +1,13 @@
 -- What the callers and lists of a run state are to the callers of the core.
-use Rattle.std.specs.Prelude.{◌≡◌, ℕ, ◌+◌, ⊤, Option, None, Some, List, [], ◌∷◌, ◌++◌, length, slice_get, is_some, Bool, true, false, if◌then◌else◌}
+use Rattle.std.specs.Prelude.{◌≡◌, ℕ, suc, ◌+◌, ⊤, Option, None, Some, List, [], ◌∷◌, ◌++◌, length, slice_get, is_some, Bool, true, false, if◌then◌else◌}
 use Rattle.map_model.specs.declared.entry.Entry.{Entry}
 use Rattle.map_model.specs.Roomed.{Roomed}
 use Rattle.engine.specs.Core.{Caller, engine_for}
 use Rattle.engine.specs.declared.engine.Engine.{Engine}
 use Rattle.engine.specs.Engine.{wanted}
 use Rattle.map_model.specs.declared.call.Call.{Call}
+use Rattle.image_layout.specs.Places.{Shape}
+use Rattle.core_run.specs.State.{waiting}
 use Rattle.play.specs.declared.caller.Caller.{Caller as PlayCaller}
 use Rattle.play.specs.declared.caller.RunningCall.{RunningCall}
 
@@ -40,6 +42,23 @@ awoken version r = record r {
   begun = false;
   drew = None;
 }
+
+-- a caller that waits for the end of the restart, with none of its calls begun
+pub record IsWaiting (shape : Shape) (number : ℕ) (calls : List Call) (r : PlayCaller) : Type 0 where
+  pub caller : caller_of r [] ≡ waiting shape number calls
+  pub ended : r.ended ≡ 0
+
+-- callers that do, numbered from this number on
+abbrev pub AreWaiting : Shape → ℕ → List (List Call) → List PlayCaller → Type 0
+AreWaiting shape number [] [] = ⊤
+AreWaiting shape number [] (r ∷ callers) = ⊥
+AreWaiting shape number (calls ∷ scripts) [] = ⊥
+AreWaiting shape number (calls ∷ scripts) (r ∷ callers) = IsWaiting shape number calls r × AreWaiting shape (suc number) scripts callers
+
+-- how many calls they have
+abbrev pub calls_in : List PlayCaller → ℕ
+calls_in [] = 0
+calls_in (r ∷ callers) = length r.calls.items + calls_in callers
 
 -- one entry more, where there is one
 abbrev pub told_with : Option Entry → List Entry → List Entry

@@ -35,6 +35,8 @@ StandsSomewhere run_state = (t : Setup) × (s : State) × Stands t s run_state
 pub record IsAfter (t : Setup) (told : ToldDeed) (d : Deed) (run_state : RunState) : Type 0 where
   pub want : told.want ≡ d.want
   pub end : told.end ≡ d.end
+  pub tried : told.tried ≡ d.tried
+  pub waits : told.waits ≡ d.waits
   pub left : IsOf t run_state d.state
 
 -- what became of an event that a caller was to do, where the definitions have this one: the run state stands where they say

@@ -1,12 +1,13 @@
 //! A caller that runs its calls.
 
-ghost use Rattle.std.specs.Prelude.{◌≡◌, List, length, slice_get, Some, None, true};
+ghost use Rattle.std.specs.Prelude.{◌≡◌, ◌&&◌, List, length, slice_get, Some, None, true};
 ghost use Rattle.op_core.specs.declared.want.Want.TheVariants as want;
 ghost use Rattle.map_model.specs.declared.entry.Entry.{Entry as MadeEntry};
 ghost use Rattle.image_layout.specs.Places.{Shape};
 ghost use Rattle.engine.specs.Core.{entry_of, engine_for, drawn_by, ended, answered};
 ghost use Rattle.engine.specs.declared.engine.Engine.{Engine as SaidEngine};
 ghost use Rattle.engine.specs.Engine.{wanted, taken, end_of, reply_of_end, begun, anew};
+ghost use Rattle.engine.specs.OpPart.{op_part};
 ghost use Rattle.core_run.specs.State.{end_by};
 ghost use Rattle.core_run.specs.Run.{stop_of};
 ghost use Rattle.play.specs.Callers.{caller_of, running_by, taken_to, awoken, told_with, counted_with};
@@ -47,6 +48,8 @@ pub(crate) struct Answered {
     pub(crate) end: Option<End>,
     /// The entry of its call, if that ended.
     pub(crate) entry: Option<Entry>,
+    /// Whether it waits for the guard of the directory.
+    pub(crate) waits: bool,
 }
 
 /// An engine takes the answer to its event, where it stands. How its attempt ended, if it did.
@@ -200,8 +203,21 @@ impl Caller {
         }
     }
 
-    /// Takes the answer to the event of its engine.
-    pub(crate) fn take_answer(&mut self, call: Call, ans: Ans) -> Answered
+    /// Whether its engine waits for the guard of the directory, if its event tried in vain for that.
+    fn waits_after(&self, tried: bool) -> bool
+        ensures { (e : SaidEngine) → self.now.engine ≡ Some e → result ≡ (tried && op_part.is_waiting e.op) }
+    {
+        if !tried {
+            return false;
+        }
+        match &self.engine {
+            Some(engine) => engine.waits(),
+            None => false,
+        }
+    }
+
+    /// Takes the answer to the event of its engine, which may have tried in vain for the guard of the directory.
+    pub(crate) fn take_answer(&mut self, call: Call, ans: Ans, tried: bool) -> Answered
         requires current { slice_get self.old.calls.items self.old.ended ≡ Some call }
         requires runs { (e : SaidEngine) × self.old.engine ≡ Some e }
         ensures caller { (e : SaidEngine) → self.old.engine ≡ Some e → (told : List MadeEntry) → length told ≡ self.old.ended
@@ -210,14 +226,16 @@ impl Caller {
         ensures calls { self.new.calls ≡ self.old.calls }
         ensures end { (e : SaidEngine) → self.old.engine ≡ Some e
             → result.end ≡ end_by self.old.site.geometry (taken e ans) (wanted (taken e ans)) }
+        ensures waits { (e : SaidEngine) → self.old.engine ≡ Some e → result.waits ≡ (tried && op_part.is_waiting (taken e ans).op) }
     {
         self.keep_drawn(call, ans);
         let end = self.answer_engine(ans);
+        let waits = self.waits_after(tried);
         let entry = match end {
             Some(end) => self.end_attempt(call, end),
             None => None,
         };
-        Answered { end, entry }
+        Answered { end, entry, waits }
     }
 
     /// Where it stopped, if it has a call left.

@@ -2,7 +2,7 @@
 
 ghost use Rattle.std.specs.Prelude.{◌≡◌};
 ghost use Rattle.core_run.specs.State.{Deed as SaidDeed};
-ghost use Rattle.core_run.specs.Run.{is_of_kind, is_store_to, counts, ends_call, ends_in_again};
+ghost use Rattle.core_run.specs.Run.{is_of_kind, is_store_to, counts, ends_call, ends_in_again, pauses, stops};
 
 use core_run::{Deed, Goal};
 use engine::End;
@@ -51,15 +51,33 @@ pub(crate) fn counts(goal: Goal, deed: Deed) -> bool
         Goal::AnyEvent => true,
         Goal::Kind(kind) => is_of_kind(kind, deed),
         Goal::StoreTo(word) => is_store_to(word, deed.want),
+        Goal::Turn => ends_call(deed.end),
     }
 }
 
 /// Whether an attempt ended with this event and is to be made again.
-pub(crate) fn ends_in_again(end: Option<End>) -> bool
+fn ends_in_again(end: Option<End>) -> bool
     ensures { result ≡ ends_in_again end }
 {
     match end {
         Some(end) => end.is_again(),
         None => false,
     }
+}
+
+/// Whether a line, or a turn of the end rule, pauses after an event.
+fn pauses(goal: Goal, deed: Deed) -> bool
+    ensures { (said : SaidDeed) → deed.tried ≡ said.tried → deed.waits ≡ said.waits → result ≡ pauses goal said }
+{
+    match goal {
+        Goal::Turn => deed.waits,
+        Goal::AnyEvent | Goal::Kind(_) | Goal::StoreTo(_) => deed.tried,
+    }
+}
+
+/// Whether the caller stops after an event.
+pub(crate) fn stops(goal: Goal, deed: Deed) -> bool
+    ensures { (said : SaidDeed) → deed.end ≡ said.end → deed.tried ≡ said.tried → deed.waits ≡ said.waits → result ≡ stops goal said }
+{
+    ends_in_again(deed.end) || pauses(goal, deed)
 }

@@ -5,6 +5,7 @@ ghost use Rattle.map_model.specs.Roomed.{Roomed};
 ghost use Rattle.core_run.specs.declared.keeper.Keeper.TheVariants.{Restarting, Open, Closing};
 ghost use Rattle.restart_op.specs.Restart.{wanted as restart_wanted};
 ghost use Rattle.restart_op.specs.Close.{wanted as close_wanted};
+ghost use Rattle.engine.specs.Driven.{tries_in_vain};
 ghost use Rattle.core_run.specs.Running.{Setup};
 ghost use Rattle.core_run.specs.State.{State, awake, restart_deed, close_deed, keeper_deed, engine_deed, open_deed, deed};
 ghost use Rattle.play.specs.Callers.{awoken};
@@ -17,7 +18,8 @@ use crate::run_state::RunState;
 use core_run::{Deed, Keeper};
 use keeping::do_event;
 use map_model::Call;
-use op_core::{Machine, Want};
+use op_core::{Ans, Machine, Want};
+use pm_trace::Device;
 use restart_op::{CloseOp, RestartOp};
 
 /// Lets the callers begin, on an image of this version.
@@ -37,6 +39,16 @@ fn closing(op: CloseOp) -> Keeper
         Keeper::Closed
     } else {
         Keeper::Closing(op)
+    }
+}
+
+/// Whether an event with this answer tried in vain for the guard of the directory.
+fn tries_in_vain(device: &Device, want: Want, ans: Ans) -> bool
+    ensures { result ≡ tries_in_vain device.now.shape want ans }
+{
+    match (want, ans) {
+        (Want::Exchange(word, _, _), Ans::Lost(_)) => word == device.geometry().directory_guard(),
+        _ => false,
     }
 }
 
@@ -65,7 +77,12 @@ impl RunState {
         let mut next = op;
         next.take(do_event(&mut self.device, 0, want));
         self.continue_restart(next);
-        Deed { want, end: None }
+        Deed {
+            want,
+            end: None,
+            tried: false,
+            waits: false,
+        }
     }
 
     /// Does an event of the close.
@@ -77,7 +94,12 @@ impl RunState {
         let mut next = op;
         next.take(do_event(&mut self.device, 0, want));
         self.keeper = closing(next);
-        Deed { want, end: None }
+        Deed {
+            want,
+            end: None,
+            tried: false,
+            waits: false,
+        }
     }
 
     /// Does an event of caller 0, if it has one left.
@@ -101,13 +123,16 @@ impl RunState {
         ensures { (runs : MayGo index call want self.old) → FollowsCall index call runs.engine self.old result self.new }
     {
         let ans = do_event(&mut self.device, index as u8 + 1, want);
-        let answered = self.callers[index].take_answer(call, ans);
+        let tried = tries_in_vain(&self.device, want, ans);
+        let answered = self.callers[index].take_answer(call, ans, tried);
         if let Some(entry) = answered.entry {
             self.lists.push(index as u8 + 1, entry);
         }
         Deed {
             want,
             end: answered.end,
+            tried,
+            waits: answered.waits,
         }
     }
 

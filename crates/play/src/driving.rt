@@ -8,11 +8,11 @@ ghost use Rattle.core_run.specs.Wells.{RunsThrough, RunsOut};
 ghost use Rattle.play.specs.Callers.{calls_left};
 ghost use Rattle.play.specs.RunStates.{Stands, StandsSomewhere, HasTurned, end_state};
 
-use crate::counting::{counts, ends_in_again};
+use crate::counting::{counts, stops};
 use crate::run_state::RunState;
 use core_run::{Goal, Keeper};
 use restart_op::CloseOp;
-use script_text::{Counted, Line};
+use script_text::Line;
 
 impl RunState {
     /// Does one event of a caller, if some are to be counted yet. How many are to be counted then, unless it stops.
@@ -24,7 +24,7 @@ impl RunState {
             return None;
         }
         let deed = self.do_deed(caller)?;
-        if ends_in_again(deed.end) {
+        if stops(goal, deed) {
             return None;
         }
         let more = if counts(goal, deed) { left - 1 } else { left };
@@ -55,13 +55,13 @@ impl RunState {
         }
     }
 
-    /// Gives each caller a turn, till its call ends.
+    /// Gives each caller a turn, till its call ends, or till it stops.
     fn do_round(&mut self, most: u64)
         requires { StandsSomewhere self.old }
         ensures { (t : Setup) (s : State) → Stands t s self.old → Stands t (round t.shape most 1 s.core.callers s) self.new }
     {
         for index in 0..self.callers.len() {
-            self.drive(most, index as u8 + 1, Goal::Kind(Counted::End), 1);
+            self.drive(most, index as u8 + 1, Goal::Turn, 1);
         }
     }
 

@@ -1,16 +1,16 @@
 //! What a run state leaves.
 
-ghost use Rattle.std.specs.Prelude.{◌≡◌, ◌∷◌, List, length, replicate, None};
+ghost use Rattle.std.specs.Prelude.{◌≡◌, ◌≤◌, List, length};
 ghost use Rattle.trace.specs.Events.{Words, value};
-ghost use Rattle.map_model.specs.declared.entry.Entry.{Entry};
+ghost use Rattle.map_model.specs.Roomed.{Roomed};
 ghost use Rattle.engine.specs.Core.{Core};
 ghost use Rattle.pm_trace.specs.TraceOf.{IsTraceOf};
-ghost use Rattle.core_run.specs.Run.{stop_of, medium_words};
+ghost use Rattle.core_run.specs.Run.{medium_words};
 ghost use Rattle.core_run.specs.Running.{Setup};
 ghost use Rattle.core_run.specs.State.{State};
-ghost use Rattle.play.specs.Callers.{caller_of};
+ghost use Rattle.play.specs.Callers.{callers_of, HaveRoom};
 ghost use Rattle.play.specs.RunStates.{IsOf};
-ghost use Rattle.play.specs.Played.{IsLeftOf};
+ghost use Rattle.play.specs.Played.{stops_of, IsLeftOf};
 
 use crate::caller::Caller;
 use crate::run_state::RunState;
@@ -35,23 +35,26 @@ fn medium_of(device: Device, cut: Option<u64>) -> Medium
     }
 }
 
-/// Where the only caller stopped, among those of all callers.
-fn stops_of(caller: &Caller) -> [Option<Stop>; 64]
-    ensures { (told : List Entry) → length told ≡ caller.now.ended → result ≡ stop_of (caller_of caller.now told) ∷ replicate 63 None }
+/// Where the callers stopped, among those of all 64.
+fn stops_of(callers: &[Caller]) -> [Option<Stop>; 64]
+    requires { length callers.now ≤ 64 }
+    ensures { (lists : List Roomed) → HaveRoom callers.now lists → result ≡ stops_of (callers_of callers.now lists) }
 {
     let mut stops = [None; 64];
-    stops[0] = caller.stop();
+    for index in 0..callers.len() {
+        stops[index] = callers[index].stop();
+    }
     stops
 }
 
 impl RunState {
     /// What it leaves at a cut with this choice, or where it was closed.
     pub(crate) fn into_session(self, cut: Option<u64>) -> Session
-        requires { length self.callers.items ≡ 1 }
+        requires { length self.callers.items ≤ 64 }
         ensures left { (t : Setup) (s : State) → IsOf t self s → IsLeftOf t s cut result }
         ensures lists { length result.lists ≡ length self.lists }
     {
-        let stops = stops_of(&self.callers[0]);
+        let stops = stops_of(&self.callers);
         Session {
             lists: self.lists,
             stops,

@@ -1,7 +1,5 @@
 //! Words and replies that were worked out by hand.
 
-ghost use Rattle.std.specs.Prelude.{◌≡◌, length, IfOk};
-
 use crate::play;
 use image_file::format;
 use image_layout::Geometry;
@@ -28,12 +26,19 @@ const ROW: [(usize, u64); 11] = [
 ];
 
 // What a script leaves of a new image of one segment.
-fn played(alloc: Global, script: &str) -> Result<Session, Fail>
-    ensures { IfOk result (λ left. length left.lists ≡ 1) }
-{
+fn played(alloc: Global, script: &str) -> Result<Session, Fail> {
     let medium = format(alloc, Geometry::new(1, 0, 0)?)?;
     let script = parse(alloc, Mode::Play, script.as_bytes())?;
     Ok(play(alloc, medium, &script)?)
+}
+
+// What a caller was told, if it is there.
+fn entries_of(left: &Session, caller: u8) -> &[Entry] {
+    if caller >= 1 && caller as usize <= left.lists.callers() {
+        left.lists.of(caller)
+    } else {
+        &[]
+    }
 }
 
 // The words that are not 0.
@@ -72,7 +77,7 @@ fn an_insert_and_a_get_to_the_close(rt: HostRuntime) -> Result<(), Fail> {
             drew: false,
         },
     ];
-    assert_eq!(rt; left.lists.of(1), entries.as_slice());
+    assert_eq!(rt; entries_of(&left, 1), entries.as_slice());
     assert_eq!(rt;
         not_zero(alloc, left.medium.words.as_slice())?.as_slice(),
         ROW.as_slice()
@@ -90,9 +95,59 @@ fn a_cut_behind_the_second_flush(rt: HostRuntime) -> Result<(), Fail> {
     ] {
         let left = played(rt.alloc(), script)?;
         assert!(rt; left.cut);
-        assert_eq!(rt; left.lists.of(1).len(), 0);
+        assert_eq!(rt; entries_of(&left, 1).len(), 0);
         assert_eq!(rt; left.stops[0].map(|stop| stop.begun), Some(true));
         assert_eq!(rt; word_of(&left, 97), Some(choice));
     }
+    Ok(())
+}
+
+// The first insert holds the lock of the bucket when the second comes to it.
+const TWO_CALLERS: &str = "1 insert 5 7\n2 insert 5 8\nuntil 1 store 1\nuntil 2 end 1\n";
+
+#[test]
+fn a_caller_that_finds_a_lock_tries_again(rt: HostRuntime) -> Result<(), Fail> {
+    let left = played(rt.alloc(), TWO_CALLERS)?;
+    let first = Entry {
+        serial: 1,
+        call: Call::Insert(5, 7),
+        reply: Reply::Done,
+        place: 0,
+        drew: true,
+    };
+    let second = Entry {
+        serial: 1,
+        call: Call::Insert(5, 8),
+        reply: Reply::Exists,
+        place: 1,
+        drew: false,
+    };
+    assert_eq!(rt; entries_of(&left, 1), [first].as_slice());
+    assert_eq!(rt; entries_of(&left, 2), [second].as_slice());
+    assert_eq!(rt; left.lists.callers(), 2);
+    assert_eq!(rt; left.stops[1], None);
+    Ok(())
+}
+
+#[test]
+fn a_line_stops_where_an_attempt_ends_in_again(rt: HostRuntime) -> Result<(), Fail> {
+    let script = format!(in rt.alloc(); "{TWO_CALLERS}cut 1\n")?;
+    let left = played(rt.alloc(), &script)?;
+    assert_eq!(rt; entries_of(&left, 2).len(), 0);
+    assert_eq!(rt; left.stops[0].map(|stop| stop.begun), Some(true));
+    assert_eq!(rt; left.stops[1].map(|stop| stop.begun), Some(true));
+    assert_eq!(rt; left.stops[2], None);
+    Ok(())
+}
+
+#[test]
+fn callers_without_calls_are_there(rt: HostRuntime) -> Result<(), Fail> {
+    let left = played(rt.alloc(), "3 insert 5 7\nstep 2 9\nuntil 64 end 1\n")?;
+    assert_eq!(rt; left.lists.callers(), 3);
+    assert_eq!(rt; entries_of(&left, 1).len(), 0);
+    assert_eq!(rt; entries_of(&left, 3).len(), 1);
+    let left = played(rt.alloc(), "step 1 5\n")?;
+    assert_eq!(rt; left.lists.callers(), 0);
+    assert!(rt; !left.cut);
     Ok(())
 }

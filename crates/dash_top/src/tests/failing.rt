@@ -69,7 +69,7 @@ fn nothing_is_done(rt: HostRuntime) -> Result<(), Fail> {
         (&["check", "now"], good, DEAF, SINK_FAILED, 0, 0),
         (&["play"], b"1 insert 5\n", DEAF, SINK_FAILED, 0, 11),
         (&["play"], b"1 get x\n", DEAF, SINK_FAILED, 0, 8),
-        (&["play"], b"2 get 5\n", DEAF, SINK_FAILED, 0, 8),
+        (&["play"], b"0 get 5\n", DEAF, SINK_FAILED, 0, 8),
         (&["play"], b"close\n1 get 5\n", DEAF, SINK_FAILED, 0, 14),
         (&["play"], b"cut 0\nclose\n", DEAF, SINK_FAILED, 0, 12),
     ];

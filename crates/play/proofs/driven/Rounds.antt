@@ -5,11 +5,10 @@ use Rattle.map_model.specs.declared.call.Call.{Call}
 use Rattle.map_model.specs.Roomed.{Roomed}
 use Rattle.image_layout.specs.Places.{Shape}
 use Rattle.script_text.specs.declared.line.Line.{Line}
-use Rattle.script_text.specs.declared.line.Counted.TheVariants as counted
 use Rattle.restart_op.specs.declared.restart.RestartOp.{RestartOp}
 use Rattle.restart_op.specs.Close.{begun as close_begun}
 use Rattle.engine.specs.Core.{Caller}
-use Rattle.core_run.specs.declared.goal.Goal.TheVariants.{AnyEvent, Kind}
+use Rattle.core_run.specs.declared.goal.Goal.TheVariants.{AnyEvent, Turn}
 use Rattle.core_run.specs.declared.keeper.Keeper.{Keeper}
 use Rattle.core_run.specs.declared.keeper.Keeper.TheVariants.{Restarting, Open, Closing, Closed}
 use Rattle.core_run.specs.State.{State}
@@ -25,7 +24,7 @@ use Rattle.play.proofs.driven.RunStateParts.{left_alone}
 
 -- ---- a round
 round_step : (shape : Shape) (most : ℕ) (callers : List Caller) (i c : ℕ) (s : State) → i < length callers
-    → round shape most c (drop i callers) s ≡ round shape most (suc c) (drop (suc i) callers) (drive shape most c (Kind counted.End) 1 s)
+    → round shape most c (drop i callers) s ≡ round shape most (suc c) (drop (suc i) callers) (drive shape most c Turn 1 s)
 round_step shape most [] i c s within = absurd (omega arith)
 round_step shape most (x ∷ callers) zero c s within = refl
 round_step shape most (x ∷ callers) (suc i) c s within = round_step shape most callers i c s (omega arith)
@@ -49,14 +48,14 @@ pub round_begins : (t : Setup) (s : State) (most : ℕ) (run_state : RunState) �
 round_begins t s most run_state st = record { now = s; stands = st; rest = refl }
 
 pub round_goes : (t : Setup) (s : State) (most done : ℕ) (old new : RunState) → done < length s.core.callers → (within : IsInRound t s most done old)
-    → Stands t (drive t.shape most (done + 1) (Kind counted.End) 1 within.now) new → IsInRound t s most (done + 1) new
+    → Stands t (drive t.shape most (done + 1) Turn 1 within.now) new → IsInRound t s most (done + 1) new
 round_goes t s most done old new some within st =
     let next : done + 1 ≡ suc done = omega arith in
     record {
-      now = drive t.shape most (done + 1) (Kind counted.End) 1 within.now;
+      now = drive t.shape most (done + 1) Turn 1 within.now;
       stands = st;
       rest = within.rest ∙ round_step t.shape most s.core.callers done (suc done) within.now some
-          ∙ ap (λ (n : ℕ). round t.shape most (suc n) (drop n s.core.callers) (drive t.shape most n (Kind counted.End) 1 within.now)) (sym next);
+          ∙ ap (λ (n : ℕ). round t.shape most (suc n) (drop n s.core.callers) (drive t.shape most n Turn 1 within.now)) (sym next);
     }
 
 pub round_ends : (t : Setup) (s : State) (most done : ℕ) (run_state : RunState) → length s.core.callers ≤ done → IsInRound t s most done run_state

@@ -1,6 +1,6 @@
 -- What an event makes of a run state, in each of its parts.
-use Rattle.std.proofs.Common.{◌≡◌, ℕ, suc, Option, None, Some, List, ◌∷◌, map, length, refl, ap, sym, ◌∙◌, subst}
-use Rattle.std.specs.Prelude.{slice_get, slice_set}
+use Rattle.std.proofs.Common.{◌≡◌, ℕ, suc, Bool, false, Option, None, Some, List, ◌∷◌, map, length, refl, ap, sym, ◌∙◌, subst}
+use Rattle.std.specs.Prelude.{◌&&◌, slice_get, slice_set}
 use Rattle.op_core.specs.declared.want.Want.{Want}
 use Rattle.op_core.specs.declared.want.Want.TheVariants as want
 use Rattle.op_core.specs.declared.want.Ans.{Ans}
@@ -15,6 +15,8 @@ use Rattle.restart_op.specs.Close.{wanted as close_wanted, taken as close_taken}
 use Rattle.engine.specs.declared.engine.End.{End}
 use Rattle.engine.specs.declared.engine.Engine.{Engine}
 use Rattle.engine.specs.Engine.{wanted, taken}
+use Rattle.engine.specs.OpPart.{op_part}
+use Rattle.engine.specs.Driven.{tries_in_vain, waits_after}
 use Rattle.engine.specs.Core.{Caller, Core, answered}
 use Rattle.pm_trace.specs.Memory.{Memory}
 use Rattle.pm_trace.specs.TraceOf.{IsTraceOf, Follows}
@@ -75,7 +77,7 @@ keeper_left t old new s w ans k is done keeper callers lists =
 
 pub close_left : (t : Setup) (old new : RunState) (s : State) (op next : CloseOp) (w : Want) (ans : Ans) → IsOf t old s → WasDone old.device 0 w ans new.device
     → w ≡ close_wanted op → next ≡ close_taken op ans → new.keeper ≡ closing_keeper next (close_wanted next)
-    → new.callers.items ≡ old.callers.items → new.lists ≡ old.lists → IsAfter t (record { want = w; end = None }) (close_deed t.shape op s.core) new
+    → new.callers.items ≡ old.callers.items → new.lists ≡ old.lists → IsAfter t (record { want = w; end = None; tried = false; waits = false }) (close_deed t.shape op s.core) new
 close_left t old new s op next w ans is done wants took keeper callers lists =
     let answers : ans ≡ answer_to (close_wanted op) (s.core.words (word_of t.shape (close_wanted op))) =
     answer_is t old s 0 w ans new.device is done ∙ ap (λ (v : Want). answer_to v (s.core.words (word_of t.shape v))) wants in
@@ -85,6 +87,8 @@ close_left t old new s op next w ans is done wants took keeper callers lists =
     record {
       want = wants;
       end = refl;
+      tried = refl;
+      waits = refl;
       left = subst
           (λ (v : Want). IsOf t new (record {
             keeper = closing t.shape (close_taken op (answer_to (close_wanted op) (s.core.words (word_of t.shape (close_wanted op)))))
@@ -136,7 +140,7 @@ pub restart_left : (t : Setup) (old new : RunState) (memory : Memory) (s : State
     → WasDone old.device 0 w ans memory → w ≡ restart_wanted op → next ≡ restart_taken op ans → new.device ≡ memory
     → new.keeper ≡ restarting_keeper next (restart_wanted next)
     → new.callers.items ≡ restarting_callers next (restart_wanted next) old.callers.items → new.lists ≡ old.lists
-    → IsAfter t (record { want = w; end = None }) (restart_deed t.shape op s.core) new
+    → IsAfter t (record { want = w; end = None; tried = false; waits = false }) (restart_deed t.shape op s.core) new
 restart_left t old new memory s op next w ans is none done wants took device keeper callers lists =
     let answers : ans ≡ answer_to (restart_wanted op) (s.core.words (word_of t.shape (restart_wanted op))) =
     answer_is t old s 0 w ans memory is done ∙ ap (λ (v : Want). answer_to v (s.core.words (word_of t.shape v))) wants in
@@ -150,17 +154,20 @@ restart_left t old new memory s op next w ans is none done wants took device kee
     record {
       want = wants;
       end = refl;
+      tried = refl;
+      waits = refl;
       left = subst (λ (o : RestartOp). IsOf t new (restarting t.shape o (restart_wanted o) (by_keeper t.shape (restart_wanted op) s.core))) said
           (subst (λ (v : Want). IsOf t new (restarting t.shape next (restart_wanted next) (by_keeper t.shape v s.core))) wants gone);
     }
 
 -- ---- a call
 -- what a caller made of an answer
-pub record HasAnswered (r : PlayCaller) (call : Call) (e : Engine) (ans : Ans) (new : PlayCaller) (end : Option End) (entry : Option Entry) : Type 0 where
+pub record HasAnswered (r : PlayCaller) (call : Call) (e : Engine) (ans : Ans) (tried : Bool) (new : PlayCaller) (end : Option End) (entry : Option Entry) (waits : Bool) : Type 0 where
   pub caller : (told : List Entry) → length told ≡ r.ended → caller_of new (told_with entry told) ≡ answered (caller_of r told) call e ans
   pub count : new.ended ≡ counted_with entry r.ended
   pub calls : new.calls ≡ r.calls
   pub end_is : end ≡ end_by r.site.geometry (taken e ans) (wanted (taken e ans))
+  pub waits_is : waits ≡ (tried && op_part.is_waiting (taken e ans).op)
 
 end_by_same : (a b : Shape) (e : Engine) (w : Want) → end_by a e w ≡ end_by b e w
 end_by_same a b e (want.Load i) = refl
@@ -173,13 +180,12 @@ end_by_same a b e want.Power = refl
 end_by_same a b e want.Done = refl
 
 pub call_left : (t : Setup) (old new : RunState) (s : State) (index number : ℕ) (call : Call) (e : Engine) (caller : Caller) (r after : PlayCaller) (w : Want)
-    (ans : Ans)
-    (end : Option End) (entry : Option Entry) → IsOf t old s → s.keeper ≡ Open → slice_get s.core.callers index ≡ Some caller
+    (ans : Ans) (tried : Bool) (end : Option End) (entry : Option Entry) (waits : Bool) → IsOf t old s → s.keeper ≡ Open → slice_get s.core.callers index ≡ Some caller
     → slice_get old.callers.items index ≡ Some r → slice_get r.calls.items r.ended ≡ Some call
-    → number ≡ suc index → WasDone old.device number w ans new.device → w ≡ wanted e → HasAnswered r call e ans after end entry
+    → number ≡ suc index → WasDone old.device number w ans new.device → w ≡ wanted e → HasAnswered r call e ans tried after end entry waits
     → new.keeper ≡ old.keeper → new.callers.items ≡ slice_set old.callers.items index after → new.lists ≡ lists_with old.lists index entry
-    → IsAfter t (record { want = w; end = end }) (engine_deed t.shape index s.core caller call e) new
-call_left t old new s index number call e caller r after w ans end entry is opened there its current numbered was_done wants has keeper callers lists =
+    → tried ≡ tries_in_vain old.device.shape w ans → IsAfter t (record { want = w; end = end; tried = tried; waits = waits }) (engine_deed t.shape index s.core caller call e) new
+call_left t old new s index number call e caller r after w ans tried end entry waits is opened there its current numbered was_done wants has keeper callers lists vain =
     let done : WasDone old.device (suc index) w ans new.device = subst (λ (n : ℕ). WasDone old.device n w ans new.device) numbered was_done in
     let listed = listed_at old.callers.items old.lists index r is.room its in
     let same : caller_of r listed.kept.entries ≡ caller =
@@ -187,6 +193,9 @@ call_left t old new s index number call e caller r after w ans end entry is open
     cc in
     let answers : ans ≡ answer_to (wanted e) (s.core.words (word_of t.shape (wanted e))) =
     answer_is t old s (suc index) w ans new.device is done ∙ ap (λ (v : Want). answer_to v (s.core.words (word_of t.shape v))) wants in
+    let in_vain : tried ≡ tries_in_vain t.shape (wanted e) (answer_to (wanted e) (s.core.words (word_of t.shape (wanted e)))) =
+    vain ∙ ap (λ (shape : Shape). tries_in_vain shape w ans) is.shape ∙ ap (λ (v : Want). tries_in_vain t.shape v ans) wants
+    ∙ ap (λ (a : Ans). tries_in_vain t.shape (wanted e) a) answers in
     let moved : caller_of after (told_with entry listed.kept.entries) ≡ answered caller call e
     (answer_to (wanted e) (s.core.words (word_of t.shape (wanted e)))) =
     has.caller listed.kept.entries (sym listed.room.counted) ∙ ap (λ (c : Caller). answered c call e ans) same
@@ -200,6 +209,9 @@ call_left t old new s index number call e caller r after w ans end entry is open
       want = wants;
       end = has.end_is ∙ end_by_same r.site.geometry t.shape (taken e ans) (wanted (taken e ans))
           ∙ ap (λ (a : Ans). end_by t.shape (taken e a) (wanted (taken e a))) answers;
+      tried = in_vain;
+      waits = has.waits_is ∙ ap (λ (b : Bool). b && op_part.is_waiting (taken e ans).op) in_vain
+          ∙ ap (λ (a : Ans). waits_after t.shape (wanted e) (answer_to (wanted e) (s.core.words (word_of t.shape (wanted e)))) (taken e a)) answers;
       left = record {
         shape = at_want.shape;
         callers = at_want.callers;

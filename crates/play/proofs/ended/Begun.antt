@@ -10,7 +10,6 @@ use Rattle.image_layout.specs.Places.{Shape, words_of}
 use Rattle.map_model.specs.declared.call.Call.{Call}
 use Rattle.map_model.specs.declared.entry.Reply.{Reply}
 use Rattle.restart_op.specs.declared.restart.RestartOp.{RestartOp}
-use Rattle.script_text.specs.declared.line.Counted.TheVariants as counted
 use Rattle.script_text.specs.declared.line.Line.{Line}
 use Rattle.script_text.specs.declared.line.Line.TheVariants as line
 use Rattle.engine.specs.declared.engine.End.{End}
@@ -20,9 +19,9 @@ use Rattle.engine.specs.Core.{Caller, current, Core, drawn_by, ended, ended_or_o
 use Rattle.core_run.specs.declared.keeper.Keeper.{Keeper}
 use Rattle.core_run.specs.declared.keeper.Keeper.TheVariants.{Restarting, Open, Closing, Closed}
 use Rattle.core_run.specs.declared.goal.Goal.{Goal}
-use Rattle.core_run.specs.declared.goal.Goal.TheVariants.{AnyEvent, Kind, StoreTo}
+use Rattle.core_run.specs.declared.goal.Goal.TheVariants.{AnyEvent, Kind, StoreTo, Turn}
 use Rattle.core_run.specs.State.{State, Deed, waiting_from, awake, beginning, deed, restarting, keeper_deed, call_deed, caller_deed, open_deed}
-use Rattle.core_run.specs.Run.{counts, ends_in_again, by_deed, drive, restarted_by, restarted, round, has_calls, rounds, close_begins, run_out, ready_for, line_done, lines_done, closed, state_at_end, core_run, cut_of, most_events}
+use Rattle.core_run.specs.Run.{counts, stops, by_deed, drive, restarted_by, restarted, round, has_calls, rounds, close_begins, run_out, ready_for, line_done, lines_done, closed, state_at_end, core_run, cut_of, most_events}
 
 -- a caller with no call left has begun none
 abbrev pub HasNoneBegun : Caller → Type 0
@@ -118,16 +117,16 @@ module _ (shape : Shape) where
   begun_if true s t x y = x
   begun_if false s t x y = y
 
-  begun_by : (d : Option Deed) (s : State) (rest : Deed → State) → NoneBegunAfter d → NoneBegunIn s → ((d : Deed) → NoneBegunIn d.state → NoneBegunIn (rest d))
-      → NoneBegunIn (by_deed d s rest)
-  begun_by None s rest after all on = all
-  begun_by (Some d) s rest after all on = begun_if (ends_in_again d.end) d.state (rest d) after (on d after)
+  begun_by : (goal : Goal) (d : Option Deed) (s : State) (rest : Deed → State) → NoneBegunAfter d → NoneBegunIn s → ((d : Deed) → NoneBegunIn d.state → NoneBegunIn (rest d))
+      → NoneBegunIn (by_deed goal d s rest)
+  begun_by goal None s rest after all on = all
+  begun_by goal (Some d) s rest after all on = begun_if (stops goal d) d.state (rest d) after (on d after)
 
   begun_drive : (most c : ℕ) (goal : Goal) (n : ℕ) (s : State) → NoneBegunIn s → NoneBegunIn (drive shape most c goal n s)
   begun_drive zero c goal n s all = all
   begun_drive (suc most) c goal zero s all = all
   begun_drive (suc most) c goal (suc n) s all =
-      begun_by (deed shape c s) s _ (begun_deed c s all) all (λ d after. begun_drive most c goal (if counts goal d then n else suc n) d.state after)
+      begun_by goal (deed shape c s) s _ (begun_deed c s all) all (λ d after. begun_drive most c goal (if counts goal d then n else suc n) d.state after)
 
   module _ (most : ℕ) where
     begun_restarted_by : (keeper : Keeper) (s : State) → NoneBegunIn s → NoneBegunIn (restarted_by shape most keeper s)
@@ -141,7 +140,7 @@ module _ (shape : Shape) where
 
     begun_round : (c : ℕ) (cs : List Caller) (s : State) → NoneBegunIn s → NoneBegunIn (round shape most c cs s)
     begun_round c [] s all = all
-    begun_round c (caller ∷ cs) s all = begun_round (suc c) cs _ (begun_drive most c (Kind counted.End) 1 s all)
+    begun_round c (caller ∷ cs) s all = begun_round (suc c) cs _ (begun_drive most c Turn 1 s all)
 
     begun_rounds : (n : ℕ) (s : State) → NoneBegunIn s → NoneBegunIn (rounds shape most n s)
     begun_rounds zero s all = all

@@ -29,3 +29,13 @@ returns-in-Some-clause-caller c e its told many =
     ∙ ap (λ (q : PlayCaller). ended (caller_of q told) c.args.call c.in-Some.end (reply_of_end c.in-Some.end)) next_is
     ∙ ended_goes_on drawn.site.geometry r drawn.drew (drawn_by (caller_of r told) c.args.call c.args.ans) c.args.call (taken e c.args.ans) told
     (wanted (taken e c.args.ans)) c.in-Some.end (sym c.in-Some.is ∙ c.answer_engine-end.ensures.end e its_drawn)
+
+pub returns-in-Some-clause-waits : goal.returns-in-Some-clause-waits
+returns-in-Some-clause-waits c e its =
+    let its_drawn : c.keep_drawn.new.self.engine ≡ Some e = ap (λ (q : PlayCaller). q.engine) c.keep_drawn.ensures.others ∙ its in
+    c.waits_after-waits.ensures (taken e c.args.ans) (ap (λ (q : PlayCaller). q.engine) (c.answer_engine-end.ensures.taken e its_drawn))
+
+pub returns-in-None-clause-waits : goal.returns-in-None-clause-waits
+returns-in-None-clause-waits c e its =
+    let its_drawn : c.keep_drawn.new.self.engine ≡ Some e = ap (λ (q : PlayCaller). q.engine) c.keep_drawn.ensures.others ∙ its in
+    c.waits_after-waits.ensures (taken e c.args.ans) (ap (λ (q : PlayCaller). q.engine) (c.answer_engine-end.ensures.taken e its_drawn))

@@ -3,7 +3,9 @@ use Rattle.std.proofs.Common.{◌≡◌, ℕ, ◌+◌, ◌-◌, ◌<◌, length,
 use Rattle.std.specs.Prelude.{slice_get}
 use Rattle.std.specs.Option.{IfSome}
 use Rattle.std.proofs.lemmas.Option.{slice_get_within, slice_get_read}
+use Rattle.image_layout.specs.Places.{Shape}
 use Rattle.map_model.specs.Roomed.{Roomed, with_entry}
+use Rattle.engine.specs.Driven.{tries_in_vain}
 use Rattle.play.specs.declared.caller.Caller.{Caller as PlayCaller}
 use Rattle.play.specs.Deeds.{lists_with}
 use Rattle.play.proofs.driven.Listed.{listed_at, lists_many, room_left}
@@ -35,7 +37,8 @@ returns-in-Some c runs t s caller is opened there =
     let its_engine : r.engine ≡ Some runs.engine = ap (λ (q : PlayCaller). q.engine) (sym same) ∙ runs.its_engine in
     let here : c.args.index + 1 - 1 ≡ c.args.index = omega arith in
     call_left t c.args.self.now _ s c.args.index (c.args.index + 1) c.args.call runs.engine caller r c.take_answer-answered.new.self c.args.want
-    c.do_event-ans.result c.take_answer-answered.result.end c.take_answer-answered.result.entry is opened there its
+    c.do_event-ans.result c.tries_in_vain-tried.result c.take_answer-answered.result.end c.take_answer-answered.result.entry c.take_answer-answered.result.waits
+    is opened there its
     (subst (λ (q : PlayCaller). slice_get q.calls.items q.ended ≡ Some c.args.call) same runs.is_current) (add-one c.args.index)
     (record {
       answer = c.do_event-ans.ensures.answer;
@@ -49,10 +52,12 @@ returns-in-Some c runs t s caller is opened there =
       count = c.take_answer-answered.ensures.count;
       calls = c.take_answer-answered.ensures.calls;
       end_is = c.take_answer-answered.ensures.end runs.engine its_engine;
+      waits_is = c.take_answer-answered.ensures.waits runs.engine its_engine;
     })
     refl refl
     (c.push.ensures ∙ ap (λ (n : ℕ). with_entry c.args.self.now.lists n c.in-Some.entry) here
     ∙ ap (λ o. lists_with c.args.self.now.lists c.args.index o) (sym c.in-Some.is))
+    (c.tries_in_vain-tried.ensures ∙ ap (λ (shape : Shape). tries_in_vain shape c.args.want c.do_event-ans.result) c.do_event-ans.ensures.shape)
 
 pub returns-in_default : goal.returns-in_default
 returns-in_default c runs t s caller is opened there =
@@ -63,7 +68,8 @@ returns-in_default c runs t s caller is opened there =
     let same : runs.caller ≡ r = let a = runs.is_there in cc in
     let its_engine : r.engine ≡ Some runs.engine = ap (λ (q : PlayCaller). q.engine) (sym same) ∙ runs.its_engine in
     call_left t c.args.self.now _ s c.args.index (c.args.index + 1) c.args.call runs.engine caller r c.take_answer-answered.new.self c.args.want
-    c.do_event-ans.result c.take_answer-answered.result.end c.take_answer-answered.result.entry is opened there its
+    c.do_event-ans.result c.tries_in_vain-tried.result c.take_answer-answered.result.end c.take_answer-answered.result.entry c.take_answer-answered.result.waits
+    is opened there its
     (subst (λ (q : PlayCaller). slice_get q.calls.items q.ended ≡ Some c.args.call) same runs.is_current) (add-one c.args.index)
     (record {
       answer = c.do_event-ans.ensures.answer;
@@ -77,6 +83,8 @@ returns-in_default c runs t s caller is opened there =
       count = c.take_answer-answered.ensures.count;
       calls = c.take_answer-answered.ensures.calls;
       end_is = c.take_answer-answered.ensures.end runs.engine its_engine;
+      waits_is = c.take_answer-answered.ensures.waits runs.engine its_engine;
     })
     refl refl
     (ap (λ o. lists_with c.args.self.now.lists c.args.index o) (sym c.in_default.is))
+    (c.tries_in_vain-tried.ensures ∙ ap (λ (shape : Shape). tries_in_vain shape c.args.want c.do_event-ans.result) c.do_event-ans.ensures.shape)
