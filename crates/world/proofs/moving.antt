@@ -1,10 +1,7 @@
 pub mod Known
 pub mod Holding
 pub mod Words
-pub mod LocksKept
-pub mod Fitting
-pub mod Keepers
-pub mod HeldGuards
+pub mod keeping
 pub mod Stepping
 pub mod Leaving
 pub mod Used

@@ -3,7 +3,7 @@ use Rattle.std.proofs.Common.{refl}
 use Rattle.world.specs.areas.Keeping.{KeepsHolding}
 use Rattle.world.proofs.moving.media.Whole.{structure_kept}
 use Rattle.world.proofs.moving.Words.{keeps_held_words}
-use Rattle.world.proofs.moving.LocksKept.{keeps_locks}
+use Rattle.world.proofs.moving.keeping.LocksKept.{keeps_locks}
 use Rattle.world.proofs.moving.media.MediaKept.{media_kept}
 use Rattle.world.proofs.mild.Kept.{records_kept, notes_of_homes_kept, others_kept}
 

@@ -25,8 +25,8 @@ use Rattle.world.proofs.fitting.lasting.Lasting.{sparing_lasts}
 use Rattle.world.proofs.moving.Stepping.{IsStill}
 use Rattle.world.proofs.moving.media.Said.{sound_still, said_still}
 use Rattle.world.proofs.moving.media.Settled.{still_settled}
-use Rattle.world.proofs.moving.Keepers.{pins_by}
-use Rattle.world.proofs.moving.HeldGuards.{held_same}
+use Rattle.world.proofs.moving.keeping.Keepers.{pins_by}
+use Rattle.world.proofs.moving.keeping.HeldGuards.{held_same}
 use Rattle.world.proofs.moving.Known.{grounds}
 use Rattle.world.proofs.moving.Used.{slots_same}
 use Rattle.world.proofs.basics.Tables.{core_structure_same}

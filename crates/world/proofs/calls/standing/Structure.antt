@@ -40,8 +40,8 @@ use Rattle.world.proofs.fitting.Calling.{callers_keep_areas}
 use Rattle.world.proofs.fitting.Learning.{roots_tell, entries_tell, headers_tell}
 use Rattle.world.proofs.moving.Known.{grounds, held_living}
 use Rattle.world.proofs.moving.Stepping.{structured_by, still_back, fenced_less}
-use Rattle.world.proofs.moving.Keepers.{guards_of}
-use Rattle.world.proofs.moving.HeldGuards.{held_same}
+use Rattle.world.proofs.moving.keeping.Keepers.{guards_of}
+use Rattle.world.proofs.moving.keeping.HeldGuards.{held_same}
 use Rattle.world.proofs.moving.Used.{slots_same}
 use Rattle.world.proofs.moving.media.Settled.{stays_settled}
 use Rattle.world.proofs.mild.Steps.{guard_behind}

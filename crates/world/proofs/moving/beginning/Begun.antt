@@ -20,8 +20,8 @@ use Rattle.world.proofs.basics.Structures.{front_is, header_is}
 use Rattle.world.proofs.basics.Tables.{core_structure_same, same_keeps, same_hit, same_find}
 use Rattle.world.proofs.basics.Entries.{total_none}
 use Rattle.world.proofs.fitting.Beginning.{fresh_stand}
-use Rattle.world.proofs.moving.Fitting.{guard_behind}
-use Rattle.world.proofs.moving.HeldGuards.{guard_within}
+use Rattle.world.proofs.moving.keeping.Fitting.{guard_behind}
+use Rattle.world.proofs.moving.keeping.HeldGuards.{guard_within}
 
 module _ (site : Ground) (start : Words) (world : World) (b : Begins site start world) where
   abbrev r : IsRestarted site start world

@@ -23,7 +23,7 @@ use Rattle.world.proofs.fitting.OneHolder.{head_in_slot}
 use Rattle.world.proofs.fitting.Rows.{but_after, row_after, row_slot, head_near, one_head}
 use Rattle.world.proofs.fitting.Stored.{grown_by}
 use Rattle.world.proofs.moving.Known.{held_within, newest_is}
-use Rattle.world.proofs.moving.Fitting.{guard_behind}
+use Rattle.world.proofs.moving.keeping.Fitting.{guard_behind}
 use Rattle.world.proofs.moving.Stepping.{calm_still, guard_still}
 use Rattle.world.proofs.moving.media.Settled.{side_settled, IsSettled, stays_settled, still_settled}
 use Rattle.world.proofs.moving.media.Said.{taken_still, taken_for_still, found_still, told_still, slot_still, fence_still, opened_still, row_stored}

@@ -1,8 +1,8 @@
 -- Each kind of step at the structure keeps all that is said of the structure.
 use Rattle.world.specs.areas.Keeping.{KeepsStructure}
-use Rattle.world.proofs.moving.Fitting.{keep_areas}
-use Rattle.world.proofs.moving.Keepers.{keep_guards, keep_sayers, keep_pins}
-use Rattle.world.proofs.moving.HeldGuards.{keep_held_guards}
+use Rattle.world.proofs.moving.keeping.Fitting.{keep_areas}
+use Rattle.world.proofs.moving.keeping.Keepers.{keep_guards, keep_sayers, keep_pins}
+use Rattle.world.proofs.moving.keeping.HeldGuards.{keep_held_guards}
 use Rattle.world.proofs.moving.media.Said.{sound_kept, facts_kept}
 use Rattle.world.proofs.moving.Used.{used_kept}
 use Rattle.world.proofs.moving.media.Taken.{slots_settled}

@@ -1,4 +1,4 @@
-use Rattle.world.proofs.moving.LocksKept.{keeps_locks}
+use Rattle.world.proofs.moving.keeping.LocksKept.{keeps_locks}
 use Rattle.world.proofs.structure.locks_stay.Goals as goal
 
 pub returns : goal.returns

@@ -1,4 +1,4 @@
-use Rattle.world.proofs.moving.Fitting.{keep_areas}
+use Rattle.world.proofs.moving.keeping.Fitting.{keep_areas}
 use Rattle.world.proofs.moving.Used.{used_kept}
 use Rattle.world.proofs.moving.media.Taken.{slots_settled}
 use Rattle.world.proofs.structure.steps_keep_areas.Goals as goal

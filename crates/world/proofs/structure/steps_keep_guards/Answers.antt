@@ -1,5 +1,5 @@
-use Rattle.world.proofs.moving.Keepers.{keep_guards, keep_sayers, keep_pins}
-use Rattle.world.proofs.moving.HeldGuards.{keep_held_guards}
+use Rattle.world.proofs.moving.keeping.Keepers.{keep_guards, keep_sayers, keep_pins}
+use Rattle.world.proofs.moving.keeping.HeldGuards.{keep_held_guards}
 use Rattle.world.proofs.structure.steps_keep_guards.Goals as goal
 
 pub returns-clause-guards : goal.returns-clause-guards

@@ -29,7 +29,7 @@ use Rattle.world.proofs.fitting.Filtered.{filtered_has}
 use Rattle.world.proofs.fitting.Rows.{but_before, but_after, row_before, row_after, row_slot, head_near, one_head}
 use Rattle.world.proofs.fitting.Guarding.{taken_guards, given_guards, other_guards}
 use Rattle.world.proofs.moving.Known.{held_within, newest_is, held_living}
-use Rattle.world.proofs.moving.Fitting.{guard_behind}
+use Rattle.world.proofs.moving.keeping.Fitting.{guard_behind}
 
 -- ---- guards, by areas and by sorts
 pub guards_of : (site : Ground) (words : Words) (views : List View)

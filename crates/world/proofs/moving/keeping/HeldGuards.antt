@@ -18,8 +18,8 @@ use Rattle.world.proofs.basics.Lists.{set_here}
 use Rattle.world.proofs.basics.Seats.{carry}
 use Rattle.world.proofs.fitting.Rows.{but_after, row_after}
 use Rattle.world.proofs.moving.Known.{held_within}
-use Rattle.world.proofs.moving.Fitting.{guard_behind}
-use Rattle.world.proofs.moving.Keepers.{row_near, lock_near}
+use Rattle.world.proofs.moving.keeping.Fitting.{guard_behind}
+use Rattle.world.proofs.moving.keeping.Keepers.{row_near, lock_near}
 
 -- a guard whose word is not 0 is had by some view
 abbrev pub AreHeld : Ground → Words → List View → Type 0
