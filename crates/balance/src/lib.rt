@@ -8,6 +8,3 @@ mod laws;
 
 pub use choice::{Choice, choose};
 pub use laws::choices_have_room;
-
-#[cfg(test)]
-mod tests;

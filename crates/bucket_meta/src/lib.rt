@@ -12,6 +12,3 @@ pub use laws::{
     meta_gives_words, notes_are_freed, read_of_written, words_give_meta, written_of_read,
 };
 pub use metadata::Meta;
-
-#[cfg(test)]
-mod tests;

@@ -6,7 +6,6 @@ mod Leaving
 mod OneSession
 mod Chain
 mod Goods
-mod Ended
 mod Follows
 mod Acts
 mod WorkedRun

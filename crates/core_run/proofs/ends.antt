@@ -9,4 +9,5 @@ pub mod Driving
 pub mod Measures
 pub mod Keeping
 pub mod Closes
+pub mod Ended
 pub mod Lines

@@ -9,8 +9,6 @@ mod command;
 mod laws;
 mod reading;
 mod status;
-#[cfg(test)]
-mod tests;
 mod text;
 mod top;
 mod work;

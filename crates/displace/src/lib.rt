@@ -6,6 +6,3 @@
 mod victim;
 
 pub use victim::{backward, forward};
-
-#[cfg(test)]
-mod tests;

@@ -5,9 +5,7 @@ pub mod Repairing
 pub mod Guarding
 pub mod Others
 pub mod Lonely
-pub mod Storing
-pub mod Slots
-pub mod Stale
+pub mod counts
 pub mod Due
 pub mod Staying
 pub mod Stages

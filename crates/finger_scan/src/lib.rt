@@ -8,6 +8,3 @@ mod scans;
 
 pub use laws::{scan_is_determined, scans_agree};
 pub use scans::{scan, scan_plain};
-
-#[cfg(test)]
-mod tests;

@@ -87,6 +87,3 @@ pub fn covers(depth: u8, pattern: u32, h: u64) -> bool
 {
     dir_index(h, depth) == u64::from(pattern)
 }
-
-#[cfg(test)]
-mod tests;

@@ -19,6 +19,3 @@ pub use medium::{Medium, to_bytes};
 pub use read::{from_bytes, from_words};
 pub use summary::{Summary, check, list};
 pub use words::Words;
-
-#[cfg(test)]
-mod tests;

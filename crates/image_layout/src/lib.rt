@@ -13,6 +13,3 @@ pub use shape::{
     BLOCK, BUCKETS, GeoFault, Geometry, HOMES, MOST_DEPTH, MOST_SEGMENTS, ROOT_WORD, SEGMENT_WORDS,
     STASH_BUCKETS, STATE_WORD, WORDS_OF_BUCKETS,
 };
-
-#[cfg(test)]
-mod tests;

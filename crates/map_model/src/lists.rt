@@ -72,35 +72,3 @@ impl Lists {
         list.push_reserved(entry);
     }
 }
-
-#[cfg(test)]
-mod tests {
-    use super::*;
-    use crate::call::Call;
-    use crate::entry::Reply;
-    use std::test::Fail;
-
-    #[test]
-    fn callers_keep_their_own_entries(rt: HostRuntime) -> Result<(), Fail> {
-        let insert = Entry {
-            serial: 1,
-            call: Call::Insert(5, 7),
-            reply: Reply::Done,
-            place: 0,
-            drew: true,
-        };
-        let mut lists = Lists::new(rt.alloc(), &[0, 2])?;
-        assert_eq!(rt; lists.callers(), 2);
-        lists.push(2, insert);
-        assert_eq!(rt; lists.of(1).len(), 0);
-        assert_eq!(rt; lists.of(2), [insert].as_slice());
-        Ok(())
-    }
-
-    #[test]
-    fn room_beyond_memory_is_refused(rt: HostRuntime) {
-        for room in [u64::MAX, 1 << 62] {
-            assert!(rt; Lists::new(rt.alloc(), &[room]).is_err());
-        }
-    }
-}

@@ -8,8 +8,6 @@ pub mod gates;
 pub mod memory;
 pub mod parts;
 pub mod streams;
-#[cfg(test)]
-mod tests;
 pub mod whole;
 
 pub use file::{FileStore, Purpose, Trouble};

@@ -16,6 +16,3 @@ mod run_state;
 mod starting;
 
 pub use playing::play;
-
-#[cfg(test)]
-mod tests;

@@ -2,8 +2,6 @@
 #![tactic(auto)]
 
 mod left;
-#[cfg(test)]
-mod tests;
 mod text;
 
 pub use left::Session;

@@ -18,8 +18,6 @@ pub mod phase;
 mod reading;
 mod run_form;
 pub mod script;
-#[cfg(test)]
-mod tests;
 mod word;
 
 pub use callers::MOST_CALLERS;

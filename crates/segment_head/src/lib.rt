@@ -109,6 +109,3 @@ impl Head {
         }
     }
 }
-
-#[cfg(test)]
-mod tests;

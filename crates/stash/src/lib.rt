@@ -10,6 +10,3 @@ mod segment;
 
 pub use notes::{must_visit, note, unnote};
 pub use segment::rebuild;
-
-#[cfg(test)]
-mod tests;

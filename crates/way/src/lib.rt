@@ -75,6 +75,3 @@ pub fn is_leading(head: u64, hash: u64) -> bool
 {
     state_of(head) == NORMAL && is_covering(head, hash)
 }
-
-#[cfg(test)]
-mod tests;

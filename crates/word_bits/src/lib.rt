@@ -47,6 +47,3 @@ pub fn each_fits(words: &[u64])
 {
     let _ = words;
 }
-
-#[cfg(test)]
-mod tests;

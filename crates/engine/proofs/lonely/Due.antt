@@ -84,8 +84,8 @@ use Rattle.engine.proofs.holding.Served.{sound_now}
 use Rattle.engine.proofs.attempts.Stepping.{work_in, work_is, CausedIn, op_caused, op_stays}
 use Rattle.engine.proofs.attempts.Seats.{CallCauses}
 use Rattle.engine.proofs.lonely.Looking.{header_none}
-use Rattle.engine.proofs.lonely.Storing.{no_renews, repair_spares, repair_frees, repairs_at, redirect_spares, mend_spares, mend_renews, mends_at}
-use Rattle.engine.proofs.lonely.Stale.{stale_test, slot_stale, version_now}
+use Rattle.engine.proofs.lonely.counts.Storing.{no_renews, repair_spares, repair_frees, repairs_at, redirect_spares, mend_spares, mend_renews, mends_at}
+use Rattle.engine.proofs.lonely.counts.Stale.{stale_test, slot_stale, version_now}
 use Rattle.engine.proofs.lonely.Repairing.{finds_current, renewed_same, renew_renews}
 
 -- what is used of the machines

@@ -41,8 +41,8 @@ use Rattle.engine.specs.Alone.{IsTold, told_reply, told_again, told_to_split, to
 use Rattle.engine.specs.Driven.{tries_now, waits_now, IsHeldByOther, TriesAreOthers, OwnTurnsLeaveFewer}
 use Rattle.engine.proofs.attempts.Seats.{IsSeated, seat_stands, site_there, there, holds_there, seat_there}
 use Rattle.engine.proofs.lonely.Lonely.{turn_is}
-use Rattle.engine.proofs.lonely.Slots.{seat_falls, seat_frees, seat_takes}
-use Rattle.engine.proofs.lonely.Stale.{seat_stale, seat_renews}
+use Rattle.engine.proofs.lonely.counts.Slots.{seat_falls, seat_frees, seat_takes}
+use Rattle.engine.proofs.lonely.counts.Stale.{seat_stale, seat_renews}
 use Rattle.engine.proofs.lonely.Staying.{DueLaws, calls_tell_stale, next_due}
 use Rattle.engine.proofs.lonely.Staying as staying
 use Rattle.engine.proofs.lonely.Stages.{StageLaws, few_left, Comes, no_further, by_a_slot, by_freeing, by_renewing, comes, falls, works}

@@ -70,7 +70,7 @@ use Rattle.engine.specs.Alone.{IsDue}
 use Rattle.engine.specs.Driven.{waits_after, waits_now}
 use Rattle.engine.proofs.machines.Ops.{call_kind}
 use Rattle.engine.proofs.attempts.Stepping.{next_work}
-use Rattle.engine.proofs.lonely.Storing.{Spares, no_frees, enclose_spares, split_spares, publish_spares, rest_spares, repair_spares, repair_frees, repairs_at, redirect_spares, mend_spares, mend_renews, mends_at}
+use Rattle.engine.proofs.lonely.counts.Storing.{Spares, no_frees, enclose_spares, split_spares, publish_spares, rest_spares, repair_spares, repair_frees, repairs_at, redirect_spares, mend_spares, mend_renews, mends_at}
 use Rattle.engine.proofs.lonely.Repairing.{freed_stays, redirect_never, renewed_same, ended_renewed}
 
 -- what is used of the machines

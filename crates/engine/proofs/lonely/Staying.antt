@@ -62,7 +62,7 @@ use Rattle.engine.specs.Driven.{OwnTurnsStayDue, BegunIsDue}
 use Rattle.engine.proofs.machines.Ends.{ReleasesTellAlone}
 use Rattle.engine.proofs.attempts.Doing.{set_there}
 use Rattle.engine.proofs.attempts.Seats.{IsSeated, seat_stands, CallCauses, site_there, there, holds_there, seat_there}
-use Rattle.engine.proofs.lonely.Stale.{StaleLaws, version_now, seat_stays}
+use Rattle.engine.proofs.lonely.counts.Stale.{StaleLaws, version_now, seat_stays}
 use Rattle.engine.proofs.lonely.Due.{RoomLaws, due_on}
 
 -- ---- what a machine of the call itself tells

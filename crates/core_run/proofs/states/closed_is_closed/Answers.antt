@@ -1,5 +1,5 @@
 -- By the laws of a close.
-use Rattle.core_run.proofs.Ended.{closed_is_closed}
+use Rattle.core_run.proofs.ends.Ended.{closed_is_closed}
 use Rattle.core_run.proofs.states.closed_is_closed.Goals as goal
 
 pub returns : goal.returns

@@ -1,6 +1,6 @@
 //! Words from outside, as the file format's own examples have them, and one change of a slot.
 
-use super::*;
+use bucket_meta::{Meta, read_of_written, words, written_of_read};
 
 #[test]
 fn reads_a_full_bucket(rt: HostRuntime) {

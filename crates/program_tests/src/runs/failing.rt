@@ -1,6 +1,6 @@
 // Runs in which the outside fails: the status, the store and how often it was written, and how much of the script was taken.
-use crate::tests::{DEAF, Fails, NEW, NONE, ONE_SEGMENT, PAIR, file_of, run};
-use crate::{BAD_SCRIPT, DONE, SINK_FAILED, SOURCE_FAILED, STORE_FAILED};
+use crate::runs::{DEAF, Fails, NEW, NONE, ONE_SEGMENT, PAIR, file_of, run};
+use dash_top::{BAD_SCRIPT, DONE, SINK_FAILED, SOURCE_FAILED, STORE_FAILED};
 use std::alloc::Global;
 use std::marker::Sync;
 use std::sync::Wait;

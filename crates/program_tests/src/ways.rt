@@ -1,6 +1,7 @@
 // Words of the smallest image, and hashes, from outside.
-use super::*;
+use image_layout::{Geometry, ROOT_WORD};
 use std::test::Fail;
+use way::{bucket_word, entry_word, head_word, is_covering, is_leading, key_hash};
 
 #[test]
 fn words_of_the_smallest_image(rt: HostRuntime) -> Result<(), Fail> {

@@ -1,9 +1,9 @@
 //! Words and replies that were worked out by hand.
 
-use crate::play;
 use image_file::format;
 use image_layout::Geometry;
 use map_model::{Call, Entry, Reply};
+use play::play;
 use reply_text::Session;
 use script_text::{Mode, parse};
 use std::alloc::Global;

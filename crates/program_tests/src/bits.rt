@@ -1,5 +1,5 @@
 // Words from outside.
-use super::*;
+use word_bits::{bits_of, is_set, mask, with_bits};
 
 #[test]
 fn bits_of_a_word(rt: HostRuntime) {

@@ -1,5 +1,5 @@
 // Shapes and word numbers from outside.
-use super::*;
+use image_layout::{GeoFault, Geometry};
 use std::test::Fail;
 
 #[test]

@@ -1,7 +1,7 @@
 // Runs of the whole program over the outside in memory in which the outside fails. The other runs are rows of `rows`.
 mod failing;
 
-use crate::dash_run;
+use dash_top::dash_run;
 use outside::{Fuses, MemSink, MemSource, MemStore};
 use std::alloc::Global;
 use std::marker::Sync;

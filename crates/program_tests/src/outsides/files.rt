@@ -1,7 +1,7 @@
 // What no clause says of a file. The tests may start in one folder: each makes its files in a folder of its own there.
 ghost use Rattle.std.specs.Prelude.{◌≡◌, IfOk};
 
-use crate::{Failed, FileStore, Purpose, Store, StoreFault, Trouble};
+use outside::{Failed, FileStore, Purpose, Store, StoreFault, Trouble};
 use std::alloc::AllocError;
 use std::fs::Permissions;
 use std::os::unix::fs::{MetadataExt, PermissionsExt, symlink};

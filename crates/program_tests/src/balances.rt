@@ -1,6 +1,6 @@
 //! Pairs of buckets at each edge: empty, full, as full as each other, and one record apart.
 
-use super::*;
+use balance::{Choice, choose};
 use bucket_meta::Meta;
 
 #[test]

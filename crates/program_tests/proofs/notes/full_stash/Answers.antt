@@ -2,7 +2,7 @@
 use Rattle.std.proofs.Common.{refl, arith}
 use Rattle.std.proofs.lemmas.List.Elements.{All-replicate}
 use Rattle.stash.specs.Segment.{Stashed, IsStashed}
-use Rattle.stash.proofs.tests.full_stash.Goals as goal
+use Rattle.program_tests.proofs.notes.full_stash.Goals as goal
 
 pub loop-slot-init : goal.loop-slot-init
 loop-slot-init c =

@@ -3,9 +3,9 @@
 ghost use Rattle.std.specs.Prelude.{All};
 ghost use Rattle.stash.specs.Segment.{IsStashed};
 
-use super::*;
 use bucket_meta::Meta;
 use image_layout::HOMES;
+use stash::{must_visit, note, rebuild, unnote};
 use std::process::Abort;
 
 /// Keys 28 to 55, whose home is bucket 0 and whose fingerprint is the key: the first 14 stand in stash bucket 0

@@ -1,7 +1,7 @@
 // Each fake on its happy path and at a failing call, pieces of any length, and each edge on a real file or reader.
 mod files;
 
-use crate::{
+use outside::{
     Failed, Fuse, Fuses, Gate, GateState, Gates, MemSink, MemSource, MemStore, Power, Sink, Source,
     StdSink, StdSource, Store, StoreFault, put_all, take_all,
 };

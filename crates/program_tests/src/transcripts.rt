@@ -1,9 +1,9 @@
 // Texts of small sessions; what is expected was worked out by hand.
 
-use crate::{Session, transcript};
 use image_file::format;
 use image_layout::Geometry;
 use map_model::{Call, Entry, Lists, Reply, Stop};
+use reply_text::{Session, transcript};
 use std::alloc::Global;
 use std::test::Fail;
 

@@ -1,5 +1,5 @@
 // Files word by word, and what is said of them, literally.
-use crate::{
+use image_file::{
     ImageFault, Summary, Words, check, format, from_bytes, from_words, list, read_of_written,
     to_bytes,
 };

@@ -1,5 +1,5 @@
 // Outside vectors: the first number of the SplitMix64 stream from state 0, and what its bits say.
-use super::*;
+use hash_word::{Kind, covers, dir_index, finger, hash, home, next, previous, probing};
 
 #[test]
 fn splitmix_vectors(rt: HostRuntime) {

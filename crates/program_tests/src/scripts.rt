@@ -1,7 +1,7 @@
 // Edges of the grammar; what is expected was worked out by hand.
 
-use super::*;
 use map_model::Call;
+use script_text::{Counted, Line, Mode, ScriptFault, parse};
 use std::test::Fail;
 
 const GET_FIVE: Line = Line::Call(1, Call::Get(5));

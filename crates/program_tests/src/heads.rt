@@ -1,5 +1,5 @@
 // Header words from outside, read and written.
-use super::*;
+use segment_head::{Head, State, read_of_written, version, word, written_of_read};
 
 #[test]
 fn words_from_outside(rt: HostRuntime) {

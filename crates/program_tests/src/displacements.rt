@@ -1,8 +1,8 @@
 //! Full, empty and mixed buckets: the words are those of buckets with the allocation bits from bit 0
 //! and the membership bits from bit 14.
 
-use super::*;
 use bucket_meta::Meta;
+use displace::{backward, forward};
 
 #[test]
 fn moves_on_a_record_of_its_own(rt: HostRuntime) {

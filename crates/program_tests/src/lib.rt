@@ -1,0 +1,40 @@
+//! The tests of the leaves and of the program, each of which needs public items alone.
+//!
+//! The gate proves a crate with tests twice, so the tests stand here, above all that they test, and not in the crates
+//! themselves. Those of the machines stand in `machine_tests`.
+#![tactic(auto)]
+
+#[cfg(test)]
+mod balances;
+#[cfg(test)]
+mod bits;
+#[cfg(test)]
+mod buckets;
+#[cfg(test)]
+mod displacements;
+#[cfg(test)]
+mod fingers;
+#[cfg(test)]
+mod hashes;
+#[cfg(test)]
+mod heads;
+#[cfg(test)]
+mod histories;
+#[cfg(test)]
+mod images;
+#[cfg(test)]
+mod notes;
+#[cfg(test)]
+mod outsides;
+#[cfg(test)]
+mod places;
+#[cfg(test)]
+mod plays;
+#[cfg(test)]
+mod runs;
+#[cfg(test)]
+mod scripts;
+#[cfg(test)]
+mod transcripts;
+#[cfg(test)]
+mod ways;
