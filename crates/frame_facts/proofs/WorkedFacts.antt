@@ -7,11 +7,10 @@ use Rattle.trace.specs.Events.{Words, with_word}
 use Rattle.image_layout.specs.Places.{IsShape}
 use Rattle.sound_image.specs.Segments.{frame_of}
 use Rattle.segment_table.specs.Claims.{HasSoundFrame}
-use Rattle.segment_table.specs.Stores.{Links, BeginsSplit, TakesSlot, Doubles, GoesLive, NamesClaimer, EndsSplit, StoreHandsOver}
+use Rattle.segment_table.specs.Stores.{Links, BeginsSplit, TakesSlot, Doubles, GoesLive, NamesClaimer, EndsSplit}
 use Rattle.segment_table.proofs.frames.Regions.{top_below}
-use Rattle.segment_table.proofs.StoreLaws.{opens, links, begins_split, takes_slot, doubles, goes_live, names_claimer}
 use Rattle.segment_table.proofs.Claimers.{ready_claims_none}
-use Rattle.segment_table.proofs.WorkedSplit.{eight, formatted, formatted-sound}
+use Rattle.segment_table.proofs.WorkedSplit.{eight, opened, opened-sound, joined, joined-sound, split, split-sound, taken, taken-sound, deeper, deeper-sound, shared, handed, named, named-sound, ended}
 use Rattle.frame_facts.specs.Facts.{Fact, Lives, Current, Rooted, Owns, Lacks, Deep, Begins, Used, Taken, HoldsFact}
 use Rattle.frame_facts.specs.Keeping.{AreSound, ClaimsNoneOfSide, KeepsFact, KeepsFacts}
 use Rattle.frame_facts.proofs.Stores.{takes, begins, ends, linked, doubled, named_claimer, went_live}
@@ -43,12 +42,6 @@ first_goes_on word i x keeps says = record {
 }
 
 -- A RESTART has cleared the marker
-abbrev opened : Words
-opened = with_word formatted 16 1
-
-opened-sound : HasSoundFrame eight opened
-opened-sound = (opens eight formatted eight-IsShape formatted-sound 1 (record { some = lit≤ tt; past = formatted-sound.past })).goes_on.sound
-
 opened_first : SaysOfFirst opened
 opened_first = record {
   lives = record { slot = lit< tt; live = inl refl };
@@ -64,40 +57,22 @@ opened_owns : Says opened (Owns 0 0 0)
 opened_owns = unready_claims (frame_of eight opened) 0 (record { slot = lit< tt; live = inl refl }) (normal_unready (frame_of eight opened) 0 refl)
 
 -- THE LINK of slot 0 names slot 1
-abbrev joined : Words
-joined = with_word opened 66 2
-
 joins : Links (frame_of eight opened) 0 2
 joins = record { slot = lit< tt; not_splitting = λ e. omega (arith, e); in_range = lit≤ tt }
-
-joined-sound : HasSoundFrame eight joined
-joined-sound = (links eight opened eight-IsShape opened-sound 0 2 joins).goes_on.sound
 
 joined_keeps : KeepsFacts eight 1 opened opened 66 2
 joined_keeps = linked eight 1 opened opened (settled opened opened-sound) 0 2 (joins, joins)
 
 -- SLOT 0 is splitting, with the version that it had
-abbrev split : Words
-split = with_word joined 65 513
-
 splits : BeginsSplit (frame_of eight joined) 0 513
 splits = record { slot = lit< tt; was = refl; becomes = refl; region = record { depth = refl; pattern = refl }; past = lit≤ tt }
-
-split-sound : HasSoundFrame eight split
-split-sound = (begins_split eight joined eight-IsShape joined-sound 0 513 splits).goes_on.sound
 
 split_keeps : KeepsFacts eight 1 joined joined 65 513
 split_keeps = begins eight 1 joined joined (settled joined joined-sound) 0 513 (splits, splits) (λ is. refl)
 
 -- SLOT 1 is new, with depth 1 and pattern 1: from here on it is taken for good
-abbrev taken : Words
-taken = with_word split 2209 4295033601
-
 takes_one : TakesSlot (frame_of eight split) 3 1 4295033601
 takes_one = record { slot = lit< tt; was = refl; unlinked = refl; becomes = refl; depth = lit≤ tt; pattern = lit< tt; past = lit≤ tt }
-
-taken-sound : HasSoundFrame eight taken
-taken-sound = (takes_slot eight split eight-IsShape split-sound 1 4295033601 takes_one).goes_on.sound
 
 taken_keeps : KeepsFacts eight 1 split split 2209 4295033601
 taken_keeps = takes eight 1 split split (settled split split-sound) 1 4295033601 (takes_one, takes_one)
@@ -109,9 +84,6 @@ taken_used = inr (
 )
 
 -- THE ROOT becomes 1: both entries of the area of depth 1 name slot 0 already
-abbrev pub deeper : Words
-deeper = with_word taken 8 1
-
 filled : Doubles eight taken
 filled = record { room = lit< tt; filled = named }
   where
@@ -123,9 +95,6 @@ filled = record { room = lit< tt; filled = named }
       | inl is ↦ subst (λ j. taken (33 + j) ≡ taken (32 + j / 2)) (sym is) refl
       | inr other ↦ subst (λ j. taken (33 + j) ≡ taken (32 + j / 2)) (sym (second i below other)) refl
     ]
-
-pub deeper-sound : HasSoundFrame eight deeper
-deeper-sound = (doubles eight taken eight-IsShape taken-sound filled).goes_on.sound
 
 deeper_keeps : KeepsFacts eight 1 taken taken 8 1
 deeper_keeps = doubled eight 1 taken taken (settled taken taken-sound) refl (filled, filled)
@@ -149,9 +118,6 @@ deeper_half : Says deeper (Owns 0 1 0)
 deeper_half h fits covers = deeper_owns h fits (omega (arith, top_below 0 h (lit≤ tt) fits))
 
 -- SLOT 1 becomes normal
-abbrev pub shared : Words
-shared = with_word deeper 2209 4295033089
-
 shares : GoesLive (frame_of eight deeper) 0 1 4295033089
 shares = record {
   slot = lit< tt;
@@ -166,11 +132,8 @@ shares = record {
   past = lit≤ tt;
 }
 
-hands : StoreHandsOver eight deeper 0 1 2209 4295033089
-hands = goes_live eight deeper eight-IsShape deeper-sound 0 1 4295033089 shares
-
 pub shared-sound : HasSoundFrame eight shared
-shared-sound = hands.goes_on.sound
+shared-sound = handed.goes_on.sound
 
 shared_keeps : (fact : Fact) → ClaimsNoneOfSide (frame_of eight deeper) 0 fact → KeepsFact eight 1 deeper deeper 2209 4295033089 fact
 shared_keeps = went_live eight 1 deeper deeper (settled deeper deeper-sound) 0 1 4295033089 (shares, shares)
@@ -200,10 +163,10 @@ shared_half : Says shared (Owns 0 1 0)
 shared_half = (shared_keeps (Owns 0 1 0) other_half).has deeper_half
 
 shared_owns : Says shared (Owns 1 1 1)
-shared_owns = side_claims 3 (frame_of eight deeper) (frame_of eight shared) 0 1 hands
+shared_owns = side_claims 3 (frame_of eight deeper) (frame_of eight shared) 0 1 handed
 
 shared_lacks : Says shared (Lacks 0 1 1)
-shared_lacks = (shared_first.lives, segment_lacks 3 (frame_of eight deeper) (frame_of eight shared) 0 1 hands (λ e. omega (arith, e)))
+shared_lacks = (shared_first.lives, segment_lacks 3 (frame_of eight deeper) (frame_of eight shared) 0 1 handed (λ e. omega (arith, e)))
 
 -- and does not own all hashes any more: the last one of them is slot 1's
 shared_lost : Says shared (Owns 0 0 0) → ⊥
@@ -217,14 +180,8 @@ lagging_half : HoldsFact eight 1 shared (Owns 0 1 0) deeper
 lagging_half = (shared_keeps (Owns 0 1 0) other_half).without deeper_half
 
 -- ENTRY 1 names slot 1, which owns its hashes
-abbrev named : Words
-named = with_word shared 34 1
-
 names : NamesClaimer (frame_of eight shared) 1 1
 names = claimer_by_claims (frame_of eight shared) 1 1 0 1 1 refl (lit≤ tt) (lit< tt) refl shared_owns
-
-named-sound : HasSoundFrame eight named
-named-sound = (names_claimer eight shared eight-IsShape shared-sound 1 1 names).goes_on.sound
 
 named_keeps : KeepsFacts eight 1 shared shared 34 1
 named_keeps = named_claimer eight 1 shared shared (settled shared shared-sound) refl 1 1 (names, names)
@@ -239,9 +196,6 @@ named_deep : Says named (Deep 0 1 1)
 named_deep = deep_told (frame_of eight named) 0 1 (lit< tt)
 
 -- THE SPLIT ENDS, which the two facts allow: slot 0 is normal, with depth 1 and pattern 0
-abbrev ended : Words
-ended = with_word named 65 65793
-
 may_end : EndsSplit (frame_of eight named) 0 65793
 may_end = record {
   slot = lit< tt;

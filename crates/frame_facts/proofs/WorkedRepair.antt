@@ -9,13 +9,13 @@ use Rattle.segment_table.specs.Stores.{FreesSlot, NamesSide, DropsSplit, Renews}
 use Rattle.segment_table.proofs.frames.Regions.{top_below}
 use Rattle.segment_table.proofs.Claimers.{unready_claims_all}
 use Rattle.segment_table.proofs.StoreLaws.{opens, frees_slot, drops_split}
-use Rattle.segment_table.proofs.WorkedSplit.{eight}
+use Rattle.segment_table.proofs.WorkedSplit.{eight, deeper, deeper-sound, shared}
 use Rattle.frame_facts.specs.Facts.{Fact, Lives, Current, Rooted, Owns, Begins, Taken, IsNewSide, HoldsFact}
 use Rattle.frame_facts.specs.Keeping.{KeepsFact, KeepsFacts}
 use Rattle.frame_facts.proofs.Sides.{one_parent}
 use Rattle.frame_facts.proofs.Stores.{frees, drops, renewed, named_side}
 use Rattle.frame_facts.proofs.Told.{current_told, unready_claims, names_side}
-use Rattle.frame_facts.proofs.WorkedFacts.{deeper, deeper-sound, shared, shared-sound, eight-IsShape, settled}
+use Rattle.frame_facts.proofs.WorkedFacts.{shared-sound, eight-IsShape, settled}
 
 abbrev Says : Words → Fact → Type 0
 Says word fact = HoldsFact eight 2 word fact word

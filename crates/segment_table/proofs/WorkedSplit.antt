@@ -82,28 +82,28 @@ formatted-sound = record {
 
 -- THE SPLIT of slot 0 into slots 0 and 1, store by store
 -- a restart clears the marker
-abbrev opened : Words
+abbrev pub opened : Words
 opened = with_word formatted 16 1
 
-opened-sound : HasSoundFrame eight opened
+pub opened-sound : HasSoundFrame eight opened
 opened-sound =
     (opens eight formatted eight-IsShape formatted-sound 1 (record { some = lit≤ tt; past = formatted-sound.past })).goes_on.sound
 
 -- the link of slot 0 names slot 1
-abbrev linked : Words
-linked = with_word opened 66 2
+abbrev pub joined : Words
+joined = with_word opened 66 2
 
-linked-sound : HasSoundFrame eight linked
-linked-sound =
+pub joined-sound : HasSoundFrame eight joined
+joined-sound =
     (links eight opened eight-IsShape opened-sound 0 2 (record { slot = lit< tt; not_splitting = λ e. omega (arith, e); in_range = lit≤ tt })).goes_on.sound
 
 -- slot 0 is splitting
-abbrev split : Words
-split = with_word linked 65 513
+abbrev pub split : Words
+split = with_word joined 65 513
 
-split-sound : HasSoundFrame eight split
+pub split-sound : HasSoundFrame eight split
 split-sound =
-    (begins_split eight linked eight-IsShape linked-sound 0 513
+    (begins_split eight joined eight-IsShape joined-sound 0 513
     (record {
       slot = lit< tt;
       was = refl;
@@ -113,20 +113,20 @@ split-sound =
     })).goes_on.sound
 
 -- slot 1 is new, with depth 1 and pattern 1
-abbrev taken : Words
+abbrev pub taken : Words
 taken = with_word split 2209 4295033601
 
-taken-sound : HasSoundFrame eight taken
+pub taken-sound : HasSoundFrame eight taken
 taken-sound =
     (takes_slot eight split eight-IsShape split-sound 1 4295033601
     (record { slot = lit< tt; was = refl; unlinked = refl; becomes = refl; depth = lit≤ tt; pattern = lit< tt; past = lit≤ tt })).goes_on.sound
 
 -- both entries of the directory area of depth 1 name slot 0 already, and the root becomes 1
-abbrev doubled : Words
-doubled = with_word taken 8 1
+abbrev pub deeper : Words
+deeper = with_word taken 8 1
 
-doubled-sound : HasSoundFrame eight doubled
-doubled-sound = (doubles eight taken eight-IsShape taken-sound (record { room = lit< tt; filled = filled })).goes_on.sound
+pub deeper-sound : HasSoundFrame eight deeper
+deeper-sound = (doubles eight taken eight-IsShape taken-sound (record { room = lit< tt; filled = filled })).goes_on.sound
   where
     filled : (i : ℕ) → i < 2 → taken (33 + i) ≡ taken (32 + i / 2)
     filled i below = elim (cases_eq i 0) [
@@ -138,12 +138,12 @@ doubled-sound = (doubles eight taken eight-IsShape taken-sound (record { room = 
         second i below other = omega (arith, below, other)
 
 -- slot 1 becomes normal, and takes the hashes with the top bit 1
-abbrev shared : Words
-shared = with_word doubled 2209 4295033089
+abbrev pub shared : Words
+shared = with_word deeper 2209 4295033089
 
-handed : StoreHandsOver eight doubled 0 1 2209 4295033089
+pub handed : StoreHandsOver eight deeper 0 1 2209 4295033089
 handed =
-    goes_live eight doubled eight-IsShape doubled-sound 0 1 4295033089
+    goes_live eight deeper eight-IsShape deeper-sound 0 1 4295033089
     (record {
       slot = lit< tt;
       splits = refl;
@@ -158,16 +158,16 @@ handed =
     })
 
 -- entry 1 names it
-abbrev named : Words
+abbrev pub named : Words
 named = with_word shared 34 1
 
-named-sound : HasSoundFrame eight named
+pub named-sound : HasSoundFrame eight named
 named-sound =
     (names_claimer eight shared eight-IsShape handed.goes_on.sound 1 1
     (record { index = lit< tt; claims = λ h fits at. (handed.given h fits at).1 })).goes_on.sound
 
 -- slot 0 is normal again, with depth 1 and pattern 0
-abbrev ended : Words
+abbrev pub ended : Words
 ended = with_word named 65 65793
 
 ended-sound : HasSoundFrame eight ended
@@ -189,11 +189,11 @@ ended-sound =
 
 -- A REPAIR of this split, where it was cut off before slot 1 is live: slot 1 is free, and its other fields stay
 abbrev freed : Words
-freed = with_word doubled 2209 4295032833
+freed = with_word deeper 2209 4295032833
 
 freed-sound : HasSoundFrame eight freed
 freed-sound =
-    (frees_slot eight doubled eight-IsShape doubled-sound 1 4295032833
+    (frees_slot eight deeper eight-IsShape deeper-sound 1 4295032833
     (record { slot = lit< tt; was = refl; becomes = refl; past = lit≤ tt })).goes_on.sound
 
 -- and slot 0 is normal again, as deep as before
@@ -251,7 +251,7 @@ formatted_owners : (owner (frame_of eight formatted) low ≡ Some 0) × (owner (
 unfolding owner_below
 formatted_owners = (refl, refl)
 
-doubled_owners : (owner (frame_of eight doubled) low ≡ Some 0) × (owner (frame_of eight doubled) high ≡ Some 0)
+doubled_owners : (owner (frame_of eight deeper) low ≡ Some 0) × (owner (frame_of eight deeper) high ≡ Some 0)
 unfolding owner_below
 doubled_owners = (refl, refl)
 
