@@ -12,6 +12,3 @@ pub mod places;
 
 pub use laws::{free_guards_are_won, outcomes_have_causes, publishings_are_parts};
 pub use op::{DirectoryEnd, DirectoryOp, DirectoryStep, Stage};
-
-#[cfg(test)]
-mod tests;

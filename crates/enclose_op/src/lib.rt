@@ -14,6 +14,3 @@ pub use enclosed::Enclosed;
 pub use give::{Give, give_from, given};
 pub use laws::{all_is_given_back, enclosings_are_parts, ends_have_causes, ends_tell};
 pub use op::{EncloseEnd, EncloseOp, EncloseStep, NotEnclosed};
-
-#[cfg(test)]
-mod tests;

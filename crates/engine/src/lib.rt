@@ -28,6 +28,3 @@ pub use turns::{
     close_is_session, core_begins, cut_is_session, holding_is_good, opened_holds, through_is_quiet,
     turn_keeps, turns_alone, turns_keep,
 };
-
-#[cfg(test)]
-mod tests;

@@ -16,6 +16,3 @@ pub mod stage;
 pub use laws::{mends_are_parts, mends_end_repaired};
 pub use op::{MendEnd, MendOp, MendStep};
 pub use stage::Stage;
-
-#[cfg(test)]
-mod tests;

@@ -17,6 +17,3 @@ mod taking;
 pub use laws::{ends_tell, moves_are_parts, moves_in_order, replies_are_as_seen};
 pub use op::MoveOp;
 pub use step::{Direction, Leg, MoveEnd, MoveStep, Shift};
-
-#[cfg(test)]
-mod tests;

@@ -14,6 +14,3 @@ pub use laws::{asks_within, ends_have_causes, ends_in_time, fits_the_world, gets
 pub use op::ReadOp;
 pub use role::Free;
 pub use step::{ReadEnd, ReadStep, Seen, Task};
-
-#[cfg(test)]
-mod tests;

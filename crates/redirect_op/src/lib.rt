@@ -13,6 +13,3 @@ pub mod step;
 pub use laws::{ends_have_causes, redirects_are_parts};
 pub use op::RedirectOp;
 pub use step::{RedirectEnd, RedirectStep};
-
-#[cfg(test)]
-mod tests;

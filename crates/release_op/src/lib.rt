@@ -10,6 +10,3 @@ pub mod op;
 
 pub use laws::{ends_tell, releases_are_parts, releases_find_no_room};
 pub use op::{ReleaseEnd, ReleaseOp, ReleaseStep};
-
-#[cfg(test)]
-mod tests;

@@ -16,6 +16,3 @@ pub use guarded::Guarded;
 pub use laws::{ends_have_causes, guarded_segments_are_stale, repairs_are_parts};
 pub use op::RepairOp;
 pub use step::{RepairEnd, RepairStep, Settling};
-
-#[cfg(test)]
-mod tests;

@@ -12,6 +12,3 @@ pub mod reckon;
 
 pub use laws::rests_are_parts;
 pub use op::{RestEnd, RestOp, RestStep};
-
-#[cfg(test)]
-mod tests;

@@ -13,8 +13,3 @@ pub use close::{CloseOp, CloseStep, Closed};
 pub use closing::{close_begins, close_ends, close_keeps};
 pub use laws::{one_segment_is_live, restart_begins, restart_ends, restart_keeps};
 pub use restart::{RestartOp, RestartStep, Started};
-
-#[cfg(test)]
-mod close_tests;
-#[cfg(test)]
-mod tests;

@@ -13,6 +13,3 @@ pub use laws::{
     rounds_may_go, rounds_settle_views,
 };
 pub use rounds::{RoundStep, Rounds};
-
-#[cfg(test)]
-mod tests;

@@ -21,6 +21,3 @@ pub use copied::Copied;
 pub use laws::{ends_have_causes, new_slots_were_free, splits_are_parts};
 pub use op::SplitOp;
 pub use step::{SplitEnd, SplitStep};
-
-#[cfg(test)]
-mod tests;

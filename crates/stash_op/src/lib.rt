@@ -16,6 +16,3 @@ mod taking;
 pub use laws::{ends_tell, replies_are_as_seen, stashes_are_parts};
 pub use op::StashOp;
 pub use step::{NoteBucket, NoteWords, Seen, Stage, StashBucket, StashEnd, StashStep};
-
-#[cfg(test)]
-mod tests;

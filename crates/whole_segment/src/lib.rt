@@ -21,6 +21,3 @@ pub use loaded::{KEYS, Loaded};
 pub use marks::{cleared_mark, copied_mark};
 pub use notes::{Notes, rebuilt_notes};
 pub use round::{MOST_LINES, Round};
-
-#[cfg(test)]
-mod tests;

@@ -18,6 +18,3 @@ pub use laws::{
 };
 pub use op::WriteOp;
 pub use step::{Seen, Spot, Stage, Task, WriteEnd, WriteStep};
-
-#[cfg(test)]
-mod tests;

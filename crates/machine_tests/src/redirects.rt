@@ -1,8 +1,8 @@
 //! Stale segments in slot 0, with a ready side in slot 1 or without one: the events by which entries are redirected, what is handed on, and the
 //! ends.
-use super::*;
 use image_layout::Geometry;
 use op_core::{Ans, Machine, Want, Why};
+use redirect_op::{RedirectEnd, RedirectOp};
 use repair_op::Guarded;
 use std::test::Fail;
 use world::Site;

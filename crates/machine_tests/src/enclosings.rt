@@ -1,6 +1,6 @@
 //! Enclosings of slot 0 of a small image, for an insert of key 28, whose home bucket is the first, on words that another caller may
 //! change: their events, what is kept, and their ends.
-use super::*;
+use enclose_op::{EncloseEnd, EncloseOp, NotEnclosed};
 use image_layout::Geometry;
 use map_model::{Change, Effect, Reply};
 use op_core::{Ans, Machine, Want, Why};

@@ -1,7 +1,7 @@
-// Inserts that found home and probing bucket full, on the words of an image with one segment and the identity as its hash.
-use super::*;
+//! Inserts that found home and probing bucket full, on the words of an image with one segment and the identity as its hash.
 use image_layout::Geometry;
 use map_model::{Change, Effect, Reply};
+use move_op::{MoveEnd, MoveOp};
 use op_core::{Ans, Machine, Want, Why};
 use phase::{Buckets, Held, Kept};
 use std::test::Fail;

@@ -1,6 +1,6 @@
 //! Mendings of slot 0 of a small image: their events.
-use super::*;
 use image_layout::Geometry;
+use mend_op::{MendEnd, MendOp, MendStep};
 use op_core::{Ans, Machine, Want};
 use repair_op::Guarded;
 use std::test::Fail;

@@ -1,10 +1,10 @@
-// The events of a split in an image of two slots, up to where it hands on, and of two that end before. Slot 0 has a segment of depth 0, and
-// slot 1 is free. The words of the side were reckoned by the plain model of a split.
-use super::*;
+//! The events of a split in an image of two slots, up to where it hands on, and of two that end before. Slot 0 has a segment of depth 0, and
+//! slot 1 is free. The words of the side were reckoned by the plain model of a split.
 use enclose_op::Enclosed;
 use image_layout::Geometry;
 use map_model::{Change, Effect};
 use op_core::{Ans, Machine, Want, Why};
+use split_op::{SplitEnd, SplitOp};
 use std::test::Fail;
 use world::Site;
 

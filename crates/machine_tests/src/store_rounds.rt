@@ -1,6 +1,6 @@
-// The events of some stores in rounds.
-use super::*;
+//! The events of some stores in rounds.
 use op_core::Want;
+use rounds::Rounds;
 
 #[test]
 fn two_lines_in_a_round(rt: HostRuntime) {

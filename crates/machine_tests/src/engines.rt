@@ -1,8 +1,8 @@
-// Attempts on the words of a table of one segment in which `1 insert 5 7` was done, and calls that split or repair a segment of an image of two
-// slots.
-use super::*;
+//! Attempts on the words of a table of one segment in which `1 insert 5 7` was done, and calls that split or repair a segment of an image of two
+//! slots.
 use directory_op::DirectoryEnd;
 use enclose_op::{EncloseEnd, NotEnclosed};
+use engine::{End, Engine};
 use image_layout::Geometry;
 use map_model::{Call, Reply};
 use mend_op::MendEnd;

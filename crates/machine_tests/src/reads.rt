@@ -1,8 +1,8 @@
-// A get over the words of a table of one segment in which key 5 stands in its home bucket with value 7, and key 6 in the first
-// stash bucket with value 9.
-use super::*;
+//! A get over the words of a table of one segment in which key 5 stands in its home bucket with value 7, and key 6 in the first
+//! stash bucket with value 9.
 use image_layout::Geometry;
 use op_core::{Ans, Machine, Want, Why};
+use read_op::{ReadEnd, ReadOp};
 use std::test::Fail;
 use world::Site;
 

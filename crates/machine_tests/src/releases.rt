@@ -1,10 +1,10 @@
 //! Releases of the locks of an insert of key 5, whose home bucket is the first of its segment: their events, their ends, and answers
 //! that were not asked for.
-use super::*;
 use image_layout::Geometry;
 use map_model::{Change, Effect};
 use op_core::{Ans, Machine, Want};
 use phase::{Buckets, Held, Kept, Role};
+use release_op::{ReleaseEnd, ReleaseOp};
 use std::test::Fail;
 use world::Site;
 

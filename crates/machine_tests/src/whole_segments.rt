@@ -1,9 +1,8 @@
 //! The file format's own examples: a stash full of notes, a key that stands twice after a cut, and segments without room.
-
-use super::*;
 use image_layout::Geometry;
 use std::process::Abort;
 use std::test::Fail;
+use whole_segment::{Loaded, Round, cleared_mark, copied_mark, rebuilt_notes};
 
 /// Puts a key into a slot that is taken.
 fn put(rt: &impl Abort, loaded: &mut Loaded, bucket: u8, slot: u8, key: u64) {

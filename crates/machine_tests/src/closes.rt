@@ -1,7 +1,7 @@
-// A close of the smallest image, event for event: it has 2208 words, which are 276 lines.
-use super::*;
+//! A close of the smallest image, event for event: it has 2208 words, which are 276 lines.
 use image_layout::Geometry;
 use op_core::{Ans, Machine, Want};
+use restart_op::{CloseOp, CloseStep, Closed};
 use std::test::Fail;
 
 #[test]

@@ -1,5 +1,5 @@
-// The events of a publishing where the directory is deep enough, and of one that waits and doubles it, in an image of two slots.
-use super::*;
+//! The events of a publishing where the directory is deep enough, and of one that waits and doubles it, in an image of two slots.
+use directory_op::{DirectoryEnd, DirectoryOp, DirectoryStep};
 use enclose_op::Enclosed;
 use image_layout::{BUCKETS, Geometry, WORDS_OF_BUCKETS};
 use map_model::{Change, Effect};

@@ -1,7 +1,7 @@
-// Restarts of images of one slot and of nine, event for event. Bit 8 of the state word is the marker.
-use super::*;
+//! Restarts of images of one slot and of nine, event for event. Bit 8 of the state word is the marker.
 use image_layout::Geometry;
 use op_core::{Ans, Machine, Want};
+use restart_op::{RestartOp, RestartStep, Started};
 use std::test::Fail;
 
 // The last three events of a restart, and what it leaves.

@@ -1,8 +1,8 @@
 //! Repairs of slot 0 of an image of two slots, of version 2, up to where another machine goes on: their events, what is handed on, and their
 //! ends.
-use super::*;
 use image_layout::Geometry;
 use op_core::{Ans, Machine, Want, Why};
+use repair_op::{Guarded, RepairEnd, RepairOp};
 use std::test::Fail;
 use world::Site;
 

@@ -1,9 +1,9 @@
 //! The rest of a split of a segment with three records: one went to the side, and one stands in the stash.
-use super::*;
 use enclose_op::Enclosed;
 use image_layout::{BUCKETS, Geometry, WORDS_OF_BUCKETS};
 use map_model::{Change, Effect};
 use op_core::{Ans, Machine, Want};
+use rest_op::{RestEnd, RestOp};
 use std::test::Fail;
 use world::Site;
 

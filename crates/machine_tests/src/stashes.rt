@@ -1,11 +1,11 @@
-// Records that come to the stash of a new image with one segment, on words that another caller may change.
-use super::*;
+//! Records that come to the stash of a new image with one segment, on words that another caller may change.
 use bucket_meta::words::must_visit;
 use hash_word::finger;
 use image_layout::Geometry;
 use map_model::{Change, Effect, Reply};
 use op_core::{Ans, Machine, Want, Why};
 use phase::{Buckets, Held, Kept, Role};
+use stash_op::{StashEnd, StashOp};
 use std::test::Fail;
 use world::Site;
 

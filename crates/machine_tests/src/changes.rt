@@ -1,5 +1,4 @@
-// Changes on the words of a new image with one segment, and on such words that another caller changes.
-use super::*;
+//! Changes on the words of a new image with one segment, and on such words that another caller changes.
 use image_layout::Geometry;
 use map_model::{Change, Effect, Reply};
 use op_core::{Ans, Machine, Want, Why};
@@ -7,6 +6,7 @@ use phase::{Held, Kept};
 use std::process::Abort;
 use std::test::Fail;
 use world::Site;
+use write_op::{WriteEnd, WriteOp};
 
 /// The commit counter's word.
 const COUNTER: usize = 2208;
