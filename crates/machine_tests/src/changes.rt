@@ -1,15 +1,12 @@
 //! Changes on the words of a new image with one segment, and on such words that another caller changes.
-use image_layout::Geometry;
+use crate::memory::{Memory, site};
 use map_model::{Change, Effect, Reply};
 use op_core::{Ans, Machine, Want, Why};
 use phase::{Held, Kept};
 use std::process::Abort;
 use std::test::Fail;
-use world::Site;
 use write_op::{WriteEnd, WriteOp};
 
-/// The commit counter's word.
-const COUNTER: usize = 2208;
 /// The metadata word of a bucket of which all record slots are taken.
 const ALL: u64 = 0x3FFF;
 /// The lock words of the home bucket of key 5, of its probing bucket, and of both stash buckets.
@@ -17,102 +14,27 @@ const LOCKS: [u64; 4] = [96, 128, 2144, 2176];
 /// The metadata word of a home bucket of which one record stands in the stash without a note.
 const COUNTED: u64 = 1 << 40;
 
-/// A small memory: the words of an image and those behind it, and a word that another caller stores before an event.
-#[derive(Drop)]
-struct Memory {
-    words: [u64; 2213],
-    power: u64,
-    events: u64,
-    other: (u64, u64, u64),
+/// A memory of a new image with these words in it.
+fn with(pairs: &[(u64, u64)]) -> Result<Memory, Fail> {
+    let mut memory = Memory::of(1, 0, &[(65, 257)])?;
+    memory.set_all(pairs);
+    Ok(memory)
 }
 
-fn fresh() -> Memory {
-    let mut words = [0; 2213];
-    words[65] = 257;
-    Memory {
-        words,
-        power: 0,
-        events: 0,
-        other: (u64::MAX, 0, 0),
-    }
+fn begun(effect: Effect) -> Result<WriteOp, Fail> {
+    Ok(WriteOp::new(Change { key: 5, effect }, site(1, 0)?))
 }
 
-/// A memory with these words in it.
-fn with(pairs: &[(u64, u64)]) -> Memory {
-    let mut memory = fresh();
-    for (at, value) in pairs {
-        memory.set(*at, *value);
-    }
-    memory
-}
-
-impl Memory {
-    fn word(&self, at: u64) -> u64 {
-        if at < 2213 {
-            self.words[at as usize]
-        } else {
-            0
-        }
-    }
-
-    fn set(&mut self, at: u64, value: u64) {
-        if at < 2213 {
-            self.words[at as usize] = value;
-        }
-    }
-
-    fn answer(&mut self, want: Want) -> Ans {
-        let (before, at, value) = self.other;
-        if self.events == before {
-            self.set(at, value);
-        }
-        self.events = self.events.wrapping_add(1);
-        match want {
-            Want::Load(at) => Ans::Value(self.word(at)),
-            Want::Store(at, value) => {
-                self.set(at, value);
-                Ans::Passed
-            }
-            Want::Exchange(at, old, new) => {
-                let found = self.word(at);
-                if found == old {
-                    self.set(at, new);
-                    Ans::Won
-                } else {
-                    Ans::Lost(found)
-                }
-            }
-            Want::Draw => {
-                let place = self.words[COUNTER];
-                self.words[COUNTER] = place.wrapping_add(1);
-                Ans::Drawn(place)
-            }
-            Want::Power => Ans::Value(self.power),
-            Want::Flush(_) | Want::Fence | Want::Done => Ans::Passed,
-        }
-    }
-
-    /// Runs a change of key 5 to its end: how it ended, and after how many events.
-    fn run(&mut self, effect: Effect) -> Result<(WriteEnd, u64), Fail> {
-        let mut op = WriteOp::new(Change { key: 5, effect }, site()?);
-        self.events = 0;
-        for _ in 0..200u8 {
-            let want = op.want();
-            if want == Want::Done {
-                return Ok((op.end(), self.events));
-            }
-            op.take(self.answer(want));
-        }
-        Ok((WriteEnd::Off, 200))
-    }
-}
-
-fn site() -> Result<Site, Fail> {
-    Ok(Site {
-        geometry: Geometry::new(1, 0, 0)?,
-        version: 1,
-        caller: 1,
-    })
+/// Runs a change of key 5 to its end: how it ended, and after how many events.
+fn run(memory: &mut Memory, effect: Effect) -> Result<(WriteEnd, u64), Fail> {
+    let mut op = begun(effect)?;
+    memory.run(&mut op);
+    let end = if op.want() == Want::Done {
+        op.end()
+    } else {
+        WriteEnd::Off
+    };
+    Ok((end, memory.events))
 }
 
 fn replied(reply: Reply, place: u64) -> WriteEnd {
@@ -121,13 +43,7 @@ fn replied(reply: Reply, place: u64) -> WriteEnd {
 
 /// An insert of key 5 that has loaded both its buckets, in a memory where no stash bucket is visited.
 fn decided_in(rt: &impl Abort, memory: &mut Memory) -> Result<WriteOp, Fail> {
-    let mut op = WriteOp::new(
-        Change {
-            key: 5,
-            effect: Effect::Insert(7),
-        },
-        site()?,
-    );
+    let mut op = begun(Effect::Insert(7))?;
     let before = [
         Want::Power,
         Want::Load(8),
@@ -156,7 +72,7 @@ fn decided_in(rt: &impl Abort, memory: &mut Memory) -> Result<WriteOp, Fail> {
 
 #[test]
 fn events_of_an_insert(rt: HostRuntime) -> Result<(), Fail> {
-    let mut memory = fresh();
+    let mut memory = with(&[])?;
     let mut op = decided_in(&rt, &mut memory)?;
     let after = [
         Want::Load(2208),
@@ -177,14 +93,14 @@ fn events_of_an_insert(rt: HostRuntime) -> Result<(), Fail> {
         assert_eq!(rt; op.want(), want);
         op.take(memory.answer(want));
     }
-    let end = fresh().run(Effect::Insert(7))?;
+    let end = run(&mut with(&[])?, Effect::Insert(7))?;
     assert_eq!(rt; end, (replied(Reply::Done, 0), 85));
     Ok(())
 }
 
 #[test]
 fn events_of_an_insert_into_the_probing_bucket(rt: HostRuntime) -> Result<(), Fail> {
-    let mut memory = with(&[(97, 1)]);
+    let mut memory = with(&[(97, 1)])?;
     let mut op = decided_in(&rt, &mut memory)?;
     let after = [
         Want::Load(2208),
@@ -221,8 +137,8 @@ fn record_goes_to_the_less_full_bucket(rt: HostRuntime) -> Result<(), Fail> {
         (0x1FFF, ALL, 96, 13),
     ];
     for (home, probing, lock, slot) in table {
-        let mut memory = with(&[(97, home), (129, probing)]);
-        let (end, _) = memory.run(Effect::Insert(7))?;
+        let mut memory = with(&[(97, home), (129, probing)])?;
+        let (end, _) = run(&mut memory, Effect::Insert(7))?;
         assert_eq!(rt; end, replied(Reply::Done, 0));
         let record = lock.wrapping_add(slot.wrapping_mul(2));
         assert_eq!(rt; memory.word(record.wrapping_add(4)), 5, "at {record}");
@@ -241,7 +157,7 @@ fn record_goes_to_the_less_full_bucket(rt: HostRuntime) -> Result<(), Fail> {
 
 #[test]
 fn changes_one_after_another(rt: HostRuntime) -> Result<(), Fail> {
-    let mut memory = fresh();
+    let mut memory = with(&[])?;
     let table = [
         (Effect::Update(9), Reply::Absent, 0, 76),
         (Effect::Insert(7), Reply::Done, 0, 85),
@@ -251,7 +167,7 @@ fn changes_one_after_another(rt: HostRuntime) -> Result<(), Fail> {
         (Effect::Remove, Reply::Absent, 3, 76),
     ];
     for (effect, reply, place, events) in table {
-        let end = memory.run(effect)?;
+        let end = run(&mut memory, effect)?;
         assert_eq!(rt; end, (replied(reply, place), events));
     }
     for (at, value) in [
@@ -271,8 +187,8 @@ fn changes_one_after_another(rt: HostRuntime) -> Result<(), Fail> {
 
 #[test]
 fn record_of_a_second_line(rt: HostRuntime) -> Result<(), Fail> {
-    let mut memory = with(&[(97, 3), (129, 3)]);
-    let end = memory.run(Effect::Insert(7))?;
+    let mut memory = with(&[(97, 3), (129, 3)])?;
+    let end = run(&mut memory, Effect::Insert(7))?;
     assert_eq!(rt; end, (replied(Reply::Done, 0), 86));
     assert_eq!(rt; memory.word(97), 7);
     assert_eq!(rt; memory.word(104), 5);
@@ -333,33 +249,33 @@ fn stands_in(
 }
 
 /// A memory with this record of key 5, of value 7.
-fn holding(there: &Standing) -> Memory {
-    let mut memory = with(&there.notes);
+fn holding(there: &Standing) -> Result<Memory, Fail> {
+    let mut memory = with(&there.notes)?;
     for (at, value) in [(1, there.mark), (2, 5), (4, 5), (5, 7)] {
         memory.set(there.lock.wrapping_add(at), value);
     }
-    memory
+    Ok(memory)
 }
 
 #[test]
 fn record_is_found_everywhere(rt: HostRuntime) -> Result<(), Fail> {
     for there in &standings() {
-        let mut memory = holding(there);
-        let end = memory.run(Effect::Insert(8))?;
+        let mut memory = holding(there)?;
+        let end = run(&mut memory, Effect::Insert(8))?;
         let back = there.events.wrapping_add(there.locks);
         assert_eq!(rt; end, (replied(Reply::Exists, 0), back));
         assert_eq!(rt; memory.word(there.lock), 2);
-        let end = memory.run(Effect::Update(9))?;
+        let end = run(&mut memory, Effect::Update(9))?;
         assert_eq!(rt; end, (replied(Reply::Done, 0), back.wrapping_add(4)));
         assert_eq!(rt; memory.word(there.lock.wrapping_add(5)), 9);
-        let end = memory.run(Effect::Remove)?;
+        let end = run(&mut memory, Effect::Remove)?;
         let events = back.wrapping_add(4).wrapping_add(there.stores);
         assert_eq!(rt; end, (replied(Reply::Done, 1), events));
         assert_eq!(rt; memory.word(there.lock.wrapping_add(1)), 0);
         for (at, _) in there.notes {
             assert_eq!(rt; memory.word(at), 0, "at {at}");
         }
-        let end = memory.run(Effect::Remove)?;
+        let end = run(&mut memory, Effect::Remove)?;
         assert_eq!(rt; end, (replied(Reply::Absent, 2), 76));
     }
     Ok(())
@@ -369,17 +285,17 @@ fn record_is_found_everywhere(rt: HostRuntime) -> Result<(), Fail> {
 fn each_lock_is_another_s(rt: HostRuntime) -> Result<(), Fail> {
     let looks = [4u64, 6, 73, 106];
     for (lock, look) in LOCKS.into_iter().zip(looks) {
-        let mut memory = with(&[(97, COUNTED), (lock, 3)]);
-        let (end, _) = memory.run(Effect::Insert(7))?;
+        let mut memory = with(&[(97, COUNTED), (lock, 3)])?;
+        let (end, _) = run(&mut memory, Effect::Insert(7))?;
         let busy = Why::Busy {
             word: lock,
             seen: 3,
         };
         assert_eq!(rt; end, WriteEnd::Again(busy));
         for (after, value) in [(3u64, 3u64), (4, 4)] {
-            let mut memory = with(&[(97, COUNTED)]);
+            let mut memory = with(&[(97, COUNTED)])?;
             memory.other = (look.wrapping_add(1), lock, after);
-            let (end, _) = memory.run(Effect::Insert(7))?;
+            let (end, _) = run(&mut memory, Effect::Insert(7))?;
             let moved = Why::Moved {
                 word: lock,
                 before: 0,
@@ -402,13 +318,13 @@ fn each_lock_is_another_s(rt: HostRuntime) -> Result<(), Fail> {
 #[test]
 fn each_number_is_spent(rt: HostRuntime) -> Result<(), Fail> {
     for lock in LOCKS {
-        let mut memory = with(&[(97, COUNTED), (lock, u64::MAX - 1), (2208, 6)]);
-        let (end, _) = memory.run(Effect::Insert(7))?;
+        let mut memory = with(&[(97, COUNTED), (lock, u64::MAX - 1), (2208, 6)])?;
+        let (end, _) = run(&mut memory, Effect::Insert(7))?;
         assert_eq!(rt; end, replied(Reply::Spent, 6));
         assert_eq!(rt; memory.word(lock), u64::MAX - 1);
     }
-    let mut memory = with(&[(2208, 1 << 63)]);
-    let end = memory.run(Effect::Insert(7))?;
+    let mut memory = with(&[(2208, 1 << 63)])?;
+    let end = run(&mut memory, Effect::Insert(7))?;
     assert_eq!(rt; end, (replied(Reply::Spent, 1 << 63), 76));
     assert_eq!(rt; memory.word(96), 2);
     Ok(())
@@ -418,7 +334,7 @@ fn each_number_is_spent(rt: HostRuntime) -> Result<(), Fail> {
 fn way_is_amiss(rt: HostRuntime) -> Result<(), Fail> {
     let table = [(8u64, 1), (32, 1), (65, 1)];
     for (word, value) in table {
-        let end = with(&[(word, value)]).run(Effect::Remove)?;
+        let end = run(&mut with(&[(word, value)])?, Effect::Remove)?;
         let why = Why::Moved {
             word,
             before: value,
@@ -426,16 +342,14 @@ fn way_is_amiss(rt: HostRuntime) -> Result<(), Fail> {
         };
         assert_eq!(rt; end.0, WriteEnd::Again(why), "at {word}");
     }
-    let end = with(&[(65, 258)]).run(Effect::Remove)?;
+    let end = run(&mut with(&[(65, 258)])?, Effect::Remove)?;
     assert_eq!(rt; end, (WriteEnd::Stale(0, 2), 4));
-    let mut memory = fresh();
-    memory.power = 1;
-    let end = memory.run(Effect::Remove)?;
+    let end = run(&mut with(&[(2209, 1)])?, Effect::Remove)?;
     assert_eq!(rt; end, (WriteEnd::Off, 1));
     for (event, word, before) in [(8u64, 8u64, 0), (9, 32, 0), (10, 65, 257)] {
-        let mut memory = fresh();
+        let mut memory = with(&[])?;
         memory.other = (event, word, 3);
-        let (end, _) = memory.run(Effect::Remove)?;
+        let (end, _) = run(&mut memory, Effect::Remove)?;
         let why = Why::Moved {
             word,
             before,
@@ -452,8 +366,8 @@ fn way_is_amiss(rt: HostRuntime) -> Result<(), Fail> {
 fn header_leads_away(rt: HostRuntime) -> Result<(), Fail> {
     // one of a segment that is being split, and one of the other half of all hashes
     for head in [513u64, 257 + (1 << 16) + (1 << 32)] {
-        let mut memory = with(&[(65, head)]);
-        let end = memory.run(Effect::Remove)?;
+        let mut memory = with(&[(65, head)])?;
+        let end = run(&mut memory, Effect::Remove)?;
         let why = Why::Moved {
             word: 65,
             before: head,
@@ -468,13 +382,7 @@ fn header_leads_away(rt: HostRuntime) -> Result<(), Fail> {
 
 /// What an insert of key 5 keeps in a memory where it finds no slot.
 fn kept_in(memory: &mut Memory) -> Result<Kept, Fail> {
-    let mut op = WriteOp::new(
-        Change {
-            key: 5,
-            effect: Effect::Insert(7),
-        },
-        site()?,
-    );
+    let mut op = begun(Effect::Insert(7))?;
     for _ in 0..140u8 {
         let want = op.want();
         op.take(memory.answer(want));
@@ -484,12 +392,12 @@ fn kept_in(memory: &mut Memory) -> Result<Kept, Fail> {
 
 #[test]
 fn both_full_are_handed_on(rt: HostRuntime) -> Result<(), Fail> {
-    let mut memory = with(&[(97, ALL), (129, ALL)]);
-    let end = memory.run(Effect::Insert(7))?;
+    let mut memory = with(&[(97, ALL), (129, ALL)])?;
+    let end = run(&mut memory, Effect::Insert(7))?;
     assert_eq!(rt; end, (WriteEnd::NoSlot, 74));
     assert_eq!(rt; memory.word(96), 1);
     assert_eq!(rt; memory.word(128), 1);
-    let mut memory = with(&[(97, COUNTED + ALL), (129, ALL), (2144, 4), (2208, 6)]);
+    let mut memory = with(&[(97, COUNTED + ALL), (129, ALL), (2144, 4), (2208, 6)])?;
     let kept = kept_in(&mut memory)?;
     let held = Held {
         home: Some(0),

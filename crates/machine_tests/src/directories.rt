@@ -1,7 +1,8 @@
 //! The events of a publishing where the directory is deep enough, and of one that waits and doubles it, in an image of two slots.
+use crate::memory::site;
 use directory_op::{DirectoryEnd, DirectoryOp, DirectoryStep};
 use enclose_op::Enclosed;
-use image_layout::{BUCKETS, Geometry, WORDS_OF_BUCKETS};
+use image_layout::{BUCKETS, WORDS_OF_BUCKETS};
 use map_model::{Change, Effect};
 use op_core::{Ans, Machine, Want};
 use split_op::Copied;
@@ -13,9 +14,8 @@ fn copied() -> Result<Copied, Fail> {
     Ok(Copied {
         whole: Enclosed {
             site: Site {
-                geometry: Geometry::new(2, 1, 0)?,
-                version: 1,
                 caller: 3,
+                ..site(2, 1)?
             },
             change: Change {
                 key: 5,

@@ -1,11 +1,10 @@
 //! Enclosings of slot 0 of a small image, for an insert of key 28, whose home bucket is the first, on words that another caller may
 //! change: their events, what is kept, and their ends.
+use crate::memory::{Memory, site};
 use enclose_op::{EncloseEnd, EncloseOp, NotEnclosed};
-use image_layout::Geometry;
 use map_model::{Change, Effect, Reply};
 use op_core::{Ans, Machine, Want, Why};
 use std::test::Fail;
-use world::Site;
 
 /// The header of a normal segment of version 1 and depth 0.
 const HEAD: u64 = 257;
@@ -16,122 +15,57 @@ const COUNTER: u64 = 4352;
 
 const GUARD: u64 = 4356;
 
-/// A small memory: the words of an image with two slots and those behind it, and a word that another caller stores before an event.
-#[derive(Drop)]
-struct Memory {
-    words: [u64; 4358],
-    events: u64,
-    other: (u64, u64, u64),
-}
-
 /// Bucket 0, bucket 1 and both stash buckets are full, and no record of the first two can be moved; the lock word of bucket 3 had two
-/// versions before.
-fn full() -> Memory {
-    let mut memory = Memory {
-        words: [0; 4358],
-        events: 0,
-        other: (u64::MAX, 0, 0),
-    };
-    for (at, value) in [
-        (65u64, HEAD),
-        (97, 0x3FFF),
-        (129, 0x0FFF_FFFF),
-        (192, 4),
-        (2145, 0x3FFF),
-        (2177, 0x3FFF),
-        (2207, 155),
-        (COUNTER, 30),
-    ] {
-        memory.set(at, value);
-    }
-    memory
-}
-
-/// The same, with another value of a word.
-fn with(at: u64, value: u64) -> Memory {
-    let mut memory = full();
-    memory.set(at, value);
-    memory
+/// versions before; and these words are in it.
+fn full_with(pairs: &[(u64, u64)]) -> Result<Memory, Fail> {
+    let mut memory = Memory::of(
+        2,
+        1,
+        &[
+            (65, HEAD),
+            (97, 0x3FFF),
+            (129, 0x0FFF_FFFF),
+            (192, 4),
+            (2145, 0x3FFF),
+            (2177, 0x3FFF),
+            (2207, 155),
+            (COUNTER, 30),
+        ],
+    )?;
+    memory.set_all(pairs);
+    Ok(memory)
 }
 
 /// An enclosing by caller 1.
 fn begun() -> Result<EncloseOp, Fail> {
-    let site = Site {
-        geometry: Geometry::new(2, 1, 0)?,
-        version: 1,
-        caller: 1,
-    };
     let change = Change {
         key: 28,
         effect: Effect::Insert(128),
     };
-    Ok(EncloseOp::new(site, change, 0))
+    Ok(EncloseOp::new(site(2, 1)?, change, 0))
 }
 
-impl Memory {
-    fn word(&self, at: u64) -> u64 {
-        if at < 4358 {
-            self.words[at as usize]
-        } else {
-            0
-        }
-    }
+/// Runs an enclosing: how that ended, and after how many events.
+fn run(memory: &mut Memory) -> Result<(EncloseEnd, u64), Fail> {
+    let mut op = begun()?;
+    memory.run(&mut op);
+    let end = if op.want() == Want::Done {
+        op.end()
+    } else {
+        EncloseEnd::Off
+    };
+    Ok((end, memory.events))
+}
 
-    fn set(&mut self, at: u64, value: u64) {
-        if at < 4358 {
-            self.words[at as usize] = value;
+/// How many locks of the segment are taken, and the word of its guard.
+fn held_in(memory: &Memory) -> (u8, u64) {
+    let mut taken = 0u8;
+    for bucket in 0..66u8 {
+        if memory.word(96 + 32 * u64::from(bucket)) % 2 == 1 {
+            taken = taken.wrapping_add(1);
         }
     }
-
-    fn answer(&mut self, want: Want) -> Ans {
-        let (before, at, value) = self.other;
-        if self.events == before {
-            self.set(at, value);
-        }
-        self.events = self.events.wrapping_add(1);
-        match want {
-            Want::Load(at) => Ans::Value(self.word(at)),
-            Want::Store(at, value) => {
-                self.set(at, value);
-                Ans::Passed
-            }
-            Want::Exchange(at, old, new) => {
-                let found = self.word(at);
-                if found == old {
-                    self.set(at, new);
-                    Ans::Won
-                } else {
-                    Ans::Lost(found)
-                }
-            }
-            Want::Draw | Want::Power => Ans::Value(0),
-            Want::Flush(_) | Want::Fence | Want::Done => Ans::Passed,
-        }
-    }
-
-    /// Runs an enclosing: how that ended, and after how many events.
-    fn run(&mut self) -> Result<(EncloseEnd, u64), Fail> {
-        let mut op = begun()?;
-        for _ in 0..2400u16 {
-            let want = op.want();
-            if want == Want::Done {
-                return Ok((op.end(), self.events));
-            }
-            op.take(self.answer(want));
-        }
-        Ok((EncloseEnd::Off, self.events))
-    }
-
-    /// How many locks of the segment are taken, and the word of its guard.
-    fn held(&self) -> (u8, u64) {
-        let mut taken = 0u8;
-        for bucket in 0..66u8 {
-            if self.word(96 + 32 * u64::from(bucket)) % 2 == 1 {
-                taken = taken.wrapping_add(1);
-            }
-        }
-        (taken, self.word(GUARD))
-    }
+    (taken, memory.word(GUARD))
 }
 
 fn again(why: Why) -> EncloseEnd {
@@ -144,7 +78,7 @@ fn replied(reply: Reply, place: u64) -> EncloseEnd {
 
 #[test]
 fn events_of_a_whole_segment(rt: HostRuntime) -> Result<(), Fail> {
-    let mut memory = full();
+    let mut memory = full_with(&[])?;
     let mut op = begun()?;
     assert_eq!(rt; op.want(), Want::Exchange(GUARD, 0, 1));
     op.take(memory.answer(Want::Exchange(GUARD, 0, 1)));
@@ -168,7 +102,7 @@ fn events_of_a_whole_segment(rt: HostRuntime) -> Result<(), Fail> {
     assert!(rt; op.hands_on());
     assert!(rt; op.wants_nothing());
     assert_eq!(rt; op.want(), Want::Done);
-    assert_eq!(rt; memory.held(), (66, 1));
+    assert_eq!(rt; held_in(&memory), (66, 1));
     let whole = op.enclosed;
     assert_eq!(rt; (whole.hash, whole.segment, whole.head), (28, 0, HEAD));
     assert_eq!(rt; (whole.locks[2], whole.locks[3]), (0, 4));
@@ -182,10 +116,10 @@ fn events_of_a_whole_segment(rt: HostRuntime) -> Result<(), Fail> {
 
 #[test]
 fn segment_of_the_greatest_depth_is_deep(rt: HostRuntime) -> Result<(), Fail> {
-    let mut memory = with(65, DEEP_HEAD);
-    let end = memory.run()?;
+    let mut memory = full_with(&[(65, DEEP_HEAD)])?;
+    let end = run(&mut memory)?;
     assert_eq!(rt; end, (replied(Reply::Deep, 30), 2248));
-    assert_eq!(rt; memory.held(), (0, 0));
+    assert_eq!(rt; held_in(&memory), (0, 0));
     assert_eq!(rt;
         (memory.word(96), memory.word(192), memory.word(2176)),
         (2, 6, 2)
@@ -195,7 +129,7 @@ fn segment_of_the_greatest_depth_is_deep(rt: HostRuntime) -> Result<(), Fail> {
 
 #[test]
 fn all_is_given_back_in_order(rt: HostRuntime) -> Result<(), Fail> {
-    let mut memory = with(65, HEAD + 1);
+    let mut memory = full_with(&[(65, HEAD + 1)])?;
     let mut op = begun()?;
     for _ in 0..134u8 {
         let want = op.want();
@@ -217,35 +151,35 @@ fn all_is_given_back_in_order(rt: HostRuntime) -> Result<(), Fail> {
 fn there_may_be_room(rt: HostRuntime) -> Result<(), Fail> {
     // A header of another version, of a free slot, and of a segment that covers the other half of the hashes.
     for head in [HEAD + 1, 1, DEEP_HEAD + (1 << 32)] {
-        let mut memory = with(65, head);
-        let end = memory.run()?;
+        let mut memory = full_with(&[(65, head)])?;
+        let end = run(&mut memory)?;
         assert_eq!(rt;
             end,
             (EncloseEnd::Back(NotEnclosed::Room), 201),
             "head {head}"
         );
-        assert_eq!(rt; memory.held(), (0, 0));
+        assert_eq!(rt; held_in(&memory), (0, 0));
     }
     // A free slot of a stash bucket, and one of the home bucket.
     for (at, value) in [(2177u64, 0x1FFF), (97, 0x3FFE)] {
-        let mut memory = with(at, value);
-        let end = memory.run()?;
+        let mut memory = full_with(&[(at, value)])?;
+        let end = run(&mut memory)?;
         assert_eq!(rt; end, (EncloseEnd::Back(NotEnclosed::Room), 2247), "at {at}");
-        assert_eq!(rt; memory.held(), (0, 0));
+        assert_eq!(rt; held_in(&memory), (0, 0));
     }
     Ok(())
 }
 
 #[test]
 fn guard_of_another(rt: HostRuntime) -> Result<(), Fail> {
-    let mut memory = with(GUARD, 7);
-    let end = memory.run()?;
+    let mut memory = full_with(&[(GUARD, 7)])?;
+    let end = run(&mut memory)?;
     let busy = again(Why::Busy {
         word: GUARD,
         seen: 7,
     });
     assert_eq!(rt; end, (busy, 1));
-    assert_eq!(rt; memory.held(), (0, 7));
+    assert_eq!(rt; held_in(&memory), (0, 7));
     Ok(())
 }
 
@@ -253,21 +187,21 @@ fn guard_of_another(rt: HostRuntime) -> Result<(), Fail> {
 fn lock_of_another(rt: HostRuntime) -> Result<(), Fail> {
     let busy = again(Why::Busy { word: 160, seen: 5 });
     // It is taken at first.
-    let mut memory = with(160, 5);
-    let end = memory.run()?;
+    let mut memory = full_with(&[(160, 5)])?;
+    let end = run(&mut memory)?;
     assert_eq!(rt; end, (busy, 9));
     assert_eq!(rt;
-        (memory.word(96), memory.word(128), memory.held()),
+        (memory.word(96), memory.word(128), held_in(&memory)),
         (2, 2, (1, 0))
     );
     // It is taken, or has moved on, after it was looked at.
-    let mut memory = full();
+    let mut memory = full_with(&[])?;
     memory.other = (6, 160, 5);
-    let end = memory.run()?;
+    let end = run(&mut memory)?;
     assert_eq!(rt; end, (busy, 10));
-    let mut memory = full();
+    let mut memory = full_with(&[])?;
     memory.other = (6, 160, 4);
-    let end = memory.run()?;
+    let end = run(&mut memory)?;
     let moved = again(Why::Moved {
         word: 160,
         before: 0,
@@ -275,7 +209,7 @@ fn lock_of_another(rt: HostRuntime) -> Result<(), Fail> {
     });
     assert_eq!(rt; end, (moved, 10));
     assert_eq!(rt;
-        (memory.word(96), memory.word(128), memory.held()),
+        (memory.word(96), memory.word(128), held_in(&memory)),
         (2, 2, (0, 0))
     );
     Ok(())
@@ -283,10 +217,10 @@ fn lock_of_another(rt: HostRuntime) -> Result<(), Fail> {
 
 #[test]
 fn lock_of_the_last_version(rt: HostRuntime) -> Result<(), Fail> {
-    let mut memory = with(160, u64::MAX - 1);
-    let end = memory.run()?;
+    let mut memory = full_with(&[(160, u64::MAX - 1)])?;
+    let end = run(&mut memory)?;
     assert_eq!(rt; end, (replied(Reply::Spent, 30), 10));
-    assert_eq!(rt; memory.held(), (0, 0));
+    assert_eq!(rt; held_in(&memory), (0, 0));
     Ok(())
 }
 

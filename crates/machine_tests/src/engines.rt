@@ -1,9 +1,9 @@
 //! Attempts on the words of a table of one segment in which `1 insert 5 7` was done, and calls that split or repair a segment of an image of two
 //! slots.
+use crate::memory::Memory;
 use directory_op::DirectoryEnd;
 use enclose_op::{EncloseEnd, NotEnclosed};
 use engine::{End, Engine};
-use image_layout::Geometry;
 use map_model::{Call, Reply};
 use mend_op::MendEnd;
 use op_core::{Ans, Want, Why};
@@ -13,7 +13,6 @@ use repair_op::RepairEnd;
 use rest_op::RestEnd;
 use split_op::SplitEnd;
 use std::test::Fail;
-use world::Site;
 use write_op::WriteEnd;
 
 /// The metadata words where home and probing bucket have one record each, and where they have two.
@@ -25,69 +24,61 @@ const FULL: u64 = 0x3FFF;
 /// What it has more where one record of this home is counted in the stash, of which no note tells.
 const COUNTED: u64 = 1 << 40;
 
-// A word of that table: the counter is word 2208, and the power word 2209. The home bucket is bucket 0, and the metadata words of this,
-// of the next two, and of both stash buckets are `taken`.
-fn word(i: u64, taken: [u64; 5]) -> u64 {
-    match i {
-        65 => 257,
-        96 | 128 => 2,
-        97 => taken[0],
-        129 => taken[1],
-        161 => taken[2],
-        2145 => taken[3],
-        2177 => taken[4],
-        2208 => 1,
-        98 | 100 => 5,
-        101 => 7,
-        _ => 0,
-    }
+/// That table: the home bucket is bucket 0, and the metadata words of this, of the next two, and of both stash buckets are `taken`.
+fn table(taken: [u64; 5]) -> Result<Memory, Fail> {
+    Memory::of(
+        1,
+        0,
+        &[
+            (65, 257),
+            (96, 2),
+            (97, taken[0]),
+            (98, 5),
+            (100, 5),
+            (101, 7),
+            (128, 2),
+            (129, taken[1]),
+            (161, taken[2]),
+            (2145, taken[3]),
+            (2177, taken[4]),
+            (2208, 1),
+        ],
+    )
 }
 
-// What an event is answered there, where nobody else comes.
-fn answer(want: Want, taken: [u64; 5], power: u64) -> Ans {
-    match want {
-        Want::Load(i) => Ans::Value(word(i, taken)),
-        Want::Power => Ans::Value(power),
-        Want::Exchange(..) => Ans::Won,
-        Want::Draw => Ans::Drawn(1),
-        _ => Ans::Passed,
-    }
-}
-
-// Where caller 1 runs.
-fn site(geometry: Geometry) -> Site {
-    Site {
-        geometry,
-        version: 1,
-        caller: 1,
-    }
-}
-
-// An attempt of a call.
-fn begin(geometry: Geometry, call: Call) -> Engine {
-    Engine::of(call, site(geometry))
-}
-
-// The next attempt of a call whose attempt ended so.
-fn again(geometry: Geometry, call: Call, end: End) -> Engine {
-    let mut engine = begin(geometry, call);
-    engine.renew(call, site(geometry), end);
+/// The next attempt of a call whose attempt ended so.
+fn next_attempt(memory: &Memory, call: Call, end: End) -> Engine {
+    let mut engine = Engine::of(call, memory.site());
+    engine.renew(call, memory.site(), end);
     engine
 }
 
-// Runs an attempt to its end: which that is, and how many events it took.
-fn end_of(mut engine: Engine, taken: [u64; 5], power: u64) -> (Option<End>, u64) {
-    for events in 0..3000 {
+/// Runs an attempt to its end, and counts its events: which end that is.
+fn run(memory: &mut Memory, mut engine: Engine) -> Option<End> {
+    memory.events = 0;
+    for _ in 0..40_000u64 {
         let want = engine.next();
         if want == Want::Done {
-            return (Some(engine.end()), events);
+            return Some(engine.end());
         }
-        engine.take(answer(want, taken, power));
+        engine.take(memory.answer(want));
     }
-    (None, 3000)
+    None
 }
 
-// The reply of an end with its place, and whether the attempt is to be made again.
+/// The same of the first attempt of a call.
+fn run_first(memory: &mut Memory, call: Call) -> Option<End> {
+    let engine = Engine::of(call, memory.site());
+    run(memory, engine)
+}
+
+/// The same of the next attempt of a call whose attempt ended so.
+fn run_next(memory: &mut Memory, call: Call, end: End) -> Option<End> {
+    let engine = next_attempt(memory, call, end);
+    run(memory, engine)
+}
+
+/// The reply of an end with its place, and whether the attempt is to be made again.
 fn told(end: Option<End>) -> (Option<(Reply, u64)>, bool) {
     match end {
         Some(end) => (end.reply(), end.is_again()),
@@ -95,37 +86,36 @@ fn told(end: Option<End>) -> (Option<(Reply, u64)>, bool) {
     }
 }
 
-// Runs an attempt of a call to its end: its reply and its place, and how many events it took.
-fn run(geometry: Geometry, call: Call, taken: [u64; 5], power: u64) -> (Option<(Reply, u64)>, u64) {
-    let (end, events) = end_of(begin(geometry, call), taken, power);
-    (told(end).0, events)
+/// Runs the first attempt of a call to its end: its reply and its place, and how many events it took.
+fn reply_on(memory: &mut Memory, call: Call) -> (Option<(Reply, u64)>, u64) {
+    let end = run_first(memory, call);
+    (told(end).0, memory.events)
 }
 
 #[test]
 fn calls_of_one_pair(rt: HostRuntime) -> Result<(), Fail> {
-    let g = Geometry::new(1, 0, 0)?;
     assert_eq!(rt;
-        run(g, Call::Get(5), ONE, 0),
+        reply_on(&mut table(ONE)?, Call::Get(5)),
         (Some((Reply::Found(7), 1)), 74)
     );
     assert_eq!(rt;
-        run(g, Call::Get(6), ONE, 0),
+        reply_on(&mut table(ONE)?, Call::Get(6)),
         (Some((Reply::Absent, 1)), 74)
     );
     assert_eq!(rt;
-        run(g, Call::Insert(5, 8), ONE, 0),
+        reply_on(&mut table(ONE)?, Call::Insert(5, 8)),
         (Some((Reply::Exists, 1)), 76)
     );
     assert_eq!(rt;
-        run(g, Call::Insert(6, 8), ONE, 0),
+        reply_on(&mut table(ONE)?, Call::Insert(6, 8)),
         (Some((Reply::Done, 1)), 85)
     );
     assert_eq!(rt;
-        run(g, Call::Update(5, 8), ONE, 0),
+        reply_on(&mut table(ONE)?, Call::Update(5, 8)),
         (Some((Reply::Done, 1)), 80)
     );
     assert_eq!(rt;
-        run(g, Call::Remove(6), ONE, 0),
+        reply_on(&mut table(ONE)?, Call::Remove(6)),
         (Some((Reply::Absent, 1)), 76)
     );
     Ok(())
@@ -135,9 +125,8 @@ fn calls_of_one_pair(rt: HostRuntime) -> Result<(), Fail> {
 // store the copy, 3 that clear its source, 8 that store the new record, the draw, and 3 locks back.
 #[test]
 fn insert_makes_room(rt: HostRuntime) -> Result<(), Fail> {
-    let g = Geometry::new(1, 0, 0)?;
     assert_eq!(rt;
-        run(g, Call::Insert(6, 8), [FULL, FULL, 0, 0, 0], 0),
+        reply_on(&mut table([FULL, FULL, 0, 0, 0])?, Call::Insert(6, 8)),
         (Some((Reply::Done, 1)), 130)
     );
     Ok(())
@@ -147,15 +136,16 @@ fn insert_makes_room(rt: HostRuntime) -> Result<(), Fail> {
 // locked and loaded: 8 events store the record there, 2 its note in the home bucket, then come the draw, and 5 locks back.
 #[test]
 fn insert_into_the_stash(rt: HostRuntime) -> Result<(), Fail> {
-    let g = Geometry::new(1, 0, 0)?;
     let taken = [FULL, FULL, FULL, 0, 0];
     assert_eq!(rt;
-        run(g, Call::Insert(6, 8), taken, 0),
+        reply_on(&mut table(taken)?, Call::Insert(6, 8)),
         (Some((Reply::Done, 1)), 189)
     );
-    let mut engine = begin(g, Call::Insert(6, 8));
+    let mut memory = table(taken)?;
+    let mut engine = Engine::of(Call::Insert(6, 8), memory.site());
     for _ in 0..140u8 {
-        engine.take(answer(engine.next(), taken, 0));
+        let want = engine.next();
+        engine.take(memory.answer(want));
     }
     let lock = [Want::Load(2144), Want::Exchange(2144, 0, 1)];
     let words = (2145..2176u64).map(|i| Want::Load(i));
@@ -180,7 +170,7 @@ fn insert_into_the_stash(rt: HostRuntime) -> Result<(), Fail> {
     ];
     for want in lock.into_iter().chain(words).chain(record) {
         assert_eq!(rt; engine.next(), want);
-        engine.take(answer(want, taken, 0));
+        engine.take(memory.answer(want));
     }
     Ok(())
 }
@@ -191,15 +181,17 @@ fn insert_into_the_stash(rt: HostRuntime) -> Result<(), Fail> {
 // deep as the image allows, and gives the locks and the guard back.
 #[test]
 fn insert_without_room(rt: HostRuntime) -> Result<(), Fail> {
-    let g = Geometry::new(1, 0, 0)?;
     let call = Call::Insert(6, 8);
     for home in [FULL, FULL | COUNTED] {
         let taken = [home, FULL, FULL, FULL, FULL];
         let split = End::Release(ReleaseEnd::NeedSplit(0));
-        assert_eq!(rt; end_of(begin(g, call), taken, 0), (Some(split), 212));
+        let mut memory = table(taken)?;
+        assert_eq!(rt; run_first(&mut memory, call), Some(split));
+        assert_eq!(rt; memory.events, 212);
         assert_eq!(rt; told(Some(split)), (None, false));
         let deep = End::Enclose(EncloseEnd::Back(NotEnclosed::Replied(Reply::Deep, 1)));
-        assert_eq!(rt; end_of(again(g, call, split), taken, 0), (Some(deep), 2248));
+        assert_eq!(rt; run_next(&mut memory, call, split), Some(deep));
+        assert_eq!(rt; memory.events, 2248);
         assert_eq!(rt; deep.reply(), Some((Reply::Deep, 1)));
     }
     Ok(())
@@ -207,18 +199,18 @@ fn insert_without_room(rt: HostRuntime) -> Result<(), Fail> {
 
 #[test]
 fn power_is_off(rt: HostRuntime) -> Result<(), Fail> {
-    let g = Geometry::new(1, 0, 0)?;
-    assert_eq!(rt; run(g, Call::Get(5), ONE, 1), (None, 1));
-    assert_eq!(rt; run(g, Call::Remove(5), ONE, 1), (None, 1));
+    let mut memory = table(ONE)?;
+    memory.set(2209, 1);
+    assert_eq!(rt; reply_on(&mut memory, Call::Get(5)), (None, 1));
+    assert_eq!(rt; reply_on(&mut memory, Call::Remove(5)), (None, 1));
     Ok(())
 }
 
 // An insert into slot 2 takes one event more: the record's line is not that of the fingerprints, and is flushed too.
 #[test]
 fn insert_into_a_later_slot(rt: HostRuntime) -> Result<(), Fail> {
-    let g = Geometry::new(1, 0, 0)?;
     assert_eq!(rt;
-        run(g, Call::Insert(6, 8), TWO, 0),
+        reply_on(&mut table(TWO)?, Call::Insert(6, 8)),
         (Some((Reply::Done, 1)), 86)
     );
     let way = [
@@ -250,11 +242,12 @@ fn insert_into_a_later_slot(rt: HostRuntime) -> Result<(), Fail> {
         Want::Store(128, 4),
         Want::Done,
     ];
-    let mut engine = begin(g, Call::Insert(6, 8));
+    let mut memory = table(TWO)?;
+    let mut engine = Engine::of(Call::Insert(6, 8), memory.site());
     let words = (97..128u64).chain(129..160).map(|i| Want::Load(i));
     for want in way.into_iter().chain(words).chain(change) {
         assert_eq!(rt; engine.next(), want);
-        engine.take(answer(want, TWO, 0));
+        engine.take(memory.answer(want));
     }
     Ok(())
 }
@@ -275,97 +268,36 @@ const FREE_SLOTS: u64 = 4354;
 
 const DIRECTORY: u64 = 4355;
 
-/// A small memory: the words of that image and those behind it.
-#[derive(Drop)]
-struct Memory {
-    words: [u64; 4358],
-}
-
 /// The segment in slot 0, of depth 0, has no room for key 6: its first two buckets, the one behind them and both stash buckets are full. One
 /// of its records is that of `KEY`. Slot 1 is free, and 30 changes are made.
-fn crammed() -> Memory {
-    let mut memory = Memory { words: [0; 4358] };
-    for (at, value) in [
-        (HEAD, 257u64),
-        (97, FULL),
-        (98, 0x1C),
-        (100, KEY),
-        (101, 60),
-        (129, FULL),
-        (161, FULL),
-        (2145, FULL),
-        (2177, FULL),
-        (COUNTER, 30),
-    ] {
-        memory.set(at, value);
-    }
-    memory
-}
-
-impl Memory {
-    fn word(&self, at: u64) -> u64 {
-        if at < 4358 {
-            self.words[at as usize]
-        } else {
-            0
-        }
-    }
-
-    fn set(&mut self, at: u64, value: u64) {
-        if at < 4358 {
-            self.words[at as usize] = value;
-        }
-    }
-
-    fn answer(&mut self, want: Want) -> Ans {
-        match want {
-            Want::Load(at) => Ans::Value(self.word(at)),
-            Want::Power => Ans::Value(self.word(POWER)),
-            Want::Store(at, value) => {
-                self.set(at, value);
-                Ans::Passed
-            }
-            Want::Exchange(at, old, new) => {
-                let found = self.word(at);
-                if found == old {
-                    self.set(at, new);
-                    Ans::Won
-                } else {
-                    Ans::Lost(found)
-                }
-            }
-            Want::Draw => {
-                let place = self.word(COUNTER);
-                self.set(COUNTER, place.wrapping_add(1));
-                Ans::Drawn(place)
-            }
-            Want::Flush(_) | Want::Fence | Want::Done => Ans::Passed,
-        }
-    }
-
-    /// Runs an attempt to its end.
-    fn run(&mut self, mut engine: Engine) -> Option<End> {
-        for _ in 0..40_000u64 {
-            let want = engine.next();
-            if want == Want::Done {
-                return Some(engine.end());
-            }
-            engine.take(self.answer(want));
-        }
-        None
-    }
+fn crammed() -> Result<Memory, Fail> {
+    Memory::of(
+        2,
+        1,
+        &[
+            (HEAD, 257),
+            (97, FULL),
+            (98, 0x1C),
+            (100, KEY),
+            (101, 60),
+            (129, FULL),
+            (161, FULL),
+            (2145, FULL),
+            (2177, FULL),
+            (COUNTER, 30),
+        ],
+    )
 }
 
 // The first attempt finds that the segment is to be split, the second splits it, and the third finds room.
 #[test]
 fn a_segment_is_split_for_an_insert(rt: HostRuntime) -> Result<(), Fail> {
-    let g = Geometry::new(2, 1, 0)?;
     let call = Call::Insert(6, 8);
-    let mut memory = crammed();
+    let mut memory = crammed()?;
     let first = End::Release(ReleaseEnd::NeedSplit(0));
-    assert_eq!(rt; memory.run(begin(g, call)), Some(first));
+    assert_eq!(rt; run_first(&mut memory, call), Some(first));
     let second = End::Rest(RestEnd::Split);
-    assert_eq!(rt; memory.run(again(g, call, first)), Some(second));
+    assert_eq!(rt; run_next(&mut memory, call, first), Some(second));
     assert_eq!(rt; told(Some(second)), (None, false));
     assert_eq!(rt;
         (memory.word(8), memory.word(33), memory.word(34)),
@@ -379,12 +311,12 @@ fn a_segment_is_split_for_an_insert(rt: HostRuntime) -> Result<(), Fail> {
         assert_eq!(rt; memory.word(guard), 0);
     }
     assert_eq!(rt;
-        memory.run(again(g, call, second)),
+        run_next(&mut memory, call, second),
         Some(End::Write(WriteEnd::Replied(Reply::Done, 30)))
     );
     for (key, value) in [(6, 8), (KEY, 60)] {
         assert_eq!(rt;
-            told(memory.run(begin(g, Call::Get(key)))),
+            told(run_first(&mut memory, Call::Get(key))),
             (Some((Reply::Found(value), 31)), false)
         );
     }
@@ -394,62 +326,59 @@ fn a_segment_is_split_for_an_insert(rt: HostRuntime) -> Result<(), Fail> {
 // Where slot 1 is taken too, the table is full; where another caller has the guard of free slots, the attempt is to be made again.
 #[test]
 fn a_split_finds_no_slot(rt: HostRuntime) -> Result<(), Fail> {
-    let g = Geometry::new(2, 1, 0)?;
     let call = Call::Insert(6, 8);
     let split = End::Release(ReleaseEnd::NeedSplit(0));
-    let mut memory = crammed();
+    let mut memory = crammed()?;
     memory.set(SIDE_HEAD, 257);
     let full = End::Split(Some(SplitEnd::Full(30)));
-    assert_eq!(rt; memory.run(again(g, call, split)), Some(full));
+    assert_eq!(rt; run_next(&mut memory, call, split), Some(full));
     assert_eq!(rt; told(Some(full)), (Some((Reply::Full, 30)), false));
     memory.set(FREE_SLOTS, 2);
-    assert_eq!(rt; told(memory.run(again(g, call, split))), (None, true));
+    assert_eq!(rt; told(run_next(&mut memory, call, split)), (None, true));
     Ok(())
 }
 
 // Who waits for the guard of the directory ends where the power is off.
 #[test]
 fn a_split_finds_the_power_off(rt: HostRuntime) -> Result<(), Fail> {
-    let g = Geometry::new(2, 1, 0)?;
-    let mut memory = crammed();
+    let mut memory = crammed()?;
     memory.set(DIRECTORY, 2);
     memory.set(POWER, 1);
     let split = End::Release(ReleaseEnd::NeedSplit(0));
     let off = End::Publish(DirectoryEnd::Off);
-    assert_eq!(rt; memory.run(again(g, Call::Insert(6, 8), split)), Some(off));
+    assert_eq!(rt; run_next(&mut memory, Call::Insert(6, 8), split), Some(off));
     assert_eq!(rt; told(Some(off)), (None, false));
     Ok(())
 }
 
 /// The segment in slot 0 is stale: its header has version 2, and the image version 1. It has key 5 with the value 7 in its first bucket, whose
 /// lock is taken by who runs no more. Slot 1 is free, and 30 changes are made.
-fn stale() -> Memory {
-    let mut memory = Memory { words: [0; 4358] };
-    for (at, value) in [
-        (HEAD, 258u64),
-        (96, 3),
-        (97, 1),
-        (98, 5),
-        (100, 5),
-        (101, 7),
-        (COUNTER, 30),
-    ] {
-        memory.set(at, value);
-    }
-    memory
+fn stale() -> Result<Memory, Fail> {
+    Memory::of(
+        2,
+        1,
+        &[
+            (HEAD, 258),
+            (96, 3),
+            (97, 1),
+            (98, 5),
+            (100, 5),
+            (101, 7),
+            (COUNTER, 30),
+        ],
+    )
 }
 
 // The first attempt of a get finds that the segment is stale, the second repairs it, event by event: its guard is taken, its header loaded, and
 // all words of its buckets, the lock is freed, the header gets the image's version, and the guard is given back. The third finds the key.
 #[test]
 fn a_stale_segment_is_repaired_for_a_get(rt: HostRuntime) -> Result<(), Fail> {
-    let g = Geometry::new(2, 1, 0)?;
     let call = Call::Get(5);
-    let mut memory = stale();
+    let mut memory = stale()?;
     let first = End::Read(ReadEnd::Stale(0, 2));
-    assert_eq!(rt; memory.run(begin(g, call)), Some(first));
+    assert_eq!(rt; run_first(&mut memory, call), Some(first));
     assert_eq!(rt; told(Some(first)), (None, false));
-    let mut engine = again(g, call, first);
+    let mut engine = next_attempt(&memory, call, first);
     let words = (96..2208u64).map(|i| Want::Load(i));
     let mending = [
         Want::Store(96, 2),
@@ -467,10 +396,10 @@ fn a_stale_segment_is_repaired_for_a_get(rt: HostRuntime) -> Result<(), Fail> {
         engine.take(memory.answer(want));
     }
     let second = End::Mend(Some(MendEnd::Repaired));
-    assert_eq!(rt; memory.run(engine), Some(second));
+    assert_eq!(rt; run(&mut memory, engine), Some(second));
     assert_eq!(rt; told(Some(second)), (None, false));
     assert_eq!(rt;
-        told(memory.run(again(g, call, second))),
+        told(run_next(&mut memory, call, second)),
         (Some((Reply::Found(7), 30)), false)
     );
     Ok(())
@@ -479,18 +408,17 @@ fn a_stale_segment_is_repaired_for_a_get(rt: HostRuntime) -> Result<(), Fail> {
 // Where another caller has the guard of the segment, the attempt is to be made again: the call begins anew, and meets the segment again.
 #[test]
 fn a_stale_segment_is_guarded_by_another(rt: HostRuntime) -> Result<(), Fail> {
-    let g = Geometry::new(2, 1, 0)?;
     let call = Call::Update(5, 8);
-    let mut memory = stale();
+    let mut memory = stale()?;
     memory.set(4356, 2);
     let first = End::Write(WriteEnd::Stale(0, 2));
-    assert_eq!(rt; memory.run(begin(g, call)), Some(first));
+    assert_eq!(rt; run_first(&mut memory, call), Some(first));
     let busy = End::Repair(Some(RepairEnd::Again(Why::Busy {
         word: 4356,
         seen: 2,
     })));
-    assert_eq!(rt; memory.run(again(g, call, first)), Some(busy));
+    assert_eq!(rt; run_next(&mut memory, call, first), Some(busy));
     assert_eq!(rt; told(Some(busy)), (None, true));
-    assert_eq!(rt; memory.run(again(g, call, busy)), Some(first));
+    assert_eq!(rt; run_next(&mut memory, call, busy), Some(first));
     Ok(())
 }

@@ -1,7 +1,8 @@
 //! The tests of the machines, of the engine that runs them, and of what they share.
 //!
 //! Each module runs one of them on words that stand in the test: it compares the events that are wanted, one after another or by their
-//! number, the words that are left, and how it ends. All that they name is public in the crates below; nothing else stands here.
+//! number, the words that are left, and how it ends; [`memory`] has what they step on. All that they name is public in the crates below, and
+//! nothing else stands here.
 #![tactic(auto)]
 
 #[cfg(test)]
@@ -14,6 +15,8 @@ mod directories;
 mod enclosings;
 #[cfg(test)]
 mod engines;
+#[cfg(test)]
+mod memory;
 #[cfg(test)]
 mod mends;
 #[cfg(test)]

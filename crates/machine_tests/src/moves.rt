@@ -1,16 +1,13 @@
 //! Inserts that found home and probing bucket full, on the words of an image with one segment and the identity as its hash.
-use image_layout::Geometry;
+use crate::memory::{Memory, site};
 use map_model::{Change, Effect, Reply};
 use move_op::{MoveEnd, MoveOp};
 use op_core::{Ans, Machine, Want, Why};
 use phase::{Buckets, Held, Kept};
 use std::test::Fail;
-use world::Site;
 
 /// The header of a normal segment of version 1 and depth 0.
 const HEAD: u64 = 257;
-/// The commit counter's word.
-const COUNTER: usize = 2208;
 /// The allocation bits of all slots.
 const FULL: u64 = 0x3FFF;
 /// The membership bits of all slots.
@@ -18,174 +15,98 @@ const MEMBERS: u64 = 0x3FFF << 14;
 /// The lock words of the buckets around home 1: the one before it, it, its probing bucket, and the one after that.
 const LOCKS: [u64; 4] = [96, 128, 160, 192];
 
-/// A small memory: the words of an image and those behind it, and a word that another caller stores before an event.
-#[derive(Drop)]
-struct Memory {
-    words: [u64; 2213],
-    events: u64,
-    other: (u64, u64, u64),
+/// Puts a record in a slot of the bucket of this lock word, all but its bits; its value is the key and 1000 more.
+fn put(memory: &mut Memory, lock: u64, slot: u8, key: u64) {
+    let at = u64::from(slot).wrapping_mul(2).wrapping_add(lock);
+    memory.set(at.wrapping_add(4), key);
+    memory.set(at.wrapping_add(5), key.wrapping_add(1000));
+    let fingers = lock.wrapping_add(if slot < 8 { 2 } else { 3 });
+    let shift = 8u64.wrapping_mul(u64::from(slot % 8));
+    let more = (key % 256).wrapping_mul(1u64.wrapping_shl(shift as u32));
+    memory.set(fingers, memory.word(fingers).wrapping_add(more));
 }
 
-fn fresh() -> Memory {
-    Memory {
-        words: [0; 2213],
-        events: 0,
-        other: (u64::MAX, 0, 0),
+/// Puts records in the slots from this one on, whose keys are two apart.
+fn fill(memory: &mut Memory, lock: u64, first: u8, key: u64) {
+    for slot in first..14u8 {
+        let more = u64::from(slot.wrapping_sub(first)).wrapping_mul(2);
+        put(memory, lock, slot, key.wrapping_add(more));
     }
 }
 
-impl Memory {
-    fn word(&self, at: u64) -> u64 {
-        if at < 2213 {
-            self.words[at as usize]
-        } else {
-            0
-        }
-    }
+/// What an insert of this key keeps, with the locks of its home and probing bucket taken.
+fn kept_in(memory: &mut Memory, key: u64, home: u64) -> Result<Kept, Fail> {
+    let probing = home.wrapping_add(32);
+    memory.set(home, 1);
+    memory.set(probing, 1);
+    Ok(Kept {
+        site: site(1, 0)?,
+        change: Change {
+            key,
+            effect: Effect::Insert(7),
+        },
+        hash: key,
+        segment: 0,
+        head: HEAD,
+        held: Held {
+            home: Some(0),
+            probing: Some(0),
+            ..Held::none()
+        },
+        buckets: Buckets {
+            home: memory.bucket(home),
+            probing: memory.bucket(probing),
+            ..Buckets::none()
+        },
+    })
+}
 
-    fn set(&mut self, at: u64, value: u64) {
-        if at < 2213 {
-            self.words[at as usize] = value;
-        }
-    }
-
-    /// Puts a record in a slot of the bucket of this lock word, all but its bits; its value is the key and 1000 more.
-    fn put(&mut self, lock: u64, slot: u8, key: u64) {
-        let at = u64::from(slot).wrapping_mul(2).wrapping_add(lock);
-        self.set(at.wrapping_add(4), key);
-        self.set(at.wrapping_add(5), key.wrapping_add(1000));
-        let fingers = lock.wrapping_add(if slot < 8 { 2 } else { 3 });
-        let shift = 8u64.wrapping_mul(u64::from(slot % 8));
-        let more = (key % 256).wrapping_mul(1u64.wrapping_shl(shift as u32));
-        self.set(fingers, self.word(fingers).wrapping_add(more));
-    }
-
-    /// Puts records in the slots from this one on, whose keys are two apart.
-    fn fill(&mut self, lock: u64, first: u8, key: u64) {
-        for slot in first..14u8 {
-            let more = u64::from(slot.wrapping_sub(first)).wrapping_mul(2);
-            self.put(lock, slot, key.wrapping_add(more));
-        }
-    }
-
-    fn bucket(&self, lock: u64) -> [u64; 32] {
-        let mut words = [0; 32];
-        for number in 1..32u8 {
-            words[usize::from(number)] = self.word(lock.wrapping_add(u64::from(number)));
-        }
-        words
-    }
-
-    fn answer(&mut self, want: Want) -> Ans {
-        let (before, at, value) = self.other;
-        if self.events == before {
-            self.set(at, value);
-        }
-        self.events = self.events.wrapping_add(1);
-        match want {
-            Want::Load(at) => Ans::Value(self.word(at)),
-            Want::Store(at, value) => {
-                self.set(at, value);
-                Ans::Passed
-            }
-            Want::Exchange(at, old, new) => {
-                let found = self.word(at);
-                if found == old {
-                    self.set(at, new);
-                    Ans::Won
-                } else {
-                    Ans::Lost(found)
-                }
-            }
-            Want::Draw => {
-                let place = self.words[COUNTER];
-                self.words[COUNTER] = place.wrapping_add(1);
-                Ans::Drawn(place)
-            }
-            Want::Power => Ans::Value(0),
-            Want::Flush(_) | Want::Fence | Want::Done => Ans::Passed,
-        }
-    }
-
-    /// What an insert of this key keeps, with the locks of its home and probing bucket taken.
-    fn kept(&mut self, key: u64, home: u64) -> Result<Kept, Fail> {
-        let probing = home.wrapping_add(32);
-        self.set(home, 1);
-        self.set(probing, 1);
-        Ok(Kept {
-            site: Site {
-                geometry: Geometry::new(1, 0, 0)?,
-                version: 1,
-                caller: 1,
-            },
-            change: Change {
-                key,
-                effect: Effect::Insert(7),
-            },
-            hash: key,
-            segment: 0,
-            head: HEAD,
-            held: Held {
-                home: Some(0),
-                probing: Some(0),
-                ..Held::none()
-            },
-            buckets: Buckets {
-                home: self.bucket(home),
-                probing: self.bucket(probing),
-                ..Buckets::none()
-            },
-        })
-    }
-
-    /// Runs a displacement to its end: how it stands there, and how it ended.
-    fn run(&mut self, kept: Kept) -> (MoveOp, MoveEnd) {
-        let mut op = MoveOp::new(kept);
-        for _ in 0..100u8 {
-            let want = op.want();
-            if want == Want::Done {
-                return (op, op.end());
-            }
-            op.take(self.answer(want));
-        }
-        (op, MoveEnd::Off)
-    }
+/// Runs a displacement to its end: how it stands there, and how it ended.
+fn run(memory: &mut Memory, kept: Kept) -> (MoveOp, MoveEnd) {
+    let mut op = MoveOp::new(kept);
+    memory.run(&mut op);
+    let end = if op.want() == Want::Done {
+        op.end()
+    } else {
+        MoveEnd::Off
+    };
+    (op, end)
 }
 
 /// Key 256 in bucket 1, and then keys 0 to 26: home 0 has 0 and the odd ones, its probing bucket the others as members.
-fn moving_on() -> Memory {
-    let mut memory = fresh();
-    memory.put(96, 0, 0);
-    memory.fill(96, 1, 1);
+fn moving_on() -> Result<Memory, Fail> {
+    let mut memory = Memory::of(1, 0, &[])?;
+    put(&mut memory, 96, 0, 0);
+    fill(&mut memory, 96, 1, 1);
     memory.set(97, FULL);
-    memory.put(128, 0, 256);
-    memory.fill(128, 1, 2);
+    put(&mut memory, 128, 0, 256);
+    fill(&mut memory, 128, 1, 2);
     memory.set(129, FULL + (0x3FFE << 14));
-    memory
+    Ok(memory)
 }
 
 /// Key 0 in bucket 0, key 1 in bucket 1 as a member, and then keys 256 to 282: home 1 has the odd ones, its probing bucket the
 /// others as members.
-fn moving_back() -> Memory {
-    let mut memory = fresh();
-    memory.put(96, 0, 0);
+fn moving_back() -> Result<Memory, Fail> {
+    let mut memory = Memory::of(1, 0, &[])?;
+    put(&mut memory, 96, 0, 0);
     memory.set(97, 1);
-    memory.put(128, 0, 1);
-    memory.fill(128, 1, 257);
+    put(&mut memory, 128, 0, 1);
+    fill(&mut memory, 128, 1, 257);
     memory.set(129, FULL + (1 << 14));
-    memory.fill(160, 0, 256);
+    fill(&mut memory, 160, 0, 256);
     memory.set(161, FULL + MEMBERS);
-    memory
+    Ok(memory)
 }
 
 /// Keys 256 to 283 in home 1 and its probing bucket, where none can move.
-fn not_moving() -> Memory {
-    let mut memory = fresh();
-    memory.fill(128, 0, 257);
+fn not_moving() -> Result<Memory, Fail> {
+    let mut memory = Memory::of(1, 0, &[])?;
+    fill(&mut memory, 128, 0, 257);
     memory.set(129, FULL);
-    memory.fill(160, 0, 256);
+    fill(&mut memory, 160, 0, 256);
     memory.set(161, FULL + MEMBERS);
-    memory
+    Ok(memory)
 }
 
 fn taken(lock: u64) -> [Want; 2] {
@@ -194,8 +115,8 @@ fn taken(lock: u64) -> [Want; 2] {
 
 #[test]
 fn events_of_a_move_forward(rt: HostRuntime) -> Result<(), Fail> {
-    let mut memory = moving_on();
-    let kept = memory.kept(27, 96)?;
+    let mut memory = moving_on()?;
+    let kept = kept_in(&mut memory, 27, 96)?;
     let mut op = MoveOp::new(kept);
     for want in taken(160) {
         assert_eq!(rt; op.want(), want);
@@ -239,9 +160,9 @@ fn events_of_a_move_forward(rt: HostRuntime) -> Result<(), Fail> {
     for (at, value) in [(164u64, 256), (161, 16385), (132, 27), (2208, 1)] {
         assert_eq!(rt; memory.word(at), value, "at {at}");
     }
-    let mut again = moving_on();
-    let kept = again.kept(27, 96)?;
-    let (op, end) = again.run(kept);
+    let mut again = moving_on()?;
+    let kept = kept_in(&mut again, 27, 96)?;
+    let (op, end) = run(&mut again, kept);
     assert_eq!(rt; end, MoveEnd::Replied(Reply::Done, 0));
     assert!(rt; op.wants_nothing());
     assert!(rt; !op.hands_on());
@@ -251,8 +172,8 @@ fn events_of_a_move_forward(rt: HostRuntime) -> Result<(), Fail> {
 
 #[test]
 fn events_of_a_move_back(rt: HostRuntime) -> Result<(), Fail> {
-    let mut memory = moving_back();
-    let kept = memory.kept(283, 128)?;
+    let mut memory = moving_back()?;
+    let kept = kept_in(&mut memory, 283, 128)?;
     let mut op = MoveOp::new(kept);
     for lock in [192u64, 96] {
         for want in taken(lock) {
@@ -305,10 +226,10 @@ fn events_of_a_move_back(rt: HostRuntime) -> Result<(), Fail> {
 
 #[test]
 fn copy_to_a_slot_of_another_line(rt: HostRuntime) -> Result<(), Fail> {
-    let mut memory = moving_on();
+    let mut memory = moving_on()?;
     memory.set(161, 0x01FF);
-    let kept = memory.kept(27, 96)?;
-    let (_, end) = memory.run(kept);
+    let kept = kept_in(&mut memory, 27, 96)?;
+    let (_, end) = run(&mut memory, kept);
     assert_eq!(rt; end, MoveEnd::Replied(Reply::Done, 0));
     assert_eq!(rt; memory.events, 57);
     for (at, value) in [(161u64, 0x03FF + (1 << 23)), (182, 256), (183, 1256)] {
@@ -319,17 +240,14 @@ fn copy_to_a_slot_of_another_line(rt: HostRuntime) -> Result<(), Fail> {
 
 #[test]
 fn no_record_can_move(rt: HostRuntime) -> Result<(), Fail> {
-    let full = |at: u64| {
-        let mut memory = not_moving();
-        memory.set(at, FULL);
-        memory
-    };
-    let mut both = moving_back();
-    both.set(97, FULL);
-    for memory in [not_moving(), full(193), both] {
+    let mut full_next = not_moving()?;
+    full_next.set(193, FULL);
+    let mut full_previous = moving_back()?;
+    full_previous.set(97, FULL);
+    for memory in [not_moving()?, full_next, full_previous] {
         let mut memory = memory;
-        let kept = memory.kept(284, 128)?;
-        let (op, end) = memory.run(kept);
+        let kept = kept_in(&mut memory, 284, 128)?;
+        let (op, end) = run(&mut memory, kept);
         assert_eq!(rt; end, MoveEnd::NoMove);
         assert!(rt; op.hands_on());
         assert_eq!(rt; memory.events, 66);
@@ -359,17 +277,17 @@ fn each_third_lock_is_another_s(rt: HostRuntime) -> Result<(), Fail> {
             word: lock,
             seen: 3,
         };
-        let mut memory = not_moving();
+        let mut memory = not_moving()?;
         memory.set(lock, 3);
-        let kept = memory.kept(284, 128)?;
-        let (_, end) = memory.run(kept);
+        let kept = kept_in(&mut memory, 284, 128)?;
+        let (_, end) = run(&mut memory, kept);
         assert_eq!(rt; end, MoveEnd::Again(busy));
         assert_eq!(rt; memory.word(lock), 3);
         for (after, value) in [(3u64, 3u64), (4, 4)] {
-            let mut memory = not_moving();
+            let mut memory = not_moving()?;
             memory.other = (look.wrapping_add(1), lock, after);
-            let kept = memory.kept(284, 128)?;
-            let (_, end) = memory.run(kept);
+            let kept = kept_in(&mut memory, 284, 128)?;
+            let (_, end) = run(&mut memory, kept);
             let moved = Why::Moved {
                 word: lock,
                 before: 0,
@@ -389,11 +307,11 @@ fn each_third_lock_is_another_s(rt: HostRuntime) -> Result<(), Fail> {
 #[test]
 fn each_third_lock_is_spent(rt: HostRuntime) -> Result<(), Fail> {
     for lock in [192u64, 96] {
-        let mut memory = not_moving();
+        let mut memory = not_moving()?;
         memory.set(lock, u64::MAX - 1);
         memory.set(2208, 6);
-        let kept = memory.kept(284, 128)?;
-        let (_, end) = memory.run(kept);
+        let kept = kept_in(&mut memory, 284, 128)?;
+        let (_, end) = run(&mut memory, kept);
         assert_eq!(rt; end, MoveEnd::Replied(Reply::Spent, 6));
         assert_eq!(rt; memory.word(lock), u64::MAX - 1);
         assert_eq!(rt; memory.word(128), 2);

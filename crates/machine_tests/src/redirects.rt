@@ -1,6 +1,6 @@
 //! Stale segments in slot 0, with a ready side in slot 1 or without one: the events by which entries are redirected, what is handed on, and the
 //! ends.
-use image_layout::Geometry;
+use crate::memory::{differs, site};
 use op_core::{Ans, Machine, Want, Why};
 use redirect_op::{RedirectEnd, RedirectOp};
 use repair_op::Guarded;
@@ -21,9 +21,8 @@ const DEEPER: u64 = 0x3_0002_0102;
 /// Caller 1 goes on from the segment with this header, in an image of so many slots that may be so deep.
 fn begun(slots: u64, depth: u64, head: u64, side: Option<u64>) -> Result<RedirectOp, Fail> {
     let site = Site {
-        geometry: Geometry::new(slots, depth, 0)?,
         version: 2,
-        caller: 1,
+        ..site(slots, depth)?
     };
     Ok(RedirectOp::new(Guarded {
         site,
@@ -31,18 +30,6 @@ fn begun(slots: u64, depth: u64, head: u64, side: Option<u64>) -> Result<Redirec
         head,
         side,
     }))
-}
-
-/// The first event that it wants in the place of one of these, each of which is answered so; none where it wants all of them.
-fn differs(op: &mut RedirectOp, events: &[(Want, Ans)]) -> Option<Want> {
-    for event in events {
-        let want = op.want();
-        if want != event.0 {
-            return Some(want);
-        }
-        op.take(event.1);
-    }
-    None
 }
 
 #[test]

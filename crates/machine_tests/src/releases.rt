@@ -1,21 +1,16 @@
 //! Releases of the locks of an insert of key 5, whose home bucket is the first of its segment: their events, their ends, and answers
 //! that were not asked for.
-use image_layout::Geometry;
+use crate::memory::site;
 use map_model::{Change, Effect};
 use op_core::{Ans, Machine, Want};
 use phase::{Buckets, Held, Kept, Role};
 use release_op::{ReleaseEnd, ReleaseOp};
 use std::test::Fail;
-use world::Site;
 
 /// What such an insert keeps in an image with so many slots for a segment and of this depth, with these locks in a slot.
 fn kept(segments: u64, depth: u64, segment: u64, held: Held) -> Result<Kept, Fail> {
     Ok(Kept {
-        site: Site {
-            geometry: Geometry::new(segments, depth, 0)?,
-            version: 1,
-            caller: 1,
-        },
+        site: site(segments, depth)?,
         change: Change {
             key: 5,
             effect: Effect::Insert(7),

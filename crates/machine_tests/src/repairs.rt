@@ -1,6 +1,6 @@
 //! Repairs of slot 0 of an image of two slots, of version 2, up to where another machine goes on: their events, what is handed on, and their
 //! ends.
-use image_layout::Geometry;
+use crate::memory::{differs, site};
 use op_core::{Ans, Machine, Want, Why};
 use repair_op::{Guarded, RepairEnd, RepairOp};
 use std::test::Fail;
@@ -30,23 +30,10 @@ const READY: u64 = 0x1_0001_0102;
 /// A repair by caller 1.
 fn begun() -> Result<RepairOp, Fail> {
     let site = Site {
-        geometry: Geometry::new(2, 2, 0)?,
         version: 2,
-        caller: 1,
+        ..site(2, 2)?
     };
     Ok(RepairOp::new(site, 0))
-}
-
-/// The first event that it wants in the place of one of these, each of which is answered so; none where it wants all of them.
-fn differs(op: &mut RepairOp, events: &[(Want, Ans)]) -> Option<Want> {
-    for event in events {
-        let want = op.want();
-        if want != event.0 {
-            return Some(want);
-        }
-        op.take(event.1);
-    }
-    None
 }
 
 /// The exchange of the segment's guard, which is won, and the load of its header.

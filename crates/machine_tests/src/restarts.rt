@@ -4,7 +4,7 @@ use op_core::{Ans, Machine, Want};
 use restart_op::{RestartOp, RestartStep, Started};
 use std::test::Fail;
 
-// The last three events of a restart, and what it leaves.
+/// The last three events of a restart, and what it leaves.
 fn ending(op: &mut RestartOp) -> (Want, Want, Want, Option<Started>) {
     let store = op.want();
     op.take(Ans::Passed);
@@ -19,7 +19,7 @@ fn ending(op: &mut RestartOp) -> (Want, Want, Want, Option<Started>) {
     (store, flush, fence, left)
 }
 
-// How a restart ends that leaves this version.
+/// How a restart ends that leaves this version.
 fn ends_with(version: u8, swept: bool) -> (Want, Want, Want, Option<Started>) {
     (
         Want::Store(16, u64::from(version)),

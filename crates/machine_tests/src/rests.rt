@@ -1,11 +1,11 @@
 //! The rest of a split of a segment with three records: one went to the side, and one stands in the stash.
+use crate::memory::site;
 use enclose_op::Enclosed;
-use image_layout::{BUCKETS, Geometry, WORDS_OF_BUCKETS};
+use image_layout::{BUCKETS, WORDS_OF_BUCKETS};
 use map_model::{Change, Effect};
 use op_core::{Ans, Machine, Want};
 use rest_op::{RestEnd, RestOp};
 use std::test::Fail;
-use world::Site;
 
 /// Its words: two records of home 0, of which the first has a hash with top bit 1, and one of home 0 in the first stash bucket.
 fn whole() -> Result<Enclosed, Fail> {
@@ -18,11 +18,7 @@ fn whole() -> Result<Enclosed, Fail> {
     let mut locks = [0; BUCKETS as usize];
     locks[65] = 8;
     Ok(Enclosed {
-        site: Site {
-            geometry: Geometry::new(2, 1, 0)?,
-            version: 1,
-            caller: 1,
-        },
+        site: site(2, 1)?,
         change: Change {
             key: 9,
             effect: Effect::Insert(1),

@@ -1,7 +1,7 @@
 //! The events of a split in an image of two slots, up to where it hands on, and of two that end before. Slot 0 has a segment of depth 0, and
 //! slot 1 is free. The words of the side were reckoned by the plain model of a split.
+use crate::memory::site;
 use enclose_op::Enclosed;
-use image_layout::Geometry;
 use map_model::{Change, Effect};
 use op_core::{Ans, Machine, Want, Why};
 use split_op::{SplitEnd, SplitOp};
@@ -43,9 +43,8 @@ fn whole() -> Result<Enclosed, Fail> {
     buckets[2053] = 70;
     Ok(Enclosed {
         site: Site {
-            geometry: Geometry::new(2, 1, 0)?,
-            version: 1,
             caller: 3,
+            ..site(2, 1)?
         },
         change: Change {
             key: 9,

@@ -1,171 +1,87 @@
 //! Records that come to the stash of a new image with one segment, on words that another caller may change.
+use crate::memory::{Memory, site};
 use bucket_meta::words::must_visit;
 use hash_word::finger;
-use image_layout::Geometry;
 use map_model::{Change, Effect, Reply};
 use op_core::{Ans, Machine, Want, Why};
 use phase::{Buckets, Held, Kept, Role};
 use stash_op::{StashEnd, StashOp};
 use std::test::Fail;
-use world::Site;
 
 /// The header of a normal segment of version 1 and depth 0.
 const HEAD: u64 = 257;
-/// The commit counter's word.
-const COUNTER: usize = 2208;
 /// The lock words of the home bucket of keys 0 to 255, of their probing bucket, and of both stash buckets.
 const LOCKS: [u64; 4] = [96, 128, 2144, 2176];
 
-/// A small memory: the words of an image and those behind it, and a word that another caller stores before an event.
-#[derive(Drop)]
-struct Memory {
-    words: [u64; 2213],
-    events: u64,
-    other: (u64, u64, u64),
+/// Bucket 0 is full with the even keys 0 to 26, and bucket 1 with the odd keys 1 to 27, all of home 0; and these words are in it.
+fn full_with(pairs: &[(u64, u64)]) -> Result<Memory, Fail> {
+    let mut memory = Memory::of(
+        1,
+        0,
+        &[
+            (65, HEAD),
+            (97, 0x3FFF),
+            (98, 0x0E0C_0A08_0604_0200),
+            (99, 0x1A18_1614_1210),
+            (129, 0x0FFF_FFFF),
+            (130, 0x0F0D_0B09_0705_0301),
+            (131, 0x1B19_1715_1311),
+        ],
+    )?;
+    memory.set_all(pairs);
+    Ok(memory)
 }
 
-/// Bucket 0 is full with the even keys 0 to 26, and bucket 1 with the odd keys 1 to 27, all of home 0.
-fn full() -> Memory {
-    let mut memory = Memory {
-        words: [0; 2213],
-        events: 0,
-        other: (u64::MAX, 0, 0),
+/// Takes a lock, and gives the free value that its word had.
+fn locked(memory: &mut Memory, lock: u64) -> Option<u64> {
+    let free = memory.word(lock);
+    memory.set(lock, free | 1);
+    Some(free)
+}
+
+/// What an insert of this key keeps that found no slot and nothing to move.
+fn kept_in(memory: &mut Memory, key: u64) -> Result<Kept, Fail> {
+    let mut buckets = Buckets::none();
+    buckets.put(Role::Home, memory.bucket(96));
+    buckets.put(Role::Probing, memory.bucket(128));
+    let mut held = Held {
+        home: locked(memory, 96),
+        probing: locked(memory, 128),
+        ..Held::none()
     };
-    for (at, value) in [
-        (65u64, HEAD),
-        (97, 0x3FFF),
-        (98, 0x0E0C_0A08_0604_0200),
-        (99, 0x1A18_1614_1210),
-        (129, 0x0FFF_FFFF),
-        (130, 0x0F0D_0B09_0705_0301),
-        (131, 0x1B19_1715_1311),
-    ] {
-        memory.set(at, value);
+    let (h, p) = (buckets.home, buckets.probing);
+    if must_visit(h[1], h[3], p[1], p[3], finger(key), 0) {
+        buckets.put(Role::First, memory.bucket(2144));
+        held.first = locked(memory, 2144);
     }
-    memory
+    if must_visit(h[1], h[3], p[1], p[3], finger(key), 1) {
+        buckets.put(Role::Second, memory.bucket(2176));
+        held.second = locked(memory, 2176);
+    }
+    Ok(Kept {
+        site: site(1, 0)?,
+        change: Change {
+            key,
+            effect: Effect::Insert(key.wrapping_add(100)),
+        },
+        hash: key,
+        segment: 0,
+        head: HEAD,
+        held,
+        buckets,
+    })
 }
 
-/// The same, with these words in it.
-fn with(pairs: &[(u64, u64)]) -> Memory {
-    let mut memory = full();
-    for (at, value) in pairs {
-        memory.set(*at, *value);
-    }
-    memory
-}
-
-impl Memory {
-    fn word(&self, at: u64) -> u64 {
-        if at < 2213 {
-            self.words[at as usize]
-        } else {
-            0
-        }
-    }
-
-    fn set(&mut self, at: u64, value: u64) {
-        if at < 2213 {
-            self.words[at as usize] = value;
-        }
-    }
-
-    fn answer(&mut self, want: Want) -> Ans {
-        let (before, at, value) = self.other;
-        if self.events == before {
-            self.set(at, value);
-        }
-        self.events = self.events.wrapping_add(1);
-        match want {
-            Want::Load(at) => Ans::Value(self.word(at)),
-            Want::Store(at, value) => {
-                self.set(at, value);
-                Ans::Passed
-            }
-            Want::Exchange(at, old, new) => {
-                let found = self.word(at);
-                if found == old {
-                    self.set(at, new);
-                    Ans::Won
-                } else {
-                    Ans::Lost(found)
-                }
-            }
-            Want::Draw => {
-                let place = self.words[COUNTER];
-                self.words[COUNTER] = place.wrapping_add(1);
-                Ans::Drawn(place)
-            }
-            Want::Power => Ans::Value(0),
-            Want::Flush(_) | Want::Fence | Want::Done => Ans::Passed,
-        }
-    }
-
-    /// The words of a bucket, without its lock word.
-    fn bucket(&self, lock: u64) -> [u64; 32] {
-        let mut words = [0; 32];
-        for at in 1..32usize {
-            words[at] = self.word(lock.wrapping_add(at as u64));
-        }
-        words
-    }
-
-    /// Takes a lock, and gives the free value that its word had.
-    fn lock(&mut self, lock: u64) -> Option<u64> {
-        let free = self.word(lock);
-        self.set(lock, free | 1);
-        Some(free)
-    }
-
-    /// What an insert of this key keeps that found no slot and nothing to move.
-    fn keep(&mut self, key: u64) -> Result<Kept, Fail> {
-        let mut buckets = Buckets::none();
-        buckets.put(Role::Home, self.bucket(96));
-        buckets.put(Role::Probing, self.bucket(128));
-        let mut held = Held {
-            home: self.lock(96),
-            probing: self.lock(128),
-            ..Held::none()
-        };
-        let (h, p) = (buckets.home, buckets.probing);
-        if must_visit(h[1], h[3], p[1], p[3], finger(key), 0) {
-            buckets.put(Role::First, self.bucket(2144));
-            held.first = self.lock(2144);
-        }
-        if must_visit(h[1], h[3], p[1], p[3], finger(key), 1) {
-            buckets.put(Role::Second, self.bucket(2176));
-            held.second = self.lock(2176);
-        }
-        Ok(Kept {
-            site: Site {
-                geometry: Geometry::new(1, 0, 0)?,
-                version: 1,
-                caller: 1,
-            },
-            change: Change {
-                key,
-                effect: Effect::Insert(key.wrapping_add(100)),
-            },
-            hash: key,
-            segment: 0,
-            head: HEAD,
-            held,
-            buckets,
-        })
-    }
-
-    /// Brings the record of this key to the stash: how that ended, and after how many events.
-    fn run(&mut self, key: u64) -> Result<(StashEnd, u64), Fail> {
-        let mut op = StashOp::new(self.keep(key)?);
-        self.events = 0;
-        for _ in 0..200u8 {
-            let want = op.want();
-            if want == Want::Done {
-                return Ok((op.end(), self.events));
-            }
-            op.take(self.answer(want));
-        }
-        Ok((StashEnd::Off, 200))
-    }
+/// Brings the record of this key to the stash: how that ended, and after how many events.
+fn run(memory: &mut Memory, key: u64) -> Result<(StashEnd, u64), Fail> {
+    let mut op = StashOp::new(kept_in(memory, key)?);
+    memory.run(&mut op);
+    let end = if op.want() == Want::Done {
+        op.end()
+    } else {
+        StashEnd::Off
+    };
+    Ok((end, memory.events))
 }
 
 fn done(place: u64) -> StashEnd {
@@ -174,8 +90,8 @@ fn done(place: u64) -> StashEnd {
 
 #[test]
 fn events_with_a_note_of_the_home_bucket(rt: HostRuntime) -> Result<(), Fail> {
-    let mut memory = full();
-    let mut op = StashOp::new(memory.keep(28)?);
+    let mut memory = full_with(&[])?;
+    let mut op = StashOp::new(kept_in(&mut memory, 28)?);
     for want in [Want::Load(2144), Want::Exchange(2144, 0, 1)] {
         assert_eq!(rt; op.want(), want);
         op.take(memory.answer(want));
@@ -204,20 +120,20 @@ fn events_with_a_note_of_the_home_bucket(rt: HostRuntime) -> Result<(), Fail> {
         assert_eq!(rt; op.want(), want);
         op.take(memory.answer(want));
     }
-    let end = full().run(28)?;
+    let end = run(&mut full_with(&[])?, 28)?;
     assert_eq!(rt; end, (done(0), 47));
     Ok(())
 }
 
 /// The stores of the note of the record that comes after so many others.
 fn stores_of_note(before: u64) -> Result<[Want; 3], Fail> {
-    let mut memory = full();
+    let mut memory = full_with(&[])?;
     for key in 28..56u64 {
         if key < before.wrapping_add(28) {
-            memory.run(key)?;
+            run(&mut memory, key)?;
         }
     }
-    let mut op = StashOp::new(memory.keep(before.wrapping_add(28))?);
+    let mut op = StashOp::new(kept_in(&mut memory, before.wrapping_add(28))?);
     let mut stores = [Want::Done; 3];
     let mut n = 0u8;
     for _ in 0..200u8 {
@@ -271,9 +187,9 @@ fn stores_of_each_note(rt: HostRuntime) -> Result<(), Fail> {
 
 #[test]
 fn stash_fills_up(rt: HostRuntime) -> Result<(), Fail> {
-    let mut memory = full();
+    let mut memory = full_with(&[])?;
     for key in 28..56u64 {
-        let (end, _) = memory.run(key)?;
+        let (end, _) = run(&mut memory, key)?;
         assert_eq!(rt; end, done(key.wrapping_sub(28)), "key {key}");
     }
     for (at, value) in [
@@ -291,7 +207,7 @@ fn stash_fills_up(rt: HostRuntime) -> Result<(), Fail> {
     ] {
         assert_eq!(rt; memory.word(at), value, "at {at}");
     }
-    let mut op = StashOp::new(memory.keep(56)?);
+    let mut op = StashOp::new(kept_in(&mut memory, 56)?);
     assert!(rt; op.hands_on());
     let kept = op.kept();
     assert!(rt; kept.held.first.is_some() && kept.held.second.is_some());
@@ -307,8 +223,8 @@ fn stash_fills_up(rt: HostRuntime) -> Result<(), Fail> {
 
 #[test]
 fn full_stash_is_handed_on(rt: HostRuntime) -> Result<(), Fail> {
-    let mut memory = with(&[(2145, 0x3FFF), (2177, 0x3FFF), (2176, 8)]);
-    let mut op = StashOp::new(memory.keep(28)?);
+    let mut memory = full_with(&[(2145, 0x3FFF), (2177, 0x3FFF), (2176, 8)])?;
+    let mut op = StashOp::new(kept_in(&mut memory, 28)?);
     for _ in 0..66u8 {
         assert!(rt; !op.hands_on());
         let want = op.want();
@@ -333,17 +249,17 @@ fn full_stash_is_handed_on(rt: HostRuntime) -> Result<(), Fail> {
 #[test]
 fn each_lock_is_another_s(rt: HostRuntime) -> Result<(), Fail> {
     for (lock, look, first) in [(2144u64, 0u64, 0), (2176, 33, 0x3FFF)] {
-        let mut memory = with(&[(2145, first), (lock, 3)]);
+        let mut memory = full_with(&[(2145, first), (lock, 3)])?;
         let busy = StashEnd::Again(Why::Busy {
             word: lock,
             seen: 3,
         });
-        let (end, _) = memory.run(28)?;
+        let (end, _) = run(&mut memory, 28)?;
         assert_eq!(rt; end, busy);
         for after in [3u64, 4] {
-            let mut memory = with(&[(2145, first)]);
+            let mut memory = full_with(&[(2145, first)])?;
             memory.other = (look.wrapping_add(1), lock, after);
-            let (end, _) = memory.run(28)?;
+            let (end, _) = run(&mut memory, 28)?;
             let moved = StashEnd::Again(Why::Moved {
                 word: lock,
                 before: 0,
@@ -357,8 +273,8 @@ fn each_lock_is_another_s(rt: HostRuntime) -> Result<(), Fail> {
                 }
             }
         }
-        let mut memory = with(&[(2145, first), (lock, u64::MAX - 1), (2208, 6)]);
-        let (end, _) = memory.run(28)?;
+        let mut memory = full_with(&[(2145, first), (lock, u64::MAX - 1), (2208, 6)])?;
+        let (end, _) = run(&mut memory, 28)?;
         assert_eq!(rt; end, StashEnd::Replied(Reply::Spent, 6));
         assert_eq!(rt; memory.word(lock), u64::MAX - 1);
         assert_eq!(rt; memory.word(96), 2);
