@@ -8,3 +8,4 @@ pub mod Stashing
 pub mod Ascending
 pub mod OneRound
 pub mod Telling
+pub mod Zeros
