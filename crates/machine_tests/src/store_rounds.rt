@@ -15,9 +15,11 @@ fn two_lines_in_a_round(rt: HostRuntime) {
     for want in [Want::Flush(2), Want::Flush(4), Want::Fence] {
         assert!(rt; !rounds.stores(None));
         assert_eq!(rt; rounds.want(None), Some(want));
+        assert_eq!(rt; rounds.event(None), want);
         rounds.take(None);
     }
     assert_eq!(rt; rounds.want(None), None);
+    assert_eq!(rt; rounds.event(None), Want::Done);
 }
 
 #[test]

@@ -4,7 +4,7 @@ use Rattle.std.proofs.lemmas.Bool.{cases_Bool, cases_lt, lt-ltb, le-ltb}
 use Rattle.op_core.specs.declared.want.Want.{Want}
 use Rattle.op_core.specs.declared.want.Want.TheVariants.{Store}
 use Rattle.trace.specs.Events.{line_of}
-use Rattle.whole_segment.specs.Rounds.{ends_with, touched}
+use Rattle.whole_segment.specs.Rounds.{most_lines, ends_with, touched}
 use Rattle.rounds.specs.declared.rounds.RoundStep.{RoundStep}
 use Rattle.rounds.specs.declared.rounds.RoundStep.TheVariants.{Storing, Flushing, Fencing}
 use Rattle.rounds.specs.declared.rounds.Rounds.{Rounds}
@@ -22,7 +22,7 @@ module _ (lines : List ℕ) where
   left_least : length lines ≤ round_left lines
   left_least = elim (cases_lt 0 (length lines)) [ inl low ↦ (let e = left_some low in omega (arith, e)) | inr none ↦ omega (arith, none) ]
 
-  left_most : round_left lines ≤ length lines + 1
+  pub left_most : round_left lines ≤ length lines + 1
   left_most = elim (cases_lt 0 (length lines)) [
     | inl low ↦ (let e = left_some low in omega (arith, e))
     | inr none ↦ (let e = ap (λ b. cond b (length lines + 1) 0) (le-ltb 0 (length lines) none) in omega (arith, e))
@@ -40,6 +40,12 @@ module _ (lines : List ℕ) where
     | inl more ↦ (let e = ap (λ b. left_at lines (cond b (Flushing (i + 1)) Fencing)) (lt-ltb (i + 1) (length lines) more) in omega (arith, e, more, low))
     | inr last ↦ (let e = ap (λ b. left_at lines (cond b (Flushing (i + 1)) Fencing)) (le-ltb (i + 1) (length lines) last) in omega (arith, e, last, low))
   ]
+
+-- of no more lines than a round may touch
+pub few_left : (lines : List ℕ) → length lines ≤ most_lines → (step : RoundStep) → left_at lines step ≤ most_lines + 1
+few_left lines few Storing = let most = left_most lines in omega (arith, most, few)
+few_left lines few (Flushing i) = omega (arith, few)
+few_left lines few Fencing = omega arith
 
 -- ---- each event
 module _ (rounds : Rounds) (next : Option (ℕ × ℕ)) (want : Want) (stores : ℕ) where

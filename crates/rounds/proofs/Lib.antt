@@ -1,5 +1,7 @@
 pub mod Events
 pub mod Lines
+pub mod Wanted
+pub mod Silent
 pub mod Settling
 pub mod Loose
 pub mod Keeping

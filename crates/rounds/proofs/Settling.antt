@@ -1,13 +1,14 @@
 -- What is not settled lies on lines of the round, and at the end all is settled.
 use Rattle.std.proofs.Common.{◌≡◌, ℕ, ◌+◌, ◌<◌, ◌≤◌, inl, inr, true, cond, Option, None, Some, List, [], ◌∷◌, ◌++◌, length, take, drop, refl, sym, ap, ◌∙◌, subst, arith}
 use Rattle.std.specs.Prelude.{slice_index}
-use Rattle.std.proofs.lemmas.Bool.{cases_lt, lt-ltb, le-ltb}
+use Rattle.std.proofs.lemmas.Bool.{cases_lt, lt-ltb, le-ltb, eq-eqb}
 use Rattle.std.proofs.lemmas.List.{drop_more, drop_all, take_more}
 use Rattle.trace.specs.Events.{line_of}
 use Rattle.op_core.specs.declared.want.Want.{Want}
 use Rattle.image_layout.specs.Places.{Shape}
 use Rattle.frame_facts.specs.Facts.{Fact}
-use Rattle.world.specs.Views.{View, Has}
+use Rattle.bucket_words.specs.Core.{core_of}
+use Rattle.world.specs.Views.{View, Has, IsLoose}
 use Rattle.world.specs.Kinds.{on_line, off_line, loosened, flushes, view_after}
 use Rattle.world.specs.areas.Kinds.{sets, settles, view_then}
 use Rattle.world.specs.StepKinds.{wanted_of, view_by}
@@ -25,7 +26,20 @@ use Rattle.rounds.specs.Laws.{RoundsSettle}
 use Rattle.rounds.proofs.Events.{event_cases, events_end, cases_wanted}
 use Rattle.rounds.proofs.Lines.{has_right, has_left, none_left, has_touched, still_touched, on_line_is, off_line_has}
 
+-- nothing is loose where all is settled
+pub settled_firm : (v : View) → IsSettled v → (p : ℕ × ℕ) → IsLoose v p → ⊥
+settled_firm v settled p loose = elim loose [
+  | inl dirty ↦ subst (λ (l : List (ℕ × ℕ)). Has p l) settled.dirty dirty
+  | inr flushed ↦ subst (λ (l : List (ℕ × ℕ)). Has p l) settled.flushed flushed
+]
+
 -- ---- a store
+-- a word that gets a value of the same core is not loose
+pub same_core : (shape : Shape) (i old new : ℕ) (dirty : List (ℕ × ℕ)) → core_of shape i old ≡ core_of shape i new → loosened shape i old new dirty ≡ dirty
+same_core shape i old new dirty same =
+    let more : List (ℕ × ℕ) = (i, old) ∷ dirty in
+    ap (λ b. cond b dirty more) (eq-eqb (core_of shape i old) (core_of shape i new) same)
+
 stored_on : (shape : Shape) (lines : List ℕ) (word value n : ℕ) (dirty : List (ℕ × ℕ)) → AreOnLines lines dirty
     → AreOnLines (touched lines (line_of word)) (loosened shape word n value dirty)
 stored_on shape lines word value n dirty on p has = elim (loosened_has shape word n value dirty p has) [
@@ -70,6 +84,17 @@ module _ (lines : List ℕ) (i : ℕ) (low : i < length lines) (dirty flushed : 
         (is_dirty ∙ all_flushed last)
   ]
 
+-- ---- a fence
+-- all is flushed where one is wanted
+pub fence_dirty : (rounds : Rounds) (next : Option (ℕ × ℕ)) (want : Want) (v : View) → RoundStands rounds v → IsFence rounds next want → v.dirty ≡ []
+fence_dirty rounds next want v stands f = elim f.step [
+  | inl fencing ↦ subst (λ (t : RoundStep). IsLooseOn rounds.round t v) fencing stands.loose
+  | inr past ↦
+      let loose : IsLooseOn rounds.round (Flushing past.0) v = subst (λ (t : RoundStep). IsLooseOn rounds.round t v) past.1 stands.loose in
+      let low = loose.0 in
+      let high = past.2 in absurd (omega (arith, low, high))
+]
+
 -- ---- each event
 module _ (shape : Shape) (facts : List Fact) (rounds : Rounds) (next : Option (ℕ × ℕ)) (n : ℕ) (v : View) (stands : RoundStands rounds v) where
   loose_at : (step : RoundStep) → rounds.step ≡ step → IsLooseOn rounds.round step v
@@ -92,13 +117,7 @@ module _ (shape : Shape) (facts : List Fact) (rounds : Rounds) (next : Option (�
   }
 
   fence_stands : (want : Want) → IsFence rounds next want → RoundStands begun (view_then shape (settles facts) n v)
-  fence_stands want f = record { few = omega arith; loose = (λ p has. none_dirty p has, refl) }
-    where
-      none_dirty : (p : ℕ × ℕ) → Has p v.dirty → ⊥
-      none_dirty p has = elim f.step [
-        | inl fencing ↦ subst (λ (l : List (ℕ × ℕ)). Has p l) (loose_at Fencing fencing) has
-        | inr past ↦ (let loose = loose_at (Flushing past.0) past.1 in let low = loose.0 in let high = past.2 in absurd (omega (arith, low, high)))
-      ]
+  fence_stands want f = record { few = omega arith; loose = (λ p has. subst (λ (l : List (ℕ × ℕ)). Has p l) (fence_dirty rounds next want v stands f) has, refl) }
 
   -- by what is wanted
   stands_by : (want : Want) → IsRoundEvent rounds next want → RoundStands (rounds_taken rounds next) (view_by shape (kind_of facts (Some want)) n v)

@@ -1,18 +1,19 @@
 -- One line more waits behind each flush, none before a store, and none behind a fence.
-use Rattle.std.proofs.Common.{◌≡◌, ℕ, ◌+◌, ◌<◌, ◌≤◌, inl, inr, true, cond, Option, None, Some, List, length, refl, sym, ap, ◌∙◌, arith}
+use Rattle.std.proofs.Common.{◌≡◌, ◌≢◌, ℕ, ◌+◌, ◌<◌, ◌≤◌, inl, inr, true, cond, Option, None, Some, List, length, refl, sym, ap, ◌∙◌, arith}
 use Rattle.std.specs.Prelude.{slice_index}
 use Rattle.std.proofs.lemmas.Bool.{cases_lt, lt-ltb, le-ltb}
 use Rattle.op_core.specs.declared.want.Want.{Want}
-use Rattle.op_core.specs.declared.want.Want.TheVariants.{Store, Flush, Fence}
+use Rattle.op_core.specs.declared.want.Want.TheVariants.{Store, Flush, Fence, Done}
 use Rattle.whole_segment.specs.Rounds.{most_lines}
 use Rattle.rounds.specs.declared.rounds.RoundStep.{RoundStep}
 use Rattle.rounds.specs.declared.rounds.RoundStep.TheVariants.{Storing, Flushing, Fencing}
 use Rattle.rounds.specs.declared.rounds.Rounds.{Rounds}
-use Rattle.rounds.specs.Steps.{at_step, flushed_to, rounds_stores, rounds_wanted, rounds_taken}
+use Rattle.rounds.specs.Steps.{at_step, flushed_to, rounds_stores, rounds_wanted, want_or_done, event_wanted, rounds_taken}
 use Rattle.rounds.specs.Events.{IsStore, IsFlush, IsFence}
 use Rattle.rounds.specs.Waiting.{round_waiting, rounds_waiting}
 use Rattle.rounds.specs.Laws.{RoundsWait}
-use Rattle.rounds.proofs.Events.{no_false, event_cases, events_end, some_store}
+use Rattle.rounds.proofs.Events.{no_false, event_cases, events_end, cases_wanted, some_store}
+use Rattle.rounds.proofs.Wanted.{event_is, event_of, event_none}
 
 -- ---- of a round
 pub round_few : (lines : List ℕ) (step : RoundStep) → round_waiting lines step ≤ length lines
@@ -96,6 +97,40 @@ module _ (rounds : Rounds) (next : Option (ℕ × ℕ)) where
       | inr f ↦ fence_waits rounds next Fence f
     ]
   ]
+
+-- ---- by what a machine wants
+module _ (rounds : Rounds) (next : Option (ℕ × ℕ)) where
+  -- where it wants nothing, none waits
+  pub event_ends : event_wanted rounds next ≡ Done → rounds_waiting rounds ≡ 0
+  event_ends done = elim (cases_lt most_lines (length rounds.round)) [
+    | inl many ↦ many_wait rounds many
+    | inr few ↦ none_waits rounds next (event_none rounds next few done)
+  ]
+
+  -- so many wait behind the event, where it is a flush
+  module _ (few : length rounds.round ≤ most_lines) (later : ℕ) (flushes : (w : Want) → IsFlush rounds next w → later ≡ rounds_waiting (rounds_taken rounds next)) where
+    one_more : (w : Want) → IsFlush rounds next w → rounds_waiting rounds + 1 ≤ later
+    one_more w f = let on = flush_waits rounds next w few f in let is = flushes w f in omega (arith, on, is)
+
+    pub event_flushes : (line : ℕ) → event_wanted rounds next ≡ Flush line → rounds_waiting rounds + 1 ≤ later
+    event_flushes line flush = elim (cases_wanted (rounds_wanted rounds next)) [
+      | inl none ↦ absurd (let no : Done ≡ Flush line = sym (event_is rounds next few ∙ ap want_or_done none) ∙ flush in cc)
+      | inr some ↦
+          let is : some.0 ≡ Flush line = sym (event_of rounds next some.0 few some.1) ∙ flush in
+          elim (event_cases rounds next some.0 some.1) [
+            | inl s ↦ absurd (let no : Store s.word s.value ≡ Flush line = sym s.wants ∙ is in cc)
+            | inr f ↦ elim f [ inl f ↦ one_more some.0 f | inr f ↦ absurd (let no : Fence ≡ Flush line = sym f.wants ∙ is in cc) ]
+          ]
+    ]
+
+    pub event_keeps : event_wanted rounds next ≢ Fence → rounds_waiting rounds ≤ later
+    event_keeps other = elim (cases_wanted (rounds_wanted rounds next)) [
+      | inl none ↦ (let e = none_waits rounds next none in omega (arith, e))
+      | inr some ↦ elim (event_cases rounds next some.0 some.1) [
+        | inl s ↦ (let e = (store_waits rounds next some.0 s).0 in omega (arith, e))
+        | inr f ↦ elim f [ inl f ↦ (let more = one_more some.0 f in omega (arith, more)) | inr f ↦ absurd (other (event_of rounds next some.0 few some.1 ∙ f.wants)) ]
+      ]
+    ]
 
 pub rounds_wait : RoundsWait
 rounds_wait = record { begins = refl; few = most_wait; stores = stores_wait; flushes = flushes_wait; fences = fences_wait; ends = none_waits }

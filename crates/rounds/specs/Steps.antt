@@ -2,8 +2,8 @@
 use Rattle.std.specs.Prelude.{ℕ, ◌+◌, nat_lt, Bool, false, Option, None, Some, List, [], length, slice_index, if◌then◌else◌}
 use Rattle.trace.specs.Events.{line_of}
 use Rattle.op_core.specs.declared.want.Want.{Want}
-use Rattle.op_core.specs.declared.want.Want.TheVariants.{Store, Flush, Fence}
-use Rattle.whole_segment.specs.Rounds.{takes, touched}
+use Rattle.op_core.specs.declared.want.Want.TheVariants.{Store, Flush, Fence, Done}
+use Rattle.whole_segment.specs.Rounds.{most_lines, takes, touched}
 use Rattle.rounds.specs.declared.rounds.RoundStep.{RoundStep}
 use Rattle.rounds.specs.declared.rounds.RoundStep.TheVariants.{Storing, Flushing, Fencing}
 use Rattle.rounds.specs.declared.rounds.Rounds.{Rounds}
@@ -53,6 +53,14 @@ wanted_at lines Fencing next = Some Fence
 -- THE EVENT that is wanted, where this store is to come; none where all is stored and settled
 abbrev pub rounds_wanted : Rounds → Option (ℕ × ℕ) → Option Want
 rounds_wanted rounds next = wanted_at rounds.round rounds.step next
+
+-- WHAT A MACHINE WANTS that is in its rounds: their event, and else nothing. A round touches no more lines than it may
+abbrev pub want_or_done : Option Want → Want
+want_or_done (Some want) = want
+want_or_done None = Done
+
+abbrev pub event_wanted : Rounds → Option (ℕ × ℕ) → Want
+event_wanted rounds next = if nat_lt most_lines (length rounds.round) then Done else want_or_done (rounds_wanted rounds next)
 
 -- ---- what comes after
 -- behind the flush of the line of this number

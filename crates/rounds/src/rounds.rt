@@ -1,11 +1,11 @@
 //! The phase.
 
 ghost use Rattle.std.specs.Prelude.{◌≡◌, ◌<◌, length};
-ghost use Rattle.rounds.specs.Steps.{begun, has_room, first_flush, flushing_wanted, flushed_to, stored_to, rounds_stores, rounds_wanted, rounds_taken};
+ghost use Rattle.rounds.specs.Steps.{begun, has_room, first_flush, flushing_wanted, flushed_to, stored_to, rounds_stores, rounds_wanted, event_wanted, rounds_taken};
 
 use op_core::Want;
 use trace::line_of;
-use whole_segment::Round;
+use whole_segment::{MOST_LINES, Round};
 
 /// Which event comes next.
 #[derive(Clone, Copy, Debug, PartialEq, Eq)]
@@ -105,6 +105,17 @@ impl Rounds {
             },
             RoundStep::Flushing(i) => Some(flushing_want(&self.round, i)),
             RoundStep::Fencing => Some(Want::Fence),
+        }
+    }
+
+    /// What a machine wants that is in its rounds: their event, and else nothing. A round touches no more lines than it may.
+    pub fn event(&self, next: Option<(u64, u64)>) -> Want
+        ensures { result ≡ event_wanted self.now next }
+    {
+        prove!(self.round.count() <= MOST_LINES);
+        match self.want(next) {
+            Some(want) => want,
+            None => Want::Done,
         }
     }
 
