@@ -42,10 +42,10 @@ module _ (lines : List ℕ) where
   ]
 
 -- of no more lines than a round may touch
-pub few_left : (lines : List ℕ) → length lines ≤ most_lines → (step : RoundStep) → left_at lines step ≤ most_lines + 1
-few_left lines few Storing = let most = left_most lines in omega (arith, most, few)
-few_left lines few (Flushing i) = omega (arith, few)
-few_left lines few Fencing = omega arith
+pub step_most : (lines : List ℕ) → length lines ≤ most_lines → (step : RoundStep) → left_at lines step ≤ most_lines + 1
+step_most lines few Storing = let most = left_most lines in omega (arith, most, few)
+step_most lines few (Flushing i) = omega (arith, few)
+step_most lines few Fencing = omega arith
 
 -- ---- each event
 module _ (rounds : Rounds) (next : Option (ℕ × ℕ)) (want : Want) (stores : ℕ) where

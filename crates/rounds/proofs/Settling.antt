@@ -33,10 +33,20 @@ settled_firm v settled p loose = elim loose [
   | inr flushed ↦ subst (λ (l : List (ℕ × ℕ)). Has p l) settled.flushed flushed
 ]
 
+-- where as much is loose, a round stands as well
+module _ (v u : View) (dirty : u.dirty ≡ v.dirty) (flushed : u.flushed ≡ v.flushed) where
+  loose_same : (lines : List ℕ) (step : RoundStep) → IsLooseOn lines step v → IsLooseOn lines step u
+  loose_same lines Storing l = ((λ p has. l.0 p (subst (λ (ps : List (ℕ × ℕ)). Has p ps) dirty has)), flushed ∙ l.1)
+  loose_same lines (Flushing i) l = (l.0, (λ p has. l.1 p (subst (λ (ps : List (ℕ × ℕ)). Has p ps) dirty has)), (λ p has. l.2 p (subst (λ (ps : List (ℕ × ℕ)). Has p ps) flushed has)))
+  loose_same lines Fencing l = dirty ∙ l
+
+  pub round_same : (rounds : Rounds) → RoundStands rounds v → RoundStands rounds u
+  round_same rounds r = record { few = r.few; loose = loose_same rounds.round rounds.step r.loose }
+
 -- ---- a store
 -- a word that gets a value of the same core is not loose
-pub same_core : (shape : Shape) (i old new : ℕ) (dirty : List (ℕ × ℕ)) → core_of shape i old ≡ core_of shape i new → loosened shape i old new dirty ≡ dirty
-same_core shape i old new dirty same =
+pub stays_firm : (shape : Shape) (i old new : ℕ) (dirty : List (ℕ × ℕ)) → core_of shape i old ≡ core_of shape i new → loosened shape i old new dirty ≡ dirty
+stays_firm shape i old new dirty same =
     let more : List (ℕ × ℕ) = (i, old) ∷ dirty in
     ap (λ b. cond b dirty more) (eq-eqb (core_of shape i old) (core_of shape i new) same)
 
@@ -141,9 +151,17 @@ module _ (shape : Shape) (facts : List Fact) (rounds : Rounds) (next : Option (�
     | inr some ↦ subst (λ (o : Option Want). RoundStands (rounds_taken rounds next) (view_by shape (kind_of facts o) n v)) (sym some.1) (stands_by some.0 (event_cases rounds next some.0 some.1))
   ]
 
+-- behind this event
+pub round_behind : (shape : Shape) (rounds : Rounds) (next : Option (ℕ × ℕ)) (n : ℕ) (v : View) → RoundStands rounds v → (facts : List Fact) (want : Want) → rounds_wanted rounds next ≡ Some want
+    → RoundStands (rounds_taken rounds next) (view_by shape (kind_of facts (Some want)) n v)
+round_behind shape rounds next n v stands facts want is = stands_by shape facts rounds next n v stands want (event_cases rounds next want is)
+
 -- ---- begin and end
 nothing_loose : (v : View) → RoundStands begun v → IsSettled v
 nothing_loose v stands = record { dirty = none_left v.dirty (λ p has. stands.loose.0 p has); flushed = stands.loose.1 }
+
+pub begun_settled : (rounds : Rounds) (v : View) → rounds ≡ begun → RoundStands rounds v → IsSettled v
+begun_settled rounds v is stands = nothing_loose v (subst (λ (r : Rounds). RoundStands r v) is stands)
 
 round_begins : (v : View) → IsSettled v → RoundStands begun v
 round_begins v settled = record { few = omega arith; loose = (λ p has. subst (λ (l : List (ℕ × ℕ)). Has p l) settled.dirty has, settled.flushed) }
@@ -163,5 +181,5 @@ rounds_settle = record {
   wants = λ shape facts rounds next want e. kind_wants shape facts rounds next want (event_cases rounds next want e) ∙ ap (λ (o : Option Want). wanted_of shape (kind_of facts o)) (sym e);
   begins = round_begins;
   stands = λ shape facts rounds next n v stands. round_stands shape facts rounds next n v stands;
-  ends = λ rounds next v stands e. nothing_loose v (subst (λ (r : Rounds). RoundStands r v) (events_end rounds next e).0 stands);
+  ends = λ rounds next v stands e. begun_settled rounds v (events_end rounds next e).0 stands;
 }

@@ -1,5 +1,5 @@
 -- What a machine wants that is in its rounds: by cases, and what is answered to it.
-use Rattle.std.proofs.Common.{◌≡◌, ◌≢◌, ℕ, ◌≤◌, Bool, true, false, cond, Option, None, Some, length, inl, inr, refl, sym, ap, ◌∙◌, subst}
+use Rattle.std.proofs.Common.{◌≡◌, ◌≢◌, ℕ, ◌+◌, ◌≤◌, Bool, true, false, cond, Option, None, Some, List, length, inl, inr, refl, sym, ap, ◌∙◌, subst}
 use Rattle.std.specs.Prelude.{nat_lt, slice_index}
 use Rattle.std.proofs.lemmas.Bool.{cases_lt, ltb-false, lt-ltb, le-ltb}
 use Rattle.op_core.specs.declared.want.Want.{Want}
@@ -10,8 +10,9 @@ use Rattle.op_core.specs.Answers.{IsAnswer}
 use Rattle.world.specs.Views.{Has}
 use Rattle.world.specs.Wants.{answer_to}
 use Rattle.whole_segment.specs.Rounds.{most_lines}
+use Rattle.rounds.specs.declared.rounds.RoundStep.TheVariants.{Flushing, Fencing}
 use Rattle.rounds.specs.declared.rounds.Rounds.{Rounds}
-use Rattle.rounds.specs.Steps.{rounds_stores, rounds_wanted, want_or_done, event_wanted}
+use Rattle.rounds.specs.Steps.{at_step, flushed_to, rounds_stores, rounds_wanted, want_or_done, event_wanted}
 use Rattle.rounds.specs.Events.{IsStore, IsFlush, IsFence, IsRoundEvent}
 use Rattle.rounds.proofs.Events.{no_some, event_cases, cases_wanted}
 use Rattle.rounds.proofs.Lines.{has_at}
@@ -35,6 +36,13 @@ module _ (rounds : Rounds) (next : Option (ℕ × ℕ)) (C : Option Want → Typ
     | inl none ↦ absurd (some none)
     | inr w ↦ subst C (sym w.1) (by_want w.0 w.1)
   ]
+
+-- behind a flush another one is wanted, or a fence
+pub flushed_wants : (lines : List ℕ) (i : ℕ) (next : Option (ℕ × ℕ)) → (w : Want) × (rounds_wanted (at_step lines (flushed_to lines i)) next ≡ Some w)
+flushed_wants lines i next = elim (cases_lt (i + 1) (length lines)) [
+  | inl more ↦ subst (λ b. (w : Want) × (rounds_wanted (at_step lines (cond b (Flushing (i + 1)) Fencing)) next ≡ Some w)) (sym (lt-ltb (i + 1) (length lines) more)) (_, refl)
+  | inr last ↦ subst (λ b. (w : Want) × (rounds_wanted (at_step lines (cond b (Flushing (i + 1)) Fencing)) next ≡ Some w)) (sym (le-ltb (i + 1) (length lines) last)) (_, refl)
+]
 
 -- ---- what is wanted
 module _ (rounds : Rounds) (next : Option (ℕ × ℕ)) where
