@@ -1,8 +1,8 @@
 -- The enclosing of a segment is a part of a call.
-use Rattle.std.proofs.Common.{◌≡◌, ◌≢◌, ℕ, ◌+◌, ◌-◌, ◌*◌, ◌%◌, ◌^◌, ◌<◌, ◌≤◌, Bool, true, false, Option, None, Some, List, [], replicate, slice_index, inl, inr, refl, sym, ap, subst, arith}
+use Rattle.std.proofs.Common.{◌≡◌, ◌≢◌, ℕ, ◌+◌, ◌-◌, ◌*◌, ◌%◌, ◌^◌, ◌<◌, ◌≤◌, Bool, true, false, Option, None, Some, List, [], inl, refl, sym, ap, subst, arith}
 use Rattle.std.specs.Prelude.{◌==◌, nat_lt, if◌then◌else◌}
-use Rattle.std.proofs.lemmas.Bool.{cases_lt, ltb-true}
-use Rattle.std.proofs.lemmas.List.{length-replicate, get_or-replicate, get_or_past}
+use Rattle.std.proofs.lemmas.Bool.{ltb-true}
+use Rattle.std.proofs.lemmas.List.{length-replicate}
 use Rattle.op_core.specs.declared.want.Want.TheVariants as want
 use Rattle.op_core.specs.declared.want.Ans.{Ans}
 use Rattle.op_core.specs.declared.want.Ans.TheVariants.{Value, Won, Lost}
@@ -15,6 +15,7 @@ use Rattle.sound_image.specs.Records.{key_hash}
 use Rattle.sound_image.proofs.Hashes.{key_hash-fits}
 use Rattle.way.specs.Ways.{head_word, bucket_word}
 use Rattle.whole_segment.specs.Room.{has_no_room}
+use Rattle.whole_segment.proofs.Zeros.{zeros_small}
 use Rattle.map_model.specs.declared.call.Call.{Call}
 use Rattle.map_model.specs.declared.entry.Reply.{Reply}
 use Rattle.map_model.specs.declared.entry.Reply.TheVariants.{Deep, Spent}
@@ -387,13 +388,6 @@ enclose_is_part = record {
 }
 
 -- ---- where it begins
--- words that are all 0
-zeros : (n i : ℕ) → slice_index (replicate n 0) i < 2 ^ 64
-zeros n i = elim (cases_lt i n) [
-  | inl low ↦ subst (λ (z : ℕ). z < 2 ^ 64) (sym (get_or-replicate n i 0 0 low)) (omega arith)
-  | inr past ↦ subst (λ (z : ℕ). z < 2 ^ 64) (sym (get_or_past (replicate n 0) i 0 (subst (λ (z : ℕ). z ≤ i) (sym (length-replicate {A = ℕ} n 0)) past))) (omega arith)
-]
-
 pub begins_as_part : BeginsAsPart
 begins_as_part site here change segment v shape version numbered caller insert small nothing there = record {
   is = record {
@@ -409,7 +403,7 @@ begins_as_part site here change segment v shape version numbered caller insert s
     each_lock = length-replicate {A = ℕ} 66 0;
     each_word = length-replicate {A = ℕ} 2112 0;
   };
-  view = (nothing, there, zeros 2112);
+  view = (nothing, there, zeros_small 2112);
 }
 
 pub begins_undecided : BeginsUndecided
