@@ -1,23 +1,23 @@
 -- How many events are left, and how many lines are flushed and not fenced.
-use Rattle.std.proofs.Common.{◌≡◌, ◌≢◌, ℕ, suc, ◌+◌, ◌-◌, ◌*◌, ◌<◌, ◌≤◌, Bool, true, false, Option, None, Some, List, length, inl, inr, refl, sym, ap, ◌∙◌, subst, arith}
-use Rattle.std.specs.Prelude.{if◌then◌else◌, nat_lt, slice_index}
-use Rattle.std.proofs.lemmas.Bool.{cases_lt, ltb-true, ltb-false, lt-ltb, le-ltb}
+use Rattle.std.proofs.Common.{◌≡◌, ◌≢◌, ℕ, suc, ◌+◌, ◌-◌, ◌*◌, ◌<◌, ◌≤◌, Bool, true, false, Option, None, Some, length, inl, inr, refl, sym, ap, ◌∙◌, subst, arith}
+use Rattle.std.specs.Prelude.{if◌then◌else◌, nat_lt}
+use Rattle.std.proofs.lemmas.Bool.{cases_lt, ltb-true, ltb-false, le-ltb}
 use Rattle.op_core.specs.declared.want.Want.{Want}
 use Rattle.op_core.specs.declared.want.Want.TheVariants as wants
 use Rattle.op_core.specs.declared.want.Ans.{Ans}
 use Rattle.op_core.specs.declared.want.Ans.TheVariants.{Passed}
 use Rattle.op_core.specs.Answers.{IsAnswer}
 use Rattle.image_layout.specs.Places.{homes, buckets}
-use Rattle.rounds.specs.declared.rounds.RoundStep.{RoundStep}
-use Rattle.rounds.specs.declared.rounds.RoundStep.TheVariants.{Storing, Flushing, Fencing}
+use Rattle.whole_segment.specs.Rounds.{most_lines}
 use Rattle.rounds.specs.declared.rounds.Rounds.{Rounds}
-use Rattle.rounds.specs.Steps.{rounds_stores, rounds_wanted, rounds_taken}
-use Rattle.rounds.specs.Events.{IsStore, IsFlush, IsRoundEvent}
-use Rattle.rounds.specs.Waiting.{round_waiting, rounds_waiting}
-use Rattle.rounds.specs.Left.{left_at as round_left_at, rounds_left}
-use Rattle.rounds.proofs.Events.{no_some, event_cases}
-use Rattle.rounds.proofs.Falling.{rounds_fall}
-use Rattle.rounds.proofs.Waiting.{most_wait, store_waits, flush_waits, none_waits}
+use Rattle.rounds.specs.Steps.{rounds_stores, rounds_wanted, event_wanted, rounds_taken}
+use Rattle.rounds.specs.Events.{IsStore, IsRoundEvent}
+use Rattle.rounds.specs.Waiting.{rounds_waiting}
+use Rattle.rounds.specs.Left.{rounds_left}
+use Rattle.rounds.proofs.Events.{no_some}
+use Rattle.rounds.proofs.Wanted.{IsAsked, asked}
+use Rattle.rounds.proofs.Falling.{step_most, rounds_fall}
+use Rattle.rounds.proofs.Waiting.{most_wait, none_waits, event_ends, event_flushes, event_keeps}
 use Rattle.enclose_op.specs.declared.give.Give.{Give as Giving}
 use Rattle.enclose_op.specs.Giving.{given}
 use Rattle.enclose_op.specs.GiveLaws.{left_of}
@@ -27,55 +27,10 @@ use Rattle.enclose_op.proofs.Giving.{give_answered, give_flushes}
 use Rattle.rest_op.specs.declared.op.RestOp.{RestOp}
 use Rattle.rest_op.specs.declared.op.RestStep.{RestStep}
 use Rattle.rest_op.specs.declared.op.RestStep.TheVariants.{Clear, Head, HeadFlush, HeadFence, Note, Open, Give, Ended}
-use Rattle.rest_op.specs.Steps.{most_lines, due, is_cleared, clear_from, next_clear, clearing, clearing_by, cleared, is_noted, note_from, noting, given_by, round_wanted, want_by, wanted_in, next_in}
+use Rattle.rest_op.specs.Steps.{due, is_cleared, clear_from, next_clear, clearing, clearing_by, cleared, is_noted, note_from, noting, given_by, wanted_in, next_in}
 use Rattle.rest_op.specs.RestPart.{after_head, notes_left, clear_left, left_at, most_events, waiting_at}
 use Rattle.rest_op.proofs.Seeking.{seek_behind}
-use Rattle.rest_op.proofs.Rounding.{due_is, rounds_want}
-
--- ---- answers
--- an event of the rounds is answered that it passed
-store_passed : (i x : ℕ) (a : Ans) → IsAnswer (wants.Store i x) a → a ≡ Passed
-store_passed i x Passed is = refl
-store_passed i x a is = absurd is
-
-flush_passed : (line : ℕ) (a : Ans) → IsAnswer (wants.Flush line) a → a ≡ Passed
-flush_passed line Passed is = refl
-flush_passed line a is = absurd is
-
-fence_passed : (a : Ans) → IsAnswer wants.Fence a → a ≡ Passed
-fence_passed Passed is = refl
-fence_passed a is = absurd is
-
-module _ (rounds : Rounds) (next : Option (ℕ × ℕ)) where
-  event_passed : (want : Want) → IsRoundEvent rounds next want → (a : Ans) → IsAnswer want a → a ≡ Passed
-  event_passed want event a is = elim event [
-    | inl s ↦ store_passed s.word s.value a (subst (λ (w : Want). IsAnswer w a) s.wants is)
-    | inr f ↦ elim f [
-      | inl f ↦ flush_passed (slice_index rounds.round f.number) a (subst (λ (w : Want). IsAnswer w a) f.wants is)
-      | inr f ↦ fence_passed a (subst (λ (w : Want). IsAnswer w a) f.wants is)
-    ]
-  ]
-
-  -- WHAT IS WANTED of the rounds, where it is answered
-  pub record IsAsked (a : Ans) : Type 0 where
-    pub few : length rounds.round ≤ 8
-    pub want : Want
-    pub is : rounds_wanted rounds next ≡ Some want
-    pub event : IsRoundEvent rounds next want
-    pub passed : a ≡ Passed
-
-  some_asked : (a : Ans) → length rounds.round ≤ 8 → (o : Option Want) → rounds_wanted rounds next ≡ o → IsAnswer (want_by o) a → IsAsked a
-  some_asked a few (Some want) is answer =
-      let event = event_cases rounds next want is in
-      record { few = few; want = want; is = is; event = event; passed = event_passed want event a answer }
-  some_asked a few None is answer = absurd answer
-
-  asked_by : (a : Ans) → (t : Bool) → nat_lt most_lines (length rounds.round) ≡ t → IsAnswer (if t then wants.Done else want_by (rounds_wanted rounds next)) a → IsAsked a
-  asked_by a true is answer = absurd answer
-  asked_by a false is answer = some_asked a (ltb-false most_lines (length rounds.round) is) (rounds_wanted rounds next) refl answer
-
-  pub asked : (a : Ans) → IsAnswer (round_wanted rounds next) a → IsAsked a
-  asked a answer = asked_by a (nat_lt most_lines (length rounds.round)) refl answer
+use Rattle.rest_op.proofs.Rounding.{due_is}
 
 -- ---- EVENTS that are left
 -- while buckets are cleared
@@ -121,7 +76,7 @@ module _ (op : RestOp) (b : ℕ) (rounds : Rounds) (few : length rounds.round �
     ]
   ]
 
-clear_falls : (op : RestOp) (b : ℕ) (rounds : Rounds) (a : Ans) → IsAnswer (round_wanted rounds (due op b)) a → left_at (next_in op (Clear b rounds) a) < clear_left b rounds
+clear_falls : (op : RestOp) (b : ℕ) (rounds : Rounds) (a : Ans) → IsAnswer (event_wanted rounds (due op b)) a → left_at (next_in op (Clear b rounds) a) < clear_left b rounds
 clear_falls op b rounds a answer =
     let q = asked rounds (due op b) a answer in
     let later : ℕ = next_clear op (rounds_stores rounds (due op b)) b in
@@ -183,18 +138,9 @@ falls_at op (Give give) a i =
 falls_at op Ended a i = absurd i
 
 -- at most so many are left
-step_few : (lines : List ℕ) → length lines ≤ 8 → (step : RoundStep) → round_left_at lines step ≤ 9
-step_few lines few Storing = by (nat_lt 0 (length lines))
-  where
-    by : (t : Bool) → (if t then length lines + 1 else 0) ≤ 9
-    by true = omega (arith, few)
-    by false = omega arith
-step_few lines few (Flushing i) = omega (arith, few)
-step_few lines few Fencing = omega arith
-
 clear_most : (b : ℕ) (rounds : Rounds) (t : Bool) → nat_lt most_lines (length rounds.round) ≡ t → (if t then 0 else rounds_left rounds (buckets - b) + 3 + after_head) ≤ most_events
 clear_most b rounds true is = omega arith
-clear_most b rounds false is = (let few = step_few rounds.round (ltb-false most_lines (length rounds.round) is) rounds.step in omega (arith, few))
+clear_most b rounds false is = (let few = step_most rounds.round (ltb-false most_lines (length rounds.round) is) rounds.step in omega (arith, few))
 
 pub most_at : (s : RestStep) → left_at s ≤ most_events
 most_at (Clear b rounds) = clear_most b rounds (nat_lt most_lines (length rounds.round)) refl
@@ -224,33 +170,21 @@ cleared_waits : (op : RestOp) (b : ℕ) (rounds : Rounds) → waiting_at (cleare
 cleared_waits op b rounds = clearing_waits op (next_clear op (rounds_stores rounds (due op b)) b) (rounds_taken rounds (due op b))
 
 -- ---- while buckets are cleared
-module _ (op : RestOp) (b : ℕ) (rounds : Rounds) (a : Ans) (answer : IsAnswer (round_wanted rounds (due op b)) a) where
+module _ (op : RestOp) (b : ℕ) (rounds : Rounds) (a : Ans) (answer : IsAnswer (event_wanted rounds (due op b)) a) where
   abbrev next : Option (ℕ × ℕ)
   next = due op b
 
   q : IsAsked rounds next a
   q = asked rounds next a answer
 
-  wanted_is : round_wanted rounds next ≡ q.want
-  wanted_is = rounds_want rounds next q.want q.few q.is
+  passed_waits : waiting_at (next_in op (Clear b rounds) a) ≡ rounds_waiting (rounds_taken rounds next)
+  passed_waits = ap (λ (x : Ans). waiting_at (next_in op (Clear b rounds) x)) q.passed ∙ cleared_waits op b rounds
 
-  one_more : IsFlush rounds next q.want → waiting_at (Clear b rounds) + 1 ≤ waiting_at (next_in op (Clear b rounds) a)
-  one_more f =
-      let on = flush_waits rounds next q.want q.few f in
-      let after = cleared_waits op b rounds in
-      subst (λ (x : Ans). waiting_at (Clear b rounds) + 1 ≤ waiting_at (next_in op (Clear b rounds) x)) (sym q.passed) (omega (arith, on, after))
+  clear_flushes : (line : ℕ) → event_wanted rounds next ≡ wants.Flush line → waiting_at (Clear b rounds) + 1 ≤ waiting_at (next_in op (Clear b rounds) a)
+  clear_flushes line flush = event_flushes rounds next q.few (waiting_at (next_in op (Clear b rounds) a)) (λ w f. passed_waits) line flush
 
-  clear_flushes : (line : ℕ) → round_wanted rounds next ≡ wants.Flush line → waiting_at (Clear b rounds) + 1 ≤ waiting_at (next_in op (Clear b rounds) a)
-  clear_flushes line flush = elim q.event [
-    | inl s ↦ absurd (let no : wants.Flush line ≡ wants.Store s.word s.value = sym flush ∙ wanted_is ∙ s.wants in cc)
-    | inr f ↦ elim f [ inl f ↦ one_more f | inr f ↦ absurd (let no : wants.Flush line ≡ wants.Fence = sym flush ∙ wanted_is ∙ f.wants in cc) ]
-  ]
-
-  clear_keeps : round_wanted rounds next ≢ wants.Fence → waiting_at (Clear b rounds) ≤ waiting_at (next_in op (Clear b rounds) a)
-  clear_keeps no_fence = elim q.event [
-    | inl s ↦ (let none = (store_waits rounds next q.want s).0 in omega (arith, none))
-    | inr f ↦ elim f [ inl f ↦ (let more = one_more f in omega (arith, more)) | inr f ↦ absurd (no_fence (wanted_is ∙ f.wants)) ]
-  ]
+  clear_keeps : event_wanted rounds next ≢ wants.Fence → waiting_at (Clear b rounds) ≤ waiting_at (next_in op (Clear b rounds) a)
+  clear_keeps no_fence = event_keeps rounds next q.few (waiting_at (next_in op (Clear b rounds) a)) (λ w f. passed_waits) no_fence
 
 pub flushes_at : (op : RestOp) (s : RestStep) (a : Ans) (line : ℕ) → IsAnswer (wanted_in op s) a → wanted_in op s ≡ wants.Flush line → waiting_at s + 1 ≤ waiting_at (next_in op s a)
 flushes_at op (Clear b rounds) a line i flush = clear_flushes op b rounds a i line flush
@@ -269,25 +203,7 @@ keeps_at op HeadFence a i no_fence = absurd (no_fence refl)
 keeps_at op s a i no_fence = omega arith
 
 -- ---- at the end none waits
-event_some : (rounds : Rounds) (next : Option (ℕ × ℕ)) (want : Want) → IsRoundEvent rounds next want → want ≢ wants.Done
-event_some rounds next want event done = elim event [
-  | inl s ↦ absurd (let no : wants.Done ≡ wants.Store s.word s.value = sym done ∙ s.wants in cc)
-  | inr f ↦ elim f [ inl f ↦ absurd (let no : wants.Done ≡ wants.Flush (slice_index rounds.round f.number) = sym done ∙ f.wants in cc) | inr f ↦ absurd (let no : wants.Done ≡ wants.Fence = sym done ∙ f.wants in cc) ]
-]
-
--- where the rounds want nothing, they are over
-pub over_by : (rounds : Rounds) (next : Option (ℕ × ℕ)) (o : Option Want) → rounds_wanted rounds next ≡ o → want_by o ≡ wants.Done → rounds_wanted rounds next ≡ None
-over_by rounds store (Some want) is done = absurd (event_some rounds store want (event_cases rounds store want is) done)
-over_by rounds store None is done = is
-
-clear_ends : (rounds : Rounds) (next : Option (ℕ × ℕ)) → round_wanted rounds next ≡ wants.Done → rounds_waiting rounds ≡ 0
-clear_ends rounds store done = elim (cases_lt most_lines (length rounds.round)) [
-  | inl many ↦ ap (λ t. if t then 0 else round_waiting rounds.round rounds.step) (lt-ltb most_lines (length rounds.round) many)
-  | inr few ↦ none_waits rounds store (over_by rounds store (rounds_wanted rounds store) refl
-      (sym (ap (λ t. if t then wants.Done else want_by (rounds_wanted rounds store)) (le-ltb most_lines (length rounds.round) few)) ∙ done))
-]
-
 pub ends_waiting : (op : RestOp) (s : RestStep) → wanted_in op s ≡ wants.Done → waiting_at s ≡ 0
-ends_waiting op (Clear b rounds) done = clear_ends rounds (due op b) done
+ends_waiting op (Clear b rounds) done = event_ends rounds (due op b) done
 ends_waiting op HeadFence done = absurd (cc)
 ends_waiting op s done = refl

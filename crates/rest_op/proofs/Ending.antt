@@ -8,7 +8,7 @@ use Rattle.way.specs.Ways.{head_word}
 use Rattle.map_model.specs.declared.call.Call.{Call}
 use Rattle.world.specs.declared.site.Site.{Site}
 use Rattle.world.specs.Ground.{Ground, IsGround}
-use Rattle.world.specs.Views.{View, Has, IsLoose}
+use Rattle.world.specs.Views.{View, Has}
 use Rattle.world.specs.Kinds.{flushes, off_line, view_after}
 use Rattle.world.specs.areas.Areas.{header_word}
 use Rattle.world.specs.areas.Rows.{finishes}
@@ -20,6 +20,7 @@ use Rattle.world.proofs.holders.directing.Finishing.{may_finish}
 use Rattle.phase.proofs.locks.Giving.{nothing_left}
 use Rattle.rounds.specs.Stands.{IsSettled}
 use Rattle.rounds.proofs.Lines.{off_line_has}
+use Rattle.rounds.proofs.Settling.{settled_firm}
 use Rattle.rounds.proofs.Keeping.{rounds_may}
 use Rattle.enclose_op.specs.declared.enclosed.Enclosed.{Enclosed}
 use Rattle.enclose_op.specs.Whole.{IsOf, IsWhole, kept_third}
@@ -31,13 +32,6 @@ use Rattle.enclose_op.proofs.Places.{head_is}
 use Rattle.rest_op.proofs.whole.Words.{rest_words, header_here}
 use Rattle.rest_op.proofs.whole.Known.{all_kept, head_stored, whole_held, guard_held, no_sides, settled_holder, knows_head}
 use Rattle.rest_op.proofs.whole.Halving.{rest_is}
-
--- nothing is loose where all is settled
-pub settled_firm : (v : View) → IsSettled v → (p : ℕ × ℕ) → IsLoose v p → ⊥
-settled_firm v is p loose = elim loose [
-  | inl dirty ↦ subst (λ (l : List (ℕ × ℕ)). Has p l) is.dirty dirty
-  | inr flushed ↦ subst (λ (l : List (ℕ × ℕ)). Has p l) is.flushed flushed
-]
 
 -- a header that is another's but for its state
 header_by : (x y depth pattern version : ℕ) → IsHeader x normal (suc depth) (2 * pattern) version → depth_in y ≡ depth → pattern_in y ≡ pattern → version_in y ≡ version

@@ -1,5 +1,5 @@
 -- Notes are stored: which words have theirs, what each store asks, and what it leaves.
-use Rattle.std.proofs.Common.{◌≡◌, ◌≢◌, ℕ, ◌+◌, ◌*◌, ◌/◌, ◌%◌, ◌^◌, ◌<◌, ◌≤◌, Bool, true, false, List, ◌∷◌, inl, inr, refl, sym, ap, ◌∙◌, subst, arith}
+use Rattle.std.proofs.Common.{◌≡◌, ◌≢◌, ℕ, ◌+◌, ◌*◌, ◌/◌, ◌%◌, ◌^◌, ◌<◌, ◌≤◌, Bool, true, false, inl, inr, refl, sym, ap, ◌∙◌, subst, arith}
 use Rattle.std.specs.Prelude.{◌==◌, ◌&&◌, not, if◌then◌else◌, slice_index, nat_lt}
 use Rattle.std.proofs.lemmas.Bool.{cases_eq, cases_lt, eqb-true, eq-eqb, ne_eqb, lt-ltb, le-ltb, ltb-true, ltb-false}
 use Rattle.image_layout.specs.Places.{bucket_at, homes, buckets, block}
@@ -7,12 +7,12 @@ use Rattle.bucket_words.specs.Core.{core_of}
 use Rattle.bucket_words.proofs.segments.Cores.{core_in}
 use Rattle.world.specs.Ground.{Ground, IsGround}
 use Rattle.world.specs.Views.{View, Has}
-use Rattle.world.specs.Kinds.{loosened}
 use Rattle.world.specs.areas.Kinds.{sets, view_then}
 use Rattle.world.specs.areas.Asking.{MayAt}
 use Rattle.world.proofs.holders.directing.Finishing.{may_finish}
 use Rattle.phase.specs.Giving.{IsLocated}
 use Rattle.rounds.specs.Stands.{IsSettled}
+use Rattle.rounds.proofs.Settling.{settled_firm, stays_firm}
 use Rattle.enclose_op.specs.declared.enclosed.Enclosed.{Enclosed}
 use Rattle.enclose_op.specs.Whole.{kept_word, kept_third}
 use Rattle.enclose_op.specs.Giving.{lock_of}
@@ -25,7 +25,6 @@ use Rattle.enclose_op.proofs.Places.{lock_is}
 use Rattle.rest_op.proofs.whole.Words.{same_value}
 use Rattle.rest_op.proofs.Seeking.{seek_behind, seek_within, seek_fails}
 use Rattle.rest_op.proofs.whole.Known.{all_same, all_stored, settled_holder, holds_bucket}
-use Rattle.rest_op.proofs.Ending.{settled_firm}
 
 -- ---- the words of the notes, by their homes
 module _ (op : RestOp) where
@@ -191,11 +190,6 @@ module _ (op : RestOp) where
   ]
 
 -- ---- what it leaves loose
-same_core : (site : Ground) (i old new : ℕ) (dirty : List (ℕ × ℕ)) → core_of site.shape i old ≡ core_of site.shape i new → loosened site.shape i old new dirty ≡ dirty
-same_core site i old new dirty same =
-    let more : List (ℕ × ℕ) = (i, old) ∷ dirty in
-    ap (λ t. if t then dirty else more) (eq-eqb (core_of site.shape i old) (core_of site.shape i new) same)
-
 -- THE STORE of a word that has the core of the word there
 module _ (site : Ground) (ground : IsGround site) (op : RestOp) (l : IsLocated site op.whole.site op.whole.segment) where
   abbrev e : Enclosed
@@ -218,7 +212,7 @@ module _ (site : Ground) (ground : IsGround site) (op : RestOp) (l : IsLocated s
 
     pub word_settled : (n : ℕ) → n ≡ value_of e first third b m → IsSettled (view_then site.shape (sets (at b m) x) n v)
     word_settled n is = record {
-      dirty = same_core site (at b m) n x v.dirty (ap (core_of site.shape (at b m)) is ∙ sym same) ∙ settled.dirty;
+      dirty = stays_firm site.shape (at b m) n x v.dirty (ap (core_of site.shape (at b m)) is ∙ sym same) ∙ settled.dirty;
       flushed = settled.flushed;
     }
 

@@ -17,6 +17,7 @@ use Rattle.world.specs.areas.Kinds.{opens, wanted_at, view_then}
 use Rattle.world.specs.areas.Asking.{MayAt}
 use Rattle.world.proofs.moving.Holding.{out_of_slot_has}
 use Rattle.world.proofs.holders.directing.Finishing.{may_finish}
+use Rattle.rounds.proofs.Settling.{settled_firm}
 use Rattle.enclose_op.specs.declared.enclosed.Enclosed.{Enclosed}
 use Rattle.enclose_op.specs.declared.give.Give.TheVariants.{Lock}
 use Rattle.enclose_op.specs.Whole.{IsOf, IsWhole}
@@ -32,7 +33,6 @@ use Rattle.rest_op.proofs.whole.Words.{rest_words, header_here}
 use Rattle.rest_op.proofs.whole.Known.{whole_held, settled_holder, knows_word, knows_head}
 use Rattle.rest_op.proofs.whole.Halving.{depth_low, rest_is}
 use Rattle.rest_op.proofs.Opening.{own, once, exact}
-use Rattle.rest_op.proofs.Ending.{settled_firm}
 use Rattle.rest_op.proofs.Noting.{first_all, third_all, first_behind}
 
 -- without the whole segment its guard is left

@@ -1,6 +1,6 @@
 -- The rest of a split is a part of a call.
-use Rattle.std.proofs.Common.{◌≡◌, ◌≢◌, ℕ, ◌+◌, ◌*◌, ◌%◌, ◌/◌, ◌^◌, ◌<◌, ◌≤◌, Bool, true, false, Option, None, Some, List, [], length, inl, inr, refl, sym, ap, ◌∙◌, subst, arith}
-use Rattle.std.specs.Prelude.{◌==◌, if◌then◌else◌, nat_lt, slice_index}
+use Rattle.std.proofs.Common.{◌≡◌, ◌≢◌, ℕ, ◌+◌, ◌*◌, ◌%◌, ◌/◌, ◌^◌, ◌<◌, ◌≤◌, Bool, true, false, Option, None, Some, List, [], inl, inr, refl, sym, ap, ◌∙◌, subst, arith}
+use Rattle.std.specs.Prelude.{◌==◌, if◌then◌else◌, slice_index}
 use Rattle.std.proofs.lemmas.Bool.{cases_eq, lt-ltb, le-ltb}
 use Rattle.trace.specs.Events.{Words, line_of}
 use Rattle.op_core.specs.declared.want.Want.{Want}
@@ -28,11 +28,10 @@ use Rattle.part.specs.Asks.{IsWithin, PutsWord}
 use Rattle.phase.specs.Giving.{IsLocated}
 use Rattle.phase.proofs.Handing.{same_more}
 use Rattle.rounds.specs.declared.rounds.Rounds.{Rounds}
-use Rattle.rounds.specs.Steps.{begun, rounds_wanted}
-use Rattle.rounds.specs.Events.{IsRoundEvent}
-use Rattle.rounds.specs.Stands.{kind_of, rounds_kind}
-use Rattle.rounds.proofs.Events.{event_cases}
-use Rattle.rounds.proofs.Lines.{lines_are_stored}
+use Rattle.rounds.specs.Steps.{begun, rounds_wanted, event_wanted}
+use Rattle.rounds.specs.Stands.{rounds_kind}
+use Rattle.rounds.proofs.Wanted.{event_of, by_wanted, event_none}
+use Rattle.rounds.proofs.Silent.{round_makes, round_still, round_power}
 use Rattle.rounds.proofs.Settling.{rounds_settle}
 use Rattle.enclose_op.specs.declared.enclosed.Enclosed.{Enclosed}
 use Rattle.enclose_op.specs.declared.give.Give.{Give as Giving}
@@ -46,19 +45,19 @@ use Rattle.enclose_op.proofs.Giving.{give_some, give_answer, give_puts, give_mak
 use Rattle.rest_op.specs.declared.op.RestOp.{RestOp}
 use Rattle.rest_op.specs.declared.op.RestStep.{RestStep}
 use Rattle.rest_op.specs.declared.op.RestStep.TheVariants.{Clear, Head, HeadFlush, HeadFence, Note, Open, Give, Ended}
-use Rattle.rest_op.specs.Steps.{most_lines, rest_head, due, clear_from, is_cleared, clearing_by, noting, note_from, note_home, note_place, note_word, note_value, given_by, round_wanted, want_by, wanted_in, next_in, wanted, at_step, begun_in, end_at}
+use Rattle.rest_op.specs.Steps.{rest_head, due, clear_from, is_cleared, clearing_by, noting, note_from, note_home, note_place, note_word, note_value, given_by, wanted_in, next_in, wanted, at_step, begun_in, end_at}
 use Rattle.rest_op.specs.Reckoned.{IsReckoned}
-use Rattle.rest_op.specs.Stands.{value_of, cleared_before, kind_at, HasAll, IsClearedLine, IsClearing, SuitsStep}
+use Rattle.rest_op.specs.Stands.{value_of, cleared_before, kind_at, HasAll, IsClearing, SuitsStep}
 use Rattle.rest_op.specs.RestPart.{outcome_at, rest_part, KeepsSplit, BeginsAsPart, BeginsUndecided, EndsAsSplit}
 use Rattle.rest_op.proofs.whole.Words.{other_value}
 use Rattle.rest_op.proofs.Seeking.{seek_within}
 use Rattle.rest_op.proofs.whole.Known.{all_same}
 use Rattle.rest_op.proofs.Clearing.{passed_over}
-use Rattle.rest_op.proofs.Rounding.{due_is, rounds_want, clearing_suits, round_may, round_stands}
+use Rattle.rest_op.proofs.Rounding.{due_is, clearing_suits, round_may, round_stands}
 use Rattle.rest_op.proofs.Ending.{head_may, head_stands, flush_stands, fence_may, fence_all, fence_settled}
 use Rattle.rest_op.proofs.Noting.{note_goes, noting_suits, none_noted}
 use Rattle.rest_op.proofs.Opens.{open_may, open_wants, open_stands}
-use Rattle.rest_op.proofs.Counting.{falls_at, most_at, waits_few, flushes_at, keeps_at, ends_waiting, over_by}
+use Rattle.rest_op.proofs.Counting.{falls_at, most_at, waits_few, flushes_at, keeps_at, ends_waiting}
 
 -- ---- one step
 module _ (site : Ground) (ground : IsGround site) (here : Site) (call : Call) (op : RestOp) (is : IsOf site here call op.whole) (whole : IsWhole site op.whole) (reckoned : IsReckoned op) (v : View) where
@@ -73,8 +72,8 @@ module _ (site : Ground) (ground : IsGround site) (here : Site) (call : Call) (o
 
   -- what the rounds want, where there is anything
   clear_wants_by : (b : ℕ) (rounds : Rounds) → Suited (Clear b rounds) → (o : Option Want) → rounds_wanted rounds (due op b) ≡ o
-      → round_wanted rounds (due op b) ≡ wanted_of site.shape (rounds_kind rounds (due op b) [])
-  clear_wants_by b rounds s (Some want) wants = rounds_want rounds (due op b) want s.0.stands.few wants ∙ rounds_settle.wants site.shape [] rounds (due op b) want wants
+      → event_wanted rounds (due op b) ≡ wanted_of site.shape (rounds_kind rounds (due op b) [])
+  clear_wants_by b rounds s (Some want) wants = event_of rounds (due op b) want s.0.stands.few wants ∙ rounds_settle.wants site.shape [] rounds (due op b) want wants
   clear_wants_by b rounds s None wants = absurd (s.1 wants)
 
   wants_at : (s : RestStep) → Suited s → wanted_in op s ≢ wants.Done → wanted_in op s ≡ wanted_of site.shape (kind_at op s)
@@ -151,20 +150,8 @@ none_replied : (s : RestStep) → reply_of (outcome_at s) ≡ None
 none_replied Ended = refl
 none_replied s = refl
 
-rounds_own : (shape : Shape) (o : Option Want) (n : ℕ) (v : View) → (view_by shape (kind_of [] o) n v).own ≡ v.own
-rounds_own shape (Some (wants.Store i x)) n v = refl
-rounds_own shape (Some (wants.Flush line)) n v = refl
-rounds_own shape (Some wants.Fence) n v = refl
-rounds_own shape o n v = refl
-
-rounds_seen : (shape : Shape) (o : Option Want) (n : ℕ) (v : View) → (view_by shape (kind_of [] o) n v).seen ≡ v.seen
-rounds_seen shape (Some (wants.Store i x)) n v = refl
-rounds_seen shape (Some (wants.Flush line)) n v = refl
-rounds_seen shape (Some wants.Fence) n v = refl
-rounds_seen shape o n v = refl
-
 same_own : (shape : Shape) (op : RestOp) (s : RestStep) (n : ℕ) (v : View) → (view_by shape (kind_at op s) n v).own ≡ v.own
-same_own shape op (Clear b rounds) n v = rounds_own shape (rounds_wanted rounds (due op b)) n v
+same_own shape op (Clear b rounds) n v = (round_still shape n v [] (rounds_wanted rounds (due op b))).own
 same_own shape op Head n v = refl
 same_own shape op HeadFlush n v = refl
 same_own shape op HeadFence n v = refl
@@ -174,7 +161,7 @@ same_own shape op (Give give) n v = give_own shape op.whole give n v
 same_own shape op Ended n v = refl
 
 same_seen : (shape : Shape) (op : RestOp) (s : RestStep) (n : ℕ) (v : View) → (view_by shape (kind_at op s) n v).seen ≡ v.seen
-same_seen shape op (Clear b rounds) n v = rounds_seen shape (rounds_wanted rounds (due op b)) n v
+same_seen shape op (Clear b rounds) n v = (round_still shape n v [] (rounds_wanted rounds (due op b))).seen
 same_seen shape op Head n v = refl
 same_seen shape op HeadFlush n v = refl
 same_seen shape op HeadFence n v = refl
@@ -190,14 +177,8 @@ enters_at shape call op before v s t n enters =
     (same_more call before v None (view_by shape (kind_at op s) n v) (subst (λ o. EntersReply call o before v) (none_replied s) enters) (same_own shape op s n v) (same_seen shape op s n v))
 
 -- ---- it makes no change, and cuts no power
-rounds_publish : (o : Option Want) → IsPublishingStep (kind_of [] o) → ⊥
-rounds_publish (Some (wants.Store i x)) p = p
-rounds_publish (Some (wants.Flush line)) p = p
-rounds_publish (Some wants.Fence) p = p
-rounds_publish o p = p
-
 makes_none : (op : RestOp) (s : RestStep) → IsPublishingStep (kind_at op s) → ⊥
-makes_none op (Clear b rounds) p = rounds_publish (rounds_wanted rounds (due op b)) p
+makes_none op (Clear b rounds) p = round_makes [] (rounds_wanted rounds (due op b)) p
 makes_none op Head p = p
 makes_none op HeadFlush p = p
 makes_none op HeadFence p = p
@@ -206,14 +187,8 @@ makes_none op Open p = p
 makes_none op (Give give) p = give_makes op.whole give p
 makes_none op Ended p = p
 
-rounds_power : (o : Option Want) → kind_of [] o ≢ of_call cuts_power
-rounds_power (Some (wants.Store i x)) same = absurd (cc)
-rounds_power (Some (wants.Flush line)) same = absurd (cc)
-rounds_power (Some wants.Fence) same = absurd (cc)
-rounds_power o same = absurd (cc)
-
 power_at : (op : RestOp) (s : RestStep) → kind_at op s ≢ of_call cuts_power
-power_at op (Clear b rounds) same = rounds_power (rounds_wanted rounds (due op b)) same
+power_at op (Clear b rounds) same = round_power [] (rounds_wanted rounds (due op b)) same
 power_at op Head same = absurd (cc)
 power_at op HeadFlush same = absurd (cc)
 power_at op HeadFence same = absurd (cc)
@@ -268,23 +243,12 @@ module _ (site : Ground) (good : IsGround site) (op : RestOp) (l : IsLocated sit
   none_in : (w : Want) → word_of site.shape w ≡ counter_word site.shape → ((n : ℕ) → w ≡ wants.Flush n → ⊥) → IsWithin site.shape w
   none_in w is no_flush = record { word = subst (λ i. i < all_words_of site.shape) (sym is) (omega arith); line = λ n same. absurd (no_flush n same) }
 
-  clear_in : (b : ℕ) (rounds : Rounds) → IsClearing site op b rounds v → (want : Want) → rounds_wanted rounds (due op b) ≡ Some want → IsRoundEvent rounds (due op b) want → IsWithin site.shape want
-  clear_in b rounds c want wanted event = elim event [
-    | inl s ↦ (let d = due_is op b s.word s.value s.comes in
-        subst (λ (w : Want). IsWithin site.shape w) (sym s.wants)
-        (store_in s.word s.value (subst (λ i. i < words_of site.shape) (sym (d.1 ∙ ap (λ i. i + 1) (lock_is site op.whole l b d.0))) (bucket_low b 1 d.0 (omega arith)))))
-    | inr f ↦ elim f [
-      | inl f ↦ (let line : ℕ = slice_index rounds.round f.number in
-          let q = (lines_are_stored (IsClearedLine site op.whole)).flushes rounds (due op b) c.lines line (wanted ∙ ap Some f.wants) in
-          subst (λ (w : Want). IsWithin site.shape w) (sym f.wants) (flush_in line (subst (λ m. 8 * m + 8 ≤ words_of site.shape) (sym q.2) (line_low q.0 q.1))))
-      | inr f ↦ subst (λ (w : Want). IsWithin site.shape w) (sym f.wants) (none_in wants.Fence refl (λ n same. absurd (cc)))
-    ]
-  ]
-
-  clear_within : (b : ℕ) (rounds : Rounds) → SuitsStep site op (Clear b rounds) v → (o : Option Want) → rounds_wanted rounds (due op b) ≡ o → IsWithin site.shape (round_wanted rounds (due op b))
-  clear_within b rounds s (Some want) wanted =
-      subst (λ (w : Want). IsWithin site.shape w) (sym (rounds_want rounds (due op b) want s.0.stands.few wanted)) (clear_in b rounds s.0 want wanted (event_cases rounds (due op b) want wanted))
-  clear_within b rounds s None wanted = absurd (s.1 wanted)
+  clear_within : (b : ℕ) (rounds : Rounds) → IsClearing site op b rounds v → IsWithin site.shape (event_wanted rounds (due op b))
+  clear_within b rounds c = by_wanted rounds (due op b) (IsWithin site.shape) (none_in wants.Done refl (λ n same. absurd (cc)))
+      (λ p due. let d = due_is op b p.0 p.1 due in
+      store_in p.0 p.1 (subst (λ i. i < words_of site.shape) (sym (d.1 ∙ ap (λ i. i + 1) (lock_is site op.whole l b d.0))) (bucket_low b 1 d.0 (omega arith))))
+      (λ line has. let q = c.lines line has in flush_in line (subst (λ m. 8 * m + 8 ≤ words_of site.shape) (sym q.2) (line_low q.0 q.1)))
+      (none_in wants.Fence refl (λ n same. absurd (cc)))
 
   place_low : (n : ℕ) → note_place n < block
   place_low n = by (n % 2 == 0)
@@ -299,7 +263,7 @@ module _ (site : Ground) (good : IsGround site) (op : RestOp) (l : IsLocated sit
       subst (λ i. i + note_place n < words_of site.shape) (sym (lock_is site op.whole l (note_home n) near)) (bucket_low (note_home n) (note_place n) near (place_low n))
 
   within_at : (s : RestStep) → SuitsStep site op s v → IsWithin site.shape (wanted_in op s)
-  within_at (Clear b rounds) s = clear_within b rounds s (rounds_wanted rounds (due op b)) refl
+  within_at (Clear b rounds) s = clear_within b rounds s.0
   within_at Head s = store_in _ (rest_head op.whole) (subst (λ i. i < words_of site.shape) (sym (head_is site op.whole l)) header_low)
   within_at HeadFlush s = flush_in _ (subst (λ i. 8 * line_of i + 8 ≤ words_of site.shape) (sym (head_is site op.whole l)) header_line)
   within_at HeadFence s = none_in wants.Fence refl (λ n same. absurd (cc))
@@ -323,29 +287,17 @@ module _ (op : RestOp) (reckoned : IsReckoned op) where
   note_small n true = reckoned.first_small (note_home n)
   note_small n false = reckoned.third_small (note_home n)
 
-  round_puts : (b : ℕ) (rounds : Rounds) (want : Want) → IsRoundEvent rounds (due op b) want → PutsWord want
-  round_puts b rounds want event = elim event [
-    | inl s ↦ (let d = due_is op b s.word s.value s.comes in
-        subst (λ (w : Want). PutsWord w) (sym s.wants) (store_puts s.word s.value (subst (λ x. x < 2 ^ 64) (sym d.2) (reckoned.cleared_small b))))
-    | inr f ↦ elim f [
-      | inl f ↦ subst (λ (w : Want). PutsWord w) (sym f.wants) (none_puts (wants.Flush (slice_index rounds.round f.number)) (λ i x same. absurd (cc)) (λ i x y same. absurd (cc)))
-      | inr f ↦ subst (λ (w : Want). PutsWord w) (sym f.wants) (none_puts wants.Fence (λ i x same. absurd (cc)) (λ i x y same. absurd (cc)))
-    ]
-  ]
-
   none_done : PutsWord wants.Done
   none_done = none_puts wants.Done (λ i x same. absurd (cc)) (λ i x y same. absurd (cc))
 
-  wanted_puts : (b : ℕ) (rounds : Rounds) (o : Option Want) → rounds_wanted rounds (due op b) ≡ o → PutsWord (want_by o)
-  wanted_puts b rounds (Some want) wanted = round_puts b rounds want (event_cases rounds (due op b) want wanted)
-  wanted_puts b rounds None wanted = none_done
-
-  clear_puts : (b : ℕ) (rounds : Rounds) (t : Bool) → PutsWord (if t then wants.Done else want_by (rounds_wanted rounds (due op b)))
-  clear_puts b rounds true = none_done
-  clear_puts b rounds false = wanted_puts b rounds (rounds_wanted rounds (due op b)) refl
+  clear_puts : (b : ℕ) (rounds : Rounds) → PutsWord (event_wanted rounds (due op b))
+  clear_puts b rounds = by_wanted rounds (due op b) PutsWord none_done
+      (λ p due. store_puts p.0 p.1 (subst (λ x. x < 2 ^ 64) (sym (due_is op b p.0 p.1 due).2) (reckoned.cleared_small b)))
+      (λ line has. none_puts (wants.Flush line) (λ i x same. absurd (cc)) (λ i x y same. absurd (cc)))
+      (none_puts wants.Fence (λ i x same. absurd (cc)) (λ i x y same. absurd (cc)))
 
   puts_at : (s : RestStep) → PutsWord (wanted_in op s)
-  puts_at (Clear b rounds) = clear_puts b rounds (nat_lt most_lines (length rounds.round))
+  puts_at (Clear b rounds) = clear_puts b rounds
   puts_at Head = store_puts _ (rest_head op.whole) rest_small
   puts_at HeadFlush = none_puts _ (λ i x same. absurd (cc)) (λ i x y same. absurd (cc))
   puts_at HeadFence = none_puts wants.Fence (λ i x same. absurd (cc)) (λ i x y same. absurd (cc))
@@ -366,10 +318,8 @@ no_plan site op (Give give) v s = give_plan site op.whole give v s
 no_plan site op Ended v s = s.planned
 
 -- while buckets are cleared something is wanted
-clear_some : (site : Ground) (op : RestOp) (b : ℕ) (rounds : Rounds) (v : View) → SuitsStep site op (Clear b rounds) v → round_wanted rounds (due op b) ≡ wants.Done → ⊥
-clear_some site op b rounds v s done =
-    s.1 (over_by rounds (due op b) (rounds_wanted rounds (due op b)) refl
-    (sym (ap (λ t. if t then wants.Done else want_by (rounds_wanted rounds (due op b))) (le-ltb most_lines (length rounds.round) s.0.stands.few)) ∙ done))
+clear_some : (site : Ground) (op : RestOp) (b : ℕ) (rounds : Rounds) (v : View) → SuitsStep site op (Clear b rounds) v → event_wanted rounds (due op b) ≡ wants.Done → ⊥
+clear_some site op b rounds v s done = s.1 (event_none rounds (due op b) s.0.stands.few done)
 
 ended_at : (site : Ground) (op : RestOp) (s : RestStep) (v : View) → SuitsStep site op s v → wanted_in op s ≡ wants.Done → s ≡ Ended
 ended_at site op (Clear b rounds) v s done = absurd (clear_some site op b rounds v s done)

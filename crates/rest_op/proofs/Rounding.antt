@@ -1,7 +1,7 @@
 -- While buckets are cleared: which event each is, what it asks, and what it leaves.
-use Rattle.std.proofs.Common.{◌≡◌, ◌≢◌, ℕ, ◌+◌, ◌^◌, ◌<◌, ◌≤◌, Bool, true, false, Option, None, Some, List, [], length, inl, inr, refl, sym, ap, ◌∙◌, subst, arith}
+use Rattle.std.proofs.Common.{◌≡◌, ◌≢◌, ℕ, ◌+◌, ◌^◌, ◌<◌, ◌≤◌, Bool, true, false, Option, None, Some, List, [], inl, inr, refl, sym, ap, ◌∙◌, subst, arith}
 use Rattle.std.specs.Prelude.{◌==◌, if◌then◌else◌, slice_index, nat_lt}
-use Rattle.std.proofs.lemmas.Bool.{cases_eq, ltb-true, ltb-false, le-ltb, eq-eqb, ne_eqb}
+use Rattle.std.proofs.lemmas.Bool.{cases_eq, ltb-true, ltb-false, eq-eqb, ne_eqb}
 use Rattle.trace.specs.Events.{line_of}
 use Rattle.op_core.specs.declared.want.Want.{Want}
 use Rattle.op_core.specs.declared.want.Want.TheVariants as wants
@@ -26,6 +26,7 @@ use Rattle.rounds.specs.Events.{IsStore, IsFlush, IsFence, IsRoundEvent}
 use Rattle.rounds.specs.Stands.{kind_of, rounds_kind, RoundStands}
 use Rattle.rounds.proofs.Events.{no_some, some_same, event_cases, events_end}
 use Rattle.rounds.proofs.Lines.{lines_are_stored}
+use Rattle.rounds.proofs.Wanted.{event_of, event_answer}
 use Rattle.rounds.proofs.Settling.{rounds_settle}
 use Rattle.rounds.proofs.Keeping.{rounds_may}
 use Rattle.enclose_op.specs.declared.enclosed.Enclosed.{Enclosed}
@@ -33,7 +34,7 @@ use Rattle.enclose_op.specs.Whole.{kept_word, kept_third}
 use Rattle.enclose_op.specs.Giving.{lock_of}
 use Rattle.rest_op.specs.declared.op.RestOp.{RestOp}
 use Rattle.rest_op.specs.declared.op.RestStep.TheVariants.{Clear}
-use Rattle.rest_op.specs.Steps.{most_lines, due, clear_from, is_cleared, next_clear, clearing, clearing_by, round_wanted, want_by, wanted_in, next_in}
+use Rattle.rest_op.specs.Steps.{due, clear_from, is_cleared, next_clear, clearing, clearing_by, wanted_in, next_in}
 use Rattle.rest_op.specs.Reckoned.{side_depth, side_pattern, IsReckoned}
 use Rattle.rest_op.specs.Stands.{value_of, cleared_before, IsSplit, IsLooseBefore, IsClearedLine, IsClearing, SuitsStep}
 use Rattle.enclose_op.proofs.Places.{lock_is}
@@ -64,18 +65,6 @@ module _ (op : RestOp) (b : ℕ) where
 
   pub due_none : due op b ≡ None → buckets ≤ b
   due_none same = none_by (nat_lt b buckets) refl same
-
--- the event that is wanted of the rounds
-pub rounds_want : (rounds : Rounds) (next : Option (ℕ × ℕ)) (want : Want) → length rounds.round ≤ 8 → rounds_wanted rounds next ≡ Some want → round_wanted rounds next ≡ want
-rounds_want rounds next want few is =
-    ap (λ t. if t then wants.Done else want_by (rounds_wanted rounds next)) (le-ltb most_lines (length rounds.round) few) ∙ ap want_by is
-
--- its answer
-pub event_answer : (rounds : Rounds) (next : Option (ℕ × ℕ)) (want : Want) (n : ℕ) → IsRoundEvent rounds next want → answer_to want n ≡ Passed
-event_answer rounds next want n event = elim event [
-  | inl s ↦ ap (λ w. answer_to w n) s.wants
-  | inr f ↦ elim f [ inl f ↦ ap (λ w. answer_to w n) f.wants | inr f ↦ ap (λ w. answer_to w n) f.wants ]
-]
 
 module _ (site : Ground) (op : RestOp) (l : IsLocated site op.whole.site op.whole.segment) where
   abbrev e : Enclosed
@@ -253,5 +242,5 @@ module _ (site : Ground) (op : RestOp) (l : IsLocated site op.whole.site op.whol
         round_stands =
             let u : View = view_by site.shape (rounds_kind rounds next []) n v in
             let event = event_cases rounds next want is in
-            let passed : answer_to (wanted_in op (Clear b rounds)) n ≡ Passed = ap (λ w. answer_to w n) (rounds_want rounds next want c.stands.few is) ∙ event_answer rounds next want n event in
+            let passed : answer_to (wanted_in op (Clear b rounds)) n ≡ Passed = ap (λ w. answer_to w n) (event_of rounds next want c.stands.few is) ∙ event_answer rounds next want n event in
             subst (λ (a : Ans). SuitsStep site op (next_in op (Clear b rounds) a) u) (sym passed) (clearing_suits (next_clear op (rounds_stores rounds next) b) (rounds_taken rounds next) u (by_event event))

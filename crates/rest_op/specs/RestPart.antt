@@ -14,6 +14,7 @@ use Rattle.world.specs.areas.Splitting.{link_word, IsHeader, KnowsBuckets}
 use Rattle.part.specs.Outcomes.{Outcome, finished}
 use Rattle.part.specs.Part.{Part}
 use Rattle.phase.specs.Giving.{IsQuiet}
+use Rattle.whole_segment.specs.Rounds.{most_lines}
 use Rattle.rounds.specs.declared.rounds.Rounds.{Rounds}
 use Rattle.rounds.specs.Left.{rounds_left}
 use Rattle.rounds.specs.Waiting.{rounds_waiting}
@@ -24,7 +25,7 @@ use Rattle.rest_op.specs.declared.op.RestEnd.TheVariants as ends
 use Rattle.rest_op.specs.declared.op.RestStep.{RestStep}
 use Rattle.rest_op.specs.declared.op.RestStep.TheVariants.{Clear, Head, HeadFlush, HeadFence, Note, Open, Give, Ended}
 use Rattle.rest_op.specs.declared.op.RestOp.{RestOp}
-use Rattle.rest_op.specs.Steps.{most_lines, wanted, taken, begun_in, end_of}
+use Rattle.rest_op.specs.Steps.{wanted, taken, begun_in, end_of}
 use Rattle.rest_op.specs.Reckoned.{side_depth, side_pattern, IsReckoned, rest_of}
 use Rattle.rest_op.specs.Stands.{kind_at, SuitsStep}
 

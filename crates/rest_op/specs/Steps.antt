@@ -1,5 +1,5 @@
 -- What the rest of a split wants in each step, and what an answer makes of it; and how it ends.
-use Rattle.std.specs.Prelude.{ℕ, zero, suc, ◌+◌, ◌-◌, ◌*◌, ◌/◌, ◌%◌, ◌^◌, ◌==◌, not, nat_lt, Bool, true, false, Option, None, Some, List, length, slice_index, if◌then◌else◌}
+use Rattle.std.specs.Prelude.{ℕ, zero, suc, ◌+◌, ◌-◌, ◌*◌, ◌/◌, ◌%◌, ◌^◌, ◌==◌, not, nat_lt, Bool, true, false, Option, None, Some, List, slice_index, if◌then◌else◌}
 use Rattle.trace.specs.Events.{line_of}
 use Rattle.segment_head.specs.HeadWord.{version_in, depth_in, pattern_in, header_of, normal}
 use Rattle.image_layout.specs.Places.{homes, buckets}
@@ -9,9 +9,8 @@ use Rattle.op_core.specs.declared.want.Want.TheVariants as want
 use Rattle.op_core.specs.declared.want.Ans.{Ans}
 use Rattle.op_core.specs.declared.want.Ans.TheVariants.{Passed}
 use Rattle.whole_segment.specs.declared.notes.Notes.{Notes}
-pub use Rattle.whole_segment.specs.Rounds.{most_lines}
 use Rattle.rounds.specs.declared.rounds.Rounds.{Rounds}
-use Rattle.rounds.specs.Steps.{rounds_stores, rounds_wanted, rounds_taken}
+use Rattle.rounds.specs.Steps.{rounds_stores, rounds_wanted, event_wanted, rounds_taken}
 use Rattle.rounds.specs.Steps as rounds
 use Rattle.enclose_op.specs.declared.enclosed.Enclosed.{Enclosed}
 use Rattle.enclose_op.specs.declared.give.Give.{Give as Giving}
@@ -104,19 +103,10 @@ abbrev pub given_to : Giving → RestStep
 given_to give = given_by (given give)
 
 -- ---- the machine
--- the event of the rounds, where this store is to come
-abbrev pub want_by : Option Want → Want
-want_by (Some want) = want
-want_by None = want.Done
-
--- a round touches no more lines than it may
-abbrev pub round_wanted : Rounds → Option (ℕ × ℕ) → Want
-round_wanted rounds next = if nat_lt most_lines (length rounds.round) then want.Done else want_by (rounds_wanted rounds next)
-
 module _ (op : RestOp) where
   -- THE EVENT that it wants
   abbrev pub wanted_in : RestStep → Want
-  wanted_in (Clear b rounds) = round_wanted rounds (due op b)
+  wanted_in (Clear b rounds) = event_wanted rounds (due op b)
   wanted_in Head = want.Store (head_word op.whole.site.geometry op.whole.segment) (rest_head op.whole)
   wanted_in HeadFlush = want.Flush (line_of (head_word op.whole.site.geometry op.whole.segment))
   wanted_in HeadFence = want.Fence

@@ -3,7 +3,7 @@
 ghost use Rattle.std.specs.Prelude.{◌≡◌, ◌*◌, ◌<◌, ◌≤◌, ◌↔◌, IsTrue};
 ghost use Rattle.image_layout.specs.Places.{homes, buckets};
 ghost use Rattle.op_core.specs.declared.want.Want.TheVariants as want;
-ghost use Rattle.rest_op.specs.Steps.{is_cleared, clear_from, note_old, note_value, is_noted, note_from, note_word, due, clearing, noting, locks_from, given_to, round_wanted, cleared, begun, begun_in, wanted, taken, end_of};
+ghost use Rattle.rest_op.specs.Steps.{is_cleared, clear_from, note_old, note_value, is_noted, note_from, note_word, due, clearing, noting, locks_from, given_to, cleared, begun, begun_in, wanted, taken, end_of};
 
 use crate::heads::rest_head;
 use enclose_op::{Enclosed, Give, given};
@@ -12,7 +12,7 @@ use op_core::{Ans, Machine, Want};
 use rounds::Rounds;
 use trace::line_of;
 use way::head_word;
-use whole_segment::{MOST_LINES, Notes};
+use whole_segment::Notes;
 
 /// How many words have notes: two in each home.
 const NOTES: u8 = 2 * HOMES;
@@ -242,20 +242,6 @@ fn given_to(give: Give) -> RestStep
     }
 }
 
-/// The event of the rounds, where this store is to come.
-fn round_want(rounds: &Rounds, next: Option<(u64, u64)>) -> Want
-    ensures { result ≡ round_wanted rounds.now next }
-{
-    if rounds.round.count() > MOST_LINES {
-        Want::Done
-    } else {
-        match rounds.want(next) {
-            Some(want) => want,
-            None => Want::Done,
-        }
-    }
-}
-
 /// The event that it wants.
 fn want_of(op: &RestOp) -> Want
     ensures { result ≡ wanted op.now }
@@ -263,7 +249,7 @@ fn want_of(op: &RestOp) -> Want
     let whole = &op.whole;
     let head = head_word(&whole.site.geometry, whole.segment);
     match &op.step {
-        RestStep::Clear(bucket, rounds) => round_want(rounds, op.due(*bucket)),
+        RestStep::Clear(bucket, rounds) => rounds.event(op.due(*bucket)),
         RestStep::Head => Want::Store(head, rest_head(whole)),
         RestStep::HeadFlush => Want::Flush(line_of(head)),
         RestStep::HeadFence => Want::Fence,
