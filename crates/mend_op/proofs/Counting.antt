@@ -1,5 +1,5 @@
 -- How many events are left.
-use Rattle.std.proofs.Common.{◌≡◌, ℕ, suc, ◌+◌, ◌-◌, ◌*◌, ◌<◌, ◌≤◌, Bool, true, false, Option, None, Some, List, length, inl, inr, refl, sym, ap, ◌∙◌, subst, arith}
+use Rattle.std.proofs.Common.{◌≡◌, ℕ, suc, ◌+◌, ◌-◌, ◌*◌, ◌<◌, ◌≤◌, Bool, true, false, Option, None, Some, length, inl, inr, refl, sym, ap, ◌∙◌, subst, arith}
 use Rattle.std.specs.Prelude.{if◌then◌else◌, nat_lt}
 use Rattle.std.proofs.lemmas.Bool.{ltb-true, ltb-false, le-ltb}
 use Rattle.op_core.specs.declared.want.Want.{Want}
@@ -7,25 +7,25 @@ use Rattle.op_core.specs.declared.want.Ans.{Ans}
 use Rattle.op_core.specs.declared.want.Ans.TheVariants.{Passed, Value}
 use Rattle.op_core.specs.Answers.{IsAnswer}
 use Rattle.image_layout.specs.Places.{homes}
-use Rattle.rounds.specs.declared.rounds.RoundStep.{RoundStep}
-use Rattle.rounds.specs.declared.rounds.RoundStep.TheVariants.{Storing, Flushing, Fencing}
+use Rattle.whole_segment.specs.Rounds.{most_lines}
 use Rattle.rounds.specs.declared.rounds.Rounds.{Rounds}
-use Rattle.rounds.specs.Steps.{rounds_stores, rounds_wanted, rounds_taken}
+use Rattle.rounds.specs.Steps.{rounds_stores, rounds_wanted, event_wanted, rounds_taken}
 use Rattle.rounds.specs.Steps as rounds
 use Rattle.rounds.specs.Events.{IsStore, IsRoundEvent}
-use Rattle.rounds.specs.Left.{left_at as round_left_at, rounds_left}
+use Rattle.rounds.specs.Left.{rounds_left}
 use Rattle.rounds.proofs.Events.{no_some}
-use Rattle.rounds.proofs.Falling.{rounds_fall}
+use Rattle.rounds.proofs.Wanted.{asked}
+use Rattle.rounds.proofs.Falling.{step_most, rounds_fall}
 use Rattle.mend_op.specs.declared.stage.Stage.{Stage}
 use Rattle.mend_op.specs.declared.stage.Stage.TheVariants as stage
 use Rattle.mend_op.specs.declared.op.MendStep.{MendStep}
 use Rattle.mend_op.specs.declared.op.MendStep.TheVariants.{Fill, Round, Finish, FinishFlush, FinishFence, Note, Renew, RenewFlush, RenewFence, Give, Ended}
 use Rattle.mend_op.specs.declared.op.MendOp.{MendOp}
 use Rattle.mend_op.specs.Stages.{most, place}
-use Rattle.mend_op.specs.Steps.{most_lines, at_step, with_word, with_stored, prepared, is_changed, changed_from, due, noted_from, over, rounding_by, begin, rounded_by, loaded_by, round_wanted, wanted_in, next_in}
+use Rattle.mend_op.specs.Steps.{at_step, with_word, with_stored, prepared, is_changed, changed_from, due, noted_from, over, rounding_by, begin, rounded_by, loaded_by, wanted_in, next_in}
 use Rattle.mend_op.specs.MendPart.{after_stage, notes_left, round_left, fills_left, left_at, most_events}
 use Rattle.mend_op.proofs.Seeking.{seek_behind}
-use Rattle.mend_op.proofs.Dues.{due_is, asked, stored_passed}
+use Rattle.mend_op.proofs.Dues.{due_is, stored_passed}
 
 abbrev left_of : MendOp → ℕ
 left_of op = left_at op.step
@@ -115,7 +115,7 @@ module _ (op : MendOp) (stage : Stage) (n : ℕ) (rounds : Rounds) (few : length
     ]
   ]
 
-round_falls : (op : MendOp) (stage : Stage) (n : ℕ) (rounds : Rounds) (a : Ans) → IsAnswer (round_wanted rounds (due op stage n)) a → left_of (next_in op (Round stage n rounds) a) < round_left stage n rounds
+round_falls : (op : MendOp) (stage : Stage) (n : ℕ) (rounds : Rounds) (a : Ans) → IsAnswer (event_wanted rounds (due op stage n)) a → left_of (next_in op (Round stage n rounds) a) < round_left stage n rounds
 round_falls op stage n rounds a answer =
     let q = asked rounds (due op stage n) a answer in
     subst (λ k. left_of (next_in op (Round stage n rounds) a) < k) (sym (few_left stage n rounds q.few))
@@ -154,15 +154,6 @@ falls_at op Give a is = absurd is
 falls_at op Ended a is = absurd is
 
 -- at most so many are left
-step_few : (lines : List ℕ) → length lines ≤ 8 → (step : RoundStep) → round_left_at lines step ≤ 9
-step_few lines few Storing = by (nat_lt 0 (length lines))
-  where
-    by : (t : Bool) → (if t then length lines + 1 else 0) ≤ 9
-    by true = omega (arith, few)
-    by false = omega arith
-step_few lines few (Flushing i) = omega (arith, few)
-step_few lines few Fencing = omega arith
-
 stage_most : (stage : Stage) (n : ℕ) → 3 * (most stage - n) + after_stage stage ≤ 800
 stage_most stage.Clear n = omega arith
 stage_most stage.Mend n = omega arith
@@ -172,7 +163,7 @@ round_most : (stage : Stage) (n : ℕ) (rounds : Rounds) (t : Bool) → nat_lt m
     → (if t then 0 else rounds_left rounds (most stage - n) + after_stage stage) ≤ most_events
 round_most stage n rounds true is = omega arith
 round_most stage n rounds false is =
-    let few = step_few rounds.round (ltb-false most_lines (length rounds.round) is) rounds.step in
+    let few = step_most rounds.round (ltb-false most_lines (length rounds.round) is) rounds.step in
     let stores = stage_most stage n in
     omega (arith, few, stores)
 

@@ -1,28 +1,26 @@
 -- How many lines are flushed and not fenced.
-use Rattle.std.proofs.Common.{◌≡◌, ◌≢◌, ℕ, ◌+◌, ◌*◌, ◌≤◌, Bool, true, false, Option, None, Some, length, inl, inr, refl, sym, ap, ◌∙◌, subst, arith}
-use Rattle.std.specs.Prelude.{if◌then◌else◌, nat_lt, slice_index}
-use Rattle.std.proofs.lemmas.Bool.{cases_lt, lt-ltb, le-ltb}
+use Rattle.std.proofs.Common.{◌≡◌, ◌≢◌, ℕ, ◌+◌, ◌*◌, ◌≤◌, Bool, true, false, Option, None, Some, refl, sym, ap, ◌∙◌, arith}
+use Rattle.std.specs.Prelude.{if◌then◌else◌, nat_lt}
 use Rattle.op_core.specs.declared.want.Want.{Want}
 use Rattle.op_core.specs.declared.want.Want.TheVariants as wants
 use Rattle.op_core.specs.declared.want.Ans.{Ans}
 use Rattle.op_core.specs.declared.want.Ans.TheVariants.{Passed}
 use Rattle.op_core.specs.Answers.{IsAnswer}
 use Rattle.image_layout.specs.Places.{homes}
+use Rattle.whole_segment.specs.Rounds.{most_lines}
 use Rattle.rounds.specs.declared.rounds.Rounds.{Rounds}
-use Rattle.rounds.specs.Steps.{rounds_stores, rounds_wanted, rounds_taken}
-use Rattle.rounds.specs.Events.{IsFlush, IsRoundEvent}
-use Rattle.rounds.specs.Waiting.{round_waiting, rounds_waiting}
-use Rattle.rounds.proofs.Events.{event_cases}
-use Rattle.rounds.proofs.Waiting.{most_wait, store_waits, flush_waits, none_waits}
+use Rattle.rounds.specs.Steps.{rounds_stores, rounds_wanted, event_wanted, rounds_taken}
+use Rattle.rounds.specs.Waiting.{rounds_waiting}
+use Rattle.rounds.proofs.Wanted.{IsAsked, asked}
+use Rattle.rounds.proofs.Waiting.{most_wait, none_waits, event_ends, event_flushes, event_keeps}
 use Rattle.mend_op.specs.declared.stage.Stage.{Stage}
 use Rattle.mend_op.specs.declared.stage.Stage.TheVariants as stage
 use Rattle.mend_op.specs.declared.op.MendStep.{MendStep}
 use Rattle.mend_op.specs.declared.op.MendStep.TheVariants.{Fill, Round, Finish, FinishFlush, FinishFence, Note, Renew, RenewFlush, RenewFence, Give, Ended}
 use Rattle.mend_op.specs.declared.op.MendOp.{MendOp}
 use Rattle.mend_op.specs.Stages.{place}
-use Rattle.mend_op.specs.Steps.{most_lines, with_stored, prepared, changed_from, due, over, rounding_by, rounded_by, want_by, round_wanted, store_wanted, wanted_in, next_in}
+use Rattle.mend_op.specs.Steps.{with_stored, prepared, changed_from, due, over, rounding_by, rounded_by, store_wanted, wanted_in, next_in}
 use Rattle.mend_op.specs.MendPart.{waiting_at}
-use Rattle.mend_op.proofs.Dues.{rounds_want, IsAsked, asked}
 
 abbrev waits : MendOp → ℕ
 waits op = waiting_at op.step
@@ -56,33 +54,21 @@ rounded_waits op stage n after true = let stored : MendOp = with_stored op (plac
 rounded_waits op stage n after false = rounding_waits op stage n after
 
 -- ---- while words are stored in rounds
-module _ (op : MendOp) (stage : Stage) (n : ℕ) (rounds : Rounds) (a : Ans) (answer : IsAnswer (round_wanted rounds (due op stage n)) a) where
+module _ (op : MendOp) (stage : Stage) (n : ℕ) (rounds : Rounds) (a : Ans) (answer : IsAnswer (event_wanted rounds (due op stage n)) a) where
   abbrev next : Option (ℕ × ℕ)
   next = due op stage n
 
   q : IsAsked rounds next a
   q = asked rounds next a answer
 
-  wanted_is : round_wanted rounds next ≡ q.want
-  wanted_is = rounds_want rounds next q.want q.few q.is
+  passed_waits : waits (next_in op (Round stage n rounds) a) ≡ rounds_waiting (rounds_taken rounds next)
+  passed_waits = ap (λ (x : Ans). waits (next_in op (Round stage n rounds) x)) q.passed ∙ rounded_waits op stage n (rounds_taken rounds next) (rounds_stores rounds next)
 
-  one_more : IsFlush rounds next q.want → rounds_waiting rounds + 1 ≤ waits (next_in op (Round stage n rounds) a)
-  one_more f =
-      let on = flush_waits rounds next q.want q.few f in
-      let after = rounded_waits op stage n (rounds_taken rounds next) (rounds_stores rounds next) in
-      subst (λ (x : Ans). rounds_waiting rounds + 1 ≤ waits (next_in op (Round stage n rounds) x)) (sym q.passed) (omega (arith, on, after))
+  round_flushes : (line : ℕ) → event_wanted rounds next ≡ wants.Flush line → rounds_waiting rounds + 1 ≤ waits (next_in op (Round stage n rounds) a)
+  round_flushes line flush = event_flushes rounds next q.few (waits (next_in op (Round stage n rounds) a)) (λ w f. passed_waits) line flush
 
-  round_flushes : (line : ℕ) → round_wanted rounds next ≡ wants.Flush line → rounds_waiting rounds + 1 ≤ waits (next_in op (Round stage n rounds) a)
-  round_flushes line flush = elim q.event [
-    | inl s ↦ absurd (let no : wants.Flush line ≡ wants.Store s.word s.value = sym flush ∙ wanted_is ∙ s.wants in cc)
-    | inr f ↦ elim f [ inl f ↦ one_more f | inr f ↦ absurd (let no : wants.Flush line ≡ wants.Fence = sym flush ∙ wanted_is ∙ f.wants in cc) ]
-  ]
-
-  round_keeps : round_wanted rounds next ≢ wants.Fence → rounds_waiting rounds ≤ waits (next_in op (Round stage n rounds) a)
-  round_keeps no_fence = elim q.event [
-    | inl s ↦ (let none = (store_waits rounds next q.want s).0 in omega (arith, none))
-    | inr f ↦ elim f [ inl f ↦ (let more = one_more f in omega (arith, more)) | inr f ↦ absurd (no_fence (wanted_is ∙ f.wants)) ]
-  ]
+  round_keeps : event_wanted rounds next ≢ wants.Fence → rounds_waiting rounds ≤ waits (next_in op (Round stage n rounds) a)
+  round_keeps no_fence = event_keeps rounds next q.few (waits (next_in op (Round stage n rounds) a)) (λ w f. passed_waits) no_fence
 
 -- a store alone flushes nothing
 no_flush : (o : Option (ℕ × ℕ)) (line : ℕ) → store_wanted o ≡ wants.Flush line → ⊥
@@ -111,26 +97,8 @@ keeps_at op RenewFence a is no_fence = absurd (no_fence refl)
 keeps_at op s a is no_fence = omega arith
 
 -- ---- at the end none waits
-event_some : (rounds : Rounds) (next : Option (ℕ × ℕ)) (want : Want) → IsRoundEvent rounds next want → want ≢ wants.Done
-event_some rounds next want event done = elim event [
-  | inl s ↦ absurd (let no : wants.Done ≡ wants.Store s.word s.value = sym done ∙ s.wants in cc)
-  | inr f ↦ elim f [ inl f ↦ absurd (let no : wants.Done ≡ wants.Flush (slice_index rounds.round f.number) = sym done ∙ f.wants in cc) | inr f ↦ absurd (let no : wants.Done ≡ wants.Fence = sym done ∙ f.wants in cc) ]
-]
-
--- where the rounds want nothing, they are over
-pub over_by : (rounds : Rounds) (next : Option (ℕ × ℕ)) (o : Option Want) → rounds_wanted rounds next ≡ o → want_by o ≡ wants.Done → rounds_wanted rounds next ≡ None
-over_by rounds store (Some want) is done = absurd (event_some rounds store want (event_cases rounds store want is) done)
-over_by rounds store None is done = is
-
-round_ends : (rounds : Rounds) (next : Option (ℕ × ℕ)) → round_wanted rounds next ≡ wants.Done → rounds_waiting rounds ≡ 0
-round_ends rounds store done = elim (cases_lt most_lines (length rounds.round)) [
-  | inl many ↦ ap (λ t. if t then 0 else round_waiting rounds.round rounds.step) (lt-ltb most_lines (length rounds.round) many)
-  | inr few ↦ none_waits rounds store (over_by rounds store (rounds_wanted rounds store) refl
-      (sym (ap (λ t. if t then wants.Done else want_by (rounds_wanted rounds store)) (le-ltb most_lines (length rounds.round) few)) ∙ done))
-]
-
 pub ends_waiting : (op : MendOp) (s : MendStep) → wanted_in op s ≡ wants.Done → waiting_at s ≡ 0
-ends_waiting op (Round stage n rounds) done = round_ends rounds (due op stage n) done
+ends_waiting op (Round stage n rounds) done = event_ends rounds (due op stage n) done
 ends_waiting op FinishFence done = absurd (cc)
 ends_waiting op RenewFence done = absurd (cc)
 ends_waiting op s done = refl

@@ -11,6 +11,7 @@ use Rattle.part.specs.Doings.{Doings}
 use Rattle.part.specs.Outcomes.{Outcome, finished}
 use Rattle.part.specs.Part.{Part}
 use Rattle.part.specs.Repairs.{HasRepaired}
+use Rattle.whole_segment.specs.Rounds.{most_lines}
 use Rattle.rounds.specs.declared.rounds.Rounds.{Rounds}
 use Rattle.rounds.specs.Left.{rounds_left}
 use Rattle.rounds.specs.Waiting.{rounds_waiting}
@@ -23,7 +24,7 @@ use Rattle.mend_op.specs.declared.op.MendStep.{MendStep}
 use Rattle.mend_op.specs.declared.op.MendStep.TheVariants.{Fill, Round, Finish, FinishFlush, FinishFence, Note, Renew, RenewFlush, RenewFence, Give, Ended}
 use Rattle.mend_op.specs.declared.op.MendOp.{MendOp}
 use Rattle.mend_op.specs.Stages.{most}
-use Rattle.mend_op.specs.Steps.{most_lines, wanted, taken, begun, end_of}
+use Rattle.mend_op.specs.Steps.{wanted, taken, begun, end_of}
 use Rattle.mend_op.specs.Stands.{kind_at, SuitsStep}
 
 -- ---- what is decided

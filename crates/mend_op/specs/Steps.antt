@@ -1,5 +1,5 @@
 -- What a mending wants in each step, and what an answer makes of it; and how it ends.
-use Rattle.std.specs.Prelude.{ℕ, ◌+◌, ◌-◌, ◌*◌, ◌==◌, not, nat_lt, Bool, true, false, Option, None, Some, length, replicate, slice_index, slice_set, if◌then◌else◌}
+use Rattle.std.specs.Prelude.{ℕ, ◌+◌, ◌-◌, ◌*◌, ◌==◌, not, nat_lt, Bool, true, false, Option, None, Some, replicate, slice_index, slice_set, if◌then◌else◌}
 use Rattle.trace.specs.Events.{line_of}
 use Rattle.image_layout.specs.Places.{homes}
 use Rattle.way.specs.Ways.{head_word, bucket_word}
@@ -7,9 +7,8 @@ use Rattle.op_core.specs.declared.want.Want.{Want}
 use Rattle.op_core.specs.declared.want.Want.TheVariants as want
 use Rattle.op_core.specs.declared.want.Ans.{Ans}
 use Rattle.op_core.specs.declared.want.Ans.TheVariants.{Value, Passed}
-pub use Rattle.whole_segment.specs.Rounds.{most_lines}
 use Rattle.rounds.specs.declared.rounds.Rounds.{Rounds}
-use Rattle.rounds.specs.Steps.{rounds_stores, rounds_wanted, rounds_taken}
+use Rattle.rounds.specs.Steps.{rounds_stores, rounds_wanted, event_wanted, rounds_taken}
 use Rattle.rounds.specs.Steps as rounds
 use Rattle.repair_op.specs.declared.guarded.Guarded.{Guarded}
 use Rattle.repair_op.specs.Guarded.{guard_of}
@@ -117,14 +116,6 @@ abbrev pub noted : MendOp → ℕ → MendOp
 noted op n = if nat_lt n (2 * homes) then noted_from (with_stored op (place stage.Note n)) (n + 1) else at_step op Renew
 
 -- ---- the machine
--- the event of the rounds, where this store is to come; a round touches no more lines than it may
-abbrev pub want_by : Option Want → Want
-want_by (Some want) = want
-want_by None = want.Done
-
-abbrev pub round_wanted : Rounds → Option (ℕ × ℕ) → Want
-round_wanted rounds next = if nat_lt most_lines (length rounds.round) then want.Done else want_by (rounds_wanted rounds next)
-
 -- the store that is to come, where one is
 abbrev pub store_wanted : Option (ℕ × ℕ) → Want
 store_wanted (Some next) = want.Store next.0 next.1
@@ -134,7 +125,7 @@ module _ (op : MendOp) where
   -- THE EVENT that it wants
   abbrev pub wanted_in : MendStep → Want
   wanted_in (Fill i) = want.Load (word_at op i)
-  wanted_in (Round stage n rounds) = round_wanted rounds (due op stage n)
+  wanted_in (Round stage n rounds) = event_wanted rounds (due op stage n)
   wanted_in Finish = want.Store (head_at op) (finished_head op.guarded.head)
   wanted_in FinishFlush = want.Flush (line_of (head_at op))
   wanted_in FinishFence = want.Fence

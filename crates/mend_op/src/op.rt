@@ -4,7 +4,7 @@ ghost use Rattle.std.specs.Prelude.{◌≡◌, ◌*◌, ◌<◌, ◌≤◌, ◌�
 ghost use Rattle.image_layout.specs.Places.{homes};
 ghost use Rattle.op_core.specs.declared.want.Want.TheVariants as want;
 ghost use Rattle.mend_op.specs.Stages.{most};
-ghost use Rattle.mend_op.specs.Steps.{head_at, word_at, with_word, with_stored, prepared, is_changed, changed_from, due, noting, noted_from, begin_notes, over, rounding, begin, rounded, loaded_by, filled_to, finished, noted, round_wanted, store_wanted, wanted, taken, begun, end_of};
+ghost use Rattle.mend_op.specs.Steps.{head_at, word_at, with_word, with_stored, prepared, is_changed, changed_from, due, noting, noted_from, begin_notes, over, rounding, begin, rounded, loaded_by, filled_to, finished, noted, store_wanted, wanted, taken, begun, end_of};
 
 use crate::heads::{finished_head, renewed_head};
 use crate::make::made;
@@ -15,7 +15,6 @@ use repair_op::Guarded;
 use rounds::Rounds;
 use trace::line_of;
 use way::{bucket_word, head_word};
-use whole_segment::MOST_LINES;
 
 /// How many words have notes: two in each home.
 const NOTES: u8 = 2 * HOMES;
@@ -286,20 +285,6 @@ impl MendOp {
     }
 }
 
-/// The event of the rounds, where this store is to come.
-fn round_want(rounds: &Rounds, next: Option<(u64, u64)>) -> Want
-    ensures { result ≡ round_wanted rounds.now next }
-{
-    if rounds.round.count() > MOST_LINES {
-        Want::Done
-    } else {
-        match rounds.want(next) {
-            Some(want) => want,
-            None => Want::Done,
-        }
-    }
-}
-
 /// The store that is to come, where one is.
 fn store_want(next: Option<(u64, u64)>) -> Want
     ensures { result ≡ store_wanted next }
@@ -317,7 +302,7 @@ fn want_of(op: &MendOp) -> Want
     let head = op.head_at();
     match &op.step {
         MendStep::Fill(number) => Want::Load(op.word_at(*number)),
-        MendStep::Round(stage, number, rounds) => round_want(rounds, op.due(*stage, *number)),
+        MendStep::Round(stage, number, rounds) => rounds.event(op.due(*stage, *number)),
         MendStep::Finish => Want::Store(head, finished_head(op.guarded.head)),
         MendStep::FinishFlush | MendStep::RenewFlush => Want::Flush(line_of(head)),
         MendStep::FinishFence | MendStep::RenewFence => Want::Fence,

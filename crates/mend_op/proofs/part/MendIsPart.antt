@@ -1,8 +1,8 @@
 -- A mending is a part of a call.
-use Rattle.std.proofs.Common.{◌≡◌, ◌≢◌, ℕ, ◌^◌, ◌<◌, ◌≤◌, true, false, Option, None, Some, List, [], length, slice_index, inl, inr, refl, sym, ap, ◌∙◌, subst, arith}
-use Rattle.std.specs.Prelude.{replicate, if◌then◌else◌}
-use Rattle.std.proofs.lemmas.Bool.{cases_lt, le-ltb, lt-ltb}
-use Rattle.std.proofs.lemmas.List.{length-replicate, get_or-replicate, get_or_past}
+use Rattle.std.proofs.Common.{◌≡◌, ◌≢◌, ℕ, ◌^◌, ◌<◌, true, false, Option, None, Some, List, [], slice_index, inl, inr, refl, sym, ap, ◌∙◌, subst, arith}
+use Rattle.std.specs.Prelude.{if◌then◌else◌}
+use Rattle.std.proofs.lemmas.Bool.{lt-ltb}
+use Rattle.std.proofs.lemmas.List.{length-replicate}
 use Rattle.trace.specs.Events.{Words, line_of}
 use Rattle.op_core.specs.declared.want.Want.{Want}
 use Rattle.op_core.specs.declared.want.Want.TheVariants as wants
@@ -24,9 +24,12 @@ use Rattle.world.proofs.moving.Known.{newest_is}
 use Rattle.part.specs.Outcomes.{reply_of}
 use Rattle.part.specs.Part.{IsPart, LeavesKnown}
 use Rattle.phase.proofs.Handing.{same_more}
+use Rattle.whole_segment.proofs.Zeros.{zeros_small}
 use Rattle.rounds.specs.declared.rounds.Rounds.{Rounds}
-use Rattle.rounds.specs.Steps.{rounds_wanted}
-use Rattle.rounds.specs.Stands.{kind_of, rounds_kind}
+use Rattle.rounds.specs.Steps.{rounds_wanted, event_wanted}
+use Rattle.rounds.specs.Stands.{rounds_kind}
+use Rattle.rounds.proofs.Wanted.{event_of, event_none}
+use Rattle.rounds.proofs.Silent.{round_makes, round_still, round_power}
 use Rattle.rounds.proofs.Settling.{rounds_settle}
 use Rattle.repair_op.specs.declared.guarded.Guarded.{Guarded}
 use Rattle.repair_op.specs.Guarded.{guard_of, HasState, HasDeepEntries}
@@ -37,12 +40,11 @@ use Rattle.mend_op.specs.declared.op.MendStep.TheVariants.{Fill, Round, Finish, 
 use Rattle.mend_op.specs.declared.op.MendOp.{MendOp}
 use Rattle.mend_op.specs.Words.{finished_head, renewed_head}
 use Rattle.mend_op.specs.Stages.{most, place}
-use Rattle.mend_op.specs.Steps.{most_lines, head_at, word_at, due, want_by, round_wanted, store_wanted, wanted_in, next_in, wanted, end_at}
+use Rattle.mend_op.specs.Steps.{head_at, word_at, due, store_wanted, wanted_in, next_in, wanted, end_at}
 use Rattle.mend_op.specs.Stands.{kind_at, place_of, IsBefore, IsRounding, IsInStage, SuitsStep}
 use Rattle.mend_op.specs.MendPart.{outcome_at, IsOf, MendStands, mend_part, BeginsAsPart, EndsRepaired}
-use Rattle.mend_op.proofs.Dues.{rounds_want}
 use Rattle.mend_op.proofs.Counting.{falls_at, most_at}
-use Rattle.mend_op.proofs.Waiting.{waits_few, flushes_at, keeps_at, ends_waiting, over_by}
+use Rattle.mend_op.proofs.Waiting.{waits_few, flushes_at, keeps_at, ends_waiting}
 use Rattle.mend_op.proofs.stages.Clearing.{clear_may}
 use Rattle.mend_op.proofs.stages.Mending.{stage_may}
 use Rattle.mend_op.proofs.whole.Words.{head_in_slot, link_in_slot}
@@ -71,8 +73,8 @@ module _ (site : Ground) (ground : IsGround site) (here : Site) (call : Call) (o
 
   -- what the rounds want, where there is anything
   round_wants_by : (t : Stage) (n : ℕ) (rounds : Rounds) → Suited (Round t n rounds) → (o : Option Want) → rounds_wanted rounds (due op t n) ≡ o
-      → round_wanted rounds (due op t n) ≡ wanted_of site.shape (rounds_kind rounds (due op t n) [])
-  round_wants_by t n rounds c (Some want) wants = rounds_want rounds (due op t n) want c.1.stands.few wants ∙ rounds_settle.wants site.shape [] rounds (due op t n) want wants
+      → event_wanted rounds (due op t n) ≡ wanted_of site.shape (rounds_kind rounds (due op t n) [])
+  round_wants_by t n rounds c (Some want) wants = event_of rounds (due op t n) want c.1.stands.few wants ∙ rounds_settle.wants site.shape [] rounds (due op t n) want wants
   round_wants_by t n rounds c None wants = absurd (c.3 wants)
 
   wants_at : (s : MendStep) → Suited s → wanted_in op s ≢ wants.Done → wanted_in op s ≡ wanted_of site.shape (kind_at op s)
@@ -116,10 +118,10 @@ module _ (site : Ground) (ground : IsGround site) (here : Site) (call : Call) (o
   Stood s n = MendStands site here call (next_in op s (answer_to (wanted_in op s) n)) (next_view s n)
 
   round_stands_by : (words : Words) (m : ℕ) (knows : (i x : ℕ) → Has (i, x) v.known → words i ≡ x) (t : Stage) (n : ℕ) (rounds : Rounds) → Suited (Round t n rounds)
-      → words (word_of site.shape (round_wanted rounds (due op t n))) ≡ m → (o : Option Want) → rounds_wanted rounds (due op t n) ≡ o → Stood (Round t n rounds) m
+      → words (word_of site.shape (event_wanted rounds (due op t n))) ≡ m → (o : Option Want) → rounds_wanted rounds (due op t n) ≡ o → Stood (Round t n rounds) m
   round_stands_by words m knows t n rounds c found (Some want) wanted =
       round_stands site ground here call op is t c.0 n rounds v c.1 c.2 words m knows want wanted
-      (ap (λ (w : Want). words (word_of site.shape w)) (sym (rounds_want rounds (due op t n) want c.1.stands.few wanted)) ∙ found)
+      (ap (λ (w : Want). words (word_of site.shape w)) (sym (event_of rounds (due op t n) want c.1.stands.few wanted)) ∙ found)
   round_stands_by words m knows t n rounds c found None wanted = absurd (c.3 wanted)
 
   note_stands : (words : Words) (m : ℕ) (knows : (i x : ℕ) → Has (i, x) v.known → words i ≡ x) (n : ℕ) (c : Suited (Note n)) → words (word_of site.shape (store_wanted (due op stage.Note n))) ≡ m
@@ -147,20 +149,8 @@ none_replied : (s : MendStep) → reply_of (outcome_at s) ≡ None
 none_replied Ended = refl
 none_replied s = refl
 
-rounds_own : (shape : Shape) (o : Option Want) (n : ℕ) (v : View) → (view_by shape (kind_of [] o) n v).own ≡ v.own
-rounds_own shape (Some (wants.Store i x)) n v = refl
-rounds_own shape (Some (wants.Flush line)) n v = refl
-rounds_own shape (Some wants.Fence) n v = refl
-rounds_own shape o n v = refl
-
-rounds_seen : (shape : Shape) (o : Option Want) (n : ℕ) (v : View) → (view_by shape (kind_of [] o) n v).seen ≡ v.seen
-rounds_seen shape (Some (wants.Store i x)) n v = refl
-rounds_seen shape (Some (wants.Flush line)) n v = refl
-rounds_seen shape (Some wants.Fence) n v = refl
-rounds_seen shape o n v = refl
-
 same_own : (shape : Shape) (op : MendOp) (s : MendStep) (n : ℕ) (v : View) → (view_by shape (kind_at op s) n v).own ≡ v.own
-same_own shape op (Round t k rounds) n v = rounds_own shape (rounds_wanted rounds (due op t k)) n v
+same_own shape op (Round t k rounds) n v = (round_still shape n v [] (rounds_wanted rounds (due op t k))).own
 same_own shape op (Fill i) n v = refl
 same_own shape op Finish n v = refl
 same_own shape op FinishFlush n v = refl
@@ -173,7 +163,7 @@ same_own shape op Give n v = refl
 same_own shape op Ended n v = refl
 
 same_seen : (shape : Shape) (op : MendOp) (s : MendStep) (n : ℕ) (v : View) → (view_by shape (kind_at op s) n v).seen ≡ v.seen
-same_seen shape op (Round t k rounds) n v = rounds_seen shape (rounds_wanted rounds (due op t k)) n v
+same_seen shape op (Round t k rounds) n v = (round_still shape n v [] (rounds_wanted rounds (due op t k))).seen
 same_seen shape op (Fill i) n v = refl
 same_seen shape op Finish n v = refl
 same_seen shape op FinishFlush n v = refl
@@ -192,14 +182,8 @@ enters_at shape call op before v s t n enters =
     (same_more call before v None (view_by shape (kind_at op s) n v) (subst (λ o. EntersReply call o before v) (none_replied s) enters) (same_own shape op s n v) (same_seen shape op s n v))
 
 -- ---- it makes no change, and cuts no power
-rounds_publish : (o : Option Want) → IsPublishingStep (kind_of [] o) → ⊥
-rounds_publish (Some (wants.Store i x)) p = p
-rounds_publish (Some (wants.Flush line)) p = p
-rounds_publish (Some wants.Fence) p = p
-rounds_publish o p = p
-
 makes_none : (op : MendOp) (s : MendStep) → IsPublishingStep (kind_at op s) → ⊥
-makes_none op (Round t n rounds) p = rounds_publish (rounds_wanted rounds (due op t n)) p
+makes_none op (Round t n rounds) p = round_makes [] (rounds_wanted rounds (due op t n)) p
 makes_none op (Fill i) p = p
 makes_none op Finish p = p
 makes_none op FinishFlush p = p
@@ -211,14 +195,8 @@ makes_none op RenewFence p = p
 makes_none op Give p = p
 makes_none op Ended p = p
 
-rounds_power : (o : Option Want) → kind_of [] o ≢ of_call cuts_power
-rounds_power (Some (wants.Store i x)) same = absurd (cc)
-rounds_power (Some (wants.Flush line)) same = absurd (cc)
-rounds_power (Some wants.Fence) same = absurd (cc)
-rounds_power o same = absurd (cc)
-
 power_at : (op : MendOp) (s : MendStep) → kind_at op s ≢ of_call cuts_power
-power_at op (Round t n rounds) same = rounds_power (rounds_wanted rounds (due op t n)) same
+power_at op (Round t n rounds) same = round_power [] (rounds_wanted rounds (due op t n)) same
 power_at op (Fill i) same = absurd (cc)
 power_at op Finish same = absurd (cc)
 power_at op FinishFlush same = absurd (cc)
@@ -245,10 +223,8 @@ no_plan site op Give v c = c.0.idle.planned
 no_plan site op Ended v c = c.planned
 
 -- while words are stored in rounds something is wanted
-round_some : (site : Ground) (op : MendOp) (t : Stage) (n : ℕ) (rounds : Rounds) (v : View) → SuitsStep site op (Round t n rounds) v → round_wanted rounds (due op t n) ≡ wants.Done → ⊥
-round_some site op t n rounds v c done =
-    c.3 (over_by rounds (due op t n) (rounds_wanted rounds (due op t n)) refl
-    (sym (ap (λ b. if b then wants.Done else want_by (rounds_wanted rounds (due op t n))) (le-ltb most_lines (length rounds.round) c.1.stands.few)) ∙ done))
+round_some : (site : Ground) (op : MendOp) (t : Stage) (n : ℕ) (rounds : Rounds) (v : View) → SuitsStep site op (Round t n rounds) v → event_wanted rounds (due op t n) ≡ wants.Done → ⊥
+round_some site op t n rounds v c done = c.3 (event_none rounds (due op t n) c.1.stands.few done)
 
 ended_at : (site : Ground) (op : MendOp) (s : MendStep) (v : View) → SuitsStep site op s v → wanted_in op s ≡ wants.Done → s ≡ Ended
 ended_at site op (Fill i) v c done = absurd (let no : wants.Load (word_at op i) ≡ wants.Done = done in cc)
@@ -310,15 +286,9 @@ begins_before : (site : Ground) (guarded : Guarded) (v : View) (side : Option �
 begins_before site guarded v (Some side) state deep = record { splits = state.splits; lacks = state.lacks; deep = deep }
 begins_before site guarded v None state deep = state
 
-zeros : (n i : ℕ) → slice_index (replicate n 0) i < 2 ^ 64
-zeros n i = elim (cases_lt i n) [
-  | inl low ↦ subst (λ (z : ℕ). z < 2 ^ 64) (sym (get_or-replicate n i 0 0 low)) (omega arith)
-  | inr past ↦ subst (λ (z : ℕ). z < 2 ^ 64) (sym (get_or_past (replicate n 0) i 0 (subst (λ (z : ℕ). z ≤ i) (sym (length-replicate {A = ℕ} n 0)) past))) (omega arith)
-]
-
 pub begins_as_part : BeginsAsPart
 begins_as_part site here call guarded v k = record {
-  is = record { here_is = k.guarded.here_is; old = k.guarded.old; each_word = length-replicate {A = ℕ} 2112 0; small = zeros 2112; next_small = zeros 2112 };
+  is = record { here_is = k.guarded.here_is; old = k.guarded.old; each_word = length-replicate {A = ℕ} 2112 0; small = zeros_small 2112; next_small = zeros_small 2112 };
   view = (
     omega arith,
     record {

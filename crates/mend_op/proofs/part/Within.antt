@@ -1,6 +1,5 @@
 -- What a mending asks of the memory: words of the image and those behind it, and stores of words.
-use Rattle.std.proofs.Common.{◌≡◌, ℕ, ◌+◌, ◌*◌, ◌/◌, ◌^◌, ◌<◌, ◌≤◌, Bool, true, false, Option, None, Some, length, slice_index, inl, inr, refl, sym, ap, ◌∙◌, subst, arith}
-use Rattle.std.specs.Prelude.{if◌then◌else◌, nat_lt}
+use Rattle.std.proofs.Common.{◌≡◌, ℕ, ◌+◌, ◌*◌, ◌/◌, ◌^◌, ◌<◌, ◌≤◌, Option, None, Some, refl, sym, ◌∙◌, subst, arith}
 use Rattle.trace.specs.Events.{line_of}
 use Rattle.op_core.specs.declared.want.Want.{Want}
 use Rattle.op_core.specs.declared.want.Want.TheVariants as wants
@@ -13,10 +12,8 @@ use Rattle.world.specs.Wants.{word_of}
 use Rattle.world.specs.areas.Areas.{header_word}
 use Rattle.part.specs.Asks.{IsWithin, PutsWord}
 use Rattle.rounds.specs.declared.rounds.Rounds.{Rounds}
-use Rattle.rounds.specs.Steps.{rounds_wanted}
-use Rattle.rounds.specs.Events.{IsRoundEvent}
-use Rattle.rounds.proofs.Events.{event_cases}
-use Rattle.rounds.proofs.Lines.{lines_are_stored}
+use Rattle.rounds.specs.Steps.{event_wanted}
+use Rattle.rounds.proofs.Wanted.{by_wanted}
 use Rattle.repair_op.specs.Guarded.{guard_of}
 use Rattle.mend_op.specs.declared.stage.Stage.{Stage}
 use Rattle.mend_op.specs.declared.stage.Stage.TheVariants as stage
@@ -25,10 +22,10 @@ use Rattle.mend_op.specs.declared.op.MendStep.TheVariants.{Fill, Round, Finish, 
 use Rattle.mend_op.specs.declared.op.MendOp.{MendOp}
 use Rattle.mend_op.specs.Words.{finished_head, renewed_head}
 use Rattle.mend_op.specs.Stages.{most, place}
-use Rattle.mend_op.specs.Steps.{most_lines, head_at, word_at, due, want_by, round_wanted, store_wanted, wanted_in}
+use Rattle.mend_op.specs.Steps.{head_at, word_at, due, store_wanted, wanted_in}
 use Rattle.mend_op.specs.Stands.{place_of, IsStageLine, SuitsStep}
 use Rattle.mend_op.specs.MendPart.{IsOf}
-use Rattle.mend_op.proofs.Dues.{due_is, rounds_want}
+use Rattle.mend_op.proofs.Dues.{due_is}
 use Rattle.mend_op.proofs.stages.Placing.{place_low}
 use Rattle.mend_op.proofs.whole.Located.{word_is, head_is, guard_is}
 use Rattle.mend_op.proofs.steps.Heads.{finished_small, renewed_small}
@@ -102,22 +99,11 @@ module _ (site : Ground) (good : IsGround site) (here : Site) (op : MendOp) (is 
   due_within t n i x same = let d = due_is op t n i x same in
       store_in i x (subst (λ j. j < words_of site.shape) (sym (d.word_is ∙ word_is site op layout is.old.within (place t n))) (place_within (place t n) (place_low t n d.low)))
 
-  round_in : (t : Stage) (n : ℕ) (rounds : Rounds) → ((line : ℕ) → Has line rounds.round → IsStageLine site op.guarded op.words t line) → (want : Want) → rounds_wanted rounds (due op t n) ≡ Some want
-      → IsRoundEvent rounds (due op t n) want → IsWithin site.shape want
-  round_in t n rounds lines want wanted event = elim event [
-    | inl e ↦ subst (λ (w : Want). IsWithin site.shape w) (sym e.wants) (due_within t n e.word e.value e.comes)
-    | inr f ↦ elim f [
-      | inl f ↦ (let line : ℕ = slice_index rounds.round f.number in
-          let q = (lines_are_stored (IsStageLine site op.guarded op.words t)).flushes rounds (due op t n) lines line (wanted ∙ ap Some f.wants) in
-          subst (λ (w : Want). IsWithin site.shape w) (sym f.wants) (flush_in line (subst (λ m. 8 * m + 8 ≤ words_of site.shape) (sym q.2) (stage_line t q.0 q.1))))
-      | inr f ↦ subst (λ (w : Want). IsWithin site.shape w) (sym f.wants) (none_in wants.Fence refl (λ n same. absurd (cc)))
-    ]
-  ]
-
-  round_within : (t : Stage) (n : ℕ) (rounds : Rounds) → SuitsStep site op (Round t n rounds) v → (o : Option Want) → rounds_wanted rounds (due op t n) ≡ o → IsWithin site.shape (round_wanted rounds (due op t n))
-  round_within t n rounds c (Some want) wanted =
-      subst (λ (w : Want). IsWithin site.shape w) (sym (rounds_want rounds (due op t n) want c.1.stands.few wanted)) (round_in t n rounds c.1.lines want wanted (event_cases rounds (due op t n) want wanted))
-  round_within t n rounds c None wanted = absurd (c.3 wanted)
+  round_within : (t : Stage) (n : ℕ) (rounds : Rounds) → ((line : ℕ) → Has line rounds.round → IsStageLine site op.guarded op.words t line) → IsWithin site.shape (event_wanted rounds (due op t n))
+  round_within t n rounds lines = by_wanted rounds (due op t n) (IsWithin site.shape) (none_in wants.Done refl (λ n same. absurd (cc)))
+      (λ p same. due_within t n p.0 p.1 same)
+      (λ line has. let q = lines line has in flush_in line (subst (λ m. 8 * m + 8 ≤ words_of site.shape) (sym q.2) (stage_line t q.0 q.1)))
+      (none_in wants.Fence refl (λ n same. absurd (cc)))
 
   stored_within : (o : Option (ℕ × ℕ)) (n : ℕ) → due op stage.Note n ≡ o → IsWithin site.shape (store_wanted o)
   stored_within (Some next) n same = due_within stage.Note n next.0 next.1 same
@@ -128,7 +114,7 @@ module _ (site : Ground) (good : IsGround site) (here : Site) (op : MendOp) (is 
 
   pub within_at : (t : MendStep) → SuitsStep site op t v → IsWithin site.shape (wanted_in op t)
   within_at (Fill i) c = record { word = in_image (word_at op i) (subst (λ j. j < words_of site.shape) (sym (word_is site op layout is.old.within i)) (place_within i c.0)); line = λ n same. absurd (cc) }
-  within_at (Round t n rounds) c = round_within t n rounds c (rounds_wanted rounds (due op t n)) refl
+  within_at (Round t n rounds) c = round_within t n rounds c.1.lines
   within_at Finish c = store_in (head_at op) (finished_head op.guarded.head) (subst (λ i. i < words_of site.shape) (sym (head_is site op layout is.old.within)) head_within)
   within_at FinishFlush c = flush_in _ (subst (λ i. 8 * line_of i + 8 ≤ words_of site.shape) (sym (head_is site op layout is.old.within)) head_line)
   within_at FinishFence c = none_in wants.Fence refl (λ n same. absurd (cc))
@@ -150,25 +136,13 @@ module _ (site : Ground) (here : Site) (op : MendOp) (is : IsOf site here op) (s
   due_puts : (t : Stage) (n i x : ℕ) → due op t n ≡ Some (i, x) → PutsWord (wants.Store i x)
   due_puts t n i x same = let d = due_is op t n i x same in store_puts i x (subst (λ y. y < 2 ^ 64) (sym d.value_is) (is.next_small (place t n)))
 
-  event_puts : (t : Stage) (n : ℕ) (rounds : Rounds) (want : Want) → IsRoundEvent rounds (due op t n) want → PutsWord want
-  event_puts t n rounds want event = elim event [
-    | inl e ↦ subst (λ (w : Want). PutsWord w) (sym e.wants) (due_puts t n e.word e.value e.comes)
-    | inr f ↦ elim f [
-      | inl f ↦ subst (λ (w : Want). PutsWord w) (sym f.wants) (none_puts (wants.Flush (slice_index rounds.round f.number)) (λ i x same. absurd (cc)) (λ i x y same. absurd (cc)))
-      | inr f ↦ subst (λ (w : Want). PutsWord w) (sym f.wants) (none_puts wants.Fence (λ i x same. absurd (cc)) (λ i x y same. absurd (cc)))
-    ]
-  ]
-
   none_done : PutsWord wants.Done
   none_done = none_puts wants.Done (λ i x same. absurd (cc)) (λ i x y same. absurd (cc))
 
-  wanted_puts : (t : Stage) (n : ℕ) (rounds : Rounds) (o : Option Want) → rounds_wanted rounds (due op t n) ≡ o → PutsWord (want_by o)
-  wanted_puts t n rounds (Some want) wanted = event_puts t n rounds want (event_cases rounds (due op t n) want wanted)
-  wanted_puts t n rounds None wanted = none_done
-
-  round_puts : (t : Stage) (n : ℕ) (rounds : Rounds) (many : Bool) → PutsWord (if many then wants.Done else want_by (rounds_wanted rounds (due op t n)))
-  round_puts t n rounds true = none_done
-  round_puts t n rounds false = wanted_puts t n rounds (rounds_wanted rounds (due op t n)) refl
+  round_puts : (t : Stage) (n : ℕ) (rounds : Rounds) → PutsWord (event_wanted rounds (due op t n))
+  round_puts t n rounds = by_wanted rounds (due op t n) PutsWord none_done (λ p same. due_puts t n p.0 p.1 same)
+      (λ line has. none_puts (wants.Flush line) (λ i x same. absurd (cc)) (λ i x y same. absurd (cc)))
+      (none_puts wants.Fence (λ i x same. absurd (cc)) (λ i x y same. absurd (cc)))
 
   stored_puts : (o : Option (ℕ × ℕ)) (n : ℕ) → due op stage.Note n ≡ o → PutsWord (store_wanted o)
   stored_puts (Some next) n same = due_puts stage.Note n next.0 next.1 same
@@ -176,7 +150,7 @@ module _ (site : Ground) (here : Site) (op : MendOp) (is : IsOf site here op) (s
 
   pub puts_at : (t : MendStep) → PutsWord (wanted_in op t)
   puts_at (Fill i) = none_puts _ (λ i x same. absurd (cc)) (λ i x y same. absurd (cc))
-  puts_at (Round t n rounds) = round_puts t n rounds (nat_lt most_lines (length rounds.round))
+  puts_at (Round t n rounds) = round_puts t n rounds
   puts_at Finish = store_puts _ (finished_head op.guarded.head) (finished_small op.guarded.head)
   puts_at FinishFlush = none_puts _ (λ i x same. absurd (cc)) (λ i x y same. absurd (cc))
   puts_at FinishFence = none_puts wants.Fence (λ i x same. absurd (cc)) (λ i x y same. absurd (cc))

@@ -15,7 +15,7 @@ use Rattle.rounds.specs.declared.rounds.Rounds.{Rounds}
 use Rattle.rounds.specs.Steps.{begun, rounds_wanted}
 use Rattle.rounds.specs.Stands.{IsSettled}
 use Rattle.rounds.proofs.Events.{no_some, events_end}
-use Rattle.rounds.proofs.Settling.{rounds_settle}
+use Rattle.rounds.proofs.Settling.{settled_firm, rounds_settle}
 use Rattle.repair_op.specs.declared.guarded.Guarded.{Guarded}
 use Rattle.mend_op.specs.declared.stage.Stage.{Stage}
 use Rattle.mend_op.specs.declared.stage.Stage.TheVariants as stage
@@ -31,7 +31,6 @@ use Rattle.mend_op.proofs.Dues.{due_none}
 use Rattle.mend_op.proofs.stages.Placing.{made_small}
 use Rattle.mend_op.proofs.stages.Partly.{partly_begun, passed_over, all_made}
 use Rattle.mend_op.proofs.stages.Mended.{is_left_mended}
-use Rattle.mend_op.proofs.stages.Noting.{settled_firm}
 
 -- the first word that is changed differs from what it is to be
 not_same : (a b : ℕ) → not (a == b) ≡ true → a ≢ b

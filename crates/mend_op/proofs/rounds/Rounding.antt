@@ -24,6 +24,7 @@ use Rattle.rounds.specs.Events.{IsStore, IsFlush, IsFence, IsRoundEvent}
 use Rattle.rounds.specs.Stands.{kind_of, rounds_kind, RoundStands}
 use Rattle.rounds.proofs.Events.{event_cases}
 use Rattle.rounds.proofs.Lines.{lines_are_stored}
+use Rattle.rounds.proofs.Wanted.{event_of, event_answer}
 use Rattle.rounds.proofs.Settling.{rounds_settle}
 use Rattle.rounds.proofs.Keeping.{rounds_may}
 use Rattle.mend_op.specs.declared.stage.Stage.{Stage}
@@ -34,7 +35,7 @@ use Rattle.mend_op.specs.Steps.{with_stored, is_changed, changed_from, due, roun
 use Rattle.mend_op.specs.Stands.{place_of, IsStageLine, IsLooseBefore, IsInStage, IsRounding}
 use Rattle.mend_op.specs.MendPart.{IsOf, MendStands}
 use Rattle.mend_op.proofs.Seeking.{seek_behind}
-use Rattle.mend_op.proofs.Dues.{due_is, rounds_want, event_answer}
+use Rattle.mend_op.proofs.Dues.{due_is}
 use Rattle.mend_op.proofs.stages.Placing.{place_low}
 use Rattle.mend_op.proofs.stages.Partly.{passed_over, partly_stored}
 use Rattle.mend_op.proofs.whole.Known.{all_kept, all_stored, no_sides}
@@ -190,5 +191,5 @@ module _ (site : Ground) (ground : IsGround site) (here : Site) (call : Call) (o
     pub round_stands : MendStands site here call (next_in op (Round stage n rounds) (answer_to (wanted_in op (Round stage n rounds)) m)) u
     round_stands =
         let event = event_cases rounds next want wanted in
-        let passed : answer_to (wanted_in op (Round stage n rounds)) m ≡ Passed = ap (λ w. answer_to w m) (rounds_want rounds next want c.stands.few wanted) ∙ event_answer rounds next want m event in
+        let passed : answer_to (wanted_in op (Round stage n rounds)) m ≡ Passed = ap (λ w. answer_to w m) (event_of rounds next want c.stands.few wanted) ∙ event_answer rounds next want m event in
         subst (λ (a : Ans). MendStands site here call (next_in op (Round stage n rounds) a) u) (sym passed) (by_event event)

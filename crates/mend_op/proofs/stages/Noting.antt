@@ -18,12 +18,13 @@ use Rattle.whole_segment.proofs.rebuilding.Written.{made_keeps, made_notes}
 use Rattle.bucket_words.specs.Core.{core_of}
 use Rattle.bucket_words.proofs.segments.Cores.{core_in}
 use Rattle.world.specs.Ground.{Ground, IsGround}
-use Rattle.world.specs.Views.{View, Has, IsLoose}
+use Rattle.world.specs.Views.{View}
 use Rattle.world.specs.Holders.{KnowsWord}
 use Rattle.world.specs.areas.Kinds.{sets}
 use Rattle.world.specs.areas.Asking.{MayAt}
 use Rattle.world.proofs.holders.mending.Mending.{may_mend}
 use Rattle.rounds.specs.Stands.{IsSettled}
+use Rattle.rounds.proofs.Settling.{settled_firm}
 use Rattle.repair_op.specs.declared.guarded.Guarded.{Guarded}
 use Rattle.repair_op.specs.Guarded.{IsOld}
 use Rattle.mend_op.specs.declared.stage.Stage.TheVariants.{Note}
@@ -34,13 +35,6 @@ use Rattle.mend_op.specs.Stands.{place_of, AreMended, HasAll, IsPartly}
 use Rattle.mend_op.proofs.stages.Placing.{place_low, made_is, first_at, third_at, noted_else, noted_stash}
 use Rattle.mend_op.proofs.whole.Words.{mend_words, header_here, bucket_here, key_here, number_is}
 use Rattle.mend_op.proofs.whole.Known.{has_stale, knows_place, no_sides}
-
--- nothing is loose where all is settled
-pub settled_firm : (v : View) → IsSettled v → (p : ℕ × ℕ) → IsLoose v p → ⊥
-settled_firm v is p loose = elim loose [
-  | inl dirty ↦ subst (λ (l : List (ℕ × ℕ)). Has p l) is.dirty dirty
-  | inr flushed ↦ subst (λ (l : List (ℕ × ℕ)). Has p l) is.flushed flushed
-]
 
 -- ---- the store of a word
 module _ (site : Ground) (ground : IsGround site) (op : MendOp) (same_shape : op.guarded.site.geometry ≡ site.shape) (old : IsOld site op.guarded)

@@ -20,6 +20,7 @@ use Rattle.world.proofs.holders.mending.Mending.{may_mend}
 use Rattle.phase.proofs.locks.Giving.{nothing_left}
 use Rattle.rounds.proofs.Lines.{off_line_has}
 use Rattle.rounds.proofs.Keeping.{rounds_may}
+use Rattle.rounds.proofs.Settling.{settled_firm}
 use Rattle.mend_op.specs.declared.stage.Stage.TheVariants as stage
 use Rattle.mend_op.specs.declared.op.MendStep.TheVariants.{Finish, FinishFlush, FinishFence}
 use Rattle.mend_op.specs.declared.op.MendOp.{MendOp}
@@ -27,7 +28,6 @@ use Rattle.mend_op.specs.Words.{finished_head}
 use Rattle.mend_op.specs.Steps.{head_at, at_step, begin, finished}
 use Rattle.mend_op.specs.Stands.{place_of, SuitsStep}
 use Rattle.mend_op.specs.MendPart.{IsOf, MendStands}
-use Rattle.mend_op.proofs.stages.Noting.{settled_firm}
 use Rattle.mend_op.proofs.whole.Words.{mend_words, header_here}
 use Rattle.mend_op.proofs.whole.Known.{all_kept, head_stored, has_stale, no_sides}
 use Rattle.mend_op.proofs.whole.Newest.{IsInRange, in_range, looked_for}

@@ -13,12 +13,12 @@ use Rattle.world.specs.areas.Asking.{MayAt}
 use Rattle.world.proofs.moving.Holding.{out_of_slot_has}
 use Rattle.phase.proofs.locks.Giving.{nothing_left}
 use Rattle.rounds.proofs.Keeping.{rounds_may}
+use Rattle.rounds.proofs.Settling.{settled_firm}
 use Rattle.mend_op.specs.declared.op.MendStep.TheVariants.{RenewFence, Give, Ended}
 use Rattle.mend_op.specs.declared.op.MendOp.{MendOp}
 use Rattle.mend_op.specs.Steps.{at_step}
 use Rattle.mend_op.specs.Stands.{HasGuard, SuitsStep}
 use Rattle.mend_op.specs.MendPart.{IsOf, MendStands}
-use Rattle.mend_op.proofs.stages.Noting.{settled_firm}
 use Rattle.mend_op.proofs.rounds.Beginning.{is_at}
 
 module _ (site : Ground) (ground : IsGround site) (here : Site) (call : Call) (op : MendOp) (is : IsOf site here op) (v : View) where

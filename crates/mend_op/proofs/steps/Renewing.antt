@@ -22,6 +22,7 @@ use Rattle.world.specs.areas.Splitting.{IsHeader, KnowsBuckets}
 use Rattle.world.proofs.basics.Seats.{loosened_has, without_has}
 use Rattle.world.proofs.moving.Holding.{out_of_slot_has}
 use Rattle.world.proofs.holders.mending.Mending.{may_mend}
+use Rattle.rounds.proofs.Settling.{settled_firm}
 use Rattle.mend_op.specs.declared.stage.Stage.TheVariants as stage
 use Rattle.mend_op.specs.declared.op.MendStep.TheVariants.{Renew, RenewFlush, RenewFence}
 use Rattle.mend_op.specs.declared.op.MendOp.{MendOp}
@@ -31,7 +32,7 @@ use Rattle.mend_op.specs.Steps.{head_at, at_step}
 use Rattle.mend_op.specs.Stands.{place_of, AreMended, KnowsOnlyOf, SuitsStep}
 use Rattle.mend_op.specs.MendPart.{IsOf, MendStands}
 use Rattle.mend_op.proofs.stages.Partly.{all_made}
-use Rattle.mend_op.proofs.stages.Noting.{settled_firm, still_mended, exact}
+use Rattle.mend_op.proofs.stages.Noting.{still_mended, exact}
 use Rattle.mend_op.proofs.whole.Words.{mend_words, header_here, bucket_here, hit_stands, number_is, head_in_slot}
 use Rattle.mend_op.proofs.whole.Known.{has_stale, knows_place}
 use Rattle.mend_op.proofs.whole.Located.{head_is}

@@ -1,7 +1,7 @@
 -- A word of the notes is stored.
-use Rattle.std.proofs.Common.{◌≡◌, ℕ, ◌+◌, ◌*◌, ◌<◌, List, [], ◌∷◌, slice_index, sym, ap, ◌∙◌, subst, arith}
+use Rattle.std.proofs.Common.{◌≡◌, ℕ, ◌+◌, ◌*◌, ◌<◌, [], slice_index, sym, ap, ◌∙◌, subst, arith}
 use Rattle.std.specs.Prelude.{if◌then◌else◌}
-use Rattle.std.proofs.lemmas.Bool.{eq-eqb, lt-ltb}
+use Rattle.std.proofs.lemmas.Bool.{lt-ltb}
 use Rattle.trace.specs.Events.{Words}
 use Rattle.image_layout.specs.Places.{homes}
 use Rattle.map_model.specs.declared.call.Call.{Call}
@@ -9,9 +9,9 @@ use Rattle.bucket_words.specs.Core.{core_of}
 use Rattle.world.specs.declared.site.Site.{Site}
 use Rattle.world.specs.Ground.{Ground, IsGround}
 use Rattle.world.specs.Views.{View, Has}
-use Rattle.world.specs.Kinds.{loosened}
 use Rattle.world.specs.areas.Kinds.{sets, view_then}
 use Rattle.world.specs.areas.Asking.{MayAt}
+use Rattle.rounds.proofs.Settling.{stays_firm}
 use Rattle.mend_op.specs.declared.stage.Stage.TheVariants as stage
 use Rattle.mend_op.specs.declared.op.MendStep.TheVariants.{Note, Renew}
 use Rattle.mend_op.specs.declared.op.MendOp.{MendOp}
@@ -27,12 +27,6 @@ use Rattle.mend_op.proofs.whole.Known.{all_stored}
 use Rattle.mend_op.proofs.whole.Located.{word_is}
 use Rattle.mend_op.proofs.rounds.Beginning.{same_shape, noting_stands}
 use Rattle.mend_op.proofs.rounds.Rounding.{is_stored}
-
--- a word that gets a value of the same core is not loose
-stays_firm : (site : Ground) (i old new : ℕ) (dirty : List (ℕ × ℕ)) → core_of site.shape i old ≡ core_of site.shape i new → loosened site.shape i old new dirty ≡ dirty
-stays_firm site i old new dirty same =
-    let more : List (ℕ × ℕ) = (i, old) ∷ dirty in
-    ap (λ t. if t then dirty else more) (eq-eqb (core_of site.shape i old) (core_of site.shape i new) same)
 
 module _ (site : Ground) (ground : IsGround site) (here : Site) (call : Call) (op : MendOp) (is : IsOf site here op) (v : View) (n : ℕ) (c : SuitsStep site op (Note n) v) where
   abbrev number : ℕ
@@ -63,7 +57,7 @@ module _ (site : Ground) (ground : IsGround site) (here : Site) (call : Call) (o
         ∙ was site ground op (same_shape site here call op is) is.old c.1.base n c.0 c.1.partly
 
     firm : u.dirty ≡ []
-    firm = stays_firm site (place_of site op.guarded number) m value v.dirty (ap (core_of site.shape (place_of site op.guarded number)) old
+    firm = stays_firm site.shape (place_of site op.guarded number) m value v.dirty (ap (core_of site.shape (place_of site op.guarded number)) old
         ∙ sym (same_core site ground op (same_shape site here call op is) is.old c.1.base n c.0 c.1.partly v c.1.all c.1.settled)) ∙ c.1.settled.dirty
 
     low : n < 2 * homes
