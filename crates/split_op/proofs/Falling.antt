@@ -3,7 +3,7 @@ use Rattle.std.proofs.Common.{◌≡◌, ◌≢◌, ℕ, suc, ◌+◌, ◌-◌, 
 use Rattle.std.specs.Prelude.{nat_lt, ◌==◌, ◌&&◌, not, min, if◌then◌else◌}
 use Rattle.whole_segment.specs.Rounds.{most_lines}
 use Rattle.image_layout.specs.Places.{Shape, segment_words, buckets, most_segments}
-use Rattle.std.proofs.lemmas.Bool.{ltb-true, ltb-false}
+use Rattle.std.proofs.lemmas.Bool.{ltb-true, ltb-false, le-ltb}
 use Rattle.op_core.specs.declared.want.Want.{Want}
 use Rattle.op_core.specs.declared.want.Want.TheVariants as want
 use Rattle.op_core.specs.declared.want.Ans.{Ans}
@@ -11,17 +11,13 @@ use Rattle.op_core.specs.declared.want.Ans.TheVariants.{Value, Won, Lost, Passed
 use Rattle.op_core.specs.Answers.{IsAnswer}
 use Rattle.segment_head.specs.HeadWord.{state_in, free}
 use Rattle.rounds.specs.declared.rounds.Rounds.{Rounds}
-use Rattle.rounds.specs.declared.rounds.RoundStep.{RoundStep}
-use Rattle.rounds.specs.declared.rounds.RoundStep.TheVariants.{Storing, Flushing, Fencing}
 use Rattle.rounds.specs.Steps.{rounds_stores, rounds_wanted, rounds_taken, at_step, flushed_to}
 use Rattle.rounds.specs.Steps as round
-use Rattle.rounds.specs.Left.{rounds_left, round_left}
-use Rattle.rounds.specs.Left.{left_at as in_round}
-use Rattle.rounds.specs.Events.{IsRoundEvent}
-use Rattle.rounds.proofs.Events.{event_cases}
-use Rattle.rounds.proofs.Falling.{rounds_fall}
-use Rattle.rounds.proofs.Waiting.{most_wait, store_waits, flush_waits, none_waits}
-use Rattle.rounds.specs.Waiting.{round_waiting, rounds_waiting}
+use Rattle.rounds.specs.Left.{rounds_left}
+use Rattle.rounds.specs.Waiting.{rounds_waiting}
+use Rattle.rounds.proofs.Wanted.{IsAsked, asked, asked_some}
+use Rattle.rounds.proofs.Falling.{step_most, rounds_fall}
+use Rattle.rounds.proofs.Waiting.{most_wait, none_waits, event_ends, event_flushes, event_keeps}
 use Rattle.enclose_op.specs.declared.give.Give.{Give}
 use Rattle.enclose_op.specs.Giving.{given}
 use Rattle.enclose_op.specs.Fits.{give_left}
@@ -35,9 +31,9 @@ use Rattle.split_op.specs.declared.step.SplitStep.{SplitStep}
 use Rattle.split_op.specs.declared.step.SplitStep.TheVariants.{Take, Search, Count, Return, Look, Put, Release, Back, Ended}
 use Rattle.split_op.specs.declared.op.SplitOp.{SplitOp}
 use Rattle.split_op.specs.Batches.{first_of, after_empty, copied_from, due, after}
-use Rattle.split_op.specs.Steps.{finished, put_by, put_to, batch_after, stored, copying, last_slot, searched, given_to, wanted_by, put_wanted, wanted_in, next_in}
+use Rattle.split_op.specs.Steps.{finished, put_by, put_to, batch_after, stored, copying, last_slot, searched, given_to, wanted_in, next_in}
 use Rattle.split_op.specs.SplitPart.{stores_left, left_behind, put_left, events_in, left_at, left_of, IsWithinImage, waiting_at}
-use Rattle.split_op.proofs.Cases.{choose, none_some, round_answered, came}
+use Rattle.split_op.proofs.Cases.{choose, none_some, came}
 use Rattle.split_op.proofs.sides.Seeking.{copied_behind}
 
 -- ---- a batch goes on
@@ -93,14 +89,6 @@ behind_most (Mark stored) = omega arith
 behind_most (New stored) = omega arith
 behind_most (Copy i) = omega arith
 
-left_most : (lines : List ℕ) → round_left lines ≤ length lines + 1
-left_most lines = choose (λ (n : ℕ). n ≤ length lines + 1) (nat_lt 0 (length lines)) (length lines + 1) 0 (λ _. omega arith) (λ _. omega arith)
-
-step_most : (lines : List ℕ) (step : RoundStep) → length lines ≤ most_lines → in_round lines step ≤ 9
-step_most lines Storing low = let most = left_most lines in omega (arith, most, low)
-step_most lines (Flushing i) low = omega (arith, low)
-step_most lines Fencing low = omega arith
-
 -- ---- where a batch is stored
 -- all that a round has left, if it is one
 abbrev pub all_left : Batch → Rounds → ℕ
@@ -110,8 +98,8 @@ module _ (shape : Shape) where
   put_least : (batch : Batch) (rounds : Rounds) → put_left batch rounds ≤ all_left batch rounds
   put_least batch rounds = choose (λ (n : ℕ). n ≤ all_left batch rounds) (nat_lt most_lines (length rounds.round)) 0 (all_left batch rounds) (λ _. omega arith) (λ _. omega arith)
 
-  put_is : (batch : Batch) (rounds : Rounds) → nat_lt most_lines (length rounds.round) ≡ false → put_left batch rounds ≡ all_left batch rounds
-  put_is batch rounds few = ap (λ (b : Bool). if b then 0 else all_left batch rounds) few
+  put_is : (batch : Batch) (rounds : Rounds) → length rounds.round ≤ most_lines → put_left batch rounds ≡ all_left batch rounds
+  put_is batch rounds few = ap (λ (b : Bool). if b then 0 else all_left batch rounds) (le-ltb most_lines (length rounds.round) few)
 
   finished_left : (batch : Batch) → left_at shape (finished batch) ≤ left_behind batch
   finished_left (Empty i) = omega arith
@@ -148,27 +136,12 @@ module _ (shape : Shape) where
     event_less : rounds_wanted rounds next ≢ None → all_left (batch_after op batch rounds) (rounds_taken rounds next) < all_left batch rounds
     event_less wants = choose (λ (t : Batch). all_left t (rounds_taken rounds next) < all_left batch rounds) (rounds_stores rounds next) (after op.copied op.locks batch) batch store_less (other_less wants)
 
-    pub stored_left : nat_lt most_lines (length rounds.round) ≡ false → rounds_wanted rounds next ≢ None → left_at shape (stored op batch rounds) < put_left batch rounds
+    pub stored_left : length rounds.round ≤ most_lines → rounds_wanted rounds next ≢ None → left_at shape (stored op batch rounds) < put_left batch rounds
     stored_left few wants =
         let low = to_left op (batch_after op batch rounds) (rounds_taken rounds next) in
         let fewer = event_less wants in
         let is = put_is batch rounds few in
         omega (arith, low, fewer, is)
-
--- ---- an event of the rounds
--- is answered as done, where one is wanted
-module _ (rounds : Rounds) (next : Option (ℕ × ℕ)) (a : Ans) where
-  wanted_some : (want : Option Want) → rounds_wanted rounds next ≡ want → IsAnswer (wanted_by want) a → (a ≡ Passed) × (rounds_wanted rounds next ≢ None)
-  wanted_some (Some w) is i = (round_answered rounds next w a (event_cases rounds next w is) i, λ none. none_some (sym none ∙ is))
-  wanted_some None is i = absurd i
-
-  few_wanted : (b : Bool) → nat_lt most_lines (length rounds.round) ≡ b → IsAnswer (if b then want.Done else wanted_by (rounds_wanted rounds next)) a
-      → (b ≡ false) × (a ≡ Passed) × (rounds_wanted rounds next ≢ None)
-  few_wanted true is i = absurd i
-  few_wanted false is i = let both = wanted_some (rounds_wanted rounds next) refl i in (refl, both.0, both.1)
-
-  pub put_answered : IsAnswer (put_wanted rounds next) a → (nat_lt most_lines (length rounds.round) ≡ false) × (a ≡ Passed) × (rounds_wanted rounds next ≢ None)
-  put_answered i = few_wanted (nat_lt most_lines (length rounds.round)) refl i
 
 -- ---- each event
 abbrev left_give : Option Give → ℕ
@@ -184,7 +157,7 @@ module _ where
       let low = ltb-false most_lines (length rounds.round) few in
       let stores = stores_most batch in
       let behind = behind_most batch in
-      let round = step_most rounds.round rounds.step low in
+      let round = step_most rounds.round low rounds.step in
       omega (arith, stores, behind, round)
 
   next_slot : (slot last : ℕ) → slot < last → 12935 + (last - (slot + 1)) < 12935 + (last - slot)
@@ -221,8 +194,9 @@ module _ (op : SplitOp) where
   falls (Look b) (Value n) i = looked_by b
   falls (Look b) a i = absurd i
   falls (Put batch rounds) a i =
-      let o = put_answered rounds (due op.copied op.locks batch) a i in
-      subst (λ (x : Ans). left_of (next_in op (Put batch rounds) x) < put_left batch rounds) (sym o.1) (stored_left shape op batch rounds o.0 o.2)
+      let q = asked rounds (due op.copied op.locks batch) a i in
+      subst (λ (x : Ans). left_of (next_in op (Put batch rounds) x) < put_left batch rounds) (sym q.passed)
+      (stored_left shape op batch rounds q.few (asked_some rounds (due op.copied op.locks batch) a q))
   falls Release Passed i = copying_left
     where
       copying_left : left_at shape (copying op) < 6433
@@ -286,37 +260,17 @@ module _ (op : SplitOp) (batch : Batch) (rounds : Rounds) (a : Ans) (i : IsAnswe
   abbrev coming : Option (ℕ × ℕ)
   coming = due op.copied op.locks batch
 
-  few_lines : length rounds.round ≤ most_lines
-  few_lines = ltb-false most_lines (length rounds.round) (put_answered rounds coming a i).0
-
-  is_wanted : (w : Want) → rounds_wanted rounds coming ≡ Some w → wanted_in op (Put batch rounds) ≡ w
-  is_wanted w e = ap (λ (b : Bool). if b then want.Done else wanted_by (rounds_wanted rounds coming)) (put_answered rounds coming a i).0 ∙ ap wanted_by e
+  q : IsAsked rounds coming a
+  q = asked rounds coming a i
 
   leaves_waiting : waiting_at (next_in op (Put batch rounds) a).step ≡ rounds_waiting (rounds_taken rounds coming)
-  leaves_waiting = ap (λ (x : Ans). waiting_at (next_in op (Put batch rounds) x).step) (put_answered rounds coming a i).1 ∙ to_waits op (batch_after op batch rounds) (rounds_taken rounds coming)
-
-  one_of : (want : Option Want) → rounds_wanted rounds coming ≡ want → (w : Want) × (rounds_wanted rounds coming ≡ Some w)
-  one_of (Some w) is = (w, is)
-  one_of None is = absurd ((put_answered rounds coming a i).2 is)
-
-  abbrev event : (w : Want) × (rounds_wanted rounds coming ≡ Some w)
-  event = one_of (rounds_wanted rounds coming) refl
-
-  by_flush : (l : ℕ) → wanted_in op (Put batch rounds) ≡ want.Flush l → IsRoundEvent rounds coming event.0 → suc (rounds_waiting rounds) ≤ rounds_waiting (rounds_taken rounds coming)
-  by_flush l f (inl s) = absurd (let e : want.Store s.word s.value ≡ want.Flush l = sym s.wants ∙ sym (is_wanted event.0 event.1) ∙ f in cc)
-  by_flush l f (inr (inl g)) = let more = flush_waits rounds coming event.0 few_lines g in omega (arith, more)
-  by_flush l f (inr (inr g)) = absurd (let e : want.Fence ≡ want.Flush l = sym g.wants ∙ sym (is_wanted event.0 event.1) ∙ f in cc)
-
-  by_other : wanted_in op (Put batch rounds) ≢ want.Fence → IsRoundEvent rounds coming event.0 → rounds_waiting rounds ≤ rounds_waiting (rounds_taken rounds coming)
-  by_other f (inl s) = let none = (store_waits rounds coming event.0 s).0 in omega (arith, none)
-  by_other f (inr (inl g)) = let more = flush_waits rounds coming event.0 few_lines g in omega (arith, more)
-  by_other f (inr (inr g)) = absurd (f (is_wanted event.0 event.1 ∙ g.wants))
+  leaves_waiting = ap (λ (x : Ans). waiting_at (next_in op (Put batch rounds) x).step) q.passed ∙ to_waits op (batch_after op batch rounds) (rounds_taken rounds coming)
 
   put_flushes : (l : ℕ) → wanted_in op (Put batch rounds) ≡ want.Flush l → rounds_waiting rounds + 1 ≤ waiting_at (next_in op (Put batch rounds) a).step
-  put_flushes l f = let more = by_flush l f (event_cases rounds coming event.0 event.1) in let is = leaves_waiting in omega (arith, more, is)
+  put_flushes l f = event_flushes rounds coming q.few (waiting_at (next_in op (Put batch rounds) a).step) (λ w is. leaves_waiting) l f
 
   put_keeps : wanted_in op (Put batch rounds) ≢ want.Fence → rounds_waiting rounds ≤ waiting_at (next_in op (Put batch rounds) a).step
-  put_keeps f = let more = by_other f (event_cases rounds coming event.0 event.1) in let is = leaves_waiting in omega (arith, more, is)
+  put_keeps f = event_keeps rounds coming q.few (waiting_at (next_in op (Put batch rounds) a).step) (λ w is. leaves_waiting) f
 
 module _ (op : SplitOp) where
   pub flushes : (s : SplitStep) (a : Ans) (l : ℕ) → IsAnswer (wanted_in op s) a → wanted_in op s ≡ want.Flush l → waiting_at s + 1 ≤ waiting_at (next_in op s a).step
@@ -342,22 +296,8 @@ module _ (op : SplitOp) where
   keeps (Ended end) a i f = omega arith
 
 -- where nothing is wanted none waits
-module _ (rounds : Rounds) (next : Option (ℕ × ℕ)) where
-  done_by : (some : Option Want) → rounds_wanted rounds next ≡ some → wanted_by some ≡ want.Done → rounds_waiting rounds ≡ 0
-  done_by None is e = none_waits rounds next is
-  done_by (Some w) is e = absurd (never_done (event_cases rounds next w is) e)
-    where
-      never_done : IsRoundEvent rounds next w → w ≡ want.Done → ⊥
-      never_done (inl s) e = absurd (let f : want.Store s.word s.value ≡ want.Done = sym s.wants ∙ e in cc)
-      never_done (inr (inl g)) e = absurd (let f : want.Flush (slice_index rounds.round g.number) ≡ want.Done = sym g.wants ∙ e in cc)
-      never_done (inr (inr g)) e = absurd (let f : want.Fence ≡ want.Done = sym g.wants ∙ e in cc)
-
-  done_few : (b : Bool) → nat_lt most_lines (length rounds.round) ≡ b → (if b then want.Done else wanted_by (rounds_wanted rounds next)) ≡ want.Done → rounds_waiting rounds ≡ 0
-  done_few true is e = ap (λ (b : Bool). if b then 0 else round_waiting rounds.round rounds.step) is
-  done_few false is e = done_by (rounds_wanted rounds next) refl e
-
 pub ends_none : (op : SplitOp) (s : SplitStep) → wanted_in op s ≡ want.Done → waiting_at s ≡ 0
-ends_none op (Put batch rounds) e = done_few rounds (due op.copied op.locks batch) (nat_lt most_lines (length rounds.round)) refl e
+ends_none op (Put batch rounds) e = event_ends rounds (due op.copied op.locks batch) e
 ends_none op Take e = refl
 ends_none op (Search slot) e = refl
 ends_none op Count e = refl

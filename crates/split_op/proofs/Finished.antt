@@ -11,7 +11,7 @@ use Rattle.frame_facts.specs.DeadSlots.{IsInSlot}
 use Rattle.map_model.specs.declared.call.Call.{Call}
 use Rattle.world.specs.declared.site.Site.{Site}
 use Rattle.world.specs.Ground.{Ground}
-use Rattle.world.specs.Views.{View, Has, IsLoose}
+use Rattle.world.specs.Views.{View, Has}
 use Rattle.world.specs.Holders.{KnowsWord}
 use Rattle.world.specs.areas.Areas.{header_word}
 use Rattle.world.specs.areas.Kinds.{is_in_slot}
@@ -20,7 +20,7 @@ use Rattle.rounds.specs.declared.rounds.Rounds.{Rounds}
 use Rattle.rounds.specs.Steps.{rounds_wanted}
 use Rattle.rounds.specs.Stands.{RoundStands, IsSettled}
 use Rattle.rounds.proofs.Events.{events_end}
-use Rattle.rounds.proofs.Settling.{rounds_settle}
+use Rattle.rounds.proofs.Settling.{settled_firm, rounds_settle}
 use Rattle.enclose_op.specs.Whole.{kept_words}
 use Rattle.enclose_op.proofs.Places.{in_slot}
 use Rattle.split_op.specs.declared.copied.Copied.{Copied}
@@ -138,13 +138,8 @@ copied_slot words b r q small which taken =
     ∙ eq-eqb (bit ((p % 32 - 4) / 2) mark) 1 (ap (λ (z : ℕ). bit z mark) (sym at.1) ∙ ap (λ (z : ℕ). bit r (slice_index words z)) (sym at.0) ∙ taken)
 
 module _ (site : Ground) (here : Site) (call : Call) (c : Copied) (locks : List ℕ) (u : View) where
-  -- where all is settled nothing is loose
-  pub none_loose : IsSettled u → (p : ℕ × ℕ) → IsLoose u p → ⊥
-  none_loose e p (inl dirty) = subst (λ (l : List (ℕ × ℕ)). Has p l) e.dirty dirty
-  none_loose e p (inr flushed) = subst (λ (l : List (ℕ × ℕ)). Has p l) e.flushed flushed
-
   knows : IsSettled u → (i x : ℕ) → Has (i, x) u.known → KnowsWord u i x
-  knows e i x has = record { known = has; firm = λ y l. none_loose e (i, y) l }
+  knows e i x has = record { known = has; firm = λ y l. settled_firm u e (i, y) l }
 
   -- ---- THE COPIES ARE THERE
   module _ (k : ℕ) (past : segment_words ≤ k) (is : IsSplitting site here call c locks (Copy k) u) (e : IsSettled u) where
@@ -251,7 +246,7 @@ module _ (site : Ground) (here : Site) (call : Call) (c : Copied) (locks : List 
               below = λ p of_slot small. w.below p of_slot (omega (arith, small, past));
               above = λ b near high. absurd (omega (arith, near, high));
             };
-            loose = λ p l. none_loose e p l;
+            loose = λ p l. settled_firm u e p l;
             only = is.only;
           };
           stands = rounds_settle.begins u e;
@@ -262,7 +257,7 @@ module _ (site : Ground) (here : Site) (call : Call) (c : Copied) (locks : List 
     finished_suits (Link true) is none =
         let e = rounds_settle.ends rounds None u stands none in
         record {
-          splits = record { keeps = is.keeps; slot = is.slot; areas = is.areas; header = is.header; link = is.link; side_header = is.side_header; side_words = is.side_words; loose = λ p l. none_loose e p l; only = is.only };
+          splits = record { keeps = is.keeps; slot = is.slot; areas = is.areas; header = is.header; link = is.link; side_header = is.side_header; side_words = is.side_words; loose = λ p l. settled_firm u e p l; only = is.only };
           stands = rounds_settle.begins u e;
           lines = λ l has. absurd has;
           asks = λ none. none_some (sym none);
@@ -271,7 +266,7 @@ module _ (site : Ground) (here : Site) (call : Call) (c : Copied) (locks : List 
     finished_suits (Mark true) is none =
         let e = rounds_settle.ends rounds None u stands none in
         record {
-          splits = record { keeps = is.keeps; slot = is.slot; areas = is.areas; header = is.header; link = is.link; side_header = is.side_header; side_words = is.side_words; loose = λ p l. none_loose e p l; only = is.only };
+          splits = record { keeps = is.keeps; slot = is.slot; areas = is.areas; header = is.header; link = is.link; side_header = is.side_header; side_words = is.side_words; loose = λ p l. settled_firm u e p l; only = is.only };
           stands = rounds_settle.begins u e;
           lines = λ l has. absurd has;
           asks = λ none. none_some (sym none);

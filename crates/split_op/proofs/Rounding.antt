@@ -22,12 +22,10 @@ use Rattle.world.specs.areas.Splitting.{link_word}
 use Rattle.world.specs.StepKinds.{StepKind, of_call, of_structure, wanted_of, view_by, MayTake}
 use Rattle.world.proofs.basics.Seats.{flush_loose, loosened_has}
 use Rattle.rounds.specs.declared.rounds.Rounds.{Rounds}
-use Rattle.rounds.specs.declared.rounds.RoundStep.{RoundStep}
-use Rattle.rounds.specs.declared.rounds.RoundStep.TheVariants.{Storing, Flushing, Fencing}
 use Rattle.rounds.specs.Steps.{rounds_stores, rounds_wanted, rounds_taken}
 use Rattle.rounds.specs.Events.{IsRoundEvent}
-use Rattle.rounds.specs.Stands.{kind_of, IsLooseOn, RoundStands, KnowsSidesDead}
-use Rattle.rounds.proofs.Settling.{rounds_settle}
+use Rattle.rounds.specs.Stands.{kind_of, RoundStands, KnowsSidesDead}
+use Rattle.rounds.proofs.Settling.{round_same, round_behind}
 use Rattle.rounds.proofs.Keeping.{rounds_may}
 use Rattle.split_op.specs.declared.copied.Copied.{Copied}
 use Rattle.split_op.specs.declared.batch.Batch.{Batch}
@@ -49,15 +47,6 @@ some_same e = cc
 pub due_if : {A : Type 0} (b : Bool) (y z : A) → (if b then Some y else None) ≡ Some z → (b ≡ true) × (y ≡ z)
 due_if true y z e = (refl, some_same e)
 due_if false y z e = absurd (none_some e)
-
--- where these lists are the same, so is how a round stands
-round_same : (rounds : Rounds) (v u : View) → u.dirty ≡ v.dirty → u.flushed ≡ v.flushed → RoundStands rounds v → RoundStands rounds u
-round_same rounds v u dirty flushed r = record { few = r.few; loose = by rounds.step r.loose }
-  where
-    by : (step : RoundStep) → IsLooseOn rounds.round step v → IsLooseOn rounds.round step u
-    by Storing l = ((λ p has. l.0 p (subst (λ (x : List (ℕ × ℕ)). Has p x) dirty has)), flushed ∙ l.1)
-    by (Flushing i) l = (l.0, (λ p has. l.1 p (subst (λ (x : List (ℕ × ℕ)). Has p x) dirty has)), (λ p has. l.2 p (subst (λ (x : List (ℕ × ℕ)). Has p x) flushed has)))
-    by Fencing l = dirty ∙ l
 
 module _ (site : Ground) (ground : IsGround site) (here : Site) (call : Call) (op : SplitOp) (v : View) where
   abbrev c : Copied
@@ -142,7 +131,7 @@ module _ (site : Ground) (ground : IsGround site) (here : Site) (call : Call) (o
 
     -- how the round stands after it
     round_after : (w : Want) (n : ℕ) → rounds_wanted rounds next ≡ Some w → RoundStands (rounds_taken rounds next) (view_by site.shape (kind_of [] (Some w)) n v)
-    round_after w n e = subst (λ (o : Option Want). RoundStands (rounds_taken rounds next) (view_by site.shape (kind_of [] o) n v)) e (rounds_settle.stands site.shape [] rounds next n v stands)
+    round_after w n e = round_behind site.shape rounds next n v stands [] w e
 
     -- its lines are lines of the image, since words of slots are stored
     in_image : (n p : ℕ) → n < site.shape.segments → p < segment_words → 8 * line_of (head_at site.shape n + p) + 8 ≤ words_of site.shape
@@ -291,7 +280,7 @@ module _ (site : Ground) (ground : IsGround site) (here : Site) (call : Call) (o
           let st = left_stored i (split_head c.whole) n in
           suits_then u (Mark true) true stores at
           (mark_more site here call c locks v u is (record { held = refl; facts = refl; planned = refl; moving = refl; owed = refl; known = refl; loose = st.loose }) refl)
-          (round_same (rounds_taken rounds next) (view_by site.shape (of_structure (sets i (split_head c.whole))) n v) u refl refl
+          (round_same (view_by site.shape (of_structure (sets i (split_head c.whole))) n v) u refl refl (rounds_taken rounds next)
           (subst (λ (z : ℕ). RoundStands (rounds_taken rounds next) (view_by site.shape (of_structure (sets i z)) n v)) same (round_after (want.Store i x) n e))));
       own = λ n. refl;
       seen = λ n. refl;
@@ -313,7 +302,7 @@ module _ (site : Ground) (ground : IsGround site) (here : Site) (call : Call) (o
           let st = left_stored i (side_head c.whole) n in
           suits_then u (New true) true stores at
           (new_more site here call c locks v u is (record { held = refl; facts = refl; planned = refl; moving = refl; owed = refl; known = refl; loose = st.loose }) (new_areas is.areas))
-          (round_same (rounds_taken rounds next) (view_by site.shape (of_structure (sets i (side_head c.whole))) n v) u refl refl
+          (round_same (view_by site.shape (of_structure (sets i (side_head c.whole))) n v) u refl refl (rounds_taken rounds next)
           (subst (λ (z : ℕ). RoundStands (rounds_taken rounds next) (view_by site.shape (of_structure (sets i z)) n v)) same (round_after (want.Store i x) n e))));
       own = λ n. refl;
       seen = λ n. refl;

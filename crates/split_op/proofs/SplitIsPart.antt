@@ -1,17 +1,16 @@
 -- The split of a segment, up to the copies, is a part of a call.
-use Rattle.std.proofs.Common.{◌≡◌, ◌≢◌, ℕ, zero, suc, ◌+◌, ◌-◌, ◌*◌, ◌/◌, ◌%◌, ◌^◌, ◌<◌, ◌≤◌, Bool, true, false, Option, None, Some, List, [], length, replicate, slice_index, inl, inr, refl, sym, ap, ◌∙◌, subst, arith}
+use Rattle.std.proofs.Common.{◌≡◌, ◌≢◌, ℕ, zero, suc, ◌+◌, ◌-◌, ◌*◌, ◌/◌, ◌%◌, ◌^◌, ◌<◌, Bool, true, false, Option, None, Some, List, [], slice_index, inl, inr, refl, sym, ap, ◌∙◌, subst, arith}
 use Rattle.std.specs.Prelude.{nat_lt, ◌==◌, ◌||◌, if◌then◌else◌}
 use Rattle.enclose_op.proofs.Giving.{give_some, give_answer, give_puts, give_makes, give_power, give_own, give_seen, give_plan, give_in}
 use Rattle.segment_head.proofs.Headers.{header_below}
-use Rattle.whole_segment.specs.Rounds.{most_lines}
-use Rattle.std.proofs.lemmas.Bool.{cases_lt, le-ltb}
-use Rattle.std.proofs.lemmas.List.{length-replicate, get_or-replicate, get_or_past}
+use Rattle.whole_segment.proofs.Zeros.{zeros_small}
+use Rattle.std.proofs.lemmas.List.{length-replicate}
 use Rattle.op_core.specs.declared.want.Want.{Want}
 use Rattle.op_core.specs.declared.want.Want.TheVariants as want
 use Rattle.op_core.specs.declared.want.Ans.{Ans}
 use Rattle.op_core.specs.declared.want.Ans.TheVariants.{Won, Lost, Passed}
 use Rattle.trace.specs.Events.{Words}
-use Rattle.image_layout.specs.Places.{Shape, buckets, words_of, first_segment, segment_words}
+use Rattle.image_layout.specs.Places.{Shape, buckets, first_segment, segment_words}
 use Rattle.image_layout.specs.Volatile.{counter_word, allocation_guard, all_words_of}
 use Rattle.map_model.specs.declared.call.Call.{Call}
 use Rattle.map_model.specs.declared.entry.Reply.TheVariants.{Full}
@@ -34,12 +33,12 @@ use Rattle.part.specs.Part.{LeavesKnown, IsPart}
 use Rattle.part.specs.Asks.{IsWithin, PutsWord}
 use Rattle.phase.proofs.Handing.{one_more, none_more, same_more}
 use Rattle.rounds.specs.declared.rounds.Rounds.{Rounds}
-use Rattle.rounds.specs.Steps.{rounds_wanted}
+use Rattle.rounds.specs.Steps.{rounds_wanted, event_wanted}
 use Rattle.rounds.specs.Steps as round
-use Rattle.rounds.specs.Events.{IsRoundEvent}
-use Rattle.rounds.specs.Stands.{kind_of}
 use Rattle.rounds.proofs.Events.{event_cases}
-use Rattle.rounds.proofs.Lines.{lines_are_stored}
+use Rattle.rounds.proofs.Wanted.{event_of, by_wanted, event_none}
+use Rattle.rounds.proofs.Silent.{round_makes, round_power}
+use Rattle.rounds.proofs.Settling.{settled_firm}
 use Rattle.enclose_op.specs.declared.enclosed.Enclosed.{Enclosed}
 use Rattle.enclose_op.specs.declared.give.Give.{Give}
 use Rattle.enclose_op.specs.Giving.{given}
@@ -56,14 +55,14 @@ use Rattle.split_op.specs.declared.step.SplitStep.TheVariants.{Take, Search, Cou
 use Rattle.split_op.specs.declared.op.SplitOp.{SplitOp}
 use Rattle.split_op.specs.Copied.{split_head, side_head, KeepsCopied}
 use Rattle.split_op.specs.Batches.{slot_word, empty_value, due}
-use Rattle.split_op.specs.Steps.{go, last_slot, searched, finished, put_by, stored, given_to, wanted_by, put_wanted, wanted_in, next_in, wanted}
+use Rattle.split_op.specs.Steps.{go, last_slot, searched, finished, put_by, stored, given_to, wanted_in, next_in, wanted}
 use Rattle.split_op.specs.Fits.{head_kind, put_kind, look_word, look_kind, kind_at, outcome_of, outcome_at, is_copied_end, hands_on_at, IsPutting, SuitsStep}
 use Rattle.split_op.specs.SplitPart.{SplitStands, split_part, BeginsAsPart, BeginsUndecided, HandsOnCopied}
 use Rattle.split_op.proofs.Cases.{choose, none_some}
 use Rattle.split_op.proofs.Falling.{falls, most, waiting_most, flushes, keeps, ends_none}
 use Rattle.split_op.proofs.Places.{slot_is}
 use Rattle.split_op.proofs.Rounding.{Fits, event_fits, due_in_image, due_if, some_same}
-use Rattle.split_op.proofs.Stepping.{settled_none, take_suits, search_suits, searching_none, crowd, count_suits, return_suits, look_may, look_suits, release_suits, given_suits}
+use Rattle.split_op.proofs.Stepping.{take_suits, search_suits, searching_none, crowd, count_suits, return_suits, look_may, look_suits, release_suits, given_suits}
 
 -- ---- what is decided
 -- nothing, while a free slot is looked for and words are stored
@@ -154,16 +153,11 @@ module _ (site : Ground) (here : Site) (call : Call) (op : SplitOp) (is : IsOf s
     abbrev event : (w : Want) × (rounds_wanted rounds next ≡ Some w)
     event = some_event (rounds_wanted rounds next) refl
 
-    is_event : put_wanted rounds next ≡ event.0
-    is_event = ap (λ (b : Bool). if b then want.Done else wanted_by (rounds_wanted rounds next)) (le-ltb most_lines (length rounds.round) s.stands.few) ∙ ap wanted_by event.1
+    is_event : event_wanted rounds next ≡ event.0
+    is_event = event_of rounds next event.0 s.stands.few event.1
 
-    pub put_asks : put_wanted rounds next ≢ want.Done
-    put_asks done = never (event_cases rounds next event.0 event.1) (sym is_event ∙ done)
-      where
-        never : IsRoundEvent rounds next event.0 → event.0 ≡ want.Done → ⊥
-        never (inl z) d = absurd (let f : want.Store z.word z.value ≡ want.Done = sym z.wants ∙ d in cc)
-        never (inr (inl z)) d = absurd (let f : want.Flush (slice_index rounds.round z.number) ≡ want.Done = sym z.wants ∙ d in cc)
-        never (inr (inr z)) d = absurd (let f : want.Fence ≡ want.Done = sym z.wants ∙ d in cc)
+    pub put_asks : event_wanted rounds next ≢ want.Done
+    put_asks done = s.asks (event_none rounds next s.stands.few done)
 
   -- ---- what it puts into the memory
   zero_puts : (i : ℕ) → PutsWord (want.Store i 0)
@@ -195,13 +189,14 @@ module _ (site : Ground) (here : Site) (call : Call) (op : SplitOp) (is : IsOf s
       let o = due_if (nat_lt k segment_words) (slot_word e.site.geometry op.copied.side k, slice_index op.copied.words (k - 32)) (word, value) f in
       subst (λ (z : ℕ). z < 2 ^ 64) (ap (λ (z : ℕ × ℕ). z.1) o.1) (s.splits.keeps.words.small (k - 32))
 
-  event_puts : (batch : Batch) (rounds : Rounds) → IsPutting site here call op.copied op.locks batch rounds v → (w : Want) → IsRoundEvent rounds (due op.copied op.locks batch) w → PutsWord w
-  event_puts batch rounds s w (inl z) = subst PutsWord (sym z.wants) (record {
-    stores = λ i x same. (let at : z.value ≡ x = cc in let fits = value_fits batch rounds s z.word z.value z.comes in omega (arith, at, fits));
-    exchanges = λ i a b e. absurd (cc);
-  })
-  event_puts batch rounds s w (inr (inl z)) = subst PutsWord (sym z.wants) (record { stores = λ i x e. absurd (cc); exchanges = λ i a b e. absurd (cc) })
-  event_puts batch rounds s w (inr (inr z)) = subst PutsWord (sym z.wants) (record { stores = λ i x e. absurd (cc); exchanges = λ i a b e. absurd (cc) })
+  event_puts : (batch : Batch) (rounds : Rounds) → IsPutting site here call op.copied op.locks batch rounds v → PutsWord (event_wanted rounds (due op.copied op.locks batch))
+  event_puts batch rounds s = by_wanted rounds (due op.copied op.locks batch) PutsWord (record { stores = λ i x e. absurd (cc); exchanges = λ i a b e. absurd (cc) })
+      (λ p is_due. record {
+        stores = λ i x same. (let at : p.1 ≡ x = cc in let fits = value_fits batch rounds s p.0 p.1 is_due in omega (arith, at, fits));
+        exchanges = λ i a b e. absurd (cc);
+      })
+      (λ line has. record { stores = λ i x e. absurd (cc); exchanges = λ i a b e. absurd (cc) })
+      (record { stores = λ i x e. absurd (cc); exchanges = λ i a b e. absurd (cc) })
 
   puts_at : (step : SplitStep) → Suited step → PutsWord (wanted_in op step)
   puts_at Take s = record { stores = λ i x e. absurd (cc); exchanges = λ i a b same. (let at : e.site.caller ≡ b = cc in let low = is.caller in omega (arith, at, low)) }
@@ -209,8 +204,7 @@ module _ (site : Ground) (here : Site) (call : Call) (op : SplitOp) (is : IsOf s
   puts_at Count s = record { stores = λ i x e. absurd (cc); exchanges = λ i a b e. absurd (cc) }
   puts_at (Return count) s = zero_puts (allocation_guard e.site.geometry)
   puts_at (Look b) s = record { stores = λ i x e. absurd (cc); exchanges = λ i a b e. absurd (cc) }
-  puts_at (Put batch rounds) s =
-      let w = event batch rounds s in subst PutsWord (sym (is_event batch rounds s)) (event_puts batch rounds s w.0 (event_cases rounds (due op.copied op.locks batch) w.0 w.1))
+  puts_at (Put batch rounds) s = event_puts batch rounds s
   puts_at Release s = zero_puts (allocation_guard e.site.geometry)
   puts_at (Back give end) s = give_puts e give
   puts_at (Ended end) s = record { stores = λ i x e. absurd (cc); exchanges = λ i a b e. absurd (cc) }
@@ -289,21 +283,21 @@ module _ (site : Ground) (ground : IsGround site) (here : Site) (call : Call) (o
     kind_is : put_kind op batch (rounds_wanted rounds coming) ≡ put_kind op batch (Some at.0)
     kind_is = ap (put_kind op batch) at.1
 
-    put_wants : put_wanted rounds coming ≡ wanted_of site.shape (put_kind op batch (rounds_wanted rounds coming))
+    put_wants : event_wanted rounds coming ≡ wanted_of site.shape (put_kind op batch (rounds_wanted rounds coming))
     put_wants = is_event site here call op is v batch rounds s ∙ fit.wants ∙ ap (wanted_of site.shape) (sym kind_is)
 
     put_may : MayTake site (put_kind op batch (rounds_wanted rounds coming)) v
     put_may = subst (λ (k : StepKind). MayTake site k v) (sym kind_is) fit.may
 
-    pub passes : (n : ℕ) → answer_to (put_wanted rounds coming) n ≡ Passed
+    pub passes : (n : ℕ) → answer_to (event_wanted rounds coming) n ≡ Passed
     passes n = ap (λ (w : Want). answer_to w n) (is_event site here call op is v batch rounds s) ∙ fit.answer n
 
-    put_stands : (n : ℕ) → SplitStands site here call (next_in op (Put batch rounds) (answer_to (put_wanted rounds coming) n)) (view_by site.shape (put_kind op batch (rounds_wanted rounds coming)) n v)
+    put_stands : (n : ℕ) → SplitStands site here call (next_in op (Put batch rounds) (answer_to (event_wanted rounds coming) n)) (view_by site.shape (put_kind op batch (rounds_wanted rounds coming)) n v)
     put_stands n =
         subst (λ (a : Ans). SplitStands site here call (next_in op (Put batch rounds) a) (view_by site.shape (put_kind op batch (rounds_wanted rounds coming)) n v)) (sym (passes n))
         (subst (λ (k : StepKind). SplitStands site here call (go op (stored op batch rounds)) (view_by site.shape k n v)) (sym kind_is) (record { is = is; view = fit.suits n }))
 
-    put_silent : (n : ℕ) → IsSilent (next_in op (Put batch rounds) (answer_to (put_wanted rounds coming) n)).step
+    put_silent : (n : ℕ) → IsSilent (next_in op (Put batch rounds) (answer_to (event_wanted rounds coming) n)).step
     put_silent n = subst (λ (a : Ans). IsSilent (next_in op (Put batch rounds) a).step) (sym (passes n)) (ap reply_of (open_put _ _ _))
 
     put_own : (n : ℕ) → (view_by site.shape (put_kind op batch (rounds_wanted rounds coming)) n v).own ≡ v.own
@@ -330,12 +324,12 @@ module _ (site : Ground) (ground : IsGround site) (here : Site) (call : Call) (o
   -- ---- which the view may take
   may : (step : SplitStep) → Suits step → MayTake site (kind_at op step) v
   may Take s = is.numbered
-  may (Search slot) s = (subst (λ (l : List Area). Has Allocation l) (sym s.0.areas) (inl refl), s.1, (λ p l inside. settled_none site ground here call op v s.0.settled p l))
+  may (Search slot) s = (subst (λ (l : List Area). Has Allocation l) (sym s.0.areas) (inl refl), s.1, (λ p l inside. settled_firm v s.0.settled p l))
   may Count s = ((refl, inl (λ a. is.insert), knows_full site whole v (crowd site ground here call op v s.0), (λ spent. absurd (cc)), (λ full. s.1)), searching_none site ground here call op v s.0)
-  may (Return count) s = (subst (λ (l : List Area). Has Allocation l) (sym s.areas) (inl refl), (λ p l inside. settled_none site ground here call op v s.settled p l), (λ n side p l is. settled_none site ground here call op v s.settled p l))
+  may (Return count) s = (subst (λ (l : List Area). Has Allocation l) (sym s.areas) (inl refl), (λ p l inside. settled_firm v s.settled p l), (λ n side p l is. settled_firm v s.settled p l))
   may (Look b) s = look_may site ground here call op v b s
   may (Put batch rounds) s = put_may batch rounds s
-  may Release s = (subst (λ (l : List Area). Has Allocation l) (sym s.0.areas) (inr (inr (inl refl))), (λ p l inside. settled_none site ground here call op v s.1 p l), (λ n side p l is. settled_none site ground here call op v s.1 p l))
+  may Release s = (subst (λ (l : List Area). Has Allocation l) (sym s.0.areas) (inr (inr (inl refl))), (λ p l inside. settled_firm v s.1 p l), (λ n side p l is. settled_firm v s.1 p l))
   may (Back give end) s = give_may site whole is.located v give s.0
   may (Ended end) s = (tt, tt)
 
@@ -405,23 +399,17 @@ module _ (site : Ground) (ground : IsGround site) (here : Site) (call : Call) (o
   guard_low : allocation_guard whole.site.geometry < all_words_of site.shape
   guard_low = subst (λ (z : Shape). allocation_guard z < all_words_of site.shape) (sym g) (omega arith)
 
-  event_in : (batch : Batch) (rounds : Rounds) (s : IsPutting site here call op.copied op.locks batch rounds v) (w : Want) → rounds_wanted rounds (due op.copied op.locks batch) ≡ Some w
-      → IsRoundEvent rounds (due op.copied op.locks batch) w → IsWithin site.shape w
-  event_in batch rounds s w at (inl z) = subst (λ (y : Want). IsWithin site.shape y) (sym z.wants) (record {
-    word = (let low = due_low batch s z.word z.value z.comes in low);
-    line = λ l e. absurd (cc);
-  })
-    where
-      due_low : (t : Batch) → IsPutting site here call op.copied op.locks t rounds v → (word value : ℕ) → due op.copied op.locks t ≡ Some (word, value) → word < all_words_of site.shape
-      due_low t p word value f =
-          let line = due_in_image site ground here call op v t rounds p.splits p.stands p.lines t word value f in omega (arith, line)
-  event_in batch rounds s w at (inr (inl z)) =
-      let low = (lines_are_stored (λ (line : ℕ). 8 * line + 8 ≤ words_of site.shape)).flushes rounds (due op.copied op.locks batch) s.lines (slice_index rounds.round z.number) (at ∙ ap Some z.wants) in
-      subst (λ (y : Want). IsWithin site.shape y) (sym z.wants) (record {
-        word = omega (arith, low);
-        line = λ l e. (let same : slice_index rounds.round z.number ≡ l = cc in omega (arith, low, same));
+  event_in : (batch : Batch) (rounds : Rounds) (s : IsPutting site here call op.copied op.locks batch rounds v) → IsWithin site.shape (event_wanted rounds (due op.copied op.locks batch))
+  event_in batch rounds s = by_wanted rounds (due op.copied op.locks batch) (IsWithin site.shape) none_in
+      (λ p is_due. record {
+        word = (let line = due_in_image site ground here call op v batch rounds s.splits s.stands s.lines batch p.0 p.1 is_due in omega (arith, line));
+        line = λ l e. absurd (cc);
       })
-  event_in batch rounds s w at (inr (inr z)) = subst (λ (y : Want). IsWithin site.shape y) (sym z.wants) (record { word = omega arith; line = λ l e. absurd (cc) })
+      (λ line has. let low = s.lines line has in record {
+        word = omega (arith, low);
+        line = λ l e. (let same : line ≡ l = cc in omega (arith, low, same));
+      })
+      (record { word = omega arith; line = λ l e. absurd (cc) })
 
   within_at : (step : SplitStep) → Suits step → IsWithin site.shape (wanted_in op step)
   within_at Take s = record { word = guard_low; line = λ n e. absurd (cc) }
@@ -429,21 +417,12 @@ module _ (site : Ground) (ground : IsGround site) (here : Site) (call : Call) (o
   within_at Count s = subst (λ (z : Shape). IsWithin site.shape (want.Load (counter_word z))) (sym g) (record { word = omega arith; line = λ n e. absurd (cc) })
   within_at (Return count) s = record { word = guard_low; line = λ n e. absurd (cc) }
   within_at (Look b) s = record { word = slot_low op.copied.side (32 + 32 * (b % buckets)) s.slot.slot (omega arith); line = λ n e. absurd (cc) }
-  within_at (Put batch rounds) s =
-      let w = event site here call op is v batch rounds s in
-      subst (λ (z : Want). IsWithin site.shape z) (sym (is_event site here call op is v batch rounds s)) (event_in batch rounds s w.0 w.1 (event_cases rounds (due op.copied op.locks batch) w.0 w.1))
+  within_at (Put batch rounds) s = event_in batch rounds s
   within_at Release s = record { word = guard_low; line = λ n e. absurd (cc) }
   within_at (Back give end) s = give_in site whole is.located give v s.0
   within_at (Ended end) s = none_in
 
 -- ---- no step makes a change, or cuts the power
-round_makes : (o : Option Want) → IsPublishingStep (kind_of [] o) → ⊥
-round_makes None p = p
-round_makes (Some (want.Store i x)) p = p
-round_makes (Some (want.Flush l)) p = p
-round_makes (Some want.Fence) p = p
-round_makes (Some w) p = p
-
 head_makes : (row : Row) (s x : ℕ) (o : Option Want) → IsPublishingStep (head_kind row s x o) → ⊥
 head_makes row s x None p = p
 head_makes row s x (Some (want.Store i y)) p = p
@@ -452,11 +431,11 @@ head_makes row s x (Some want.Fence) p = p
 head_makes row s x (Some w) p = p
 
 put_makes : (op : SplitOp) (batch : Batch) (o : Option Want) → IsPublishingStep (put_kind op batch o) → ⊥
-put_makes op (Empty k) o p = round_makes o p
-put_makes op (Link stored) o p = round_makes o p
+put_makes op (Empty k) o p = round_makes [] o p
+put_makes op (Link stored) o p = round_makes [] o p
 put_makes op (Mark stored) o p = head_makes (marks op.copied.side) op.copied.whole.segment (split_head op.copied.whole) o p
 put_makes op (New stored) o p = head_makes (news op.copied.whole.segment) op.copied.side (side_head op.copied.whole) o p
-put_makes op (Copy k) o p = round_makes o p
+put_makes op (Copy k) o p = round_makes [] o p
 
 look_makes : (op : SplitOp) (b : ℕ) → IsPublishingStep (look_kind op b) → ⊥
 look_makes op zero p = p
@@ -473,13 +452,6 @@ makes_none op Release p = p
 makes_none op (Back give end) p = give_makes op.copied.whole give p
 makes_none op (Ended end) p = p
 
-round_power : (o : Option Want) → kind_of [] o ≢ of_call cuts_power
-round_power None same = absurd (cc)
-round_power (Some (want.Store i x)) same = absurd (cc)
-round_power (Some (want.Flush l)) same = absurd (cc)
-round_power (Some want.Fence) same = absurd (cc)
-round_power (Some w) same = absurd (cc)
-
 head_power : (row : Row) (s x : ℕ) (o : Option Want) → head_kind row s x o ≢ of_call cuts_power
 head_power row s x None same = absurd (cc)
 head_power row s x (Some (want.Store i y)) same = absurd (cc)
@@ -488,11 +460,11 @@ head_power row s x (Some want.Fence) same = absurd (cc)
 head_power row s x (Some w) same = absurd (cc)
 
 put_power : (op : SplitOp) (batch : Batch) (o : Option Want) → put_kind op batch o ≢ of_call cuts_power
-put_power op (Empty k) o same = round_power o same
-put_power op (Link stored) o same = round_power o same
+put_power op (Empty k) o same = round_power [] o same
+put_power op (Link stored) o same = round_power [] o same
 put_power op (Mark stored) o same = head_power (marks op.copied.side) op.copied.whole.segment (split_head op.copied.whole) o same
 put_power op (New stored) o same = head_power (news op.copied.whole.segment) op.copied.side (side_head op.copied.whole) o same
-put_power op (Copy k) o same = round_power o same
+put_power op (Copy k) o same = round_power [] o same
 
 look_power : (op : SplitOp) (b : ℕ) → look_kind op b ≢ of_call cuts_power
 look_power op zero same = absurd (cc)
@@ -586,10 +558,7 @@ begins_as_part site here call e words v keeps from = record {
     from,
     record {
       each_lock = length-replicate {A = ℕ} 66 0;
-      small = λ i. elim (cases_lt i 66) [
-        | inl low ↦ subst (λ (z : ℕ). z < 2 ^ 64) (sym (get_or-replicate 66 i 0 0 low)) (omega arith)
-        | inr past ↦ subst (λ (z : ℕ). z < 2 ^ 64) (sym (get_or_past (replicate 66 0) i 0 (let all = length-replicate {A = ℕ} 66 0 in omega (arith, all, past)))) (omega arith)
-      ];
+      small = zeros_small 66;
     },
   );
 }

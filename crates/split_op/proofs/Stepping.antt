@@ -15,7 +15,7 @@ use Rattle.map_model.specs.Changes.{call_of}
 use Rattle.segment_head.specs.HeadWord.{state_in, free, normal}
 use Rattle.world.specs.declared.site.Site.{Site}
 use Rattle.world.specs.Ground.{Ground, IsGround}
-use Rattle.world.specs.Views.{View, Has, IsLoose}
+use Rattle.world.specs.Views.{View, Has}
 use Rattle.world.specs.Kinds.{next_entry, with_reply}
 use Rattle.world.specs.areas.Areas.{Area, Segment, Free, Whole, Allocation, header_word, all_but}
 use Rattle.world.specs.areas.Bridging.{HasNoWhole}
@@ -27,7 +27,7 @@ use Rattle.phase.specs.Stands.{IsThere}
 use Rattle.rounds.specs.Steps.{rounds_wanted}
 use Rattle.rounds.specs.Steps as round
 use Rattle.rounds.specs.Stands.{IsSettled}
-use Rattle.rounds.proofs.Settling.{rounds_settle}
+use Rattle.rounds.proofs.Settling.{settled_firm, rounds_settle}
 use Rattle.enclose_op.specs.declared.enclosed.Enclosed.{Enclosed}
 use Rattle.enclose_op.specs.declared.give.Give.{Give}
 use Rattle.enclose_op.specs.Giving.{give_from}
@@ -52,7 +52,7 @@ use Rattle.split_op.proofs.Cases.{none_some}
 use Rattle.split_op.proofs.Places.{slot_is, in_slot_at, all_slots}
 use Rattle.split_op.proofs.sides.Seeking.{found_at, copied_behind, none_before}
 use Rattle.split_op.proofs.Stored.{keeps_there, keeps_by}
-use Rattle.split_op.proofs.Finished.{none_loose, to_suits}
+use Rattle.split_op.proofs.Finished.{to_suits}
 use Rattle.split_op.proofs.Asking.{head_normal}
 
 least_slots : (n : ℕ) → min n most_segments ≤ n
@@ -80,9 +80,6 @@ module _ (site : Ground) (ground : IsGround site) (here : Site) (call : Call) (o
   -- it suits another state
   abbrev SuitsOp : SplitOp → View → Type 0
   SuitsOp o u = SuitsStep site here call o.copied o.locks o.step u
-
-  pub settled_none : IsSettled v → (p : ℕ × ℕ) → IsLoose v p → ⊥
-  settled_none q p l = none_loose site here call c locks v q p l
 
   guard_is : KeepsOn site here call c v → allocation_guard e.site.geometry ≡ allocation_guard site.shape
   guard_is k = ap allocation_guard k.is.located.shape
@@ -221,7 +218,7 @@ module _ (site : Ground) (ground : IsGround site) (here : Site) (call : Call) (o
         leads = k.whole.head.leads;
         locks = λ b near. (slice_index e.locks b + 1, k.locks.has b (omega arith) near);
         header = st.header;
-        words = λ b m near low small. record { known = k.buckets_are b m near low small; firm = λ y l. settled_none st.settled _ l };
+        words = λ b m near low small. record { known = k.buckets_are b m near low small; firm = λ y l. settled_firm v st.settled _ l };
         planned = k.planned;
         moving = k.moving;
         no_room = k.whole.no_room;
@@ -353,7 +350,7 @@ module _ (site : Ground) (ground : IsGround site) (here : Site) (call : Call) (o
                 below = λ p of_slot low. absurd (elim of_slot [ inl two ↦ omega (arith, two, low) | inr far ↦ (let from = far.0 in omega (arith, from, low)) ]);
                 above = λ d small past. upto d (omega (arith, last, small));
               };
-              loose = λ p l. absurd (none_loose site here call c more u settled_look p l);
+              loose = λ p l. absurd (settled_firm u settled_look p l);
               only = only_look;
             };
             stands = rounds_settle.begins u settled_look;
@@ -385,7 +382,7 @@ module _ (site : Ground) (ground : IsGround site) (here : Site) (call : Call) (o
           below = λ p from small low yes_it. absurd (both_ways (is_copied c.words p) (none_before c.words 32 (omega arith) p from low) yes_it);
           rest = λ p from small meta none. still known _ _ (w.below p (inr (from, small, meta)) small);
         };
-        loose = λ p l. absurd (none_loose site here call c locks u q p l);
+        loose = λ p l. absurd (settled_firm u q p l);
         only = λ p has. is.only p (subst (λ (l : List (ℕ × ℕ)). Has p l) known has);
       })
     where

@@ -1,7 +1,6 @@
 -- What a split wants in each step, and what an answer makes of it.
-use Rattle.std.specs.Prelude.{ℕ, ◌+◌, ◌-◌, ◌*◌, ◌%◌, nat_lt, ◌==◌, false, min, Option, None, Some, List, replicate, length, slice_set, if◌then◌else◌}
+use Rattle.std.specs.Prelude.{ℕ, ◌+◌, ◌-◌, ◌*◌, ◌%◌, nat_lt, ◌==◌, false, min, Option, None, Some, List, replicate, slice_set, if◌then◌else◌}
 use Rattle.segment_head.specs.HeadWord.{state_in, free}
-use Rattle.whole_segment.specs.Rounds.{most_lines}
 use Rattle.image_layout.specs.Places.{Shape, buckets, most_segments}
 use Rattle.image_layout.specs.Volatile.{counter_word, allocation_guard}
 use Rattle.op_core.specs.declared.want.Want.{Want}
@@ -10,7 +9,7 @@ use Rattle.op_core.specs.declared.want.Ans.{Ans}
 use Rattle.op_core.specs.declared.want.Ans.TheVariants.{Value, Won, Lost, Passed}
 use Rattle.op_core.specs.declared.why.Why.TheVariants.{Busy}
 use Rattle.rounds.specs.declared.rounds.Rounds.{Rounds}
-use Rattle.rounds.specs.Steps.{rounds_stores, rounds_wanted, rounds_taken}
+use Rattle.rounds.specs.Steps.{rounds_stores, rounds_wanted, event_wanted, rounds_taken}
 use Rattle.rounds.specs.Steps as round
 use Rattle.enclose_op.specs.declared.enclosed.Enclosed.{Enclosed}
 use Rattle.enclose_op.specs.declared.give.Give.{Give}
@@ -81,14 +80,6 @@ abbrev pub copying : SplitOp → SplitStep
 copying op = put_to op (Copy (copied_from op.copied.words 32)) round.begun
 
 -- ---- the machine
--- the event of the rounds, which have eight lines at the most
-abbrev pub wanted_by : Option Want → Want
-wanted_by (Some wanted) = wanted
-wanted_by None = want.Done
-
-abbrev pub put_wanted : Rounds → Option (ℕ × ℕ) → Want
-put_wanted rounds next = if nat_lt most_lines (length rounds.round) then want.Done else wanted_by (rounds_wanted rounds next)
-
 -- THE EVENT that it wants
 abbrev pub wanted_in : SplitOp → SplitStep → Want
 wanted_in op Take = want.Exchange (allocation_guard op.copied.whole.site.geometry) 0 op.copied.whole.site.caller
@@ -96,7 +87,7 @@ wanted_in op (Search slot) = want.Load (slot_word op.copied.whole.site.geometry 
 wanted_in op Count = want.Load (counter_word op.copied.whole.site.geometry)
 wanted_in op (Return count) = want.Store (allocation_guard op.copied.whole.site.geometry) 0
 wanted_in op (Look bucket) = want.Load (slot_word op.copied.whole.site.geometry op.copied.side (32 + 32 * (bucket % buckets)))
-wanted_in op (Put batch rounds) = put_wanted rounds (due op.copied op.locks batch)
+wanted_in op (Put batch rounds) = event_wanted rounds (due op.copied op.locks batch)
 wanted_in op Release = want.Store (allocation_guard op.copied.whole.site.geometry) 0
 wanted_in op (Back give end) = give_wanted op.copied.whole give
 wanted_in op (Ended end) = want.Done

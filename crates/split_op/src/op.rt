@@ -3,7 +3,7 @@
 ghost use Rattle.std.specs.Prelude.{◌≡◌, ◌↔◌, IsTrue};
 ghost use Rattle.op_core.specs.declared.want.Want.TheVariants as want;
 ghost use Rattle.split_op.specs.Fits.{hands_on_at};
-ghost use Rattle.split_op.specs.Steps.{split_of, put_wanted, wanted, taken, end_of};
+ghost use Rattle.split_op.specs.Steps.{split_of, wanted, taken, end_of};
 
 use crate::batch::{due, slot_word};
 use crate::copied::Copied;
@@ -13,8 +13,6 @@ use crate::taking::go_on;
 use enclose_op::Enclosed;
 use image_layout::BUCKETS;
 use op_core::{Ans, Machine, Want};
-use rounds::Rounds;
-use whole_segment::MOST_LINES;
 
 /// An enclosed segment is split, up to the copies.
 #[derive(Clone, Copy, Debug, PartialEq, Eq)]
@@ -69,20 +67,6 @@ impl SplitOp {
     }
 }
 
-/// The event of the rounds, where this store is to come.
-fn put_want(rounds: &Rounds, next: Option<(u64, u64)>) -> Want
-    ensures { result ≡ put_wanted rounds.now next }
-{
-    if rounds.round.count() > MOST_LINES {
-        Want::Done
-    } else {
-        match rounds.want(next) {
-            Some(want) => want,
-            None => Want::Done,
-        }
-    }
-}
-
 /// What a split wants.
 fn want_of(op: &SplitOp) -> Want
     ensures { result ≡ wanted op.now }
@@ -102,7 +86,7 @@ fn want_of(op: &SplitOp) -> Want
             op.copied.side,
             32 + 32 * u16::from(*bucket % BUCKETS),
         )),
-        SplitStep::Put(batch, rounds) => put_want(rounds, due(&op.copied, &op.locks, *batch)),
+        SplitStep::Put(batch, rounds) => rounds.event(due(&op.copied, &op.locks, *batch)),
         SplitStep::Back(give, _) => op.copied.whole.give(*give),
         SplitStep::Ended(_) => Want::Done,
     }
