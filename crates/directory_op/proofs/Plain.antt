@@ -1,7 +1,5 @@
 -- What it asks for, what it plans, how it begins and ends, and what it hands on.
-use Rattle.std.proofs.Common.{◌≡◌, ℕ, ◌+◌, ◌-◌, ◌*◌, ◌/◌, ◌^◌, ◌<◌, ◌≤◌, inl, inr, true, false, cond, Option, None, Some, List, [], length, refl, sym, ap, ◌∙◌, subst, arith}
-use Rattle.std.proofs.lemmas.Bool.{cases_lt, lt-ltb, le-ltb}
-use Rattle.op_core.specs.declared.want.Want.{Want}
+use Rattle.std.proofs.Common.{◌≡◌, ℕ, ◌+◌, ◌-◌, ◌*◌, ◌/◌, ◌^◌, ◌<◌, ◌≤◌, true, false, Some, List, [], refl, sym, ap, ◌∙◌, subst, arith}
 use Rattle.op_core.specs.declared.want.Want.TheVariants as want
 use Rattle.segment_head.specs.HeadWord.{depth_in}
 use Rattle.image_layout.specs.Places.{Shape, root_word, first_segment, bucket_at, words_of, segment_words}
@@ -20,8 +18,9 @@ use Rattle.world.proofs.moving.Known.{slot_within}
 use Rattle.world.proofs.fitting.OneHolder.{head_in_slot}
 use Rattle.part.specs.Asks.{IsWithin, PutsWord}
 use Rattle.part.specs.Part.{AsksWithin, PutsWords, EndsAsDone, PlansItsCall, LeavesKnown, KnowsStale, HandsOnAtEnd, KeepsPower}
-use Rattle.rounds.specs.Steps.{rounds_wanted}
-use Rattle.rounds.proofs.Events.{events_end, cases_wanted}
+use Rattle.rounds.specs.Steps.{event_wanted}
+use Rattle.rounds.proofs.Events.{no_some, some_same, events_end}
+use Rattle.rounds.proofs.Wanted.{by_wanted, event_none}
 use Rattle.rest_op.specs.RestPart.{KeepsSplit}
 use Rattle.split_op.specs.declared.copied.Copied.{Copied}
 use Rattle.split_op.specs.Copied.{split_head, side_head, copied_words}
@@ -32,36 +31,14 @@ use Rattle.directory_op.specs.declared.op.DirectoryStep.{DirectoryStep}
 use Rattle.directory_op.specs.declared.op.DirectoryStep.TheVariants.{LoadHead, LoadSideHead, TakeGuard, AskPower, LoadRoot, LoadEntry, Store, GiveGuard, Ended}
 use Rattle.directory_op.specs.declared.op.DirectoryOp.{DirectoryOp}
 use Rattle.directory_op.specs.Places.{entry_word, live_head}
-use Rattle.directory_op.specs.Steps.{shape_of, next_store, want_or_none, put_wanted, wanted_in}
+use Rattle.directory_op.specs.Steps.{shape_of, next_store, wanted_in}
 use Rattle.directory_op.specs.Fits.{SuitsStage, SuitsStore, SuitsStep, KeepsPublished}
 use Rattle.directory_op.specs.DirectoryPart.{HandsOnSplit, goes_on, outcome_at, directory_part, BeginsAsPart, BeginsUndecided, HandsOnPublished, EndsOff}
 use Rattle.part.specs.Outcomes.{off}
 use Rattle.directory_op.proofs.Sides.{head_kept, split_header, bucket_kept}
-use Rattle.directory_op.proofs.ends.Falling.{put_wants}
 use Rattle.directory_op.proofs.Words.{doubled, head_is}
-use Rattle.directory_op.proofs.Stepping.{by_event}
 use Rattle.directory_op.proofs.stages.Rounding.{next_near, entry_near}
 use Rattle.directory_op.proofs.Suiting.{never_cuts}
-
-some_same : {A : Type 0} {x y : A} → Some x ≡ Some y → x ≡ y
-some_same e = cc
-
-none_some : {A : Type 0} {x : A} → Some x ≡ None → ⊥
-none_some e = cc
-
--- what is so of no event and of each event of the rounds is so of what a stage wants
-module _ (op : DirectoryOp) (stage : Stage) (P : Want → Type 0) (done : P want.Done) where
-  put_by : P (want_or_none (rounds_wanted op.rounds (next_store op stage))) → P (put_wanted op.rounds (next_store op stage))
-  put_by p = elim (cases_lt 8 (length op.rounds.round)) [
-    | inl many ↦ subst (λ b. P (cond b want.Done (want_or_none (rounds_wanted op.rounds (next_store op stage))))) (sym (lt-ltb 8 (length op.rounds.round) many)) done
-    | inr few ↦ subst (λ b. P (cond b want.Done (want_or_none (rounds_wanted op.rounds (next_store op stage))))) (sym (le-ltb 8 (length op.rounds.round) few)) p
-  ]
-
-  pub by_put : ((p : ℕ × ℕ) → next_store op stage ≡ Some p → P (want.Store p.0 p.1)) → ((line : ℕ) → Has line op.rounds.round → P (want.Flush line)) → P want.Fence → P (put_wanted op.rounds (next_store op stage))
-  by_put store flush fence = put_by (elim (cases_wanted (rounds_wanted op.rounds (next_store op stage))) [
-    | inl none ↦ subst (λ (o : Option Want). P (want_or_none o)) (sym none) done
-    | inr some ↦ by_event op stage (λ o. P (want_or_none o)) (λ p e on w is. store p e) (λ line e has w is. flush line has) (λ e w is. fence) (λ none. none_some (sym some.1 ∙ none))
-  ])
 
 -- ---- words of the image and those behind it
 module _ (site : Ground) (ground : IsGround site) where
@@ -93,8 +70,8 @@ module _ (site : Ground) (ground : IsGround site) where
     head_near : (s : ℕ) → shape_of op ≡ shape → s < shape.segments → head_word (shape_of op) s < words_of shape
     head_near s same low = subst (λ i. i < words_of shape) (sym (head_is (shape_of op) shape s same low)) (slot_within shape s (header_word shape s) low (head_in_slot shape s))
 
-    stage_within : (stage : Stage) → SuitsStore site here op call stage v → IsWithin shape (put_wanted op.rounds (next_store op stage))
-    stage_within stage s = by_put op stage (IsWithin shape) done_within
+    stage_within : (stage : Stage) → SuitsStore site here op call stage v → IsWithin shape (event_wanted op.rounds (next_store op stage))
+    stage_within stage s = by_wanted op.rounds (next_store op stage) (IsWithin shape) done_within
         (λ p e. store_within p.0 p.1 (next_near site ground here call op v stage s.at p.0 p.1 e))
         (λ line has. flush_within line (s.storing.lines line has))
         fence_within
@@ -147,13 +124,13 @@ module _ (site : Ground) (here : Site) (call : Call) (op : DirectoryOp) (v : Vie
 
   store_small : (stage : Stage) → SuitsStore site here op call stage v → (p : ℕ × ℕ) → next_store op stage ≡ Some p → p.1 < 2 ^ 64
   store_small (Fill place value) s p e = subst (λ (q : ℕ × ℕ). q.1 < 2 ^ 64) (some_same e) s.at.small
-  store_small Filled s p e = absurd (none_some (sym e))
+  store_small Filled s p e = absurd (no_some e)
   store_small Deepen s p e = subst (λ (q : ℕ × ℕ). q.1 < 2 ^ 64) (some_same e) (let root = s.at.doubles.root in omega (arith, root))
-  store_small Deepened s p e = absurd (none_some (sym e))
+  store_small Deepened s p e = absurd (no_some e)
   store_small GoLive s p e = subst (λ (q : ℕ × ℕ). q.1 < 2 ^ 64) (some_same e) (live_small s.storing.heads.side (let version = s.at.new.split.is.version in omega (arith, version)))
-  store_small Live s p e = absurd (none_some (sym e))
+  store_small Live s p e = absurd (no_some e)
   store_small (Enter index) s p e = subst (λ (q : ℕ × ℕ). q.1 < 2 ^ 64) (some_same e) s.at.small
-  store_small Entered s p e = absurd (none_some (sym e))
+  store_small Entered s p e = absurd (no_some e)
 
   puts_in : (step : DirectoryStep) → SuitsStep site here op call step v → PutsWord (wanted_in op step)
   puts_in LoadHead s = load_puts (head_word (shape_of op) op.copied.whole.segment)
@@ -165,7 +142,7 @@ module _ (site : Ground) (here : Site) (call : Call) (op : DirectoryOp) (v : Vie
   puts_in AskPower s = record { stores = λ k y e. absurd (cc); exchanges = λ k a b e. absurd (cc) }
   puts_in LoadRoot s = load_puts root_word
   puts_in (LoadEntry place) s = load_puts (entry_word (shape_of op) (op.root - 1) (place / 2))
-  puts_in (Store stage) s = by_put op stage PutsWord done_puts (λ p e. store_puts p.0 p.1 (store_small stage s p e)) (λ line has. flush_puts line) fence_puts
+  puts_in (Store stage) s = by_wanted op.rounds (next_store op stage) PutsWord done_puts (λ p e. store_puts p.0 p.1 (store_small stage s p e)) (λ line has. flush_puts line) fence_puts
   puts_in GiveGuard s = store_puts (directory_guard (shape_of op)) 0 (omega arith)
   puts_in (Ended end) s = done_puts
 
@@ -251,21 +228,8 @@ hands_on_published site here call op v s e = published_in site here call op v op
 
 -- a stage that stands wants an event: behind the last fence of a stage without a store the next one has begun
 module _ (site : Ground) (here : Site) (call : Call) (op : DirectoryOp) (v : View) where
-  stage_wants_more : (stage : Stage) → SuitsStore site here op call stage v → want_or_none (rounds_wanted op.rounds (next_store op stage)) ≡ want.Done → ⊥
-  stage_wants_more stage s done = elim (cases_wanted (rounds_wanted op.rounds (next_store op stage))) [
-    | inl none ↦ (let e = events_end op.rounds (next_store op stage) none in s.open_round e.0 e.1)
-    | inr some ↦ by_event op stage (λ o. want_or_none o ≡ want.Done → ⊥) (λ p e on w is d. store_more p.0 p.1 d) (λ line e has w is d. flush_more line d) (λ e w is d. fence_more d)
-        (λ none. none_some (sym some.1 ∙ none)) done
-  ]
-    where
-      store_more : (i x : ℕ) → want.Store i x ≡ want.Done → ⊥
-      store_more i x d = cc
-
-      flush_more : (line : ℕ) → want.Flush line ≡ want.Done → ⊥
-      flush_more line d = cc
-
-      fence_more : want.Fence ≡ want.Done → ⊥
-      fence_more d = cc
+  stage_wants_more : (stage : Stage) → SuitsStore site here op call stage v → event_wanted op.rounds (next_store op stage) ≡ want.Done → ⊥
+  stage_wants_more stage s done = let e = events_end op.rounds (next_store op stage) (event_none op.rounds (next_store op stage) s.storing.round.few done) in s.open_round e.0 e.1
 
   off_in : (step : DirectoryStep) → SuitsStep site here op call step v → wanted_in op step ≡ want.Done → goes_on step ≡ false → outcome_at step ≡ Some off
   off_in LoadHead s done other = absurd (cc)
@@ -274,7 +238,7 @@ module _ (site : Ground) (here : Site) (call : Call) (op : DirectoryOp) (v : Vie
   off_in AskPower s done other = absurd (cc)
   off_in LoadRoot s done other = absurd (cc)
   off_in (LoadEntry place) s done other = absurd (cc)
-  off_in (Store stage) s done other = absurd (stage_wants_more stage s (sym (put_wants op.rounds (next_store op stage) s.storing.round.few) ∙ done))
+  off_in (Store stage) s done other = absurd (stage_wants_more stage s done)
   off_in GiveGuard s done other = absurd (cc)
   off_in (Ended Published) s done other = absurd (cc)
   off_in (Ended Off) s done other = refl

@@ -1,7 +1,6 @@
 -- Each event is of its kind, may be taken, and leaves a view that stands for the next state.
-use Rattle.std.proofs.Common.{◌≡◌, ◌≢◌, ℕ, ◌*◌, ◌/◌, ◌^◌, ◌<◌, ◌≤◌, ◌⊎◌, inl, inr, Bool, true, false, cond, Option, None, Some, List, [], ◌∷◌, length, refl, sym, ap, ◌∙◌, subst, arith}
-use Rattle.std.specs.Prelude.{◌==◌, slice_index}
-use Rattle.std.proofs.lemmas.Bool.{le-ltb}
+use Rattle.std.proofs.Common.{◌≡◌, ◌≢◌, ℕ, ◌*◌, ◌/◌, ◌^◌, ◌<◌, ◌≤◌, ◌⊎◌, inl, inr, Bool, true, false, cond, Option, None, Some, List, [], ◌∷◌, refl, sym, ap, ◌∙◌, subst, arith}
+use Rattle.std.specs.Prelude.{◌==◌}
 use Rattle.trace.specs.Events.{Words}
 use Rattle.op_core.specs.declared.want.Want.{Want}
 use Rattle.op_core.specs.declared.want.Want.TheVariants as want
@@ -24,14 +23,11 @@ use Rattle.world.specs.areas.Kinds.{of_directory, reads, settles, with_guard, vi
 use Rattle.world.specs.StepKinds.{StepKind, of_call, wanted_of, view_by, MayTake}
 use Rattle.world.specs.areas.Splitting.{MayPublish}
 use Rattle.world.proofs.fitting.OneHolder.{head_in_slot}
-use Rattle.rounds.specs.declared.rounds.RoundStep.{RoundStep}
-use Rattle.rounds.specs.declared.rounds.RoundStep.TheVariants.{Flushing}
-use Rattle.rounds.specs.declared.rounds.Rounds.{Rounds}
-use Rattle.rounds.specs.Steps.{rounds_stores, rounds_wanted, rounds_taken}
+use Rattle.rounds.specs.Steps.{rounds_stores, rounds_wanted, want_or_done, event_wanted, rounds_taken}
 use Rattle.rounds.specs.Events.{IsStore, IsFlush, IsFence}
-use Rattle.rounds.specs.Stands.{IsLooseOn, RoundStands}
-use Rattle.rounds.proofs.Events.{event_cases, cases_wanted}
-use Rattle.rounds.proofs.Lines.{has_at}
+use Rattle.rounds.proofs.Events.{no_some, some_same}
+use Rattle.rounds.proofs.Wanted.{by_event, event_is}
+use Rattle.rounds.proofs.Settling.{settled_firm, fence_dirty}
 use Rattle.split_op.specs.Copied.{split_head, side_head, copied_words, KeepsCopied}
 use Rattle.directory_op.specs.declared.op.DirectoryEnd.TheVariants.{Off}
 use Rattle.directory_op.specs.declared.op.Stage.{Stage}
@@ -39,56 +35,21 @@ use Rattle.directory_op.specs.declared.op.Stage.TheVariants.{Fill, Filled, Deepe
 use Rattle.directory_op.specs.declared.op.DirectoryStep.{DirectoryStep}
 use Rattle.directory_op.specs.declared.op.DirectoryStep.TheVariants.{LoadHead, LoadSideHead, TakeGuard, AskPower, LoadRoot, LoadEntry, Store, GiveGuard, Ended}
 use Rattle.directory_op.specs.declared.op.DirectoryOp.{DirectoryOp}
-use Rattle.directory_op.specs.Steps.{shape_of, next_store, stage_after, settled_to, passed, want_or_none, put_wanted, wanted_in, taken_in}
+use Rattle.directory_op.specs.Steps.{shape_of, next_store, stage_after, settled_to, passed, wanted_in, taken_in}
 use Rattle.directory_op.specs.Fits.{SuitsStore, SuitsStep, IsWaiting}
 use Rattle.directory_op.specs.DirectoryPart.{stage_kind, kind_in}
 use Rattle.directory_op.proofs.Words.{doubled, head_is, entry_from}
 use Rattle.directory_op.proofs.Sides.{head_kept, side_kept}
 use Rattle.directory_op.proofs.guard.Waiting.{copied_stays, new_with_guard, settled_with_guard}
 use Rattle.directory_op.proofs.stages.Passing.{at_rounds, behind_store, behind_flush, behind_fence, behind_last_fence}
-use Rattle.directory_op.proofs.stages.Rounding.{settled_loose, stored_not_begun, flushed_not_begun, flush_stands, fence_stands}
+use Rattle.directory_op.proofs.stages.Rounding.{stored_not_begun, flushed_not_begun, flush_stands, fence_stands}
 use Rattle.directory_op.proofs.stages.Storing.{fill_stands, deepen_stands, live_stands, enter_stands}
 use Rattle.directory_op.proofs.stages.Fencing.{filled_stands, deepened_stands, live_settled, entered_settled}
 use Rattle.directory_op.proofs.guard.Guarding.{keeps_read, root_stands, old_is, entry_stands, published_left}
 use Rattle.directory_op.proofs.Permitting.{fill_may, root_may, live_may, live_fence_may, enter_may, last_fence_may, new_dead, no_sides, fence_may}
 
-some_same : {A : Type 0} {x y : A} → Some x ≡ Some y → x ≡ y
-some_same e = cc
-
 none_some : {A : Type 0} {x : A} → Some x ≡ None → ⊥
 none_some e = cc
-
--- ---- the events of a stage, by cases
-module _ (op : DirectoryOp) (stage : Stage) (C : Option Want → Type 0)
-    (store : (p : ℕ × ℕ) → next_store op stage ≡ Some p → rounds_stores op.rounds (next_store op stage) ≡ true → (w : Want) → IsStore op.rounds (next_store op stage) w → C (Some (want.Store p.0 p.1)))
-    (flush : (line : ℕ) → rounds_wanted op.rounds (next_store op stage) ≡ Some (want.Flush line) → Has line op.rounds.round → (w : Want) → IsFlush op.rounds (next_store op stage) w → C (Some (want.Flush line)))
-    (fence : rounds_wanted op.rounds (next_store op stage) ≡ Some want.Fence → (w : Want) → IsFence op.rounds (next_store op stage) w → C (Some want.Fence)) where
-  by_want : (w : Want) → rounds_wanted op.rounds (next_store op stage) ≡ Some w → C (Some w)
-  by_want w e = elim (event_cases op.rounds (next_store op stage) w e) [
-    | inl s ↦ subst (λ (x : Want). C (Some x)) (sym s.wants) (store (s.word, s.value) s.comes s.stores w s)
-    | inr f ↦ elim f [
-      | inl f ↦ subst (λ (x : Want). C (Some x)) (sym f.wants) (flush (slice_index op.rounds.round f.number) (e ∙ ap Some f.wants) (has_at op.rounds.round f.number f.low) w f)
-      | inr f ↦ subst (λ (x : Want). C (Some x)) (sym f.wants) (fence (e ∙ ap Some f.wants) w f)
-    ]
-  ]
-
-  pub by_event : (rounds_wanted op.rounds (next_store op stage) ≢ None) → C (rounds_wanted op.rounds (next_store op stage))
-  by_event some = elim (cases_wanted (rounds_wanted op.rounds (next_store op stage))) [
-    | inl none ↦ absurd (some none)
-    | inr w ↦ subst C (sym w.1) (by_want w.0 w.1)
-  ]
-
--- all is flushed where a fence is wanted
-fence_dirty : (rounds : Rounds) (next : Option (ℕ × ℕ)) (w : Want) (v : View) → RoundStands rounds v → IsFence rounds next w → v.dirty ≡ []
-fence_dirty rounds next w v r f = elim f.step [
-  | inl e ↦ subst (λ (t : RoundStep). IsLooseOn rounds.round t v) e r.loose
-  | inr past ↦
-      let loose : IsLooseOn rounds.round (Flushing past.0) v = subst (λ (t : RoundStep). IsLooseOn rounds.round t v) past.1 r.loose in
-      absurd (over past.0 (length rounds.round) loose.0 past.2)
-]
-  where
-    over : (i n : ℕ) → i < n → n ≤ i → ⊥
-    over i n low high = omega (arith, low, high)
 
 -- ---- the kinds of flushes and fences
 kind_flush : (op : DirectoryOp) (stage : Stage) (line : ℕ) → stage_kind op stage (Some (want.Flush line)) ≡ of_call (flushes line)
@@ -140,8 +101,8 @@ module _ (site : Ground) (here : Site) (call : Call) (words : Words) (views : Li
   store_wants Entered s p e = refl
 
   stage_wants : (stage : Stage) → Stood stage → rounds_wanted op.rounds (next stage) ≢ None
-      → want_or_none (rounds_wanted op.rounds (next stage)) ≡ wanted_of shape (stage_kind op stage (rounds_wanted op.rounds (next stage)))
-  stage_wants stage s some = by_event op stage (λ o. want_or_none o ≡ wanted_of shape (stage_kind op stage o))
+      → want_or_done (rounds_wanted op.rounds (next stage)) ≡ wanted_of shape (stage_kind op stage (rounds_wanted op.rounds (next stage)))
+  stage_wants stage s some = by_event op.rounds (next_store op stage) (λ o. want_or_done o ≡ wanted_of shape (stage_kind op stage o))
       (λ p e on w is. store_wants stage s p e)
       (λ line e has w is. ap (wanted_of shape) (sym (kind_flush op stage line)))
       (λ e w is. fence_wants stage) some
@@ -149,13 +110,13 @@ module _ (site : Ground) (here : Site) (call : Call) (words : Words) (views : Li
   -- ---- what may be taken
   store_may : (stage : Stage) → Stood stage → (p : ℕ × ℕ) → next stage ≡ Some p → MayTake site (stage_kind op stage (Some (want.Store p.0 p.1))) v
   store_may (Fill place value) s p e = subst (λ (q : ℕ × ℕ). MayTake site (stage_kind op (Fill place value) (Some (want.Store q.0 q.1))) v) (some_same e) (fill_may site here call op v ground place value s)
-  store_may Filled s p e = absurd (none_some (sym e))
+  store_may Filled s p e = absurd (no_some e)
   store_may Deepen s p e = subst (λ (q : ℕ × ℕ). MayTake site (stage_kind op Deepen (Some (want.Store q.0 q.1))) v) (some_same e) (root_may site here call op v ground words knows s)
-  store_may Deepened s p e = absurd (none_some (sym e))
+  store_may Deepened s p e = absurd (no_some e)
   store_may GoLive s p e = subst (λ (q : ℕ × ℕ). MayTake site (stage_kind op GoLive (Some (want.Store q.0 q.1))) v) (some_same e) (live_may site here call op v ground publish s)
-  store_may Live s p e = absurd (none_some (sym e))
+  store_may Live s p e = absurd (no_some e)
   store_may (Enter index) s p e = subst (λ (q : ℕ × ℕ). MayTake site (stage_kind op (Enter index) (Some (want.Store q.0 q.1))) v) (some_same e) (enter_may site here call op v ground index s)
-  store_may Entered s p e = absurd (none_some (sym e))
+  store_may Entered s p e = absurd (no_some e)
 
   stage_fence_may : (stage : Stage) → Stood stage → v.dirty ≡ [] → MayTake site (stage_kind op stage (Some want.Fence)) v
   stage_fence_may (Fill place value) s dirty = fence_may site here call op v ground (new_dead site here call op v ground s.at.filling.new)
@@ -168,7 +129,7 @@ module _ (site : Ground) (here : Site) (call : Call) (words : Words) (views : Li
   stage_fence_may Entered s dirty = last_fence_may site here call op v ground s dirty
 
   stage_may : (stage : Stage) → Stood stage → rounds_wanted op.rounds (next stage) ≢ None → MayTake site (stage_kind op stage (rounds_wanted op.rounds (next stage))) v
-  stage_may stage s some = by_event op stage (λ o. MayTake site (stage_kind op stage o) v)
+  stage_may stage s some = by_event op.rounds (next_store op stage) (λ o. MayTake site (stage_kind op stage o) v)
       (λ p e on w is. store_may stage s p e)
       (λ line e has w is. subst (λ (k : StepKind). MayTake site k v) (sym (kind_flush op stage line)) (tt, tt))
       (λ e w is. stage_fence_may stage s (fence_dirty op.rounds (next stage) w v s.storing.round is)) some
@@ -180,7 +141,7 @@ module _ (site : Ground) (here : Site) (call : Call) (words : Words) (views : Li
 
     -- behind the event of a stage
     abbrev Behind : Stage → Option Want → Type 0
-    Behind stage o = StandsAt (taken_in op (Store stage) (answer_to (want_or_none o) n)) (view_by shape (stage_kind op stage o) n v)
+    Behind stage o = StandsAt (taken_in op (Store stage) (answer_to (want_or_done o) n)) (view_by shape (stage_kind op stage o) n v)
 
     to_store : (stage : Stage) (w : Want) → IsStore op.rounds (next stage) w → (u : View) → StandsAt (at_rounds op (rounds_taken op.rounds (next stage)) (stage_after op stage)) u → StandsAt (passed op stage) u
     to_store stage w is u stands = subst (λ (o : DirectoryOp). StandsAt o u) (sym (behind_store op stage w is)) stands
@@ -188,16 +149,16 @@ module _ (site : Ground) (here : Site) (call : Call) (words : Words) (views : Li
     store_stands : (stage : Stage) → Stood stage → (p : ℕ × ℕ) → next stage ≡ Some p → rounds_stores op.rounds (next stage) ≡ true → (w : Want) → IsStore op.rounds (next stage) w → Behind stage (Some (want.Store p.0 p.1))
     store_stands (Fill place value) s p e on w is = subst (λ (q : ℕ × ℕ). Behind (Fill place value) (Some (want.Store q.0 q.1))) (some_same e)
         (to_store (Fill place value) w is _ (fill_stands site ground here call op n v place value s on (stored_not_begun op.rounds (next (Fill place value)) w is)))
-    store_stands Filled s p e on w is = absurd (none_some (sym e))
+    store_stands Filled s p e on w is = absurd (no_some e)
     store_stands Deepen s p e on w is = subst (λ (q : ℕ × ℕ). Behind Deepen (Some (want.Store q.0 q.1))) (some_same e)
         (to_store Deepen w is _ (deepen_stands site ground here call op n v s on (stored_not_begun op.rounds (next Deepen) w is)))
-    store_stands Deepened s p e on w is = absurd (none_some (sym e))
+    store_stands Deepened s p e on w is = absurd (no_some e)
     store_stands GoLive s p e on w is = subst (λ (q : ℕ × ℕ). Behind GoLive (Some (want.Store q.0 q.1))) (some_same e)
         (to_store GoLive w is _ (live_stands site ground here call op n v s on (stored_not_begun op.rounds (next GoLive) w is)))
-    store_stands Live s p e on w is = absurd (none_some (sym e))
+    store_stands Live s p e on w is = absurd (no_some e)
     store_stands (Enter index) s p e on w is = subst (λ (q : ℕ × ℕ). Behind (Enter index) (Some (want.Store q.0 q.1))) (some_same e)
         (to_store (Enter index) w is _ (enter_stands site ground here call op n v index s on (stored_not_begun op.rounds (next (Enter index)) w is)))
-    store_stands Entered s p e on w is = absurd (none_some (sym e))
+    store_stands Entered s p e on w is = absurd (no_some e)
 
     stage_flush_stands : (stage : Stage) → Stood stage → (line : ℕ) → rounds_wanted op.rounds (next stage) ≡ Some (want.Flush line) → (w : Want) → IsFlush op.rounds (next stage) w → Behind stage (Some (want.Flush line))
     stage_flush_stands stage s line e w is =
@@ -225,7 +186,7 @@ module _ (site : Ground) (here : Site) (call : Call) (words : Words) (views : Li
     stage_fence_stands Entered s e w is = last_fence Entered refl w is _ (entered_settled site ground here call op n v e is.leaves s)
 
     stage_stands : (stage : Stage) → Stood stage → rounds_wanted op.rounds (next stage) ≢ None → Behind stage (rounds_wanted op.rounds (next stage))
-    stage_stands stage s some = by_event op stage (Behind stage)
+    stage_stands stage s some = by_event op.rounds (next_store op stage) (Behind stage)
         (λ p e on w is. store_stands stage s p e on w is)
         (λ line e has w is. stage_flush_stands stage s line e w is)
         (λ e w is. stage_fence_stands stage s e w is) some
@@ -265,11 +226,11 @@ module _ (site : Ground) (here : Site) (call : Call) (words : Words) (views : Li
         (record { held = refl; planned = refl; moving = refl; owed = refl; facts = λ fact no has. has; known = λ i x p has. has }) refl refl site here call op.copied refl (λ p has. inl has) k
 
   -- ---- each step
-  put_is : (stage : Stage) → Stood stage → put_wanted op.rounds (next stage) ≡ want_or_none (rounds_wanted op.rounds (next stage))
-  put_is stage s = ap (λ b. cond b want.Done (want_or_none (rounds_wanted op.rounds (next stage)))) (le-ltb 8 (length op.rounds.round) s.storing.round.few)
+  put_is : (stage : Stage) → Stood stage → event_wanted op.rounds (next stage) ≡ want_or_done (rounds_wanted op.rounds (next stage))
+  put_is stage s = event_is op.rounds (next stage) s.storing.round.few
 
   asks_some : (stage : Stage) → Stood stage → wanted_in op (Store stage) ≢ want.Done → rounds_wanted op.rounds (next stage) ≢ None
-  asks_some stage s asks none = asks (put_is stage s ∙ ap want_or_none none)
+  asks_some stage s asks none = asks (put_is stage s ∙ ap want_or_done none)
 
   pub wants_in : (step : DirectoryStep) → SuitsStep site here op call step v → wanted_in op step ≢ want.Done → wanted_in op step ≡ wanted_of shape (kind_in op step)
   wants_in LoadHead s asks = refl
@@ -313,7 +274,7 @@ module _ (site : Ground) (here : Site) (call : Call) (words : Words) (views : Li
   may_in (Store stage) s asks = stage_may stage s (asks_some stage s asks)
   may_in GiveGuard s asks = (
     has_first (Directory ∷ Whole op.copied.whole.segment ∷ Segment op.copied.whole.segment ∷ []) Directory s.live.split.areas (inl refl),
-    (λ p loose inside. settled_loose v s.settled p loose),
+    (λ p loose inside. settled_firm v s.settled p loose),
     tt,
   )
   may_in (Ended end) s asks = absurd (asks refl)

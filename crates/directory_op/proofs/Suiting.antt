@@ -1,10 +1,9 @@
 -- Each step keeps the view suitable: what the machine enters, and that it makes no change.
-use Rattle.std.proofs.Common.{◌≡◌, ◌≢◌, ℕ, Bool, true, false, Option, None, Some, List, [], refl, sym, ◌∙◌, subst}
+use Rattle.std.proofs.Common.{◌≡◌, ◌≢◌, ℕ, Bool, true, false, Option, None, Some, [], refl, sym, ◌∙◌, subst}
 use Rattle.std.specs.Prelude.{◌==◌}
 use Rattle.op_core.specs.declared.want.Want.{Want}
 use Rattle.op_core.specs.declared.want.Want.TheVariants as want
 use Rattle.image_layout.specs.Places.{Shape}
-use Rattle.frame_facts.specs.Facts.{Fact}
 use Rattle.map_model.specs.declared.call.Call.{Call}
 use Rattle.map_model.specs.declared.entry.Reply.{Reply}
 use Rattle.world.specs.Ground.{Ground, IsGround}
@@ -13,13 +12,12 @@ use Rattle.world.specs.Wants.{answer_to, word_of}
 use Rattle.world.specs.Kinds.{cuts_power}
 use Rattle.world.specs.Attempts.{HasNoMore, EntersReply}
 use Rattle.world.specs.areas.Kinds.{of_directory, with_guard}
-use Rattle.world.specs.StepKinds.{StepKind, of_call, view_by}
-use Rattle.world.specs.StepLaws.{IsPublishingStep}
+use Rattle.world.specs.StepKinds.{of_call, view_by}
 use Rattle.world.specs.areas.Splitting.{MayPublish}
 use Rattle.part.specs.Outcomes.{Outcome, reply_of}
 use Rattle.part.specs.Part.{KeepsSuits}
 use Rattle.rounds.specs.Steps.{rounds_wanted}
-use Rattle.rounds.specs.Stands.{kind_of}
+use Rattle.rounds.proofs.Silent.{IsStill, round_still, round_power}
 use Rattle.directory_op.specs.declared.op.DirectoryEnd.TheVariants.{Published, Off}
 use Rattle.directory_op.specs.declared.op.Stage.{Stage}
 use Rattle.directory_op.specs.declared.op.Stage.TheVariants.{Fill, Filled, Deepen, Deepened, GoLive, Live, Enter, Entered}
@@ -43,56 +41,25 @@ no_reply GiveGuard = refl
 no_reply (Ended Published) = refl
 no_reply (Ended Off) = refl
 
--- what a view has answered and seen is as before, and the event makes no change
-record IsStill (shape : Shape) (n : ℕ) (v : View) (kind : StepKind) : Type 0 where
-  own : (view_by shape kind n v).own ≡ v.own
-  seen : (view_by shape kind n v).seen ≡ v.seen
-  none : IsPublishingStep kind → ⊥
-
 module _ (shape : Shape) (n : ℕ) (v : View) (op : DirectoryOp) where
-  -- an event of a stage, whichever it is
-  other_still : (facts : List Fact) (o : Option Want) → IsStill shape n v (kind_of facts o)
-  other_still facts None = record { own = refl; seen = refl; none = λ p. p }
-  other_still facts (Some (want.Load i)) = record { own = refl; seen = refl; none = λ p. p }
-  other_still facts (Some (want.Store i x)) = record { own = refl; seen = refl; none = λ p. p }
-  other_still facts (Some (want.Exchange i x y)) = record { own = refl; seen = refl; none = λ p. p }
-  other_still facts (Some (want.Flush line)) = record { own = refl; seen = refl; none = λ p. p }
-  other_still facts (Some want.Fence) = record { own = refl; seen = refl; none = λ p. p }
-  other_still facts (Some want.Draw) = record { own = refl; seen = refl; none = λ p. p }
-  other_still facts (Some want.Power) = record { own = refl; seen = refl; none = λ p. p }
-  other_still facts (Some want.Done) = record { own = refl; seen = refl; none = λ p. p }
-
   live_still : (o : Option Want) → IsStill shape n v (stage_kind op GoLive o)
-  live_still None = other_still [] None
-  live_still (Some (want.Load i)) = other_still [] (Some (want.Load i))
   live_still (Some (want.Store i x)) = record { own = refl; seen = refl; none = λ p. p }
-  live_still (Some (want.Exchange i x y)) = other_still [] (Some (want.Exchange i x y))
-  live_still (Some (want.Flush line)) = other_still [] (Some (want.Flush line))
-  live_still (Some want.Fence) = other_still [] (Some want.Fence)
-  live_still (Some want.Draw) = other_still [] (Some want.Draw)
-  live_still (Some want.Power) = other_still [] (Some want.Power)
-  live_still (Some want.Done) = other_still [] (Some want.Done)
+  live_still o = round_still shape n v [] o
 
   settled_still : (o : Option Want) → IsStill shape n v (stage_kind op Live o)
-  settled_still None = other_still [] None
-  settled_still (Some (want.Load i)) = other_still [] (Some (want.Load i))
-  settled_still (Some (want.Store i x)) = other_still [] (Some (want.Store i x))
-  settled_still (Some (want.Exchange i x y)) = other_still [] (Some (want.Exchange i x y))
-  settled_still (Some (want.Flush line)) = other_still [] (Some (want.Flush line))
   settled_still (Some want.Fence) = record { own = refl; seen = refl; none = λ p. p }
-  settled_still (Some want.Draw) = other_still [] (Some want.Draw)
-  settled_still (Some want.Power) = other_still [] (Some want.Power)
-  settled_still (Some want.Done) = other_still [] (Some want.Done)
+  settled_still o = round_still shape n v [] o
 
+  -- an event of a stage, whichever it is
   stage_still : (stage : Stage) (o : Option Want) → IsStill shape n v (stage_kind op stage o)
-  stage_still (Fill place value) o = other_still [] o
-  stage_still Filled o = other_still [] o
-  stage_still Deepen o = other_still [] o
-  stage_still Deepened o = other_still [] o
+  stage_still (Fill place value) o = round_still shape n v [] o
+  stage_still Filled o = round_still shape n v [] o
+  stage_still Deepen o = round_still shape n v [] o
+  stage_still Deepened o = round_still shape n v [] o
   stage_still GoLive o = live_still o
   stage_still Live o = settled_still o
-  stage_still (Enter index) o = other_still [] o
-  stage_still Entered o = other_still (facts_of op Entered) o
+  stage_still (Enter index) o = round_still shape n v [] o
+  stage_still Entered o = round_still shape n v (facts_of op Entered) o
 
   guard_own : (won : Bool) → (with_guard won of_directory v).own ≡ v.own
   guard_own true = refl
@@ -114,48 +81,23 @@ module _ (shape : Shape) (n : ℕ) (v : View) (op : DirectoryOp) where
   step_still (Ended end) = record { own = refl; seen = refl; none = λ p. p }
 
 -- ---- the power stays on
-other_power : (facts : List Fact) (o : Option Want) → kind_of facts o ≢ of_call cuts_power
-other_power facts None e = cc
-other_power facts (Some (want.Load i)) e = cc
-other_power facts (Some (want.Store i x)) e = cc
-other_power facts (Some (want.Exchange i x y)) e = cc
-other_power facts (Some (want.Flush line)) e = cc
-other_power facts (Some want.Fence) e = cc
-other_power facts (Some want.Draw) e = cc
-other_power facts (Some want.Power) e = cc
-other_power facts (Some want.Done) e = cc
-
 live_power : (op : DirectoryOp) (o : Option Want) → stage_kind op GoLive o ≢ of_call cuts_power
 live_power op (Some (want.Store i x)) e = cc
-live_power op None e = cc
-live_power op (Some (want.Load i)) e = cc
-live_power op (Some (want.Exchange i x y)) e = cc
-live_power op (Some (want.Flush line)) e = cc
-live_power op (Some want.Fence) e = cc
-live_power op (Some want.Draw) e = cc
-live_power op (Some want.Power) e = cc
-live_power op (Some want.Done) e = cc
+live_power op o e = round_power [] o e
 
 settled_power : (op : DirectoryOp) (o : Option Want) → stage_kind op Live o ≢ of_call cuts_power
 settled_power op (Some want.Fence) e = cc
-settled_power op None e = cc
-settled_power op (Some (want.Load i)) e = cc
-settled_power op (Some (want.Store i x)) e = cc
-settled_power op (Some (want.Exchange i x y)) e = cc
-settled_power op (Some (want.Flush line)) e = cc
-settled_power op (Some want.Draw) e = cc
-settled_power op (Some want.Power) e = cc
-settled_power op (Some want.Done) e = cc
+settled_power op o e = round_power [] o e
 
 stage_power : (op : DirectoryOp) (stage : Stage) (o : Option Want) → stage_kind op stage o ≢ of_call cuts_power
-stage_power op (Fill place value) o = other_power [] o
-stage_power op Filled o = other_power [] o
-stage_power op Deepen o = other_power [] o
-stage_power op Deepened o = other_power [] o
+stage_power op (Fill place value) o = round_power [] o
+stage_power op Filled o = round_power [] o
+stage_power op Deepen o = round_power [] o
+stage_power op Deepened o = round_power [] o
 stage_power op GoLive o = live_power op o
 stage_power op Live o = settled_power op o
-stage_power op (Enter index) o = other_power [] o
-stage_power op Entered o = other_power (facts_of op Entered) o
+stage_power op (Enter index) o = round_power [] o
+stage_power op Entered o = round_power (facts_of op Entered) o
 
 kind_power : (op : DirectoryOp) (step : DirectoryStep) → kind_in op step ≢ of_call cuts_power
 kind_power op LoadHead e = cc

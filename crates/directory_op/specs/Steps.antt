@@ -1,6 +1,6 @@
 -- What the machine wants, and what an answer makes of it: the doubling of the directory, the store that makes the side live, and the entries
 -- that name it.
-use Rattle.std.specs.Prelude.{ℕ, ◌+◌, ◌-◌, ◌/◌, ◌%◌, ◌==◌, nat_le, nat_lt, Bool, true, false, Option, None, Some, length, if◌then◌else◌}
+use Rattle.std.specs.Prelude.{ℕ, ◌+◌, ◌-◌, ◌/◌, ◌%◌, ◌==◌, nat_le, nat_lt, Bool, true, false, Option, None, Some, if◌then◌else◌}
 use Rattle.segment_head.specs.HeadWord.{depth_in}
 use Rattle.image_layout.specs.Places.{Shape, root_word}
 use Rattle.image_layout.specs.Volatile.{directory_guard}
@@ -9,9 +9,7 @@ use Rattle.op_core.specs.declared.want.Want.TheVariants as want
 use Rattle.op_core.specs.declared.want.Ans.{Ans}
 use Rattle.op_core.specs.declared.want.Ans.TheVariants.{Value, Won, Lost, Passed}
 use Rattle.way.specs.Ways.{head_word}
-use Rattle.whole_segment.specs.Rounds.{most_lines}
-use Rattle.rounds.specs.declared.rounds.Rounds.{Rounds}
-use Rattle.rounds.specs.Steps.{begun, rounds_stores, rounds_wanted, rounds_taken}
+use Rattle.rounds.specs.Steps.{begun, rounds_stores, rounds_wanted, event_wanted, rounds_taken}
 use Rattle.split_op.specs.declared.copied.Copied.{Copied}
 use Rattle.directory_op.specs.declared.op.DirectoryEnd.{DirectoryEnd}
 use Rattle.directory_op.specs.declared.op.DirectoryEnd.TheVariants.{Published, Off}
@@ -64,14 +62,6 @@ settled_to op Entered = GiveGuard
 settled_to op same = Store same
 
 -- ---- what is wanted
-abbrev pub want_or_none : Option Want → Want
-want_or_none (Some wanted) = wanted
-want_or_none None = want.Done
-
--- the event of the rounds, which have eight lines at the most
-abbrev pub put_wanted : Rounds → Option (ℕ × ℕ) → Want
-put_wanted rounds next = if nat_lt most_lines (length rounds.round) then want.Done else want_or_none (rounds_wanted rounds next)
-
 abbrev pub wanted_in : DirectoryOp → DirectoryStep → Want
 wanted_in op LoadHead = want.Load (head_word (shape_of op) op.copied.whole.segment)
 wanted_in op LoadSideHead = want.Load (head_word (shape_of op) op.copied.side)
@@ -79,7 +69,7 @@ wanted_in op TakeGuard = want.Exchange (directory_guard (shape_of op)) 0 op.copi
 wanted_in op AskPower = want.Power
 wanted_in op LoadRoot = want.Load root_word
 wanted_in op (LoadEntry place) = want.Load (entry_word (shape_of op) (op.root - 1) (place / 2))
-wanted_in op (Store stage) = put_wanted op.rounds (next_store op stage)
+wanted_in op (Store stage) = event_wanted op.rounds (next_store op stage)
 wanted_in op GiveGuard = want.Store (directory_guard (shape_of op)) 0
 wanted_in op (Ended end) = want.Done
 

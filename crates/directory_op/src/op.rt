@@ -2,7 +2,7 @@
 
 ghost use Rattle.std.specs.Prelude.{◌≡◌, ◌↔◌, IsTrue};
 ghost use Rattle.op_core.specs.declared.want.Want.TheVariants as want;
-ghost use Rattle.directory_op.specs.Steps.{directed, next_store, stage_after, settled_to, wanted, taken, power_step, with_root, passed, put_wanted, end_of};
+ghost use Rattle.directory_op.specs.Steps.{directed, next_store, stage_after, settled_to, wanted, taken, power_step, with_root, passed, end_of};
 ghost use Rattle.directory_op.specs.DirectoryPart.{goes_on};
 
 use crate::places::{entries, entry_word, live_head, side_first, side_last};
@@ -12,7 +12,6 @@ use rounds::Rounds;
 use segment_head::word::depth_of;
 use split_op::Copied;
 use way::head_word;
-use whole_segment::MOST_LINES;
 
 /// How it ends.
 #[derive(Clone, Copy, Debug, PartialEq, Eq)]
@@ -229,19 +228,6 @@ fn power_step(value: u64) -> DirectoryStep
     }
 }
 
-/// The event of the rounds, where this store comes next, or none does.
-fn put_want(rounds: &Rounds, next: Option<(u64, u64)>) -> Want
-    ensures { result ≡ put_wanted rounds.now next }
-{
-    if rounds.round.count() > MOST_LINES {
-        return Want::Done;
-    }
-    match rounds.want(next) {
-        Some(want) => want,
-        None => Want::Done,
-    }
-}
-
 impl Machine for DirectoryOp {
     ghost wanted = { wanted };
 
@@ -261,7 +247,7 @@ impl Machine for DirectoryOp {
             DirectoryStep::LoadEntry(place) => {
                 Want::Load(entry_word(geometry, self.root.saturating_sub(1), place / 2))
             }
-            DirectoryStep::Store(stage) => put_want(&self.rounds, self.next_store(stage)),
+            DirectoryStep::Store(stage) => self.rounds.event(self.next_store(stage)),
             DirectoryStep::GiveGuard => Want::Store(geometry.directory_guard(), 0),
             DirectoryStep::Ended(_) => Want::Done,
         }

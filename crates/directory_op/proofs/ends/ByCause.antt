@@ -19,6 +19,7 @@ use Rattle.world.proofs.stepping.Answers.{is_answer}
 use Rattle.part.specs.Doings.{Doings}
 use Rattle.part.specs.Outcomes.{Outcome, again, off}
 use Rattle.part.specs.Splits.{HasSplitCause, EndsBySplitCause}
+use Rattle.rounds.proofs.Wanted.{asked}
 use Rattle.directory_op.specs.declared.op.DirectoryEnd.TheVariants.{Published, Off}
 use Rattle.directory_op.specs.declared.op.Stage.TheVariants.{Fill}
 use Rattle.directory_op.specs.declared.op.DirectoryStep.{DirectoryStep}
@@ -29,7 +30,6 @@ use Rattle.directory_op.specs.Fits.{SuitsStep}
 use Rattle.directory_op.specs.DirectoryPart.{outcome_at, goes_on, directory_part, segment_of}
 use Rattle.directory_op.proofs.Plain.{ends_off}
 use Rattle.directory_op.proofs.guard.Guarding.{root_within}
-use Rattle.directory_op.proofs.ends.Falling.{put_few, round_passes}
 use Rattle.directory_op.proofs.ends.Onward.{passed_goes, root_none}
 
 none_some : {A : Type 0} {x : A} → None ≡ Some x → ⊥
@@ -74,8 +74,8 @@ module _ (site : Ground) (here : Site) (call : Call) (words : Words) (views : Li
   caused_in (LoadEntry place) s asks = none_caused (LoadEntry place) (Store (Fill place (found (LoadEntry place)))) refl
   caused_in (Store stage) s asks =
       let a : Ans = answer_to (wanted_in op (Store stage)) (found (Store stage)) in
-      let put = put_few op.rounds (next_store op stage) a (is_answer (wanted_in op (Store stage)) (found (Store stage)) asks) in
-      subst (λ (x : Ans). Caused (Store stage) (taken_in op (Store stage) x).step) (sym (round_passes op.rounds (next_store op stage) a put.1)) (none_caused (Store stage) (passed op stage).step (passed_goes op stage).none)
+      let q = asked op.rounds (next_store op stage) a (is_answer (wanted_in op (Store stage)) (found (Store stage)) asks) in
+      subst (λ (x : Ans). Caused (Store stage) (taken_in op (Store stage) x).step) (sym q.passed) (none_caused (Store stage) (passed op stage).step (passed_goes op stage).none)
   caused_in GiveGuard s asks = none_caused GiveGuard (Ended Published) refl
   caused_in (Ended end) s asks = absurd (asks refl)
 

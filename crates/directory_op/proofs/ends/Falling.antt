@@ -1,23 +1,21 @@
 -- Fewer events are left after each, but while the guard is waited for.
-use Rattle.std.proofs.Common.{◌≡◌, ◌≢◌, ℕ, suc, ◌+◌, ◌-◌, ◌*◌, ◌%◌, ◌^◌, ◌<◌, ◌≤◌, ◌⊎◌, inl, inr, Bool, true, false, cond, Option, None, Some, List, length, refl, sym, ap, subst, arith}
-use Rattle.std.specs.Prelude.{◌==◌, min, slice_index}
+use Rattle.std.proofs.Common.{◌≡◌, ◌≢◌, ℕ, suc, ◌+◌, ◌-◌, ◌*◌, ◌%◌, ◌^◌, ◌<◌, ◌≤◌, ◌⊎◌, inl, inr, Bool, true, false, cond, Option, None, Some, length, refl, sym, ap, subst, arith}
+use Rattle.std.specs.Prelude.{◌==◌, min}
 use Rattle.std.proofs.Math.Pow.{pow_mono}
 use Rattle.std.proofs.lemmas.Bool.{cases_Bool, cases_lt, lt-ltb, le-ltb, le-leb, lt-leb}
 use Rattle.op_core.specs.declared.want.Want.{Want}
-use Rattle.op_core.specs.declared.want.Want.TheVariants as want
 use Rattle.op_core.specs.declared.want.Ans.{Ans}
 use Rattle.op_core.specs.declared.want.Ans.TheVariants.{Value, Won, Lost, Passed}
 use Rattle.op_core.specs.Answers.{IsAnswer}
 use Rattle.segment_head.specs.HeadWord.{depth_in, pattern_in}
 use Rattle.image_layout.specs.Places.{Shape, most_depth}
 use Rattle.part.specs.Part.{EndsInTime}
-use Rattle.rounds.specs.declared.rounds.RoundStep.{RoundStep}
-use Rattle.rounds.specs.declared.rounds.RoundStep.TheVariants.{Storing, Flushing, Fencing}
 use Rattle.rounds.specs.declared.rounds.Rounds.{Rounds}
 use Rattle.rounds.specs.Steps.{begun, rounds_stores, rounds_wanted, rounds_taken}
-use Rattle.rounds.specs.Left.{round_left, left_at, rounds_left}
-use Rattle.rounds.proofs.Events.{event_cases, events_end, cases_wanted, none_stored}
-use Rattle.rounds.proofs.Falling.{rounds_fall}
+use Rattle.rounds.specs.Left.{left_at, rounds_left}
+use Rattle.rounds.proofs.Events.{events_end, cases_wanted, none_stored}
+use Rattle.rounds.proofs.Wanted.{asked, asked_some}
+use Rattle.rounds.proofs.Falling.{step_most, rounds_fall}
 use Rattle.directory_op.specs.declared.op.DirectoryEnd.TheVariants.{Off}
 use Rattle.directory_op.specs.declared.op.Stage.{Stage}
 use Rattle.directory_op.specs.declared.op.Stage.TheVariants.{Fill, Filled, Deepen, Deepened, GoLive, Live, Enter, Entered}
@@ -25,7 +23,7 @@ use Rattle.directory_op.specs.declared.op.DirectoryStep.{DirectoryStep}
 use Rattle.directory_op.specs.declared.op.DirectoryStep.TheVariants.{LoadHead, LoadSideHead, TakeGuard, AskPower, LoadRoot, LoadEntry, Store, GiveGuard, Ended}
 use Rattle.directory_op.specs.declared.op.DirectoryOp.{DirectoryOp}
 use Rattle.directory_op.specs.Places.{entries_of, run_of, side_first, side_last}
-use Rattle.directory_op.specs.Steps.{shape_of, next_store, fill_on, stage_after, settled_to, settled_by, passed_to, passed, want_or_none, put_wanted, wanted_in, power_step, rooted, is_over, with_root, taken_in}
+use Rattle.directory_op.specs.Steps.{shape_of, next_store, fill_on, stage_after, settled_to, settled_by, passed_to, passed, wanted_in, power_step, rooted, is_over, with_root, taken_in}
 use Rattle.directory_op.specs.Left.{most_entries, deepest_entries, after_filled, fill_left, stage_left, guarded_with, guarded_left, few_left, step_left, left_of, is_trying}
 use Rattle.directory_op.specs.DirectoryPart.{goes_on, directory_part}
 
@@ -43,13 +41,13 @@ few_entries depth = elim (cases_lt most_depth depth) [
 least_depth : (root depth : ℕ) → root ≤ depth → root ≤ most_depth → root ≤ min depth most_depth
 least_depth root depth low most = omega (arith, low, most)
 
-entries_within : (root : ℕ) (shape : Shape) → root ≤ shape.depth → entries_of root ≤ deepest_entries shape
+pub entries_within : (root : ℕ) (shape : Shape) → root ≤ shape.depth → entries_of root ≤ deepest_entries shape
 entries_within root shape within = elim (cases_lt most_depth root) [
   | inl high ↦ (let e = ap (λ b. cond b (2 ^ root) 0) (lt-leb root most_depth high) in omega (arith, e))
   | inr low ↦ (let e = ap (λ b. cond b (2 ^ root) 0) (le-leb root most_depth low) in let most = pow_mono {i = root} {j = min shape.depth most_depth} (least_depth root shape.depth within low) in omega (arith, e, most))
 ]
 
-few_deepest : (shape : Shape) → deepest_entries shape ≤ most_entries
+pub few_deepest : (shape : Shape) → deepest_entries shape ≤ most_entries
 few_deepest shape = pow_mono {i = min shape.depth most_depth} {j = most_depth} (by shape.depth)
   where
     by : (depth : ℕ) → min depth most_depth ≤ most_depth
@@ -75,36 +73,6 @@ side_over all place l m law = omega (arith, law)
 
 below_all : (a b c : ℕ) → a < min b c - 1 → a < c
 below_all a b c low = omega (arith, low)
-
--- ---- what is answered to an event of the rounds
-store_passes : (i x : ℕ) (a : Ans) → IsAnswer (want.Store i x) a → a ≡ Passed
-store_passes i x Passed e = refl
-store_passes i x a e = absurd e
-
-flush_passes : (l : ℕ) (a : Ans) → IsAnswer (want.Flush l) a → a ≡ Passed
-flush_passes l Passed e = refl
-flush_passes l a e = absurd e
-
-fence_passes : (a : Ans) → IsAnswer want.Fence a → a ≡ Passed
-fence_passes Passed e = refl
-fence_passes a e = absurd e
-
-none_passes : (a : Ans) → IsAnswer want.Done a → ⊥
-none_passes a e = e
-
-pub round_passes : (rounds : Rounds) (next : Option (ℕ × ℕ)) (a : Ans) → IsAnswer (want_or_none (rounds_wanted rounds next)) a → a ≡ Passed
-round_passes rounds next a i = elim (cases_wanted (rounds_wanted rounds next)) [
-  | inl none ↦ absurd (none_passes a (subst (λ (o : Option Want). IsAnswer (want_or_none o) a) none i))
-  | inr some ↦
-      let i : IsAnswer some.0 a = subst (λ (o : Option Want). IsAnswer (want_or_none o) a) some.1 i in
-      elim (event_cases rounds next some.0 some.1) [
-        | inl s ↦ store_passes s.word s.value a (subst (λ (w : Want). IsAnswer w a) s.wants i)
-        | inr f ↦ elim f [
-          | inl f ↦ flush_passes (slice_index rounds.round f.number) a (subst (λ (w : Want). IsAnswer w a) f.wants i)
-          | inr f ↦ fence_passes a (subst (λ (w : Want). IsAnswer w a) f.wants i)
-        ]
-      ]
-]
 
 -- ---- what is left whether or not a round has more lines than it may have
 abbrev raw_left : DirectoryOp → DirectoryStep → ℕ
@@ -137,16 +105,6 @@ below_raw op (LoadEntry place) = let low = few_below op (fill_left op place) in 
 below_raw op (Store stage) = few_below op (stage_left op stage)
 below_raw op GiveGuard = omega arith
 below_raw op (Ended end) = omega arith
-
--- an event is wanted of a round that has no more lines
-pub put_few : (rounds : Rounds) (next : Option (ℕ × ℕ)) (a : Ans) → IsAnswer (put_wanted rounds next) a → (length rounds.round ≤ 8) × IsAnswer (want_or_none (rounds_wanted rounds next)) a
-put_few rounds next a i = elim (cases_lt 8 (length rounds.round)) [
-  | inl many ↦ absurd (none_passes a (subst (λ b. IsAnswer (cond b want.Done (want_or_none (rounds_wanted rounds next))) a) (lt-ltb 8 (length rounds.round) many) i))
-  | inr few ↦ (few, subst (λ b. IsAnswer (cond b want.Done (want_or_none (rounds_wanted rounds next))) a) (le-ltb 8 (length rounds.round) few) i)
-]
-
-pub put_wants : (rounds : Rounds) (next : Option (ℕ × ℕ)) → length rounds.round ≤ 8 → put_wanted rounds next ≡ want_or_none (rounds_wanted rounds next)
-put_wants rounds next few = ap (λ b. cond b want.Done (want_or_none (rounds_wanted rounds next))) (le-ltb 8 (length rounds.round) few)
 
 -- ---- the stores of a stage
 module _ (op : DirectoryOp) where
@@ -266,10 +224,6 @@ module _ (op : DirectoryOp) where
     | inr off ↦ subst (λ b. FallsOrWaits AskPower (record op { step = cond b TakeGuard (Ended Off) })) (sym off) (inl (omega arith))
   ]
 
-  no_answer : (want : Option Want) (a : Ans) → want ≡ None → IsAnswer (want_or_none want) a → ⊥
-  no_answer None a e i = i
-  no_answer (Some want) a e i = none_some e
-
   falls_in : (step : DirectoryStep) (a : Ans) → IsAnswer (wanted_in op step) a → FallsOrWaits step (taken_in op step a)
   falls_in LoadHead (Value n) i = inl (omega arith)
   falls_in LoadHead a i = absurd i
@@ -285,41 +239,27 @@ module _ (op : DirectoryOp) where
   falls_in (LoadEntry place) (Value n) i = inl (omega arith)
   falls_in (LoadEntry place) a i = absurd i
   falls_in (Store stage) a i =
-      let put = put_few op.rounds (next_store op stage) a i in
-      let fewer = pass_falls stage (λ none. no_answer (rounds_wanted op.rounds (next_store op stage)) a none put.1) in
+      let q = asked op.rounds (next_store op stage) a i in
+      let fewer = pass_falls stage (asked_some op.rounds (next_store op stage) a q) in
       let below = below_raw (passed op stage) (passed op stage).step in
-      let now = few_is op (stage_left op stage) put.0 in
-      subst (λ (x : Ans). FallsOrWaits (Store stage) (taken_in op (Store stage) x)) (sym (round_passes op.rounds (next_store op stage) a put.1))
+      let now = few_is op (stage_left op stage) q.few in
+      subst (λ (x : Ans). FallsOrWaits (Store stage) (taken_in op (Store stage) x)) (sym q.passed)
       (inl (omega (arith, fewer, below, now)))
   falls_in GiveGuard Passed i = inl (omega arith)
   falls_in GiveGuard a i = absurd i
   falls_in (Ended end) a i = absurd i
 
 -- ---- at most so many
-left_most : (lines : List ℕ) → round_left lines ≤ length lines + 1
-left_most lines = elim (cases_lt 0 (length lines)) [
-  | inl some ↦ (let e = ap (λ b. cond b (length lines + 1) 0) (lt-ltb 0 (length lines) some) in omega (arith, e))
-  | inr none ↦ (let e = ap (λ b. cond b (length lines + 1) 0) (le-ltb 0 (length lines) none) in omega (arith, e))
-]
-
-few_lines : (rounds : Rounds) → length rounds.round ≤ 8 → left_at rounds.round rounds.step ≤ 9
-few_lines rounds few = few_at rounds.step
-  where
-    few_at : (step : RoundStep) → left_at rounds.round step ≤ 9
-    few_at Storing = let most = left_most rounds.round in omega (arith, most, few)
-    few_at (Flushing i) = omega (arith, few)
-    few_at Fencing = omega arith
-
 module _ (op : DirectoryOp) (few : length op.rounds.round ≤ 8) where
   stage_most : (stage : Stage) → stage_left op stage ≤ guarded_with most_entries + 8
-  stage_most (Fill place value) = let lines = few_lines op.rounds few in let all = few_entries op.root in omega (arith, lines, all)
-  stage_most Filled = let lines = few_lines op.rounds few in let all = few_entries op.root in omega (arith, lines, all)
-  stage_most Deepen = let lines = few_lines op.rounds few in let all = few_entries op.root in omega (arith, lines, all)
-  stage_most Deepened = let lines = few_lines op.rounds few in let all = few_entries op.root in omega (arith, lines, all)
-  stage_most GoLive = let lines = few_lines op.rounds few in let all = few_entries op.root in omega (arith, lines, all)
-  stage_most Live = let lines = few_lines op.rounds few in let all = few_entries op.root in omega (arith, lines, all)
-  stage_most (Enter index) = let lines = few_lines op.rounds few in let all = few_entries op.root in omega (arith, lines, all)
-  stage_most Entered = let lines = few_lines op.rounds few in omega (arith, lines)
+  stage_most (Fill place value) = let lines = step_most op.rounds.round few op.rounds.step in let all = few_entries op.root in omega (arith, lines, all)
+  stage_most Filled = let lines = step_most op.rounds.round few op.rounds.step in let all = few_entries op.root in omega (arith, lines, all)
+  stage_most Deepen = let lines = step_most op.rounds.round few op.rounds.step in let all = few_entries op.root in omega (arith, lines, all)
+  stage_most Deepened = let lines = step_most op.rounds.round few op.rounds.step in let all = few_entries op.root in omega (arith, lines, all)
+  stage_most GoLive = let lines = step_most op.rounds.round few op.rounds.step in let all = few_entries op.root in omega (arith, lines, all)
+  stage_most Live = let lines = step_most op.rounds.round few op.rounds.step in let all = few_entries op.root in omega (arith, lines, all)
+  stage_most (Enter index) = let lines = step_most op.rounds.round few op.rounds.step in let all = few_entries op.root in omega (arith, lines, all)
+  stage_most Entered = let lines = step_most op.rounds.round few op.rounds.step in omega (arith, lines)
 
 -- at most so many of a round that has no more lines than it may have, and else none
 few_most : (op : DirectoryOp) (left most : ℕ) → (length op.rounds.round ≤ 8 → left ≤ most) → few_left op left ≤ most

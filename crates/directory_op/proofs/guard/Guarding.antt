@@ -24,7 +24,7 @@ use Rattle.world.proofs.moving.Holding.{out_of_directory_has, under_in_slot}
 use Rattle.world.proofs.moving.Known.{guard_in_slot, possible_now}
 use Rattle.rounds.specs.Steps.{begun}
 use Rattle.rounds.specs.Stands.{RoundStands, IsSettled}
-use Rattle.rounds.proofs.Settling.{rounds_settle}
+use Rattle.rounds.proofs.Settling.{settled_firm, round_same, rounds_settle}
 use Rattle.split_op.specs.Copied.{split_head, copied_words}
 use Rattle.directory_op.specs.declared.op.DirectoryEnd.TheVariants.{Off}
 use Rattle.directory_op.specs.declared.op.Stage.TheVariants.{Fill, GoLive}
@@ -36,8 +36,7 @@ use Rattle.directory_op.specs.Fits.{side_depth, side_pattern, IsGuarding, IsDire
 use Rattle.directory_op.proofs.Words.{doubled, entry_is, slot_behind}
 use Rattle.directory_op.proofs.Keeping.{Keeps, locks_stay, kept_in_slot, new_stays}
 use Rattle.directory_op.proofs.Sides.{split_state, split_depth, head_kept}
-use Rattle.directory_op.proofs.stages.Staying.{round_same, filling_stays}
-use Rattle.directory_op.proofs.stages.Rounding.{settled_loose}
+use Rattle.directory_op.proofs.stages.Staying.{filling_stays}
 
 some_none : {A : Type 0} {x : A} → Some x ≡ None → ⊥
 some_none e = cc
@@ -109,7 +108,7 @@ module _ (site : Ground) (here : Site) (call : Call) (words : Words) (views : Li
       storing = record {
         heads = record { head = s.heads.head; side = s.heads.side };
         round = begins rooted_view settled_read;
-        loose = λ p loose. absurd (settled_loose rooted_view settled_read p loose);
+        loose = λ p loose. absurd (settled_firm rooted_view settled_read p loose);
         lines = λ line has. absurd has;
       };
     }
@@ -123,7 +122,7 @@ module _ (site : Ground) (here : Site) (call : Call) (words : Words) (views : Li
       storing = record {
         heads = record { head = s.heads.head; side = s.heads.side };
         round = begins rooted_view settled_read;
-        loose = λ p loose. absurd (settled_loose rooted_view settled_read p loose);
+        loose = λ p loose. absurd (settled_firm rooted_view settled_read p loose);
         lines = λ line has. absurd has;
       };
       at = record {
@@ -218,7 +217,7 @@ module _ (site : Ground) (here : Site) (call : Call) (words : Words) (views : Li
         (not_directory (first_segment shape) i (front_far shape) far)
 
     none_loose : (p : ℕ × ℕ) → IsLoose left p → ⊥
-    none_loose p loose = settled_loose v s.settled p loose
+    none_loose p loose = settled_firm v s.settled p loose
 
     kept_word : (i : ℕ) → IsKeptWord shape op.copied.whole.segment i → KnowsWord left i (copied_words op.copied i)
     kept_word i is = record {

@@ -17,6 +17,7 @@ use Rattle.world.specs.Wants.{answer_to, word_of}
 use Rattle.world.specs.areas.Areas.{Area, Directory}
 use Rattle.world.proofs.stepping.Answers.{is_answer}
 use Rattle.split_op.specs.Copied.{KeepsCopied}
+use Rattle.rounds.proofs.Wanted.{asked}
 use Rattle.directory_op.specs.declared.op.DirectoryEnd.TheVariants.{Off}
 use Rattle.directory_op.specs.declared.op.DirectoryStep.{DirectoryStep}
 use Rattle.directory_op.specs.declared.op.DirectoryStep.TheVariants.{LoadHead, LoadSideHead, TakeGuard, AskPower, LoadRoot, LoadEntry, Store, GiveGuard, Ended}
@@ -25,7 +26,7 @@ use Rattle.directory_op.specs.Steps.{shape_of, next_store, passed, wanted_in, ta
 use Rattle.directory_op.specs.Left.{guarded_left, step_left, left_of, is_trying, alone_in, left_alone}
 use Rattle.directory_op.specs.Fits.{SuitsStep}
 use Rattle.directory_op.specs.DirectoryPart.{WinsWhereFree}
-use Rattle.directory_op.proofs.ends.Falling.{put_few, round_passes, ends_in_time}
+use Rattle.directory_op.proofs.ends.Falling.{ends_in_time}
 use Rattle.directory_op.proofs.ends.Onward.{passed_goes, root_alone}
 
 no_true : false ≡ true → ⊥
@@ -54,7 +55,7 @@ module _ (op : DirectoryOp) where
   alone_same (LoadEntry place) (Value n) i other = refl
   alone_same (LoadEntry place) a i other = absurd i
   alone_same (Store stage) a i other =
-      subst (λ (x : Ans). left_alone (taken_in op (Store stage) x) ≡ left_of (taken_in op (Store stage) x)) (sym (round_passes op.rounds (next_store op stage) a (put_few op.rounds (next_store op stage) a i).1))
+      subst (λ (x : Ans). left_alone (taken_in op (Store stage) x) ≡ left_of (taken_in op (Store stage) x)) (sym (asked op.rounds (next_store op stage) a i).passed)
       ((passed_goes op stage).alone (passed op stage))
   alone_same GiveGuard Passed i other = refl
   alone_same GiveGuard a i other = absurd i

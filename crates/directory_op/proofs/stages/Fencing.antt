@@ -18,6 +18,7 @@ use Rattle.world.proofs.fitting.Filtered.{has_filtered}
 use Rattle.rounds.specs.declared.rounds.Rounds.{Rounds}
 use Rattle.rounds.specs.Steps.{begun, rounds_wanted, rounds_taken}
 use Rattle.rounds.specs.Stands.{RoundStands}
+use Rattle.rounds.proofs.Settling.{settled_firm, round_same, round_behind, begun_settled}
 use Rattle.split_op.specs.Copied.{side_head}
 use Rattle.directory_op.specs.declared.op.Stage.TheVariants.{Filled, Deepen, Deepened, GoLive, Live, Enter, Entered}
 use Rattle.directory_op.specs.declared.op.DirectoryStep.{DirectoryStep}
@@ -29,8 +30,8 @@ use Rattle.directory_op.specs.DirectoryPart.{facts_of}
 use Rattle.directory_op.proofs.Words.{not_in_slot, other_slot, before_slot}
 use Rattle.directory_op.proofs.Keeping.{Keeps, kept_in_slot, split_stays, live_stays, deep_stays}
 use Rattle.directory_op.proofs.Sides.{split_depth, split_pattern, side_deep, side_region, is_of_side, first_of, near_of, first_last}
-use Rattle.directory_op.proofs.stages.Staying.{round_same, filling_stays, rooted_stays}
-use Rattle.directory_op.proofs.stages.Rounding.{round_behind, begun_settled, settled_loose, storing_behind, keeps_fenced, round_fenced}
+use Rattle.directory_op.proofs.stages.Staying.{filling_stays, rooted_stays}
+use Rattle.directory_op.proofs.stages.Rounding.{storing_behind, keeps_fenced, round_fenced}
 
 some_none : {A : Type 0} {x : A} → Some x ≡ None → ⊥
 some_none e = cc
@@ -65,7 +66,7 @@ module _ (site : Ground) (ground : IsGround site) (here : Site) (call : Call) (o
       filled_stands =
           let round = round_fenced site ground here call op v Filled s n is in
           record {
-            storing = storing_behind site ground here call op v Filled s fenced Deepen (Store Deepen) round (settled_loose fenced (begun_settled rounds fenced over round));
+            storing = storing_behind site ground here call op v Filled s fenced Deepen (Store Deepen) round (settled_firm fenced (begun_settled rounds fenced over round));
             open_round = λ e none. some_none none;
             at = filling_stays site here call op rounds (Store Deepen) v fenced (keeps_fenced site ground here call op v Filled s n is) refl (λ fact has. has) (2 ^ op.root) s.at;
           }
@@ -79,7 +80,7 @@ module _ (site : Ground) (ground : IsGround site) (here : Site) (call : Call) (o
       deepened_stands =
           let round = round_fenced site ground here call op v Deepened s n is in
           record {
-            storing = storing_behind site ground here call op v Deepened s rooted GoLive (Store GoLive) round (settled_loose rooted (begun_settled rounds rooted over round));
+            storing = storing_behind site ground here call op v Deepened s rooted GoLive (Store GoLive) round (settled_firm rooted (begun_settled rounds rooted over round));
             open_round = λ e none. some_none none;
             at = rooted_stays site here call op rounds (Store GoLive) v rooted (keeps_fenced site ground here call op v Deepened s n is) refl (λ fact has. has) s.at;
           }
@@ -132,7 +133,7 @@ module _ (site : Ground) (ground : IsGround site) (here : Site) (call : Call) (o
           let split = s.at.split in
           let upto = first_last site ground here call op.copied split.is split.whole op.root s.at.root.deeper not_deep in
           record {
-            storing = storing_behind site ground here call op v Live s live (Enter first) (Store (Enter first)) round_live (λ p loose. absurd (settled_loose live (begun_settled rounds live over round_live) p loose));
+            storing = storing_behind site ground here call op v Live s live (Enter first) (Store (Enter first)) round_live (λ p loose. absurd (settled_firm live (begun_settled rounds live over round_live) p loose));
             open_round = λ e none. some_none none;
             at = record {
               entering = record {

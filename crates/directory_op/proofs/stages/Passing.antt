@@ -1,25 +1,17 @@
 -- What an event of a stage leaves: behind a store the next step, behind a flush the stage, behind a fence the stage, or the next one where
 -- no store is to come.
-use Rattle.std.proofs.Common.{◌≡◌, ◌≢◌, ℕ, ◌+◌, inl, inr, false, cond, Option, None, Some, List, length, refl, sym, ap, ◌∙◌, subst}
-use Rattle.std.proofs.lemmas.Bool.{cases_lt, lt-ltb, le-ltb}
+use Rattle.std.proofs.Common.{◌≡◌, ◌≢◌, ℕ, false, Option, None, Some, refl, ap, ◌∙◌}
 use Rattle.op_core.specs.declared.want.Want.{Want}
 use Rattle.op_core.specs.declared.want.Want.TheVariants.{Store as StoreWord}
-use Rattle.rounds.specs.declared.rounds.RoundStep.TheVariants.{Flushing, Fencing}
 use Rattle.rounds.specs.declared.rounds.Rounds.{Rounds}
 use Rattle.rounds.specs.Steps.{at_step, begun, flushed_to, rounds_stores, rounds_wanted, rounds_taken}
 use Rattle.rounds.specs.Events.{IsStore, IsFlush, IsFence}
+use Rattle.rounds.proofs.Wanted.{flushed_wants}
 use Rattle.directory_op.specs.declared.op.Stage.{Stage}
 use Rattle.directory_op.specs.declared.op.DirectoryStep.{DirectoryStep}
 use Rattle.directory_op.specs.declared.op.DirectoryStep.TheVariants.{Store}
 use Rattle.directory_op.specs.declared.op.DirectoryOp.{DirectoryOp}
 use Rattle.directory_op.specs.Steps.{next_store, stage_after, settled_to, settled_by, passed_to, passed}
-
--- behind a flush another one is wanted, or a fence
-flushed_wants : (lines : List ℕ) (i : ℕ) (next : Option (ℕ × ℕ)) → (w : Want) × (rounds_wanted (at_step lines (flushed_to lines i)) next ≡ Some w)
-flushed_wants lines i next = elim (cases_lt (i + 1) (length lines)) [
-  | inl more ↦ subst (λ b. (w : Want) × (rounds_wanted (at_step lines (cond b (Flushing (i + 1)) Fencing)) next ≡ Some w)) (sym (lt-ltb (i + 1) (length lines) more)) (_, refl)
-  | inr last ↦ subst (λ b. (w : Want) × (rounds_wanted (at_step lines (cond b (Flushing (i + 1)) Fencing)) next ≡ Some w)) (sym (le-ltb (i + 1) (length lines) last)) (_, refl)
-]
 
 -- the state with these rounds, at a step
 abbrev pub at_rounds : DirectoryOp → Rounds → DirectoryStep → DirectoryOp

@@ -6,7 +6,6 @@ use Rattle.op_core.specs.declared.want.Want.TheVariants.{Flush, Fence}
 use Rattle.trace.specs.Events.{line_of}
 use Rattle.image_layout.specs.Places.{Shape, root_word, entry_at, words_of, first_segment, segment_words}
 use Rattle.image_layout.proofs.Areas.{entry_before}
-use Rattle.frame_facts.specs.Facts.{Fact}
 use Rattle.map_model.specs.declared.call.Call.{Call}
 use Rattle.world.specs.declared.site.Site.{Site}
 use Rattle.world.specs.Ground.{Ground, IsGround}
@@ -14,7 +13,6 @@ use Rattle.world.specs.Views.{View, Has, IsLoose}
 use Rattle.world.specs.Kinds.{flushes, view_after}
 use Rattle.world.specs.areas.Areas.{header_word}
 use Rattle.world.specs.areas.Kinds.{settles, view_then}
-use Rattle.world.specs.StepKinds.{view_by}
 use Rattle.world.proofs.basics.Seats.{flush_loose}
 use Rattle.world.proofs.moving.Known.{slot_within}
 use Rattle.world.proofs.holders.directing.Known.{front_far}
@@ -22,13 +20,14 @@ use Rattle.world.proofs.fitting.OneHolder.{head_in_slot}
 use Rattle.rounds.specs.declared.rounds.RoundStep.TheVariants.{Storing, Flushing, Fencing}
 use Rattle.rounds.specs.declared.rounds.Rounds.{Rounds}
 use Rattle.rounds.specs.Steps.{at_step, begun, rounds_wanted, rounds_taken}
-use Rattle.rounds.specs.Stands.{kind_of, RoundStands, IsSettled}
+use Rattle.rounds.specs.Stands.{RoundStands}
 use Rattle.rounds.specs.Events.{IsStore, IsFlush}
 use Rattle.trace.proofs.Listed.{has_of_contains}
 use Rattle.whole_segment.specs.Rounds.{touched}
 use Rattle.whole_segment.proofs.OneRound.{touched_has}
+use Rattle.rounds.proofs.Events.{no_some, some_same}
 use Rattle.rounds.proofs.Lines.{lines_are_stored}
-use Rattle.rounds.proofs.Settling.{rounds_settle}
+use Rattle.rounds.proofs.Settling.{round_behind}
 use Rattle.directory_op.specs.declared.op.Stage.{Stage}
 use Rattle.directory_op.specs.declared.op.Stage.TheVariants.{Fill, Filled, Deepen, Deepened, GoLive, Live, Enter, Entered}
 use Rattle.directory_op.specs.declared.op.DirectoryStep.{DirectoryStep}
@@ -55,12 +54,6 @@ front_within shape i low = by (first_segment shape) shape.segments i low
     by : (f s i : ℕ) → i < f → i < f + segment_words * s
     by f s i low = omega (arith, low)
 
-some_same : {A : Type 0} {x y : A} → Some x ≡ Some y → x ≡ y
-some_same e = cc
-
-none_some : {A : Type 0} {x : A} → None ≡ Some x → ⊥
-none_some e = cc
-
 -- behind a store a round has begun, and behind a flush it is to be fenced
 pub stored_not_begun : (rounds : Rounds) (next : Option (ℕ × ℕ)) (w : Want) → IsStore rounds next w → rounds_taken rounds next ≡ begun → ⊥
 stored_not_begun rounds next w s e =
@@ -78,21 +71,6 @@ flushed_by lines false i e = not_fencing (ap (λ (r : Rounds). r.step) e)
 
 pub flushed_not_begun : (rounds : Rounds) (next : Option (ℕ × ℕ)) (w : Want) → IsFlush rounds next w → rounds_taken rounds next ≡ begun → ⊥
 flushed_not_begun rounds next w f e = flushed_by rounds.round (nat_lt (f.number + 1) (length rounds.round)) f.number (sym f.leaves ∙ e)
-
--- ---- the rounds behind an event
-module _ (shape : Shape) (rounds : Rounds) (next : Option (ℕ × ℕ)) (n : ℕ) (v : View) (stands : RoundStands rounds v) where
-  pub round_behind : (facts : List Fact) (w : Want) → rounds_wanted rounds next ≡ Some w → RoundStands (rounds_taken rounds next) (view_by shape (kind_of facts (Some w)) n v)
-  round_behind facts w is = subst (λ (o : Option Want). RoundStands (rounds_taken rounds next) (view_by shape (kind_of facts o) n v)) is (rounds_settle.stands shape facts rounds next n v stands)
-
--- begun rounds leave nothing loose
-pub begun_settled : (rounds : Rounds) (v : View) → rounds ≡ begun → RoundStands rounds v → IsSettled v
-begun_settled rounds v is stands = rounds_settle.ends begun None v (subst (λ (r : Rounds). RoundStands r v) is stands) refl
-
-pub settled_loose : (v : View) → IsSettled v → (p : ℕ × ℕ) → IsLoose v p → ⊥
-settled_loose v settled p loose = elim loose [
-  | inl d ↦ subst (λ (l : List (ℕ × ℕ)). Has p l) settled.dirty d
-  | inr f ↦ subst (λ (l : List (ℕ × ℕ)). Has p l) settled.flushed f
-]
 
 module _ (site : Ground) (ground : IsGround site) (here : Site) (call : Call) (op : DirectoryOp) where
   -- ---- the words that are stored
@@ -119,15 +97,15 @@ module _ (site : Ground) (ground : IsGround site) (here : Site) (call : Call) (o
 
   pub next_near : (v : View) (stage : Stage) → SuitsStage site here op call stage v → (word value : ℕ) → next_store op stage ≡ Some (word, value) → word < words_of site.shape
   next_near v (Fill place x) s word value e = subst (λ (p : ℕ × ℕ). p.0 < words_of site.shape) (some_same e) (entry_near (shape_here v (Fill place x) s) op.root place s.filling.doubles.deep s.low)
-  next_near v Filled s word value e = absurd (none_some e)
+  next_near v Filled s word value e = absurd (no_some e)
   next_near v Deepen s word value e = subst (λ (p : ℕ × ℕ). p.0 < words_of site.shape) (some_same e) (root_near (shape_here v Deepen s))
-  next_near v Deepened s word value e = absurd (none_some e)
+  next_near v Deepened s word value e = absurd (no_some e)
   next_near v GoLive s word value e = subst (λ (p : ℕ × ℕ). p.0 < words_of site.shape) (some_same e)
       (subst (λ i. i < words_of site.shape) (sym (head_is op.copied.whole.site.geometry site.shape op.copied.side (shape_here v GoLive s) s.new.split.copy.slot))
       (slot_within site.shape op.copied.side (header_word site.shape op.copied.side) s.new.split.copy.slot (head_in_slot site.shape op.copied.side)))
-  next_near v Live s word value e = absurd (none_some e)
+  next_near v Live s word value e = absurd (no_some e)
   next_near v (Enter index) s word value e = subst (λ (p : ℕ × ℕ). p.0 < words_of site.shape) (some_same e) (entry_near (shape_here v (Enter index) s) op.root index s.entering.root.deep s.low)
-  next_near v Entered s word value e = absurd (none_some e)
+  next_near v Entered s word value e = absurd (no_some e)
 
   module _ (v : View) (stage : Stage) (s : SuitsStore site here op call stage v) where
     abbrev next : Option (ℕ × ℕ)

@@ -1,5 +1,5 @@
--- A stage stays, and what is loose in it, where nothing is stored.
-use Rattle.std.proofs.Common.{◌≡◌, ℕ, ◌/◌, ◌^◌, List, ◌∙◌, subst}
+-- A stage stays where nothing is stored.
+use Rattle.std.proofs.Common.{◌≡◌, ℕ, ◌/◌, ◌^◌, ◌∙◌}
 use Rattle.std.specs.Prelude.{⊤}
 use Rattle.image_layout.specs.Places.{entry_at}
 use Rattle.segment_head.specs.HeadWord.{depth_in}
@@ -9,10 +9,7 @@ use Rattle.world.specs.declared.site.Site.{Site}
 use Rattle.world.specs.Ground.{Ground}
 use Rattle.world.specs.Views.{View, Has}
 use Rattle.world.specs.areas.Areas.{header_word}
-use Rattle.rounds.specs.declared.rounds.RoundStep.{RoundStep}
-use Rattle.rounds.specs.declared.rounds.RoundStep.TheVariants.{Storing, Flushing, Fencing}
 use Rattle.rounds.specs.declared.rounds.Rounds.{Rounds}
-use Rattle.rounds.specs.Stands.{IsLooseOn, RoundStands}
 use Rattle.directory_op.specs.declared.op.Stage.{Stage}
 use Rattle.directory_op.specs.declared.op.Stage.TheVariants.{Fill, Filled, Deepen, Deepened, GoLive, Live, Enter, Entered}
 use Rattle.directory_op.specs.declared.op.DirectoryStep.{DirectoryStep}
@@ -20,16 +17,6 @@ use Rattle.directory_op.specs.declared.op.DirectoryOp.{DirectoryOp}
 use Rattle.directory_op.specs.Places.{live_head}
 use Rattle.directory_op.specs.Fits.{side_depth, side_pattern, with_side, SuitsStage, IsFilling, IsRooted, IsEntering}
 use Rattle.directory_op.proofs.Keeping.{Keeps, split_stays, new_stays, live_stays, doubles_stays, deep_stays, filled_stays, entered_stays}
-
--- ---- what is loose is the same
-module _ (v u : View) (dirty : u.dirty ≡ v.dirty) (flushed : u.flushed ≡ v.flushed) where
-  loose_same : (lines : List ℕ) (step : RoundStep) → IsLooseOn lines step v → IsLooseOn lines step u
-  loose_same lines Storing l = ((λ p has. l.0 p (subst (λ (ps : List (ℕ × ℕ)). Has p ps) dirty has)), flushed ∙ l.1)
-  loose_same lines (Flushing i) l = (l.0, (λ p has. l.1 p (subst (λ (ps : List (ℕ × ℕ)). Has p ps) dirty has)), (λ p has. l.2 p (subst (λ (ps : List (ℕ × ℕ)). Has p ps) flushed has)))
-  loose_same lines Fencing l = dirty ∙ l
-
-  pub round_same : (rounds : Rounds) → RoundStands rounds v → RoundStands rounds u
-  round_same rounds r = record { few = r.few; loose = loose_same rounds.round rounds.step r.loose }
 
 -- ---- each stage stays where all known words do
 module _ (site : Ground) (here : Site) (call : Call) (op : DirectoryOp) (rounds : Rounds) (step : DirectoryStep) (v u : View) (k : Keeps (λ i. ⊤) v u) (areas : u.areas ≡ v.areas)

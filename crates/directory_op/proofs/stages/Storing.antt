@@ -23,6 +23,7 @@ use Rattle.world.proofs.fitting.OneHolder.{head_in_slot}
 use Rattle.rounds.specs.Steps.{begun, rounds_stores, rounds_taken}
 use Rattle.rounds.specs.Stands.{RoundStands}
 use Rattle.rounds.proofs.Events.{store_wanted}
+use Rattle.rounds.proofs.Settling.{round_same, round_behind}
 use Rattle.split_op.specs.Copied.{side_head}
 use Rattle.directory_op.specs.declared.op.Stage.{Stage}
 use Rattle.directory_op.specs.declared.op.Stage.TheVariants.{Fill, Filled, Deepen, Deepened, GoLive, Live, Enter, Entered}
@@ -35,8 +36,7 @@ use Rattle.directory_op.specs.Fits.{with_side, SuitsStore, SuitsStep, FilledBelo
 use Rattle.directory_op.proofs.Words.{all_entries, doubled, entry_is, head_is, entry_no_root, entry_same, entry_deeper, entry_no_slot, root_no_slot, root_no_header, other_slot}
 use Rattle.directory_op.proofs.Keeping.{Keeps, kept_in_slot, split_stays, new_stays, live_stays, doubles_stays, deep_stays, filled_stays, entered_stays}
 use Rattle.directory_op.proofs.Sides.{is_of_side, first_of, last_of, near_of}
-use Rattle.directory_op.proofs.stages.Staying.{round_same}
-use Rattle.directory_op.proofs.stages.Rounding.{round_behind, storing_behind}
+use Rattle.directory_op.proofs.stages.Rounding.{storing_behind}
 
 -- what is no claim is none of a segment
 no_claim_of : (s : ℕ) (fact : Fact) → is_claim fact ≡ false → not (is_claim_of s fact) ≡ true
