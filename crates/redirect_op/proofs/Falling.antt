@@ -1,99 +1,35 @@
 -- Fewer events are left after each, and at most so many from any state on.
-use Rattle.std.proofs.Common.{◌≡◌, ◌≢◌, ℕ, suc, ◌+◌, ◌-◌, ◌*◌, ◌^◌, ◌<◌, ◌≤◌, inl, inr, cond, Option, None, Some, List, length, refl, sym, ap, ◌∙◌, subst, arith}
-use Rattle.std.specs.Prelude.{min, slice_index, nat_le}
-use Rattle.std.proofs.Math.Pow.{pow_mono}
+use Rattle.std.proofs.Common.{◌≡◌, ◌≢◌, ℕ, suc, ◌+◌, ◌-◌, ◌*◌, ◌<◌, ◌≤◌, inl, inr, cond, Option, None, Some, length, sym, ap, subst, arith}
+use Rattle.std.specs.Prelude.{min, nat_le}
 use Rattle.std.proofs.lemmas.Nat.{pow_pos}
-use Rattle.std.proofs.lemmas.Bool.{cases_Bool, cases_lt, lt-ltb, le-ltb, le-leb, lt-leb}
+use Rattle.std.proofs.lemmas.Bool.{cases_Bool, cases_lt, lt-ltb, le-ltb}
 use Rattle.op_core.specs.declared.want.Want.{Want}
-use Rattle.op_core.specs.declared.want.Want.TheVariants as want
 use Rattle.op_core.specs.declared.want.Ans.{Ans}
 use Rattle.op_core.specs.declared.want.Ans.TheVariants.{Value, Won, Lost, Passed}
 use Rattle.op_core.specs.Answers.{IsAnswer}
 use Rattle.segment_head.specs.HeadWord.{depth_in, pattern_in}
 use Rattle.image_layout.specs.Places.{Shape, most_depth}
-use Rattle.rounds.specs.declared.rounds.RoundStep.{RoundStep}
-use Rattle.rounds.specs.declared.rounds.RoundStep.TheVariants.{Storing, Flushing, Fencing}
-use Rattle.rounds.specs.declared.rounds.Rounds.{Rounds}
 use Rattle.rounds.specs.Steps.{rounds_stores, rounds_wanted}
-use Rattle.rounds.specs.Left.{round_left, left_at as lines_left_at, rounds_left}
-use Rattle.rounds.proofs.Events.{event_cases, cases_wanted, none_stored}
-use Rattle.rounds.proofs.Falling.{rounds_fall}
+use Rattle.rounds.specs.Left.{rounds_left}
+use Rattle.rounds.proofs.Events.{cases_wanted, none_stored}
+use Rattle.rounds.proofs.Wanted.{asked, asked_some}
+use Rattle.rounds.proofs.Falling.{step_most, rounds_fall}
 use Rattle.directory_op.specs.Places.{entries_of, run_of, side_first}
 use Rattle.directory_op.specs.Left.{most_entries, deepest_entries}
-use Rattle.directory_op.proofs.ends.Falling.{few_entries}
+use Rattle.directory_op.proofs.ends.Falling.{few_entries, entries_within, few_deepest}
 use Rattle.redirect_op.specs.declared.step.RedirectStep.{RedirectStep}
 use Rattle.redirect_op.specs.declared.step.RedirectStep.TheVariants.{Guard, Root, Entry, Head, Store, Settle, Fence, GiveDirectory, Give, Ended}
 use Rattle.redirect_op.specs.declared.op.RedirectOp.{RedirectOp}
-use Rattle.redirect_op.specs.Steps.{shape_of, side_head, last_entry, store_to, go, settle_by, behind, rooted_at, rooted, met_head, stored_by, with_rounds, stored, settled_to, settled, want_or_none, put_wanted, wanted_in, next_in}
+use Rattle.redirect_op.specs.Steps.{shape_of, side_head, last_entry, store_to, go, settle_by, behind, rooted_at, rooted, met_head, stored_by, with_rounds, stored, settled_to, settled, wanted_in, next_in}
 use Rattle.redirect_op.specs.Left.{rooted_with, entries_behind, stores_left, left_at, left_of, most_events}
 
 -- ---- numbers
--- an area that the image has is no larger than its deepest one, and this than the deepest of all
-least_depth : (root depth : ℕ) → root ≤ depth → root ≤ most_depth → root ≤ min depth most_depth
-least_depth root depth low most = omega (arith, low, most)
-
 some_deepest : (shape : Shape) → 1 ≤ deepest_entries shape
 some_deepest shape = pow_pos (min shape.depth most_depth)
-
-entries_within : (root : ℕ) (shape : Shape) → root ≤ shape.depth → entries_of root ≤ deepest_entries shape
-entries_within root shape within = elim (cases_lt most_depth root) [
-  | inl high ↦ (let e = ap (λ b. cond b (2 ^ root) 0) (lt-leb root most_depth high) in omega (arith, e))
-  | inr low ↦ (let e = ap (λ b. cond b (2 ^ root) 0) (le-leb root most_depth low) in let most = pow_mono {i = root} {j = min shape.depth most_depth} (least_depth root shape.depth within low) in omega (arith, e, most))
-]
-
-few_deepest : (shape : Shape) → deepest_entries shape ≤ most_entries
-few_deepest shape = pow_mono {i = min shape.depth most_depth} {j = most_depth} (by shape.depth)
-  where
-    by : (depth : ℕ) → min depth most_depth ≤ most_depth
-    by depth = omega arith
 
 -- no more entries come behind one than an area has beside it
 behind_few : (a b i : ℕ) → min a b - 1 - i ≤ b - 1
 behind_few a b i = omega arith
-
--- ---- what is answered to an event of the rounds
-store_passes : (i x : ℕ) (a : Ans) → IsAnswer (want.Store i x) a → a ≡ Passed
-store_passes i x Passed e = refl
-store_passes i x a e = absurd e
-
-flush_passes : (l : ℕ) (a : Ans) → IsAnswer (want.Flush l) a → a ≡ Passed
-flush_passes l Passed e = refl
-flush_passes l a e = absurd e
-
-fence_passes : (a : Ans) → IsAnswer want.Fence a → a ≡ Passed
-fence_passes Passed e = refl
-fence_passes a e = absurd e
-
-none_passes : (a : Ans) → IsAnswer want.Done a → ⊥
-none_passes a e = e
-
-round_passes : (rounds : Rounds) (next : Option (ℕ × ℕ)) (a : Ans) → IsAnswer (want_or_none (rounds_wanted rounds next)) a → (a ≡ Passed) × (rounds_wanted rounds next ≢ None)
-round_passes rounds next a i = elim (cases_wanted (rounds_wanted rounds next)) [
-  | inl none ↦ absurd (none_passes a (subst (λ (o : Option Want). IsAnswer (want_or_none o) a) none i))
-  | inr some ↦
-      let i : IsAnswer some.0 a = subst (λ (o : Option Want). IsAnswer (want_or_none o) a) some.1 i in (
-        elim (event_cases rounds next some.0 some.1) [
-          | inl s ↦ store_passes s.word s.value a (subst (λ (w : Want). IsAnswer w a) s.wants i)
-          | inr f ↦ elim f [
-            | inl f ↦ flush_passes (slice_index rounds.round f.number) a (subst (λ (w : Want). IsAnswer w a) f.wants i)
-            | inr f ↦ fence_passes a (subst (λ (w : Want). IsAnswer w a) f.wants i)
-          ]
-        ],
-        λ none. some_none (sym some.1 ∙ none),
-      )
-]
-  where
-    some_none : {x : Want} → Some x ≡ None → ⊥
-    some_none e = cc
-
--- an event is wanted of a round that has no more lines than it may
-pub put_passes : (rounds : Rounds) (next : Option (ℕ × ℕ)) (a : Ans) → IsAnswer (put_wanted rounds next) a → (length rounds.round ≤ 8) × (a ≡ Passed) × (rounds_wanted rounds next ≢ None)
-put_passes rounds next a i = elim (cases_lt 8 (length rounds.round)) [
-  | inl many ↦ absurd (none_passes a (subst (λ b. IsAnswer (cond b want.Done (want_or_none (rounds_wanted rounds next))) a) (lt-ltb 8 (length rounds.round) many) i))
-  | inr few ↦
-      let passes = round_passes rounds next a (subst (λ b. IsAnswer (cond b want.Done (want_or_none (rounds_wanted rounds next))) a) (le-ltb 8 (length rounds.round) few) i) in
-      (few, passes.0, passes.1)
-]
 
 -- ---- what is left
 stores_below : (op : RedirectOp) (stores : ℕ) → stores_left op stores ≤ rounds_left op.rounds stores
@@ -219,11 +155,11 @@ falls_at op (Entry index) a at i = absurd i
 falls_at op (Head index slot) (Value n) at i = head_falls op index slot n
 falls_at op (Head index slot) a at i = absurd i
 falls_at op (Store index) a at i =
-    let put = put_passes op.rounds (Some (store_to op index)) a i in
-    subst (λ (x : Ans). left_of (next_in op (Store index) x) < left_at op (Store index)) (sym put.1) (store_falls op index at put.0 put.2)
+    let q = asked op.rounds (Some (store_to op index)) a i in
+    subst (λ (x : Ans). left_of (next_in op (Store index) x) < left_at op (Store index)) (sym q.passed) (store_falls op index at q.few (asked_some op.rounds (Some (store_to op index)) a q))
 falls_at op Settle a at i =
-    let put = put_passes op.rounds None a i in
-    subst (λ (x : Ans). left_of (next_in op Settle x) < left_at op Settle) (sym put.1) (settling_falls op put.0 put.2)
+    let q = asked op.rounds None a i in
+    subst (λ (x : Ans). left_of (next_in op Settle x) < left_at op Settle) (sym q.passed) (settling_falls op q.few (asked_some op.rounds None a q))
 falls_at op Fence Passed at i = omega arith
 falls_at op Fence a at i = absurd i
 falls_at op GiveDirectory Passed at i = omega arith
@@ -233,24 +169,10 @@ falls_at op (Give end) a at i = absurd i
 falls_at op (Ended end) a at i = absurd i
 
 -- ---- at most so many
-left_most : (lines : List ℕ) → round_left lines ≤ length lines + 1
-left_most lines = elim (cases_lt 0 (length lines)) [
-  | inl some ↦ (let e = ap (λ b. cond b (length lines + 1) 0) (lt-ltb 0 (length lines) some) in omega (arith, e))
-  | inr none ↦ (let e = ap (λ b. cond b (length lines + 1) 0) (le-ltb 0 (length lines) none) in omega (arith, e))
-]
-
-few_lines : (rounds : Rounds) → length rounds.round ≤ 8 → lines_left_at rounds.round rounds.step ≤ 9
-few_lines rounds few = few_at rounds.step
-  where
-    few_at : (step : RoundStep) → lines_left_at rounds.round step ≤ 9
-    few_at Storing = let most = left_most rounds.round in omega (arith, most, few)
-    few_at (Flushing i) = omega (arith, few)
-    few_at Fencing = omega arith
-
 stores_most : (op : RedirectOp) (stores : ℕ) → stores_left op stores ≤ 3 * stores + 9
 stores_most op stores = elim (cases_lt 8 (length op.rounds.round)) [
   | inl many ↦ subst (λ b. cond b 0 (rounds_left op.rounds stores) ≤ 3 * stores + 9) (sym (lt-ltb 8 (length op.rounds.round) many)) (omega arith)
-  | inr few ↦ subst (λ b. cond b 0 (rounds_left op.rounds stores) ≤ 3 * stores + 9) (sym (le-ltb 8 (length op.rounds.round) few)) (let lines = few_lines op.rounds few in omega (arith, lines))
+  | inr few ↦ subst (λ b. cond b 0 (rounds_left op.rounds stores) ≤ 3 * stores + 9) (sym (le-ltb 8 (length op.rounds.round) few)) (let lines = step_most op.rounds.round few op.rounds.step in omega (arith, lines))
 ]
 
 -- behind an entry come fewer than an area has

@@ -1,7 +1,7 @@
 -- Flushes are counted among the lines that wait for a fence.
-use Rattle.std.proofs.Common.{◌≡◌, ◌≢◌, ℕ, ◌+◌, ◌≤◌, inl, inr, cond, Option, None, Some, length, refl, sym, ap, ◌∙◌, subst, arith}
-use Rattle.std.specs.Prelude.{slice_index, nat_le, nat_lt}
-use Rattle.std.proofs.lemmas.Bool.{cases_Bool, cases_lt, lt-ltb}
+use Rattle.std.proofs.Common.{◌≡◌, ◌≢◌, ℕ, ◌+◌, ◌≤◌, inl, inr, cond, Option, None, Some, refl, sym, ap, ◌∙◌, subst, arith}
+use Rattle.std.specs.Prelude.{nat_le, nat_lt}
+use Rattle.std.proofs.lemmas.Bool.{cases_Bool}
 use Rattle.op_core.specs.declared.want.Want.{Want}
 use Rattle.op_core.specs.declared.want.Want.TheVariants as want
 use Rattle.op_core.specs.declared.want.Ans.{Ans}
@@ -12,23 +12,15 @@ use Rattle.whole_segment.specs.Rounds.{most_lines}
 use Rattle.rounds.specs.declared.rounds.Rounds.{Rounds}
 use Rattle.rounds.specs.Steps.{rounds_wanted, rounds_taken}
 use Rattle.rounds.specs.Events.{IsFlush}
-use Rattle.rounds.specs.Waiting.{round_waiting, rounds_waiting}
-use Rattle.rounds.proofs.Events.{event_cases, cases_wanted}
-use Rattle.rounds.proofs.Waiting.{most_wait, store_waits, flush_waits, none_waits}
+use Rattle.rounds.specs.Waiting.{rounds_waiting}
+use Rattle.rounds.proofs.Events.{cases_wanted}
+use Rattle.rounds.proofs.Wanted.{flushed_wants, asked}
+use Rattle.rounds.proofs.Waiting.{most_wait, none_waits, event_ends, event_flushes, event_keeps}
 use Rattle.redirect_op.specs.declared.step.RedirectStep.{RedirectStep}
 use Rattle.redirect_op.specs.declared.step.RedirectStep.TheVariants.{Guard, Root, Entry, Head, Store, Settle, Fence, GiveDirectory, Give, Ended}
 use Rattle.redirect_op.specs.declared.op.RedirectOp.{RedirectOp}
-use Rattle.redirect_op.specs.Steps.{last_entry, store_to, go, settle_by, behind, met_head, stored_by, with_rounds, stored, settled_to, settled, want_or_none, put_wanted, wanted_in, next_in}
+use Rattle.redirect_op.specs.Steps.{last_entry, store_to, go, settle_by, behind, met_head, stored_by, with_rounds, stored, settled_to, settled, wanted_in, next_in}
 use Rattle.redirect_op.specs.Left.{waiting_at, waiting_of}
-use Rattle.redirect_op.proofs.Rounding.{flushed_wants}
-use Rattle.redirect_op.proofs.Falling.{put_passes}
-use Rattle.redirect_op.proofs.Stepping.{put_is}
-
-no_flush_store : (i x l : ℕ) → want.Store i x ≡ want.Flush l → ⊥
-no_flush_store i x l e = cc
-
-no_flush_fence : (l : ℕ) → want.Fence ≡ want.Flush l → ⊥
-no_flush_fence l e = cc
 
 -- ---- behind an entry as many lines wait
 settle_same : (op : RedirectOp) → waiting_at op (settle_by (rounds_wanted op.rounds None)) ≡ rounds_waiting op.rounds
@@ -49,55 +41,7 @@ head_same op index n = elim (cases_Bool (nat_le (depth_in n) (depth_in op.guarde
   | inr deeper ↦ subst (λ b. waiting_of (cond b (go op (Store index)) (behind op index)) ≡ rounds_waiting op.rounds) (sym deeper) (behind_same op index)
 ]
 
--- ---- an event of the rounds, with which these machines come behind it
-module _ (op later : RedirectOp) (next : Option (ℕ × ℕ)) (few : length op.rounds.round ≤ most_lines)
-    (flushes : (w : Want) → IsFlush op.rounds next w → waiting_of later ≡ rounds_waiting (rounds_taken op.rounds next)) where
-  flush_more : (w : Want) → IsFlush op.rounds next w → rounds_waiting op.rounds + 1 ≤ waiting_of later
-  flush_more w f = let on = flush_waits op.rounds next w few f in let is = flushes w f in omega (arith, on, is)
-
-  round_flushes : (l : ℕ) → want_or_none (rounds_wanted op.rounds next) ≡ want.Flush l → rounds_waiting op.rounds + 1 ≤ waiting_of later
-  round_flushes l e = elim (cases_wanted (rounds_wanted op.rounds next)) [
-    | inl none ↦ absurd (let z : want.Done ≡ want.Flush l = sym (ap want_or_none none) ∙ e in cc)
-    | inr some ↦
-        let is : some.0 ≡ want.Flush l = sym (ap want_or_none some.1) ∙ e in
-        elim (event_cases op.rounds next some.0 some.1) [
-          | inl s ↦ absurd (no_flush_store s.word s.value l (sym s.wants ∙ is))
-          | inr f ↦ elim f [ inl f ↦ flush_more some.0 f | inr f ↦ absurd (no_flush_fence l (sym f.wants ∙ is)) ]
-        ]
-  ]
-
-  round_keeps : want_or_none (rounds_wanted op.rounds next) ≢ want.Fence → rounds_waiting op.rounds ≤ waiting_of later
-  round_keeps other = elim (cases_wanted (rounds_wanted op.rounds next)) [
-    | inl none ↦ (let e = none_waits op.rounds next none in omega (arith, e))
-    | inr some ↦ elim (event_cases op.rounds next some.0 some.1) [
-      | inl s ↦ (let e = (store_waits op.rounds next some.0 s).0 in omega (arith, e))
-      | inr f ↦ elim f [
-        | inl f ↦ (let more = flush_more some.0 f in omega (arith, more))
-        | inr f ↦ absurd (other (ap want_or_none some.1 ∙ f.wants))
-      ]
-    ]
-  ]
-
-round_ends : (rounds : Rounds) (next : Option (ℕ × ℕ)) → want_or_none (rounds_wanted rounds next) ≡ want.Done → rounds_waiting rounds ≡ 0
-round_ends rounds next e = elim (cases_wanted (rounds_wanted rounds next)) [
-  | inl none ↦ none_waits rounds next none
-  | inr some ↦
-      let is : some.0 ≡ want.Done = sym (ap want_or_none some.1) ∙ e in
-      elim (event_cases rounds next some.0 some.1) [
-        | inl s ↦ absurd (let z : want.Store s.word s.value ≡ want.Done = sym s.wants ∙ is in cc)
-        | inr f ↦ elim f [
-          | inl f ↦ absurd (let z : want.Flush (slice_index rounds.round f.number) ≡ want.Done = sym f.wants ∙ is in cc)
-          | inr f ↦ absurd (let z : want.Fence ≡ want.Done = sym f.wants ∙ is in cc)
-        ]
-      ]
-]
-
-put_ends : (rounds : Rounds) (next : Option (ℕ × ℕ)) → put_wanted rounds next ≡ want.Done → rounds_waiting rounds ≡ 0
-put_ends rounds next e = elim (cases_lt most_lines (length rounds.round)) [
-  | inl many ↦ ap (λ b. cond b 0 (round_waiting rounds.round rounds.step)) (lt-ltb most_lines (length rounds.round) many)
-  | inr few ↦ round_ends rounds next (sym (put_is rounds next few) ∙ e)
-]
-
+-- ---- an event of the rounds
 module _ (op : RedirectOp) where
   store_flush : (index : ℕ) → op.step ≡ Store index → (w : Want) → IsFlush op.rounds (Some (store_to op index)) w → waiting_of (stored op index) ≡ rounds_waiting (rounds_taken op.rounds (Some (store_to op index)))
   store_flush index at w f =
@@ -118,13 +62,11 @@ module _ (op : RedirectOp) where
   flushes_at (Head index slot) a l at i e = absurd (cc)
   flushes_at (Store index) a l at i e =
       let next : Option (ℕ × ℕ) = Some (store_to op index) in
-      let put = put_passes op.rounds next a i in
-      subst (λ (x : Ans). rounds_waiting op.rounds + 1 ≤ waiting_of (next_in op (Store index) x)) (sym put.1)
-      (round_flushes op (stored op index) next put.0 (store_flush index at) l (sym (put_is op.rounds next put.0) ∙ e))
+      let q = asked op.rounds next a i in
+      subst (λ (x : Ans). rounds_waiting op.rounds + 1 ≤ waiting_of (next_in op (Store index) x)) (sym q.passed) (event_flushes op.rounds next q.few (waiting_of (stored op index)) (store_flush index at) l e)
   flushes_at Settle a l at i e =
-      let put = put_passes op.rounds None a i in
-      subst (λ (x : Ans). rounds_waiting op.rounds + 1 ≤ waiting_of (next_in op Settle x)) (sym put.1)
-      (round_flushes op (settled op) None put.0 settle_flush l (sym (put_is op.rounds None put.0) ∙ e))
+      let q = asked op.rounds None a i in
+      subst (λ (x : Ans). rounds_waiting op.rounds + 1 ≤ waiting_of (next_in op Settle x)) (sym q.passed) (event_flushes op.rounds None q.few (waiting_of (settled op)) settle_flush l e)
   flushes_at Fence a l at i e = absurd (cc)
   flushes_at GiveDirectory a l at i e = absurd (cc)
   flushes_at (Give end) a l at i e = absurd (cc)
@@ -139,13 +81,11 @@ module _ (op : RedirectOp) where
   keeps_at (Head index slot) a at i other = absurd i
   keeps_at (Store index) a at i other =
       let next : Option (ℕ × ℕ) = Some (store_to op index) in
-      let put = put_passes op.rounds next a i in
-      subst (λ (x : Ans). rounds_waiting op.rounds ≤ waiting_of (next_in op (Store index) x)) (sym put.1)
-      (round_keeps op (stored op index) next put.0 (store_flush index at) (λ fence. other (put_is op.rounds next put.0 ∙ fence)))
+      let q = asked op.rounds next a i in
+      subst (λ (x : Ans). rounds_waiting op.rounds ≤ waiting_of (next_in op (Store index) x)) (sym q.passed) (event_keeps op.rounds next q.few (waiting_of (stored op index)) (store_flush index at) other)
   keeps_at Settle a at i other =
-      let put = put_passes op.rounds None a i in
-      subst (λ (x : Ans). rounds_waiting op.rounds ≤ waiting_of (next_in op Settle x)) (sym put.1)
-      (round_keeps op (settled op) None put.0 settle_flush (λ fence. other (put_is op.rounds None put.0 ∙ fence)))
+      let q = asked op.rounds None a i in
+      subst (λ (x : Ans). rounds_waiting op.rounds ≤ waiting_of (next_in op Settle x)) (sym q.passed) (event_keeps op.rounds None q.few (waiting_of (settled op)) settle_flush other)
   keeps_at Fence a at i other = omega arith
   keeps_at GiveDirectory a at i other = omega arith
   keeps_at (Give end) a at i other = omega arith
@@ -156,8 +96,8 @@ module _ (op : RedirectOp) where
   waits_none Root e = refl
   waits_none (Entry index) e = absurd (cc)
   waits_none (Head index slot) e = absurd (cc)
-  waits_none (Store index) e = put_ends op.rounds (Some (store_to op index)) e
-  waits_none Settle e = put_ends op.rounds None e
+  waits_none (Store index) e = event_ends op.rounds (Some (store_to op index)) e
+  waits_none Settle e = event_ends op.rounds None e
   waits_none Fence e = refl
   waits_none GiveDirectory e = refl
   waits_none (Give end) e = refl

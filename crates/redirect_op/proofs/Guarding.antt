@@ -21,8 +21,8 @@ use Rattle.repair_op.specs.Guarded.{KnowsReadySide, HasState, HasDeepEntries, Ke
 use Rattle.repair_op.specs.Stands.{HoldsGuard}
 use Rattle.repair_op.proofs.Holding.{has_area, was_area}
 use Rattle.repair_op.proofs.Storing.{header_in, link_in}
+use Rattle.rounds.proofs.Settling.{settled_firm}
 use Rattle.directory_op.proofs.Words.{slot_behind}
-use Rattle.directory_op.proofs.stages.Rounding.{settled_loose}
 use Rattle.redirect_op.specs.declared.step.RedirectStep.TheVariants.{Guard}
 use Rattle.redirect_op.specs.declared.op.RedirectOp.{RedirectOp}
 use Rattle.redirect_op.specs.Steps.{next_in}
@@ -96,7 +96,7 @@ module _ (site : Ground) (ground : IsGround site) (here : Site) (call : Call) (o
   -- ---- it is given back
   module _ (s : AreSettled site here g v) where
     pub give_may : MayAt site (gives of_directory) v
-    give_may = (has_directory site here g v s.guarding, (λ p loose inside. settled_loose v s.settled p loose), tt)
+    give_may = (has_directory site here g v s.guarding, (λ p loose inside. settled_firm v s.settled p loose), tt)
 
     module _ (n : ℕ) where
       abbrev left : View

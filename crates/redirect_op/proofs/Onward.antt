@@ -25,12 +25,10 @@ use Rattle.rounds.specs.declared.rounds.Rounds.{Rounds}
 use Rattle.rounds.specs.Steps.{rounds_wanted}
 use Rattle.rounds.specs.Stands.{IsSettled}
 use Rattle.rounds.proofs.Events.{cases_wanted}
-use Rattle.rounds.proofs.Settling.{rounds_settle}
+use Rattle.rounds.proofs.Settling.{settled_firm, round_same, rounds_settle}
 use Rattle.repair_op.specs.declared.guarded.Guarded.{Guarded}
 use Rattle.directory_op.specs.Places.{side_first}
 use Rattle.directory_op.proofs.Words.{head_is, entry_from}
-use Rattle.directory_op.proofs.stages.Staying.{round_same}
-use Rattle.directory_op.proofs.stages.Rounding.{settled_loose}
 use Rattle.redirect_op.specs.declared.step.RedirectStep.{RedirectStep}
 use Rattle.redirect_op.specs.declared.step.RedirectStep.TheVariants.{Entry, Head, Store}
 use Rattle.redirect_op.specs.declared.op.RedirectOp.{RedirectOp}
@@ -176,7 +174,7 @@ module _ (site : Ground) (ground : IsGround site) (here : Site) (call : Call) (o
           known = inl refl;
         };
         behind = λ j low is. absurd (let from = first_entry_of gs.head n is_deeper not_deep fits_pattern j is in late j first_index low from);
-        loose = λ p loose. absurd (settled_loose root_view root_settled p loose);
+        loose = λ p loose. absurd (settled_firm root_view root_settled p loose);
       };
       of_side = is_of_side gs.head n is_deeper not_deep fits_pattern first_index (omega arith) (first_last gs.head n is_deeper not_deep fits_pattern);
       in_rounds = record { round = rounds_settle.begins root_view root_settled; lines = λ line has. absurd has };

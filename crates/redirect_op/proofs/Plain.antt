@@ -1,7 +1,6 @@
 -- What it asks for and puts, what it plans and replies, and how it ends.
-use Rattle.std.proofs.Common.{◌≡◌, ◌≢◌, ℕ, ◌+◌, ◌*◌, ◌^◌, ◌<◌, ◌≤◌, inl, inr, true, false, cond, Option, None, Some, List, [], length, refl, sym, ap, ◌∙◌, subst, arith}
+use Rattle.std.proofs.Common.{◌≡◌, ◌≢◌, ℕ, ◌+◌, ◌*◌, ◌^◌, ◌<◌, ◌≤◌, inl, inr, true, false, cond, None, Some, List, [], refl, sym, ap, ◌∙◌, subst, arith}
 use Rattle.std.proofs.lemmas.Bool.{cases_lt, lt-ltb, le-ltb}
-use Rattle.op_core.specs.declared.want.Want.{Want}
 use Rattle.op_core.specs.declared.want.Want.TheVariants as want
 use Rattle.image_layout.specs.Places.{Shape, root_word, first_segment, words_of, segment_words}
 use Rattle.image_layout.specs.Volatile.{directory_guard, all_words_of}
@@ -10,7 +9,7 @@ use Rattle.way.specs.Ways.{head_word}
 use Rattle.map_model.specs.declared.call.Call.{Call}
 use Rattle.world.specs.declared.site.Site.{Site}
 use Rattle.world.specs.Ground.{Ground, IsGround}
-use Rattle.world.specs.Views.{View, Has}
+use Rattle.world.specs.Views.{View}
 use Rattle.world.specs.Kinds.{cuts_power}
 use Rattle.world.specs.Attempts.{HoldsOnly, EntersReply}
 use Rattle.world.specs.areas.Areas.{header_word}
@@ -23,10 +22,10 @@ use Rattle.part.specs.Outcomes.{reply_of}
 use Rattle.part.specs.Part.{LeavesKnown}
 use Rattle.part.specs.Asks.{IsWithin, PutsWord}
 use Rattle.phase.proofs.Handing.{same_more}
-use Rattle.rounds.specs.declared.rounds.Rounds.{Rounds}
 use Rattle.rounds.specs.Steps.{rounds_wanted}
-use Rattle.rounds.specs.Stands.{kind_of}
-use Rattle.rounds.proofs.Events.{cases_wanted, events_end}
+use Rattle.rounds.proofs.Events.{no_some, some_same, events_end}
+use Rattle.rounds.proofs.Wanted.{by_wanted, event_none}
+use Rattle.rounds.proofs.Silent.{IsStill, round_still, round_power}
 use Rattle.repair_op.specs.Guarded.{KeepsRedirected}
 use Rattle.repair_op.proofs.Words.{guard_low}
 use Rattle.redirect_op.specs.declared.step.RedirectEnd.{RedirectEnd}
@@ -34,25 +33,10 @@ use Rattle.redirect_op.specs.declared.step.RedirectEnd.TheVariants as ends
 use Rattle.redirect_op.specs.declared.step.RedirectStep.{RedirectStep}
 use Rattle.redirect_op.specs.declared.step.RedirectStep.TheVariants.{Guard, Root, Entry, Head, Store, Settle, Fence, GiveDirectory, Give, Ended}
 use Rattle.redirect_op.specs.declared.op.RedirectOp.{RedirectOp}
-use Rattle.redirect_op.specs.Steps.{shape_of, slot_or_zero, store_to, want_or_none, put_wanted, wanted_in, is_redirected}
+use Rattle.redirect_op.specs.Steps.{shape_of, slot_or_zero, store_to, wanted_in, is_redirected}
 use Rattle.redirect_op.specs.Stands.{facts_of, kind_at, SuitsStep}
 use Rattle.redirect_op.specs.Ends.{outcome_of, outcome_at}
-use Rattle.redirect_op.proofs.Rounding.{by_event, some_same, none_some, entry_low}
-use Rattle.redirect_op.proofs.Stepping.{put_is}
-
--- what is so of no event and of each event of the rounds is so of what is wanted
-module _ (rounds : Rounds) (next : Option (ℕ × ℕ)) (P : Want → Type 0) (done : P want.Done) where
-  put_by : P (want_or_none (rounds_wanted rounds next)) → P (put_wanted rounds next)
-  put_by p = elim (cases_lt 8 (length rounds.round)) [
-    | inl many ↦ subst (λ b. P (cond b want.Done (want_or_none (rounds_wanted rounds next)))) (sym (lt-ltb 8 (length rounds.round) many)) done
-    | inr few ↦ subst (λ b. P (cond b want.Done (want_or_none (rounds_wanted rounds next)))) (sym (le-ltb 8 (length rounds.round) few)) p
-  ]
-
-  by_put : ((p : ℕ × ℕ) → next ≡ Some p → P (want.Store p.0 p.1)) → ((line : ℕ) → Has line rounds.round → P (want.Flush line)) → P want.Fence → P (put_wanted rounds next)
-  by_put store flush fence = put_by (elim (cases_wanted (rounds_wanted rounds next)) [
-    | inl none ↦ subst (λ (o : Option Want). P (want_or_none o)) (sym none) done
-    | inr some ↦ by_event rounds next (λ o. P (want_or_none o)) (λ p e on w is. store p e) (λ line e has w is. flush line has) (λ e w is. fence) (λ none. none_some (sym some.1 ∙ none))
-  ])
+use Rattle.redirect_op.proofs.Rounding.{entry_low}
 
 -- ---- it asks for words of the image and those behind it
 module _ (site : Ground) (ground : IsGround site) (here : Site) (call : Call) (op : RedirectOp) (v : View) where
@@ -98,11 +82,11 @@ module _ (site : Ground) (ground : IsGround site) (here : Site) (call : Call) (o
   within_at Root s = load_within root_word (let some = some_words in omega (arith, some))
   within_at (Entry index) s = load_within _ (entry_low site ground here call op v index s)
   within_at (Head index slot) s = load_within _ (head_near slot s.0.below.rooted.guarding.here_is.shape)
-  within_at (Store index) s = by_put op.rounds (Some (store_to op index)) (IsWithin shape) done_within
+  within_at (Store index) s = by_wanted op.rounds (Some (store_to op index)) (IsWithin shape) done_within
       (λ p e. store_within p.0 p.1 (subst (λ (q : ℕ × ℕ). q.0 < all_words_of shape) (some_same e) (let low = entry_low site ground here call op v index s.0 in omega (arith, low))))
       (λ line has. flush_within line (s.0.in_rounds.lines line has))
       fence_within
-  within_at Settle s = by_put op.rounds None (IsWithin shape) done_within (λ p e. absurd (none_some (sym e))) (λ line has. flush_within line (s.in_rounds.lines line has)) fence_within
+  within_at Settle s = by_wanted op.rounds None (IsWithin shape) done_within (λ p e. absurd (no_some e)) (λ line has. flush_within line (s.in_rounds.lines line has)) fence_within
   within_at Fence s = fence_within
   within_at GiveDirectory s = subst (λ (t : Shape). IsWithin shape (want.Store (directory_guard t) 0)) (sym s.guarding.here_is.shape) (record { word = omega arith; line = λ l e. absurd (cc) })
   within_at (Give end) s = store_within _ 0 (guard_low site op.guarded s.0.shape)
@@ -136,10 +120,10 @@ module _ (site : Ground) (here : Site) (call : Call) (op : RedirectOp) (v : View
   puts_at Root s = load_puts root_word
   puts_at (Entry index) s = load_puts _
   puts_at (Head index slot) s = load_puts _
-  puts_at (Store index) s = by_put op.rounds (Some (store_to op index)) PutsWord done_puts
+  puts_at (Store index) s = by_wanted op.rounds (Some (store_to op index)) PutsWord done_puts
       (λ p e. store_puts p.0 p.1 (subst (λ (q : ℕ × ℕ). q.1 < 2 ^ 64) (some_same e) (subst (λ x. x < 2 ^ 64) (sym (ap slot_or_zero s.0.below.rooted.guarding.side_is)) s.0.below.rooted.guarding.small)))
       (λ line has. flush_puts line) fence_puts
-  puts_at Settle s = by_put op.rounds None PutsWord done_puts (λ p e. absurd (none_some (sym e))) (λ line has. flush_puts line) fence_puts
+  puts_at Settle s = by_wanted op.rounds None PutsWord done_puts (λ p e. absurd (no_some e)) (λ line has. flush_puts line) fence_puts
   puts_at Fence s = fence_puts
   puts_at GiveDirectory s = store_puts _ 0 (omega arith)
   puts_at (Give end) s = store_puts _ 0 (omega arith)
@@ -179,30 +163,16 @@ module _ (site : Ground) (here : Site) (call : Call) (op : RedirectOp) (v : View
   none_held (Ended end) s = end_held end s
 
   -- a step that stands wants an event, until it has ended
-  put_more : (next : Option (ℕ × ℕ)) → length op.rounds.round ≤ 8 → rounds_wanted op.rounds next ≢ None → put_wanted op.rounds next ≡ want.Done → ⊥
-  put_more next few some done =
-      by_event op.rounds next (λ o. want_or_none o ≡ want.Done → ⊥) (λ p e on w is d. store_more p.0 p.1 d) (λ line e has w is d. flush_more line d) (λ e w is d. fence_more d) some
-      (sym (put_is op.rounds next few) ∙ done)
-    where
-      store_more : (i x : ℕ) → want.Store i x ≡ want.Done → ⊥
-      store_more i x d = cc
-
-      flush_more : (line : ℕ) → want.Flush line ≡ want.Done → ⊥
-      flush_more line d = cc
-
-      fence_more : want.Fence ≡ want.Done → ⊥
-      fence_more d = cc
-
   pub ended_at : (s : RedirectStep) → Stood s → wanted_in op s ≡ want.Done → (end : RedirectEnd) × (s ≡ Ended end)
   ended_at Guard s done = absurd (let no : want.Exchange (directory_guard (shape_of op)) 0 op.guarded.site.caller ≡ want.Done = done in cc)
   ended_at Root s done = absurd (let no : want.Load root_word ≡ want.Done = done in cc)
   ended_at (Entry index) s done = absurd (cc)
   ended_at (Head index slot) s done = absurd (cc)
-  ended_at (Store index) s done = absurd (put_more (Some (store_to op index)) s.0.in_rounds.round.few (λ none. some_next none) done)
+  ended_at (Store index) s done = absurd (some_next (event_none op.rounds (Some (store_to op index)) s.0.in_rounds.round.few done))
     where
       some_next : rounds_wanted op.rounds (Some (store_to op index)) ≡ None → ⊥
-      some_next none = none_some (events_end op.rounds (Some (store_to op index)) none).1
-  ended_at Settle s done = absurd (put_more None s.in_rounds.round.few s.open_round done)
+      some_next none = no_some (sym (events_end op.rounds (Some (store_to op index)) none).1)
+  ended_at Settle s done = absurd (s.open_round (event_none op.rounds None s.in_rounds.round.few done))
   ended_at Fence s done = absurd (let no : want.Fence ≡ want.Done = done in cc)
   ended_at GiveDirectory s done = absurd (let no : want.Store (directory_guard (shape_of op)) 0 ≡ want.Done = done in cc)
   ended_at (Give end) s done = absurd (cc)
@@ -250,12 +220,6 @@ none_replied (Give end) = none_told end
 none_replied (Ended end) = none_told end
 none_replied s = refl
 
--- what is replied and seen is the same, and no change is made
-record IsStill (shape : Shape) (n : ℕ) (v : View) (kind : StepKind) : Type 0 where
-  own : (view_by shape kind n v).own ≡ v.own
-  seen : (view_by shape kind n v).seen ≡ v.seen
-  none : IsPublishingStep kind → ⊥
-
 module _ (site : Ground) (op : RedirectOp) (n : ℕ) (v : View) where
   abbrev Still : StepKind → Type 0
   Still kind = IsStill site.shape n v kind
@@ -263,25 +227,13 @@ module _ (site : Ground) (op : RedirectOp) (n : ℕ) (v : View) where
   structure_still : (kind : StructureKind) → (IsPublishingStep (of_structure kind) → ⊥) → Still (of_structure kind)
   structure_still kind none = record { own = steps_reply_nothing.own site kind (λ i. n) v; seen = steps_reply_nothing.seen site kind (λ i. n) v; none = none }
 
-  -- an event of the rounds, whichever it is
-  round_still : (facts : List Fact) (o : Option Want) → Still (kind_of facts o)
-  round_still facts None = record { own = refl; seen = refl; none = λ p. p }
-  round_still facts (Some (want.Load i)) = record { own = refl; seen = refl; none = λ p. p }
-  round_still facts (Some (want.Store i x)) = record { own = refl; seen = refl; none = λ p. p }
-  round_still facts (Some (want.Exchange i x y)) = record { own = refl; seen = refl; none = λ p. p }
-  round_still facts (Some (want.Flush line)) = record { own = refl; seen = refl; none = λ p. p }
-  round_still facts (Some want.Fence) = record { own = refl; seen = refl; none = λ p. p }
-  round_still facts (Some want.Draw) = record { own = refl; seen = refl; none = λ p. p }
-  round_still facts (Some want.Power) = record { own = refl; seen = refl; none = λ p. p }
-  round_still facts (Some want.Done) = record { own = refl; seen = refl; none = λ p. p }
-
   still_at : (s : RedirectStep) → Still (kind_at op s)
   still_at Guard = structure_still (takes of_directory op.guarded.site.caller) (λ p. p)
   still_at Root = structure_still (reads root_word) (λ p. p)
   still_at (Entry index) = structure_still (finds_entry op.root index) (λ p. p)
   still_at (Head index slot) = structure_still (finds_begin slot) (λ p. p)
-  still_at (Store index) = round_still [] (rounds_wanted op.rounds (Some (store_to op index)))
-  still_at Settle = round_still (facts_of op.guarded) (rounds_wanted op.rounds None)
+  still_at (Store index) = round_still site.shape n v [] (rounds_wanted op.rounds (Some (store_to op index)))
+  still_at Settle = round_still site.shape n v (facts_of op.guarded) (rounds_wanted op.rounds None)
   still_at Fence = structure_still (settles (facts_of op.guarded)) (λ p. p)
   still_at GiveDirectory = structure_still (gives of_directory) (λ p. p)
   still_at (Give end) = structure_still (gives (of_segment op.guarded.segment)) (λ p. p)
@@ -300,17 +252,6 @@ module _ (site : Ground) (op : RedirectOp) (n : ℕ) (v : View) where
 -- ---- the power stays on
 no_cut : (kind : StructureKind) → of_structure kind ≢ of_call cuts_power
 no_cut kind e = cc
-
-round_power : (facts : List Fact) (o : Option Want) → kind_of facts o ≢ of_call cuts_power
-round_power facts None e = cc
-round_power facts (Some (want.Load i)) e = cc
-round_power facts (Some (want.Store i x)) e = cc
-round_power facts (Some (want.Exchange i x y)) e = cc
-round_power facts (Some (want.Flush line)) e = cc
-round_power facts (Some want.Fence) e = cc
-round_power facts (Some want.Draw) e = cc
-round_power facts (Some want.Power) e = cc
-round_power facts (Some want.Done) e = cc
 
 pub power_at : (op : RedirectOp) (s : RedirectStep) → kind_at op s ≢ of_call cuts_power
 power_at op Guard = no_cut (takes of_directory op.guarded.site.caller)

@@ -1,7 +1,6 @@
 -- An entry is stored in rounds, and all that was stored is settled by the last fence.
-use Rattle.std.proofs.Common.{◌≡◌, ◌≢◌, ℕ, ◌+◌, ◌*◌, ◌^◌, ◌<◌, ◌≤◌, inl, inr, true, false, cond, Option, None, Some, List, [], length, refl, sym, ap, ◌∙◌, subst, arith}
-use Rattle.std.specs.Prelude.{⊤, slice_index}
-use Rattle.std.proofs.lemmas.Bool.{cases_lt, lt-ltb, le-ltb}
+use Rattle.std.proofs.Common.{◌≡◌, ◌≢◌, ℕ, ◌+◌, ◌*◌, ◌^◌, ◌<◌, ◌≤◌, inl, inr, true, false, Option, None, Some, [], refl, sym, ap, ◌∙◌, subst, arith}
+use Rattle.std.specs.Prelude.{⊤}
 use Rattle.op_core.specs.declared.want.Want.{Want}
 use Rattle.op_core.specs.declared.want.Want.TheVariants as want
 use Rattle.segment_head.specs.HeadWord.{depth_in, pattern_in}
@@ -20,69 +19,24 @@ use Rattle.world.specs.areas.Repairing.{side_depth_in, side_pattern_in}
 use Rattle.world.specs.StepKinds.{wanted_of, view_by, MayTake}
 use Rattle.world.proofs.basics.Seats.{without_has, without_stays, loosened_has, flush_loose}
 use Rattle.world.proofs.holders.repairing.SideEntries.{side_later}
-use Rattle.rounds.specs.declared.rounds.RoundStep.{RoundStep}
-use Rattle.rounds.specs.declared.rounds.RoundStep.TheVariants.{Flushing, Fencing}
 use Rattle.rounds.specs.declared.rounds.Rounds.{Rounds}
-use Rattle.rounds.specs.Steps.{at_step, flushed_to, rounds_stores, rounds_wanted, rounds_taken}
-use Rattle.rounds.specs.Events.{IsStore, IsFlush, IsFence}
-use Rattle.rounds.specs.Stands.{kind_of, rounds_kind, IsLooseOn, RoundStands, IsSettled}
-use Rattle.rounds.proofs.Events.{event_cases, cases_wanted, store_wanted}
-use Rattle.rounds.proofs.Lines.{has_at, lines_are_stored}
+use Rattle.rounds.specs.Steps.{rounds_stores, rounds_wanted, want_or_done, rounds_taken}
+use Rattle.rounds.specs.Events.{IsFlush, IsFence}
+use Rattle.rounds.specs.Stands.{kind_of, rounds_kind, RoundStands, IsSettled}
+use Rattle.rounds.proofs.Events.{no_some, some_same, store_wanted}
+use Rattle.rounds.proofs.Lines.{lines_are_stored}
+use Rattle.rounds.proofs.Wanted.{by_event, flushed_wants}
+use Rattle.rounds.proofs.Settling.{fence_dirty, round_behind, begun_settled}
 use Rattle.repair_op.specs.declared.guarded.Guarded.{Guarded}
 use Rattle.directory_op.specs.Places.{entry_word}
 use Rattle.directory_op.proofs.Words.{entry_is, entry_no_root, entry_same, entry_no_slot, entry_from}
-use Rattle.directory_op.proofs.stages.Rounding.{line_within, round_behind, begun_settled}
+use Rattle.directory_op.proofs.stages.Rounding.{line_within}
 use Rattle.redirect_op.specs.declared.step.RedirectStep.TheVariants.{Store, Settle}
 use Rattle.redirect_op.specs.declared.op.RedirectOp.{RedirectOp}
-use Rattle.redirect_op.specs.Steps.{shape_of, slot_or_zero, side_of, store_to, go, want_or_none, stored_by, with_rounds, stored, settled_to, next_in}
+use Rattle.redirect_op.specs.Steps.{shape_of, slot_or_zero, side_of, store_to, go, stored_by, with_rounds, stored, settled_to, next_in}
 use Rattle.redirect_op.specs.Stands.{facts_of, IsGuarding, IsRooted, LeadsBehind, LeadsPast, LeadBelow, ComesNext, AreToSettle, AreSettled, SuitsStep}
 use Rattle.redirect_op.proofs.Holding.{GoesOn, guarding_stays, rooted_stays, behind_stays, past_stays, round_may, enter_may, settle_may}
 use Rattle.redirect_op.proofs.Onward.{below_or_last, onward, below_stays, next_stays}
-
-pub some_same : {A : Type 0} {x y : A} → Some x ≡ Some y → x ≡ y
-some_same e = cc
-
-pub none_some : {A : Type 0} {x : A} → Some x ≡ None → ⊥
-none_some e = cc
-
--- ---- the events of the rounds, by cases
-module _ (rounds : Rounds) (next : Option (ℕ × ℕ)) (C : Option Want → Type 0)
-    (store : (p : ℕ × ℕ) → next ≡ Some p → rounds_stores rounds next ≡ true → (w : Want) → IsStore rounds next w → C (Some (want.Store p.0 p.1)))
-    (flush : (line : ℕ) → rounds_wanted rounds next ≡ Some (want.Flush line) → Has line rounds.round → (w : Want) → IsFlush rounds next w → C (Some (want.Flush line)))
-    (fence : rounds_wanted rounds next ≡ Some want.Fence → (w : Want) → IsFence rounds next w → C (Some want.Fence)) where
-  by_want : (w : Want) → rounds_wanted rounds next ≡ Some w → C (Some w)
-  by_want w e = elim (event_cases rounds next w e) [
-    | inl s ↦ subst (λ (x : Want). C (Some x)) (sym s.wants) (store (s.word, s.value) s.comes s.stores w s)
-    | inr f ↦ elim f [
-      | inl f ↦ subst (λ (x : Want). C (Some x)) (sym f.wants) (flush (slice_index rounds.round f.number) (e ∙ ap Some f.wants) (has_at rounds.round f.number f.low) w f)
-      | inr f ↦ subst (λ (x : Want). C (Some x)) (sym f.wants) (fence (e ∙ ap Some f.wants) w f)
-    ]
-  ]
-
-  pub by_event : rounds_wanted rounds next ≢ None → C (rounds_wanted rounds next)
-  by_event some = elim (cases_wanted (rounds_wanted rounds next)) [
-    | inl none ↦ absurd (some none)
-    | inr w ↦ subst C (sym w.1) (by_want w.0 w.1)
-  ]
-
--- all is flushed where a fence is wanted
-fence_dirty : (rounds : Rounds) (next : Option (ℕ × ℕ)) (w : Want) (v : View) → RoundStands rounds v → IsFence rounds next w → v.dirty ≡ []
-fence_dirty rounds next w v r f = elim f.step [
-  | inl e ↦ subst (λ (t : RoundStep). IsLooseOn rounds.round t v) e r.loose
-  | inr past ↦
-      let loose : IsLooseOn rounds.round (Flushing past.0) v = subst (λ (t : RoundStep). IsLooseOn rounds.round t v) past.1 r.loose in
-      absurd (over past.0 (length rounds.round) loose.0 past.2)
-]
-  where
-    over : (i n : ℕ) → i < n → n ≤ i → ⊥
-    over i n low high = omega (arith, low, high)
-
--- behind a flush another one is wanted, or a fence
-pub flushed_wants : (lines : List ℕ) (i : ℕ) (next : Option (ℕ × ℕ)) → (w : Want) × (rounds_wanted (at_step lines (flushed_to lines i)) next ≡ Some w)
-flushed_wants lines i next = elim (cases_lt (i + 1) (length lines)) [
-  | inl more ↦ subst (λ b. (w : Want) × (rounds_wanted (at_step lines (cond b (Flushing (i + 1)) Fencing)) next ≡ Some w)) (sym (lt-ltb (i + 1) (length lines) more)) (_, refl)
-  | inr last ↦ subst (λ b. (w : Want) × (rounds_wanted (at_step lines (cond b (Flushing (i + 1)) Fencing)) next ≡ Some w)) (sym (le-ltb (i + 1) (length lines) last)) (_, refl)
-]
 
 module _ (site : Ground) (ground : IsGround site) (here : Site) (call : Call) (op : RedirectOp) (v : View) where
   abbrev g : Guarded
@@ -261,7 +215,7 @@ module _ (site : Ground) (ground : IsGround site) (here : Site) (call : Call) (o
 
       -- WHAT AN EVENT OF THE ROUNDS LEAVES
       abbrev Behind : Option Want → Type 0
-      Behind o = Stood (next_in op (Store index) (answer_to (want_or_none o) n)) (view_by shape (kind_of [] o) n v)
+      Behind o = Stood (next_in op (Store index) (answer_to (want_or_done o) n)) (view_by shape (kind_of [] o) n v)
 
       pub store_stands : rounds_wanted op.rounds next ≢ None → Behind (rounds_wanted op.rounds next)
       store_stands some = by_event op.rounds next Behind
@@ -271,8 +225,8 @@ module _ (site : Ground) (ground : IsGround site) (here : Site) (call : Call) (o
           some
 
       -- what is wanted, and may be done
-      pub store_wants : rounds_wanted op.rounds next ≢ None → want_or_none (rounds_wanted op.rounds next) ≡ wanted_of shape (rounds_kind op.rounds next [])
-      store_wants some = by_event op.rounds next (λ o. want_or_none o ≡ wanted_of shape (kind_of [] o)) (λ p e on d is. refl) (λ line e has d is. refl) (λ e d is. refl) some
+      pub store_wants : rounds_wanted op.rounds next ≢ None → want_or_done (rounds_wanted op.rounds next) ≡ wanted_of shape (rounds_kind op.rounds next [])
+      store_wants some = by_event op.rounds next (λ o. want_or_done o ≡ wanted_of shape (kind_of [] o)) (λ p e on d is. refl) (λ line e has d is. refl) (λ e d is. refl) some
 
       pub store_takes : rounds_wanted op.rounds next ≢ None → MayTake site (rounds_kind op.rounds next []) v
       store_takes some = by_event op.rounds next (λ o. MayTake site (kind_of [] o) v)
@@ -284,7 +238,7 @@ module _ (site : Ground) (ground : IsGround site) (here : Site) (call : Call) (o
   -- ---- all is settled
   module _ (s : AreToSettle site here g op.root op.rounds v) where
     settle_lines : (line : ℕ) → Has line (rounds_taken op.rounds None).round → 8 * line + 8 ≤ words_of shape
-    settle_lines = (lines_are_stored (λ line. 8 * line + 8 ≤ words_of shape)).keeps op.rounds None s.in_rounds.lines (λ word value e. absurd (none_some (sym e)))
+    settle_lines = (lines_are_stored (λ line. 8 * line + 8 ≤ words_of shape)).keeps op.rounds None s.in_rounds.lines (λ word value e. absurd (no_some e))
 
     pub last_may : v.dirty ≡ [] → MayAt site (settles (facts_of g)) v
     last_may clean = settle_may site ground here g op.root v s.below.rooted (λ q loose. (let e = s.below.loose q loose in (e.0, e.2, e.3))) s.below.behind clean
@@ -294,7 +248,7 @@ module _ (site : Ground) (ground : IsGround site) (here : Site) (call : Call) (o
       later = with_rounds op None
 
       abbrev Settled : Option Want → Type 0
-      Settled o = Stood (next_in op Settle (answer_to (want_or_none o) n)) (view_by shape (kind_of (facts_of g) o) n v)
+      Settled o = Stood (next_in op Settle (answer_to (want_or_done o) n)) (view_by shape (kind_of (facts_of g) o) n v)
 
       flush_settles : (line : ℕ) → rounds_wanted op.rounds None ≡ Some (want.Flush line) → (d : Want) → IsFlush op.rounds None d → Settled (Some (want.Flush line))
       flush_settles line e d is =
@@ -303,7 +257,7 @@ module _ (site : Ground) (ground : IsGround site) (here : Site) (call : Call) (o
           subst (λ (o : Option Want). SuitsStep site here call (go later (settled_to o)) (settled_to o) (flushed n line)) (sym wants) (record {
             below = below_stays site here g op.root op.rounds (rounds_taken op.rounds None) v (flushed n line) (keeps_flushed n line) (2 ^ op.root) (flushed_loose n line) s.below;
             in_rounds = record { round = round_behind shape op.rounds None n v s.in_rounds.round (facts_of g) (want.Flush line) e; lines = settle_lines };
-            open_round = λ none. none_some (sym wants ∙ none);
+            open_round = λ none. no_some (sym none ∙ wants);
           })
 
       fence_settles : rounds_wanted op.rounds None ≡ Some want.Fence → (d : Want) → IsFence op.rounds None d → Settled (Some want.Fence)
@@ -313,14 +267,14 @@ module _ (site : Ground) (ground : IsGround site) (here : Site) (call : Call) (o
           (told_settled n s.below.rooted.guarding (begun_settled (rounds_taken op.rounds None) (told n) is.leaves round))
 
       pub settle_stands : Settled (rounds_wanted op.rounds None)
-      settle_stands = by_event op.rounds None Settled (λ p e on d is. absurd (none_some (sym e))) (λ line e has d is. flush_settles line e d is) (λ e d is. fence_settles e d is) s.open_round
+      settle_stands = by_event op.rounds None Settled (λ p e on d is. absurd (no_some e)) (λ line e has d is. flush_settles line e d is) (λ e d is. fence_settles e d is) s.open_round
 
-      pub settle_wants : want_or_none (rounds_wanted op.rounds None) ≡ wanted_of shape (rounds_kind op.rounds None (facts_of g))
-      settle_wants = by_event op.rounds None (λ o. want_or_none o ≡ wanted_of shape (kind_of (facts_of g) o)) (λ p e on d is. refl) (λ line e has d is. refl) (λ e d is. refl) s.open_round
+      pub settle_wants : want_or_done (rounds_wanted op.rounds None) ≡ wanted_of shape (rounds_kind op.rounds None (facts_of g))
+      settle_wants = by_event op.rounds None (λ o. want_or_done o ≡ wanted_of shape (kind_of (facts_of g) o)) (λ p e on d is. refl) (λ line e has d is. refl) (λ e d is. refl) s.open_round
 
       pub settle_takes : MayTake site (rounds_kind op.rounds None (facts_of g)) v
       settle_takes = by_event op.rounds None (λ o. MayTake site (kind_of (facts_of g) o) v)
-          (λ p e on d is. absurd (none_some (sym e)))
+          (λ p e on d is. absurd (no_some e))
           (λ line e has d is. (tt, tt))
           (λ e d is. last_may (fence_dirty op.rounds None d v s.in_rounds.round is))
           s.open_round

@@ -1,7 +1,6 @@
 -- Each event is of its kind, may be taken, and leaves a view that stands for the next step.
-use Rattle.std.proofs.Common.{◌≡◌, ◌≢◌, ℕ, ◌≤◌, inl, inr, cond, Option, None, Some, length, refl, sym, ap, ◌∙◌, subst}
+use Rattle.std.proofs.Common.{◌≡◌, ◌≢◌, ℕ, inl, inr, None, Some, refl, sym, ap, ◌∙◌, subst}
 use Rattle.std.specs.Prelude.{◌==◌}
-use Rattle.std.proofs.lemmas.Bool.{le-ltb}
 use Rattle.trace.specs.Events.{Words}
 use Rattle.op_core.specs.declared.want.Want.{Want}
 use Rattle.op_core.specs.declared.want.Want.TheVariants as want
@@ -16,8 +15,8 @@ use Rattle.world.specs.Wants.{answer_to, word_of}
 use Rattle.world.specs.areas.Areas.{Directory}
 use Rattle.world.specs.areas.Asking.{MayBeNewest}
 use Rattle.world.specs.StepKinds.{wanted_of, view_by, MayTake}
-use Rattle.rounds.specs.declared.rounds.Rounds.{Rounds}
-use Rattle.rounds.specs.Steps.{rounds_wanted}
+use Rattle.rounds.specs.Steps.{rounds_wanted, want_or_done}
+use Rattle.rounds.proofs.Wanted.{event_is}
 use Rattle.repair_op.specs.declared.guarded.Guarded.{Guarded}
 use Rattle.repair_op.proofs.Words.{guard_is}
 use Rattle.repair_op.proofs.Giving.{give_may as guard_may, give_stands as guard_given}
@@ -27,16 +26,12 @@ use Rattle.redirect_op.specs.declared.step.RedirectEnd.TheVariants as ends
 use Rattle.redirect_op.specs.declared.step.RedirectStep.{RedirectStep}
 use Rattle.redirect_op.specs.declared.step.RedirectStep.TheVariants.{Guard, Root, Entry, Head, Store, Settle, Fence, GiveDirectory, Give, Ended}
 use Rattle.redirect_op.specs.declared.op.RedirectOp.{RedirectOp}
-use Rattle.redirect_op.specs.Steps.{shape_of, store_to, want_or_none, put_wanted, wanted_in, next_in}
+use Rattle.redirect_op.specs.Steps.{shape_of, store_to, wanted_in, next_in}
 use Rattle.redirect_op.specs.Stands.{kind_at, SuitsStep}
 use Rattle.redirect_op.proofs.Holding.{has_directory}
 use Rattle.redirect_op.proofs.Onward.{root_stands, entry_stands, head_stands}
 use Rattle.redirect_op.proofs.Rounding.{store_stands, store_wants, store_takes, settle_stands, settle_wants, settle_takes, fence_takes, fence_stands}
 use Rattle.redirect_op.proofs.Guarding.{take_may, take_stands, give_may, given_stands}
-
--- of a round that has no more lines than it may, what the rounds want is wanted
-pub put_is : (rounds : Rounds) (next : Option (ℕ × ℕ)) → length rounds.round ≤ 8 → put_wanted rounds next ≡ want_or_none (rounds_wanted rounds next)
-put_is rounds next few = ap (λ b. cond b want.Done (want_or_none (rounds_wanted rounds next))) (le-ltb 8 (length rounds.round) few)
 
 module _ (site : Ground) (ground : IsGround site) (here : Site) (call : Call) (op : RedirectOp) (v : View) where
   abbrev g : Guarded
@@ -47,7 +42,7 @@ module _ (site : Ground) (ground : IsGround site) (here : Site) (call : Call) (o
 
   -- the rounds want an event where one is wanted
   store_some : (index : ℕ) → Suited (Store index) → wanted_in op (Store index) ≢ want.Done → rounds_wanted op.rounds (Some (store_to op index)) ≢ None
-  store_some index s asks none = asks (put_is op.rounds (Some (store_to op index)) s.0.in_rounds.round.few ∙ ap want_or_none none)
+  store_some index s asks none = asks (event_is op.rounds (Some (store_to op index)) s.0.in_rounds.round.few ∙ ap want_or_done none)
 
   pub wants_at : (s : RedirectStep) (words : Words) → MayBeNewest site v words → op.step ≡ s → Suited s → wanted_in op s ≢ want.Done → wanted_in op s ≡ wanted_of site.shape (kind_at op s)
   wants_at Guard words new is s asks = ap (λ (t : Shape). want.Exchange (directory_guard t) 0 g.site.caller) s.0.here_is.shape
@@ -56,8 +51,8 @@ module _ (site : Ground) (ground : IsGround site) (here : Site) (call : Call) (o
       ap want.Load (entry_is (shape_of op) site.shape op.root index s.below.rooted.guarding.here_is.shape s.below.rooted.within ground.shape.depth s.of_side.index)
   wants_at (Head index slot) words new is s asks = ap want.Load (head_is (shape_of op) site.shape slot s.0.below.rooted.guarding.here_is.shape (new.says (Lives slot) s.2).slot)
   wants_at (Store index) words new is s asks =
-      put_is op.rounds (Some (store_to op index)) s.0.in_rounds.round.few ∙ store_wants site ground here call op v index s.0 is s.1 0 (store_some index s asks)
-  wants_at Settle words new is s asks = put_is op.rounds None s.in_rounds.round.few ∙ settle_wants site ground here call op v s 0
+      event_is op.rounds (Some (store_to op index)) s.0.in_rounds.round.few ∙ store_wants site ground here call op v index s.0 is s.1 0 (store_some index s asks)
+  wants_at Settle words new is s asks = event_is op.rounds None s.in_rounds.round.few ∙ settle_wants site ground here call op v s 0
   wants_at Fence words new is s asks = refl
   wants_at GiveDirectory words new is s asks = ap (λ (t : Shape). want.Store (directory_guard t) 0) s.guarding.here_is.shape
   wants_at (Give end) words new is s asks = ap (λ i. want.Store i 0) (guard_is site g s.0.shape s.2.within)
@@ -91,10 +86,10 @@ module _ (site : Ground) (ground : IsGround site) (here : Site) (call : Call) (o
   stands_at (Entry index) words n new is s asks found = entry_stands site ground here call op n v words new index s
   stands_at (Head index slot) words n new is s asks found = head_stands site ground here call op n v words new index slot s.0 s.1 s.2 (sym found)
   stands_at (Store index) words n new is s asks found =
-      subst (λ (w : Want). Stood (next_in op (Store index) (answer_to w n)) (view_by site.shape (kind_at op (Store index)) n v)) (sym (put_is op.rounds (Some (store_to op index)) s.0.in_rounds.round.few))
+      subst (λ (w : Want). Stood (next_in op (Store index) (answer_to w n)) (view_by site.shape (kind_at op (Store index)) n v)) (sym (event_is op.rounds (Some (store_to op index)) s.0.in_rounds.round.few))
       (store_stands site ground here call op v index s.0 is s.1 n (store_some index s asks))
   stands_at Settle words n new is s asks found =
-      subst (λ (w : Want). Stood (next_in op Settle (answer_to w n)) (view_by site.shape (kind_at op Settle) n v)) (sym (put_is op.rounds None s.in_rounds.round.few))
+      subst (λ (w : Want). Stood (next_in op Settle (answer_to w n)) (view_by site.shape (kind_at op Settle) n v)) (sym (event_is op.rounds None s.in_rounds.round.few))
       (settle_stands site ground here call op v s n)
   stands_at Fence words n new is s asks found = fence_stands site ground here call op v s.0 s.1 n
   stands_at GiveDirectory words n new is s asks found = given_stands site ground here call op v s n

@@ -1,5 +1,5 @@
 -- What the redirecting of entries wants in each step, and what an answer makes of it; and how it ends.
-use Rattle.std.specs.Prelude.{ℕ, ◌+◌, ◌*◌, ◌%◌, ◌^◌, nat_le, nat_lt, min, Bool, true, false, Option, None, Some, length, if◌then◌else◌}
+use Rattle.std.specs.Prelude.{ℕ, ◌+◌, ◌*◌, ◌%◌, ◌^◌, nat_le, nat_lt, min, Bool, true, false, Option, None, Some, if◌then◌else◌}
 use Rattle.segment_head.specs.HeadWord.{depth_in, pattern_in, header_of}
 use Rattle.image_layout.specs.Places.{Shape, root_word}
 use Rattle.image_layout.specs.Volatile.{directory_guard}
@@ -9,9 +9,7 @@ use Rattle.op_core.specs.declared.want.Ans.{Ans}
 use Rattle.op_core.specs.declared.want.Ans.TheVariants.{Value, Won, Lost, Passed}
 use Rattle.op_core.specs.declared.why.Why.TheVariants.{Busy}
 use Rattle.way.specs.Ways.{head_word}
-use Rattle.whole_segment.specs.Rounds.{most_lines}
-use Rattle.rounds.specs.declared.rounds.Rounds.{Rounds}
-use Rattle.rounds.specs.Steps.{rounds_stores, rounds_wanted, rounds_taken}
+use Rattle.rounds.specs.Steps.{rounds_stores, rounds_wanted, event_wanted, rounds_taken}
 use Rattle.rounds.specs.Steps as rounds
 use Rattle.directory_op.specs.Places.{entry_word, side_first, side_last}
 use Rattle.repair_op.specs.declared.guarded.Guarded.{Guarded}
@@ -99,14 +97,6 @@ abbrev pub busy : ℕ → ℕ → RedirectEnd
 busy word seen = ends.Again (Busy word seen)
 
 -- ---- the machine
-abbrev pub want_or_none : Option Want → Want
-want_or_none (Some wanted) = wanted
-want_or_none None = want.Done
-
--- the event of the rounds, which have eight lines at the most
-abbrev pub put_wanted : Rounds → Option (ℕ × ℕ) → Want
-put_wanted rounds next = if nat_lt most_lines (length rounds.round) then want.Done else want_or_none (rounds_wanted rounds next)
-
 module _ (op : RedirectOp) where
   -- THE EVENT that it wants
   abbrev pub wanted_in : RedirectStep → Want
@@ -114,8 +104,8 @@ module _ (op : RedirectOp) where
   wanted_in Root = want.Load root_word
   wanted_in (Entry index) = want.Load (entry_word (shape_of op) op.root index)
   wanted_in (Head index slot) = want.Load (head_word (shape_of op) slot)
-  wanted_in (Store index) = put_wanted op.rounds (Some (store_to op index))
-  wanted_in Settle = put_wanted op.rounds None
+  wanted_in (Store index) = event_wanted op.rounds (Some (store_to op index))
+  wanted_in Settle = event_wanted op.rounds None
   wanted_in Fence = want.Fence
   wanted_in GiveDirectory = want.Store (directory_guard (shape_of op)) 0
   wanted_in (Give end) = want.Store (guard_of op.guarded) 0

@@ -2,7 +2,7 @@
 
 ghost use Rattle.std.specs.Prelude.{◌≡◌, ◌↔◌, IsTrue, true};
 ghost use Rattle.op_core.specs.declared.want.Want.TheVariants as want;
-ghost use Rattle.redirect_op.specs.Steps.{begun, side_head, store_to, behind, rooted, met_head, stored, settled, put_wanted, busy, wanted, taken, end_of, is_redirected};
+ghost use Rattle.redirect_op.specs.Steps.{begun, side_head, store_to, behind, rooted, met_head, stored, settled, busy, wanted, taken, end_of, is_redirected};
 
 use crate::step::{RedirectEnd, RedirectStep};
 use directory_op::places::{entry_word, side_first, side_last};
@@ -12,7 +12,6 @@ use repair_op::Guarded;
 use rounds::Rounds;
 use segment_head::word::{depth_of, header_of, pattern_of};
 use way::head_word;
-use whole_segment::MOST_LINES;
 
 /// The redirecting of the entries of a stale segment's 1-side.
 #[derive(Clone, Copy, Debug, PartialEq, Eq)]
@@ -37,19 +36,6 @@ fn side_head(head: u64) -> u64
         depth_of(head).wrapping_add(1),
         pattern_of(head).wrapping_mul(2).wrapping_add(1),
     )
-}
-
-/// The event of the rounds, where this store comes next, or none does.
-fn put_want(rounds: &Rounds, next: Option<(u64, u64)>) -> Want
-    ensures { result ≡ put_wanted rounds.now next }
-{
-    if rounds.round.count() > MOST_LINES {
-        return Want::Done;
-    }
-    match rounds.want(next) {
-        Some(want) => want,
-        None => Want::Done,
-    }
 }
 
 /// The end of an attempt that found this word of a guard taken, by this number.
@@ -184,8 +170,8 @@ fn want_of(op: &RedirectOp) -> Want
         RedirectStep::Root => Want::Load(ROOT_WORD),
         RedirectStep::Entry(index) => Want::Load(entry_word(geometry, op.root, index)),
         RedirectStep::Head(_, slot) => Want::Load(head_word(geometry, slot)),
-        RedirectStep::Store(index) => put_want(&op.rounds, Some(op.store_to(index))),
-        RedirectStep::Settle => put_want(&op.rounds, None),
+        RedirectStep::Store(index) => op.rounds.event(Some(op.store_to(index))),
+        RedirectStep::Settle => op.rounds.event(None),
         RedirectStep::Fence => Want::Fence,
         RedirectStep::GiveDirectory => Want::Store(geometry.directory_guard(), 0),
         RedirectStep::Give(_) => Want::Store(guarded.guard(), 0),
