@@ -13,6 +13,8 @@ use Rattle.world.specs.Views.{View, Has}
 use Rattle.world.specs.areas.Areas.{Area, Segment, Stale, Side, header_word, link_word}
 use Rattle.world.specs.areas.Kinds.{of_segment, takes, finds_stale, finds_link, finds_side, with_guard, with_area, with_facts, told_by_side, is_new_side, is_ready_side, view_then}
 use Rattle.world.specs.areas.Asking.{MayBeNewest, IsStaleSplit, MayAt}
+use Rattle.rounds.specs.Stands.{IsSettled}
+use Rattle.rounds.proofs.Settling.{settled_firm}
 use Rattle.repair_op.specs.declared.guarded.Guarded.{Guarded}
 use Rattle.repair_op.specs.declared.op.RepairOp.{RepairOp}
 use Rattle.repair_op.specs.declared.step.RepairEnd.TheVariants as ends
@@ -21,8 +23,8 @@ use Rattle.repair_op.specs.declared.step.RepairStep.{RepairStep}
 use Rattle.repair_op.specs.declared.step.RepairStep.TheVariants.{Guard, Head, Link, Side as LoadSide, Slots, Unmark, Give, Ended}
 use Rattle.repair_op.specs.Guarded.{RunsHere, IsOld, HasState}
 use Rattle.repair_op.specs.Steps.{go, guarded_as, with_head, with_side, headed, linked, met_side, next_in}
-use Rattle.repair_op.specs.Stands.{HoldsJust, IsSettled, stale_areas, IsCutOff, SuitsStep}
-use Rattle.repair_op.proofs.Holding.{settled_loose, settled_knows, settled_quiet, has_area, was_area, no_sides}
+use Rattle.repair_op.specs.Stands.{HoldsJust, stale_areas, IsCutOff, SuitsStep}
+use Rattle.repair_op.proofs.Holding.{settled_knows, settled_quiet, has_area, was_area, no_sides}
 
 -- a ready side is live, and so no new one
 pub ready_not_new : (depth pattern head : ℕ) → is_ready_side depth pattern head ≡ true → is_new_side depth pattern head ≡ true → ⊥
@@ -134,7 +136,7 @@ module _ (site : Ground) (here : Site) (call : Call) (op : RepairOp) (runs : Run
   }
 
   pub link_may : Suited Link → MayAt site (finds_link g.segment (depth_in g.head) (pattern_in g.head)) v
-  link_may s = (split_of (stale_areas site g) s.0 s.1 (inl refl) s.3 s.2.header, λ y loose. settled_loose v s.3 _ loose)
+  link_may s = (split_of (stale_areas site g) s.0 s.1 (inl refl) s.3 s.2.header, λ y loose. settled_firm v s.3 _ loose)
 
   pub link_stands : (words : Words) (new : MayBeNewest site v words) (n : ℕ) → n ≡ words (link_word site.shape g.segment) → Suited Link
       → SuitsStep site here call g (linked n) (view_then site.shape (finds_link g.segment (depth_in g.head) (pattern_in g.head)) n v)

@@ -24,15 +24,17 @@ use Rattle.world.proofs.fitting.Filtered.{has_filtered}
 use Rattle.world.proofs.fitting.Rows.{but_before, but_after}
 use Rattle.world.proofs.moving.Holding.{out_of_slot_has}
 use Rattle.world.proofs.holders.repairing.TakingBack.{may_take_back}
+use Rattle.rounds.specs.Stands.{IsSettled}
+use Rattle.rounds.proofs.Settling.{settled_firm}
 use Rattle.repair_op.specs.declared.guarded.Guarded.{Guarded}
 use Rattle.repair_op.specs.declared.step.Settling.TheVariants as settling
 use Rattle.repair_op.specs.declared.step.RepairStep.{RepairStep}
 use Rattle.repair_op.specs.declared.step.RepairStep.TheVariants.{Slots, Free, GiveSlots, Unmark}
 use Rattle.repair_op.specs.Guarded.{RunsHere, IsOfHead}
 use Rattle.repair_op.specs.Steps.{with_state}
-use Rattle.repair_op.specs.Stands.{IsSettled, owned_side, IsSideFound, HasFreed, HoldsGuard, SuitsStep}
+use Rattle.repair_op.specs.Stands.{owned_side, IsSideFound, HasFreed, HoldsGuard, SuitsStep}
 use Rattle.repair_op.proofs.Words.{one_header, header_no_link, head_is}
-use Rattle.repair_op.proofs.Holding.{settled_loose, settled_knows, has_area, was_area, no_sides_freed, stale_held}
+use Rattle.repair_op.proofs.Holding.{settled_knows, has_area, was_area, no_sides_freed, stale_held}
 use Rattle.repair_op.proofs.Finding.{new_is_fresh}
 use Rattle.repair_op.proofs.Storing.{state_header, stays_out, header_in, header_out, stored_loose, flushed_none, fence_may}
 
@@ -155,7 +157,7 @@ module _ (site : Ground) (ground : IsGround site) (here : Site) (call : Call) (g
   -- ---- the guard of free slots is taken
   module _ (slot side : ℕ) (s : Suited (Slots slot side)) where
     pub slots_take_may : MayAt site (takes_for_side slot g.site.caller) v
-    slots_take_may = (runs.numbered, λ p loose inside. settled_loose v s.3 p loose, (side, s.2, new_is_dead _ _ side s.0.new))
+    slots_take_may = (runs.numbered, λ p loose inside. settled_firm v s.3 p loose, (side, s.2, new_is_dead _ _ side s.0.new))
 
     -- where it is lost, the side is left
     lost_known : (p : ℕ × ℕ) → Has p (out_of_slot site.shape slot v.known) → IsOfHead site g p.0
@@ -195,7 +197,7 @@ module _ (site : Ground) (ground : IsGround site) (here : Site) (call : Call) (g
   pub slots_may : Suited GiveSlots → MayAt site (gives of_free_slots) v
   slots_may s = (
     has_area v _ Allocation s.holds.areas_are (inr (inl refl)),
-    λ p loose of_it. settled_loose v s.settled p loose,
+    λ p loose of_it. settled_firm v s.settled p loose,
     λ n side. absurd (no_sides_freed g.segment s.slot v s.holds.areas_are n side),
   )
 

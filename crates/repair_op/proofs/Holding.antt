@@ -3,26 +3,22 @@ use Rattle.std.proofs.Common.{◌≡◌, ℕ, List, [], ◌∷◌, inl, inr, ref
 use Rattle.trace.specs.Events.{Words}
 use Rattle.segment_head.specs.HeadWord.{version_in}
 use Rattle.world.specs.Ground.{Ground}
-use Rattle.world.specs.Views.{View, Has, HasLock, IsLoose}
+use Rattle.world.specs.Views.{View, Has, HasLock}
 use Rattle.world.specs.Holders.{KnowsWord}
 use Rattle.world.specs.areas.Areas.{Area, Segment, Stale, Side, Free, Allocation, header_word}
 use Rattle.world.specs.areas.Rows.{HasNoSides}
 use Rattle.world.specs.areas.Splitting.{IsSettledHolder}
 use Rattle.world.specs.areas.Repairing.{HasStale}
 use Rattle.phase.specs.Giving.{IsQuiet}
+use Rattle.rounds.specs.Stands.{IsSettled}
+use Rattle.rounds.proofs.Settling.{settled_firm}
 use Rattle.repair_op.specs.declared.guarded.Guarded.{Guarded}
 use Rattle.repair_op.specs.Guarded.{IsOld, GuardedAreStale}
-use Rattle.repair_op.specs.Stands.{HoldsJust, IsSettled, stale_areas}
+use Rattle.repair_op.specs.Stands.{HoldsJust, stale_areas}
 
--- ---- nothing is loose
-pub settled_loose : (v : View) → IsSettled v → (p : ℕ × ℕ) → IsLoose v p → ⊥
-settled_loose v settled p loose = elim loose [
-  | inl dirty ↦ subst (λ (l : List (ℕ × ℕ)). Has p l) settled.dirty dirty
-  | inr flushed ↦ subst (λ (l : List (ℕ × ℕ)). Has p l) settled.flushed flushed
-]
-
+-- ---- where all is settled
 pub settled_knows : (v : View) (i x : ℕ) → IsSettled v → Has (i, x) v.known → KnowsWord v i x
-settled_knows v i x settled known = record { known = known; firm = λ y loose. settled_loose v settled (i, y) loose }
+settled_knows v i x settled known = record { known = known; firm = λ y loose. settled_firm v settled (i, y) loose }
 
 pub settled_quiet : (areas : List Area) (v : View) → HoldsJust areas v → IsSettled v → IsQuiet v
 settled_quiet areas v holds settled = record { dirty = settled.dirty; flushed = settled.flushed; planned = holds.planned; moving = holds.moving; owed = holds.owed }

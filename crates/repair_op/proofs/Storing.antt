@@ -18,8 +18,9 @@ use Rattle.world.specs.areas.Splitting.{IsHeader}
 use Rattle.world.proofs.basics.Seats.{loosened_has}
 use Rattle.world.proofs.fitting.Filtered.{has_filtered}
 use Rattle.phase.proofs.locks.Giving.{nothing_left}
+use Rattle.rounds.specs.Stands.{IsSettled}
 use Rattle.repair_op.specs.Steps.{with_state}
-use Rattle.repair_op.specs.Stands.{IsSettled, HasStoredAlone}
+use Rattle.repair_op.specs.Stands.{HasStoredAlone}
 
 -- ---- a header with another state
 module _ (head state : ℕ) (fits : head < 2 ^ 64) (low : state < 2 ^ 8) where

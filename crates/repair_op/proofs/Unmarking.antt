@@ -15,13 +15,14 @@ use Rattle.world.specs.areas.Asking.{MayAt}
 use Rattle.world.specs.areas.Splitting.{IsHeader}
 use Rattle.world.proofs.basics.Seats.{without_has}
 use Rattle.world.proofs.holders.repairing.TakingBack.{may_take_back}
+use Rattle.rounds.specs.Stands.{IsSettled}
 use Rattle.repair_op.specs.declared.guarded.Guarded.{Guarded}
 use Rattle.repair_op.specs.declared.step.Settling.TheVariants as settling
 use Rattle.repair_op.specs.declared.step.RepairStep.{RepairStep}
 use Rattle.repair_op.specs.declared.step.RepairStep.TheVariants.{Unmark}
 use Rattle.repair_op.specs.Guarded.{RunsHere, HasState, KeepsGuarded}
 use Rattle.repair_op.specs.Steps.{with_state, with_head}
-use Rattle.repair_op.specs.Stands.{IsSettled, stale_areas, SuitsStep}
+use Rattle.repair_op.specs.Stands.{stale_areas, SuitsStep}
 use Rattle.repair_op.proofs.Words.{head_is}
 use Rattle.repair_op.proofs.Holding.{settled_knows, no_sides, stale_held}
 use Rattle.repair_op.proofs.Storing.{state_header, state_small, stored_loose, flushed_none, fence_may}

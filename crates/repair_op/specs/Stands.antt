@@ -17,6 +17,7 @@ use Rattle.world.specs.areas.Kinds.{of_segment, of_free_slots, is_new_side, take
 use Rattle.world.specs.areas.Repairing.{side_depth_in, side_pattern_in}
 use Rattle.world.specs.StepKinds.{StepKind, of_call, of_structure}
 use Rattle.phase.specs.Giving.{IsQuiet}
+use Rattle.rounds.specs.Stands.{IsSettled}
 use Rattle.repair_op.specs.declared.guarded.Guarded.{Guarded}
 use Rattle.repair_op.specs.declared.step.RepairEnd.{RepairEnd}
 use Rattle.repair_op.specs.declared.step.RepairEnd.TheVariants as ends
@@ -54,11 +55,6 @@ pub record HoldsJust (areas : List Area) (v : View) : Type 0 where
   pub planned : v.planned ≡ []
   pub moving : v.moving ≡ []
   pub owed : v.owed ≡ []
-
--- nothing is unsettled
-pub record IsSettled (v : View) : Type 0 where
-  pub dirty : v.dirty ≡ []
-  pub flushed : v.flushed ≡ []
 
 -- this word alone was stored and not flushed
 pub record HasStoredAlone (i : ℕ) (v : View) : Type 0 where
