@@ -1,7 +1,7 @@
 -- Overflow notes: what home buckets remember of their records that stand in the stash.
 use Rattle.std.specs.Prelude.{◌≡◌, ℕ, zero, suc, ◌+◌, ◌≤◌, ◌==◌, ◌&&◌, List, [], ◌∷◌, ◌++◌, length, filter, if◌then◌else◌}
 use Rattle.std.specs.List.{flat_map}
-use Rattle.bucket_meta.specs.Bucket.{note_used, note_member}
+use Rattle.bucket_meta.specs.Bucket.{note_used, note_member, note_finger, note_index}
 
 -- the numbers below n
 abbrev pub numbers_below : ℕ → List ℕ
@@ -25,6 +25,10 @@ pub record IsNoteOn (w1 side i : ℕ) : Type 0 where
 abbrev pub notes_on : (used side_of finger_on index_on : ℕ → ℕ) → ℕ → List OverflowNote
 notes_on used side_of finger_on index_on side =
     flat_map (λ i. if (used i == 1) && (side_of i == side) then (finger_on i, index_on i) ∷ [] else []) (numbers_below 4)
+
+-- the notes of a bucket of one side, by its words 1 and 3
+abbrev pub notes_by : ℕ → ℕ → ℕ → List OverflowNote
+notes_by w1 w3 side = notes_on (λ i. note_used i w1) (λ i. note_member i w1) (λ i. note_finger i w1 w3) (λ i. note_index i w1) side
 
 -- notes and a count are exact for the records of one home that stand in the stash: the notes name different ones
 -- of them, and the count is the number of the others

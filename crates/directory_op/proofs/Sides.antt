@@ -18,8 +18,7 @@ use Rattle.world.specs.Ground.{Ground, IsGround, version_of}
 use Rattle.world.specs.areas.Areas.{header_word}
 use Rattle.world.specs.areas.Kinds.{is_in_slot}
 use Rattle.world.specs.areas.Splitting.{link_word, IsHeader}
-use Rattle.world.proofs.fitting.OneHolder.{head_in_slot}
-use Rattle.world.proofs.holders.filling.Filling.{link_in_slot}
+use Rattle.world.proofs.fitting.OneHolder.{head_in_slot, link_in_slot}
 use Rattle.world.proofs.moving.media.MediaKept.{bucket_in_slot}
 use Rattle.enclose_op.specs.declared.enclosed.Enclosed.{Enclosed}
 use Rattle.enclose_op.specs.Whole.{kept_words, IsOf, IsWhole}

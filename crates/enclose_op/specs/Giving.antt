@@ -4,16 +4,12 @@ use Rattle.op_core.specs.declared.want.Want.{Want}
 use Rattle.op_core.specs.declared.want.Want.TheVariants.{Store}
 use Rattle.image_layout.specs.Places.{Shape, root_word, buckets}
 use Rattle.image_layout.specs.Volatile.{segment_guard}
-use Rattle.way.specs.Ways.{bucket_word}
+use Rattle.way.specs.Ways.{bucket_word, slot_guard}
 use Rattle.enclose_op.specs.declared.enclosed.Enclosed.{Enclosed}
 use Rattle.enclose_op.specs.declared.give.Give.{Give}
 use Rattle.enclose_op.specs.declared.give.Give.TheVariants.{Lock, Guard}
 
 -- ---- its words
--- the guard of a slot; a slot that the image has not gives the root's word
-abbrev pub slot_guard : Shape → ℕ → ℕ
-slot_guard shape segment = if nat_lt segment shape.segments then segment_guard shape segment else root_word
-
 abbrev pub guard_of : Enclosed → ℕ
 guard_of e = slot_guard e.site.geometry e.segment
 

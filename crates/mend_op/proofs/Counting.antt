@@ -24,7 +24,7 @@ use Rattle.mend_op.specs.declared.op.MendOp.{MendOp}
 use Rattle.mend_op.specs.Stages.{most, place}
 use Rattle.mend_op.specs.Steps.{at_step, with_word, with_stored, prepared, is_changed, changed_from, due, noted_from, over, rounding_by, begin, rounded_by, loaded_by, wanted_in, next_in}
 use Rattle.mend_op.specs.MendPart.{after_stage, notes_left, round_left, fills_left, left_at, most_events}
-use Rattle.mend_op.proofs.Seeking.{seek_behind}
+use Rattle.rounds.proofs.Seeking.{seek_behind}
 use Rattle.mend_op.proofs.Dues.{due_is, stored_passed}
 
 abbrev left_of : MendOp → ℕ

@@ -3,7 +3,6 @@ pub mod whole
 pub mod rounds
 pub mod steps
 pub mod part
-pub mod Seeking
 pub mod Making
 pub mod Dues
 pub mod Counting

@@ -27,8 +27,3 @@ made_word Note shape head words = noted words shape head
 -- ALL WORDS THAT IT MAKES
 abbrev pub made : Stage → Shape → ℕ → List ℕ → List ℕ
 made stage shape head words = words_by words_of_buckets (made_word stage shape head words)
-
--- the first number from one on that passes a test, of so many; behind them where none does
-unfoldable pub seek : (ℕ → Bool) → ℕ → ℕ → ℕ
-seek test zero from = from
-seek test (suc n) from = if test from then from else seek test n (from + 1)

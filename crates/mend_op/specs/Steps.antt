@@ -20,7 +20,8 @@ use Rattle.mend_op.specs.declared.op.MendStep.{MendStep}
 use Rattle.mend_op.specs.declared.op.MendStep.TheVariants.{Fill, Round, Finish, FinishFlush, FinishFence, Note, Renew, RenewFlush, RenewFence, Give, Ended}
 use Rattle.mend_op.specs.declared.op.MendOp.{MendOp}
 use Rattle.mend_op.specs.Words.{finished_head, renewed_head}
-use Rattle.mend_op.specs.Stages.{most, place, made, seek}
+use Rattle.mend_op.specs.Stages.{most, place, made}
+use Rattle.rounds.specs.Seeking.{seek}
 
 -- ---- where words stand
 -- the header word of the segment, and the word of its buckets of this number

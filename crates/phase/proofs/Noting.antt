@@ -1,8 +1,7 @@
 -- The notes of a home, by words 1 and 3 of its home bucket and of its probing bucket, and what is said there of the homes beside it.
 use Rattle.std.proofs.Common.{◌≡◌, ◌≢◌, ℕ, List, ◌++◌, arith}
 use Rattle.bucket_meta.specs.Bucket.{overflow_count}
-use Rattle.bucket_meta.specs.Notes.{OverflowNote}
-use Rattle.bucket_words.proofs.segments.Noted.{notes_by}
+use Rattle.bucket_meta.specs.Notes.{OverflowNote, notes_by}
 
 -- those four words
 pub record Four : Type 0 where

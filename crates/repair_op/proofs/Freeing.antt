@@ -36,7 +36,8 @@ use Rattle.repair_op.specs.Stands.{owned_side, IsSideFound, HasFreed, HoldsGuard
 use Rattle.repair_op.proofs.Words.{one_header, header_no_link, head_is}
 use Rattle.repair_op.proofs.Holding.{settled_knows, has_area, was_area, no_sides_freed, stale_held}
 use Rattle.repair_op.proofs.Finding.{new_is_fresh}
-use Rattle.repair_op.proofs.Storing.{state_header, stays_out, header_in, header_out, stored_loose, flushed_none, fence_may}
+use Rattle.repair_op.proofs.Storing.{state_header, stays_out, header_out, stored_loose, flushed_none, fence_may}
+use Rattle.world.proofs.fitting.OneHolder.{head_in_slot}
 
 -- what a header says that is that of a new side
 pub new_depth : (depth pattern head : ℕ) → is_new_side depth pattern head ≡ true → depth_in head ≡ suc depth
@@ -163,7 +164,7 @@ module _ (site : Ground) (ground : IsGround site) (here : Site) (call : Call) (g
     lost_known : (p : ℕ × ℕ) → Has p (out_of_slot site.shape slot v.known) → IsOfHead site g p.0
     lost_known p has =
         let q = out_of_slot_has site.shape p.0 slot p.1 v.known has in
-        elim (s.0.knows.only p q.1) [ inl head ↦ head | inr same ↦ absurd (q.0 (subst (λ i. IsInSlot site.shape slot i) (sym same) (header_in site.shape slot))) ]
+        elim (s.0.knows.only p q.1) [ inl head ↦ head | inr same ↦ absurd (q.0 (subst (λ i. IsInSlot site.shape slot i) (sym same) (head_in_slot site.shape slot))) ]
 
     lost_areas : (a : Area) → Has a (all_but (is_side_at slot) v.areas) → (a ≡ Segment g.segment) ⊎ (a ≡ Stale g.segment)
     lost_areas a has =
@@ -218,7 +219,7 @@ module _ (site : Ground) (ground : IsGround site) (here : Site) (call : Call) (g
           (let q = out_of_slot_has site.shape p.0 s.slot p.1 v.known (subst (λ (l : List (ℕ × ℕ)). Has p l) known_is has) in
           elim (s.knows.only p q.1) [
             | inl head ↦ head
-            | inr same ↦ absurd (q.0 (subst (λ i. IsInSlot site.shape s.slot i) (sym same) (header_in site.shape s.slot)))
+            | inr same ↦ absurd (q.0 (subst (λ i. IsInSlot site.shape s.slot i) (sym same) (head_in_slot site.shape s.slot)))
           ]);
     };
     settling_is = record { dirty = s.settled.dirty; flushed = s.settled.flushed };

@@ -15,7 +15,7 @@ use Rattle.phase.proofs.locks.Giving.{nothing_left}
 use Rattle.repair_op.specs.declared.guarded.Guarded.{Guarded}
 use Rattle.repair_op.specs.Guarded.{IsOfHead}
 use Rattle.repair_op.specs.Stands.{HoldsGuard}
-use Rattle.repair_op.proofs.Storing.{header_in, link_in}
+use Rattle.world.proofs.fitting.OneHolder.{head_in_slot, link_in_slot}
 
 module _ (site : Ground) (g : Guarded) (v : View) (h : HoldsGuard site g v) where
   -- each area goes with the guard
@@ -39,8 +39,8 @@ module _ (site : Ground) (g : Guarded) (v : View) (h : HoldsGuard site g v) wher
 
   in_slot : (i : ℕ) → IsOfHead site g i → IsInSlot site.shape g.segment i
   in_slot i of_head = elim of_head [
-    | inl same ↦ subst (λ n. IsInSlot site.shape g.segment n) (sym same) (header_in site.shape g.segment)
-    | inr same ↦ subst (λ n. IsInSlot site.shape g.segment n) (sym same) (link_in site.shape g.segment)
+    | inl same ↦ subst (λ n. IsInSlot site.shape g.segment n) (sym same) (head_in_slot site.shape g.segment)
+    | inr same ↦ subst (λ n. IsInSlot site.shape g.segment n) (sym same) (link_in_slot site.shape g.segment)
   ]
 
   pub give_may : MayAt site (gives (of_segment g.segment)) v

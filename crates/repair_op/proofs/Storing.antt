@@ -50,13 +50,7 @@ pub stays_out : (shape : Shape) (s n y : ℕ) (ps : List (ℕ × ℕ)) → (IsIn
 stays_out shape s n y ps out has =
     has_filtered (λ (p : ℕ × ℕ). not (is_in_slot shape s p.0)) ps (n, y) has (out_test shape s n out (is_in_slot shape s n) refl)
 
--- header and link of a slot lie in it, and in no other
-pub header_in : (shape : Shape) (s : ℕ) → IsInSlot shape s (header_word shape s)
-header_in shape s = record { from = omega arith; to = omega arith }
-
-pub link_in : (shape : Shape) (s : ℕ) → IsInSlot shape s (link_word shape s)
-link_in shape s = record { from = omega arith; to = omega arith }
-
+-- header and link of a slot lie in no other
 pub header_out : (shape : Shape) (s n : ℕ) → n ≢ s → IsInSlot shape n (header_word shape s) → ⊥
 header_out shape s n apart inside = apart (by (first_segment shape) s n inside.from inside.to)
   where

@@ -14,12 +14,10 @@ use Rattle.world.specs.Kinds.{first_of_region}
 use Rattle.world.specs.areas.Repairing.{side_depth_in, side_pattern_in, HasStale}
 use Rattle.phase.specs.Giving.{IsQuiet}
 use Rattle.repair_op.specs.declared.guarded.Guarded.{Guarded}
+use Rattle.way.specs.Ways.{slot_guard}
 
 -- ---- its words
--- the guard of a slot, and its link; a slot that the image has not gives the root's word
-abbrev pub slot_guard : Shape → ℕ → ℕ
-slot_guard shape segment = if nat_lt segment shape.segments then segment_guard shape segment else root_word
-
+-- the link of a slot; a slot that the image has not gives the root's word
 abbrev pub slot_link : Shape → ℕ → ℕ
 slot_link shape segment = if nat_lt segment shape.segments then link_word shape segment else root_word
 

@@ -22,7 +22,7 @@ use Rattle.rest_op.specs.declared.op.RestOp.{RestOp}
 use Rattle.rest_op.specs.Steps.{is_cleared, clear_from}
 use Rattle.rest_op.specs.Reckoned.{side_depth, side_pattern, cleared_of, IsReckoned}
 use Rattle.rest_op.specs.Stands.{cleared_before}
-use Rattle.rest_op.proofs.Seeking.{seek_behind, seek_fails}
+use Rattle.rounds.proofs.Seeking.{seek_behind, seek_fails}
 use Rattle.rest_op.proofs.whole.Words.{rest_words, other_value, bucket_here}
 
 -- ---- the slots that it frees

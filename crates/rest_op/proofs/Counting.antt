@@ -29,7 +29,7 @@ use Rattle.rest_op.specs.declared.op.RestStep.{RestStep}
 use Rattle.rest_op.specs.declared.op.RestStep.TheVariants.{Clear, Head, HeadFlush, HeadFence, Note, Open, Give, Ended}
 use Rattle.rest_op.specs.Steps.{due, is_cleared, clear_from, next_clear, clearing, clearing_by, cleared, is_noted, note_from, noting, given_by, wanted_in, next_in}
 use Rattle.rest_op.specs.RestPart.{after_head, notes_left, clear_left, left_at, most_events, waiting_at}
-use Rattle.rest_op.proofs.Seeking.{seek_behind}
+use Rattle.rounds.proofs.Seeking.{seek_behind}
 use Rattle.rest_op.proofs.Rounding.{due_is}
 
 -- ---- EVENTS that are left

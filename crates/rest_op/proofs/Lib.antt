@@ -1,5 +1,4 @@
 pub mod whole
-pub mod Seeking
 pub mod Clearing
 pub mod Opening
 pub mod Rounding

@@ -23,7 +23,7 @@ use Rattle.rest_op.specs.Reckoned.{IsReckoned}
 use Rattle.rest_op.specs.Stands.{value_of, first_before, third_before, HasAll, IsNoting, SuitsStep}
 use Rattle.enclose_op.proofs.Places.{lock_is}
 use Rattle.rest_op.proofs.whole.Words.{same_value}
-use Rattle.rest_op.proofs.Seeking.{seek_behind, seek_within, seek_fails}
+use Rattle.rounds.proofs.Seeking.{seek_behind, seek_within, seek_fails}
 use Rattle.rest_op.proofs.whole.Known.{all_same, all_stored, settled_holder, holds_bucket}
 
 -- ---- the words of the notes, by their homes

@@ -7,12 +7,12 @@ use Rattle.trace.specs.Events.{Words}
 use Rattle.word_bits.specs.Bits.{bit}
 use Rattle.hash_word.specs.Hash.{Covers, probing_of}
 use Rattle.bucket_meta.specs.Bucket.{allocated, overflow_count, record_slots}
-use Rattle.bucket_meta.specs.Notes.{OverflowNote, AreExact}
+use Rattle.bucket_meta.specs.Notes.{OverflowNote, AreExact, notes_by}
 use Rattle.segment_head.specs.HeadWord.{depth_in, pattern_in}
 use Rattle.image_layout.specs.Places.{Shape, bucket_at, homes, buckets}
 use Rattle.sound_image.specs.Records.{key_hash, word_in, slot_key}
 use Rattle.sound_image.specs.Records as image
-use Rattle.whole_segment.specs.Notes.{notes_by, stashed_of}
+use Rattle.whole_segment.specs.Notes.{stashed_of}
 use Rattle.bucket_words.specs.Buckets.{IsTaken, key_in}
 use Rattle.bucket_words.specs.Hits.{Hit}
 use Rattle.world.specs.Ground.{Ground}

@@ -50,7 +50,7 @@ use Rattle.rest_op.specs.Reckoned.{IsReckoned}
 use Rattle.rest_op.specs.Stands.{value_of, cleared_before, kind_at, HasAll, IsClearing, SuitsStep}
 use Rattle.rest_op.specs.RestPart.{outcome_at, rest_part, KeepsSplit, BeginsAsPart, BeginsUndecided, EndsAsSplit}
 use Rattle.rest_op.proofs.whole.Words.{other_value}
-use Rattle.rest_op.proofs.Seeking.{seek_within}
+use Rattle.rounds.proofs.Seeking.{seek_within}
 use Rattle.rest_op.proofs.whole.Known.{all_same}
 use Rattle.rest_op.proofs.Clearing.{passed_over}
 use Rattle.rest_op.proofs.Rounding.{due_is, clearing_suits, round_may, round_stands}

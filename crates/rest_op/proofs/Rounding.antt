@@ -40,7 +40,7 @@ use Rattle.rest_op.specs.Stands.{value_of, cleared_before, IsSplit, IsLooseBefor
 use Rattle.enclose_op.proofs.Places.{lock_is}
 use Rattle.rest_op.proofs.whole.Places.{same_bucket}
 use Rattle.rest_op.proofs.whole.Words.{rest_words, same_value}
-use Rattle.rest_op.proofs.Seeking.{seek_within, seek_behind}
+use Rattle.rounds.proofs.Seeking.{seek_within, seek_behind}
 use Rattle.rest_op.proofs.whole.Known.{all_same, all_kept, all_stored, no_sides, settled_holder, holds_bucket, knows_word}
 use Rattle.rest_op.proofs.Clearing.{clears, before_here, passed_over, cleared_more, all_cleared}
 

@@ -22,11 +22,7 @@ use Rattle.rest_op.specs.declared.op.RestEnd.TheVariants as ends
 use Rattle.rest_op.specs.declared.op.RestStep.{RestStep}
 use Rattle.rest_op.specs.declared.op.RestStep.TheVariants.{Clear, Head, HeadFlush, HeadFence, Note, Open, Give, Ended}
 use Rattle.rest_op.specs.declared.op.RestOp.{RestOp}
-
--- the first number from one on that passes a test, of so many; behind them where none does
-unfoldable pub seek : (ℕ → Bool) → ℕ → ℕ → ℕ
-seek test zero from = from
-seek test (suc n) from = if test from then from else seek test n (from + 1)
+use Rattle.rounds.specs.Seeking.{seek}
 
 -- the header of the segment when its split is made: normal, one deeper, with a 0 behind its pattern
 abbrev pub rest_head : Enclosed → ℕ

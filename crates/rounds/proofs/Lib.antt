@@ -1,3 +1,4 @@
+pub mod Seeking
 pub mod Events
 pub mod Lines
 pub mod Wanted

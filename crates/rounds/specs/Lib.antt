@@ -1,3 +1,4 @@
+pub mod Seeking
 pub mod Steps
 pub mod Events
 pub mod Runs

@@ -3,7 +3,7 @@ use Rattle.std.specs.Prelude.{◌≡◌, ℕ, ◌+◌, ◌%◌, ◌^◌, ◌==�
 use Rattle.std.specs.List.{flat_map}
 use Rattle.hash_word.specs.Hash.{home_of, finger_of, probing_of}
 use Rattle.bucket_meta.specs.Bucket.{allocated, note_used, note_member, note_index, note_finger, overflow_count, record_slots}
-use Rattle.bucket_meta.specs.Notes.{OverflowNote, numbers_below, notes_on, AreExact}
+use Rattle.bucket_meta.specs.Notes.{OverflowNote, numbers_below, notes_on, AreExact, notes_by}
 use Rattle.image_layout.specs.Places.{homes}
 use Rattle.stash.specs.Segment.{Stashed}
 
@@ -31,10 +31,6 @@ module _ (first : ℕ → ℕ) (key : ℕ → ℕ → ℕ) (hash : ℕ → ℕ) 
 
   abbrev pub stashed_of : ℕ → List OverflowNote
   stashed_of b = stashed_in b 0 ++ stashed_in b 1
-
--- the notes of a bucket of one side, by its words 1 and 3
-abbrev pub notes_by : ℕ → ℕ → ℕ → List OverflowNote
-notes_by w1 w3 side = notes_on (λ i. note_used i w1) (λ i. note_member i w1) (λ i. note_finger i w1 w3) (λ i. note_index i w1) side
 
 -- EXACT NOTES of home b, by words 1 and 3 of each bucket, for records that stand in the stash
 abbrev pub HasExactNotes : (first third : ℕ → ℕ) → ℕ → List OverflowNote → Type 0

@@ -3,7 +3,7 @@ use Rattle.std.proofs.Common.{◌≡◌, ℕ, zero, suc, ◌+◌, ◌/◌, ◌^�
 use Rattle.std.specs.Prelude.{◌==◌, ◌&&◌, if◌then◌else◌}
 use Rattle.std.proofs.lemmas.Bool.{cases_eq}
 use Rattle.hash_word.specs.Hash.{probing_of}
-use Rattle.bucket_meta.specs.Notes.{OverflowNote, notes_on, AreExact}
+use Rattle.bucket_meta.specs.Notes.{OverflowNote, notes_on, AreExact, notes_by}
 use Rattle.bucket_meta.specs.Bucket.{note_used, note_member, note_index, note_finger, overflow_count}
 use Rattle.stash.proofs.Counts.{same_pieces}
 use Rattle.trace.specs.Events.{Words, with_word}
@@ -11,9 +11,6 @@ use Rattle.image_layout.specs.Places.{Shape, bucket_at, homes, buckets}
 use Rattle.sound_image.specs.Records.{word_in, notes_in, notes_of, stashed_of, HasExactNotes}
 use Rattle.bucket_words.specs.HomeNotes.{SameHomeNotes}
 use Rattle.bucket_words.proofs.segments.Places.{other_word, this_word}
-
-abbrev pub notes_by : ℕ → ℕ → ℕ → List OverflowNote
-notes_by w1 w3 side = notes_on (λ i. note_used i w1) (λ i. note_member i w1) (λ i. note_finger i w1 w3) (λ i. note_index i w1) side
 
 module _ (shape : Shape) (word other : Words) (s b : ℕ) where
   pub notes_same : ((n : ℕ) → 1 ≤ n → n < 4 → other (bucket_at shape s b + n) ≡ word (bucket_at shape s b + n))

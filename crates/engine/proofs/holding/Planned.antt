@@ -15,9 +15,6 @@ use Rattle.engine.specs.OpPart.{op_part}
 use Rattle.engine.specs.Fits.{Suits}
 
 -- a list with nothing in it has nothing
-pub none_has : {X : Type 0} (xs : List X) (x : X) → xs ≡ [] → Has x xs → ⊥
-none_has xs x none h = subst (λ zs. Has x zs) none h
-
 same_length : (xs ys : List Entry) → xs ≡ ys → length xs ≤ suc (length ys)
 same_length xs ys e = let l = ap length e in omega (arith, l)
 

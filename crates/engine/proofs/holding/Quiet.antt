@@ -20,7 +20,7 @@ use Rattle.restart_op.specs.AtRest.{IsCurrent, IsOpenStructure}
 use Rattle.engine.specs.Core.{Caller, Core}
 use Rattle.engine.specs.Holding.{DoesCall, CallerFits, CoreHolds}
 use Rattle.engine.specs.Laws.{NoneRuns, ThroughIsQuiet, ThroughIsExact, ThroughIsOnce, ThroughIsOwn, ThroughHasMap}
-use Rattle.engine.proofs.holding.Planned.{none_has}
+use Rattle.phase.proofs.Handing.{none_has}
 use Rattle.engine.proofs.holding.Served.{sound_now}
 use Rattle.engine.proofs.sessions.Cut.{told_legal}
 use Rattle.engine.proofs.sessions.Goodness.{caller_at}

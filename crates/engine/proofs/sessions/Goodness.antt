@@ -40,7 +40,8 @@ use Rattle.engine.specs.Core.{Caller, Core, current, open_of, told_of, tolds_of,
 use Rattle.engine.specs.Good.{IsGood}
 use Rattle.engine.specs.Holding.{HasEntries, DoesCall, CallerFits, world_of, CoreHolds, HoldingIsGood}
 use Rattle.engine.proofs.sessions.Causing.{full_had, spent_had}
-use Rattle.engine.proofs.holding.Planned.{none_has, planned_is}
+use Rattle.engine.proofs.holding.Planned.{planned_is}
+use Rattle.phase.proofs.Handing.{none_has}
 use Rattle.part.specs.Part.{IsPart}
 use Rattle.engine.specs.OpPart.{op_part}
 use Rattle.engine.proofs.Places.{one_more}

@@ -26,7 +26,7 @@ use Rattle.mend_op.specs.Stages.{most, place, made}
 use Rattle.mend_op.specs.Steps.{at_step, prepared, is_changed, changed_from, due, noting, begin_notes, over, rounding_by, rounding, begin}
 use Rattle.mend_op.specs.Stands.{AreMended, IsInStage, HasAll, IsRounding, IsNoting}
 use Rattle.mend_op.specs.MendPart.{IsOf, MendStands}
-use Rattle.mend_op.proofs.Seeking.{seek_within, seek_passes}
+use Rattle.rounds.proofs.Seeking.{seek_within, seek_passes}
 use Rattle.mend_op.proofs.Dues.{due_none}
 use Rattle.mend_op.proofs.stages.Placing.{made_small}
 use Rattle.mend_op.proofs.stages.Partly.{partly_begun, passed_over, all_made}

@@ -34,7 +34,7 @@ use Rattle.mend_op.specs.Stages.{most, place}
 use Rattle.mend_op.specs.Steps.{with_stored, is_changed, changed_from, due, rounded_by, wanted_in, next_in}
 use Rattle.mend_op.specs.Stands.{place_of, IsStageLine, IsLooseBefore, IsInStage, IsRounding}
 use Rattle.mend_op.specs.MendPart.{IsOf, MendStands}
-use Rattle.mend_op.proofs.Seeking.{seek_behind}
+use Rattle.rounds.proofs.Seeking.{seek_behind}
 use Rattle.mend_op.proofs.Dues.{due_is}
 use Rattle.mend_op.proofs.stages.Placing.{place_low}
 use Rattle.mend_op.proofs.stages.Partly.{passed_over, partly_stored}

@@ -6,12 +6,12 @@ use Rattle.hash_word.specs.Hash.{probing_of}
 use Rattle.word_bits.specs.Bits.{bit}
 use Rattle.word_bits.proofs.OneBit.{bit_of_bits}
 use Rattle.bucket_meta.specs.Bucket.{overflow_count, record_slots}
-use Rattle.bucket_meta.specs.Notes.{OverflowNote, AreExact}
+use Rattle.bucket_meta.specs.Notes.{OverflowNote, AreExact, notes_by}
 use Rattle.image_layout.specs.Places.{Shape, bucket_at, homes, buckets, block, words_of_buckets}
 use Rattle.sound_image.specs.Records.{key_hash, word_in, slot_key}
 use Rattle.sound_image.specs.Records as image
 use Rattle.whole_segment.specs.Records.{Stands}
-use Rattle.whole_segment.specs.Notes.{notes_by, stashed_of}
+use Rattle.whole_segment.specs.Notes.{stashed_of}
 use Rattle.whole_segment.specs.Rebuilding.{first_with, third_with}
 use Rattle.whole_segment.proofs.Stashing.{stashed_same}
 use Rattle.whole_segment.proofs.rebuilding.Written.{made_keeps, made_notes}

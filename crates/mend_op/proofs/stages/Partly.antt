@@ -11,7 +11,7 @@ use Rattle.mend_op.specs.declared.op.MendOp.{MendOp}
 use Rattle.mend_op.specs.Stages.{most, place, made_word, made}
 use Rattle.mend_op.specs.Steps.{with_stored, prepared, is_changed, changed_from}
 use Rattle.mend_op.specs.Stands.{IsPartly}
-use Rattle.mend_op.proofs.Seeking.{seek_behind, seek_within, seek_fails}
+use Rattle.rounds.proofs.Seeking.{seek_behind, seek_within, seek_fails}
 use Rattle.mend_op.proofs.stages.Placing.{place_low, place_apart, made_cases, made_is}
 
 -- IT BEGINS

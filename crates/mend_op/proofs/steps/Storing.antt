@@ -19,7 +19,7 @@ use Rattle.mend_op.specs.Stages.{most, place}
 use Rattle.mend_op.specs.Steps.{word_at, with_stored, at_step, is_changed, changed_from, noted_from, noted}
 use Rattle.mend_op.specs.Stands.{place_of, SuitsStep}
 use Rattle.mend_op.specs.MendPart.{IsOf, MendStands}
-use Rattle.mend_op.proofs.Seeking.{seek_within}
+use Rattle.rounds.proofs.Seeking.{seek_within}
 use Rattle.mend_op.proofs.stages.Placing.{place_low}
 use Rattle.mend_op.proofs.stages.Partly.{passed_over, partly_stored}
 use Rattle.mend_op.proofs.stages.Noting.{was, note_may, same_core}

@@ -3,7 +3,7 @@ use Rattle.std.proofs.Common.{◌≡◌, ◌≢◌, ℕ, ◌+◌, ◌*◌, ◌/�
 use Rattle.std.proofs.lemmas.Bool.{cases_eq, cases_lt, lt-ltb, le-ltb}
 use Rattle.bucket_meta.specs.Bucket.{allocated, finger, overflow_count}
 use Rattle.bucket_meta.specs.Marks.{finger_place, with_finger}
-use Rattle.bucket_meta.specs.Notes.{how_often}
+use Rattle.bucket_meta.specs.Notes.{how_often, notes_by}
 use Rattle.bucket_meta.proofs.Fingers.{sets_low, sets_high, upper_kept}
 use Rattle.hash_word.specs.Hash.{probing_of, finger_of}
 use Rattle.trace.specs.Events.{Words}
@@ -14,7 +14,6 @@ use Rattle.bucket_words.specs.Buckets.{key_in, finger_in}
 use Rattle.bucket_words.specs.Hits.{Hit}
 use Rattle.bucket_words.specs.HomeNotes.{IsUnnoted}
 use Rattle.bucket_words.specs.TableChanges.{IsReadyAt}
-use Rattle.bucket_words.proofs.segments.Noted.{notes_by}
 use Rattle.bucket_words.proofs.segments.Places.{other_word}
 use Rattle.world.proofs.holding.Preparing.{notes_kept_3}
 use Rattle.phase.specs.declared.make.Record.{Record}

@@ -4,7 +4,7 @@ use Rattle.std.specs.Prelude.{min}
 use Rattle.std.specs.Int.{bit_not, w64}
 use Rattle.std.proofs.lemmas.Nat.{and_le_r}
 use Rattle.bucket_meta.specs.Bucket.{overflow_count, record_slots}
-use Rattle.bucket_meta.specs.Notes.{OverflowNote, AreExact}
+use Rattle.bucket_meta.specs.Notes.{OverflowNote, AreExact, notes_by}
 use Rattle.hash_word.specs.Hash.{probing_of}
 use Rattle.segment_head.specs.HeadWord.{depth_in, pattern_in}
 use Rattle.image_layout.specs.Places.{homes, buckets}
@@ -12,7 +12,7 @@ use Rattle.sound_image.specs.Records.{key_hash}
 use Rattle.whole_segment.specs.Slots.{slot_bits, cleared_mark}
 use Rattle.whole_segment.specs.Words.{words_by}
 use Rattle.whole_segment.specs.Records.{first_in, third_in, key_in, covered_set}
-use Rattle.whole_segment.specs.Notes.{stashed_of, notes_by, HasExactNotes, KeepsRecords}
+use Rattle.whole_segment.specs.Notes.{stashed_of, HasExactNotes, KeepsRecords}
 use Rattle.whole_segment.specs.Rebuilding.{first_with, third_with, rebuilt}
 use Rattle.whole_segment.specs.declared.loaded.Loaded.{Loaded}
 use Rattle.whole_segment.specs.declared.notes.Notes.{Notes}

@@ -1,7 +1,7 @@
 -- The words of a side, beside those of the segment, are a copy in whichever other slot they stand.
 use Rattle.std.proofs.Common.{◌≡◌, ◌≢◌, ℕ, suc, ◌+◌, ◌*◌, ◌^◌, ◌<◌, ◌≤◌, List, ◌++◌, length, sym, ap, subst, ◌∙◌, arith}
 use Rattle.bucket_meta.specs.Bucket.{allocated, member, finger, overflow_count, record_slots}
-use Rattle.bucket_meta.specs.Notes.{OverflowNote, AreExact}
+use Rattle.bucket_meta.specs.Notes.{OverflowNote, AreExact, notes_by}
 use Rattle.hash_word.specs.Hash.{Covers, probing_of, top}
 use Rattle.segment_head.specs.HeadWord.{version_in, depth_in, pattern_in, splitting}
 use Rattle.segment_head.proofs.Headers.{header_depth, header_pattern}
@@ -17,7 +17,7 @@ use Rattle.bucket_words.specs.Buckets.{IsTaken, key_in}
 use Rattle.bucket_words.specs.Hits.{Hit}
 use Rattle.frame_facts.specs.Copies.{HasRecordOf, IsOfOneSide}
 use Rattle.map_model.specs.declared.call.Call.{Call}
-use Rattle.whole_segment.specs.Notes.{stashed_of, notes_by}
+use Rattle.whole_segment.specs.Notes.{stashed_of}
 use Rattle.world.specs.declared.site.Site.{Site}
 use Rattle.world.specs.Ground.{Ground, IsGround}
 use Rattle.world.specs.areas.Areas.{header_word}

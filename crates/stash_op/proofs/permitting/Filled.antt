@@ -4,11 +4,10 @@ use Rattle.std.proofs.Common.{◌≡◌, ◌≢◌, ℕ, zero, suc, ◌+◌, ◌
 use Rattle.std.specs.Prelude.{◌==◌, not, if◌then◌else◌}
 use Rattle.std.proofs.lemmas.Bool.{cases_eq, eqb-false, eq-eqb, ne_eqb}
 use Rattle.bucket_meta.specs.Bucket.{note_used, note_member, note_index, note_finger, overflow_count}
-use Rattle.bucket_meta.specs.Notes.{OverflowNote, AreExact}
+use Rattle.bucket_meta.specs.Notes.{OverflowNote, AreExact, notes_by}
 use Rattle.bucket_meta.specs.NoteWords.{is_unused, unused_place, raised_count, FillsPlace}
 use Rattle.stash.proofs.Counts.{same_pieces, changed_piece}
 use Rattle.stash.proofs.ExactNotes.{IsOneMore, one_more_by_sums, often_head}
-use Rattle.bucket_words.proofs.segments.Noted.{notes_by}
 use Rattle.world.proofs.holding.Preparing.{note_piece}
 
 -- ---- an unused place

@@ -4,13 +4,13 @@ use Rattle.word_bits.specs.Bits.{bit, bits}
 use Rattle.bucket_meta.specs.declared.metadata.Meta.{Meta}
 use Rattle.bucket_meta.specs.Bucket.{note_used, note_member, note_index, note_finger, finger}
 use Rattle.bucket_meta.specs.MetaWords.{IsMetaOf}
-use Rattle.bucket_meta.specs.Notes.{OverflowNote, AreExact}
+use Rattle.bucket_meta.specs.Notes.{OverflowNote, AreExact, notes_by}
 use Rattle.bucket_meta.proofs.fields.FieldBits.{note_used_is, note_member_is, note_index_is}
 use Rattle.hash_word.specs.Hash.{probing_of}
 use Rattle.stash.specs.Exact.{notes_at, IsExactFor}
 use Rattle.stash.specs.NoteSlots.{SameSlots}
 use Rattle.stash.proofs.Counts.{same_pieces}
-use Rattle.whole_segment.specs.Notes.{notes_by, HasExactNotes, KeepsRecords}
+use Rattle.whole_segment.specs.Notes.{HasExactNotes, KeepsRecords}
 
 -- a note slot that has the same in both
 abbrev piece : (used member finger index side : ℕ) → List OverflowNote

@@ -7,14 +7,14 @@ use Rattle.std.proofs.lemmas.Nat.{shr-shr}
 use Rattle.word_bits.specs.Bits.{bit}
 use Rattle.std.proofs.lemmas.List.Elements.{All-nil, All-cons, All-append}
 use Rattle.bucket_meta.specs.Bucket.{allocated, note_used, note_member, note_index, note_finger, overflow_count, record_slots}
-use Rattle.bucket_meta.specs.Notes.{OverflowNote, numbers_below, AreExact}
+use Rattle.bucket_meta.specs.Notes.{OverflowNote, numbers_below, AreExact, notes_by}
 use Rattle.hash_word.specs.Hash.{probing_of}
 use Rattle.image_layout.specs.Places.{homes, stash_buckets}
 use Rattle.stash.specs.Segment.{Stashed}
 use Rattle.stash.proofs.Counts.{same_pieces}
 use Rattle.stash.proofs.Pieces.{piece}
 use Rattle.stash.proofs.Buckets.{of_home_at_most}
-use Rattle.whole_segment.specs.Notes.{entry_of, entries_below, stash_entries, stashed_of, notes_by, HasExactNotes, KeepsRecords}
+use Rattle.whole_segment.specs.Notes.{entry_of, entries_below, stash_entries, stashed_of, HasExactNotes, KeepsRecords}
 use Rattle.whole_segment.specs.Rebuilding.{Overflow, no_overflow, four, first_with, third_with, rebuilt}
 use Rattle.whole_segment.proofs.StashLists.{entries_of_home}
 use Rattle.whole_segment.proofs.rebuilding.Noting.{said, IsExactAt, IsInRange, IsEntry, all_exact, all_in_range, none_exact, none_in_range}

@@ -3,7 +3,7 @@ use Rattle.std.proofs.Common.{◌≡◌, ◌⊎◌, ℕ, zero, suc, ◌+◌, ◌
 use Rattle.std.specs.Prelude.{◌==◌, ◌&&◌, if◌then◌else◌}
 use Rattle.std.proofs.lemmas.Bool.{cases_eq}
 use Rattle.bucket_meta.specs.Bucket.{allocated, finger, overflow_count, note_used, note_member, note_index, note_finger}
-use Rattle.bucket_meta.specs.Notes.{OverflowNote}
+use Rattle.bucket_meta.specs.Notes.{OverflowNote, notes_by}
 use Rattle.hash_word.specs.Hash.{probing_of}
 use Rattle.trace.specs.Events.{Words, with_word}
 use Rattle.trace.proofs.Replaced.{cases_at}
@@ -24,7 +24,6 @@ use Rattle.bucket_words.specs.HomeNotes.{SameHomeNotes}
 use Rattle.world.specs.Kinds.{stores}
 use Rattle.world.specs.Conditions.{IsNewest, StandsBeside, May}
 use Rattle.world.specs.Holders.{KnowsMeta, SparesTaken, MayPrepare}
-use Rattle.bucket_words.proofs.segments.Noted.{notes_by}
 use Rattle.bucket_words.proofs.segments.Stashed.{stashed_same}
 
 -- ---- the overflow fingerprints of word 3

@@ -2,7 +2,7 @@
 use Rattle.std.proofs.Common.{◌≡◌, ◌⊎◌, ℕ, ◌+◌, ◌<◌, ◌≤◌, List, ◌++◌, cond, eqb, inl, inr, refl, sym, ap, ◌∙◌, subst, arith}
 use Rattle.std.proofs.lemmas.Bool.{cases_eq}
 use Rattle.bucket_meta.specs.Bucket.{overflow_count}
-use Rattle.bucket_meta.specs.Notes.{AreExact}
+use Rattle.bucket_meta.specs.Notes.{AreExact, notes_by}
 use Rattle.hash_word.specs.Hash.{probing_of}
 use Rattle.trace.specs.Events.{Words, with_word}
 use Rattle.image_layout.specs.Places.{Shape, bucket_at}
@@ -17,7 +17,6 @@ use Rattle.bucket_words.specs.HomeNotes.{SameHomeNotes}
 use Rattle.world.specs.Kinds.{stores, repays}
 use Rattle.world.specs.Conditions.{IsNewest, IsOwing, IsHomeOf, IsOwedOf, IsTidy, IsHarmless, May}
 use Rattle.world.specs.Holders.{KnowsBucket, TouchesNote, MayRepay}
-use Rattle.bucket_words.proofs.segments.Noted.{notes_by}
 use Rattle.bucket_words.proofs.segments.Stashed.{stashed_same as stashed_stays}
 use Rattle.bucket_words.proofs.segments.Cores.{slots_of_cores}
 use Rattle.world.proofs.basics.Tables.{same_hit, cores_replaced}

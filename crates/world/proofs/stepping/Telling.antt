@@ -4,7 +4,7 @@ use Rattle.std.specs.Prelude.{◌==◌, ◌&&◌, ◌||◌, nat_lt, if◌then◌
 use Rattle.std.proofs.lemmas.Bool.{ltb-false}
 use Rattle.hash_word.specs.Hash.{home_of, probing_of, finger_of}
 use Rattle.bucket_meta.specs.Bucket.{note_used, note_member, note_index, note_finger, overflow_count, record_slots}
-use Rattle.bucket_meta.specs.Notes.{how_often}
+use Rattle.bucket_meta.specs.Notes.{how_often, notes_by}
 use Rattle.bucket_meta.specs.Visits.{is_note, is_named, must_visit}
 use Rattle.stash.proofs.Counts.{how_often-is_sum, how_often-append, no_piece}
 use Rattle.trace.specs.Events.{Words}
@@ -16,7 +16,6 @@ use Rattle.bucket_words.specs.Hits.{Hit, HasNone, find}
 use Rattle.bucket_words.specs.Standing.{IsTable}
 use Rattle.bucket_words.specs.HomeNotes.{IsUnnoted}
 use Rattle.bucket_words.proofs.segments.Finding.{found_below, find_is, find_none}
-use Rattle.bucket_words.proofs.segments.Noted.{notes_by}
 use Rattle.bucket_words.proofs.segments.Stashed.{not_there}
 use Rattle.world.proofs.stepping.Noting.{never}
 

@@ -2,12 +2,11 @@
 use Rattle.std.proofs.Common.{◌≡◌, ◌⊎◌, ℕ, ◌%◌, ◌^◌, ◌<◌, Option, None, Some, List, ◌∷◌, ◌++◌, inl, inr, refl, sym, ◌∙◌, subst, arith, slice_index}
 use Rattle.std.proofs.lemmas.Bool.{cases_eq}
 use Rattle.bucket_meta.specs.Bucket.{overflow_count}
-use Rattle.bucket_meta.specs.Notes.{OverflowNote, how_often, AreExact}
+use Rattle.bucket_meta.specs.Notes.{OverflowNote, how_often, AreExact, notes_by}
 use Rattle.bucket_meta.specs.NoteWords.{note_place, freed_mark, freed_fingers, lowered_count, FreesPlace}
 use Rattle.bucket_meta.proofs.notes.Freed.{frees_mark, frees_place}
 use Rattle.stash.proofs.Counts.{how_often-append}
 use Rattle.stash.proofs.ExactNotes.{more_left, more_right, often_head, each_is_named, same_or_other, exact_without_note, exact_without_count}
-use Rattle.bucket_words.proofs.segments.Noted.{notes_by}
 use Rattle.world.proofs.stepping.Telling.{unnamed}
 use Rattle.phase.specs.declared.role.Role.{Role}
 use Rattle.phase.specs.declared.role.Role.TheVariants.{Home, Probing}

@@ -3,12 +3,11 @@ use Rattle.std.proofs.Common.{◌≡◌, ◌≢◌, ℕ, zero, suc, ◌-◌, ◌
 use Rattle.std.specs.Prelude.{◌==◌, ◌&&◌, ◌||◌, if◌then◌else◌}
 use Rattle.std.proofs.lemmas.Bool.{cases_eq, eqb-true, eq-eqb, ne_eqb}
 use Rattle.bucket_meta.specs.Bucket.{note_used, note_member, note_index, note_finger, overflow_count}
-use Rattle.bucket_meta.specs.Notes.{OverflowNote}
+use Rattle.bucket_meta.specs.Notes.{OverflowNote, notes_by}
 use Rattle.bucket_meta.specs.Visits.{is_note, is_named}
 use Rattle.bucket_meta.specs.NoteWords.{note_place, lowered_count, FreesPlace}
 use Rattle.stash.proofs.Counts.{same_pieces, changed_piece}
 use Rattle.stash.proofs.ExactNotes.{IsOneMore, one_more_by_sums}
-use Rattle.bucket_words.proofs.segments.Noted.{notes_by}
 use Rattle.world.proofs.holding.Preparing.{note_piece}
 
 -- ---- a note that is there

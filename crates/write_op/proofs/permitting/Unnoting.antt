@@ -4,7 +4,7 @@ use Rattle.std.specs.Prelude.{◌==◌, if◌then◌else◌}
 use Rattle.std.proofs.lemmas.Bool.{eqb-true}
 use Rattle.hash_word.specs.Hash.{home_of, probing_of, finger_of}
 use Rattle.bucket_meta.specs.Bucket.{overflow_count}
-use Rattle.bucket_meta.specs.Notes.{OverflowNote, AreExact}
+use Rattle.bucket_meta.specs.Notes.{OverflowNote, AreExact, notes_by}
 use Rattle.trace.specs.Events.{Words, with_word}
 use Rattle.image_layout.specs.Places.{Shape, bucket_at, buckets}
 use Rattle.sound_image.specs.Records.{notes_in, notes_of, word_in, stashed_of}
@@ -13,7 +13,6 @@ use Rattle.map_model.specs.declared.change.Effect.TheVariants.{Insert, Update, R
 use Rattle.bucket_words.specs.Core.{core_of, core_in_bucket}
 use Rattle.bucket_words.proofs.segments.Cores.{core_in}
 use Rattle.bucket_words.proofs.segments.Places.{other_word, this_word}
-use Rattle.bucket_words.proofs.segments.Noted.{notes_by}
 use Rattle.world.specs.Ground.{Ground}
 use Rattle.world.specs.Views.{Owed, View, Has}
 use Rattle.world.specs.Kinds.{repays}

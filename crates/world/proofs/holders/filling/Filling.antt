@@ -18,14 +18,11 @@ use Rattle.world.specs.areas.Kinds.{sets}
 use Rattle.world.specs.areas.Asking.{MayBeNewest, IsUnderWhole, IsUnderDead, KnowsDead, EndsNothing, IsHarmlessStore, MayAt}
 use Rattle.world.specs.areas.Splitting.{link_word, IsSettledHolder, HasOwnSlot, MayFill}
 use Rattle.world.proofs.basics.Structures.{lock_no_structure, link_is, lock_of_live}
-use Rattle.world.proofs.fitting.OneHolder.{one_slot, head_in_slot}
+use Rattle.world.proofs.fitting.OneHolder.{one_slot, head_in_slot, link_in_slot}
 use Rattle.world.proofs.moving.Holding.{bucket_in_slot}
 use Rattle.world.proofs.holders.filling.Known.{slot_far, structure_stays, both_sound, known_there, table_stays}
 
 -- the link of a slot is a word of it, and no header
-pub link_in_slot : (shape : Shape) (s : ℕ) → IsInSlot shape s (link_word shape s)
-link_in_slot shape s = record { from = omega arith; to = omega arith }
-
 link_no_header : (shape : Shape) (s t : ℕ) → link_word shape s ≡ header_word shape t → ⊥
 link_no_header shape s t e = by (first_segment shape) s t e
   where

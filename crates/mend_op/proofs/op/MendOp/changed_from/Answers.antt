@@ -1,8 +1,9 @@
 -- By the first number that passes.
 use Rattle.std.proofs.Common.{◌≡◌, ◌<◌, ◌-◌, sym, ap, ◌∙◌, arith}
-use Rattle.mend_op.specs.Stages.{most, seek}
+use Rattle.mend_op.specs.Stages.{most}
+use Rattle.rounds.specs.Seeking.{seek}
 use Rattle.mend_op.specs.Steps.{is_changed}
-use Rattle.mend_op.proofs.Seeking.{seek_below_here, seek_below_on, seek_at_end}
+use Rattle.rounds.proofs.Seeking.{seek_below_here, seek_below_on, seek_at_end}
 use Rattle.mend_op.proofs.op.MendOp.changed_from.Goals as goal
 
 pub returns-then-is_changed : goal.returns-then-is_changed

@@ -1,6 +1,7 @@
 -- None before this one is changed, so the first from here is the first from the beginning.
 use Rattle.std.proofs.Common.{◌≡◌, ◌≤◌, ◌-◌}
-use Rattle.mend_op.specs.Stages.{most, seek}
+use Rattle.mend_op.specs.Stages.{most}
+use Rattle.rounds.specs.Seeking.{seek}
 use Rattle.mend_op.specs.Steps.{is_changed, changed_from}
 use Rattle.mend_op.proofs.op.MendOp.changed_from.Given as goal
 

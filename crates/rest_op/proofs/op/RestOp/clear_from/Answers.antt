@@ -1,8 +1,9 @@
 -- By the first number that passes.
 use Rattle.std.proofs.Common.{◌≡◌, ◌-◌, sym, ap, ◌∙◌, arith}
 use Rattle.image_layout.specs.Places.{buckets}
-use Rattle.rest_op.specs.Steps.{seek, is_cleared}
-use Rattle.rest_op.proofs.Seeking.{seek_below_here, seek_below_on, seek_at_end}
+use Rattle.rest_op.specs.Steps.{is_cleared}
+use Rattle.rounds.specs.Seeking.{seek}
+use Rattle.rounds.proofs.Seeking.{seek_below_here, seek_below_on, seek_at_end}
 use Rattle.rest_op.proofs.op.RestOp.clear_from.Goals as goal
 
 pub returns-then-is_cleared : goal.returns-then-is_cleared

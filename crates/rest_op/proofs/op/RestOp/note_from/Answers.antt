@@ -1,8 +1,9 @@
 -- By the first number that passes.
 use Rattle.std.proofs.Common.{◌≡◌, ◌*◌, ◌-◌, sym, ap, ◌∙◌, arith}
 use Rattle.image_layout.specs.Places.{homes}
-use Rattle.rest_op.specs.Steps.{seek, is_noted}
-use Rattle.rest_op.proofs.Seeking.{seek_below_here, seek_below_on, seek_at_end}
+use Rattle.rest_op.specs.Steps.{is_noted}
+use Rattle.rounds.specs.Seeking.{seek}
+use Rattle.rounds.proofs.Seeking.{seek_below_here, seek_below_on, seek_at_end}
 use Rattle.rest_op.proofs.op.RestOp.note_from.Goals as goal
 
 pub returns-then-is_noted : goal.returns-then-is_noted

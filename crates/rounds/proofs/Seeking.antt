@@ -2,7 +2,7 @@
 use Rattle.std.proofs.Common.{◌≡◌, ℕ, zero, suc, ◌+◌, ◌-◌, ◌<◌, ◌≤◌, Bool, true, false, inl, inr, refl, sym, ap, ◌∙◌, subst, arith}
 use Rattle.std.specs.Prelude.{if◌then◌else◌}
 use Rattle.std.proofs.lemmas.Bool.{cases_eq}
-use Rattle.mend_op.specs.Stages.{seek}
+use Rattle.rounds.specs.Seeking.{seek}
 
 module _ (test : ℕ → Bool) where
   pub seek_none : (from : ℕ) → seek test 0 from ≡ from
