@@ -15,7 +15,7 @@ use Rattle.rounds.specs.Events.{IsStore, IsRoundEvent}
 use Rattle.rounds.specs.Left.{rounds_left}
 use Rattle.rounds.proofs.Events.{no_some}
 use Rattle.rounds.proofs.Wanted.{asked}
-use Rattle.rounds.proofs.Falling.{step_most, rounds_fall}
+use Rattle.rounds.proofs.Falling.{step_most, rounds_fall, fewer_stores}
 use Rattle.mend_op.specs.declared.stage.Stage.{Stage}
 use Rattle.mend_op.specs.declared.stage.Stage.TheVariants as stage
 use Rattle.mend_op.specs.declared.op.MendStep.{MendStep}
@@ -66,9 +66,6 @@ rounding_left op stage n rounds None = more (left_of (over stage op)) (after_sta
   where
     more : (a b c : ℕ) → a ≤ b → a ≤ c + b
     more a b c low = omega (arith, low)
-
-fewer_stores : (rounds : Rounds) (n m : ℕ) → n ≤ m → rounds_left rounds n ≤ rounds_left rounds m
-fewer_stores rounds n m low = omega (arith, low)
 
 begin_left : (op : MendOp) (stage : Stage) → left_of (begin stage op) ≤ 3 * most stage + after_stage stage
 begin_left op stage =

@@ -16,7 +16,7 @@ use Rattle.rounds.specs.Waiting.{rounds_waiting}
 use Rattle.rounds.specs.Left.{rounds_left}
 use Rattle.rounds.proofs.Events.{no_some}
 use Rattle.rounds.proofs.Wanted.{IsAsked, asked}
-use Rattle.rounds.proofs.Falling.{step_most, rounds_fall}
+use Rattle.rounds.proofs.Falling.{step_most, rounds_fall, fewer_stores}
 use Rattle.rounds.proofs.Waiting.{most_wait, none_waits, event_ends, event_flushes, event_keeps}
 use Rattle.enclose_op.specs.declared.give.Give.{Give as Giving}
 use Rattle.enclose_op.specs.Giving.{given}
@@ -47,9 +47,6 @@ no_more_left b rounds = left_by b rounds (nat_lt most_lines (length rounds.round
 clearing_left : (op : RestOp) (b : ℕ) (rounds : Rounds) (o : Option Want) → left_at (clearing_by op o b rounds) ≤ rounds_left rounds (buckets - b) + 3 + after_head
 clearing_left op b rounds (Some want) = no_more_left b rounds
 clearing_left op b rounds None = omega arith
-
-fewer_stores : (rounds : Rounds) (n m : ℕ) → n ≤ m → rounds_left rounds n ≤ rounds_left rounds m
-fewer_stores rounds n m low = omega (arith, low)
 
 module _ (op : RestOp) (b : ℕ) (rounds : Rounds) (few : length rounds.round ≤ 8) (want : Want) (is : rounds_wanted rounds (due op b) ≡ Some want) where
   abbrev after : Rounds

@@ -12,7 +12,7 @@ mask_is i low = ap (λ b. cond b (2 ^ i) 0) (lt-ltb i 64 low)
 mask_low : (i : ℕ) → i < 28 → mask i < 2 ^ 28
 mask_low i low = subst (λ z. z < 2 ^ 28) (sym (mask_is i (omega (arith, low)))) (pow_below i 28 low)
 
-or_none : (x : ℕ) → bit_or x 0 ≡ x
+pub or_none : (x : ℕ) → bit_or x 0 ≡ x
 or_none x = let none = and_le_r x 0 in let e = or_disjoint x 0 (omega (arith, none)) in omega (arith, e)
 
 set_upper : (n i : ℕ) → i < 28 → bit_or n (mask i) / 2 ^ 28 ≡ n / 2 ^ 28

@@ -9,6 +9,7 @@ use Rattle.bucket_meta.specs.Bucket.{note_used, note_member, note_index, note_fi
 use Rattle.bucket_meta.specs.NoteWords.{with_bit, with_note_finger, noted_mark, noted_fingers, KeepsOtherPlaces, FillsPlace}
 use Rattle.bucket_meta.proofs.Fingers.{byte_there, sets_low}
 use Rattle.bucket_meta.proofs.notes.Freed.{above, below, fits_less, low_used, low_member, low_index, low_count, low_slots, high_count, high_third, high_fourth, six_bytes}
+use Rattle.bucket_meta.proofs.fields.Uppers.{or_none}
 
 -- ---- one bit
 with_same : (w i on : ℕ) → i < 64 → on < 2 → bit i (with_bit w i on) ≡ on
@@ -33,9 +34,6 @@ record IsMiddle (m : ℕ) : Type 0 where
 
 abbrev put : Bool → ℕ → ℕ → ℕ
 put b w m = if b then bit_or w m else bit_and w (2 ^ 64 - 1 - m)
-
-or_none : (x : ℕ) → bit_or x 0 ≡ x
-or_none x = let none = and_le_r x 0 in let e = or_disjoint x 0 (omega (arith, none)) in omega (arith, e)
 
 none_or : (x : ℕ) → bit_or 0 x ≡ x
 none_or x = let none = and_le_l 0 x in let e = or_disjoint 0 x (omega (arith, none)) in omega (arith, e)

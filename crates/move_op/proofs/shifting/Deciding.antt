@@ -24,13 +24,11 @@ use Rattle.move_op.specs.Order.{HasTurn, IsInOrder}
 use Rattle.move_op.specs.Fits.{CanMove, IsShift}
 use Rattle.move_op.proofs.Slots.{HasBit, found_slot, found_lowest}
 use Rattle.move_op.proofs.shifting.Beside.{key_place, at}
+use Rattle.sound_image.proofs.Hashes.{home_of-below}
 
 -- a bucket whose probing bucket is this one is the one before it
 back : (h m : ℕ) → m < 64 → h ≡ probing_of m → previous_of h ≡ m
 back h m low e = omega (arith, low, e)
-
-home_low : (h : ℕ) → home_of h < 64
-home_low h = omega arith
 
 -- where a record with this bit stands in the bucket that it may leave, its home is the one that the direction says
 home_is : (direction : Direction) (hash g bit : ℕ) → bit ≡ bit_of direction
@@ -46,7 +44,7 @@ home_is Forward hash g bit is stands = elim stands [
 home_is Backward hash g bit is stands = elim stands [
   | inl home ↦ absurd (let none = home.1 in omega (arith, none, is))
   | inr more ↦ elim more [
-    | inl probing ↦ back (home_of hash) (home_of g) (home_low g) probing.0
+    | inl probing ↦ back (home_of hash) (home_of g) (home_of-below g) probing.0
     | inr stash ↦ absurd (omega (arith, stash))
   ]
 ]

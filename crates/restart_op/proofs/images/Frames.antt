@@ -15,6 +15,7 @@ use Rattle.frame_facts.proofs.Owners.{owner_stays}
 use Rattle.world.specs.areas.Areas.{header_word}
 use Rattle.world.specs.areas.Restarting.{SameButVersion}
 use Rattle.restart_op.specs.AtRest.{IsCurrent}
+use Rattle.world.proofs.moving.beginning.Restarting.{no_link, before_heads}
 
 -- THE OTHER WORDS differ from these in the state word, whose version is one, and in the version bytes of headers, none of which is above it
 pub record IsReversioned (shape : Shape) (word other : Words) : Type 0 where
@@ -22,13 +23,6 @@ pub record IsReversioned (shape : Shape) (word other : Words) : Type 0 where
   pub heads : (s : ℕ) → s < shape.segments → SameButVersion (other (header_word shape s)) (word (header_word shape s))
   pub some : 1 ≤ image_version (frame_of shape other)
   pub past : (s : ℕ) → s < shape.segments → version_in (other (header_word shape s)) ≤ image_version (frame_of shape other)
-
--- ---- places
-no_link : (f s t : ℕ) → f + 2144 * s + 2 ≡ f + 2144 * t + 1 → ⊥
-no_link f s t e = omega (arith, e)
-
-before_heads : (f i t : ℕ) → i < f → i ≡ f + 2144 * t + 1 → ⊥
-before_heads f i t low e = omega (arith, low, e)
 
 -- ---- the structure
 module _ (shape : Shape) (word other : Words) (is : IsShape shape) (sound : HasSoundFrame shape word) (of : IsReversioned shape word other) where

@@ -18,9 +18,7 @@ use Rattle.bucket_words.proofs.segments.Stashed.{stashed_same}
 use Rattle.bucket_words.proofs.segments.changes.NoSlot.{keeps}
 use Rattle.restart_op.specs.AtRest.{IsCurrent, IsAtRest, HasOwnRecords}
 use Rattle.restart_op.proofs.images.Frames.{IsReversioned, owners}
-
-no_head : (f s b n t : ℕ) → b < 66 → n < 32 → f + 2144 * s + 32 + 32 * b + n ≡ f + 2144 * t + 1 → ⊥
-no_head f s b n t near inside e = omega (arith, near, inside, e)
+use Rattle.world.proofs.moving.beginning.Restarting.{no_head}
 
 module _ (shape : Shape) (word other : Words) (is : IsShape shape) (sound : HasSoundFrame shape word) (of : IsReversioned shape word other) where
   in_bucket : (s b n : ℕ) → s < shape.segments → b < buckets → n < block → other (bucket_at shape s b + n) ≡ word (bucket_at shape s b + n)

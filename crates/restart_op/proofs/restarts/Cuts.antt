@@ -28,6 +28,7 @@ use Rattle.restart_op.proofs.images.Frames.{IsReversioned}
 use Rattle.restart_op.proofs.Opened.{open_rules, open_has}
 use Rattle.restart_op.proofs.restarts.Versions.{head_or_not, swept_by, only_version, marker_clear, started_alike, started_fits}
 use Rattle.restart_op.proofs.restarts.Phases.{Leaving, HasSwept, IsBefore, Phase, phase_at}
+use Rattle.world.proofs.moving.beginning.Restarting.{before_heads}
 
 -- what a word may be left as is what it had since it was settled
 pub leaving_now : (base : Words) → Leaving base (λ es i x. HadSinceSettled base es i x)
@@ -36,9 +37,6 @@ leaving_now base = record {
   fence = λ es i x had. elim (may_more base (fenced 0) es i x had) [ inl w ↦ absurd w | inr before ↦ inl before ];
   since = λ es i m x has had. fence_since base es 0 i m x has had;
 }
-
-before_heads : (f i t : ℕ) → i < f → i ≡ f + 2144 * t + 1 → ⊥
-before_heads f i t low e = omega (arith, low, e)
 
 module _ (shape : Shape) (words medium : List ℕ) (image : IsSoundImage shape words) (whole : length medium ≡ words_of shape) where
   abbrev word : ImageWords

@@ -11,9 +11,7 @@ use Rattle.whole_segment.specs.Order.{bucket_at, slot_at, position_of, IsAt, Sta
 use Rattle.whole_segment.specs.Mending.{IsSpoiled, AreSpoiled, IsLookedFor, IsMended, without_spoiled}
 use Rattle.whole_segment.proofs.marking.MarkHalves.{are_halves}
 use Rattle.whole_segment.proofs.marking.Positions.{IsPlaceOf, position_most, position_again, place_again, bucket_low}
-
-home_low : (h : ℕ) → home_of h < 64
-home_low h = omega arith
+use Rattle.sound_image.proofs.Hashes.{home_of-below}
 
 module _ (first : ℕ → ℕ) (key : ℕ → ℕ → ℕ) where
   -- ---- the first position of a key
@@ -98,7 +96,7 @@ module _ (first : ℕ → ℕ) (key : ℕ → ℕ → ℕ) where
     -- ---- where a key stands at a position
     stands_at : (k p : ℕ) → p < 56 → IsAt first key (home_of (hash k)) k p → Stands first key (bucket_at (home_of (hash k)) p) (slot_at p) k
     stands_at k p low at =
-        record { bucket = bucket_low (home_of (hash k)) (home_low (hash k)) p; slot = omega arith; taken = at.taken; has_key = at.has_key }
+        record { bucket = bucket_low (home_of (hash k)) (home_of-below (hash k)) p; slot = omega arith; taken = at.taken; has_key = at.has_key }
 
     -- the key of a slot stands before exactly where it stands at an earlier position
     before_by : (b r k q : ℕ) → key b r ≡ k → q < position_of (home_of (hash k)) b r → IsAt first key (home_of (hash k)) k q → StandsBefore first key hash b r
@@ -119,7 +117,7 @@ module _ (first : ℕ → ℕ) (key : ℕ → ℕ → ℕ) where
       at_first p low found =
           first_stays (bucket_at (home_of (hash k)) p) (slot_at p) k (stands_at k p low found.is_at) own
           (none_before_by (bucket_at (home_of (hash k)) p) (slot_at p) k found.is_at.has_key
-          (λ q before at. found.none_before q (subst (λ n. q < n) (position_again (home_of (hash k)) (home_low (hash k)) p low) before) at))
+          (λ q before at. found.none_before q (subst (λ n. q < n) (position_again (home_of (hash k)) (home_of-below (hash k)) p low) before) at))
 
       by_search : (b r : ℕ) → Stands first key b r k → Searched (home_of (hash k)) k 56 → (c : ℕ) × (t : ℕ) × Stands mended key c t k
       by_search b r stands (inl found) = (bucket_at (home_of (hash k)) found.0, slot_at found.0, at_first found.0 found.1 found.2)
@@ -127,7 +125,7 @@ module _ (first : ℕ → ℕ) (key : ℕ → ℕ → ℕ) where
         b,
         r,
         first_stays b r k stands own (none_before_by b r k stands.has_key
-            (λ q before at. none q (omega (arith, before, position_most (home_of (hash k)) (home_low (hash k)) b r stands.slot)) at)),
+            (λ q before at. none q (omega (arith, before, position_most (home_of (hash k)) (home_of-below (hash k)) b r stands.slot)) at)),
       )
 
     keys_stay : (b r k : ℕ) → Stands first key b r k → Covers depth pattern (hash k) → (c : ℕ) × (t : ℕ) × Stands mended key c t k
@@ -144,8 +142,8 @@ module _ (first : ℕ → ℕ) (key : ℕ → ℕ → ℕ) where
       is_looked : (b r : ℕ) → Stood b r k → at_of b r < 56
       is_looked b r s = subst (λ x. position_of (home_of (hash x)) b r < 56) s.stood.has_key (looked b r k s.stood (is_own b r k s))
 
-      place : (b r : ℕ) → Stood b r k → IsPlaceOf own_home (home_low (hash k)) b r (at_of b r)
-      place b r s = place_again own_home (home_low (hash k)) b r s.stood.slot (is_looked b r s)
+      place : (b r : ℕ) → Stood b r k → IsPlaceOf own_home (home_of-below (hash k)) b r (at_of b r)
+      place b r s = place_again own_home (home_of-below (hash k)) b r s.stood.slot (is_looked b r s)
 
       is_there : (b r : ℕ) → Stood b r k → IsAt first key own_home k (at_of b r)
       is_there b r s =

@@ -27,7 +27,7 @@ use Rattle.engine.specs.Left.{free_below, free_slots}
 use Rattle.engine.proofs.attempts.Seats.{IsSeated, seat_steps, CallCauses}
 
 -- ---- how many are free
-abbrev one_if : Bool → ℕ
+abbrev pub one_if : Bool → ℕ
 one_if t = if t then 1 else 0
 
 abbrev one_free : ℕ → ℕ

@@ -27,6 +27,7 @@ use Rattle.engine.specs.Left.{is_stale, stale_below, stale_segments}
 use Rattle.engine.specs.Alone.{IsStaleIn}
 use Rattle.engine.proofs.holding.Served.{sound_now}
 use Rattle.engine.proofs.attempts.Seats.{IsSeated, seat_steps, CallCauses}
+use Rattle.engine.proofs.lonely.counts.Slots.{one_if}
 
 -- ---- the test of a stale header
 both : (x y : Bool) → (x && y) ≡ true → (x ≡ true) × (y ≡ true)
@@ -69,9 +70,6 @@ module _ (site : Ground) (words : Words) (same : words state_word % 2 ^ 8 ≡ ve
   stale_slot stale = stale_test words head (live_test head stale.live.live) (λ current. stale.old (current ∙ same))
 
 -- ---- how many are stale
-abbrev one_if : Bool → ℕ
-one_if t = if t then 1 else 0
-
 one_falls : (old new : Bool) → (new ≡ true → old ≡ true) → one_if new ≤ one_if old
 one_falls old false was = omega arith
 one_falls true true was = omega arith

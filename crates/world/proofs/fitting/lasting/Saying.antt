@@ -29,7 +29,7 @@ use Rattle.world.proofs.fitting.Stored.{may_stays, grown_by}
 use Rattle.world.proofs.fitting.Rows.{row_slot, row_after, head_near}
 use Rattle.world.proofs.fitting.lasting.Owning.{row_goes_on, sound_same, stored_same}
 
-same_words : (shape : Shape) (word : Words) → HasStructure shape word word
+pub same_words : (shape : Shape) (word : Words) → HasStructure shape word word
 same_words shape word i is = refl
 
 -- ---- a store

@@ -41,13 +41,13 @@ use Rattle.world.specs.areas.Beginning.{IsRepaired, Begins}
 use Rattle.world.specs.areas.Restarting.{KeepsVersion, RaisesVersion, IsLeftOf, IsRestartOf, SoundImagesBegin}
 
 -- ---- places
-no_head : (f s b n t : ℕ) → b < 66 → n < 32 → f + 2144 * s + 32 + 32 * b + n ≡ f + 2144 * t + 1 → ⊥
+pub no_head : (f s b n t : ℕ) → b < 66 → n < 32 → f + 2144 * s + 32 + 32 * b + n ≡ f + 2144 * t + 1 → ⊥
 no_head f s b n t near inside e = omega (arith, near, inside, e)
 
-no_link : (f s t : ℕ) → f + 2144 * s + 2 ≡ f + 2144 * t + 1 → ⊥
+pub no_link : (f s t : ℕ) → f + 2144 * s + 2 ≡ f + 2144 * t + 1 → ⊥
 no_link f s t e = omega (arith, e)
 
-before_heads : (f i t : ℕ) → i < f → i ≡ f + 2144 * t + 1 → ⊥
+pub before_heads : (f i t : ℕ) → i < f → i ≡ f + 2144 * t + 1 → ⊥
 before_heads f i t low e = omega (arith, low, e)
 
 behind_heads : (f n i t : ℕ) → t < n → f + 2144 * n ≤ i → i ≡ f + 2144 * t + 1 → ⊥

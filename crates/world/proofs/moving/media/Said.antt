@@ -42,9 +42,7 @@ use Rattle.world.proofs.moving.Known.{grounds, whole_cores, whole_possible, held
 use Rattle.world.proofs.moving.Stepping.{IsStill, structured_by, structure_of, still_back, calm_still, guard_still, found_less, told_less, slot_less, fenced_less, grown_whole}
 use Rattle.world.proofs.moving.media.Linked.{side_said, link_said}
 use Rattle.world.proofs.moving.media.Settled.{held_settled, head_settled}
-
-same_words : (shape : Shape) (word : Words) → HasStructure shape word word
-same_words shape word i is = refl
+use Rattle.world.proofs.fitting.lasting.Saying.{same_words}
 
 -- ---- facts that are said no more
 some_facts : (guard : Guard) (facts : List Fact) (fact : Fact) → Has fact (facts_without guard facts) → Has fact facts
