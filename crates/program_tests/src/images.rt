@@ -7,8 +7,8 @@ use image_layout::Geometry;
 use std::alloc::Global;
 use std::test::Fail;
 
-/// The words, not 0, of a new image of one segment into which the pair 5, 7 was put.
-const ROW: [(usize, u64); 11] = [
+/// The words, not 0, of a closed image of one segment into which the pair 5, 7 was put.
+pub const ROW: [(usize, u64); 11] = [
     (0, 0x3130_4845_4853_4144),
     (1, 1),
     (2, 1),

@@ -1,5 +1,6 @@
 //! Words and replies that were worked out by hand.
 
+use crate::images::ROW;
 use image_file::format;
 use image_layout::Geometry;
 use map_model::{Call, Entry, Reply};
@@ -9,21 +10,6 @@ use script_text::{Mode, parse};
 use std::alloc::Global;
 use std::process::Abort;
 use std::test::Fail;
-
-/// The words, not 0, of a closed image of one segment into which the pair 5, 7 was put.
-const ROW: [(usize, u64); 11] = [
-    (0, 0x3130_4845_4853_4144),
-    (1, 1),
-    (2, 1),
-    (16, 257),
-    (65, 257),
-    (96, 2),
-    (97, 1),
-    (98, 5),
-    (100, 5),
-    (101, 7),
-    (128, 2),
-];
 
 // What a script leaves of a new image of one segment.
 fn played(alloc: Global, script: &str) -> Result<Session, Fail> {
